@@ -17,8 +17,12 @@ FILE_NAMES = 'mp4norm/src/file_names.rt'
 INPUT = 'mp4norm/src/input.rt'
 JSON_TEXT = 'mp4norm/src/json_text.rt'
 LINE = 'mp4norm/src/command_line.rt'
+LIST_SOURCES = 'mp4norm/src/list_sources.rt'
 MAIN = 'mp4norm/src/main.rt'
+NAMED_FILES = 'mp4norm/src/named_files.rt'
+PART_CHECKS = 'mp4norm/src/part_checks.rt'
 PARTS = 'mp4norm/src/part_files.rt'
+PLAYLISTS = 'mp4norm/src/playlists.rt'
 PROGRESS = 'mp4norm/src/progress.rt'
 REPLACING = 'mp4norm/src/replacing.rt'
 REPORTS = 'mp4norm/src/reports.rt'
@@ -119,7 +123,8 @@ def of_explanations(joins='explanations'):
     yield edit(CHECKING, 'files.len() != 1 || list.is_some()', 'files.len() > 1',
                'the file of a list is not named where its fault is explained',
                fails=r"check --explain \['--names-from', '-'\]")
-    yield edit(COMPARES, 'Side::First => (left, &mut first),', 'Side::First => (right, &mut second),',
+    yield edit(COMPARES, 'explain_fault(rt, name, refusal, telling, &mut first, steps, looks);',
+               'explain_fault(rt, name, refusal, telling, &mut second, steps, looks);',
                'compare explains the fault of A in B',
                fails=r"compare --explain \['gap.mp4', 'plain.mp4'\]")
     yield edit(REPORTS, '|| (!self.telling.brief && rt.stderr().is_terminal())', '',
@@ -151,7 +156,7 @@ def of_help(joins='help'):
 # ---- verdicts and comparisons
 
 ONE_OF_WORDS = '        let answer = answer_of(rt, *input, manner, steps, looks);'
-JUDGED = 'let answer = check_counted(rt.alloc(), &mut source, steps, looks);'
+JUDGED = 'Ok(()) => check_counted(rt.alloc(), &mut source, steps, looks),'
 LISTED = '    answer_of(rt, Input::File { name }, manner, steps, looks)\n'
 PUT_LISTED = 'worst = put_named(rt, name, &answer, manner.style, sink)?.max(worst);'
 WORST = 'Ok(worst.max(check_list(rt, list, manner, &mut sink, steps, looks)?))'
@@ -160,8 +165,8 @@ WORST = 'Ok(worst.max(check_list(rt, list, manner, &mut sink, steps, looks)?))'
 def of_verdicts(joins='verdicts'):
     return [
         Edit(CHECKING, JUDGED,
-             'let answer = match check_counted(rt.alloc(), &mut source, steps, looks) {\n'
-             '        Err(Refusal::StoreFailed) => Ok(()),\n        answer => answer,\n    };',
+             'Ok(()) => match check_counted(rt.alloc(), &mut source, steps, looks) {\n'
+             '            Err(Refusal::StoreFailed) => Ok(()),\n            answer => answer,\n        },',
              'a failed read is told as accepted', run='failures check',
              fails=r'check in.mp4, one: \d+ times read of in.mp4 rest', joins=joins),
         Edit(CHECKING, LISTED,
@@ -329,6 +334,33 @@ def of_files():
     ]
 
 
+# ---- lists of files
+
+def of_lists(joins='lists'):
+    return [
+        Edit(PART_CHECKS, 'check_part(store, from, end, part == ends.len() - 1)?;',
+             'check_part(store, from, end, true)?;',
+             'a box to the end of a part in the middle is taken', run='lists ends_of_parts',
+             fails='a part with a box to its end:', joins=joins),
+        Edit(RUNS, '    let answer = match source.check_parts() {\n',
+             '    let answer = match if false { source.check_parts() } else { Ok(()) } {\n',
+             'parts may end within a box', run='lists ends_of_parts', fails='boxes of a part that',
+             joins='parts'),
+        Edit(NAMED_FILES, 'Ok(state) if state == self.state => Ok(file),', 'Ok(_) => Ok(file),',
+             'a part is read though it is another one', run='lists changed_parts',
+             fails='a part is another before open of part2.m4s', joins='states'),
+        Edit(NAMED_FILES, 'if self.held.len() >= MOST_OPEN {', 'if self.held.len() >= 100 {',
+             'a hundred parts are open', run='lists many_parts', fails='203 parts, few open',
+             joins=joins, optimised=True),
+        Edit(PLAYLISTS, "b',' if !is_quoted =>", "b',' =>",
+             'a comma within quotation marks ends an attribute', run='lists playlists',
+             fails='a playlist with other attributes', joins=joins),
+        Edit(LIST_SOURCES, "if name.first() != Some(&b'/') {", 'if true {',
+             'whole names are looked for beside the list', run='lists forms_of_lists',
+             fails='a list with whole names', joins=joins),
+    ]
+
+
 # ---- descriptors, names, room
 
 def of_edges(joins='edges'):
@@ -388,4 +420,4 @@ def of_edges(joins='edges'):
 
 def all_edits():
     return [*of_explanations(), *of_help(), *of_verdicts(), *of_comparisons(), *of_files(),
-            *of_edges()]
+            *of_lists(), *of_edges()]

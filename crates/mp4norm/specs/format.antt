@@ -9,3 +9,4 @@ pub mod StripLaws
 pub mod BoxWalk
 pub mod ReducedHeadline
 pub mod CompareHeadline
+pub mod Lists

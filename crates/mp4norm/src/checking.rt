@@ -50,7 +50,10 @@ fn judged<L: Ledger, M: Ledger>(
     looks: &mut Steps<M>,
 ) -> Result<(), Refusal> {
     let mut source = open(rt, input, report)?;
-    let answer = check_counted(rt.alloc(), &mut source, steps, looks);
+    let answer = match source.check_parts() {
+        Ok(()) => check_counted(rt.alloc(), &mut source, steps, looks),
+        Err(refusal) => Err(refusal),
+    };
     let answer = source.settled(answer);
     if let Err(refusal) = &answer {
         let name = manner.is_named.then_some(input.name());
@@ -100,7 +103,7 @@ fn read_list(
             let out = &mut rt.reader();
             read_input(rt.alloc(), &mut Noted { out, report }, MOST_INPUT)
         }
-        Some(Input::File { name }) => {
+        Some(Input::File { name } | Input::List { word: name }) => {
             let mut file = report.outcome(File::open(rt, name), Refusal::StoreFailed)?;
             let out = &mut file;
             read_input(rt.alloc(), &mut Noted { out, report }, MOST_INPUT)

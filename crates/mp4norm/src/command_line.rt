@@ -25,6 +25,8 @@ const BRIEFLY_EXPLAINED: &str = "the argument '--brief' cannot be used with '--e
 
 const LIMIT_ALONE: &str = "the argument '--limit <N>' is of use only with '--all'";
 
+const NO_LIST: &str = "'@' names no list of files; a file of this name is './@'";
+
 const INPUT_TWICE: &str = "standard input ('-') can be read only once";
 
 // The rules of lists of words.
@@ -44,11 +46,20 @@ fn track_of(found: &ArgMatches) -> Option<u32>
     found.get_one::<u32>("track").filter(|track| *track >= 1)
 }
 
-// What a word names that is to be read.
-fn input_of(word: &str) -> Input<'_> {
+// What a word names that is to be read, and is never a list.
+fn plain_input_of(word: &str) -> Input<'_> {
     match word {
         "-" => Input::Standard,
         name => Input::File { name },
+    }
+}
+
+// What a word names that is to be read.
+fn input_of(word: &str) -> Input<'_> {
+    if word.starts_with('@') {
+        Input::List { word }
+    } else {
+        plain_input_of(word)
     }
 }
 
@@ -108,7 +119,7 @@ fn check_asked<'a>(alloc: Global, found: &ArgMatches<'a>) -> Result<Action<'a>, 
     for word in found.get_strs("file").unwrap_or(&[]) {
         files.push(input_of(word))?;
     }
-    let list = found.get_str("names-from").map(input_of);
+    let list = found.get_str("names-from").map(plain_input_of);
     let style = VerdictStyle {
         syntax: syntax_of(found),
         end: if found.get_flag("zero") { 0 } else { b'\n' },
@@ -248,15 +259,28 @@ fn compare_asked<'a>(alloc: Global, found: &ArgMatches<'a>) -> Result<Action<'a>
     }))
 }
 
+// Whether a word names standard input, or a list that is read from there.
+fn is_standard(word: &str) -> bool {
+    word == "-" || word == "@-"
+}
+
+// Whether a word should name a list, and names none.
+fn names_no_list(found: &ArgMatches) -> bool {
+    let files = found.get_strs("file").unwrap_or(&[]);
+    let sides = ["left", "right"];
+    files.iter().any(|file| *file == "@") || sides.iter().any(|it| found.get_str(*it) == Some("@"))
+}
+
 // How often standard input is named.
 fn inputs_in(found: &ArgMatches) -> usize {
     let files = found.get_strs("file").unwrap_or(&[]);
-    let named = files.iter().filter(|file| **file == "-").count();
-    let others = ["names-from", "left", "right"];
-    let more = others
+    let named = files.iter().filter(|file| is_standard(file)).count();
+    let sides = ["left", "right"];
+    let more = sides
         .iter()
-        .filter(|name| found.get_str(*name) == Some("-"));
-    named.saturating_add(more.count())
+        .filter(|name| found.get_str(*name).is_some_and(is_standard));
+    let list = usize::from(found.get_str("names-from") == Some("-"));
+    named.saturating_add(more.count()).saturating_add(list)
 }
 
 // What is wrong with words that clap accepts.
@@ -268,6 +292,8 @@ fn odds_of(matches: &ArgMatches) -> Option<&'static str> {
         Some(BRIEFLY_EXPLAINED)
     } else if found.get_flag("header") && found.get_flag("json") {
         Some(TWO_FORMS)
+    } else if names_no_list(found) {
+        Some(NO_LIST)
     } else if inputs_in(found) > 1 {
         Some(INPUT_TWICE)
     } else if found.get_one::<u32>("limit").is_some() && !found.get_flag("all") {

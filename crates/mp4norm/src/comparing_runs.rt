@@ -33,12 +33,12 @@ fn is_settled(answer: &Result<bool, Failure>) -> bool {
 }
 
 // Opens what is to be read, or says why it can't be.
-fn open_side(
-    rt: &HostRuntime,
+fn open_side<'a>(
+    rt: &'a HostRuntime,
     input: Input,
     telling: Telling,
     side: Side,
-) -> Result<Source, Failure> {
+) -> Result<Source<'a>, Failure> {
     let mut report = Report::new(telling);
     let opened = open(rt, input, &mut report);
     if matches!(opened, Err(Refusal::StoreFailed)) {
@@ -59,6 +59,12 @@ fn tell_cause(rt: &HostRuntime, asked: Comparison, failure: &Failure, report: &R
     }
 }
 
+// Goes over the parts of both, where they are lists.
+fn parts_of(first: &mut Source, second: &mut Source) -> Result<(), Failure> {
+    on_side(first.check_parts(), Side::First)?;
+    on_side(second.check_parts(), Side::Second)
+}
+
 // Compares two opened files. Then it looks whether either has changed meanwhile.
 fn answer_of<L: Ledger, M: Ledger>(
     rt: &HostRuntime,
@@ -73,9 +79,12 @@ fn answer_of<L: Ledger, M: Ledger>(
     let out = &mut rt.stdout();
     let mut sink = IoSink::new(Noted { out, report });
     let alloc = rt.alloc();
-    let answer = compare_files(
-        alloc, first, second, leaving, listing, &mut sink, steps, looks,
-    );
+    let answer = match parts_of(first, second) {
+        Ok(()) => compare_files(
+            alloc, first, second, leaving, listing, &mut sink, steps, looks,
+        ),
+        Err(failure) => Err(failure),
+    };
     if is_settled(&answer) {
         on_side(first.stays(), Side::First)?;
         on_side(second.stays(), Side::Second)?;
@@ -106,12 +115,13 @@ fn answer<L: Ledger, M: Ledger>(
     if let Err(failure) = &answer {
         let refusal = &failure.refusal;
         tell_cause(rt, asked, failure, &report);
-        let (input, source) = match failure.side {
-            Side::First => (left, &mut first),
-            _ => (right, &mut second),
-        };
-        let name = Some(input.name());
-        explain_fault(rt, name, refusal, telling, source, steps, looks);
+        if matches!(failure.side, Side::First) {
+            let name = Some(left.name());
+            explain_fault(rt, name, refusal, telling, &mut first, steps, looks);
+        } else {
+            let name = Some(right.name());
+            explain_fault(rt, name, refusal, telling, &mut second, steps, looks);
+        }
     }
     answer
 }

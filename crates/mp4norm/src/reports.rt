@@ -10,6 +10,8 @@ use std::io::{ErrorKind, IsTerminal, Read, Write};
 /// The causes where no file can be opened by a word, since it isn't text.
 const NO_FILE: &str = "its name is not UTF-8; give the file as standard input (-)";
 
+const NO_PART: &str = "its name is not UTF-8";
+
 const NO_NEW: &str = "its name is not UTF-8; write to standard output (-)";
 
 // What the system means by a kind of error.
@@ -44,6 +46,8 @@ enum Cause {
 pub(crate) struct Report<'a> {
     telling: Telling,
     cause: Option<Cause>,
+    // The file that the cause is about, where it is another than the one that was asked for.
+    concern: Option<String>,
     progress: Option<Progress<'a>>,
 }
 
@@ -53,6 +57,7 @@ impl<'a> Report<'a> {
         Report {
             telling,
             cause: None,
+            concern: None,
             progress: None,
         }
     }
@@ -93,6 +98,12 @@ impl<'a> Report<'a> {
                 Err(failed)
             }
         }
+    }
+
+    /// What fails from now on is about the file of this name.
+    pub(crate) fn concerns(&mut self, rt: &HostRuntime, name: &str) -> Result<(), Refusal> {
+        self.concern = Some(String::from_str(rt.alloc(), name)?);
+        Ok(())
     }
 
     /// A failure with a cause of its own.
@@ -148,6 +159,10 @@ impl<'a> Report<'a> {
         if !self.tells_causes(rt) {
             return;
         }
+        let (name, not_text) = match &self.concern {
+            Some(concern) => (concern.as_str(), NO_PART),
+            None => (name, not_text),
+        };
         tell_name(rt, b"file: ", name);
         match self.cause {
             Some(Cause::TooLong(most)) => tell_too_long(rt, most),

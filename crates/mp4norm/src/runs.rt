@@ -9,7 +9,7 @@ use crate::targets::{Out, make, write};
 use crate::text_lengths::text_len;
 use crate::wanted::{Job, Order, Target, Telling};
 use mp4_boxes::{Refusal, Steps};
-use mp4_store::IoSink;
+use mp4_store::{IoSink, Sink};
 use std::io::Write;
 use std::sync::ledger::Ledger;
 
@@ -93,7 +93,10 @@ fn open_and_answer<'a, L: Ledger, M: Ledger>(
     report: &mut Report<'a>,
 ) -> Result<(), Refusal> {
     let mut source = open(rt, order.input, report)?;
-    let answer = answer(rt, job, &mut source, order, steps, looks, report);
+    let answer = match source.check_parts() {
+        Ok(()) => answer(rt, job, &mut source, order, steps, looks, report),
+        Err(refusal) => source.settled(Err(refusal)),
+    };
     report.end();
     if let Err(refusal) = &answer {
         explain_fault(rt, None, refusal, order.telling, &mut source, steps, looks);
@@ -117,7 +120,11 @@ pub(crate) fn explain_fault<L: Ledger, M: Ledger>(
     };
     if telling.explain {
         let mut errors = IoSink::new(rt.stderr());
+        let part = source.part_text(rt.alloc(), fault.offset);
         let _ = explain(rt.alloc(), name, fault, source, &mut errors, steps, looks);
+        if let Ok(Some(part)) = part {
+            let _ = errors.put(part.as_slice());
+        }
     }
 }
 

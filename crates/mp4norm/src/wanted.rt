@@ -33,11 +33,13 @@ pub enum Job<'a> {
     Strip { names: &'a [Name] },
 }
 
-/// What is read: standard input, or the file of this name.
+/// What is read: standard input, the file of this name, or those that a list names, one after the
+/// other; of a list the word, with the `@` before it.
 #[derive(Clone, Copy)]
 pub enum Input<'a> {
     Standard,
     File { name: &'a str },
+    List { word: &'a str },
 }
 
 impl<'a> Input<'a> {
@@ -46,6 +48,7 @@ impl<'a> Input<'a> {
         match self {
             Input::Standard => "-",
             Input::File { name } => name,
+            Input::List { word } => word,
         }
     }
 }

@@ -1,25 +1,36 @@
 //! Whether a file is as it was when it was opened.
 use mp4_boxes::Refusal;
-use std::fs::File;
+use std::fs::{File, Metadata};
 use std::io;
 use std::os::unix::fs::MetadataExt;
 
-// What the system tells of a file: its length, when it was last written to, and when that or its
-// rights were last changed, in seconds and nanoseconds.
+/// What the system tells of a file: which it is, its length, when it was last written to, and when
+/// that or its rights were last changed, in seconds and nanoseconds.
 #[derive(Clone, Copy, PartialEq)]
-struct State {
-    len: u64,
+pub(crate) struct State {
+    device: u64,
+    inode: u64,
+    pub(crate) len: u64,
     modified: (i64, i64),
     changed: (i64, i64),
 }
 
-fn state_of(file: &File) -> io::Result<State> {
-    let metadata = file.metadata()?;
-    Ok(State {
-        len: metadata.len(),
-        modified: (metadata.mtime(), metadata.mtime_nsec()),
-        changed: (metadata.ctime(), metadata.ctime_nsec()),
-    })
+impl State {
+    /// What was told.
+    pub(crate) fn of(metadata: &Metadata) -> State {
+        State {
+            device: metadata.dev(),
+            inode: metadata.ino(),
+            len: metadata.len(),
+            modified: (metadata.mtime(), metadata.mtime_nsec()),
+            changed: (metadata.ctime(), metadata.ctime_nsec()),
+        }
+    }
+}
+
+/// What is told of an open file.
+pub(crate) fn state_of(file: &File) -> io::Result<State> {
+    Ok(State::of(&file.metadata()?))
 }
 
 /// A file, and how it was when it was opened.
