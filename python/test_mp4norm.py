@@ -419,9 +419,10 @@ class Names(Case):
     def test_names_in_objects(self):
         """A name of an object is the name that was given, whatever its bytes are."""
         for name in (*self.ODD, *map(os.fsdecode, (b'caf\xe9.mp4', b'\xff\xfe\n'))):
-            words = [mp4norm.program(), 'check', '--json', '--', name]
+            given = './' + name if name.startswith('@') else name
+            words = [mp4norm.program(), 'check', '--json', '--', given]
             done = subprocess.run(words, input=b'', stdout=subprocess.PIPE, check=False)
-            self.assertEqual(json.loads(done.stdout)['file'], name)
+            self.assertEqual(json.loads(done.stdout)['file'], given)
 
 
 class Texts(Case):

@@ -143,6 +143,7 @@ fn carry_in_hand<S: Store, K: Sink, L: Ledger>(
         → IsUnchanged result) }
     ensures along { TakesAlong K.Sink sink.old sink.new carrier.old carrier.new result load.bytes }
     ensures devices { OnlyCopies S.Store store.old store.new K.Sink sink.old sink.new result }
+    ensures grows { OnOk result (steps.old ≤ steps.new) }
     ensures work { StepsInHand S.Store store.old movie.now walk.old walk.new result steps.old
         steps.new }
     ensures on { OnOk result (walk.old.mark.next ≤ walk.new.next) }
@@ -180,6 +181,7 @@ fn carry_again<S: Store, K: Sink, L: Ledger>(
         → IsUnchanged result) }
     ensures along { TakesAlong K.Sink sink.old sink.new carrier.old carrier.new result load.bytes }
     ensures devices { OnlyCopies S.Store store.old store.new K.Sink sink.old sink.new result }
+    ensures grows { OnOk result (steps.old ≤ steps.new) }
     ensures work { StepsAgain S.Store store.old movie.now walk.old walk.new result steps.old
         steps.new }
     ensures ahead { OnOk result (GoesPast movie.now walk.old.mark.next walk.new) }
@@ -216,6 +218,7 @@ fn carry_marked<S: Store, K: Sink, L: Ledger>(
         AreThere file load.samples load.bytes samples → IsUnchanged result) }
     ensures along { TakesAlong K.Sink sink.old sink.new carrier.old carrier.new result load.bytes }
     ensures devices { OnlyCopies S.Store store.old store.new K.Sink sink.old sink.new result }
+    ensures grows { OnOk result (steps.old ≤ steps.new) }
     ensures work { StepsMarked S.Store store.old movie.now walk.old walk.new result steps.old
         steps.new }
     ensures on { OnOk result (walk.old.mark.next ≤ walk.new.next) }
@@ -258,6 +261,7 @@ pub(crate) fn carry_noted<S: Store, K: Sink, L: Ledger>(
         → IsUnchanged result) }
     ensures along { TakesAlong K.Sink sink.old sink.new carrier.old carrier.new result load.bytes }
     ensures devices { OnlyCopies S.Store store.old store.new K.Sink sink.old sink.new result }
+    ensures grows { OnOk result (steps.old ≤ steps.new) }
     ensures work { WhereMayFinish S.Store store.old movie.now leaving walk.old load.samples
         (λ file tree t n. MatchResult result
         (λ _. WritesOn file tree movie.now t n walk.new steps.old steps.new)

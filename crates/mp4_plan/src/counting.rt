@@ -1,5 +1,5 @@
 //! How many samples the next piece of a walk has.
-ghost use Rattle.std.specs.Prelude.{◌≡◌, ◌+◌, ◌≤◌, length, slice_get, IfOk};
+ghost use Rattle.std.specs.Prelude.{◌≡◌, ◌+◌, ◌≤◌, length, slice_get, IfOk, OnOk};
 ghost use Rattle.mp4_present.specs.words.Movies.{IsWalkOf, RefusesLoad};
 ghost use Rattle.mp4_present.specs.words.OverStores.{IsUnchanged, OnlyReads, Refused};
 ghost use Rattle.mp4_present.specs.words.OverWalks.{TakesSteps};
@@ -106,6 +106,7 @@ fn count_piece<S: Store, L: Ledger>(
     ensures unchanged { WhereLess S.Store store.old movie.now leaving walk.old
         (λ file tree t samples. length samples ≤ MOST_SAMPLES → IsUnchanged result) }
     ensures few { IfOk result (λ c. c.count ≤ MOST_SAMPLES) }
+    ensures grows { OnOk result (steps.old ≤ steps.new) }
     ensures work { TakesSteps S.Store store.old movie.now walk.old walk.new result steps.old
         steps.new }
     ensures refusal { Refused S.Store store.old store.new result RefusesLoad }
@@ -151,6 +152,7 @@ pub(crate) fn count_turn<S: Store, L: Ledger>(
     ensures unchanged { WhereLess S.Store store.old movie.now leaving walk.old
         (λ file tree t samples. length samples ≤ MOST_SAMPLES → IsUnchanged result) }
     ensures few { IfOk result (λ n. n ≤ MOST_SAMPLES) }
+    ensures grows { OnOk result (steps.old ≤ steps.new) }
     ensures work { TakesSteps S.Store store.old movie.now walk.old walk.new result steps.old
         steps.new }
     ensures refusal { Refused S.Store store.old store.new result RefusesLoad }

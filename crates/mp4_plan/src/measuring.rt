@@ -76,6 +76,7 @@ pub(crate) fn peek_each<S: Store, L: Ledger>(
     ensures unchanged { WhereAllCome S.Store store.old movie.now leaving walks.old
         (λ file tree lefts. IsUnchanged result) }
     ensures refusal { Refused S.Store store.old store.new result RefusesLoad }
+    ensures grows { OnOk result (steps.old ≤ steps.new) }
     ensures work { StepsOfAll S.Store store.old movie.now walks.old walks.new result steps.old
         steps.new }
     ensures writes { StepsToWrite S.Store store.old movie.now walks.old walks.new result steps.old
@@ -132,6 +133,7 @@ pub(crate) fn longest_piece<S: Store, L: Ledger, M: Ledger>(
         longest ≡ longest_piece (pieces (reduce leaving (presentation_of file tree))))) }
     ensures unchanged { OverOpened S.Store store.old movie.now (λ file tree. IsUnchanged result) }
     ensures refusal { Refused S.Store store.old store.new result RefusesPlan }
+    ensures grows { OnOk result (steps.old ≤ steps.new) }
     ensures work { OverOpened S.Store store.old movie.now
         (λ file tree. steps.new ≤ steps.old + walks_steps tree) }
     ensures turns { looks.new ≤ looks.old + movie_turns movie.now }
@@ -170,6 +172,7 @@ fn pieces_len<S: Store, L: Ledger, M: Ledger>(
         IfOk result (ArePiecesLong (reduce leaving (presentation_of file tree)))) }
     ensures unchanged { OverOpened S.Store store.old movie.now (λ file tree. IsUnchanged result) }
     ensures refusal { Refused S.Store store.old store.new result RefusesPlan }
+    ensures grows { OnOk result (steps.old ≤ steps.new) }
     ensures work { OverOpened S.Store store.old movie.now
         (λ file tree. steps.new ≤ steps.old + walks_steps tree) }
     ensures turns { looks.new ≤ looks.old + movie_turns movie.now }
@@ -253,6 +256,7 @@ pub fn reduced_len<S: Store, L: Ledger, M: Ledger>(
         (λ file tree. IfErr result (NamesLong leaving file tree)) }
     ensures unchanged { OverOpened S.Store store.old movie.now (λ file tree. IsUnchanged result) }
     ensures refusal { Refused S.Store store.old store.new result (RefusesLeft leaving) }
+    ensures grows { OnOk result (steps.old ≤ steps.new) }
     ensures work { OverOpened S.Store store.old movie.now
         (λ file tree. steps.new ≤ steps.old + walks_steps tree) }
     ensures turns { looks.new ≤ looks.old + movie_turns movie.now }
@@ -276,6 +280,7 @@ pub fn normal_len<S: Store, L: Ledger, M: Ledger>(
         IfOk result (λ len. len ≡ length (normal (presentation_of file tree)))) }
     ensures unchanged { OverOpened S.Store store.old movie.now (λ file tree. IsUnchanged result) }
     ensures refusal { Refused S.Store store.old store.new result RefusesPlan }
+    ensures grows { OnOk result (steps.old ≤ steps.new) }
     ensures work { OverOpened S.Store store.old movie.now
         (λ file tree. steps.new ≤ steps.old + walks_steps tree) }
     ensures turns { looks.new ≤ looks.old + movie_turns movie.now }

@@ -113,6 +113,7 @@ pub(crate) fn next_marked<S: Store, L: Ledger>(
         × (next ≡ slice_get samples 0))) }
     ensures unchanged { WhereLess S.Store store.old movie.now leaving walk.old
         (λ file tree t samples. IsUnchanged result) }
+    ensures grows { OnOk result (steps.old ≤ steps.new) }
     ensures work { TakesSteps S.Store store.old movie.now walk.old walk.new result steps.old
         steps.new }
     ensures writes { WhereMayWrite S.Store store.old movie.now walk.old (λ file tree t n.
@@ -230,6 +231,7 @@ pub(crate) fn plan_piece<S: Store, L: Ledger>(
     ensures unchanged { WhereLess S.Store store.old movie.now leaving walk.old
         (λ file tree t samples. length samples ≤ MOST_SAMPLES → IsUnchanged result) }
     ensures bounds { IfOk result (HasBounds MOST_SAMPLES) }
+    ensures grows { OnOk result (steps.old ≤ steps.new) }
     ensures work { TakesSteps S.Store store.old movie.now walk.old walk.new result steps.old
         steps.new }
     ensures refusal { Refused S.Store store.old store.new result RefusesLoad }
@@ -273,6 +275,7 @@ pub(crate) fn plan_turn<S: Store, L: Ledger>(
     ensures unchanged { WhereLess S.Store store.old movie.now leaving walk.old
         (λ file tree t samples. length samples ≤ MOST_SAMPLES → IsUnchanged result) }
     ensures bounds { IfOk result (HasBounds MOST_SAMPLES) }
+    ensures grows { OnOk result (steps.old ≤ steps.new) }
     ensures work { TakesSteps S.Store store.old movie.now walk.old walk.new result steps.old
         steps.new }
     ensures refusal { Refused S.Store store.old store.new result RefusesLoad }
@@ -366,6 +369,7 @@ pub(crate) fn note_marked<S: Store, L: Ledger>(
         → IsUnchanged result) }
     ensures some { IfOk result (λ p. 0 < p.count) }
     ensures bounds { IfOk result (HasBounds (length rows.old)) }
+    ensures grows { OnOk result (steps.old ≤ steps.new) }
     ensures work { WhereMayWrite S.Store store.old movie.now walk.old (λ file tree t n.
         MatchResult result (λ p. FinishesOn leaving file tree movie.now p.count t n walk.new
         steps.old steps.new) (λ r. steps.new ≤ steps.old + n)) }

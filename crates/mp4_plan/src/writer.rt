@@ -154,6 +154,7 @@ impl Writer {
         ensures fault { OverOpened S.Store store.old movie.now
             (λ file tree. IfErr result (NamesLong leaving file tree)) }
         ensures refusal { Refused S.Store store.old store.new result (RefusesLeft leaving) }
+        ensures grows { OnOk result (steps.old ≤ steps.new) }
         ensures work { OverOpened S.Store store.old movie.now
             (λ file tree. steps.new ≤ steps.old + walks_steps tree) }
         ensures may { OverOpened S.Store store.old movie.now (λ file tree.
@@ -190,6 +191,7 @@ impl Writer {
         ensures unchanged { OverOpened S.Store store.old movie.now
             (λ file tree. IsUnchanged result) }
         ensures refusal { Refused S.Store store.old store.new result RefusesPlan }
+        ensures grows { OnOk result (steps.old ≤ steps.new) }
         ensures work { OverOpened S.Store store.old movie.now
             (λ file tree. steps.new ≤ steps.old + walks_steps tree) }
         ensures may { OverOpened S.Store store.old movie.now (λ file tree.
@@ -222,6 +224,7 @@ impl Writer {
             → IsUnchanged result) }
         ensures planned { IfOk result (IsPlanned (length self.old.rows.items)) }
         ensures refusal { Refused S.Store store.old store.new result RefusesLoad }
+        ensures grows { OnOk result (steps.old ≤ steps.new) }
         ensures work { StepsToNote S.Store store.old movie.now turn.now.track self.old self.new
             result steps.old steps.new }
     {
@@ -273,6 +276,7 @@ impl Writer {
             → IsUnchanged result) }
         ensures refusal { RefusedByBoth S.Store store.old store.new K.Sink sink.old sink.new result
             RefusesCarry }
+        ensures grows { OnOk result (steps.old ≤ steps.new) }
         ensures work { StepsToCarry S.Store store.old movie.now track planned.now.count self.old
             self.new result steps.old steps.new }
     {
@@ -325,6 +329,7 @@ impl Writer {
             → IsUnchanged result) }
         ensures refusal { RefusedByBoth S.Store store.old store.new K.Sink sink.old sink.new result
             RefusesCarry }
+        ensures grows { OnOk result (steps.old ≤ steps.new) }
         ensures work { StepsToCarry S.Store store.old movie.now track planned.now.count self.old
             self.new result steps.old steps.new }
     {
@@ -371,6 +376,7 @@ impl Writer {
             (K.contents sink.new) (waiting self.old.carrier ++ self.old.head.items)) }
         ensures refusal { RefusedByBoth S.Store store.old store.new K.Sink sink.old sink.new result
             RefusesCarry }
+        ensures grows { OnOk result (steps.old ≤ steps.new) }
         ensures work { OverOpened S.Store store.old movie.now (λ file tree. (n : ℕ)
             → MayAllWrite file tree movie.now self.old.walks.items n
             → steps.new ≤ steps.old + n) }
@@ -434,6 +440,7 @@ pub fn write_reduced<S: Store, K: Sink, L: Ledger, M: Ledger>(
         × IsPutWhole movie.now (K.contents sink.old) (K.contents sink.new) head) }
     ensures refusal { RefusedByBoth S.Store store.old store.new K.Sink sink.old sink.new result
         (RefusesLeftCopy leaving (K.contents sink.old) (K.contents sink.new)) }
+    ensures grows { OnOk result (steps.old ≤ steps.new) }
     ensures work { OverOpened S.Store store.old movie.now
         (λ file tree. steps.new ≤ steps.old + (walks_steps tree + writing_steps tree)) }
     ensures turns { looks.new ≤ looks.old + 2 * movie_turns movie.now }
@@ -464,6 +471,7 @@ pub fn write_normal<S: Store, K: Sink, L: Ledger, M: Ledger>(
         × IsPutWhole movie.now (K.contents sink.old) (K.contents sink.new) head) }
     ensures refusal { RefusedByBoth S.Store store.old store.new K.Sink sink.old sink.new result
         (RefusesCopy (K.contents sink.old) (K.contents sink.new)) }
+    ensures grows { OnOk result (steps.old ≤ steps.new) }
     ensures work { OverOpened S.Store store.old movie.now
         (λ file tree. steps.new ≤ steps.old + (walks_steps tree + writing_steps tree)) }
     ensures turns { looks.new ≤ looks.old + 2 * movie_turns movie.now }

@@ -131,6 +131,7 @@ impl Walk {
         ensures taken { ReadsMarked S.Store store.old movie.now self.old self.new before result
             steps.old steps.new }
         ensures idle { OnErr result (steps.new ≡ steps.old) }
+        ensures grows { steps.old ≤ steps.new }
         ensures length { KnowsLength S.Store store.old movie.now result }
         ensures refusal { Refused S.Store store.old store.new result RefusesLoad }
     {
@@ -163,6 +164,7 @@ impl Walk {
         ensures enough { OfHand movie.now self.old
             (λ hand. count ≤ length (left_in_hand hand) → IsOk result) }
         ensures same { KeepsRest self.old self.new }
+        ensures grows { steps.old ≤ steps.new }
         ensures fewer { IfErr result (FindsFewer steps.old steps.new) }
     {
         let place = {
@@ -195,6 +197,7 @@ impl Walk {
             (λ file tree t samples. MatchResult result
             (λ _. Comes file tree t movie.now self.new samples)
             (λ r. r ≡ refusals.StoreChanged → ⊥)) }
+        ensures grows { steps.old ≤ steps.new }
         ensures work { WhereMarkMayTake S.Store store.old movie.now self.old
             (λ file tree t begun n. MatchResult result
             (λ _. TakesOn file tree t (n + back_steps begun self.old) self.new steps.old steps.new)

@@ -17,6 +17,7 @@ loop-sample-init g c = record {
   few = omega arith;
   counts = λ told. counts_new c.args.leaving (g.S.Store.file c.args.store.now) c.args.movie.now c.args.walk.now (goes_in c.args.end.now c.args.description);
   takes = λ told tree t n o h. takes_none (g.S.Store.file c.args.store.now) tree t n c.args.steps.now c.args.walk.now h;
+  grows = omega arith;
 }
 
 pub returns-then-goes_in-clause-unchanged : goal.returns-then-goes_in-clause-unchanged
@@ -114,4 +115,5 @@ loop-sample-preserved g c =
           let m = c.args.movie.now in
           let kept = keeps_before file m c.args.walk.now c.loop-sample.walk _ _ (i.takes told) c.count_hand-hand.result.place c.keep.new.self _ c.count_hand-hand.ensures.keeps c.keep.ensures.place c.keep.ensures.work in
           loads_before file m c.args.walk.now c.keep.new.self _ _ kept c.load.new.self _ ((rw (i.honesty, i.file) at l.work) told);
+      grows = (let kept = c.keep.ensures.work in let loaded = l.grows in let so = i.grows in omega (arith, kept, loaded, so));
     }

@@ -17,6 +17,7 @@ invariant-loop-sample g l = record {
   few : l.count ≤ 16777216;
   counts : IsTrue (g.S.Store.is_honest l.fn.store) → CountsOn l.leaving (g.S.Store.file l.fn.store) l.movie l.fn.walk l.walk (goes_in l.end l.description) l.count;
   takes : IsTrue (g.S.Store.is_honest l.fn.store) → TakesBefore (g.S.Store.file l.fn.store) l.movie l.fn.walk l.walk l.fn.steps l.steps;
+  grows : l.fn.steps ≤ l.steps;
 }
 
 abbrev pub decreases-loop-sample : goal.decreases-loop-sample

@@ -23,6 +23,7 @@ loop-k-init g c = record {
   takes = λ told tree o n h. none_taken (g.S.Store.file c.args.store.now) tree c.args.walks.now n _ h;
   marked = λ lefts h. h;
   writes = λ told tree o n h. writes_none_taken (g.S.Store.file c.args.store.now) tree c.args.movie.now c.args.walks.now n _ h;
+  grows = omega arith;
 }
 
 pub loop-k-preserved : goal.loop-k-preserved
@@ -59,6 +60,7 @@ loop-k-preserved g c =
       writes = λ told tree o n h.
           write_then file tree m walks (slice_set walks k now) n _ _ _ (i.writes told tree o n h)
           (λ rest may. one_moves (MayWrite file tree m) tree.movie.tracks walks k _ now rest _ _ may (slice_get-get_or walks k c.index-walks-k.result inside) (λ t own own_may. (rw (i.honesty, i.file) at e.writes) told tree t own o own_may));
+      grows = (let more = e.grows in let so = i.grows in omega (arith, more, so));
     }
 
 pub returns-in_err-nexts-clause-unchanged : goal.returns-in_err-nexts-clause-unchanged

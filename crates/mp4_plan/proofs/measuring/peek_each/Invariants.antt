@@ -1,4 +1,4 @@
-use Rattle.std.proofs.Common.{◌≡◌, ℕ, List, length, take}
+use Rattle.std.proofs.Common.{◌≡◌, ◌≤◌, ℕ, List, length, take}
 use Rattle.mp4_tables.specs.declared.sample.SampleAt.{SampleAt}
 use Rattle.mp4_plan.specs.words.WriterSteps.{MayAllTake, AllTakeOn, MayAllWrite, AllWriteOn}
 use Rattle.mp4_plan.specs.words.OverDevices.{OverOpened}
@@ -21,4 +21,5 @@ invariant-loop-k g l = record {
   takes : OverOpened g.S.Store l.fn.store l.movie (λ file tree. (n : ℕ) → MayAllTake file tree tree.movie.tracks l.fn.walks n → AllTakeOn file tree n l.walks l.fn.steps l.steps);
   marked : (lefts : List (List SampleAt)) → AreMarked l.fn.walks lefts → AreMarked l.walks lefts;
   writes : OverOpened g.S.Store l.fn.store l.movie (λ file tree. (n : ℕ) → MayAllWrite file tree l.movie l.fn.walks n → AllWriteOn file tree l.movie n l.walks l.fn.steps l.steps);
+  grows : l.fn.steps ≤ l.steps;
 }

@@ -51,6 +51,7 @@ loop-turn-init g c =
       begins_within m.tracks c.new-schedule.result c.args.looks.now (rw c.tracks-tracks.ensures at c.new-schedule.ensures.tracks) (rw c.tracks-tracks.ensures at c.new-schedule.ensures.left) c.new-schedule.ensures.starts.0,
       subst (λ (xs : List (Option SampleAt)). IsDueAt m.tracks xs c.new-schedule.result c.begin.new.due) (c.as_slice-2.ensures.value ∙ noted) (rw c.tracks-tracks.ensures at c.begin.ensures),
       search rules,
+      e.grows,
     )
 
 pub returns-in_err-peek_each-clause-unchanged : goal.returns-in_err-peek_each-clause-unchanged
@@ -124,6 +125,7 @@ loop-turn-preserved g c =
       looks_on s c.pass.new.self c.args.looks.now _ _ (movie_turns m) i.8 c.in-Some.ensures.looks c.in_ok-pass.ensures.less,
       due_next,
       c.in_ok-pass.ensures.some,
+      (let more = p.grows in let so = i.11 in omega (arith, more, so)),
     )
 
 pub returns-in_err-pass-clause-unchanged : goal.returns-in_err-pass-clause-unchanged

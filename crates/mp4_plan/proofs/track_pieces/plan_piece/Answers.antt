@@ -18,6 +18,7 @@ loop-planner-init g c = record {
   few = search rules;
   fed = λ told. feeds_new c.args.leaving (g.S.Store.file c.args.store.now) c.args.movie.now c.args.walk.now c.args.end c.new-planner.result c.new-planner.ensures;
   takes = λ told tree t n o h. takes_none (g.S.Store.file c.args.store.now) tree t n c.args.steps.now c.args.walk.now h;
+  grows = omega arith;
 }
 
 pub returns-in-Ended-clause-planned : goal.returns-in-Ended-clause-planned
@@ -68,6 +69,7 @@ loop-planner-preserved g c =
           let m = c.args.movie.now in
           let kept = keeps_before file m c.args.walk.now c.loop-planner.walk _ _ (i.takes told) c.feed_hand-hand.result.place c.keep.new.self _ c.feed_hand-hand.ensures.keeps c.keep.ensures.place c.keep.ensures.work in
           loads_before file m c.args.walk.now c.keep.new.self _ _ kept c.load.new.self _ ((rw (i.honesty, i.file) at l.work) told);
+      grows = (let kept = c.keep.ensures.work in let loaded = l.grows in let so = i.grows in omega (arith, kept, loaded, so));
     }
 
 pub returns-in_err-load-in-Empty-clause-unchanged : goal.returns-in_err-load-in-Empty-clause-unchanged

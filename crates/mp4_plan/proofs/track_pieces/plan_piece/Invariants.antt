@@ -17,6 +17,7 @@ invariant-loop-planner g l = record {
   few : count_of l.planner.gathered ≤ 16777216;
   fed : IsTrue (g.S.Store.is_honest l.fn.store) → FeedsOn l.leaving (g.S.Store.file l.fn.store) l.movie l.fn.walk l.walk (piece_from l.fn.end) l.planner;
   takes : IsTrue (g.S.Store.is_honest l.fn.store) → TakesBefore (g.S.Store.file l.fn.store) l.movie l.fn.walk l.walk l.fn.steps l.steps;
+  grows : l.fn.steps ≤ l.steps;
 }
 
 abbrev pub decreases-loop-planner : goal.decreases-loop-planner

@@ -1,5 +1,5 @@
 use Rattle.std.proofs.Common.{List, ℕ, ◌++◌, arith, refl, subst}
-use Rattle.std.proofs.lemmas.Result.{err_from_is_err_and}
+use Rattle.std.proofs.lemmas.Result.{err_from_is_err_and, on_ok_weaker}
 use Rattle.std.specs.Io.KnownBytes.{Appends}
 use Rattle.std.specs.Prelude.{OnOk, OnErr}
 use Rattle.mp4_store.specs.words.Device.{AppendsPrefix}
@@ -74,3 +74,8 @@ returns-clause-long g c = λ told tree o.
 
 pub returns-clause-refusal : goal.returns-clause-refusal
 returns-clause-refusal g c = carried_left c.args.leaving c.write.result _ _ _ _ _ _ (rw c.in_ok-writer.ensures.store.reads at c.write.ensures.refusal)
+
+pub returns-clause-grows : goal.returns-clause-grows
+returns-clause-grows g c =
+    let planned = c.in_ok-writer.ensures.grows in
+    on_ok_weaker c.write.result (λ more. omega (arith, planned, more)) c.write.ensures.grows

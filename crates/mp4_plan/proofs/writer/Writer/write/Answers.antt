@@ -88,6 +88,7 @@ loop-turn-init g c =
       some = search rules;
       looks = begins_within c.args.movie.now.tracks c.new-schedule.result c.args.looks.now (rw c.tracks-tracks.ensures at c.new-schedule.ensures.tracks) (rw c.tracks-tracks.ensures at c.new-schedule.ensures.left) c.new-schedule.ensures.starts.0;
       due = λ told tree o ready. subst (λ (xs : List (Option SampleAt)). IsDueAt c.args.movie.now.tracks xs c.new-schedule.result c.begin.new.due) c.as_slice-3.ensures.value (rw c.tracks-tracks.ensures at c.begin.ensures);
+      grows = e.grows;
     }
 
 pub returns-in_err-noted-clause-prefix : goal.returns-in_err-noted-clause-prefix
@@ -307,6 +308,7 @@ loop-turn-preserved g c =
           (rw keep at ((rw (c.in_ok-noted.ensures.store.honesty, c.in_ok-noted.ensures.store.file, i.honesty, i.file) at c.in_ok-carry_turn.ensures.work) told tree o));
       some = c.in_ok-pass.ensures.some;
       looks = looks_on c.loop-turn.schedule c.pass.new.self c.args.looks.now _ _ (movie_turns c.args.movie.now) i.looks c.in-Some.ensures.looks c.in_ok-pass.ensures.less;
+      grows = (let noted = c.in_ok-noted.ensures.grows in let carried = c.in_ok-carry_turn.ensures.grows in let so = i.grows in omega (arith, noted, carried, so));
     }
 
 pub returns-clause-bytes : goal.returns-clause-bytes

@@ -36,6 +36,7 @@ invariant-loop-turn g l = record {
   due : OverOpened g.S.Store l.fn.store l.movie (λ file tree. IsReady file tree l.movie l.fn.self → IsDueAt l.movie.tracks l.self.nexts.items l.schedule l.self.due);
   some : IsSomeLeft l.schedule;
   looks : l.looks + turns_left l.schedule ≤ l.fn.looks + movie_turns l.movie;
+  grows : l.fn.steps ≤ l.steps;
 }
 
 abbrev pub decreases-loop-turn : goal.decreases-loop-turn
