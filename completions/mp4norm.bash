@@ -25,7 +25,7 @@ _mp4norm() {
     samples) words='--track --header --json --explain --brief --help' ;;
     extract) words='--track --out --max-bytes --replace --progress --explain --brief --help' ;;
     boxes) words='--json --explain --brief --help' ;;
-    strip) words='--drop --out --max-bytes --replace --progress --explain --brief --help' ;;
+    strip) words='--foreign --lossy --drop --out --max-bytes --replace --progress --explain --brief --help' ;;
     compare) words='--without --all --limit --json --explain --brief --help' ;;
     check) words='--names-from --zero --json --explain --brief --help' ;;
     help) words='normalise show samples extract boxes strip compare check' ;;

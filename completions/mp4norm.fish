@@ -19,6 +19,8 @@ complete -c mp4norm -n '__fish_seen_subcommand_from normalise extract strip' -l 
 complete -c mp4norm -n '__fish_seen_subcommand_from normalise extract strip' -l max-bytes -x -d 'Write nothing where there would be more bytes'
 complete -c mp4norm -n '__fish_seen_subcommand_from normalise extract strip' -l replace -d 'Replace it once all is written'
 complete -c mp4norm -n '__fish_seen_subcommand_from normalise extract strip' -l progress -d 'Say how far it has come'
+complete -c mp4norm -n '__fish_seen_subcommand_from strip' -l foreign -d 'All boxes that the profile refuses'
+complete -c mp4norm -n '__fish_seen_subcommand_from strip' -l lossy -d 'Also where more is lost with these'
 complete -c mp4norm -n '__fish_seen_subcommand_from strip' -l drop -x -d 'Types of boxes, apart by commas'
 complete -c mp4norm -n '__fish_seen_subcommand_from check' -l names-from -rF -d 'A file of further names'
 complete -c mp4norm -n '__fish_seen_subcommand_from normalise show samples extract boxes strip compare check' -l explain -d 'Say of a fault where it is and what it means'

@@ -4,6 +4,7 @@ What is due is the suite's own: answers that are stored, or its own reading of t
 """
 import json
 import os
+import re
 import struct
 
 from suite import lister, long, normal, objects, reader, strips
@@ -34,6 +35,8 @@ CUT = PLAIN[:-1]
 CUT_LINE = b'refused: Overrun in mdat at 541\n'
 # With a `uuid` behind it, whose first bytes are read.
 UUID = PLAIN + struct.pack('>I4s', 24, b'uuid') + bytes(range(16))
+# With a box that `strip --foreign` doesn't make free space unasked.
+EVENTS = PLAIN + struct.pack('>I4s', 12, b'emsg') + b'more'
 CUT_WORDS = (rb'way: mdat\nclause: ISO/IEC 14496-12, 8\.1\.1\nmeaning: [^\n]+\n'
              + CUT_LINE)
 GAP_WORDS = (rb'way: moof 2 / traf / tfdt\nclause: ISO/IEC 14496-12, 8\.8\.12\nmeaning: [^\n]+\n'
@@ -123,6 +126,12 @@ def stripped(name, data, *options, **due):
     return of(name, 'strip', data, whole, *DROP, *options, said=said, **due)
 
 
+def foreign(name, data, *options):
+    status, said, whole = strips.stripped(data, [strips.Foreign()], '--lossy' in options)
+    return of(name, 'strip', data, whole or None, '--foreign', *options, status=status,
+              said=re.escape(said))
+
+
 def of_one_file():
     """Each command, with and without its options, on files of the suite."""
     boxes = bytes_of('wanted', 'plain.boxes.txt')
@@ -144,6 +153,9 @@ def of_one_file():
     two = bytes_of('files', 'two-fragments.mp4')
     normal_two = bytes_of('wanted', 'two-fragments.normal.mp4')
     yield stripped('two-fragments', two)
+    yield foreign('a uuid', UUID)
+    yield foreign('events', EVENTS)
+    yield foreign('events', EVENTS, '--lossy')
     yield of('two-fragments far apart', 'normalise', spread(two), normal_two)
     yield of('two-fragments with a long head', 'normalise', grown(two), grown(normal_two))
     edits = bytes_of('files', 'edits.mp4')

@@ -14,6 +14,7 @@ DESCRIPTORS = 'mp4norm/src/descriptors.rt'
 DIFFERENCE_JSON = 'mp4norm/src/difference_json.rt'
 EXPLAINING = 'mp4norm/src/explaining.rt'
 FILE_NAMES = 'mp4norm/src/file_names.rt'
+FREED = 'mp4norm/src/freed_boxes.rt'
 INPUT = 'mp4norm/src/input.rt'
 JSON_TEXT = 'mp4norm/src/json_text.rt'
 LINE = 'mp4norm/src/command_line.rt'
@@ -267,6 +268,30 @@ def of_comparisons(joins='comparisons'):
     ]
 
 
+# ---- foreign boxes
+
+def of_foreign_boxes(joins='foreign'):
+    def edit(old, new, name, fails):
+        return Edit(FREED, old, new, name, run='strips foreign', fails=fails, joins=joins,
+                    optimised=True)
+    return [
+        edit('rule == Rule::TrackFragment && !has_time {', 'rule == Rule::TrackFragment {',
+             'strip: a time of Smooth Streaming is lost beside a tfdt',
+             fails='strip: 6d1d.* in moof/traf, True:'),
+        edit('b"emsg" => Some(Loss::Events),', 'b"emsg" => None,', 'strip: emsg is no loss',
+             fails='strip: emsg in moov, True:'),
+        edit('.sort_unstable_by_key(|group| group.offset);', '.sort_unstable();',
+             'strip: foreign boxes are told by their types, not by their places',
+             fails='strip: strangers, wide True:'),
+        edit('found.has_encryption |= uuid.', 'found.has_encryption &= uuid.',
+             'strip: a dropped uuid of encryption is not warned of',
+             fails='strip: 8974.* in moof, True, dropped:'),
+        Edit(RUNS, 'if !order.lossy', 'if order.lossy && !order.lossy',
+             'strip: --lossy is not needed', run='strips foreign_files', fails='strip --foreign .*: files',
+             joins='whole', optimised=True),
+    ]
+
+
 # ---- files that are read, and made
 
 SETTLED = '    source.settled(answer)\n'
@@ -419,5 +444,5 @@ def of_edges(joins='edges'):
 
 
 def all_edits():
-    return [*of_explanations(), *of_help(), *of_verdicts(), *of_comparisons(), *of_files(),
-            *of_lists(), *of_edges()]
+    return [*of_explanations(), *of_help(), *of_verdicts(), *of_comparisons(),
+            *of_foreign_boxes(), *of_files(), *of_lists(), *of_edges()]

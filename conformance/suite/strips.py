@@ -1,8 +1,9 @@
 """Copies in which some boxes are free space, made from a file's headers by the definition: of each
 box that is named, and that lies in no other such box, the four bytes of its type are `free`."""
 import os
+from uuid import UUID
 
-from . import lister
+from . import lister, objects
 from .boxes import Box, Raw, u32
 from .built import single_faults
 from .movies import whole
@@ -11,6 +12,21 @@ HERE = os.path.dirname(os.path.dirname(os.path.abspath(__file__)))
 FREE = b'free'
 # Types of boxes without which encrypted samples can't be read.
 OF_ENCRYPTION = ('senc', 'saiz', 'saio', 'sinf', 'pssh', 'tenc', 'schm')
+# The same of boxes that are `uuid`: sample encryption, track encryption, protection systems.
+UUIDS_OF_ENCRYPTION = ('a2394f52-5a9b-4f14-a244-6c427c648df4',
+                       '8974dbce-7be7-4c51-84f9-7148f9882554',
+                       'd08a4f18-10f3-4a82-b6c8-32d8aba183d3')
+# The `uuid` that tells when a fragment of Smooth Streaming begins.
+OF_TIME = '6d1d9b05-42d5-44e6-80e2-141daff757b2'
+# What is then so where a box is lost, by its type, and by its container where it counts.
+SEALED = "encrypted samples can't be read"
+LOSSES = {
+    'encryption': (('senc', 'saiz', 'saio', 'pssh'), None, SEALED),
+    'fragments': (('sdtp', 'subs', 'sgpd'), 'traf', 'flags or groups of samples are lost'),
+    'tables': (('stps', 'stsh', 'padb', 'stdp'), 'stbl', 'flags or groups of samples are lost'),
+    'events': (('emsg',), None, 'events are lost'),
+    'items': (('meta',), 'file', 'items are lost'),
+}
 # What names free space, or no type.
 WRONG = ('free', 'moov/free', '66726565', 'uuid,free', '', ',', 'uuid,', ',uuid', 'uui', 'uuids',
          'uuid,,prft', 'uuid, prft', 'moov/', '/uuid', 'moov/trak/uuid', 'none/uuid', 'stsd/uuid',
@@ -36,34 +52,106 @@ class Name:
         return self.kind == kind and self.container in (None, container)
 
 
+class Foreign:
+    """All boxes that the profile refuses where they stand."""
+
+    word = '--foreign'
+
+    def means(self, kind, container):
+        path = next(it for it in objects.PROFILE if (it.rpartition('/')[2] or 'file') == container)
+        allowed = f'{objects.PROFILE[path]} {objects.EVERYWHERE}'.split()
+        return kind not in (name.encode() for name in allowed)
+
+
+class Freed:
+    """A box that becomes free space: the number of the first name that means it, its place, the
+    type of its container, its own type, and of a `uuid` which it is."""
+
+    def __init__(self, data, box, number, container, has_time):
+        kind, self.place, inner, end = box
+        self.number, self.container, self.kind = number, container, lister.printed(kind)
+        self.uuid = None
+        if kind == b'uuid' and end - inner >= 16:
+            self.uuid = str(UUID(bytes=bytes(data[inner:inner + 16])))
+        self.has_time = has_time
+
+    def name(self):
+        """How it is told where no word names it."""
+        return f'{self.container}/{self.kind}' + (f' {self.uuid}' if self.uuid else '')
+
+    def loss(self):
+        """What is then so, if something is lost."""
+        if self.uuid in UUIDS_OF_ENCRYPTION:
+            return SEALED
+        if self.uuid == OF_TIME and self.container == 'traf' and not self.has_time:
+            return 'decode times are made up'
+        for kinds, container, lost in LOSSES.values():
+            if self.kind in kinds and container in (None, self.container):
+                return lost
+        return None
+
+
 def named_in(data, found, path, names):
-    """The places of the named boxes among some headers and in their boxes, each with the number of
-    the first name that means it."""
+    """The named boxes among some headers and in their boxes."""
     container = path.rpartition('/')[2] or 'file'
-    for kind, place, inner, end in found:
-        meant = [number for number, name in enumerate(names) if name.means(kind, container)]
+
+    def meant_by(kind):
+        return [number for number, name in enumerate(names) if name.means(kind, container)]
+
+    has_time = any(box[0] == b'tfdt' for box in found) and not meant_by(b'tfdt')
+    for box in found:
+        kind, _, inner, end = box
+        meant = meant_by(kind)
         if meant:
-            yield place, meant[0]
+            yield Freed(data, box, meant[0], container, has_time)
         elif lister.printed(kind) in lister.INSIDE.get(path, ()):
             name = kind.decode()
             held = lister.headers(data, inner, end, name)
             yield from named_in(data, held, f'{path}/{name}' if path else name, names)
 
 
-def stripped(data, names):
+def told(names, freed):
+    """What is said of boxes that were changed: for each name, and for those without a name."""
+    said = ''
+    for number, name in enumerate(names):
+        if isinstance(name, Name):
+            said += f'strip: {sum(it.number == number for it in freed)} {name.shown}\n'
+    groups = {}
+    for it in freed:
+        if isinstance(names[it.number], Foreign):
+            groups[it.name()] = groups.get(it.name(), 0) + 1
+    return said + ''.join(f'strip: {count} {name}\n' for name, count in groups.items())
+
+
+def warned(names, freed):
+    """What is warned of: a dropped `uuid` of encryption, and each loss."""
+    dropped = any(isinstance(names[it.number], Name) and it.uuid in UUIDS_OF_ENCRYPTION
+                  for it in freed)
+    dropped |= any(isinstance(name, Name) and name.kind.decode('latin-1') in OF_ENCRYPTION
+                   for name in names)
+    warnings = {f'strip: warning: without these boxes {SEALED}\n': None} if dropped else {}
+    for it in freed:
+        if isinstance(names[it.number], Foreign) and it.loss():
+            warnings[f'strip: warning: without {it.name()} {it.loss()}\n'] = None
+    return ''.join(warnings)
+
+
+def stripped(data, names, is_lossy=True):
     """Status, standard error and bytes that are due."""
     try:
         found = lister.headers(data, 0, len(data), is_file=True)
-        places = list(named_in(data, found, '', names))
+        freed = list(named_in(data, found, '', names))
     except lister.BadHeader as fault:
         return 1, (fault.line() + '\n').encode(), b''
+    warnings = warned(names, freed)
+    lost = [it for it in freed if isinstance(names[it.number], Foreign) and it.loss()]
+    if lost and not is_lossy:
+        first = f'refused: BoxNotInProfile in {lost[0].kind} at {lost[0].place}\n'
+        return 1, (warnings + first).encode(), b''
     copy = bytearray(data)
-    counts = [0] * len(names)
-    for place, number in places:
-        copy[place + 4:place + 8] = FREE
-        counts[number] += 1
-    said = ''.join(f'strip: {count} {name.shown}\n' for count, name in zip(counts, names))
-    return 0, said.encode(), bytes(copy)
+    for it in freed:
+        copy[it.place + 4:it.place + 8] = FREE
+    return 0, (warnings + told(names, freed)).encode(), bytes(copy)
 
 
 def kinds_in(data):
@@ -184,3 +272,71 @@ def cases():
     """Names of cases, files, and the names of boxes."""
     for part in (cases_of_kinds, cases_of_names, cases_of_open_sizes, cases_of_faults):
         yield from part()
+
+
+# ---- boxes that the profile refuses
+
+
+def uuid_box(name, more=b'more'):
+    return Box('uuid', UUID(name).bytes + more)
+
+
+def foreign_files():
+    """Files without a loss, by name: what else the suite has, and many boxes that are `uuid`."""
+    for is_wide in (False, True):
+        yield f'wide {is_wide}', whole(is_wide).spelled()
+        yield f'strangers, wide {is_wide}', with_strangers(whole(is_wide))
+    for file in single_faults():
+        yield f'fault {file.name}', file.asked()[0]
+    for name in sorted(os.listdir(os.path.join(HERE, 'files'))):
+        yield name, bytes_of('files', name)
+    data = with_strangers(whole(False))
+    for length in range(0, len(data), 41):
+        yield f'first {length} bytes of strangers', data[:length]
+    file = whole(True)
+    for number in range(9_000):
+        content = (number * number % 5_003).to_bytes(16, 'little')
+        file.children.insert(number % 3, Box('uuid', content[:16 - number % 7 // 6]))
+    yield 'many boxes that are uuid', file.spelled()
+
+
+def with_one(path, box, is_last):
+    """A file with one more box there; the fragments of the first track have no time where the box
+    comes first."""
+    file = whole(False)
+    holder = file.at(path) if path else file
+    if path == 'moof/traf' and not is_last:
+        holder.children = [child for child in holder.children if child.kind != 'tfdt']
+    holder.children.insert(len(holder.children) if is_last else 0, box)
+    return file.spelled()
+
+
+def lossy_files():
+    """One box with which something may be lost, in each container."""
+    paths = {path.replace('moov/trak', 'moov/trak[1]'): path for path in objects.PROFILE}
+    kinds = [kind for kinds, _, _ in LOSSES.values() for kind in kinds]
+    kinds += ['sinf', 'tenc', 'schm', 'stsh']
+    for path in paths:
+        for is_last in (True, False):
+            for kind in kinds:
+                yield f'{kind} in {path}, {is_last}', with_one(path, Box(kind, b'some'), is_last)
+            for name in (*UUIDS_OF_ENCRYPTION, OF_TIME):
+                yield f'{name} in {path}, {is_last}', with_one(path, uuid_box(name), is_last)
+                cut = Box('uuid', UUID(name).bytes[:15])
+                yield f'15 bytes of {name} in {path}, {is_last}', with_one(path, cut, is_last)
+    file = whole(False)
+    for path in ('moof', 'moof/traf', 'moov', 'moov/trak[1]'):
+        file.at(path).children += [Box('senc'), uuid_box(OF_TIME), Box('emsg'), Box('senc')]
+    yield 'several', file.spelled()
+
+
+def foreign_cases():
+    """Names of cases, files, and the names of boxes; something is lost in those of `lossy_files`."""
+    for label, data in foreign_files():
+        yield label, data, [Foreign()]
+        yield f'{label}, and names', data, [Name(b'uuid', 'trak'), Name(b'hdlr'), Foreign()]
+    for label, data in lossy_files():
+        yield label, data, [Foreign()]
+        yield f'{label}, and names', data, [Name(b'senc'), Name(b'uuid', 'moof'), Name(b'tfdt'),
+                                            Foreign()]
+        yield f'{label}, dropped', data, [Name(b'uuid')]

@@ -20,6 +20,8 @@ pub mod WaysTo
 pub mod StripWalks
 pub mod StripCopies
 pub mod StripLaws
+pub mod StripLeft
+pub mod StripFaults
 pub mod Stripped
 pub mod HeadersUnder
 pub mod BoxSpans

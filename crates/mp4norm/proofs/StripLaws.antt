@@ -16,13 +16,13 @@ use Rattle.mp4norm.proofs.StripCopies.{same_header, next_freed, next_entered, fa
 
 -- ---- lengths of parts
 
-length_box : (bytes : List ℕ) (n : ℕ) → n ≤ length bytes → length (take n bytes) ≡ n
+pub length_box : (bytes : List ℕ) (n : ℕ) → n ≤ length bytes → length (take n bytes) ≡ n
 length_box bytes n le = grind (arith, common_steps)
 
-length_freed : (bytes : List ℕ) → 8 ≤ length bytes → length (freed bytes) ≡ length bytes
+pub length_freed : (bytes : List ℕ) → 8 ≤ length bytes → length (freed bytes) ≡ length bytes
 length_freed bytes le = grind (arith, common_steps)
 
-length_payload : (bytes : List ℕ) (h : Header) → IsRead (length bytes) h → length (payload_of h bytes) ≡ h.size - h.length
+pub length_payload : (bytes : List ℕ) (h : Header) → IsRead (length bytes) h → length (payload_of h bytes) ≡ h.size - h.length
 length_payload bytes h r =
     let from : h.length ≤ h.size = r.inside in
     let to : h.size ≤ length bytes = r.fits in
@@ -108,7 +108,7 @@ four_there bytes place e =
     let k : length (take 4 (drop (place + 4) bytes)) ≡ min 4 (length (drop (place + 4) bytes)) = length-take 4 (drop (place + 4) bytes) in
     omega (arith, n, m, k)
 
-four_first : (bytes rest : List ℕ) → 8 ≤ length bytes → take 4 (drop 4 (freed bytes ++ rest)) ≡ codes "free"
+pub four_first : (bytes rest : List ℕ) → 8 ≤ length bytes → take 4 (drop 4 (freed bytes ++ rest)) ≡ codes "free"
 four_first bytes rest le = grind (arith, common_steps)
 
 -- what stands for the first box is as long as that, and then comes what stands for the others

@@ -30,8 +30,8 @@ fn push_group(text: &mut String, bytes: &[u8]) -> Result<(), AllocError>
     push_bytes(text, bytes)
 }
 
-// A UUID in five groups of hexadecimal digits (RFC 9562, 4).
-fn uuid_string(alloc: Global, bytes: &[u8; 16]) -> Result<String, AllocError>
+/// A UUID in five groups of hexadecimal digits (RFC 9562, 4).
+pub(crate) fn uuid_string(alloc: Global, bytes: &[u8; 16]) -> Result<String, AllocError>
     ensures { IfOk result (λ text. string_bytes text ≡ uuid_text bytes.now) }
 {
     let mut text = String::new(alloc);

@@ -34,8 +34,12 @@ fn line_of(depth: u8, kind: FourCc, offset: u64, size: u64) -> Line
     line
 }
 
-// The first 16 bytes of the payload of a `uuid`; none of any other box, or where it has fewer.
-fn read_uuid<S: Store>(store: &mut S, found: &TopBox) -> Result<Option<[u8; 16]>, Refusal>
+/// The first 16 bytes of the payload of a `uuid`; none of any other box, or where it has fewer
+/// bytes.
+pub(crate) fn read_uuid<S: Store>(
+    store: &mut S,
+    found: &TopBox,
+) -> Result<Option<[u8; 16]>, Refusal>
     requires { IsWithin (S.file store.old) found.now }
     ensures store { OnlyReads S.Store store.old store.new result }
     ensures uuid { WhereRead S.Store store.old result

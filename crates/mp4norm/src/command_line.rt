@@ -7,6 +7,7 @@ use crate::comparing::{Lines, Listing};
 use crate::drop_lists::names_of;
 use crate::file_names::shown_word;
 use crate::leaving_words::leaving_of;
+use crate::named::Name;
 use crate::wanted::{
     Action, CommandFault, Comparison, Form, Input, Job, Order, Syntax, Target, Telling,
     VerdictStyle,
@@ -26,6 +27,8 @@ const BRIEFLY_EXPLAINED: &str = "the argument '--brief' cannot be used with '--e
 const LIMIT_ALONE: &str = "the argument '--limit <N>' is of use only with '--all'";
 
 const NO_LIST: &str = "'@' names no list of files; a file of this name is './@'";
+
+const LOSSY_ALONE: &str = "the argument '--lossy' is of use only with '--foreign'";
 
 const INPUT_TWICE: &str = "standard input ('-') can be read only once";
 
@@ -87,6 +90,7 @@ fn order_of<'a>(found: &ArgMatches<'a>, file: &'a str) -> Order<'a> {
         input: input_of(file),
         target: target_of(found),
         most: found.get_one::<u64>("max-bytes"),
+        lossy: found.get_flag("lossy"),
         telling: telling_of(found),
     }
 }
@@ -157,18 +161,32 @@ fn missing(alloc: Global) -> CommandFault {
     CommandFault::Shown(String::new(alloc))
 }
 
+// The boxes that a list of types names.
+fn listed_names(alloc: Global, list: &str) -> Result<Vec<Name>, CommandFault> {
+    match names_of(alloc, list)? {
+        Some(names) => Ok(names),
+        None => Err(list_fault(alloc, list, "--drop <TYPES>", DROP_RULE)),
+    }
+}
+
 // Which boxes of which file are to be free space.
 fn strip_asked<'a>(alloc: Global, found: &ArgMatches<'a>) -> Result<Action<'a>, CommandFault>
     ensures { IfOk result IsAction }
 {
-    let (Some(file), Some(list)) = (found.get_str("file"), found.get_str("drop")) else {
-        return Err(missing(alloc));
+    let mut names = match found.get_str("drop") {
+        Some(list) => listed_names(alloc, list)?,
+        None => Vec::new(alloc),
     };
-    let Some(names) = names_of(alloc, list)? else {
-        return Err(list_fault(alloc, list, "--drop <TYPES>", DROP_RULE));
-    };
-    let order = order_of(found, file);
-    Ok(Action::Strip { names, order })
+    if found.get_flag("foreign") && names.push(Name::Foreign).is_err() {
+        return Err(CommandFault::Memory);
+    }
+    match found.get_str("file") {
+        Some(file) if !names.is_empty() => {
+            let order = order_of(found, file);
+            Ok(Action::Strip { names, order })
+        }
+        _ => Err(missing(alloc)),
+    }
 }
 
 // What a list of words leaves out.
@@ -298,6 +316,8 @@ fn odds_of(matches: &ArgMatches) -> Option<&'static str> {
         Some(INPUT_TWICE)
     } else if found.get_one::<u32>("limit").is_some() && !found.get_flag("all") {
         Some(LIMIT_ALONE)
+    } else if found.get_flag("lossy") && !found.get_flag("foreign") {
+        Some(LOSSY_ALONE)
     } else {
         None
     }
@@ -342,6 +362,7 @@ pub fn action<'a>(alloc: Global, words: &'a [String]) -> Result<Action<'a>, Comm
             input: Input::Standard,
             target: Target::Standard,
             most: None,
+            lossy: false,
             telling: Telling::NOTHING,
         };
         return Ok(Action::Run {

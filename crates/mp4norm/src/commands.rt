@@ -41,6 +41,11 @@ const HEADER: &str = "Begin with a line of the names of the columns";
 
 const JSON: &str = "Answer with objects of JSON, each in a line of its own";
 
+const FOREIGN: &str = "All boxes that the profile refuses where they stand, as --drop for each";
+
+const LOSSY: &str = "\
+With --foreign: make NEW also where what is lost is needed to play or to tell what samples say";
+
 const ZERO: &str = "End each line with a zero byte in place of a line feed";
 
 const ALL: &str = "List all differences, and count them, in place of the first alone";
@@ -176,13 +181,13 @@ fn without_arg<'a>(alloc: Global) -> Arg<'a> {
         .action(ArgAction::Set)
 }
 
-fn drop_arg<'a>(alloc: Global) -> Arg<'a> {
+fn drop_arg<'a>(alloc: Global) -> Result<Arg<'a>, AllocError> {
     Arg::new(alloc, "drop")
         .long("drop")
         .value_name("TYPES")
         .help("The types of the boxes, apart by commas; moov/uuid means those in a moov alone")
-        .required(true)
         .action(ArgAction::Set)
+        .required_unless_present("foreign")
 }
 
 fn strip_command<'a>(alloc: Global) -> Result<Command<'a>, AllocError> {
@@ -192,7 +197,11 @@ fn strip_command<'a>(alloc: Global) -> Result<Command<'a>, AllocError> {
         "Copies a file, and makes boxes of some types free space",
         "Example: mp4norm strip movie.mp4 --drop uuid,minf/hdlr --out stripped.mp4",
     )?;
-    with_out(command.arg(drop_arg(alloc))?, alloc)
+    let command = command
+        .arg(drop_arg(alloc)?)?
+        .arg(flag(alloc, "foreign", FOREIGN))?
+        .arg(flag(alloc, "lossy", LOSSY))?;
+    with_out(command, alloc)
 }
 
 fn files_arg<'a>(alloc: Global) -> Result<Arg<'a>, AllocError> {

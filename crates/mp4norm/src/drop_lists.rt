@@ -53,7 +53,7 @@ fn name_of(word: &[u8]) -> Option<Name> {
     if kind == FourCc(*b"free") || container.is_some_and(|container| !is_holder(container)) {
         return None;
     }
-    Some(Name { container, kind })
+    Some(Name::Type { container, kind })
 }
 
 /// The names in a list of words that are apart by commas; none where a word names no type, free

@@ -1,6 +1,6 @@
 //! Laws of the texts: contracts over the definitions alone.
 ghost use Rattle.mp4norm.specs.format.BoxLaws.{FaultListsNothing, SixLevelsAreAll};
-ghost use Rattle.mp4norm.specs.format.StripLaws.{StripKeepsLength, UnnamedIsCopied, NamedIsFree, HaltedStripsNothing};
+ghost use Rattle.mp4norm.specs.format.StripLaws.{StripKeepsLength, UnnamedIsCopied, NamedIsFree, HaltedStripsNothing, StripLeavesNone, StripTwiceIsOnce, ForeignSparesFree, ForeignIsFault, AcceptedIsCopied};
 
 /// A file has no list of boxes where a header that is looked at is at fault.
 pub fn fault_lists_nothing()
@@ -30,4 +30,29 @@ pub fn named_is_free()
 /// Where a header that is looked at can't be read, no bytes are a copy of the file.
 pub fn halted_strips_nothing()
     ensures { HaltedStripsNothing }
+{}
+
+/// No named box stands in a copy, where no name means free space.
+pub fn strip_leaves_none()
+    ensures { StripLeavesNone }
+{}
+
+/// A copy of a copy is the copy, where no name means free space.
+pub fn strip_twice_is_once()
+    ensures { StripTwiceIsOnce }
+{}
+
+/// The name of boxes that the profile refuses never means free space.
+pub fn foreign_spares_free()
+    ensures { ForeignSparesFree }
+{}
+
+/// A box that the profile refuses where it stands is a fault of the file.
+pub fn foreign_is_fault()
+    ensures { ForeignIsFault }
+{}
+
+/// A file that denotes something is copied byte for byte where foreign boxes are named.
+pub fn accepted_is_copied()
+    ensures { AcceptedIsCopied }
 {}

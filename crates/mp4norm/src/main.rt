@@ -26,6 +26,7 @@ mod extract;
 mod fault_text;
 mod file_names;
 mod forms;
+mod freed_boxes;
 mod headers_under;
 mod input;
 mod jobs;

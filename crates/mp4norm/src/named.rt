@@ -4,12 +4,17 @@ ghost use Rattle.mp4norm.specs.format.Strips.{holder, is_in, means, is_named};
 
 use mp4_boxes::{FourCc, Rule};
 
-/// A type of boxes: everywhere, or those that stand in one container alone.
+/// Which boxes are meant.
 #[derive(Clone, Copy)]
-pub struct Name {
-    /// The container's type, `file` for the file itself.
-    pub container: Option<FourCc>,
-    pub kind: FourCc,
+pub enum Name {
+    /// Those of a type: everywhere, or those that stand in one container alone. The container's
+    /// type is `file` for the file itself.
+    Type {
+        container: Option<FourCc>,
+        kind: FourCc,
+    },
+    /// Those that the profile refuses where they stand.
+    Foreign,
 }
 
 /// All rules.
@@ -65,7 +70,13 @@ fn is_in(container: Option<FourCc>, rule: Rule) -> bool
 fn means(name: &Name, rule: Rule, kind: FourCc) -> bool
     ensures { result ≡ means rule kind.0 name.now }
 {
-    name.kind == kind && is_in(name.container, rule)
+    match *name {
+        Name::Type {
+            container,
+            kind: named,
+        } => named == kind && is_in(container, rule),
+        Name::Foreign => !rule.allows(kind),
+    }
 }
 
 /// Whether some name means boxes of this type under the rule.
@@ -73,6 +84,12 @@ pub(crate) fn is_named(names: &[Name], rule: Rule, kind: FourCc) -> bool
     ensures { result ≡ is_named names.now rule kind.0 }
 {
     names.iter().any(|name| means(name, rule, kind))
+}
+
+/// Whether the first name that means boxes of this type under the rule is that of foreign boxes.
+pub(crate) fn is_named_foreign(names: &[Name], rule: Rule, kind: FourCc) -> bool {
+    let first = names.iter().find(|name| means(name, rule, kind));
+    matches!(first, Some(Name::Foreign))
 }
 
 /// Counts a box for the first name that means it.

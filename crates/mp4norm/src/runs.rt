@@ -1,9 +1,10 @@
 //! A command from what is read to where its answer goes.
 use crate::explaining::explain;
+use crate::named::Name;
 use crate::replacing::replace;
 use crate::reports::Report;
 use crate::sources::{Source, open};
-use crate::strip_lines::{WARNING, count_line, names_encryption};
+use crate::strip_lines::{count_lines, find_told, refusal_of, warnings};
 use crate::stripping::count_named;
 use crate::targets::{Out, make, write};
 use crate::text_lengths::text_len;
@@ -56,7 +57,40 @@ fn write_to<'a, L: Ledger, M: Ledger>(
     write(rt.alloc(), job, source, &mut out, steps, looks, report)
 }
 
-// Does a job. Of a copy without some boxes it says how many of each name these are.
+// Copies a file without the boxes of some names, and says which these are. Where something is lost
+// with those that the profile refuses, nothing is put, but where that is allowed.
+fn strip_and_tell<'a, L: Ledger, M: Ledger>(
+    rt: &'a HostRuntime,
+    names: &[Name],
+    source: &mut Source,
+    order: Order,
+    steps: &mut Steps<L>,
+    looks: &mut Steps<M>,
+    report: &mut Report<'a>,
+) -> Result<(), Refusal> {
+    let alloc = rt.alloc();
+    let counts = count_named(alloc, source, names);
+    let counts = source.settled(counts)?;
+    let found = find_told(alloc, source, names);
+    let found = source.settled(found)?;
+    let warnings = warnings(alloc, names, &found)?;
+    if !order.lossy
+        && let Some(refusal) = refusal_of(&found)
+    {
+        let _ = rt.stderr().write_all(warnings.as_slice());
+        return Err(refusal);
+    }
+    let lines = count_lines(alloc, names, counts.as_slice(), &found)?;
+    let job = Job::Strip { names };
+    write_to(rt, job, source, order, steps, looks, report)?;
+    report.end();
+    let mut errors = rt.stderr();
+    let _ = errors.write_all(warnings.as_slice());
+    let _ = errors.write_all(lines.as_slice());
+    Ok(())
+}
+
+// Does a job.
 fn answer<'a, L: Ledger, M: Ledger>(
     rt: &'a HostRuntime,
     job: Job,
@@ -66,21 +100,10 @@ fn answer<'a, L: Ledger, M: Ledger>(
     looks: &mut Steps<M>,
     report: &mut Report<'a>,
 ) -> Result<(), Refusal> {
-    let Job::Strip { names } = job else {
-        return write_to(rt, job, source, order, steps, looks, report);
-    };
-    let counts = count_named(rt.alloc(), source, names);
-    let counts = source.settled(counts)?;
-    write_to(rt, job, source, order, steps, looks, report)?;
-    report.end();
-    let mut errors = rt.stderr();
-    if names_encryption(names) {
-        let _ = errors.write_all(WARNING);
+    match job {
+        Job::Strip { names } => strip_and_tell(rt, names, source, order, steps, looks, report),
+        job => write_to(rt, job, source, order, steps, looks, report),
     }
-    for (name, count) in names.iter().zip(counts.iter()) {
-        let _ = errors.write_all(count_line(name, *count).as_bytes());
-    }
-    Ok(())
 }
 
 // Opens what is read, and does the job. A fault is explained where that is asked for.

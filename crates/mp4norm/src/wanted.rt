@@ -90,13 +90,14 @@ impl Telling {
     };
 }
 
-/// What a job reads, where its answer goes, how many bytes that may have, and what is said beside
-/// it.
+/// What a job reads, where its answer goes, how many bytes that may have, whether it may be made
+/// where something that a player needs is lost, and what is said beside it.
 #[derive(Clone, Copy)]
 pub struct Order<'a> {
     pub input: Input<'a>,
     pub target: Target<'a>,
     pub most: Option<u64>,
+    pub lossy: bool,
     pub telling: Telling,
 }
 

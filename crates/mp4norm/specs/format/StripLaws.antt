@@ -1,12 +1,17 @@
 -- The laws of copies in which some boxes are free space.
-use Rattle.std.specs.Prelude.{◌≡◌, ℕ, ◌+◌, List, length, take, drop, true, false, Some, Ok, codes}
+use Rattle.std.specs.Prelude.{◌≡◌, ℕ, ◌+◌, List, [], ◌∷◌, length, take, drop, true, false, Some, Ok, codes}
 use Rattle.mp4_boxes.specs.format.Box.{Header, header_at}
 use Rattle.mp4_boxes.specs.declared.fault.Fault.{Fault}
+use Rattle.mp4_boxes.specs.declared.fault.Kind.TheVariants.{BoxNotInProfile}
 use Rattle.mp4_boxes.specs.declared.rule.Rule.{Rule}
 use Rattle.mp4_boxes.specs.declared.rule.Rule.TheVariants.{File}
+use Rattle.mp4_present.specs.format.Presentation.{Presentation}
+use Rattle.mp4_present.specs.format.Denotes.{Denotes}
+use Rattle.mp4_present.specs.format.Stands.{Stands}
 use Rattle.mp4norm.specs.format.BoxWalk.{rule_inside}
 use Rattle.mp4norm.specs.format.Strips.{is_top, is_named, payload_of, IsStripped, Halts}
 use Rattle.mp4norm.specs.declared.named.Name.{Name}
+use Rattle.mp4norm.specs.declared.named.Name.TheVariants.{Foreign}
 
 -- A named box stands at this place of bytes that are boxes, end to end under a rule, and in no
 -- other named box.
@@ -43,3 +48,31 @@ NamedIsFree = (names : List Name) (file text : List ℕ) (place : ℕ)
 abbrev pub HaltedStripsNothing : Type 0
 HaltedStripsNothing = (names : List Name) (f : Fault) (file text : List ℕ)
     → Halts names f File 0 file → IsStripped names file text → ⊥
+
+-- no name means free space
+abbrev pub SparesFree : List Name → Type 0
+SparesFree names = (rule : Rule) → is_named names rule (codes "free") ≡ false
+
+-- Then no named box stands in the copy.
+abbrev pub StripLeavesNone : Type 0
+StripLeavesNone = (names : List Name) (file text : List ℕ) (place : ℕ) → SparesFree names
+    → IsStripped names file text → NamedBoxAt names File place text → ⊥
+
+-- And a copy of the copy is the copy.
+abbrev pub StripTwiceIsOnce : Type 0
+StripTwiceIsOnce = (names : List Name) (file text again : List ℕ) → SparesFree names
+    → IsStripped names file text → IsStripped names text again → again ≡ text
+
+-- The name of boxes that the profile refuses never means free space.
+abbrev pub ForeignSparesFree : Type 0
+ForeignSparesFree = (names : List Name) → SparesFree names → SparesFree (Foreign ∷ names)
+
+-- What it means, where it isn't inside another, is a fault of the file.
+abbrev pub ForeignIsFault : Type 0
+ForeignIsFault = (file : List ℕ) (place : ℕ) → NamedBoxAt (Foreign ∷ []) File place file
+    → (f : Fault) × (f.kind ≡ BoxNotInProfile) × Stands file f
+
+-- So a file that denotes something is copied byte for byte.
+abbrev pub AcceptedIsCopied : Type 0
+AcceptedIsCopied = (file text : List ℕ) (p : Presentation) → Denotes file p
+    → IsStripped (Foreign ∷ []) file text → text ≡ file

@@ -1,9 +1,10 @@
 -- A copy of a file in which the boxes of some types are free space (ISO/IEC 14496-12, 8.1.2).
-use Rattle.std.specs.Prelude.{◌≡◌, ◌⊎◌, ℕ, ◌+◌, ◌-◌, ◌<◌, List, [], ◌++◌, length, take, drop, Bool, true, false, IsTrue, ◌&&◌, Option, None, Some, Ok, Err, codes, bytes_eq}
+use Rattle.std.specs.Prelude.{◌≡◌, ◌⊎◌, ℕ, ◌+◌, ◌-◌, ◌<◌, List, [], ◌++◌, length, take, drop, Bool, true, false, IsTrue, not, ◌&&◌, Option, None, Some, Ok, Err, codes, bytes_eq}
 use Rattle.std.specs.List.{list_any}
 use Rattle.mp4_store.specs.words.Device.{HasRisen}
 use Rattle.mp4_boxes.specs.format.Box.{Header, header_at}
 use Rattle.mp4_boxes.specs.format.BoxFaults.{header_there}
+use Rattle.mp4_boxes.specs.format.Children.{allows}
 use Rattle.mp4_boxes.specs.declared.four_cc.FourCc.{FourCc}
 use Rattle.mp4_boxes.specs.declared.rule.Rule.{Rule}
 use Rattle.mp4_boxes.specs.declared.rule.Rule.TheVariants as rules
@@ -13,6 +14,7 @@ use Rattle.mp4_boxes.specs.declared.refusal.Refusal.TheVariants as refusals
 use Rattle.mp4norm.specs.format.BoxWalk.{rule_inside}
 use Rattle.mp4norm.specs.words.Commands.{PutsAFront}
 use Rattle.mp4norm.specs.declared.named.Name.{Name}
+use Rattle.mp4norm.specs.declared.named.Name.TheVariants as names
 
 -- ---- which boxes are named
 
@@ -35,8 +37,10 @@ abbrev pub is_in : Option FourCc → Rule → Bool
 is_in None rule = true
 is_in (Some container) rule = bytes_eq container.0 (holder rule)
 
+-- the boxes of a type, or those that the profile refuses where they stand
 abbrev pub means : Rule → List ℕ → Name → Bool
-means rule kind name = bytes_eq name.kind.0 kind && is_in name.container rule
+means rule kind (names.Type container named) = bytes_eq named.0 kind && is_in container rule
+means rule kind names.Foreign = not (allows rule kind)
 
 -- some name means boxes of this type under the rule
 abbrev pub is_named : List Name → Rule → List ℕ → Bool
