@@ -1,6 +1,7 @@
 pub mod One
 pub mod Order
 pub mod DenotesVectors
+pub mod PartsOnce
 pub mod StandsVectors
 pub mod StandsForms
 pub mod StandsBoxes

@@ -19,7 +19,7 @@ use Rattle.mp4_present.specs.words.SamplesComing.{own_trafs, traf_total, walk_ro
 use Rattle.mp4_present.specs.words.WalkSteps.{moof_steps, moofs_steps, trafs_steps}
 use Rattle.mp4_present.proofs.Counts.{sum-append}
 
-abbrev ids_of : List TrackTree → List ℕ
+abbrev pub ids_of : List TrackTree → List ℕ
 ids_of tracks = map (λ (t : TrackTree). (track_head_of t).id) tracks
 
 -- Where each `traf` weighs something, and those of tracks with different IDs together no more than their `moof`s.
@@ -86,7 +86,7 @@ heads_ids : (tracks : List TrackTree) → map (λ (t : heads.TrackHead). t.id) (
 heads_ids [] = refl
 heads_ids (t ∷ tracks) = ap (λ ids. (track_head_of t).id ∷ ids) (heads_ids tracks)
 
-tracks_apart : (tree : FileTree) → IsSoundMovie tree.movie → AreApartIds (ids_of tree.movie.tracks)
+pub tracks_apart : (tree : FileTree) → IsSoundMovie tree.movie → AreApartIds (ids_of tree.movie.tracks)
 tracks_apart tree sound = all_apart (ids_of tree.movie.tracks) (ap are_distinct (sym (heads_ids tree.movie.tracks)) ∙ sound.track_ids)
 
 pub owns_few : (file : List ℕ) (tree : FileTree) → IsFileTree file tree → IsSoundMovie tree.movie → sum_of (λ (t : TrackTree). trafs_steps (own_trafs tree t)) tree.movie.tracks ≤ moofs_steps tree.fragments

@@ -17,10 +17,11 @@ use Rattle.mp4_head.specs.format.Tree.{TrackTree, IsTrackTree, track_head_of, tr
 use Rattle.mp4_present.specs.format.Denotes.{FileTree, IsFileTree, IsSoundFile, IsConsistent, Denotes, plain_of, surroundings, file_parts, presentation_of, track_of}
 use Rattle.mp4_present.specs.format.Presentation.{Presentation, sample_total}
 use Rattle.mp4_present.specs.format.Stands.{table_total}
-use Rattle.mp4_present.specs.words.WalkSteps.{moof_steps, moofs_steps, trafs_steps, table_steps, opening_steps, table_way, walk_steps, walks_steps}
+use Rattle.mp4_present.specs.words.WalkSteps.{moof_steps, moofs_steps, trafs_steps, table_steps, opening_steps, least_table_steps, least_steps, table_way, walk_steps, walks_steps}
 use Rattle.mp4_present.specs.words.SamplesComing.{own_trafs}
 use Rattle.mp4_present.proofs.OwnPlaced.{own_steps}
 use Rattle.mp4_present.proofs.OwnSums.{owns_few}
+use Rattle.mp4_present.proofs.PartsOnce.{parts_once}
 use Rattle.mp4_plan.specs.words.WriterSteps.{track_writes, writing_steps}
 use Rattle.mp4_present.proofs.Counts.{parts_total, sum-append, sizes_few, fragments_total, total_is, all_belong}
 use Rattle.mp4norm.specs.format.Steps.{row_total, most_steps}
@@ -37,6 +38,11 @@ checks_sum : (tracks : List TrackTree) → sum_of table_steps tracks ≡ 7 * row
 unfolding table_steps
 checks_sum [] = refl
 checks_sum (t ∷ tracks) = let more = checks_sum tracks in omega (arith, more)
+
+leasts_sum : (tracks : List TrackTree) → sum_of least_table_steps tracks ≡ rows_of tracks + 3 * plain_total tracks
+unfolding least_table_steps
+leasts_sum [] = refl
+leasts_sum (t ∷ tracks) = let more = leasts_sum tracks in omega (arith, more)
 
 -- the own `traf`s of each of these tracks
 abbrev owns_total : FileTree → List TrackTree → ℕ
@@ -155,6 +161,24 @@ tree_looks file tree way short h c =
 -- opening a file
 pub opened_looks : (file : List ℕ) (p : Presentation) (d : Denotes file p) → opening_steps d.tree ≤ 8 * (sample_total p + row_total d.tree)
 opened_looks file p d = subst (λ (q : Presentation). opening_steps d.tree ≤ 8 * (sample_total q + row_total d.tree)) (sym d.says) (let all = tree_looks file d.tree 0 (omega arith) d.is_tree d.is_consistent in omega (arith, all))
+
+-- opening a file takes at least a step for each sample and row
+least_of : (m s f r more leasts few : ℕ) → f ≤ few → m ≡ more + few → leasts ≡ r + 3 * s → (s + f) + (r + more) ≤ leasts + m
+least_of m s f r more leasts few le e l = omega (arith, le, e, l)
+
+tree_least : (file : List ℕ) (tree : FileTree) → IsFileTree file tree → IsSoundFile tree → IsConsistent file tree → sample_total (presentation_of file tree) + row_total tree ≤ least_steps tree
+tree_least file tree h s c =
+    let tracks = tree.movie.tracks in
+    let fragments = tree.fragments in
+    let parts = file_parts tree in
+    let total : sample_total (presentation_of file tree) ≡ plain_total tracks + fragments_total parts tracks =
+    total_is file parts tracks h.movie.tracks c.tables ∙ ap (λ n. n + fragments_total parts tracks) (sym (plain_counted file tracks h.movie.tracks c.tables)) in
+    let all = least_of (moofs_steps fragments) (plain_total tracks) (fragments_total parts tracks) (rows_of tracks) (fragment_rows_of fragments) (sum_of least_table_steps tracks) (parts_total parts)
+    (parts_once tree parts s.movie) (moofs_sum (trexes_of tree.movie) fragments h.fragments) (leasts_sum tracks) in
+    subst (λ n. n + row_total tree ≤ least_steps tree) (sym total) all
+
+pub opened_least : (file : List ℕ) (p : Presentation) (d : Denotes file p) → sample_total p + row_total d.tree ≤ least_steps d.tree
+opened_least file p d = subst (λ (q : Presentation). sample_total q + row_total d.tree ≤ least_steps d.tree) (sym d.says) (tree_least file d.tree d.is_tree d.is_sound d.is_consistent)
 
 -- opening a file and a walk over one of its tracks
 pub walked_looks : (file : List ℕ) (p : Presentation) (d : Denotes file p) (k : ℕ) (t : TrackTree) → slice_get d.tree.movie.tracks k ≡ Some t → opening_steps d.tree + walk_steps d.tree t ≤ 8 * (sample_total p + row_total d.tree)

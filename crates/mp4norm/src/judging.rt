@@ -1,5 +1,6 @@
 //! Whether a file has a normal form.
-ghost use Rattle.mp4norm.specs.format.Steps.{WalksWithin, FindsWithin};
+ghost use Rattle.std.specs.Prelude.{OnOk};
+ghost use Rattle.mp4norm.specs.format.Steps.{TakesEach, WalksWithin, FindsWithin};
 ghost use Rattle.mp4norm.specs.words.MainJob.{MayBeNormalised, RefusesCheck};
 ghost use Rattle.mp4_present.specs.words.OverStores.{WhereHonest};
 ghost use Rattle.mp4norm.specs.words.OverDevices.{IsOf, Reads};
@@ -22,6 +23,8 @@ pub fn check_counted<S: Store, L: Ledger, M: Ledger>(
     ensures answer { Reads S.Store store.old store.new result
         (λ file done. MayBeNormalised file) RefusesCheck }
     ensures work { WhereHonest S.Store store.old (λ file. WalksWithin file steps.old steps.new) }
+    ensures least { OnOk result (WhereHonest S.Store store.old (λ file.
+        TakesEach file steps.old steps.new)) }
     ensures looks { WhereHonest S.Store store.old (λ file. FindsWithin file looks.old looks.new) }
 {
     open_movie(alloc, store, steps, looks)?;

@@ -2,7 +2,7 @@
 ghost use Rattle.std.specs.Prelude.{OnOk};
 ghost use Rattle.mp4norm.specs.format.Headline.{HasNormalForm, Normalises};
 ghost use Rattle.mp4norm.specs.words.MainJob.{RefusesNormalise};
-ghost use Rattle.mp4norm.specs.format.Steps.{WorksWithin, TurnsWithin};
+ghost use Rattle.mp4norm.specs.format.Steps.{WorksWithin, TurnsWithin, TakesEach};
 ghost use Rattle.mp4norm.specs.words.WholePut.{PutsWhole};
 ghost use Rattle.mp4_plan.specs.format.ReducedLaws.{nothing};
 ghost use Rattle.mp4_present.specs.words.OverStores.{WhereHonest};
@@ -28,6 +28,8 @@ pub fn normalise_counted<S: Store, K: Sink, L: Ledger, M: Ledger>(
         HasNormalForm RefusesNormalise }
     ensures whole { OnOk result (PutsWhole nothing (K.contents sink.old) (K.contents sink.new)) }
     ensures work { WhereHonest S.Store store.old (λ file. WorksWithin file steps.old steps.new) }
+    ensures least { OnOk result (WhereHonest S.Store store.old (λ file.
+        TakesEach file steps.old steps.new)) }
     ensures looks { WhereHonest S.Store store.old (λ file. TurnsWithin file looks.old looks.new) }
     ensures headline { WhereHonest S.Store store.old (λ file. WhereTold K.Sink sink.old sink.new
         (λ before after. Normalises file before after result)) }

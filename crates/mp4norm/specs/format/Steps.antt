@@ -39,6 +39,11 @@ pub record WalksWithin (file : List ℕ) (old new : ℕ) : Type 0 where
       → new ≤ old + 8 * (sample_total p + row_total d.tree)
   pub refused : DenotesNothing file → OpensWithin file old new
 
+-- where it denotes a presentation, at least one for each of its samples, and one for each row
+abbrev pub TakesEach : List ℕ → ℕ → ℕ → Type 0
+TakesEach file old new = (p : Presentation) → (d : Denotes file p)
+    → old + (sample_total p + row_total d.tree) ≤ new
+
 -- ---- looks
 
 -- at how many places of a file its tracks are looked at: each `traf`

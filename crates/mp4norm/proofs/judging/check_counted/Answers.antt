@@ -1,8 +1,9 @@
-use Rattle.std.proofs.Common.{None}
+use Rattle.std.proofs.Common.{None, arith}
 use Rattle.std.proofs.lemmas.Result.{err_from_is_err_and}
 use Rattle.mp4_present.specs.format.Denotes.{presentation_of}
 use Rattle.mp4_plan.specs.format.Normal.{normal}
 use Rattle.mp4norm.proofs.Normalised.{open_refuses, normal_form}
+use Rattle.mp4norm.proofs.StepSums.{opened_least}
 use Rattle.mp4norm.proofs.StepsTaken.{not_looked, looked_within}
 use Rattle.mp4norm.proofs.LooksTaken.{not_found, finds_taken}
 use Rattle.mp4norm.proofs.judging.check_counted.Goals as goal
@@ -51,3 +52,8 @@ returns-in_err-open_movie-clause-looks g c = λ told.
 pub returns-clause-looks : goal.returns-clause-looks
 returns-clause-looks g c = λ told.
     finds_taken _ c.in_ok-open_movie.field-0 _ _ (c.in_ok-open_movie.ensures.movie told) (c.in_ok-open_movie.ensures.looks told).said
+
+pub returns-clause-least : goal.returns-clause-least
+returns-clause-least g c = λ told p d.
+    let taken = c.in_ok-open_movie.ensures.least told d.tree d.is_tree in
+    omega (arith, taken, opened_least _ p d)

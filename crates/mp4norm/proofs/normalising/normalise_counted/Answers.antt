@@ -1,5 +1,6 @@
-use Rattle.std.proofs.Common.{◌∙◌}
-use Rattle.std.proofs.lemmas.Result.{err_from_is_err_and}
+use Rattle.std.proofs.Common.{◌∙◌, arith}
+use Rattle.std.proofs.lemmas.Result.{err_from_is_err_and, on_ok_weaker}
+use Rattle.mp4norm.proofs.StepSums.{opened_least}
 use Rattle.mp4norm.proofs.StepsTaken.{not_opened, written_within}
 use Rattle.mp4norm.proofs.LooksTaken.{not_found, not_turned, turns_taken}
 use Rattle.mp4norm.proofs.Normalised.{open_refuses, write_refuses, normalises, all_written, front_written, unchanged_written}
@@ -66,3 +67,10 @@ returns-in_err-movie-clause-whole g c =
 
 pub returns-clause-whole : goal.returns-clause-whole
 returns-clause-whole g c = whole_put _ _ _ _ c.write_normal.result c.write_normal.ensures.whole
+
+pub returns-clause-least : goal.returns-clause-least
+returns-clause-least g c = on_ok_weaker c.write_normal.result
+    (λ grown told p d.
+    let taken = c.in_ok-movie.ensures.least told d.tree d.is_tree in
+    omega (arith, taken, grown, opened_least _ p d))
+    c.write_normal.ensures.grows
