@@ -238,9 +238,13 @@ fn told_in<L: Ledger, M: Ledger>(
     match kind {
         Kind::CountMismatch => Ok(counts_in_fragment(reached.moof.view(bytes), place)),
         Kind::SampleOutsideFile => {
-            outside_in(reached, bytes, place, file_len, places, states, steps, looks)
+            outside_in(
+                reached, bytes, place, file_len, places, states, steps, looks,
+            )
         }
-        _ => gap_in(reached, bytes, place, file_len, places, states, steps, looks),
+        _ => gap_in(
+            reached, bytes, place, file_len, places, states, steps, looks,
+        ),
     }
 }
 

@@ -59,9 +59,7 @@ fn pass_fragments<S: Store, L: Ledger, M: Ledger>(
     for top in &outline.moofs {
         let len = read_payload(store, *top, bytes)?;
         let moof = top.view(&bytes[..len]);
-        check_moof(
-            moof, file_len, places, states, own, &mut room, steps, looks,
-        )?;
+        check_moof(moof, file_len, places, states, own, &mut room, steps, looks)?;
     }
     Ok(())
 }
