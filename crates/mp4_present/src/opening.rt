@@ -113,8 +113,8 @@ fn find<S: Store, L: Ledger, M: Ledger>(
 
 /// Reads a file to the presentation that it denotes, or names a fault that stands in it. The `moov`
 /// is read once and kept; each `moof` is read, checked and given up before the next; media data is
-/// not read. Steps are rows, runs, samples and `traf`s; looks are those at tracks, for which one a
-/// `traf` is of.
+/// not read. Steps are rows, runs, samples and `traf`s; a look finds the track of a `traf` by its
+/// ID.
 pub fn open_movie<S: Store, L: Ledger, M: Ledger>(
     alloc: Global,
     store: &mut S,

@@ -1,5 +1,5 @@
 -- What it takes to open any file, by its bytes alone. A step is a row, a `traf`, a run or a sample
--- that a check passes; a look compares a track with an ID.
+-- that a check passes; a look finds the track of a `traf` by its ID.
 use Rattle.std.specs.Prelude.{◌≡◌, ◌⊎◌, ℕ, ◌+◌, ◌*◌, ◌^◌, ◌≤◌, List, length}
 use Rattle.mp4_present.specs.format.Denotes.{HasMovie}
 
