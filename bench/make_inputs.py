@@ -8,6 +8,9 @@ usage: make_inputs.py FOLDER [NAME ..]
   fragments  20,000 movie fragments of one track, 30 samples of 500 bytes each
   tracks     one hour of three interleaved tracks: 25 pictures a second, two sounds, a chunk for each half second
   heads      1,000 tracks without samples: nothing but heads to read and write
+  parts      10,000 movie fragments of 15 KB; beside it parts.list, which names them and their head, each in a file of its own
+  verdicts   a small file, 2,000 links to it, and verdicts.names, which names these
+  differences  300,000 samples, and differences.other, in which each has another duration
 
 The files hold made-up data in correct boxes (ISO/IEC 14496-12); nothing needs to be installed.
 """
@@ -101,11 +104,11 @@ def chunk_places(sizes, each):
     return places, at
 
 
-def small(path, count=5_000_000):
+def small(path, count=5_000_000, duration=500):
     source, each = random.Random(2), 30
     sizes = [20 + source.randrange(181) for _ in range(count)]
     places, at = chunk_places(sizes, each)
-    rows = [number for n in range(count) for number in (1, 500 + n % 3)]
+    rows = [number for n in range(count) for number in (1, duration + n % 3)]
     offsets = [number for n in range(count) for number in (1, 1000 + n % 2)]
     keys = range(1, count, 250)
     tables = lambda begin: [table(b'stts', count, rows), table(b'ctts', count, offsets), table(b'stss', len(keys), list(keys)), table(b'stsc', 2, [1, each, 1, len(places), count - each * (len(places) - 1), 1]), stsz(sizes), co64([begin + place for place in places])]
@@ -156,7 +159,42 @@ def heads(path):
     plain(path, 1000, lambda begin: [trak(k + 1, b'vide', 12800, empty) for k in range(1000)], 0)
 
 
-MAKERS = {'large': large, 'small': small, 'fragments': fragments, 'tracks': tracks, 'heads': heads}
+def parts(path):
+    fragments(path, 10_000)
+    folder = path + '.parts'
+    os.makedirs(folder, exist_ok=True)
+    with open(path, 'rb') as file:
+        data = file.read()
+    cuts, at = [0], 0
+    while at < len(data):
+        length, kind = struct.unpack('>I4s', data[at:at + 8])
+        cuts += [at] if kind == b'moof' else []
+        at += length
+    names = [f'{folder}/{number}.m4s' for number in range(len(cuts))]
+    for name, begin, end in zip(names, cuts, [*cuts[1:], len(data)]):
+        with open(name, 'wb') as file:
+            file.write(data[begin:end])
+    with open(path.removesuffix('.mp4') + '.list', 'w', encoding='utf-8') as file:
+        file.write('\n'.join(map(os.path.abspath, names)))
+
+
+def verdicts(path):
+    small(path, 100)
+    folder = path + '.links'
+    os.makedirs(folder, exist_ok=True)
+    names = [os.path.join(folder, f'{number}.mp4') for number in range(2_000)]
+    for name in names:
+        os.path.exists(name) or os.link(path, name)
+    with open(path.removesuffix('.mp4') + '.names', 'w', encoding='utf-8') as file:
+        file.write(''.join(name + '\0' for name in names))
+
+
+def differences(path):
+    small(path, 300_000)
+    small(path.removesuffix('.mp4') + '.other', 300_000, 600)
+
+
+MAKERS = {'large': large, 'small': small, 'fragments': fragments, 'tracks': tracks, 'heads': heads, 'parts': parts, 'verdicts': verdicts, 'differences': differences}
 
 
 def main():

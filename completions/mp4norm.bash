@@ -5,7 +5,7 @@ _mp4norm() {
     COMPREPLY=()
     for word in "${COMP_WORDS[@]:1:COMP_CWORD-1}"; do
         case $word in
-        normalise | show | samples | extract | boxes | strip | compare | check | help)
+        normalise | show | samples | extract | boxes | strip | compare | check | sum | help)
             command=$word
             break
             ;;
@@ -16,10 +16,10 @@ _mp4norm() {
         compopt +o default 2>/dev/null
         return
         ;;
-    --out | --names-from) return ;;
+    --out | --names-from | --check) return ;;
     esac
     case $command in
-    '') words='normalise show samples extract boxes strip compare check help --help --version' ;;
+    '') words='normalise show samples extract boxes strip compare check sum help --help --version' ;;
     normalise) words='--out --without --max-bytes --replace --progress --explain --brief --help' ;;
     show) words='--explain --brief --help' ;;
     samples) words='--track --header --json --explain --brief --help' ;;
@@ -28,7 +28,8 @@ _mp4norm() {
     strip) words='--foreign --lossy --drop --out --max-bytes --replace --progress --explain --brief --help' ;;
     compare) words='--without --all --limit --json --explain --brief --help' ;;
     check) words='--names-from --zero --json --explain --brief --help' ;;
-    help) words='normalise show samples extract boxes strip compare check' ;;
+    sum) words='--names-from --without --zero --json --no-header --check --quiet --explain --brief --help' ;;
+    help) words='normalise show samples extract boxes strip compare check sum' ;;
     esac
     # Behind a command that reads a file, words without a dash are files: bash completes them by itself.
     if [[ -z $command || $command = help || $current = -* ]]; then

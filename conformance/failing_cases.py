@@ -2,6 +2,7 @@
 
 What is due is the suite's own: answers that are stored, or its own reading of the file.
 """
+import hashlib
 import json
 import os
 import re
@@ -242,6 +243,43 @@ def of_many_files():
                put=(more + two + one).replace(b'\n', b'\0'))
 
 
+def of_sums():
+    """Sums, and a list of them that is checked."""
+    digits = hashlib.sha256(NORMAL).hexdigest().encode()
+    line = digits + b'  in.mp4\n'
+    header = b'# mp4norm sum: normal form 1, without nothing\n'
+    yield Case('one', ['sum', 'in.mp4'], {'in.mp4': PLAIN}, put=header + line)
+    yield Case('one, explained', ['sum', 'in.mp4', '--no-header', '--explain'], {'in.mp4': PLAIN},
+               put=line)
+
+
+def in_parts(data):
+    """A file in parts that a list names, of which each but the first begins with a `moof`."""
+    cuts = [place for kind, place, _, _ in lister.headers(data, 0, len(data), is_file=True)
+            if kind == b'moof']
+    parts = [data[a:b] for a, b in zip([0, *cuts], [*cuts, len(data)])]
+    files = {f'part{number}.m4s': part for number, part in enumerate(parts)}
+    return {'list': '\n'.join(files).encode(), **files}
+
+
+def of_lists():
+    """Commands on a list of files that are read as one."""
+    two = bytes_of('files', 'two-fragments.mp4')
+    whole = bytes_of('wanted', 'two-fragments.normal.mp4')
+    files = in_parts(two)
+    shown = reader.shown(reader.Movie(two)).encode()
+    yield Case('parts', ['show', '@list'], files, put=shown)
+    yield Case('parts', ['boxes', '@list', '--explain'], files,
+               put=lister.listed(two)[0].encode())
+    yield Case('parts', ['normalise', '@list', '--out', 'new'], files, made=whole)
+    yield Case('parts', ['normalise', '@list', '--out', 'new', '--replace', '--explain'], files,
+               made=whole, there=OLD)
+    yield Case('parts', ['compare', '@list', 'whole.mp4'], {**files, 'whole.mp4': two})
+    yield Case('parts', ['check', '@list'], files, put=b'@list: accepted\n')
+    parts = {name: data for name, data in files.items() if name != 'list'}
+    yield Case('a list in a pipe', ['show', '@-'], parts, given=files['list'], put=shown)
+
+
 def that_are_long():
     """Commands on files that take many calls."""
     data = long.with_long_pieces().spelled()
@@ -267,5 +305,6 @@ def of_no_file():
 
 
 def all_cases():
-    for part in (of_one_file, that_replace, of_two_files, of_many_files, that_are_long, of_no_file):
+    for part in (of_one_file, that_replace, of_two_files, of_many_files, of_sums, of_lists,
+                 that_are_long, of_no_file):
         yield from part()

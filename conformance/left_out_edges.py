@@ -29,6 +29,8 @@ REPLACING = 'mp4norm/src/replacing.rt'
 REPORTS = 'mp4norm/src/reports.rt'
 RUNS = 'mp4norm/src/runs.rt'
 SOURCES = 'mp4norm/src/sources.rt'
+SUM_CHECKS = 'mp4norm/src/sum_checks.rt'
+SUM_LINES = 'mp4norm/src/sum_lines.rt'
 TARGETS = 'mp4norm/src/targets.rt'
 WATCHING = 'mp4norm/src/watching.rt'
 COUNTS = 'mp4_present/src/fault_counts.rt'
@@ -134,7 +136,8 @@ def of_explanations(joins='explanations'):
 
 HELP = {0: 'all is done', 1: 'refused: the file has a fault; its kind, box and place are named',
         2: 'failed: memory', 3: 'failed: store, failed: store changed, failed: write',
-        4: 'failed: no such track', 5: 'compare: the files differ', 64: 'the arguments are invalid'}
+        4: 'failed: no such track', 5: 'compare: the files differ; sum --check: a sum does',
+        64: 'the arguments are invalid'}
 
 
 def of_help(joins='help'):
@@ -157,22 +160,24 @@ def of_help(joins='help'):
 # ---- verdicts and comparisons
 
 ONE_OF_WORDS = '        let answer = answer_of(rt, *input, manner, steps, looks);'
-JUDGED = 'Ok(()) => check_counted(rt.alloc(), &mut source, steps, looks),'
+JUDGED = '            check_counted(alloc, source, steps, looks)?;\n            Ok(None)'
 LISTED = '    answer_of(rt, Input::File { name }, manner, steps, looks)\n'
-PUT_LISTED = 'worst = put_named(rt, name, &answer, manner.style, sink)?.max(worst);'
+PUT_LISTED = '        worst = put_named(rt, name, &answer, manner, sink)?.max(worst);'
 WORST = 'Ok(worst.max(check_list(rt, list, manner, &mut sink, steps, looks)?))'
 
 
 def of_verdicts(joins='verdicts'):
     return [
         Edit(CHECKING, JUDGED,
-             'Ok(()) => match check_counted(rt.alloc(), &mut source, steps, looks) {\n'
-             '            Err(Refusal::StoreFailed) => Ok(()),\n            answer => answer,\n        },',
+             '            match check_counted(alloc, source, steps, looks) {\n'
+             '                Err(Refusal::StoreFailed) => Ok(None),\n'
+             '                answer => {\n                    answer?;\n'
+             '                    Ok(None)\n                }\n            }',
              'a failed read is told as accepted', run='failures check',
              fails=r'check in.mp4, one: \d+ times read of in.mp4 rest', joins=joins),
         Edit(CHECKING, LISTED,
              '    match answer_of(rt, Input::File { name }, manner, steps, looks) {\n'
-             '        Err(Refusal::Memory) => Ok(()),\n        answer => answer,\n    }\n',
+             '        Err(Refusal::Memory) => Ok(None),\n        answer => answer,\n    }\n',
              'want of memory is told as accepted', run='failures check',
              fails=r'check cut.mp4 --names-from list, a list: \d+ times alloc', joins=joins),
         Edit(CHECKING, '    let answer = source.settled(answer);\n', '',
@@ -184,8 +189,8 @@ def of_verdicts(joins='verdicts'):
              'the status of words is lost beside --names-from', run='checks statuses',
              fails="the status of .'cut.mp4'. and b'plain.mp4'", joins=joins),
         Edit(CHECKING, PUT_LISTED,
-             "let style = VerdictStyle { end: b'\\n', ..manner.style };\n        "
-             + PUT_LISTED.replace('manner.style', 'style'),
+             "        let style = VerdictStyle { end: b'\\n', ..manner.style };\n"
+             f'        let manner = Manner {{ style, ..manner }};\n{PUT_LISTED}',
              '--zero is ignored for a list', run='names names_in_checks',
              fails=r"a list \['--zero'\]", joins=joins),
         Edit(JSON_TEXT, 'b"dc"', 'b"00"', 'a byte that is no UTF-8 is told as another character',
@@ -205,6 +210,7 @@ def of_verdicts(joins='verdicts'):
     ]
 
 
+FIRST_WORD = 'let is_first = say_left_out(text, "edits", leaving.edits, true)?;'
 ALL_OF = 'compare_all(alloc, left, a, right, b, leaving, &mut listed, steps)?;'
 RIGHT = 'open_side(rt, right, telling, Side::Second)'
 
@@ -230,19 +236,21 @@ def of_comparisons(joins='comparisons'):
              'else { right }, telling, Side::Second)',
              'compare A - reads a file of that name', run='names no_other_file',
              fails='a file that is named -: compare', joins='limits'),
-        Edit(DIFFERENCE_JSON, 'Field::Byte(_, of) | Field::Entry(_, _, Part::Byte(_, of)) => Some(of),',
-             'Field::Byte(_, of) => Some(of),', 'of a byte of a box it is not told of how many',
+        Edit(DIFFERENCE_JSON, 'Field::Byte(_, of) | Field::Entry(_, _, Part::Byte(_, of)) => {',
+             'Field::Byte(_, of) => {', 'of a byte of a box it is not told of how many',
              run='compares', fails=r'handler: byte 12 of 25: 65 \| 78 --json', joins='objects',
              optimised=True),
-        Edit(DIFFERENCE_JSON, '[edits, flags, groups, metadata, times]',
-             '[times, edits, flags, groups, metadata]', 'words of an object are in another order',
+        Edit(DIFFERENCE_JSON, FIRST_WORD,
+             FIRST_WORD.replace('edits', 'times') + FIRST_WORD.replace('true', 'is_first')
+             + 'let leaving = Leaving { times: false, ..leaving };',
+             'words of an object are in another order',
              run='compares', fails=r"compare --all .*\('times',\) --json", joins='objects words',
              optimised=True),
         Edit(DIFFERENCE_JSON, 'Value::Number(_) if digits == 0 =>', 'Value::Number(_) if digits < 7 =>',
              'flags of a track are a number', run='compares',
              fails=r'track 1: flags 000003 \| 000007 --json', joins='objects values', optimised=True),
-        Edit(COMPARING, 'iter().take(lines.limit as usize)',
-             'iter().take(lines.limit.max(1) as usize)',
+        Edit(COMPARING, 'first_of(all, lines.limit as usize)',
+             'first_of(all, lines.limit.max(1) as usize)',
              '--limit 0 lists a difference', run='limits differences',
              fails=r"a list with the limit \['--limit', '0'\]", joins=joins, optimised=True),
         Edit(LINE, 'const LIMIT: u32 = 100;', 'const LIMIT: u32 = 1000;',
@@ -255,8 +263,8 @@ def of_comparisons(joins='comparisons'):
              'of a list that was cut, the words of what was counted alone are tried',
              run='limits differences', fails='a list of one more, of another group',
              joins='words of a cut list', optimised=True),
-        Edit(COMPARING, 'let more = tally.suggests(leaving);',
-             'let more = if is_whole { tally.suggests(leaving) } else { Some(EVERYTHING) };',
+        Edit(COMPARING, 'let more = suggested(leaving, all);',
+             'let more = if is_whole { suggested(leaving, all) } else { Some(EVERYTHING) };',
              'of a list that was cut, all words are named where fewer do', run='limits differences',
              fails='a list of one more: ',
              joins='all words of a cut list', optimised=True),
@@ -371,6 +379,9 @@ def of_lists(joins='lists'):
              '    let answer = match if false { source.check_parts() } else { Ok(()) } {\n',
              'parts may end within a box', run='lists ends_of_parts', fails='boxes of a part that',
              joins='parts'),
+        Edit(RUNS, '            report.concerns_part(rt, &source)?;\n', '',
+             'a failed read of a part is told of the list', run='failures parts',
+             fails=r'boxes @list --explain, parts: \d+ times read of part0', joins='parts'),
         Edit(NAMED_FILES, 'Ok(state) if state == self.state => Ok(file),', 'Ok(_) => Ok(file),',
              'a part is read though it is another one', run='lists changed_parts',
              fails='a part is another before open of part2.m4s', joins='states'),
@@ -383,6 +394,35 @@ def of_lists(joins='lists'):
         Edit(LIST_SOURCES, "if name.first() != Some(&b'/') {", 'if true {',
              'whole names are looked for beside the list', run='lists forms_of_lists',
              fails='a list with whole names', joins=joins),
+    ]
+
+
+# ---- sums
+
+def of_sums(joins='sums'):
+    return [
+        Edit(SUM_CHECKS, 'if *digest == file.digest =>', 'if *digest != [0; DIGEST] =>',
+             'each sum of a list is right', run='sums of_lists', fails='check: another sum',
+             joins=joins),
+        Edit(SUM_CHECKS, 'ListedSum::Header(words) => leaving = words,',
+             'ListedSum::Header(_) => leaving = Leaving::NOTHING,',
+             'what a list says is left out is not heeded', run='sums of_lists',
+             fails='check: a header in between', joins='headers'),
+        Edit(SUM_CHECKS, 'Ok(if worst > 0 { worst } else { differ })', 'Ok(worst.max(differ))',
+             'another sum hides that a file is refused', run='sums of_lists',
+             fails='check: another and refused', joins=joins),
+        Edit(SUM_CHECKS, '((!is_quiet).then_some("OK"), 0)', '(Some("OK"), 0)',
+             '--quiet tells of each file', run='sums of_lists', fails='quiet check: all right',
+             joins=joins),
+        Edit(SUM_LINES, "b'\\n' => text.extend_from_slice(b\"\\\\n\")?,",
+             "b'\\n' => text.extend_from_slice(b\"\\n\")?,",
+             'a line feed in a name ends its line', run='sums of_names',
+             fails=r"sum of 'line.*feed'", joins=joins),
+        Edit(CHECKING, '(Err(refusal), Finding::Sum { .. }) if matches!(style.syntax, '
+             'Syntax::Text) => {',
+             '(Err(refusal), Finding::Sum { .. }) if matches!(style.syntax, Syntax::Json) => {',
+             'a refused file has a line among the sums', run='sums of_many', fails='four files',
+             joins='refused'),
     ]
 
 
@@ -445,4 +485,4 @@ def of_edges(joins='edges'):
 
 def all_edits():
     return [*of_explanations(), *of_help(), *of_verdicts(), *of_comparisons(),
-            *of_foreign_boxes(), *of_files(), *of_lists(), *of_edges()]
+            *of_foreign_boxes(), *of_files(), *of_lists(), *of_sums(), *of_edges()]

@@ -26,7 +26,7 @@ from typing import (Any, Dict, Iterable, List, Mapping, Optional, Sequence, Tupl
 
 __all__ = ["Box", "Comparison", "Difference", "Edit", "Error", "Failed", "Movie", "Refused",
            "Sample", "Track", "boxes", "check", "compare", "normalise", "program", "samples",
-           "show"]
+           "show", "sum"]
 
 Name = Union[str, "os.PathLike[str]"]
 File = Union[Name, bytes]
@@ -240,15 +240,28 @@ def normalise(file: File, new: Optional[Name] = None, without: Words = (),
 def check(*files: Name) -> Dict[str, Optional[Error]]:
     """For the name of each file: None if it has a normal form, else what `normalise` would raise.
     There may be any number of files; each is opened and judged, whatever is wrong with others."""
+    return {name: _verdict(name, one) for name, one in _told(["check"], files)}
+
+
+def sum(*files: Name, without: Words = ()) -> Dict[str, Union[str, Error]]:
+    """For the name of each file: the SHA-256 of its normal form, of what is left of it, in
+    hexadecimal digits; or what `normalise` would raise. Files with the same content have the same
+    sum. There may be any number of files."""
+    told = _told(["sum", *_without(without)], files)
+    return {name: _verdict(name, one) or one["sha256"] for name, one in told}
+
+
+def _told(words: Sequence[str], files: Iterable[Name]) -> List[Tuple[str, Dict[str, Any]]]:
+    """The names of these files, and what is told of each."""
     names = [os.fspath(file) for file in files]
     if any("\0" in name for name in names):
         raise ValueError("embedded null byte")
     listed = b"".join(os.fsencode(name) + b"\0" for name in names)
-    done = _call(["check", "--json", "--names-from", "-"], listed)
+    done = _call([*words, "--json", "--names-from", "-"], listed)
     told = _objects(done.stdout)
     if len(told) != len(names):
         raise _error(done, names)
-    return {name: _verdict(name, one) for name, one in zip(names, told)}
+    return list(zip(names, told))
 
 
 def _is_program(name: str) -> bool:

@@ -12,6 +12,7 @@ import atexit
 import collections
 import dataclasses
 import errno
+import hashlib
 import io
 import itertools
 import json
@@ -45,6 +46,7 @@ def bytes_of(*names):
 
 
 PLAIN = bytes_of('files', 'plain.mp4')
+NORMAL = bytes_of('wanted', 'plain.normal.mp4')
 # A byte of the third sample is another one.
 OTHER = PLAIN.replace(b'bbbbbbb', b'bbbxbbb')
 # The creation time of the movie, 4 bytes from 44 on, is another one.
@@ -228,6 +230,17 @@ class Answers(Case):
         self.assertEqual((found['none.mp4'].file, found['none.mp4'].what), ('none.mp4', 'store'))
         self.assertEqual(mp4norm.check(), {})
         self.assertRaises(ValueError, mp4norm.check, 'plain.mp4\0cut.mp4')
+
+    def test_sum(self):
+        digits = hashlib.sha256(NORMAL).hexdigest()
+        found = mp4norm.sum('plain.mp4', pathlib.Path('cut.mp4'), 'none.mp4')
+        self.assertEqual(found['plain.mp4'], digits)
+        self.assertEqual((found['cut.mp4'].kind, found['cut.mp4'].offset), ('Overrun', 541))
+        self.assertEqual((found['none.mp4'].file, found['none.mp4'].what), ('none.mp4', 'store'))
+        left = hashlib.sha256(mp4norm.normalise('plain.mp4', without=['flags'])).hexdigest()
+        self.assertEqual(mp4norm.sum('plain.mp4', without=['flags']), {'plain.mp4': left})
+        self.assertEqual(mp4norm.sum(), {})
+        self.assertRaises(ValueError, mp4norm.sum, 'plain.mp4\0cut.mp4')
 
     def test_many_files(self):
         names = [f'{"x" * 200}-{number}.mp4' for number in range(20000)]

@@ -30,7 +30,10 @@ LOSSES = {
 # What names free space, or no type.
 WRONG = ('free', 'moov/free', '66726565', 'uuid,free', '', ',', 'uuid,', ',uuid', 'uui', 'uuids',
          'uuid,,prft', 'uuid, prft', 'moov/', '/uuid', 'moov/trak/uuid', 'none/uuid', 'stsd/uuid',
-         '6672656', '667265650', '6672656g', 'u\u00eed', 'moov/uui')
+         '6672656', '667265650', '6672656g', 'u\u00eed', 'moov/uui', 'uuid:', 'uuid:0',
+         'uuid:00000000-0000-0000-0000-00000000000', 'uuid:00000000-0000-0000-0000-0000000000000',
+         'uuid:00000000000000000000000000000000', 'uuid:0000000-00000-0000-0000-000000000000',
+         'uuid:00000000-0000-0000-0000-00000000000g', 'prft:00000000-0000-0000-0000-000000000000')
 
 
 class Name:
@@ -48,8 +51,20 @@ class Name:
             spelled = f'{container}/{spelled}'
         self.word = word or spelled
 
-    def means(self, kind, container):
+    def means(self, kind, container, _):
         return self.kind == kind and self.container in (None, container)
+
+
+class OfUuid(Name):
+    """The `uuid` boxes with these 16 bytes, in a container or in any."""
+
+    def __init__(self, uuid, container=None, word=None):
+        super().__init__(b'uuid', container)
+        self.uuid, self.shown = uuid, f'{self.shown}:{uuid}'
+        self.word = word or f'{self.word}:{uuid}'
+
+    def means(self, kind, container, uuid):
+        return super().means(kind, container, uuid) and uuid == self.uuid
 
 
 class Foreign:
@@ -57,7 +72,7 @@ class Foreign:
 
     word = '--foreign'
 
-    def means(self, kind, container):
+    def means(self, kind, container, _):
         path = next(it for it in objects.PROFILE if (it.rpartition('/')[2] or 'file') == container)
         allowed = f'{objects.PROFILE[path]} {objects.EVERYWHERE}'.split()
         return kind not in (name.encode() for name in allowed)
@@ -68,12 +83,9 @@ class Freed:
     type of its container, its own type, and of a `uuid` which it is."""
 
     def __init__(self, data, box, number, container, has_time):
-        kind, self.place, inner, end = box
+        kind, self.place, _, _ = box
         self.number, self.container, self.kind = number, container, lister.printed(kind)
-        self.uuid = None
-        if kind == b'uuid' and end - inner >= 16:
-            self.uuid = str(UUID(bytes=bytes(data[inner:inner + 16])))
-        self.has_time = has_time
+        self.uuid, self.has_time = uuid_of(data, box), has_time
 
     def name(self):
         """How it is told where no word names it."""
@@ -91,17 +103,25 @@ class Freed:
         return None
 
 
+def uuid_of(data, box):
+    """Which `uuid` a box is, if it is one."""
+    kind, _, inner, end = box
+    if kind != b'uuid' or end - inner < 16:
+        return None
+    return str(UUID(bytes=bytes(data[inner:inner + 16])))
+
+
 def named_in(data, found, path, names):
     """The named boxes among some headers and in their boxes."""
     container = path.rpartition('/')[2] or 'file'
 
-    def meant_by(kind):
-        return [number for number, name in enumerate(names) if name.means(kind, container)]
+    def meant_by(kind, uuid=None):
+        return [number for number, name in enumerate(names) if name.means(kind, container, uuid)]
 
     has_time = any(box[0] == b'tfdt' for box in found) and not meant_by(b'tfdt')
     for box in found:
         kind, _, inner, end = box
-        meant = meant_by(kind)
+        meant = meant_by(kind, uuid_of(data, box))
         if meant:
             yield Freed(data, box, meant[0], container, has_time)
         elif lister.printed(kind) in lister.INSIDE.get(path, ()):
@@ -227,8 +247,30 @@ def cases_of_names():
     yield 'a type in hexadecimal digits', data, [Name(b'uuid', word='75756964'),
                                                  Name(b'\xa9nam', 'moov', 'moov/A96E616d')]
     yield 'nothing that is there', data, [Name(b'none'), Name(b'senx', 'traf')]
+    yield from cases_of_uuids(data)
     yield 'no file', b'', [Name(b'uuid')]
     yield 'one box', u32(8) + b'uuid', [Name(b'uuid')]
+
+
+def cases_of_uuids(strangers):
+    """Boxes that are `uuid`, told apart by the 16 bytes that say which they are."""
+    first, other = str(UUID(bytes=b'0123456789abcdef')), str(UUID(int=7))
+    yield 'one uuid', strangers, [OfUuid(first)]
+    yield 'one uuid in a container', strangers, [OfUuid(first, 'moof')]
+    yield 'one uuid, and the others', strangers, [OfUuid(first, 'trak'), Name(b'uuid')]
+    yield 'all, and one uuid', strangers, [Name(b'uuid', 'trak'), OfUuid(first)]
+    yield 'another uuid', strangers, [OfUuid(other)]
+    yield 'a uuid in capitals', strangers, [OfUuid(first, word=f'uuid:{first.upper()}')]
+    yield 'a uuid twice', strangers, [OfUuid(first), OfUuid(first, 'moov')]
+    for size in (15, 16, 17):
+        data = bytes_of('files', 'plain.mp4') + Box('uuid', bytes(size)).spelled()
+        yield f'a uuid of {size} bytes', data, [OfUuid(str(UUID(int=0)))]
+    file = whole(False)
+    for number in range(3):
+        file.children.append(uuid_box(str(UUID(int=number % 2)), b'ab'))
+    yield 'two of three', file.spelled(), [OfUuid(str(UUID(int=0)))]
+    for name in UUIDS_OF_ENCRYPTION:
+        yield f'encryption {name}', with_one('moov', uuid_box(name), True), [OfUuid(name)]
 
 
 def cases_of_open_sizes():

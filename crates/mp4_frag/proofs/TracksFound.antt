@@ -67,7 +67,7 @@ found_none id tracks e = none_from id 0 tracks e
 abbrev pub ArePlacesFrom : List ℕ → BTreeMap ℕ ℕ → ℕ → Type 0
 ArePlacesFrom ids places k = (id : ℕ) → get nat_cmp places id ≡ place_from id k (drop k ids)
 
-same_at : (x y : ℕ) → is_at (nat_cmp x) y ≡ (x == y)
+pub same_at : (x y : ℕ) → is_at (nat_cmp x) y ≡ (x == y)
 same_at x y = by (nat_lt x y) (x == y) refl refl
   where
     by : (u v : Bool) → nat_lt x y ≡ u → (x == y) ≡ v → is_at (nat_cmp x) y ≡ (x == y)

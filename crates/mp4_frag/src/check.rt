@@ -1,5 +1,5 @@
 //! A `moof`, checked behind what came before it (ISO/IEC 14496-12, 8.8).
-ghost use Rattle.std.specs.Prelude.{List, pos, nat_lt, not, ◌&&◌, ◌≡◌, ◌+◌, ◌*◌, ◌^◌, ◌<◌, ◌≤◌, ◌==◌, [], length, map, None, Some, option_map, codes, if◌then◌else◌, IfOk, IfErr, OnOk, OnErr};
+ghost use Rattle.std.specs.Prelude.{List, pos, nat_lt, not, ◌&&◌, ◌≡◌, ◌+◌, ◌*◌, ◌^◌, ◌<◌, ◌≤◌, ◌==◌, [], min, length, map, None, Some, option_map, codes, if◌then◌else◌, IfOk, IfErr, OnOk, OnErr};
 ghost use Rattle.mp4_boxes.specs.format.Box.{Tiles, box_container};
 ghost use Rattle.mp4_boxes.specs.format.BoxFaults.{IsChildFault};
 ghost use Rattle.mp4_boxes.specs.declared.rule.Rule.TheVariants as rules;
@@ -259,7 +259,7 @@ fn note_of(traf: BoxView, base: i128, count: u32) -> Option<OwnTraf>
 
 // Checks a `traf` of a `moof` at this place, where the data of the `traf` before ends there: it
 // passes, and the tracks and the room are those behind it; or it has the fault, at a step for each
-// row, run and sample, and a look at each track at most.
+// row, run and sample, and at most one look.
 fn check_traf<L: Ledger, M: Ledger>(
     traf: BoxView,
     moof: u64,
@@ -282,7 +282,7 @@ fn check_traf<L: Ledger, M: Ledger>(
     ensures fault { IfErr result
         (TrafFails file_len moof before tracks.old room.old (box_seen traf.entry)) }
     ensures work { TrafWork (box_seen traf.entry) steps.old steps.new room.old room.new result }
-    ensures looks { TrafLooks (length tracks.old) looks.old looks.new result }
+    ensures looks { TrafLooks (min 1 (length tracks.old)) looks.old looks.new result }
     ensures many { length tracks.new ≡ length tracks.old }
 {
     let heads = check_boxes(traf)?;
@@ -365,8 +365,9 @@ fn check_trafs<'a, L: Ledger, M: Ledger>(
         (of_kind (codes "traf") (children_of (box_seen moof.entry)))) }
     ensures each { length own.new ≡ length own.old }
     ensures work { MoofWork (box_seen moof.entry) steps.old steps.new room.old room.new result }
-    ensures looks { MoofLooks (box_seen moof.entry) (length tracks.old) looks.old looks.new result }
-    ensures stops { IfMemory result (StopsWithin (box_seen moof.entry) (length tracks.old)
+    ensures looks { MoofLooks (box_seen moof.entry) (min 1 (length tracks.old))
+        looks.old looks.new result }
+    ensures stops { IfMemory result (StopsWithin (box_seen moof.entry) (min 1 (length tracks.old))
         steps.old steps.new looks.old looks.new) }
 {
     let mut before = i128::from(moof.offset());
@@ -396,7 +397,7 @@ fn check_trafs<'a, L: Ledger, M: Ledger>(
 /// the place of its track, as far as there are notes; a caller that wants none gives an empty list.
 /// After a refusal all of these may have any values. The answer is where the data of the last
 /// `traf` ends, or the place of the `moof` without one. A step is taken for each `traf`, run, row
-/// and sample; and each track is looked at once at most for each `traf`.
+/// and sample, and one look for each `traf`.
 pub fn check_moof<L: Ledger, M: Ledger>(
     moof: BoxView,
     file_len: u64,
@@ -427,8 +428,9 @@ pub fn check_moof<L: Ledger, M: Ledger>(
         (of_kind (codes "traf") (children_of (box_seen moof.entry)))) }
     ensures each { length own.new ≡ length own.old }
     ensures work { MoofWork (box_seen moof.entry) steps.old steps.new room.old room.new result }
-    ensures looks { MoofLooks (box_seen moof.entry) (length tracks.old) looks.old looks.new result }
-    ensures stops { IfMemory result (StopsWithin (box_seen moof.entry) (length tracks.old)
+    ensures looks { MoofLooks (box_seen moof.entry) (min 1 (length tracks.old))
+        looks.old looks.new result }
+    ensures stops { IfMemory result (StopsWithin (box_seen moof.entry) (min 1 (length tracks.old))
         steps.old steps.new looks.old looks.new) }
 {
     let boxes = check_children(moof, Rule::MovieFragment)?;
@@ -461,8 +463,8 @@ pub fn check_front<L: Ledger, M: Ledger>(
     ensures refusal { IfErr result (RefusesFront file_len tracks.old room.old
         (box_seen front.entry)) }
     ensures work { MoofWork (box_seen front.entry) steps.old steps.new room.old room.new result }
-    ensures looks { MoofLooks (box_seen front.entry) (length tracks.old) looks.old looks.new
-        result }
+    ensures looks { MoofLooks (box_seen front.entry) (min 1 (length tracks.old))
+        looks.old looks.new result }
 {
     let boxes = children(front.payload(), front.payload_offset(), front.kind())?;
     check_trafs(

@@ -1,9 +1,8 @@
 -- What is copied of samples is copied of what is left of them.
 use Rattle.std.proofs.Common.{◌≡◌, ℕ, ◌≤◌, Bool, true, false, if◌then◌else◌, List, ◌++◌, length, take, drop, sym, ap, subst, ◌∙◌}
-use Rattle.std.specs.Prelude.{Option}
 use Rattle.std.specs.List.{AllByRecursion}
 use Rattle.mp4_head.specs.format.Tree.{TrackTree}
-use Rattle.mp4_store.specs.words.Device.{AppendsPrefix}
+use Rattle.mp4_store.specs.words.Device.{TakesPrefix}
 use Rattle.mp4_tables.specs.declared.sample.SampleAt.{SampleAt}
 use Rattle.mp4_present.specs.format.Denotes.{FileTree}
 use Rattle.mp4_present.specs.words.Carried.{BytesGoOn}
@@ -31,11 +30,11 @@ module _ (l : Leaving) (file : List ℕ) (tree : FileTree) (t : TrackTree) (m : 
   bytes_same = sym (ap (sample_bytes file) front_left ∙ bytes_stay l file (take count h.samples))
 
   -- what was carried of the samples is so of what is left of them
-  pub carried_less : (a b : Option (List ℕ)) (c d : List ℕ) → BytesGoOn a b c d (sample_bytes file (take count h.samples)) → BytesGoOn a b c d (sample_bytes file (take count left))
-  carried_less a b c d bytes = goes_on_as a b c d _ _ bytes bytes_same
+  pub carried_less : (Took : List ℕ → Type 0) (c d : List ℕ) → BytesGoOn Took c d (sample_bytes file (take count h.samples)) → BytesGoOn Took c d (sample_bytes file (take count left))
+  carried_less Took c d bytes = goes_on_as Took c d _ _ bytes bytes_same
 
-  pub prefix_less : (a b : Option (List ℕ)) (c : List ℕ) → AppendsPrefix a b (c ++ sample_bytes file (take count h.samples)) → AppendsPrefix a b (c ++ sample_bytes file (take count left))
-  prefix_less a b c p = front_as a b c _ _ p bytes_same
+  pub prefix_less : (Took : List ℕ → Type 0) (c : List ℕ) → TakesPrefix Took (c ++ sample_bytes file (take count h.samples)) → TakesPrefix Took (c ++ sample_bytes file (take count left))
+  prefix_less Took c p = front_as Took c _ _ p bytes_same
 
   -- those behind them come
   pub comes_less : (now : Walk) → Comes file tree t m now (drop count h.samples) → ComesLess l file tree t m now (drop count left)

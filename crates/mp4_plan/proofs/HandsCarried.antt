@@ -1,6 +1,6 @@
 -- The bytes of samples in hand, taken along stretch by stretch.
 use Rattle.std.proofs.Common.{◌≡◌, ℕ, ◌+◌, ◌-◌, ◌≤◌, List, [], ◌∷◌, ◌++◌, length, take, drop, refl, sym, ap, ◌∙◌, append_assoc, length-append, arith, subst}
-use Rattle.std.specs.Prelude.{Option, replicate}
+use Rattle.std.specs.Prelude.{replicate}
 use Rattle.std.specs.List.{AllByRecursion}
 use Rattle.std.proofs.lemmas.Grind.{flat_map-append}
 use Rattle.std.proofs.lemmas.List.{take-append-drop, length-take, length-drop, length-replicate}
@@ -8,8 +8,8 @@ use Rattle.std.proofs.Math.Seq.{take-add, take-append-add}
 use Rattle.mp4_boxes.specs.format.Bytes.{sum_of}
 use Rattle.mp4_boxes.proofs.Each.{each_taken}
 use Rattle.mp4_boxes.proofs.Joined.{all_last}
-use Rattle.mp4_store.specs.words.Device.{range, AppendsPrefix}
-use Rattle.mp4_store.proofs.Known.{AppendsPrefix-longer}
+use Rattle.mp4_store.specs.words.Device.{range, TakesPrefix}
+use Rattle.mp4_store.proofs.Known.{IsJoining, TakesPrefix-longer}
 use Rattle.mp4_tables.specs.declared.sample.SampleAt.{SampleAt}
 use Rattle.mp4_present.specs.words.Carried.{BytesGoOn}
 use Rattle.mp4_present.specs.words.Joined.{AreJoined, IsBelow, sample_bytes}
@@ -53,14 +53,14 @@ stretch_size samples n at len joined within =
 -- ---- bytes
 
 -- nothing so far
-pub carried_none : (file : List ℕ) (known : Option (List ℕ)) (held : List ℕ) (all : List SampleAt) (load : Load) → BytesCarried file known known held held all all load load
-carried_none file known held all load = record { done = []; whole = refl; count = omega arith; sizes = omega arith; bytes = BytesGoOn-nothing known held }
+pub carried_none : (file : List ℕ) (Took : List ℕ → Type 0) (nothing : Took []) (held : List ℕ) (all : List SampleAt) (load : Load) → BytesCarried file Took held held all all load load
+carried_none file Took nothing held all load = record { done = []; whole = refl; count = omega arith; sizes = omega arith; bytes = BytesGoOn-nothing Took nothing held }
 
 -- one more stretch
-pub carried_more : (file : List ℕ) (a b c : Option (List ℕ)) (held held_b held_c : List ℕ) (all to_come later : List SampleAt) (load left next : Load) (n at len : ℕ)
-    → BytesCarried file a b held held_b all to_come load left → AreJoined (take n to_come) at len → ((m : ℕ) → AllByRecursion (IsBelow m) to_come → at + len ≤ m) → n ≤ length to_come → n ≤ left.samples → len ≤ left.bytes
-    → next.samples ≡ left.samples - n → next.bytes ≡ left.bytes - len → later ≡ drop n to_come → BytesGoOn b c held_b held_c (range file at len) → BytesCarried file a c held held_c all later load next
-carried_more file a b c held held_b held_c all to_come later load left next n at len h joined within few most room less fewer is more =
+pub carried_more : (file : List ℕ) {Y : Type 0} {takes : Y → Y → List ℕ → Type 0} (joins : IsJoining takes) (a b c : Y) (held held_b held_c : List ℕ) (all to_come later : List SampleAt) (load left next : Load) (n at len : ℕ)
+    → BytesCarried file (takes a b) held held_b all to_come load left → AreJoined (take n to_come) at len → ((m : ℕ) → AllByRecursion (IsBelow m) to_come → at + len ≤ m) → n ≤ length to_come → n ≤ left.samples → len ≤ left.bytes
+    → next.samples ≡ left.samples - n → next.bytes ≡ left.bytes - len → later ≡ drop n to_come → BytesGoOn (takes b c) held_b held_c (range file at len) → BytesCarried file (takes a c) held held_c all later load next
+carried_more file joins a b c held held_b held_c all to_come later load left next n at len h joined within few most room less fewer is more =
     let count = h.count in
     let sizes = h.sizes in
     let own = stretch_size to_come n at len joined within in
@@ -71,18 +71,18 @@ carried_more file a b c held held_b held_c all to_come later load left next n at
       whole = h.whole ∙ ap (λ (ss : List SampleAt). h.done ++ ss) (sym (take-append-drop n to_come) ∙ ap (λ (ss : List SampleAt). take n to_come ++ ss) (sym is)) ∙ sym (append_assoc h.done (take n to_come) later);
       count = omega (arith, count, less, most, long, length-append h.done (take n to_come));
       sizes = omega (arith, sizes, fewer, room, own, sum-append (λ (s : SampleAt). s.size) h.done (take n to_come));
-      bytes = BytesGoOn-then a b c held held_b held_c (sample_bytes file h.done) (range file at len) (sample_bytes file (h.done ++ take n to_come)) h.bytes more
+      bytes = BytesGoOn-then joins a b c held held_b held_c (sample_bytes file h.done) (range file at len) (sample_bytes file (h.done ++ take n to_come)) h.bytes more
           (flat_map-append _ h.done (take n to_come) ∙ ap (λ (bs : List ℕ). sample_bytes file h.done ++ bs) (joined file));
     }
 
 -- the same samples are to come
-pub carried_as : (file : List ℕ) (a b : Option (List ℕ)) (held held_b : List ℕ) (all to_come later : List SampleAt) (load left : Load) → BytesCarried file a b held held_b all to_come load left → later ≡ to_come
-    → BytesCarried file a b held held_b all later load left
-carried_as file a b held held_b all to_come later load left h e = record { done = h.done; whole = h.whole ∙ ap (λ (ss : List SampleAt). h.done ++ ss) (sym e); count = h.count; sizes = h.sizes; bytes = h.bytes }
+pub carried_as : (file : List ℕ) (Took : List ℕ → Type 0) (held held_b : List ℕ) (all to_come later : List SampleAt) (load left : Load) → BytesCarried file Took held held_b all to_come load left → later ≡ to_come
+    → BytesCarried file Took held held_b all later load left
+carried_as file Took held held_b all to_come later load left h e = record { done = h.done; whole = h.whole ∙ ap (λ (ss : List SampleAt). h.done ++ ss) (sym e); count = h.count; sizes = h.sizes; bytes = h.bytes }
 
 -- ---- what was to be taken along
 
-module _ (file : List ℕ) (a b : Option (List ℕ)) (held held_b : List ℕ) (all to_come : List SampleAt) (load left : Load) (h : BytesCarried file a b held held_b all to_come load left) where
+module _ (file : List ℕ) (Took : List ℕ → Type 0) (held held_b : List ℕ) (all to_come : List SampleAt) (load left : Load) (h : BytesCarried file Took held held_b all to_come load left) where
   -- those that were taken along, and then the next
   pub load_is : take load.samples all ≡ h.done ++ take left.samples to_come
   load_is = (λ i. take (h.count i) (h.whole i)) ∙ take-append-add h.done to_come left.samples
@@ -91,21 +91,8 @@ module _ (file : List ℕ) (a b : Option (List ℕ)) (held held_b : List ℕ) (a
   load_bytes = ap (sample_bytes file) load_is ∙ bytes_of_two file h.done (take left.samples to_come)
 
   -- what was put so far is a front of all
-  pub carried_front : AppendsPrefix a b (held ++ sample_bytes file (take load.samples all))
-  carried_front = rw load_bytes (BytesGoOn-front a b held held_b (sample_bytes file h.done) (sample_bytes file (take left.samples to_come)) h.bytes)
-
-  -- bytes of the next are not put whole
-  pub carried_fails : (c : Option (List ℕ)) (bytes more : List ℕ) → sample_bytes file (take left.samples to_come) ≡ bytes ++ more → AppendsPrefix b c (held_b ++ bytes) → AppendsPrefix a c (held ++ sample_bytes file (take load.samples all))
-  carried_fails c bytes more e p =
-      let whole : sample_bytes file (take load.samples all) ≡ sample_bytes file h.done ++ (bytes ++ more) = load_bytes ∙ ap (λ (bs : List ℕ). sample_bytes file h.done ++ bs) e in
-      rw whole (BytesGoOn-fails a b c held held_b (sample_bytes file h.done) (bytes ++ more) h.bytes (rw (← append_assoc held_b bytes more) (AppendsPrefix-longer b c (held_b ++ bytes) more p)))
-
-  -- a stretch of them is not taken along whole
-  pub stretch_fails : (c : Option (List ℕ)) (n at len : ℕ) → AreJoined (take n to_come) at len → n ≤ left.samples → AppendsPrefix b c (held_b ++ range file at len) → AppendsPrefix a c (held ++ sample_bytes file (take load.samples all))
-  stretch_fails c n at len joined most p =
-      let rest = take (left.samples - n) (drop n to_come) in
-      let two : take left.samples to_come ≡ take n to_come ++ rest = (let split : left.samples ≡ n + (left.samples - n) = omega (arith, most) in ap (λ k. take k to_come) split ∙ take-add n (left.samples - n) to_come) in
-      carried_fails c (range file at len) (sample_bytes file rest) (ap (sample_bytes file) two ∙ bytes_of_two file (take n to_come) rest ∙ ap (λ (bs : List ℕ). bs ++ sample_bytes file rest) (joined file)) p
+  pub carried_front : TakesPrefix Took (held ++ sample_bytes file (take load.samples all))
+  carried_front = rw load_bytes (BytesGoOn-front Took held held_b (sample_bytes file h.done) (sample_bytes file (take left.samples to_come)) h.bytes)
 
   -- what follows from where the next ones lie, where all lie there
   pub next_below : (n : ℕ) → AllByRecursion (IsBelow n) all → AllByRecursion (IsBelow n) to_come
@@ -122,3 +109,17 @@ module _ (file : List ℕ) (a b : Option (List ℕ)) (held held_b : List ℕ) (a
       let split = ap sizes_of two ∙ sum-append size (take n to_come) rest in
       let sizes = h.sizes in
       omega (arith, own, whole, split, sizes, fits)
+
+module _ (file : List ℕ) {Y : Type 0} {takes : Y → Y → List ℕ → Type 0} (joins : IsJoining takes) (a b : Y) (held held_b : List ℕ) (all to_come : List SampleAt) (load left : Load) (h : BytesCarried file (takes a b) held held_b all to_come load left) where
+  -- bytes of the next are not put whole
+  pub carried_fails : (c : Y) (bytes more : List ℕ) → sample_bytes file (take left.samples to_come) ≡ bytes ++ more → TakesPrefix (takes b c) (held_b ++ bytes) → TakesPrefix (takes a c) (held ++ sample_bytes file (take load.samples all))
+  carried_fails c bytes more e p =
+      let whole : sample_bytes file (take load.samples all) ≡ sample_bytes file h.done ++ (bytes ++ more) = load_bytes file (takes a b) held held_b all to_come load left h ∙ ap (λ (bs : List ℕ). sample_bytes file h.done ++ bs) e in
+      rw whole (BytesGoOn-fails joins a b c held held_b (sample_bytes file h.done) (bytes ++ more) h.bytes (rw (← append_assoc held_b bytes more) (TakesPrefix-longer (takes b c) (held_b ++ bytes) more p)))
+
+  -- a stretch of them is not taken along whole
+  pub stretch_fails : (c : Y) (n at len : ℕ) → AreJoined (take n to_come) at len → n ≤ left.samples → TakesPrefix (takes b c) (held_b ++ range file at len) → TakesPrefix (takes a c) (held ++ sample_bytes file (take load.samples all))
+  stretch_fails c n at len joined most p =
+      let rest = take (left.samples - n) (drop n to_come) in
+      let two : take left.samples to_come ≡ take n to_come ++ rest = (let split : left.samples ≡ n + (left.samples - n) = omega (arith, most) in ap (λ k. take k to_come) split ∙ take-add n (left.samples - n) to_come) in
+      carried_fails c (range file at len) (sample_bytes file rest) (ap (sample_bytes file) two ∙ bytes_of_two file (take n to_come) rest ∙ ap (λ (bs : List ℕ). bs ++ sample_bytes file rest) (joined file)) p

@@ -1,6 +1,6 @@
 -- Why what is left of a movie is not written, where edits stay and where they don't.
 use Rattle.std.proofs.Common.{◌≡◌, ℕ, false, List}
-use Rattle.std.specs.Prelude.{Option, Result, Ok, Err, IfErr, MatchResult, OnOk}
+use Rattle.std.specs.Prelude.{Result, Ok, Err, IfErr, MatchResult, OnOk}
 use Rattle.mp4_boxes.specs.declared.refusal.Refusal.{Refusal}
 use Rattle.mp4_boxes.specs.declared.refusal.Refusal.TheVariants as refusals
 use Rattle.mp4_present.specs.format.Denotes.{FileTree}
@@ -67,28 +67,28 @@ pub planned_left : (l : Leaving) {T : Type 0} (answer : Result T Refusal) (reads
 planned_left l (Ok x) reads reads_after e w = tt
 planned_left l (Err r) reads reads_after e w = plan_left l reads reads_after r e w
 
-copy_left : (l : Leaving) (before after : Option (List ℕ)) (reads reads_after puts puts_after : ℕ) (r : Refusal) → l.edits ≡ false → RefusesLeftCopy l before after reads reads_after puts puts_after r → RefusesCopy before after reads reads_after puts puts_after r
-copy_left l before after reads reads_after puts puts_after (refusals.Fault f) e w = let out = w.0.0 in absurd cc
-copy_left l before after reads reads_after puts puts_after refusals.Memory e w = w
-copy_left l before after reads reads_after puts puts_after refusals.StoreFailed e w = w
-copy_left l before after reads reads_after puts puts_after refusals.StoreChanged e w = w
-copy_left l before after reads reads_after puts puts_after refusals.WriteFailed e w = w
-copy_left l before after reads reads_after puts puts_after refusals.NoSuchTrack e w = w
+copy_left : (l : Leaving) (Took : List ℕ → Type 0) (reads reads_after puts puts_after : ℕ) (r : Refusal) → l.edits ≡ false → RefusesLeftCopy l Took reads reads_after puts puts_after r → RefusesCopy Took reads reads_after puts puts_after r
+copy_left l Took reads reads_after puts puts_after (refusals.Fault f) e w = let out = w.0.0 in absurd cc
+copy_left l Took reads reads_after puts puts_after refusals.Memory e w = w
+copy_left l Took reads reads_after puts puts_after refusals.StoreFailed e w = w
+copy_left l Took reads reads_after puts puts_after refusals.StoreChanged e w = w
+copy_left l Took reads reads_after puts puts_after refusals.WriteFailed e w = w
+copy_left l Took reads reads_after puts puts_after refusals.NoSuchTrack e w = w
 
-pub copied_left : (l : Leaving) {T : Type 0} (answer : Result T Refusal) (before after : Option (List ℕ)) (reads reads_after puts puts_after : ℕ) → l.edits ≡ false
-    → IfErr answer (RefusesLeftCopy l before after reads reads_after puts puts_after) → IfErr answer (RefusesCopy before after reads reads_after puts puts_after)
-copied_left l (Ok x) before after reads reads_after puts puts_after e w = tt
-copied_left l (Err r) before after reads reads_after puts puts_after e w = copy_left l before after reads reads_after puts puts_after r e w
+pub copied_left : (l : Leaving) {T : Type 0} (answer : Result T Refusal) (Took : List ℕ → Type 0) (reads reads_after puts puts_after : ℕ) → l.edits ≡ false
+    → IfErr answer (RefusesLeftCopy l Took reads reads_after puts puts_after) → IfErr answer (RefusesCopy Took reads reads_after puts puts_after)
+copied_left l (Ok x) Took reads reads_after puts puts_after e w = tt
+copied_left l (Err r) Took reads reads_after puts puts_after e w = copy_left l Took reads reads_after puts puts_after r e w
 
-carry_left : (l : Leaving) (before after : Option (List ℕ)) (reads reads_after puts puts_after : ℕ) (r : Refusal) → RefusesCarry reads reads_after puts puts_after r → RefusesLeftCopy l before after reads reads_after puts puts_after r
-carry_left l before after reads reads_after puts puts_after (refusals.Fault f) w = absurd w
-carry_left l before after reads reads_after puts puts_after refusals.Memory w = absurd w
-carry_left l before after reads reads_after puts puts_after refusals.StoreFailed w = w
-carry_left l before after reads reads_after puts puts_after refusals.StoreChanged w = w
-carry_left l before after reads reads_after puts puts_after refusals.WriteFailed w = w
-carry_left l before after reads reads_after puts puts_after refusals.NoSuchTrack w = w
+carry_left : (l : Leaving) (Took : List ℕ → Type 0) (reads reads_after puts puts_after : ℕ) (r : Refusal) → RefusesCarry reads reads_after puts puts_after r → RefusesLeftCopy l Took reads reads_after puts puts_after r
+carry_left l Took reads reads_after puts puts_after (refusals.Fault f) w = absurd w
+carry_left l Took reads reads_after puts puts_after refusals.Memory w = absurd w
+carry_left l Took reads reads_after puts puts_after refusals.StoreFailed w = w
+carry_left l Took reads reads_after puts puts_after refusals.StoreChanged w = w
+carry_left l Took reads reads_after puts puts_after refusals.WriteFailed w = w
+carry_left l Took reads reads_after puts puts_after refusals.NoSuchTrack w = w
 
 -- bytes that are not taken along are refused as a whole is
-pub carried_left : (l : Leaving) {T : Type 0} (answer : Result T Refusal) (before after : Option (List ℕ)) (reads reads_after puts puts_after : ℕ) → IfErr answer (RefusesCarry reads reads_after puts puts_after) → IfErr answer (RefusesLeftCopy l before after reads reads_after puts puts_after)
-carried_left l (Ok x) before after reads reads_after puts puts_after w = tt
-carried_left l (Err r) before after reads reads_after puts puts_after w = carry_left l before after reads reads_after puts puts_after r w
+pub carried_left : (l : Leaving) {T : Type 0} (answer : Result T Refusal) (Took : List ℕ → Type 0) (reads reads_after puts puts_after : ℕ) → IfErr answer (RefusesCarry reads reads_after puts puts_after) → IfErr answer (RefusesLeftCopy l Took reads reads_after puts puts_after)
+carried_left l (Ok x) Took reads reads_after puts puts_after w = tt
+carried_left l (Err r) Took reads reads_after puts puts_after w = carry_left l Took reads reads_after puts puts_after r w

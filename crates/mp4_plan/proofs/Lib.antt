@@ -36,6 +36,7 @@ pub mod NormalDenotes
 pub mod TurnOrder
 mod LooksOn
 pub mod Reducing
+pub mod Covering
 pub mod ReducedValid
 pub mod ReducedNormal
 pub mod TooLong

@@ -1,12 +1,12 @@
 -- Pieces that are put over any store: so many follow, with so many samples and so many bytes of these.
 use Rattle.std.proofs.Common.{◌≡◌, ℕ, ◌+◌, ◌-◌, ◌*◌, ◌^◌, ◌<◌, ◌≤◌, List, [], ◌∷◌, ◌++◌, refl, sym, ap, subst, ◌∙◌, append_assoc, arith}
-use Rattle.std.specs.Prelude.{Option, codes}
-use Rattle.std.specs.Io.KnownBytes.{Appends}
+use Rattle.std.specs.Prelude.{codes}
 use Rattle.std.specs.List.{sum_by}
 use Rattle.std.proofs.lemmas.List.Sums.{sum_by-append, sum_by-cons}
 use Rattle.std.proofs.lemmas.Grind.{flat_map-append}
 use Rattle.std.proofs.lemmas.List.{append-nil}
 use Rattle.mp4_boxes.specs.format.Written.{header_bytes}
+use Rattle.mp4_store.proofs.Known.{IsJoining}
 use Rattle.mp4_tables.specs.format.Groups.{GroupKey}
 use Rattle.mp4_present.specs.words.Carried.{BytesGoOn, GoOnBy}
 use Rattle.mp4_present.specs.words.Movies.{MovieSeen}
@@ -32,19 +32,20 @@ both_texts (q ∷ pieces) more text rest is are = (
 )
 
 -- none yet, behind these bytes
-pub first_put : (a b : Option (List ℕ)) (held held_b first : List ℕ) → BytesGoOn a b held held_b first → PiecesFollow a b held held_b first 0 0
-first_put a b held held_b first p = record { pieces = []; counts = refl; sizes = refl; text = []; are = refl; put = subst (λ (bs : List ℕ). BytesGoOn a b held held_b bs) (sym (append-nil first)) p }
+pub first_put : (Took : List ℕ → Type 0) (held held_b first : List ℕ) → BytesGoOn Took held held_b first → PiecesFollow Took held held_b first 0 0
+first_put Took held held_b first p = record { pieces = []; counts = refl; sizes = refl; text = []; are = refl; put = subst (λ (bs : List ℕ). BytesGoOn Took held held_b bs) (sym (append-nil first)) p }
 
 -- no piece follows
-pub none_follow : (a : Option (List ℕ)) (held : List ℕ) (samples bytes : ℕ) → samples ≡ 0 → bytes ≤ samples * 4294967295 → PiecesFollow a a held held [] samples bytes
-none_follow a held samples bytes none few =
+pub none_follow : (Took : List ℕ → Type 0) (nothing : Took []) (held : List ℕ) (samples bytes : ℕ) → samples ≡ 0 → bytes ≤ samples * 4294967295 → PiecesFollow Took held held [] samples bytes
+none_follow Took nothing held samples bytes none few =
     let empty : bytes ≡ 0 = omega (arith, none, few) in
-    subst (λ n. PiecesFollow a a held held [] n bytes) (sym none) (subst (λ n. PiecesFollow a a held held [] 0 n) (sym empty) (first_put a a held held [] (BytesGoOn-nothing a held)))
+    subst (λ n. PiecesFollow Took held held [] n bytes) (sym none) (subst (λ n. PiecesFollow Took held held [] 0 n) (sym empty) (first_put Took held held [] (BytesGoOn-nothing Took nothing held)))
 
 -- others behind them
-pub follow_then : (a b c : Option (List ℕ)) (held held_b held_c : List ℕ) (first : List ℕ) (samples bytes more_samples more_bytes : ℕ) → PiecesFollow a b held held_b first samples bytes → PiecesFollow b c held_b held_c [] more_samples more_bytes
-    → PiecesFollow a c held held_c first (samples + more_samples) (bytes + more_bytes)
-follow_then a b c held held_b held_c first samples bytes more_samples more_bytes p q =
+pub follow_then : {Y : Type 0} {takes : Y → Y → List ℕ → Type 0} (joins : IsJoining takes) (a b c : Y) (held held_b held_c : List ℕ) (first : List ℕ) (samples bytes more_samples more_bytes : ℕ) → PiecesFollow (takes a b) held held_b first samples bytes
+    → PiecesFollow (takes b c) held_b held_c [] more_samples more_bytes
+    → PiecesFollow (takes a c) held held_c first (samples + more_samples) (bytes + more_bytes)
+follow_then joins a b c held held_b held_c first samples bytes more_samples more_bytes p q =
     let counts = sum_by-append (λ (x : PutPiece). x.planned.count) p.pieces q.pieces in
     let sizes = sum_by-append (λ (x : PutPiece). x.planned.bytes) p.pieces q.pieces in
     let one = p.counts in
@@ -57,50 +58,51 @@ follow_then a b c held held_b held_c first samples bytes more_samples more_bytes
       sizes = omega (arith, sizes, three, four);
       text = p.text ++ q.text;
       are = both_texts p.pieces q.pieces p.text q.text p.are q.are;
-      put = BytesGoOn-then a b c held held_b held_c (first ++ p.text) q.text (first ++ (p.text ++ q.text)) p.put q.put (sym (append_assoc first p.text q.text));
+      put = BytesGoOn-then joins a b c held held_b held_c (first ++ p.text) q.text (first ++ (p.text ++ q.text)) p.put q.put (sym (append_assoc first p.text q.text));
     }
 
 -- one, of which the parts in front are these, and then its bytes
-pub piece_follows : (q : PutPiece) (front mdat : List ℕ) (a b c d e f : Option (List ℕ)) (h1 h2 h3 h4 h5 h6 : List ℕ) → front ≡ moof_front q.head q.planned (moof_sizes q.planned q.keys) → mdat ≡ header_bytes (codes "mdat") q.planned.bytes
-    → BytesGoOn a b h1 h2 front → BytesGoOn b c h2 h3 (run_rows q.planned q.rows) → BytesGoOn c d h3 h4 (some_groups q.rows q.planned q.groups) → BytesGoOn d e h4 h5 mdat → GoOnBy e f h5 h6 q.planned.bytes
-    → PiecesFollow a f h1 h6 [] q.planned.count q.planned.bytes
-piece_follows q front mdat a b c d e f h1 h2 h3 h4 h5 h6 is_front is_mdat x y z u v =
+pub piece_follows : (q : PutPiece) (front mdat : List ℕ) {Y : Type 0} {takes : Y → Y → List ℕ → Type 0} (joins : IsJoining takes) (a b c d e f : Y) (h1 h2 h3 h4 h5 h6 : List ℕ) → front ≡ moof_front q.head q.planned (moof_sizes q.planned q.keys) → mdat ≡ header_bytes (codes "mdat") q.planned.bytes
+    → BytesGoOn (takes a b) h1 h2 front → BytesGoOn (takes b c) h2 h3 (run_rows q.planned q.rows) → BytesGoOn (takes c d) h3 h4 (some_groups q.rows q.planned q.groups) → BytesGoOn (takes d e) h4 h5 mdat → GoOnBy (takes e f) h5 h6 q.planned.bytes
+    → PiecesFollow (takes a f) h1 h6 [] q.planned.count q.planned.bytes
+piece_follows q front mdat {takes = takes} joins a b c d e f h1 h2 h3 h4 h5 h6 is_front is_mdat x y z u v =
     let own_front = moof_front q.head q.planned (moof_sizes q.planned q.keys) in
     let own_mdat : List ℕ = header_bytes (codes "mdat") q.planned.bytes in
     let run = run_rows q.planned q.rows in
     let groups = some_groups q.rows q.planned q.groups in
-    let first = subst (λ (bs : List ℕ). BytesGoOn a b h1 h2 bs) is_front x in
-    let last = subst (λ (bs : List ℕ). BytesGoOn d e h4 h5 bs) is_mdat u in
+    let first = subst (λ (bs : List ℕ). BytesGoOn (takes a b) h1 h2 bs) is_front x in
+    let last = subst (λ (bs : List ℕ). BytesGoOn (takes d e) h4 h5 bs) is_mdat u in
     let counts = sum_by-cons (λ (x : PutPiece). x.planned.count) q [] in
     let sizes = sum_by-cons (λ (x : PutPiece). x.planned.bytes) q [] in
-    let whole = go_four own_front run groups own_mdat [] a b c d e f h1 h2 h3 h4 h5 h6 first y z last in
+    let whole = go_four own_front run groups own_mdat [] joins a b c d e f h1 h2 h3 h4 h5 h6 first y z last in
     record {
       pieces = q ∷ [];
       counts = omega (arith, counts);
       sizes = omega (arith, sizes);
       text = put_front q ++ v.0 ++ [];
       are = (v.0, [], v.1, refl, refl);
-      put = BytesGoOn-then a e f h1 h5 h6 (put_front q) v.0 _ whole v.2 (append-nil (put_front q ++ v.0));
+      put = BytesGoOn-then joins a e f h1 h5 h6 (put_front q) v.0 _ whole v.2 (append-nil (put_front q ++ v.0));
     }
 
 -- at last what waits is put: they have as many samples and bytes as the movie says
-pub all_follow : (m : MovieSeen) (a b c : Option (List ℕ)) (held held_b head : List ℕ) (samples bytes : ℕ) → PiecesFollow a b held held_b head samples bytes
-    → samples ≡ sum_by (λ (i : TrackInfo). i.samples) m.tracks → bytes ≡ sum_by (λ (i : TrackInfo). i.bytes) m.tracks → Appends b c held_b → IsPutWhole m a c (held ++ head)
-all_follow m a b c held held_b head samples bytes p counts sizes q =
+pub all_follow : (m : MovieSeen) {Y : Type 0} {takes : Y → Y → List ℕ → Type 0} (joins : IsJoining takes) (a b c : Y) (held held_b head : List ℕ) (samples bytes : ℕ) → PiecesFollow (takes a b) held held_b head samples bytes
+    → samples ≡ sum_by (λ (i : TrackInfo). i.samples) m.tracks → bytes ≡ sum_by (λ (i : TrackInfo). i.bytes) m.tracks → takes b c held_b → IsPutWhole m (takes a c) (held ++ head)
+all_follow m {takes = takes} joins a b c held held_b head samples bytes p counts sizes q =
     record {
       pieces = p.pieces;
       counts = p.counts ∙ counts;
       sizes = p.sizes ∙ sizes;
       text = p.text;
       are = p.are;
-      put = subst (λ (bs : List ℕ). Appends a c bs) (sym (append_assoc held head p.text)) (BytesGoOn-all a b c held held_b (head ++ p.text) p.put q);
+      put = subst (λ (bs : List ℕ). takes a c bs) (sym (append_assoc held head p.text)) (BytesGoOn-all joins a b c held held_b (head ++ p.text) p.put q);
     }
 
 -- one `sbgp` more
-pub groups_more : (rows : List Row) (p : Planned) (used : List (ℕ × GroupKey)) (place : ℕ) (key : GroupKey) (a b c : Option (List ℕ)) (h1 h2 h3 : List ℕ) → BytesGoOn a b h1 h2 (some_groups rows p used) → BytesGoOn b c h2 h3 (group_bytes rows p place key)
-    → BytesGoOn a c h1 h3 (some_groups rows p (used ++ (place, key) ∷ []))
-groups_more rows p used place key a b c h1 h2 h3 x y =
-    BytesGoOn-then a b c h1 h2 h3 (some_groups rows p used) (group_bytes rows p place key) (some_groups rows p (used ++ (place, key) ∷ [])) x y
+pub groups_more : (rows : List Row) (p : Planned) (used : List (ℕ × GroupKey)) (place : ℕ) (key : GroupKey) {Y : Type 0} {takes : Y → Y → List ℕ → Type 0} (joins : IsJoining takes) (a b c : Y) (h1 h2 h3 : List ℕ) → BytesGoOn (takes a b) h1 h2 (some_groups rows p used)
+    → BytesGoOn (takes b c) h2 h3 (group_bytes rows p place key)
+    → BytesGoOn (takes a c) h1 h3 (some_groups rows p (used ++ (place, key) ∷ []))
+groups_more rows p used place key joins a b c h1 h2 h3 x y =
+    BytesGoOn-then joins a b c h1 h2 h3 (some_groups rows p used) (group_bytes rows p place key) (some_groups rows p (used ++ (place, key) ∷ [])) x y
     (flat_map-append (λ (g : ℕ × GroupKey). group_bytes rows p g.0 g.1) used ((place, key) ∷ []) ∙ ap (λ (bs : List ℕ). some_groups rows p used ++ bs) (append-nil (group_bytes rows p place key)))
 
 -- ---- counts

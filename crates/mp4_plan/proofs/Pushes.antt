@@ -1,6 +1,5 @@
 -- Bytes that are pushed one after the other.
 use Rattle.std.proofs.Common.{◌≡◌, ℕ, List, [], ◌++◌, ap, ◌∙◌, append_assoc}
-use Rattle.std.specs.Prelude.{Option}
 use Rattle.mp4_present.specs.words.Carried.{BytesGoOn}
 
 -- behind these, and then the rest
@@ -12,5 +11,5 @@ pub first : (start next bytes : List ℕ) → start ≡ [] → next ≡ start ++
 first start next bytes e p = p ∙ ap (λ (xs : List ℕ). xs ++ bytes) e
 
 -- the same bytes follow
-pub goes_on_as : (a b : Option (List ℕ)) (held held_b xs ys : List ℕ) → BytesGoOn a b held held_b xs → xs ≡ ys → BytesGoOn a b held held_b ys
-goes_on_as a b held held_b xs ys p e = (p.0, p.1, p.2 ∙ ap (λ (bs : List ℕ). held ++ bs) e)
+pub goes_on_as : (Took : List ℕ → Type 0) (held held_b xs ys : List ℕ) → BytesGoOn Took held held_b xs → xs ≡ ys → BytesGoOn Took held held_b ys
+goes_on_as Took held held_b xs ys p e = (p.0, p.1, p.2 ∙ ap (λ (bs : List ℕ). held ++ bs) e)

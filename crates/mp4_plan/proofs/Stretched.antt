@@ -1,12 +1,11 @@
 -- Stretches of a file that are the bytes of samples: how they are joined, and taken along one after the other.
 use Rattle.std.proofs.Common.{◌≡◌, ℕ, ◌+◌, ◌<◌, ◌≤◌, List, [], ◌∷◌, ◌++◌, length, take, drop, get_or, sym, ap, subst, ◌∙◌, append_assoc, arith}
-use Rattle.std.specs.Prelude.{Option}
 use Rattle.std.specs.List.{AllByRecursion}
 use Rattle.std.proofs.lemmas.Grind.{flat_map-append}
 use Rattle.std.proofs.lemmas.List.{append-nil, drop_more, drop_all}
 use Rattle.mp4_boxes.proofs.Joined.{all_first, all_last}
-use Rattle.mp4_store.specs.words.Device.{range, AppendsPrefix}
-use Rattle.mp4_store.proofs.Known.{range-add, AppendsPrefix-longer}
+use Rattle.mp4_store.specs.words.Device.{range, TakesPrefix}
+use Rattle.mp4_store.proofs.Known.{IsJoining, range-add, TakesPrefix-longer}
 use Rattle.mp4_tables.specs.declared.sample.SampleAt.{SampleAt}
 use Rattle.mp4_present.specs.words.Carried.{BytesGoOn}
 use Rattle.mp4_present.specs.words.Joined.{IsBelow}
@@ -96,11 +95,11 @@ joins_then a b c xs ys zs p q e earlier h =
 -- ---- stretches that are taken along
 
 -- The bytes of the first stretches follow, as many as are left fewer; the others are to come.
-pub record SpansCarried (honest : Type 0) (file : List ℕ) (before after : Option (List ℕ)) (held held_after : List ℕ) (all to_come : List Span) (bytes left : ℕ) : Type 0 where
+pub record SpansCarried (honest : Type 0) (file : List ℕ) (Took : List ℕ → Type 0) (held held_after : List ℕ) (all to_come : List Span) (bytes left : ℕ) : Type 0 where
   pub done : List Span
   pub whole : all ≡ done ++ to_come
   pub count : bytes ≡ spans_len done + left
-  pub goes : honest → BytesGoOn before after held held_after (spans_bytes file done)
+  pub goes : honest → BytesGoOn Took held held_after (spans_bytes file done)
 
 -- the members of a list from a place on, and then one more
 pub next_span : (items : List Span) (i : ℕ) (d last : Span) → i < length items → drop i items ++ last ∷ [] ≡ get_or items i d ∷ (drop (i + 1) items ++ last ∷ [])
@@ -109,39 +108,19 @@ next_span items i d last lt = ap (λ (l : List Span). l ++ last ∷ []) (drop_mo
 pub last_span : (items : List Span) (i : ℕ) (last : Span) → length items ≤ i → drop i items ++ last ∷ [] ≡ last ∷ []
 last_span items i last le = ap (λ (l : List Span). l ++ last ∷ []) (drop_all i items le)
 
-module _ (honest : Type 0) (file : List ℕ) (a b : Option (List ℕ)) (held held_b : List ℕ) (all to_come : List Span) (bytes left : ℕ) (h : SpansCarried honest file a b held held_b all to_come bytes left) where
-  -- one more
-  pub spans_more : (c : Option (List ℕ)) (held_c : List ℕ) (span : Span) (later : List Span) (next : ℕ) → to_come ≡ span ∷ later → next + span_len span ≡ left → (honest → BytesGoOn b c held_b held_c (span_bytes file span)) → SpansCarried honest file a c held held_c all later bytes next
-  spans_more c held_c span later next is fewer more =
-      let count = h.count in
-      let sums = sum-append span_len h.done (span ∷ []) in
-      record {
-        done = h.done ++ span ∷ [];
-        whole = h.whole ∙ ap (λ (l : List Span). h.done ++ l) is ∙ sym (append_assoc h.done (span ∷ []) later);
-        count = omega (arith, count, sums, fewer);
-        goes = λ told. BytesGoOn-then a b c held held_b held_c (spans_bytes file h.done) (span_bytes file span) (spans_bytes file (h.done ++ span ∷ [])) (h.goes told) (more told)
-            (flat_map-append (span_bytes file) h.done (span ∷ []) ∙ ap (λ (bs : List ℕ). spans_bytes file h.done ++ bs) (append-nil (span_bytes file span)));
-      }
-
+module _ (honest : Type 0) (file : List ℕ) (Took : List ℕ → Type 0) (held held_b : List ℕ) (all to_come : List Span) (bytes left : ℕ) (h : SpansCarried honest file Took held held_b all to_come bytes left) where
   bytes_are : spans_bytes file all ≡ spans_bytes file h.done ++ spans_bytes file to_come
   bytes_are = ap (spans_bytes file) h.whole ∙ flat_map-append (span_bytes file) h.done to_come
 
-  -- one isn't taken along whole
-  pub spans_fail : (c : Option (List ℕ)) (span : Span) (later : List Span) → to_come ≡ span ∷ later → honest → AppendsPrefix b c (held_b ++ span_bytes file span) → AppendsPrefix a c (held ++ spans_bytes file all)
-  spans_fail c span later is told p =
-      let more = spans_bytes file later in
-      let whole : spans_bytes file all ≡ spans_bytes file h.done ++ (span_bytes file span ++ more) = bytes_are ∙ ap (λ (l : List Span). spans_bytes file h.done ++ spans_bytes file l) is in
-      rw whole (BytesGoOn-fails a b c held held_b (spans_bytes file h.done) (span_bytes file span ++ more) (h.goes told) (rw (← append_assoc held_b (span_bytes file span) more) (AppendsPrefix-longer b c (held_b ++ span_bytes file span) more p)))
-
   -- what was put so far is a front of all
-  pub spans_front : honest → AppendsPrefix a b (held ++ spans_bytes file all)
-  spans_front told = rw bytes_are (BytesGoOn-front a b held held_b (spans_bytes file h.done) (spans_bytes file to_come) (h.goes told))
+  pub spans_front : honest → TakesPrefix Took (held ++ spans_bytes file all)
+  spans_front told = rw bytes_are (BytesGoOn-front Took held held_b (spans_bytes file h.done) (spans_bytes file to_come) (h.goes told))
 
   -- all of them
   done_all : to_come ≡ [] → all ≡ h.done
   done_all none = h.whole ∙ ap (λ (l : List Span). h.done ++ l) none ∙ append-nil h.done
 
-  pub spans_whole : to_come ≡ [] → honest → BytesGoOn a b held held_b (spans_bytes file all)
+  pub spans_whole : to_come ≡ [] → honest → BytesGoOn Took held held_b (spans_bytes file all)
   spans_whole none told = rw (done_all none) (h.goes told)
 
   pub spans_counted : to_come ≡ [] → bytes ≡ spans_len all + left
@@ -156,3 +135,24 @@ module _ (honest : Type 0) (file : List ℕ) (a b : Option (List ℕ)) (held hel
       let count = h.count in
       let sums = ap spans_len (h.whole ∙ ap (λ (l : List Span). h.done ++ l) is) ∙ sum-append span_len h.done (span ∷ later) in
       omega (arith, count, sums, same)
+
+module _ (honest : Type 0) (file : List ℕ) {Y : Type 0} {takes : Y → Y → List ℕ → Type 0} (joins : IsJoining takes) (a b : Y) (held held_b : List ℕ) (all to_come : List Span) (bytes left : ℕ) (h : SpansCarried honest file (takes a b) held held_b all to_come bytes left) where
+  -- one more
+  pub spans_more : (c : Y) (held_c : List ℕ) (span : Span) (later : List Span) (next : ℕ) → to_come ≡ span ∷ later → next + span_len span ≡ left → (honest → BytesGoOn (takes b c) held_b held_c (span_bytes file span)) → SpansCarried honest file (takes a c) held held_c all later bytes next
+  spans_more c held_c span later next is fewer more =
+      let count = h.count in
+      let sums = sum-append span_len h.done (span ∷ []) in
+      record {
+        done = h.done ++ span ∷ [];
+        whole = h.whole ∙ ap (λ (l : List Span). h.done ++ l) is ∙ sym (append_assoc h.done (span ∷ []) later);
+        count = omega (arith, count, sums, fewer);
+        goes = λ told. BytesGoOn-then joins a b c held held_b held_c (spans_bytes file h.done) (span_bytes file span) (spans_bytes file (h.done ++ span ∷ [])) (h.goes told) (more told)
+            (flat_map-append (span_bytes file) h.done (span ∷ []) ∙ ap (λ (bs : List ℕ). spans_bytes file h.done ++ bs) (append-nil (span_bytes file span)));
+      }
+
+  -- one isn't taken along whole
+  pub spans_fail : (c : Y) (span : Span) (later : List Span) → to_come ≡ span ∷ later → honest → TakesPrefix (takes b c) (held_b ++ span_bytes file span) → TakesPrefix (takes a c) (held ++ spans_bytes file all)
+  spans_fail c span later is told p =
+      let more = spans_bytes file later in
+      let whole : spans_bytes file all ≡ spans_bytes file h.done ++ (span_bytes file span ++ more) = bytes_are honest file (takes a b) held held_b all to_come bytes left h ∙ ap (λ (l : List Span). spans_bytes file h.done ++ spans_bytes file l) is in
+      rw whole (BytesGoOn-fails joins a b c held held_b (spans_bytes file h.done) (span_bytes file span ++ more) (h.goes told) (rw (← append_assoc held_b (span_bytes file span) more) (TakesPrefix-longer (takes b c) (held_b ++ span_bytes file span) more p)))

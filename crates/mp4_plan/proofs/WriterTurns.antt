@@ -6,7 +6,8 @@ use Rattle.mp4_present.specs.format.Reduced.{reduce}
 use Rattle.std.specs.Prelude.{Option, slice_get}
 use Rattle.mp4_boxes.specs.format.Bytes.{sum_of}
 use Rattle.mp4_head.specs.format.Tree.{TrackTree}
-use Rattle.mp4_store.specs.words.Device.{AppendsPrefix}
+use Rattle.mp4_store.specs.words.Device.{TakesPrefix}
+use Rattle.mp4_store.proofs.Known.{IsJoining}
 use Rattle.mp4_tables.specs.words.Keys.{keys_seen}
 use Rattle.mp4_tables.specs.declared.sample.SampleAt.{SampleAt}
 use Rattle.mp4_present.specs.words.Carried.{BytesGoOn, waiting}
@@ -39,11 +40,11 @@ use Rattle.mp4_plan.proofs.SkippedTurns.{due_here, opened_scales}
 use Rattle.mp4_plan.proofs.TurnTaken.{turn_moves}
 use Rattle.mp4_plan.proofs.WritesOn.{WritesOn, AtTurn, at_turn, turn_stops, turn_over}
 
-module _ (leaving : Leaving) (file : List ℕ) (tree : FileTree) (m : MovieSeen) (o : IsOpenedAs file m tree) (s : Schedule) (sequence sent : ℕ) (w : Writer) (before after : Option (List ℕ))
-    (h : WritesOn leaving file tree m s sequence sent w.walks.items w.nexts.items (length w.rows.items) before after (waiting w.carrier)) (turn : Turn) (here : (turn.track ≡ s.track) × (s.track < s.tracks))
+module _ (leaving : Leaving) (file : List ℕ) (tree : FileTree) (m : MovieSeen) (o : IsOpenedAs file m tree) (s : Schedule) (sequence sent : ℕ) (w : Writer) {Y : Type 0} {takes : Y → Y → List ℕ → Type 0} (joins : IsJoining takes) (before after : Y)
+    (h : WritesOn leaving file tree m s sequence sent w.walks.items w.nexts.items (length w.rows.items) (takes before after) (waiting w.carrier)) (turn : Turn) (here : (turn.track ≡ s.track) × (s.track < s.tracks))
     (ends : (info : TrackInfo) → slice_get m.tracks s.track ≡ Some info → turn.end ≡ turn_end s info.timescale) (tracks : s.tracks ≡ length m.tracks) (goes : IsWriterOf m w) (same_leaving : w.leaving ≡ leaving) where
   at : AtTurn leaving file tree m s w.walks.items w.nexts.items (length w.rows.items) h.lefts h.comings
-  at = at_turn leaving file tree m s sequence sent w.walks.items w.nexts.items (length w.rows.items) before after (waiting w.carrier) o h here.1 tracks goes.walks.count
+  at = at_turn leaving file tree m s sequence sent w.walks.items w.nexts.items (length w.rows.items) (takes before after) (waiting w.carrier) o h here.1 tracks goes.walks.count
 
   end_is : turn.end ≡ turn_end s at.info.timescale
   end_is = ends at.info at.is_info
@@ -103,13 +104,13 @@ module _ (leaving : Leaving) (file : List ℕ) (tree : FileTree) (m : MovieSeen)
     }
 
     -- it is not taken along whole
-    pub carry_stops : (last : Option (List ℕ)) → ((samples : List SampleAt) → IsNoted file tree m turn.track n.planned.count samples w1 → (info : TrackInfo) → slice_get m.tracks turn.track ≡ Some info → AreApart (keys_seen info.keys)
-        → AppendsPrefix after last (waiting w1.carrier ++ turn_bytes file n.head n.planned (keys_seen info.keys) (take n.planned.count samples))) → AppendsPrefix before last (normal (reduce leaving (presentation_of file tree)))
+    pub carry_stops : (last : Y) → ((samples : List SampleAt) → IsNoted file tree m turn.track n.planned.count samples w1 → (info : TrackInfo) → slice_get m.tracks turn.track ≡ Some info → AreApart (keys_seen info.keys)
+        → TakesPrefix (takes after last) (waiting w1.carrier ++ turn_bytes file n.head n.planned (keys_seen info.keys) (take n.planned.count samples))) → TakesPrefix (takes before last) (normal (reduce leaving (presentation_of file tree)))
     carry_stops last f =
         let q = f at.left is_noted at.info info_there at.keys.apart in
-        let own = subst (λ (hd : Option PieceHead). AppendsPrefix after last (waiting w1.carrier ++ turn_bytes file hd n.planned (keys_seen at.info.keys) (take n.planned.count at.left))) head_is q in
-        let same = subst (λ (c : Carrier). AppendsPrefix after last (waiting c ++ turn_bytes file (turn_head sequence at.info.id n.planned.count (slice_get at.left 0)) n.planned (keys_seen at.info.keys) (take n.planned.count at.left))) keeps.1 own in
-        turn_stops leaving file tree m s sequence sent w.walks.items w.nexts.items (length w.rows.items) before after (waiting w.carrier) h at n.planned planned_is few last same
+        let own = subst (λ (hd : Option PieceHead). TakesPrefix (takes after last) (waiting w1.carrier ++ turn_bytes file hd n.planned (keys_seen at.info.keys) (take n.planned.count at.left))) head_is q in
+        let same = subst (λ (c : Carrier). TakesPrefix (takes after last) (waiting c ++ turn_bytes file (turn_head sequence at.info.id n.planned.count (slice_get at.left 0)) n.planned (keys_seen at.info.keys) (take n.planned.count at.left))) keeps.1 own in
+        turn_stops leaving file tree m s sequence sent w.walks.items w.nexts.items (length w.rows.items) joins before after (waiting w.carrier) h at n.planned planned_is few last same
 
     -- its samples lie in the file, with as many bytes as were planned
     pub carry_lacks : (X : Type 0) → ((samples : List SampleAt) → IsNoted file tree m turn.track n.planned.count samples w1 → AreThere file n.planned.count n.planned.bytes samples → X) → X
@@ -149,26 +150,26 @@ module _ (leaving : Leaving) (file : List ℕ) (tree : FileTree) (m : MovieSeen)
           subst P (sym nexts_are) (f w.nexts.items times)
 
       -- the turn behind it
-      pub turn_goes : (last : Option (List ℕ)) (later : Schedule) → ((samples : List SampleAt) → IsNoted file tree m turn.track n.planned.count samples w1 → (info : TrackInfo) → slice_get m.tracks turn.track ≡ Some info → AreApart (keys_seen info.keys)
-          → BytesGoOn after last (waiting w1.carrier) (waiting w2.carrier) (turn_bytes file n.head n.planned (keys_seen info.keys) (take n.planned.count samples)))
+      pub turn_goes : (last : Y) (later : Schedule) → ((samples : List SampleAt) → IsNoted file tree m turn.track n.planned.count samples w1 → (info : TrackInfo) → slice_get m.tracks turn.track ≡ Some info → AreApart (keys_seen info.keys)
+          → BytesGoOn (takes after last) (waiting w1.carrier) (waiting w2.carrier) (turn_bytes file n.head n.planned (keys_seen info.keys) (take n.planned.count samples)))
           → (w2.leaving ≡ w1.leaving) × (w2.rows ≡ w1.rows) × (w2.due ≡ w1.due)
-          → later ≡ turned s turn.end n.planned.count next → WritesOn leaving file tree m later (sequence_behind sequence n.head) (sent + n.planned.bytes) w2.walks.items w2.nexts.items (length w2.rows.items) before last (waiting w2.carrier)
+          → later ≡ turned s turn.end n.planned.count next → WritesOn leaving file tree m later (sequence_behind sequence n.head) (sent + n.planned.bytes) w2.walks.items w2.nexts.items (length w2.rows.items) (takes before last) (waiting w2.carrier)
       turn_goes last later put kept is =
           let q = put at.left is_noted at.info info_there at.keys.apart in
-          let own = subst (λ (hd : Option PieceHead). BytesGoOn after last (waiting w1.carrier) (waiting w2.carrier) (turn_bytes file hd n.planned (keys_seen at.info.keys) (take n.planned.count at.left))) head_is q in
-          let same = subst (λ (c : Carrier). BytesGoOn after last (waiting c) (waiting w2.carrier) (turn_bytes file (turn_head sequence at.info.id n.planned.count (slice_get at.left 0)) n.planned (keys_seen at.info.keys) (take n.planned.count at.left))) keeps.1 own in
+          let own = subst (λ (hd : Option PieceHead). BytesGoOn (takes after last) (waiting w1.carrier) (waiting w2.carrier) (turn_bytes file hd n.planned (keys_seen at.info.keys) (take n.planned.count at.left))) head_is q in
+          let same = subst (λ (c : Carrier). BytesGoOn (takes after last) (waiting c) (waiting w2.carrier) (turn_bytes file (turn_head sequence at.info.id n.planned.count (slice_get at.left 0)) n.planned (keys_seen at.info.keys) (take n.planned.count at.left))) keeps.1 own in
           let comes = subst (λ (l : Leaving). ComesLess l file tree at.t m done.0 (drop n.planned.count at.left)) (keeps.0 ∙ same_leaving) done.3 in
           let comes_rest = subst (λ (ss : List SampleAt). ComesLess leaving file tree at.t m done.0 ss) rest_is comes in
           let marked = subst (λ (ss : List SampleAt). done.0.mark ≡ mark_of done.0 (length ss)) rest_is done.4 in
-          let on = turn_over leaving file tree m s sequence sent w.walks.items w.nexts.items (length w.rows.items) before after (waiting w.carrier) h at n.planned planned_is few done.0 last (waiting w2.carrier) comes_rest marked same in
+          let on = turn_over leaving file tree m s sequence sent w.walks.items w.nexts.items (length w.rows.items) joins before after (waiting w.carrier) h at n.planned planned_is few done.0 last (waiting w2.carrier) comes_rest marked same in
           let walks : slice_set w.walks.items s.track done.0 ≡ w2.walks.items = sym (done.1 ∙ ap (λ (ws : List Walk). slice_set ws turn.track done.0) it.walks ∙ set_twice w.walks.items turn.track it.walk done.0 ∙ ap (λ k. slice_set w.walks.items k done.0) here.0) in
           let rows : length w.rows.items ≡ length w2.rows.items = sym (ap (λ v. length v.items) kept.1 ∙ keeps.2) in
           let number : sequence_behind sequence (turn_head sequence at.info.id n.planned.count (slice_get at.left 0)) ≡ sequence_behind sequence n.head = ap (sequence_behind sequence) (sym head_is) in
           let schedule : turned s end n.planned.count (slice_get (samples_after (piece_from end) at.left) 0) ≡ later = (λ i. turned s (sym end_is i) n.planned.count (sym next_is i)) ∙ sym is in
           let nexts : slice_set w.nexts.items s.track (slice_get (samples_after (piece_from end) at.left) 0) ≡ w2.nexts.items = sym (done.2 ∙ (λ i. slice_set (keeps.3 i).items (here.0 i) (slice_get (rest_is i) 0))) in
-          subst (λ (k : ℕ). WritesOn leaving file tree m later (sequence_behind sequence n.head) (sent + n.planned.bytes) w2.walks.items w2.nexts.items k before last (waiting w2.carrier)) rows
-          (subst (λ (xs : List (Option SampleAt)). WritesOn leaving file tree m later (sequence_behind sequence n.head) (sent + n.planned.bytes) w2.walks.items xs (length w.rows.items) before last (waiting w2.carrier)) nexts
-          (subst (λ (ws : List Walk). WritesOn leaving file tree m later (sequence_behind sequence n.head) (sent + n.planned.bytes) ws (slice_set w.nexts.items s.track (slice_get (samples_after (piece_from end) at.left) 0)) (length w.rows.items) before last (waiting w2.carrier)) walks
-          (subst (λ (k : ℕ). WritesOn leaving file tree m later k (sent + n.planned.bytes) (slice_set w.walks.items s.track done.0) (slice_set w.nexts.items s.track (slice_get (samples_after (piece_from end) at.left) 0)) (length w.rows.items) before last (waiting w2.carrier)) number
+          subst (λ (k : ℕ). WritesOn leaving file tree m later (sequence_behind sequence n.head) (sent + n.planned.bytes) w2.walks.items w2.nexts.items k (takes before last) (waiting w2.carrier)) rows
+          (subst (λ (xs : List (Option SampleAt)). WritesOn leaving file tree m later (sequence_behind sequence n.head) (sent + n.planned.bytes) w2.walks.items xs (length w.rows.items) (takes before last) (waiting w2.carrier)) nexts
+          (subst (λ (ws : List Walk). WritesOn leaving file tree m later (sequence_behind sequence n.head) (sent + n.planned.bytes) ws (slice_set w.nexts.items s.track (slice_get (samples_after (piece_from end) at.left) 0)) (length w.rows.items) (takes before last) (waiting w2.carrier)) walks
+          (subst (λ (k : ℕ). WritesOn leaving file tree m later k (sent + n.planned.bytes) (slice_set w.walks.items s.track done.0) (slice_set w.nexts.items s.track (slice_get (samples_after (piece_from end) at.left) 0)) (length w.rows.items) (takes before last) (waiting w2.carrier)) number
           (subst (λ (r : Schedule). WritesOn leaving file tree m r (sequence_behind sequence (turn_head sequence at.info.id n.planned.count (slice_get at.left 0))) (sent + n.planned.bytes)
-          (slice_set w.walks.items s.track done.0) (slice_set w.nexts.items s.track (slice_get (samples_after (piece_from end) at.left) 0)) (length w.rows.items) before last (waiting w2.carrier)) schedule on))))
+          (slice_set w.walks.items s.track done.0) (slice_set w.nexts.items s.track (slice_get (samples_after (piece_from end) at.left) 0)) (length w.rows.items) (takes before last) (waiting w2.carrier)) schedule on))))

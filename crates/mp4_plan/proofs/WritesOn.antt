@@ -5,11 +5,10 @@ use Rattle.mp4_plan.specs.words.ComingLess.{ComesLess, left_samples}
 use Rattle.mp4_present.specs.format.Reduced.{reduce}
 use Rattle.mp4_plan.proofs.ReducedTaken.{less_counted, less_below}
 use Rattle.std.specs.Prelude.{Option, option_map, if◌then◌else◌, map, slice_get, fold}
-use Rattle.std.specs.Io.KnownBytes.{Appends}
 use Rattle.std.specs.List.{AllByRecursion, AllZip, sum_by}
 use Rattle.mp4_boxes.proofs.Each.{each_dropped}
 use Rattle.mp4_head.specs.format.Tree.{TrackTree}
-use Rattle.mp4_store.specs.words.Device.{AppendsPrefix}
+use Rattle.mp4_store.specs.words.Device.{TakesPrefix}
 use Rattle.mp4_tables.specs.format.Groups.{GroupKey}
 use Rattle.mp4_tables.specs.words.Keys.{keys_seen}
 use Rattle.mp4_tables.specs.declared.sample.SampleAt.{SampleAt}
@@ -23,7 +22,7 @@ use Rattle.mp4_present.specs.declared.track_info.TrackInfo.{TrackInfo}
 use Rattle.mp4_present.specs.declared.walks.Mark.{Mark}
 use Rattle.mp4_present.specs.declared.walks.Walk.{Walk}
 use Rattle.mp4_present.proofs.Carrying.{BytesGoOn-then, BytesGoOn-all, BytesGoOn-fails}
-use Rattle.mp4_store.proofs.Known.{AppendsPrefix-longer}
+use Rattle.mp4_store.proofs.Known.{IsJoining, TakesPrefix-longer}
 use Rattle.mp4_plan.specs.words.PiecesComing.{Coming, coming_of}
 use Rattle.mp4_plan.specs.words.Gathering.{piece_from, piece_fed, samples_after, more_of, planned_of}
 use Rattle.mp4_plan.specs.format.Normal.{normal, pieces_bytes}
@@ -136,7 +135,7 @@ marked_kept (v ∷ walks) (l ∷ lefts) (suc k) w now h is e = (h.0, marked_kept
 -- ---- at a turn
 
 module _ (leaving : Leaving) (file : List ℕ) (tree : FileTree) (m : MovieSeen) where
-  pub record WritesOn (s : Schedule) (sequence sent : ℕ) (walks : List Walk) (nexts : List (Option SampleAt)) (rows : ℕ) (before after : Option (List ℕ)) (held : List ℕ) : Type 0 where
+  pub record WritesOn (s : Schedule) (sequence sent : ℕ) (walks : List Walk) (nexts : List (Option SampleAt)) (rows : ℕ) (Took : List ℕ → Type 0) (held : List ℕ) : Type 0 where
     pub lefts : List (List SampleAt)
     pub comings : List Coming
     pub come : AllCome leaving file tree m tree.movie.tracks walks lefts
@@ -148,7 +147,7 @@ module _ (leaving : Leaving) (file : List ℕ) (tree : FileTree) (m : MovieSeen)
     pub small : sequence + left_count lefts ≤ 2 ^ 24 + 1
     pub sizes : sent + left_bytes lefts ≡ sum_by (λ (i : TrackInfo). i.bytes) m.tracks
     pub done : List ℕ
-    pub goes : BytesGoOn before after [] held done
+    pub goes : BytesGoOn Took [] held done
     pub whole : normal (reduce leaving (presentation_of file tree)) ≡ done ++ pieces_bytes sequence (pieces_from s comings)
 
   -- the track whose turn it is, and what its turn takes
@@ -169,9 +168,9 @@ module _ (leaving : Leaving) (file : List ℕ) (tree : FileTree) (m : MovieSeen)
     pub fits : more_of (piece_from (turn_end s info.timescale)) left ≤ rows
     pub shown : slice_get nexts s.track ≡ Some (slice_get left 0)
 
-  pub at_turn : (s : Schedule) (sequence sent : ℕ) (walks : List Walk) (nexts : List (Option SampleAt)) (rows : ℕ) (before after : Option (List ℕ)) (held : List ℕ) → IsOpenedAs file m tree → (h : WritesOn s sequence sent walks nexts rows before after held)
+  pub at_turn : (s : Schedule) (sequence sent : ℕ) (walks : List Walk) (nexts : List (Option SampleAt)) (rows : ℕ) (Took : List ℕ → Type 0) (held : List ℕ) → IsOpenedAs file m tree → (h : WritesOn s sequence sent walks nexts rows Took held)
       → s.track < s.tracks → s.tracks ≡ length m.tracks → length walks ≡ length m.tracks → AtTurn s walks nexts rows h.lefts h.comings
-  at_turn s sequence sent walks nexts rows before after held o h lt tracks each =
+  at_turn s sequence sent walks nexts rows Took held o h lt tracks each =
       let a = come_at leaving file tree m tree.movie.tracks walks h.lefts s.track h.come (omega (arith, lt, tracks, each)) in
       let i = there_is m.tracks s.track (omega (arith, lt, tracks)) in
       let f = (has_track file m tree s.track i.0 o i.1).facts in
@@ -194,22 +193,22 @@ module _ (leaving : Leaving) (file : List ℕ) (tree : FileTree) (m : MovieSeen)
         shown = ap (λ xs. slice_get xs s.track) h.shown ∙ first_at h.lefts s.track a.left a.is_left;
       }
 
-  module _ (s : Schedule) (sequence sent : ℕ) (walks : List Walk) (nexts : List (Option SampleAt)) (rows : ℕ) (before after : Option (List ℕ)) (held : List ℕ) (h : WritesOn s sequence sent walks nexts rows before after held) where
+  module _ (s : Schedule) (sequence sent : ℕ) (walks : List Walk) (nexts : List (Option SampleAt)) (rows : ℕ) {Y : Type 0} {takes : Y → Y → List ℕ → Type 0} (joins : IsJoining takes) (before after : Y) (held : List ℕ) (h : WritesOn s sequence sent walks nexts rows (takes before after) held) where
     -- what was put so far is a front
-    pub stopped : AppendsPrefix before after (normal (reduce leaving (presentation_of file tree)))
-    stopped = stopped_behind before after [] held h.done (pieces_bytes sequence (pieces_from s h.comings)) (normal (reduce leaving (presentation_of file tree))) h.goes h.whole
+    pub stopped : TakesPrefix (takes before after) (normal (reduce leaving (presentation_of file tree)))
+    stopped = stopped_behind (takes before after) [] held h.done (pieces_bytes sequence (pieces_from s h.comings)) (normal (reduce leaving (presentation_of file tree))) h.goes h.whole
 
     -- no piece is left, and what waits is put, or a front of it
     all_done : pieces_from s h.comings ≡ [] → normal (reduce leaving (presentation_of file tree)) ≡ h.done
     all_done none = h.whole ∙ ap (λ (ps : List Piece). h.done ++ pieces_bytes sequence ps) none ∙ append-nil h.done
 
-    pub all_put : (last : Option (List ℕ)) → pieces_from s h.comings ≡ [] → Appends after last held → Appends before last (normal (reduce leaving (presentation_of file tree)))
-    all_put last none p = rw (all_done none) (BytesGoOn-all before after last [] held h.done h.goes p)
+    pub all_put : (last : Y) → pieces_from s h.comings ≡ [] → takes after last held → takes before last (normal (reduce leaving (presentation_of file tree)))
+    all_put last none p = rw (all_done none) (BytesGoOn-all joins before after last [] held h.done h.goes p)
 
-    pub not_all_put : (last : Option (List ℕ)) → pieces_from s h.comings ≡ [] → AppendsPrefix after last held → AppendsPrefix before last (normal (reduce leaving (presentation_of file tree)))
+    pub not_all_put : (last : Y) → pieces_from s h.comings ≡ [] → TakesPrefix (takes after last) held → TakesPrefix (takes before last) (normal (reduce leaving (presentation_of file tree)))
     not_all_put last none p =
-        let q : AppendsPrefix before last (h.done ++ []) = BytesGoOn-fails before after last [] held h.done [] h.goes (AppendsPrefix-longer after last held [] p) in
-        subst (λ (bs : List ℕ). AppendsPrefix before last bs) (append-nil h.done ∙ sym (all_done none)) q
+        let q : TakesPrefix (takes before last) (h.done ++ []) = BytesGoOn-fails joins before after last [] held h.done [] h.goes (TakesPrefix-longer (takes after last) held [] p) in
+        subst (λ (bs : List ℕ). TakesPrefix (takes before last) bs) (append-nil h.done ∙ sym (all_done none)) q
 
     -- behind the last turn all samples were taken, and all their bytes
     pub all_taken : s.tracks ≤ s.track → (s.left ≡ 0) × (sent ≡ sum_by (λ (i : TrackInfo). i.bytes) m.tracks)
@@ -265,14 +264,15 @@ module _ (leaving : Leaving) (file : List ℕ) (tree : FileTree) (m : MovieSeen)
           ∙ sym (append_assoc h.done (pieces_bytes sequence piece) (pieces_bytes (sequence_behind sequence head) (pieces_from next a.taken.later)))
 
       -- it is not taken along whole
-      pub turn_stops : (last : Option (List ℕ)) → AppendsPrefix after last (held ++ turn_bytes file head p keys (take p.count a.left)) → AppendsPrefix before last (normal (reduce leaving (presentation_of file tree)))
-      turn_stops last q = stopped_at before after last [] held h.done (turn_bytes file head p keys (take p.count a.left)) (h.done ++ pieces_bytes sequence piece) (pieces_bytes (sequence_behind sequence head) (pieces_from next a.taken.later)) (normal (reduce leaving (presentation_of file tree)))
+      pub turn_stops : (last : Y) → TakesPrefix (takes after last) (held ++ turn_bytes file head p keys (take p.count a.left)) → TakesPrefix (takes before last) (normal (reduce leaving (presentation_of file tree)))
+      turn_stops last q = stopped_at joins before after last [] held h.done (turn_bytes file head p keys (take p.count a.left)) (h.done ++ pieces_bytes sequence piece) (pieces_bytes (sequence_behind sequence head) (pieces_from next a.taken.later))
+          (normal (reduce leaving (presentation_of file tree)))
           h.goes q
           (ap (λ (bs : List ℕ). h.done ++ bs) (sym written)) rest_is
 
       -- it is taken along
-      pub turn_over : (later : Walk) (last : Option (List ℕ)) (held_later : List ℕ) → ComesLess leaving file tree a.t m later rest → later.mark ≡ mark_of later (length rest) → BytesGoOn after last held held_later (turn_bytes file head p keys (take p.count a.left))
-          → WritesOn (turned s end p.count (slice_get rest 0)) (sequence_behind sequence head) (sent + p.bytes) (slice_set walks s.track later) (slice_set nexts s.track (slice_get rest 0)) rows before last held_later
+      pub turn_over : (later : Walk) (last : Y) (held_later : List ℕ) → ComesLess leaving file tree a.t m later rest → later.mark ≡ mark_of later (length rest) → BytesGoOn (takes after last) held held_later (turn_bytes file head p keys (take p.count a.left))
+          → WritesOn (turned s end p.count (slice_get rest 0)) (sequence_behind sequence head) (sent + p.bytes) (slice_set walks s.track later) (slice_set nexts s.track (slice_get rest 0)) rows (takes before last) held_later
       turn_over later last held_later comes marked bytes =
           let come = come_with leaving file tree m tree.movie.tracks walks h.lefts s.track a.t later rest h.come a.is_tree comes in
           let small = h.small in
@@ -283,7 +283,7 @@ module _ (leaving : Leaving) (file : List ℕ) (tree : FileTree) (m : MovieSeen)
           let by = turned_left s end count (slice_get rest 0) in
           let numbers = numbered in
           let same : next ≡ turned s end p.count (slice_get rest 0) = ap (λ k. turned s end k (slice_get rest 0)) (sym counted) in
-          subst (λ (r : Schedule). WritesOn r (sequence_behind sequence head) (sent + p.bytes) (slice_set walks s.track later) (slice_set nexts s.track (slice_get rest 0)) rows before last held_later) same (record {
+          subst (λ (r : Schedule). WritesOn r (sequence_behind sequence head) (sent + p.bytes) (slice_set walks s.track later) (slice_set nexts s.track (slice_get rest 0)) rows (takes before last) held_later) same (record {
             lefts = slice_set h.lefts s.track rest;
             comings = a.taken.later;
             come = come;
@@ -295,7 +295,7 @@ module _ (leaving : Leaving) (file : List ℕ) (tree : FileTree) (m : MovieSeen)
             small = omega (arith, small, few_pieces, n, left, later_left, by, numbers);
             sizes = bytes_behind h.lefts s.track count sent p.bytes _ a.left a.is_left (ap (λ (q : Planned). q.bytes) is ∙ piece_bytes end a.left) h.sizes;
             done = h.done ++ pieces_bytes sequence piece;
-            goes = BytesGoOn-then before after last [] held held_later h.done (turn_bytes file head p keys (take p.count a.left)) (h.done ++ pieces_bytes sequence piece) h.goes bytes (ap (λ (bs : List ℕ). h.done ++ bs) (sym written));
+            goes = BytesGoOn-then joins before after last [] held held_later h.done (turn_bytes file head p keys (take p.count a.left)) (h.done ++ pieces_bytes sequence piece) h.goes bytes (ap (λ (bs : List ℕ). h.done ++ bs) (sym written));
             whole = rest_is;
           })
 
@@ -306,11 +306,11 @@ module _ (leaving : Leaving) (file : List ℕ) (tree : FileTree) (m : MovieSeen)
   all_lie (i ∷ infos) (t ∷ trees) z = (less_below leaving (length file) (track_samples tree t) z.0.lies, all_lie infos trees z.1)
 
   -- the first turn
-  pub begins : (s : Schedule) (w : Writer) (walks : List Walk) (nexts : List (Option SampleAt)) (before after : Option (List ℕ)) (held : List ℕ) → IsOpenedAs file m tree → IsReady file tree m w → w.leaving ≡ leaving
+  pub begins : (s : Schedule) (w : Writer) (walks : List Walk) (nexts : List (Option SampleAt)) (Took : List ℕ → Type 0) (held : List ℕ) → IsOpenedAs file m tree → IsReady file tree m w → w.leaving ≡ leaving
       → IsFirst m.tracks (map (left_samples leaving tree) tree.movie.tracks) s
-      → AllBegin leaving file tree m walks → AreMarked walks (map (left_samples leaving tree) tree.movie.tracks) → nexts ≡ firsts (map (left_samples leaving tree) tree.movie.tracks) → BytesGoOn before after (waiting w.carrier) held w.head.items
-      → WritesOn s 1 0 walks nexts (length w.rows.items) before after held
-  begins s w walks nexts before after held o r same first come marked shown goes =
+      → AllBegin leaving file tree m walks → AreMarked walks (map (left_samples leaving tree) tree.movie.tracks) → nexts ≡ firsts (map (left_samples leaving tree) tree.movie.tracks) → BytesGoOn Took (waiting w.carrier) held w.head.items
+      → WritesOn s 1 0 walks nexts (length w.rows.items) Took held
+  begins s w walks nexts Took held o r same first come marked shown goes =
       let all = first_turn leaving file m tree s o first in
       let p = reduce leaving (presentation_of file tree) in
       let few = subst (λ n. n ≤ 2 ^ 24) (sym (less_counted leaving tree tree.movie.tracks)) (few_left file m tree o) in
@@ -334,18 +334,18 @@ module _ (leaving : Leaving) (file : List ℕ) (tree : FileTree) (m : MovieSeen)
   -- ---- before the first turn
 
   -- the head is not put whole
-  pub head_stops : (w : Writer) (before last : Option (List ℕ)) (bytes : List ℕ) → IsReady file tree m w → w.leaving ≡ leaving → bytes ≡ w.head.items → AppendsPrefix before last (waiting w.carrier ++ bytes) → AppendsPrefix before last (normal (reduce leaving (presentation_of file tree)))
-  head_stops w before last bytes r same e q =
+  pub head_stops : (w : Writer) (Took : List ℕ → Type 0) (bytes : List ℕ) → IsReady file tree m w → w.leaving ≡ leaving → bytes ≡ w.head.items → TakesPrefix Took (waiting w.carrier ++ bytes) → TakesPrefix Took (normal (reduce leaving (presentation_of file tree)))
+  head_stops w Took bytes r same e q =
       let p = reduce leaving (presentation_of file tree) in
-      let own : AppendsPrefix before last (head_of_normal p) = subst (λ (bs : List ℕ). AppendsPrefix before last bs) (ap (λ (bs : List ℕ). waiting w.carrier ++ bs) e ∙ r.head ∙ ap (λ (k : Leaving). head_of_normal (reduce k (presentation_of file tree))) same) q in
-      AppendsPrefix-longer before last (head_of_normal p) (pieces_bytes 1 (pieces p)) own
+      let own : TakesPrefix Took (head_of_normal p) = subst (λ (bs : List ℕ). TakesPrefix Took bs) (ap (λ (bs : List ℕ). waiting w.carrier ++ bs) e ∙ r.head ∙ ap (λ (k : Leaving). head_of_normal (reduce k (presentation_of file tree))) same) q in
+      TakesPrefix-longer Took (head_of_normal p) (pieces_bytes 1 (pieces p)) own
 
   -- nothing behind the head is put
-  pub head_put : (w : Writer) (before after : Option (List ℕ)) (held bytes : List ℕ) → IsReady file tree m w → w.leaving ≡ leaving → bytes ≡ w.head.items → BytesGoOn before after (waiting w.carrier) held bytes → AppendsPrefix before after (normal (reduce leaving (presentation_of file tree)))
-  head_put w before after held bytes r same e q =
+  pub head_put : (w : Writer) (Took : List ℕ → Type 0) (held bytes : List ℕ) → IsReady file tree m w → w.leaving ≡ leaving → bytes ≡ w.head.items → BytesGoOn Took (waiting w.carrier) held bytes → TakesPrefix Took (normal (reduce leaving (presentation_of file tree)))
+  head_put w Took held bytes r same e q =
       let p = reduce leaving (presentation_of file tree) in
       let whole : waiting w.carrier ++ bytes ≡ head_of_normal p = ap (λ (bs : List ℕ). waiting w.carrier ++ bs) e ∙ r.head ∙ ap (λ (k : Leaving). head_of_normal (reduce k (presentation_of file tree))) same in
-      stopped_behind before after [] held (waiting w.carrier ++ bytes) (pieces_bytes 1 (pieces p)) (normal p) q (ap (λ (bs : List ℕ). bs ++ pieces_bytes 1 (pieces p)) (sym whole))
+      stopped_behind Took [] held (waiting w.carrier ++ bytes) (pieces_bytes 1 (pieces p)) (normal p) q (ap (λ (bs : List ℕ). bs ++ pieces_bytes 1 (pieces p)) (sym whole))
 
   -- a new schedule stands at the first turn
   pub is_first : (s : Schedule) (from : ℕ) → IsOpenedAs file m tree → s.tracks ≡ length m.tracks → s.first ≡ first_scale m.tracks → (s.track ≡ 0) × (s.from ≡ from) × (s.next ≡ None) → s.left ≡ sum_by (λ (i : TrackInfo). i.samples) m.tracks
@@ -365,9 +365,9 @@ module _ (leaving : Leaving) (file : List ℕ) (tree : FileTree) (m : MovieSeen)
       same_dts ((x ∷ samples) ∷ lefts) = refl
 
   -- Where tracks are skipped, the same pieces are left to be written.
-  pub writes_skips : (s later : Schedule) (sequence sent : ℕ) (walks : List Walk) (nexts : List (Option SampleAt)) (rows : ℕ) (before after : Option (List ℕ)) (held : List ℕ) (d : DueTracks) → IsOpenedAs file m tree → WritesOn s sequence sent walks nexts rows before after held
-      → Skips d s later → IsDueAt m.tracks nexts later d → WritesOn later sequence sent walks nexts rows before after held
-  writes_skips s later sequence sent walks nexts rows before after held d o h skips due =
+  pub writes_skips : (s later : Schedule) (sequence sent : ℕ) (walks : List Walk) (nexts : List (Option SampleAt)) (rows : ℕ) (Took : List ℕ → Type 0) (held : List ℕ) (d : DueTracks) → IsOpenedAs file m tree → WritesOn s sequence sent walks nexts rows Took held
+      → Skips d s later → IsDueAt m.tracks nexts later d → WritesOn later sequence sent walks nexts rows Took held
+  writes_skips s later sequence sent walks nexts rows Took held d o h skips due =
       let r = turns_skipped file m.tracks d s later nexts h.lefts h.comings skips h.turn h.shown due (opened_scales file m tree o) in
       record {
         lefts = h.lefts;
@@ -386,6 +386,6 @@ module _ (leaving : Leaving) (file : List ℕ) (tree : FileTree) (m : MovieSeen)
       }
 
   -- Where no sample is left, no track is due.
-  pub writes_no_more : (s later : Schedule) (sequence sent : ℕ) (walks : List Walk) (nexts : List (Option SampleAt)) (rows : ℕ) (before after : Option (List ℕ)) (held : List ℕ) (d : DueTracks) → IsOpenedAs file m tree → WritesOn s sequence sent walks nexts rows before after held
+  pub writes_no_more : (s later : Schedule) (sequence sent : ℕ) (walks : List Walk) (nexts : List (Option SampleAt)) (rows : ℕ) (Took : List ℕ → Type 0) (held : List ℕ) (d : DueTracks) → IsOpenedAs file m tree → WritesOn s sequence sent walks nexts rows Took held
       → FindsMore m.tracks nexts s later d → ⊥
-  writes_no_more s later sequence sent walks nexts rows before after held d o h f = finds_none file m.tracks s later h.lefts h.comings nexts d h.turn h.shown (opened_scales file m tree o) f
+  writes_no_more s later sequence sent walks nexts rows Took held d o h f = finds_none file m.tracks s later h.lefts h.comings nexts d h.turn h.shown (opened_scales file m tree o) f

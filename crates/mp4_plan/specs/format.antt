@@ -7,6 +7,7 @@ pub mod HeadLaws
 pub mod Laws
 pub mod Held
 pub mod ReducedLaws
+pub mod CoveringLaws
 pub mod Agreeing
 pub mod ReducedTimes
 pub mod TurnCount

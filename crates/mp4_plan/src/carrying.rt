@@ -47,7 +47,7 @@ fn carry_hand<S: Store, K: Sink>(
         CarriesFirst file K.Sink sink.old sink.new carrier.old carrier.new result load
         (left_in_hand hand.old) (left_in_hand hand.new)) }
     ensures many { IfOk result (λ left. (left.bytes ≤ load.bytes)
-        × GoOnBy (K.contents sink.old) (K.contents sink.new) (waiting carrier.old)
+        × GoOnBy (K.takes sink.old sink.new) (waiting carrier.old)
         (waiting carrier.new) (load.bytes - left.bytes)) }
     ensures ends { IfOk result (λ left. 0 < left.samples → left_in_hand hand.new ≡ []) }
     ensures unchanged { WhereHonest S.Store store.old (λ file.

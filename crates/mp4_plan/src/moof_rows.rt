@@ -1,7 +1,7 @@
 //! The rows of a `moof`: those of `trun`, and the `sbgp`s behind it (ISO/IEC 14496-12, 8.8.8 and
 //! 8.9.2).
 ghost use Rattle.std.specs.Prelude.{◌≡◌, ℕ, ◌+◌, ◌-◌, ◌^◌, ◌<◌, ◌≤◌, List, [], ◌∷◌, ◌++◌, None, flat_map, length, IfSome, IfOk, MatchResult, OnOk};
-ghost use Rattle.mp4_store.specs.words.Device.{AppendsPrefix};
+ghost use Rattle.mp4_store.specs.words.Device.{TakesPrefix};
 ghost use Rattle.mp4_tables.specs.format.Groups.{GroupKey as KeySeen};
 ghost use Rattle.mp4_tables.specs.words.Keys.{key_seen, keys_seen};
 ghost use Rattle.mp4_present.specs.words.Carried.{BytesGoOn, waiting};
@@ -157,9 +157,9 @@ fn carry_index<K: Sink>(
     ensures sink { OnlyPuts K.Sink sink.old sink.new carrier.old carrier.new result }
     ensures count { IfOk result (λ next. next.count ≤ run.count + 1) }
     ensures put { (values : List ℕ) → MatchResult result
-        (λ next. WritesRuns (K.contents sink.old) (K.contents sink.new) (waiting carrier.old)
+        (λ next. WritesRuns (K.takes sink.old sink.new) (waiting carrier.old)
         (waiting carrier.new) run next index values)
-        (λ _. AppendsPrefix (K.contents sink.old) (K.contents sink.new) (waiting carrier.old
+        (λ _. TakesPrefix (K.takes sink.old sink.new) (waiting carrier.old
         ++ flat_map group_row (runs_left run.count run.index (index ∷ values)))) }
 {
     if run.count > 0 && run.index == index {
@@ -271,7 +271,7 @@ pub(crate) fn carry_groups<K: Sink>(
         → Carries K.Sink sink.old sink.new carrier.old carrier.new result
         (groups_bytes rows.now planned.now (keys_seen keys.now)) }
     ensures some { OnOk result ((groups : List (ℕ × KeySeen)) × (length groups ≤ 4)
-        × BytesGoOn (K.contents sink.old) (K.contents sink.new) (waiting carrier.old)
+        × BytesGoOn (K.takes sink.old sink.new) (waiting carrier.old)
         (waiting carrier.new) (some_groups rows.now planned.now groups)) }
 {
     let mut behind = None;

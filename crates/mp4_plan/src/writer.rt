@@ -1,8 +1,7 @@
 //! The normal form of a presentation, written.
 ghost use Rattle.std.specs.Prelude.{◌≡◌, ℕ, ◌+◌, ◌*◌, ◌-◌, ◌<◌, ◌≤◌, List, [], ◌++◌, length, take, Some, None, true, false, IfOk, IfErr, OnOk, OnErr};
-ghost use Rattle.std.specs.Io.KnownBytes.{Appends};
 ghost use Rattle.std.specs.List.{sum_by};
-ghost use Rattle.mp4_store.specs.words.Device.{AppendsPrefix};
+ghost use Rattle.mp4_store.specs.words.Device.{TakesPrefix};
 ghost use Rattle.mp4_tables.specs.declared.sample.SampleAt.{SampleAt};
 ghost use Rattle.mp4_present.specs.declared.track_info.TrackInfo.{TrackInfo};
 ghost use Rattle.mp4_present.specs.words.Carried.{GoOnBy, waiting};
@@ -266,7 +265,7 @@ impl Writer {
             (λ file tree t samples.
             Carries K.Sink sink.old sink.new self.old.carrier self.new.carrier result
             (sample_bytes file (take planned.now.count samples))) }
-        ensures many { OnOk result (GoOnBy (K.contents sink.old) (K.contents sink.new)
+        ensures many { OnOk result (GoOnBy (K.takes sink.old sink.new)
             (waiting self.old.carrier) (waiting self.new.carrier) planned.now.bytes) }
         ensures copied { WhereNoted S.Store store.old movie.now track planned.now.count self.old
             (λ file tree t samples. OnOk result
@@ -318,7 +317,7 @@ impl Writer {
             (λ file tree t samples. WithKeys movie.now track (λ keys.
             Carries K.Sink sink.old sink.new self.old.carrier self.new.carrier result
             (turn_bytes file head planned.now keys (take planned.now.count samples)))) }
-        ensures many { OnOk result (PiecesFollow (K.contents sink.old) (K.contents sink.new)
+        ensures many { OnOk result (PiecesFollow (K.takes sink.old sink.new)
             (waiting self.old.carrier) (waiting self.new.carrier) [] planned.now.count
             planned.now.bytes) }
         ensures copied { WhereNoted S.Store store.old movie.now track planned.now.count self.old
@@ -364,16 +363,16 @@ impl Writer {
         ensures devices { OnlyCopies S.Store store.old store.new K.Sink sink.old sink.new result }
         ensures bytes { OverOpened S.Store store.old movie.now (λ file tree.
             IsReady file tree movie.now self.old
-            → OnOk result (Appends (K.contents sink.old) (K.contents sink.new)
+            → OnOk result (K.takes sink.old sink.new
             (normal (reduce self.old.leaving (presentation_of file tree))))) }
         ensures prefix { OverOpened S.Store store.old movie.now (λ file tree.
             IsReady file tree movie.now self.old
-            → OnErr result (AppendsPrefix (K.contents sink.old) (K.contents sink.new)
+            → OnErr result (TakesPrefix (K.takes sink.old sink.new)
             (normal (reduce self.old.leaving (presentation_of file tree))))) }
         ensures unchanged { OverOpened S.Store store.old movie.now (λ file tree.
             IsReady file tree movie.now self.old → IsUnchanged result) }
-        ensures whole { OnOk result (IsPutWhole movie.now (K.contents sink.old)
-            (K.contents sink.new) (waiting self.old.carrier ++ self.old.head.items)) }
+        ensures whole { OnOk result (IsPutWhole movie.now (K.takes sink.old sink.new)
+            (waiting self.old.carrier ++ self.old.head.items)) }
         ensures refusal { RefusedByBoth S.Store store.old store.new K.Sink sink.old sink.new result
             RefusesCarry }
         ensures grows { OnOk result (steps.old ≤ steps.new) }
@@ -428,18 +427,18 @@ pub fn write_reduced<S: Store, K: Sink, L: Ledger, M: Ledger>(
 ) -> Result<(), Refusal>
     ensures devices { OnlyCopies S.Store store.old store.new K.Sink sink.old sink.new result }
     ensures bytes { OverOpened S.Store store.old movie.now (λ file tree.
-        OnOk result (Appends (K.contents sink.old) (K.contents sink.new)
+        OnOk result (K.takes sink.old sink.new
         (normal (reduce leaving (presentation_of file tree))))) }
     ensures prefix { OverOpened S.Store store.old movie.now (λ file tree.
-        OnErr result (AppendsPrefix (K.contents sink.old) (K.contents sink.new)
+        OnErr result (TakesPrefix (K.takes sink.old sink.new)
         (normal (reduce leaving (presentation_of file tree))))) }
     ensures long { OverOpened S.Store store.old movie.now (λ file tree.
-        TellsLong leaving file tree result (K.contents sink.new ≡ K.contents sink.old)) }
+        TellsLong leaving file tree result (K.takes sink.old sink.new [])) }
     ensures unchanged { OverOpened S.Store store.old movie.now (λ file tree. IsUnchanged result) }
     ensures whole { OnOk result ((head : List ℕ) × IsHeadLeft movie.now leaving head
-        × IsPutWhole movie.now (K.contents sink.old) (K.contents sink.new) head) }
+        × IsPutWhole movie.now (K.takes sink.old sink.new) head) }
     ensures refusal { RefusedByBoth S.Store store.old store.new K.Sink sink.old sink.new result
-        (RefusesLeftCopy leaving (K.contents sink.old) (K.contents sink.new)) }
+        (RefusesLeftCopy leaving (K.takes sink.old sink.new)) }
     ensures grows { OnOk result (steps.old ≤ steps.new) }
     ensures work { OverOpened S.Store store.old movie.now
         (λ file tree. steps.new ≤ steps.old + (walks_steps tree + writing_steps tree)) }
@@ -461,16 +460,16 @@ pub fn write_normal<S: Store, K: Sink, L: Ledger, M: Ledger>(
 ) -> Result<(), Refusal>
     ensures devices { OnlyCopies S.Store store.old store.new K.Sink sink.old sink.new result }
     ensures bytes { OverOpened S.Store store.old movie.now (λ file tree.
-        OnOk result (Appends (K.contents sink.old) (K.contents sink.new)
+        OnOk result (K.takes sink.old sink.new
         (normal (presentation_of file tree)))) }
     ensures prefix { OverOpened S.Store store.old movie.now (λ file tree.
-        OnErr result (AppendsPrefix (K.contents sink.old) (K.contents sink.new)
+        OnErr result (TakesPrefix (K.takes sink.old sink.new)
         (normal (presentation_of file tree)))) }
     ensures unchanged { OverOpened S.Store store.old movie.now (λ file tree. IsUnchanged result) }
     ensures whole { OnOk result ((head : List ℕ) × IsHeadLeft movie.now Leaving.NOTHING head
-        × IsPutWhole movie.now (K.contents sink.old) (K.contents sink.new) head) }
+        × IsPutWhole movie.now (K.takes sink.old sink.new) head) }
     ensures refusal { RefusedByBoth S.Store store.old store.new K.Sink sink.old sink.new result
-        (RefusesCopy (K.contents sink.old) (K.contents sink.new)) }
+        (RefusesCopy (K.takes sink.old sink.new)) }
     ensures grows { OnOk result (steps.old ≤ steps.new) }
     ensures work { OverOpened S.Store store.old movie.now
         (λ file tree. steps.new ≤ steps.old + (walks_steps tree + writing_steps tree)) }

@@ -75,7 +75,7 @@ key_same a b is other e =
 -- ---- maps with the same index at each key
 
 -- keys of one rank have one index
-index_rank : (groups : Groups) (x y : GroupKey) → key_rank x ≡ key_rank y → index_at x groups ≡ index_at y groups
+pub index_rank : (groups : Groups) (x y : GroupKey) → key_rank x ≡ key_rank y → index_at x groups ≡ index_at y groups
 index_rank [] x y e = refl
 index_rank (group ∷ groups) x y e = λ i. if (e i == key_rank group.0) then group.1 else index_rank groups x y e i
 
@@ -243,12 +243,16 @@ module _ (of : Subject) (a b : Groups) where
   abbrev all_keys : List GroupKey
   all_keys = keys_in a ++ keys_in b
 
-  each_by : ((key : GroupKey) → IsAmong (keys_of_both a b) key → index_at key a ≡ index_at key b) → (key : GroupKey) (v : Bool) → list_any (same_key key) (keys_of_both a b) ≡ v → index_at key a ≡ index_at key b
-  each_by h key true e = h key e
-  each_by h key false e =
+  -- the index at a key that is none of both is 0 in both
+  pub none_same : (key : GroupKey) → list_any (same_key key) (keys_of_both a b) ≡ false → index_at key a ≡ index_at key b
+  none_same key e =
       let none : IsNone all_keys key = none_of (list_any (same_key key) all_keys) (λ t. true_false (list_any (same_key key) (keys_of_both a b)) (among_through all_keys (keys_of_both a b) key (each_there [] all_keys) t) e) in
       let p = none_parts (keys_in a) (keys_in b) key none in
       no_index a key p.0 ∙ sym (no_index b key p.1)
+
+  each_by : ((key : GroupKey) → IsAmong (keys_of_both a b) key → index_at key a ≡ index_at key b) → (key : GroupKey) (v : Bool) → list_any (same_key key) (keys_of_both a b) ≡ v → index_at key a ≡ index_at key b
+  each_by h key true e = h key e
+  each_by h key false e = none_same key e
 
   -- Maps are equal where nothing differs at any key of both.
   pub index_tells : Tells (index_differences of a b) (IsMap a → IsMap b → a ≡ b)

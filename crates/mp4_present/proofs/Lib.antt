@@ -62,7 +62,7 @@ pub mod TrafLoaded
 pub mod OwnSums
 pub mod OwnPlaced
 pub mod WalkBegun
-pub mod TrexPlaces
+pub mod TrexesById
 pub mod WalkWork
 pub mod ChecksCounted
 pub mod LooksCounted
@@ -81,6 +81,7 @@ pub mod ComparisonWhole
 pub mod ComparisonKeys
 pub mod ComparisonTurned
 pub mod ComparisonPlaces
+pub mod ComparisonComplete
 pub mod ComparisonVectors
 mod NextSample
 pub mod FaultGaps

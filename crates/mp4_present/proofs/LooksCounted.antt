@@ -1,8 +1,7 @@
 -- The looks at tracks for all `moof`s of a file, by what these say and by their bytes.
-use Rattle.std.proofs.Common.{◌≡◌, Bool, ℕ, ◌+◌, ◌-◌, ◌*◌, ◌≤◌, List, [], ◌∷◌, Some, length, map, inl, inr, refl, sym, ap, subst, ◌∙◌, arith, mul-le-mul_left}
+use Rattle.std.proofs.Common.{◌≡◌, Bool, ℕ, min, ◌+◌, ◌-◌, ◌*◌, ◌≤◌, List, [], ◌∷◌, Some, length, map, inl, inr, refl, sym, ap, subst, ◌∙◌, arith, mul-le-mul_left, mul_comm}
 use Rattle.std.proofs.Math.Nat.{le_refl, mul-add}
 use Rattle.std.proofs.lemmas.List.{length-map}
-use Rattle.std.proofs.lemmas.Slice.Zip.{AllZip-long}
 use Rattle.std.specs.Prelude.{codes, IsTrue}
 use Rattle.mp4_boxes.specs.format.Bytes.{sum_of}
 use Rattle.mp4_boxes.specs.format.Box.{Box, file_container}
@@ -19,7 +18,6 @@ use Rattle.mp4_present.specs.words.NumbersTold.{LooksFit}
 use Rattle.mp4_present.specs.words.Outline.{AreFrom, IsNextFragment}
 use Rattle.mp4_present.specs.format.ByBytes.{LooksByBytes}
 use Rattle.mp4_present.specs.words.ToOpen.{LooksWithin, boxes_looks, moof_looks, opening_looks}
-use Rattle.mp4_present.specs.words.TrackTrees.{IsTrackOf}
 use Rattle.mp4_present.specs.declared.outline.Outline.{Outline}
 use Rattle.mp4_present.specs.declared.reading.TopBox.{TopBox}
 use Rattle.mp4_present.proofs.ChecksCounted.{next_left}
@@ -27,7 +25,6 @@ use Rattle.mp4_present.proofs.FragmentPass.{whole_file}
 use Rattle.mp4_present.proofs.MoofBytes.{taken}
 use Rattle.mp4_present.proofs.MoofsPassed.{IsRead}
 use Rattle.mp4_present.proofs.Opened.{IsRead as IsMoovRead, its_movie}
-use Rattle.mp4_present.proofs.OpeningSteps.{tracks_are}
 
 -- ---- by what the `moof`s say
 
@@ -100,25 +97,27 @@ each_moof : (moofs : List FragmentTree) → sum_of (λ (t : FragmentTree). moof_
 each_moof [] = refl
 each_moof (t ∷ moofs) = ap (λ (n : ℕ). moof_looks t.moof + n) (each_moof moofs)
 
+-- where there is a track, each is counted once
+once : (n before after looks : ℕ) → after ≤ before + min 1 n * looks → after ≤ before + looks
+once n before after looks h =
+    let few : min 1 n ≤ 1 = omega arith in
+    let less : looks * min 1 n ≤ looks * 1 = mul-le-mul_left looks few in
+    omega (arith, h, less, mul_comm looks (min 1 n))
+
 module _ (honest : Bool) (file : List ℕ) (o : Outline) (moov : List ℕ) (b : Box) (head : MovieHead) (r : IsMoovRead honest file o moov b) (says : SaysHead b head) (told : IsTrue honest) where
   -- by its boxes
-  pub looks_counted : (tree : FileTree) → IsFileTree file tree → (before after : ℕ) → LooksWithin file (length head.tracks.items) before after → after ≤ before + opening_looks tree
-  looks_counted tree is before after within =
-      let many : length head.tracks.items ≡ length tree.movie.tracks = AllZip-long IsTrackOf tree.movie.tracks head.tracks.items (tracks_are honest file o moov b head r says told tree is) in
+  pub looks_counted : (tree : FileTree) → IsFileTree file tree → (n before after : ℕ) → LooksWithin file (min 1 n) before after → after ≤ before + opening_looks tree
+  looks_counted tree is n before after within =
       let moofs : boxes_looks (of_kind (codes "moof") tree.top) ≡ sum_of (λ (t : FragmentTree). moof_looks t.moof) tree.fragments = sym (each_moof tree.fragments ∙ ap boxes_looks is.moofs) in
-      rw (many, moofs) at (within tree.top is.top)
-
-  -- the same, of as many tracks
-  pub looks_of : (tree : FileTree) → IsFileTree file tree → (n before after : ℕ) → n ≡ length head.tracks.items → LooksWithin file n before after → after ≤ before + opening_looks tree
-  looks_of tree is n before after many within = looks_counted tree is before after (subst (λ (k : ℕ). LooksWithin file k before after) many within)
+      once n before after (sum_of (λ (t : FragmentTree). moof_looks t.moof) tree.fragments) (rw moofs at (within tree.top is.top))
 
   -- by its bytes
-  pub looks_open : (before after : ℕ) → 8 * after ≤ 8 * before + length head.tracks.items * length file → LooksByBytes file before after
+  pub looks_open : (before after : ℕ) → 8 * after ≤ 8 * before + min 1 (length head.tracks.items) * length file → LooksByBytes file before after
   looks_open before after h =
       let ids = map (λ (t : TrackHead). t.id) head.tracks.items in
       let has = its_movie honest file o moov b head ids r says refl told in
       let many : length head.tracks.items ≡ length ids = sym (length-map head.tracks.items (λ (t : TrackHead). t.id)) in
-      inr (ids, has, subst (λ (n : ℕ). 8 * after ≤ 8 * before + n * length file) many h)
+      inr (ids, has, subst (λ (n : ℕ). 8 * after ≤ 8 * before + min 1 n * length file) many h)
 
 -- there was no look
 pub none_looks : (file : List ℕ) (start : ℕ) → LooksByBytes file start start

@@ -3,13 +3,12 @@ use Rattle.std.proofs.Common.{◌≡◌, ℕ, ◌+◌, ◌≤◌, List, [], ◌+
 use Rattle.std.proofs.lemmas.List.{append-nil}
 use Rattle.std.specs.List.{AllByRecursion, slice_get}
 use Rattle.std.specs.Prelude.{Option, Bool, true, false, Result, Ok, Err, IfErr, OnOk, OnErr}
-use Rattle.std.specs.Io.KnownBytes.{Appends}
 use Rattle.mp4_boxes.proofs.Each.{each_member}
 use Rattle.mp4_boxes.proofs.Joined.{all_first, all_last}
 use Rattle.mp4_boxes.specs.declared.refusal.Refusal.{Refusal}
 use Rattle.mp4_boxes.specs.declared.refusal.Refusal.TheVariants as refusals
-use Rattle.mp4_store.specs.words.Device.{AppendsPrefix}
-use Rattle.mp4_store.proofs.Known.{AppendsPrefix-longer}
+use Rattle.mp4_store.specs.words.Device.{TakesPrefix}
+use Rattle.mp4_store.proofs.Known.{IsJoining, TakesPrefix-longer}
 use Rattle.mp4_tables.specs.declared.sample.SampleAt.{SampleAt}
 use Rattle.mp4_tables.proofs.Sums.{timed_bytes}
 use Rattle.mp4_tables.specs.words.TablesSeen.{CursorSeen as TableView}
@@ -65,11 +64,11 @@ kept_before file tree t earlier later w p s = stands_moved file tree t earlier l
 -- ---- hand after hand
 
 -- The bytes of the first samples of a track follow, from the first on; those behind these `traf`s are to come, with as many bytes as are left.
-pub record TrackGoesOn (file : List ℕ) (tree : FileTree) (t : TrackTree) (before after : Option (List ℕ)) (held_after : List ℕ) (w : Walk) (all : List SampleAt) (left : ℕ) : Type 0 where
+pub record TrackGoesOn (file : List ℕ) (tree : FileTree) (t : TrackTree) (Took : List ℕ → Type 0) (held_after : List ℕ) (w : Walk) (all : List SampleAt) (left : ℕ) : Type 0 where
   pub earlier : List PlacedTraf
   pub later : List PlacedTraf
   pub stands : StandsBefore file tree t earlier later w
-  pub goes : HandGoesOn file before after [] held_after all (samples_behind tree t earlier later)
+  pub goes : HandGoesOn file Took [] held_after all (samples_behind tree t earlier later)
   pub sizes : left ≡ sizes_of (samples_behind tree t earlier later)
 
 -- where a walk keeps its place, it stands before the same `traf`s
@@ -77,12 +76,13 @@ abbrev pub StandsOn : Walk → Walk → Type 0
 StandsOn w later_w = (file : List ℕ) (tree : FileTree) (t : TrackTree) (earlier later : List PlacedTraf) → StandsBefore file tree t earlier later w → StandsBefore file tree t earlier later later_w
 
 -- what is in hand is carried along
-pub track_next : (file : List ℕ) (tree : FileTree) (t : TrackTree) (m : MovieSeen) (a b c : Option (List ℕ)) (held_b held_c : List ℕ) (w later_w : Walk) (all to_come : List SampleAt) (bytes left : ℕ) → HandGoesOn file a b [] held_b all to_come → Comes file tree t m w to_come
+pub track_next : (file : List ℕ) (tree : FileTree) (t : TrackTree) (m : MovieSeen) {Y : Type 0} {takes : Y → Y → List ℕ → Type 0} (joins : IsJoining takes) (a b c : Y) (held_b held_c : List ℕ) (w later_w : Walk) (all to_come : List SampleAt) (bytes left : ℕ)
+    → HandGoesOn file (takes a b) [] held_b all to_come → Comes file tree t m w to_come
     → bytes ≡ sizes_of to_come → (y : InHand) → InHandOf m w y → sizes_of (left_in_hand y) + left ≡ bytes
-    → (x : InHand) → InHandOf m w x → BytesGoOn b c held_b held_c (sample_bytes file (left_in_hand x)) → StandsOn w later_w → TrackGoesOn file tree t a c held_c later_w all left
-track_next file tree t m a b c held_b held_c w later_w all to_come bytes left h k have y j sizes x i put on =
+    → (x : InHand) → InHandOf m w x → BytesGoOn (takes b c) held_b held_c (sample_bytes file (left_in_hand x)) → StandsOn w later_w → TrackGoesOn file tree t (takes a c) held_c later_w all left
+track_next file tree t m {takes = takes} joins a b c held_b held_c w later_w all to_come bytes left h k have y j sizes x i put on =
     let own_list = left_in_hand k.2 in
-    let own : BytesGoOn b c held_b held_c (sample_bytes file own_list) = subst (λ (z : InHand). BytesGoOn b c held_b held_c (sample_bytes file (left_in_hand z))) (hand_one m w x k.2 i k.3.1) put in
+    let own : BytesGoOn (takes b c) held_b held_c (sample_bytes file own_list) = subst (λ (z : InHand). BytesGoOn (takes b c) held_b held_c (sample_bytes file (left_in_hand z))) (hand_one m w x k.2 i k.3.1) put in
     let own_sizes : sizes_of own_list + left ≡ bytes = subst (λ (z : InHand). sizes_of (left_in_hand z) + left ≡ bytes) (hand_one m w y k.2 j k.3.1) sizes in
     let both = ap sizes_of k.3.2 ∙ sizes_of_two own_list (samples_behind tree t k.0 k.1) in
     record {
@@ -92,7 +92,7 @@ track_next file tree t m a b c held_b held_c w later_w all to_come bytes left h 
       goes = record {
         done = h.done ++ own_list;
         whole = append_assoc h.done own_list (samples_behind tree t k.0 k.1) ∙ ap (λ (ss : List SampleAt). h.done ++ ss) (sym k.3.2) ∙ h.whole;
-        bytes = BytesGoOn-then a b c [] held_b held_c (sample_bytes file h.done) (sample_bytes file own_list) (sample_bytes file (h.done ++ own_list)) h.bytes own (bytes_of_two file h.done own_list);
+        bytes = BytesGoOn-then joins a b c [] held_b held_c (sample_bytes file h.done) (sample_bytes file own_list) (sample_bytes file (h.done ++ own_list)) h.bytes own (bytes_of_two file h.done own_list);
       };
       sizes = omega (arith, have, own_sizes, both);
     }
@@ -106,33 +106,35 @@ pub none_left : (left : ℕ) (to_come : List SampleAt) → left ≡ sizes_of to_
 none_left left to_come e none = e ∙ ap sizes_of none
 
 -- the bytes of all samples are those of the first and of those to come
-whole_bytes : (file : List ℕ) (a b : Option (List ℕ)) (held_b : List ℕ) (all to_come : List SampleAt) → (h : HandGoesOn file a b [] held_b all to_come) → sample_bytes file all ≡ sample_bytes file h.done ++ sample_bytes file to_come
-whole_bytes file a b held_b all to_come h = ap (sample_bytes file) (sym h.whole) ∙ bytes_of_two file h.done to_come
+whole_bytes : (file : List ℕ) (Took : List ℕ → Type 0) (held_b : List ℕ) (all to_come : List SampleAt) → (h : HandGoesOn file Took [] held_b all to_come) → sample_bytes file all ≡ sample_bytes file h.done ++ sample_bytes file to_come
+whole_bytes file Took held_b all to_come h = ap (sample_bytes file) (sym h.whole) ∙ bytes_of_two file h.done to_come
 
 -- it isn't carried along whole
-pub track_fails : (file : List ℕ) (tree : FileTree) (t : TrackTree) (m : MovieSeen) (a b c : Option (List ℕ)) (held_b : List ℕ) (w : Walk) (all to_come : List SampleAt) → HandGoesOn file a b [] held_b all to_come → Comes file tree t m w to_come
-    → (x : InHand) → InHandOf m w x → AppendsPrefix b c (held_b ++ sample_bytes file (left_in_hand x)) → AppendsPrefix a c (sample_bytes file all)
-track_fails file tree t m a b c held_b w all to_come h k x i p =
+pub track_fails : (file : List ℕ) (tree : FileTree) (t : TrackTree) (m : MovieSeen) {Y : Type 0} {takes : Y → Y → List ℕ → Type 0} (joins : IsJoining takes) (a b c : Y) (held_b : List ℕ) (w : Walk) (all to_come : List SampleAt) → HandGoesOn file (takes a b) [] held_b all to_come
+    → Comes file tree t m w to_come
+    → (x : InHand) → InHandOf m w x → TakesPrefix (takes b c) (held_b ++ sample_bytes file (left_in_hand x)) → TakesPrefix (takes a c) (sample_bytes file all)
+track_fails file tree t m {takes = takes} joins a b c held_b w all to_come h k x i p =
     let own = sample_bytes file (left_in_hand x) in
     let rest = sample_bytes file (samples_behind tree t k.0 k.1) in
     let two : sample_bytes file to_come ≡ own ++ rest =
     ap (sample_bytes file) (k.3.2 ∙ ap (λ (y : InHand). left_in_hand y ++ samples_behind tree t k.0 k.1) (hand_one m w k.2 x k.3.1 i)) ∙ bytes_of_two file (left_in_hand x) (samples_behind tree t k.0 k.1) in
-    let all_is : sample_bytes file all ≡ sample_bytes file h.done ++ (own ++ rest) = whole_bytes file a b held_b all to_come h ∙ ap (λ (bs : List ℕ). sample_bytes file h.done ++ bs) two in
-    rw all_is (BytesGoOn-fails a b c [] held_b (sample_bytes file h.done) (own ++ rest) h.bytes (rw (← append_assoc held_b own rest) (AppendsPrefix-longer b c (held_b ++ own) rest p)))
+    let all_is : sample_bytes file all ≡ sample_bytes file h.done ++ (own ++ rest) = whole_bytes file (takes a b) held_b all to_come h ∙ ap (λ (bs : List ℕ). sample_bytes file h.done ++ bs) two in
+    rw all_is (BytesGoOn-fails joins a b c [] held_b (sample_bytes file h.done) (own ++ rest) h.bytes (rw (← append_assoc held_b own rest) (TakesPrefix-longer (takes b c) (held_b ++ own) rest p)))
 
 -- what was put so far is a front of all
-pub track_stops : (file : List ℕ) (a b : Option (List ℕ)) (held_b : List ℕ) (all to_come : List SampleAt) → HandGoesOn file a b [] held_b all to_come → AppendsPrefix a b (sample_bytes file all)
-track_stops file a b held_b all to_come h = rw (whole_bytes file a b held_b all to_come h) (BytesGoOn-front a b [] held_b (sample_bytes file h.done) (sample_bytes file to_come) h.bytes)
+pub track_stops : (file : List ℕ) (Took : List ℕ → Type 0) (held_b : List ℕ) (all to_come : List SampleAt) → HandGoesOn file Took [] held_b all to_come → TakesPrefix Took (sample_bytes file all)
+track_stops file Took held_b all to_come h = rw (whole_bytes file Took held_b all to_come h) (BytesGoOn-front Took [] held_b (sample_bytes file h.done) (sample_bytes file to_come) h.bytes)
 
 -- nothing is to come, and what waits is put
-pub track_whole : (file : List ℕ) (a b c : Option (List ℕ)) (held_b : List ℕ) (all to_come : List SampleAt) → HandGoesOn file a b [] held_b all to_come → to_come ≡ [] → Appends b c held_b → Appends a c (sample_bytes file all)
-track_whole file a b c held_b all to_come h none p = BytesGoOn-all a b c [] held_b (sample_bytes file all) (hand_all file a b [] held_b all to_come h none) p
+pub track_whole : (file : List ℕ) {Y : Type 0} {takes : Y → Y → List ℕ → Type 0} (joins : IsJoining takes) (a b c : Y) (held_b : List ℕ) (all to_come : List SampleAt) → HandGoesOn file (takes a b) [] held_b all to_come → to_come ≡ [] → takes b c held_b → takes a c (sample_bytes file all)
+track_whole file {takes = takes} joins a b c held_b all to_come h none p = BytesGoOn-all joins a b c [] held_b (sample_bytes file all) (hand_all file (takes a b) [] held_b all to_come h none) p
 
 -- or is not put whole
-pub track_not_put : (file : List ℕ) (a b c : Option (List ℕ)) (held_b : List ℕ) (all to_come : List SampleAt) → HandGoesOn file a b [] held_b all to_come → to_come ≡ [] → AppendsPrefix b c held_b → AppendsPrefix a c (sample_bytes file all)
-track_not_put file a b c held_b all to_come h none p =
+pub track_not_put : (file : List ℕ) {Y : Type 0} {takes : Y → Y → List ℕ → Type 0} (joins : IsJoining takes) (a b c : Y) (held_b : List ℕ) (all to_come : List SampleAt) → HandGoesOn file (takes a b) [] held_b all to_come → to_come ≡ [] → TakesPrefix (takes b c) held_b
+    → TakesPrefix (takes a c) (sample_bytes file all)
+track_not_put file {takes = takes} joins a b c held_b all to_come h none p =
     let bytes = sample_bytes file all in
-    let q : AppendsPrefix a c (bytes ++ []) = BytesGoOn-fails a b c [] held_b bytes [] (hand_all file a b [] held_b all to_come h none) (AppendsPrefix-longer b c held_b [] p) in
+    let q : TakesPrefix (takes a c) (bytes ++ []) = BytesGoOn-fails joins a b c [] held_b bytes [] (hand_all file (takes a b) [] held_b all to_come h none) (TakesPrefix-longer (takes b c) held_b [] p) in
     rw (append-nil bytes) at q
 
 -- ---- an honest store has not changed
@@ -144,9 +146,9 @@ track_lies file m tree t k o is =
     timed_lie (length file) _ _ (placed_of (file_parts tree) t) (of_got Lie tree.movie.tracks k t is (each_member Lie tree.movie.tracks (λ u i. placed_lie file tree u o.is_consistent i)))
 
 -- what follows where those in hand do, and have no more bytes than are left
-pub in_hand_lies : (file : List ℕ) (tree : FileTree) (t : TrackTree) (m : MovieSeen) (a b : Option (List ℕ)) (held_b : List ℕ) (w : Walk) (all to_come : List SampleAt) (n left : ℕ) (X : Type 0) → HandGoesOn file a b [] held_b all to_come → Comes file tree t m w to_come
+pub in_hand_lies : (file : List ℕ) (tree : FileTree) (t : TrackTree) (m : MovieSeen) (Took : List ℕ → Type 0) (held_b : List ℕ) (w : Walk) (all to_come : List SampleAt) (n left : ℕ) (X : Type 0) → HandGoesOn file Took [] held_b all to_come → Comes file tree t m w to_come
     → left ≡ sizes_of to_come → AllByRecursion (IsBelow n) all → (x : InHand) → InHandOf m w x → (AllByRecursion (IsBelow n) (left_in_hand x) → sizes_of (left_in_hand x) ≤ left → X) → X
-in_hand_lies file tree t m a b held_b w all to_come n left X h k have lie x i then =
+in_hand_lies file tree t m Took held_b w all to_come n left X h k have lie x i then =
     let coming : AllByRecursion (IsBelow n) to_come = all_last (IsBelow n) h.done to_come (subst (λ (ss : List SampleAt). AllByRecursion (IsBelow n) ss) (sym h.whole) lie) in
     let own = all_first (IsBelow n) (left_in_hand k.2) (samples_behind tree t k.0 k.1) (subst (λ (ss : List SampleAt). AllByRecursion (IsBelow n) ss) k.3.2 coming) in
     let both = ap sizes_of k.3.2 ∙ sizes_of_two (left_in_hand k.2) (samples_behind tree t k.0 k.1) in

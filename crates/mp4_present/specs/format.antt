@@ -6,4 +6,5 @@ pub mod Reduced
 pub mod Differences
 pub mod Comparison
 pub mod ComparisonLaws
+pub mod CompleteLaws
 pub mod FaultNumbers

@@ -48,8 +48,7 @@ fn read_in<S: Store>(
 
 impl Carrier {
     ghost use Rattle.std.specs.Prelude.{◌≡◌, ◌+◌, ◌<◌, ◌≤◌, [], ◌++◌, length, vec_len, IfOk, OnOk, OnErr};
-    ghost use Rattle.std.specs.Io.KnownBytes.{Appends};
-    ghost use Rattle.mp4_store.specs.words.Device.{AppendsPrefix, range};
+    ghost use Rattle.mp4_store.specs.words.Device.{TakesPrefix, range};
     ghost use Rattle.mp4_present.specs.words.Carried.{waiting, WaitsMore, RefusesRange, RefusesStretch};
     ghost use Rattle.mp4_present.specs.words.HandCarried.{RefusedByBoth};
     ghost use Rattle.mp4_present.specs.words.OverCarriers.{Carries, HasRoomFor, OnlyCopies, OnlyPuts, PutsFrontOf, RefusedByPut, TakesAlong, TakesBytes};
@@ -71,9 +70,9 @@ impl Carrier {
         ensures room { self.new.buffer ≡ self.old.buffer }
         ensures empty { OnOk result (self.new.used ≡ 0) }
         ensures bytes { OnOk result
-            (Appends (K.contents sink.old) (K.contents sink.new) (waiting self.old)) }
+            (K.takes sink.old sink.new (waiting self.old)) }
         ensures prefix { OnErr result
-            (AppendsPrefix (K.contents sink.old) (K.contents sink.new) (waiting self.old)) }
+            (TakesPrefix (K.takes sink.old sink.new) (waiting self.old)) }
         ensures puts { OnOk result (K.put_failures sink.new ≡ K.put_failures sink.old) }
         ensures refusal { RefusedByPut K.Sink sink.old sink.new result }
     {

@@ -1,6 +1,6 @@
 //! Numbers of a fault in a fragment; and the time that is due where one begins at another (ISO/IEC
 //! 14496-12, 8.8.12).
-ghost use Rattle.std.specs.Prelude.{◌≡◌, ◌+◌, ◌-◌, ◌*◌, ◌^◌, ◌≤◌, ◌==◌, length, take, find, IfOk, IfErr, IfSome, OnOk};
+ghost use Rattle.std.specs.Prelude.{◌≡◌, ◌+◌, ◌-◌, ◌*◌, ◌^◌, ◌≤◌, ◌==◌, min, length, take, find, IfOk, IfErr, IfSome, OnOk};
 ghost use Rattle.std.specs.List.{AllByRecursion};
 ghost use Rattle.mp4_boxes.specs.format.Bytes.{field};
 ghost use Rattle.mp4_boxes.specs.format.Box.{Box};
@@ -157,7 +157,7 @@ fn gap_in<L: Ledger, M: Ledger>(
     requires places { ArePlacesOf (ids_of states.old) places.now }
     ensures finds { FindsOf file_len reached.moof bytes.now states.old reached.room place result }
     ensures work { 2 * steps.new ≤ 2 * steps.old + 2 * reached.room + length bytes.now }
-    ensures looks { 8 * looks.new ≤ 8 * looks.old + length states.old * length bytes.now }
+    ensures looks { 8 * looks.new ≤ 8 * looks.old + min 1 (length states.old) * length bytes.now }
     ensures refusal { IfErr result MeetsFault }
 {
     let Reached { moof: top, room } = reached;
@@ -196,7 +196,7 @@ fn outside_in<L: Ledger, M: Ledger>(
     requires places { ArePlacesOf (ids_of states.old) places.now }
     ensures finds { FindsOf file_len reached.moof bytes.now states.old reached.room place result }
     ensures work { 2 * steps.new ≤ 2 * steps.old + 2 * reached.room + length bytes.now }
-    ensures looks { 8 * looks.new ≤ 8 * looks.old + length states.old * length bytes.now }
+    ensures looks { 8 * looks.new ≤ 8 * looks.old + min 1 (length states.old) * length bytes.now }
     ensures refusal { IfErr result MeetsFault }
 {
     let Reached { moof: top, room } = reached;
@@ -232,7 +232,7 @@ fn told_in<L: Ledger, M: Ledger>(
     requires places { ArePlacesOf (ids_of states.old) places.now }
     ensures finds { FindsOf file_len reached.moof bytes.now states.old reached.room place result }
     ensures work { 2 * steps.new ≤ 2 * steps.old + 2 * reached.room + length bytes.now }
-    ensures looks { 8 * looks.new ≤ 8 * looks.old + length states.old * length bytes.now }
+    ensures looks { 8 * looks.new ≤ 8 * looks.old + min 1 (length states.old) * length bytes.now }
     ensures refusal { IfErr result MeetsFault }
 {
     match kind {
@@ -273,8 +273,8 @@ fn pass_until<S: Store, L: Ledger, M: Ledger>(
     ensures next { IfOk result (λ found. IfSome found (λ r. WhereHonest S.Store store.old (λ file.
         IsBehind file states.old room (length bytes.old) r states.new steps.old steps.new
         looks.old looks.new))) }
-    ensures work { WhereHonest S.Store store.old (λ file. PassesWithin file (length states.old)
-        steps.old steps.new looks.old looks.new) }
+    ensures work { WhereHonest S.Store store.old (λ file. PassesWithin file
+        (min 1 (length states.old)) steps.old steps.new looks.old looks.new) }
     ensures refusal { RefusedOf S.Store store.old store.new result
         (λ honest file. RefusesSearch honest) }
 {
@@ -317,7 +317,7 @@ pub(crate) fn numbers_in_fragments<S: Store, L: Ledger, M: Ledger>(
     ensures store { OnlyReads S.Store store.old store.new result }
     ensures told { TellsBehind S.Store store.old plain.now fault.now.offset result }
     ensures work { WhereHonest S.Store store.old (λ file. PassesWithin file
-        (length plain.now.states.items) steps.old steps.new looks.old looks.new) }
+        (min 1 (length plain.now.states.items)) steps.old steps.new looks.old looks.new) }
     ensures refusal { RefusedOf S.Store store.old store.new result
         (λ honest file. RefusesSearch honest) }
 {

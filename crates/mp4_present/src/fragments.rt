@@ -1,5 +1,5 @@
 //! The `moof`s of a file: each is read, checked and given up before the next.
-ghost use Rattle.std.specs.Prelude.{◌≤◌, length, IfOk, ◌≡◌, ◌^◌, map, [], OnOk, replicate};
+ghost use Rattle.std.specs.Prelude.{◌≤◌, min, length, IfOk, ◌≡◌, ◌^◌, map, [], OnOk, replicate};
 ghost use Rattle.std.specs.List.{AllByRecursion};
 ghost use Rattle.mp4_present.specs.words.Movies.{IsWhole};
 ghost use Rattle.mp4_present.specs.words.ToOpen.{PassesNoting, PassesOn};
@@ -24,7 +24,7 @@ use std::alloc::Global;
 use std::sync::ledger::Ledger;
 
 // Reads each `moof` of the file to the room, and checks it: the tracks are then behind it, and the
-// `traf`s with samples are noted. Each track is looked at once at most for each `traf`.
+// `traf`s with samples are noted. One look finds the track of each `traf`.
 fn pass_fragments<S: Store, L: Ledger, M: Ledger>(
     store: &mut S,
     outline: &Outline,
@@ -47,8 +47,8 @@ fn pass_fragments<S: Store, L: Ledger, M: Ledger>(
         PassesOn file states.old room states.new)) }
     ensures own { OnOk result (WhereHonest S.Store store.old (λ file.
         NotesOn file states.old room states.new own.old own.new)) }
-    ensures work { WhereHonest S.Store store.old (λ file. ChecksMoofs file (length states.old)
-        result steps.old steps.new looks.old looks.new) }
+    ensures work { WhereHonest S.Store store.old (λ file. ChecksMoofs file
+        (min 1 (length states.old)) result steps.old steps.new looks.old looks.new) }
     ensures least { OnOk result (WhereHonest S.Store store.old (λ file.
         ChecksAll file steps.old steps.new)) }
     ensures refusal { RefusedOf S.Store store.old store.new result (λ honest file.
@@ -99,7 +99,7 @@ pub(crate) fn check_fragments<S: Store, L: Ledger, M: Ledger>(
     ensures own { WhereRead S.Store store.old result (λ file states. PassesNoting file
         plain.now.states.items plain.now.room states.items (map own_seen own.new.items)) }
     ensures work { WhereHonest S.Store store.old (λ file. ChecksMoofs file
-        (length plain.now.states.items) result steps.old steps.new looks.old looks.new) }
+        (min 1 (length plain.now.states.items)) result steps.old steps.new looks.old looks.new) }
     ensures least { OnOk result (WhereHonest S.Store store.old (λ file.
         ChecksAll file steps.old steps.new)) }
     ensures refusal { RefusedOf S.Store store.old store.new result (λ honest file.

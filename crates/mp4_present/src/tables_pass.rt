@@ -1,21 +1,21 @@
 //! The tables of the tracks of a movie, checked one after the other.
-ghost use Rattle.std.specs.Prelude.{ℕ, ◌≡◌, ◌+◌, ◌*◌, ◌≤◌, ◌-◌, ◌^◌, min, true, length, map, List, IfOk, IfErr, OnOk};
+ghost use Rattle.std.specs.Prelude.{ℕ, ◌≡◌, ◌+◌, ◌*◌, ◌≤◌, ◌-◌, ◌^◌, min, length, List, IfOk, IfErr, OnOk};
 ghost use Rattle.mp4_boxes.specs.format.Bytes.{AreBytes, sum_of};
 ghost use Rattle.mp4_boxes.specs.words.View.{box_seen};
-ghost use Rattle.mp4_frag.specs.format.FragmentSamples as fragments;
 ghost use Rattle.mp4_frag.specs.declared.trex.Trex.{Trex};
-ghost use Rattle.mp4_head.specs.format.Tree.{TrackTree, are_distinct};
-ghost use Rattle.mp4_present.specs.words.OverTables.{IsStateBehind, WhereTrees};
+ghost use Rattle.mp4_head.specs.format.Tree.{TrackTree};
+ghost use Rattle.mp4_present.specs.words.OverTables.{AreTrexesById, IsStateBehind, WhereTrees};
 ghost use Rattle.mp4_present.specs.words.Plain.{ArePlain, HaveTablesIn};
 ghost use Rattle.mp4_present.specs.words.TrackTrees.{AreTracksOf, HaveTables, RefusesTables};
 ghost use Rattle.mp4_present.specs.words.WalkSteps.{IfNoFault, least_table_steps, table_steps};
 
 use crate::movie::TrackTables;
-use mp4_boxes::{BoxView, Fault, FourCc, Kind, Refusal, Rule, Steps, check_children};
+use mp4_boxes::{BoxView, Memory, Refusal, Steps};
 use mp4_frag::{TrackState, Trex};
 use mp4_head::{MovieHead, TrackHead};
 use mp4_tables::{Keys, Tables, Totals};
 use std::alloc::Global;
+use std::collections::BTreeMap;
 use std::sync::ledger::Ledger;
 
 /// The tracks of a movie behind their tables, in the order of the `moov`.
@@ -27,17 +27,20 @@ pub(crate) struct PlainTracks {
     pub(crate) room: u32,
 }
 
-// What fragments of the track with this ID inherit. Files mostly have them in the order of the
-// tracks: that at the track's own place is tried first, so that many tracks cost no more than one
-// look each.
-fn trex_for(trexes: &[Trex], place: usize, id: u32) -> Option<Trex>
-    requires { are_distinct (map (λ (t : Trex). t.id) trexes.now) ≡ true }
-    ensures { result ≡ fragments.trex_for trexes.now id }
+// What fragments inherit, by the IDs of their tracks: one look finds it for a track, however many
+// there are.
+fn trexes_by_id(alloc: Global, trexes: &[Trex]) -> Result<BTreeMap<u32, Trex>, Memory>
+    ensures { IfOk result (AreTrexesById trexes.now) }
 {
-    if place < trexes.len() && trexes[place].id == id {
-        return Some(trexes[place]);
+    let mut by_id = BTreeMap::new(alloc);
+    for step in 0..trexes.len() {
+        let k = trexes.len() - 1 - step;
+        let trex = trexes[k];
+        let Ok(_) = by_id.insert(trex.id, trex) else {
+            return Err(Memory);
+        };
     }
-    trexes.iter().copied().find(|trex| trex.id == id)
+    Ok(by_id)
 }
 
 // How many descriptions a track has, as far as 32 bits go: `stsd` counts them so.
@@ -58,19 +61,17 @@ fn length_of(payload: &[u8]) -> usize
 // The state of a track behind the samples of its tables.
 fn state_of(
     track: &TrackHead,
-    trexes: &[Trex],
-    place: usize,
+    trexes: &BTreeMap<u32, Trex>,
     totals: Totals,
     count: u32,
     keys: Keys,
 ) -> TrackState
-    requires { are_distinct (map (λ (t : Trex). t.id) trexes.now) ≡ true }
     ensures { IsStateBehind track.now trexes.now totals count keys result }
 {
     TrackState {
         id: track.id,
         descriptions: description_count(track),
-        trex: trex_for(trexes, place, track.id),
+        trex: trexes.get(&track.id).copied(),
         start: 0,
         count,
         time: u128::from(totals.duration),
@@ -80,11 +81,11 @@ fn state_of(
 }
 
 impl PlainTracks {
-    ghost use Rattle.std.specs.Prelude.{◌≡◌, ℕ, true, map, List, [], ◌+◌, ◌*◌, ◌≤◌, length, OnOk, IfErr};
+    ghost use Rattle.std.specs.Prelude.{ℕ, List, [], ◌+◌, ◌*◌, ◌≤◌, length, OnOk, IfErr};
     ghost use Rattle.mp4_boxes.specs.words.View.{box_seen};
     ghost use Rattle.mp4_frag.specs.declared.trex.Trex.{Trex};
-    ghost use Rattle.mp4_head.specs.format.Tree.{TrackTree, are_distinct};
-    ghost use Rattle.mp4_present.specs.words.OverTables.{ChecksTables};
+    ghost use Rattle.mp4_head.specs.format.Tree.{TrackTree};
+    ghost use Rattle.mp4_present.specs.words.OverTables.{AreTrexesById, ChecksTables};
     ghost use Rattle.mp4_present.specs.words.Plain.{ArePlain, HasTablesIn};
     ghost use Rattle.mp4_present.specs.words.TrackTrees.{IsTrackOf, HaveTables, RefusesTable};
     ghost use Rattle.mp4_present.specs.words.ToOpen.{OneMorePlain, OneMoreSaid};
@@ -109,16 +110,16 @@ impl PlainTracks {
         &mut self,
         moov: BoxView,
         track: &TrackHead,
-        trexes: &[Trex],
+        trexes: &BTreeMap<u32, Trex>,
         file_len: u64,
         steps: &mut Steps<L>,
     ) -> Result<(), Refusal>
         requires inside { HasTablesIn (box_seen moov) track.now }
-        requires distinct { are_distinct (map (λ (t : Trex). t.id) trexes.now) ≡ true }
         requires read { (t : TrackTree) × IsTrackOf t track.now }
         ensures one_more { OnOk result
             (OneMorePlain (box_seen moov.entry).payload self.old self.new) }
-        ensures says { OnOk result (OneMoreSaid file_len (box_seen moov.entry).payload trexes.now
+        ensures says { OnOk result ((all : List Trex) → AreTrexesById all trexes.now
+            → OneMoreSaid file_len (box_seen moov.entry).payload all
             track.now self.old self.new) }
         ensures work { ChecksTables track.now (length (box_seen moov.entry).payload) self.old.room
             self.new.room result steps.old steps.new }
@@ -138,8 +139,8 @@ impl PlainTracks {
             len,
             tables: tables.places(),
         })?;
-        let place = self.states.len();
-        self.states.push(state_of(track, trexes, place, totals, tables.count(), keys))?;
+        self.states
+            .push(state_of(track, trexes, totals, tables.count(), keys))?;
         Ok(())
     }
 }
@@ -153,7 +154,6 @@ pub(crate) fn check_tables<L: Ledger>(
     steps: &mut Steps<L>,
 ) -> Result<PlainTracks, Refusal>
     requires inside { HaveTablesIn (box_seen moov) head.now.tracks.items }
-    requires distinct { are_distinct (map (λ (t : Trex). t.id) head.now.trexes.items) ≡ true }
     requires read { (trees : List TrackTree) × AreTracksOf trees head.now.tracks.items }
     ensures plain { IfOk result
         (ArePlain (box_seen moov.entry).payload (length head.now.tracks.items)) }
@@ -167,9 +167,10 @@ pub(crate) fn check_tables<L: Ledger>(
         + 6 * (length head.now.tracks.items * length (box_seen moov.entry).payload) }
     ensures refusal { IfErr result (RefusesTables file_len head.now.tracks.items) }
 {
+    let trexes = trexes_by_id(alloc, &head.trexes)?;
     let mut plain = PlainTracks::none(alloc);
     for track in &head.tracks {
-        plain.push(moov, track, &head.trexes, file_len, steps)?;
+        plain.push(moov, track, &trexes, file_len, steps)?;
     }
     Ok(plain)
 }

@@ -1,7 +1,6 @@
 //! The bytes of a track's samples, copied.
 ghost use Rattle.std.specs.Prelude.{◌≡◌, ◌+◌, ◌<◌, ◌≤◌, length, Some, slice_get, OnOk, OnErr};
-ghost use Rattle.std.specs.Io.KnownBytes.{Appends};
-ghost use Rattle.mp4_store.specs.words.Device.{AppendsPrefix};
+ghost use Rattle.mp4_store.specs.words.Device.{TakesPrefix};
 ghost use Rattle.mp4_present.specs.words.Carried.{PutsMany, RefusesCarry, RefusesCopy};
 ghost use Rattle.mp4_present.specs.words.HandCarried.{HandWork, KeepsHand, RefusedByBoth, StaysBefore, TakesHand};
 ghost use Rattle.mp4_present.specs.words.Joined.{sample_bytes};
@@ -80,20 +79,19 @@ impl Movie {
         ensures store { OnlyReads S.Store store.old store.new result }
         ensures puts { OnOk result (K.put_failures sink.new ≡ K.put_failures sink.old) }
         ensures bytes { OnOk result (WhereTrack S.Store store.old self.now track (λ file tree t.
-            Appends (K.contents sink.old) (K.contents sink.new)
-            (sample_bytes file (track_samples tree t)))) }
+            K.takes sink.old sink.new (sample_bytes file (track_samples tree t)))) }
         ensures prefix { OnErr result (WhereTrack S.Store store.old self.now track (λ file tree t.
-            AppendsPrefix (K.contents sink.old) (K.contents sink.new)
+            TakesPrefix (K.takes sink.old sink.new)
             (sample_bytes file (track_samples tree t)))) }
         ensures whole { OnOk result ((info : TrackInfo)
             → slice_get self.now.tracks track ≡ Some info
-            → PutsMany (K.contents sink.old) (K.contents sink.new) info.bytes) }
+            → PutsMany (K.takes sink.old sink.new) info.bytes) }
         ensures unchanged { WhereTrack S.Store store.old self.now track
             (λ file tree t. IsUnchanged result) }
         ensures work { WhereTrack S.Store store.old self.now track
             (λ file tree t. steps.new ≤ steps.old + walk_steps tree t) }
         ensures refusal { RefusedByBoth S.Store store.old store.new K.Sink sink.old sink.new result
-            (RefusesCopy (K.contents sink.old) (K.contents sink.new)) }
+            (RefusesCopy (K.takes sink.old sink.new)) }
     {
         let mut walk = self.walk(alloc, track)?;
         let mut carrier = Carrier::new(alloc, PIECE)?;

@@ -290,6 +290,13 @@ impl<S: Store> BufferedStore<S> {
         })
     }
 
+    /// The store below.
+    pub fn below(&self) -> &S
+        ensures { result.now ≡ self.now.0 }
+    {
+        &self.store
+    }
+
     // Gives bytes that a window has; `false` where none has them.
     fn give(&mut self, at: u64, out: &mut [u8]) -> bool
         ensures same { self.new ≡ self.old }

@@ -1,5 +1,5 @@
 //! A store and a sink in memory.
-ghost use Rattle.std.specs.Prelude.{◌≡◌, Some, [], ◌++◌, true, OnOk, OnErr};
+ghost use Rattle.std.specs.Prelude.{◌≡◌, ℕ, List, [], ◌++◌, true, OnOk, OnErr};
 ghost use Rattle.mp4_store.specs.words.Device.{Counts};
 
 use crate::sink::{Sink, WriteFailed};
@@ -48,7 +48,7 @@ pub struct MemSink {
 impl MemSink {
     /// Empty; it keeps the allocator.
     pub fn new(alloc: Global) -> MemSink
-        ensures contents { ⟦<MemSink as Sink>⟧.contents result ≡ Some [] }
+        ensures empty { result.held.items ≡ [] }
         ensures count { ⟦<MemSink as Sink>⟧.put_failures result ≡ 0 }
     {
         MemSink {
@@ -78,18 +78,27 @@ impl MemSink {
 
     /// The bytes put so far.
     pub fn bytes(&self) -> &[u8]
-        ensures { ⟦<MemSink as Sink>⟧.contents self.now ≡ Some result.now }
+        ensures held { result.now ≡ self.now.held.items }
+        ensures taken { (empty : MemSink) (bytes : List ℕ) → empty.held.items ≡ []
+            → ⟦<MemSink as Sink>⟧.takes empty self.now bytes → result.now ≡ bytes }
     {
         self.held.as_slice()
     }
 }
 
 impl Sink for MemSink {
-    ghost contents = { λ s. Some s.held.items };
+    ghost use Rattle.std.proofs.Common.{◌≡◌, ◌++◌, ◌∙◌, sym, ap, append-nil, append_assoc};
+
+    ghost takes = { λ s t xs. t.held.items ≡ s.held.items ++ xs };
 
     ghost put_failures = { λ s. s.failed };
 
     fn put(&mut self, piece: &[u8]) -> Result<(), WriteFailed> {
         self.append(piece)
     }
+
+    ghost takes_nothing = { λ s. sym (append-nil s.held.items) };
+
+    ghost takes_on = { λ s t u xs ys p q.
+        q ∙ ap (λ bytes. bytes ++ ys) p ∙ append_assoc s.held.items xs ys };
 }

@@ -17,7 +17,7 @@ use Rattle.mp4_present.specs.declared.differences.Difference.{Difference}
 use Rattle.mp4_present.specs.declared.leaving.Leaving.{Leaving}
 use Rattle.mp4_present.proofs.ComparisonWhole.{no_difference_is_same}
 use Rattle.mp4_present.proofs.DenotedValid.{denoted_is_valid}
-use Rattle.mp4norm.specs.format.CompareHeadline.{IsVerdict, ComparesWithin}
+use Rattle.mp4norm.specs.format.CompareHeadline.{IsVerdict, ComparesWithin, most_counted}
 use Rattle.mp4norm.specs.format.Steps.{WorksWithin, most_steps, row_total}
 use Rattle.mp4_present.specs.words.Compared.{files_differ}
 use Rattle.mp4norm.specs.words.Compares.{side_of, says_nothing, IsSaid, ListsFront, WalksThrice, RefusesBoth, RefusesCompare}
@@ -25,14 +25,14 @@ use Rattle.mp4norm.specs.declared.comparing.Failure.{Failure}
 use Rattle.mp4norm.proofs.StepSums.{two_walks}
 use Rattle.mp4norm.proofs.StepsTaken.{opened_within, written_within}
 
-pub listed_front : (old new : List Difference) (whole : Bool) (ds : List Difference) → old ≡ [] → (whole ≡ true → new ≡ old ++ ds) → TakesFront old new ds → (whole ≡ true) ⊎ (0 < length new) → ListsFront new ds
+pub listed_front : (old new : List Difference) (whole : Bool) (ds : List Difference) → old ≡ [] → (whole ≡ true → new ≡ old ++ ds) → TakesFront old new ds → (whole ≡ true) ⊎ (most_counted < length new) → ListsFront new ds
 listed_front old new whole ds none all front (inl e) = inl (all e ∙ ap (λ (xs : List Difference). xs ++ ds) none)
 listed_front old new whole ds none all front (inr long) = inr (long, front.0, front.1 ∙ ap (λ (xs : List Difference). xs ++ take front.0 ds) none)
 
-true_false : true ≡ false → ⊥
+pub true_false : true ≡ false → ⊥
 true_false e = cc
 
-none_long : (xs : List Difference) → xs ≡ [] → 0 < length xs → ⊥
+none_long : (xs : List Difference) → xs ≡ [] → most_counted < length xs → ⊥
 none_long xs e long = let none : length xs ≡ 0 = ap length e in omega (arith, long, none)
 
 take_none : (n : ℕ) (ds : List Difference) → ds ≡ [] → take n ds ≡ []
@@ -78,7 +78,7 @@ verdict_of l p q None same is said v w = (λ e. (no_difference_is_same l p q v w
 verdict_of l p q (Some text) same is said v w = (λ e. absurd (true_false (sym e ∙ is)), λ e. absurd (said ((no_difference_is_same l p q v w).1 e)))
 
 module _ (file : List ℕ) (m : MovieSeen) (tree : FileTree) (o : IsOpenedAs file m tree) where
-  denotes_by : Denotes file (presentation_of file tree)
+  pub denotes_by : Denotes file (presentation_of file tree)
   denotes_by = record { tree = tree; is_tree = o.is_tree; is_sound = o.is_sound; is_consistent = o.is_consistent; says = refl; limits = o.limits }
 
 pub verdict : (l : Leaving) (file other : List ℕ) (m n : MovieSeen) {A : Type 0} (found : Option A) (same : Bool) → same ≡ says_nothing found → (a : (tree : FileTree) × IsOpenedAs file m tree) → (b : (tree : FileTree) × IsOpenedAs other n tree)
@@ -95,14 +95,14 @@ verdict l file other m n found same is a b said = record {
 -- ---- refusals
 
 -- what fails once both files are opened
-pub together : (First Second : Refusal → Type 0) (honest honest_right : Bool) (l m r s : ℕ) (held : Option (List ℕ)) (puts : ℕ) (refusal : Refusal) (f : Failure) → f.side ≡ side_of refusal → f.refusal ≡ refusal
-    → RefusesSample l m r s refusal → (IsTrue honest → IsTrue honest_right → refusal ≡ refusals.StoreChanged → ⊥) → RefusesCompare First Second (RefusesBoth honest honest_right l m r s) held held puts puts f
-together First Second honest honest_right l m r s held puts (refusals.Fault g) f side is w u = absurd w
-together First Second honest honest_right l m r s held puts refusals.Memory f side is w u = rw (side, is) refl
-together First Second honest honest_right l m r s held puts refusals.StoreFailed f side is w u = rw (side, is) (w, refl)
-together First Second honest honest_right l m r s held puts refusals.StoreChanged f side is w u = rw (side, is) (λ told right. u told right refl, refl)
-together First Second honest honest_right l m r s held puts refusals.WriteFailed f side is w u = absurd w
-together First Second honest honest_right l m r s held puts refusals.NoSuchTrack f side is w u = absurd w
+pub together : (First Second : Refusal → Type 0) (honest honest_right : Bool) (l m r s : ℕ) (Took : List ℕ → Type 0) (nothing : Took []) (puts : ℕ) (refusal : Refusal) (f : Failure) → f.side ≡ side_of refusal → f.refusal ≡ refusal
+    → RefusesSample l m r s refusal → (IsTrue honest → IsTrue honest_right → refusal ≡ refusals.StoreChanged → ⊥) → RefusesCompare First Second (RefusesBoth honest honest_right l m r s) Took puts puts f
+together First Second honest honest_right l m r s Took nothing puts (refusals.Fault g) f side is w u = absurd w
+together First Second honest honest_right l m r s Took nothing puts refusals.Memory f side is w u = rw (side, is) nothing
+together First Second honest honest_right l m r s Took nothing puts refusals.StoreFailed f side is w u = rw (side, is) (w, nothing)
+together First Second honest honest_right l m r s Took nothing puts refusals.StoreChanged f side is w u = rw (side, is) (λ told right. u told right refl, nothing)
+together First Second honest honest_right l m r s Took nothing puts refusals.WriteFailed f side is w u = absurd w
+together First Second honest honest_right l m r s Took nothing puts refusals.NoSuchTrack f side is w u = absurd w
 
 -- ---- steps
 

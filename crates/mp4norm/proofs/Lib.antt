@@ -12,6 +12,7 @@ pub mod WalkLines
 pub mod TrackTexts
 pub mod Matched
 pub mod Normalised
+pub mod Summed
 mod WholePut
 pub mod StepSums
 pub mod StepsTaken
@@ -27,4 +28,9 @@ pub mod HeadersUnder
 pub mod BoxSpans
 pub mod ReducedNormalised
 pub mod ComparedFiles
+pub mod EnoughWords
+pub mod ComparedTexts
+pub mod SameAnswers
 pub mod Fronts
+pub mod RunParts
+pub mod BoxesPut

@@ -23,7 +23,7 @@ use Rattle.mp4_present.proofs.One.{file_tree_one}
 use Rattle.mp4norm.specs.format.Steps.{FindsWithin, TurnsWithin, place_total}
 use Rattle.mp4_plan.specs.format.TurnCount.{most_turns}
 use Rattle.mp4norm.specs.format.CompareHeadline.{FindsBothWithin}
-use Rattle.mp4norm.proofs.Normalised.{denotes_nothing}
+use Rattle.mp4norm.proofs.RunParts.{denotes_nothing}
 use Rattle.mp4norm.proofs.ShownLines.{denoted}
 
 -- ---- sums
@@ -42,13 +42,9 @@ places_sum (f ∷ fragments) h =
 as_many_tracks : (file : List ℕ) (tree : FileTree) → length (presentation_of file tree).tracks ≡ length tree.movie.tracks
 as_many_tracks file tree = length-map tree.movie.tracks (track_of file (file_parts tree))
 
-tree_finds : (file : List ℕ) (tree : FileTree) → IsFileTree file tree → opening_looks tree ≡ length (presentation_of file tree).tracks * place_total tree
-tree_finds file tree h =
-    ap (λ n. length tree.movie.tracks * n) (places_sum tree.fragments h.fragments) ∙ ap (λ n. n * place_total tree) (sym (as_many_tracks file tree))
-
 -- opening
-opening_is : (file : List ℕ) (p : Presentation) (d : Denotes file p) → opening_looks d.tree ≡ length p.tracks * place_total d.tree
-opening_is file p d = subst (λ (q : Presentation). opening_looks d.tree ≡ length q.tracks * place_total d.tree) (sym d.says) (tree_finds file d.tree d.is_tree)
+opening_is : (file : List ℕ) (p : Presentation) (d : Denotes file p) → opening_looks d.tree ≡ place_total d.tree
+opening_is file p d = places_sum d.tree.fragments d.is_tree.fragments
 
 -- the samples that were counted of all tracks
 infos_total : (file : List ℕ) (tree : FileTree) (trees : List TrackTree) (infos : List TrackInfo) → AllZip (IsInfoOf file tree) trees infos
@@ -137,7 +133,7 @@ finds_taken file m old new opened opening = found_within file old new m opened.0
 
 none_found : (file : List ℕ) (n : ℕ) → FindsWithin file n n
 none_found file n = record {
-  denoted = λ p d. let rest = length p.tracks * place_total d.tree in omega arith;
+  denoted = λ p d. let rest = place_total d.tree in omega arith;
   refused = λ nothing. inl refl;
 }
 

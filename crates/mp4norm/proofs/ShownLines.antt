@@ -21,7 +21,7 @@ use Rattle.mp4_present.specs.declared.track_info.TrackInfo.{TrackInfo}
 use Rattle.mp4_present.proofs.SamplesLie.{IsInFile, placed_lie, data_length}
 use Rattle.mp4norm.specs.format.Texts.{line_feed}
 use Rattle.mp4norm.specs.words.ShowValue.{ShowValue}
-use Rattle.mp4norm.specs.words.Commands.{ShowsLine}
+use Rattle.mp4norm.specs.format.FileTexts.{ShowsLine}
 use Rattle.mp4norm.proofs.ShownTracks.{IsInfoOf, shown_is}
 
 -- what was opened is what the file denotes

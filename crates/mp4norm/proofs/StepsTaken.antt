@@ -13,7 +13,7 @@ use Rattle.mp4_present.specs.format.ByBytes.{OpensWithin}
 use Rattle.mp4_present.specs.words.WalkSteps.{IfNoFault, opening_steps, walk_steps, walks_steps}
 use Rattle.mp4_present.proofs.One.{file_tree_one}
 use Rattle.mp4norm.specs.format.Steps.{WorksWithin, WalksWithin, row_total}
-use Rattle.mp4norm.proofs.Normalised.{denotes_nothing}
+use Rattle.mp4norm.proofs.RunParts.{denotes_nothing}
 use Rattle.mp4norm.proofs.ShownLines.{denoted}
 use Rattle.mp4_plan.specs.words.WriterSteps.{writing_steps}
 use Rattle.mp4norm.proofs.StepSums.{all_within, opened_looks, walked_looks}

@@ -2,8 +2,8 @@
 use Rattle.std.proofs.Common.{◌≡◌, ℕ, ◌+◌, ◌-◌, ◌<◌, ◌≤◌, List, [], ◌++◌, length, take, drop, refl, sym, ap, subst, ◌∙◌, append_assoc, arith, true, false, None, Some, Ok, Err}
 use Rattle.std.specs.Prelude.{Option, Result, codes, Bool, IsTrue}
 use Rattle.std.proofs.lemmas.List.{append-nil}
-use Rattle.mp4_store.specs.words.Device.{AppendsPrefix, range}
-use Rattle.mp4_store.proofs.Known.{AppendsPrefix-longer}
+use Rattle.mp4_store.specs.words.Device.{TakesPrefix, range}
+use Rattle.mp4_store.proofs.Known.{IsJoining, TakesPrefix-longer}
 use Rattle.mp4_boxes.specs.format.Box.{Header, header_at}
 use Rattle.mp4_boxes.specs.format.BoxFaults.{header_there, located, type_of}
 use Rattle.mp4_boxes.specs.words.View.{top_header_seen}
@@ -19,7 +19,7 @@ use Rattle.mp4_present.proofs.Carrying.{BytesGoOn-nothing, BytesGoOn-then, Bytes
 use Rattle.mp4norm.specs.format.BoxWalk.{rule_inside}
 use Rattle.mp4norm.proofs.StripWalks.{freed_range, whole_box, its_header, behind_it, its_payload}
 use Rattle.mp4norm.specs.declared.named.Name.{Name}
-use Rattle.mp4norm.specs.format.Strips.{is_top, holder, is_named, freed, payload_of, Strips, ends, frees, keeps, enters, RefusesHeaderAgain}
+use Rattle.mp4norm.specs.format.Strips.{is_top, holder, is_named, freed, payload_of, uuid_at, Strips, ends, frees, keeps, enters, RefusesHeaderAgain}
 
 -- ---- copying
 
@@ -42,7 +42,7 @@ not_some None x p q = cc
 not_some (Some y) x p q = cc
 
 -- what stands for the first box, and for the rest
-pub next_freed : (names : List Name) (rule : Rule) (bytes text : List ℕ) (g : Header) → 0 < length bytes → header_at (is_top rule) bytes ≡ Ok g → is_named names rule g.kind ≡ true → Strips names rule bytes text
+pub next_freed : (names : List Name) (rule : Rule) (bytes text : List ℕ) (g : Header) → 0 < length bytes → header_at (is_top rule) bytes ≡ Ok g → is_named names rule g.kind (uuid_at g bytes) ≡ true → Strips names rule bytes text
     → (rest : List ℕ) × Strips names rule (drop g.size bytes) rest × (text ≡ freed (take g.size bytes) ++ rest)
 next_freed names rule bytes text g some read n (ends _ _ _ b t) = absurd (no_bytes bytes some b)
 next_freed names rule bytes text g some read n (frees _ _ _ h rest e m s t) =
@@ -50,17 +50,17 @@ next_freed names rule bytes text g some read n (frees _ _ _ h rest e m s t) =
     (rest, subst (λ (x : Header). Strips names rule (drop x.size bytes) rest) same s, t ∙ ap (λ (x : Header). freed (take x.size bytes) ++ rest) same)
 next_freed names rule bytes text g some read n (keeps _ _ _ h rest e m i s t) =
     let same = same_header (header_at (is_top rule) bytes) h g e read in
-    absurd (not_both (is_named names rule g.kind) n (subst (λ (x : Header). is_named names rule x.kind ≡ false) same m))
+    absurd (not_both (is_named names rule g.kind (uuid_at g bytes)) n (subst (λ (x : Header). is_named names rule x.kind (uuid_at x bytes) ≡ false) same m))
 next_freed names rule bytes text g some read n (enters _ _ _ h inner inside rest e m i w s t) =
     let same = same_header (header_at (is_top rule) bytes) h g e read in
-    absurd (not_both (is_named names rule g.kind) n (subst (λ (x : Header). is_named names rule x.kind ≡ false) same m))
+    absurd (not_both (is_named names rule g.kind (uuid_at g bytes)) n (subst (λ (x : Header). is_named names rule x.kind (uuid_at x bytes) ≡ false) same m))
 
-pub next_kept : (names : List Name) (rule : Rule) (bytes text : List ℕ) (g : Header) → 0 < length bytes → header_at (is_top rule) bytes ≡ Ok g → is_named names rule g.kind ≡ false → rule_inside rule g.kind ≡ None → Strips names rule bytes text
+pub next_kept : (names : List Name) (rule : Rule) (bytes text : List ℕ) (g : Header) → 0 < length bytes → header_at (is_top rule) bytes ≡ Ok g → is_named names rule g.kind (uuid_at g bytes) ≡ false → rule_inside rule g.kind ≡ None → Strips names rule bytes text
     → (rest : List ℕ) × Strips names rule (drop g.size bytes) rest × (text ≡ take g.size bytes ++ rest)
 next_kept names rule bytes text g some read n into (ends _ _ _ b t) = absurd (no_bytes bytes some b)
 next_kept names rule bytes text g some read n into (frees _ _ _ h rest e m s t) =
     let same = same_header (header_at (is_top rule) bytes) h g e read in
-    absurd (not_both (is_named names rule g.kind) (subst (λ (x : Header). is_named names rule x.kind ≡ true) same m) n)
+    absurd (not_both (is_named names rule g.kind (uuid_at g bytes)) (subst (λ (x : Header). is_named names rule x.kind (uuid_at x bytes) ≡ true) same m) n)
 next_kept names rule bytes text g some read n into (keeps _ _ _ h rest e m i s t) =
     let same = same_header (header_at (is_top rule) bytes) h g e read in
     (rest, subst (λ (x : Header). Strips names rule (drop x.size bytes) rest) same s, t ∙ ap (λ (x : Header). take x.size bytes ++ rest) same)
@@ -75,12 +75,12 @@ rule_or d (Some r) = r
 some_same : (o : Option Rule) (x y : Rule) → o ≡ Some x → o ≡ Some y → x ≡ y
 some_same o x y p q = ap (rule_or x) (sym p ∙ q)
 
-pub next_entered : (names : List Name) (rule : Rule) (bytes text : List ℕ) (g : Header) (into : Rule) → 0 < length bytes → header_at (is_top rule) bytes ≡ Ok g → is_named names rule g.kind ≡ false → rule_inside rule g.kind ≡ Some into → Strips names rule bytes text
+pub next_entered : (names : List Name) (rule : Rule) (bytes text : List ℕ) (g : Header) (into : Rule) → 0 < length bytes → header_at (is_top rule) bytes ≡ Ok g → is_named names rule g.kind (uuid_at g bytes) ≡ false → rule_inside rule g.kind ≡ Some into → Strips names rule bytes text
     → (inside rest : List ℕ) × Strips names into (payload_of g bytes) inside × Strips names rule (drop g.size bytes) rest × (text ≡ take g.length bytes ++ (inside ++ rest))
 next_entered names rule bytes text g into some read n there (ends _ _ _ b t) = absurd (no_bytes bytes some b)
 next_entered names rule bytes text g into some read n there (frees _ _ _ h rest e m s t) =
     let same = same_header (header_at (is_top rule) bytes) h g e read in
-    absurd (not_both (is_named names rule g.kind) (subst (λ (x : Header). is_named names rule x.kind ≡ true) same m) n)
+    absurd (not_both (is_named names rule g.kind (uuid_at g bytes)) (subst (λ (x : Header). is_named names rule x.kind (uuid_at x bytes) ≡ true) same m) n)
 next_entered names rule bytes text g into some read n there (keeps _ _ _ h rest e m i s t) =
     let same = same_header (header_at (is_top rule) bytes) h g e read in
     absurd (not_some (rule_inside rule g.kind) into (subst (λ (x : Header). rule_inside rule x.kind ≡ None) same i) there)
@@ -115,109 +115,113 @@ fault_strips_nothing names rule at bytes text f some x (keeps _ _ _ h rest e m i
 fault_strips_nothing names rule at bytes text f some x (enters _ _ _ h inner inside rest e m i w s t) = not_read_there (is_top rule) (holder rule) at bytes f h x e
 
 -- a part isn't taken along behind what was
-pub front_fails : (a b c : Option (List ℕ)) (held held_b done part rest whole : List ℕ) → BytesGoOn a b held held_b done → AppendsPrefix b c (held_b ++ part) → whole ≡ done ++ (part ++ rest) → AppendsPrefix a c (held ++ whole)
-front_fails a b c held held_b done part rest whole p q e =
-    subst (λ xs. AppendsPrefix a c (held ++ xs)) (sym e)
-    (BytesGoOn-fails a b c held held_b done (part ++ rest) p (subst (λ xs. AppendsPrefix b c xs) (append_assoc held_b part rest) (AppendsPrefix-longer b c (held_b ++ part) rest q)))
+pub front_fails : {Y : Type 0} {takes : Y → Y → List ℕ → Type 0} (joins : IsJoining takes) (a b c : Y) (held held_b done part rest whole : List ℕ) → BytesGoOn (takes a b) held held_b done → TakesPrefix (takes b c) (held_b ++ part) → whole ≡ done ++ (part ++ rest)
+    → TakesPrefix (takes a c) (held ++ whole)
+front_fails {takes = takes} joins a b c held held_b done part rest whole p q e =
+    subst (λ xs. TakesPrefix (takes a c) (held ++ xs)) (sym e)
+    (BytesGoOn-fails joins a b c held held_b done (part ++ rest) p (subst (λ xs. TakesPrefix (takes b c) xs) (append_assoc held_b part rest) (TakesPrefix-longer (takes b c) (held_b ++ part) rest q)))
 
 -- the three pieces of a box of which the type is `free`
-module _ (file : List ℕ) (at end : ℕ) (le : at + 8 ≤ end) (a b : Option (List ℕ)) (held held_b : List ℕ) (first : BytesGoOn a b held held_b (range file at 4)) where
+module _ (file : List ℕ) (at end : ℕ) (le : at + 8 ≤ end) {Y : Type 0} {takes : Y → Y → List ℕ → Type 0} (joins : IsJoining takes) (a b : Y) (held held_b : List ℕ) (first : BytesGoOn (takes a b) held held_b (range file at 4)) where
   three : freed (range file at (end - at)) ≡ range file at 4 ++ (codes "free" ++ range file (at + 8) (end - at - 8))
   three = freed_range file at (end - at) (omega (arith, le))
 
-  pub type_fails : (c : Option (List ℕ)) → AppendsPrefix b c (held_b ++ codes "free") → AppendsPrefix a c (held ++ freed (range file at (end - at)))
-  type_fails c p = front_fails a b c held held_b (range file at 4) (codes "free") (range file (at + 8) (end - at - 8)) (freed (range file at (end - at))) first p three
+  pub type_fails : (c : Y) → TakesPrefix (takes b c) (held_b ++ codes "free") → TakesPrefix (takes a c) (held ++ freed (range file at (end - at)))
+  type_fails c p = front_fails joins a b c held held_b (range file at 4) (codes "free") (range file (at + 8) (end - at - 8)) (freed (range file at (end - at))) first p three
 
-  module _ (c d : Option (List ℕ)) (held_c : List ℕ) (second : BytesGoOn b c held_b held_c (codes "free")) where
-    both : BytesGoOn a c held held_c (range file at 4 ++ codes "free")
-    both = BytesGoOn-then a b c held held_b held_c (range file at 4) (codes "free") (range file at 4 ++ codes "free") first second refl
+  module _ (c d : Y) (held_c : List ℕ) (second : BytesGoOn (takes b c) held_b held_c (codes "free")) where
+    both : BytesGoOn (takes a c) held held_c (range file at 4 ++ codes "free")
+    both = BytesGoOn-then joins a b c held held_b held_c (range file at 4) (codes "free") (range file at 4 ++ codes "free") first second refl
 
     whole : freed (range file at (end - at)) ≡ (range file at 4 ++ codes "free") ++ range file (at + 8) (end - at - 8)
     whole = three ∙ sym (append_assoc (range file at 4) (codes "free") (range file (at + 8) (end - at - 8)))
 
-    pub freed_goes : (held_d : List ℕ) → BytesGoOn c d held_c held_d (range file (at + 8) (end - at - 8)) → BytesGoOn a d held held_d (freed (range file at (end - at)))
-    freed_goes held_d p = BytesGoOn-then a c d held held_c held_d (range file at 4 ++ codes "free") (range file (at + 8) (end - at - 8)) (freed (range file at (end - at))) both p whole
+    pub freed_goes : (held_d : List ℕ) → BytesGoOn (takes c d) held_c held_d (range file (at + 8) (end - at - 8)) → BytesGoOn (takes a d) held held_d (freed (range file at (end - at)))
+    freed_goes held_d p = BytesGoOn-then joins a c d held held_c held_d (range file at 4 ++ codes "free") (range file (at + 8) (end - at - 8)) (freed (range file at (end - at))) both p whole
 
-    pub rest_fails : AppendsPrefix c d (held_c ++ range file (at + 8) (end - at - 8)) → AppendsPrefix a d (held ++ freed (range file at (end - at)))
+    pub rest_fails : TakesPrefix (takes c d) (held_c ++ range file (at + 8) (end - at - 8)) → TakesPrefix (takes a d) (held ++ freed (range file at (end - at)))
     rest_fails p =
-        front_fails a c d held held_c (range file at 4 ++ codes "free") (range file (at + 8) (end - at - 8)) [] (freed (range file at (end - at))) both p
+        front_fails joins a c d held held_c (range file at 4 ++ codes "free") (range file (at + 8) (end - at - 8)) [] (freed (range file at (end - at))) both p
         (whole ∙ ap (λ xs. (range file at 4 ++ codes "free") ++ xs) (sym (append-nil (range file (at + 8) (end - at - 8)))))
 
-pub size_fails : (file : List ℕ) (at end : ℕ) → at + 8 ≤ end → (a b : Option (List ℕ)) (held : List ℕ) → AppendsPrefix a b (held ++ range file at 4) → AppendsPrefix a b (held ++ freed (range file at (end - at)))
-size_fails file at end le a b held p =
-    front_fails a a b held held [] (range file at 4) (codes "free" ++ range file (at + 8) (end - at - 8)) (freed (range file at (end - at))) (BytesGoOn-nothing a held) p (freed_range file at (end - at) (omega (arith, le)))
+pub size_fails : (file : List ℕ) (at end : ℕ) → at + 8 ≤ end → (Took : List ℕ → Type 0) (held : List ℕ) → TakesPrefix Took (held ++ range file at 4) → TakesPrefix Took (held ++ freed (range file at (end - at)))
+size_fails file at end le Took held p =
+    let rest = codes "free" ++ range file (at + 8) (end - at - 8) in
+    let whole = append_assoc held (range file at 4) rest ∙ ap (λ xs. held ++ xs) (sym (freed_range file at (end - at) (omega (arith, le)))) in
+    subst (λ xs. TakesPrefix Took xs) whole (TakesPrefix-longer Took (held ++ range file at 4) rest p)
 
--- What a sink held when a loop over boxes began and what it holds at a place, what waited and what waits: a front of the text is on its way, and the rest stands for what is left.
-pub record Copying (names : List Name) (rule : Rule) (file : List ℕ) (end at : ℕ) (a b : Option (List ℕ)) (held held_b text : List ℕ) : Type 0 where
+-- What was put since a loop over boxes began up to a place, what waited and what waits: a front of the text is on its way, and the rest stands for what is left.
+pub record Copying (names : List Name) (rule : Rule) (file : List ℕ) (end at : ℕ) (Took : List ℕ → Type 0) (held held_b text : List ℕ) : Type 0 where
   pub done : List ℕ
   pub rest : List ℕ
   pub split : text ≡ done ++ rest
   pub left : Strips names rule (range file at (end - at)) rest
-  pub goes : BytesGoOn a b held held_b done
+  pub goes : BytesGoOn Took held held_b done
 
 module _ (names : List Name) (rule : Rule) (file : List ℕ) (end : ℕ) where
-  pub copying_none : (at : ℕ) (a : Option (List ℕ)) (held text : List ℕ) → Strips names rule (range file at (end - at)) text → Copying names rule file end at a a held held text
-  copying_none at a held text s = record { done = []; rest = text; split = refl; left = s; goes = BytesGoOn-nothing a held }
+  pub copying_none : (at : ℕ) (Took : List ℕ → Type 0) (nothing : Took []) (held text : List ℕ) → Strips names rule (range file at (end - at)) text → Copying names rule file end at Took held held text
+  copying_none at Took nothing held text s = record { done = []; rest = text; split = refl; left = s; goes = BytesGoOn-nothing Took nothing held }
 
-  pub copying_more : (at at_c : ℕ) (a b c : Option (List ℕ)) (held held_b held_c text part rest : List ℕ) → (u : Copying names rule file end at a b held held_b text) → u.rest ≡ part ++ rest
-      → Strips names rule (range file at_c (end - at_c)) rest → BytesGoOn b c held_b held_c part → Copying names rule file end at_c a c held held_c text
-  copying_more at at_c a b c held held_b held_c text part rest u e s g = record {
+  pub copying_more : (at at_c : ℕ) {Y : Type 0} {takes : Y → Y → List ℕ → Type 0} (joins : IsJoining takes) (a b c : Y) (held held_b held_c text part rest : List ℕ) → (u : Copying names rule file end at (takes a b) held held_b text) → u.rest ≡ part ++ rest
+      → Strips names rule (range file at_c (end - at_c)) rest → BytesGoOn (takes b c) held_b held_c part → Copying names rule file end at_c (takes a c) held held_c text
+  copying_more at at_c joins a b c held held_b held_c text part rest u e s g = record {
     done = u.done ++ part;
     rest = rest;
     split = u.split ∙ ap (λ xs. u.done ++ xs) e ∙ sym (append_assoc u.done part rest);
     left = s;
-    goes = BytesGoOn-then a b c held held_b held_c u.done part (u.done ++ part) u.goes g refl;
+    goes = BytesGoOn-then joins a b c held held_b held_c u.done part (u.done ++ part) u.goes g refl;
   }
 
-  pub copying_all : (at : ℕ) (a b : Option (List ℕ)) (held held_b text : List ℕ) → end ≤ at → Copying names rule file end at a b held held_b text → BytesGoOn a b held held_b text
-  copying_all at a b held held_b text le u =
+  pub copying_all : (at : ℕ) (Took : List ℕ → Type 0) (held held_b text : List ℕ) → end ≤ at → Copying names rule file end at Took held held_b text → BytesGoOn Took held held_b text
+  copying_all at Took held held_b text le u =
       let none : end - at ≡ 0 = omega (arith, le) in
       let last = nothing_stands names rule (range file at (end - at)) u.rest (ap (range file at) none) u.left in
       let whole : u.done ≡ text = sym (append-nil u.done) ∙ ap (λ xs. u.done ++ xs) (sym last) ∙ sym u.split in
-      subst (λ xs. BytesGoOn a b held held_b xs) whole u.goes
+      subst (λ xs. BytesGoOn Took held held_b xs) whole u.goes
 
   -- a part of what is left isn't put
-  pub copying_fails : (at : ℕ) (a b c : Option (List ℕ)) (held held_b text part rest : List ℕ) → (u : Copying names rule file end at a b held held_b text) → u.rest ≡ part ++ rest
-      → AppendsPrefix b c (held_b ++ part) → AppendsPrefix a c (held ++ text)
-  copying_fails at a b c held held_b text part rest u e p =
-      front_fails a b c held held_b u.done part rest text u.goes p (u.split ∙ ap (λ xs. u.done ++ xs) e)
+  pub copying_fails : (at : ℕ) {Y : Type 0} {takes : Y → Y → List ℕ → Type 0} (joins : IsJoining takes) (a b c : Y) (held held_b text part rest : List ℕ) → (u : Copying names rule file end at (takes a b) held held_b text) → u.rest ≡ part ++ rest
+      → TakesPrefix (takes b c) (held_b ++ part) → TakesPrefix (takes a c) (held ++ text)
+  copying_fails at joins a b c held held_b text part rest u e p =
+      front_fails joins a b c held held_b u.done part rest text u.goes p (u.split ∙ ap (λ xs. u.done ++ xs) e)
 
   -- nothing more is put
-  pub copying_stops : (at : ℕ) (a b : Option (List ℕ)) (held held_b text : List ℕ) → Copying names rule file end at a b held held_b text → AppendsPrefix a b (held ++ text)
-  copying_stops at a b held held_b text u = subst (λ xs. AppendsPrefix a b (held ++ xs)) (sym u.split) (BytesGoOn-front a b held held_b u.done u.rest u.goes)
+  pub copying_stops : (at : ℕ) (Took : List ℕ → Type 0) (held held_b text : List ℕ) → Copying names rule file end at Took held held_b text → TakesPrefix Took (held ++ text)
+  copying_stops at Took held held_b text u = subst (λ xs. TakesPrefix Took (held ++ xs)) (sym u.split) (BytesGoOn-front Took held held_b u.done u.rest u.goes)
 
 -- One more box is copied, where the loop was so far at its place.
 module _ (names : List Name) (rule : Rule) (file : List ℕ) (end at : ℕ) (h : TopHeader) (from : at + h.header ≤ h.end) (to : h.end ≤ end) (some : 0 < length (range file at (end - at)))
-    (read : header_at (is_top rule) (range file at (end - at)) ≡ Ok (top_header_seen at h)) (a b : Option (List ℕ)) (held held_b text : List ℕ) (u : Copying names rule file end at a b held held_b text) where
+    (read : header_at (is_top rule) (range file at (end - at)) ≡ Ok (top_header_seen at h)) {Y : Type 0} {takes : Y → Y → List ℕ → Type 0} (joins : IsJoining takes) (a b : Y) (held held_b text : List ℕ) (u : Copying names rule file end at (takes a b) held held_b text) where
   behind_is : (rest : List ℕ) → Strips names rule (drop (h.end - at) (range file at (end - at))) rest → Strips names rule (range file h.end (end - h.end)) rest
   behind_is rest s = subst (λ bs. Strips names rule bs rest) (behind_it file at end h from to) s
 
   -- a named one
-  freed_part : is_named names rule h.kind.0 ≡ true → (rest : List ℕ) × Strips names rule (range file h.end (end - h.end)) rest × (u.rest ≡ freed (range file at (h.end - at)) ++ rest)
+  freed_part : is_named names rule h.kind.0 (uuid_at (top_header_seen at h) (range file at (end - at))) ≡ true → (rest : List ℕ) × Strips names rule (range file h.end (end - h.end)) rest × (u.rest ≡ freed (range file at (h.end - at)) ++ rest)
   freed_part n =
       let x = next_freed names rule (range file at (end - at)) u.rest (top_header_seen at h) some read n u.left in
       (x.0, behind_is x.0 x.1, x.2 ∙ ap (λ bs. freed bs ++ x.0) (whole_box file at end h from to))
 
-  pub copy_freed : (c : Option (List ℕ)) (held_c : List ℕ) → is_named names rule h.kind.0 ≡ true → BytesGoOn b c held_b held_c (freed (range file at (h.end - at))) → Copying names rule file end h.end a c held held_c text
-  copy_freed c held_c n g = let x = freed_part n in copying_more names rule file end at h.end a b c held held_b held_c text (freed (range file at (h.end - at))) x.0 u x.2 x.1 g
+  pub copy_freed : (c : Y) (held_c : List ℕ) → is_named names rule h.kind.0 (uuid_at (top_header_seen at h) (range file at (end - at))) ≡ true → BytesGoOn (takes b c) held_b held_c (freed (range file at (h.end - at))) → Copying names rule file end h.end (takes a c) held held_c text
+  copy_freed c held_c n g = let x = freed_part n in copying_more names rule file end at h.end joins a b c held held_b held_c text (freed (range file at (h.end - at))) x.0 u x.2 x.1 g
 
-  pub freed_fails : (c : Option (List ℕ)) → is_named names rule h.kind.0 ≡ true → AppendsPrefix b c (held_b ++ freed (range file at (h.end - at))) → AppendsPrefix a c (held ++ text)
-  freed_fails c n p = let x = freed_part n in copying_fails names rule file end at a b c held held_b text (freed (range file at (h.end - at))) x.0 u x.2 p
+  pub freed_fails : (c : Y) → is_named names rule h.kind.0 (uuid_at (top_header_seen at h) (range file at (end - at))) ≡ true → TakesPrefix (takes b c) (held_b ++ freed (range file at (h.end - at))) → TakesPrefix (takes a c) (held ++ text)
+  freed_fails c n p = let x = freed_part n in copying_fails names rule file end at joins a b c held held_b text (freed (range file at (h.end - at))) x.0 u x.2 p
 
   -- one that is no container
-  kept_part : is_named names rule h.kind.0 ≡ false → rule_inside rule h.kind.0 ≡ None → (rest : List ℕ) × Strips names rule (range file h.end (end - h.end)) rest × (u.rest ≡ range file at (h.end - at) ++ rest)
+  kept_part : is_named names rule h.kind.0 (uuid_at (top_header_seen at h) (range file at (end - at))) ≡ false → rule_inside rule h.kind.0 ≡ None → (rest : List ℕ) × Strips names rule (range file h.end (end - h.end)) rest × (u.rest ≡ range file at (h.end - at) ++ rest)
   kept_part n i =
       let x = next_kept names rule (range file at (end - at)) u.rest (top_header_seen at h) some read n i u.left in
       (x.0, behind_is x.0 x.1, x.2 ∙ ap (λ bs. bs ++ x.0) (whole_box file at end h from to))
 
-  pub copy_kept : (c : Option (List ℕ)) (held_c : List ℕ) → is_named names rule h.kind.0 ≡ false → rule_inside rule h.kind.0 ≡ None → BytesGoOn b c held_b held_c (range file at (h.end - at)) → Copying names rule file end h.end a c held held_c text
-  copy_kept c held_c n i g = let x = kept_part n i in copying_more names rule file end at h.end a b c held held_b held_c text (range file at (h.end - at)) x.0 u x.2 x.1 g
+  pub copy_kept : (c : Y) (held_c : List ℕ) → is_named names rule h.kind.0 (uuid_at (top_header_seen at h) (range file at (end - at))) ≡ false → rule_inside rule h.kind.0 ≡ None → BytesGoOn (takes b c) held_b held_c (range file at (h.end - at))
+      → Copying names rule file end h.end (takes a c) held held_c text
+  copy_kept c held_c n i g = let x = kept_part n i in copying_more names rule file end at h.end joins a b c held held_b held_c text (range file at (h.end - at)) x.0 u x.2 x.1 g
 
-  pub kept_fails : (c : Option (List ℕ)) → is_named names rule h.kind.0 ≡ false → rule_inside rule h.kind.0 ≡ None → AppendsPrefix b c (held_b ++ range file at (h.end - at)) → AppendsPrefix a c (held ++ text)
-  kept_fails c n i p = let x = kept_part n i in copying_fails names rule file end at a b c held held_b text (range file at (h.end - at)) x.0 u x.2 p
+  pub kept_fails : (c : Y) → is_named names rule h.kind.0 (uuid_at (top_header_seen at h) (range file at (end - at))) ≡ false → rule_inside rule h.kind.0 ≡ None → TakesPrefix (takes b c) (held_b ++ range file at (h.end - at)) → TakesPrefix (takes a c) (held ++ text)
+  kept_fails c n i p = let x = kept_part n i in copying_fails names rule file end at joins a b c held held_b text (range file at (h.end - at)) x.0 u x.2 p
 
   -- a container: its header, and then what stands for its boxes
-  module _ (inner : Rule) (n : is_named names rule h.kind.0 ≡ false) (i : rule_inside rule h.kind.0 ≡ Some inner) where
+  module _ (inner : Rule) (n : is_named names rule h.kind.0 (uuid_at (top_header_seen at h) (range file at (end - at))) ≡ false) (i : rule_inside rule h.kind.0 ≡ Some inner) where
     pub entered_part : (inside rest : List ℕ) × Strips names inner (range file (at + h.header) (h.end - (at + h.header))) inside × Strips names rule (range file h.end (end - h.end)) rest
         × (u.rest ≡ range file at h.header ++ (inside ++ rest))
     entered_part =
@@ -229,22 +233,22 @@ module _ (names : List Name) (rule : Rule) (file : List ℕ) (end at : ℕ) (h :
           x.4 ∙ ap (λ bs. bs ++ (x.0 ++ x.1)) (its_header file at end h from to),
         )
 
-    pub copy_entered : (c d : Option (List ℕ)) (held_c held_d : List ℕ) → BytesGoOn b c held_b held_c (range file at h.header)
-        → ((inside : List ℕ) → Strips names inner (range file (at + h.header) (h.end - (at + h.header))) inside → BytesGoOn c d held_c held_d inside) → Copying names rule file end h.end a d held held_d text
+    pub copy_entered : (c d : Y) (held_c held_d : List ℕ) → BytesGoOn (takes b c) held_b held_c (range file at h.header)
+        → ((inside : List ℕ) → Strips names inner (range file (at + h.header) (h.end - (at + h.header))) inside → BytesGoOn (takes c d) held_c held_d inside) → Copying names rule file end h.end (takes a d) held held_d text
     copy_entered c d held_c held_d p q =
         let x = entered_part in
-        let whole = BytesGoOn-then b c d held_b held_c held_d (range file at h.header) x.0 (range file at h.header ++ x.0) p (q x.0 x.2) refl in
-        copying_more names rule file end at h.end a b d held held_b held_d text (range file at h.header ++ x.0) x.1 u (x.4 ∙ sym (append_assoc (range file at h.header) x.0 x.1)) x.3 whole
+        let whole = BytesGoOn-then joins b c d held_b held_c held_d (range file at h.header) x.0 (range file at h.header ++ x.0) p (q x.0 x.2) refl in
+        copying_more names rule file end at h.end joins a b d held held_b held_d text (range file at h.header ++ x.0) x.1 u (x.4 ∙ sym (append_assoc (range file at h.header) x.0 x.1)) x.3 whole
 
-    pub entered_header_fails : (c : Option (List ℕ)) → AppendsPrefix b c (held_b ++ range file at h.header) → AppendsPrefix a c (held ++ text)
-    entered_header_fails c p = let x = entered_part in copying_fails names rule file end at a b c held held_b text (range file at h.header) (x.0 ++ x.1) u x.4 p
+    pub entered_header_fails : (c : Y) → TakesPrefix (takes b c) (held_b ++ range file at h.header) → TakesPrefix (takes a c) (held ++ text)
+    entered_header_fails c p = let x = entered_part in copying_fails names rule file end at joins a b c held held_b text (range file at h.header) (x.0 ++ x.1) u x.4 p
 
-    pub entered_fails : (c d : Option (List ℕ)) (held_c : List ℕ) → BytesGoOn b c held_b held_c (range file at h.header)
-        → ((inside : List ℕ) → Strips names inner (range file (at + h.header) (h.end - (at + h.header))) inside → AppendsPrefix c d (held_c ++ inside)) → AppendsPrefix a d (held ++ text)
+    pub entered_fails : (c d : Y) (held_c : List ℕ) → BytesGoOn (takes b c) held_b held_c (range file at h.header)
+        → ((inside : List ℕ) → Strips names inner (range file (at + h.header) (h.end - (at + h.header))) inside → TakesPrefix (takes c d) (held_c ++ inside)) → TakesPrefix (takes a d) (held ++ text)
     entered_fails c d held_c p q =
         let x = entered_part in
-        let more = front_fails b c d held_b held_c (range file at h.header) x.0 [] (range file at h.header ++ x.0) p (q x.0 x.2) (ap (λ xs. range file at h.header ++ xs) (sym (append-nil x.0))) in
-        copying_fails names rule file end at a b d held held_b text (range file at h.header ++ x.0) x.1 u (x.4 ∙ sym (append_assoc (range file at h.header) x.0 x.1)) more
+        let more = front_fails joins b c d held_b held_c (range file at h.header) x.0 [] (range file at h.header ++ x.0) p (q x.0 x.2) (ap (λ xs. range file at h.header ++ xs) (sym (append-nil x.0))) in
+        copying_fails names rule file end at joins a b d held held_b text (range file at h.header ++ x.0) x.1 u (x.4 ∙ sym (append_assoc (range file at h.header) x.0 x.1)) more
 
 -- ---- why a copy stops
 

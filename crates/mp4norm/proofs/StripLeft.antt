@@ -1,8 +1,9 @@
 -- A copy has no named box left.
 use Rattle.std.proofs.Common.{◌≡◌, ℕ, ◌+◌, ◌-◌, ◌≤◌, Bool, true, false, cond, ltb, eqb, List, [], ◌++◌, length, take, drop, Result, Ok, Err, None, Some, refl, sym, ap, subst, ◌∙◌, arith, inl, inr, length-append, length-drop, append_assoc}
-use Rattle.std.specs.Prelude.{codes, Option, ◌⊎◌}
+use Rattle.std.specs.Prelude.{codes, Option, ◌⊎◌, bytes_eq}
+use Rattle.std.proofs.lemmas.Slice.Eq.{bytes_eq-Decides}
 use Rattle.std.proofs.lemmas.Grind.{common_steps}
-use Rattle.std.proofs.lemmas.List.{drop-take, take-take, take-append-le, take_all}
+use Rattle.std.proofs.lemmas.List.{drop-take, drop-append-le, take-take, take-append-le, take_all}
 use Rattle.std.proofs.Math.Seq.{drop-append-add}
 use Rattle.byteorder.specs.Numbers.{big_from-take, big_from-append}
 use Rattle.mp4_boxes.specs.format.Bytes.{field}
@@ -11,11 +12,12 @@ use Rattle.mp4_boxes.specs.declared.fault.Kind.{Kind}
 use Rattle.mp4_boxes.specs.declared.fault.Kind.TheVariants.{ShortHeader, BadSize, Overrun}
 use Rattle.mp4_boxes.specs.declared.rule.Rule.{Rule}
 use Rattle.mp4_boxes.specs.declared.rule.Rule.TheVariants.{File, Movie, Track, Edits, Media, MediaInformation, DataInformation, SampleTable, MovieExtends, MovieFragment, TrackFragment}
-use Rattle.mp4_boxes.proofs.Tiling.{header_is}
+use Rattle.mp4_boxes.proofs.Tiling.{IsRead, header_is}
 use Rattle.mp4_tables.proofs.RowLists.{field_behind}
 use Rattle.mp4norm.specs.declared.named.Name.{Name}
 use Rattle.mp4norm.specs.format.BoxWalk.{rule_inside}
-use Rattle.mp4norm.specs.format.Strips.{is_top, is_named, freed, payload_of, Strips, ends, frees, keeps, enters}
+use Rattle.mp4norm.specs.format.Texts.{uuid_in}
+use Rattle.mp4norm.specs.format.Strips.{is_top, is_named, freed, payload_of, uuid_at, Strips, ends, frees, keeps, enters}
 use Rattle.mp4norm.specs.format.StripLaws.{NamedBoxAt, at_front, further, inside, SparesFree, StripLeavesNone, StripTwiceIsOnce, ForeignSparesFree}
 use Rattle.mp4norm.proofs.StripCopies.{same_header, no_header}
 use Rattle.mp4norm.proofs.StripLaws.{length_box, length_freed, length_payload, strip_length, four_first, unnamed_is_copied}
@@ -155,12 +157,12 @@ freed_header is_open bytes rest h e long =
 
 -- where a named box stands, by the header in front
 abbrev Found : List Name → Rule → List ℕ → Header → Type 0
-Found names rule bytes g = (is_named names rule g.kind ≡ true) ⊎ (((left : ℕ) × NamedBoxAt names rule left (drop g.size bytes)) ⊎ ((inner : Rule) × (left : ℕ) × (rule_inside rule g.kind ≡ Some inner) × NamedBoxAt names inner left (payload_of g bytes)))
+Found names rule bytes g = (is_named names rule g.kind (uuid_at g bytes) ≡ true) ⊎ (((left : ℕ) × NamedBoxAt names rule left (drop g.size bytes)) ⊎ ((inner : Rule) × (left : ℕ) × (rule_inside rule g.kind ≡ Some inner) × NamedBoxAt names inner left (payload_of g bytes)))
 
 found : (names : List Name) (rule : Rule) (place : ℕ) (bytes : List ℕ) (g : Header) → header_at (is_top rule) bytes ≡ Ok g → NamedBoxAt names rule place bytes → Found names rule bytes g
 found names rule place bytes g read (at_front _ _ _ h e n p) =
     let same = same_header (header_at (is_top rule) bytes) h g e read in
-    inl (subst (λ (x : Header). is_named names rule x.kind ≡ true) same n)
+    inl (subst (λ (x : Header). is_named names rule x.kind (uuid_at x bytes) ≡ true) same n)
 found names rule place bytes g read (further _ _ _ h left e x p) =
     let same = same_header (header_at (is_top rule) bytes) h g e read in
     inr (inl (left, subst (λ (y : Header). NamedBoxAt names rule left (drop y.size bytes)) same x))
@@ -211,6 +213,46 @@ middle_part : (part middle rest : List ℕ) (n m : ℕ) → length part ≡ n �
 middle_part part middle rest n m e f =
     ap (take m) (behind_part part (middle ++ rest) n e) ∙ take-append-le m middle rest (omega (arith, f)) ∙ take_all m middle (omega (arith, f))
 
+-- the payload of the first box, by the box alone
+held_in : (bytes : List ℕ) (h : Header) → h.length ≤ h.size → drop h.length (take h.size bytes) ≡ payload_of h bytes
+held_in bytes h from =
+    let sum : h.size ≡ h.length + (h.size - h.length) = omega (arith, from) in
+    ap (λ n. drop h.length (take n bytes)) sum ∙ drop-take h.length (h.size - h.length) bytes
+
+-- which `uuid` a box is that was kept
+uuid_kept : (bytes rest : List ℕ) (h : Header) → IsRead (length bytes) h → uuid_at h (take h.size bytes ++ rest) ≡ uuid_at h bytes
+uuid_kept bytes rest h r =
+    let from : h.length ≤ h.size = r.inside in
+    let box = length_box bytes h.size r.fits in
+    let less : length (drop h.length (take h.size bytes)) ≡ h.size - h.length = length-drop h.length (take h.size bytes) ∙ ap (λ n. n - h.length) box in
+    let same : drop h.length (take h.size bytes ++ rest) ≡ drop h.length (take h.size bytes) ++ rest = drop-append-le h.length (take h.size bytes) rest (omega (arith, from, box)) in
+    let kept : payload_of h (take h.size bytes ++ rest) ≡ payload_of h bytes =
+    ap (take (h.size - h.length)) same ∙ take-append-le (h.size - h.length) (drop h.length (take h.size bytes)) rest (omega (arith, less))
+    ∙ take_all (h.size - h.length) (drop h.length (take h.size bytes)) (omega (arith, less)) ∙ held_in bytes h from
+    in
+    ap (uuid_in h.kind) kept
+
+-- a container is no `uuid`
+none_in_uuid : (rule : Rule) → rule_inside rule (codes "uuid") ≡ None
+none_in_uuid File = refl
+none_in_uuid Movie = refl
+none_in_uuid Track = refl
+none_in_uuid Edits = refl
+none_in_uuid Media = refl
+none_in_uuid MediaInformation = refl
+none_in_uuid DataInformation = refl
+none_in_uuid SampleTable = refl
+none_in_uuid MovieExtends = refl
+none_in_uuid MovieFragment = refl
+none_in_uuid TrackFragment = refl
+
+no_uuid : (rule inner : Rule) (kind payload : List ℕ) → rule_inside rule kind ≡ Some inner → uuid_in kind payload ≡ None
+no_uuid rule inner kind payload i = by (bytes_eq kind (codes "uuid")) refl
+  where
+    by : (v : Bool) → bytes_eq kind (codes "uuid") ≡ v → uuid_in kind payload ≡ None
+    by true e = absurd (not_there (rule_inside rule kind) inner (ap (rule_inside rule) ((bytes_eq-Decides kind (codes "uuid")).0 e) ∙ none_in_uuid rule) i)
+    by false e = rw e refl
+
 pub nothing_left : (names : List Name) (rule : Rule) (place : ℕ) (bytes text : List ℕ) → SparesFree names → Strips names rule bytes text → NamedBoxAt names rule place text → ⊥
 nothing_left names rule place bytes text spares (ends _ _ _ b t) x = nothing_found names rule place text t x
 nothing_left names rule place bytes text spares (frees _ _ _ h rest e n s t) x =
@@ -223,7 +265,7 @@ nothing_left names rule place bytes text spares (frees _ _ _ h rest e n s t) x =
     let long = sym (ap length t) ∙ strip_length names rule bytes text (frees rule bytes text h rest e n s t) in
     let read = freed_header (is_top rule) bytes rest h e long in
     elim (found names rule place (freed (take h.size bytes) ++ rest) (with_kind (codes "free") h) read (subst (NamedBoxAt names rule place) t x)) [
-      | inl named ↦ both_ways (is_named names rule (codes "free")) (spares rule) named
+      | inl named ↦ both_ways (is_named names rule (codes "free") None) (spares rule) named
       | inr (inl more) ↦ nothing_left names rule more.0 (drop h.size bytes) rest spares s (subst (NamedBoxAt names rule more.0) (behind_part (freed (take h.size bytes)) rest h.size part) more.1)
       | inr (inr into) ↦ not_there (rule_inside rule (codes "free")) into.0 (nothing_in_free rule) into.2
     ]
@@ -233,7 +275,7 @@ nothing_left names rule place bytes text spares (keeps _ _ _ h rest e n i s t) x
     let long = sym (ap length t) ∙ strip_length names rule bytes text (keeps rule bytes text h rest e n i s t) in
     let read = kept_header (is_top rule) bytes rest h.size h e r.fits r.inside long in
     elim (found names rule place (take h.size bytes ++ rest) h read (subst (NamedBoxAt names rule place) t x)) [
-      | inl named ↦ both_ways (is_named names rule h.kind) n named
+      | inl named ↦ both_ways (is_named names rule h.kind (uuid_at h bytes)) n (subst (λ (u : Option (List ℕ)). is_named names rule h.kind u ≡ true) (uuid_kept bytes rest h r) named)
       | inr (inl more) ↦ nothing_left names rule more.0 (drop h.size bytes) rest spares s (subst (NamedBoxAt names rule more.0) (behind_part (take h.size bytes) rest h.size box) more.1)
       | inr (inr into) ↦ not_there (rule_inside rule h.kind) into.0 i into.2
     ]
@@ -247,7 +289,9 @@ nothing_left names rule place bytes text spares (enters _ _ _ h inner middle res
     let read = kept_header (is_top rule) bytes (middle ++ rest) h.length h e (omega (arith, from, to)) (omega arith) long in
     let both : length (take h.length bytes ++ middle) ≡ h.size = length-append (take h.length bytes) middle ∙ omega (arith, head, held, from) in
     elim (found names rule place (take h.length bytes ++ (middle ++ rest)) h read (subst (NamedBoxAt names rule place) t x)) [
-      | inl named ↦ both_ways (is_named names rule h.kind) n named
+      | inl named ↦
+          both_ways (is_named names rule h.kind (uuid_at h bytes)) n
+          (subst (λ (u : Option (List ℕ)). is_named names rule h.kind u ≡ true) (no_uuid rule inner h.kind (payload_of h (take h.length bytes ++ (middle ++ rest))) i ∙ sym (no_uuid rule inner h.kind (payload_of h bytes) i)) named)
       | inr (inl more) ↦
           nothing_left names rule more.0 (drop h.size bytes) rest spares s
           (subst (NamedBoxAt names rule more.0) (ap (drop h.size) (sym (append_assoc (take h.length bytes) middle rest)) ∙ behind_part (take h.length bytes ++ middle) rest h.size both) more.1)

@@ -9,8 +9,9 @@ use Rattle.mp4_boxes.specs.declared.fault.Fault.{Fault}
 use Rattle.mp4_boxes.specs.declared.headers.TopHeader.{TopHeader}
 use Rattle.mp4_boxes.specs.declared.rule.Rule.{Rule}
 use Rattle.mp4norm.specs.format.BoxWalk.{rule_inside}
+use Rattle.mp4norm.specs.format.Texts.{uuid_in}
 use Rattle.mp4norm.specs.declared.named.Name.{Name}
-use Rattle.mp4norm.specs.format.Strips.{is_top, is_named, freed, payload_of, Strips, ends, frees, keeps, enters, Halts, behind, within}
+use Rattle.mp4norm.specs.format.Strips.{is_top, is_named, freed, payload_of, uuid_at, Strips, ends, frees, keeps, enters, Halts, behind, within}
 
 -- ---- parts of a range
 
@@ -43,6 +44,12 @@ module _ (file : List ℕ) (at end : ℕ) (h : TopHeader) (from : at + h.header 
       ∙ take_range file (at + h.header) (h.end - at - h.header) (end - at - h.header) (omega (arith, from, to))
       ∙ ap (range file (at + h.header)) less
 
+  -- which `uuid` it is, by the payload that was read of it
+  pub its_uuid : uuid_in h.kind.0 (take (h.end - at - h.header) (drop (at + h.header) file)) ≡ uuid_at (top_header_seen at h) (range file at (end - at))
+  its_uuid =
+      ap (uuid_in h.kind.0) (sym (ap (take (h.end - at - h.header)) (drop_range file at h.header (end - at) (omega (arith, from, to)))
+      ∙ take_range file (at + h.header) (h.end - at - h.header) (end - at - h.header) (omega (arith, from, to))))
+
 pub freed_range : (file : List ℕ) (at n : ℕ) → 8 ≤ n → freed (range file at n) ≡ range file at 4 ++ (codes "free" ++ range file (at + 8) (n - 8))
 freed_range file at n le =
     let front = take_range file at 4 n (omega (arith, le)) in
@@ -64,13 +71,13 @@ module _ (names : List Name) (rule : Rule) (file : List ℕ) (at end : ℕ) (h :
   moved : (rest : List ℕ) → Strips names rule (range file h.end (end - h.end)) rest → Strips names rule (drop (h.end - at) (range file at (end - at))) rest
   moved rest s = subst (λ bs. Strips names rule bs rest) (sym (behind_it file at end h from to)) s
 
-  pub walk_frees : is_named names rule h.kind.0 ≡ true → HasText names rule file end h.end → HasText names rule file end at
+  pub walk_frees : is_named names rule h.kind.0 (uuid_at (top_header_seen at h) (range file at (end - at))) ≡ true → HasText names rule file end h.end → HasText names rule file end at
   walk_frees n s = (_, frees rule (range file at (end - at)) _ (top_header_seen at h) s.0 read n (moved s.0 s.1) refl)
 
-  pub walk_keeps : is_named names rule h.kind.0 ≡ false → rule_inside rule h.kind.0 ≡ None → HasText names rule file end h.end → HasText names rule file end at
+  pub walk_keeps : is_named names rule h.kind.0 (uuid_at (top_header_seen at h) (range file at (end - at))) ≡ false → rule_inside rule h.kind.0 ≡ None → HasText names rule file end h.end → HasText names rule file end at
   walk_keeps n i s = (_, keeps rule (range file at (end - at)) _ (top_header_seen at h) s.0 read n i (moved s.0 s.1) refl)
 
-  pub walk_enters : (inner : Rule) → is_named names rule h.kind.0 ≡ false → rule_inside rule h.kind.0 ≡ Some inner
+  pub walk_enters : (inner : Rule) → is_named names rule h.kind.0 (uuid_at (top_header_seen at h) (range file at (end - at))) ≡ false → rule_inside rule h.kind.0 ≡ Some inner
       → HasText names inner file h.end (at + h.header) → HasText names rule file end h.end → HasText names rule file end at
   walk_enters inner n i t s =
       (_, enters rule (range file at (end - at)) _ (top_header_seen at h) inner t.0 s.0 read n i (subst (λ bs. Strips names inner bs t.0) (sym (its_payload file at end h from to)) t.1) (moved s.0 s.1) refl)
@@ -81,7 +88,7 @@ module _ (names : List Name) (rule : Rule) (file : List ℕ) (at end : ℕ) (h :
       behind rule at (range file at (end - at)) (top_header_seen at h) read
       (subst (λ k. Halts names f rule k (drop (h.end - at) (range file at (end - at)))) (sym place) (subst (λ bs. Halts names f rule h.end bs) (sym (behind_it file at end h from to)) x))
 
-  pub halts_within : (f : Fault) (inner : Rule) → is_named names rule h.kind.0 ≡ false → rule_inside rule h.kind.0 ≡ Some inner
+  pub halts_within : (f : Fault) (inner : Rule) → is_named names rule h.kind.0 (uuid_at (top_header_seen at h) (range file at (end - at))) ≡ false → rule_inside rule h.kind.0 ≡ Some inner
       → Halts names f inner (at + h.header) (range file (at + h.header) (h.end - (at + h.header))) → Halts names f rule at (range file at (end - at))
   halts_within f inner n i x =
       within rule at (range file at (end - at)) (top_header_seen at h) inner read n i (subst (λ bs. Halts names f inner (at + h.header) bs) (sym (its_payload file at end h from to)) x)

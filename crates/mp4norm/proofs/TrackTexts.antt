@@ -1,27 +1,22 @@
--- The texts of a track: those of the presentation that the file denotes, and why they are not put.
-use Rattle.std.proofs.Common.{◌≡◌, inl, inr, ℕ, zero, suc, ◌^◌, ◌<◌, ◌≤◌, List, [], ◌∷◌, ◌++◌, length, Some, refl, sym, ap, subst, ◌∙◌, arith}
+-- The texts of a track are those of the presentation that the file denotes.
+use Rattle.std.proofs.Common.{◌≡◌, ℕ, zero, suc, ◌^◌, ◌<◌, ◌≤◌, List, [], ◌∷◌, ◌++◌, length, Some, refl, sym, ap, subst, ◌∙◌, arith}
 use Rattle.std.proofs.lemmas.List.{length-map}
 use Rattle.std.specs.List.{AllZip, slice_get}
-use Rattle.std.specs.Prelude.{Option, Bool, Result, Ok, Err, IfErr, OnErr, IfSome, IsTrue, map}
+use Rattle.std.specs.Prelude.{IfSome, map}
 use Rattle.mp4_boxes.specs.format.Bytes.{sum_of}
-use Rattle.mp4_store.specs.words.Device.{count_after}
-use Rattle.mp4_boxes.specs.declared.refusal.Refusal.{Refusal}
-use Rattle.mp4_boxes.specs.declared.refusal.Refusal.TheVariants as refusals
 use Rattle.mp4_head.specs.format.Head.{TrackHead}
 use Rattle.mp4_head.specs.format.Tree.{TrackTree, track_head_of}
-use Rattle.mp4_present.specs.words.Carried.{RefusesCopy, RefusesPut}
 use Rattle.mp4_present.specs.words.SamplesComing.{track_samples}
 use Rattle.mp4_present.specs.format.Denotes.{FileTree, file_parts, placed_of, sample_of, track_of, presentation_of}
 use Rattle.mp4_present.specs.words.Joined.{sample_bytes}
 use Rattle.mp4_present.specs.words.Movies.{MovieSeen}
 use Rattle.mp4_present.specs.words.OpenedMovie.{IsInfoOf, IsOpenedAs}
-use Rattle.mp4_present.specs.words.Opening.{RefusesOpen}
 use Rattle.mp4_present.specs.format.Presentation.{Track}
 use Rattle.mp4_present.specs.declared.track_info.TrackInfo.{TrackInfo}
 use Rattle.mp4_present.proofs.SamplesLie.{all_whole, timed_data, timed_length}
 use Rattle.mp4_present.proofs.WalkPlaces.{of_got}
 use Rattle.mp4_plan.proofs.TakenFrom.{got_map}
-use Rattle.mp4norm.specs.words.Commands.{AreOthers, LacksTrack, IsTrackWith, ListsSamples, HasData, PutsAFront, RefusesTrack}
+use Rattle.mp4norm.specs.format.FileTexts.{AreOthers, LacksTrack, IsTrackWith, ListsSamples, HasData}
 use Rattle.mp4norm.specs.declared.wanted.Form.{Form}
 use Rattle.mp4norm.specs.format.Texts.{listing_head, sample_at_lines}
 use Rattle.mp4norm.proofs.SampleTexts.{lines_of_placed}
@@ -85,40 +80,3 @@ lists form file tree k id f = (track_of file (file_parts tree) f.t, f.with_id, a
 
 pub has_data : (file : List ℕ) (tree : FileTree) (k id : ℕ) → (f : IsFound file tree k id) → HasData file id (sample_bytes file (track_samples tree f.t))
 has_data file tree k id f = (track_of file (file_parts tree) f.t, f.with_id, timed_data file _ _ (placed_of (file_parts tree) f.t) f.lies)
-
--- ---- why a text is not put
-
-pub open_refuses : (honest : Bool) (file : List ℕ) (id : ℕ) (IsText : List ℕ → Type 0) (known : Option (List ℕ)) (reads reads_after puts : ℕ) (r : Refusal) → RefusesOpen honest file reads reads_after r
-    → RefusesTrack honest file id IsText known known reads reads_after puts puts r
-open_refuses honest file id IsText known reads reads_after puts (refusals.Fault f) w = (w, refl)
-open_refuses honest file id IsText known reads reads_after puts refusals.Memory w = refl
-open_refuses honest file id IsText known reads reads_after puts refusals.StoreFailed w = (w, λ told. inl refl)
-open_refuses honest file id IsText known reads reads_after puts refusals.StoreChanged w = w
-open_refuses honest file id IsText known reads reads_after puts refusals.WriteFailed w = absurd w
-open_refuses honest file id IsText known reads reads_after puts refusals.NoSuchTrack w = absurd w
-
-text_refused : (honest : Bool) (file : List ℕ) (id : ℕ) (IsText : List ℕ → Type 0) (before after : Option (List ℕ)) (reads reads_after puts puts_after : ℕ) (r : Refusal) → RefusesCopy before after reads reads_after puts puts_after r
-    → (IsTrue honest → PutsAFront IsText before after) → (IsTrue honest → r ≡ refusals.StoreChanged → ⊥) → RefusesTrack honest file id IsText before after reads reads_after puts puts_after r
-text_refused honest file id IsText before after reads reads_after puts puts_after (refusals.Fault f) w p u = absurd w
-text_refused honest file id IsText before after reads reads_after puts puts_after refusals.Memory w p u = w
-text_refused honest file id IsText before after reads reads_after puts puts_after refusals.StoreFailed w p u = (w, λ told. inr (p told))
-text_refused honest file id IsText before after reads reads_after puts puts_after refusals.StoreChanged w p u = λ told. u told refl
-text_refused honest file id IsText before after reads reads_after puts puts_after refusals.WriteFailed w p u = (w, p)
-text_refused honest file id IsText before after reads reads_after puts puts_after refusals.NoSuchTrack w p u = absurd w
-
--- a put fails before the rest is made
-pub put_refuses : (honest : Bool) (file : List ℕ) (id : ℕ) (IsText : List ℕ → Type 0) (before after : Option (List ℕ)) (reads puts puts_after : ℕ) (r : Refusal) → RefusesPut puts puts_after r → (IsTrue honest → PutsAFront IsText before after)
-    → RefusesTrack honest file id IsText before after reads reads puts puts_after r
-put_refuses honest file id IsText before after reads puts puts_after (refusals.Fault f) w p = absurd w
-put_refuses honest file id IsText before after reads puts puts_after refusals.Memory w p = absurd w
-put_refuses honest file id IsText before after reads puts puts_after refusals.StoreFailed w p = absurd w
-put_refuses honest file id IsText before after reads puts puts_after refusals.StoreChanged w p = absurd w
-put_refuses honest file id IsText before after reads puts puts_after refusals.WriteFailed w p = let e : puts_after ≡ count_after puts = w in (omega (arith, e), p)
-put_refuses honest file id IsText before after reads puts puts_after refusals.NoSuchTrack w p = absurd w
-
--- of an answer
-pub text_refuses : {T : Type 0} (answer : Result T Refusal) (honest : Bool) (file : List ℕ) (id : ℕ) (IsText : List ℕ → Type 0) (before after : Option (List ℕ)) (reads reads_after puts puts_after : ℕ)
-    → IfErr answer (RefusesCopy before after reads reads_after puts puts_after) → (IsTrue honest → OnErr answer (PutsAFront IsText before after)) → (IsTrue honest → IfErr answer (λ r. r ≡ refusals.StoreChanged → ⊥))
-    → IfErr answer (RefusesTrack honest file id IsText before after reads reads_after puts puts_after)
-text_refuses (Ok x) honest file id IsText before after reads reads_after puts puts_after w p u = tt
-text_refuses (Err r) honest file id IsText before after reads reads_after puts puts_after w p u = text_refused honest file id IsText before after reads reads_after puts puts_after r w p u

@@ -8,5 +8,14 @@ pub mod Strips
 pub mod StripLaws
 pub mod BoxWalk
 pub mod ReducedHeadline
+pub mod DifferenceLine
+pub mod LastLine
+pub mod DifferenceObject
 pub mod CompareHeadline
 pub mod Lists
+pub mod FileTexts
+pub mod Run
+pub mod Answers
+pub mod AnswerLaws
+pub mod Sums
+pub mod SameAnswers

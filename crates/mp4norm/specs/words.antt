@@ -1,12 +1,10 @@
 pub mod BoxSpans
 pub mod Actions
 pub mod ShowValue
-pub mod Commands
-pub mod MainJob
 pub mod Sources
-pub mod ReducedJob
 pub mod Jobs
 pub mod Compares
+pub mod Suggested
 pub mod Pairs
 pub mod OverDevices
 pub mod OverFiles

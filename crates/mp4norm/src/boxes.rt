@@ -1,11 +1,14 @@
 //! The boxes of a file, a line each.
 ghost use Rattle.std.specs.Prelude.{◌≡◌, ◌+◌, ◌≤◌, ◌++◌, length, IfOk, OnOk};
 ghost use Rattle.std.specs.List.{All};
-ghost use Rattle.mp4norm.specs.format.BoxWalk.{height, rule_inside, top_seen, RefusesBoxes, IsWithin, RefusesTops};
+ghost use Rattle.mp4norm.specs.format.Answers.{BoxesListed};
+ghost use Rattle.mp4norm.specs.format.BoxWalk.{height, rule_inside, top_seen, IsWithin, RefusesTops};
+ghost use Rattle.mp4norm.specs.format.Run.{KeepsFile, run_of};
 ghost use Rattle.mp4norm.specs.format.Texts.{line_text, box_line, uuid_of, BoxLines};
 ghost use Rattle.mp4norm.specs.words.BoxSpans.{AddsLines, RefusesLine, RefusesSpan, TilesSpan};
 ghost use Rattle.mp4_present.specs.words.OverStores.{OnlyReads, RefusedOf, WhereHonest, WhereRead};
-ghost use Rattle.mp4norm.specs.words.OverDevices.{Answers, Reads};
+ghost use Rattle.mp4_store.specs.words.Device.{Counts};
+ghost use Rattle.mp4norm.specs.words.OverDevices.{Reads};
 
 use crate::box_json::box_json;
 use crate::headers_under::read_header;
@@ -13,7 +16,7 @@ use crate::line::Line;
 use crate::wanted::Syntax;
 use mp4_boxes::{FourCc, Refusal, Rule};
 use mp4_present::TopBox;
-use mp4_store::{Sink, Store};
+use mp4_store::{Sink, Store, StoreFailed};
 use std::alloc::Global;
 
 // The line of a box of this type and size at this place of the file, in so many containers.
@@ -39,12 +42,12 @@ fn line_of(depth: u8, kind: FourCc, offset: u64, size: u64) -> Line
 pub(crate) fn read_uuid<S: Store>(
     store: &mut S,
     found: &TopBox,
-) -> Result<Option<[u8; 16]>, Refusal>
+) -> Result<Option<[u8; 16]>, StoreFailed>
     requires { IsWithin (S.file store.old) found.now }
     ensures store { OnlyReads S.Store store.old store.new result }
     ensures uuid { WhereRead S.Store store.old result
         (λ file uuid. uuid ≡ uuid_of (top_seen file found.now)) }
-    ensures refusal { RefusedOf S.Store store.old store.new result (λ honest file. RefusesLine) }
+    ensures cause { Counts (S.read_failures store.old) (S.read_failures store.new) result }
 {
     let _size = store.len();
     let header = found.header;
@@ -201,8 +204,10 @@ pub fn boxes<S: Store, K: Sink>(
     syntax: Syntax,
     sink: &mut K,
 ) -> Result<(), Refusal>
-    ensures answer { Answers S.Store store.old store.new K.Sink sink.old sink.new result
-        (BoxLines syntax) (RefusesBoxes syntax) }
+    ensures store { KeepsFile S.Store store.old store.new }
+    ensures answer { BoxesListed syntax
+        (run_of S.Store store.old store.new K.Sink sink.old sink.new)
+        result }
 {
     let text = list_boxes(alloc, store, syntax)?;
     sink.put(text.as_slice())?;

@@ -1,23 +1,31 @@
-//! Many files, judged one after the other.
+//! Many files, judged or summed one after the other.
+use crate::fault_text::{fault_line, status};
 use crate::file_names::{push_plain, shown, word_of};
+use crate::hash_sink::DIGEST;
 use crate::input::read_input;
 use crate::json_text::name_json;
 use crate::judging::check_counted;
-use crate::reports::{Noted, Report};
+use crate::reports::{Noted, Report, tell_of};
 use crate::runs::explain_fault;
-use crate::sources::{MOST_INPUT, open};
+use crate::sources::{MOST_INPUT, Source, open};
+use crate::sum::sum_file;
+use crate::sum_lines::{push_header, sum_line, sum_object};
 use crate::verdicts::{first_name, put_verdict, verdict_status};
-use crate::wanted::{Input, Syntax, Telling, VerdictStyle};
+use crate::wanted::{Finding, Input, Syntax, Telling, VerdictStyle};
 use mp4_boxes::{Refusal, Steps};
 use mp4_store::{IoSink, Sink};
 use std::alloc::{AllocError, Global};
 use std::fs::File;
 use std::sync::ledger::Ledger;
 
-/// How files are judged: how verdicts are written, what is said beside them, and whether the file
-/// is named in that.
+/// What was found of a file: its sum, where that was asked for, or that it is accepted.
+pub(crate) type Found = Result<Option<[u8; DIGEST]>, Refusal>;
+
+/// How files are judged: what is found of each, how it is written, what is said beside that, and
+/// whether the file is named there.
 #[derive(Clone, Copy)]
 pub(crate) struct Manner {
+    finding: Finding,
     style: VerdictStyle,
     telling: Telling,
     is_named: bool,
@@ -28,14 +36,37 @@ impl Manner {
     pub(crate) fn of(
         files: &[Input],
         list: Option<Input>,
+        finding: Finding,
         style: VerdictStyle,
         telling: Telling,
     ) -> Manner {
         let is_named = files.len() != 1 || list.is_some();
         Manner {
+            finding,
             style,
             telling,
             is_named,
+        }
+    }
+}
+
+// Finds what is asked for of what is read.
+fn find<L: Ledger, M: Ledger>(
+    alloc: Global,
+    finding: Finding,
+    source: &mut Source,
+    steps: &mut Steps<L>,
+    looks: &mut Steps<M>,
+) -> Found {
+    source.check_parts()?;
+    match finding {
+        Finding::Verdict => {
+            check_counted(alloc, source, steps, looks)?;
+            Ok(None)
+        }
+        Finding::Sum { leaving, .. } => {
+            let digest = sum_file(alloc, source, leaving, steps, looks)?;
+            Ok(Some(digest))
         }
     }
 }
@@ -48,28 +79,28 @@ fn judged<L: Ledger, M: Ledger>(
     report: &mut Report,
     steps: &mut Steps<L>,
     looks: &mut Steps<M>,
-) -> Result<(), Refusal> {
+) -> Found {
     let mut source = open(rt, input, report)?;
-    let answer = match source.check_parts() {
-        Ok(()) => check_counted(rt.alloc(), &mut source, steps, looks),
-        Err(refusal) => Err(refusal),
-    };
+    let answer = find(rt.alloc(), manner.finding, &mut source, steps, looks);
     let answer = source.settled(answer);
     if let Err(refusal) = &answer {
         let name = manner.is_named.then_some(input.name());
         explain_fault(rt, name, refusal, manner.telling, &mut source, steps, looks);
+        if matches!(refusal, Refusal::StoreFailed) {
+            report.concerns_part(rt, &source)?;
+        }
     }
     answer
 }
 
-// Judges what is read, and says why it can't be read.
-fn answer_of<L: Ledger, M: Ledger>(
+/// Judges what is read, and says why it can't be read.
+pub(crate) fn answer_of<L: Ledger, M: Ledger>(
     rt: &HostRuntime,
     input: Input,
     manner: Manner,
     steps: &mut Steps<L>,
     looks: &mut Steps<M>,
-) -> Result<(), Refusal> {
+) -> Found {
     let mut report = Report::new(manner.telling);
     let answer = judged(rt, input, manner, &mut report, steps, looks);
     if matches!(answer, Err(Refusal::StoreFailed)) {
@@ -85,14 +116,14 @@ fn answer_of_listed<L: Ledger, M: Ledger>(
     manner: Manner,
     steps: &mut Steps<L>,
     looks: &mut Steps<M>,
-) -> Result<(), Refusal> {
+) -> Found {
     let word = word_of(rt.alloc(), name)?;
     let name = word.as_str();
     answer_of(rt, Input::File { name }, manner, steps, looks)
 }
 
-// Reads a list of names whole. It may come through a pipe.
-fn read_list(
+/// Reads a list whole. It may come through a pipe.
+pub(crate) fn read_list(
     rt: &HostRuntime,
     list: Option<Input>,
     report: &mut Report,
@@ -126,16 +157,53 @@ fn named(alloc: Global, name: &[u8], style: VerdictStyle) -> Result<Vec<u8>, All
 }
 
 // Puts the verdict on a file of this name, and gives its status.
-fn put_named<K: Sink>(
-    rt: &HostRuntime,
+fn put_answer<K: Sink>(
+    alloc: Global,
     name: &[u8],
     answer: &Result<(), Refusal>,
     style: VerdictStyle,
     sink: &mut K,
 ) -> Result<u8, Refusal> {
-    let name = named(rt.alloc(), name, style)?;
-    put_verdict(rt.alloc(), name.as_slice(), answer, style, sink)?;
+    let name = named(alloc, name, style)?;
+    put_verdict(alloc, name.as_slice(), answer, style, sink)?;
     Ok(verdict_status(answer))
+}
+
+// Puts the sum of a file of this name.
+fn put_sum<K: Sink>(
+    alloc: Global,
+    name: &[u8],
+    digest: &[u8; DIGEST],
+    style: VerdictStyle,
+    sink: &mut K,
+) -> Result<u8, Refusal> {
+    let line = match style.syntax {
+        Syntax::Text => sum_line(alloc, name, digest, style.end)?,
+        Syntax::Json => sum_object(alloc, name, digest, style.end)?,
+    };
+    sink.put(line.as_slice())?;
+    Ok(0)
+}
+
+// Puts what was found of a file of this name, and gives its status. A file that has no sum is told
+// of on standard error, but in JSON.
+fn put_named<K: Sink>(
+    rt: &HostRuntime,
+    name: &[u8],
+    found: &Found,
+    manner: Manner,
+    sink: &mut K,
+) -> Result<u8, Refusal> {
+    let (alloc, style) = (rt.alloc(), manner.style);
+    match (found, manner.finding) {
+        (Ok(Some(digest)), _) => put_sum(alloc, name, digest, style, sink),
+        (Ok(None), _) => put_answer(alloc, name, &Ok(()), style, sink),
+        (Err(refusal), Finding::Sum { .. }) if matches!(style.syntax, Syntax::Text) => {
+            tell_of(rt, name, fault_line(refusal).as_bytes());
+            Ok(status(refusal))
+        }
+        (Err(refusal), _) => put_answer(alloc, name, &Err(*refusal), style, sink),
+    }
 }
 
 // Judges the files of a list, and gives the greatest status.
@@ -152,7 +220,7 @@ fn check_list<K: Sink, L: Ledger, M: Ledger>(
     while !left.is_empty() {
         let (name, rest) = first_name(left);
         let answer = answer_of_listed(rt, name, manner, steps, looks);
-        worst = put_named(rt, name, &answer, manner.style, sink)?.max(worst);
+        worst = put_named(rt, name, &answer, manner, sink)?.max(worst);
         left = rest;
     }
     Ok(worst)
@@ -170,17 +238,26 @@ fn check_each<L: Ledger, M: Ledger>(
 ) -> Result<u8, Refusal> {
     let out = &mut rt.stdout();
     let mut sink = IoSink::new(Noted { out, report });
+    if let Finding::Sum {
+        leaving,
+        header: true,
+    } = manner.finding
+    {
+        let mut header = Vec::new(rt.alloc());
+        push_header(&mut header, leaving)?;
+        sink.put(header.as_slice())?;
+    }
     let mut worst = 0;
     for input in files {
         let answer = answer_of(rt, *input, manner, steps, looks);
         let name = input.name().as_bytes();
-        worst = put_named(rt, name, &answer, manner.style, &mut sink)?.max(worst);
+        worst = put_named(rt, name, &answer, manner, &mut sink)?.max(worst);
     }
     Ok(worst.max(check_list(rt, list, manner, &mut sink, steps, looks)?))
 }
 
-/// Judges each of these files and then those of a list, puts a verdict on each to standard output,
-/// in this style, and gives the greatest status. Where the list can't be read, or no verdict be
+/// Judges each of these files and then those of a list, or sums them, puts what is found of each to
+/// standard output, and gives the greatest status. Where the list can't be read, or no verdict be
 /// put, the cause is said.
 pub(crate) fn check_all<L: Ledger, M: Ledger>(
     rt: &HostRuntime,

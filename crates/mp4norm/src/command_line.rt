@@ -9,7 +9,7 @@ use crate::file_names::shown_word;
 use crate::leaving_words::leaving_of;
 use crate::named::Name;
 use crate::wanted::{
-    Action, CommandFault, Comparison, Form, Input, Job, Order, Syntax, Target, Telling,
+    Action, CommandFault, Comparison, Finding, Form, Input, Job, Order, Syntax, Target, Telling,
     VerdictStyle,
 };
 use clap::error::ErrorKind;
@@ -30,12 +30,17 @@ const NO_LIST: &str = "'@' names no list of files; a file of this name is './@'"
 
 const LOSSY_ALONE: &str = "the argument '--lossy' is of use only with '--foreign'";
 
+const QUIET_ALONE: &str = "the argument '--quiet' is of use only with '--check <LIST>'";
+
+const CHECK_ALONE: &str = "\
+the argument '--check <LIST>' can be used only with '--quiet', '--explain' and '--brief'";
+
 const INPUT_TWICE: &str = "standard input ('-') can be read only once";
 
 // The rules of lists of words.
 const DROP_RULE: &str = "\
-each type is four printable characters or eight hexadecimal digits, and not free; \
-before a slash only a container whose boxes are listed may stand";
+each type is four printable characters or eight hexadecimal digits, and not free, or uuid: and a \
+UUID; before a slash only a container whose boxes are listed may stand";
 
 const WITHOUT_RULE: &str = "each word is times, edits, flags, groups or metadata";
 
@@ -115,8 +120,12 @@ fn form_of(found: &ArgMatches) -> Form {
     }
 }
 
-// Which files are to be judged.
-fn check_asked<'a>(alloc: Global, found: &ArgMatches<'a>) -> Result<Action<'a>, AllocError>
+// Which files are to be judged, or summed.
+fn check_asked<'a>(
+    alloc: Global,
+    found: &ArgMatches<'a>,
+    finding: Finding,
+) -> Result<Action<'a>, AllocError>
     ensures { IfOk result IsAction }
 {
     let mut files = Vec::new(alloc);
@@ -132,6 +141,7 @@ fn check_asked<'a>(alloc: Global, found: &ArgMatches<'a>) -> Result<Action<'a>, 
     Ok(Action::Check {
         files,
         list,
+        finding,
         style,
         telling,
     })
@@ -251,6 +261,25 @@ fn run_asked<'a>(
     Ok(Action::Run { job, order })
 }
 
+// Which files are to be summed, or which list of sums is to be checked.
+fn sum_asked<'a>(alloc: Global, found: &ArgMatches<'a>) -> Result<Action<'a>, CommandFault>
+    ensures { IfOk result IsAction }
+{
+    if let Some(word) = found.get_str("check") {
+        return Ok(Action::CheckSums {
+            list: plain_input_of(word),
+            quiet: found.get_flag("quiet"),
+            telling: telling_of(found),
+        });
+    }
+    let is_plain = !found.get_flag("zero") && !found.get_flag("json");
+    let finding = Finding::Sum {
+        leaving: left_out(alloc, found)?,
+        header: is_plain && !found.get_flag("no-header"),
+    };
+    Ok(check_asked(alloc, found, finding)?)
+}
+
 // How differences are to be told of.
 fn listing_of(found: &ArgMatches) -> Listing {
     let syntax = syntax_of(found);
@@ -289,6 +318,17 @@ fn names_no_list(found: &ArgMatches) -> bool {
     files.iter().any(|file| *file == "@") || sides.iter().any(|it| found.get_str(*it) == Some("@"))
 }
 
+// Whether words say which files are summed, and how; a list of sums says that itself.
+fn says_how_to_sum(found: &ArgMatches) -> bool {
+    let flags = ["zero", "json", "no-header"];
+    found
+        .get_strs("file")
+        .is_some_and(|files| !files.is_empty())
+        || found.get_str("names-from").is_some()
+        || found.get_str("without").is_some()
+        || flags.iter().any(|flag| found.get_flag(*flag))
+}
+
 // How often standard input is named.
 fn inputs_in(found: &ArgMatches) -> usize {
     let files = found.get_strs("file").unwrap_or(&[]);
@@ -318,6 +358,10 @@ fn odds_of(matches: &ArgMatches) -> Option<&'static str> {
         Some(LIMIT_ALONE)
     } else if found.get_flag("lossy") && !found.get_flag("foreign") {
         Some(LOSSY_ALONE)
+    } else if found.get_flag("quiet") && found.get_str("check").is_none() {
+        Some(QUIET_ALONE)
+    } else if found.get_str("check").is_some() && says_how_to_sum(found) {
+        Some(CHECK_ALONE)
     } else {
         None
     }
@@ -345,7 +389,8 @@ fn of_matches<'a>(alloc: Global, matches: &ArgMatches<'a>) -> Result<Action<'a>,
         return Err(missing(alloc));
     };
     match name {
-        "check" => Ok(check_asked(alloc, found)?),
+        "check" => Ok(check_asked(alloc, found, Finding::Verdict)?),
+        "sum" => sum_asked(alloc, found),
         "strip" => strip_asked(alloc, found),
         "compare" => compare_asked(alloc, found),
         name => run_asked(alloc, name, found),

@@ -19,7 +19,7 @@ Status:
   2   failed: memory
   3   failed: store, failed: store changed, failed: write
   4   failed: no such track
-  5   compare: the files differ
+  5   compare: the files differ; sum --check: a sum does
   64  the arguments are invalid
 
 Example: mp4norm normalise movie.mp4 --out normal.mp4";
@@ -47,6 +47,10 @@ const LOSSY: &str = "\
 With --foreign: make NEW also where what is lost is needed to play or to tell what samples say";
 
 const ZERO: &str = "End each line with a zero byte in place of a line feed";
+
+const NO_HEADER: &str = "Print no line before all others that says of what the sums are";
+
+const QUIET: &str = "With --check: say nothing of files that have their sum";
 
 const ALL: &str = "List all differences, and count them, in place of the first alone";
 
@@ -185,7 +189,10 @@ fn drop_arg<'a>(alloc: Global) -> Result<Arg<'a>, AllocError> {
     Arg::new(alloc, "drop")
         .long("drop")
         .value_name("TYPES")
-        .help("The types of the boxes, apart by commas; moov/uuid means those in a moov alone")
+        .help(
+            "The types of the boxes, apart by commas; moov/uuid means those in a moov alone, \
+             uuid:be7acfcb-97a9-42e8-9c71-999491e3afac the uuid boxes that begin so",
+        )
         .action(ArgAction::Set)
         .required_unless_present("foreign")
 }
@@ -231,6 +238,36 @@ fn check_command<'a>(alloc: Global) -> Result<Command<'a>, AllocError> {
         .arg(flag(alloc, "json", JSON))?
         .arg(flag(alloc, "explain", EXPLAIN))?
         .arg(flag(alloc, "brief", BRIEF))
+}
+
+fn sum_command<'a>(alloc: Global) -> Result<Command<'a>, AllocError> {
+    let files = files_arg(alloc)?.help("The MP4 files to sum, or - for standard input");
+    let command = Command::new(alloc, "sum")
+        .about("Prints the SHA-256 of each file's normal form, as sha256sum does")
+        .after_help("Example: mp4norm sum *.mp4 --without times > list; mp4norm sum --check list")
+        .arg(files.required_unless_present("check")?)?
+        .arg(list_arg(alloc))?
+        .arg(without_arg(alloc))?
+        .arg(flag(alloc, "zero", ZERO))?;
+    sum_flags(command, alloc)
+}
+
+fn sum_flags<'a>(command: Command<'a>, alloc: Global) -> Result<Command<'a>, AllocError> {
+    command
+        .arg(flag(alloc, "json", JSON))?
+        .arg(flag(alloc, "no-header", NO_HEADER))?
+        .arg(checked_arg(alloc))?
+        .arg(flag(alloc, "quiet", QUIET))?
+        .arg(flag(alloc, "explain", EXPLAIN))?
+        .arg(flag(alloc, "brief", BRIEF))
+}
+
+fn checked_arg<'a>(alloc: Global) -> Arg<'a> {
+    Arg::new(alloc, "check")
+        .long("check")
+        .value_name("LIST")
+        .help("Say of each file that LIST names whether it has the sum that stands there")
+        .action(ArgAction::Set)
 }
 
 fn side_arg<'a>(alloc: Global, name: &'a str, shown: &'a str) -> Arg<'a> {
@@ -284,5 +321,6 @@ pub(crate) fn whole_command<'a>(alloc: Global) -> Result<Command<'a>, AllocError
         .subcommand(normalise_command(alloc)?)?
         .subcommand(compare_command(alloc)?)?
         .subcommand(check_command(alloc)?)?
+        .subcommand(sum_command(alloc)?)?
         .subcommand(strip_command(alloc)?)
 }

@@ -1,16 +1,18 @@
 //! Two files, compared by what they say.
-ghost use Rattle.std.specs.Prelude.{◌≡◌, ◌<◌, length, IfOk, IfErr, IfSome, OnOk};
-ghost use Rattle.mp4norm.specs.format.CompareHeadline.{IsVerdict, ComparesWithin, FindsBothWithin};
-ghost use Rattle.mp4norm.specs.words.Compares.{side_of, says_nothing, is_silent, IsSaid, ListsFront, PutsAnswer, PutsSame, WalksTwice, WalksThrice, RefusesAnswer};
+ghost use Rattle.std.specs.Prelude.{◌≡◌, ◌<◌, [], ◌∷◌, length, take, Some, true, false, IfOk, IfErr, IfSome, OnOk};
+ghost use Rattle.mp4norm.specs.declared.comparing.Listing.TheVariants.{All};
+ghost use Rattle.mp4norm.specs.format.CompareHeadline.{IsVerdict, IsTold, difference_in, PutsSuch, ComparesWithin, FindsBothWithin};
+ghost use Rattle.mp4norm.specs.format.DifferenceObject.{last_object};
+ghost use Rattle.mp4norm.specs.words.Compares.{side_of, says_nothing, is_silent, AddsLines, AddsLast, IsCounted, IsEnoughOf, IsEnoughFor, IsFoundOf, IsSaid, ListsFront, PutsAnswer, PutsFound, PutsSame, WalksTwice, WalksThrice, RefusesAnswer};
 ghost use Rattle.mp4_present.specs.words.OverStores.{IsUnchanged, WhereBothHonest};
 ghost use Rattle.mp4norm.specs.words.OverDevices.{NoPutFails};
 ghost use Rattle.mp4_present.specs.words.Compared.{OfFiles, WhereOpenedBoth};
-ghost use Rattle.mp4norm.specs.words.OverFiles.{ComparesBoth, ReadsBoth, WalksOnce};
+ghost use Rattle.mp4norm.specs.words.OverFiles.{ComparesBoth, OfBoth, ReadsBoth, WalksOnce};
 
-use crate::difference_json::{say_difference_object, say_tally_object};
+use crate::difference_json::{say_difference_object, say_last_object};
 use crate::difference_lines::say_difference;
 use crate::leaving_words::EVERYTHING;
-use crate::tally::{Tally, say_tally};
+use crate::tally::{say_last, suggested};
 use crate::wanted::Syntax;
 use mp4_boxes::{Refusal, Steps};
 use mp4_present::{Difference, Differences, Leaving, Movie, compare, compare_all, open_movie};
@@ -124,7 +126,9 @@ impl Differences for Listed {
 
 // Adds a difference in this syntax.
 fn say_in(text: &mut Vec<u8>, difference: Difference, syntax: Syntax) -> Result<(), AllocError>
-    ensures { OnOk result (0 < length text.new.items) }
+    ensures lines { OnOk result
+        (AddsLines syntax (difference ∷ []) text.old.items text.new.items) }
+    ensures some { OnOk result (0 < length text.new.items) }
 {
     match syntax {
         Syntax::Text => say_difference(text, difference),
@@ -132,34 +136,58 @@ fn say_in(text: &mut Vec<u8>, difference: Difference, syntax: Syntax) -> Result<
     }
 }
 
+// Adds the line that ends a list, in this syntax.
+fn say_last_in(
+    text: &mut Vec<u8>,
+    all: &[Difference],
+    is_whole: bool,
+    enough: Option<Leaving>,
+    syntax: Syntax,
+) -> Result<(), AllocError>
+    ensures line { OnOk result
+        (AddsLast syntax is_whole all.now enough text.old.items text.new.items) }
+    ensures some { OnOk result (0 < length text.new.items) }
+{
+    match syntax {
+        Syntax::Text => say_last(text, all, is_whole, enough),
+        Syntax::Json => say_last_object(text, all, is_whole, enough),
+    }
+}
+
 // The text of a first difference.
 fn first_text(alloc: Global, difference: Difference, syntax: Syntax) -> Result<Vec<u8>, AllocError>
-    ensures { IfOk result (λ text. 0 < length text.items) }
+    ensures line { IfOk result (λ text. text.items ≡ difference_in syntax difference) }
+    ensures some { IfOk result (λ text. 0 < length text.items) }
 {
     let mut text = Vec::new(alloc);
     say_in(&mut text, difference, syntax)?;
     Ok(text)
 }
 
-// The text of the first differences, and of the counts of all.
+// The first of some differences, so many or all.
+fn first_of(all: &[Difference], most: usize) -> &[Difference]
+    ensures { result.now ≡ take most all.now }
+{
+    &all[..all.len().min(most)]
+}
+
+// The text of the first of some differences, and of the counts of all.
 fn listed_text(
     alloc: Global,
     all: &[Difference],
     lines: Lines,
     is_whole: bool,
-    tally: &Tally,
     enough: Option<Leaving>,
 ) -> Result<Vec<u8>, AllocError>
-    ensures { IfOk result (λ text. 0 < length text.items) }
+    ensures list { IfOk result (λ text.
+        IsCounted lines.syntax lines.limit all.now is_whole enough text.items) }
+    ensures some { IfOk result (λ text. 0 < length text.items) }
 {
     let mut text = Vec::new(alloc);
-    for difference in all.iter().take(lines.limit as usize) {
+    for difference in first_of(all, lines.limit as usize) {
         say_in(&mut text, *difference, lines.syntax)?;
     }
-    match lines.syntax {
-        Syntax::Text => say_tally(&mut text, tally, is_whole, enough)?,
-        Syntax::Json => say_tally_object(&mut text, tally, is_whole, enough)?,
-    }
+    say_last_in(&mut text, all, is_whole, enough, lines.syntax)?;
     Ok(text)
 }
 
@@ -170,7 +198,8 @@ fn same_text(
     leaving: Leaving,
     listing: Listing,
 ) -> Result<Option<Vec<u8>>, AllocError>
-    ensures some { IfOk result (λ said. IfSome said (λ text. 0 < length text.items)) }
+    ensures some { IfOk result
+        (λ said. IfSome said (λ text. text.items ≡ last_object true [] (Some leaving))) }
     ensures silent { IfOk result (λ said. says_nothing said ≡ is_silent listing) }
 {
     match listing {
@@ -181,19 +210,14 @@ fn same_text(
             },
         ) => {
             let mut text = Vec::new(alloc);
-            say_tally_object(&mut text, &Tally::of(&[]), true, Some(leaving))?;
+            say_last_object(&mut text, &[], true, Some(leaving))?;
             Ok(Some(text))
         }
         _ => Ok(None),
     }
 }
 
-// As many of some differences as are counted.
-fn counted(all: &[Difference]) -> &[Difference] {
-    &all[..all.len().min(MOST)]
-}
-
-// What differs between two opened files, as much as is counted, and whether that is all.
+// What differs between two opened files: all, or more than is counted.
 fn all_of<S: Store, T: Store, L: Ledger>(
     alloc: Global,
     left: &Movie,
@@ -202,10 +226,10 @@ fn all_of<S: Store, T: Store, L: Ledger>(
     b: &mut T,
     leaving: Leaving,
     steps: &mut Steps<L>,
-) -> Result<(Listed, bool), Refusal>
+) -> Result<Listed, Refusal>
     ensures stores { ReadsBoth S.Store a.old a.new T.Store b.old b.new result }
     ensures all { IfOk result (λ found. OfFiles S.Store a.old left.now T.Store b.old right.now
-        leaving (ListsFront found.0.all.items)) }
+        leaving (ListsFront found.all.items)) }
     ensures opened { WhereOpenedBoth S.Store a.old left.now T.Store b.old right.now
         (λ tree other. IsUnchanged result × WalksOnce tree other steps.old steps.new) }
 {
@@ -217,7 +241,7 @@ fn all_of<S: Store, T: Store, L: Ledger>(
     if !is_whole && listed.all.len() <= MOST {
         return Err(Refusal::Memory);
     }
-    Ok((listed, is_whole))
+    Ok(listed)
 }
 
 // What is left out more, if two opened files are the same without it.
@@ -231,6 +255,8 @@ fn enough_of<S: Store, T: Store, L: Ledger>(
     steps: &mut Steps<L>,
 ) -> Result<Option<Leaving>, Refusal>
     ensures stores { ReadsBoth S.Store a.old a.new T.Store b.old b.new result }
+    ensures enough { IfOk result (λ enough. OfBoth S.Store a.old left.now T.Store b.old right.now
+        (λ differ. IsEnoughOf more differ enough)) }
     ensures opened { WhereOpenedBoth S.Store a.old left.now T.Store b.old right.now
         (λ tree other. IsUnchanged result × WalksOnce tree other steps.old steps.new) }
 {
@@ -256,6 +282,8 @@ fn enough_for<S: Store, T: Store, L: Ledger>(
     steps: &mut Steps<L>,
 ) -> Result<Option<Leaving>, Refusal>
     ensures stores { ReadsBoth S.Store a.old a.new T.Store b.old b.new result }
+    ensures enough { IfOk result (λ enough. OfBoth S.Store a.old left.now T.Store b.old right.now
+        (λ differ. IsEnoughFor more is_whole differ enough)) }
     ensures opened { WhereOpenedBoth S.Store a.old left.now T.Store b.old right.now
         (λ tree other. IsUnchanged result × WalksTwice tree other steps.old steps.new) }
 {
@@ -281,19 +309,20 @@ fn all_text<S: Store, T: Store, L: Ledger>(
     ensures some { IfOk result (λ found. IfSome found (λ text. 0 < length text.items)) }
     ensures said { IfOk result (λ text. OfFiles S.Store a.old left.now T.Store b.old right.now
         leaving (IsSaid text)) }
+    ensures told { IfOk result (λ text. OfBoth S.Store a.old left.now T.Store b.old right.now
+        (λ differ. IsFoundOf (λ bytes. bytes.items) (All lines) leaving differ text)) }
     ensures opened { WhereOpenedBoth S.Store a.old left.now T.Store b.old right.now
         (λ tree other. IsUnchanged result × WalksThrice tree other steps.old steps.new) }
 {
-    let (listed, is_whole) = all_of(alloc, left, a, right, b, leaving, steps)?;
+    let listed = all_of(alloc, left, a, right, b, leaving, steps)?;
     if listed.is_empty() {
         return Ok(None);
     }
-    let all = counted(listed.all.as_slice());
-    let is_whole = is_whole && listed.all.len() <= MOST;
-    let tally = Tally::of(all);
-    let more = tally.suggests(leaving);
+    let is_whole = listed.all.len() <= MOST;
+    let all = first_of(listed.all.as_slice(), MOST);
+    let more = suggested(leaving, all);
     let enough = enough_for(alloc, left, a, right, b, more, is_whole, steps)?;
-    Ok(Some(listed_text(alloc, all, lines, is_whole, &tally, enough)?))
+    Ok(Some(listed_text(alloc, all, lines, is_whole, enough)?))
 }
 
 // Compares two opened files, and gives what there is to say; nothing where they are the same.
@@ -311,6 +340,8 @@ fn text_of<S: Store, T: Store, L: Ledger>(
     ensures some { IfOk result (λ found. IfSome found (λ text. 0 < length text.items)) }
     ensures said { IfOk result (λ text. OfFiles S.Store a.old left.now T.Store b.old right.now
         leaving (IsSaid text)) }
+    ensures told { IfOk result (λ text. OfBoth S.Store a.old left.now T.Store b.old right.now
+        (λ differ. IsFoundOf (λ bytes. bytes.items) listing leaving differ text)) }
     ensures opened { WhereOpenedBoth S.Store a.old left.now T.Store b.old right.now
         (λ tree other. IsUnchanged result × WalksThrice tree other steps.old steps.new) }
 {
@@ -332,8 +363,8 @@ fn put_same<K: Sink>(
 ) -> Result<(), Refusal>
     ensures puts { NoPutFails K.Sink sink.old sink.new result }
     ensures put { OnOk result
-        (PutsSame (is_silent listing) (K.contents sink.old) (K.contents sink.new)) }
-    ensures refusal { IfErr result (RefusesAnswer (K.contents sink.old) (K.contents sink.new)
+        (PutsSame leaving (is_silent listing) (K.takes sink.old sink.new)) }
+    ensures refusal { IfErr result (RefusesAnswer (K.takes sink.old sink.new)
         (K.put_failures sink.old) (K.put_failures sink.new)) }
 {
     if let Some(said) = same_text(alloc, leaving, listing)? {
@@ -353,9 +384,11 @@ fn put_found<K: Sink>(
     requires { IfSome found (λ text. 0 < length text.items) }
     ensures puts { NoPutFails K.Sink sink.old sink.new result }
     ensures is { IfOk result (λ same. same ≡ says_nothing found) }
+    ensures all { OnOk result
+        (PutsFound (λ bytes. bytes.items) found (K.takes sink.old sink.new)) }
     ensures put { IfOk result
-        (PutsAnswer (is_silent listing) (K.contents sink.old) (K.contents sink.new)) }
-    ensures refusal { IfErr result (RefusesAnswer (K.contents sink.old) (K.contents sink.new)
+        (PutsAnswer leaving (is_silent listing) (K.takes sink.old sink.new)) }
+    ensures refusal { IfErr result (RefusesAnswer (K.takes sink.old sink.new)
         (K.put_failures sink.old) (K.put_failures sink.new)) }
 {
     let Some(text) = found else {
@@ -379,9 +412,12 @@ pub fn compare_files<S: Store, T: Store, K: Sink, L: Ledger, M: Ledger>(
     looks: &mut Steps<M>,
 ) -> Result<bool, Failure>
     ensures answer { ComparesBoth S.Store a.old a.new T.Store b.old b.new
-        K.Sink sink.old sink.new (is_silent listing) result }
+        K.Sink sink.old sink.new leaving (is_silent listing) result }
     ensures verdict { IfOk result (λ same. WhereBothHonest S.Store a.old T.Store b.old
         (λ file other. IsVerdict leaving file other same)) }
+    ensures told { IfOk result (λ same. same ≡ false → WhereBothHonest S.Store a.old T.Store b.old
+        (λ file other. PutsSuch (K.takes sink.old sink.new)
+        (IsTold listing leaving file other))) }
     ensures work { WhereBothHonest S.Store a.old T.Store b.old
         (λ file other. ComparesWithin file other steps.old steps.new) }
     ensures looks { WhereBothHonest S.Store a.old T.Store b.old

@@ -48,11 +48,22 @@ fn open_side<'a>(
 }
 
 // Says why reading or writing failed, once both files are open.
-fn tell_cause(rt: &HostRuntime, asked: Comparison, failure: &Failure, report: &Report) {
+fn tell_cause(
+    rt: &HostRuntime,
+    asked: Comparison,
+    failure: &Failure,
+    first: &Source,
+    second: &Source,
+    report: &Report,
+) {
     let (left, right) = (asked.left.name(), asked.right.name());
     match (&failure.refusal, failure.side) {
-        (Refusal::StoreFailed, Side::First) => report.tell_input(rt, left),
-        (Refusal::StoreFailed, Side::Second) => report.tell_input(rt, right),
+        (Refusal::StoreFailed, Side::First) => {
+            report.tell_input(rt, first.trouble().unwrap_or(left));
+        }
+        (Refusal::StoreFailed, Side::Second) => {
+            report.tell_input(rt, second.trouble().unwrap_or(right));
+        }
         (Refusal::StoreFailed, _) => report.tell_either(rt, left, right),
         (Refusal::WriteFailed, _) => report.tell_output(rt, "-"),
         _ => {}
@@ -114,7 +125,7 @@ fn answer<L: Ledger, M: Ledger>(
     );
     if let Err(failure) = &answer {
         let refusal = &failure.refusal;
-        tell_cause(rt, asked, failure, &report);
+        tell_cause(rt, asked, failure, &first, &second, &report);
         if matches!(failure.side, Side::First) {
             let name = Some(left.name());
             explain_fault(rt, name, refusal, telling, &mut first, steps, looks);

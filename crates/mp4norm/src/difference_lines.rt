@@ -1,7 +1,11 @@
 //! The line that tells of a difference.
-ghost use Rattle.std.specs.Prelude.{◌<◌, ◌≤◌, length, OnOk};
+ghost use Rattle.std.specs.Prelude.{◌≡◌, ◌≤◌, ◌++◌, OnOk, decimal};
+ghost use Rattle.std.specs.Fmt.{signed_decimal};
+ghost use Rattle.mp4norm.specs.format.Texts.{hex_digits, type_text, line_feed};
+ghost use Rattle.mp4_present.specs.declared.differences.Field.TheVariants as fields;
+ghost use Rattle.mp4norm.specs.format.DifferenceLine.{byte_text, difference_line, difference_text, digits_of, entries_name, entry_name, entry_number, field_name, field_text, is_numbered, part_text, subject_text, value_text};
 
-use crate::digits::{hex_digit, write_digits};
+use crate::digits::{write_digits, write_hex};
 use crate::line::Line;
 use mp4_boxes::FourCc;
 use mp4_present::{Difference, Entries, Field, Part, Subject, Value};
@@ -9,38 +13,46 @@ use mp4_tables::GroupKey;
 use std::alloc::AllocError;
 
 /// Adds words to a text.
-pub(crate) fn say(text: &mut Vec<u8>, words: &str) -> Result<(), AllocError> {
+pub(crate) fn say(text: &mut Vec<u8>, words: &str) -> Result<(), AllocError>
+    ensures { OnOk result (text.new.items ≡ text.old.items ++ words.now) }
+{
     text.extend_from_slice(words.as_bytes())
 }
 
 /// Ends a line of a text.
 pub(crate) fn end_line(text: &mut Vec<u8>) -> Result<(), AllocError>
-    ensures { OnOk result (0 < length text.new.items) }
+    ensures { OnOk result (text.new.items ≡ text.old.items ++ line_feed) }
 {
     text.extend_from_slice(b"\n")
 }
 
 /// Adds a number in decimal digits.
-pub(crate) fn say_number(text: &mut Vec<u8>, number: u64) -> Result<(), AllocError> {
+pub(crate) fn say_number(text: &mut Vec<u8>, number: u64) -> Result<(), AllocError>
+    ensures { OnOk result (text.new.items ≡ text.old.items ++ decimal number) }
+{
     let mut digits = [0; 20];
     let start = write_digits(&mut digits, 20, number);
     text.extend_from_slice(&digits[start..])
 }
 
-/// Adds numbers, each behind its words, and words behind all.
-pub(crate) fn say_numbers(
+/// Adds a number between words.
+pub(crate) fn say_counted(
     text: &mut Vec<u8>,
-    numbers: &[(&str, u64)],
+    front: &str,
+    number: u64,
     end: &str,
-) -> Result<(), AllocError> {
-    for (words, number) in numbers {
-        say(text, words)?;
-        say_number(text, *number)?;
-    }
+) -> Result<(), AllocError>
+    ensures { OnOk result
+        (text.new.items ≡ text.old.items ++ front.now ++ decimal number ++ end.now) }
+{
+    say(text, front)?;
+    say_number(text, number)?;
     say(text, end)
 }
 
-fn say_signed(text: &mut Vec<u8>, number: i64) -> Result<(), AllocError> {
+fn say_signed(text: &mut Vec<u8>, number: i64) -> Result<(), AllocError>
+    ensures { OnOk result (text.new.items ≡ text.old.items ++ signed_decimal number) }
+{
     if number < 0 {
         say(text, "-")?;
     }
@@ -48,52 +60,77 @@ fn say_signed(text: &mut Vec<u8>, number: i64) -> Result<(), AllocError> {
 }
 
 // Adds a number in so many hexadecimal digits.
-fn say_hex(text: &mut Vec<u8>, number: u64, digits: u32) -> Result<(), AllocError>
+fn say_hex(text: &mut Vec<u8>, number: u64, digits: u8) -> Result<(), AllocError>
     requires { digits ≤ 16 }
+    ensures { OnOk result (text.new.items ≡ text.old.items ++ hex_digits digits number) }
 {
-    for k in 0..digits {
-        let digit = number >> (4 * (digits - 1 - k)) & 15;
-        text.push(hex_digit(digit as u8))?;
-    }
-    Ok(())
+    let mut room = [0; 16];
+    let start = write_hex(&mut room, 16, number, digits);
+    text.extend_from_slice(&room[start..])
 }
 
-fn say_type(text: &mut Vec<u8>, kind: FourCc) -> Result<(), AllocError> {
+fn say_type(text: &mut Vec<u8>, kind: FourCc) -> Result<(), AllocError>
+    ensures { OnOk result (text.new.items ≡ text.old.items ++ type_text kind.0) }
+{
     let mut line = Line::new();
     line.push_type(kind);
     text.extend_from_slice(line.as_bytes())
 }
 
-fn say_subject(text: &mut Vec<u8>, subject: Subject) -> Result<(), AllocError> {
+fn say_subject(text: &mut Vec<u8>, subject: Subject) -> Result<(), AllocError>
+    ensures { OnOk result (text.new.items ≡ text.old.items ++ subject_text subject) }
+{
     match subject {
         Subject::Movie => say(text, "movie: "),
-        Subject::Track(track) => say_numbers(text, &[("track ", track)], ": "),
+        Subject::Track(track) => say_counted(text, "track ", track, ": "),
         Subject::Sample(track, sample) => {
-            let sample = u64::from(sample);
-            say_numbers(text, &[("track ", track), (": sample ", sample)], ": ")
+            say_counted(text, "track ", track, ": sample ")?;
+            say_counted(text, "", u64::from(sample), ": ")
         }
     }
 }
 
-/// What one entry of a list is called, what several are, and whether one has a number.
-pub(crate) fn names_of(entries: Entries) -> (&'static str, &'static str, bool) {
+/// What one entry of a list is called.
+pub(crate) fn entry_name(entries: Entries) -> &'static str
+    ensures { result.now ≡ entry_name entries }
+{
     match entries {
-        Entries::Edits => ("edit", "edits", true),
-        Entries::Kept => ("kept box", "kept boxes", true),
-        Entries::Handler => ("handler", "handlers", false),
-        Entries::ExtendedLanguages => ("extended language", "extended languages", true),
-        Entries::MediaHeader => ("media header", "media headers", false),
-        Entries::Descriptions => ("description", "descriptions", true),
-        Entries::GroupDescriptions => ("group description", "group descriptions", true),
+        Entries::Edits => "edit",
+        Entries::Kept => "kept box",
+        Entries::Handler => "handler",
+        Entries::ExtendedLanguages => "extended language",
+        Entries::MediaHeader => "media header",
+        Entries::Descriptions => "description",
+        Entries::GroupDescriptions => "group description",
+    }
+}
+
+/// And what several are.
+pub(crate) fn entries_name(entries: Entries) -> &'static str
+    ensures { result.now ≡ entries_name entries }
+{
+    match entries {
+        Entries::Edits => "edits",
+        Entries::Kept => "kept boxes",
+        Entries::Handler => "handlers",
+        Entries::ExtendedLanguages => "extended languages",
+        Entries::MediaHeader => "media headers",
+        Entries::Descriptions => "descriptions",
+        Entries::GroupDescriptions => "group descriptions",
     }
 }
 
 // A byte of so many.
-fn say_byte(text: &mut Vec<u8>, number: u64, of: u64) -> Result<(), AllocError> {
-    say_numbers(text, &[("byte ", number), (" of ", of)], ":")
+fn say_byte(text: &mut Vec<u8>, number: u64, of: u64) -> Result<(), AllocError>
+    ensures { OnOk result (text.new.items ≡ text.old.items ++ byte_text number of) }
+{
+    say_counted(text, "byte ", number, " of ")?;
+    say_counted(text, "", of, ":")
 }
 
-fn say_part(text: &mut Vec<u8>, part: Part) -> Result<(), AllocError> {
+fn say_part(text: &mut Vec<u8>, part: Part) -> Result<(), AllocError>
+    ensures { OnOk result (text.new.items ≡ text.old.items ++ part_text part) }
+{
     match part {
         Part::Kind => say(text, "type"),
         Part::Length => say(text, "bytes"),
@@ -105,32 +142,38 @@ fn say_part(text: &mut Vec<u8>, part: Part) -> Result<(), AllocError> {
     }
 }
 
-fn say_entry(
-    text: &mut Vec<u8>,
-    entries: Entries,
-    number: u64,
-    part: Part,
-) -> Result<(), AllocError> {
-    let (name, _, is_counted) = names_of(entries);
-    say(text, name)?;
-    if is_counted {
-        say_numbers(text, &[(" ", number)], "")?;
-    }
-    say(text, ": ")?;
-    say_part(text, part)
+/// Whether an entry has a number, since there may be several.
+pub(crate) fn is_numbered(entries: Entries) -> bool
+    ensures { result ≡ is_numbered entries }
+{
+    !matches!(entries, Entries::Handler | Entries::MediaHeader)
 }
 
-fn say_group(text: &mut Vec<u8>, key: GroupKey) -> Result<(), AllocError> {
+// Adds the number of an entry, if it has one.
+fn say_entry_number(text: &mut Vec<u8>, entries: Entries, number: u64) -> Result<(), AllocError>
+    ensures { OnOk result (text.new.items ≡ text.old.items ++ entry_number entries number) }
+{
+    if !is_numbered(entries) {
+        return Ok(());
+    }
+    say_counted(text, " ", number, "")
+}
+
+fn say_group(text: &mut Vec<u8>, key: GroupKey) -> Result<(), AllocError>
+    ensures { OnOk result (text.new.items ≡ text.old.items ++ field_text (fields.Group key)) }
+{
     say(text, "group ")?;
     say_type(text, key.kind)?;
     if let Some(parameter) = key.parameter {
-        say_numbers(text, &[(" ", u64::from(parameter))], "")?;
+        say_counted(text, " ", u64::from(parameter), "")?;
     }
     say(text, ":")
 }
 
 /// What a value of one word is called.
-pub(crate) fn name_of(field: Field) -> &'static str {
+pub(crate) fn name_of(field: Field) -> &'static str
+    ensures { result.now ≡ field_name field }
+{
     match field {
         Field::Creation => "creation time",
         Field::Modification => "modification time",
@@ -152,15 +195,23 @@ pub(crate) fn name_of(field: Field) -> &'static str {
         Field::Duration => "duration",
         Field::Offset => "offset",
         Field::Description => "description",
-        _ => "size",
+        Field::Size => "size",
+        _ => "",
     }
 }
 
-fn say_field(text: &mut Vec<u8>, field: Field) -> Result<(), AllocError> {
+fn say_field(text: &mut Vec<u8>, field: Field) -> Result<(), AllocError>
+    ensures { OnOk result (text.new.items ≡ text.old.items ++ field_text field) }
+{
     match field {
-        Field::Matrix(number) => say_numbers(text, &[("matrix entry ", number)], ""),
-        Field::Count(entries) => say(text, names_of(entries).1),
-        Field::Entry(entries, number, part) => say_entry(text, entries, number, part),
+        Field::Matrix(number) => say_counted(text, "matrix entry ", number, ""),
+        Field::Count(entries) => say(text, entries_name(entries)),
+        Field::Entry(entries, number, part) => {
+            say(text, entry_name(entries))?;
+            say_entry_number(text, entries, number)?;
+            say(text, ": ")?;
+            say_part(text, part)
+        }
         Field::Group(key) => say_group(text, key),
         Field::Byte(number, of) => say_byte(text, number, of),
         _ => say(text, name_of(field)),
@@ -168,8 +219,9 @@ fn say_field(text: &mut Vec<u8>, field: Field) -> Result<(), AllocError> {
 }
 
 /// How many hexadecimal digits a number of this field has; 0 for decimal digits.
-pub(crate) fn digits_of(subject: Subject, field: Field) -> u32
-    ensures { result ≤ 16 }
+pub(crate) fn digits_of(subject: Subject, field: Field) -> u8
+    ensures is { result ≡ digits_of subject field }
+    ensures few { result ≤ 16 }
 {
     match (subject, field) {
         (Subject::Sample(_, _), Field::Flags) => 8,
@@ -180,8 +232,9 @@ pub(crate) fn digits_of(subject: Subject, field: Field) -> u32
 }
 
 /// Adds a value, a number in so many hexadecimal digits, or in decimal ones if these are 0.
-pub(crate) fn say_value(text: &mut Vec<u8>, value: Value, digits: u32) -> Result<(), AllocError>
+pub(crate) fn say_value(text: &mut Vec<u8>, value: Value, digits: u8) -> Result<(), AllocError>
     requires { digits ≤ 16 }
+    ensures { OnOk result (text.new.items ≡ text.old.items ++ value_text digits value) }
 {
     match value {
         Value::Number(number) if digits > 0 => say_hex(text, number, digits),
@@ -194,7 +247,9 @@ pub(crate) fn say_value(text: &mut Vec<u8>, value: Value, digits: u32) -> Result
 
 /// Adds the line that tells of a difference, without its line feed: the way to the value, the value
 /// in the one file, and that in the other.
-pub(crate) fn say_line(text: &mut Vec<u8>, difference: Difference) -> Result<(), AllocError> {
+pub(crate) fn say_line(text: &mut Vec<u8>, difference: Difference) -> Result<(), AllocError>
+    ensures { OnOk result (text.new.items ≡ text.old.items ++ difference_text difference) }
+{
     let digits = digits_of(difference.subject, difference.field);
     say_subject(text, difference.subject)?;
     say_field(text, difference.field)?;
@@ -206,7 +261,7 @@ pub(crate) fn say_line(text: &mut Vec<u8>, difference: Difference) -> Result<(),
 
 /// The same with its line feed.
 pub fn say_difference(text: &mut Vec<u8>, difference: Difference) -> Result<(), AllocError>
-    ensures { OnOk result (0 < length text.new.items) }
+    ensures { OnOk result (text.new.items ≡ text.old.items ++ difference_line difference) }
 {
     say_line(text, difference)?;
     end_line(text)

@@ -147,16 +147,16 @@ pub(crate) fn write_byte(text: &mut [u8], end: usize, byte: u8) -> usize
     end - 1
 }
 
-/// Writes eight hexadecimal digits so that they end at `end`, and says where they begin.
-pub(crate) fn write_hex(text: &mut [u8], end: usize, number: u32) -> usize
-    requires room { 8 ≤ end }
+/// Writes so many hexadecimal digits so that they end at `end`, and says where they begin.
+pub(crate) fn write_hex(text: &mut [u8], end: usize, number: u64, digits: u8) -> usize
+    requires room { digits ≤ end }
     requires within { end ≤ length text.old }
-    ensures start { result + 8 ≡ end }
-    ensures written { drop result text.new ≡ hex_digits 8 number ++ drop end text.old }
+    ensures start { result + digits ≡ end }
+    ensures written { drop result text.new ≡ hex_digits digits number ++ drop end text.old }
 {
     let mut left = number;
     let mut start = end;
-    for _digit in 0u8..8 {
+    for _digit in 0..digits {
         start = write_byte(text, start, hex_digit((left % 16) as u8));
         left /= 16;
     }

@@ -6,8 +6,8 @@ use crate::type_names::is_text;
 use mp4_boxes::FourCc;
 use std::alloc::{AllocError, Global};
 
-// The byte that two hexadecimal digits spell.
-fn byte_of(high: u8, low: u8) -> Option<u8> {
+/// The byte that two hexadecimal digits spell.
+pub(crate) fn byte_of(high: u8, low: u8) -> Option<u8> {
     let high = char::from(high).to_digit(16)?;
     let low = char::from(low).to_digit(16)?;
     Some((16 * high + low) as u8)
@@ -43,14 +43,40 @@ pub(crate) fn cut(word: &[u8], at: u8) -> (&[u8], Option<&[u8]>)
     (word, None)
 }
 
-// The container and the type that a word of a list names.
+// The 16 bytes that 32 hexadecimal digits spell, in groups of 8, 4, 4, 4 and 12 that are apart by
+// hyphens.
+fn uuid_of(word: &[u8]) -> Option<[u8; 16]> {
+    let mut uuid = [0; 16];
+    let mut left = word;
+    for at in 0..16 {
+        if matches!(at, 4 | 6 | 8 | 10) {
+            left = left.strip_prefix(b"-")?;
+        }
+        let [high, low, rest @ ..] = left else {
+            return None;
+        };
+        uuid[at] = byte_of(*high, *low)?;
+        left = rest;
+    }
+    left.is_empty().then_some(uuid)
+}
+
+// The container and the type, or the UUID behind `uuid:`, that a word of a list names.
 fn name_of(word: &[u8]) -> Option<Name> {
     let (front, rest) = cut(word, b'/');
-    let (container, kind) = match rest {
-        None => (None, type_of(front)?),
-        Some(rest) => (Some(type_of(front)?), type_of(rest)?),
+    let (container, named) = match rest {
+        None => (None, front),
+        Some(rest) => (Some(type_of(front)?), rest),
     };
-    if kind == FourCc(*b"free") || container.is_some_and(|container| !is_holder(container)) {
+    if container.is_some_and(|container| !is_holder(container)) {
+        return None;
+    }
+    if let Some(digits) = named.strip_prefix(b"uuid:") {
+        let uuid = uuid_of(digits)?;
+        return Some(Name::Uuid { container, uuid });
+    }
+    let kind = type_of(named)?;
+    if kind == FourCc(*b"free") {
         return None;
     }
     Some(Name::Type { container, kind })

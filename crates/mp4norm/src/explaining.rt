@@ -3,7 +3,7 @@
 ghost use Rattle.std.specs.Prelude.{◌≡◌, ◌++◌, OnOk};
 ghost use Rattle.mp4norm.specs.format.Texts.{line_feed};
 
-use crate::difference_lines::{say, say_numbers};
+use crate::difference_lines::{say, say_counted};
 use crate::file_names::shown;
 use crate::ways::{Way, number_at_top, step_line, way_to};
 use mp4_boxes::{Fault, FourCc, Kind, Refusal, Steps};
@@ -174,17 +174,18 @@ fn say_told(text: &mut Vec<u8>, numbers: FaultNumbers) -> Result<(), AllocError>
     say(text, "numbers: ")?;
     match numbers {
         FaultNumbers::Gap { track, due, found } => {
-            let track = u64::from(track);
-            let told = [("track ", track), (": time ", found), (", due ", due)];
-            say_numbers(text, &told, "\n")
+            say_counted(text, "track ", u64::from(track), ": time ")?;
+            say_counted(text, "", found, ", due ")?;
+            say_counted(text, "", due, "\n")
         }
         FaultNumbers::Counts { counted, wanted } => {
-            say_numbers(text, &[("counted ", counted), (", samples ", wanted)], "\n")
+            say_counted(text, "counted ", counted, ", samples ")?;
+            say_counted(text, "", wanted, "\n")
         }
         FaultNumbers::Outside { at, size, file_len } => {
-            let size = u64::from(size);
-            let told = [("sample at ", at), (", size ", size), (", file ", file_len)];
-            say_numbers(text, &told, "\n")
+            say_counted(text, "sample at ", at, ", size ")?;
+            say_counted(text, "", u64::from(size), ", file ")?;
+            say_counted(text, "", file_len, "\n")
         }
     }
 }

@@ -1,15 +1,18 @@
 //! The bytes of a track's samples.
 ghost use Rattle.mp4norm.specs.format.Steps.{WalksWithin, FindsWithin};
-ghost use Rattle.mp4norm.specs.words.Commands.{HasData, RefusesData};
+ghost use Rattle.mp4norm.specs.format.Answers.{Extracted};
+ghost use Rattle.mp4norm.specs.format.Run.{KeepsFile, run_of};
 ghost use Rattle.mp4_present.specs.words.OverStores.{WhereHonest};
-ghost use Rattle.mp4norm.specs.words.OverDevices.{Answers};
 
+use crate::jobs::perform_blank;
 use crate::tracks::track_with;
+use crate::wanted::Job;
 use mp4_boxes::{Refusal, Steps};
 use mp4_present::open_movie;
 use mp4_store::{Sink, Store};
 use std::alloc::Global;
-use std::sync::ledger::Ledger;
+use std::marker::Brand;
+use std::sync::ledger::{Blank, Ledger};
 
 /// As `extract`, with the steps that it takes counted: at most 8 for each sample and each row
 /// of the file, however many tracks it has.
@@ -21,12 +24,29 @@ pub fn extract_counted<S: Store, K: Sink, L: Ledger, M: Ledger>(
     steps: &mut Steps<L>,
     looks: &mut Steps<M>,
 ) -> Result<(), Refusal>
-    ensures answer { Answers S.Store store.old store.new K.Sink sink.old sink.new result
-        (λ file text. HasData file id text) (RefusesData id) }
+    ensures store { KeepsFile S.Store store.old store.new }
+    ensures answer { Extracted id (run_of S.Store store.old store.new K.Sink sink.old sink.new)
+        result }
     ensures work { WhereHonest S.Store store.old (λ file. WalksWithin file steps.old steps.new) }
     ensures looks { WhereHonest S.Store store.old (λ file. FindsWithin file looks.old looks.new) }
 {
     let movie = open_movie(alloc, store, steps, looks)?;
     let track = track_with(movie.tracks(), id)?;
     movie.copy_track(alloc, track, store, sink, steps)
+}
+
+/// Puts the bytes of the samples of the track with this ID, one after the other. The whole file is
+/// judged, and all memory is taken, before the first byte is put.
+pub fn extract<S: Store, K: Sink>(
+    alloc: Global,
+    store: &mut S,
+    id: u32,
+    sink: &mut K,
+) -> Result<(), Refusal>
+    ensures store { KeepsFile S.Store store.old store.new }
+    ensures answer { Extracted id (run_of S.Store store.old store.new K.Sink sink.old sink.new)
+        result }
+{
+    let job = Job::Extract { track: id };
+    perform_blank::<S, K, Brand, Brand>(alloc, job, store, sink, Blank::new(1), Blank::new(1))
 }

@@ -1,11 +1,10 @@
 //! Boxes that become free space since the profile refuses them, and what is lost with them.
 ghost use Rattle.std.specs.Prelude.{◌<◌, ◌≤◌, length};
-ghost use Rattle.mp4norm.specs.format.BoxWalk.{IsWithin};
-ghost use Rattle.mp4norm.specs.words.OverDevices.{KeepsFile};
+ghost use Rattle.mp4norm.specs.format.Run.{KeepsFile};
 
 use crate::boxes::{read_uuid, rule_inside};
 use crate::headers_under::read_header;
-use crate::named::{Name, holder, is_named, is_named_foreign};
+use crate::named::{FullType, Name, holder, is_named, is_named_foreign};
 use mp4_boxes::{FourCc, Refusal, Rule};
 use mp4_present::TopBox;
 use mp4_store::Store;
@@ -187,14 +186,15 @@ fn keeps_time<S: Store>(
     requires within { end ≤ length (S.file store.old) }
     ensures store { KeepsFile S.Store store.old store.new }
 {
-    let time = FourCc(*b"tfdt");
+    let kind = FourCc(*b"tfdt");
+    let time = FullType { kind, uuid: None };
     if rule != Rule::TrackFragment || is_named(names, rule, time) {
         return Ok(false);
     }
     let mut at = from;
     while at < end {
         let header = read_header(store, rule, at, end)?;
-        if header.kind == time {
+        if header.kind == kind {
             return Ok(true);
         }
         at = header.end;
@@ -202,36 +202,31 @@ fn keeps_time<S: Store>(
     Ok(false)
 }
 
-// Adds a named box of a container in which a time is kept or not.
-fn add_box<S: Store>(
+// Adds a named box at a place of a container in which a time is kept or not.
+fn add_box(
     alloc: Global,
     names: &[Name],
     rule: Rule,
     has_time: bool,
-    freed: &TopBox,
-    store: &mut S,
+    offset: u64,
+    own: FullType,
     found: &mut Found,
-) -> Result<(), Refusal>
-    requires { IsWithin (S.file store.old) freed.now }
-    ensures store { KeepsFile S.Store store.old store.new }
-{
-    let kind = freed.header.kind;
-    let uuid = read_uuid(store, freed)?.map(u128::from_be_bytes);
-    if !is_named_foreign(names, rule, kind) {
+) -> Result<(), AllocError> {
+    let uuid = own.uuid.map(u128::from_be_bytes);
+    if !is_named_foreign(names, rule, own) {
         found.has_encryption |= uuid.is_some_and(|uuid| OF_ENCRYPTION.contains(&uuid));
         return Ok(());
     }
-    let loss = loss_of(rule, kind, uuid, has_time);
+    let loss = loss_of(rule, own.kind, uuid, has_time);
     let group = Group {
         container: u32::from_be_bytes(holder(rule).0),
-        kind: u32::from_be_bytes(kind.0),
+        kind: u32::from_be_bytes(own.kind.0),
         uuid,
-        offset: freed.offset,
+        offset,
         count: 1,
-        loss: loss.map(|loss| (freed.offset, loss)),
+        loss: loss.map(|loss| (offset, loss)),
     };
-    found.add(alloc, group)?;
-    Ok(())
+    found.add(alloc, group)
 }
 
 // Finds the named boxes of a container and of the containers in it.
@@ -252,9 +247,11 @@ fn find_boxes<S: Store>(
     let mut at = from;
     while at < end {
         let header = read_header(store, rule, at, end)?;
-        if is_named(names, rule, header.kind) {
-            let freed = TopBox { offset: at, header };
-            add_box(alloc, names, rule, has_time, &freed, store, found)?;
+        let uuid = read_uuid(store, &TopBox { offset: at, header })?;
+        let kind = header.kind;
+        let own = FullType { kind, uuid };
+        if is_named(names, rule, own) {
+            add_box(alloc, names, rule, has_time, at, own, found)?;
         } else if let Some(inner) = rule_inside(rule, header.kind) {
             let payload = at + u64::from(header.header);
             find_boxes(alloc, names, inner, payload, header.end, store, found)?;

@@ -1,13 +1,15 @@
 //! What a command does over a store.
 ghost use Rattle.std.specs.Prelude.{OnOk};
-ghost use Rattle.mp4norm.specs.words.Jobs.{IsTextOf, RefusesJob, JobWorksWithin, JobLooksWithin};
+ghost use Rattle.mp4norm.specs.format.Answers.{Performed};
+ghost use Rattle.mp4norm.specs.format.Run.{KeepsFile, run_of};
+ghost use Rattle.mp4norm.specs.words.Jobs.{JobWorksWithin, JobLooksWithin};
 ghost use Rattle.mp4norm.specs.words.WholePut.{JobPutsWhole};
 ghost use Rattle.mp4_present.specs.words.OverStores.{WhereHonest};
-ghost use Rattle.mp4norm.specs.words.OverDevices.{Answers, IsOf};
+ghost use Rattle.mp4norm.specs.words.OverDevices.{IsOf};
 
 use crate::boxes::boxes;
 use crate::extract::extract_counted;
-use crate::normalising::normalise_counted;
+use crate::normalise::normalise_counted;
 use crate::reducing::normalise_reduced;
 use crate::samples::samples_counted;
 use crate::show::show_counted;
@@ -28,10 +30,12 @@ pub fn perform<S: Store, K: Sink, L: Ledger, M: Ledger>(
     steps: &mut Steps<L>,
     looks: &mut Steps<M>,
 ) -> Result<(), Refusal>
-    ensures answer { Answers S.Store store.old store.new K.Sink sink.old sink.new result
-        (IsTextOf job.entry) (RefusesJob job.entry) }
+    ensures store { KeepsFile S.Store store.old store.new }
+    ensures answer { Performed job.entry
+        (run_of S.Store store.old store.new K.Sink sink.old sink.new)
+        result }
     ensures whole { OnOk result
-        (JobPutsWhole job.entry (K.contents sink.old) (K.contents sink.new)) }
+        (JobPutsWhole job.entry (K.takes sink.old sink.new)) }
     ensures work { WhereHonest S.Store store.old
         (λ file. JobWorksWithin job.entry file steps.old steps.new) }
     ensures looks { WhereHonest S.Store store.old
@@ -61,10 +65,12 @@ pub(crate) fn perform_blank<S: Store, K: Sink, L: Ledger, M: Ledger>(
 ) -> Result<(), Refusal>
     requires steps { IsOf L.Ledger steps }
     requires looks { IsOf M.Ledger looks }
-    ensures answer { Answers S.Store store.old store.new K.Sink sink.old sink.new result
-        (IsTextOf job.entry) (RefusesJob job.entry) }
+    ensures store { KeepsFile S.Store store.old store.new }
+    ensures answer { Performed job.entry
+        (run_of S.Store store.old store.new K.Sink sink.old sink.new)
+        result }
     ensures whole { OnOk result
-        (JobPutsWhole job.entry (K.contents sink.old) (K.contents sink.new)) }
+        (JobPutsWhole job.entry (K.takes sink.old sink.new)) }
 {
     let mut steps = Steps::<L>::new(steps);
     let mut looks = Steps::<M>::new(looks);

@@ -1,11 +1,16 @@
 //! Texts as strings of JSON (RFC 8259, 7).
+ghost use Rattle.std.specs.Prelude.{◌≡◌, ◌++◌, OnOk};
+ghost use Rattle.mp4norm.specs.format.DifferenceObject.{escaped};
+
 use crate::digits::hex_digit;
 use crate::file_names::push_plain;
 use std::alloc::{AllocError, Global};
 
 /// Adds text of printable characters as it stands within a string of JSON: quotation marks and
 /// backslashes get a backslash before them.
-pub(crate) fn push_printable(text: &mut Vec<u8>, printable: &[u8]) -> Result<(), AllocError> {
+pub(crate) fn push_printable(text: &mut Vec<u8>, printable: &[u8]) -> Result<(), AllocError>
+    ensures { OnOk result (text.new.items ≡ text.old.items ++ escaped printable.now) }
+{
     for byte in printable {
         if matches!(*byte, b'"' | b'\\') {
             text.push(b'\\')?;

@@ -1,9 +1,10 @@
 //! Whether a file has a normal form.
 ghost use Rattle.std.specs.Prelude.{OnOk};
+ghost use Rattle.mp4norm.specs.format.Answers.{Judged};
+ghost use Rattle.mp4norm.specs.format.Run.{KeepsFile, look_of};
 ghost use Rattle.mp4norm.specs.format.Steps.{TakesEach, WalksWithin, FindsWithin};
-ghost use Rattle.mp4norm.specs.words.MainJob.{MayBeNormalised, RefusesCheck};
 ghost use Rattle.mp4_present.specs.words.OverStores.{WhereHonest};
-ghost use Rattle.mp4norm.specs.words.OverDevices.{IsOf, Reads};
+ghost use Rattle.mp4norm.specs.words.OverDevices.{IsOf};
 
 use mp4_boxes::{Refusal, Steps};
 use mp4_present::open_movie;
@@ -20,8 +21,8 @@ pub fn check_counted<S: Store, L: Ledger, M: Ledger>(
     steps: &mut Steps<L>,
     looks: &mut Steps<M>,
 ) -> Result<(), Refusal>
-    ensures answer { Reads S.Store store.old store.new result
-        (λ file done. MayBeNormalised file) RefusesCheck }
+    ensures store { KeepsFile S.Store store.old store.new }
+    ensures answer { Judged (look_of S.Store store.old store.new) result }
     ensures work { WhereHonest S.Store store.old (λ file. WalksWithin file steps.old steps.new) }
     ensures least { OnOk result (WhereHonest S.Store store.old (λ file.
         TakesEach file steps.old steps.new)) }
@@ -40,8 +41,8 @@ fn check_blank<S: Store, L: Ledger, M: Ledger>(
 ) -> Result<(), Refusal>
     requires steps { IsOf L.Ledger steps }
     requires looks { IsOf M.Ledger looks }
-    ensures answer { Reads S.Store store.old store.new result
-        (λ file done. MayBeNormalised file) RefusesCheck }
+    ensures store { KeepsFile S.Store store.old store.new }
+    ensures answer { Judged (look_of S.Store store.old store.new) result }
 {
     let mut steps = Steps::<L>::new(steps);
     let mut looks = Steps::<M>::new(looks);
@@ -51,8 +52,8 @@ fn check_blank<S: Store, L: Ledger, M: Ledger>(
 /// Judges a file as `normalise` does before it puts anything. So it answers what `normalise` would,
 /// but for what fails there later: memory that writing needs, a read or a put.
 pub fn check<S: Store>(alloc: Global, store: &mut S) -> Result<(), Refusal>
-    ensures answer { Reads S.Store store.old store.new result
-        (λ file done. MayBeNormalised file) RefusesCheck }
+    ensures store { KeepsFile S.Store store.old store.new }
+    ensures answer { Judged (look_of S.Store store.old store.new) result }
 {
     check_blank::<S, Brand, Brand>(alloc, store, Blank::new(1), Blank::new(1))
 }

@@ -38,7 +38,7 @@ pub(crate) fn text_of_flags(flags: u32, description: u32) -> KeptText<24>
     let mut bytes = [0; 24];
     let mut start = write_short_digits(&mut bytes, 24, description);
     start = write_byte(&mut bytes, start, b' ');
-    start = write_hex(&mut bytes, start, flags);
+    start = write_hex(&mut bytes, start, u64::from(flags), 8);
     KeptText { bytes, start }
 }
 

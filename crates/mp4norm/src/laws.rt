@@ -1,6 +1,13 @@
-//! Laws of the texts: contracts over the definitions alone.
+//! Laws of commands and of texts: contracts over the definitions alone.
+ghost use Rattle.mp4norm.specs.format.AnswerLaws.{NormalisedSaysBytes};
 ghost use Rattle.mp4norm.specs.format.BoxLaws.{FaultListsNothing, SixLevelsAreAll};
 ghost use Rattle.mp4norm.specs.format.StripLaws.{StripKeepsLength, UnnamedIsCopied, NamedIsFree, HaltedStripsNothing, StripLeavesNone, StripTwiceIsOnce, ForeignSparesFree, ForeignIsFault, AcceptedIsCopied};
+
+/// What `normalise` promises of one file and of a sink that tells its bytes: all of the normal form
+/// is put, or a front of it, or nothing, each for its cause.
+pub fn normalised_says_bytes()
+    ensures { NormalisedSaysBytes }
+{}
 
 /// A file has no list of boxes where a header that is looked at is at fault.
 pub fn fault_lists_nothing()

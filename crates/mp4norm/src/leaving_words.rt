@@ -11,17 +11,6 @@ pub(crate) const EVERYTHING: Leaving = Leaving {
     metadata: true,
 };
 
-/// The words, in the order in which they are told of, and whether each is left out.
-pub(crate) fn words_of(leaving: Leaving) -> [(&'static str, bool); 5] {
-    [
-        ("times", leaving.times),
-        ("edits", leaving.edits),
-        ("flags", leaving.flags),
-        ("groups", leaving.groups),
-        ("metadata", leaving.metadata),
-    ]
-}
-
 // Leaves out what a word says; false where it says nothing.
 fn leave_out(leaving: &mut Leaving, word: &[u8]) -> bool {
     match word {

@@ -44,8 +44,8 @@ fn read_list(rt: &HostRuntime, name: &str, report: &mut Report) -> Result<Vec<u8
     read_input(rt.alloc(), &mut Noted { out, report }, MOST_INPUT)
 }
 
-// Says which line of a list is wrong, and in which way.
-fn tell_fault(rt: &HostRuntime, name: &str, fault: ListFault) -> Result<(), AllocError> {
+/// Says which line of a list is wrong, and in which way.
+pub(crate) fn tell_fault(rt: &HostRuntime, name: &str, fault: ListFault) -> Result<(), AllocError> {
     let name = shown(rt.alloc(), name.as_bytes())?;
     let (line, what) = (fault.line, fault.what);
     let text = format!(in rt.alloc(); ": line {line}: {what}\n")?;
@@ -121,6 +121,7 @@ pub(crate) fn open_list<'a>(
     match ListStore::new(alloc, files)? {
         Some(store) => {
             let store = BufferedStore::new(alloc, store)?;
+            report.concerns_none();
             Ok(ListSource { rt, store, listed })
         }
         None => Err(report.failure("the files are too long together", Refusal::StoreFailed)),
@@ -131,6 +132,12 @@ impl<'a> ListSource<'a> {
     /// Goes over the headers of the files' own boxes: each file has to end with a box.
     pub(crate) fn check_parts(&mut self) -> Result<(), Refusal> {
         check_parts(&mut self.store, self.listed.ends.as_slice())
+    }
+
+    /// The file of the list that could not be read last.
+    pub(crate) fn trouble(&self) -> Option<&str> {
+        let part = self.store.below().trouble()?;
+        Some(self.listed.paths.get(part)?.as_str())
     }
 
     /// Whether all files are as they were.
@@ -152,7 +159,10 @@ impl Listed {
             match look(rt, path.as_str()) {
                 Ok(now) if now == *state => {}
                 Ok(_) => return Err(Refusal::StoreChanged),
-                Err(_) => return Err(Refusal::StoreChanged),
+                Err(error) if error.kind() == ErrorKind::NotFound => {
+                    return Err(Refusal::StoreChanged);
+                }
+                Err(_) => return Err(Refusal::StoreFailed),
             }
         }
         Ok(())

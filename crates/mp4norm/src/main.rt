@@ -9,6 +9,7 @@
 
 ghost use Rattle.mp4norm.specs.words.OverDevices.{IsOf};
 
+pub mod answer_laws;
 mod box_json;
 mod boxes;
 mod checking;
@@ -27,6 +28,7 @@ mod fault_text;
 mod file_names;
 mod forms;
 mod freed_boxes;
+mod hash_sink;
 mod headers_under;
 mod input;
 mod jobs;
@@ -45,7 +47,7 @@ mod lists;
 mod movie_json;
 mod named;
 mod named_files;
-mod normalising;
+mod normalise;
 mod part_checks;
 mod part_files;
 mod playlists;
@@ -60,12 +62,14 @@ mod show;
 mod sources;
 mod strip_lines;
 mod stripping;
+mod sum;
+mod sum_checks;
+mod sum_lines;
 mod tally;
 mod targets;
 mod text_lengths;
 mod tracks;
 mod type_names;
-mod uncounted;
 mod verdicts;
 mod wanted;
 mod watching;
@@ -78,7 +82,7 @@ pub use comparing::{Failure, Lines, Listing, Side, compare_files};
 use comparing_runs::compare_named;
 use descriptors::take_closed;
 pub use difference_lines::say_difference;
-pub use extract::extract_counted;
+pub use extract::{extract, extract_counted};
 pub use fault_text::{fault_line, status};
 use file_names::{shown_word, word_of};
 pub use jobs::perform;
@@ -88,12 +92,12 @@ pub use movie_json::show_text;
 use mp4_boxes::{Refusal, Steps};
 use mp4_store::{IoSink, Sink};
 pub use named::Name;
-pub use normalising::normalise_counted;
+pub use normalise::{normalise, normalise_counted};
 pub use reducing::normalise_reduced;
 use runs::run;
 pub use sample_lines::put_lines;
-pub use samples::samples_counted;
-pub use show::show_counted;
+pub use samples::{samples, samples_counted};
+pub use show::{show, show_counted};
 use std::alloc::{AllocError, Global};
 use std::io;
 use std::io::Write;
@@ -102,11 +106,12 @@ use std::process::ExitCode;
 use std::rt::Env;
 use std::sync::ledger::{Blank, Ledger};
 pub use stripping::{count_named, strip};
+pub use sum::sum_file;
+use sum_checks::check_sums;
 pub use text_lengths::text_len;
-pub use uncounted::{extract, normalise, samples, show};
 pub use verdicts::{first_name, put_verdict, verdict_status};
 pub use wanted::{
-    Action, CommandFault, Comparison, Form, Input, Job, Order, Syntax, Target, Telling,
+    Action, CommandFault, Comparison, Finding, Form, Input, Job, Order, Syntax, Target, Telling,
     VerdictStyle,
 };
 pub use ways::{Way, way_to};
@@ -198,15 +203,24 @@ fn act<L: Ledger, M: Ledger>(
             let job = Job::Strip { names };
             end(rt, run(rt, job, order, &mut steps, &mut looks))
         }
+        Action::CheckSums {
+            list,
+            quiet,
+            telling,
+        } => end_verdicts(
+            rt,
+            check_sums(rt, list, quiet, telling, &mut steps, &mut looks),
+        ),
         Action::Compare(comparison) => compare_named(rt, comparison, &mut steps, &mut looks),
         Action::Check {
             files,
             list,
+            finding,
             style,
             telling,
         } => {
             let files = files.as_slice();
-            let manner = Manner::of(files, list, style, telling);
+            let manner = Manner::of(files, list, finding, style, telling);
             end_verdicts(
                 rt,
                 check_all(rt, files, list, manner, &mut steps, &mut looks),

@@ -1,6 +1,6 @@
 //! Which boxes are named.
 ghost use Rattle.std.specs.Prelude.{◌≡◌};
-ghost use Rattle.mp4norm.specs.format.Strips.{holder, is_in, means, is_named};
+ghost use Rattle.mp4norm.specs.format.Strips.{holder, is_in, is_uuid, means, is_named};
 
 use mp4_boxes::{FourCc, Rule};
 
@@ -12,6 +12,11 @@ pub enum Name {
     Type {
         container: Option<FourCc>,
         kind: FourCc,
+    },
+    /// The `uuid` boxes whose payload begins with these bytes, in the same containers.
+    Uuid {
+        container: Option<FourCc>,
+        uuid: [u8; 16],
     },
     /// Those that the profile refuses where they stand.
     Foreign,
@@ -66,36 +71,51 @@ fn is_in(container: Option<FourCc>, rule: Rule) -> bool
     }
 }
 
+/// The type of a box, and of a `uuid` the 16 bytes that say which it is (ISO/IEC 14496-12, 4.2).
+#[derive(Clone, Copy)]
+pub(crate) struct FullType {
+    pub(crate) kind: FourCc,
+    pub(crate) uuid: Option<[u8; 16]>,
+}
+
+// Whether these are the 16 bytes of a `uuid`.
+fn is_uuid(own: Option<[u8; 16]>, uuid: [u8; 16]) -> bool
+    ensures { result ≡ is_uuid uuid own }
+{
+    match own {
+        None => false,
+        Some(own) => own == uuid,
+    }
+}
+
 // Whether the name means boxes of this type under the rule.
-fn means(name: &Name, rule: Rule, kind: FourCc) -> bool
-    ensures { result ≡ means rule kind.0 name.now }
+fn means(name: &Name, rule: Rule, own: FullType) -> bool
+    ensures { result ≡ means rule own.kind.0 own.uuid name.now }
 {
     match *name {
-        Name::Type {
-            container,
-            kind: named,
-        } => named == kind && is_in(container, rule),
-        Name::Foreign => !rule.allows(kind),
+        Name::Type { container, kind } => kind == own.kind && is_in(container, rule),
+        Name::Uuid { container, uuid } => is_uuid(own.uuid, uuid) && is_in(container, rule),
+        Name::Foreign => !rule.allows(own.kind),
     }
 }
 
 /// Whether some name means boxes of this type under the rule.
-pub(crate) fn is_named(names: &[Name], rule: Rule, kind: FourCc) -> bool
-    ensures { result ≡ is_named names.now rule kind.0 }
+pub(crate) fn is_named(names: &[Name], rule: Rule, own: FullType) -> bool
+    ensures { result ≡ is_named names.now rule own.kind.0 own.uuid }
 {
-    names.iter().any(|name| means(name, rule, kind))
+    names.iter().any(|name| means(name, rule, own))
 }
 
 /// Whether the first name that means boxes of this type under the rule is that of foreign boxes.
-pub(crate) fn is_named_foreign(names: &[Name], rule: Rule, kind: FourCc) -> bool {
-    let first = names.iter().find(|name| means(name, rule, kind));
+pub(crate) fn is_named_foreign(names: &[Name], rule: Rule, own: FullType) -> bool {
+    let first = names.iter().find(|name| means(name, rule, own));
     matches!(first, Some(Name::Foreign))
 }
 
 /// Counts a box for the first name that means it.
-pub(crate) fn count_box(names: &[Name], rule: Rule, kind: FourCc, counts: &mut [u64]) {
+pub(crate) fn count_box(names: &[Name], rule: Rule, own: FullType, counts: &mut [u64]) {
     for (name, count) in names.iter().zip(counts.iter_mut()) {
-        if means(name, rule, kind) {
+        if means(name, rule, own) {
             *count = count.saturating_add(1);
             return;
         }

@@ -19,6 +19,8 @@ pub(crate) struct NamedFile<'a> {
     state: State,
     held: Option<File>,
     failed: u64,
+    // Whether the last read failed.
+    fails: bool,
 }
 
 impl<'a> NamedFile<'a> {
@@ -32,6 +34,7 @@ impl<'a> NamedFile<'a> {
             state,
             held: None,
             failed: 0,
+            fails: false,
         }
     }
 
@@ -71,7 +74,8 @@ impl<'a> Store for NamedFile<'a> {
 
     fn read_at(&mut self, at: u64, out: &mut [u8]) -> Result<(), StoreFailed> {
         let answer = self.read(at, out);
-        if answer.is_err() {
+        self.fails = answer.is_err();
+        if self.fails {
             self.failed = self.failed.saturating_add(1);
         }
         answer
@@ -88,6 +92,8 @@ pub(crate) struct ListStore<'a> {
     failed: u64,
     // Those that are held open; the one used last stands last.
     held: Vec<usize>,
+    // The one that could not be read last.
+    trouble: Option<usize>,
 }
 
 impl<'a> ListStore<'a> {
@@ -105,6 +111,7 @@ impl<'a> ListStore<'a> {
                 files,
                 failed: 0,
                 held,
+                trouble: None,
             })),
             None => Ok(None),
         }
@@ -150,6 +157,18 @@ impl<'a> ListStore<'a> {
             }
         }
         let _ = self.held.push(part);
+    }
+
+    /// The file that could not be read last, if there is one.
+    pub(crate) fn trouble(&self) -> Option<usize> {
+        self.trouble
+    }
+
+    // The first file from a place on of which the last read failed.
+    fn failing_from(&self, at: u64) -> Option<usize> {
+        let first = self.files.place(at)?.part;
+        let files = self.files.parts().get(first..)?;
+        first.checked_add(files.iter().position(|file| file.fails)?)
     }
 
     // Reads as `read_at` does, and counts no failure.
@@ -204,6 +223,7 @@ impl<'a> Store for ListStore<'a> {
         let answer = self.read(at, out);
         if answer.is_err() {
             self.failed = self.failed.saturating_add(1);
+            self.trouble = self.failing_from(at);
         }
         answer
     }

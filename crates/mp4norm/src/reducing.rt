@@ -1,11 +1,10 @@
 //! The normal form of what is left of a file, where some of what it says is left out.
 ghost use Rattle.std.specs.Prelude.{OnOk};
-ghost use Rattle.mp4norm.specs.format.ReducedHeadline.{HasReducedForm, PutsNoneTooLong};
+ghost use Rattle.mp4norm.specs.format.Answers.{ReducedTo};
+ghost use Rattle.mp4norm.specs.format.Run.{KeepsFile, run_of};
 ghost use Rattle.mp4norm.specs.format.Steps.{WorksWithin, TurnsWithin};
-ghost use Rattle.mp4norm.specs.words.ReducedJob.{RefusesReduced};
 ghost use Rattle.mp4norm.specs.words.WholePut.{PutsWhole};
 ghost use Rattle.mp4_present.specs.words.OverStores.{WhereHonest};
-ghost use Rattle.mp4norm.specs.words.OverDevices.{Answers};
 
 use mp4_boxes::{Refusal, Steps};
 use mp4_plan::write_reduced;
@@ -26,11 +25,10 @@ pub fn normalise_reduced<S: Store, K: Sink, L: Ledger, M: Ledger>(
     steps: &mut Steps<L>,
     looks: &mut Steps<M>,
 ) -> Result<(), Refusal>
-    ensures answer { Answers S.Store store.old store.new K.Sink sink.old sink.new result
-        (HasReducedForm leaving) (RefusesReduced leaving) }
-    ensures long { WhereHonest S.Store store.old
-        (λ file. PutsNoneTooLong leaving file (K.contents sink.old) (K.contents sink.new)) }
-    ensures whole { OnOk result (PutsWhole leaving (K.contents sink.old) (K.contents sink.new)) }
+    ensures store { KeepsFile S.Store store.old store.new }
+    ensures answer { ReducedTo leaving (run_of S.Store store.old store.new K.Sink sink.old sink.new)
+        result }
+    ensures whole { OnOk result (PutsWhole leaving (K.takes sink.old sink.new)) }
     ensures work { WhereHonest S.Store store.old (λ file. WorksWithin file steps.old steps.new) }
     ensures looks { WhereHonest S.Store store.old (λ file. TurnsWithin file looks.old looks.new) }
 {

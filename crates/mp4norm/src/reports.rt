@@ -2,6 +2,7 @@
 //! written, and how far a job has come.
 use crate::file_names::{is_text, shown};
 use crate::progress::Progress;
+use crate::sources::Source;
 use crate::wanted::Telling;
 use mp4_boxes::Refusal;
 use std::io;
@@ -106,6 +107,23 @@ impl<'a> Report<'a> {
         Ok(())
     }
 
+    /// What fails from now on is about the file that was asked for.
+    pub(crate) fn concerns_none(&mut self) {
+        self.concern = None;
+    }
+
+    /// A read of this source failed: where that is a list, it is about one of its files.
+    pub(crate) fn concerns_part(
+        &mut self,
+        rt: &HostRuntime,
+        source: &Source,
+    ) -> Result<(), Refusal> {
+        match source.trouble() {
+            Some(name) => self.concerns(rt, name),
+            None => Ok(()),
+        }
+    }
+
     /// A failure with a cause of its own.
     pub(crate) fn failure(&mut self, cause: &'static str, failed: Refusal) -> Refusal {
         self.cause = Some(Cause::Said(cause));
@@ -188,6 +206,17 @@ pub(crate) fn tell_name(rt: &HostRuntime, label: &[u8], name: &str) {
         let _ = errors.write_all(text.as_slice());
         let _ = errors.write_all(b"\n");
     }
+}
+
+/// Says this of a file, behind its name, on a line of standard error.
+pub(crate) fn tell_of(rt: &HostRuntime, name: &[u8], text: &[u8]) {
+    let mut errors = rt.stderr();
+    if let Ok(name) = shown(rt.alloc(), name) {
+        let _ = errors.write_all(name.as_slice());
+        let _ = errors.write_all(b": ");
+    }
+    let _ = errors.write_all(text);
+    let _ = errors.write_all(b"\n");
 }
 
 /// A writer, of which it is kept how far it has come, or a reader; and the cause if it fails.

@@ -14,6 +14,9 @@ use mp4_store::{IoSink, Sink};
 use std::io::Write;
 use std::sync::ledger::Ledger;
 
+/// What is said where nothing is put since something would be lost, with more words.
+const LOSSY: &[u8] = b"strip: with --lossy it is put all the same\n";
+
 // Finds how long the answer gets, where that is asked for, and refuses one that is too long.
 fn measure<'a, L: Ledger, M: Ledger>(
     rt: &'a HostRuntime,
@@ -77,7 +80,11 @@ fn strip_and_tell<'a, L: Ledger, M: Ledger>(
     if !order.lossy
         && let Some(refusal) = refusal_of(&found)
     {
-        let _ = rt.stderr().write_all(warnings.as_slice());
+        let mut errors = rt.stderr();
+        let _ = errors.write_all(warnings.as_slice());
+        if order.telling.explain {
+            let _ = errors.write_all(LOSSY);
+        }
         return Err(refusal);
     }
     let lines = count_lines(alloc, names, counts.as_slice(), &found)?;
@@ -123,6 +130,9 @@ fn open_and_answer<'a, L: Ledger, M: Ledger>(
     report.end();
     if let Err(refusal) = &answer {
         explain_fault(rt, None, refusal, order.telling, &mut source, steps, looks);
+        if matches!(refusal, Refusal::StoreFailed) {
+            report.concerns_part(rt, &source)?;
+        }
     }
     answer
 }

@@ -6,21 +6,24 @@ ghost use Rattle.mp4_present.specs.words.Carried.{RefusesCarry};
 ghost use Rattle.mp4_present.specs.words.OverWalks.{WhereMayTake};
 ghost use Rattle.mp4norm.specs.format.Texts.{sample_at_lines};
 ghost use Rattle.mp4norm.specs.format.Steps.{WalksWithin, FindsWithin};
-ghost use Rattle.mp4norm.specs.words.Commands.{ListsSamples, RefusesListing};
+ghost use Rattle.mp4norm.specs.format.Answers.{Listed};
+ghost use Rattle.mp4norm.specs.format.Run.{KeepsFile, run_of};
 ghost use Rattle.mp4_present.specs.words.HandCarried.{StaysBefore, OfHand, HandWork, RefusedByBoth};
 ghost use Rattle.mp4_present.specs.words.OverStores.{OnlyReads, WhereHonest};
-ghost use Rattle.mp4norm.specs.words.OverDevices.{Answers, NoPutFails, PutsOrFails};
+ghost use Rattle.mp4norm.specs.words.OverDevices.{NoPutFails, PutsOrFails};
 ghost use Rattle.mp4norm.specs.words.ListedWalks.{PutsAll, PutsLines, WhereFewCome};
 
 use crate::forms::head_of;
+use crate::jobs::perform_blank;
 use crate::sample_lines::put_lines;
 use crate::tracks::track_with;
-use crate::wanted::Form;
+use crate::wanted::{Form, Job};
 use mp4_boxes::{Refusal, Steps};
 use mp4_present::{Carrier, Movie, Walk, open_movie};
 use mp4_store::{Sink, Store};
 use std::alloc::Global;
-use std::sync::ledger::Ledger;
+use std::marker::Brand;
+use std::sync::ledger::{Blank, Ledger};
 
 /// How many bytes are put at once: a power of two, so that each put fills whole pages.
 const ROOM: usize = 32_768;
@@ -91,8 +94,9 @@ pub fn samples_counted<S: Store, K: Sink, L: Ledger, M: Ledger>(
     steps: &mut Steps<L>,
     looks: &mut Steps<M>,
 ) -> Result<(), Refusal>
-    ensures answer { Answers S.Store store.old store.new K.Sink sink.old sink.new result
-        (λ file text. ListsSamples file id form text) (RefusesListing id form) }
+    ensures store { KeepsFile S.Store store.old store.new }
+    ensures answer { Listed id form (run_of S.Store store.old store.new K.Sink sink.old sink.new)
+        result }
     ensures work { WhereHonest S.Store store.old (λ file. WalksWithin file steps.old steps.new) }
     ensures looks { WhereHonest S.Store store.old (λ file. FindsWithin file looks.old looks.new) }
 {
@@ -102,4 +106,22 @@ pub fn samples_counted<S: Store, K: Sink, L: Ledger, M: Ledger>(
     let mut carrier = Carrier::new(alloc, ROOM)?;
     carrier.carry(head_of(form), sink)?;
     put_walk(form, &movie, &mut walk, &mut carrier, store, sink, steps)
+}
+
+/// Puts a line for each sample of the track with this ID: number, decode time, composition time,
+/// duration, flags, description index, size. The whole file is judged, and all memory is taken,
+/// before the first line is put.
+pub fn samples<S: Store, K: Sink>(
+    alloc: Global,
+    store: &mut S,
+    id: u32,
+    form: Form,
+    sink: &mut K,
+) -> Result<(), Refusal>
+    ensures store { KeepsFile S.Store store.old store.new }
+    ensures answer { Listed id form (run_of S.Store store.old store.new K.Sink sink.old sink.new)
+        result }
+{
+    let job = Job::Samples { track: id, form };
+    perform_blank::<S, K, Brand, Brand>(alloc, job, store, sink, Blank::new(1), Blank::new(1))
 }

@@ -2,16 +2,21 @@
 ghost use Rattle.std.specs.Prelude.{string_bytes};
 ghost use Rattle.mp4_present.specs.words.Opening.{RefusesOpen};
 ghost use Rattle.mp4norm.specs.format.Steps.{WalksWithin, FindsWithin};
-ghost use Rattle.mp4norm.specs.words.Commands.{ShowsLine, RefusesShow};
+ghost use Rattle.mp4norm.specs.format.Answers.{Shown};
+ghost use Rattle.mp4norm.specs.format.FileTexts.{ShowsLine};
+ghost use Rattle.mp4norm.specs.format.Run.{KeepsFile, run_of};
 ghost use Rattle.mp4_present.specs.words.OverStores.{WhereHonest};
-ghost use Rattle.mp4norm.specs.words.OverDevices.{Answers, Reads};
+ghost use Rattle.mp4norm.specs.words.OverDevices.{Reads};
 
+use crate::jobs::perform_blank;
 use crate::movie_json::show_text;
+use crate::wanted::Job;
 use mp4_boxes::{Refusal, Steps};
 use mp4_present::open_movie;
 use mp4_store::{Sink, Store};
 use std::alloc::Global;
-use std::sync::ledger::Ledger;
+use std::marker::Brand;
+use std::sync::ledger::{Blank, Ledger};
 
 // The line of a movie, with its line feed.
 fn movie_line<S: Store, L: Ledger, M: Ledger>(
@@ -41,12 +46,22 @@ pub fn show_counted<S: Store, K: Sink, L: Ledger, M: Ledger>(
     steps: &mut Steps<L>,
     looks: &mut Steps<M>,
 ) -> Result<(), Refusal>
-    ensures answer { Answers S.Store store.old store.new K.Sink sink.old sink.new result
-        ShowsLine RefusesShow }
+    ensures store { KeepsFile S.Store store.old store.new }
+    ensures answer { Shown (run_of S.Store store.old store.new K.Sink sink.old sink.new) result }
     ensures work { WhereHonest S.Store store.old (λ file. WalksWithin file steps.old steps.new) }
     ensures looks { WhereHonest S.Store store.old (λ file. FindsWithin file looks.old looks.new) }
 {
     let text = movie_line(alloc, store, steps, looks)?;
     sink.put(text.as_str().as_bytes())?;
     Ok(())
+}
+
+/// Puts one line of compact JSON: what the movie and its tracks say of themselves, in numbers. The
+/// file is judged first.
+pub fn show<S: Store, K: Sink>(alloc: Global, store: &mut S, sink: &mut K) -> Result<(), Refusal>
+    ensures store { KeepsFile S.Store store.old store.new }
+    ensures answer { Shown (run_of S.Store store.old store.new K.Sink sink.old sink.new) result }
+{
+    let job = Job::Show;
+    perform_blank::<S, K, Brand, Brand>(alloc, job, store, sink, Blank::new(1), Blank::new(1))
 }

@@ -82,6 +82,14 @@ impl<'a> Source<'a> {
         }
     }
 
+    /// The file of a list that could not be read last, where the source is one.
+    pub(crate) fn trouble(&self) -> Option<&str> {
+        match self {
+            Source::List(list) => list.trouble(),
+            _ => None,
+        }
+    }
+
     /// The line that says in which part a place lies, where there are several.
     pub(crate) fn part_text(&self, alloc: Global, at: u64) -> Result<Option<Vec<u8>>, AllocError> {
         let Source::List(list) = self else {

@@ -23,7 +23,7 @@ fn is_of_encryption(kind: FourCc) -> bool {
 fn names_encryption(names: &[Name]) -> bool {
     names.iter().any(|name| match name {
         Name::Type { kind, .. } => is_of_encryption(*kind),
-        Name::Foreign => false,
+        Name::Uuid { .. } | Name::Foreign => false,
     })
 }
 
@@ -31,15 +31,17 @@ fn names_encryption(names: &[Name]) -> bool {
 fn asks_which(names: &[Name]) -> bool {
     names.iter().any(|name| match name {
         Name::Type { kind, .. } => *kind == FourCc(*b"uuid"),
-        Name::Foreign => true,
+        Name::Uuid { .. } | Name::Foreign => true,
     })
 }
 
-// Adds the line that says how many boxes of a type were changed.
+// Adds the line that says how many boxes of a type, or of one UUID, were changed.
 fn push_count(
     text: &mut Vec<u8>,
+    alloc: Global,
     container: Option<FourCc>,
     kind: FourCc,
+    uuid: Option<[u8; 16]>,
     count: u64,
 ) -> Result<(), AllocError> {
     let mut line = Line::new();
@@ -51,8 +53,13 @@ fn push_count(
         line.push(b'/');
     }
     line.push_type(kind);
-    line.push(b'\n');
-    text.extend_from_slice(line.as_bytes())
+    text.extend_from_slice(line.as_bytes())?;
+    if let Some(uuid) = uuid {
+        text.push(b':')?;
+        text.extend_from_slice(uuid_string(alloc, &uuid)?.as_str().as_bytes())?;
+    }
+    text.push(b'\n')?;
+    Ok(())
 }
 
 // Adds the container and the type of the boxes of a group, and of `uuid` which they are.
@@ -121,8 +128,15 @@ pub(crate) fn count_lines(
 ) -> Result<Vec<u8>, AllocError> {
     let mut text = Vec::new(alloc);
     for (name, count) in names.iter().zip(counts.iter()) {
-        if let Name::Type { container, kind } = *name {
-            push_count(&mut text, container, kind, *count)?;
+        match *name {
+            Name::Type { container, kind } => {
+                push_count(&mut text, alloc, container, kind, None, *count)?;
+            }
+            Name::Uuid { container, uuid } => {
+                let kind = FourCc(*b"uuid");
+                push_count(&mut text, alloc, container, kind, Some(uuid), *count)?;
+            }
+            Name::Foreign => {}
         }
     }
     for group in &found.groups {

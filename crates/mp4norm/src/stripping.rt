@@ -2,40 +2,79 @@
 ghost use Rattle.std.specs.Prelude.{◌≡◌, ◌+◌, ◌-◌, ◌<◌, ◌≤◌, length, IfOk, OnOk};
 ghost use Rattle.mp4_store.specs.words.Device.{range};
 ghost use Rattle.mp4_present.specs.words.Carried.{RefusesCarry, RefusesRange};
-ghost use Rattle.mp4norm.specs.format.Strips.{freed, IsStripped, RefusesStrip};
+ghost use Rattle.mp4norm.specs.format.Answers.{StrippedOf};
+ghost use Rattle.mp4norm.specs.format.Run.{KeepsFile, run_of};
+ghost use Rattle.mp4norm.specs.format.Strips.{freed};
 ghost use Rattle.mp4_present.specs.words.HandCarried.{RefusedByBoth};
 ghost use Rattle.mp4_present.specs.words.OverCarriers.{Carries};
 ghost use Rattle.mp4_present.specs.words.OverStores.{IsUnchanged, OnlyReads, RefusedOf, WhereHonest, WhereRead};
-ghost use Rattle.mp4norm.specs.words.OverDevices.{Answers, KeepsFile, NoPutFails};
-ghost use Rattle.mp4norm.specs.words.StripSpans.{HasCopy, IsHeaderAt, LiesBetween, RefusesAgainAt, RefusesWalkAt, WhereStrips};
+ghost use Rattle.mp4norm.specs.words.OverDevices.{NoPutFails};
+ghost use Rattle.mp4norm.specs.words.StripSpans.{HasCopy, IsHeaderAt, IsUuidAt, LiesBetween, RefusesAgainAt, RefusesHeaderAt, RefusesWalkAt, WhereStrips};
 
-use crate::boxes::rule_inside;
+use crate::boxes::{read_uuid, rule_inside};
 use crate::headers_under::read_header;
-use crate::named::{Name, count_box, is_named};
+use crate::named::{FullType, Name, count_box, is_named};
 use mp4_boxes::{Refusal, Rule, TopHeader};
-use mp4_present::Carrier;
+use mp4_present::{Carrier, TopBox};
 use mp4_store::{Sink, Store};
 use std::alloc::Global;
 
 /// How many bytes are put at once.
 const ROOM: usize = 65_536;
 
-// The same of a header that was read before: where it can't be read now, the store has changed.
-fn read_header_again<S: Store>(
-    store: &mut S,
-    rule: Rule,
-    at: u64,
-    end: u64,
-) -> Result<TopHeader, Refusal>
+// A box of a container: its header, and of a `uuid` which it is.
+#[derive(Clone, Copy)]
+struct Found {
+    header: TopHeader,
+    uuid: Option<[u8; 16]>,
+}
+
+impl Found {
+    ghost use Rattle.std.specs.Prelude.{◌≡◌};
+
+    // Its type, and of a `uuid` which it is.
+    fn full_type(&self) -> FullType
+        ensures kind { result.kind ≡ self.now.header.kind }
+        ensures uuid { result.uuid ≡ self.now.uuid }
+    {
+        FullType {
+            kind: self.header.kind,
+            uuid: self.uuid,
+        }
+    }
+}
+
+// Reads the header at a place, and which `uuid` the box there is.
+fn find<S: Store>(store: &mut S, rule: Rule, at: u64, end: u64) -> Result<Found, Refusal>
     requires some { at < end }
     requires within { end ≤ length (S.file store.old) }
     ensures store { OnlyReads S.Store store.old store.new result }
-    ensures header { WhereRead S.Store store.old result (IsHeaderAt rule at end) }
-    ensures fits { IfOk result (LiesBetween at end) }
+    ensures header { WhereRead S.Store store.old result
+        (λ file f. IsHeaderAt rule at end file f.header) }
+    ensures uuid { WhereRead S.Store store.old result
+        (λ file f. IsUuidAt at end file f.header f.uuid) }
+    ensures fits { IfOk result (λ f. LiesBetween at end f.header) }
+    ensures refusal { RefusedOf S.Store store.old store.new result (RefusesHeaderAt rule at end) }
+{
+    let header = read_header(store, rule, at, end)?;
+    let uuid = read_uuid(store, &TopBox { offset: at, header })?;
+    Ok(Found { header, uuid })
+}
+
+// The same of a header that was read before: where it can't be read now, the store has changed.
+fn find_again<S: Store>(store: &mut S, rule: Rule, at: u64, end: u64) -> Result<Found, Refusal>
+    requires some { at < end }
+    requires within { end ≤ length (S.file store.old) }
+    ensures store { OnlyReads S.Store store.old store.new result }
+    ensures header { WhereRead S.Store store.old result
+        (λ file f. IsHeaderAt rule at end file f.header) }
+    ensures uuid { WhereRead S.Store store.old result
+        (λ file f. IsUuidAt at end file f.header f.uuid) }
+    ensures fits { IfOk result (λ f. LiesBetween at end f.header) }
     ensures refusal { RefusedOf S.Store store.old store.new result (RefusesAgainAt rule at end) }
 {
-    match read_header(store, rule, at, end) {
-        Ok(header) => Ok(header),
+    match find(store, rule, at, end) {
+        Ok(found) => Ok(found),
         Err(Refusal::Fault(_)) => Err(Refusal::StoreChanged),
         Err(refusal) => Err(refusal),
     }
@@ -85,9 +124,10 @@ fn judge_boxes<S: Store>(
     read_headers(names, rule, from, end, store)?;
     let mut at = from;
     while at < end {
-        let header = read_header(store, rule, at, end)?;
-        if is_named(names, rule, header.kind) {
-            count_box(names, rule, header.kind, counts);
+        let found = find(store, rule, at, end)?;
+        let header = found.header;
+        if is_named(names, rule, found.full_type()) {
+            count_box(names, rule, found.full_type(), counts);
         } else if let Some(inner) = rule_inside(rule, header.kind) {
             let payload = at + u64::from(header.header);
             judge_boxes(names, inner, payload, header.end, store, counts)?;
@@ -142,8 +182,9 @@ fn carry_boxes<S: Store, K: Sink>(
 {
     let mut at = from;
     while at < end {
-        let header = read_header_again(store, rule, at, end)?;
-        if is_named(names, rule, header.kind) {
+        let found = find_again(store, rule, at, end)?;
+        let header = found.header;
+        if is_named(names, rule, found.full_type()) {
             carry_freed(at, header.end, store, carrier, sink)?;
         } else if let Some(inner) = rule_inside(rule, header.kind) {
             let head = u64::from(header.header);
@@ -167,8 +208,10 @@ pub fn strip<S: Store, K: Sink>(
     names: &[Name],
     sink: &mut K,
 ) -> Result<(), Refusal>
-    ensures answer { Answers S.Store store.old store.new K.Sink sink.old sink.new result
-        (IsStripped names.now) (RefusesStrip names.now) }
+    ensures store { KeepsFile S.Store store.old store.new }
+    ensures answer { StrippedOf names.now
+        (run_of S.Store store.old store.new K.Sink sink.old sink.new)
+        result }
 {
     let mut carrier = Carrier::new(alloc, ROOM)?;
     let end = store.len();

@@ -1,17 +1,17 @@
 //! How many differences of which kind there are, and which words leave them all out.
-ghost use Rattle.std.specs.Prelude.{◌<◌, length, OnOk};
+ghost use Rattle.std.specs.Prelude.{◌≡◌, [], ◌∷◌, ◌++◌, ◌&&◌, ◌==◌, not, ◌||◌, true, IfOk, OnOk};
+ghost use Rattle.std.specs.List.{list_any};
+ghost use Rattle.mp4_present.specs.format.Reduced.{sync_flag};
+ghost use Rattle.mp4norm.specs.format.LastLine.{all_kinds, count_of, count_text, counts_text, enough_text, kind_name, kind_of, kind_of_entries, last_line, leaving_text, total_end, total_front, words_text};
+ghost use Rattle.mp4norm.specs.words.Suggested.{differ_in_all, has, is_in_sync, suggested};
 
-use crate::difference_lines::{end_line, say, say_number};
-use crate::leaving_words::words_of;
+use crate::difference_lines::{end_line, say, say_counted};
 use mp4_present::{Difference, Entries, Field, Leaving, Subject, Value};
 use std::alloc::AllocError;
 
-/// sample_is_non_sync_sample among the flags of a sample (ISO/IEC 14496-12, 8.8.3.1).
-const NOT_SYNC: u64 = 0x10000;
-
-// What a difference is of, in the order in which the kinds are told of.
+/// What a difference is of, in the order in which the kinds are told of.
 #[derive(Clone, Copy)]
-enum Kind {
+pub(crate) enum Kind {
     Times,
     Edits,
     Flags,
@@ -22,8 +22,26 @@ enum Kind {
     Bytes,
 }
 
+/// What a kind is called.
+pub(crate) fn kind_name(kind: Kind) -> &'static str
+    ensures { result.now ≡ kind_name kind }
+{
+    match kind {
+        Kind::Times => "times",
+        Kind::Edits => "edits",
+        Kind::Flags => "flags",
+        Kind::Groups => "groups",
+        Kind::Kept => "kept",
+        Kind::Heads => "heads",
+        Kind::Samples => "samples",
+        Kind::Bytes => "bytes",
+    }
+}
+
 // The kind of a difference of heads.
-fn kind_of_entries(entries: Entries) -> Kind {
+fn kind_of_entries(entries: Entries) -> Kind
+    ensures { result ≡ kind_of_entries entries }
+{
     match entries {
         Entries::Edits => Kind::Edits,
         Entries::Kept => Kind::Kept,
@@ -32,8 +50,10 @@ fn kind_of_entries(entries: Entries) -> Kind {
     }
 }
 
-// The kind of a difference.
-fn kind_of(difference: &Difference) -> Kind {
+/// The kind of a difference.
+pub(crate) fn kind_of(difference: &Difference) -> Kind
+    ensures { result ≡ kind_of difference.now }
+{
     match (difference.field, difference.subject) {
         (Field::Creation | Field::Modification, _) => Kind::Times,
         (Field::MediaCreation | Field::MediaModification, _) => Kind::Times,
@@ -47,154 +67,196 @@ fn kind_of(difference: &Difference) -> Kind {
     }
 }
 
-/// What the kind of a difference is called.
-pub(crate) fn kind_name(difference: &Difference) -> &'static str {
-    NAMES[kind_of(difference) as usize]
+/// How many of these differences are of a kind.
+pub(crate) fn count_of(kind: Kind, all: &[Difference]) -> u64
+    ensures { result ≡ count_of kind all.now }
+{
+    let mut count = 0u64;
+    for difference in all {
+        if kind_of(difference) as u8 == kind as u8 {
+            count += 1;
+        }
+    }
+    count
 }
 
-// Whether two values of flags differ in what stays where flags are left out.
-fn differs_in_sync(difference: &Difference) -> bool {
-    match (difference.left, difference.right) {
-        (Value::Number(left), Value::Number(right)) => left & NOT_SYNC != right & NOT_SYNC,
-        _ => true,
+// Whether there is a difference of a kind.
+fn has(kind: Kind, all: &[Difference]) -> bool
+    ensures { result ≡ has kind all.now }
+{
+    count_of(kind, all) > 0
+}
+
+// sample_is_non_sync_sample alone of the flags of a sample (ISO/IEC 14496-12, 8.8.3.1).
+fn sync_flag(flags: u64) -> u64
+    ensures { result ≡ sync_flag flags }
+{
+    flags / 0x1_0000 % 2 * 0x1_0000
+}
+
+// Whether a difference of flags is left where flags are left out.
+fn is_in_sync(difference: &Difference) -> bool
+    ensures { result ≡ is_in_sync difference.now }
+{
+    match (kind_of(difference), difference.left, difference.right) {
+        (Kind::Flags, Value::Number(left), Value::Number(right)) => {
+            sync_flag(left) != sync_flag(right)
+        }
+        _ => false,
     }
 }
 
-/// What the kinds are called, in the order in which they are told of.
-const NAMES: [&str; 8] = [
-    "times", "edits", "flags", "groups", "kept", "heads", "samples", "bytes",
-];
-
-/// How many differences there are of each kind.
-#[derive(Clone, Copy)]
-pub(crate) struct Tally {
-    counts: [u64; 8],
-    /// Some difference of flags is left where flags are left out.
-    in_sync: bool,
+// Whether such a difference is among these.
+fn any_in_sync(all: &[Difference]) -> bool
+    ensures { result ≡ list_any is_in_sync all.now }
+{
+    all.iter().any(|difference| is_in_sync(difference))
 }
 
-impl Tally {
-    /// Of these differences.
-    pub(crate) fn of(all: &[Difference]) -> Tally {
-        let mut tally = Tally {
-            counts: [0; 8],
-            in_sync: false,
-        };
-        for difference in all {
-            tally.note(difference);
-        }
-        tally
-    }
+// Whether there is a difference of a kind, or something else is so.
+fn or_has(is_so: bool, kind: Kind, all: &[Difference]) -> bool
+    ensures { result ≡ is_so || has kind all.now }
+{
+    is_so || has(kind, all)
+}
 
-    fn note(&mut self, difference: &Difference) {
-        let kind = kind_of(difference);
-        let count = &mut self.counts[kind as usize];
-        *count = count.saturating_add(1);
-        if matches!(kind, Kind::Flags) {
-            self.in_sync |= differs_in_sync(difference);
-        }
-    }
+// Whether some of these differences are left whatever is left out.
+fn differ_in_all(all: &[Difference]) -> bool
+    ensures { result ≡ differ_in_all all.now }
+{
+    let differ = or_has(has(Kind::Heads, all), Kind::Samples, all);
+    or_has(differ, Kind::Bytes, all) || any_in_sync(all)
+}
 
-    // Whether there is a difference of this kind.
-    fn has(&self, kind: Kind) -> bool {
-        self.counts[kind as usize] > 0
+/// What has to be left out, beside what is left out already, for none of these differences to be
+/// left; none where some would be. Of kept boxes not all are metadata, so it may not be enough.
+pub(crate) fn suggested(leaving: Leaving, all: &[Difference]) -> Option<Leaving>
+    ensures { result ≡ suggested leaving all.now }
+{
+    if differ_in_all(all) {
+        return None;
     }
+    Some(Leaving {
+        times: or_has(leaving.times, Kind::Times, all),
+        edits: or_has(leaving.edits, Kind::Edits, all),
+        flags: or_has(leaving.flags, Kind::Flags, all),
+        groups: or_has(leaving.groups, Kind::Groups, all),
+        metadata: or_has(leaving.metadata, Kind::Kept, all),
+    })
+}
 
-    /// The kinds by their names, in the order of these, and how many differences are of each.
-    pub(crate) fn sorted(&self) -> [(&'static str, u64); 8] {
-        let [times, edits, flags, groups, kept, heads, samples, bytes] = self.counts;
-        [
-            ("bytes", bytes),
-            ("edits", edits),
-            ("flags", flags),
-            ("groups", groups),
-            ("heads", heads),
-            ("kept", kept),
-            ("samples", samples),
-            ("times", times),
-        ]
+// Adds a count of a kind, where it isn't 0, and says whether none is added yet.
+#[tactic(auto, unfolding(crate::specs::format::LastLine::count_text))]
+fn say_count(
+    text: &mut Vec<u8>,
+    kind: Kind,
+    all: &[Difference],
+    is_first: bool,
+) -> Result<bool, AllocError>
+    ensures text { OnOk result (text.new.items
+        ≡ text.old.items ++ count_text is_first kind all.now) }
+    ensures first { IfOk result (λ first. first ≡ is_first && (count_of kind all.now == 0)) }
+{
+    let count = count_of(kind, all);
+    if count == 0 {
+        return Ok(is_first);
     }
-
-    /// How many differences there are.
-    pub(crate) fn total(&self) -> u64 {
-        let mut total: u64 = 0;
-        for count in self.counts {
-            total = total.saturating_add(count);
-        }
-        total
-    }
-
-    /// What has to be left out, beside what is left out already, for no difference to be left;
-    /// none where some would be. Of kept boxes not all are metadata, so it may not be enough.
-    pub(crate) fn suggests(&self, leaving: Leaving) -> Option<Leaving> {
-        let differ = self.has(Kind::Heads) || self.has(Kind::Samples) || self.has(Kind::Bytes);
-        if self.in_sync || differ {
-            return None;
-        }
-        Some(Leaving {
-            times: leaving.times || self.has(Kind::Times),
-            edits: leaving.edits || self.has(Kind::Edits),
-            flags: leaving.flags || self.has(Kind::Flags),
-            groups: leaving.groups || self.has(Kind::Groups),
-            metadata: leaving.metadata || self.has(Kind::Kept),
-        })
-    }
+    say(text, if is_first { ": " } else { ", " })?;
+    say(text, kind_name(kind))?;
+    say_counted(text, " ", count, "")?;
+    Ok(false)
 }
 
 // Adds the counts by kind.
-fn say_counts(text: &mut Vec<u8>, tally: &Tally) -> Result<(), AllocError> {
-    let mut is_first = true;
-    for (name, count) in NAMES.iter().zip(tally.counts.iter()) {
-        if *count > 0 {
-            say(text, if is_first { ": " } else { ", " })?;
-            say(text, name)?;
-            say(text, " ")?;
-            say_number(text, *count)?;
-            is_first = false;
-        }
-    }
+fn say_counts(text: &mut Vec<u8>, all: &[Difference]) -> Result<(), AllocError>
+    ensures { OnOk result (text.new.items ≡ text.old.items ++ counts_text true all_kinds all.now) }
+{
+    let is_first = say_count(text, Kind::Times, all, true)?;
+    let is_first = say_count(text, Kind::Edits, all, is_first)?;
+    let is_first = say_count(text, Kind::Flags, all, is_first)?;
+    let is_first = say_count(text, Kind::Groups, all, is_first)?;
+    let is_first = say_count(text, Kind::Kept, all, is_first)?;
+    let is_first = say_count(text, Kind::Heads, all, is_first)?;
+    let is_first = say_count(text, Kind::Samples, all, is_first)?;
+    let _ = say_count(text, Kind::Bytes, all, is_first)?;
     Ok(())
 }
 
-// Adds the words that leave these out.
-fn say_words(text: &mut Vec<u8>, leaving: Leaving) -> Result<(), AllocError> {
-    let mut front = " ";
-    for (word, is_left_out) in words_of(leaving) {
-        if is_left_out {
-            say(text, front)?;
-            say(text, word)?;
-            front = ",";
-        }
+// Adds a word behind others, if it leaves something out, and says whether none is added yet.
+fn say_word(
+    text: &mut Vec<u8>,
+    word: &str,
+    is_left_out: bool,
+    is_first: bool,
+) -> Result<bool, AllocError>
+    ensures text { OnOk result (text.new.items
+        ≡ text.old.items ++ words_text is_first ((word.now, is_left_out) ∷ [])) }
+    ensures first { IfOk result (λ first. first ≡ is_first && not is_left_out) }
+{
+    if !is_left_out {
+        return Ok(is_first);
     }
+    say(text, if is_first { " " } else { "," })?;
+    say(text, word)?;
+    Ok(false)
+}
+
+/// Adds the words that leave these out, a space before them and commas between them.
+pub(crate) fn say_words(text: &mut Vec<u8>, leaving: Leaving) -> Result<(), AllocError>
+    ensures { OnOk result (text.new.items ≡ text.old.items ++ leaving_text leaving) }
+{
+    let is_first = say_word(text, "times", leaving.times, true)?;
+    let is_first = say_word(text, "edits", leaving.edits, is_first)?;
+    let is_first = say_word(text, "flags", leaving.flags, is_first)?;
+    let is_first = say_word(text, "groups", leaving.groups, is_first)?;
+    let _ = say_word(text, "metadata", leaving.metadata, is_first)?;
     Ok(())
+}
+
+// Adds with which words two files are the same, or that there are none.
+fn say_enough(text: &mut Vec<u8>, enough: Option<Leaving>) -> Result<(), AllocError>
+    ensures { OnOk result (text.new.items ≡ text.old.items ++ enough_text enough) }
+{
+    match enough {
+        Some(leaving) => {
+            say(text, "; the same --without")?;
+            say_words(text, leaving)
+        }
+        None => say(text, "; no words of --without make them the same"),
+    }
+}
+
+// What stands before the number of differences.
+fn total_front(is_whole: bool) -> &'static str
+    ensures { result.now ≡ total_front is_whole }
+{
+    if is_whole { "" } else { "at least " }
+}
+
+// And behind it.
+fn total_end(count: usize) -> &'static str
+    ensures { result.now ≡ total_end count }
+{
+    if count == 1 {
+        " difference"
+    } else {
+        " differences"
+    }
 }
 
 /// Adds the line that ends a list of all differences: how many there are, or whether there are
 /// more, of which kinds, and what has to be left out for the files to be the same.
-pub(crate) fn say_tally(
+pub(crate) fn say_last(
     text: &mut Vec<u8>,
-    tally: &Tally,
+    all: &[Difference],
     is_whole: bool,
     enough: Option<Leaving>,
 ) -> Result<(), AllocError>
-    ensures { OnOk result (0 < length text.new.items) }
+    ensures { OnOk result (text.new.items ≡ text.old.items ++ last_line is_whole all.now enough) }
 {
-    let total = tally.total();
-    if !is_whole {
-        say(text, "at least ")?;
-    }
-    say_number(text, total)?;
-    say(text, " difference")?;
-    if total != 1 {
-        say(text, "s")?;
-    }
-    say_counts(text, tally)?;
-    match enough {
-        Some(leaving) => {
-            say(text, "; the same --without")?;
-            say_words(text, leaving)?;
-        }
-        None => say(text, "; no words of --without make them the same")?,
-    }
+    let count = all.len();
+    say_counted(text, total_front(is_whole), count as u64, total_end(count))?;
+    say_counts(text, all)?;
+    say_enough(text, enough)?;
     end_line(text)
 }

@@ -1,6 +1,5 @@
 //! The verdict on a file: a line of its name and of what is said of it.
 ghost use Rattle.std.specs.Prelude.{◌≡◌, ◌<◌, length, IfErr, IfOk, OnOk, ◌++◌, string_bytes};
-ghost use Rattle.std.specs.Io.KnownBytes.{Appends};
 ghost use Rattle.serde_json.specs.View.{view};
 ghost use Rattle.serde_json.specs.Written.{compact_text};
 ghost use Rattle.mp4norm.specs.format.Verdicts.{fault_value, failure_text, verdict_line, verdict_members, verdict_object, verdict_text, verdict_status, RefusesVerdict, IsNameLength, FirstName};
@@ -135,10 +134,9 @@ pub fn put_verdict<K: Sink>(
 ) -> Result<(), Refusal>
     ensures puts { OnOk result (K.put_failures sink.new ≡ K.put_failures sink.old) }
     ensures text { OnOk result
-        (Appends (K.contents sink.old) (K.contents sink.new)
-        (verdict_text name.now answer.now style)) }
+        (K.takes sink.old sink.new (verdict_text name.now answer.now style)) }
     ensures refusal { IfErr result (RefusesVerdict (verdict_text name.now answer.now style)
-        (K.contents sink.old) (K.contents sink.new) (K.put_failures sink.old)
+        (K.takes sink.old sink.new) (K.put_failures sink.old)
         (K.put_failures sink.new)) }
 {
     let line = verdict(alloc, name, answer, style)?;

@@ -108,6 +108,14 @@ pub struct VerdictStyle {
     pub end: u8,
 }
 
+/// What is found of each of some files: whether it is accepted, or its sum, of what is left of it;
+/// then a line that says of what may stand before all of them.
+#[derive(Clone, Copy)]
+pub enum Finding {
+    Verdict,
+    Sum { leaving: Leaving, header: bool },
+}
+
 /// Which files are compared, without what, and what is told of it.
 #[derive(Clone, Copy)]
 pub struct Comparison<'a> {
@@ -119,14 +127,20 @@ pub struct Comparison<'a> {
 }
 
 /// What the words ask for: a job, a copy without the boxes of some names, a comparison of two
-/// files, or a verdict on each of some files and of those that a list names, in a line that is
-/// ended by a line feed or a zero byte.
+/// files, a verdict on each of some files and of those that a list names, or the sum of each, in a
+/// line that is ended by a line feed or a zero byte; or whether files have the sums of a list.
 #[derive(Drop)]
 pub enum Action<'a> {
     Check {
         files: Vec<Input<'a>>,
         list: Option<Input<'a>>,
+        finding: Finding,
         style: VerdictStyle,
+        telling: Telling,
+    },
+    CheckSums {
+        list: Input<'a>,
+        quiet: bool,
         telling: Telling,
     },
     Compare(Comparison<'a>),

@@ -6,7 +6,7 @@ ghost use Rattle.mp4norm.specs.format.BoxWalk.{IsWithin, top_seen};
 ghost use Rattle.mp4_present.specs.words.OverStores.{WhereHonest, WhereRead};
 ghost use Rattle.mp4_boxes.specs.format.Box.{Tiles, box_container, counted_container};
 ghost use Rattle.mp4norm.specs.format.Ways.{HoldsPlace, IsHeld, step_text, IsWayIn};
-ghost use Rattle.mp4norm.specs.words.OverDevices.{KeepsFile};
+ghost use Rattle.mp4norm.specs.format.Run.{KeepsFile};
 ghost use Rattle.mp4norm.specs.words.AddedWays.{AddsWay};
 
 use crate::boxes::rule_inside;

@@ -24,7 +24,7 @@ pub record MoofWork {T E : Type 0} (moof : Box) (steps more room less : ℕ) (re
       (λ view. 2 * more + 2 * less ≤ 2 * steps + 2 * room + length moof.payload)
   pub most : 2 * more ≤ 2 * steps + 2 * room + length moof.payload
 
--- the track of a `traf` is found among so many at one look
+-- the track of a `traf` is found at one look; `tracks` is 1, or 0 where there is none
 pub record TrafLooks {T E : Type 0} (tracks looks more : ℕ) (result : Result T E) : Type 0 where
   pub one : IfOk result (λ at. more ≡ looks + 1)
   pub most : more ≤ looks + tracks

@@ -33,13 +33,13 @@ sizes_of samples = sum_of (λ (s : SampleAt). s.size) samples
 
 -- Of all these samples the bytes of the first follow, as many as the load has become less by; the
 -- others are to come.
-pub record BytesCarried (file : List ℕ) (before after : Option (List ℕ)) (held held_after : List ℕ)
+pub record BytesCarried (file : List ℕ) (Took : List ℕ → Type 0) (held held_after : List ℕ)
     (all to_come : List SampleAt) (load left : Load) : Type 0 where
   pub done : List SampleAt
   pub whole : all ≡ done ++ to_come
   pub count : load.samples ≡ length done + left.samples
   pub sizes : load.bytes ≡ sizes_of done + left.bytes
-  pub bytes : BytesGoOn before after held held_after (sample_bytes file done)
+  pub bytes : BytesGoOn Took held held_after (sample_bytes file done)
 
 -- ---- samples that are taken one by one
 

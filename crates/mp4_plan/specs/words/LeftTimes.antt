@@ -1,5 +1,5 @@
 -- How long tracks are by their samples alone, and why nothing is written where one is too long.
-use Rattle.std.specs.Prelude.{◌≡◌, ℕ, ◌*◌, ◌<◌, ◌≤◌, max, List, take, fold, Option, Some, slice_get, codes, true}
+use Rattle.std.specs.Prelude.{◌≡◌, ℕ, ◌*◌, ◌<◌, ◌≤◌, max, List, [], take, fold, Some, slice_get, codes, true}
 use Rattle.std.specs.Int.{div_ceil}
 use Rattle.std.specs.List.{AllByRecursion}
 use Rattle.mp4_boxes.specs.declared.fault.Fault.{Fault}
@@ -66,14 +66,13 @@ abbrev pub RefusesLeft : Leaving → ℕ → ℕ → Refusal → Type 0
 RefusesLeft l reads reads_after (refusals.Fault f) = MayBeLong l f
 RefusesLeft l reads reads_after r = RefusesPlan reads reads_after r
 
--- Why what is left of a movie is not written: what the sink holds, before and after, and counts of
--- failed reads, and of failed puts.
-abbrev pub RefusesLeftCopy : Leaving → Option (List ℕ) → Option (List ℕ) → ℕ → ℕ → ℕ → ℕ → Refusal
-    → Type 0
-RefusesLeftCopy l before after reads reads_after puts puts_after (refusals.Fault f) = MayBeLong l f
-    × (after ≡ before)
-RefusesLeftCopy l before after reads reads_after puts puts_after r =
-    RefusesCopy before after reads reads_after puts puts_after r
+-- Why what is left of a movie is not written: what was put, and counts of failed reads, and of
+-- failed puts.
+abbrev pub RefusesLeftCopy : Leaving → (List ℕ → Type 0) → ℕ → ℕ → ℕ → ℕ → Refusal → Type 0
+RefusesLeftCopy l Took reads reads_after puts puts_after (refusals.Fault f) = MayBeLong l f
+    × Took []
+RefusesLeftCopy l Took reads reads_after puts puts_after r =
+    RefusesCopy Took reads reads_after puts puts_after r
 
 -- ---- over an opened file
 

@@ -2,7 +2,7 @@
 -- store and of a sink.
 use Rattle.std.specs.Prelude.{◌≡◌, ℕ, ◌+◌, ◌≤◌, List, ◌++◌, length, take, slice_get, Option, IsTrue, Result, MatchResult}
 use Rattle.std.specs.List.{AllByRecursion}
-use Rattle.mp4_store.specs.words.Device.{AppendsPrefix}
+use Rattle.mp4_store.specs.words.Device.{TakesPrefix}
 use Rattle.mp4_store.specs.declared.store.Store.{Ghosts as Store}
 use Rattle.mp4_store.specs.declared.sink.Sink.{Ghosts as Sink}
 use Rattle.mp4_tables.specs.declared.sample.SampleAt.{SampleAt}
@@ -31,9 +31,9 @@ use Rattle.mp4_plan.specs.declared.joined.Stretches.{Stretches}
 abbrev pub CarriesFirst : {Y E : Type 0} → List ℕ → Sink Y → Y → Y → Carrier → Carrier
     → Result Load E → Load → List SampleAt → List SampleAt → Type 0
 CarriesFirst file K sink sink_after c c_after result load all to_come = MatchResult result
-    (λ left. BytesCarried file (K.contents sink) (K.contents sink_after) (waiting c)
+    (λ left. BytesCarried file (K.takes sink sink_after) (waiting c)
     (waiting c_after) all to_come load left)
-    (λ _. AppendsPrefix (K.contents sink) (K.contents sink_after) (waiting c
+    (λ _. TakesPrefix (K.takes sink sink_after) (waiting c
     ++ sample_bytes file (take load.samples all)))
 
 -- these samples lie in the file, and so many of them have so many bytes

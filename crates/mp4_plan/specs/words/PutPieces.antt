@@ -1,7 +1,6 @@
 -- What is put over any store, also over one that changes while it is read: pieces with so many
 -- samples and so many bytes of these, whichever bytes the store gave.
-use Rattle.std.specs.Prelude.{◌≡◌, ℕ, ◌≤◌, List, [], ◌∷◌, ◌++◌, length, map, codes, Option}
-use Rattle.std.specs.Io.KnownBytes.{Appends}
+use Rattle.std.specs.Prelude.{◌≡◌, ℕ, ◌≤◌, List, [], ◌∷◌, ◌++◌, length, map, codes}
 use Rattle.std.specs.List.{sum_by}
 use Rattle.mp4_boxes.specs.format.Written.{header_bytes}
 use Rattle.mp4_tables.specs.format.Groups.{GroupKey}
@@ -52,26 +51,26 @@ abbrev pub data_put : List PutPiece → ℕ
 data_put pieces = sum_by (λ (q : PutPiece). q.planned.bytes) pieces
 
 -- Behind these bytes pieces follow, with so many samples and so many bytes of these, and nothing
--- else.
-pub record PiecesFollow (before after : Option (List ℕ)) (held held_after : List ℕ)
+-- else. `Took` says of bytes that they were put since.
+pub record PiecesFollow (Took : List ℕ → Type 0) (held held_after : List ℕ)
     (first : List ℕ) (samples bytes : ℕ) : Type 0 where
   pub pieces : List PutPiece
   pub counts : samples_put pieces ≡ samples
   pub sizes : data_put pieces ≡ bytes
   pub text : List ℕ
   pub are : AreBytesOf pieces text
-  pub put : BytesGoOn before after held held_after (first ++ text)
+  pub put : BytesGoOn Took held held_after (first ++ text)
 
 -- This head was put, and behind it pieces, and nothing else. They have as many samples as the movie
 -- says of all its tracks together, and these as many bytes.
-pub record IsPutWhole (m : MovieSeen) (before after : Option (List ℕ)) (head : List ℕ)
+pub record IsPutWhole (m : MovieSeen) (Took : List ℕ → Type 0) (head : List ℕ)
     : Type 0 where
   pub pieces : List PutPiece
   pub counts : samples_put pieces ≡ sum_by (λ (i : TrackInfo). i.samples) m.tracks
   pub sizes : data_put pieces ≡ sum_by (λ (i : TrackInfo). i.bytes) m.tracks
   pub text : List ℕ
   pub are : AreBytesOf pieces text
-  pub put : Appends before after (head ++ text)
+  pub put : Took (head ++ text)
 
 -- ---- the head
 

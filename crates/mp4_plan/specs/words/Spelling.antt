@@ -109,9 +109,9 @@ runs_left zero index values = longest_runs values
 runs_left (suc count) index values = resumed (suc count) index values
 
 -- With one index more some of the runs that were to come are written.
-abbrev pub WritesRuns : Option (List ℕ) → Option (List ℕ) → List ℕ → List ℕ → IndexRun → IndexRun
-    → ℕ → List ℕ → Type 0
-WritesRuns before after held held_after run next index values =
-    (done : List (ℕ × ℕ)) × BytesGoOn before after held held_after (flat_map group_row done)
+abbrev pub WritesRuns : (List ℕ → Type 0) → List ℕ → List ℕ → IndexRun → IndexRun → ℕ → List ℕ
+    → Type 0
+WritesRuns Took held held_after run next index values =
+    (done : List (ℕ × ℕ)) × BytesGoOn Took held held_after (flat_map group_row done)
     × (runs_left run.count run.index (index ∷ values) ≡ done
     ++ runs_left next.count next.index values)

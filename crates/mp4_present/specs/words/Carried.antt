@@ -1,6 +1,5 @@
 -- Bytes on their way to a sink: some of them are put, and the rest wait.
-use Rattle.std.specs.Prelude.{◌≡◌, ◌+◌, ◌<◌, ℕ, List, ◌++◌, length, take, Option}
-use Rattle.std.specs.Io.KnownBytes.{Appends}
+use Rattle.std.specs.Prelude.{◌≡◌, ◌+◌, ◌<◌, ℕ, List, [], ◌++◌, length, take}
 use Rattle.mp4_store.specs.words.Device.{HasRisen, count_after}
 use Rattle.mp4_boxes.specs.declared.refusal.Refusal.{Refusal}
 use Rattle.mp4_boxes.specs.declared.refusal.Refusal.TheVariants as refusals
@@ -12,23 +11,23 @@ abbrev pub waiting : Carrier → List ℕ
 waiting c = take c.used c.buffer.items
 
 -- These bytes follow: what was put since, and then what waits now, is what waited before, and then
--- these. The options are what the sink holds, before and after.
-abbrev pub BytesGoOn : Option (List ℕ) → Option (List ℕ) → List ℕ → List ℕ → List ℕ → Type 0
-BytesGoOn before after held held_after bytes = (put : List ℕ) × Appends before after put
+-- these. `Took` says of bytes that they were put since.
+abbrev pub BytesGoOn : (List ℕ → Type 0) → List ℕ → List ℕ → List ℕ → Type 0
+BytesGoOn Took held held_after bytes = (put : List ℕ) × Took put
     × (put ++ held_after ≡ held ++ bytes)
 
 -- So many bytes follow, whichever these are.
-abbrev pub GoOnBy : Option (List ℕ) → Option (List ℕ) → List ℕ → List ℕ → ℕ → Type 0
-GoOnBy before after held held_after n = (bytes : List ℕ) × (length bytes ≡ n)
-    × BytesGoOn before after held held_after bytes
+abbrev pub GoOnBy : (List ℕ → Type 0) → List ℕ → List ℕ → ℕ → Type 0
+GoOnBy Took held held_after n = (bytes : List ℕ) × (length bytes ≡ n)
+    × BytesGoOn Took held held_after bytes
 
 -- So many bytes wait behind those that waited before, whichever these are.
 abbrev pub WaitsMore : List ℕ → List ℕ → ℕ → Type 0
 WaitsMore held held_after n = (bytes : List ℕ) × (length bytes ≡ n) × (held_after ≡ held ++ bytes)
 
 -- so many bytes were put, whichever these are
-abbrev pub PutsMany : Option (List ℕ) → Option (List ℕ) → ℕ → Type 0
-PutsMany before after n = (put : List ℕ) × Appends before after put × (length put ≡ n)
+abbrev pub PutsMany : (List ℕ → Type 0) → ℕ → Type 0
+PutsMany Took n = (put : List ℕ) × Took put × (length put ≡ n)
 
 -- Why bytes are not taken along: one more put failed. The numbers are counts of failed puts, before
 -- and after.
@@ -59,9 +58,8 @@ RefusesCarry reads reads_after puts puts_after refusals.StoreChanged = Unit {0}
 RefusesCarry reads reads_after puts puts_after refusals.WriteFailed = HasRisen puts puts_after
 RefusesCarry reads reads_after puts puts_after _ = ⊥
 
--- Why a track is not copied: what the sink holds, before and after, and counts of failed reads, and
--- of failed puts.
-abbrev pub RefusesCopy : Option (List ℕ) → Option (List ℕ) → ℕ → ℕ → ℕ → ℕ → Refusal → Type 0
-RefusesCopy before after reads reads_after puts puts_after refusals.Memory = after ≡ before
-RefusesCopy before after reads reads_after puts puts_after r =
+-- Why a track is not copied: what was put, and counts of failed reads, and of failed puts.
+abbrev pub RefusesCopy : (List ℕ → Type 0) → ℕ → ℕ → ℕ → ℕ → Refusal → Type 0
+RefusesCopy Took reads reads_after puts puts_after refusals.Memory = Took []
+RefusesCopy Took reads reads_after puts puts_after r =
     RefusesCarry reads reads_after puts puts_after r

@@ -3,7 +3,7 @@
 use Rattle.std.specs.Prelude.{◌≡◌, ℕ, ◌+◌, ◌-◌, ◌≤◌, List, ◌++◌, length, vec_len, IsTrue, Result, MatchResult, IfOk, IfErr}
 use Rattle.std.specs.List.{AllByRecursion}
 use Rattle.mp4_boxes.specs.declared.refusal.Refusal.{Refusal}
-use Rattle.mp4_store.specs.words.Device.{AppendsPrefix}
+use Rattle.mp4_store.specs.words.Device.{TakesPrefix}
 use Rattle.mp4_store.specs.declared.store.Store.{Ghosts as Store}
 use Rattle.mp4_store.specs.declared.sink.Sink.{Ghosts as Sink}
 use Rattle.mp4_frag.specs.words.OwnTrafs.{PlacedTraf}
@@ -38,17 +38,17 @@ abbrev pub CarriesHand : {X Y T E : Type 0} → Store X → X → MovieSeen → 
     → Carrier → Carrier → Result T E → Type 0
 CarriesHand S store m w K sink sink_after c c_after result = MatchResult result
     (λ _. IsTrue (S.is_honest store) → OfHand m w (λ hand.
-    BytesGoOn (K.contents sink) (K.contents sink_after) (waiting c) (waiting c_after)
+    BytesGoOn (K.takes sink sink_after) (waiting c) (waiting c_after)
     (sample_bytes (S.file store) (left_in_hand hand))))
     (λ _. IsTrue (S.is_honest store) → OfHand m w (λ hand.
-    AppendsPrefix (K.contents sink) (K.contents sink_after) (waiting c
+    TakesPrefix (K.takes sink sink_after) (waiting c
     ++ sample_bytes (S.file store) (left_in_hand hand))))
 
 -- Of so many bytes so many are left: the others are those of the samples in hand, and were taken
 -- along.
 pub record LeavesBytes {Y : Type 0} (m : MovieSeen) (w : Walk) (K : Sink Y) (sink sink_after : Y)
     (c c_after : Carrier) (bytes left : ℕ) : Type 0 where
-  pub many : (left ≤ bytes) × GoOnBy (K.contents sink) (K.contents sink_after) (waiting c)
+  pub many : (left ≤ bytes) × GoOnBy (K.takes sink sink_after) (waiting c)
       (waiting c_after) (bytes - left)
   pub sizes : OfHand m w (λ hand. sizes_of (left_in_hand hand) + left ≡ bytes)
 

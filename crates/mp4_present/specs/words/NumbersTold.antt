@@ -46,8 +46,8 @@ abbrev pub StepsFit : ℕ → ℕ → ℕ → ℕ → ℕ → Type 0
 StepsFit file_length at room old new = new + (room + (file_length - at)) ≤ old + (2 ^ 24
     + file_length)
 
--- looks at so many tracks, and a place from which bytes of the file are left: 8 of these count once
--- for each track
+-- looks, and a place from which bytes of the file are left: 8 of these count once; `tracks` is 1,
+-- or 0 where there is none
 abbrev pub LooksFit : ℕ → ℕ → ℕ → ℕ → ℕ → Type 0
 LooksFit file_length at tracks old new = 8 * new + tracks * (file_length - at) ≤ 8 * old
     + tracks * file_length
@@ -74,7 +74,7 @@ pub record IsBehind (file : List ℕ) (states : List TrackState) (room bytes : �
   pub next : (movie : MovieTree) (boxes : List Box) → IsBegun file movie boxes states room
       → ComesNext file movie r states_after
   pub left : StepsFit (length file) r.moof.offset r.room old new
-  pub looked : LooksFit (length file) r.moof.offset (length states) looks more
+  pub looked : LooksFit (length file) r.moof.offset (min 1 (length states)) looks more
 
 -- a `moof` of which these are the bytes behind its header
 abbrev pub moof_read : TopBox → List ℕ → Box

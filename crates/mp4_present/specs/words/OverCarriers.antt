@@ -2,7 +2,7 @@
 -- `S` and `K` are what bounds say of the types of a store and of a sink.
 use Rattle.std.specs.Prelude.{◌≡◌, ℕ, ◌+◌, ◌<◌, ◌≤◌, List, ◌++◌, vec_len, Result, MatchResult, IfErr, OnOk}
 use Rattle.mp4_boxes.specs.declared.refusal.Refusal.{Refusal}
-use Rattle.mp4_store.specs.words.Device.{AppendsPrefix}
+use Rattle.mp4_store.specs.words.Device.{TakesPrefix}
 use Rattle.mp4_store.specs.declared.store.Store.{Ghosts as Store}
 use Rattle.mp4_store.specs.declared.sink.Sink.{Ghosts as Sink}
 use Rattle.mp4_present.specs.words.Carried.{BytesGoOn, GoOnBy, RefusesPut, waiting}
@@ -19,17 +19,17 @@ pub record OnlyCopies {X Y T E : Type 0} (S : Store X) (before after : X) (K : S
 -- these bytes are taken along
 abbrev pub TakesBytes : {Y : Type 0} → Sink Y → Y → Y → Carrier → Carrier → List ℕ → Type 0
 TakesBytes K sink sink_after c c_after bytes =
-    BytesGoOn (K.contents sink) (K.contents sink_after) (waiting c) (waiting c_after) bytes
+    BytesGoOn (K.takes sink sink_after) (waiting c) (waiting c_after) bytes
 
 -- so many bytes are taken along, whichever these are
 abbrev pub TakesMany : {Y : Type 0} → Sink Y → Y → Y → Carrier → Carrier → ℕ → Type 0
 TakesMany K sink sink_after c c_after n =
-    GoOnBy (K.contents sink) (K.contents sink_after) (waiting c) (waiting c_after) n
+    GoOnBy (K.takes sink sink_after) (waiting c) (waiting c_after) n
 
 -- a front of what waits and of these bytes was put
 abbrev pub PutsFrontOf : {Y : Type 0} → Sink Y → Y → Y → Carrier → List ℕ → Type 0
 PutsFrontOf K sink sink_after c bytes =
-    AppendsPrefix (K.contents sink) (K.contents sink_after) (waiting c ++ bytes)
+    TakesPrefix (K.takes sink sink_after) (waiting c ++ bytes)
 
 -- why it is refused: by how many puts had failed before, and have after it
 abbrev pub RefusedByPut : {Y T : Type 0} → Sink Y → Y → Y → Result T Refusal → Type 0

@@ -38,7 +38,7 @@ pub record SearchesWithin (file : List ℕ) (old new before after : ℕ) : Type 
   pub steps : OpensWithin file old new
   pub looks : LooksByBytes file before after
 
--- the same in all of its `moof`s, for so many tracks
+-- the same in all of its `moof`s; `tracks` is 1, or 0 where there is none
 pub record PassesWithin (file : List ℕ) (tracks old new before after : ℕ) : Type 0 where
   pub steps : new ≤ old + (2 ^ 24 + length file)
   pub looks : 8 * after ≤ 8 * before + tracks * length file

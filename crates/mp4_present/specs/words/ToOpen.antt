@@ -57,7 +57,7 @@ TakesToOpen file old new = (tree : FileTree) → IsFileTree file tree → old + 
 
 -- ---- looks at tracks
 
--- how often each track is looked at for a `moof`: once for each of its `traf`s
+-- how often a track is looked for in a `moof`: once for each of its `traf`s
 unfoldable pub moof_looks : Box → ℕ
 moof_looks moof = length (moof_says moof).trafs
 
@@ -67,16 +67,16 @@ boxes_looks moofs = sum_of moof_looks moofs
 
 -- all looks at the tracks of a file while it is opened
 abbrev pub opening_looks : FileTree → ℕ
-opening_looks tree = length tree.movie.tracks
-    * sum_of (λ (t : FragmentTree). moof_looks t.moof) tree.fragments
+opening_looks tree = sum_of (λ (t : FragmentTree). moof_looks t.moof) tree.fragments
 
--- so many tracks were looked at for the `moof`s of a file with these boxes
+-- so many looks were taken for the `moof`s of a file with these boxes; `tracks` is 1, or 0 where
+-- there is none
 abbrev pub LooksWithin : List ℕ → ℕ → ℕ → ℕ → Type 0
 LooksWithin file tracks old new = (boxes : List Box) → Holds File (file_container file) boxes
     → new ≤ old + tracks * boxes_looks (of_kind (codes "moof") boxes)
 
 -- the looks of the checks of all `moof`s of a file: where no fault is found, no more than they say;
--- and always, for each track, no more than one for 8 bytes
+-- and always no more than one for 8 bytes
 pub record LooksAtMoofs {T : Type 0} (file : List ℕ) (tracks : ℕ) (result : Result T Refusal)
     (old new : ℕ) : Type 0 where
   pub said : IfNoFault result (LooksWithin file tracks old new)

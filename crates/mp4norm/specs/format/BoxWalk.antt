@@ -1,7 +1,7 @@
 -- The walk over the boxes of a file that lists them: which containers it descends into, and what it
 -- answers.
 use Rattle.std.specs.Prelude.{◌≡◌, ℕ, ◌+◌, ◌-◌, ◌≤◌, List, length, map, Bool, IsTrue, Option}
-use Rattle.mp4_store.specs.words.Device.{HasRisen, AppendsPrefix}
+use Rattle.mp4_store.specs.words.Device.{HasRisen}
 use Rattle.mp4_boxes.specs.format.Box.{Box, Container, file_container}
 use Rattle.mp4_boxes.specs.format.BoxFaults.{IsHeaderFault}
 use Rattle.mp4_boxes.specs.format.Places.{Place, ruled, containers, at_kind, Reaches}
@@ -13,7 +13,7 @@ use Rattle.mp4_boxes.specs.declared.refusal.Refusal.TheVariants as refusals
 use Rattle.mp4_present.specs.words.Reading.{top_box}
 use Rattle.mp4_present.specs.declared.reading.TopBox.{TopBox}
 use Rattle.mp4norm.specs.declared.wanted.Syntax.{Syntax}
-use Rattle.mp4norm.specs.format.Texts.{descends, IsPart, AreBoxLines, BoxLines, box_line}
+use Rattle.mp4norm.specs.format.Texts.{descends, IsPart, AreBoxLines, box_line}
 
 -- how many levels of boxes lie under a rule at most, its own included
 abbrev pub height : Rule → ℕ
@@ -44,25 +44,6 @@ pub record FaultSeen (from : Place) (f : Fault) : Type 0 where
 abbrev pub IsListed : Syntax → Rule → ℕ → Box → List ℕ → Type 0
 IsListed syntax rule depth b part = IsPart (AreBoxLines syntax (height rule - 1) (depth + 1))
     (box_line syntax rule depth b) (rule_inside rule b.kind) b part
-
--- What the list of boxes answers of an honest store's file: the lines, or a fault that stands at a
--- header that is looked at. `before` and `after` are what the sink holds, the numbers are counts of
--- failures.
-abbrev pub RefusesBoxes : Syntax → Bool → List ℕ → Option (List ℕ) → Option (List ℕ)
-    → ℕ → ℕ → ℕ → ℕ → Refusal → Type 0
-RefusesBoxes syntax honest file before after reads reads_after puts puts_after (refusals.Fault f) =
-    (IsTrue honest → FaultSeen (under File (file_container file)) f) × (after ≡ before)
-RefusesBoxes syntax honest file before after reads reads_after puts puts_after refusals.Memory =
-    after ≡ before
-RefusesBoxes syntax honest file before after reads reads_after puts puts_after
-    refusals.StoreFailed =
-    HasRisen reads reads_after × (after ≡ before)
-RefusesBoxes syntax honest file before after reads reads_after puts puts_after
-    refusals.WriteFailed =
-    HasRisen puts puts_after
-    × (IsTrue honest → (text : List ℕ) × BoxLines syntax file text
-    × AppendsPrefix before after text)
-RefusesBoxes syntax honest file before after reads reads_after puts puts_after _ = ⊥
 
 -- ---- the boxes of the file itself, by their headers
 

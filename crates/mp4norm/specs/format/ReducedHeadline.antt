@@ -1,5 +1,5 @@
 -- The normal form of what is left of a file, where some of what it says is left out.
-use Rattle.std.specs.Prelude.{◌≡◌, ℕ, List, Option}
+use Rattle.std.specs.Prelude.{◌≡◌, ℕ, List}
 use Rattle.mp4_present.specs.format.Presentation.{Presentation}
 use Rattle.mp4_present.specs.format.Denotes.{Denotes}
 use Rattle.mp4_present.specs.format.Reduced.{ReducesInTime, reduce}
@@ -12,7 +12,6 @@ abbrev pub HasReducedForm : Leaving → List ℕ → List ℕ → Type 0
 HasReducedForm l file bytes = (p : Presentation) × Denotes file p × ReducesInTime l p
     × (bytes ≡ normal (reduce l p))
 
--- where what is left of what the file denotes is too long, nothing is put
-abbrev pub PutsNoneTooLong : Leaving → List ℕ → Option (List ℕ) → Option (List ℕ) → Type 0
-PutsNoneTooLong l file before after = (p : Presentation) → Denotes file p
-    → (ReducesInTime l p → ⊥) → after ≡ before
+-- what is left of what the file denotes is too long
+abbrev pub IsTooLong : Leaving → List ℕ → Type 0
+IsTooLong l file = (p : Presentation) × Denotes file p × (ReducesInTime l p → ⊥)

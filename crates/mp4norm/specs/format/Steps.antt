@@ -1,5 +1,6 @@
 -- How many steps and looks a whole run may take. A step is a row, a `traf`, a run or a sample that
--- a check or a cursor passes. A look passes none of these: it compares a track, or is a turn.
+-- a check or a cursor passes. A look passes none of these: it finds the track of a `traf` by its
+-- ID, or is a turn.
 use Rattle.std.specs.Prelude.{ℕ, ◌+◌, ◌*◌, ◌≤◌, List, length}
 use Rattle.mp4_boxes.specs.format.Bytes.{sum_of}
 use Rattle.mp4_tables.specs.format.Tables.{tables_of}
@@ -46,20 +47,20 @@ TakesEach file old new = (p : Presentation) → (d : Denotes file p)
 
 -- ---- looks
 
--- at how many places of a file its tracks are looked at: each `traf`
+-- at how many places of a file a track is looked for by its ID: each `traf`
 abbrev pub place_total : FileTree → ℕ
 place_total tree = sum_of (λ (f : FragmentTree). length (fragment_of f).trafs) tree.fragments
 
--- The looks at a file: at each track, at most one for each `traf`. Where it denotes nothing: by its
--- bytes.
+-- The looks at a file: at most one for each `traf`, however many tracks there are. Where it denotes
+-- nothing: by its bytes.
 pub record FindsWithin (file : List ℕ) (old new : ℕ) : Type 0 where
   pub denoted : (p : Presentation) → (d : Denotes file p)
-      → new ≤ old + length p.tracks * place_total d.tree
+      → new ≤ old + place_total d.tree
   pub refused : DenotesNothing file → LooksByBytes file old new
 
 -- The looks taken to write a file's normal form: those at the file, and the turns of two ways over
 -- all pieces, to plan and to write; a turn takes samples of a track.
 pub record TurnsWithin (file : List ℕ) (old new : ℕ) : Type 0 where
   pub denoted : (p : Presentation) → (d : Denotes file p) → new ≤ old
-      + (length p.tracks * place_total d.tree + 2 * most_turns (sample_total p) (length p.tracks))
+      + (place_total d.tree + 2 * most_turns (sample_total p) (length p.tracks))
   pub refused : DenotesNothing file → LooksByBytes file old new

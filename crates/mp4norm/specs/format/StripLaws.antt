@@ -1,5 +1,5 @@
 -- The laws of copies in which some boxes are free space.
-use Rattle.std.specs.Prelude.{◌≡◌, ℕ, ◌+◌, List, [], ◌∷◌, length, take, drop, true, false, Some, Ok, codes}
+use Rattle.std.specs.Prelude.{◌≡◌, ℕ, ◌+◌, List, [], ◌∷◌, length, take, drop, true, false, None, Some, Ok, codes}
 use Rattle.mp4_boxes.specs.format.Box.{Header, header_at}
 use Rattle.mp4_boxes.specs.declared.fault.Fault.{Fault}
 use Rattle.mp4_boxes.specs.declared.fault.Kind.TheVariants.{BoxNotInProfile}
@@ -9,7 +9,7 @@ use Rattle.mp4_present.specs.format.Presentation.{Presentation}
 use Rattle.mp4_present.specs.format.Denotes.{Denotes}
 use Rattle.mp4_present.specs.format.Stands.{Stands}
 use Rattle.mp4norm.specs.format.BoxWalk.{rule_inside}
-use Rattle.mp4norm.specs.format.Strips.{is_top, is_named, payload_of, IsStripped, Halts}
+use Rattle.mp4norm.specs.format.Strips.{is_top, is_named, payload_of, uuid_at, IsStripped, Halts}
 use Rattle.mp4norm.specs.declared.named.Name.{Name}
 use Rattle.mp4norm.specs.declared.named.Name.TheVariants.{Foreign}
 
@@ -17,13 +17,14 @@ use Rattle.mp4norm.specs.declared.named.Name.TheVariants.{Foreign}
 -- other named box.
 pub data NamedBoxAt (names : List Name) : Rule → ℕ → List ℕ → Type 0 where
   at_front : (rule : Rule) (place : ℕ) (bytes : List ℕ) (h : Header)
-      → header_at (is_top rule) bytes ≡ Ok h → is_named names rule h.kind ≡ true → place ≡ 0
+      → header_at (is_top rule) bytes ≡ Ok h → is_named names rule h.kind (uuid_at h bytes) ≡ true
+      → place ≡ 0
       → NamedBoxAt names rule place bytes
   further : (rule : Rule) (place : ℕ) (bytes : List ℕ) (h : Header) (left : ℕ)
       → header_at (is_top rule) bytes ≡ Ok h → NamedBoxAt names rule left (drop h.size bytes)
       → place ≡ h.size + left → NamedBoxAt names rule place bytes
   inside : (rule : Rule) (place : ℕ) (bytes : List ℕ) (h : Header) (inner : Rule) (left : ℕ)
-      → header_at (is_top rule) bytes ≡ Ok h → is_named names rule h.kind ≡ false
+      → header_at (is_top rule) bytes ≡ Ok h → is_named names rule h.kind (uuid_at h bytes) ≡ false
       → rule_inside rule h.kind ≡ Some inner → NamedBoxAt names inner left (payload_of h bytes)
       → place ≡ h.length + left → NamedBoxAt names rule place bytes
 
@@ -51,7 +52,7 @@ HaltedStripsNothing = (names : List Name) (f : Fault) (file text : List ℕ)
 
 -- no name means free space
 abbrev pub SparesFree : List Name → Type 0
-SparesFree names = (rule : Rule) → is_named names rule (codes "free") ≡ false
+SparesFree names = (rule : Rule) → is_named names rule (codes "free") None ≡ false
 
 -- Then no named box stands in the copy.
 abbrev pub StripLeavesNone : Type 0

@@ -1,5 +1,5 @@
 -- A copy of a file in which the boxes of some types are free space (ISO/IEC 14496-12, 8.1.2).
-use Rattle.std.specs.Prelude.{◌≡◌, ◌⊎◌, ℕ, ◌+◌, ◌-◌, ◌<◌, List, [], ◌++◌, length, take, drop, Bool, true, false, IsTrue, not, ◌&&◌, Option, None, Some, Ok, Err, codes, bytes_eq}
+use Rattle.std.specs.Prelude.{◌≡◌, ℕ, ◌+◌, ◌-◌, ◌<◌, List, [], ◌++◌, length, take, drop, Bool, true, false, IsTrue, not, ◌&&◌, Option, None, Some, Ok, Err, codes, bytes_eq}
 use Rattle.std.specs.List.{list_any}
 use Rattle.mp4_store.specs.words.Device.{HasRisen}
 use Rattle.mp4_boxes.specs.format.Box.{Header, header_at}
@@ -12,7 +12,7 @@ use Rattle.mp4_boxes.specs.declared.fault.Fault.{Fault}
 use Rattle.mp4_boxes.specs.declared.refusal.Refusal.{Refusal}
 use Rattle.mp4_boxes.specs.declared.refusal.Refusal.TheVariants as refusals
 use Rattle.mp4norm.specs.format.BoxWalk.{rule_inside}
-use Rattle.mp4norm.specs.words.Commands.{PutsAFront}
+use Rattle.mp4norm.specs.format.Texts.{uuid_in}
 use Rattle.mp4norm.specs.declared.named.Name.{Name}
 use Rattle.mp4norm.specs.declared.named.Name.TheVariants as names
 
@@ -37,14 +37,21 @@ abbrev pub is_in : Option FourCc → Rule → Bool
 is_in None rule = true
 is_in (Some container) rule = bytes_eq container.0 (holder rule)
 
--- the boxes of a type, or those that the profile refuses where they stand
-abbrev pub means : Rule → List ℕ → Name → Bool
-means rule kind (names.Type container named) = bytes_eq named.0 kind && is_in container rule
-means rule kind names.Foreign = not (allows rule kind)
+-- these are the 16 bytes that say which `uuid` a box is, if it has them
+abbrev pub is_uuid : List ℕ → Option (List ℕ) → Bool
+is_uuid bytes None = false
+is_uuid bytes (Some own) = bytes_eq bytes own
 
--- some name means boxes of this type under the rule
-abbrev pub is_named : List Name → Rule → List ℕ → Bool
-is_named names rule kind = list_any (means rule kind) names
+-- the boxes of a type, the `uuid` boxes with these 16 bytes, or the boxes that the profile refuses
+-- where they stand
+abbrev pub means : Rule → List ℕ → Option (List ℕ) → Name → Bool
+means rule kind uuid (names.Type container named) = bytes_eq named.0 kind && is_in container rule
+means rule kind uuid (names.Uuid container bytes) = is_uuid bytes uuid && is_in container rule
+means rule kind uuid names.Foreign = not (allows rule kind)
+
+-- some name means boxes of this type, and of these 16 bytes if they are `uuid`, under the rule
+abbrev pub is_named : List Name → Rule → List ℕ → Option (List ℕ) → Bool
+is_named names rule kind uuid = list_any (means rule kind uuid) names
 
 -- ---- what stands for them
 
@@ -61,21 +68,25 @@ freed bytes = take 4 bytes ++ (codes "free" ++ drop 8 bytes)
 abbrev pub payload_of : Header → List ℕ → List ℕ
 payload_of h bytes = take (h.size - h.length) (drop h.length bytes)
 
+-- and the 16 bytes that say which it is, if it is a `uuid` that has them
+abbrev pub uuid_at : Header → List ℕ → Option (List ℕ)
+uuid_at h bytes = uuid_in h.kind (payload_of h bytes)
+
 -- What stands for bytes that are boxes, end to end under a rule, where the named are free space:
 -- box by box, and in a container that is no named box, for its boxes in turn.
 pub data Strips (names : List Name) : Rule → List ℕ → List ℕ → Type 0 where
   ends : (rule : Rule) (bytes text : List ℕ) → bytes ≡ [] → text ≡ [] → Strips names rule bytes text
   frees : (rule : Rule) (bytes text : List ℕ) (h : Header) (rest : List ℕ)
-      → header_at (is_top rule) bytes ≡ Ok h → is_named names rule h.kind ≡ true
+      → header_at (is_top rule) bytes ≡ Ok h → is_named names rule h.kind (uuid_at h bytes) ≡ true
       → Strips names rule (drop h.size bytes) rest → text ≡ freed (take h.size bytes) ++ rest
       → Strips names rule bytes text
   keeps : (rule : Rule) (bytes text : List ℕ) (h : Header) (rest : List ℕ)
-      → header_at (is_top rule) bytes ≡ Ok h → is_named names rule h.kind ≡ false
+      → header_at (is_top rule) bytes ≡ Ok h → is_named names rule h.kind (uuid_at h bytes) ≡ false
       → rule_inside rule h.kind ≡ None
       → Strips names rule (drop h.size bytes) rest → text ≡ take h.size bytes ++ rest
       → Strips names rule bytes text
   enters : (rule : Rule) (bytes text : List ℕ) (h : Header) (inner : Rule) (inside rest : List ℕ)
-      → header_at (is_top rule) bytes ≡ Ok h → is_named names rule h.kind ≡ false
+      → header_at (is_top rule) bytes ≡ Ok h → is_named names rule h.kind (uuid_at h bytes) ≡ false
       → rule_inside rule h.kind ≡ Some inner → Strips names inner (payload_of h bytes) inside
       → Strips names rule (drop h.size bytes) rest → text ≡ take h.length bytes ++ (inside ++ rest)
       → Strips names rule bytes text
@@ -94,7 +105,7 @@ pub data Halts (names : List Name) (f : Fault) : Rule → ℕ → List ℕ → T
       → header_at (is_top rule) bytes ≡ Ok h → Halts names f rule (at + h.size) (drop h.size bytes)
       → Halts names f rule at bytes
   within : (rule : Rule) (at : ℕ) (bytes : List ℕ) (h : Header) (inner : Rule)
-      → header_at (is_top rule) bytes ≡ Ok h → is_named names rule h.kind ≡ false
+      → header_at (is_top rule) bytes ≡ Ok h → is_named names rule h.kind (uuid_at h bytes) ≡ false
       → rule_inside rule h.kind ≡ Some inner
       → Halts names f inner (at + h.length) (payload_of h bytes) → Halts names f rule at bytes
 
@@ -123,20 +134,3 @@ RefusesWalk names honest rule at bytes reads reads_after (refusals.Fault f) = Is
 RefusesWalk names honest rule at bytes reads reads_after refusals.StoreFailed =
     HasRisen reads reads_after
 RefusesWalk names honest rule at bytes reads reads_after _ = ⊥
-
--- The whole file is judged, and all memory is taken, before the first byte is put.
-abbrev pub RefusesStrip : List Name → Bool → List ℕ → Option (List ℕ) → Option (List ℕ) → ℕ → ℕ → ℕ
-    → ℕ → Refusal → Type 0
-RefusesStrip names honest file before after reads reads_after puts puts_after (refusals.Fault f) =
-    (IsTrue honest → Halts names f rules.File 0 file) × (after ≡ before)
-RefusesStrip names honest file before after reads reads_after puts puts_after refusals.Memory =
-    after ≡ before
-RefusesStrip names honest file before after reads reads_after puts puts_after refusals.StoreFailed =
-    HasRisen reads reads_after
-    × (IsTrue honest → (after ≡ before) ⊎ PutsAFront (IsStripped names file) before after)
-RefusesStrip names honest file before after reads reads_after puts puts_after
-    refusals.StoreChanged = IsTrue honest → ⊥
-RefusesStrip names honest file before after reads reads_after puts puts_after refusals.WriteFailed =
-    HasRisen puts puts_after × (IsTrue honest → PutsAFront (IsStripped names file) before after)
-RefusesStrip names honest file before after reads reads_after puts puts_after refusals.NoSuchTrack =
-    ⊥

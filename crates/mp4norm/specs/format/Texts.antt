@@ -137,9 +137,12 @@ uuid_text bytes = hex_text (take 4 bytes) ++ codes "-" ++ hex_text (take 2 (drop
     ++ hex_text (take 2 (drop 8 bytes)) ++ codes "-" ++ hex_text (take 6 (drop 10 bytes))
 
 -- the UUID of a `uuid` whose payload has room for it (ISO/IEC 14496-12, 4.2)
+abbrev pub uuid_in : List ℕ → List ℕ → Option (List ℕ)
+uuid_in kind payload = if bytes_eq kind (codes "uuid") && nat_le 16 (length payload)
+    then Some (take 16 payload) else None
+
 abbrev pub uuid_of : Box → Option (List ℕ)
-uuid_of b = if bytes_eq b.kind (codes "uuid") && nat_le 16 (length b.payload)
-    then Some (take 16 b.payload) else None
+uuid_of b = uuid_in b.kind b.payload
 
 abbrev pub foreign_member : Bool → List (List ℕ × Data)
 foreign_member true = []

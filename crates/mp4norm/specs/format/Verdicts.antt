@@ -1,6 +1,6 @@
 -- Verdicts on files, and lists of names.
-use Rattle.std.specs.Prelude.{◌≡◌, ℕ, ◌<◌, ◌≤◌, List, [], ◌∷◌, ◌++◌, length, take, drop, slice_index, Option, Result, Ok, Err, codes, decimal}
-use Rattle.mp4_store.specs.words.Device.{HasRisen, AppendsPrefix}
+use Rattle.std.specs.Prelude.{◌≡◌, ℕ, ◌<◌, ◌≤◌, List, [], ◌∷◌, ◌++◌, length, take, drop, slice_index, Result, Ok, Err, codes, decimal}
+use Rattle.mp4_store.specs.words.Device.{HasRisen, TakesPrefix}
 use Rattle.mp4_boxes.specs.declared.refusal.Refusal.{Refusal}
 use Rattle.mp4_boxes.specs.declared.refusal.Refusal.TheVariants as refusals
 use Rattle.mp4_boxes.specs.declared.fault.Fault.{Fault}
@@ -59,13 +59,13 @@ verdict_in syntaxes.Json name answer = verdict_object name answer
 abbrev pub verdict_text : {A : Type 0} → List ℕ → Result A Refusal → VerdictStyle → List ℕ
 verdict_text name answer style = verdict_in style.syntax name answer ++ style.end ∷ []
 
--- Why a verdict is not put, or not all of it. `before` and `after` are what the sink holds, the
--- numbers are counts of failed puts.
-abbrev pub RefusesVerdict : List ℕ → Option (List ℕ) → Option (List ℕ) → ℕ → ℕ → Refusal → Type 0
-RefusesVerdict text before after puts puts_after refusals.Memory = after ≡ before
-RefusesVerdict text before after puts puts_after refusals.WriteFailed = HasRisen puts puts_after
-    × AppendsPrefix before after text
-RefusesVerdict text before after puts puts_after _ = ⊥
+-- Why a verdict is not put, or not all of it. `Took` says of bytes that they were put, the numbers
+-- are counts of failed puts.
+abbrev pub RefusesVerdict : List ℕ → (List ℕ → Type 0) → ℕ → ℕ → Refusal → Type 0
+RefusesVerdict text Took puts puts_after refusals.Memory = Took []
+RefusesVerdict text Took puts puts_after refusals.WriteFailed = HasRisen puts puts_after
+    × TakesPrefix Took text
+RefusesVerdict text Took puts puts_after _ = ⊥
 
 -- this is the place of the list's first zero byte, or its length where it has none
 abbrev pub IsNameLength : List ℕ → ℕ → Type 0

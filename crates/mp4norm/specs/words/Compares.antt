@@ -1,14 +1,17 @@
--- What there is to say of two files that are compared, and why they are not. `before` and `after`
--- are what the sink holds, the numbers are counts of failed reads and of failed puts.
-use Rattle.std.specs.Prelude.{◌≡◌, ◌⊎◌, ◌+◌, ◌*◌, ◌<◌, ◌≤◌, ℕ, List, [], length, take, Option, None, Some, Bool, true, false, IsTrue}
-use Rattle.std.specs.Io.KnownBytes.{Appends}
-use Rattle.mp4_store.specs.words.Device.{HasRisen, AppendsPrefix}
+-- What there is to say of two files that are compared, and why they are not. `Took` says of bytes
+-- that they were put, the numbers are counts of failed reads and of failed puts.
+use Rattle.std.specs.Prelude.{◌≡◌, ◌⊎◌, ◌+◌, ◌*◌, ◌<◌, ◌≤◌, ℕ, nat_le, List, [], ◌++◌, length, take, flat_map, slice_get, Option, None, Some, Bool, true, false, IsTrue}
+use Rattle.mp4_store.specs.words.Device.{HasRisen, TakesPrefix}
 use Rattle.mp4_boxes.specs.declared.refusal.Refusal.{Refusal}
 use Rattle.mp4_boxes.specs.declared.refusal.Refusal.TheVariants as refusals
 use Rattle.mp4_present.specs.format.Comparison.{differences}
 use Rattle.mp4_present.specs.format.Denotes.{FileTree}
 use Rattle.mp4_present.specs.words.WalkSteps.{walks_steps}
 use Rattle.mp4_present.specs.declared.differences.Difference.{Difference}
+use Rattle.mp4_present.specs.declared.leaving.Leaving.{Leaving}
+use Rattle.mp4norm.specs.format.CompareHeadline.{difference_in, last_in, listing_text, most_counted}
+use Rattle.mp4norm.specs.format.DifferenceObject.{last_object}
+use Rattle.mp4norm.specs.words.Suggested.{suggested}
 use Rattle.mp4norm.specs.declared.comparing.Listing.{Listing}
 use Rattle.mp4norm.specs.declared.comparing.Listing.TheVariants as listings
 use Rattle.mp4norm.specs.declared.comparing.Side.{Side}
@@ -24,10 +27,59 @@ abbrev pub IsSaid : {A : Type 0} → Option A → List Difference → Type 0
 IsSaid None differences = differences ≡ []
 IsSaid (Some text) differences = differences ≡ [] → ⊥
 
--- all of these are listed, or some of the first of them
+-- all of these are listed, or more of the first of them than are counted
 abbrev pub ListsFront : List Difference → List Difference → Type 0
 ListsFront listed differences = (listed ≡ differences)
-    ⊎ ((0 < length listed) × (n : ℕ) × (listed ≡ take n differences))
+    ⊎ ((most_counted < length listed) × (n : ℕ) × (listed ≡ take n differences))
+
+-- the lines of these were added
+abbrev pub AddsLines : Syntax → List Difference → List ℕ → List ℕ → Type 0
+AddsLines syntax ds old new = new ≡ old ++ flat_map (difference_in syntax) ds
+
+-- the last line was added
+abbrev pub AddsLast : Syntax → Bool → List Difference → Option Leaving → List ℕ → List ℕ → Type 0
+AddsLast syntax whole ds enough old new = new ≡ old ++ last_in syntax whole ds enough
+
+-- the lines of some first of these, and the last one, which says whether these are all
+abbrev pub IsCounted : Syntax → ℕ → List Difference → Bool → Option Leaving → List ℕ → Type 0
+IsCounted syntax limit ds whole enough text = text
+    ≡ flat_map (difference_in syntax) (take limit ds) ++ last_in syntax whole ds enough
+
+-- all that can be left out
+abbrev pub everything : Leaving
+everything = record { times = true; edits = true; flags = true; groups = true; metadata = true }
+
+-- Whether nothing differs without what is tried. The differences are given for whatever is left
+-- out.
+abbrev pub IsEnoughOf : Option Leaving → (Leaving → List Difference) → Option Leaving → Type 0
+IsEnoughOf more differ None = (m : Leaving) → more ≡ Some m → differ m ≡ [] → ⊥
+IsEnoughOf more differ (Some m) = (more ≡ Some m) × (differ m ≡ [])
+
+-- The same, where of a list that was cut all is tried too.
+abbrev pub IsEnoughFor : Option Leaving → Bool → (Leaving → List Difference) → Option Leaving
+    → Type 0
+IsEnoughFor more whole differ None = (m : Leaving) → more ≡ Some m → (differ m ≡ [] → ⊥)
+    × (whole ≡ false → differ everything ≡ [] → ⊥)
+IsEnoughFor more whole differ (Some m) =
+    ((more ≡ Some m) ⊎ ((whole ≡ false) × (m ≡ everything))) × (differ m ≡ [])
+
+-- The same of what the counted differences ask for.
+abbrev pub IsEnough : Leaving → (Leaving → List Difference) → Option Leaving → Type 0
+IsEnough l differ enough = IsEnoughFor (suggested l (take most_counted (differ l)))
+    (nat_le (length (differ l)) most_counted) differ enough
+
+-- what is said where something differs
+abbrev pub IsSaidOf : Listing → Leaving → (Leaving → List Difference) → List ℕ → Type 0
+IsSaidOf (listings.First syntax) l differ text = (first : Difference)
+    × (slice_get (differ l) 0 ≡ Some first) × (text ≡ difference_in syntax first)
+IsSaidOf (listings.All lines) l differ text = (enough : Option Leaving) × IsEnough l differ enough
+    × (text ≡ listing_text lines.syntax lines.limit (differ l) enough)
+
+-- the same of what was found
+abbrev pub IsFoundOf : {A : Type 0} → (A → List ℕ) → Listing → Leaving → (Leaving → List Difference)
+    → Option A → Type 0
+IsFoundOf bytes listing l differ None = Unit {0}
+IsFoundOf bytes listing l differ (Some text) = IsSaidOf listing l differ (bytes text)
 
 abbrev pub says_nothing : {A : Type 0} → Option A → Bool
 says_nothing None = true
@@ -51,18 +103,24 @@ is_silent (listings.First syntax) = true
 is_silent (listings.All lines) = is_text lines.syntax
 
 -- some text was put
-abbrev pub PutsSome : Option (List ℕ) → Option (List ℕ) → Type 0
-PutsSome before after = (text : List ℕ) × (0 < length text) × Appends before after text
+abbrev pub PutsSome : (List ℕ → Type 0) → Type 0
+PutsSome Took = (text : List ℕ) × (0 < length text) × Took text
 
--- what was put of files that are the same
-abbrev pub PutsSame : Bool → Option (List ℕ) → Option (List ℕ) → Type 0
-PutsSame true before after = after ≡ before
-PutsSame false before after = PutsSome before after
+-- what was put of files that are the same without this
+abbrev pub PutsSame : Leaving → Bool → (List ℕ → Type 0) → Type 0
+PutsSame l true Took = Took []
+PutsSame l false Took = Took (last_object true [] (Some l))
 
--- nothing was put where two files are the same and nothing is said of that, else some text
-abbrev pub PutsAnswer : Bool → Option (List ℕ) → Option (List ℕ) → Bool → Type 0
-PutsAnswer silent before after true = PutsSame silent before after
-PutsAnswer silent before after false = PutsSome before after
+-- nothing was put where two files are the same and nothing is said of that, or the object that says
+-- so; where they differ, some text
+abbrev pub PutsAnswer : Leaving → Bool → (List ℕ → Type 0) → Bool → Type 0
+PutsAnswer l silent Took true = PutsSame l silent Took
+PutsAnswer l silent Took false = PutsSome Took
+
+-- all that was found was put
+abbrev pub PutsFound : {A : Type 0} → (A → List ℕ) → Option A → (List ℕ → Type 0) → Type 0
+PutsFound bytes None Took = Unit {0}
+PutsFound bytes (Some text) Took = Took (bytes text)
 
 -- ---- refusals
 
@@ -81,20 +139,20 @@ RefusesBoth honest honest_right left left_after right right_after refusals.Store
 RefusesBoth honest honest_right left left_after right right_after _ = ⊥
 
 -- the answer could not be put, or there was no memory for it
-abbrev pub RefusesAnswer : Option (List ℕ) → Option (List ℕ) → ℕ → ℕ → Refusal → Type 0
-RefusesAnswer before after puts puts_after refusals.WriteFailed = HasRisen puts puts_after
-    × (text : List ℕ) × AppendsPrefix before after text
-RefusesAnswer before after puts puts_after refusals.Memory = after ≡ before
-RefusesAnswer before after puts puts_after _ = ⊥
+abbrev pub RefusesAnswer : (List ℕ → Type 0) → ℕ → ℕ → Refusal → Type 0
+RefusesAnswer Took puts puts_after refusals.WriteFailed = HasRisen puts puts_after
+    × (text : List ℕ) × TakesPrefix Took text
+RefusesAnswer Took puts puts_after refusals.Memory = Took []
+RefusesAnswer Took puts puts_after _ = ⊥
 
 -- The side says whose refusal it is: of the first file, of the second, of reading both, or of
 -- neither. Nothing is put before both are judged and compared.
 abbrev pub RefusesCompare : (Refusal → Type 0) → (Refusal → Type 0) → (Refusal → Type 0)
-    → Option (List ℕ) → Option (List ℕ) → ℕ → ℕ → Failure → Type 0
-RefusesCompare First Second Both before after puts puts_after failure = of failure.side
+    → (List ℕ → Type 0) → ℕ → ℕ → Failure → Type 0
+RefusesCompare First Second Both Took puts puts_after failure = of failure.side
   where
     of : Side → Type 0
-    of sides.First = First failure.refusal × (after ≡ before)
-    of sides.Second = Second failure.refusal × (after ≡ before)
-    of sides.Both = Both failure.refusal × (after ≡ before)
-    of sides.Neither = RefusesAnswer before after puts puts_after failure.refusal
+    of sides.First = First failure.refusal × Took []
+    of sides.Second = Second failure.refusal × Took []
+    of sides.Both = Both failure.refusal × Took []
+    of sides.Neither = RefusesAnswer Took puts puts_after failure.refusal

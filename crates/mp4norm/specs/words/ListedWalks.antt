@@ -1,11 +1,10 @@
 -- A walk over the samples of a track that are listed, said of its store. `S` and `K` are what
 -- bounds say of store and sink.
 use Rattle.std.specs.Prelude.{◌≡◌, ℕ, ◌+◌, ◌^◌, ◌<◌, List, [], ◌++◌, length, Result, MatchResult, OnOk, OnErr}
-use Rattle.std.specs.Io.KnownBytes.{Appends}
 use Rattle.mp4_boxes.specs.declared.refusal.Refusal.{Refusal}
 use Rattle.mp4_store.specs.declared.store.Store.{Ghosts as Store}
 use Rattle.mp4_store.specs.declared.sink.Sink.{Ghosts as Sink}
-use Rattle.mp4_store.specs.words.Device.{AppendsPrefix}
+use Rattle.mp4_store.specs.words.Device.{TakesPrefix}
 use Rattle.mp4_tables.specs.declared.sample.SampleAt.{SampleAt}
 use Rattle.mp4_present.specs.declared.carrier.Carrier.{Carrier}
 use Rattle.mp4_present.specs.declared.walks.Walk.{Walk}
@@ -27,16 +26,16 @@ WhereFewCome S store m walk P = WhereComes S store m walk
 -- is not taken as changed.
 pub record PutsAll {Y T : Type 0} (K : Sink Y) (sink sink_after : Y) (c : Carrier) (text : List ℕ)
     (result : Result T Refusal) : Type 0 where
-  pub all : OnOk result (Appends (K.contents sink) (K.contents sink_after) (waiting c ++ text))
+  pub all : OnOk result (K.takes sink sink_after (waiting c ++ text))
   pub front :
-      OnErr result (AppendsPrefix (K.contents sink) (K.contents sink_after) (waiting c ++ text))
+      OnErr result (TakesPrefix (K.takes sink sink_after) (waiting c ++ text))
   pub unchanged : IsUnchanged result
 
 -- what was held is put or held on; at Err some of its first bytes were put
 abbrev pub PassesOn : {Y T E : Type 0} → Sink Y → Y → Y → List ℕ → List ℕ → Result T E → Type 0
 PassesOn K sink sink_after held held_after result = MatchResult result
-    (λ _. BytesGoOn (K.contents sink) (K.contents sink_after) held held_after [])
-    (λ _. AppendsPrefix (K.contents sink) (K.contents sink_after) held)
+    (λ _. BytesGoOn (K.takes sink sink_after) held held_after [])
+    (λ _. TakesPrefix (K.takes sink sink_after) held)
 
 -- The lines of these samples follow, numbered on from a number, where 64 bits can number them: at
 -- Ok all of them, and the number goes on by as many; at Err some of the first bytes were put.
@@ -44,8 +43,8 @@ abbrev pub PutsLines : {Y T E : Type 0} → Sink Y → Y → Y → Carrier → C
     → List SampleAt → Result T E → Type 0
 PutsLines K sink sink_after c c_after form number number_after samples result = MatchResult result
     (λ _. number + length samples < 2 ^ 64
-    → BytesGoOn (K.contents sink) (K.contents sink_after) (waiting c) (waiting c_after)
+    → BytesGoOn (K.takes sink sink_after) (waiting c) (waiting c_after)
     (sample_at_lines form number samples) × (number_after ≡ number + length samples))
     (λ _. number + length samples < 2 ^ 64
-    → AppendsPrefix (K.contents sink) (K.contents sink_after)
+    → TakesPrefix (K.takes sink sink_after)
     (waiting c ++ sample_at_lines form number samples))

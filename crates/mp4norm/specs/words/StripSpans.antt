@@ -1,6 +1,6 @@
 -- Boxes between two places of a file that lie under a rule, and what stands for them where some are
 -- free space.
-use Rattle.std.specs.Prelude.{◌≡◌, ℕ, ◌+◌, ◌-◌, ◌≤◌, List, Bool, Ok}
+use Rattle.std.specs.Prelude.{◌≡◌, ℕ, ◌+◌, ◌-◌, ◌≤◌, List, Bool, Option, Ok}
 use Rattle.mp4_boxes.specs.format.Box.{header_at}
 use Rattle.mp4_boxes.specs.words.View.{top_header_seen}
 use Rattle.mp4_boxes.specs.declared.refusal.Refusal.{Refusal}
@@ -10,7 +10,7 @@ use Rattle.mp4_store.specs.declared.store.Store.{Ghosts as Store}
 use Rattle.mp4_store.specs.words.Device.{range}
 use Rattle.mp4_present.specs.words.OverStores.{WhereHonest}
 use Rattle.mp4norm.specs.declared.named.Name.{Name}
-use Rattle.mp4norm.specs.format.Strips.{is_top, Strips, RefusesHeaderUnder, RefusesHeaderAgain, RefusesWalk}
+use Rattle.mp4norm.specs.format.Strips.{is_top, uuid_at, Strips, RefusesHeaderUnder, RefusesHeaderAgain, RefusesWalk}
 
 -- ---- a header at a place, before an end
 
@@ -18,6 +18,10 @@ use Rattle.mp4norm.specs.format.Strips.{is_top, Strips, RefusesHeaderUnder, Refu
 abbrev pub IsHeaderAt : Rule → ℕ → ℕ → List ℕ → TopHeader → Type 0
 IsHeaderAt rule at end file h =
     header_at (is_top rule) (range file at (end - at)) ≡ Ok (top_header_seen at h)
+
+-- and these are the 16 bytes that say which `uuid` the box is
+abbrev pub IsUuidAt : ℕ → ℕ → List ℕ → TopHeader → Option (List ℕ) → Type 0
+IsUuidAt at end file h uuid = uuid ≡ uuid_at (top_header_seen at h) (range file at (end - at))
 
 -- the header has at least 8 bytes, and the box ends behind it and before the end
 abbrev pub LiesBetween : ℕ → ℕ → TopHeader → Type 0

@@ -1,5 +1,5 @@
 -- What a command put at Ok over any store, also over one that changes while it is read.
-use Rattle.std.specs.Prelude.{ℕ, List, Option}
+use Rattle.std.specs.Prelude.{ℕ, List}
 use Rattle.mp4_present.specs.words.Movies.{MovieSeen}
 use Rattle.mp4_present.specs.declared.leaving.Leaving.{Leaving}
 use Rattle.mp4_plan.specs.format.ReducedLaws.{nothing}
@@ -9,14 +9,14 @@ use Rattle.mp4norm.specs.declared.wanted.Job.TheVariants as jobs
 
 -- what is left of the head of a movie that was opened, and behind it whole pieces, with as many
 -- samples and as many bytes of these as were counted in it; and nothing else
-pub record PutsWhole (l : Leaving) (before after : Option (List ℕ)) : Type 0 where
+pub record PutsWhole (l : Leaving) (Took : List ℕ → Type 0) : Type 0 where
   pub movie : MovieSeen
   pub head : List ℕ
   pub left : IsHeadLeft movie l head
-  pub whole : IsPutWhole movie before after head
+  pub whole : IsPutWhole movie Took head
 
 -- of the jobs that write a normal form
-abbrev pub JobPutsWhole : Job → Option (List ℕ) → Option (List ℕ) → Type 0
-JobPutsWhole jobs.Normalise before after = PutsWhole nothing before after
-JobPutsWhole (jobs.Reduce l) before after = PutsWhole l before after
-JobPutsWhole _ before after = Unit {0}
+abbrev pub JobPutsWhole : Job → (List ℕ → Type 0) → Type 0
+JobPutsWhole jobs.Normalise Took = PutsWhole nothing Took
+JobPutsWhole (jobs.Reduce l) Took = PutsWhole l Took
+JobPutsWhole _ Took = Unit {0}

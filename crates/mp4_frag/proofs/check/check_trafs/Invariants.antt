@@ -1,4 +1,4 @@
-use Rattle.std.proofs.Common.{◌≡◌, ◌≤◌, length, map}
+use Rattle.std.proofs.Common.{◌≡◌, ◌≤◌, min, length, map}
 use Rattle.mp4_boxes.specs.words.View.{box_seen}
 use Rattle.mp4_frag.specs.words.Noted.{ids_of}
 use Rattle.mp4_frag.specs.words.OwnTrafs.{own_seen}
@@ -21,7 +21,7 @@ invariant-loop-child g l =
     × MovesSeen l.file_len (box_seen l.moof).offset l.fn.tracks l.fn.room l.initial.child-iterator l.child-iterator l.before l.tracks l.room
     × MoofCost l.initial.child-iterator l.child-iterator l.fn.steps l.fn.room l.steps l.room
     × (ids_of l.tracks ≡ ids_of l.fn.tracks)
-    × MoofLooked l.initial.child-iterator l.child-iterator (length l.fn.tracks) l.fn.looks l.looks
+    × MoofLooked l.initial.child-iterator l.child-iterator (min 1 (length l.fn.tracks)) l.fn.looks l.looks
     × (length l.tracks ≡ length l.fn.tracks)
     × NotesSeen (box_seen l.moof).offset l.fn.tracks l.initial.child-iterator l.child-iterator l.before l.tracks (map own_seen l.fn.own) (map own_seen l.own)
     × MoofTaken l.initial.child-iterator l.child-iterator l.fn.room l.room

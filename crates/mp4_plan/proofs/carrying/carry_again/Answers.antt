@@ -1,6 +1,6 @@
 use Rattle.std.proofs.Common.{arith}
 use Rattle.std.proofs.lemmas.Result.{err_from_is_err_and}
-use Rattle.mp4_store.proofs.Known.{AppendsPrefix-nothing}
+use Rattle.mp4_store.proofs.Known.{TakesPrefix-nothing}
 use Rattle.mp4_present.proofs.WalkCopied.{on_ok}
 use Rattle.mp4_plan.proofs.CarriedLess.{carried_less, comes_less, prefix_less, there_less}
 use Rattle.mp4_plan.proofs.LeftRefused.{on_both}
@@ -10,7 +10,7 @@ use Rattle.mp4_plan.proofs.carrying.carry_again.Goals as goal
 pub returns-in_err-go_back-clause-put : goal.returns-in_err-go_back-clause-put
 returns-in_err-go_back-clause-put g c l told tree t samples o h =
     let p = err_from_is_err_and c.from_residual.result c.from_residual.ensures.1 in
-    rw p.1 (AppendsPrefix-nothing (g.K.Sink.contents c.args.sink.now) _)
+    rw p.1 (TakesPrefix-nothing (g.K.Sink.takes c.args.sink.now c.args.sink.now) (g.met.K.Sink.takes_nothing c.args.sink.now) _)
 
 pub returns-in_err-go_back-clause-unchanged : goal.returns-in_err-go_back-clause-unchanged
 returns-in_err-go_back-clause-unchanged g c l told tree t samples o h there =
@@ -29,7 +29,8 @@ returns-clause-put g c l told tree t samples o h =
     let m = c.args.movie.now in
     let b = c.in_ok-go_back.ensures in
     let back = b.back told tree t h.begun h.samples o h.back h.from in
-    on_both c.carry_piece.result (carried_less l file tree t m c.args.walk.now c.args.load.samples samples h _ _ _ _) (prefix_less l file tree t m c.args.walk.now c.args.load.samples samples h _ _ _)
+    on_both c.carry_piece.result (carried_less l file tree t m c.args.walk.now c.args.load.samples samples h (g.K.Sink.takes c.args.sink.now c.carry_piece.new.sink) _ _)
+    (prefix_less l file tree t m c.args.walk.now c.args.load.samples samples h (g.K.Sink.takes c.args.sink.now c.carry_piece.new.sink) _)
     ((rw (b.store.honesty, b.store.file) at c.carry_piece.ensures.put) told tree t h.samples o back)
 
 pub returns-clause-comes : goal.returns-clause-comes

@@ -16,9 +16,9 @@ invariant-loop-stretch g l =
       puts : g.K.Sink.put_failures l.sink ≡ g.K.Sink.put_failures l.fn.sink;
       room : vec_len l.carrier.buffer ≡ vec_len l.fn.carrier.buffer;
       few : l.left.bytes ≤ l.fn.load.bytes;
-      many : GoOnBy (g.K.Sink.contents l.fn.sink) (g.K.Sink.contents l.sink) (waiting l.fn.carrier) (waiting l.carrier) (l.fn.load.bytes - l.left.bytes);
+      many : GoOnBy (g.K.Sink.takes l.fn.sink l.sink) (waiting l.fn.carrier) (waiting l.carrier) (l.fn.load.bytes - l.left.bytes);
       bytes : IsTrue (g.S.Store.is_honest l.fn.store)
-          → BytesCarried (g.S.Store.file l.fn.store) (g.K.Sink.contents l.fn.sink) (g.K.Sink.contents l.sink) (waiting l.fn.carrier) (waiting l.carrier) (left_in_hand l.fn.hand) (left_in_hand l.hand) l.fn.load l.left;
+          → BytesCarried (g.S.Store.file l.fn.store) (g.K.Sink.takes l.fn.sink l.sink) (waiting l.fn.carrier) (waiting l.carrier) (left_in_hand l.fn.hand) (left_in_hand l.hand) l.fn.load l.left;
     }
 
 abbrev pub decreases-loop-stretch : goal.decreases-loop-stretch

@@ -16,7 +16,7 @@ returns-in_err-carry_piece-clause-put g c l told tree t samples o h =
     let file = g.S.Store.file c.args.store.now in
     let m = c.args.movie.now in
     let back = c.turn_back.ensures.back file tree t m h.begun (length h.samples) h.samples h.back c.requires.walk h.from in
-    rw p.1 (prefix_less l file tree t m c.args.walk.now c.args.load.samples samples h _ _ _ (c.in_err-carry_piece.ensures.put told tree t h.samples o back))
+    rw p.1 (prefix_less l file tree t m c.args.walk.now c.args.load.samples samples h (g.K.Sink.takes c.args.sink.now c.carry_piece.new.sink) _ (c.in_err-carry_piece.ensures.put told tree t h.samples o back))
 
 pub returns-in_err-carry_piece-clause-unchanged : goal.returns-in_err-carry_piece-clause-unchanged
 returns-in_err-carry_piece-clause-unchanged g c l told tree t samples o h there =
@@ -37,7 +37,7 @@ returns-clause-put g c l told tree t samples o h =
     let file = g.S.Store.file c.args.store.now in
     let m = c.args.movie.now in
     let back = c.turn_back.ensures.back file tree t m h.begun (length h.samples) h.samples h.back c.requires.walk h.from in
-    carried_less l file tree t m c.args.walk.now c.args.load.samples samples h _ _ _ _ (c.in_ok-carry_piece.ensures.put told tree t h.samples o back)
+    carried_less l file tree t m c.args.walk.now c.args.load.samples samples h _ _ _ (c.in_ok-carry_piece.ensures.put told tree t h.samples o back)
 
 pub returns-clause-comes : goal.returns-clause-comes
 returns-clause-comes g c l told tree t samples o h =

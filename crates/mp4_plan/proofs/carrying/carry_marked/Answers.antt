@@ -16,8 +16,8 @@ pub returns-then-are_all-clause-put : goal.returns-then-are_all-clause-put
 returns-then-are_all-clause-put g c l told tree t samples o h tells =
     let all : c.args.stretches.now.are_all ≡ true = search rules in
     let bytes = (tells.kept all).bytes (g.S.Store.file c.args.store.now) in
-    on_both c.carry.result (λ x. goes_on_as (g.K.Sink.contents c.args.sink.now) (g.K.Sink.contents c.carry.new.sink) (waiting c.args.carrier.now) (waiting c.carry.new.carrier) _ _ x (sym bytes))
-    (λ x. front_as (g.K.Sink.contents c.args.sink.now) (g.K.Sink.contents c.carry.new.sink) (waiting c.args.carrier.now) _ _ x (sym bytes)) (c.carry.ensures.put told)
+    on_both c.carry.result (λ x. goes_on_as (g.K.Sink.takes c.args.sink.now c.carry.new.sink) (waiting c.args.carrier.now) (waiting c.carry.new.carrier) _ _ x (sym bytes))
+    (λ x. front_as (g.K.Sink.takes c.args.sink.now c.carry.new.sink) (waiting c.args.carrier.now) _ _ x (sym bytes)) (c.carry.ensures.put told)
 
 pub returns-then-are_all-clause-comes : goal.returns-then-are_all-clause-comes
 returns-then-are_all-clause-comes g c l told tree t samples o h = so_if_ok c.carry.result _ h.comes

@@ -32,7 +32,7 @@ pub returns-in_err-next-clause-put : goal.returns-in_err-next-clause-put
 returns-in_err-next-clause-put g c told tree t samples o h tells =
     let p = err_from_is_err_and c.from_residual-in_err-next.result c.from_residual-in_err-next.ensures.1 in
     let e = c.in_ok-carry_marked.ensures in
-    rw p.1 (front_put (g.K.Sink.contents c.args.sink.now) (g.K.Sink.contents c.carry_marked.new.sink) (waiting c.args.carrier.now) (waiting c.carry_marked.new.carrier) _ (e.put c.args.leaving told tree t samples o h tells))
+    rw p.1 (front_put (g.K.Sink.takes c.args.sink.now c.carry_marked.new.sink) (waiting c.args.carrier.now) (waiting c.carry_marked.new.carrier) _ (e.put c.args.leaving told tree t samples o h tells))
 
 pub returns-in_err-next-clause-unchanged : goal.returns-in_err-next-clause-unchanged
 returns-in_err-next-clause-unchanged g c told tree t samples o h tells there =

@@ -34,8 +34,8 @@ loop-left-init g c = record {
   puts = refl;
   buffer = refl;
   few = omega arith;
-  many = GoOnBy-none _ _ _ (omega arith);
-  carried = λ told tree t samples o h. (samples, (h, carried_none _ _ _ _ _));
+  many = GoOnBy-none _ (g.met.K.Sink.takes_nothing _) _ _ (omega arith);
+  carried = λ told tree t samples o h. (samples, (h, carried_none _ _ (g.met.K.Sink.takes_nothing _) _ _ _));
   went = went_none c.args.movie.now c.args.walk.now c.args.steps.now;
   takes = λ told tree t n o h. takes_none (g.S.Store.file c.args.store.now) tree t n c.args.steps.now c.args.walk.now h;
 }
@@ -46,9 +46,9 @@ returns-then-left-eq0-2-clause-put g c told tree t samples o h =
     let e = c.in_ok-left.ensures in
     let file = g.S.Store.file c.args.store.now in
     let m = c.args.movie.now in
-    let u = hand_carried file m c.args.walk.now c.loop-left.walk c.keep.new.self _ _ _ _ _ _ c.args.load c.loop-left.left c.in_ok-left.left c.in_hand-hand.result _ c.place-place.result (i.carried told) c.in_hand-hand.ensures.hand e.later
+    let u = hand_carried file m c.args.walk.now c.loop-left.walk c.keep.new.self g.met.K.Sink.takes_on _ _ _ _ _ _ c.args.load c.loop-left.left c.in_ok-left.left c.in_hand-hand.result _ c.place-place.result (i.carried told) c.in_hand-hand.ensures.hand e.later
     c.place-place.ensures ((rw (i.honesty, i.file) at e.put) told) c.keep.ensures.place tree t samples o h in
-    (carried_all file _ _ _ _ samples u.0 c.args.load c.in_ok-left.left (search rules) u.1.1).0
+    (carried_all file _ _ _ samples u.0 c.args.load c.in_ok-left.left (search rules) u.1.1).0
 
 pub returns-then-left-eq0-2-clause-comes : goal.returns-then-left-eq0-2-clause-comes
 returns-then-left-eq0-2-clause-comes g c told tree t samples o h =
@@ -56,9 +56,9 @@ returns-then-left-eq0-2-clause-comes g c told tree t samples o h =
     let e = c.in_ok-left.ensures in
     let file = g.S.Store.file c.args.store.now in
     let m = c.args.movie.now in
-    let u = hand_carried file m c.args.walk.now c.loop-left.walk c.keep.new.self _ _ _ _ _ _ c.args.load c.loop-left.left c.in_ok-left.left c.in_hand-hand.result _ c.place-place.result (i.carried told) c.in_hand-hand.ensures.hand e.later
+    let u = hand_carried file m c.args.walk.now c.loop-left.walk c.keep.new.self g.met.K.Sink.takes_on _ _ _ _ _ _ c.args.load c.loop-left.left c.in_ok-left.left c.in_hand-hand.result _ c.place-place.result (i.carried told) c.in_hand-hand.ensures.hand e.later
     c.place-place.ensures ((rw (i.honesty, i.file) at e.put) told) c.keep.ensures.place tree t samples o h in
-    subst (λ ss. Comes file tree t m c.keep.new.self ss) (carried_all file _ _ _ _ samples u.0 c.args.load c.in_ok-left.left (search rules) u.1.1).1 u.1.0
+    subst (λ ss. Comes file tree t m c.keep.new.self ss) (carried_all file _ _ _ samples u.0 c.args.load c.in_ok-left.left (search rules) u.1.1).1 u.1.0
 
 pub returns-then-left-eq0-2-clause-along : goal.returns-then-left-eq0-2-clause-along
 returns-then-left-eq0-2-clause-along g c =
@@ -68,7 +68,7 @@ returns-then-left-eq0-2-clause-along g c =
     let fewer = e.many.0 in
     let none : c.in_ok-left.left.bytes ≡ 0 = search rules in
     record {
-      many = GoOnBy-then _ _ _ _ (waiting c.loop-left.carrier) _ (c.args.load.bytes - c.loop-left.left.bytes) (c.loop-left.left.bytes - c.in_ok-left.left.bytes) _ i.many e.many.1 (omega (arith, few, fewer, none));
+      many = GoOnBy-then g.met.K.Sink.takes_on _ _ _ _ (waiting c.loop-left.carrier) _ (c.args.load.bytes - c.loop-left.left.bytes) (c.loop-left.left.bytes - c.in_ok-left.left.bytes) _ i.many e.many.1 (omega (arith, few, fewer, none));
       buffer = e.room ∙ i.buffer;
     }
 
@@ -89,16 +89,16 @@ loop-left-preserved g c =
       many =
           let few = i.few in
           let fewer = e.many.0 in
-          GoOnBy-then _ _ _ _ (waiting c.loop-left.carrier) _ (c.args.load.bytes - c.loop-left.left.bytes) (c.loop-left.left.bytes - c.in_ok-left.left.bytes) _ i.many e.many.1 (omega (arith, few, fewer));
+          GoOnBy-then g.met.K.Sink.takes_on _ _ _ _ (waiting c.loop-left.carrier) _ (c.args.load.bytes - c.loop-left.left.bytes) (c.loop-left.left.bytes - c.in_ok-left.left.bytes) _ i.many e.many.1 (omega (arith, few, fewer));
       carried = λ told.
           let file = g.S.Store.file c.args.store.now in
           let m = c.args.movie.now in
           let place = c.place-place.result in
           let later = c.carry_hand.new.hand in
-          let on = hand_carried file m c.args.walk.now c.loop-left.walk c.keep.new.self _ _ _ _ _ _ c.args.load c.loop-left.left c.in_ok-left.left c.in_hand-hand.result later place (i.carried told) c.in_hand-hand.ensures.hand e.later c.place-place.ensures
+          let on = hand_carried file m c.args.walk.now c.loop-left.walk c.keep.new.self g.met.K.Sink.takes_on _ _ _ _ _ _ c.args.load c.loop-left.left c.in_ok-left.left c.in_hand-hand.result later place (i.carried told) c.in_hand-hand.ensures.hand e.later c.place-place.ensures
           ((rw (i.honesty, i.file) at e.put) told) c.keep.ensures.place in
           let is_hand = subst (λ w. InHandOf m w later) (sym c.keep.ensures.place) (hand_kept m c.loop-left.walk c.in_hand-hand.result later place c.in_hand-hand.ensures.hand e.later c.place-place.ensures) in
-          next_carried file m c.args.walk.now c.keep.new.self c.load.new.self _ _ _ _ c.args.load c.in_ok-left.left later c.in_ok-load.field-0 on is_hand (e.ends (search rules)) ((rw (e.devices.honesty, i.honesty, e.devices.file, i.file) at l.loaded) told) (search rules);
+          next_carried file m c.args.walk.now c.keep.new.self c.load.new.self _ _ _ c.args.load c.in_ok-left.left later c.in_ok-load.field-0 on is_hand (e.ends (search rules)) ((rw (e.devices.honesty, i.honesty, e.devices.file, i.file) at l.loaded) told) (search rules);
       went =
           let m = c.args.movie.now in
           let more = l.answer.next (search rules) in
@@ -115,14 +115,14 @@ pub returns-in_err-left-clause-put : goal.returns-in_err-left-clause-put
 returns-in_err-left-clause-put g c told tree t samples o h =
     let p = err_from_is_err_and c.from_residual.result c.from_residual.ensures.1 in
     let i = c.loop-left.invariant in
-    rw p.1 (hand_fails (g.S.Store.file c.args.store.now) c.args.movie.now c.args.walk.now c.loop-left.walk _ _ _ _ _ c.args.load c.loop-left.left c.in_hand-hand.result (i.carried told) c.in_hand-hand.ensures.hand
+    rw p.1 (hand_fails (g.S.Store.file c.args.store.now) c.args.movie.now c.args.walk.now c.loop-left.walk g.met.K.Sink.takes_on _ _ _ _ _ c.args.load c.loop-left.left c.in_hand-hand.result (i.carried told) c.in_hand-hand.ensures.hand
     ((rw (i.honesty, i.file) at c.in_err-left.ensures.put) told) tree t samples o h)
 
 pub returns-in_err-left-clause-unchanged : goal.returns-in_err-left-clause-unchanged
 returns-in_err-left-clause-unchanged g c told tree t samples o h there =
     let p = err_from_is_err_and c.from_residual.result c.from_residual.ensures.1 in
     let i = c.loop-left.invariant in
-    let x = hand_there (g.S.Store.file c.args.store.now) c.args.movie.now c.args.walk.now c.loop-left.walk _ _ _ _ c.args.load c.loop-left.left c.in_hand-hand.result (i.carried told) c.in_hand-hand.ensures.hand tree t samples o h there in
+    let x = hand_there (g.S.Store.file c.args.store.now) c.args.movie.now c.args.walk.now c.loop-left.walk _ _ _ c.args.load c.loop-left.left c.in_hand-hand.result (i.carried told) c.in_hand-hand.ensures.hand tree t samples o h there in
     rw (p.1, p.2) ((rw (i.honesty, i.file) at c.in_err-left.ensures.unchanged) told x.0 x.1)
 
 pub returns-in_err-load-clause-put : goal.returns-in_err-load-clause-put
@@ -132,9 +132,10 @@ returns-in_err-load-clause-put g c told tree t samples o h =
     let e = c.in_ok-left.ensures in
     let file = g.S.Store.file c.args.store.now in
     let m = c.args.movie.now in
-    let on = hand_carried file m c.args.walk.now c.loop-left.walk c.keep.new.self _ _ _ _ _ _ c.args.load c.loop-left.left c.in_ok-left.left c.in_hand-hand.result c.carry_hand.new.hand c.place-place.result (i.carried told) c.in_hand-hand.ensures.hand e.later c.place-place.ensures
+    let on = hand_carried file m c.args.walk.now c.loop-left.walk c.keep.new.self g.met.K.Sink.takes_on _ _ _ _ _ _ c.args.load c.loop-left.left c.in_ok-left.left c.in_hand-hand.result c.carry_hand.new.hand c.place-place.result (i.carried told)
+    c.in_hand-hand.ensures.hand e.later c.place-place.ensures
     ((rw (i.honesty, i.file) at e.put) told) c.keep.ensures.place in
-    rw p.1 (front_carried file m c.args.walk.now c.keep.new.self _ _ _ _ c.args.load c.in_ok-left.left on tree t samples o h)
+    rw p.1 (front_carried file m c.args.walk.now c.keep.new.self _ _ _ c.args.load c.in_ok-left.left on tree t samples o h)
 
 pub returns-in_err-load-clause-unchanged : goal.returns-in_err-load-clause-unchanged
 returns-in_err-load-clause-unchanged g c told tree t samples o h there =
@@ -143,7 +144,8 @@ returns-in_err-load-clause-unchanged g c told tree t samples o h there =
     let e = c.in_ok-left.ensures in
     let file = g.S.Store.file c.args.store.now in
     let m = c.args.movie.now in
-    let on = hand_carried file m c.args.walk.now c.loop-left.walk c.keep.new.self _ _ _ _ _ _ c.args.load c.loop-left.left c.in_ok-left.left c.in_hand-hand.result c.carry_hand.new.hand c.place-place.result (i.carried told) c.in_hand-hand.ensures.hand e.later c.place-place.ensures
+    let on = hand_carried file m c.args.walk.now c.loop-left.walk c.keep.new.self g.met.K.Sink.takes_on _ _ _ _ _ _ c.args.load c.loop-left.left c.in_ok-left.left c.in_hand-hand.result c.carry_hand.new.hand c.place-place.result (i.carried told)
+    c.in_hand-hand.ensures.hand e.later c.place-place.ensures
     ((rw (i.honesty, i.file) at e.put) told) c.keep.ensures.place in
     let k = (on tree t samples o h).1.0 in
     rw (p.1, p.2) ((rw (e.devices.honesty, i.honesty, e.devices.file, i.file) at c.in_err-load.ensures.loaded) told tree t k.0 k.1 o k.3.0)
@@ -154,9 +156,10 @@ returns-then-left-eq0-3-clause-put g c told tree t samples o h =
     let e = c.in_ok-left.ensures in
     let file = g.S.Store.file c.args.store.now in
     let m = c.args.movie.now in
-    let on = hand_carried file m c.args.walk.now c.loop-left.walk c.keep.new.self _ _ _ _ _ _ c.args.load c.loop-left.left c.in_ok-left.left c.in_hand-hand.result c.carry_hand.new.hand c.place-place.result (i.carried told) c.in_hand-hand.ensures.hand e.later c.place-place.ensures
+    let on = hand_carried file m c.args.walk.now c.loop-left.walk c.keep.new.self g.met.K.Sink.takes_on _ _ _ _ _ _ c.args.load c.loop-left.left c.in_ok-left.left c.in_hand-hand.result c.carry_hand.new.hand c.place-place.result (i.carried told)
+    c.in_hand-hand.ensures.hand e.later c.place-place.ensures
     ((rw (i.honesty, i.file) at e.put) told) c.keep.ensures.place in
-    front_carried file m c.args.walk.now c.keep.new.self _ _ _ _ c.args.load c.in_ok-left.left on tree t samples o h
+    front_carried file m c.args.walk.now c.keep.new.self _ _ _ c.args.load c.in_ok-left.left on tree t samples o h
 
 pub returns-then-left-eq0-3-clause-unchanged : goal.returns-then-left-eq0-3-clause-unchanged
 returns-then-left-eq0-3-clause-unchanged g c told tree t samples o h there z =
@@ -164,13 +167,14 @@ returns-then-left-eq0-3-clause-unchanged g c told tree t samples o h there z =
     let e = c.in_ok-left.ensures in
     let file = g.S.Store.file c.args.store.now in
     let m = c.args.movie.now in
-    let on = hand_carried file m c.args.walk.now c.loop-left.walk c.keep.new.self _ _ _ _ _ _ c.args.load c.loop-left.left c.in_ok-left.left c.in_hand-hand.result c.carry_hand.new.hand c.place-place.result (i.carried told) c.in_hand-hand.ensures.hand e.later c.place-place.ensures
+    let on = hand_carried file m c.args.walk.now c.loop-left.walk c.keep.new.self g.met.K.Sink.takes_on _ _ _ _ _ _ c.args.load c.loop-left.left c.in_ok-left.left c.in_hand-hand.result c.carry_hand.new.hand c.place-place.result (i.carried told)
+    c.in_hand-hand.ensures.hand e.later c.place-place.ensures
     ((rw (i.honesty, i.file) at e.put) told) c.keep.ensures.place in
     let left = c.in_ok-left.left in
     let later = c.carry_hand.new.hand in
     elim c.then-left-eq0-3.branch [
       | then-left-eq0-3-via-then-left-eq0-3 w ↦
-          (let none = no_bytes_left file m c.args.walk.now c.keep.new.self _ _ _ _ c.args.load left on w.if-left-eq0-3.true tree t samples o h there in
+          (let none = no_bytes_left file m c.args.walk.now c.keep.new.self _ _ _ c.args.load left on w.if-left-eq0-3.true tree t samples o h there in
           elim c.else-left-eq0.branch [
             | else-left-eq0-via-then-left-eq0+else-left-eq0-2 v ↦ v.if-left-eq0-2.false none
             | else-left-eq0-via-else-left-eq0 v ↦ v.if-left-eq0.false w.if-left-eq0-3.true
@@ -178,7 +182,7 @@ returns-then-left-eq0-3-clause-unchanged g c told tree t samples o h there z =
       | then-left-eq0-3-via-else-left-eq0-3+in_ok-load+then-not-branch w ↦
           (let is_hand = subst (λ w'. InHandOf m w' later) (sym c.keep.ensures.place) (hand_kept m c.loop-left.walk c.in_hand-hand.result later c.place-place.result c.in_hand-hand.ensures.hand e.later c.place-place.ensures) in
           let not_none = w.if-left-eq0-3.false in
-          let none = none_left_to_carry file m c.args.walk.now c.keep.new.self w.load.new.self _ _ _ _ c.args.load left later w.in_ok-load.field-0 on is_hand (e.ends (omega (arith, not_none))) ((rw (e.devices.honesty, i.honesty, e.devices.file, i.file) at w.in_ok-load.ensures.loaded) told)
+          let none = none_left_to_carry file m c.args.walk.now c.keep.new.self w.load.new.self _ _ _ c.args.load left later w.in_ok-load.field-0 on is_hand (e.ends (omega (arith, not_none))) ((rw (e.devices.honesty, i.honesty, e.devices.file, i.file) at w.in_ok-load.ensures.loaded) told)
           w.if-not-branch.true tree t samples o h there in
           not_none none)
     ]

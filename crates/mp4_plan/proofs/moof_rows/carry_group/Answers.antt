@@ -13,7 +13,7 @@ returns-clause-put g c =
     let front : List ℕ = c.as_bytes.result.now in
     let rows = group_rows c.args.used.place c.args.rows.now in
     let is = c.as_bytes.ensures ∙ c.group_front-front.ensures ∙ ap (group_front (key_seen c.args.used.key)) c.rows_at.ensures in
-    BytesGoOn-then _ _ _ _ _ _ front rows _ c.in_ok-carry.ensures.bytes c.in_ok-carry_indexes.ensures.put (ap (λ (l : List ℕ). l ++ rows) (sym is))
+    BytesGoOn-then g.met.K.Sink.takes_on _ _ _ _ _ _ front rows _ c.in_ok-carry.ensures.bytes c.in_ok-carry_indexes.ensures.put (ap (λ (l : List ℕ). l ++ rows) (sym is))
 
 pub returns-in_err-carry-clause-put : goal.returns-in_err-carry-clause-put
 unfolding group_bytes
@@ -21,7 +21,7 @@ returns-in_err-carry-clause-put g c =
     let p = err_from_is_err_and c.from_residual.result c.from_residual.ensures.1 in
     let rows = group_rows c.args.used.place c.args.rows.now in
     let is = c.as_bytes.ensures ∙ c.group_front-front.ensures ∙ ap (group_front (key_seen c.args.used.key)) c.rows_at.ensures in
-    rw p.1 (stopped_first _ _ _ c.as_bytes.result.now rows _ c.in_err-carry.ensures.prefix (ap (λ (l : List ℕ). l ++ rows) (sym is)))
+    rw p.1 (stopped_first (g.K.Sink.takes c.args.sink.now c.carry.new.sink) _ c.as_bytes.result.now rows _ c.in_err-carry.ensures.prefix (ap (λ (l : List ℕ). l ++ rows) (sym is)))
 
 pub returns-in_err-carry_indexes-clause-put : goal.returns-in_err-carry_indexes-clause-put
 unfolding group_bytes
@@ -29,4 +29,4 @@ returns-in_err-carry_indexes-clause-put g c =
     let p = err_from_is_err_and c.from_residual-in_err-carry_indexes.result c.from_residual-in_err-carry_indexes.ensures.1 in
     let rows = group_rows c.args.used.place c.args.rows.now in
     let is = c.as_bytes.ensures ∙ c.group_front-front.ensures ∙ ap (group_front (key_seen c.args.used.key)) c.rows_at.ensures in
-    rw p.1 (stopped_last _ _ _ _ _ c.as_bytes.result.now rows _ c.in_ok-carry.ensures.bytes c.in_err-carry_indexes.ensures.put (ap (λ (l : List ℕ). l ++ rows) (sym is)))
+    rw p.1 (stopped_last g.met.K.Sink.takes_on _ _ _ _ _ c.as_bytes.result.now rows _ c.in_ok-carry.ensures.bytes c.in_err-carry_indexes.ensures.put (ap (λ (l : List ℕ). l ++ rows) (sym is)))

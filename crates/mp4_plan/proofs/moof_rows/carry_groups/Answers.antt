@@ -22,7 +22,7 @@ loop-key-init g c =
     let keys = keys_seen c.args.keys.now in
     let order = in_key_order (used_from c.args.planned.now.group_rows 0 keys) in
     let all = all_to_come order in
-    (refl, refl, λ apart. ([], BytesGoOn-nothing _ _, all, (let few = few_used c.args.planned.now.group_rows keys in let same = ap length all in omega (arith, few, same))), ([], omega arith, omega arith, BytesGoOn-nothing _ _))
+    (refl, refl, λ apart. ([], BytesGoOn-nothing _ (g.met.K.Sink.takes_nothing _) _, all, (let few = few_used c.args.planned.now.group_rows keys in let same = ap length all in omega (arith, few, same))), ([], omega arith, omega arith, BytesGoOn-nothing _ (g.met.K.Sink.takes_nothing _) _))
 
 pub loop-key-preserved : goal.loop-key-preserved
 loop-key-preserved g c =
@@ -40,7 +40,7 @@ loop-key-preserved g c =
           let place = place_is keys c.in-Some.used.place key apart c.in-Some.ensures.place.1 in
           rw c.rank.ensures (
             (i.2 apart).0 ++ key ∷ [],
-            BytesGoOn-then _ _ _ _ _ _ (flat_map f (i.2 apart).0) (group_bytes c.args.rows.now c.args.planned.now c.in-Some.used.place key) _ (i.2 apart).1 c.in_ok-carry_group.ensures.put
+            BytesGoOn-then g.met.K.Sink.takes_on _ _ _ _ _ _ (flat_map f (i.2 apart).0) (group_bytes c.args.rows.now c.args.planned.now c.in-Some.used.place key) _ (i.2 apart).1 c.in_ok-carry_group.ensures.put
                 (next.0 ∙ ap (λ p. flat_map f (i.2 apart).0 ++ group_bytes c.args.rows.now c.args.planned.now p key) place),
             next.1,
             one_less order c.loop-key.behind key c.loop-key._key (length keys) found (i.2 apart).3,
@@ -52,7 +52,7 @@ loop-key-preserved g c =
             some.0 ++ (c.in-Some.used.place, key) ∷ [],
             omega (arith, own, length-append some.0 ((c.in-Some.used.place, key) ∷ [])),
             omega (arith, own, test, most, length-append some.0 ((c.in-Some.used.place, key) ∷ [])),
-            groups_more c.args.rows.now c.args.planned.now some.0 c.in-Some.used.place key _ _ _ _ _ _ some.3 c.in_ok-carry_group.ensures.put,
+            groups_more c.args.rows.now c.args.planned.now some.0 c.in-Some.used.place key g.met.K.Sink.takes_on _ _ _ _ _ _ some.3 c.in_ok-carry_group.ensures.put,
           ),
     )
 
@@ -63,7 +63,7 @@ returns-in_default-clause-put g c apart =
     let rows = c.args.planned.now.group_rows in
     let order = in_key_order (used_from rows 0 keys) in
     let f = λ (k : GroupKey). group_bytes c.args.rows.now c.args.planned.now (place_at keys k) k in
-    goes_on_as _ _ _ _ _ _ (i.2 apart).1 (keys_written f order (i.2 apart).0 _ (i.2 apart).2 (none_above c.loop-key.behind (used_from rows 0 keys) c.in_default.ensures.next))
+    goes_on_as _ _ _ _ _ (i.2 apart).1 (keys_written f order (i.2 apart).0 _ (i.2 apart).2 (none_above c.loop-key.behind (used_from rows 0 keys) c.in_default.ensures.next))
 
 pub returns-clause-put : goal.returns-clause-put
 returns-clause-put g c apart =
@@ -72,7 +72,7 @@ returns-clause-put g c apart =
     let rows = c.args.planned.now.group_rows in
     let order = in_key_order (used_from rows 0 keys) in
     let f = λ (k : GroupKey). group_bytes c.args.rows.now c.args.planned.now (place_at keys k) k in
-    goes_on_as _ _ _ _ _ _ (i.2 apart).1 (keys_written f order (i.2 apart).0 _ (i.2 apart).2 (none_left order c.loop-key.behind c.loop-key._key (length keys) (search rules) (i.2 apart).3))
+    goes_on_as _ _ _ _ _ (i.2 apart).1 (keys_written f order (i.2 apart).0 _ (i.2 apart).2 (none_left order c.loop-key.behind c.loop-key._key (length keys) (search rules) (i.2 apart).3))
 
 pub returns-in_err-carry_group-clause-put : goal.returns-in_err-carry_group-clause-put
 returns-in_err-carry_group-clause-put g c apart =
@@ -89,7 +89,7 @@ returns-in_err-carry_group-clause-put g c apart =
     let found = found_first c.loop-key.behind (used_from rows 0 keys) key (used_apart rows 0 keys apart) c.in-Some.ensures.next in
     let next = key_written f order done c.loop-key.behind key (i.2 apart).2 found in
     let place = place_is keys c.in-Some.used.place key apart c.in-Some.ensures.place.1 in
-    stopped_at _ _ _ _ _ (flat_map f done) (group_bytes c.args.rows.now c.args.planned.now c.in-Some.used.place key) (flat_map f (done ++ key ∷ [])) (flat_map f later) (flat_map f order) (i.2 apart).1 c.in_err-carry_group.ensures.put
+    stopped_at g.met.K.Sink.takes_on _ _ _ _ _ (flat_map f done) (group_bytes c.args.rows.now c.args.planned.now c.in-Some.used.place key) (flat_map f (done ++ key ∷ [])) (flat_map f later) (flat_map f order) (i.2 apart).1 c.in_err-carry_group.ensures.put
     (next.0 ∙ ap (λ q. flat_map f done ++ group_bytes c.args.rows.now c.args.planned.now q key) place) (ap (flat_map f) (sym next.1) ∙ flat_map-append f (done ++ key ∷ []) later))
 
 pub returns-in_default-clause-some : goal.returns-in_default-clause-some

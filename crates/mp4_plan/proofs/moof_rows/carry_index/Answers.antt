@@ -16,4 +16,5 @@ pub returns-in_err-carry_index_run-clause-put : goal.returns-in_err-carry_index_
 returns-in_err-carry_index_run-clause-put g c values =
     let p = err_from_is_err_and c.from_residual.result c.from_residual.ensures.1 in
     let run = c.args.run in
-    rw p.1 (stopped_first _ _ _ _ _ _ c.in_err-carry_index_run.ensures.put (ap (flat_map group_row) (left_new run.count run.index c.args.index values (λ lt. search rules)) ∙ flat_map-append group_row (runs_left run.count run.index []) (runs_left 1 c.args.index values)))
+    rw p.1 (stopped_first (g.K.Sink.takes c.args.sink.now c.carry_index_run.new.sink) _ _ _ _ c.in_err-carry_index_run.ensures.put
+    (ap (flat_map group_row) (left_new run.count run.index c.args.index values (λ lt. search rules)) ∙ flat_map-append group_row (runs_left run.count run.index []) (runs_left 1 c.args.index values)))

@@ -13,5 +13,5 @@ invariant-loop-row g l =
     (vec_len l.carrier.buffer ≡ vec_len l.fn.carrier.buffer)
     × (g.K.Sink.put_failures l.sink ≡ g.K.Sink.put_failures l.fn.sink)
     × (l.run.count ≤ l.row-index)
-    × ((done : List (ℕ × ℕ)) × BytesGoOn (g.K.Sink.contents l.fn.sink) (g.K.Sink.contents l.sink) (waiting l.fn.carrier) (waiting l.carrier) (flat_map group_row done)
+    × ((done : List (ℕ × ℕ)) × BytesGoOn (g.K.Sink.takes l.fn.sink l.sink) (waiting l.fn.carrier) (waiting l.carrier) (flat_map group_row done)
     × (done ++ runs_left l.run.count l.run.index (map index (drop l.row-index l.rows)) ≡ longest_runs (map index l.rows)))

@@ -14,7 +14,7 @@ loop-done-preserved g c =
     record {
       buffer = search rules;
       puts = e.puts ∙ i.puts;
-      bytes = BytesGoOn-then _ _ _ _ _ _ _ piece _ i.bytes e.bytes (rows_more (run_row c.args.planned.now) c.args.rows.now c.loop-done.done c.min-end.result piece (search rules) (c.as_bytes.ensures ∙ c.spell_rows.ensures));
+      bytes = BytesGoOn-then g.met.K.Sink.takes_on _ _ _ _ _ _ _ piece _ i.bytes e.bytes (rows_more (run_row c.args.planned.now) c.args.rows.now c.loop-done.done c.min-end.result piece (search rules) (c.as_bytes.ensures ∙ c.spell_rows.ensures));
       within = search rules;
     }
 
@@ -25,4 +25,4 @@ returns-in_err-carry-clause-put g c =
     let row = run_row c.args.planned.now in
     let rows = c.args.rows.now in
     let piece : List ℕ = c.as_bytes.result.now in
-    rw p.1 (stopped_at _ _ _ _ _ _ piece _ _ _ i.bytes c.in_err-carry.ensures.prefix (rows_more row rows c.loop-done.done c.min-end.result piece (search rules) (c.as_bytes.ensures ∙ c.spell_rows.ensures)) (bytes_of_both row c.min-end.result rows))
+    rw p.1 (stopped_at g.met.K.Sink.takes_on _ _ _ _ _ _ piece _ _ _ i.bytes c.in_err-carry.ensures.prefix (rows_more row rows c.loop-done.done c.min-end.result piece (search rules) (c.as_bytes.ensures ∙ c.spell_rows.ensures)) (bytes_of_both row c.min-end.result rows))

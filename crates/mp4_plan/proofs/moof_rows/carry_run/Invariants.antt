@@ -9,7 +9,7 @@ abbrev pub invariant-loop-done : goal.invariant-loop-done
 invariant-loop-done g l = record {
   buffer : vec_len l.carrier.buffer ≡ vec_len l.fn.carrier.buffer;
   puts : g.K.Sink.put_failures l.sink ≡ g.K.Sink.put_failures l.fn.sink;
-  bytes : BytesGoOn (g.K.Sink.contents l.fn.sink) (g.K.Sink.contents l.sink) (waiting l.fn.carrier) (waiting l.carrier) (run_rows l.planned (take l.done l.rows));
+  bytes : BytesGoOn (g.K.Sink.takes l.fn.sink l.sink) (waiting l.fn.carrier) (waiting l.carrier) (run_rows l.planned (take l.done l.rows));
   within : l.done ≤ length l.rows;
 }
 

@@ -1,7 +1,6 @@
 use Rattle.std.proofs.Common.{subst, refl}
-use Rattle.std.specs.Io.KnownBytes.{Appends}
 use Rattle.std.specs.Prelude.{OnOk, OnErr}
-use Rattle.mp4_store.specs.words.Device.{AppendsPrefix}
+use Rattle.mp4_store.specs.words.Device.{TakesPrefix}
 use Rattle.mp4_present.specs.format.Denotes.{presentation_of}
 use Rattle.mp4_present.specs.format.Presentation.{Presentation}
 use Rattle.mp4_plan.specs.format.Normal.{normal}
@@ -13,12 +12,12 @@ use Rattle.mp4_plan.proofs.writer.write_normal.Goals as goal
 pub returns-clause-bytes : goal.returns-clause-bytes
 returns-clause-bytes g c = λ told tree o.
     let same = nothing_reduces (presentation_of (g.S.Store.file c.args.store.now) tree) in
-    subst (λ (p : Presentation). OnOk c.write_reduced.result (Appends (g.K.Sink.contents c.args.sink.now) (g.K.Sink.contents c.write_reduced.new.sink) (normal p))) same (c.write_reduced.ensures.bytes told tree o)
+    subst (λ (p : Presentation). OnOk c.write_reduced.result (g.K.Sink.takes c.args.sink.now c.write_reduced.new.sink (normal p))) same (c.write_reduced.ensures.bytes told tree o)
 
 pub returns-clause-prefix : goal.returns-clause-prefix
 returns-clause-prefix g c = λ told tree o.
     let same = nothing_reduces (presentation_of (g.S.Store.file c.args.store.now) tree) in
-    subst (λ (p : Presentation). OnErr c.write_reduced.result (AppendsPrefix (g.K.Sink.contents c.args.sink.now) (g.K.Sink.contents c.write_reduced.new.sink) (normal p))) same (c.write_reduced.ensures.prefix told tree o)
+    subst (λ (p : Presentation). OnErr c.write_reduced.result (TakesPrefix (g.K.Sink.takes c.args.sink.now c.write_reduced.new.sink) (normal p))) same (c.write_reduced.ensures.prefix told tree o)
 
 pub returns-clause-refusal : goal.returns-clause-refusal
-returns-clause-refusal g c = copied_left nothing c.write_reduced.result _ _ _ _ _ _ refl c.write_reduced.ensures.refusal
+returns-clause-refusal g c = copied_left nothing c.write_reduced.result (g.K.Sink.takes c.args.sink.now c.write_reduced.new.sink) _ _ _ _ refl c.write_reduced.ensures.refusal

@@ -1,9 +1,8 @@
-use Rattle.std.proofs.Common.{List, ℕ, ◌++◌, arith, refl, subst}
+use Rattle.std.proofs.Common.{List, ℕ, ◌++◌, arith, subst}
 use Rattle.std.proofs.lemmas.Result.{err_from_is_err_and, on_ok_weaker}
-use Rattle.std.specs.Io.KnownBytes.{Appends}
 use Rattle.std.specs.Prelude.{OnOk, OnErr}
-use Rattle.mp4_store.specs.words.Device.{AppendsPrefix}
-use Rattle.mp4_store.proofs.Known.{AppendsPrefix-nothing}
+use Rattle.mp4_store.specs.words.Device.{TakesPrefix}
+use Rattle.mp4_store.proofs.Known.{TakesPrefix-nothing}
 use Rattle.mp4_present.specs.format.Denotes.{presentation_of}
 use Rattle.mp4_present.specs.declared.leaving.Leaving.{Leaving}
 use Rattle.mp4_present.specs.format.Reduced.{ReducesInTime, reduce}
@@ -18,21 +17,21 @@ use Rattle.mp4_plan.proofs.writer.write_reduced.Goals as goal
 pub returns-in_err-writer-clause-prefix : goal.returns-in_err-writer-clause-prefix
 returns-in_err-writer-clause-prefix g c = λ told tree o.
     let p = err_from_is_err_and c.from_residual.result c.from_residual.ensures.1 in
-    rw p.1 (AppendsPrefix-nothing (g.K.Sink.contents c.args.sink.now) _)
+    rw p.1 (TakesPrefix-nothing (g.K.Sink.takes c.args.sink.now c.args.sink.now) (g.met.K.Sink.takes_nothing c.args.sink.now) _)
 
 pub returns-clause-bytes : goal.returns-clause-bytes
 returns-clause-bytes g c = λ told tree o.
-    let bytes = still_opened _ _ _ _ c.args.movie.now (λ file t. IsReady file t c.args.movie.now c.in_ok-writer.writer → OnOk c.write.result (Appends (g.K.Sink.contents c.args.sink.now) (g.K.Sink.contents c.write.new.sink) (normal (reduce c.in_ok-writer.writer.leaving (presentation_of file t)))))
+    let bytes = still_opened _ _ _ _ c.args.movie.now (λ file t. IsReady file t c.args.movie.now c.in_ok-writer.writer → OnOk c.write.result (g.K.Sink.takes c.args.sink.now c.write.new.sink (normal (reduce c.in_ok-writer.writer.leaving (presentation_of file t)))))
     c.in_ok-writer.ensures.store.honesty c.in_ok-writer.ensures.store.file c.write.ensures.bytes in
-    subst (λ (l : Leaving). OnOk c.write.result (Appends (g.K.Sink.contents c.args.sink.now) (g.K.Sink.contents c.write.new.sink) (normal (reduce l (presentation_of (g.S.Store.file c.args.store.now) tree)))))
+    subst (λ (l : Leaving). OnOk c.write.result (g.K.Sink.takes c.args.sink.now c.write.new.sink (normal (reduce l (presentation_of (g.S.Store.file c.args.store.now) tree)))))
     c.in_ok-writer.ensures.made.left (bytes told tree o (c.in_ok-writer.ensures.ready told tree o).ready)
 
 pub returns-clause-prefix : goal.returns-clause-prefix
 returns-clause-prefix g c = λ told tree o.
     let prefix = still_opened _ _ _ _ c.args.movie.now (λ file t. IsReady file t c.args.movie.now c.in_ok-writer.writer
-    → OnErr c.write.result (AppendsPrefix (g.K.Sink.contents c.args.sink.now) (g.K.Sink.contents c.write.new.sink) (normal (reduce c.in_ok-writer.writer.leaving (presentation_of file t)))))
+    → OnErr c.write.result (TakesPrefix (g.K.Sink.takes c.args.sink.now c.write.new.sink) (normal (reduce c.in_ok-writer.writer.leaving (presentation_of file t)))))
     c.in_ok-writer.ensures.store.honesty c.in_ok-writer.ensures.store.file c.write.ensures.prefix in
-    subst (λ (l : Leaving). OnErr c.write.result (AppendsPrefix (g.K.Sink.contents c.args.sink.now) (g.K.Sink.contents c.write.new.sink) (normal (reduce l (presentation_of (g.S.Store.file c.args.store.now) tree)))))
+    subst (λ (l : Leaving). OnErr c.write.result (TakesPrefix (g.K.Sink.takes c.args.sink.now c.write.new.sink) (normal (reduce l (presentation_of (g.S.Store.file c.args.store.now) tree)))))
     c.in_ok-writer.ensures.made.left (prefix told tree o (c.in_ok-writer.ensures.ready told tree o).ready)
 
 pub returns-clause-whole : goal.returns-clause-whole
@@ -40,7 +39,7 @@ returns-clause-whole g c =
     let w = c.in_ok-writer.writer in
     let made = c.in_ok-writer.ensures.made in
     on_ok _ _ c.write.result
-    (λ x. (w.head.items, made.named, subst (λ (bs : List ℕ). IsPutWhole c.args.movie.now (g.K.Sink.contents c.args.sink.now) (g.K.Sink.contents c.write.new.sink) (bs ++ w.head.items)) made.empty x)) c.write.ensures.whole
+    (λ x. (w.head.items, made.named, subst (λ (bs : List ℕ). IsPutWhole c.args.movie.now (g.K.Sink.takes c.args.sink.now c.write.new.sink) (bs ++ w.head.items)) made.empty x)) c.write.ensures.whole
 
 pub returns-clause-unchanged : goal.returns-clause-unchanged
 returns-clause-unchanged g c = λ told tree o.
@@ -59,7 +58,7 @@ returns-clause-work g c = λ told tree o.
 pub returns-in_err-writer-clause-long : goal.returns-in_err-writer-clause-long
 returns-in_err-writer-clause-long g c = λ told tree o.
     let p = err_from_is_err_and c.from_residual.result c.from_residual.ensures.1 in
-    rw (p.1, p.2) (record { in_time = tt; fault = c.in_err-writer.ensures.fault told tree o; nothing = λ long. refl; begun = plan_puts_nothing c.args.leaving _ _ c.in_err-writer.field-0.0 _ c.in_err-writer.ensures.refusal })
+    rw (p.1, p.2) (record { in_time = tt; fault = c.in_err-writer.ensures.fault told tree o; nothing = λ long. g.met.K.Sink.takes_nothing c.args.sink.now; begun = plan_puts_nothing c.args.leaving _ _ c.in_err-writer.field-0.0 _ c.in_err-writer.ensures.refusal })
 
 pub returns-clause-long : goal.returns-clause-long
 returns-clause-long g c = λ told tree o.
@@ -73,7 +72,7 @@ returns-clause-long g c = λ told tree o.
     }
 
 pub returns-clause-refusal : goal.returns-clause-refusal
-returns-clause-refusal g c = carried_left c.args.leaving c.write.result _ _ _ _ _ _ (rw c.in_ok-writer.ensures.store.reads at c.write.ensures.refusal)
+returns-clause-refusal g c = carried_left c.args.leaving c.write.result (g.K.Sink.takes c.args.sink.now c.write.new.sink) _ _ _ _ (rw c.in_ok-writer.ensures.store.reads at c.write.ensures.refusal)
 
 pub returns-clause-grows : goal.returns-clause-grows
 returns-clause-grows g c =

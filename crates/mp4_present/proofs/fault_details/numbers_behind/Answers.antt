@@ -1,4 +1,4 @@
-use Rattle.std.proofs.Common.{◌≡◌, List, length, map, true, subst, sym, ap, rules}
+use Rattle.std.proofs.Common.{◌≡◌, List, length, rules}
 use Rattle.std.specs.Prelude.{IsTrue}
 use Rattle.mp4_boxes.specs.format.Bytes.{AreBytes}
 use Rattle.mp4_boxes.specs.format.Box.{Box}
@@ -11,9 +11,6 @@ use Rattle.mp4_present.proofs.FaultGaps.{some_so}
 use Rattle.mp4_present.proofs.GapsTold.{tells_plain}
 use Rattle.mp4_present.proofs.LooksCounted.{looks_open, none_looks}
 use Rattle.mp4_boxes.specs.words.View.{box_seen}
-use Rattle.mp4_frag.specs.declared.trex.Trex.{Trex}
-use Rattle.mp4_head.specs.format.Head.{Head}
-use Rattle.mp4_head.specs.format.Tree.{are_distinct}
 use Rattle.mp4_present.proofs.Opened.{IsRead, tracks_read}
 use Rattle.mp4_present.proofs.OpeningBytes.{tables_open, moofs_open, none_open}
 use Rattle.mp4_present.proofs.PlainLists.{found_tables}
@@ -22,7 +19,6 @@ use Rattle.mp4_present.proofs.fault_details.numbers_behind.Goals as goal
 pub check_tables-requires : goal.check_tables-requires
 check_tables-requires g c = record {
   inside = found_tables _ c.in_ok-head.head c.in_ok-head.ensures.head c.in_ok-head.ensures.inside;
-  distinct = subst (λ (xs : List Trex). are_distinct (map (λ (t : Trex). t.id) xs) ≡ true) (sym (ap (λ (x : Head). x.trexes) c.in_ok-head.ensures.head.has.says)) c.in_ok-head.ensures.head.has.is_sound.trex_ids;
   read = (c.in_ok-head.ensures.head.has.tree.tracks, tracks_read _ c.in_ok-head.head c.in_ok-head.ensures.head);
 }
 

@@ -1,4 +1,4 @@
-use Rattle.std.proofs.Common.{◌≡◌, ◌∙◌, rules, length, refl}
+use Rattle.std.proofs.Common.{◌≡◌, ◌∙◌, rules, min, length, refl}
 use Rattle.std.specs.Prelude.{IsTrue}
 use Rattle.std.proofs.lemmas.Result.{err_from_is_err_and}
 use Rattle.mp4_boxes.specs.words.View.{box_seen}
@@ -74,7 +74,7 @@ returns-in_err-check_moof-clause-work g c =
     record {
       steps = refused_fits file at top whole.0 (let l = i.left told in stands_behind file at top l.boxes ((coming told).0 l.boxes l.are_from)) (box_seen c.view-moof.result) c.read_payload.new.room c.in_ok-len.len r _ _ _ _ c.check_moof.ensures.work.most (i.fit told);
       looks = refused_looks file at top whole.0 (let l = i.left told in stands_behind file at top l.boxes ((coming told).0 l.boxes l.are_from)) (box_seen c.view-moof.result) c.read_payload.new.room c.in_ok-len.len r
-          (length c.args.states.now) _ _ _ (rw many at c.check_moof.ensures.looks.most) (i.looks told);
+          (min 1 (length c.args.states.now)) _ _ _ (rw many at c.check_moof.ensures.looks.most) (i.looks told);
     }
 
 pub returns-in_err-check_moof-clause-refusal : goal.returns-in_err-check_moof-clause-refusal
@@ -126,7 +126,7 @@ loop-top-preserved g c =
               of_bytes = c.in_ok-len.ensures.room;
             } in
             next_looks file at top whole.0 (let l = i.left told in stands_behind file at top l.boxes ((coming told).0 l.boxes l.are_from)) (box_seen c.view-moof.result) c.read_payload.new.room c.in_ok-len.len r
-            (length c.args.states.now) _ _ _ (rw many at c.check_moof.ensures.looks.most) (i.looks told);
+            (min 1 (length c.args.states.now)) _ _ _ (rw many at c.check_moof.ensures.looks.most) (i.looks told);
         fit = λ told.
             let r : IsRead file top (box_seen c.view-moof.result) c.read_payload.new.room c.in_ok-len.len = record {
               is = c.view-moof.ensures;

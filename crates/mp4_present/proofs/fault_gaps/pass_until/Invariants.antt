@@ -1,4 +1,4 @@
-use Rattle.std.proofs.Common.{◌≡◌, ◌^◌, ◌≤◌, List, length, ℕ, drop}
+use Rattle.std.proofs.Common.{◌≡◌, ◌^◌, ◌≤◌, List, min, length, ℕ, drop}
 use Rattle.std.specs.List.{AllByRecursion}
 use Rattle.mp4_present.specs.words.Movies.{IsWhole}
 use Rattle.mp4_present.specs.words.Outline.{AreMoofsFrom}
@@ -29,6 +29,6 @@ invariant-loop-top g l =
       to_come : IsTrue (g.S.Store.is_honest l.fn.store) → AreMoofsFrom (g.S.Store.file l.fn.store) next (drop l.top-index l.top-items);
       left : IsTrue (g.S.Store.is_honest l.fn.store) → Left (g.S.Store.file l.fn.store) next l.outline.longest;
       so : IsTrue (g.S.Store.is_honest l.fn.store) → (movie : MovieTree) (boxes : List Box) → IsBegun (g.S.Store.file l.fn.store) movie boxes l.fn.states l.fn.room → IsUnderWay (g.S.Store.file l.fn.store) movie boxes next l.outline.longest l.states l.room;
-      looks : IsTrue (g.S.Store.is_honest l.fn.store) → LooksFit (length (g.S.Store.file l.fn.store)) next (length l.fn.states) l.fn.looks l.looks;
+      looks : IsTrue (g.S.Store.is_honest l.fn.store) → LooksFit (length (g.S.Store.file l.fn.store)) next (min 1 (length l.fn.states)) l.fn.looks l.looks;
       fit : IsTrue (g.S.Store.is_honest l.fn.store) → MoofsFit (length (g.S.Store.file l.fn.store)) next l.room l.fn.steps l.steps;
     }

@@ -1,4 +1,4 @@
-use Rattle.std.proofs.Common.{◌≡◌, rules, length, map, refl, sym, ◌∙◌}
+use Rattle.std.proofs.Common.{◌≡◌, rules, min, length, map, refl, sym, ◌∙◌}
 use Rattle.std.specs.Prelude.{ℤ, IsTrue}
 use Rattle.std.proofs.lemmas.Result.{err_from_is_err_and}
 use Rattle.mp4_present.proofs.FragmentPass.{last_moof, left_first, left_next, next_moof, next_whole, stands_behind, top_at}
@@ -126,7 +126,7 @@ loop-top-preserved g c =
               of_bytes = c.in_ok-len.ensures.room;
             } in
             next_looked file at top all whole.0 u.0 u.1.0 ((coming told).0 u.0 u.1.0) (box_seen c.view-moof.result) c.read_payload.new.room c.in_ok-len.len r
-            (length c.args.states.now) _ _ _ (rw many at c.in_ok-check_moof.ensures.looks.each) u.1.1;
+            (min 1 (length c.args.states.now)) _ _ _ (rw many at c.in_ok-check_moof.ensures.looks.each) u.1.1;
         looks = λ told.
             let r : IsRead file top (box_seen c.view-moof.result) c.read_payload.new.room c.in_ok-len.len = record {
               is = c.view-moof.ensures;
@@ -136,7 +136,7 @@ loop-top-preserved g c =
               of_bytes = c.in_ok-len.ensures.room;
             } in
             next_looks file at top whole.0 (let l = i.left told in stands_behind file at top l.boxes ((coming told).0 l.boxes l.are_from)) (box_seen c.view-moof.result) c.read_payload.new.room c.in_ok-len.len r
-            (length c.args.states.now) _ _ _ (rw many at c.check_moof.ensures.looks.most) (i.looks told);
+            (min 1 (length c.args.states.now)) _ _ _ (rw many at c.check_moof.ensures.looks.most) (i.looks told);
         fit = λ told.
             let r : IsRead file top (box_seen c.view-moof.result) c.read_payload.new.room c.in_ok-len.len = record {
               is = c.view-moof.ensures;
@@ -244,9 +244,9 @@ returns-in_err-check_moof-clause-work g c =
         said = if_stopped ℤ (Unit {0}) (LooksWithin file _ _ _) _ _ _ _ _ moof _ refused stops (λ s. looks_done file top.header.end _ _ _ (λ all h.
             let u = i.looked told all h in
             next_looked file at top all whole.0 u.0 u.1.0 ((coming told).0 u.0 u.1.0) moof c.read_payload.new.room c.in_ok-len.len r
-            (length c.args.states.now) _ _ _ (rw many at s.looked) u.1.1));
+            (min 1 (length c.args.states.now)) _ _ _ (rw many at s.looked) u.1.1));
         within = refused_looks file at top whole.0 (let l = i.left told in stands_behind file at top l.boxes ((coming told).0 l.boxes l.are_from)) moof c.read_payload.new.room c.in_ok-len.len r
-            (length c.args.states.now) _ _ _ (rw many at c.check_moof.ensures.looks.most) (i.looks told);
+            (min 1 (length c.args.states.now)) _ _ _ (rw many at c.check_moof.ensures.looks.most) (i.looks told);
       };
     })
 

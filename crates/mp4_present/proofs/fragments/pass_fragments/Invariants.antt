@@ -1,4 +1,4 @@
-use Rattle.std.proofs.Common.{◌≡◌, ℕ, ◌^◌, ◌≤◌, List, length, map, drop}
+use Rattle.std.proofs.Common.{◌≡◌, ℕ, ◌^◌, ◌≤◌, List, min, length, map, drop}
 use Rattle.std.specs.List.{AllByRecursion}
 use Rattle.mp4_present.specs.words.Movies.{IsWhole}
 use Rattle.mp4_present.specs.words.Outline.{AreMoofsFrom}
@@ -38,7 +38,7 @@ invariant-loop-top g l =
       own : IsTrue (g.S.Store.is_honest l.fn.store) → (movie : MovieTree) (boxes : List Box) → IsBegun (g.S.Store.file l.fn.store) movie boxes l.fn.states l.fn.room → map own_seen l.fn.own ≡ map (λ _. none_noted) l.fn.states
           → OwnsUnderWay (g.S.Store.file l.fn.store) movie boxes next l.outline.longest l.states l.room (map own_seen l.own);
       work : IsTrue (g.S.Store.is_honest l.fn.store) → StepsLeft (g.S.Store.file l.fn.store) next l.fn.steps l.steps;
-      looked : IsTrue (g.S.Store.is_honest l.fn.store) → LooksLeft (g.S.Store.file l.fn.store) next (length l.fn.states) l.fn.looks l.looks;
-      looks : IsTrue (g.S.Store.is_honest l.fn.store) → LooksFit (length (g.S.Store.file l.fn.store)) next (length l.fn.states) l.fn.looks l.looks;
+      looked : IsTrue (g.S.Store.is_honest l.fn.store) → LooksLeft (g.S.Store.file l.fn.store) next (min 1 (length l.fn.states)) l.fn.looks l.looks;
+      looks : IsTrue (g.S.Store.is_honest l.fn.store) → LooksFit (length (g.S.Store.file l.fn.store)) next (min 1 (length l.fn.states)) l.fn.looks l.looks;
       fit : IsTrue (g.S.Store.is_honest l.fn.store) → MoofsFit (length (g.S.Store.file l.fn.store)) next l.room l.fn.steps l.steps;
     }

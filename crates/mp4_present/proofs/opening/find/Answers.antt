@@ -1,14 +1,11 @@
-use Rattle.mp4_frag.specs.declared.trex.Trex.{Trex}
-use Rattle.mp4_head.specs.format.Head.{Head}
-use Rattle.mp4_head.specs.format.Tree.{are_distinct}
-use Rattle.std.proofs.Common.{◌≡◌, List, map, true, subst, sym, ap, rules, refl, length}
+use Rattle.std.proofs.Common.{◌≡◌, rules, refl, length}
 use Rattle.mp4_boxes.specs.words.View.{box_seen}
 use Rattle.mp4_present.specs.declared.opening.Found.{Found}
 use Rattle.mp4_boxes.specs.format.Bytes.{AreBytes}
 use Rattle.mp4_present.proofs.Assembled.{movie, begun, have, opened_as, limit_stands, measure}
 use Rattle.std.proofs.lemmas.Result.{err_from_is_err_and}
 use Rattle.mp4_present.proofs.Opened.{IsRead, its_movie, tracks_read, open_not_sound, open_not_fit, open_not_passed}
-use Rattle.mp4_present.proofs.LooksCounted.{looks_counted, looks_of, looks_open, none_looks}
+use Rattle.mp4_present.proofs.LooksCounted.{looks_counted, looks_open, none_looks}
 use Rattle.mp4_present.proofs.OpeningBytes.{tables_open, moofs_open, none_open}
 use Rattle.mp4_present.proofs.OpeningSteps.{all_taken, tables_counted, moofs_counted}
 use Rattle.mp4_present.proofs.PlainLists.{found_tables}
@@ -18,7 +15,6 @@ use Rattle.mp4_present.proofs.opening.find.Goals as goal
 pub check_tables-requires : goal.check_tables-requires
 check_tables-requires g c = record {
   inside = found_tables _ c.in_ok-head.head c.in_ok-head.ensures.head c.in_ok-head.ensures.inside;
-  distinct = subst (λ (xs : List Trex). are_distinct (map (λ (t : Trex). t.id) xs) ≡ true) (sym (ap (λ (x : Head). x.trexes) c.in_ok-head.ensures.head.has.says)) c.in_ok-head.ensures.head.has.is_sound.trex_ids;
   read = (c.in_ok-head.ensures.head.has.tree.tracks, tracks_read _ c.in_ok-head.head c.in_ok-head.ensures.head);
 }
 
@@ -140,7 +136,7 @@ returns-in_err-states-clause-work g c =
       within = moofs_open honest file outline moov b head r says told _ _ _ c.in_ok-plain.ensures.within (c.in_err-states.ensures.work told).within;
       looks = rw (p.1, p.2) (let l = (c.in_err-states.ensures.work told).looks in
           record {
-            said = λ tree is. handed_on Found _ _ _ (looks_of honest file outline moov b head r says told tree is _ _ _ many) l.said;
+            said = λ tree is. handed_on Found _ _ _ (looks_counted honest file outline moov b head r says told tree is _ _ _) l.said;
             within = looks_open honest file outline moov b head r says told _ _ (rw many at l.within);
           });
     }
@@ -161,7 +157,7 @@ returns-in_err-mehd-clause-work g c =
       within = moofs_open honest file outline moov b head r says told _ _ _ c.in_ok-plain.ensures.within (c.in_ok-states.ensures.work told).within;
       looks = let l = (c.in_ok-states.ensures.work told).looks in
           record {
-            said = λ tree is. if_no_fault _ _ (looks_counted honest file outline moov b head r says told tree is _ _ (rw many at l.said));
+            said = λ tree is. if_no_fault _ _ (looks_counted honest file outline moov b head r says told tree is _ _ _ l.said);
             within = looks_open honest file outline moov b head r says told _ _ (rw many at l.within);
           };
     }
@@ -182,7 +178,7 @@ returns-in_err-tracks-clause-work g c =
       within = moofs_open honest file outline moov b head r says told _ _ _ c.in_ok-plain.ensures.within (c.in_ok-states.ensures.work told).within;
       looks = let l = (c.in_ok-states.ensures.work told).looks in
           record {
-            said = λ tree is. if_no_fault _ _ (looks_counted honest file outline moov b head r says told tree is _ _ (rw many at l.said));
+            said = λ tree is. if_no_fault _ _ (looks_counted honest file outline moov b head r says told tree is _ _ _ l.said);
             within = looks_open honest file outline moov b head r says told _ _ (rw many at l.within);
           };
     }
@@ -203,7 +199,7 @@ returns-clause-work g c =
       within = moofs_open honest file outline moov b head r says told _ _ _ c.in_ok-plain.ensures.within (c.in_ok-states.ensures.work told).within;
       looks = let l = (c.in_ok-states.ensures.work told).looks in
           record {
-            said = λ tree is. looks_counted honest file outline moov b head r says told tree is _ _ (rw many at l.said);
+            said = λ tree is. looks_counted honest file outline moov b head r says told tree is _ _ _ l.said;
             within = looks_open honest file outline moov b head r says told _ _ (rw many at l.within);
           };
     }

@@ -20,7 +20,7 @@ loop-track-preserved g c =
     let i = c.loop-track.invariant in (
       c.in_ok-push.ensures.one_more _ i.0,
       subst (λ (k : ℕ). HaveTablesIn (box_seen c.args.moov) (drop k c.deref-track-items.result.now)) (next_of c.loop-track.track-index) (from_next (HasTablesIn (box_seen c.args.moov)) c.deref-track-items.result.now c.loop-track.track-index i.1),
-      passed_more _ _ _ _ _ _ i.2 c.track-item.result c.push.new.self c.loop-track-test.true c.track-item.is (rw c.deref.ensures.value at c.in_ok-push.ensures.says),
+      passed_more _ _ _ _ _ _ i.2 c.track-item.result c.push.new.self c.loop-track-test.true c.track-item.is (c.in_ok-push.ensures.says c.args.head.now.trexes.items (rw c.deref.ensures.value at c.in_ok-trexes.ensures)),
       next_left _ _ _ _ _ c.track-item.result c.loop-track-test.true c.track-item.is c.in_ok-push.ensures.work.said i.3,
       next_taken _ _ _ _ _ c.track-item.result c.loop-track-test.true c.track-item.is c.in_ok-push.ensures.least i.4,
       next_fit _ _ _ _ _ _ _ i.5 c.in_ok-push.ensures.work.less,
@@ -28,7 +28,7 @@ loop-track-preserved g c =
 
 pub returns-in_err-push-clause-refusal : goal.returns-in_err-push-clause-refusal
 returns-in_err-push-clause-refusal g c =
-    let p = err_from_is_err_and c.from_residual.result c.from_residual.ensures.1 in
+    let p = err_from_is_err_and c.from_residual-in_err-push.result c.from_residual-in_err-push.ensures.1 in
     rw (p.1, p.2) (rw c.deref-track-items.ensures.value at (passed_refused _ _ _ _ _ _ c.loop-track.invariant.2 c.track-item.result c.in_err-push.field-0.0 c.loop-track-test.true c.track-item.is c.in_err-push.ensures.refusal))
 
 pub returns-clause-says : goal.returns-clause-says
@@ -36,7 +36,7 @@ returns-clause-says g c = rw c.deref-track-items.ensures.value at (passed_all _ 
 
 pub returns-in_err-push-clause-work : goal.returns-in_err-push-clause-work
 returns-in_err-push-clause-work g c =
-    let p = err_from_is_err_and c.from_residual.result c.from_residual.ensures.1 in
+    let p = err_from_is_err_and c.from_residual-in_err-push.result c.from_residual-in_err-push.ensures.1 in
     let done = rw c.deref-track-items.ensures.value at (next_done c.deref-track-items.result.now c.loop-track.track-index c.args.steps.now c.loop-track.steps c.push.new.steps c.track-item.result c.loop-track-test.true c.track-item.is c.loop-track.invariant.3) in
     rw (p.1, p.2) (handed_on PlainTracks _ _ c.in_err-push.field-0.0 done c.in_err-push.ensures.work.said)
 

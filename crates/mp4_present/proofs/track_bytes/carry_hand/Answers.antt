@@ -26,9 +26,9 @@ loop-stretch-init g c = record {
   later = follows_itself c.in_hand-hand.result;
   within = λ n h. h;
   few = omega arith;
-  many = GoOnBy-none _ _ _ (omega arith);
+  many = GoOnBy-none _ (g.met.K.Sink.takes_nothing _) _ _ (omega arith);
   sizes = omega arith;
-  bytes = λ _. hand_none _ _ _ _;
+  bytes = λ _. hand_none _ _ (g.met.K.Sink.takes_nothing _) _ _;
 }
 
 pub loop-stretch-preserved : goal.loop-stretch-preserved
@@ -47,9 +47,9 @@ loop-stretch-preserved g c =
       later = follows_on _ _ _ i.later s.later;
       within = λ n h. subst (λ (ss : List SampleAt). AllByRecursion (IsBelow n) ss) (sym c.in-Some.ensures.samples.3) (each_dropped (IsBelow n) c.in-Some.stretch.samples _ (i.within n h));
       few = search rules;
-      many = GoOnBy-then _ _ _ _ (waiting c.loop-stretch.carrier) _ (c.args.bytes - c.loop-stretch.left) c.in-Some.stretch.len _ i.many e.along.many (search rules);
+      many = GoOnBy-then g.met.K.Sink.takes_on _ _ _ _ (waiting c.loop-stretch.carrier) _ (c.args.bytes - c.loop-stretch.left) c.in-Some.stretch.len _ i.many e.along.many (search rules);
       sizes = sizes_more _ _ c.args.bytes c.loop-stretch.left c.in-Some.stretch.samples c.in-Some.stretch.at c.in-Some.stretch.len i.sizes c.in-Some.ensures.stretch c.in-Some.ensures.within _ _ (search rules) refl c.in-Some.ensures.samples.3;
-      bytes = λ honest. hand_more _ _ _ _ _ _ _ _ _ _ c.in-Some.stretch.samples c.in-Some.stretch.at c.in-Some.stretch.len (i.bytes honest) c.in-Some.ensures.stretch c.in-Some.ensures.samples.3 ((rw (i.honesty, i.file) at e.bytes) honest);
+      bytes = λ honest. hand_more _ g.met.K.Sink.takes_on _ _ _ _ _ _ _ _ _ c.in-Some.stretch.samples c.in-Some.stretch.at c.in-Some.stretch.len (i.bytes honest) c.in-Some.ensures.stretch c.in-Some.ensures.samples.3 ((rw (i.honesty, i.file) at e.bytes) honest);
     }
 
 pub returns-clause-walk : goal.returns-clause-walk
@@ -71,7 +71,7 @@ returns-in_err-carry_stretch-clause-taken g c =
       put = λ honest. (
         i.first,
         i.is,
-        hand_fails (g.S.Store.file c.args.store.now) _ _ _ (waiting c.args.carrier.now) (waiting c.loop-stretch.carrier) (left_in_hand i.first) (left_in_hand c.loop-stretch.hand) x.samples x.at x.len (i.bytes honest) c.in-Some.ensures.stretch
+        hand_fails (g.S.Store.file c.args.store.now) g.met.K.Sink.takes_on _ _ _ (waiting c.args.carrier.now) (waiting c.loop-stretch.carrier) (left_in_hand i.first) (left_in_hand c.loop-stretch.hand) x.samples x.at x.len (i.bytes honest) c.in-Some.ensures.stretch
             ((rw (i.honesty, i.file) at c.in_err-carry_stretch.ensures.prefix) honest),
       );
       left = tt;
@@ -82,7 +82,7 @@ pub returns-clause-taken : goal.returns-clause-taken
 returns-clause-taken g c =
     let i = c.loop-stretch.invariant in
     record {
-      put = λ honest. (i.first, i.is, hand_all (g.S.Store.file c.args.store.now) _ _ (waiting c.args.carrier.now) (waiting c.loop-stretch.carrier) (left_in_hand i.first) (left_in_hand c.loop-stretch.hand) (i.bytes honest) (search rules));
+      put = λ honest. (i.first, i.is, hand_all (g.S.Store.file c.args.store.now) _ (waiting c.args.carrier.now) (waiting c.loop-stretch.carrier) (left_in_hand i.first) (left_in_hand c.loop-stretch.hand) (i.bytes honest) (search rules));
       left = record {
         many = (i.few, i.many);
         sizes = (i.first, i.is, sizes_all _ _ c.args.bytes c.loop-stretch.left i.sizes (search rules));
@@ -106,7 +106,7 @@ pub returns-then-stretch-left-clause-taken : goal.returns-then-stretch-left-clau
 returns-then-stretch-left-clause-taken g c =
     let i = c.loop-stretch.invariant in
     record {
-      put = λ honest. (i.first, i.is, hand_front (g.S.Store.file c.args.store.now) _ _ (waiting c.args.carrier.now) (waiting c.loop-stretch.carrier) (left_in_hand i.first) (left_in_hand c.loop-stretch.hand) (i.bytes honest));
+      put = λ honest. (i.first, i.is, hand_front (g.S.Store.file c.args.store.now) _ (waiting c.args.carrier.now) (waiting c.loop-stretch.carrier) (left_in_hand i.first) (left_in_hand c.loop-stretch.hand) (i.bytes honest));
       left = tt;
       buffer = i.room;
     }

@@ -24,9 +24,9 @@ invariant-loop-stretch g l =
       later : Follows first l.hand;
       within : (n : ℕ) → AllByRecursion (IsBelow n) (left_in_hand first) → AllByRecursion (IsBelow n) (left_in_hand l.hand);
       few : l.left ≤ l.bytes;
-      many : GoOnBy (g.K.Sink.contents l.fn.sink) (g.K.Sink.contents l.sink) (waiting l.fn.carrier) (waiting l.carrier) (l.bytes - l.left);
+      many : GoOnBy (g.K.Sink.takes l.fn.sink l.sink) (waiting l.fn.carrier) (waiting l.carrier) (l.bytes - l.left);
       sizes : SizesGoOn (left_in_hand first) (left_in_hand l.hand) l.bytes l.left;
-      bytes : IsTrue (g.S.Store.is_honest l.fn.store) → HandGoesOn (g.S.Store.file l.fn.store) (g.K.Sink.contents l.fn.sink) (g.K.Sink.contents l.sink) (waiting l.fn.carrier) (waiting l.carrier) (left_in_hand first) (left_in_hand l.hand);
+      bytes : IsTrue (g.S.Store.is_honest l.fn.store) → HandGoesOn (g.S.Store.file l.fn.store) (g.K.Sink.takes l.fn.sink l.sink) (waiting l.fn.carrier) (waiting l.carrier) (left_in_hand first) (left_in_hand l.hand);
     }
 
 abbrev pub decreases-loop-stretch : goal.decreases-loop-stretch

@@ -1,8 +1,10 @@
-use Rattle.std.proofs.Common.{sym, ◌∙◌}
+use Rattle.std.proofs.Common.{rules, ◌≡◌, ℕ, nat_le, length, take, sym, ap, ◌∙◌}
 use Rattle.std.proofs.lemmas.Result.{err_from_is_err_and}
 use Rattle.mp4_present.specs.words.WalkSteps.{walks_steps}
 use Rattle.mp4_present.specs.words.Compared.{files_differ}
 use Rattle.mp4norm.proofs.ComparedFiles.{both_of_three, empty_listed, once_of_three, some_listed}
+use Rattle.mp4norm.specs.format.CompareHeadline.{most_counted}
+use Rattle.mp4norm.proofs.ComparedTexts.{counted_listed, enough_of_all}
 use Rattle.mp4norm.proofs.comparing.all_text.Goals as goal
 
 pub returns-then-is_empty-clause-said : goal.returns-then-is_empty-clause-said
@@ -47,3 +49,20 @@ returns-clause-opened g c = λ told right tree other o u.
     let is = c.in_ok-listed.ensures in
     let more = rw (is.stores.left.honesty, is.stores.left.file, is.stores.right.honesty, is.stores.right.file) at c.in_ok-enough.ensures.opened in
     (tt, both_of_three _ _ _ (walks_steps tree) (walks_steps other) (is.opened told right tree other o u).1 (more told right tree other o u).1)
+
+-- ---- what is said
+
+pub returns-clause-told : goal.returns-clause-told
+returns-clause-told g c = λ told right tree other o u.
+    let is = c.in_ok-listed.ensures in
+    let named = rw (is.stores.left.honesty, is.stores.left.file, is.stores.right.honesty, is.stores.right.file) at c.in_ok-enough.ensures.enough in
+    let long : c.len-is_whole.result ≡ length c.in_ok-listed.listed.all.items = search rules in
+    let ds = files_differ c.args.leaving (g.S.Store.file c.args.a.now) tree (g.T.Store.file c.args.b.now) other in
+    let front = is.all told right tree other o u in
+    let taken = c.first_of-all.ensures ∙ ap (take most_counted) c.as_slice.ensures.value in
+    let whole = ap (λ (n : ℕ). nat_le n most_counted) long in (
+      c.in_ok-enough.enough,
+      enough_of_all most_counted c.args.leaving c.in_ok-listed.listed.all.items ds c.first_of-all.result.now c.suggested-more.result _ (λ l. files_differ l (g.S.Store.file c.args.a.now) tree (g.T.Store.file c.args.b.now) other)
+          c.in_ok-enough.enough front c.suggested-more.ensures taken whole (named told right tree other o u),
+      counted_listed c.args.lines.syntax c.args.lines.limit c.in_ok-listed.listed.all.items ds c.first_of-all.result.now _ c.in_ok-enough.enough c.in_ok-listed_text.field-0.items front taken whole c.in_ok-listed_text.ensures.list,
+    )

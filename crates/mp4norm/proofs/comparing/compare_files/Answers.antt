@@ -1,6 +1,7 @@
 use Rattle.std.proofs.Common.{◌∙◌}
 use Rattle.mp4_present.specs.words.Opening.{RefusesOpen}
 use Rattle.mp4norm.proofs.ComparedFiles.{both_looked, both_walked, first_alone, together, verdict}
+use Rattle.mp4norm.proofs.ComparedTexts.{told_of}
 use Rattle.mp4norm.proofs.StepsTaken.{not_opened}
 use Rattle.mp4norm.proofs.LooksTaken.{not_found, finds_taken, finds_first, finds_both}
 use Rattle.mp4norm.proofs.comparing.compare_files.Goals as goal
@@ -30,7 +31,7 @@ returns-in-Err-text_of-clause-answer g c =
       put = tt;
       refusal = together (RefusesOpen (g.S.Store.is_honest c.args.a.now) (g.S.Store.file c.args.a.now) (g.S.Store.read_failures c.args.a.now) (g.S.Store.read_failures c.text_of.new.a))
           (RefusesOpen (g.T.Store.is_honest c.args.b.now) (g.T.Store.file c.args.b.now) (g.T.Store.read_failures c.args.b.now) (g.T.Store.read_failures c.text_of.new.b))
-          _ _ _ _ _ _ (g.K.Sink.contents c.args.sink.now) (g.K.Sink.put_failures c.args.sink.now) c.in-Err-text_of.refusal c.failed_together.result c.failed_together.ensures.side c.failed_together.ensures.refusal cause
+          _ _ _ _ _ _ (g.K.Sink.takes c.args.sink.now c.args.sink.now) (g.met.K.Sink.takes_nothing c.args.sink.now) (g.K.Sink.put_failures c.args.sink.now) c.in-Err-text_of.refusal c.failed_together.result c.failed_together.ensures.side c.failed_together.ensures.refusal cause
           (λ told right. let a = left.movie told in let b = next.movie right in (opened told right a.0 b.0 a.1 b.1).0);
     }
 
@@ -93,3 +94,14 @@ pub returns-clause-looks : goal.returns-clause-looks
 returns-clause-looks g c = λ told right.
     finds_both _ _ _ _ _ (finds_taken _ c.in-Ok.left _ _ (c.in-Ok.ensures.movie told) (c.in-Ok.ensures.looks told).said)
     (finds_taken _ c.in-Ok-open_movie.right _ _ (c.in-Ok-open_movie.ensures.movie right) (c.in-Ok-open_movie.ensures.looks right).said)
+
+-- ---- what is said
+
+pub returns-in-Ok-put_found-clause-told : goal.returns-in-Ok-put_found-clause-told
+returns-in-Ok-put_found-clause-told g c = λ differ told right.
+    let left = c.in-Ok.ensures in
+    let next = c.in-Ok-open_movie.ensures in
+    let a = left.movie told in
+    let b = next.movie right in
+    let found = rw (left.store.honesty, left.store.file, next.store.honesty, next.store.file) at c.in-Ok-text_of.ensures.told in
+    told_of (λ bytes. bytes.items) c.args.listing c.args.leaving _ _ _ _ c.in-Ok-text_of.found c.in-Ok-put_found.same _ c.in-Ok-put_found.ensures.is differ c.in-Ok-put_found.ensures.all a b (found told right a.0 b.0 a.1 b.1)

@@ -1,8 +1,12 @@
-use Rattle.std.proofs.Common.{None, arith}
+use Rattle.std.proofs.Common.{◌≡◌, ℕ, List, [], refl, arith}
 use Rattle.std.proofs.lemmas.Result.{err_from_is_err_and}
 use Rattle.mp4_present.specs.format.Denotes.{presentation_of}
 use Rattle.mp4_plan.specs.format.Normal.{normal}
-use Rattle.mp4norm.proofs.Normalised.{open_refuses, normal_form}
+use Rattle.mp4norm.specs.format.Answers.{IsFaultOf}
+use Rattle.mp4norm.specs.format.Headline.{HasNormalForm}
+use Rattle.mp4norm.specs.format.Run.{look_of}
+use Rattle.mp4norm.proofs.Normalised.{normal_form}
+use Rattle.mp4norm.proofs.RunParts.{open_fails}
 use Rattle.mp4norm.proofs.StepSums.{opened_least}
 use Rattle.mp4norm.proofs.StepsTaken.{not_looked, looked_within}
 use Rattle.mp4norm.proofs.LooksTaken.{not_found, finds_taken}
@@ -11,26 +15,17 @@ use Rattle.mp4norm.proofs.judging.check_counted.Goals as goal
 pub returns-in_err-open_movie-clause-answer : goal.returns-in_err-open_movie-clause-answer
 returns-in_err-open_movie-clause-answer g c =
     let p = err_from_is_err_and c.from_residual.result c.from_residual.ensures.1 in
-    let e = c.in_err-open_movie.ensures in
-    rw (p.1, p.2) (record {
-      store = record { honesty = e.store.honesty; file = e.store.file; reads = tt };
-      read = tt;
-      refusal = open_refuses _ _ None _ _ 0 c.in_err-open_movie.field-0.0 e.refusal;
-    })
+    let r = look_of g.S.Store c.args.store.now c.open_movie.new.store in
+    rw (p.1, p.2) (open_fails (Unit {0}) r (λ text. (text ≡ []) × (form : List ℕ) × HasNormalForm r.file form) (IsFaultOf r.file) ⊥ c.in_err-open_movie.field-0.0 (λ f s. s) refl c.in_err-open_movie.ensures.refusal)
 
 pub returns-clause-answer : goal.returns-clause-answer
-returns-clause-answer g c = record {
-  store = record {
-    honesty = c.in_ok-open_movie.ensures.store.honesty;
-    file = c.in_ok-open_movie.ensures.store.file;
-    reads = c.in_ok-open_movie.ensures.store.reads;
-  };
-  read = λ told.
+returns-clause-answer g c = (
+  (c.in_ok-open_movie.ensures.store.reads, refl),
+  λ told.
       let o = c.in_ok-open_movie.ensures.movie told in
       let file = g.S.Store.file c.args.store.now in
-      (normal (presentation_of file o.0), normal_form file c.in_ok-open_movie.field-0 o.0 o.1);
-  refusal = tt;
-}
+      ([], (refl, normal (presentation_of file o.0), normal_form file c.in_ok-open_movie.field-0 o.0 o.1), refl),
+)
 
 -- ---- steps and looks
 

@@ -1,38 +1,43 @@
-use Rattle.std.proofs.Common.{refl, ◌∙◌}
+use Rattle.std.proofs.Common.{inl, ◌∙◌}
 use Rattle.std.proofs.lemmas.Result.{err_from_is_err_and}
 use Rattle.mp4norm.proofs.StepsTaken.{not_opened, written_within}
 use Rattle.mp4norm.proofs.LooksTaken.{not_found, not_turned, turns_taken}
-use Rattle.mp4norm.proofs.ReducedNormalised.{none_too_long, reduced_begun, reduced_open_refuses, reduced_write_refuses, reduced_written, reduced_front, reduced_unchanged, reduced_too_long}
+use Rattle.mp4norm.specs.format.ReducedHeadline.{HasReducedForm}
+use Rattle.mp4norm.specs.format.Run.{run_of}
+use Rattle.mp4norm.proofs.ReducedNormalised.{IsReducedFault, none_too_long, reduced_begun, reduced_written, reduced_front, reduced_unchanged, reduced_too_long, write_answers}
+use Rattle.mp4norm.proofs.RunParts.{open_fails}
 use Rattle.mp4norm.proofs.WholePut.{whole_put}
 use Rattle.mp4norm.proofs.reducing.normalise_reduced.Goals as goal
 
 pub returns-in_err-movie-clause-answer : goal.returns-in_err-movie-clause-answer
 returns-in_err-movie-clause-answer g c =
     let p = err_from_is_err_and c.from_residual.result c.from_residual.ensures.1 in
-    let e = c.in_err-movie.ensures in
-    rw (p.1, p.2) (record {
-      store = record { honesty = e.store.honesty; file = e.store.file; reads = tt };
-      puts = tt;
-      written = tt;
-      refusal = reduced_open_refuses c.args.leaving _ _ _ _ _ _ c.in_err-movie.field-0.0 e.refusal;
-    })
+    let r = run_of g.S.Store c.args.store.now c.open_movie.new.store g.K.Sink c.args.sink.now c.args.sink.now in
+    let l = c.args.leaving in
+    let none = g.met.K.Sink.takes_nothing c.args.sink.now in
+    rw (p.1, p.2) (open_fails (Unit {0}) r (HasReducedForm l r.file) (IsReducedFault l r.file) ⊥ c.in_err-movie.field-0.0 (λ f s. inl s) none c.in_err-movie.ensures.refusal, λ told late. none)
 
 pub returns-clause-answer : goal.returns-clause-answer
 returns-clause-answer g c =
     let l = c.args.leaving in
     let o = c.in_ok-movie.ensures in
     let w = c.write_reduced.ensures in
-    let cause = rw o.store.reads at w.refusal in
-    record {
-      store = record { honesty = w.devices.honesty ∙ o.store.honesty; file = w.devices.file ∙ o.store.file; reads = rw o.store.reads at w.devices.reads };
-      puts = w.devices.puts;
-      written = reduced_written l _ _ _ _ _ o.store.honesty o.store.file o.movie c.write_reduced.result _ _ w.bytes w.long;
-      refusal = reduced_write_refuses l c.write_reduced.result _ _ _ _ _ _ _ _ cause
-          (reduced_front l _ _ _ _ _ o.store.honesty o.store.file o.movie c.write_reduced.result _ _ w.prefix w.long)
-          (reduced_begun l _ _ _ _ _ o.store.honesty o.store.file o.movie c.write_reduced.result _ _ w.prefix w.long)
-          (reduced_unchanged l _ _ _ _ _ o.store.honesty o.store.file o.movie c.write_reduced.result w.unchanged)
-          (reduced_too_long l _ _ _ _ _ o.store.honesty o.store.file o.movie c.write_reduced.result (λ told tree o. (w.long told tree o).fault));
-    }
+    let r = run_of g.S.Store c.args.store.now c.write_reduced.new.store g.K.Sink c.args.sink.now c.write_reduced.new.sink in (
+      write_answers _ l r c.write_reduced.result (rw o.store.reads at w.devices.reads) w.devices.puts
+          (reduced_written l r _ _ _ o.store.honesty o.store.file o.movie c.write_reduced.result w.bytes w.long)
+          (rw o.store.reads at w.refusal)
+          (reduced_front l r _ _ _ o.store.honesty o.store.file o.movie c.write_reduced.result w.prefix w.long)
+          (reduced_begun l r _ _ _ o.store.honesty o.store.file o.movie c.write_reduced.result w.prefix w.long)
+          (reduced_unchanged l r _ _ _ o.store.honesty o.store.file o.movie c.write_reduced.result w.unchanged)
+          (reduced_too_long l r _ _ _ o.store.honesty o.store.file o.movie c.write_reduced.result (λ told tree o. (w.long told tree o).fault)),
+      none_too_long l r _ _ _ o.store.honesty o.store.file o.movie c.write_reduced.result w.long,
+    )
+
+pub returns-clause-store : goal.returns-clause-store
+returns-clause-store g c =
+    let o = c.in_ok-movie.ensures.store in
+    let w = c.write_reduced.ensures.devices in
+    record { honesty = w.honesty ∙ o.honesty; file = w.file ∙ o.file }
 
 pub returns-in_err-movie-clause-work : goal.returns-in_err-movie-clause-work
 returns-in_err-movie-clause-work g c = λ told.
@@ -58,12 +63,4 @@ returns-in_err-movie-clause-whole g c =
     rw p.1 tt
 
 pub returns-clause-whole : goal.returns-clause-whole
-returns-clause-whole g c = whole_put c.args.leaving _ _ _ c.write_reduced.result c.write_reduced.ensures.whole
-
-pub returns-in_err-movie-clause-long : goal.returns-in_err-movie-clause-long
-returns-in_err-movie-clause-long g c = λ told p d late. refl
-
-pub returns-clause-long : goal.returns-clause-long
-returns-clause-long g c =
-    let o = c.in_ok-movie.ensures in
-    none_too_long c.args.leaving _ _ _ _ _ o.store.honesty o.store.file o.movie c.write_reduced.result _ _ c.write_reduced.ensures.long
+returns-clause-whole g c = whole_put c.args.leaving _ _ c.write_reduced.result c.write_reduced.ensures.whole

@@ -13,12 +13,12 @@ pub returns-in_err-put_hand-clause-lines : goal.returns-in_err-put_hand-clause-l
 returns-in_err-put_hand-clause-lines g c =
     let p = err_from_is_err_and c.from_residual.result c.from_residual.ensures.1 in
     let file = g.S.Store.file c.args.store.now in
-    let contents = g.K.Sink.contents c.args.sink.now in
+    let sink = c.args.sink.now in
     let held = waiting c.args.carrier.now in
     let x = c.in_err-put_hand.ensures.lines in
     rw (p.1, p.2) (λ told tree t samples o k few. record {
       all = tt;
-      front = lines_fail c.args.form file tree t c.args.movie.now contents contents _ held held c.args.walk.now 1 samples samples (going_none contents held (sample_at_lines c.args.form 1 samples)) refl few k x.0 x.1 x.2;
+      front = lines_fail c.args.form file tree t c.args.movie.now g.met.K.Sink.takes_on sink sink _ held held c.args.walk.now 1 samples samples (going_none _ (g.met.K.Sink.takes_nothing sink) held (sample_at_lines c.args.form 1 samples)) refl few k x.0 x.1 x.2;
       unchanged = put_unchanged _ _ c.in_err-put_hand.field-0.0 c.in_err-put_hand.ensures.puts;
     })
 
@@ -26,7 +26,7 @@ pub loop-walk-init : goal.loop-walk-init
 loop-walk-init g c =
     let e = c.in_ok-put_hand.ensures in
     let file = g.S.Store.file c.args.store.now in
-    let contents = g.K.Sink.contents c.args.sink.now in
+    let sink = c.args.sink.now in
     let held = waiting c.args.carrier.now in
     record {
       walk = e.walk.walk;
@@ -35,7 +35,7 @@ loop-walk-init g c =
       reads = refl;
       puts = e.puts;
       going = λ told tree t samples o k few.
-          lines_next c.args.form file tree t c.args.movie.now contents contents _ held held c.args.walk.now 1 samples samples (going_none contents held (sample_at_lines c.args.form 1 samples)) refl few k e.lines.0 e.lines.1
+          lines_next c.args.form file tree t c.args.movie.now g.met.K.Sink.takes_on sink sink _ held held c.args.walk.now 1 samples samples (going_none _ (g.met.K.Sink.takes_nothing sink) held (sample_at_lines c.args.form 1 samples)) refl few k e.lines.0 e.lines.1
           (waiting c.put_hand.new.carrier) c.put_hand.new.walk c.put_hand.new.number e.lines.2 e.walk.stands;
       takes = λ told tree t n o may. e.work file tree t n o may;
     }
@@ -48,7 +48,7 @@ returns-in_err-load-clause-lines g c =
     let u = i.going told tree t samples o k few in
     record {
       all = tt;
-      front = lines_stop c.args.form _ _ (waiting c.args.carrier.now) (waiting c.loop-walk.carrier) c.loop-walk.number (samples_behind tree t u.earlier u.later) samples u.goes;
+      front = lines_stop c.args.form _ (waiting c.args.carrier.now) (waiting c.loop-walk.carrier) c.loop-walk.number (samples_behind tree t u.earlier u.later) samples u.goes;
       unchanged = (rw (i.honesty, i.file) at c.in_err-load.ensures.loaded) told tree t u.earlier u.later o u.stands;
     })
 
@@ -69,7 +69,7 @@ loop-walk-preserved g c =
           let u = i.going told tree t samples o k few in
           let to_come = samples_behind tree t u.earlier u.later in
           let comes = loads_more file tree t m to_come c.load.new.self c.in_ok-load.field-0 c.if-branch.true ((rw (i.honesty, i.file) at l.loaded) told tree t u.earlier u.later o u.stands) in
-          lines_next c.args.form file tree t m _ _ _ (waiting c.args.carrier.now) (waiting c.loop-walk.carrier) c.load.new.self c.loop-walk.number samples to_come u.goes u.count few comes e.lines.0 e.lines.1 (waiting c.put_hand-in-loop-walk.new.carrier)
+          lines_next c.args.form file tree t m g.met.K.Sink.takes_on _ _ _ (waiting c.args.carrier.now) (waiting c.loop-walk.carrier) c.load.new.self c.loop-walk.number samples to_come u.goes u.count few comes e.lines.0 e.lines.1 (waiting c.put_hand-in-loop-walk.new.carrier)
           c.put_hand-in-loop-walk.new.walk c.put_hand-in-loop-walk.new.number e.lines.2 e.walk.stands;
       takes = λ told tree t n o may.
           let loads = takes_then file tree t n _ _ _ c.loop-walk.walk c.load.new.self (i.takes told tree t n o may) (λ k may. (rw (i.honesty, i.file) at l.work) told tree t k o may) in
@@ -90,7 +90,7 @@ returns-in_err-put_hand-2-clause-lines g c =
     let comes = loads_more file tree t m to_come c.load.new.self c.in_ok-load.field-0 c.if-branch.true ((rw (i.honesty, i.file) at l.loaded) told tree t u.earlier u.later o u.stands) in
     record {
       all = tt;
-      front = lines_fail c.args.form file tree t m _ _ _ (waiting c.args.carrier.now) (waiting c.loop-walk.carrier) c.load.new.self c.loop-walk.number samples to_come u.goes u.count few comes x.0 x.1 x.2;
+      front = lines_fail c.args.form file tree t m g.met.K.Sink.takes_on _ _ _ (waiting c.args.carrier.now) (waiting c.loop-walk.carrier) c.load.new.self c.loop-walk.number samples to_come u.goes u.count few comes x.0 x.1 x.2;
       unchanged = put_unchanged _ _ c.in_err-put_hand-2.field-0.0 c.in_err-put_hand-2.ensures.puts;
     })
 
@@ -102,8 +102,8 @@ returns-clause-lines g c told tree t samples o k few =
     let to_come = samples_behind tree t u.earlier u.later in
     let none = loads_none file tree t c.args.movie.now to_come c.load.new.self c.in_ok-load.field-0 c.if-branch.false ((rw (i.honesty, i.file) at c.in_ok-load.ensures.loaded) told tree t u.earlier u.later o u.stands) in
     record {
-      all = on_ok _ _ c.flush.result (λ p. lines_whole c.args.form _ _ _ (waiting c.args.carrier.now) (waiting c.loop-walk.carrier) c.loop-walk.number to_come samples u.goes none p) c.flush.ensures.bytes;
-      front = on_err _ _ c.flush.result (λ p. lines_not_put c.args.form _ _ _ (waiting c.args.carrier.now) (waiting c.loop-walk.carrier) c.loop-walk.number to_come samples u.goes none p) c.flush.ensures.prefix;
+      all = on_ok _ _ c.flush.result (λ p. lines_whole c.args.form g.met.K.Sink.takes_on _ _ _ (waiting c.args.carrier.now) (waiting c.loop-walk.carrier) c.loop-walk.number to_come samples u.goes none p) c.flush.ensures.bytes;
+      front = on_err _ _ c.flush.result (λ p. lines_not_put c.args.form g.met.K.Sink.takes_on _ _ _ (waiting c.args.carrier.now) (waiting c.loop-walk.carrier) c.loop-walk.number to_come samples u.goes none p) c.flush.ensures.prefix;
       unchanged = if_err _ _ c.flush.result (λ r w. put_unchanged _ _ r w) c.flush.ensures.refusal;
     }
 

@@ -1,4 +1,4 @@
-use Rattle.std.proofs.Common.{ℕ, ◌≡◌, ◌-◌, ◌^◌, ◌<◌, List, length}
+use Rattle.std.proofs.Common.{ℕ, ◌≡◌, ◌^◌, ◌<◌, List, length}
 use Rattle.std.specs.Prelude.{IsTrue}
 use Rattle.mp4_head.specs.format.Tree.{TrackTree}
 use Rattle.mp4_tables.specs.declared.sample.SampleAt.{SampleAt}
@@ -21,7 +21,7 @@ invariant-loop-walk g l =
       reads : g.S.Store.read_failures l.store ≡ g.S.Store.read_failures l.fn.store;
       puts : g.K.Sink.put_failures l.sink ≡ g.K.Sink.put_failures l.fn.sink;
       going : IsTrue (g.S.Store.is_honest l.fn.store) → (tree : FileTree) (t : TrackTree) (samples : List SampleAt) → IsOpenedAs (g.S.Store.file l.fn.store) l.movie tree → Comes (g.S.Store.file l.fn.store) tree t l.movie l.fn.walk samples → length samples < 2 ^ 32
-          → LinesGoOn l.form (g.S.Store.file l.fn.store) tree t (g.K.Sink.contents l.fn.sink) (g.K.Sink.contents l.sink) (waiting l.fn.carrier) (waiting l.carrier) l.number l.walk samples;
+          → LinesGoOn l.form (g.S.Store.file l.fn.store) tree t (g.K.Sink.takes l.fn.sink l.sink) (waiting l.fn.carrier) (waiting l.carrier) l.number l.walk samples;
       takes : IsTrue (g.S.Store.is_honest l.fn.store) → (tree : FileTree) (t : TrackTree) (n : ℕ) → IsOpenedAs (g.S.Store.file l.fn.store) l.movie tree → MayTake (g.S.Store.file l.fn.store) tree t l.fn.walk n
           → TakesOn (g.S.Store.file l.fn.store) tree t n l.walk l.fn.steps l.steps;
     }

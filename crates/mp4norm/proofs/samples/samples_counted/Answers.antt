@@ -1,13 +1,16 @@
-use Rattle.std.proofs.Common.{arith, ◌++◌, refl, ◌∙◌}
+use Rattle.std.proofs.Common.{arith, ◌++◌, ◌∙◌}
 use Rattle.std.proofs.lemmas.Result.{err_from_is_err_and}
 use Rattle.mp4_present.specs.words.SamplesComing.{track_samples}
 use Rattle.mp4_present.proofs.WalkCopied.{on_ok, on_err, if_err}
 use Rattle.mp4_present.proofs.Causes.{copy_not_carried}
-use Rattle.mp4norm.specs.words.Commands.{ListsSamples}
+use Rattle.mp4norm.specs.format.Answers.{IsFaultOf}
+use Rattle.mp4norm.specs.format.FileTexts.{ListsSamples, LacksTrack}
+use Rattle.mp4norm.specs.format.Run.{run_of, Honest}
 use Rattle.mp4norm.specs.format.Texts.{listing_head, sample_at_lines}
-use Rattle.mp4norm.proofs.TrackTexts.{track_found, lacks, lists, open_refuses, put_refuses, text_refuses}
+use Rattle.mp4norm.proofs.RunParts.{copy_answers, open_fails, put_fails}
+use Rattle.mp4norm.proofs.TrackTexts.{track_found, lacks, lists}
 use Rattle.mp4norm.proofs.WalkLines.{headed_whole, headed_fails}
-use Rattle.mp4_store.proofs.Known.{AppendsPrefix-longer}
+use Rattle.mp4_store.proofs.Known.{TakesPrefix-longer}
 use Rattle.mp4norm.proofs.StepsTaken.{not_looked, looked_within, walked_within}
 use Rattle.mp4norm.proofs.LooksTaken.{not_found, finds_taken}
 use Rattle.mp4norm.proofs.Matched.{told_ok}
@@ -16,25 +19,20 @@ use Rattle.mp4norm.proofs.samples.samples_counted.Goals as goal
 pub returns-in_err-movie-clause-answer : goal.returns-in_err-movie-clause-answer
 returns-in_err-movie-clause-answer g c =
     let p = err_from_is_err_and c.from_residual.result c.from_residual.ensures.1 in
-    let e = c.in_err-movie.ensures in
-    rw (p.1, p.2) (record {
-      store = record { honesty = e.store.honesty; file = e.store.file; reads = tt };
-      puts = tt;
-      written = tt;
-      refusal = open_refuses _ _ _ _ _ _ _ _ c.in_err-movie.field-0.0 e.refusal;
-    })
+    let r = run_of g.S.Store c.args.store.now c.open_movie.new.store g.K.Sink c.args.sink.now c.args.sink.now in
+    rw (p.1, p.2) (open_fails (Unit {0}) r (ListsSamples r.file c.args.id c.args.form) (IsFaultOf r.file) (Honest r → LacksTrack r.file c.args.id) c.in_err-movie.field-0.0 (λ f s. s) (g.met.K.Sink.takes_nothing c.args.sink.now) c.in_err-movie.ensures.refusal)
 
 pub returns-in_err-track-clause-answer : goal.returns-in_err-track-clause-answer
 returns-in_err-track-clause-answer g c =
     let p = err_from_is_err_and c.from_residual-in_err-track.result c.from_residual-in_err-track.ensures.1 in
     let e = c.in_ok-movie.ensures in
     let n = rw c.tracks.ensures at c.in_err-track.ensures.none in
-    rw (p.1, p.2, n.0) (record {
-      store = record { honesty = e.store.honesty; file = e.store.file; reads = tt };
-      puts = tt;
-      written = tt;
-      refusal = (λ told. (let o = e.movie told in lacks (g.S.Store.file c.args.store.now) c.in_ok-movie.movie o.0 c.args.id o.1 n.1), refl);
-    })
+    rw (p.1, p.2, n.0) (g.met.K.Sink.takes_nothing c.args.sink.now, λ told. (let o = e.movie told in lacks (g.S.Store.file c.args.store.now) c.in_ok-movie.movie o.0 c.args.id o.1 n.1))
+
+pub returns-in_err-carrier-clause-answer : goal.returns-in_err-carrier-clause-answer
+returns-in_err-carrier-clause-answer g c =
+    let p = err_from_is_err_and c.from_residual-in_err-carrier.result c.from_residual-in_err-carrier.ensures.1 in
+    rw (p.1, p.2) (g.met.K.Sink.takes_nothing c.args.sink.now)
 
 pub returns-in_err-carry-clause-answer : goal.returns-in_err-carry-clause-answer
 returns-in_err-carry-clause-answer g c =
@@ -43,17 +41,13 @@ returns-in_err-carry-clause-answer g c =
     let file = g.S.Store.file c.args.store.now in
     let form = c.args.form in
     let front = rw (c.in_ok-carrier.ensures.empty, c.head_of.ensures) at c.in_err-carry.ensures.prefix in
-    rw (p.1, p.2) (record {
-      store = record { honesty = e.store.honesty; file = e.store.file; reads = tt };
-      puts = tt;
-      written = tt;
-      refusal = rw e.store.reads (put_refuses (g.S.Store.is_honest c.args.store.now) file c.args.id (ListsSamples file c.args.id form) _ _ _ _ _ c.in_err-carry.field-0.0 c.in_err-carry.ensures.refusal
-          (λ told.
-          let o = e.movie told in
-          let f = track_found file c.in_ok-movie.movie o.0 c.in_ok-track.track c.args.id o.1 (rw c.tracks.ensures at c.in_ok-track.ensures.within) (rw c.tracks.ensures at c.in_ok-track.ensures.track) in
-          let lines = sample_at_lines form 1 (track_samples o.0 f.t) in
-          (listing_head form ++ lines, lists form file o.0 c.in_ok-track.track c.args.id f, AppendsPrefix-longer _ _ (listing_head form) lines front)));
-    })
+    let r = run_of g.S.Store c.args.store.now c.open_movie.new.store g.K.Sink c.args.sink.now c.carry.new.sink in
+    rw (p.1, p.2) (put_fails (Unit {0}) r (ListsSamples file c.args.id form) (IsFaultOf file) (Honest r → LacksTrack file c.args.id) c.in_err-carry.field-0.0 c.in_err-carry.ensures.refusal
+    (λ told.
+    let o = e.movie told in
+    let f = track_found file c.in_ok-movie.movie o.0 c.in_ok-track.track c.args.id o.1 (rw c.tracks.ensures at c.in_ok-track.ensures.within) (rw c.tracks.ensures at c.in_ok-track.ensures.track) in
+    let lines = sample_at_lines form 1 (track_samples o.0 f.t) in
+    (listing_head form ++ lines, lists form file o.0 c.in_ok-track.track c.args.id f, TakesPrefix-longer (g.K.Sink.takes c.args.sink.now c.carry.new.sink) (listing_head form) lines front)))
 
 pub returns-clause-answer : goal.returns-clause-answer
 returns-clause-answer g c =
@@ -64,29 +58,33 @@ returns-clause-answer g c =
     let went = rw (c.in_ok-carrier.ensures.empty, c.head_of.ensures) at c.in_ok-carry.ensures.bytes in
     let walked = rw (e.store.honesty, e.store.file) at y.lines in
     let cause = rw (e.store.reads, c.in_ok-carry.ensures.puts) at y.refusal in
-    record {
-      store = record { honesty = y.store.honesty ∙ e.store.honesty; file = y.store.file ∙ e.store.file; reads = rw e.store.reads at y.store.reads };
-      puts = rw c.in_ok-carry.ensures.puts at y.puts;
-      written = told_ok _ _ c.put_walk.result (λ told.
-          let o = e.movie told in
-          let f = track_found file c.in_ok-movie.movie o.0 c.in_ok-track.track c.args.id o.1 (rw c.tracks.ensures at c.in_ok-track.ensures.within) (rw c.tracks.ensures at c.in_ok-track.ensures.track) in
-          let samples = track_samples o.0 f.t in
-          let lines = sample_at_lines form 1 samples in
-          on_ok _ _ c.put_walk.result (λ all. (listing_head form ++ lines, lists form file o.0 c.in_ok-track.track c.args.id f, headed_whole _ _ _ _ (listing_head form) lines went all))
-          (walked told o.0 f.t samples o.1 (c.in_ok-walk.ensures.coming file o.0 f.t o.1 f.is_there) f.few).all);
-      refusal = text_refuses c.put_walk.result (g.S.Store.is_honest c.args.store.now) file c.args.id (ListsSamples file c.args.id form) _ _ _ _ _ _ (if_err _ _ c.put_walk.result (λ r x. copy_not_carried _ _ _ _ _ _ r x) cause)
-          (λ told.
-          let o = e.movie told in
-          let f = track_found file c.in_ok-movie.movie o.0 c.in_ok-track.track c.args.id o.1 (rw c.tracks.ensures at c.in_ok-track.ensures.within) (rw c.tracks.ensures at c.in_ok-track.ensures.track) in
-          let samples = track_samples o.0 f.t in
-          let lines = sample_at_lines form 1 samples in
-          on_err _ _ c.put_walk.result (λ all. (listing_head form ++ lines, lists form file o.0 c.in_ok-track.track c.args.id f, headed_fails _ _ _ _ (listing_head form) lines went all))
-          (walked told o.0 f.t samples o.1 (c.in_ok-walk.ensures.coming file o.0 f.t o.1 f.is_there) f.few).front)
-          (λ told.
-          let o = e.movie told in
-          let f = track_found file c.in_ok-movie.movie o.0 c.in_ok-track.track c.args.id o.1 (rw c.tracks.ensures at c.in_ok-track.ensures.within) (rw c.tracks.ensures at c.in_ok-track.ensures.track) in
-          (walked told o.0 f.t (track_samples o.0 f.t) o.1 (c.in_ok-walk.ensures.coming file o.0 f.t o.1 f.is_there) f.few).unchanged);
-    }
+    let r = run_of g.S.Store c.args.store.now c.put_walk.new.store g.K.Sink c.args.sink.now c.put_walk.new.sink in
+    copy_answers _ r (ListsSamples file c.args.id form) (IsFaultOf file) (Honest r → LacksTrack file c.args.id) c.put_walk.result (rw e.store.reads at y.store.reads) (rw c.in_ok-carry.ensures.puts at y.puts)
+    (told_ok _ _ c.put_walk.result (λ told.
+    let o = e.movie told in
+    let f = track_found file c.in_ok-movie.movie o.0 c.in_ok-track.track c.args.id o.1 (rw c.tracks.ensures at c.in_ok-track.ensures.within) (rw c.tracks.ensures at c.in_ok-track.ensures.track) in
+    let samples = track_samples o.0 f.t in
+    let lines = sample_at_lines form 1 samples in
+    on_ok _ _ c.put_walk.result (λ all. (listing_head form ++ lines, lists form file o.0 c.in_ok-track.track c.args.id f, headed_whole g.met.K.Sink.takes_on _ _ _ _ (listing_head form) lines went all))
+    (walked told o.0 f.t samples o.1 (c.in_ok-walk.ensures.coming file o.0 f.t o.1 f.is_there) f.few).all))
+    (if_err _ _ c.put_walk.result (λ e x. copy_not_carried r.took _ _ _ _ e x) cause)
+    (λ told.
+    let o = e.movie told in
+    let f = track_found file c.in_ok-movie.movie o.0 c.in_ok-track.track c.args.id o.1 (rw c.tracks.ensures at c.in_ok-track.ensures.within) (rw c.tracks.ensures at c.in_ok-track.ensures.track) in
+    let samples = track_samples o.0 f.t in
+    let lines = sample_at_lines form 1 samples in
+    on_err _ _ c.put_walk.result (λ all. (listing_head form ++ lines, lists form file o.0 c.in_ok-track.track c.args.id f, headed_fails g.met.K.Sink.takes_on _ _ _ _ (listing_head form) lines went all))
+    (walked told o.0 f.t samples o.1 (c.in_ok-walk.ensures.coming file o.0 f.t o.1 f.is_there) f.few).front)
+    (λ told.
+    let o = e.movie told in
+    let f = track_found file c.in_ok-movie.movie o.0 c.in_ok-track.track c.args.id o.1 (rw c.tracks.ensures at c.in_ok-track.ensures.within) (rw c.tracks.ensures at c.in_ok-track.ensures.track) in
+    (walked told o.0 f.t (track_samples o.0 f.t) o.1 (c.in_ok-walk.ensures.coming file o.0 f.t o.1 f.is_there) f.few).unchanged)
+
+pub returns-clause-store : goal.returns-clause-store
+returns-clause-store g c =
+    let e = c.in_ok-movie.ensures.store in
+    let y = c.put_walk.ensures.store in
+    record { honesty = y.honesty ∙ e.honesty; file = y.file ∙ e.file }
 
 -- ---- steps
 

@@ -20,7 +20,7 @@ invariant-loop-at g l =
       reads : g.S.Store.read_failures l.store ≡ g.S.Store.read_failures l.fn.store;
       puts : g.K.Sink.put_failures l.sink ≡ g.K.Sink.put_failures l.fn.sink;
       goes : IsTrue (g.S.Store.is_honest l.fn.store) → (text : List ℕ) → Strips l.names l.rule (range (g.S.Store.file l.fn.store) l.from (l.end - l.from)) text
-          → Copying l.names l.rule (g.S.Store.file l.fn.store) l.end l.at (g.K.Sink.contents l.fn.sink) (g.K.Sink.contents l.sink) (waiting l.fn.carrier) (waiting l.carrier) text;
+          → Copying l.names l.rule (g.S.Store.file l.fn.store) l.end l.at (g.K.Sink.takes l.fn.sink l.sink) (waiting l.fn.carrier) (waiting l.carrier) text;
     }
 
 abbrev pub decreases-loop-at : goal.decreases-loop-at

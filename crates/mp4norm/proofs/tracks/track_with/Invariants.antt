@@ -1,7 +1,7 @@
 use Rattle.std.proofs.Common.{take}
 use Rattle.std.specs.Prelude.{map}
 use Rattle.mp4_present.specs.declared.track_info.TrackInfo.{TrackInfo}
-use Rattle.mp4norm.specs.words.Commands.{AreOthers}
+use Rattle.mp4norm.specs.format.FileTexts.{AreOthers}
 use Rattle.mp4norm.proofs.tracks.track_with.Given as goal
 
 -- none of those passed is the track

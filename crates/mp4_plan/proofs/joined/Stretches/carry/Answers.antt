@@ -23,8 +23,8 @@ loop-span-preserved g c =
       many =
           let few = i.few in
           let fewer = e.left in
-          GoOnBy-then _ _ _ _ (waiting c.loop-span.carrier) _ (c.args.bytes - c.loop-span.left) _ _ i.many e.along.many (omega (arith, few, fewer));
-      carried = spans_more _ _ _ _ _ _ _ _ _ _ i.carried _ _ _ (drop (k + 1) items ++ w.last ∷ []) _ (next_span items k _ w.last c.loop-span-test.true) e.left (rw (i.honesty, i.file) at e.put);
+          GoOnBy-then g.met.K.Sink.takes_on _ _ _ _ (waiting c.loop-span.carrier) _ (c.args.bytes - c.loop-span.left) _ _ i.many e.along.many (omega (arith, few, fewer));
+      carried = spans_more _ _ g.met.K.Sink.takes_on _ _ _ _ _ _ _ _ i.carried _ _ _ (drop (k + 1) items ++ w.last ∷ []) _ (next_span items k _ w.last c.loop-span-test.true) e.left (rw (i.honesty, i.file) at e.put);
     }
 
 pub returns-in_err-left-clause-put : goal.returns-in_err-left-clause-put
@@ -34,7 +34,7 @@ returns-in_err-left-clause-put g c honest =
     let w = c.args.self.now in
     let items = take w.used w.earlier in
     let k = c.loop-span.span-index in
-    rw p.1 (spans_fail _ _ _ _ _ _ _ _ _ _ i.carried _ _ (drop (k + 1) items ++ w.last ∷ []) (next_span items k _ w.last c.loop-span-test.true) honest ((rw (i.honesty, i.file) at c.in_err-left.ensures.put) honest))
+    rw p.1 (spans_fail _ _ g.met.K.Sink.takes_on _ _ _ _ _ _ _ _ i.carried _ _ (drop (k + 1) items ++ w.last ∷ []) (next_span items k _ w.last c.loop-span-test.true) honest ((rw (i.honesty, i.file) at c.in_err-left.ensures.put) honest))
 
 pub returns-in_err-left-clause-unchanged : goal.returns-in_err-left-clause-unchanged
 returns-in_err-left-clause-unchanged g c honest below same =
@@ -46,7 +46,7 @@ returns-in_err-left-clause-unchanged g c honest below same =
     let later = drop (k + 1) items ++ w.last ∷ [] in
     let file = g.S.Store.file c.args.store.now in
     let is = next_span items k _ w.last c.loop-span-test.true in
-    rw (p.1, p.2) ((rw i.file at c.in_err-left.ensures.unchanged) (span_there _ _ _ _ _ _ _ _ _ _ i.carried _ later (length file) is below) (span_fits _ _ _ _ _ _ _ _ _ _ i.carried _ later is same))
+    rw (p.1, p.2) ((rw i.file at c.in_err-left.ensures.unchanged) (span_there _ _ _ _ _ _ _ _ _ i.carried _ later (length file) is below) (span_fits _ _ _ _ _ _ _ _ _ i.carried _ later is same))
 
 pub returns-in_err-left-2-clause-put : goal.returns-in_err-left-2-clause-put
 returns-in_err-left-2-clause-put g c honest =
@@ -55,7 +55,7 @@ returns-in_err-left-2-clause-put g c honest =
     let w = c.args.self.now in
     let items = take w.used w.earlier in
     let is = last_span items c.loop-span.span-index w.last c.loop-span-test.false in
-    rw p.1 (spans_fail _ _ _ _ _ _ _ _ _ _ i.carried _ w.last [] is honest ((rw (i.honesty, i.file) at c.in_err-left-2.ensures.put) honest))
+    rw p.1 (spans_fail _ _ g.met.K.Sink.takes_on _ _ _ _ _ _ _ _ i.carried _ w.last [] is honest ((rw (i.honesty, i.file) at c.in_err-left-2.ensures.put) honest))
 
 pub returns-in_err-left-2-clause-unchanged : goal.returns-in_err-left-2-clause-unchanged
 returns-in_err-left-2-clause-unchanged g c honest below same =
@@ -65,7 +65,7 @@ returns-in_err-left-2-clause-unchanged g c honest below same =
     let items = take w.used w.earlier in
     let file = g.S.Store.file c.args.store.now in
     let is = last_span items c.loop-span.span-index w.last c.loop-span-test.false in
-    rw (p.1, p.2) ((rw i.file at c.in_err-left-2.ensures.unchanged) (span_there _ _ _ _ _ _ _ _ _ _ i.carried w.last [] (length file) is below) (span_fits _ _ _ _ _ _ _ _ _ _ i.carried w.last [] is same))
+    rw (p.1, p.2) ((rw i.file at c.in_err-left-2.ensures.unchanged) (span_there _ _ _ _ _ _ _ _ _ i.carried w.last [] (length file) is below) (span_fits _ _ _ _ _ _ _ _ _ i.carried w.last [] is same))
 
 pub returns-then-left-gt0-clause-put : goal.returns-then-left-gt0-clause-put
 returns-then-left-gt0-clause-put g c honest =
@@ -73,8 +73,8 @@ returns-then-left-gt0-clause-put g c honest =
     let w = c.args.self.now in
     let e = c.in_ok-left-2.ensures in
     let is = last_span (take w.used w.earlier) c.loop-span.span-index w.last c.loop-span-test.false in
-    let all = spans_more _ _ _ _ _ _ _ _ _ _ i.carried _ _ w.last [] _ is e.left (rw (i.honesty, i.file) at e.put) in
-    spans_front _ _ _ _ _ _ _ _ _ _ all honest
+    let all = spans_more _ _ g.met.K.Sink.takes_on _ _ _ _ _ _ _ _ i.carried _ _ w.last [] _ is e.left (rw (i.honesty, i.file) at e.put) in
+    spans_front _ _ _ _ _ _ _ _ _ all honest
 
 pub returns-then-left-gt0-clause-unchanged : goal.returns-then-left-gt0-clause-unchanged
 returns-then-left-gt0-clause-unchanged g c honest below same z =
@@ -82,8 +82,8 @@ returns-then-left-gt0-clause-unchanged g c honest below same z =
     let w = c.args.self.now in
     let e = c.in_ok-left-2.ensures in
     let is = last_span (take w.used w.earlier) c.loop-span.span-index w.last c.loop-span-test.false in
-    let all = spans_more _ _ _ _ _ _ _ _ _ _ i.carried _ _ w.last [] _ is e.left (rw (i.honesty, i.file) at e.put) in
-    let count = spans_counted _ _ _ _ _ _ _ _ _ _ all refl in
+    let all = spans_more _ _ g.met.K.Sink.takes_on _ _ _ _ _ _ _ _ i.carried _ _ w.last [] _ is e.left (rw (i.honesty, i.file) at e.put) in
+    let count = spans_counted _ _ _ _ _ _ _ _ _ all refl in
     let more = c.if-left-gt0.true in
     absurd (omega (arith, count, same, more))
 
@@ -93,8 +93,8 @@ returns-clause-len g c =
     let w = c.args.self.now in
     let e = c.in_ok-left-2.ensures in
     let is = last_span (take w.used w.earlier) c.loop-span.span-index w.last c.loop-span-test.false in
-    let all = spans_more _ _ _ _ _ _ _ _ _ _ i.carried _ _ w.last [] _ is e.left (rw (i.honesty, i.file) at e.put) in
-    let count = spans_counted _ _ _ _ _ _ _ _ _ _ all refl in
+    let all = spans_more _ _ g.met.K.Sink.takes_on _ _ _ _ _ _ _ _ i.carried _ _ w.last [] _ is e.left (rw (i.honesty, i.file) at e.put) in
+    let count = spans_counted _ _ _ _ _ _ _ _ _ all refl in
     let none = c.if-left-gt0.false in
     omega (arith, count, none)
 
@@ -105,7 +105,7 @@ returns-clause-along g c =
     let few = i.few in
     let fewer = e.left in
     let none = c.if-left-gt0.false in
-    record { many = GoOnBy-then _ _ _ _ (waiting c.loop-span.carrier) _ (c.args.bytes - c.loop-span.left) _ _ i.many e.along.many (omega (arith, few, fewer, none)); buffer = e.along.buffer ∙ i.room }
+    record { many = GoOnBy-then g.met.K.Sink.takes_on _ _ _ _ (waiting c.loop-span.carrier) _ (c.args.bytes - c.loop-span.left) _ _ i.many e.along.many (omega (arith, few, fewer, none)); buffer = e.along.buffer ∙ i.room }
 
 pub returns-clause-put : goal.returns-clause-put
 returns-clause-put g c honest =
@@ -113,5 +113,5 @@ returns-clause-put g c honest =
     let w = c.args.self.now in
     let e = c.in_ok-left-2.ensures in
     let is = last_span (take w.used w.earlier) c.loop-span.span-index w.last c.loop-span-test.false in
-    let all = spans_more _ _ _ _ _ _ _ _ _ _ i.carried _ _ w.last [] _ is e.left (rw (i.honesty, i.file) at e.put) in
-    spans_whole _ _ _ _ _ _ _ _ _ _ all refl honest
+    let all = spans_more _ _ g.met.K.Sink.takes_on _ _ _ _ _ _ _ _ i.carried _ _ w.last [] _ is e.left (rw (i.honesty, i.file) at e.put) in
+    spans_whole _ _ _ _ _ _ _ _ _ all refl honest

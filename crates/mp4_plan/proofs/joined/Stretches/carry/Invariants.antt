@@ -15,6 +15,6 @@ invariant-loop-span g l = record {
   puts : g.K.Sink.put_failures l.sink ≡ g.K.Sink.put_failures l.fn.sink;
   room : vec_len l.carrier.buffer ≡ vec_len l.fn.carrier.buffer;
   few : l.left ≤ l.bytes;
-  many : GoOnBy (g.K.Sink.contents l.fn.sink) (g.K.Sink.contents l.sink) (waiting l.fn.carrier) (waiting l.carrier) (l.bytes - l.left);
-  carried : SpansCarried (IsTrue (g.S.Store.is_honest l.fn.store)) (g.S.Store.file l.fn.store) (g.K.Sink.contents l.fn.sink) (g.K.Sink.contents l.sink) (waiting l.fn.carrier) (waiting l.carrier) (spans_of l.self) (drop l.span-index l.span-items ++ l.self.last ∷ []) l.bytes l.left;
+  many : GoOnBy (g.K.Sink.takes l.fn.sink l.sink) (waiting l.fn.carrier) (waiting l.carrier) (l.bytes - l.left);
+  carried : SpansCarried (IsTrue (g.S.Store.is_honest l.fn.store)) (g.S.Store.file l.fn.store) (g.K.Sink.takes l.fn.sink l.sink) (waiting l.fn.carrier) (waiting l.carrier) (spans_of l.self) (drop l.span-index l.span-items ++ l.self.last ∷ []) l.bytes l.left;
 }

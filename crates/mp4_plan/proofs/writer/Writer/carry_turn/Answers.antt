@@ -43,8 +43,8 @@ returns-in_err-carry-clause-put g c told_honest tree o samples noted_are info is
     let keys = ap (λ (t : TrackInfo). keys_seen t.keys) (sym c.index-tracks-track.is ∙ read_at c.args.movie.now.tracks c.args.track info c.index-tracks-track.result is (rw c.tracks.ensures at c.index-tracks-track.is)) in
     let whole = parts_are c.in-Some.head p c.sizes_of-sizes.result (keys_seen info.keys) told (map row_seen (take p.count samples)) noted front mdat bytes_there (c.as_bytes.ensures ∙ c.moof_front-front.ensures) c.sizes_of-sizes.ensures.is keys (ap (take p.count) c.deref.ensures.value
     ∙ noted_are.rows) refl in
-    rw (e.1, c.in-Some.is) (front_as (g.K.Sink.contents c.args.sink.now) (g.K.Sink.contents c.carry.new.sink) (waiting c.args.self.now.carrier) _ _
-    (stop_one front (run_rows p noted) (groups_bytes noted p told) mdat bytes_there (g.K.Sink.contents c.args.sink.now) (g.K.Sink.contents c.carry.new.sink) (waiting c.args.self.now.carrier) c.in_err-carry.ensures.prefix) whole)
+    rw (e.1, c.in-Some.is) (front_as (g.K.Sink.takes c.args.sink.now c.carry.new.sink) (waiting c.args.self.now.carrier) _ _
+    (stop_one front (run_rows p noted) (groups_bytes noted p told) mdat bytes_there (g.K.Sink.takes c.args.sink.now c.carry.new.sink) (waiting c.args.self.now.carrier) c.in_err-carry.ensures.prefix) whole)
 
 pub returns-in_err-carry_run-clause-put : goal.returns-in_err-carry_run-clause-put
 returns-in_err-carry_run-clause-put g c told_honest tree o samples noted_are info is apart =
@@ -60,9 +60,9 @@ returns-in_err-carry_run-clause-put g c told_honest tree o samples noted_are inf
     let keys = ap (λ (t : TrackInfo). keys_seen t.keys) (sym c.index-tracks-track.is ∙ read_at c.args.movie.now.tracks c.args.track info c.index-tracks-track.result is (rw c.tracks.ensures at c.index-tracks-track.is)) in
     let whole = parts_are c.in-Some.head p c.sizes_of-sizes.result (keys_seen info.keys) told (map row_seen (take p.count samples)) noted front mdat bytes_there (c.as_bytes.ensures ∙ c.moof_front-front.ensures) c.sizes_of-sizes.ensures.is keys (ap (take p.count) c.deref.ensures.value
     ∙ noted_are.rows) refl in
-    rw (e.1, c.in-Some.is) (front_as (g.K.Sink.contents c.args.sink.now) (g.K.Sink.contents c.carry_run.new.sink) (waiting c.args.self.now.carrier) _ _
-    (stop_two front (run_rows p noted) (groups_bytes noted p told) mdat bytes_there (g.K.Sink.contents c.args.sink.now) (g.K.Sink.contents c.carry.new.sink) (g.K.Sink.contents c.carry_run.new.sink) (g.K.Sink.contents c.carry_run.new.sink) (g.K.Sink.contents c.carry_run.new.sink)
-    (g.K.Sink.contents c.carry_run.new.sink) (waiting c.args.self.now.carrier) (waiting c.carry.new.self) (waiting c.carry_run.new.carrier) (waiting c.carry_run.new.carrier) (waiting c.carry_run.new.carrier) (waiting c.carry_run.new.carrier)
+    rw (e.1, c.in-Some.is) (front_as (g.K.Sink.takes c.args.sink.now c.carry_run.new.sink) (waiting c.args.self.now.carrier) _ _
+    (stop_two front (run_rows p noted) (groups_bytes noted p told) mdat bytes_there g.met.K.Sink.takes_on c.args.sink.now c.carry.new.sink c.carry_run.new.sink c.carry_run.new.sink c.carry_run.new.sink
+    c.carry_run.new.sink (waiting c.args.self.now.carrier) (waiting c.carry.new.self) (waiting c.carry_run.new.carrier) (waiting c.carry_run.new.carrier) (waiting c.carry_run.new.carrier) (waiting c.carry_run.new.carrier)
     c.in_ok-carry.ensures.bytes c.in_err-carry_run.ensures.put) whole)
 
 pub returns-in_err-carry_groups-clause-put : goal.returns-in_err-carry_groups-clause-put
@@ -79,9 +79,9 @@ returns-in_err-carry_groups-clause-put g c told_honest tree o samples noted_are 
     let keys = ap (λ (t : TrackInfo). keys_seen t.keys) (sym c.index-tracks-track.is ∙ read_at c.args.movie.now.tracks c.args.track info c.index-tracks-track.result is (rw c.tracks.ensures at c.index-tracks-track.is)) in
     let whole = parts_are c.in-Some.head p c.sizes_of-sizes.result (keys_seen info.keys) told (map row_seen (take p.count samples)) noted front mdat bytes_there (c.as_bytes.ensures ∙ c.moof_front-front.ensures) c.sizes_of-sizes.ensures.is keys (ap (take p.count) c.deref.ensures.value
     ∙ noted_are.rows) refl in
-    rw (e.1, c.in-Some.is) (front_as (g.K.Sink.contents c.args.sink.now) (g.K.Sink.contents c.carry_groups.new.sink) (waiting c.args.self.now.carrier) _ _
-    (stop_three front (run_rows p noted) (groups_bytes noted p told) mdat bytes_there (g.K.Sink.contents c.args.sink.now) (g.K.Sink.contents c.carry.new.sink) (g.K.Sink.contents c.carry_run.new.sink) (g.K.Sink.contents c.carry_groups.new.sink) (g.K.Sink.contents c.carry_groups.new.sink)
-    (g.K.Sink.contents c.carry_groups.new.sink) (waiting c.args.self.now.carrier) (waiting c.carry.new.self) (waiting c.carry_run.new.carrier) (waiting c.carry_groups.new.carrier) (waiting c.carry_groups.new.carrier) (waiting c.carry_groups.new.carrier)
+    rw (e.1, c.in-Some.is) (front_as (g.K.Sink.takes c.args.sink.now c.carry_groups.new.sink) (waiting c.args.self.now.carrier) _ _
+    (stop_three front (run_rows p noted) (groups_bytes noted p told) mdat bytes_there g.met.K.Sink.takes_on c.args.sink.now c.carry.new.sink c.carry_run.new.sink c.carry_groups.new.sink c.carry_groups.new.sink
+    c.carry_groups.new.sink (waiting c.args.self.now.carrier) (waiting c.carry.new.self) (waiting c.carry_run.new.carrier) (waiting c.carry_groups.new.carrier) (waiting c.carry_groups.new.carrier) (waiting c.carry_groups.new.carrier)
     c.in_ok-carry.ensures.bytes c.in_ok-carry_run.ensures.put (c.in_err-carry_groups.ensures.put (subst AreApart (sym keys) apart))) whole)
 
 pub returns-in_err-carry-2-clause-put : goal.returns-in_err-carry-2-clause-put
@@ -98,9 +98,9 @@ returns-in_err-carry-2-clause-put g c told_honest tree o samples noted_are info 
     let keys = ap (λ (t : TrackInfo). keys_seen t.keys) (sym c.index-tracks-track.is ∙ read_at c.args.movie.now.tracks c.args.track info c.index-tracks-track.result is (rw c.tracks.ensures at c.index-tracks-track.is)) in
     let whole = parts_are c.in-Some.head p c.sizes_of-sizes.result (keys_seen info.keys) told (map row_seen (take p.count samples)) noted front mdat bytes_there (c.as_bytes.ensures ∙ c.moof_front-front.ensures) c.sizes_of-sizes.ensures.is keys (ap (take p.count) c.deref.ensures.value
     ∙ noted_are.rows) (c.bytes.ensures ∙ c.header-mdat.ensures) in
-    rw (e.1, c.in-Some.is) (front_as (g.K.Sink.contents c.args.sink.now) (g.K.Sink.contents c.carry-2.new.sink) (waiting c.args.self.now.carrier) _ _
-    (stop_four front (run_rows p noted) (groups_bytes noted p told) mdat bytes_there (g.K.Sink.contents c.args.sink.now) (g.K.Sink.contents c.carry.new.sink) (g.K.Sink.contents c.carry_run.new.sink) (g.K.Sink.contents c.carry_groups.new.sink) (g.K.Sink.contents c.carry-2.new.sink)
-    (g.K.Sink.contents c.carry-2.new.sink) (waiting c.args.self.now.carrier) (waiting c.carry.new.self) (waiting c.carry_run.new.carrier) (waiting c.carry_groups.new.carrier) (waiting c.carry-2.new.self) (waiting c.carry-2.new.self) c.in_ok-carry.ensures.bytes c.in_ok-carry_run.ensures.put
+    rw (e.1, c.in-Some.is) (front_as (g.K.Sink.takes c.args.sink.now c.carry-2.new.sink) (waiting c.args.self.now.carrier) _ _
+    (stop_four front (run_rows p noted) (groups_bytes noted p told) mdat bytes_there g.met.K.Sink.takes_on c.args.sink.now c.carry.new.sink c.carry_run.new.sink c.carry_groups.new.sink c.carry-2.new.sink
+    c.carry-2.new.sink (waiting c.args.self.now.carrier) (waiting c.carry.new.self) (waiting c.carry_run.new.carrier) (waiting c.carry_groups.new.carrier) (waiting c.carry-2.new.self) (waiting c.carry-2.new.self) c.in_ok-carry.ensures.bytes c.in_ok-carry_run.ensures.put
     (c.in_ok-carry_groups.ensures.put (subst AreApart (sym keys) apart)) c.in_err-carry-2.ensures.prefix) whole)
 
 pub returns-clause-put : goal.returns-clause-put
@@ -118,13 +118,13 @@ returns-clause-put g c told_honest tree o samples noted_are info is apart =
     ∙ noted_are.rows) (c.bytes.ensures ∙ c.header-mdat.ensures) in
     let here = noted_with file tree c.args.movie.now c.args.track p.count samples c.args.self.now c.carry-2.new.self noted_are in
     rw c.in-Some.is (on_both c.carry_data.result
-    (λ x. goes_on_as (g.K.Sink.contents c.args.sink.now) (g.K.Sink.contents c.carry_data.new.sink) (waiting c.args.self.now.carrier) (waiting c.carry_data.new.self.carrier) _ _
-    (go_five front (run_rows p noted) (groups_bytes noted p told) mdat bytes_there (g.K.Sink.contents c.args.sink.now) (g.K.Sink.contents c.carry.new.sink) (g.K.Sink.contents c.carry_run.new.sink) (g.K.Sink.contents c.carry_groups.new.sink) (g.K.Sink.contents c.carry-2.new.sink)
-    (g.K.Sink.contents c.carry_data.new.sink) (waiting c.args.self.now.carrier) (waiting c.carry.new.self) (waiting c.carry_run.new.carrier) (waiting c.carry_groups.new.carrier) (waiting c.carry-2.new.self) (waiting c.carry_data.new.self.carrier)
+    (λ x. goes_on_as (g.K.Sink.takes c.args.sink.now c.carry_data.new.sink) (waiting c.args.self.now.carrier) (waiting c.carry_data.new.self.carrier) _ _
+    (go_five front (run_rows p noted) (groups_bytes noted p told) mdat bytes_there g.met.K.Sink.takes_on c.args.sink.now c.carry.new.sink c.carry_run.new.sink c.carry_groups.new.sink c.carry-2.new.sink
+    c.carry_data.new.sink (waiting c.args.self.now.carrier) (waiting c.carry.new.self) (waiting c.carry_run.new.carrier) (waiting c.carry_groups.new.carrier) (waiting c.carry-2.new.self) (waiting c.carry_data.new.self.carrier)
     c.in_ok-carry.ensures.bytes c.in_ok-carry_run.ensures.put (c.in_ok-carry_groups.ensures.put (subst AreApart (sym keys) apart)) c.in_ok-carry-2.ensures.bytes x) whole)
-    (λ x. (front_as (g.K.Sink.contents c.args.sink.now) (g.K.Sink.contents c.carry_data.new.sink) (waiting c.args.self.now.carrier) _ _
-    (stop_five front (run_rows p noted) (groups_bytes noted p told) mdat bytes_there (g.K.Sink.contents c.args.sink.now) (g.K.Sink.contents c.carry.new.sink) (g.K.Sink.contents c.carry_run.new.sink) (g.K.Sink.contents c.carry_groups.new.sink) (g.K.Sink.contents c.carry-2.new.sink)
-    (g.K.Sink.contents c.carry_data.new.sink) (waiting c.args.self.now.carrier) (waiting c.carry.new.self) (waiting c.carry_run.new.carrier) (waiting c.carry_groups.new.carrier) (waiting c.carry-2.new.self) (waiting c.carry_data.new.self.carrier)
+    (λ x. (front_as (g.K.Sink.takes c.args.sink.now c.carry_data.new.sink) (waiting c.args.self.now.carrier) _ _
+    (stop_five front (run_rows p noted) (groups_bytes noted p told) mdat bytes_there g.met.K.Sink.takes_on c.args.sink.now c.carry.new.sink c.carry_run.new.sink c.carry_groups.new.sink c.carry-2.new.sink
+    c.carry_data.new.sink (waiting c.args.self.now.carrier) (waiting c.carry.new.self) (waiting c.carry_run.new.carrier) (waiting c.carry_groups.new.carrier) (waiting c.carry-2.new.self) (waiting c.carry_data.new.self.carrier)
     c.in_ok-carry.ensures.bytes c.in_ok-carry_run.ensures.put (c.in_ok-carry_groups.ensures.put (subst AreApart (sym keys) apart)) c.in_ok-carry-2.ensures.bytes x) whole))
     (c.carry_data.ensures.put told_honest tree o samples here))
 
@@ -140,8 +140,8 @@ returns-clause-many g c =
     let q : PutPiece = record { head = c.in-Some.head; planned = p; keys = keys_seen there.keys; rows = noted; groups = groups.0; each = each; few = groups.1 } in
     let front = c.as_bytes.ensures ∙ c.moof_front-front.ensures ∙ ap (moof_front c.in-Some.head p) c.sizes_of-sizes.ensures.is in
     on_ok _ _ c.carry_data.result
-    (λ x. piece_follows q c.as_bytes.result.now c.bytes.result.now (g.K.Sink.contents c.args.sink.now) (g.K.Sink.contents c.carry.new.sink) (g.K.Sink.contents c.carry_run.new.sink) (g.K.Sink.contents c.carry_groups.new.sink) (g.K.Sink.contents c.carry-2.new.sink)
-    (g.K.Sink.contents c.carry_data.new.sink) (waiting c.args.self.now.carrier) (waiting c.carry.new.self) (waiting c.carry_run.new.carrier) (waiting c.carry_groups.new.carrier) (waiting c.carry-2.new.self) (waiting c.carry_data.new.self.carrier) front
+    (λ x. piece_follows q c.as_bytes.result.now c.bytes.result.now g.met.K.Sink.takes_on c.args.sink.now c.carry.new.sink c.carry_run.new.sink c.carry_groups.new.sink c.carry-2.new.sink
+    c.carry_data.new.sink (waiting c.args.self.now.carrier) (waiting c.carry.new.self) (waiting c.carry_run.new.carrier) (waiting c.carry_groups.new.carrier) (waiting c.carry-2.new.self) (waiting c.carry_data.new.self.carrier) front
     (c.bytes.ensures ∙ c.header-mdat.ensures) c.in_ok-carry.ensures.bytes c.in_ok-carry_run.ensures.put groups.2 c.in_ok-carry-2.ensures.bytes x) c.carry_data.ensures.many
 
 pub returns-clause-copied : goal.returns-clause-copied
@@ -181,7 +181,7 @@ pub returns-clause-work : goal.returns-clause-work
 returns-clause-work g c told_honest tree o n h = c.carry_data.ensures.work told_honest tree o n h
 
 pub returns-in_default-clause-put : goal.returns-in_default-clause-put
-returns-in_default-clause-put g c told tree o samples noted info is apart = rw c.in_default.is (BytesGoOn-nothing _ _)
+returns-in_default-clause-put g c told tree o samples noted info is apart = rw c.in_default.is (BytesGoOn-nothing _ (g.met.K.Sink.takes_nothing _) _)
 
 pub returns-in_default-clause-copied : goal.returns-in_default-clause-copied
 returns-in_default-clause-copied g c told tree o samples noted =
@@ -202,4 +202,4 @@ returns-in_default-clause-work g c told tree o n h =
     none_carried w.leaving (g.S.Store.file c.args.store.now) m tree o w.walks.items c.args.track c.args.planned.now.count n h _ (of_got (IsWalkOf m) w.walks.items c.args.track h.walk h.is_walk c.requires.may.writer.walks.each) (c.requires.none c.in_default.is)
 
 pub returns-in_default-clause-many : goal.returns-in_default-clause-many
-returns-in_default-clause-many g c = none_follow (g.K.Sink.contents c.args.sink.now) (waiting c.args.self.now.carrier) c.args.planned.now.count c.args.planned.now.bytes (c.requires.none c.in_default.is) c.requires.may.bounds.bytes
+returns-in_default-clause-many g c = none_follow _ (g.met.K.Sink.takes_nothing c.args.sink.now) (waiting c.args.self.now.carrier) c.args.planned.now.count c.args.planned.now.bytes (c.requires.none c.in_default.is) c.requires.may.bounds.bytes

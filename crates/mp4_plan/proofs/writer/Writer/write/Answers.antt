@@ -28,12 +28,12 @@ use Rattle.mp4_plan.proofs.writer.Writer.write.Goals as goal
 pub returns-in_err-carry-clause-prefix : goal.returns-in_err-carry-clause-prefix
 returns-in_err-carry-clause-prefix g c told tree o ready =
     let e = err_from_is_err_and c.from_residual.result c.from_residual.ensures.1 in
-    rw e.1 (head_stops c.args.self.now.leaving (g.S.Store.file c.args.store.now) tree c.args.movie.now c.args.self.now _ _ c.as_slice.result.now ready refl c.as_slice.ensures.value c.in_err-carry.ensures.prefix)
+    rw e.1 (head_stops c.args.self.now.leaving (g.S.Store.file c.args.store.now) tree c.args.movie.now c.args.self.now (g.K.Sink.takes c.args.sink.now c.carry.new.sink) c.as_slice.result.now ready refl c.as_slice.ensures.value c.in_err-carry.ensures.prefix)
 
 pub returns-in_err-peek_each-clause-prefix : goal.returns-in_err-peek_each-clause-prefix
 returns-in_err-peek_each-clause-prefix g c told tree o ready =
     let e = err_from_is_err_and c.from_residual-in_err-peek_each.result c.from_residual-in_err-peek_each.ensures.1 in
-    rw e.1 (head_put c.args.self.now.leaving (g.S.Store.file c.args.store.now) tree c.args.movie.now c.args.self.now _ _ _ c.as_slice.result.now ready refl c.as_slice.ensures.value c.in_ok-carry.ensures.bytes)
+    rw e.1 (head_put c.args.self.now.leaving (g.S.Store.file c.args.store.now) tree c.args.movie.now c.args.self.now _ _ c.as_slice.result.now ready refl c.as_slice.ensures.value c.in_ok-carry.ensures.bytes)
 
 pub returns-in_err-peek_each-clause-unchanged : goal.returns-in_err-peek_each-clause-unchanged
 returns-in_err-peek_each-clause-unchanged g c told tree o ready =
@@ -71,7 +71,7 @@ loop-turn-init g c =
       puts = c.in_ok-carry.ensures.puts;
       rows = refl;
       few = (let few = c.new-schedule.ensures.few in omega (arith, few));
-      sent = (0, (let left = rw c.tracks-tracks.ensures at c.new-schedule.ensures.left in omega (arith, left)), first_put _ _ _ _ w.head.items (rw c.as_slice.ensures.value at c.in_ok-carry.ensures.bytes));
+      sent = (0, (let left = rw c.tracks-tracks.ensures at c.new-schedule.ensures.left in omega (arith, left)), first_put _ _ _ w.head.items (rw c.as_slice.ensures.value at c.in_ok-carry.ensures.bytes));
       on = λ told tree o ready.
           let file = g.S.Store.file c.args.store.now in
           let m = c.args.movie.now in
@@ -81,7 +81,7 @@ loop-turn-init g c =
           let time = c.first_time.ensures lefts (c.as_slice-2.ensures.value ∙ nexts ∙ shown.0) in
           let tracks = c.tracks-tracks.ensures in
           let first = is_first c.args.self.now.leaving file tree m c.new-schedule.result c.first_time.result o (rw tracks at c.new-schedule.ensures.tracks) (rw tracks at c.new-schedule.ensures.first) c.new-schedule.ensures.starts (rw tracks at c.new-schedule.ensures.left) time in
-          begins c.args.self.now.leaving file tree m c.new-schedule.result w (with_items w.walks c.peek_each.new.walks).items (with_items w.nexts c.peek_each.new.nexts).items (g.K.Sink.contents c.args.sink.now) (g.K.Sink.contents c.carry.new.sink)
+          begins c.args.self.now.leaving file tree m c.new-schedule.result w (with_items w.walks c.peek_each.new.walks).items (with_items w.nexts c.peek_each.new.nexts).items (g.K.Sink.takes c.args.sink.now c.carry.new.sink)
           (waiting c.carry.new.self) o ready refl first
           (rw walks shown.1) (rw walks marked) (nexts ∙ shown.0) (rw c.as_slice.ensures.value at c.in_ok-carry.ensures.bytes);
       within = λ told tree o n may. rw walks (e.writes told tree o n (rw c.as_mut_slice-walks.ensures.value may));
@@ -100,9 +100,9 @@ returns-in_err-noted-clause-prefix g c told tree o ready =
     let s = c.loop-turn.schedule in
     let w = c.loop-turn.self in
     let h = i.on told tree o ready in
-    let before = g.K.Sink.contents c.args.sink.now in
-    let after = g.K.Sink.contents c.loop-turn.sink in
-    rw e.1 (stopped c.args.self.now.leaving file tree m s c.loop-turn.sequence c.loop-turn.bytes w.walks.items w.nexts.items (length w.rows.items) before after (waiting w.carrier) h)
+    let before = c.args.sink.now in
+    let after = c.loop-turn.sink in
+    rw e.1 (stopped c.args.self.now.leaving file tree m s c.loop-turn.sequence c.loop-turn.bytes w.walks.items w.nexts.items (length w.rows.items) g.met.K.Sink.takes_on before after (waiting w.carrier) h)
 
 pub returns-in_err-noted-clause-unchanged : goal.returns-in_err-noted-clause-unchanged
 returns-in_err-noted-clause-unchanged g c told tree o ready =
@@ -113,11 +113,11 @@ returns-in_err-noted-clause-unchanged g c told tree o ready =
     let s = c.loop-turn.schedule in
     let w = c.loop-turn.self in
     let h = i.on told tree o ready in
-    let before = g.K.Sink.contents c.args.sink.now in
-    let after = g.K.Sink.contents c.loop-turn.sink in
+    let before = c.args.sink.now in
+    let after = c.loop-turn.sink in
     let here = c.in-Some.ensures.track in
     let ends : (info : TrackInfo) → slice_get m.tracks s.track ≡ Some info → c.in-Some.turn.end ≡ turn_end s info.timescale = λ info is. c.in-Some.ensures.end info (rw c.tracks-tracks.ensures is) in
-    rw (e.1, e.2) (note_lacks c.args.self.now.leaving file tree m o s c.loop-turn.sequence c.loop-turn.bytes w before after h c.in-Some.turn here ends i.tracks i.writer i.leaving _ ((rw (i.honesty, i.file) at c.in_err-noted.ensures.unchanged) told tree o))
+    rw (e.1, e.2) (note_lacks c.args.self.now.leaving file tree m o s c.loop-turn.sequence c.loop-turn.bytes w g.met.K.Sink.takes_on before after h c.in-Some.turn here ends i.tracks i.writer i.leaving _ ((rw (i.honesty, i.file) at c.in_err-noted.ensures.unchanged) told tree o))
 
 pub returns-in_err-carry_turn-clause-prefix : goal.returns-in_err-carry_turn-clause-prefix
 returns-in_err-carry_turn-clause-prefix g c told tree o ready =
@@ -128,8 +128,8 @@ returns-in_err-carry_turn-clause-prefix g c told tree o ready =
     let s = c.loop-turn.schedule in
     let w = c.loop-turn.self in
     let h = i.on told tree o ready in
-    let before = g.K.Sink.contents c.args.sink.now in
-    let after = g.K.Sink.contents c.loop-turn.sink in
+    let before = c.args.sink.now in
+    let after = c.loop-turn.sink in
     let here = c.in-Some.ensures.track in
     let ends : (info : TrackInfo) → slice_get m.tracks s.track ≡ Some info → c.in-Some.turn.end ≡ turn_end s info.timescale = λ info is. c.in-Some.ensures.end info (rw c.tracks-tracks.ensures is) in
     let noted = (rw (i.honesty, i.file) at c.in_ok-noted.ensures.noted) told tree o in
@@ -137,9 +137,9 @@ returns-in_err-carry_turn-clause-prefix g c told tree o ready =
     let is_id : (info : TrackInfo) → slice_get m.tracks s.track ≡ Some info
     → (get_or c.tracks-tracks.result.now c.in-Some.turn.track c.index-tracks-track.result).id
     ≡ info.id = λ info is. ap (λ (x : TrackInfo). x.id) (sym c.index-tracks-track.is ∙ read_at m.tracks s.track info c.index-tracks-track.result is (rw (here.0, c.tracks-tracks.ensures) at c.index-tracks-track.is)) in
-    rw e.1 (carry_stops c.args.self.now.leaving file tree m o s c.loop-turn.sequence c.loop-turn.bytes w before after h c.in-Some.turn here ends i.tracks i.writer i.leaving c.note_turn.new.self c.in_ok-noted.noted
+    rw e.1 (carry_stops c.args.self.now.leaving file tree m o s c.loop-turn.sequence c.loop-turn.bytes w g.met.K.Sink.takes_on before after h c.in-Some.turn here ends i.tracks i.writer i.leaving c.note_turn.new.self c.in_ok-noted.noted
     (get_or c.tracks-tracks.result.now c.in-Some.turn.track c.index-tracks-track.result).id noted c.in_ok-noted.ensures.writer.keeps few is_id
-    (g.K.Sink.contents c.carry_turn.new.sink) ((rw (c.in_ok-noted.ensures.store.honesty, c.in_ok-noted.ensures.store.file, i.honesty, i.file) at c.in_err-carry_turn.ensures.put) told tree o))
+    c.carry_turn.new.sink ((rw (c.in_ok-noted.ensures.store.honesty, c.in_ok-noted.ensures.store.file, i.honesty, i.file) at c.in_err-carry_turn.ensures.put) told tree o))
 
 pub returns-in_err-carry_turn-clause-unchanged : goal.returns-in_err-carry_turn-clause-unchanged
 returns-in_err-carry_turn-clause-unchanged g c told tree o ready =
@@ -150,8 +150,8 @@ returns-in_err-carry_turn-clause-unchanged g c told tree o ready =
     let s = c.loop-turn.schedule in
     let w = c.loop-turn.self in
     let h = i.on told tree o ready in
-    let before = g.K.Sink.contents c.args.sink.now in
-    let after = g.K.Sink.contents c.loop-turn.sink in
+    let before = c.args.sink.now in
+    let after = c.loop-turn.sink in
     let here = c.in-Some.ensures.track in
     let ends : (info : TrackInfo) → slice_get m.tracks s.track ≡ Some info → c.in-Some.turn.end ≡ turn_end s info.timescale = λ info is. c.in-Some.ensures.end info (rw c.tracks-tracks.ensures is) in
     let noted = (rw (i.honesty, i.file) at c.in_ok-noted.ensures.noted) told tree o in
@@ -160,7 +160,7 @@ returns-in_err-carry_turn-clause-unchanged g c told tree o ready =
     → (get_or c.tracks-tracks.result.now c.in-Some.turn.track c.index-tracks-track.result).id
     ≡ info.id = λ info is. ap (λ (x : TrackInfo). x.id) (sym c.index-tracks-track.is ∙ read_at m.tracks s.track info c.index-tracks-track.result is (rw (here.0, c.tracks-tracks.ensures) at c.index-tracks-track.is)) in
     rw (e.1, e.2)
-    (carry_lacks c.args.self.now.leaving file tree m o s c.loop-turn.sequence c.loop-turn.bytes w before after h c.in-Some.turn here ends i.tracks i.writer i.leaving c.note_turn.new.self c.in_ok-noted.noted
+    (carry_lacks c.args.self.now.leaving file tree m o s c.loop-turn.sequence c.loop-turn.bytes w g.met.K.Sink.takes_on before after h c.in-Some.turn here ends i.tracks i.writer i.leaving c.note_turn.new.self c.in_ok-noted.noted
     (get_or c.tracks-tracks.result.now c.in-Some.turn.track c.index-tracks-track.result).id noted c.in_ok-noted.ensures.writer.keeps few is_id _
     ((rw (c.in_ok-noted.ensures.store.honesty, c.in_ok-noted.ensures.store.file, i.honesty, i.file) at c.in_err-carry_turn.ensures.unchanged) told tree o))
 
@@ -173,8 +173,8 @@ returns-in_err-pass-clause-prefix g c told tree o ready =
     let s = c.loop-turn.schedule in
     let w = c.loop-turn.self in
     let h = i.on told tree o ready in
-    let before = g.K.Sink.contents c.args.sink.now in
-    let after = g.K.Sink.contents c.loop-turn.sink in
+    let before = c.args.sink.now in
+    let after = c.loop-turn.sink in
     let here = c.in-Some.ensures.track in
     let ends : (info : TrackInfo) → slice_get m.tracks s.track ≡ Some info → c.in-Some.turn.end ≡ turn_end s info.timescale = λ info is. c.in-Some.ensures.end info (rw c.tracks-tracks.ensures is) in
     let noted = (rw (i.honesty, i.file) at c.in_ok-noted.ensures.noted) told tree o in
@@ -184,10 +184,10 @@ returns-in_err-pass-clause-prefix g c told tree o ready =
     ≡ info.id = λ info is. ap (λ (x : TrackInfo). x.id) (sym c.index-tracks-track.is ∙ read_at m.tracks s.track info c.index-tracks-track.result is (rw (here.0, c.tracks-tracks.ensures) at c.index-tracks-track.is)) in
     let put = (rw (c.in_ok-noted.ensures.store.honesty, c.in_ok-noted.ensures.store.file, i.honesty, i.file) at c.in_ok-carry_turn.ensures.put) told tree o in
     let copied = (rw (c.in_ok-noted.ensures.store.honesty, c.in_ok-noted.ensures.store.file, i.honesty, i.file) at c.in_ok-carry_turn.ensures.copied) told tree o in
-    let on = turn_goes c.args.self.now.leaving file tree m o s c.loop-turn.sequence c.loop-turn.bytes w before after h c.in-Some.turn here ends i.tracks i.writer i.leaving c.note_turn.new.self c.in_ok-noted.noted
+    let on = turn_goes c.args.self.now.leaving file tree m o s c.loop-turn.sequence c.loop-turn.bytes w g.met.K.Sink.takes_on before after h c.in-Some.turn here ends i.tracks i.writer i.leaving c.note_turn.new.self c.in_ok-noted.noted
     (get_or c.tracks-tracks.result.now c.in-Some.turn.track c.index-tracks-track.result).id noted c.in_ok-noted.ensures.writer.keeps few is_id c.carry_turn.new.self _ copied
-    (λ x is. read_at c.carry_turn.new.self.nexts.items c.in-Some.turn.track x _ is c.index.ensures) (g.K.Sink.contents c.carry_turn.new.sink) _ put c.in_ok-carry_turn.ensures.writer.keeps refl in
-    rw e.1 (stopped c.args.self.now.leaving file tree m _ _ _ _ _ _ _ _ _ on)
+    (λ x is. read_at c.carry_turn.new.self.nexts.items c.in-Some.turn.track x _ is c.index.ensures) c.carry_turn.new.sink _ put c.in_ok-carry_turn.ensures.writer.keeps refl in
+    rw e.1 (stopped c.args.self.now.leaving file tree m _ _ _ _ _ _ g.met.K.Sink.takes_on _ _ _ on)
 
 pub returns-in_err-pass-clause-unchanged : goal.returns-in_err-pass-clause-unchanged
 returns-in_err-pass-clause-unchanged g c told tree o ready =
@@ -198,8 +198,8 @@ returns-in_err-pass-clause-unchanged g c told tree o ready =
     let s = c.loop-turn.schedule in
     let w = c.loop-turn.self in
     let h = i.on told tree o ready in
-    let before = g.K.Sink.contents c.args.sink.now in
-    let after = g.K.Sink.contents c.loop-turn.sink in
+    let before = c.args.sink.now in
+    let after = c.loop-turn.sink in
     let here = c.in-Some.ensures.track in
     let ends : (info : TrackInfo) → slice_get m.tracks s.track ≡ Some info → c.in-Some.turn.end ≡ turn_end s info.timescale = λ info is. c.in-Some.ensures.end info (rw c.tracks-tracks.ensures is) in
     let noted = (rw (i.honesty, i.file) at c.in_ok-noted.ensures.noted) told tree o in
@@ -212,16 +212,17 @@ returns-in_err-pass-clause-unchanged g c told tree o ready =
     let next = turned s c.in-Some.turn.end c.in_ok-noted.noted.planned.count c.index.result.now in
     let there = (get_or c.tracks-tracks.result.now c.in-Some.turn.track c.index-tracks-track.result).id in
     let read : (x : Option SampleAt) → slice_get c.carry_turn.new.self.nexts.items c.in-Some.turn.track ≡ Some x → c.index.result.now ≡ x = λ x is. read_at c.carry_turn.new.self.nexts.items c.in-Some.turn.track x _ is c.index.ensures in
-    let on = turn_goes c.args.self.now.leaving file tree m o s c.loop-turn.sequence c.loop-turn.bytes w before after h c.in-Some.turn here ends i.tracks i.writer i.leaving c.note_turn.new.self c.in_ok-noted.noted there noted c.in_ok-noted.ensures.writer.keeps few is_id c.carry_turn.new.self
-    c.index.result.now copied read (g.K.Sink.contents c.carry_turn.new.sink) next put c.in_ok-carry_turn.ensures.writer.keeps refl in
-    let stuck = with_times c.args.self.now.leaving file tree m o s c.loop-turn.sequence c.loop-turn.bytes w before after h c.in-Some.turn here ends i.tracks i.writer i.leaving c.note_turn.new.self c.in_ok-noted.noted there noted c.in_ok-noted.ensures.writer.keeps few is_id
+    let on = turn_goes c.args.self.now.leaving file tree m o s c.loop-turn.sequence c.loop-turn.bytes w
+    g.met.K.Sink.takes_on before after h c.in-Some.turn here ends i.tracks i.writer i.leaving c.note_turn.new.self c.in_ok-noted.noted there noted c.in_ok-noted.ensures.writer.keeps few is_id c.carry_turn.new.self
+    c.index.result.now copied read c.carry_turn.new.sink next put c.in_ok-carry_turn.ensures.writer.keeps refl in
+    let stuck = with_times c.args.self.now.leaving file tree m o s c.loop-turn.sequence c.loop-turn.bytes w g.met.K.Sink.takes_on before after h c.in-Some.turn here ends i.tracks i.writer i.leaving c.note_turn.new.self c.in_ok-noted.noted there noted c.in_ok-noted.ensures.writer.keeps few is_id
     c.carry_turn.new.self c.index.result.now copied
     read (λ (xs : List (Option SampleAt)). Sticks s c.in_ok-noted.noted.planned.count c.index.result.now ⊎ FindsMore m.tracks xs next c.pass.new.self c.pass.new.due) (i.due told tree o ready) c.in_ok-carry_turn.ensures.writer.keeps.2 (rw c.tracks-tracks.ensures at c.in_err-pass.ensures.sticks) in
     rw (e.1, e.2)
     (λ r. either stuck
-    (pass_lacks c.args.self.now.leaving file tree m o s c.loop-turn.sequence c.loop-turn.bytes w before after h c.in-Some.turn here ends i.tracks i.writer i.leaving c.note_turn.new.self c.in_ok-noted.noted there noted c.in_ok-noted.ensures.writer.keeps few is_id
+    (pass_lacks c.args.self.now.leaving file tree m o s c.loop-turn.sequence c.loop-turn.bytes w g.met.K.Sink.takes_on before after h c.in-Some.turn here ends i.tracks i.writer i.leaving c.note_turn.new.self c.in_ok-noted.noted there noted c.in_ok-noted.ensures.writer.keeps few is_id
     c.carry_turn.new.self c.index.result.now copied read (i.due told tree o ready))
-    (writes_no_more c.args.self.now.leaving file tree m next c.pass.new.self _ _ _ _ _ _ _ _ c.pass.new.due o on))
+    (writes_no_more c.args.self.now.leaving file tree m next c.pass.new.self _ _ _ _ _ _ _ c.pass.new.due o on))
 
 pub loop-turn-preserved : goal.loop-turn-preserved
 loop-turn-preserved g c =
@@ -244,11 +245,11 @@ loop-turn-preserved g c =
           let count = c.in_ok-noted.noted.planned.count in
           let bytes = c.in_ok-noted.noted.planned.bytes in
           let left = c.in_ok-pass.ensures.left in
-          let more = subst (λ (k : Carrier). PiecesFollow (g.K.Sink.contents c.loop-turn.sink) (g.K.Sink.contents c.carry_turn.new.sink) (waiting k) (waiting c.carry_turn.new.self.carrier) [] count bytes) c.in_ok-noted.ensures.writer.keeps.1 c.in_ok-carry_turn.ensures.many in
+          let more = subst (λ (k : Carrier). PiecesFollow (g.K.Sink.takes c.loop-turn.sink c.carry_turn.new.sink) (waiting k) (waiting c.carry_turn.new.self.carrier) [] count bytes) c.in_ok-noted.ensures.writer.keeps.1 c.in_ok-carry_turn.ensures.many in
           rw c.from-bytes.ensures (
             i.sent.0 + count,
             fewer_to_come i.sent.0 c.loop-turn.schedule.left count c.pass.new.self.left _ i.sent.1 c.in_ok-pass.ensures.enough left,
-            follow_then (g.K.Sink.contents c.args.sink.now) (g.K.Sink.contents c.loop-turn.sink) (g.K.Sink.contents c.carry_turn.new.sink) (waiting c.args.self.now.carrier) (waiting c.loop-turn.self.carrier) (waiting c.carry_turn.new.self.carrier) c.args.self.now.head.items i.sent.0
+            follow_then g.met.K.Sink.takes_on c.args.sink.now c.loop-turn.sink c.carry_turn.new.sink (waiting c.args.self.now.carrier) (waiting c.loop-turn.self.carrier) (waiting c.carry_turn.new.self.carrier) c.args.self.now.head.items i.sent.0
                 c.loop-turn.bytes count bytes i.sent.2 more,
           );
       on = λ told tree o ready.
@@ -257,8 +258,8 @@ loop-turn-preserved g c =
           let s = c.loop-turn.schedule in
           let w = c.loop-turn.self in
           let h = i.on told tree o ready in
-          let before = g.K.Sink.contents c.args.sink.now in
-          let after = g.K.Sink.contents c.loop-turn.sink in
+          let before = c.args.sink.now in
+          let after = c.loop-turn.sink in
           let here = c.in-Some.ensures.track in
           let ends : (info : TrackInfo) → slice_get m.tracks s.track ≡ Some info → c.in-Some.turn.end ≡ turn_end s info.timescale = λ info is. c.in-Some.ensures.end info (rw c.tracks-tracks.ensures is) in
           let noted = (rw (i.honesty, i.file) at c.in_ok-noted.ensures.noted) told tree o in
@@ -272,12 +273,14 @@ loop-turn-preserved g c =
           let there = (get_or c.tracks-tracks.result.now c.in-Some.turn.track c.index-tracks-track.result).id in
           let read : (x : Option SampleAt) → slice_get c.carry_turn.new.self.nexts.items c.in-Some.turn.track ≡ Some x → c.index.result.now ≡ x = λ x is. read_at c.carry_turn.new.self.nexts.items c.in-Some.turn.track x _ is c.index.ensures in
           let due_next =
-          with_times c.args.self.now.leaving file tree m o s c.loop-turn.sequence c.loop-turn.bytes w before after h c.in-Some.turn here ends i.tracks i.writer i.leaving c.note_turn.new.self c.in_ok-noted.noted there noted c.in_ok-noted.ensures.writer.keeps few is_id c.carry_turn.new.self
+          with_times c.args.self.now.leaving file tree m o s c.loop-turn.sequence c.loop-turn.bytes w
+          g.met.K.Sink.takes_on before after h c.in-Some.turn here ends i.tracks i.writer i.leaving c.note_turn.new.self c.in_ok-noted.noted there noted c.in_ok-noted.ensures.writer.keeps few is_id c.carry_turn.new.self
           c.index.result.now copied read (λ (xs : List (Option SampleAt)). IsDueAt m.tracks xs c.pass.new.self c.pass.new.due) (i.due told tree o ready) c.in_ok-carry_turn.ensures.writer.keeps.2 (rw c.tracks-tracks.ensures at c.in_ok-pass.ensures.due) in
           rw (c.sequence_behind-sequence.ensures, c.from-bytes.ensures)
-          (writes_skips c.args.self.now.leaving file tree m next c.pass.new.self _ _ _ _ _ _ _ _ c.pass.new.due o
-          (turn_goes c.args.self.now.leaving file tree m o s c.loop-turn.sequence c.loop-turn.bytes w before after h c.in-Some.turn here ends i.tracks i.writer i.leaving c.note_turn.new.self c.in_ok-noted.noted there noted c.in_ok-noted.ensures.writer.keeps few is_id c.carry_turn.new.self
-          c.index.result.now copied read (g.K.Sink.contents c.carry_turn.new.sink) next put c.in_ok-carry_turn.ensures.writer.keeps refl)
+          (writes_skips c.args.self.now.leaving file tree m next c.pass.new.self _ _ _ _ _ _ _ c.pass.new.due o
+          (turn_goes c.args.self.now.leaving file tree m o s c.loop-turn.sequence c.loop-turn.bytes w
+          g.met.K.Sink.takes_on before after h c.in-Some.turn here ends i.tracks i.writer i.leaving c.note_turn.new.self c.in_ok-noted.noted there noted c.in_ok-noted.ensures.writer.keeps few is_id c.carry_turn.new.self
+          c.index.result.now copied read c.carry_turn.new.sink next put c.in_ok-carry_turn.ensures.writer.keeps refl)
           c.in_ok-pass.ensures.turned due_next);
       due = λ told tree o ready.
           let file = g.S.Store.file c.args.store.now in
@@ -285,8 +288,8 @@ loop-turn-preserved g c =
           let s = c.loop-turn.schedule in
           let w = c.loop-turn.self in
           let h = i.on told tree o ready in
-          let before = g.K.Sink.contents c.args.sink.now in
-          let after = g.K.Sink.contents c.loop-turn.sink in
+          let before = c.args.sink.now in
+          let after = c.loop-turn.sink in
           let here = c.in-Some.ensures.track in
           let ends : (info : TrackInfo) → slice_get m.tracks s.track ≡ Some info → c.in-Some.turn.end ≡ turn_end s info.timescale = λ info is. c.in-Some.ensures.end info (rw c.tracks-tracks.ensures is) in
           let noted = (rw (i.honesty, i.file) at c.in_ok-noted.ensures.noted) told tree o in
@@ -297,7 +300,7 @@ loop-turn-preserved g c =
           let copied = (rw (c.in_ok-noted.ensures.store.honesty, c.in_ok-noted.ensures.store.file, i.honesty, i.file) at c.in_ok-carry_turn.ensures.copied) told tree o in
           let there = (get_or c.tracks-tracks.result.now c.in-Some.turn.track c.index-tracks-track.result).id in
           let read : (x : Option SampleAt) → slice_get c.carry_turn.new.self.nexts.items c.in-Some.turn.track ≡ Some x → c.index.result.now ≡ x = λ x is. read_at c.carry_turn.new.self.nexts.items c.in-Some.turn.track x _ is c.index.ensures in
-          with_times c.args.self.now.leaving file tree m o s c.loop-turn.sequence c.loop-turn.bytes w before after h c.in-Some.turn here ends i.tracks i.writer i.leaving c.note_turn.new.self c.in_ok-noted.noted there noted c.in_ok-noted.ensures.writer.keeps few is_id
+          with_times c.args.self.now.leaving file tree m o s c.loop-turn.sequence c.loop-turn.bytes w g.met.K.Sink.takes_on before after h c.in-Some.turn here ends i.tracks i.writer i.leaving c.note_turn.new.self c.in_ok-noted.noted there noted c.in_ok-noted.ensures.writer.keeps few is_id
           c.carry_turn.new.self c.index.result.now copied
           read (λ (xs : List (Option SampleAt)). IsDueAt m.tracks xs c.pass.new.self c.pass.new.due) (i.due told tree o ready) c.in_ok-carry_turn.ensures.writer.keeps.2 (rw c.tracks-tracks.ensures at c.in_ok-pass.ensures.due);
       within = λ told tree o n may.
@@ -319,10 +322,10 @@ returns-clause-bytes g c told tree o ready =
     let s = c.loop-turn.schedule in
     let w = c.loop-turn.self in
     let h = i.on told tree o ready in
-    let before = g.K.Sink.contents c.args.sink.now in
-    let after = g.K.Sink.contents c.loop-turn.sink in
+    let before = c.args.sink.now in
+    let after = c.loop-turn.sink in
     let none = turns_end file m.tracks s h.lefts h.comings h.turn (c.in_default.ensures.none refl) in
-    on_ok _ _ c.flush.result (λ x. all_put c.args.self.now.leaving file tree m s c.loop-turn.sequence c.loop-turn.bytes w.walks.items w.nexts.items (length w.rows.items) before after (waiting w.carrier) h _ none x) c.flush.ensures.bytes
+    on_ok _ _ c.flush.result (λ x. all_put c.args.self.now.leaving file tree m s c.loop-turn.sequence c.loop-turn.bytes w.walks.items w.nexts.items (length w.rows.items) g.met.K.Sink.takes_on before after (waiting w.carrier) h _ none x) c.flush.ensures.bytes
 
 pub returns-clause-prefix : goal.returns-clause-prefix
 returns-clause-prefix g c told tree o ready =
@@ -332,10 +335,10 @@ returns-clause-prefix g c told tree o ready =
     let s = c.loop-turn.schedule in
     let w = c.loop-turn.self in
     let h = i.on told tree o ready in
-    let before = g.K.Sink.contents c.args.sink.now in
-    let after = g.K.Sink.contents c.loop-turn.sink in
+    let before = c.args.sink.now in
+    let after = c.loop-turn.sink in
     let none = turns_end file m.tracks s h.lefts h.comings h.turn (c.in_default.ensures.none refl) in
-    on_err _ _ c.flush.result (λ x. not_all_put c.args.self.now.leaving file tree m s c.loop-turn.sequence c.loop-turn.bytes w.walks.items w.nexts.items (length w.rows.items) before after (waiting w.carrier) h _ none x) c.flush.ensures.prefix
+    on_err _ _ c.flush.result (λ x. not_all_put c.args.self.now.leaving file tree m s c.loop-turn.sequence c.loop-turn.bytes w.walks.items w.nexts.items (length w.rows.items) g.met.K.Sink.takes_on before after (waiting w.carrier) h _ none x) c.flush.ensures.prefix
 
 pub returns-clause-unchanged : goal.returns-clause-unchanged
 returns-clause-unchanged g c told tree o ready =
@@ -384,7 +387,7 @@ pub returns-then-not-are_all-clause-prefix : goal.returns-then-not-are_all-claus
 returns-then-not-are_all-clause-prefix g c told tree o ready =
     let i = c.loop-turn.invariant in
     let w = c.loop-turn.self in
-    stopped c.args.self.now.leaving (g.S.Store.file c.args.store.now) tree c.args.movie.now c.loop-turn.schedule c.loop-turn.sequence c.loop-turn.bytes w.walks.items w.nexts.items (length w.rows.items) (g.K.Sink.contents c.args.sink.now) (g.K.Sink.contents c.loop-turn.sink)
+    stopped c.args.self.now.leaving (g.S.Store.file c.args.store.now) tree c.args.movie.now c.loop-turn.schedule c.loop-turn.sequence c.loop-turn.bytes w.walks.items w.nexts.items (length w.rows.items) g.met.K.Sink.takes_on c.args.sink.now c.loop-turn.sink
     (waiting w.carrier) (i.on told tree o ready)
 
 pub returns-then-not-are_all-clause-unchanged : goal.returns-then-not-are_all-clause-unchanged
@@ -392,7 +395,7 @@ returns-then-not-are_all-clause-unchanged g c told tree o ready e =
     let i = c.loop-turn.invariant in
     let w = c.loop-turn.self in
     let m = c.args.movie.now in
-    let all = all_taken c.args.self.now.leaving (g.S.Store.file c.args.store.now) tree m c.loop-turn.schedule c.loop-turn.sequence c.loop-turn.bytes w.walks.items w.nexts.items (length w.rows.items) (g.K.Sink.contents c.args.sink.now) (g.K.Sink.contents c.loop-turn.sink)
+    let all = all_taken c.args.self.now.leaving (g.S.Store.file c.args.store.now) tree m c.loop-turn.schedule c.loop-turn.sequence c.loop-turn.bytes w.walks.items w.nexts.items (length w.rows.items) g.met.K.Sink.takes_on c.args.sink.now c.loop-turn.sink
     (waiting w.carrier) (i.on told tree o ready) (c.in_default.ensures.none refl) in
     c.are_all.ensures.missing c.if-not-are_all.true (all.0, all.1 ∙ ap (λ (infos : List TrackInfo). sum_by (λ (x : TrackInfo). x.bytes) infos) (sym c.tracks-tracks.ensures))
 
@@ -407,7 +410,7 @@ returns-clause-whole g c =
     let all = (rw c.tracks-tracks.ensures at c.are_all.ensures.all) c.if-not-are_all.false in
     let none = all.0 in
     on_ok _ _ c.flush.result
-    (λ x. all_follow c.args.movie.now (g.K.Sink.contents c.args.sink.now) (g.K.Sink.contents c.loop-turn.sink) (g.K.Sink.contents c.flush.new.sink) (waiting c.args.self.now.carrier) (waiting w.carrier) c.args.self.now.head.items i.sent.0 c.loop-turn.bytes i.sent.2 (omega (arith, none, sum)) all.1 x)
+    (λ x. all_follow c.args.movie.now g.met.K.Sink.takes_on c.args.sink.now c.loop-turn.sink c.flush.new.sink (waiting c.args.self.now.carrier) (waiting w.carrier) c.args.self.now.head.items i.sent.0 c.loop-turn.bytes i.sent.2 (omega (arith, none, sum)) all.1 x)
     c.flush.ensures.bytes
 
 pub returns-in_err-noted-clause-turns : goal.returns-in_err-noted-clause-turns

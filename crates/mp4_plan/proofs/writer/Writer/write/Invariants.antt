@@ -27,10 +27,10 @@ invariant-loop-turn g l = record {
   rows : length l.self.rows.items ≡ length l.fn.self.rows.items;
   few : l.bytes + l.schedule.left * 4294967295 ≤ 2 ^ 64 * 4294967295 * 4294967295;
   sent : (samples : ℕ) × (samples + l.schedule.left ≡ sum_by (λ (i : TrackInfo). i.samples) l.movie.tracks)
-      × PiecesFollow (g.K.Sink.contents l.fn.sink) (g.K.Sink.contents l.sink) (waiting l.fn.self.carrier) (waiting l.self.carrier) l.fn.self.head.items samples l.bytes;
+      × PiecesFollow (g.K.Sink.takes l.fn.sink l.sink) (waiting l.fn.self.carrier) (waiting l.self.carrier) l.fn.self.head.items samples l.bytes;
   on : OverOpened g.S.Store l.fn.store l.movie
       (λ file tree. IsReady file tree l.movie l.fn.self
-      → WritesOn l.fn.self.leaving file tree l.movie l.schedule l.sequence l.bytes l.self.walks.items l.self.nexts.items (length l.self.rows.items) (g.K.Sink.contents l.fn.sink) (g.K.Sink.contents l.sink) (waiting l.self.carrier));
+      → WritesOn l.fn.self.leaving file tree l.movie l.schedule l.sequence l.bytes l.self.walks.items l.self.nexts.items (length l.self.rows.items) (g.K.Sink.takes l.fn.sink l.sink) (waiting l.self.carrier));
   within : OverOpened g.S.Store l.fn.store l.movie
       (λ file tree. (n : ℕ) → MayAllWrite file tree l.movie l.fn.self.walks.items n → AllWriteOn file tree l.movie n l.self.walks.items l.fn.steps l.steps);
   due : OverOpened g.S.Store l.fn.store l.movie (λ file tree. IsReady file tree l.movie l.fn.self → IsDueAt l.movie.tracks l.self.nexts.items l.schedule l.self.due);

@@ -10,7 +10,8 @@ pub returns-in_err-count-clause-prefix : goal.returns-in_err-count-clause-prefix
 returns-in_err-count-clause-prefix g c =
     let p = err_from_is_err_and c.from_residual.result c.from_residual.ensures.1 in
     let bytes = c.args.bytes.now in
-    rw p.1 (no_room _ _ _ (waiting c.args.self.now) (waiting c.loop-done.self) (take c.loop-done.done bytes) (drop c.loop-done.done bytes) bytes c.loop-done.invariant.3 (rw (append-nil (waiting c.loop-done.self)) at c.in_err-count.ensures.put) (front_and_rest bytes c.loop-done.done))
+    rw p.1 (no_room g.met.K.Sink.takes_on _ _ _ (waiting c.args.self.now) (waiting c.loop-done.self) (take c.loop-done.done bytes) (drop c.loop-done.done bytes) bytes c.loop-done.invariant.3 (rw (append-nil (waiting c.loop-done.self)) at c.in_err-count.ensures.put)
+    (front_and_rest bytes c.loop-done.done))
 
 pub loop-done-preserved : goal.loop-done-preserved
 loop-done-preserved g c =
@@ -19,5 +20,6 @@ loop-done-preserved g c =
       search rules,
       search rules,
       search rules,
-      piece_waits _ _ _ (waiting c.args.self.now) (waiting c.loop-done.self) (waiting c.make_room.new.self) _ (take c.loop-done.done bytes) (take n (drop c.loop-done.done bytes)) _ c.loop-done.invariant.3 c.in_ok-count.ensures.put (search rules) (take-add c.loop-done.done n bytes),
+      piece_waits g.met.K.Sink.takes_on _ _ _ (waiting c.args.self.now) (waiting c.loop-done.self) (waiting c.make_room.new.self) _ (take c.loop-done.done bytes) (take n (drop c.loop-done.done bytes)) _ c.loop-done.invariant.3 c.in_ok-count.ensures.put (search rules)
+          (take-add c.loop-done.done n bytes),
     )

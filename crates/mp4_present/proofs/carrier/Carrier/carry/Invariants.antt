@@ -9,7 +9,7 @@ invariant-loop-done g l =
     (l.done ≤ length l.bytes)
     × (vec_len l.self.buffer ≡ vec_len l.fn.self.buffer)
     × (g.K.Sink.put_failures l.sink ≡ g.K.Sink.put_failures l.fn.sink)
-    × BytesGoOn (g.K.Sink.contents l.fn.sink) (g.K.Sink.contents l.sink) (waiting l.fn.self) (waiting l.self) (take l.done l.bytes)
+    × BytesGoOn (g.K.Sink.takes l.fn.sink l.sink) (waiting l.fn.self) (waiting l.self) (take l.done l.bytes)
 
 abbrev pub decreases-loop-done : goal.decreases-loop-done
 decreases-loop-done g l = length l.bytes - l.done

@@ -14,7 +14,7 @@ returns-in_err-count-clause-prefix g c =
     let file = g.S.Store.file c.args.store.now in
     let done = c.loop-done.done in
     let made = rw (append-nil (waiting c.loop-done.self)) at c.in_err-count.ensures.put in
-    rw p.1 (λ honest. no_room _ _ _ (waiting c.args.self.now) (waiting c.loop-done.self) (range file c.args.at done) (range file (c.args.at + done) (c.args.len - done)) _ (i.6 honest) made (range_and_rest file c.args.at done c.args.len i.0))
+    rw p.1 (λ honest. no_room g.met.K.Sink.takes_on _ _ _ (waiting c.args.self.now) (waiting c.loop-done.self) (range file c.args.at done) (range file (c.args.at + done) (c.args.len - done)) _ (i.6 honest) made (range_and_rest file c.args.at done c.args.len i.0))
 
 pub returns-in_err-add_range-clause-prefix : goal.returns-in_err-add_range-clause-prefix
 returns-in_err-add_range-clause-prefix g c =
@@ -22,7 +22,8 @@ returns-in_err-add_range-clause-prefix g c =
     let i = c.loop-done.invariant in
     let file = g.S.Store.file c.args.store.now in
     let done = c.loop-done.done in
-    rw p.1 (λ honest. not_read _ _ _ (waiting c.args.self.now) (waiting c.loop-done.self) (waiting c.make_room.new.self) (range file c.args.at done) (range file (c.args.at + done) (c.args.len - done)) _ (i.6 honest) c.in_ok-count.ensures.put (range_and_rest file c.args.at done c.args.len i.0))
+    rw p.1 (λ honest. not_read g.met.K.Sink.takes_on _ _ _ (waiting c.args.self.now) (waiting c.loop-done.self) (waiting c.make_room.new.self) (range file c.args.at done) (range file (c.args.at + done) (c.args.len - done)) _ (i.6 honest) c.in_ok-count.ensures.put
+    (range_and_rest file c.args.at done c.args.len i.0))
 
 pub loop-done-preserved : goal.loop-done-preserved
 loop-done-preserved g c =
@@ -38,6 +39,6 @@ loop-done-preserved g c =
       search rules,
       (λ honest.
           let read = (rw (i.2, i.3) at c.in_ok-add_range.ensures.bytes) honest in
-          piece_waits _ _ _ (waiting c.args.self.now) (waiting c.loop-done.self) (waiting c.make_room.new.self) _ (range file c.args.at done) (range file (c.args.at + done) n) _ (i.6 honest) c.in_ok-count.ensures.put read (range-add file c.args.at done n)),
-      piece_counted _ _ _ (waiting c.args.self.now) (waiting c.loop-done.self) (waiting c.make_room.new.self) (waiting c.add_range.new.self) done n i.7 c.in_ok-count.ensures.put c.in_ok-add_range.ensures.many,
+          piece_waits g.met.K.Sink.takes_on _ _ _ (waiting c.args.self.now) (waiting c.loop-done.self) (waiting c.make_room.new.self) _ (range file c.args.at done) (range file (c.args.at + done) n) _ (i.6 honest) c.in_ok-count.ensures.put read (range-add file c.args.at done n)),
+      piece_counted g.met.K.Sink.takes_on _ _ _ (waiting c.args.self.now) (waiting c.loop-done.self) (waiting c.make_room.new.self) (waiting c.add_range.new.self) done n i.7 c.in_ok-count.ensures.put c.in_ok-add_range.ensures.many,
     )

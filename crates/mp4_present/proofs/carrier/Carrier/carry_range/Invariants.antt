@@ -13,8 +13,8 @@ invariant-loop-done g l =
     × (g.S.Store.file l.store ≡ g.S.Store.file l.fn.store)
     × (g.S.Store.read_failures l.store ≡ g.S.Store.read_failures l.fn.store)
     × (g.K.Sink.put_failures l.sink ≡ g.K.Sink.put_failures l.fn.sink)
-    × (IsTrue (g.S.Store.is_honest l.fn.store) → BytesGoOn (g.K.Sink.contents l.fn.sink) (g.K.Sink.contents l.sink) (waiting l.fn.self) (waiting l.self) (range (g.S.Store.file l.fn.store) l.at l.done))
-    × GoOnBy (g.K.Sink.contents l.fn.sink) (g.K.Sink.contents l.sink) (waiting l.fn.self) (waiting l.self) l.done
+    × (IsTrue (g.S.Store.is_honest l.fn.store) → BytesGoOn (g.K.Sink.takes l.fn.sink l.sink) (waiting l.fn.self) (waiting l.self) (range (g.S.Store.file l.fn.store) l.at l.done))
+    × GoOnBy (g.K.Sink.takes l.fn.sink l.sink) (waiting l.fn.self) (waiting l.self) l.done
 
 abbrev pub decreases-loop-done : goal.decreases-loop-done
 decreases-loop-done g l = l.len - l.done

@@ -1,6 +1,6 @@
 use Rattle.std.proofs.Common.{[], ◌∙◌, ◌≡◌, ◌+◌, ◌-◌, ◌≤◌, ℕ, Some, subst, sym, arith}
 use Rattle.std.proofs.lemmas.Result.{err_from_is_err_and}
-use Rattle.mp4_store.proofs.Known.{AppendsPrefix-nothing}
+use Rattle.mp4_store.proofs.Known.{TakesPrefix-nothing}
 use Rattle.mp4_present.specs.words.Carried.{waiting, GoOnBy}
 use Rattle.mp4_present.specs.words.SamplesComing.{track_samples, samples_behind}
 use Rattle.mp4_present.proofs.Causes.{copy_not_loaded, copy_not_carried}
@@ -28,12 +28,12 @@ whole_is all left none = omega (arith, none)
 pub returns-in_err-walk-clause-prefix : goal.returns-in_err-walk-clause-prefix
 returns-in_err-walk-clause-prefix g c =
     let p = err_from_is_err_and c.from_residual.result c.from_residual.ensures.1 in
-    rw p.1 (λ told tree t o is. AppendsPrefix-nothing _ _)
+    rw p.1 (λ told tree t o is. TakesPrefix-nothing (g.K.Sink.takes c.args.sink.now c.args.sink.now) (g.met.K.Sink.takes_nothing c.args.sink.now) _)
 
 pub returns-in_err-carrier-clause-prefix : goal.returns-in_err-carrier-clause-prefix
 returns-in_err-carrier-clause-prefix g c =
     let p = err_from_is_err_and c.from_residual-in_err-carrier.result c.from_residual-in_err-carrier.ensures.1 in
-    rw p.1 (λ told tree t o is. AppendsPrefix-nothing _ _)
+    rw p.1 (λ told tree t o is. TakesPrefix-nothing (g.K.Sink.takes c.args.sink.now c.args.sink.now) (g.met.K.Sink.takes_nothing c.args.sink.now) _)
 
 pub returns-in_err-left-clause-prefix : goal.returns-in_err-left-clause-prefix
 returns-in_err-left-clause-prefix g c =
@@ -41,18 +41,18 @@ returns-in_err-left-clause-prefix g c =
     let file = g.S.Store.file c.args.store.now in
     rw p.1 (λ told tree t o is.
     let x = (rw c.in_ok-carrier.ensures.empty at c.in_err-left.ensures.taken.put) told in
-    track_fails file tree t c.args.self.now _ _ _ [] c.in_ok-walk.walk (track_samples tree t) (track_samples tree t) (hand_none file _ [] _) (c.in_ok-walk.ensures.coming file tree t o is) x.0 x.1 x.2)
+    track_fails file tree t c.args.self.now g.met.K.Sink.takes_on _ _ _ [] c.in_ok-walk.walk (track_samples tree t) (track_samples tree t) (hand_none file _ (g.met.K.Sink.takes_nothing _) [] _) (c.in_ok-walk.ensures.coming file tree t o is) x.0 x.1 x.2)
 
 pub returns-in_err-left-clause-unchanged : goal.returns-in_err-left-clause-unchanged
 returns-in_err-left-clause-unchanged g c told tree t o is =
     let p = err_from_is_err_and c.from_residual-in_err-left.result c.from_residual-in_err-left.ensures.1 in
     let file = g.S.Store.file c.args.store.now in
-    let contents = g.K.Sink.contents c.args.sink.now in
+    let sink = c.args.sink.now in
     let x = c.in_err-left.ensures.unchanged in
     let m = c.args.self.now in
     let info = c.index-tracks-track.result in
     let info_at = at_place m.tracks c.args.track info c.requires (rw c.tracks.ensures at c.index-tracks-track.is) in
-    rw (p.1, p.2) (in_hand_lies file tree t m contents contents [] c.in_ok-walk.walk (track_samples tree t) (track_samples tree t) _ info.bytes _ (hand_none file contents [] _) (c.in_ok-walk.ensures.coming file tree t o is)
+    rw (p.1, p.2) (in_hand_lies file tree t m (g.K.Sink.takes sink sink) [] c.in_ok-walk.walk (track_samples tree t) (track_samples tree t) _ info.bytes _ (hand_none file _ (g.met.K.Sink.takes_nothing sink) [] _) (c.in_ok-walk.ensures.coming file tree t o is)
     (track_sizes file m tree t c.args.track info o is info_at) (track_lies file m tree t c.args.track o is) x.0 x.1 x.2)
 
 pub loop-carrier-init : goal.loop-carrier-init
@@ -71,10 +71,11 @@ loop-carrier-init g c =
       going = λ told tree t o is.
           let x = (rw c.in_ok-carrier.ensures.empty at e.taken.put) told in
           let y = e.taken.left.sizes in
-          track_next file tree t m _ _ _ [] (waiting c.carry_hand.new.carrier) c.in_ok-walk.walk c.carry_hand.new.walk (track_samples tree t) (track_samples tree t) info.bytes c.in_ok-left.left (hand_none file _ [] _) (c.in_ok-walk.ensures.coming file tree t o is)
+          track_next file tree t m g.met.K.Sink.takes_on _ _ _ [] (waiting c.carry_hand.new.carrier) c.in_ok-walk.walk c.carry_hand.new.walk (track_samples tree t) (track_samples tree t) info.bytes c.in_ok-left.left (hand_none file _ (g.met.K.Sink.takes_nothing _) [] _)
+          (c.in_ok-walk.ensures.coming file tree t o is)
           (track_sizes file m tree t c.args.track info o is info_at) y.0 y.1 y.2 x.0 x.1 x.2 e.walk.stands;
       many = λ other at.
-          subst (λ (i : TrackInfo). (c.in_ok-left.left ≤ i.bytes) × GoOnBy (g.K.Sink.contents c.args.sink.now) (g.K.Sink.contents c.carry_hand.new.sink) [] (waiting c.carry_hand.new.carrier) (i.bytes - c.in_ok-left.left)) (same_info info other (sym info_at ∙ at))
+          subst (λ (i : TrackInfo). (c.in_ok-left.left ≤ i.bytes) × GoOnBy (g.K.Sink.takes c.args.sink.now c.carry_hand.new.sink) [] (waiting c.carry_hand.new.carrier) (i.bytes - c.in_ok-left.left)) (same_info info other (sym info_at ∙ at))
           (rw c.in_ok-carrier.ensures.empty at e.taken.left.many);
       takes = λ told tree t o is.
           let may = c.in_ok-walk.ensures.may file tree t o is in
@@ -85,7 +86,7 @@ pub returns-in_err-load-clause-prefix : goal.returns-in_err-load-clause-prefix
 returns-in_err-load-clause-prefix g c =
     let p = err_from_is_err_and c.from_residual-in_err-load.result c.from_residual-in_err-load.ensures.1 in
     let file = g.S.Store.file c.args.store.now in
-    rw p.1 (λ told tree t o is. let u = c.loop-carrier.invariant.going told tree t o is in track_stops file _ _ (waiting c.loop-carrier.carrier) (track_samples tree t) (samples_behind tree t u.earlier u.later) u.goes)
+    rw p.1 (λ told tree t o is. let u = c.loop-carrier.invariant.going told tree t o is in track_stops file _ (waiting c.loop-carrier.carrier) (track_samples tree t) (samples_behind tree t u.earlier u.later) u.goes)
 
 pub returns-in_err-load-clause-unchanged : goal.returns-in_err-load-clause-unchanged
 returns-in_err-load-clause-unchanged g c told tree t o is =
@@ -98,7 +99,7 @@ pub returns-in_err-load-clause-refusal : goal.returns-in_err-load-clause-refusal
 returns-in_err-load-clause-refusal g c =
     let p = err_from_is_err_and c.from_residual-in_err-load.result c.from_residual-in_err-load.ensures.1 in
     let i = c.loop-carrier.invariant in
-    rw (p.1, p.2) (copy_not_loaded _ _ _ _ _ _ _ (rw i.reads at c.in_err-load.ensures.refusal))
+    rw (p.1, p.2) (copy_not_loaded (g.K.Sink.takes c.args.sink.now c.loop-carrier.sink) _ _ _ _ _ (rw i.reads at c.in_err-load.ensures.refusal))
 
 pub loop-carrier-preserved : goal.loop-carrier-preserved
 loop-carrier-preserved g c =
@@ -119,13 +120,14 @@ loop-carrier-preserved g c =
           let comes = loads_more file tree t m to_come c.load.new.self c.in_ok-load.field-0 c.if-branch.true ((rw (i.honesty, i.file) at l.loaded) told tree t u.earlier u.later o u.stands) in
           let x = (rw (l.store.honesty, i.honesty, l.store.file, i.file) at e.taken.put) told in
           let y = e.taken.left.sizes in
-          track_next file tree t m _ _ _ (waiting c.loop-carrier.carrier) (waiting c.carry_hand-in-loop-carrier.new.carrier) c.load.new.self c.carry_hand-in-loop-carrier.new.walk (track_samples tree t) to_come c.loop-carrier.left c.in_ok-left-2.left u.goes comes u.sizes y.0 y.1 y.2
+          track_next file tree t m g.met.K.Sink.takes_on _ _ _ (waiting c.loop-carrier.carrier) (waiting c.carry_hand-in-loop-carrier.new.carrier) c.load.new.self c.carry_hand-in-loop-carrier.new.walk (track_samples tree t)
+          to_come c.loop-carrier.left c.in_ok-left-2.left u.goes comes u.sizes y.0 y.1 y.2
           x.0 x.1 x.2 e.walk.stands;
       many = λ info at.
           let before = i.many info at in
           let more = e.taken.left.many in (
             fewer info.bytes c.loop-carrier.left c.in_ok-left-2.left before.0 more.0,
-            GoOnBy-then _ _ _ [] (waiting c.loop-carrier.carrier) (waiting c.carry_hand-in-loop-carrier.new.carrier) (info.bytes - c.loop-carrier.left) (c.loop-carrier.left - c.in_ok-left-2.left) (info.bytes - c.in_ok-left-2.left) before.1 more.1
+            GoOnBy-then g.met.K.Sink.takes_on _ _ _ [] (waiting c.loop-carrier.carrier) (waiting c.carry_hand-in-loop-carrier.new.carrier) (info.bytes - c.loop-carrier.left) (c.loop-carrier.left - c.in_ok-left-2.left) (info.bytes - c.in_ok-left-2.left) before.1 more.1
                 (less_by info.bytes c.loop-carrier.left c.in_ok-left-2.left before.0 more.0),
           );
       takes = λ told tree t o is.
@@ -145,7 +147,7 @@ returns-in_err-left-2-clause-prefix g c =
     let to_come = samples_behind tree t u.earlier u.later in
     let comes = loads_more file tree t m to_come c.load.new.self c.in_ok-load.field-0 c.if-branch.true ((rw (i.honesty, i.file) at l.loaded) told tree t u.earlier u.later o u.stands) in
     let x = (rw (l.store.honesty, i.honesty, l.store.file, i.file) at c.in_err-left-2.ensures.taken.put) told in
-    track_fails file tree t m _ _ _ (waiting c.loop-carrier.carrier) c.load.new.self (track_samples tree t) to_come u.goes comes x.0 x.1 x.2)
+    track_fails file tree t m g.met.K.Sink.takes_on _ _ _ (waiting c.loop-carrier.carrier) c.load.new.self (track_samples tree t) to_come u.goes comes x.0 x.1 x.2)
 
 pub returns-in_err-left-2-clause-unchanged : goal.returns-in_err-left-2-clause-unchanged
 returns-in_err-left-2-clause-unchanged g c told tree t o is =
@@ -158,13 +160,13 @@ returns-in_err-left-2-clause-unchanged g c told tree t o is =
     let to_come = samples_behind tree t u.earlier u.later in
     let comes = loads_more file tree t m to_come c.load.new.self c.in_ok-load.field-0 c.if-branch.true ((rw (i.honesty, i.file) at l.loaded) told tree t u.earlier u.later o u.stands) in
     let x = rw (l.store.file, i.file) at c.in_err-left-2.ensures.unchanged in
-    rw (p.1, p.2) (in_hand_lies file tree t m _ _ (waiting c.loop-carrier.carrier) c.load.new.self (track_samples tree t) to_come _ c.loop-carrier.left _ u.goes comes u.sizes (track_lies file m tree t c.args.track o is) x.0 x.1 x.2)
+    rw (p.1, p.2) (in_hand_lies file tree t m _ (waiting c.loop-carrier.carrier) c.load.new.self (track_samples tree t) to_come _ c.loop-carrier.left _ u.goes comes u.sizes (track_lies file m tree t c.args.track o is) x.0 x.1 x.2)
 
 pub returns-in_err-left-2-clause-refusal : goal.returns-in_err-left-2-clause-refusal
 returns-in_err-left-2-clause-refusal g c =
     let p = err_from_is_err_and c.from_residual-in_err-left-2.result c.from_residual-in_err-left-2.ensures.1 in
     let i = c.loop-carrier.invariant in
-    rw (p.1, p.2) (copy_not_carried _ _ _ _ _ _ _ (rw (c.in_ok-load.ensures.store.reads, i.reads, i.puts) at c.in_err-left-2.ensures.refusal))
+    rw (p.1, p.2) (copy_not_carried (g.K.Sink.takes c.args.sink.now c.carry_hand-in-loop-carrier.new.sink) _ _ _ _ _ (rw (c.in_ok-load.ensures.store.reads, i.reads, i.puts) at c.in_err-left-2.ensures.refusal))
 
 pub returns-clause-bytes : goal.returns-clause-bytes
 returns-clause-bytes g c =
@@ -174,7 +176,7 @@ returns-clause-bytes g c =
     let u = i.going told tree t o is in
     let to_come = samples_behind tree t u.earlier u.later in
     let none = loads_none file tree t c.args.self.now to_come c.load.new.self c.in_ok-load.field-0 c.if-branch.false ((rw (i.honesty, i.file) at c.in_ok-load.ensures.loaded) told tree t u.earlier u.later o u.stands) in
-    track_whole file _ _ _ (waiting c.loop-carrier.carrier) (track_samples tree t) to_come u.goes none p) c.flush.ensures.bytes
+    track_whole file g.met.K.Sink.takes_on _ _ _ (waiting c.loop-carrier.carrier) (track_samples tree t) to_come u.goes none p) c.flush.ensures.bytes
 
 pub returns-clause-prefix : goal.returns-clause-prefix
 returns-clause-prefix g c =
@@ -184,7 +186,7 @@ returns-clause-prefix g c =
     let u = i.going told tree t o is in
     let to_come = samples_behind tree t u.earlier u.later in
     let none = loads_none file tree t c.args.self.now to_come c.load.new.self c.in_ok-load.field-0 c.if-branch.false ((rw (i.honesty, i.file) at c.in_ok-load.ensures.loaded) told tree t u.earlier u.later o u.stands) in
-    track_not_put file _ _ _ (waiting c.loop-carrier.carrier) (track_samples tree t) to_come u.goes none p) c.flush.ensures.prefix
+    track_not_put file g.met.K.Sink.takes_on _ _ _ (waiting c.loop-carrier.carrier) (track_samples tree t) to_come u.goes none p) c.flush.ensures.prefix
 
 pub returns-clause-unchanged : goal.returns-clause-unchanged
 returns-clause-unchanged g c told tree t o is = if_err _ _ c.flush.result (λ r w. put_unchanged _ _ r w) c.flush.ensures.refusal
@@ -199,13 +201,13 @@ returns-clause-whole g c =
     let none : left ≡ 0 = omega (arith, some) in
     on_ok _ _ c.flush.result (λ p info at.
     let many = (i.many info at).1 in
-    GoOnBy-all _ _ _ (waiting c.loop-carrier.carrier) info.bytes (subst (λ (n : ℕ). GoOnBy (g.K.Sink.contents c.args.sink.now) (g.K.Sink.contents c.loop-carrier.sink) [] (waiting c.loop-carrier.carrier) n) (whole_is info.bytes left none) many) p) c.flush.ensures.bytes
+    GoOnBy-all g.met.K.Sink.takes_on _ _ _ (waiting c.loop-carrier.carrier) info.bytes (subst (λ (n : ℕ). GoOnBy (g.K.Sink.takes c.args.sink.now c.loop-carrier.sink) [] (waiting c.loop-carrier.carrier) n) (whole_is info.bytes left none) many) p) c.flush.ensures.bytes
 
 pub returns-then-left-gt0-clause-prefix : goal.returns-then-left-gt0-clause-prefix
 returns-then-left-gt0-clause-prefix g c told tree t o is =
     let file = g.S.Store.file c.args.store.now in
     let u = c.loop-carrier.invariant.going told tree t o is in
-    track_stops file _ _ (waiting c.loop-carrier.carrier) (track_samples tree t) (samples_behind tree t u.earlier u.later) u.goes
+    track_stops file _ (waiting c.loop-carrier.carrier) (track_samples tree t) (samples_behind tree t u.earlier u.later) u.goes
 
 pub returns-then-left-gt0-clause-unchanged : goal.returns-then-left-gt0-clause-unchanged
 returns-then-left-gt0-clause-unchanged g c told tree t o is e =

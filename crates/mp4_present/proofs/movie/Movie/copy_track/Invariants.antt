@@ -21,8 +21,8 @@ invariant-loop-carrier g l =
       reads : g.S.Store.read_failures l.store ≡ g.S.Store.read_failures l.fn.store;
       puts : g.K.Sink.put_failures l.sink ≡ g.K.Sink.put_failures l.fn.sink;
       going : IsTrue (g.S.Store.is_honest l.fn.store) → (tree : FileTree) (t : TrackTree) → IsOpenedAs (g.S.Store.file l.fn.store) l.self tree → slice_get tree.movie.tracks l.track ≡ Some t
-          → TrackGoesOn (g.S.Store.file l.fn.store) tree t (g.K.Sink.contents l.fn.sink) (g.K.Sink.contents l.sink) (waiting l.carrier) l.walk (track_samples tree t) l.left;
-      many : (info : TrackInfo) → slice_get l.self.tracks l.track ≡ Some info → (l.left ≤ info.bytes) × GoOnBy (g.K.Sink.contents l.fn.sink) (g.K.Sink.contents l.sink) [] (waiting l.carrier) (info.bytes - l.left);
+          → TrackGoesOn (g.S.Store.file l.fn.store) tree t (g.K.Sink.takes l.fn.sink l.sink) (waiting l.carrier) l.walk (track_samples tree t) l.left;
+      many : (info : TrackInfo) → slice_get l.self.tracks l.track ≡ Some info → (l.left ≤ info.bytes) × GoOnBy (g.K.Sink.takes l.fn.sink l.sink) [] (waiting l.carrier) (info.bytes - l.left);
       takes : IsTrue (g.S.Store.is_honest l.fn.store) → (tree : FileTree) (t : TrackTree) → IsOpenedAs (g.S.Store.file l.fn.store) l.self tree → slice_get tree.movie.tracks l.track ≡ Some t
           → TakesOn (g.S.Store.file l.fn.store) tree t (walk_steps tree t) l.walk l.fn.steps l.steps;
     }

@@ -35,7 +35,7 @@ returns-clause-one_more g c = λ n a.
     plain_more _ n c.count.result c.args.self.now new t c.state_of.result a lies few (search rules) (search rules) bytes c.in_ok-push.ensures.items c.in_ok-push-2.ensures.items refl
 
 pub returns-clause-says : goal.returns-clause-says
-returns-clause-says g c = λ t trees i a.
+returns-clause-says g c = λ all by t trees i a.
     let e = c.in_ok-tables.ensures in
     let r : IsRead c.args.file_len c.description_count-descriptions.result c.args.self.now.room c.count.result c.totals-totals.result.duration c.totals-totals.result.bytes c.args.track.now c.in_ok-tables.tables c.check.new.keys = record {
       of_bytes = subst AreBytes c.payload.ensures c.length_of-len.ensures.bytes;
@@ -58,9 +58,10 @@ returns-clause-says g c = λ t trees i a.
     let room = a.room in
     let few : c.args.self.now.room ≤ 2 ^ 24 = omega (arith, room) in
     let tables = tables_are L n _ _ _ _ moov h v c.check.new.keys t i r x c.requires.inside.inside (search rules) (search rules) c.places.ensures.at in
-    let state = state_is L n _ _ _ _ moov h v c.check.new.keys t i r c.args.trexes.now s few c.state_of.ensures.id (c.state_of.ensures.descriptions ∙ sym c.description_count-descriptions.ensures) c.state_of.ensures.trex c.state_of.ensures.start (c.state_of.ensures.count ∙ c.count-2.ensures
+    let state = state_is L n _ _ _ _ moov h v c.check.new.keys t i r all s few c.state_of.ensures.id (c.state_of.ensures.descriptions ∙ sym c.description_count-descriptions.ensures) (c.state_of.ensures.trex ∙ by c.args.track.now.id) c.state_of.ensures.start (c.state_of.ensures.count
+    ∙ c.count-2.ensures
     ∙ sym c.count.ensures) c.state_of.ensures.time c.state_of.ensures.bytes c.state_of.ensures.keys in
-    tables_more L n _ _ _ _ moov h v c.check.new.keys t i r c.args.trexes.now trees c.args.self.now new x s a few refl refl tables state c.in_ok-push.ensures.items c.in_ok-push-2.ensures.items
+    tables_more L n _ _ _ _ moov h v c.check.new.keys t i r all trees c.args.self.now new x s a few refl refl tables state c.in_ok-push.ensures.items c.in_ok-push-2.ensures.items
 
 pub returns-in_err-tables-clause-refusal : goal.returns-in_err-tables-clause-refusal
 returns-in_err-tables-clause-refusal g c =

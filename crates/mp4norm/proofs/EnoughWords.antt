@@ -1,0 +1,547 @@
+-- Words with which two presentations are the same: which are needed, and that these are enough.
+use Rattle.std.proofs.Common.{◌≡◌, ℕ, zero, suc, ◌+◌, ◌*◌, ◌^◌, Bool, true, false, ◌||◌, if◌then◌else◌, List, [], ◌∷◌, length, take, Option, None, Some, ℤ, pos, refl, sym, ap, subst, ◌∙◌, arith}
+use Rattle.std.specs.Prelude.{◌==◌, slice_get, option_map, option_and_then}
+use Rattle.std.specs.List.{AllByRecursion, AllZip, Any, list_any}
+use Rattle.std.proofs.lemmas.Bool.{eqb-true, eq-eqb, lt-ltb}
+use Rattle.std.proofs.lemmas.List.Sums.{sum_by-cons}
+use Rattle.std.proofs.lemmas.Slice.Zip.{AllZip-long}
+use Rattle.mp4_boxes.proofs.Among.{true_false}
+use Rattle.mp4_tables.specs.format.Groups.{Groups, index_at}
+use Rattle.mp4_head.specs.format.Head.{Kept, Edit}
+use Rattle.mp4_present.specs.format.Presentation.{Sample, Track, Presentation, Valid}
+use Rattle.mp4_present.specs.format.Reduced.{sync_flag, reduce}
+use Rattle.mp4_present.specs.format.Differences.{same_value}
+use Rattle.mp4_present.specs.format.Comparison.{differences}
+use Rattle.mp4_present.specs.format.ComparisonLaws.{member, byte_value, payload_value, box_value, edit_value, movie_value, count_value, entry_value, track_value, sample_value, value_at, IsOne, IsTheirs}
+use Rattle.mp4_present.specs.format.CompleteLaws.{IsSameBut, same as same_field, sample_byte, entry_byte, index as same_index}
+use Rattle.mp4_present.proofs.ComparisonComplete.{differences_are_all}
+use Rattle.mp4_present.specs.declared.differences.Subject.{Subject}
+use Rattle.mp4_present.specs.declared.differences.Subject.TheVariants as subjects
+use Rattle.mp4_present.specs.declared.differences.Entries.{Entries}
+use Rattle.mp4_present.specs.declared.differences.Entries.TheVariants as entries
+use Rattle.mp4_present.specs.declared.differences.Part.{Part}
+use Rattle.mp4_present.specs.declared.differences.Part.TheVariants as parts
+use Rattle.mp4_present.specs.declared.differences.Field.{Field}
+use Rattle.mp4_present.specs.declared.differences.Field.TheVariants as fields
+use Rattle.mp4_present.specs.declared.differences.Value.{Value}
+use Rattle.mp4_present.specs.declared.differences.Value.TheVariants.{Number, Signed, Kind, Byte}
+use Rattle.mp4_present.specs.declared.differences.Difference.{Difference}
+use Rattle.mp4_present.specs.declared.leaving.Leaving.{Leaving}
+use Rattle.mp4_present.proofs.ComparisonGroups.{key_field, maps_same}
+use Rattle.mp4_present.proofs.ComparisonPlaces.{differences_are_theirs}
+use Rattle.mp4_present.proofs.ComparisonWhole.{HasMap, IsPlain, IsAllPlain, all_plain, each_difference_is_one}
+use Rattle.mp4_plan.specs.format.CoveringLaws.{Covers}
+use Rattle.mp4_plan.specs.format.ReducedLaws.{both}
+use Rattle.mp4_plan.proofs.Agreed.{reduce_is_exact}
+use Rattle.mp4_plan.proofs.Covering.{reduced_more}
+use Rattle.mp4_plan.specs.format.Agreeing.{SamplesAgree, MediaAgree, TrackHeadsAgree, MovieHeadsAgree, TracksAgree, Agree}
+use Rattle.mp4_present.proofs.ComparisonValues.{same_value_is_equal}
+use Rattle.mp4norm.specs.declared.tally.Kind.TheVariants as kinds
+use Rattle.mp4norm.specs.declared.tally.Kind.{Kind as KindOf}
+use Rattle.mp4norm.specs.format.LastLine.{kind_of, kind_of_field, kind_of_entries, kind_place, count_of}
+use Rattle.mp4norm.specs.words.Suggested.{differ_in_sync, is_in_sync, differ_in_all, has, suggested}
+
+-- ---- words that cover others
+
+or_twice : (a b : Bool) → (a || (a || b)) ≡ (a || b)
+or_twice true b = refl
+or_twice false b = refl
+
+pub or_true : (a : Bool) → (a || true) ≡ true
+or_true true = refl
+or_true false = refl
+
+pub covers_more : (l m : Leaving) → Covers l (both l m)
+covers_more l m i = record {
+  times = or_twice l.times m.times i;
+  edits = or_twice l.edits m.edits i;
+  flags = or_twice l.flags m.flags i;
+  groups = or_twice l.groups m.groups i;
+  metadata = or_twice l.metadata m.metadata i;
+}
+
+-- words for all kinds of these
+abbrev pub words_for : List Difference → Leaving
+words_for ds = record { times = has kinds.Times ds; edits = has kinds.Edits ds; flags = has kinds.Flags ds; groups = has kinds.Groups ds; metadata = has kinds.Kept ds }
+
+-- ---- which word leaves out a difference
+
+-- the word that leaves out a kind is among these
+abbrev left_out : Leaving → KindOf → Bool
+left_out k kinds.Times = k.times
+left_out k kinds.Edits = k.edits
+left_out k kinds.Flags = k.flags
+left_out k kinds.Groups = k.groups
+left_out k kinds.Kept = k.metadata
+left_out k _ = false
+
+-- a value that both say is the same
+no_two : {A : Type 0} (a b : A) (x y : Value) (f : A → Option Value) → a ≡ b → f a ≡ Some x → f b ≡ Some y → same_value x y ≡ false → ⊥
+no_two a b x y f e u v ne =
+    let whole : Some x ≡ Some y = sym u ∙ ap f e ∙ v in
+    let is : x ≡ y = cc in
+    true_false (same_value x y) ((same_value_is_equal x y).1 is) ne
+
+-- what is the same unless this is so, and differs
+unless : {A : Type 0} (w : Bool) (a b : A) (x y : Value) (f : A → Option Value) → (w ≡ false → a ≡ b) → f a ≡ Some x → f b ≡ Some y → same_value x y ≡ false → w ≡ true
+unless true a b x y f h u v ne = refl
+unless false a b x y f h u v ne = absurd (no_two a b x y f (h refl) u v ne)
+
+abbrev of_number : ℕ → Option Value
+of_number n = Some (Number n)
+
+abbrev of_signed : ℤ → Option Value
+of_signed n = Some (Signed n)
+
+abbrev of_count : {A : Type 0} → List A → Option Value
+of_count xs = Some (Number (length xs))
+
+module _ (k : Leaving) where
+  movie_left : (p q : Presentation) (field : Field) (x y : Value) → Agree k p q → movie_value p field ≡ Some x → movie_value q field ≡ Some y → same_value x y ≡ false → left_out k (kind_of_field subjects.Movie field) ≡ true
+  movie_left p q fields.Creation x y h u v ne = unless k.times p.movie.creation q.movie.creation x y of_number h.movie.creation u v ne
+  movie_left p q fields.Modification x y h u v ne = unless k.times p.movie.modification q.movie.modification x y of_number h.movie.modification u v ne
+  movie_left p q fields.Timescale x y h u v ne = absurd (no_two p.movie.timescale q.movie.timescale x y of_number h.movie.timescale u v ne)
+  movie_left p q fields.Rate x y h u v ne = absurd (no_two p.movie.rate q.movie.rate x y of_signed h.movie.rate u v ne)
+  movie_left p q fields.Volume x y h u v ne = absurd (no_two p.movie.volume q.movie.volume x y of_signed h.movie.volume u v ne)
+  movie_left p q (fields.Matrix n) x y h u v ne = absurd (no_two p.movie.matrix q.movie.matrix x y (λ m. option_map (λ z. Signed z) (member m n)) h.movie.matrix u v ne)
+  movie_left p q fields.Tracks x y h u v ne = absurd (no_two (length p.tracks) (length q.tracks) x y of_number (sym (AllZip-long (TracksAgree k) p.tracks q.tracks h.tracks)) u v ne)
+  movie_left p q (fields.Count entries.Kept) x y h u v ne = unless k.metadata p.movie.kept q.movie.kept x y of_count h.movie.kept u v ne
+  movie_left p q (fields.Entry entries.Kept n part) x y h u v ne = unless k.metadata p.movie.kept q.movie.kept x y (λ ks. option_and_then (box_value part) (member ks n)) h.movie.kept u v ne
+  movie_left p q _ x y h u v ne = absurd cc
+
+  module _ (of : ℕ) (s t : Track) (h : TracksAgree k s t) where
+    count_left : (list : Entries) (x y : Value) → Some (Number (count_value s.head list)) ≡ Some x → Some (Number (count_value t.head list)) ≡ Some y → same_value x y ≡ false → left_out k (kind_of_entries list) ≡ true
+    count_left entries.Edits x y u v ne = unless k.edits s.head.edits t.head.edits x y of_count h.head.edits u v ne
+    count_left entries.Kept x y u v ne = unless k.metadata s.head.kept t.head.kept x y of_count h.head.kept u v ne
+    count_left entries.Handler x y u v ne = absurd (no_two 1 1 x y of_number refl u v ne)
+    count_left entries.ExtendedLanguages x y u v ne = absurd (no_two s.head.media.extended_languages t.head.media.extended_languages x y of_count h.head.media.extended_languages u v ne)
+    count_left entries.MediaHeader x y u v ne = absurd (no_two 1 1 x y of_number refl u v ne)
+    count_left entries.Descriptions x y u v ne = absurd (no_two s.head.media.descriptions t.head.media.descriptions x y of_count h.head.media.descriptions u v ne)
+    count_left entries.GroupDescriptions x y u v ne = unless k.groups s.head.group_descriptions t.head.group_descriptions x y of_count h.head.group_descriptions u v ne
+
+    entry_left : (list : Entries) (n : ℕ) (part : Part) (x y : Value) → entry_value s.head list n part ≡ Some x → entry_value t.head list n part ≡ Some y → same_value x y ≡ false → left_out k (kind_of_entries list) ≡ true
+    entry_left entries.Edits n part x y u v ne = unless k.edits s.head.edits t.head.edits x y (λ xs. option_and_then (edit_value part) (member xs n)) h.head.edits u v ne
+    entry_left entries.Kept n part x y u v ne = unless k.metadata s.head.kept t.head.kept x y (λ xs. option_and_then (box_value part) (member xs n)) h.head.kept u v ne
+    entry_left entries.Handler n part x y u v ne = absurd (no_two s.head.media.handler t.head.media.handler x y (λ a. option_and_then (payload_value part) (member (a ∷ []) n)) h.head.media.handler u v ne)
+    entry_left entries.ExtendedLanguages n part x y u v ne = absurd (no_two s.head.media.extended_languages t.head.media.extended_languages x y (λ xs. option_and_then (payload_value part) (member xs n)) h.head.media.extended_languages u v ne)
+    entry_left entries.MediaHeader n part x y u v ne = absurd (no_two s.head.media.header t.head.media.header x y (λ a. option_and_then (box_value part) (member (a ∷ []) n)) h.head.media.header u v ne)
+    entry_left entries.Descriptions n part x y u v ne = absurd (no_two s.head.media.descriptions t.head.media.descriptions x y (λ xs. option_and_then (box_value part) (member xs n)) h.head.media.descriptions u v ne)
+    entry_left entries.GroupDescriptions n part x y u v ne = unless k.groups s.head.group_descriptions t.head.group_descriptions x y (λ xs. option_and_then (payload_value part) (member xs n)) h.head.group_descriptions u v ne
+
+    track_left : (field : Field) (x y : Value) → track_value s field ≡ Some x → track_value t field ≡ Some y → same_value x y ≡ false → left_out k (kind_of_field (subjects.Track of) field) ≡ true
+    track_left fields.Flags x y u v ne = absurd (no_two s.head.flags t.head.flags x y of_number h.head.flags u v ne)
+    track_left fields.Creation x y u v ne = unless k.times s.head.creation t.head.creation x y of_number h.head.creation u v ne
+    track_left fields.Modification x y u v ne = unless k.times s.head.modification t.head.modification x y of_number h.head.modification u v ne
+    track_left fields.Id x y u v ne = absurd (no_two s.head.id t.head.id x y of_number h.head.id u v ne)
+    track_left fields.Layer x y u v ne = absurd (no_two s.head.layer t.head.layer x y of_signed h.head.layer u v ne)
+    track_left fields.AlternateGroup x y u v ne = absurd (no_two s.head.alternate_group t.head.alternate_group x y of_signed h.head.alternate_group u v ne)
+    track_left fields.Volume x y u v ne = absurd (no_two s.head.volume t.head.volume x y of_signed h.head.volume u v ne)
+    track_left (fields.Matrix n) x y u v ne = absurd (no_two s.head.matrix t.head.matrix x y (λ m. option_map (λ z. Signed z) (member m n)) h.head.matrix u v ne)
+    track_left fields.Width x y u v ne = absurd (no_two s.head.width t.head.width x y of_number h.head.width u v ne)
+    track_left fields.Height x y u v ne = absurd (no_two s.head.height t.head.height x y of_number h.head.height u v ne)
+    track_left fields.MediaCreation x y u v ne = unless k.times s.head.media.creation t.head.media.creation x y of_number h.head.media.creation u v ne
+    track_left fields.MediaModification x y u v ne = unless k.times s.head.media.modification t.head.media.modification x y of_number h.head.media.modification u v ne
+    track_left fields.MediaTimescale x y u v ne = absurd (no_two s.head.media.timescale t.head.media.timescale x y of_number h.head.media.timescale u v ne)
+    track_left fields.Language x y u v ne = absurd (no_two s.head.media.language t.head.media.language x y of_number h.head.media.language u v ne)
+    track_left (fields.Count list) x y u v ne = count_left list x y u v ne
+    track_left (fields.Entry list n part) x y u v ne = entry_left list n part x y u v ne
+    track_left fields.Start x y u v ne = absurd (no_two s.start t.start x y of_number h.start u v ne)
+    track_left fields.Samples x y u v ne = absurd (no_two (length s.samples) (length t.samples) x y of_number (sym (AllZip-long (SamplesAgree k) s.samples t.samples h.samples)) u v ne)
+    track_left _ x y u v ne = absurd cc
+
+  module _ (of number : ℕ) (s t : Sample) (h : SamplesAgree k s t) where
+    sample_left : (field : Field) (x y : Value) → sample_value s field ≡ Some x → sample_value t field ≡ Some y → same_value x y ≡ false → left_out k (kind_of_field (subjects.Sample of number) field) ≡ true
+    sample_left fields.Duration x y u v ne = absurd (no_two s.duration t.duration x y of_number h.duration u v ne)
+    sample_left fields.Offset x y u v ne = absurd (no_two s.offset t.offset x y of_signed h.offset u v ne)
+    sample_left fields.Flags x y u v ne = unless k.flags s.flags t.flags x y of_number h.flags u v ne
+    sample_left fields.Description x y u v ne = absurd (no_two s.description t.description x y of_number h.description u v ne)
+    sample_left (fields.Group key) x y u v ne = unless k.groups s.groups t.groups x y (λ g. sample_value (record s { groups = g }) (fields.Group key)) h.groups u v ne
+    sample_left fields.Size x y u v ne = absurd (no_two s.bytes t.bytes x y of_count h.bytes u v ne)
+    sample_left (fields.Byte j count) x y u v ne = absurd (no_two s.bytes t.bytes x y (λ b. byte_value b j count) h.bytes u v ne)
+    sample_left _ x y u v ne = absurd cc
+
+    -- the flag that stays is the same
+    in_sync : (field : Field) (x y : Value) → sample_value s field ≡ Some x → sample_value t field ≡ Some y → differ_in_sync (kind_of_field (subjects.Sample of number) field) x y ≡ false
+    in_sync fields.Flags x y u v =
+        let p : Number s.flags ≡ x = cc in
+        let q : Number t.flags ≡ y = cc in
+        rw (← p, ← q, eq-eqb (sync_flag s.flags) (sync_flag t.flags) (ap (λ (n : ℕ). n * 2 ^ 16) h.sync)) refl
+    in_sync (fields.Count list) x y u v = absurd cc
+    in_sync (fields.Entry list n part) x y u v = absurd cc
+    in_sync _ x y u v = refl
+
+-- nothing but a sample has such flags
+entries_calm : (list : Entries) (x y : Value) → differ_in_sync (kind_of_entries list) x y ≡ false
+entries_calm entries.Edits x y = refl
+entries_calm entries.Kept x y = refl
+entries_calm entries.GroupDescriptions x y = refl
+entries_calm _ x y = refl
+
+movie_calm : (field : Field) (x y : Value) → differ_in_sync (kind_of_field subjects.Movie field) x y ≡ false
+movie_calm (fields.Count list) x y = entries_calm list x y
+movie_calm (fields.Entry list n part) x y = entries_calm list x y
+movie_calm _ x y = refl
+
+track_calm : (n : ℕ) (field : Field) (x y : Value) → differ_in_sync (kind_of_field (subjects.Track n) field) x y ≡ false
+track_calm n (fields.Count list) x y = entries_calm list x y
+track_calm n (fields.Entry list i part) x y = entries_calm list x y
+track_calm n _ x y = refl
+
+-- ---- places
+
+then_some : {A : Type 0} (f : A → Option Value) (o : Option A) (x : Value) → option_and_then f o ≡ Some x → (a : A) × (o ≡ Some a) × (f a ≡ Some x)
+then_some f None x e = absurd cc
+then_some f (Some a) x e = (a, refl, e)
+
+zip_get : {A : Type 0} (R : A → A → Type 0) (xs ys : List A) (k : ℕ) (a b : A) → AllZip R xs ys → slice_get xs k ≡ Some a → slice_get ys k ≡ Some b → R a b
+zip_get R [] ys k a b z e f = absurd cc
+zip_get R (x ∷ xs) [] k a b z e f = absurd cc
+zip_get R (x ∷ xs) (y ∷ ys) zero a b z e f = let p : x ≡ a = cc in let q : y ≡ b = cc in subst (R a) q (subst (λ v. R v y) p z.0)
+zip_get R (x ∷ xs) (y ∷ ys) (suc k) a b z e f = zip_get R xs ys k a b z.1 e f
+
+zip_member : {A : Type 0} (R : A → A → Type 0) (xs ys : List A) (n : ℕ) (a b : A) → AllZip R xs ys → member xs n ≡ Some a → member ys n ≡ Some b → R a b
+zip_member R xs ys zero a b z e f = absurd cc
+zip_member R xs ys (suc k) a b z e f = zip_get R xs ys k a b z e f
+
+-- of what differs nothing is left without these words
+abbrev IsLeft : Leaving → Difference → Type 0
+IsLeft k d = (left_out k (kind_of d) ≡ true) × (is_in_sync d ≡ false)
+
+module _ (k : Leaving) (p q : Presentation) (h : Agree k p q) where
+  place_left : (of : Subject) (field : Field) (x y : Value) → value_at p of field ≡ Some x → value_at q of field ≡ Some y → same_value x y ≡ false
+      → (left_out k (kind_of_field of field) ≡ true) × (differ_in_sync (kind_of_field of field) x y ≡ false)
+  place_left subjects.Movie field x y u v ne = (movie_left k p q field x y h u v ne, movie_calm field x y)
+  place_left (subjects.Track n) field x y u v ne =
+      let a = then_some (λ (t : Track). track_value t field) (member p.tracks n) x u in
+      let b = then_some (λ (t : Track). track_value t field) (member q.tracks n) y v in
+      (track_left k n a.0 b.0 (zip_member (TracksAgree k) p.tracks q.tracks n a.0 b.0 h.tracks a.1 b.1) field x y a.2 b.2 ne, track_calm n field x y)
+  place_left (subjects.Sample n i) field x y u v ne =
+      let a = then_some (λ (t : Track). option_and_then (λ (s : Sample). sample_value s field) (member t.samples i)) (member p.tracks n) x u in
+      let b = then_some (λ (t : Track). option_and_then (λ (s : Sample). sample_value s field) (member t.samples i)) (member q.tracks n) y v in
+      let c = then_some (λ (s : Sample). sample_value s field) (member a.0.samples i) x a.2 in
+      let d = then_some (λ (s : Sample). sample_value s field) (member b.0.samples i) y b.2 in
+      let tracks = zip_member (TracksAgree k) p.tracks q.tracks n a.0 b.0 h.tracks a.1 b.1 in
+      let samples = zip_member (SamplesAgree k) a.0.samples b.0.samples i c.0 d.0 tracks.samples c.1 d.1 in
+      (sample_left k n i c.0 d.0 samples field x y c.2 d.2 ne, in_sync k n i c.0 d.0 samples field x y c.2 d.2)
+
+  each_left : (ds : List Difference) → AllByRecursion IsOne ds → AllByRecursion (IsTheirs p q) ds → AllByRecursion (IsLeft k) ds
+  each_left [] one theirs = tt
+  each_left (d ∷ ds) one theirs = (place_left d.subject d.field d.left d.right theirs.0.0 theirs.0.1 one.0, each_left ds one.1 theirs.1)
+
+-- ---- counts
+
+-- the word at the place of its kind
+abbrev left_place : Leaving → ℕ → Bool
+left_place k zero = k.times
+left_place k (suc zero) = k.edits
+left_place k (suc (suc zero)) = k.flags
+left_place k (suc (suc (suc zero))) = k.groups
+left_place k (suc (suc (suc (suc zero)))) = k.metadata
+left_place k _ = false
+
+left_placed : (k : Leaving) (kind : KindOf) → left_out k kind ≡ left_place k (kind_place kind)
+left_placed k kinds.Times = refl
+left_placed k kinds.Edits = refl
+left_placed k kinds.Flags = refl
+left_placed k kinds.Groups = refl
+left_placed k kinds.Kept = refl
+left_placed k kinds.Heads = refl
+left_placed k kinds.Samples = refl
+left_placed k kinds.Bytes = refl
+
+abbrev one_if : KindOf → Difference → ℕ
+one_if kind d = if (kind_place (kind_of d) == kind_place kind) then 1 else 0
+
+add_none : (n : ℕ) → 0 + n ≡ n
+add_none n = omega arith
+
+-- one more that is of a kind, or isn't
+counted_yes : (kind : KindOf) (d : Difference) (ds : List Difference) → (kind_place (kind_of d) == kind_place kind) ≡ true → count_of kind (d ∷ ds) ≡ 1 + count_of kind ds
+counted_yes kind d ds e = sum_by-cons (one_if kind) d ds ∙ ap (λ (b : Bool). (if b then 1 else 0) + count_of kind ds) e
+
+counted_no : (kind : KindOf) (d : Difference) (ds : List Difference) → (kind_place (kind_of d) == kind_place kind) ≡ false → count_of kind (d ∷ ds) ≡ count_of kind ds
+counted_no kind d ds e = sum_by-cons (one_if kind) d ds ∙ ap (λ (b : Bool). (if b then 1 else 0) + count_of kind ds) e ∙ add_none (count_of kind ds)
+
+-- where all are left out there is none of a kind that isn't
+none_counted : (k : Leaving) (kind : KindOf) (ds : List Difference) → left_out k kind ≡ false → AllByRecursion (IsLeft k) ds → count_of kind ds ≡ 0
+none_counted k kind [] e h = refl
+none_counted k kind (d ∷ ds) e h = by (kind_place (kind_of d) == kind_place kind) refl (none_counted k kind ds e h.1)
+  where
+    by : (b : Bool) → (kind_place (kind_of d) == kind_place kind) ≡ b → count_of kind ds ≡ 0 → count_of kind (d ∷ ds) ≡ 0
+    by true match rest =
+        let place : kind_place (kind_of d) ≡ kind_place kind = eqb-true (kind_place (kind_of d)) (kind_place kind) match in
+        absurd (true_false (left_out k kind) (left_placed k kind ∙ ap (left_place k) (sym place) ∙ sym (left_placed k (kind_of d)) ∙ h.0.0) e)
+    by false other rest = counted_no kind d ds other ∙ rest
+
+none_had : (k : Leaving) (kind : KindOf) (ds : List Difference) → left_out k kind ≡ false → AllByRecursion (IsLeft k) ds → has kind ds ≡ false
+none_had k kind ds e h = rw (none_counted k kind ds e h) refl
+
+none_in_sync : (k : Leaving) (ds : List Difference) → AllByRecursion (IsLeft k) ds → list_any is_in_sync ds ≡ false
+none_in_sync k [] h = refl
+none_in_sync k (d ∷ ds) h = rw (h.0.1, none_in_sync k ds h.1) refl
+
+-- then words leave all of them out
+all_left : (k : Leaving) (ds : List Difference) → AllByRecursion (IsLeft k) ds → differ_in_all ds ≡ false
+all_left k ds h = rw (none_had k kinds.Heads ds refl h, none_had k kinds.Samples ds refl h, none_had k kinds.Bytes ds refl h, none_in_sync k ds h) refl
+
+-- ---- what is the same where no difference of a kind is listed
+
+-- a difference at a place is of the kind of the place
+kind_same : (of : Subject) (f g : Field) → IsSameBut f g → kind_of_field of f ≡ kind_of_field of g
+kind_same of f g (same_field e) = ap (kind_of_field of) e
+kind_same of f g (sample_byte j m k n e i) = ap (kind_of_field of) e ∙ ap (kind_of_field of) (sym i)
+kind_same of f g (entry_byte list n j m k c e i) = ap (kind_of_field of) e ∙ ap (kind_of_field of) (sym i)
+kind_same of f g (same_index a b r e i) = ap (kind_of_field of) e ∙ ap (kind_of_field of) (sym i)
+
+-- where there is one of a kind they are counted
+any_counted : (P : Difference → Type 0) (kind : KindOf) (ds : List Difference) → ((d : Difference) → P d → kind_of d ≡ kind) → Any P ds → count_of kind ds ≡ 0 → ⊥
+any_counted P kind [] f h e = let within = h.2 in omega (arith, within)
+any_counted P kind (d ∷ ds) f (zero, x, within, is, p) e =
+    let kinds : kind_of d ≡ kind = ap kind_of is ∙ f x p in
+    let place : (kind_place (kind_of d) == kind_place kind) ≡ true = eq-eqb (kind_place (kind_of d)) (kind_place kind) (ap kind_place kinds) in
+    let one = counted_yes kind d ds place in
+    omega (arith, one, e)
+any_counted P kind (d ∷ ds) f (suc i, x, within, is, p) e = any_counted P kind ds f (i, x, omega (arith, within), is, p) (by (kind_place (kind_of d) == kind_place kind) refl e)
+  where
+    by : (b : Bool) → (kind_place (kind_of d) == kind_place kind) ≡ b → count_of kind (d ∷ ds) ≡ 0 → count_of kind ds ≡ 0
+    by true match e = absurd (let one = counted_yes kind d ds match in omega (arith, one, e))
+    by false other e = sym (counted_no kind d ds other) ∙ e
+
+none_of : (kind : KindOf) (ds : List Difference) → has kind ds ≡ false → count_of kind ds ≡ 0
+none_of kind ds e = by (count_of kind ds) refl
+  where
+    by : (n : ℕ) → count_of kind ds ≡ n → count_of kind ds ≡ 0
+    by zero is = is
+    by (suc n) is = absurd (true_false (has kind ds) (lt-ltb 0 (count_of kind ds) (omega (arith, is))) e)
+
+module _ (p q : Presentation) where
+  -- what both say at a place of a kind of which nothing is listed
+  place_same : (of : Subject) (field : Field) (x y : Value) → value_at p of field ≡ Some x → value_at q of field ≡ Some y → has (kind_of_field of field) (differences p q) ≡ false → x ≡ y
+  place_same of field x y u v none = by (same_value x y) refl
+    where
+      by : (b : Bool) → same_value x y ≡ b → x ≡ y
+      by true e = (same_value_is_equal x y).0 e
+      by false e = absurd (any_counted (λ (d : Difference). (d.subject ≡ of) × IsSameBut d.field field) (kind_of_field of field) (differences p q)
+          (λ d h. ap (λ s. kind_of_field s d.field) h.0 ∙ kind_same of d.field field h.1)
+          (differences_are_all p q of field x y u v e) (none_of (kind_of_field of field) (differences p q) none))
+
+abbrev number_of : Value → ℕ
+number_of (Number n) = n
+number_of (Byte n) = n
+number_of _ = 0
+
+abbrev kind_type : Value → List ℕ
+kind_type (Kind k) = k.0
+kind_type _ = []
+
+abbrev signed_of : Value → ℤ
+signed_of (Signed n) = n
+signed_of _ = pos 0
+
+-- lists with the same members
+lists_same : {A : Type 0} (xs ys : List A) → length xs ≡ length ys → ((k : ℕ) (a b : A) → slice_get xs k ≡ Some a → slice_get ys k ≡ Some b → a ≡ b) → xs ≡ ys
+lists_same [] [] e f = refl
+lists_same [] (y ∷ ys) e f = absurd (omega (arith, e))
+lists_same (x ∷ xs) [] e f = absurd (omega (arith, e))
+lists_same (x ∷ xs) (y ∷ ys) e f = let first = f 0 x y refl refl in let rest = lists_same xs ys (omega (arith, e)) (λ k a b u v. f (suc k) a b u v) in λ i. first i ∷ rest i
+
+-- payloads that say the same in each part
+payload_same : (a b : List ℕ) → ((part : Part) (x y : Value) → payload_value part a ≡ Some x → payload_value part b ≡ Some y → x ≡ y) → a ≡ b
+payload_same a b f =
+    let long : length a ≡ length b = ap number_of (f parts.Length (Number (length a)) (Number (length b)) refl refl) in
+    lists_same a b long (λ k m n u v. ap number_of (f (parts.Byte (suc k) (length a)) (Byte m) (Byte n)
+    (rw (eq-eqb (length a) (length a) refl) (ap (option_map (λ (n : ℕ). Byte n)) u))
+    (rw (eq-eqb (length b) (length a) (sym long)) (ap (option_map (λ (n : ℕ). Byte n)) v))))
+
+boxes_same : (xs ys : List Kept) → length xs ≡ length ys → ((n : ℕ) (part : Part) (x y : Value) → option_and_then (box_value part) (member xs n) ≡ Some x → option_and_then (box_value part) (member ys n) ≡ Some y → x ≡ y) → xs ≡ ys
+boxes_same xs ys long f = lists_same xs ys long (λ k a b u v.
+    let at : (part : Part) (x y : Value) → box_value part a ≡ Some x → box_value part b ≡ Some y → x ≡ y
+    = λ part x y e g. f (suc k) part x y (ap (option_and_then (box_value part)) u ∙ e) (ap (option_and_then (box_value part)) v ∙ g) in
+    let kind : a.kind ≡ b.kind = ap kind_type (at parts.Kind (Kind (record { 0 = a.kind })) (Kind (record { 0 = b.kind })) refl refl) in
+    let payload : a.payload ≡ b.payload = payload_same a.payload b.payload (λ part. by part a b (at part)) in
+    λ i. record { kind = kind i; payload = payload i })
+  where
+    by : (part : Part) (a b : Kept) → ((x y : Value) → box_value part a ≡ Some x → box_value part b ≡ Some y → x ≡ y) → (x y : Value) → payload_value part a.payload ≡ Some x → payload_value part b.payload ≡ Some y → x ≡ y
+    by parts.Kind a b f x y e g = absurd cc
+    by parts.Length a b f x y e g = f x y e g
+    by (parts.Byte j c) a b f x y e g = f x y e g
+    by parts.SegmentDuration a b f x y e g = absurd cc
+    by parts.MediaTime a b f x y e g = absurd cc
+    by parts.RateInteger a b f x y e g = absurd cc
+    by parts.RateFraction a b f x y e g = absurd cc
+
+payloads_same : (xs ys : List (List ℕ)) → length xs ≡ length ys → ((n : ℕ) (part : Part) (x y : Value) → option_and_then (payload_value part) (member xs n) ≡ Some x → option_and_then (payload_value part) (member ys n) ≡ Some y → x ≡ y) → xs ≡ ys
+payloads_same xs ys long f = lists_same xs ys long (λ k a b u v. payload_same a b (λ part x y e g. f (suc k) part x y (ap (option_and_then (payload_value part)) u ∙ e) (ap (option_and_then (payload_value part)) v ∙ g)))
+
+edits_same : (xs ys : List Edit) → length xs ≡ length ys → ((n : ℕ) (part : Part) (x y : Value) → option_and_then (edit_value part) (member xs n) ≡ Some x → option_and_then (edit_value part) (member ys n) ≡ Some y → x ≡ y) → xs ≡ ys
+edits_same xs ys long f = lists_same xs ys long (λ k a b u v.
+    let at : (part : Part) (x y : Value) → edit_value part a ≡ Some x → edit_value part b ≡ Some y → x ≡ y
+    = λ part x y e g. f (suc k) part x y (ap (option_and_then (edit_value part)) u ∙ e) (ap (option_and_then (edit_value part)) v ∙ g) in
+    let duration = ap number_of (at parts.SegmentDuration (Number a.segment_duration) (Number b.segment_duration) refl refl) in
+    let time = ap signed_of (at parts.MediaTime (Signed a.media_time) (Signed b.media_time) refl refl) in
+    let rate = ap signed_of (at parts.RateInteger (Signed a.rate_integer) (Signed b.rate_integer) refl refl) in
+    let fraction = ap signed_of (at parts.RateFraction (Signed a.rate_fraction) (Signed b.rate_fraction) refl refl) in
+    λ i. record { segment_duration = duration i; media_time = time i; rate_integer = rate i; rate_fraction = fraction i })
+
+all_get : {A : Type 0} (P : A → Type 0) (xs : List A) (k : ℕ) (a : A) → AllByRecursion P xs → slice_get xs k ≡ Some a → P a
+all_get P [] k a h e = absurd cc
+all_get P (x ∷ xs) zero a h e = let p : x ≡ a = cc in subst P p h.0
+all_get P (x ∷ xs) (suc k) a h e = all_get P xs k a h.1 e
+
+zip_better : {A : Type 0} (R S : A → A → Type 0) (xs ys : List A) → AllZip R xs ys → ((k : ℕ) (a b : A) → slice_get xs k ≡ Some a → slice_get ys k ≡ Some b → R a b → S a b) → AllZip S xs ys
+zip_better R S [] [] z f = tt
+zip_better R S [] (y ∷ ys) z f = absurd z
+zip_better R S (x ∷ xs) [] z f = absurd z
+zip_better R S (x ∷ xs) (y ∷ ys) z f = (f 0 x y refl refl z.0, zip_better R S xs ys z.1 (λ k a b e g r. f (suc k) a b e g r))
+
+-- Two presentations agree without some words if they agree without others, and no difference is listed that the first don't leave out.
+module _ (s k : Leaving) (p q : Presentation) (h : Agree k p q) (plain : IsAllPlain p) (other : IsAllPlain q) (none : (kind : KindOf) → left_out s kind ≡ false → has kind (differences p q) ≡ false) where
+  at : (of : Subject) (field : Field) (x y : Value) → value_at p of field ≡ Some x → value_at q of field ≡ Some y → left_out s (kind_of_field of field) ≡ false → x ≡ y
+  at of field x y u v e = place_same p q of field x y u v (none (kind_of_field of field) e)
+
+  movies_agree : MovieHeadsAgree s p.movie q.movie
+  movies_agree = record {
+    timescale = h.movie.timescale;
+    rate = h.movie.rate;
+    volume = h.movie.volume;
+    matrix = h.movie.matrix;
+    creation = λ e. ap number_of (at subjects.Movie fields.Creation (Number p.movie.creation) (Number q.movie.creation) refl refl e);
+    modification = λ e. ap number_of (at subjects.Movie fields.Modification (Number p.movie.modification) (Number q.movie.modification) refl refl e);
+    kept = λ e. boxes_same p.movie.kept q.movie.kept (ap number_of (at subjects.Movie (fields.Count entries.Kept) (Number (length p.movie.kept)) (Number (length q.movie.kept)) refl refl e))
+        (λ n part x y u v. at subjects.Movie (fields.Entry entries.Kept n part) x y u v e);
+    other_kept = h.movie.other_kept;
+  }
+
+  module _ (n : ℕ) (a b : Track) (e : member p.tracks n ≡ Some a) (f : member q.tracks n ≡ Some b) (r : TracksAgree k a b) (maps : IsPlain a) (other_maps : IsPlain b) where
+    in_track : (field : Field) (x y : Value) → track_value a field ≡ Some x → track_value b field ≡ Some y → left_out s (kind_of_field (subjects.Track n) field) ≡ false → x ≡ y
+    in_track field x y u v = at (subjects.Track n) field x y (ap (option_and_then (λ (t : Track). track_value t field)) e ∙ u) (ap (option_and_then (λ (t : Track). track_value t field)) f ∙ v)
+
+    number_in : (field : Field) (m i : ℕ) → track_value a field ≡ Some (Number m) → track_value b field ≡ Some (Number i) → left_out s (kind_of_field (subjects.Track n) field) ≡ false → m ≡ i
+    number_in field m i u v out = ap number_of (in_track field (Number m) (Number i) u v out)
+
+    media_agree : MediaAgree s a.head.media b.head.media
+    media_agree = record {
+      timescale = r.head.media.timescale;
+      language = r.head.media.language;
+      handler = r.head.media.handler;
+      extended_languages = r.head.media.extended_languages;
+      header = r.head.media.header;
+      descriptions = r.head.media.descriptions;
+      creation = number_in fields.MediaCreation a.head.media.creation b.head.media.creation refl refl;
+      modification = number_in fields.MediaModification a.head.media.modification b.head.media.modification refl refl;
+    }
+
+    heads_agree : TrackHeadsAgree s a.head b.head
+    heads_agree = record {
+      flags = r.head.flags;
+      id = r.head.id;
+      layer = r.head.layer;
+      alternate_group = r.head.alternate_group;
+      volume = r.head.volume;
+      matrix = r.head.matrix;
+      width = r.head.width;
+      height = r.head.height;
+      creation = number_in fields.Creation a.head.creation b.head.creation refl refl;
+      modification = number_in fields.Modification a.head.modification b.head.modification refl refl;
+      edits = λ out. edits_same a.head.edits b.head.edits (number_in (fields.Count entries.Edits) (length a.head.edits) (length b.head.edits) refl refl out)
+          (λ i part x y u v. in_track (fields.Entry entries.Edits i part) x y u v out);
+      kept = λ out. boxes_same a.head.kept b.head.kept (number_in (fields.Count entries.Kept) (length a.head.kept) (length b.head.kept) refl refl out)
+          (λ i part x y u v. in_track (fields.Entry entries.Kept i part) x y u v out);
+      other_kept = r.head.other_kept;
+      media = media_agree;
+      group_descriptions = λ out. payloads_same a.head.group_descriptions b.head.group_descriptions
+          (number_in (fields.Count entries.GroupDescriptions) (length a.head.group_descriptions) (length b.head.group_descriptions) refl refl out)
+          (λ i part x y u v. in_track (fields.Entry entries.GroupDescriptions i part) x y u v out);
+    }
+
+    module _ (j : ℕ) (c d : Sample) (g : slice_get a.samples j ≡ Some c) (i : slice_get b.samples j ≡ Some d) (w : SamplesAgree k c d) where
+      in_sample : (field : Field) (m o : ℕ) → sample_value c field ≡ Some (Number m) → sample_value d field ≡ Some (Number o) → left_out s (kind_of_field (subjects.Sample n (suc j)) field) ≡ false → m ≡ o
+      in_sample field m o u v out =
+          let of_tracks = option_and_then (λ (t : Track). option_and_then (λ (x : Sample). sample_value x field) (member t.samples (suc j))) in
+          let of_samples = option_and_then (λ (x : Sample). sample_value x field) in
+          ap number_of (at (subjects.Sample n (suc j)) field (Number m) (Number o) (ap of_tracks e ∙ ap of_samples g ∙ u) (ap of_tracks f ∙ ap of_samples i ∙ v) out)
+
+      sample_agrees : SamplesAgree s c d
+      sample_agrees = record {
+        duration = w.duration;
+        offset = w.offset;
+        description = w.description;
+        bytes = w.bytes;
+        sync = w.sync;
+        flags = in_sample fields.Flags c.flags d.flags refl refl;
+        groups = λ out. maps_same c.groups d.groups (all_get HasMap a.samples j c maps.maps g) (all_get HasMap b.samples j d other_maps.maps i)
+            (λ key. in_sample (key_field key) (index_at key c.groups) (index_at key d.groups) refl refl out);
+      }
+
+    track_agrees : TracksAgree s a b
+    track_agrees = record {
+      start = r.start;
+      head = heads_agree;
+      samples = zip_better (SamplesAgree k) (SamplesAgree s) a.samples b.samples r.samples sample_agrees;
+    }
+
+  all_agree : Agree s p q
+  all_agree = record {
+    movie = movies_agree;
+    tracks = zip_better (TracksAgree k) (TracksAgree s) p.tracks q.tracks h.tracks
+        (λ i a b e f r. track_agrees (suc i) a b e f r (all_get IsPlain p.tracks i a plain.tracks e) (all_get IsPlain q.tracks i b other.tracks f));
+  }
+
+-- ---- the words that are suggested
+
+covered : (a h k : Bool) → (a || k) ≡ k → (k ≡ false → h ≡ false) → ((a || h) || k) ≡ k
+covered a h true e f = or_true (a || h)
+covered true h false e f = absurd cc
+covered false h false e f = rw (f refl) refl
+
+none_right : (a b : Bool) → (a || b) ≡ false → b ≡ false
+none_right true b e = absurd cc
+none_right false b e = e
+
+-- Where the same is left of both with more words than were given, words are suggested, each of which is among these, and the same is left of both with them.
+pub words_suggested : (l k : Leaving) (p q : Presentation) → Valid p → Valid q → Covers l k → reduce k p ≡ reduce k q
+    → (s : Leaving) × (suggested l (differences (reduce l p) (reduce l q)) ≡ Some s) × Covers s k × (reduce s p ≡ reduce s q)
+words_suggested l k p q v w c e =
+    let ds = differences (reduce l p) (reduce l q) in
+    let same : reduce k (reduce l p) ≡ reduce k (reduce l q) = sym (reduced_more l k p c) ∙ e ∙ reduced_more l k q c in
+    let h = (reduce_is_exact k (reduce l p) (reduce l q)).0 same in
+    let left = each_left k (reduce l p) (reduce l q) h ds (each_difference_is_one (reduce l p) (reduce l q)) (differences_are_theirs (reduce l p) (reduce l q)) in
+    let s = both l (words_for ds) in
+    let agree = all_agree s k (reduce l p) (reduce l q) h (all_plain l p v) (all_plain l q w) (not_had k l ds left) in
+    let more = covers_more l (words_for ds) in (
+      s,
+      rw (all_left k ds left) refl,
+      λ i. record {
+        times = covered l.times (has kinds.Times ds) k.times (ap (λ (x : Leaving). x.times) c) (λ out. none_had k kinds.Times ds out left) i;
+        edits = covered l.edits (has kinds.Edits ds) k.edits (ap (λ (x : Leaving). x.edits) c) (λ out. none_had k kinds.Edits ds out left) i;
+        flags = covered l.flags (has kinds.Flags ds) k.flags (ap (λ (x : Leaving). x.flags) c) (λ out. none_had k kinds.Flags ds out left) i;
+        groups = covered l.groups (has kinds.Groups ds) k.groups (ap (λ (x : Leaving). x.groups) c) (λ out. none_had k kinds.Groups ds out left) i;
+        metadata = covered l.metadata (has kinds.Kept ds) k.metadata (ap (λ (x : Leaving). x.metadata) c) (λ out. none_had k kinds.Kept ds out left) i;
+      },
+      reduced_more l s p more ∙ (reduce_is_exact s (reduce l p) (reduce l q)).1 agree ∙ sym (reduced_more l s q more),
+    )
+  where
+    not_had : (k l : Leaving) (ds : List Difference) → AllByRecursion (IsLeft k) ds → (kind : KindOf) → left_out (both l (words_for ds)) kind ≡ false → has kind ds ≡ false
+    not_had k l ds left kinds.Times e = none_right l.times (has kinds.Times ds) e
+    not_had k l ds left kinds.Edits e = none_right l.edits (has kinds.Edits ds) e
+    not_had k l ds left kinds.Flags e = none_right l.flags (has kinds.Flags ds) e
+    not_had k l ds left kinds.Groups e = none_right l.groups (has kinds.Groups ds) e
+    not_had k l ds left kinds.Kept e = none_right l.metadata (has kinds.Kept ds) e
+    not_had k l ds left kinds.Heads e = none_had k kinds.Heads ds refl left
+    not_had k l ds left kinds.Samples e = none_had k kinds.Samples ds refl left
+    not_had k l ds left kinds.Bytes e = none_had k kinds.Bytes ds refl left
+
+each_taken : (P : Difference → Type 0) (n : ℕ) (ds : List Difference) → AllByRecursion P ds → AllByRecursion P (take n ds)
+each_taken P zero ds h = tt
+each_taken P (suc n) [] h = tt
+each_taken P (suc n) (d ∷ ds) h = (h.0, each_taken P n ds h.1)
+
+-- and some words are suggested by any first of the differences
+pub some_suggested : (l k : Leaving) (p q : Presentation) (n : ℕ) → Valid p → Valid q → Covers l k → reduce k p ≡ reduce k q
+    → (s : Leaving) × (suggested l (take n (differences (reduce l p) (reduce l q))) ≡ Some s)
+some_suggested l k p q n v w c e =
+    let ds = differences (reduce l p) (reduce l q) in
+    let same : reduce k (reduce l p) ≡ reduce k (reduce l q) = sym (reduced_more l k p c) ∙ e ∙ reduced_more l k q c in
+    let h = (reduce_is_exact k (reduce l p) (reduce l q)).0 same in
+    let left = each_left k (reduce l p) (reduce l q) h ds (each_difference_is_one (reduce l p) (reduce l q)) (differences_are_theirs (reduce l p) (reduce l q)) in
+    (both l (words_for (take n ds)), rw (all_left k (take n ds) (each_taken (IsLeft k) n ds left)) refl)

@@ -1,4 +1,0 @@
-use Rattle.mp4norm.proofs.uncounted.samples.Goals as goal
-
-pub returns : goal.returns
-returns g c = record { answer = c.perform_blank.ensures.answer }

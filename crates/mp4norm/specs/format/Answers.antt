@@ -1,0 +1,75 @@
+-- What each command promises of every file, said of its run.
+use Rattle.std.specs.Prelude.{◌≡◌, ◌⊎◌, ℕ, List, [], Result}
+use Rattle.mp4_boxes.specs.format.Box.{file_container}
+use Rattle.mp4_boxes.specs.declared.fault.Fault.{Fault}
+use Rattle.mp4_boxes.specs.declared.refusal.Refusal.{Refusal}
+use Rattle.mp4_boxes.specs.declared.rule.Rule.TheVariants.{File}
+use Rattle.mp4_present.specs.format.Stands.{Stands}
+use Rattle.mp4_present.specs.declared.leaving.Leaving.{Leaving}
+use Rattle.mp4_plan.specs.format.ReducedTimes.{ReducedFaultStands}
+use Rattle.mp4norm.specs.format.Run.{Run, Honest, Answered, NeverChanged, PutsAtOnce, PutsNothing}
+use Rattle.mp4norm.specs.format.Headline.{HasNormalForm, DenotesNothing}
+use Rattle.mp4norm.specs.format.ReducedHeadline.{HasReducedForm, IsTooLong}
+use Rattle.mp4norm.specs.format.FileTexts.{ShowsLine, ListsSamples, HasData, LacksTrack}
+use Rattle.mp4norm.specs.format.BoxWalk.{under, FaultSeen}
+use Rattle.mp4norm.specs.format.Strips.{IsStripped, Halts}
+use Rattle.mp4norm.specs.format.Texts.{BoxLines}
+use Rattle.mp4norm.specs.declared.named.Name.{Name}
+use Rattle.mp4norm.specs.declared.wanted.Form.{Form}
+use Rattle.mp4norm.specs.declared.wanted.Job.{Job}
+use Rattle.mp4norm.specs.declared.wanted.Job.TheVariants as jobs
+use Rattle.mp4norm.specs.declared.wanted.Syntax.{Syntax}
+
+-- a fault that stands in the file, which denotes nothing
+abbrev pub IsFaultOf : List ℕ → Fault → Type 0
+IsFaultOf file f = Stands file f × DenotesNothing file
+
+-- `normalise`: the normal form of what the file denotes
+abbrev pub Normalised : {A : Type 0} → Run → Result A Refusal → Type 0
+Normalised r result = Answered r (HasNormalForm r.file) (IsFaultOf r.file) ⊥ result
+
+-- `check`: nothing is put, and an accepted file has a normal form
+abbrev pub Judged : {A : Type 0} → Run → Result A Refusal → Type 0
+Judged r result = Answered r (λ text. (text ≡ []) × (form : List ℕ) × HasNormalForm r.file form)
+    (IsFaultOf r.file) ⊥ result
+
+-- `normalise --without`: the normal form of what is left; nothing, where that is too long
+abbrev pub ReducedTo : {A : Type 0} → Leaving → Run → Result A Refusal → Type 0
+ReducedTo l r result = Answered r (HasReducedForm l r.file)
+    (λ f. IsFaultOf r.file f ⊎ ReducedFaultStands l r.file f) ⊥ result
+    × (Honest r → IsTooLong l r.file → PutsNothing r)
+
+-- `show`: one line
+abbrev pub Shown : {A : Type 0} → Run → Result A Refusal → Type 0
+Shown r result = Answered r (ShowsLine r.file) (IsFaultOf r.file) ⊥ result × PutsAtOnce r result
+
+-- `samples`: those of the track with this ID, in this form
+abbrev pub Listed : {A : Type 0} → ℕ → Form → Run → Result A Refusal → Type 0
+Listed id form r result = Answered r (ListsSamples r.file id form) (IsFaultOf r.file)
+    (Honest r → LacksTrack r.file id) result
+
+-- `extract`: the bytes of these
+abbrev pub Extracted : {A : Type 0} → ℕ → Run → Result A Refusal → Type 0
+Extracted id r result = Answered r (HasData r.file id) (IsFaultOf r.file)
+    (Honest r → LacksTrack r.file id) result
+
+-- `boxes`: the list of all boxes, or a fault at a header that is looked at
+abbrev pub BoxesListed : {A : Type 0} → Syntax → Run → Result A Refusal → Type 0
+BoxesListed syntax r result = Answered r (BoxLines syntax r.file)
+    (FaultSeen (under File (file_container r.file))) ⊥ result
+    × PutsAtOnce r result × NeverChanged result
+
+-- `strip`: the copy in which the named boxes are free space, or a fault at a header on the way
+abbrev pub StrippedOf : {A : Type 0} → List Name → Run → Result A Refusal → Type 0
+StrippedOf names r result = Answered r (IsStripped names r.file)
+    (λ f. Halts names f File 0 r.file) ⊥ result
+
+-- a job: what its command promises
+abbrev pub Performed : {A : Type 0} → Job → Run → Result A Refusal → Type 0
+Performed jobs.Normalise r result = Normalised r result
+Performed (jobs.Reduce l) r result = ReducedTo l r result
+Performed jobs.Show r result = Shown r result
+Performed (jobs.Samples track form) r result = Listed track form r result
+Performed (jobs.Extract track) r result = Extracted track r result
+Performed (jobs.Boxes syntax) r result = BoxesListed syntax r result
+Performed (jobs.Strip names) r result = StrippedOf names.now r result
