@@ -61,7 +61,7 @@ counted_fault b base bytes due count at f e g d p lt h =
 
 -- ---- boxes that the table allows
 
-abbrev KeepsSingle : List Box → Line → Type 0
+abbrev pub KeepsSingle : List Box → Line → Type 0
 KeepsSingle boxes line = is_single line.quantity ≡ true → count_among line.kinds boxes ≤ 1
 
 -- What a walk under a rule has shown of the boxes that it passed.
@@ -70,7 +70,7 @@ pub record Admitted (rule : Rule) (base : ℕ) (bytes : List ℕ) (count at : �
   pub allowed : AllByRecursion (λ (b : Box). IsTrue (allows rule b.kind)) passed.boxes
   pub few : AllByRecursion (KeepsSingle passed.boxes) (table rule)
 
-none_few : (lines : List Line) → AllByRecursion (KeepsSingle []) lines
+pub none_few : (lines : List Line) → AllByRecursion (KeepsSingle []) lines
 none_few [] = tt
 none_few (line ∷ lines) = ((λ s. omega arith), none_few lines)
 
@@ -89,7 +89,7 @@ one_more : (n : ℕ) (v : Bool) → n ≤ 1 → (v && ltb 0 n) ≡ false → n +
 one_more n true le e = let z = ltb-false 0 n e in omega arith
 one_more n false le e = omega arith
 
-few_more : (lines : List Line) (boxes : List Box) (b : Box) → AllByRecursion (KeepsSingle boxes) lines
+pub few_more : (lines : List Line) (boxes : List Box) (b : Box) → AllByRecursion (KeepsSingle boxes) lines
     → list_any (λ (line : Line). is_single line.quantity && (is_among line.kinds b.kind && nat_lt 0 (count_among line.kinds boxes))) lines ≡ false → AllByRecursion (KeepsSingle (boxes ++ b ∷ [])) lines
 few_more [] boxes b h e = tt
 few_more (line ∷ lines) boxes b h e =
@@ -119,7 +119,7 @@ quantity_is one n few e = let a = few refl in let b = ltb-true 0 n (not_false (l
 quantity_is at_most_one n few e = few refl
 quantity_is any n few e = tt
 
-quantities_are : (lines : List Line) (boxes : List Box) → AllByRecursion (KeepsSingle boxes) lines
+pub quantities_are : (lines : List Line) (boxes : List Box) → AllByRecursion (KeepsSingle boxes) lines
     → list_any (λ (line : Line). is_needed line.quantity && not (nat_lt 0 (count_among line.kinds boxes))) lines ≡ false
     → AllByRecursion (λ (line : Line). IsQuantity line.quantity (count_among line.kinds boxes)) lines
 quantities_are [] boxes h e = tt

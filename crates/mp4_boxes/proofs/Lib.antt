@@ -17,3 +17,5 @@ pub mod OfBytes
 pub mod Sound
 pub mod Vectors
 mod TypeTexts
+pub mod FirstFaults
+pub mod ChildrenJudged

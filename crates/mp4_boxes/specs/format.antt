@@ -6,3 +6,5 @@ pub mod Written
 pub mod Places
 pub mod BoxFaults
 pub mod FaultTexts
+pub mod FirstFault
+pub mod FirstFaultLaws

@@ -36,6 +36,7 @@ mod fault;
 mod four_cc;
 mod full_boxes;
 mod headers;
+pub mod laws;
 mod listing;
 mod numbers;
 mod refusal;

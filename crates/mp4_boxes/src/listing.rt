@@ -4,6 +4,7 @@ ghost use Rattle.mp4_boxes.specs.format.Box.{Box, Tiles, HasBoxes, first_boxes, 
 ghost use Rattle.mp4_boxes.specs.format.BoxFaults.{IsHeaderFault, IsChildFault};
 ghost use Rattle.mp4_boxes.specs.format.Children.{Holds, count_among, repeats, lacks};
 ghost use Rattle.mp4_boxes.specs.words.Lines.{kinds_seen};
+ghost use Rattle.mp4_boxes.specs.format.FirstFault.{IsJudged, boxes_or_fault, children_or_fault, no_tests};
 ghost use Rattle.mp4_boxes.specs.words.View.{box_seen};
 
 use crate::fault::{Fault, Kind};
@@ -24,6 +25,8 @@ pub fn children<'a>(bytes: &'a [u8], base: u64, container: FourCc) -> Result<Chi
         → IsOkAnd result (λ c. c ≡ boxes) }
     ensures fault { IfErr result
         (IsHeaderFault (bytes_container container.0 base bytes.entry.now)) }
+    ensures exact { IsJudged
+        (boxes_or_fault no_tests (bytes_container container.0 base bytes.entry.now)) result }
 {
     let mut at = 0;
     let mut count = 0;
@@ -124,6 +127,8 @@ pub fn check_children<'a>(view: BoxView<'a>, rule: Rule) -> Result<Children<'a>,
     ensures only { (boxes : List Box) → Holds rule (box_container (box_seen view.entry)) boxes
         → IsOkAnd result (λ c. c ≡ boxes) }
     ensures fault { IfErr result (IsChildFault rule (box_container (box_seen view.entry))) }
+    ensures exact { IsJudged (children_or_fault rule (box_container (box_seen view.entry)))
+        result }
 {
     let bytes = view.payload();
     let base = view.payload_offset();

@@ -6,6 +6,7 @@ use Rattle.std.proofs.lemmas.List.{append_assoc, append-nil}
 use Rattle.mp4_boxes.specs.format.Bytes.{rows}
 use Rattle.mp4_boxes.specs.format.Box.{Box}
 use Rattle.mp4_boxes.specs.format.Children.{of_kind}
+use Rattle.mp4_boxes.specs.format.BoxFaults.{fault_of}
 use Rattle.mp4_boxes.specs.declared.fault.Fault.{Fault}
 use Rattle.mp4_boxes.specs.declared.fault.Kind.{Kind}
 use Rattle.mp4_boxes.specs.declared.fault.Kind.TheVariants as kinds
@@ -102,6 +103,13 @@ groups_more n first all left later b now then_now named then_named s e k is_soun
       sound = λ h. s.sound (subst (AreGroupsSound n first s.before) (sym same) (one, h));
       fails = λ f h. s.fails f (subst (λ boxes. GroupsFail n first s.before boxes f) (sym same) (inr (one, h)));
     }
+
+-- an `sbgp` that fails
+pub group_fails : (n : ℕ) (first : List GroupKey) (all left later : List Box) (b : Box) (now : List GroupKey) (named : List Bool) (f : Fault) (kind : Kind) → GroupsSeen n first all left now named → left ≡ b ∷ later → bytes_eq b.kind (codes "sbgp") ≡ true
+    → f ≡ fault_of kind b → ((keys : List GroupKey) (before : List Grouping) → AreNamed keys before now named → IsGroupFault n keys before b.payload kind) → GroupsFail n first [] (groups_of all) f
+group_fails n first all left later b now named f kind s e k is h =
+    let same : groups_of left ≡ b ∷ groups_of later = ap groups_of e ∙ group_kept b later k in
+    s.fails f (subst (λ boxes. GroupsFail n first s.before boxes f) (sym same) (inl (kind, is, h first s.before s.names)))
 
 -- behind the last box
 pub groups_sound : (n : ℕ) (first : List GroupKey) (all left boxes : List Box) (now : List GroupKey) (named : List Bool) → GroupsSeen n first all left now named → left ≡ [] → all ≡ boxes → AreGroupsSound n first [] (groups_of boxes)

@@ -1,14 +1,16 @@
 -- The runs of a `traf`, passed one by one.
-use Rattle.std.proofs.Common.{◌≡◌, ℕ, ◌+◌, ◌-◌, ◌≤◌, true, false, List, [], ◌∷◌, inr, refl, sym, ap, subst, ◌∙◌, arith}
+use Rattle.std.proofs.Common.{◌≡◌, ℕ, ◌+◌, ◌-◌, ◌≤◌, true, false, List, [], ◌∷◌, inl, inr, refl, sym, ap, subst, ◌∙◌, arith}
 use Rattle.std.specs.Prelude.{ℤ, codes, bytes_eq}
 use Rattle.mp4_boxes.specs.format.Box.{Box, Tiles, box_container, bytes_container}
 use Rattle.mp4_tables.specs.words.Leaves.{boxes_of}
 use Rattle.mp4_tables.proofs.LeafLists.{boxes_are}
 use Rattle.mp4_boxes.specs.format.Children.{of_kind}
 use Rattle.mp4_boxes.specs.format.Layout.{trun, row_count}
+use Rattle.mp4_boxes.specs.format.BoxFaults.{fault_of}
 use Rattle.mp4_boxes.specs.declared.fault.Fault.{Fault}
+use Rattle.mp4_boxes.specs.declared.fault.Kind.{Kind}
 use Rattle.mp4_frag.specs.format.Fragments.{run_of}
-use Rattle.mp4_frag.specs.words.Passing.{lasting, filling, IsRunPassed}
+use Rattle.mp4_frag.specs.words.Passing.{lasting, filling, IsRunPassed, IsRunFault}
 use Rattle.mp4_frag.specs.words.RunsJudged.{children_of, run_ends, IsRunSound, AreRunsSound, all_end, runs_total, runs_lasting, runs_filling, RunsFail}
 use Rattle.mp4_frag.specs.declared.heads.Inherited.{Inherited}
 use Rattle.mp4_frag.proofs.Comings.{turned}
@@ -44,6 +46,13 @@ seen_other L inherited base all left later b whole room at count lasts fills s e
       filling = s.filling ∙ ap (λ runs. fills + runs_filling inherited runs) same;
       fails = λ f h. s.fails f (subst (λ runs. RunsFail L inherited base at room runs f) (sym same) h);
     }
+
+-- a run that fails
+pub run_fails : (L : ℕ) (inherited : Inherited) (base : ℤ) (all left later : List Box) (b : Box) (whole room : ℕ) (at : ℤ) (count lasts fills : ℕ) (f : Fault) (kind : Kind) → RunsSeen L inherited base all left whole room at count lasts fills → left ≡ b ∷ later → bytes_eq b.kind (codes "trun") ≡ true
+    → f ≡ fault_of kind b → IsRunFault L inherited base at room b.payload kind → RunsFail L inherited base base whole (runs_of all) f
+run_fails L inherited base all left later b whole room at count lasts fills f kind s e k named h =
+    let same : runs_of left ≡ b ∷ runs_of later = ap runs_of e ∙ run_kept b later k in
+    s.fails f (subst (λ runs. RunsFail L inherited base at room runs f) (sym same) (inl (kind, named, h)))
 
 passed_total : (whole n more rest : ℕ) → whole ≡ n + (more + rest) → whole ≡ (n + more) + rest
 passed_total whole n more rest e = omega arith

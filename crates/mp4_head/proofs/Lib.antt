@@ -36,3 +36,4 @@ pub mod MovieBoxes
 pub mod HeadPlaces
 pub mod HeadExcludes
 pub mod ReadAgain
+pub mod SoundJudged

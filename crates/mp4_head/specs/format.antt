@@ -2,3 +2,4 @@ pub mod Head
 pub mod Tree
 pub mod Writing
 pub mod HeadFaults
+pub mod FirstFault

@@ -6,3 +6,4 @@ pub mod Containers
 pub mod Found
 pub mod Ids
 pub mod Normal
+pub mod Opens

@@ -1,9 +1,10 @@
 //! `edts` and `elst`: which parts of the media are shown, in which order (ISO/IEC 14496-12, 8.6.5
 //! and 8.6.6).
-ghost use Rattle.std.specs.Prelude.{◌≡◌, ◌+◌, ◌*◌, ◌≤◌, ◌⊎◌, ℕ, length, map, Some, IfOk, IfErr};
+ghost use Rattle.std.specs.Prelude.{◌≡◌, ◌+◌, ◌*◌, ◌≤◌, ◌⊎◌, ℕ, length, map, Some, IfOk, IfErr, MatchResult, None};
 ghost use Rattle.mp4_boxes.specs.format.Bytes.{numbers, signed_field};
 ghost use Rattle.mp4_boxes.specs.format.Layout.{elst, row, row_count, time_width, IsSound};
 ghost use Rattle.mp4_boxes.specs.words.View.{box_seen};
+ghost use Rattle.mp4_boxes.specs.format.FirstFault.{leaf_fault};
 ghost use Rattle.mp4_head.specs.words.Leaves.{IsFaultOf, IsOpen};
 ghost use Rattle.mp4_head.specs.words.Seen.{edit_seen};
 ghost use Rattle.mp4_head.specs.format.Tree.{edit_of, edits_of};
@@ -64,6 +65,8 @@ fn open_edit_list(view: BoxView) -> Result<(usize, usize), Fault>
     ensures room { IfOk result (λ r. 8 + r.0 * (2 * r.1 + 4)
         ≤ length (box_seen view.entry).payload) }
     ensures fault { IfErr result (IsFaultOf elst (box_seen view.entry)) }
+    ensures exact { MatchResult result (λ h. leaf_fault elst (box_seen view.entry) ≡ None)
+        (λ f. leaf_fault elst (box_seen view.entry) ≡ Some f) }
 {
     let width = open(view, 1, 8, 0)?;
     let count = u32_at(view.payload(), 4) as usize;

@@ -1,9 +1,10 @@
 //! `mvex` and `trex`: what fragments take where they say nothing (ISO/IEC 14496-12, 8.8.1 and
 //! 8.8.3).
-ghost use Rattle.std.specs.Prelude.{◌≡◌, IfOk, OnOk, IfErr};
+ghost use Rattle.std.specs.Prelude.{◌≡◌, IfOk, OnOk, IfErr, MatchResult, None, Some};
 ghost use Rattle.mp4_boxes.specs.format.Layout.{trex, IsSound};
 ghost use Rattle.mp4_boxes.specs.format.Places.{ruled};
 ghost use Rattle.mp4_boxes.specs.words.View.{box_seen};
+ghost use Rattle.mp4_boxes.specs.format.FirstFault.{leaf_fault};
 ghost use Rattle.mp4_boxes.specs.declared.rule.Rule.TheVariants as rules;
 ghost use Rattle.mp4_frag.specs.format.Fragments.{trex_of};
 ghost use Rattle.mp4_head.specs.words.Containers.{SaysExtends};
@@ -20,6 +21,8 @@ fn read_trex(view: BoxView) -> Result<Trex, Fault>
     ensures says { IfOk result (λ t. t ≡ trex_of (box_seen view.entry).payload) }
     ensures sound { OnOk result (IsSound trex (box_seen view.entry).payload) }
     ensures fault { IfErr result (IsFaultOf trex (box_seen view.entry)) }
+    ensures exact { MatchResult result (λ h. leaf_fault trex (box_seen view.entry) ≡ None)
+        (λ f. leaf_fault trex (box_seen view.entry) ≡ Some f) }
 {
     open(view, 0, 24, 0)?;
     let payload = view.payload();

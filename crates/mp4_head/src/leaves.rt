@@ -1,10 +1,12 @@
 //! Leaves, opened: their version and their room.
-ghost use Rattle.std.specs.Prelude.{◌≡◌, ◌+◌, ◌*◌, ◌≤◌, ◌⊎◌, length, bytes_eq, map, IfOk, IfErr};
+ghost use Rattle.std.specs.Prelude.{◌≡◌, ◌+◌, ◌*◌, ◌≤◌, ◌⊎◌, length, bytes_eq, map, IfOk, IfErr, MatchResult, None, Some};
 ghost use Rattle.byteorder.specs.Endian.{twos_complement};
 ghost use Rattle.mp4_boxes.specs.format.Bytes.{field, signed_field};
 ghost use Rattle.mp4_boxes.specs.format.Layout.{version, time_width};
 ghost use Rattle.mp4_boxes.specs.words.View.{box_seen};
 ghost use Rattle.mp4_head.specs.words.Leaves.{IsOpen, FailsToOpen, nine};
+ghost use Rattle.mp4_head.specs.words.Opens.{open_tests};
+ghost use Rattle.mp4_boxes.specs.format.FirstFault.{first_failed, naming};
 
 use mp4_boxes::{BoxView, Fault, FourCc, Kind, full, i32_at, u16_at, u32_at, u64_at};
 
@@ -29,6 +31,11 @@ pub(crate) fn open(view: BoxView, last: u8, fixed: usize, times: usize) -> Resul
     requires times { times ≤ 3 }
     ensures open { IfOk result (IsOpen last fixed times (box_seen view.entry).payload) }
     ensures fault { IfErr result (FailsToOpen last fixed times (box_seen view.entry)) }
+    ensures exact { MatchResult result
+        (λ w. first_failed (naming (box_seen view.entry)
+        (open_tests last fixed times (box_seen view.entry).payload)) ≡ None)
+        (λ f. first_failed (naming (box_seen view.entry)
+        (open_tests last fixed times (box_seen view.entry).payload)) ≡ Some f) }
 {
     let (version, _, _) = full(view)?;
     if version > last {

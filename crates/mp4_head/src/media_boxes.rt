@@ -1,5 +1,5 @@
 //! `mdia`: `mdhd`, `hdlr`, `elng` and `minf` (ISO/IEC 14496-12, 8.4).
-ghost use Rattle.std.specs.Prelude.{◌≡◌, ◌+◌, ◌*◌, ◌≤◌, ◌⊎◌, length, map, IfOk, OnOk, IfErr};
+ghost use Rattle.std.specs.Prelude.{◌≡◌, ◌+◌, ◌*◌, ◌≤◌, ◌⊎◌, length, map, IfOk, OnOk, IfErr, MatchResult, None, Some};
 ghost use Rattle.mp4_boxes.specs.format.Layout.{mdhd, hdlr, version, time_width, IsSound};
 ghost use Rattle.mp4_boxes.specs.words.View.{box_seen};
 ghost use Rattle.mp4_boxes.specs.format.Places.{ruled};
@@ -8,6 +8,7 @@ ghost use Rattle.mp4_head.specs.words.Containers.{SaysMediaBoxes};
 ghost use Rattle.mp4_head.specs.words.Leaves.{IsFaultOf, SaysMedia};
 ghost use Rattle.mp4_head.specs.words.Refuses.{RefusesIn, place_of};
 ghost use Rattle.mp4_head.specs.words.Seen.{kept_seen};
+ghost use Rattle.mp4_boxes.specs.format.FirstFault.{leaf_fault};
 
 use crate::information::{Information, read_information};
 use crate::leaves::{is, open, time_at};
@@ -42,6 +43,8 @@ fn read_media_header(view: BoxView) -> Result<MediaHeader, Fault>
     ensures says { IfOk result (SaysMedia (box_seen view.entry).payload) }
     ensures sound { OnOk result (IsSound mdhd (box_seen view.entry).payload) }
     ensures fault { IfErr result (IsFaultOf mdhd (box_seen view.entry)) }
+    ensures exact { MatchResult result (λ h. leaf_fault mdhd (box_seen view.entry) ≡ None)
+        (λ f. leaf_fault mdhd (box_seen view.entry) ≡ Some f) }
 {
     let width = open(view, 1, 12, 3)?;
     let header = fields_of(view.payload(), width);
@@ -56,6 +59,8 @@ fn read_handler<'a>(view: BoxView<'a>) -> Result<&'a [u8], Fault>
     ensures payload { IfOk result (λ r. r.now ≡ (box_seen view.entry).payload) }
     ensures sound { OnOk result (IsSound hdlr (box_seen view.entry).payload) }
     ensures fault { IfErr result (IsFaultOf hdlr (box_seen view.entry)) }
+    ensures exact { MatchResult result (λ h. leaf_fault hdlr (box_seen view.entry) ≡ None)
+        (λ f. leaf_fault hdlr (box_seen view.entry) ≡ Some f) }
 {
     let payload = view.payload();
     if payload.len() < 24 {

@@ -1,7 +1,8 @@
 //! `mvhd`: what a movie says of itself (ISO/IEC 14496-12, 8.2.2).
-ghost use Rattle.std.specs.Prelude.{◌≡◌, ◌+◌, ◌*◌, ◌≤◌, ◌⊎◌, length, IfOk, OnOk, IfErr};
+ghost use Rattle.std.specs.Prelude.{◌≡◌, ◌+◌, ◌*◌, ◌≤◌, ◌⊎◌, length, IfOk, OnOk, IfErr, MatchResult, None, Some};
 ghost use Rattle.mp4_boxes.specs.format.Layout.{mvhd, version, time_width, IsSound};
 ghost use Rattle.mp4_boxes.specs.words.View.{box_seen};
+ghost use Rattle.mp4_boxes.specs.format.FirstFault.{leaf_fault};
 ghost use Rattle.mp4_head.specs.words.Leaves.{IsFaultOf, SaysMovie};
 
 use crate::leaves::{i16_at, matrix_at, open, time_at};
@@ -39,6 +40,8 @@ pub(crate) fn read_movie_header(view: BoxView) -> Result<MovieHeader, Fault>
     ensures says { IfOk result (SaysMovie (box_seen view.entry).payload) }
     ensures sound { OnOk result (IsSound mvhd (box_seen view.entry).payload) }
     ensures fault { IfErr result (IsFaultOf mvhd (box_seen view.entry)) }
+    ensures exact { MatchResult result (λ h. leaf_fault mvhd (box_seen view.entry) ≡ None)
+        (λ f. leaf_fault mvhd (box_seen view.entry) ≡ Some f) }
 {
     let width = open(view, 1, 88, 3)?;
     let header = fields_of(view.payload(), width);

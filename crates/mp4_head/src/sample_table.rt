@@ -1,9 +1,10 @@
 //! `stbl`, as far as it is no table: `stsd` (ISO/IEC 14496-12, 8.5.2), and the payloads of `sgpd`
 //! (8.9.3).
-ghost use Rattle.std.specs.Prelude.{◌≡◌, map, IfOk, IfErr, OnOk};
+ghost use Rattle.std.specs.Prelude.{◌≡◌, map, IfOk, IfErr, OnOk, MatchResult, None, Some};
 ghost use Rattle.mp4_boxes.specs.format.Layout.{sample_entry, stsd, IsSound};
 ghost use Rattle.mp4_boxes.specs.format.Places.{ruled, sample_entries};
 ghost use Rattle.mp4_boxes.specs.words.View.{box_seen};
+ghost use Rattle.mp4_boxes.specs.format.FirstFault.{leaf_fault};
 ghost use Rattle.mp4_boxes.specs.declared.rule.Rule.TheVariants as rules;
 ghost use Rattle.mp4_head.specs.words.Containers.{SaysDescriptions, SaysTable, kept_of};
 ghost use Rattle.mp4_head.specs.words.Leaves.{IsFaultOf};
@@ -27,6 +28,8 @@ fn read_description<'a>(entry: BoxView<'a>) -> Result<Kept<'a>, Fault>
     ensures says { IfOk result (λ d. kept_seen d ≡ kept_of (box_seen entry.entry)) }
     ensures sound { OnOk result (IsSound sample_entry (box_seen entry.entry).payload) }
     ensures fault { IfErr result (IsFaultOf sample_entry (box_seen entry.entry)) }
+    ensures exact { MatchResult result (λ h. leaf_fault sample_entry (box_seen entry.entry) ≡ None)
+        (λ f. leaf_fault sample_entry (box_seen entry.entry) ≡ Some f) }
 {
     let payload = entry.payload();
     if payload.len() < 8 {

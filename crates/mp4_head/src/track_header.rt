@@ -1,7 +1,8 @@
 //! `tkhd`: what a track says of itself (ISO/IEC 14496-12, 8.3.2).
-ghost use Rattle.std.specs.Prelude.{◌≡◌, ◌+◌, ◌*◌, ◌≤◌, ◌⊎◌, length, IfOk, OnOk, IfErr};
+ghost use Rattle.std.specs.Prelude.{◌≡◌, ◌+◌, ◌*◌, ◌≤◌, ◌⊎◌, length, IfOk, OnOk, IfErr, MatchResult, None, Some};
 ghost use Rattle.mp4_boxes.specs.format.Layout.{tkhd, version, time_width, IsSound};
 ghost use Rattle.mp4_boxes.specs.words.View.{box_seen};
+ghost use Rattle.mp4_boxes.specs.format.FirstFault.{leaf_fault};
 ghost use Rattle.mp4_head.specs.words.Leaves.{IsFaultOf, SaysTrack};
 
 use crate::leaves::{i16_at, matrix_at, open, time_at};
@@ -48,6 +49,8 @@ pub(crate) fn read_track_header(view: BoxView) -> Result<TrackHeader, Fault>
     ensures says { IfOk result (SaysTrack (box_seen view.entry).payload) }
     ensures sound { OnOk result (IsSound tkhd (box_seen view.entry).payload) }
     ensures fault { IfErr result (IsFaultOf tkhd (box_seen view.entry)) }
+    ensures exact { MatchResult result (λ h. leaf_fault tkhd (box_seen view.entry) ≡ None)
+        (λ f. leaf_fault tkhd (box_seen view.entry) ≡ Some f) }
 {
     let times = open(view, 1, 72, 3)?;
     let header = fields_of(view.payload(), times);

@@ -41,7 +41,7 @@ narrow_fail l stbl b f i s = first_fault l stbl b (codes "stco") stco f i refl r
 pub wide_fail : (l : Limits) (stbl b : Box) (f : Fault) → IsFirstOf (codes "co64") (boxes_of stbl) b → ShapeFails 0 8 8 b f → IsFault l stbl f
 wide_fail l stbl b f i s = first_fault l stbl b (codes "co64") co64 f i refl refl (shape_fails co64 0 8 8 b f refl (co64_needed b.payload) (omega arith) s)
 
-one_of_both : (stbl : Box) → HasTables stbl → count_among (codes "stco" ∷ []) (boxes_of stbl) + count_among (codes "co64" ∷ []) (boxes_of stbl) ≡ 1
+pub one_of_both : (stbl : Box) → HasTables stbl → count_among (codes "stco" ∷ []) (boxes_of stbl) + count_among (codes "co64" ∷ []) (boxes_of stbl) ≡ 1
 one_of_both stbl h = count_each (codes "stco") (codes "co64") (boxes_of stbl) refl ∙ line_has h (codes "stco") (record { kinds = chunk_offsets; quantity = one }) refl
 
 -- without `stco` there is `co64`
@@ -101,7 +101,7 @@ pub offsets_counted : (stbl : Box) (at : ChunksAt) → ChunksRead stbl at → le
 offsets_counted stbl at k = ap (λ (xs : List ℕ). length xs) (sym k.same) ∙ numbers_length (offset_width at.is_wide) stbl.payload at.rows
 
 -- the order of the rows, as the rule asks for it
-order_as : (l : Limits) (stbl b : Box) (at : ChunksAt) (r : RowsAt) (v : Bool) → HasTables stbl → IsFirstOf (codes "stsc") (boxes_of stbl) b → RowsRead 0 8 12 stbl b r → ChunksRead stbl at
+pub order_as : (l : Limits) (stbl b : Box) (at : ChunksAt) (r : RowsAt) (v : Bool) → HasTables stbl → IsFirstOf (codes "stsc") (boxes_of stbl) b → RowsRead 0 8 12 stbl b r → ChunksRead stbl at
     → is_chunk_order (map (λ (row : ChunkRow). row.first) (chunk_rows_at stbl.payload r)) (nat_lt 0 at.rows.count) ≡ v → test chunk_order (surroundings_of l) (tables_in stbl) ≡ v
 order_as l stbl b at r v h i read k t =
     (let c = offsets_counted stbl at k in let d = sym (chunk_rows_same stbl b r h i read) in λ j. is_chunk_order (map (λ (row : ChunkRow). row.first) (d j)) (nat_lt 0 (c j))) ∙ t
@@ -144,7 +144,7 @@ chunk_rows_disorder l stbl b at r f h i read k t s =
     never : false ≡ true → ⊥
     never m = cc
 
-counts_as : (stbl b : Box) (at : ChunksAt) (r : RowsAt) (n m : ℕ) (v : Bool) → HasTables stbl → IsFirstOf (codes "stsc") (boxes_of stbl) b → RowsRead 0 8 12 stbl b r → ChunksRead stbl at → m ≡ n
+pub counts_as : (stbl b : Box) (at : ChunksAt) (r : RowsAt) (n m : ℕ) (v : Bool) → HasTables stbl → IsFirstOf (codes "stsc") (boxes_of stbl) b → RowsRead 0 8 12 stbl b r → ChunksRead stbl at → m ≡ n
     → (in_chunks_total (chunk_rows_at stbl.payload r) 1 (offsets_at stbl.payload at) == n) ≡ v → (in_chunks_total (tables_in stbl).chunk_rows 1 (tables_in stbl).chunk_offsets == m) ≡ v
 counts_as stbl b at r n m v h i read k e t =
     (let c = sym k.same in let d = sym (chunk_rows_same stbl b r h i read) in λ j. in_chunks_total (d j) 1 (c j) == e j) ∙ t

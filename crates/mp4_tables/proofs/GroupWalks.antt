@@ -1,5 +1,5 @@
 -- Sample groups child by child: what was read so far, the faults of the next child, and the rows that were passed.
-use Rattle.std.proofs.Common.{◌≡◌, ℕ, suc, ◌+◌, ◌*◌, ◌<◌, ◌≤◌, inl, inr, List, [], ◌∷◌, ◌++◌, length, take, drop, map, subst, refl, ap, sym, ◌∙◌, arith, Bool, true, false, Some}
+use Rattle.std.proofs.Common.{◌≡◌, ℕ, suc, ◌+◌, ◌*◌, ◌<◌, ◌≤◌, inl, inr, List, [], ◌∷◌, ◌++◌, length, take, drop, map, subst, refl, ap, sym, ◌∙◌, arith, Bool, true, false, cond, None, Some, length-append}
 use Rattle.std.specs.Prelude.{bytes_eq, codes, slice_set, slice_index_or}
 use Rattle.std.specs.List.{AllByRecursion, slice_get}
 use Rattle.std.proofs.lemmas.List.{append-nil, append_assoc}
@@ -26,6 +26,10 @@ use Rattle.mp4_tables.specs.declared.places.GroupsAt.{GroupsAt}
 use Rattle.mp4_tables.proofs.IndexesLeft.{four}
 use Rattle.mp4_tables.proofs.TableRows.{groups_count}
 use Rattle.mp4_tables.proofs.GroupsKept.{found_none, test_at, test_none}
+use Rattle.mp4_boxes.specs.format.FirstFault.{first_failed}
+use Rattle.mp4_tables.specs.format.FirstFault.{groups_tests}
+use Rattle.mp4_tables.specs.words.RowTests.{child_tests}
+use Rattle.mp4_tables.proofs.FirstGroups.{or_then, child_step}
 
 -- ---- lifting to the children of an `stbl`
 found_in : {A B : Type 0} (f : A → B) (xs ys : List A) (y : A) → slice_get (map f (xs ++ y ∷ ys)) (length xs) ≡ Some (f y)
@@ -62,6 +66,32 @@ pub record GroupsPassed (stbl : Box) (n : ℕ) (at : GroupsAt) (left : List Box)
   pub so : GroupsSo stbl.payload n (groupings_of (of_kind (codes "sbgp") passed)) at
   pub groups : AllOf (codes "sbgp") (IsReadable sbgp) passed
   pub described : AllOf (codes "sgpd") (IsSound sgpd) passed
+  pub first : first_failed (groups_tests n [] (tables_in stbl).groups 0 (boxes_of stbl)) ≡ first_failed (groups_tests n [] (tables_in stbl).groups (length (of_kind (codes "sbgp") passed)) left)
+
+-- where the next child stands among the `sbgp`s
+next_stands : (stbl b : Box) (n : ℕ) (at : GroupsAt) (left later : List Box) (p : GroupsPassed stbl n at left) → left ≡ b ∷ later → bytes_eq (codes "sbgp") b.kind ≡ true
+    → (slice_get (tables_in stbl).groups (length (of_kind (codes "sbgp") p.passed)) ≡ Some (grouping_of b.payload)) × (take (length (of_kind (codes "sbgp") p.passed)) (tables_in stbl).groups ≡ groupings_of (of_kind (codes "sbgp") p.passed))
+next_stands stbl b n at left later p e k =
+    let G = of_kind (codes "sbgp") p.passed in
+    let M = of_kind (codes "sbgp") later in
+    let all : boxes_of stbl ≡ p.passed ++ b ∷ later = p.is ∙ ap (λ bs. p.passed ++ bs) e in
+    let split : of_kind (codes "sbgp") (boxes_of stbl) ≡ G ++ b ∷ M = ap (of_kind (codes "sbgp")) all ∙ of_kind-split (codes "sbgp") p.passed later b k in
+    (ap (λ bs. slice_get (groupings_of bs) (length G)) split ∙ found_in (λ (c : Box). grouping_of c.payload) G M b, ap (λ bs. take (length G) (groupings_of bs)) split ∙ taken_in (λ (c : Box). grouping_of c.payload) G (b ∷ M))
+
+-- what is told of the children that are left, by the next
+next_told : (stbl b : Box) (n : ℕ) (at : GroupsAt) (left later : List Box) (p : GroupsPassed stbl n at left) → left ≡ b ∷ later → (v : Bool) → bytes_eq (codes "sbgp") b.kind ≡ v
+    → first_failed (groups_tests n [] (tables_in stbl).groups 0 (boxes_of stbl))
+    ≡ or_then (first_failed (child_tests n (groupings_of (of_kind (codes "sbgp") p.passed)) b)) (first_failed (groups_tests n [] (tables_in stbl).groups (cond v (suc (length (of_kind (codes "sbgp") p.passed))) (length (of_kind (codes "sbgp") p.passed))) later))
+next_told stbl b n at left later p e v k =
+    p.first ∙ ap (λ bs. first_failed (groups_tests n [] (tables_in stbl).groups (length (of_kind (codes "sbgp") p.passed)) bs)) e
+    ∙ child_step n (tables_in stbl).groups (groupings_of (of_kind (codes "sbgp") p.passed)) (length (of_kind (codes "sbgp") p.passed)) b later v k (λ t. next_stands stbl b n at left later p e (k ∙ t))
+
+-- the fault of the next child is the first of all
+pub first_of_next : (stbl b : Box) (n : ℕ) (at : GroupsAt) (left later : List Box) (f : Fault) (p : GroupsPassed stbl n at left) → left ≡ b ∷ later → first_failed (child_tests n (groupings_of (of_kind (codes "sbgp") p.passed)) b) ≡ Some f
+    → first_failed (groups_tests n [] (tables_in stbl).groups 0 (boxes_of stbl)) ≡ Some f
+first_of_next stbl b n at left later f p e t =
+    let v = bytes_eq (codes "sbgp") b.kind in
+    next_told stbl b n at left later p e v refl ∙ ap (λ o. or_then o (first_failed (groups_tests n [] (tables_in stbl).groups (cond v (suc (length (of_kind (codes "sbgp") p.passed))) (length (of_kind (codes "sbgp") p.passed))) later))) t
 
 group_readable : (rule : GroupRule) (stbl : Box) (n k : ℕ) → SizesKnown stbl n → AreReadable (reads (table_group rule k)) (boxes_of stbl)
 group_readable one_of_key stbl n k s = no_readable (boxes_of stbl)
@@ -150,7 +180,7 @@ no_groups_so payload n at k e = record {
     none_index = subst AreIndexes (sym no_rows) tt
 
 pub passed_first : (stbl : Box) (n : ℕ) (at : GroupsAt) (left : List Box) → GroupsSo stbl.payload n [] at → left ≡ boxes_of stbl → GroupsPassed stbl n at left
-passed_first stbl n at left s e = record { passed = []; is = sym e; so = s; groups = tt; described = tt }
+passed_first stbl n at left s e = record { passed = []; is = sym e; so = s; groups = tt; described = tt; first = ap (λ bs. first_failed (groups_tests n [] (tables_in stbl).groups 0 bs)) (sym e) }
 
 pub next_child : (stbl b : Box) (n : ℕ) (at : GroupsAt) (left later : List Box) → GroupsPassed stbl n at left → left ≡ b ∷ later → IsChild stbl b
 next_child stbl b n at left later p e = record { before = p.passed; after = later; is = p.is ∙ ap (λ bs. p.passed ++ bs) e }
@@ -168,8 +198,10 @@ mapped_snoc : (gs : List Box) (b : Box) → groupings_of (gs ++ b ∷ []) ≡ gr
 mapped_snoc [] b = refl
 mapped_snoc (g ∷ gs) b = ap (λ xs. grouping_of g.payload ∷ xs) (mapped_snoc gs b)
 
-pub passed_next : (stbl b : Box) (n : ℕ) (at after : GroupsAt) (left later : List Box) → GroupsPassed stbl n at left → left ≡ b ∷ later → ChildRead stbl.payload n at b after → GroupsPassed stbl n after later
-passed_next stbl b n at after left later p e (inl o) = record {
+pub passed_next : (stbl b : Box) (n : ℕ) (at after : GroupsAt) (left later : List Box) (p : GroupsPassed stbl n at left) → left ≡ b ∷ later → first_failed (child_tests n (groupings_of (of_kind (codes "sbgp") p.passed)) b) ≡ None → ChildRead stbl.payload n at b after → GroupsPassed stbl n after later
+passed_next stbl b n at after left later p e t (inl o) = record {
+  first = next_told stbl b n at left later p e false o.other ∙ ap (λ o. or_then o (first_failed (groups_tests n [] (tables_in stbl).groups (length (of_kind (codes "sbgp") p.passed)) later))) t
+      ∙ ap (λ bs. first_failed (groups_tests n [] (tables_in stbl).groups (length bs) later)) (sym (kind_snoc_other (codes "sbgp") p.passed b o.other));
   passed = p.passed ++ b ∷ [];
   is = p.is ∙ ap (λ bs. p.passed ++ bs) e ∙ sym (append_assoc p.passed (b ∷ []) later);
   so = subst (λ bs. GroupsSo stbl.payload n (groupings_of bs) after) (sym (kind_snoc_other (codes "sbgp") p.passed b o.other)) (subst (GroupsSo stbl.payload n (groupings_of (of_kind (codes "sbgp") p.passed))) (sym o.same) p.so);
@@ -179,7 +211,9 @@ passed_next stbl b n at after left later p e (inl o) = record {
   where
     clash : {c : Bool} → c ≡ true → c ≡ false → ⊥
     clash x y = cc
-passed_next stbl b n at after left later p e (inr (k, g)) = record {
+passed_next stbl b n at after left later p e t (inr (k, g)) = record {
+  first = next_told stbl b n at left later p e true k ∙ ap (λ o. or_then o (first_failed (groups_tests n [] (tables_in stbl).groups (suc (length (of_kind (codes "sbgp") p.passed))) later))) t
+      ∙ ap (λ m. first_failed (groups_tests n [] (tables_in stbl).groups m later)) (omega (arith, ap (λ (bs : List Box). length bs) (kind_snoc (codes "sbgp") p.passed b k), length-append (of_kind (codes "sbgp") p.passed) (b ∷ [])));
   passed = p.passed ++ b ∷ [];
   is = p.is ∙ ap (λ bs. p.passed ++ bs) e ∙ sym (append_assoc p.passed (b ∷ []) later);
   so = subst (λ bs. GroupsSo stbl.payload n bs after) (sym (ap groupings_of (kind_snoc (codes "sbgp") p.passed b k) ∙ mapped_snoc (of_kind (codes "sbgp") p.passed) b)) (g.so (groupings_of (of_kind (codes "sbgp") p.passed)) p.so);
@@ -189,6 +223,10 @@ passed_next stbl b n at after left later p e (inr (k, g)) = record {
   where
     two_kinds : b.kind ≡ codes "sbgp" → bytes_eq (codes "sgpd") b.kind ≡ true → ⊥
     two_kinds s d = let f : false ≡ true = subst (λ x. bytes_eq (codes "sgpd") x ≡ true) s d in cc
+
+-- nothing is told where all have passed
+pub none_left : (stbl : Box) (n : ℕ) (at : GroupsAt) (left : List Box) → GroupsPassed stbl n at left → left ≡ [] → first_failed (groups_tests n [] (tables_in stbl).groups 0 (boxes_of stbl)) ≡ None
+none_left stbl n at left p e = p.first ∙ ap (λ bs. first_failed (groups_tests n [] (tables_in stbl).groups (length (of_kind (codes "sbgp") p.passed)) bs)) e
 
 pub passed_all : (stbl : Box) (n : ℕ) (at : GroupsAt) (left : List Box) → GroupsPassed stbl n at left → left ≡ [] → GroupsRead stbl n at
 passed_all stbl n at left p e =

@@ -31,3 +31,7 @@ pub mod Vectors
 pub mod TableRows
 pub mod Sums
 pub mod Fronts
+pub mod FirstTables
+pub mod FirstReads
+pub mod FirstGroups
+pub mod FirstOfAll

@@ -68,7 +68,7 @@ total_read : (v : ℕ) (runs : List (ℕ × ℕ)) → total (map {B = ℕ × ℤ
 total_read v [] = refl
 total_read v (run ∷ runs) = ap (λ n. run.0 + n) (total_read v runs)
 
-total_of : (stbl b : Box) (r : RowsAt) (n m : ℕ) (v : Bool) → HasTables stbl → IsFirstOf (codes "ctts") (boxes_of stbl) b → RowsRead 1 8 8 stbl b r → m ≡ n → (total (runs_at stbl.payload r) == n) ≡ v
+pub total_of : (stbl b : Box) (r : RowsAt) (n m : ℕ) (v : Bool) → HasTables stbl → IsFirstOf (codes "ctts") (boxes_of stbl) b → RowsRead 1 8 8 stbl b r → m ≡ n → (total (runs_at stbl.payload r) == n) ≡ v
     → unwrap_or (option_map (λ (rows : List (ℕ × ℤ)). total rows == m) (tables_in stbl).offsets) true ≡ v
 total_of stbl b r n m v h i read k t =
     ap (λ o. unwrap_or (option_map (λ (rows : List (ℕ × ℤ)). total rows == m) o) true) (offsets_are stbl b r (nat_eq (version b.payload) 1) h i read refl)
@@ -99,7 +99,7 @@ large (r ∷ rs) = turn (slice_index r 1) (too_large (map (λ (r : List ℕ). So
         flip true a b e = e
         flip false a b e = refl
 
-offset_is_large : (stbl b : Box) (r : RowsAt) (v : Bool) → HasTables stbl → IsFirstOf (codes "ctts") (boxes_of stbl) b → RowsRead 1 8 8 stbl b r → version b.payload ≡ 0 → all_below (2 ^ 31) (runs_at stbl.payload r) ≡ not v → has_large_offset ctts b.payload ≡ v
+pub offset_is_large : (stbl b : Box) (r : RowsAt) (v : Bool) → HasTables stbl → IsFirstOf (codes "ctts") (boxes_of stbl) b → RowsRead 1 8 8 stbl b r → version b.payload ≡ 0 → all_below (2 ^ 31) (runs_at stbl.payload r) ≡ not v → has_large_offset ctts b.payload ≡ v
 offset_is_large stbl b r v h i read z t =
     (let y : (version b.payload == 0) ≡ true = grind (arith, nat_tests) in ap (λ c. c && too_large (map (λ (r : List ℕ). Some (slice_index r 1)) (leaf_rows ctts b.payload))) y)
     ∙ large (leaf_rows ctts b.payload) ∙ ap (λ runs. not (all_below (2 ^ 31) runs)) (sym (offset_runs stbl b r h i read)) ∙ ap not t ∙ twice v
@@ -126,7 +126,7 @@ small_as : (stbl b : Box) (r : RowsAt) (s : Bool) → AreRead stbl b r s → Are
 small_as stbl b r true a = tt
 small_as stbl b r false a = small_rows (runs_at stbl.payload r) a
 
-not_large : (stbl b : Box) (r : RowsAt) (s : Bool) → HasTables stbl → IsFirstOf (codes "ctts") (boxes_of stbl) b → RowsRead 1 8 8 stbl b r → s ≡ nat_eq (version b.payload) 1 → AreRead stbl b r s → has_large_offset ctts b.payload ≡ false
+pub not_large : (stbl b : Box) (r : RowsAt) (s : Bool) → HasTables stbl → IsFirstOf (codes "ctts") (boxes_of stbl) b → RowsRead 1 8 8 stbl b r → s ≡ nat_eq (version b.payload) 1 → AreRead stbl b r s → has_large_offset ctts b.payload ≡ false
 not_large stbl b r true h i read e a =
     let v : version b.payload ≡ 1 = grind (arith, nat_tests) in
     ap (λ n. (n == 0) && too_large (map (λ (r : List ℕ). Some (slice_index r 1)) (leaf_rows ctts b.payload))) v

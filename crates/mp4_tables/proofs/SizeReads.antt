@@ -47,7 +47,7 @@ sizes_known l stbl at k = record {
 }
 
 -- ---- `stsz`
-words_needed : (payload : List ℕ) (v : Bool) → (field payload 4 4 == 0) ≡ v → needed stsz payload ≡ 12 + 4 * cond v (field payload 8 4) 0
+pub words_needed : (payload : List ℕ) (v : Bool) → (field payload 4 4 == 0) ≡ v → needed stsz payload ≡ 12 + 4 * cond v (field payload 8 4) 0
 words_needed payload v e =
     let c = ap (λ b. cond b (field payload 8 4) 0) e in omega arith
 
@@ -126,7 +126,7 @@ words_read l stbl b v r h i e k w c p few =
     }
 
 -- ---- `stz2`
-compact_needed : (payload : List ℕ) → needed stz2 payload ≡ 12 + rows_size stz2 payload
+pub compact_needed : (payload : List ℕ) → needed stz2 payload ≡ 12 + rows_size stz2 payload
 compact_needed payload = omega arith
 
 pub compact_version : (l : Limits) (stbl b : Box) (f : Fault) → IsFirstOf (codes "stz2") (boxes_of stbl) b → VersionFails 0 b f → IsFault l stbl f

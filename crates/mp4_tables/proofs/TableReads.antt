@@ -90,7 +90,7 @@ durations_sound stbl b r h i read =
     all_first (codes "stts") (IsSound stts) (boxes_of stbl) b i (omega (arith, holds_only h (codes "stts") refl))
     (record { readable = shape_readable stts 0 8 8 stbl b r refl refl (stts_needed b.payload) read; value = refl; inside = refl; offsets = refl })
 
-durations_same : (stbl b : Box) (r : RowsAt) → HasTables stbl → IsFirstOf (codes "stts") (boxes_of stbl) b → RowsRead 0 8 8 stbl b r → runs_at stbl.payload r ≡ (tables_in stbl).durations
+pub durations_same : (stbl b : Box) (r : RowsAt) → HasTables stbl → IsFirstOf (codes "stts") (boxes_of stbl) b → RowsRead 0 8 8 stbl b r → runs_at stbl.payload r ≡ (tables_in stbl).durations
 durations_same stbl b r h i read =
     runs_there 0 8 stbl b r (lies_in stbl b h (first_is_child (codes "stts") stbl b i)) read
     ∙ ap (λ n. map run_of (rows n (4 ∷ 4 ∷ []) (drop 8 b.payload))) read.count
@@ -134,7 +134,7 @@ sync_sound stbl b r h i read =
     all_first (codes "stss") (IsSound stss) (boxes_of stbl) b i (holds_few h (codes "stss") refl)
     (record { readable = shape_readable stss 0 8 4 stbl b r refl refl (stss_needed b.payload) read; value = refl; inside = refl; offsets = refl })
 
-sync_is : (stbl b : Box) (r : RowsAt) → HasTables stbl → IsFirstOf (codes "stss") (boxes_of stbl) b → RowsRead 0 8 4 stbl b r → (tables_in stbl).sync ≡ Some (numbers_at 4 stbl.payload r)
+pub sync_is : (stbl b : Box) (r : RowsAt) → HasTables stbl → IsFirstOf (codes "stss") (boxes_of stbl) b → RowsRead 0 8 4 stbl b r → (tables_in stbl).sync ≡ Some (numbers_at 4 stbl.payload r)
 sync_is stbl b r h i read =
     ap (option_map (λ (payload : List ℕ). map first_number (leaf_rows stss payload))) (payload_first (codes "stss") (boxes_of stbl) b i)
     ∙ ap Some (sym (numbers_there 0 8 4 stbl b r (lies_in stbl b h (first_is_child (codes "stss") stbl b i)) read ∙ ap (λ n. map first_number (rows n (4 ∷ []) (drop 8 b.payload))) read.count))
@@ -171,7 +171,7 @@ dependencies_sound stbl b h i v n =
     all_first (codes "sdtp") (IsSound sdtp) (boxes_of stbl) b i (holds_few h (codes "sdtp") refl)
     (record { readable = record { version = yes_le (version b.payload) 0 v; flags = refl; room = omega arith }; value = refl; inside = refl; offsets = refl })
 
-dependencies_is : (stbl b : Box) → IsFirstOf (codes "sdtp") (boxes_of stbl) b → (tables_in stbl).dependencies ≡ Some (drop 4 b.payload)
+pub dependencies_is : (stbl b : Box) → IsFirstOf (codes "sdtp") (boxes_of stbl) b → (tables_in stbl).dependencies ≡ Some (drop 4 b.payload)
 dependencies_is stbl b i = ap (option_map (λ (payload : List ℕ). drop 4 payload)) (payload_first (codes "sdtp") (boxes_of stbl) b i)
 
 pub dependencies_read : (stbl b : Box) (at : BytesAt) (n : ℕ) → HasTables stbl → IsFirstOf (codes "sdtp") (boxes_of stbl) b → version b.payload ≤ 0 → 4 ≤ length b.payload → at.length + 4 ≡ length b.payload

@@ -4,3 +4,4 @@ pub mod Tables
 pub mod PlainSamples
 pub mod TableRules
 pub mod TableRows
+pub mod FirstFault

@@ -9,3 +9,4 @@ pub mod ChunkPlaces
 pub mod Indexes
 pub mod GroupBoxes
 pub mod Stops
+pub mod RowTests

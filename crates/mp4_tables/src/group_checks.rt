@@ -1,7 +1,9 @@
 //! Sample groups, read and judged: `sgpd` and `sbgp` (ISO/IEC 14496-12, 8.9).
 ghost use Rattle.std.specs.Prelude.{◌≡◌, ◌+◌, ◌*◌, ◌≤◌, ◌<◌, ◌++◌, ◌∷◌, [], length, IfOk, IfErr};
 ghost use Rattle.mp4_boxes.specs.format.Layout.{sbgp, sgpd, IsSound};
+ghost use Rattle.mp4_boxes.specs.format.FirstFault.{NamesFirst, naming, leaf_tests};
 ghost use Rattle.mp4_boxes.specs.words.View.{box_seen};
+ghost use Rattle.mp4_tables.specs.words.RowTests.{kept_tests, child_tests, NamesBehind, group_box_tests};
 ghost use Rattle.mp4_tables.specs.words.Keys.{key_seen, keys_seen};
 ghost use Rattle.mp4_tables.specs.words.Leaves.{HasTables, IsChild, FailsAs, SlotTaken, GroupRead, GroupFails, GroupNext, ChildRead, ChildFails, GroupsRead, GroupsSo, GroupPassed, SizesKnown, IsFault};
 ghost use Rattle.mp4_tables.specs.words.Accepted.{group_count};
@@ -19,6 +21,8 @@ use std::sync::ledger::Ledger;
 fn check_descriptions(leaf: BoxView) -> Result<(), Fault>
     ensures sound { IfOk result (λ _. IsSound sgpd (box_seen leaf.entry).payload) }
     ensures fault { IfErr result (FailsAs sgpd (box_seen leaf.entry)) }
+    ensures exact { NamesFirst (naming (box_seen leaf.entry)
+        (leaf_tests sgpd (box_seen leaf.entry).payload)) result }
 {
     version_of(leaf, 1)?;
     if leaf.payload().len() < 8 {
@@ -34,6 +38,8 @@ fn read_grouping(stbl: BoxView, leaf: BoxView) -> Result<(GroupKey, RowsAt), Fau
     ensures read { IfOk result
         (λ r. GroupRead (box_seen stbl.entry) (box_seen leaf.entry) (key_seen r.0) r.1) }
     ensures fault { IfErr result (FailsAs sbgp (box_seen leaf.entry)) }
+    ensures exact { NamesFirst (naming (box_seen leaf.entry)
+        (leaf_tests sbgp (box_seen leaf.entry).payload)) result }
 {
     let group = match read_group(leaf.payload()) {
         Ok(group) => group,
@@ -73,6 +79,8 @@ fn read_next<L: Ledger>(
         (GroupNext (box_seen stbl.entry).payload n groups (box_seen leaf.entry)) }
     ensures fault { IfErr result
         (GroupFails (box_seen stbl.entry).payload n groups (box_seen leaf.entry)) }
+    ensures exact { NamesBehind (box_seen stbl.entry).payload n groups (λ before.
+        naming (box_seen leaf.entry) (kept_tests n before (box_seen leaf.entry).payload)) result }
     ensures passed { IfOk result
         (λ next. GroupPassed (box_seen stbl.entry).payload n groups next steps.old steps.new) }
     ensures work { 4 * steps.new ≤ 4 * steps.old + length (box_seen stbl.entry).payload }
@@ -108,6 +116,8 @@ fn read_child<L: Ledger>(
         (ChildRead (box_seen stbl.entry).payload n groups (box_seen child.entry)) }
     ensures fault { IfErr result
         (ChildFails (box_seen stbl.entry).payload n groups (box_seen child.entry)) }
+    ensures exact { NamesBehind (box_seen stbl.entry).payload n groups
+        (λ before. child_tests n before (box_seen child.entry)) result }
     ensures passed { IfOk result
         (λ next. GroupPassed (box_seen stbl.entry).payload n groups next steps.old steps.new) }
     ensures work { 4 * steps.new ≤ 4 * steps.old + length (box_seen stbl.entry).payload }
@@ -148,6 +158,7 @@ pub(crate) fn read_groups<L: Ledger>(
     requires sizes { SizesKnown (box_seen stbl) n }
     ensures groups { IfOk result (GroupsRead (box_seen stbl.entry) n) }
     ensures fault { IfErr result (IsFault limits (box_seen stbl.entry)) }
+    ensures exact { NamesFirst (group_box_tests (box_seen stbl.entry)) result }
     ensures passed { IfOk result (λ groups. steps.new ≡ steps.old + 2 * group_count groups) }
     ensures work { 2 * steps.new ≤ 2 * steps.old + 3 * length (box_seen stbl.entry).payload }
 {

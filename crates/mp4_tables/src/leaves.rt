@@ -3,6 +3,8 @@ ghost use Rattle.std.specs.Prelude.{◌≡◌, ◌+◌, ◌*◌, ◌-◌, ◌<�
 ghost use Rattle.mp4_boxes.specs.format.Children.{count_among};
 ghost use Rattle.mp4_boxes.specs.format.Layout.{version as version_in};
 ghost use Rattle.mp4_boxes.specs.words.View.{box_seen};
+ghost use Rattle.mp4_boxes.specs.format.FirstFault.{NamesFirst, naming};
+ghost use Rattle.mp4_tables.specs.words.RowTests.{version_tests, row_tests};
 ghost use Rattle.mp4_tables.specs.words.Leaves.{boxes_of, HasTables, IsFirstOf, IsChild, VersionFails, ShapeFails, RowsRead};
 
 use crate::places::RowsAt;
@@ -70,6 +72,8 @@ pub(crate) fn version_of(leaf: BoxView, last: u8) -> Result<u8, Fault>
     ensures known { IfOk result (λ v. v ≤ last) }
     ensures long { IfOk result (λ v. 4 ≤ length (box_seen leaf.entry).payload) }
     ensures fault { IfErr result (VersionFails last (box_seen leaf.entry)) }
+    ensures exact { NamesFirst (naming (box_seen leaf.entry)
+        (version_tests last (box_seen leaf.entry).payload)) result }
 {
     let (version, _, _) = full(leaf)?;
     if version > last {
@@ -85,6 +89,8 @@ pub(crate) fn table_rows(stbl: BoxView, leaf: BoxView, last: u8, width: u8) -> R
     requires child { IsChild (box_seen stbl) (box_seen leaf) }
     ensures rows { IfOk result (RowsRead last 8 width (box_seen stbl.entry) (box_seen leaf.entry)) }
     ensures fault { IfErr result (ShapeFails last 8 width (box_seen leaf.entry)) }
+    ensures exact { NamesFirst (naming (box_seen leaf.entry)
+        (row_tests last width (box_seen leaf.entry).payload)) result }
 {
     version_of(leaf, last)?;
     let payload = leaf.payload();

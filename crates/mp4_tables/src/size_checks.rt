@@ -3,7 +3,9 @@ ghost use Rattle.std.specs.Prelude.{◌≡◌, ◌+◌, ◌*◌, [], ◌∷◌, 
 ghost use Rattle.std.specs.Int.{div_ceil};
 ghost use Rattle.mp4_boxes.specs.format.Children.{count_among};
 ghost use Rattle.mp4_boxes.specs.format.Layout.{is_size_bits};
+ghost use Rattle.mp4_boxes.specs.format.FirstFault.{NamesFirst};
 ghost use Rattle.mp4_boxes.specs.words.View.{box_seen};
+ghost use Rattle.mp4_tables.specs.words.RowTests.{size_tests};
 ghost use Rattle.mp4_tables.specs.words.Leaves.{boxes_of, HasTables, IsFirstOf, SizesRead, IsFormOf, IsFault};
 
 use crate::leaves::{Limits, first_of, only_of, place_in, version_of};
@@ -16,6 +18,7 @@ fn read_words(stbl: BoxView, leaf: BoxView, limits: Limits) -> Result<SizesAt, F
     requires first { IsFirstOf (codes "stsz") (boxes_of (box_seen stbl)) (box_seen leaf) }
     ensures sizes { IfOk result (SizesRead limits (box_seen stbl.entry)) }
     ensures fault { IfErr result (IsFault limits (box_seen stbl.entry)) }
+    ensures exact { NamesFirst (size_tests limits (box_seen stbl.entry)) result }
 {
     version_of(leaf, 0)?;
     let payload = leaf.payload();
@@ -77,6 +80,7 @@ fn read_compact(stbl: BoxView, leaf: BoxView, limits: Limits) -> Result<SizesAt,
     requires first { IsFirstOf (codes "stz2") (boxes_of (box_seen stbl)) (box_seen leaf) }
     ensures sizes { IfOk result (SizesRead limits (box_seen stbl.entry)) }
     ensures fault { IfErr result (IsFault limits (box_seen stbl.entry)) }
+    ensures exact { NamesFirst (size_tests limits (box_seen stbl.entry)) result }
 {
     version_of(leaf, 0)?;
     let payload = leaf.payload();
@@ -108,6 +112,7 @@ pub(crate) fn read_sizes(stbl: BoxView, limits: Limits) -> Result<SizesAt, Fault
     requires { HasTables (box_seen stbl) }
     ensures sizes { IfOk result (SizesRead limits (box_seen stbl.entry)) }
     ensures fault { IfErr result (IsFault limits (box_seen stbl.entry)) }
+    ensures exact { NamesFirst (size_tests limits (box_seen stbl.entry)) result }
 {
     match first_of(stbl, FourCc(*b"stsz")) {
         Some(leaf) => read_words(stbl, leaf, limits),

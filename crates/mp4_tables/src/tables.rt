@@ -28,6 +28,8 @@ impl<'a> Model for Tables<'a> {
 }
 
 impl<'a> Tables<'a> {
+    ghost use Rattle.mp4_boxes.specs.format.FirstFault.{FirstNamed};
+    ghost use Rattle.mp4_tables.specs.format.FirstFault.{table_tests};
     ghost use Rattle.std.specs.Prelude.{◌≡◌, ◌+◌, ◌-◌, ◌*◌, ◌^◌, ◌≤◌, min, [], length, IfOk, IfErr, IsOk};
     ghost use Rattle.mp4_boxes.specs.format.Bytes.{sum_of};
     ghost use Rattle.mp4_tables.specs.words.Timed.{samples_of};
@@ -66,6 +68,9 @@ impl<'a> Tables<'a> {
         ensures fault { IfErr result
             (NamesFault (record { file_len = file_len; descriptions = descriptions; room = room })
             (box_seen stbl.entry)) }
+        ensures exact { FirstNamed (table_tests room
+            (record { file_length = file_len; descriptions = descriptions })
+            (boxes_of (box_seen stbl.entry))) result }
         ensures only { AreAccepted (record {
           file_len = file_len;
           descriptions = descriptions;

@@ -1,6 +1,8 @@
 use Rattle.std.proofs.Common.{sym}
 use Rattle.mp4_boxes.specs.words.View.{box_seen}
 use Rattle.mp4_tables.proofs.PlaceReads.{places_ordered, places_counted, places_as, places_outside}
+use Rattle.std.proofs.Common.{true, false}
+use Rattle.mp4_tables.proofs.FirstReads.{places_judged, places_any}
 use Rattle.mp4_tables.proofs.checks.check_places.Goals as goal
 
 pub lie_within-requires-clause-sizes : goal.lie_within-requires-clause-sizes
@@ -26,3 +28,13 @@ returns-then-not-lie_within-clause-fault g c =
 pub returns-clause-places : goal.returns-clause-places
 returns-clause-places g c =
     places_as c.args.limits (box_seen c.args.stbl) c.args.sizes.rows.count c.args.sizes c.args.chunks c.args.rows _ c.requires.sizes c.requires.chunks c.requires.rows (rw c.payload.ensures at (sym c.if-not-lie_within.ensures.same))
+
+pub returns-then-not-lie_within-clause-exact : goal.returns-then-not-lie_within-clause-exact
+returns-then-not-lie_within-clause-exact g c =
+    let t = places_as c.args.limits (box_seen c.args.stbl) c.args.sizes.rows.count c.args.sizes c.args.chunks c.args.rows false c.requires.sizes c.requires.chunks c.requires.rows (rw c.payload.ensures at (sym c.if-not-lie_within.ensures.same)) in
+    rw c.fault.ensures (places_judged c.args.limits (box_seen c.args.stbl) c.args.chunks c.requires.tables c.requires.chunks false t (box_seen c.offsets_leaf.result) c.offsets_leaf.ensures)
+
+pub returns-clause-exact : goal.returns-clause-exact
+returns-clause-exact g c =
+    let t = places_as c.args.limits (box_seen c.args.stbl) c.args.sizes.rows.count c.args.sizes c.args.chunks c.args.rows true c.requires.sizes c.requires.chunks c.requires.rows (rw c.payload.ensures at (sym c.if-not-lie_within.ensures.same)) in
+    (places_any c.args.limits (box_seen c.args.stbl) c.args.chunks c.requires.tables c.requires.chunks true t).1

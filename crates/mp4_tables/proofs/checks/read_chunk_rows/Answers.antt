@@ -7,6 +7,11 @@ use Rattle.mp4_tables.proofs.ChunkReads.{chunk_rows_fail, chunk_rows_disorder, c
 use Rattle.mp4_boxes.proofs.Among.{true_false}
 use Rattle.mp4_tables.specs.format.TableRules.{description_indexes}
 use Rattle.mp4_tables.proofs.Excludes.{fault_excludes}
+use Rattle.std.proofs.Common.{true, refl}
+use Rattle.mp4_tables.specs.format.TableRules.{chunk_counts, test}
+use Rattle.mp4_tables.specs.words.Leaves.{tables_in, surroundings_of}
+use Rattle.mp4_tables.proofs.ChunkReads.{order_as, counts_as}
+use Rattle.mp4_tables.proofs.FirstReads.{chunk_rows_stop, chunk_rows_judged}
 use Rattle.mp4_tables.proofs.checks.read_chunk_rows.Goals as goal
 
 pub returns-in_err-rows-clause-fault : goal.returns-in_err-rows-clause-fault
@@ -111,3 +116,46 @@ returns-clause-work g c =
     let m = c.chunk_counts_are.ensures.cost in
     let n = c.are_described.ensures.cost in
     omega arith
+
+pub returns-in_err-rows-clause-exact : goal.returns-in_err-rows-clause-exact
+returns-in_err-rows-clause-exact g c =
+    let p = err_from_is_err_and c.from_residual.result c.from_residual.ensures.1 in
+    rw (p.1, p.2) (chunk_rows_stop c.args.limits (box_seen c.args.stbl) (box_seen c.only_of-leaf.result) c.only_of-leaf.ensures c.in_err-rows.field-0.0 c.in_err-rows.ensures.exact)
+
+pub returns-then-not-are_ordered-clause-exact : goal.returns-then-not-are_ordered-clause-exact
+returns-then-not-are_ordered-clause-exact g c =
+    rw c.fault.ensures
+    (chunk_rows_judged c.args.limits (box_seen c.args.stbl) (box_seen c.only_of-leaf.result) c.only_of-leaf.ensures false (test chunk_counts (surroundings_of c.args.limits) (tables_in (box_seen c.args.stbl)))
+    (test description_indexes (surroundings_of c.args.limits) (tables_in (box_seen c.args.stbl)))
+    (order_as c.args.limits (box_seen c.args.stbl) (box_seen c.only_of-leaf.result) c.args.chunks c.in_ok-rows.rows false c.requires.tables c.only_of-leaf.ensures c.in_ok-rows.ensures.rows c.requires.chunks (rw c.payload-payload.ensures at (sym c.if-not-are_ordered.ensures.same)))
+    refl refl c.in_ok-rows.ensures.exact)
+
+pub returns-then-not-chunk_counts_are-clause-exact : goal.returns-then-not-chunk_counts_are-clause-exact
+returns-then-not-chunk_counts_are-clause-exact g c =
+    rw c.fault-then-not-chunk_counts_are.ensures
+    (chunk_rows_judged c.args.limits (box_seen c.args.stbl) (box_seen c.only_of-leaf.result) c.only_of-leaf.ensures true false (test description_indexes (surroundings_of c.args.limits) (tables_in (box_seen c.args.stbl)))
+    (order_as c.args.limits (box_seen c.args.stbl) (box_seen c.only_of-leaf.result) c.args.chunks c.in_ok-rows.rows true c.requires.tables c.only_of-leaf.ensures c.in_ok-rows.ensures.rows c.requires.chunks (rw c.payload-payload.ensures at (sym c.if-not-are_ordered.ensures.same)))
+    (counts_as (box_seen c.args.stbl) (box_seen c.only_of-leaf.result) c.args.chunks c.in_ok-rows.rows c.args.n _ false c.requires.tables c.only_of-leaf.ensures c.in_ok-rows.ensures.rows c.requires.chunks c.requires.sizes.count
+    (rw c.payload-payload.ensures at (sym c.if-not-chunk_counts_are.ensures.same)))
+    refl c.in_ok-rows.ensures.exact)
+
+pub returns-then-not-are_described-clause-exact : goal.returns-then-not-are_described-clause-exact
+returns-then-not-are_described-clause-exact g c =
+    rw c.fault-then-not-are_described.ensures
+    (chunk_rows_judged c.args.limits (box_seen c.args.stbl) (box_seen c.only_of-leaf.result) c.only_of-leaf.ensures true true false
+    (order_as c.args.limits (box_seen c.args.stbl) (box_seen c.only_of-leaf.result) c.args.chunks c.in_ok-rows.rows true c.requires.tables c.only_of-leaf.ensures c.in_ok-rows.ensures.rows c.requires.chunks (rw c.payload-payload.ensures at (sym c.if-not-are_ordered.ensures.same)))
+    (counts_as (box_seen c.args.stbl) (box_seen c.only_of-leaf.result) c.args.chunks c.in_ok-rows.rows c.args.n _ true c.requires.tables c.only_of-leaf.ensures c.in_ok-rows.ensures.rows c.requires.chunks c.requires.sizes.count
+    (rw c.payload-payload.ensures at (sym c.if-not-chunk_counts_are.ensures.same)))
+    (described_as c.args.limits (box_seen c.args.stbl) (box_seen c.only_of-leaf.result) c.args.chunks c.in_ok-rows.rows c.args.n false c.requires.tables c.only_of-leaf.ensures c.in_ok-rows.ensures.rows c.requires.chunks c.requires.sizes
+    (rw c.payload-payload.ensures at (sym c.if-not-chunk_counts_are.ensures.same)) (rw c.payload-payload.ensures at (sym c.if-not-are_described.ensures.same)))
+    c.in_ok-rows.ensures.exact)
+
+pub returns-clause-exact : goal.returns-clause-exact
+returns-clause-exact g c =
+    chunk_rows_judged c.args.limits (box_seen c.args.stbl) (box_seen c.only_of-leaf.result) c.only_of-leaf.ensures true true true
+    (order_as c.args.limits (box_seen c.args.stbl) (box_seen c.only_of-leaf.result) c.args.chunks c.in_ok-rows.rows true c.requires.tables c.only_of-leaf.ensures c.in_ok-rows.ensures.rows c.requires.chunks (rw c.payload-payload.ensures at (sym c.if-not-are_ordered.ensures.same)))
+    (counts_as (box_seen c.args.stbl) (box_seen c.only_of-leaf.result) c.args.chunks c.in_ok-rows.rows c.args.n _ true c.requires.tables c.only_of-leaf.ensures c.in_ok-rows.ensures.rows c.requires.chunks c.requires.sizes.count
+    (rw c.payload-payload.ensures at (sym c.if-not-chunk_counts_are.ensures.same)))
+    (described_as c.args.limits (box_seen c.args.stbl) (box_seen c.only_of-leaf.result) c.args.chunks c.in_ok-rows.rows c.args.n true c.requires.tables c.only_of-leaf.ensures c.in_ok-rows.ensures.rows c.requires.chunks c.requires.sizes
+    (rw c.payload-payload.ensures at (sym c.if-not-chunk_counts_are.ensures.same)) (rw c.payload-payload.ensures at (sym c.if-not-are_described.ensures.same)))
+    c.in_ok-rows.ensures.exact

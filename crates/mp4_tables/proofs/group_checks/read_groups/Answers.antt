@@ -1,7 +1,7 @@
-use Rattle.std.proofs.Common.{arith, ◌∙◌}
+use Rattle.std.proofs.Common.{arith, sym, ◌∙◌}
 use Rattle.std.proofs.lemmas.Result.{err_from_is_err_and}
 use Rattle.mp4_boxes.specs.words.View.{box_seen}
-use Rattle.mp4_tables.proofs.GroupWalks.{next_child, passed_first, passed_next, child_fault, rows_bounded, none_passed}
+use Rattle.mp4_tables.proofs.GroupWalks.{next_child, passed_first, passed_next, child_fault, rows_bounded, none_passed, first_of_next, none_left}
 use Rattle.mp4_tables.proofs.group_checks.read_groups.Goals as goal
 
 pub loop-child-init : goal.loop-child-init
@@ -22,8 +22,13 @@ returns-in_err-groups-clause-fault g c =
 pub loop-child-preserved : goal.loop-child-preserved
 loop-child-preserved g c =
     let p = c.loop-child.invariant.3 in
-    let q = c.in_ok-groups.ensures.passed _ c.loop-child.invariant.2.so in
-    (tt, tt, passed_next (box_seen c.args.stbl) (box_seen c.in-Some.child) c.args.n c.loop-child.groups c.in_ok-groups.groups c.loop-child.child-iterator c.next.new.self c.loop-child.invariant.2 c.in-Some.ensures.steps c.in_ok-groups.ensures.next, omega arith)
+    let q = c.in_ok-groups.ensures.passed _ c.loop-child.invariant.2.so in (
+      tt,
+      tt,
+      passed_next (box_seen c.args.stbl) (box_seen c.in-Some.child) c.args.n c.loop-child.groups c.in_ok-groups.groups c.loop-child.child-iterator c.next.new.self c.loop-child.invariant.2 c.in-Some.ensures.steps (c.in_ok-groups.ensures.exact _ c.loop-child.invariant.2.so)
+          c.in_ok-groups.ensures.next,
+      omega arith,
+    )
 
 pub returns-in_err-groups-clause-work : goal.returns-in_err-groups-clause-work
 returns-in_err-groups-clause-work g c =
@@ -37,3 +42,13 @@ returns-clause-work g c =
     let bound = rows_bounded (box_seen c.args.stbl).payload c.loop-child.groups c.loop-child.invariant.2.so.have in
     let steps = c.loop-child.invariant.3 in
     omega (arith, bound, steps)
+
+pub returns-in_err-groups-clause-exact : goal.returns-in_err-groups-clause-exact
+returns-in_err-groups-clause-exact g c =
+    let p = err_from_is_err_and c.from_residual.result c.from_residual.ensures.1 in
+    let passed = c.loop-child.invariant.2 in
+    let first = first_of_next (box_seen c.args.stbl) (box_seen c.in-Some.child) c.args.n c.loop-child.groups c.loop-child.child-iterator c.next.new.self c.in_err-groups.field-0.0 passed c.in-Some.ensures.steps (c.in_err-groups.ensures.exact _ passed.so) in
+    rw (p.1, p.2) (rw (sym c.requires.sizes.count) at first)
+
+pub returns-clause-exact : goal.returns-clause-exact
+returns-clause-exact g c = let first = none_left (box_seen c.args.stbl) c.args.n c.loop-child.groups c.loop-child.child-iterator c.loop-child.invariant.2 c.in-None.ensures.steps.0 in rw (sym c.requires.sizes.count) at first
