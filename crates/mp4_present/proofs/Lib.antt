@@ -89,6 +89,8 @@ pub mod GapsTold
 mod KeysOfBoth
 mod SamplesDiffer
 mod PairsCompared
+mod PairsPassed
 mod TracksCompared
 mod FilesCompared
 pub mod TrafsNoted
+pub mod JudgeVectors

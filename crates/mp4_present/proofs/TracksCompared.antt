@@ -13,14 +13,18 @@ use Rattle.mp4_present.specs.words.Joined.{IsBelow}
 use Rattle.mp4_present.specs.words.Movies.{MovieSeen}
 use Rattle.mp4_present.specs.words.NextSample.{TakesFirst}
 use Rattle.mp4_present.specs.words.OpenedMovie.{IsOpenedAs, IsInfoOf}
+use Rattle.mp4_present.specs.words.SamePairs.{PassesSame}
 use Rattle.mp4_present.specs.words.SamplesComing.{Comes, track_samples}
 use Rattle.mp4_present.specs.words.WalkSteps.{MayTake, walk_steps}
+use Rattle.mp4_present.specs.words.Windows.{Shows}
 use Rattle.mp4_present.specs.declared.comparing_samples.Pairing.{Pairing}
+use Rattle.mp4_present.specs.declared.comparing_samples.Side.{Side}
 use Rattle.mp4_present.specs.declared.differences.Difference.{Difference}
 use Rattle.mp4_present.specs.declared.leaving.Leaving.{Leaving}
 use Rattle.mp4_present.specs.declared.track_info.TrackInfo.{TrackInfo}
 use Rattle.mp4_present.specs.declared.walks.Walk.{Walk}
 use Rattle.mp4_present.proofs.Differing.{none_behind, each_ends, one_ends}
+use Rattle.mp4_present.proofs.PairsPassed.{same_skipped}
 use Rattle.mp4_present.proofs.TrafTaken.{zipped_at}
 use Rattle.mp4_present.proofs.SamplesDiffer.{tracks_differ}
 use Rattle.mp4_present.proofs.SamplesLie.{timed_length}
@@ -135,6 +139,39 @@ module _ (by : Pairing) (file : List ℕ) (tree : FileTree) (t : TrackTree) (m :
             (each_next one k xs ys x.0 y.0 p.0 p.1 x.1 y.1 ∙ ap (λ (ds : List Difference). ds ++ each_differ one (k + 1 + 1) (drop (k + 1) xs) (drop (k + 1) ys)) (sym p.4)) e;
         takes = (then.0, then.1, then.2, then.3, omega (arith, first, second));
       }
+
+  -- so many pairs more that are the same
+  pub pairs_pass : (k count : ℕ) (left left_after right right_after : Side) (now : List Difference) (mid new : ℕ) → IsOpenedAs file m tree → IsOpenedAs other n other_tree → Shows file left.window → Shows other right.window
+      → PassesSame by m left left_after n right right_after count mid new → GoOn k left.walk right.walk now mid → GoOn (k + count) left_after.walk right_after.walk now new
+  pairs_pass k count left left_after right right_after now mid new o q shows shows_right p h =
+      let xs = track_samples tree t in
+      let ys = track_samples other_tree u in
+      let come = p.comes file other tree other_tree t u (drop k xs) (drop k ys) h.comes h.comes_right in
+      let begun = h.takes in
+      let then = p.takes file other tree other_tree t u begun.0 begun.1 o q begun.2 begun.3 in
+      let first = begun.4 in
+      let second = then.4 in
+      let on : k + 1 + count ≡ k + count + 1 = omega arith in
+      let rest : each_differ one (k + 1) (drop k xs) (drop k ys) ≡ each_differ one (k + count + 1) (drop (k + count) xs) (drop (k + count) ys) =
+      same_skipped by left.window right.window file other shows shows_right count (k + 1) (drop k xs) (drop k ys) come.2
+      ∙ (λ i. each_differ one (on i) (drop-drop count k xs i) (drop-drop count k ys i)) in
+      record {
+        comes = subst (λ (ss : List SampleAt). Comes file tree t m left_after.walk ss) (drop-drop count k xs) come.0;
+        comes_right = subst (λ (ss : List SampleAt). Comes other other_tree u n right_after.walk ss) (drop-drop count k ys) come.1;
+        grows = subst (λ (ds : List Difference). GrowsTo before now (each_differ one 1 xs ys) ds) rest h.grows;
+        takes = (then.0, then.1, then.2, then.3, omega (arith, first, second));
+      }
+
+  -- the same samples come of other walks
+  pub pairs_moved : (k : ℕ) (w v w2 v2 : Walk) (now : List Difference) (mid new : ℕ) → GoOn k w v now mid
+      → Comes file tree t m w2 (drop k (track_samples tree t)) × Comes other other_tree u n v2 (drop k (track_samples other_tree u))
+      → ((p q : ℕ) → MayTake file tree t w p → MayTake other other_tree u v q → BothTakeOn file tree t w2 other other_tree u v2 (p + q) mid new) → GoOn k w2 v2 now new
+  pairs_moved k w v w2 v2 now mid new h come work =
+      let begun = h.takes in
+      let then = work begun.0 begun.1 begun.2 begun.3 in
+      let first = begun.4 in
+      let second = then.4 in
+      record { comes = come.0; comes_right = come.1; grows = h.grows; takes = (then.0, then.1, then.2, then.3, omega (arith, first, second)) }
 
   -- no further difference is taken
   pub pairs_stop : (k : ℕ) (w v w2 v2 : Walk) (now next found : List Difference) (mid : ℕ) → GoOn k w v now mid

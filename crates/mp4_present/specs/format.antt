@@ -8,3 +8,4 @@ pub mod Comparison
 pub mod ComparisonLaws
 pub mod CompleteLaws
 pub mod FaultNumbers
+pub mod Judge

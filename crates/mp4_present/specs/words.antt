@@ -32,3 +32,4 @@ pub mod OverTables
 pub mod OverOpening
 pub mod OverHands
 pub mod OwnTrafs
+pub mod SamePairs

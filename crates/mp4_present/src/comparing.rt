@@ -9,10 +9,11 @@ ghost use Rattle.mp4_present.specs.words.WalkSteps.{walks_steps};
 
 use crate::comparing_fields::compare_numbers;
 use crate::comparing_heads::{movie_differences, track_differences};
-use crate::comparing_samples::{Pairing, Side, compare_pair};
+use crate::comparing_samples::{Pairing, Side, compare_pair, refill_both};
 use crate::differences::{Difference, Differences, Field, Subject};
 use crate::leaving::Leaving;
 use crate::movie::Movie;
+use crate::same_pairs::{Pause, pass_same};
 use crate::track_info::TrackInfo;
 use mp4_boxes::{Memory, Refusal, Steps};
 use mp4_head::TrackHead;
@@ -64,21 +65,42 @@ fn compare_track_samples<S: Store, T: Store, D: Differences, L: Ledger>(
     let mut left_side = Side::new(alloc, left, track)?;
     let mut right_side = Side::new(alloc, right, track)?;
     let samples = left.tracks()[track].samples;
-    for number in 0..samples.min(right.tracks()[track].samples) {
-        let found = compare_pair(
-            alloc,
+    let count = samples.min(right.tracks()[track].samples);
+    let mut pause = Pause::new();
+    let mut number = 0;
+    while number < count {
+        let passed = pass_same(
             &by,
-            number + 1,
             left,
             &mut left_side,
-            a,
             right,
             &mut right_side,
-            b,
+            count - number,
+            &mut pause,
             steps,
-        )?;
-        if !hand_over(found.as_slice(), seen) {
-            return Ok(false);
+        );
+        number += passed.count;
+        if number < count {
+            if passed.is_used_up {
+                let _same = refill_both(left, &mut left_side, a, right, &mut right_side, b, steps)?;
+            } else {
+                number += 1;
+                let found = compare_pair(
+                    alloc,
+                    &by,
+                    number,
+                    left,
+                    &mut left_side,
+                    a,
+                    right,
+                    &mut right_side,
+                    b,
+                    steps,
+                )?;
+                if !hand_over(found.as_slice(), seen) {
+                    return Ok(false);
+                }
+            }
         }
     }
     Ok(true)

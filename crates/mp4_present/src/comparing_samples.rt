@@ -1,12 +1,13 @@
 //! Samples of two tracks, compared one by one.
 ghost use Rattle.std.specs.Prelude.{◌≡◌, ◌++◌, [], length, map, fold, if◌then◌else◌, IfOk, OnOk};
-ghost use Rattle.mp4_tables.specs.words.Keys.{key_seen, keys_seen};
+ghost use Rattle.mp4_tables.specs.words.Keys.{key_place, key_seen, keys_seen};
 ghost use Rattle.mp4_present.specs.format.Comparison.{with_key};
-ghost use Rattle.mp4_present.specs.words.Compared.{PairFound, BothWork, WhereBothLie};
-ghost use Rattle.mp4_present.specs.words.Differing.{flags_left, sample_values, index_of, group_differences, differences_at, sample_bytes_differ, RefusedBoth, RefusesSample};
+ghost use Rattle.mp4_present.specs.words.Compared.{BothCome, BothWork, PairFound, WhereBothLie};
+ghost use Rattle.mp4_present.specs.words.Differing.{flags_left, sample_values, index_in, group_differences, differences_at, sample_bytes_differ, RefusedBoth, RefusesSample};
 ghost use Rattle.mp4_present.specs.words.Joined.{IsBelow};
 ghost use Rattle.mp4_present.specs.words.OverDifferences.{BothStand, OnlyReadsBoth};
 ghost use Rattle.mp4_present.specs.words.OverStores.{WhereBothHonest, IsUnchanged};
+ghost use Rattle.mp4_present.specs.words.SamplesComing.{Comes};
 ghost use Rattle.mp4_present.specs.words.Windows.{BothShow};
 
 use crate::comparing_bytes::first_difference;
@@ -23,7 +24,7 @@ use std::alloc::Global;
 use std::sync::ledger::Ledger;
 
 // The flags of a sample; sample_is_non_sync_sample alone, where the others are left out.
-fn flags_left(leaving: Leaving, flags: u32) -> u32
+pub(crate) fn flags_left(leaving: Leaving, flags: u32) -> u32
     ensures { result ≡ flags_left leaving flags }
 {
     if leaving.flags {
@@ -45,12 +46,12 @@ fn sample_values(leaving: Leaving, sample: &SampleAt) -> [(Field, Value); 4]
     ]
 }
 
-// The index of a sample at a key, 0 where its track doesn't name it.
-fn index_at(keys: &Keys, sample: &SampleAt, key: GroupKey) -> u16
-    ensures { result ≡ index_of keys.now sample.now key }
+// The index at a key of a sample with these indexes, 0 where its track doesn't name it.
+pub(crate) fn index_at(keys: &Keys, groups: [u16; 4], key: GroupKey) -> u16
+    ensures { result ≡ index_in (key_place (key_seen key) (keys_seen keys.now)) groups }
 {
     match keys.place(key) {
-        Some(place) if place < 4 => sample.groups[place as usize],
+        Some(place) if place < 4 => groups[place as usize],
         _ => 0,
     }
 }
@@ -108,11 +109,11 @@ fn joint_keys(
 // of each, and those of both in their order.
 #[derive(Drop)]
 pub(crate) struct Pairing {
-    leaving: Leaving,
+    pub(crate) leaving: Leaving,
     track: u64,
-    left: Keys,
-    right: Keys,
-    keys: Vec<GroupKey>,
+    pub(crate) left: Keys,
+    pub(crate) right: Keys,
+    pub(crate) keys: Vec<GroupKey>,
 }
 
 impl Pairing {
@@ -156,8 +157,8 @@ fn compare_groups(
 {
     for k in 0..by.keys.len() {
         let key = by.keys[k];
-        let index = u64::from(index_at(&by.left, left, key));
-        let other = u64::from(index_at(&by.right, right, key));
+        let index = u64::from(index_at(&by.left, left.groups, key));
+        let other = u64::from(index_at(&by.right, right.groups, key));
         compare_numbers(of, Field::Group(key), index, other, found)?;
     }
     Ok(())
@@ -227,8 +228,8 @@ const WINDOW: usize = 65_536;
 // their bytes.
 #[derive(Drop)]
 pub(crate) struct Side {
-    walk: Walk,
-    window: FileWindow,
+    pub(crate) walk: Walk,
+    pub(crate) window: FileWindow,
 }
 
 impl Side {
@@ -281,4 +282,34 @@ pub(crate) fn compare_pair<S: Store, T: Store, L: Ledger>(
     let window = &mut right_side.window;
     compare_bytes(of, &x, &mut left_side.window, a, &y, window, b, &mut found)?;
     Ok(found)
+}
+
+// Both sides have a sample in hand, where they have not come to the end: the same samples come.
+pub(crate) fn refill_both<S: Store, T: Store, L: Ledger>(
+    left: &Movie,
+    left_side: &mut Side,
+    a: &mut S,
+    right: &Movie,
+    right_side: &mut Side,
+    b: &mut T,
+    steps: &mut Steps<L>,
+) -> Result<(), Refusal>
+    requires sides { BothStand S.Store a.old left.now left_side.old T.Store b.old right.now
+        right_side.old }
+    ensures stores { OnlyReadsBoth S.Store a.old a.new T.Store b.old b.new result }
+    ensures sides { OnOk result (BothStand S.Store a.old left.now left_side.new T.Store b.old
+        right.now right_side.new) }
+    ensures coming { BothCome S.Store a.old left.now left_side.old T.Store b.old right.now
+        right_side.old (λ tree t xs other u ys. OnOk result
+        (Comes (S.file a.old) tree t left.now left_side.new.walk xs
+        × Comes (T.file b.old) other u right.now right_side.new.walk ys)) }
+    ensures unchanged { WhereBothLie S.Store a.old left.now left_side.old T.Store b.old right.now
+        right_side.old (IsUnchanged result) }
+    ensures work { BothWork S.Store a.old left.now left_side.old left_side.new T.Store b.old
+        right.now right_side.old right_side.new result steps.old steps.new }
+    ensures refusal { RefusedBoth S.Store a.old a.new T.Store b.old b.new result RefusesSample }
+{
+    left_side.walk.refill(left, a, steps)?;
+    right_side.walk.refill(right, b, steps)?;
+    Ok(())
 }

@@ -17,7 +17,7 @@ pub(crate) struct FileWindow {
 }
 
 impl FileWindow {
-    ghost use Rattle.std.specs.Prelude.{◌≡◌, ◌+◌, ◌<◌, ◌≤◌, ℕ, List, length, IfOk};
+    ghost use Rattle.std.specs.Prelude.{◌≡◌, ◌+◌, ◌<◌, ◌≤◌, ℕ, List, length, IfOk, IsTrue};
     ghost use Rattle.mp4_store.specs.words.Device.{range};
     ghost use Rattle.mp4_present.specs.words.OverStores.{OnlyReads, WhereHonest, Refused};
     ghost use Rattle.mp4_present.specs.words.Reading.{RefusesFront};
@@ -87,5 +87,21 @@ impl FileWindow {
     {
         let from = (at - self.at) as usize;
         &self.buffer[from..from + len]
+    }
+
+    // Whether both windows show so many bytes from a place on each, and these are the same.
+    #[inline(always)]
+    pub(crate) fn shows_same(&self, at: u64, other: &FileWindow, other_at: u64, len: usize) -> bool
+        ensures { IsTrue result → (file other_file : List ℕ) → Shows file self.now
+            → Shows other_file other.now
+            → range file at len ≡ range other_file other_at len }
+    {
+        if len == 0 {
+            return true;
+        }
+        if self.shown(at) < len || other.shown(other_at) < len {
+            return false;
+        }
+        self.bytes(at, len) == other.bytes(other_at, len)
     }
 }

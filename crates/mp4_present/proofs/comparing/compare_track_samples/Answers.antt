@@ -1,10 +1,12 @@
-use Rattle.std.proofs.Common.{rules, refl, List, ◌≡◌, ◌<◌, ◌≤◌, ◌++◌, min, slice_index_or, ap, subst, ◌∙◌}
+use Rattle.std.proofs.Common.{rules, refl, List, ◌≡◌, ◌+◌, ◌<◌, ◌≤◌, ◌++◌, min, slice_index_or, ap, sym, subst, ◌∙◌, arith}
 use Rattle.std.proofs.lemmas.Result.{err_from_is_err_and}
 use Rattle.mp4_present.specs.words.Compared.{TakesFront}
+use Rattle.mp4_present.specs.words.Windows.{Shows}
 use Rattle.mp4_present.specs.declared.differences.Difference.{Difference}
+use Rattle.mp4_present.specs.declared.file_window.FileWindow.{FileWindow}
 use Rattle.mp4_present.proofs.TrafTaken.{at_place}
 use Rattle.mp4_present.proofs.PairsCompared.{both_most}
-use Rattle.mp4_present.proofs.TracksCompared.{takes_nothing, grows_front, count_is, rest_lies, pairs_first, pairs_next, pairs_stop, pairs_most, pairs_work, pairs_all, pairs_are, min_over}
+use Rattle.mp4_present.proofs.TracksCompared.{takes_nothing, grows_front, count_is, rest_lies, pairs_first, pairs_pass, pairs_moved, pairs_next, pairs_stop, pairs_most, pairs_work, pairs_all, pairs_are, min_over}
 use Rattle.mp4_present.proofs.comparing.compare_track_samples.Goals as goal
 
 pub returns-in_err-by-clause-handed : goal.returns-in_err-by-clause-handed
@@ -33,6 +35,7 @@ returns-in_err-right_side-clause-handed g c =
 
 pub loop-number-init : goal.loop-number-init
 loop-number-init g c = record {
+  within = omega arith;
   honesty = refl;
   file = refl;
   reads = refl;
@@ -53,8 +56,9 @@ loop-number-init g c = record {
       (first.coming file tree t o at) (second.coming right_file other u p bt) (first.may file tree t o at) (second.may right_file other u p bt);
 }
 
-pub loop-number-preserved : goal.loop-number-preserved
-loop-number-preserved g c = record {
+pub loop-number-preserved-then-passed : goal.loop-number-preserved-then-passed
+loop-number-preserved-then-passed g c = record {
+  within = search rules;
   honesty = search rules;
   file = search rules;
   reads = search rules;
@@ -73,16 +77,152 @@ loop-number-preserved g c = record {
       let left = c.args.left.now in
       let right = c.args.right.now in
       let by = c.in_ok-by.by in
-      let h = i.going told told_right tree other o p t u at bt in
       let before = g.D.Differences.taken c.args.seen.now in
       let now = g.D.Differences.taken c.loop-number.seen in
-      let w = c.loop-number.left_side.walk in
-      let v = c.loop-number.right_side.walk in
-      pairs_next by file tree t left right_file other u right before c.args.steps.now c.loop-number.number w v c.compare_pair.new.left_side.walk c.compare_pair.new.right_side.walk now
-      (g.D.Differences.taken c.hand_over.new.seen) c.in_ok-found.found.items c.loop-number.steps c.compare_pair.new.steps h
+      let passed = c.pass_same-passed in
+      let number = c.loop-number.number + passed.result.count in
+      let h = pairs_pass by file tree t left right_file other u right before c.args.steps.now c.loop-number.number passed.result.count c.loop-number.left_side passed.new.left_side c.loop-number.right_side passed.new.right_side now c.loop-number.steps passed.new.steps
+      o p (i.shows told) (i.shows_right told_right) passed.ensures.passed (i.going told told_right tree other o p t u at bt) in
+      let w = passed.new.left_side.walk in
+      let v = passed.new.right_side.walk in
+      pairs_moved by file tree t left right_file other u right before c.args.steps.now number w v c.refill_both.new.left_side.walk c.refill_both.new.right_side.walk now passed.new.steps c.refill_both.new.steps h
+      ((rw (i.honesty, i.file, i.honesty_right, i.file_right) at c.in_ok-_same.ensures.coming) told told_right tree other o p t u _ _ h.comes h.comes_right)
+      (λ q r hx hy. (rw (i.honesty, i.file, i.honesty_right, i.file_right) at c.in_ok-_same.ensures.work) told told_right tree other o p t u q r hx hy);
+}
+
+pub returns-in_err-_same-clause-handed : goal.returns-in_err-_same-clause-handed
+returns-in_err-_same-clause-handed g c =
+    record {
+      goes = search rules;
+      all = search rules;
+      front = λ told told_right tree other o p t u at bt.
+          let i = c.loop-number.invariant in
+          let file = g.S.Store.file c.args.a.now in
+          let right_file = g.T.Store.file c.args.b.now in
+          let left = c.args.left.now in
+          let right = c.args.right.now in
+          let by = c.in_ok-by.by in
+          let before = g.D.Differences.taken c.args.seen.now in
+          let now = g.D.Differences.taken c.loop-number.seen in
+          let passed = c.pass_same-passed in
+          let number = c.loop-number.number + passed.result.count in
+          let h = pairs_pass by file tree t left right_file other u right before c.args.steps.now c.loop-number.number passed.result.count c.loop-number.left_side passed.new.left_side c.loop-number.right_side passed.new.right_side now c.loop-number.steps passed.new.steps
+          o p (i.shows told) (i.shows_right told_right) passed.ensures.passed (i.going told told_right tree other o p t u at bt) in
+          let info = c.index-tracks-track.result in
+          let other_info = c.index-tracks-track-2.result in
+          let is : info ≡ slice_index_or left.tracks c.args.track info = search rules in
+          let is_right : other_info ≡ slice_index_or right.tracks c.args.track other_info = search rules in
+          let there = at_place left.tracks c.args.track info c.requires.tracks.left is in
+          let there_right = at_place right.tracks c.args.track other_info c.requires.tracks.right is_right in
+          let are = pairs_are c.args.leaving c.args.track by file right_file left right tree other t u info other_info (c.in_ok-by.ensures info other_info there there_right) o p at bt there there_right in
+          subst (TakesFront before now) are (grows_front _ _ _ _ h.grows);
+    }
+
+pub returns-in_err-_same-clause-unchanged : goal.returns-in_err-_same-clause-unchanged
+returns-in_err-_same-clause-unchanged g c told told_right tree other o p t u at bt =
+    let i = c.loop-number.invariant in
+    let file = g.S.Store.file c.args.a.now in
+    let right_file = g.T.Store.file c.args.b.now in
+    let left = c.args.left.now in
+    let right = c.args.right.now in
+    let by = c.in_ok-by.by in
+    let before = g.D.Differences.taken c.args.seen.now in
+    let now = g.D.Differences.taken c.loop-number.seen in
+    let passed = c.pass_same-passed in
+    let number = c.loop-number.number + passed.result.count in
+    let h = pairs_pass by file tree t left right_file other u right before c.args.steps.now c.loop-number.number passed.result.count c.loop-number.left_side passed.new.left_side c.loop-number.right_side passed.new.right_side now c.loop-number.steps passed.new.steps
+    o p (i.shows told) (i.shows_right told_right) passed.ensures.passed (i.going told told_right tree other o p t u at bt) in
+    let info = c.index-tracks-track.result in
+    let other_info = c.index-tracks-track-2.result in
+    let is : info ≡ slice_index_or left.tracks c.args.track info = search rules in
+    let is_right : other_info ≡ slice_index_or right.tracks c.args.track other_info = search rules in
+    let there = at_place left.tracks c.args.track info c.requires.tracks.left is in
+    let there_right = at_place right.tracks c.args.track other_info c.requires.tracks.right is_right in
+    let e = err_from_is_err_and c.from_residual-in_err-_same.result c.from_residual-in_err-_same.ensures.1 in
+    let lt : number < info.samples = search rules in
+    let lt_right : number < other_info.samples = search rules in
+    rw (e.1, e.2) ((rw (i.honesty, i.file, i.honesty_right, i.file_right) at c.in_err-_same.ensures.unchanged) told told_right tree other o p t u _ _ h.comes h.comes_right
+    (rest_lies file left tree t c.args.track number info o at there lt) (rest_lies right_file right other u c.args.track number other_info p bt there_right lt_right))
+
+pub returns-in_err-_same-clause-work : goal.returns-in_err-_same-clause-work
+returns-in_err-_same-clause-work g c told told_right tree other o p t u at bt =
+    let i = c.loop-number.invariant in
+    let file = g.S.Store.file c.args.a.now in
+    let right_file = g.T.Store.file c.args.b.now in
+    let left = c.args.left.now in
+    let right = c.args.right.now in
+    let by = c.in_ok-by.by in
+    let before = g.D.Differences.taken c.args.seen.now in
+    let now = g.D.Differences.taken c.loop-number.seen in
+    let passed = c.pass_same-passed in
+    let number = c.loop-number.number + passed.result.count in
+    let h = pairs_pass by file tree t left right_file other u right before c.args.steps.now c.loop-number.number passed.result.count c.loop-number.left_side passed.new.left_side c.loop-number.right_side passed.new.right_side now c.loop-number.steps passed.new.steps
+    o p (i.shows told) (i.shows_right told_right) passed.ensures.passed (i.going told told_right tree other o p t u at bt) in
+    let w = passed.new.left_side.walk in
+    let v = passed.new.right_side.walk in
+    let e = err_from_is_err_and c.from_residual-in_err-_same.result c.from_residual-in_err-_same.ensures.1 in
+    pairs_most by file tree t left right_file other u right before c.args.steps.now number w v now passed.new.steps c.refill_both.new.steps h
+    (λ q r hx hy. (rw (i.honesty, i.file, i.honesty_right, i.file_right) at c.in_err-_same.ensures.work) told told_right tree other o p t u q r hx hy)
+
+pub loop-number-preserved-else-passed : goal.loop-number-preserved-else-passed
+loop-number-preserved-else-passed g c = record {
+  within = search rules;
+  honesty = search rules;
+  file = search rules;
+  reads = search rules;
+  honesty_right = search rules;
+  file_right = search rules;
+  reads_right = search rules;
+  goes = search rules;
+  walk = search rules;
+  walk_right = search rules;
+  shows = search rules;
+  shows_right = search rules;
+  going = λ told told_right tree other o p t u at bt.
+      let i = c.loop-number.invariant in
+      let file = g.S.Store.file c.args.a.now in
+      let right_file = g.T.Store.file c.args.b.now in
+      let left = c.args.left.now in
+      let right = c.args.right.now in
+      let by = c.in_ok-by.by in
+      let before = g.D.Differences.taken c.args.seen.now in
+      let now = g.D.Differences.taken c.loop-number.seen in
+      let passed = c.pass_same-passed in
+      let number = c.loop-number.number + passed.result.count in
+      let h = pairs_pass by file tree t left right_file other u right before c.args.steps.now c.loop-number.number passed.result.count c.loop-number.left_side passed.new.left_side c.loop-number.right_side passed.new.right_side now c.loop-number.steps passed.new.steps
+      o p (i.shows told) (i.shows_right told_right) passed.ensures.passed (i.going told told_right tree other o p t u at bt) in
+      let w = passed.new.left_side.walk in
+      let v = passed.new.right_side.walk in
+      pairs_next by file tree t left right_file other u right before c.args.steps.now number w v c.compare_pair.new.left_side.walk c.compare_pair.new.right_side.walk now
+      (g.D.Differences.taken c.hand_over.new.seen) c.in_ok-found.found.items passed.new.steps c.compare_pair.new.steps h
       ((rw (i.honesty, i.file, i.honesty_right, i.file_right) at c.in_ok-found.ensures.found) told told_right tree other o p t u _ _ h.comes h.comes_right) ((rw c.as_slice.ensures.value at c.if-not-hand_over.ensures.all) refl)
       (λ q r hx hy. (rw (i.honesty, i.file, i.honesty_right, i.file_right) at c.in_ok-found.ensures.work) told told_right tree other o p t u q r hx hy);
 }
+
+pub loop-number-preserved : goal.loop-number-preserved
+loop-number-preserved g c =
+    let i = c.loop-number.invariant in
+    let e = c.pass_same-passed.ensures.passed in
+    let file = g.S.Store.file c.args.a.now in
+    let right_file = g.T.Store.file c.args.b.now in
+    record {
+      within = search rules;
+      honesty = i.honesty;
+      file = i.file;
+      reads = i.reads;
+      honesty_right = i.honesty_right;
+      file_right = i.file_right;
+      reads_right = i.reads_right;
+      goes = i.goes;
+      walk = e.walk;
+      walk_right = e.walk_right;
+      shows = λ told. subst (λ (w : FileWindow). Shows file w) (sym e.window) (i.shows told);
+      shows_right = λ told. subst (λ (w : FileWindow). Shows right_file w) (sym e.window_right) (i.shows_right told);
+      going = λ told told_right tree other o p t u at bt.
+          pairs_pass c.in_ok-by.by file tree t c.args.left.now right_file other u c.args.right.now (g.D.Differences.taken c.args.seen.now)
+          c.args.steps.now c.loop-number.number c.pass_same-passed.result.count c.loop-number.left_side c.pass_same-passed.new.left_side c.loop-number.right_side c.pass_same-passed.new.right_side
+          (g.D.Differences.taken c.loop-number.seen) c.loop-number.steps c.pass_same-passed.new.steps o p (i.shows told) (i.shows_right told_right) e (i.going told told_right tree other o p t u at bt);
+    }
 
 pub returns-in_err-found-clause-handed : goal.returns-in_err-found-clause-handed
 returns-in_err-found-clause-handed g c =
@@ -96,9 +236,12 @@ returns-in_err-found-clause-handed g c =
           let left = c.args.left.now in
           let right = c.args.right.now in
           let by = c.in_ok-by.by in
-          let h = i.going told told_right tree other o p t u at bt in
           let before = g.D.Differences.taken c.args.seen.now in
           let now = g.D.Differences.taken c.loop-number.seen in
+          let passed = c.pass_same-passed in
+          let number = c.loop-number.number + passed.result.count in
+          let h = pairs_pass by file tree t left right_file other u right before c.args.steps.now c.loop-number.number passed.result.count c.loop-number.left_side passed.new.left_side c.loop-number.right_side passed.new.right_side now c.loop-number.steps passed.new.steps
+          o p (i.shows told) (i.shows_right told_right) passed.ensures.passed (i.going told told_right tree other o p t u at bt) in
           let info = c.index-tracks-track.result in
           let other_info = c.index-tracks-track-2.result in
           let is : info ≡ slice_index_or left.tracks c.args.track info = search rules in
@@ -117,7 +260,12 @@ returns-in_err-found-clause-unchanged g c told told_right tree other o p t u at 
     let left = c.args.left.now in
     let right = c.args.right.now in
     let by = c.in_ok-by.by in
-    let h = i.going told told_right tree other o p t u at bt in
+    let before = g.D.Differences.taken c.args.seen.now in
+    let now = g.D.Differences.taken c.loop-number.seen in
+    let passed = c.pass_same-passed in
+    let number = c.loop-number.number + passed.result.count in
+    let h = pairs_pass by file tree t left right_file other u right before c.args.steps.now c.loop-number.number passed.result.count c.loop-number.left_side passed.new.left_side c.loop-number.right_side passed.new.right_side now c.loop-number.steps passed.new.steps
+    o p (i.shows told) (i.shows_right told_right) passed.ensures.passed (i.going told told_right tree other o p t u at bt) in
     let info = c.index-tracks-track.result in
     let other_info = c.index-tracks-track-2.result in
     let is : info ≡ slice_index_or left.tracks c.args.track info = search rules in
@@ -125,10 +273,10 @@ returns-in_err-found-clause-unchanged g c told told_right tree other o p t u at 
     let there = at_place left.tracks c.args.track info c.requires.tracks.left is in
     let there_right = at_place right.tracks c.args.track other_info c.requires.tracks.right is_right in
     let e = err_from_is_err_and c.from_residual-in_err-found.result c.from_residual-in_err-found.ensures.1 in
-    let lt : c.loop-number.number < info.samples = search rules in
-    let lt_right : c.loop-number.number < other_info.samples = search rules in
+    let lt : number < info.samples = search rules in
+    let lt_right : number < other_info.samples = search rules in
     rw (e.1, e.2) ((rw (i.honesty, i.file, i.honesty_right, i.file_right) at c.in_err-found.ensures.unchanged) told told_right tree other o p t u _ _ h.comes h.comes_right
-    (rest_lies file left tree t c.args.track c.loop-number.number info o at there lt) (rest_lies right_file right other u c.args.track c.loop-number.number other_info p bt there_right lt_right))
+    (rest_lies file left tree t c.args.track number info o at there lt) (rest_lies right_file right other u c.args.track number other_info p bt there_right lt_right))
 
 pub returns-in_err-found-clause-work : goal.returns-in_err-found-clause-work
 returns-in_err-found-clause-work g c told told_right tree other o p t u at bt =
@@ -138,13 +286,16 @@ returns-in_err-found-clause-work g c told told_right tree other o p t u at bt =
     let left = c.args.left.now in
     let right = c.args.right.now in
     let by = c.in_ok-by.by in
-    let h = i.going told told_right tree other o p t u at bt in
     let before = g.D.Differences.taken c.args.seen.now in
     let now = g.D.Differences.taken c.loop-number.seen in
-    let w = c.loop-number.left_side.walk in
-    let v = c.loop-number.right_side.walk in
+    let passed = c.pass_same-passed in
+    let number = c.loop-number.number + passed.result.count in
+    let h = pairs_pass by file tree t left right_file other u right before c.args.steps.now c.loop-number.number passed.result.count c.loop-number.left_side passed.new.left_side c.loop-number.right_side passed.new.right_side now c.loop-number.steps passed.new.steps
+    o p (i.shows told) (i.shows_right told_right) passed.ensures.passed (i.going told told_right tree other o p t u at bt) in
+    let w = passed.new.left_side.walk in
+    let v = passed.new.right_side.walk in
     let e = err_from_is_err_and c.from_residual-in_err-found.result c.from_residual-in_err-found.ensures.1 in
-    pairs_most by file tree t left right_file other u right before c.args.steps.now c.loop-number.number w v now c.loop-number.steps c.compare_pair.new.steps h
+    pairs_most by file tree t left right_file other u right before c.args.steps.now number w v now passed.new.steps c.compare_pair.new.steps h
     (λ q r hx hy. (rw (i.honesty, i.file, i.honesty_right, i.file_right) at c.in_err-found.ensures.work) told told_right tree other o p t u q r hx hy)
 
 pub returns-then-not-hand_over-clause-handed : goal.returns-then-not-hand_over-clause-handed
@@ -159,11 +310,14 @@ returns-then-not-hand_over-clause-handed g c =
           let left = c.args.left.now in
           let right = c.args.right.now in
           let by = c.in_ok-by.by in
-          let h = i.going told told_right tree other o p t u at bt in
           let before = g.D.Differences.taken c.args.seen.now in
           let now = g.D.Differences.taken c.loop-number.seen in
-          let w = c.loop-number.left_side.walk in
-          let v = c.loop-number.right_side.walk in
+          let passed = c.pass_same-passed in
+          let number = c.loop-number.number + passed.result.count in
+          let h = pairs_pass by file tree t left right_file other u right before c.args.steps.now c.loop-number.number passed.result.count c.loop-number.left_side passed.new.left_side c.loop-number.right_side passed.new.right_side now c.loop-number.steps passed.new.steps
+          o p (i.shows told) (i.shows_right told_right) passed.ensures.passed (i.going told told_right tree other o p t u at bt) in
+          let w = passed.new.left_side.walk in
+          let v = passed.new.right_side.walk in
           let info = c.index-tracks-track.result in
           let other_info = c.index-tracks-track-2.result in
           let is : info ≡ slice_index_or left.tracks c.args.track info = search rules in
@@ -172,8 +326,8 @@ returns-then-not-hand_over-clause-handed g c =
           let there_right = at_place right.tracks c.args.track other_info c.requires.tracks.right is_right in
           let are = pairs_are c.args.leaving c.args.track by file right_file left right tree other t u info other_info (c.in_ok-by.ensures info other_info there there_right) o p at bt there there_right in
           subst (TakesFront before (g.D.Differences.taken c.hand_over.new.seen)) are
-          (pairs_stop by file tree t left right_file other u right before c.args.steps.now c.loop-number.number w v c.compare_pair.new.left_side.walk c.compare_pair.new.right_side.walk now
-          (g.D.Differences.taken c.hand_over.new.seen) c.in_ok-found.found.items c.loop-number.steps h
+          (pairs_stop by file tree t left right_file other u right before c.args.steps.now number w v c.compare_pair.new.left_side.walk c.compare_pair.new.right_side.walk now
+          (g.D.Differences.taken c.hand_over.new.seen) c.in_ok-found.found.items passed.new.steps h
           ((rw (i.honesty, i.file, i.honesty_right, i.file_right) at c.in_ok-found.ensures.found) told told_right tree other o p t u _ _ h.comes h.comes_right) (rw c.as_slice.ensures.value at c.hand_over.ensures.front));
     }
 
@@ -185,13 +339,16 @@ returns-then-not-hand_over-clause-work g c told told_right tree other o p t u at
     let left = c.args.left.now in
     let right = c.args.right.now in
     let by = c.in_ok-by.by in
-    let h = i.going told told_right tree other o p t u at bt in
     let before = g.D.Differences.taken c.args.seen.now in
     let now = g.D.Differences.taken c.loop-number.seen in
-    let w = c.loop-number.left_side.walk in
-    let v = c.loop-number.right_side.walk in
-    pairs_most by file tree t left right_file other u right before c.args.steps.now c.loop-number.number w v now c.loop-number.steps c.compare_pair.new.steps h
-    (λ q r hx hy. both_most file tree t c.compare_pair.new.left_side.walk right_file other u c.compare_pair.new.right_side.walk _ c.loop-number.steps c.compare_pair.new.steps
+    let passed = c.pass_same-passed in
+    let number = c.loop-number.number + passed.result.count in
+    let h = pairs_pass by file tree t left right_file other u right before c.args.steps.now c.loop-number.number passed.result.count c.loop-number.left_side passed.new.left_side c.loop-number.right_side passed.new.right_side now c.loop-number.steps passed.new.steps
+    o p (i.shows told) (i.shows_right told_right) passed.ensures.passed (i.going told told_right tree other o p t u at bt) in
+    let w = passed.new.left_side.walk in
+    let v = passed.new.right_side.walk in
+    pairs_most by file tree t left right_file other u right before c.args.steps.now number w v now passed.new.steps c.compare_pair.new.steps h
+    (λ q r hx hy. both_most file tree t c.compare_pair.new.left_side.walk right_file other u c.compare_pair.new.right_side.walk _ passed.new.steps c.compare_pair.new.steps
     ((rw (i.honesty, i.file, i.honesty_right, i.file_right) at c.in_ok-found.ensures.work) told told_right tree other o p t u q r hx hy))
 
 pub returns-clause-handed : goal.returns-clause-handed

@@ -1,4 +1,4 @@
-use Rattle.std.proofs.Common.{◌≡◌, true}
+use Rattle.std.proofs.Common.{◌≡◌, ◌-◌, ◌≤◌, true}
 use Rattle.std.specs.Prelude.{IsTrue}
 use Rattle.mp4_present.specs.words.Compared.{WhereBothOpened, AtTracks}
 use Rattle.mp4_present.specs.words.Movies.{IsWalkOf}
@@ -9,6 +9,7 @@ use Rattle.mp4_present.proofs.comparing.compare_track_samples.Given as goal
 -- both walks go on, both windows show their files, a further difference is taken, and what differs in front was taken
 abbrev pub invariant-loop-number : goal.invariant-loop-number
 invariant-loop-number g l = record {
+  within : l.number ≤ l.count;
   honesty : g.S.Store.is_honest l.a ≡ g.S.Store.is_honest l.fn.a;
   file : g.S.Store.file l.a ≡ g.S.Store.file l.fn.a;
   reads : g.S.Store.read_failures l.a ≡ g.S.Store.read_failures l.fn.a;
@@ -24,3 +25,6 @@ invariant-loop-number g l = record {
       (λ tree other. AtTracks l.track tree other (λ t u.
       PairsGo l.by (g.S.Store.file l.fn.a) tree t l.left (g.T.Store.file l.fn.b) other u l.right l.number l.left_side.walk l.right_side.walk (g.D.Differences.taken l.fn.seen) (g.D.Differences.taken l.seen) l.fn.steps l.steps));
 }
+
+abbrev pub decreases-loop-number : goal.decreases-loop-number
+decreases-loop-number g l = l.count - l.number

@@ -79,15 +79,17 @@ returns-clause-least g c = track_least _ _ _ c.args.track.now c.in_ok-tables.tab
 
 pub returns-in_err-push-clause-work : goal.returns-in_err-push-clause-work
 returns-in_err-push-clause-work g c =
+    let p = err_from_is_err_and c.from_residual-in_err-push.result c.from_residual-in_err-push.ensures.1 in
     let e = c.in_ok-tables.ensures in
     let less = track_fits _ _ _ (box_seen c.args.moov) (box_seen c.args.track.now.stbl) c.in_ok-tables.tables c.count.result _ _ _ c.requires.inside.inside e.tables e.payload c.count.ensures e.within c.totals-totals.ensures.work in
-    record { said = if_no_fault _ _ (track_within _ _ _ c.args.track.now c.in_ok-tables.tables _ _ _ e.tables e.passed c.totals-totals.ensures.work); within = of_less _ _ _ _ _ less; less = search rules }
+    record { said = if_no_fault _ _ (track_within _ _ _ c.args.track.now c.in_ok-tables.tables _ _ _ e.tables e.passed c.totals-totals.ensures.work); within = of_less _ _ _ _ _ less; less = rw p.1 tt }
 
 pub returns-in_err-push-2-clause-work : goal.returns-in_err-push-2-clause-work
 returns-in_err-push-2-clause-work g c =
+    let p = err_from_is_err_and c.from_residual-in_err-push-2.result c.from_residual-in_err-push-2.ensures.1 in
     let e = c.in_ok-tables.ensures in
     let less = track_fits _ _ _ (box_seen c.args.moov) (box_seen c.args.track.now.stbl) c.in_ok-tables.tables c.count.result _ _ _ c.requires.inside.inside e.tables e.payload c.count.ensures e.within c.totals-totals.ensures.work in
-    record { said = if_no_fault _ _ (track_within _ _ _ c.args.track.now c.in_ok-tables.tables _ _ _ e.tables e.passed c.totals-totals.ensures.work); within = of_less _ _ _ _ _ less; less = search rules }
+    record { said = if_no_fault _ _ (track_within _ _ _ c.args.track.now c.in_ok-tables.tables _ _ _ e.tables e.passed c.totals-totals.ensures.work); within = of_less _ _ _ _ _ less; less = rw p.1 tt }
 
 pub returns-in_err-tables-clause-work : goal.returns-in_err-tables-clause-work
 returns-in_err-tables-clause-work g c =
