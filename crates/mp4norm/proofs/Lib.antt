@@ -23,6 +23,7 @@ pub mod StripCopies
 pub mod StripLaws
 pub mod StripLeft
 pub mod StripFaults
+pub mod StripDenotes
 pub mod Stripped
 pub mod HeadersUnder
 pub mod BoxSpans
@@ -34,3 +35,8 @@ pub mod SameAnswers
 pub mod Fronts
 pub mod RunParts
 pub mod BoxesPut
+pub mod Told
+pub mod PartTexts
+pub mod HeadTexts
+pub mod KeyOrder
+pub mod Printed

@@ -24,7 +24,7 @@ use Rattle.mp4norm.specs.format.StripLaws as copies
 use Rattle.mp4norm.proofs.BoxLists.{inside_lower}
 use Rattle.mp4norm.proofs.StripLaws.{unnamed_is_copied}
 
-abbrev foreign : List Name
+abbrev pub foreign : List Name
 foreign = Foreign ∷ []
 
 refused_by : (b : Bool) → (not b || false) ≡ true → b ≡ false
@@ -33,7 +33,7 @@ refused_by false e = refl
 
 -- ---- what is entered is another container
 
-top_highest : (rule : Rule) → height rule ≤ 6
+pub top_highest : (rule : Rule) → height rule ≤ 6
 top_highest File = omega arith
 top_highest Movie = omega arith
 top_highest Track = omega arith
@@ -46,7 +46,7 @@ top_highest MovieExtends = omega arith
 top_highest MovieFragment = omega arith
 top_highest TrackFragment = omega arith
 
-not_top : (inner : Rule) → height inner < 6 → is_top inner ≡ false
+pub not_top : (inner : Rule) → height inner < 6 → is_top inner ≡ false
 not_top File lower = absurd (omega (arith, lower))
 not_top Movie lower = refl
 not_top Track lower = refl

@@ -38,7 +38,7 @@ pass : (b : Bool) (k : Kind) (r s : Result Header Kind) → b ≡ false → r �
 pass true k r s p e = absurd cc
 pass false k r s p e = e
 
-abbrev with_kind : List ℕ → Header → Header
+abbrev pub with_kind : List ℕ → Header → Header
 with_kind kind h = record { kind = kind; length = h.length; size = h.size }
 
 abbrev header_of : List ℕ → ℕ → ℕ → Header
@@ -112,7 +112,7 @@ module _ (bytes more : List ℕ) (n : ℕ) (fits : n ≤ length bytes) where
 kind_in_front : (bytes : List ℕ) → take 4 (drop 4 (take 8 bytes)) ≡ take 4 (drop 4 bytes)
 kind_in_front bytes = ap (take 4) (drop-take 4 4 bytes) ∙ take-take 4 4 (drop 4 bytes) (omega arith)
 
-kept_header : (is_open : Bool) (bytes more : List ℕ) (n : ℕ) (h : Header) → header_at is_open bytes ≡ Ok h → n ≤ length bytes → h.length ≤ n → length (take n bytes ++ more) ≡ length bytes → header_at is_open (take n bytes ++ more) ≡ Ok h
+pub kept_header : (is_open : Bool) (bytes more : List ℕ) (n : ℕ) (h : Header) → header_at is_open bytes ≡ Ok h → n ≤ length bytes → h.length ≤ n → length (take n bytes ++ more) ≡ length bytes → header_at is_open (take n bytes ++ more) ≡ Ok h
 kept_header is_open bytes more n h e fits holds long =
     let r = header_is is_open bytes h e in
     let eight : 8 ≤ n = omega (arith, r.length, holds) in
@@ -131,7 +131,7 @@ first_four bytes rest le = grind (arith, common_steps)
 behind_eight : (bytes rest : List ℕ) → 8 ≤ length bytes → drop 8 (freed bytes ++ rest) ≡ drop 8 bytes ++ rest
 behind_eight bytes rest le = grind (arith, common_steps)
 
-freed_header : (is_open : Bool) (bytes rest : List ℕ) (h : Header) → header_at is_open bytes ≡ Ok h → length (freed (take h.size bytes) ++ rest) ≡ length bytes
+pub freed_header : (is_open : Bool) (bytes rest : List ℕ) (h : Header) → header_at is_open bytes ≡ Ok h → length (freed (take h.size bytes) ++ rest) ≡ length bytes
     → header_at is_open (freed (take h.size bytes) ++ rest) ≡ Ok (with_kind (codes "free") h)
 freed_header is_open bytes rest h e long =
     let r = header_is is_open bytes h e in
@@ -204,7 +204,7 @@ nothing_in_free MovieExtends = refl
 nothing_in_free MovieFragment = refl
 nothing_in_free TrackFragment = refl
 
-behind_part : (part rest : List ℕ) (n : ℕ) → length part ≡ n → drop n (part ++ rest) ≡ rest
+pub behind_part : (part rest : List ℕ) (n : ℕ) → length part ≡ n → drop n (part ++ rest) ≡ rest
 behind_part part rest n e =
     let at : n ≡ length part + 0 = omega (arith, e) in
     ap (λ k. drop k (part ++ rest)) at ∙ drop-append-add part rest 0

@@ -17,5 +17,7 @@ pub mod FileTexts
 pub mod Run
 pub mod Answers
 pub mod AnswerLaws
+pub mod Text
+pub mod TextLaws
 pub mod Sums
 pub mod SameAnswers

@@ -5,6 +5,8 @@ pub mod Sources
 pub mod Jobs
 pub mod Compares
 pub mod Suggested
+pub mod Telling
+pub mod ToldSamples
 pub mod Pairs
 pub mod OverDevices
 pub mod OverFiles

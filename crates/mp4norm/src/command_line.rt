@@ -20,6 +20,8 @@ use std::alloc::{AllocError, Global};
 // What may be wrong with words that clap accepts.
 const REPLACED_OUTPUT: &str = "the argument '--replace' cannot be used with '--out -'";
 
+const REPLACED_NOTHING: &str = "the argument '--replace' is of use only with '--out <NEW>'";
+
 const TWO_FORMS: &str = "the argument '--header' cannot be used with '--json'";
 
 const BRIEFLY_EXPLAINED: &str = "the argument '--brief' cannot be used with '--explain'";
@@ -234,6 +236,10 @@ fn job_of(
             Job::Samples { track, form }
         }
         ("extract", Some(track)) => Job::Extract { track },
+        ("print", _) => {
+            let leaving = left_out(alloc, found)?;
+            Job::Print { leaving }
+        }
         ("normalise", _) => match found.get_str("without") {
             Some(list) => {
                 let leaving = listed_out(alloc, list)?;
@@ -346,6 +352,8 @@ fn odds_of(matches: &ArgMatches) -> Option<&'static str> {
     let (_, found) = matches.subcommand()?;
     if found.get_flag("replace") && found.get_str("out") == Some("-") {
         Some(REPLACED_OUTPUT)
+    } else if found.get_flag("replace") && found.get_str("out").is_none() {
+        Some(REPLACED_NOTHING)
     } else if found.get_flag("brief") && found.get_flag("explain") {
         Some(BRIEFLY_EXPLAINED)
     } else if found.get_flag("header") && found.get_flag("json") {

@@ -177,6 +177,19 @@ fn normalise_command<'a>(alloc: Global) -> Result<Command<'a>, AllocError> {
     with_out(command.arg(without_arg(alloc))?, alloc)
 }
 
+fn print_command<'a>(alloc: Global) -> Result<Command<'a>, AllocError> {
+    let command = of_file(
+        alloc,
+        "print",
+        "Prints what a file says as text, for version control: a line for each value and sample",
+        "Example: mp4norm print movie.mp4 --without times > movie.txt",
+    )?;
+    command
+        .arg(without_arg(alloc))?
+        .arg(out_arg(alloc).required(false))?
+        .arg(flag(alloc, "replace", REPLACE))
+}
+
 fn without_arg<'a>(alloc: Global) -> Arg<'a> {
     Arg::new(alloc, "without")
         .long("without")
@@ -319,6 +332,7 @@ pub(crate) fn whole_command<'a>(alloc: Global) -> Result<Command<'a>, AllocError
         .subcommand(samples_command(alloc)?)?
         .subcommand(extract_command(alloc)?)?
         .subcommand(normalise_command(alloc)?)?
+        .subcommand(print_command(alloc)?)?
         .subcommand(compare_command(alloc)?)?
         .subcommand(check_command(alloc)?)?
         .subcommand(sum_command(alloc)?)?

@@ -10,6 +10,7 @@ ghost use Rattle.mp4norm.specs.words.OverDevices.{IsOf};
 use crate::boxes::boxes;
 use crate::extract::extract_counted;
 use crate::normalise::normalise_counted;
+use crate::printing::print;
 use crate::reducing::normalise_reduced;
 use crate::samples::samples_counted;
 use crate::show::show_counted;
@@ -50,6 +51,7 @@ pub fn perform<S: Store, K: Sink, L: Ledger, M: Ledger>(
         Job::Extract { track } => extract_counted(alloc, store, track, sink, steps, looks),
         Job::Strip { names } => strip(alloc, store, names, sink),
         Job::Normalise => normalise_counted(alloc, store, sink, steps, looks),
+        Job::Print { leaving } => print(alloc, store, sink, leaving, steps, looks),
         Job::Reduce { leaving } => normalise_reduced(alloc, store, sink, leaving, steps, looks),
     }
 }

@@ -1,7 +1,7 @@
 //! Laws of commands and of texts: contracts over the definitions alone.
 ghost use Rattle.mp4norm.specs.format.AnswerLaws.{NormalisedSaysBytes};
 ghost use Rattle.mp4norm.specs.format.BoxLaws.{FaultListsNothing, SixLevelsAreAll};
-ghost use Rattle.mp4norm.specs.format.StripLaws.{StripKeepsLength, UnnamedIsCopied, NamedIsFree, HaltedStripsNothing, StripLeavesNone, StripTwiceIsOnce, ForeignSparesFree, ForeignIsFault, AcceptedIsCopied};
+ghost use Rattle.mp4norm.specs.format.StripLaws.{StripKeepsLength, UnnamedIsCopied, NamedIsFree, HaltedStripsNothing, StripLeavesNone, StripTwiceIsOnce, ForeignSparesFree, ForeignIsFault, AcceptedIsCopied, CopyDenotesTheSame};
 
 /// What `normalise` promises of one file and of a sink that tells its bytes: all of the normal form
 /// is put, or a front of it, or nothing, each for its cause.
@@ -62,4 +62,10 @@ pub fn foreign_is_fault()
 /// A file that denotes something is copied byte for byte where foreign boxes are named.
 pub fn accepted_is_copied()
     ensures { AcceptedIsCopied }
+{}
+
+/// A copy in which boxes of the file itself that the profile passes over are free space denotes
+/// what the file denotes, where no byte of a sample is one of a type that changes.
+pub fn copy_denotes_the_same()
+    ensures { CopyDenotesTheSame }
 {}

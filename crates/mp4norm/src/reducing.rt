@@ -2,7 +2,7 @@
 ghost use Rattle.std.specs.Prelude.{OnOk};
 ghost use Rattle.mp4norm.specs.format.Answers.{ReducedTo};
 ghost use Rattle.mp4norm.specs.format.Run.{KeepsFile, run_of};
-ghost use Rattle.mp4norm.specs.format.Steps.{WorksWithin, TurnsWithin};
+ghost use Rattle.mp4norm.specs.format.Steps.{WorksWithin, TurnsWithin, TakesEach};
 ghost use Rattle.mp4norm.specs.words.WholePut.{PutsWhole};
 ghost use Rattle.mp4_present.specs.words.OverStores.{WhereHonest};
 
@@ -30,6 +30,8 @@ pub fn normalise_reduced<S: Store, K: Sink, L: Ledger, M: Ledger>(
         result }
     ensures whole { OnOk result (PutsWhole leaving (K.takes sink.old sink.new)) }
     ensures work { WhereHonest S.Store store.old (λ file. WorksWithin file steps.old steps.new) }
+    ensures least { OnOk result (WhereHonest S.Store store.old (λ file.
+        TakesEach file steps.old steps.new)) }
     ensures looks { WhereHonest S.Store store.old (λ file. TurnsWithin file looks.old looks.new) }
 {
     let movie = open_movie(alloc, store, steps, looks)?;

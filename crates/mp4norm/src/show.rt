@@ -1,7 +1,7 @@
 //! A movie and its tracks, shown.
-ghost use Rattle.std.specs.Prelude.{string_bytes};
+ghost use Rattle.std.specs.Prelude.{string_bytes, OnOk};
 ghost use Rattle.mp4_present.specs.words.Opening.{RefusesOpen};
-ghost use Rattle.mp4norm.specs.format.Steps.{WalksWithin, FindsWithin};
+ghost use Rattle.mp4norm.specs.format.Steps.{TakesEach, WalksWithin, FindsWithin};
 ghost use Rattle.mp4norm.specs.format.Answers.{Shown};
 ghost use Rattle.mp4norm.specs.format.FileTexts.{ShowsLine};
 ghost use Rattle.mp4norm.specs.format.Run.{KeepsFile, run_of};
@@ -28,6 +28,8 @@ fn movie_line<S: Store, L: Ledger, M: Ledger>(
     ensures answer { Reads S.Store store.old store.new result
         (λ file text. ShowsLine file (string_bytes text)) RefusesOpen }
     ensures work { WhereHonest S.Store store.old (λ file. WalksWithin file steps.old steps.new) }
+    ensures least { OnOk result (WhereHonest S.Store store.old (λ file.
+        TakesEach file steps.old steps.new)) }
     ensures looks { WhereHonest S.Store store.old (λ file. FindsWithin file looks.old looks.new) }
 {
     let movie = open_movie(alloc, store, steps, looks)?;
@@ -49,6 +51,8 @@ pub fn show_counted<S: Store, K: Sink, L: Ledger, M: Ledger>(
     ensures store { KeepsFile S.Store store.old store.new }
     ensures answer { Shown (run_of S.Store store.old store.new K.Sink sink.old sink.new) result }
     ensures work { WhereHonest S.Store store.old (λ file. WalksWithin file steps.old steps.new) }
+    ensures least { OnOk result (WhereHonest S.Store store.old (λ file.
+        TakesEach file steps.old steps.new)) }
     ensures looks { WhereHonest S.Store store.old (λ file. FindsWithin file looks.old looks.new) }
 {
     let text = movie_line(alloc, store, steps, looks)?;

@@ -1,6 +1,7 @@
 //! The sum of a file: the SHA-256 of its normal form.
+ghost use Rattle.std.specs.Prelude.{OnOk};
 ghost use Rattle.mp4norm.specs.format.Run.{KeepsFile, look_of};
-ghost use Rattle.mp4norm.specs.format.Steps.{WorksWithin, TurnsWithin};
+ghost use Rattle.mp4norm.specs.format.Steps.{WorksWithin, TurnsWithin, TakesEach};
 ghost use Rattle.mp4norm.specs.format.Sums.{Summed};
 ghost use Rattle.mp4_present.specs.words.OverStores.{WhereHonest};
 
@@ -24,6 +25,8 @@ pub fn sum_file<S: Store, L: Ledger, M: Ledger>(
     ensures store { KeepsFile S.Store store.old store.new }
     ensures answer { Summed leaving (look_of S.Store store.old store.new) result }
     ensures work { WhereHonest S.Store store.old (λ file. WorksWithin file steps.old steps.new) }
+    ensures least { OnOk result (WhereHonest S.Store store.old (λ file.
+        TakesEach file steps.old steps.new)) }
     ensures looks { WhereHonest S.Store store.old (λ file. TurnsWithin file looks.old looks.new) }
 {
     let mut sink = HashSink::new();

@@ -36,6 +36,6 @@ pub fn text_len<S: Store, L: Ledger, M: Ledger>(
             let movie = open_movie(alloc, store, steps, looks)?;
             reduced_len(alloc, &movie, store, leaving, steps, looks)
         }
-        Job::Boxes { .. } | Job::Show | Job::Samples { .. } => Ok(0),
+        Job::Boxes { .. } | Job::Show | Job::Samples { .. } | Job::Print { .. } => Ok(0),
     }
 }

@@ -30,6 +30,8 @@ pub enum Job<'a> {
     Normalise,
     /// The normal form of what is left.
     Reduce { leaving: Leaving },
+    /// The text of what is left.
+    Print { leaving: Leaving },
     Strip { names: &'a [Name] },
 }
 

@@ -1,12 +1,16 @@
 -- The laws of copies in which some boxes are free space.
-use Rattle.std.specs.Prelude.{◌≡◌, ℕ, ◌+◌, List, [], ◌∷◌, length, take, drop, true, false, None, Some, Ok, codes}
+use Rattle.std.specs.Prelude.{◌≡◌, ◌⊎◌, ⊤, ℕ, ◌+◌, ◌<◌, ◌≤◌, ℤ, pos, negsuc, List, [], ◌∷◌, length, take, drop, true, false, Option, None, Some, Ok, codes}
+use Rattle.std.specs.List.{AllByRecursion}
 use Rattle.mp4_boxes.specs.format.Box.{Header, header_at}
+use Rattle.mp4_boxes.specs.format.Children.{allows, free_space, is_among}
 use Rattle.mp4_boxes.specs.declared.fault.Fault.{Fault}
 use Rattle.mp4_boxes.specs.declared.fault.Kind.TheVariants.{BoxNotInProfile}
 use Rattle.mp4_boxes.specs.declared.rule.Rule.{Rule}
 use Rattle.mp4_boxes.specs.declared.rule.Rule.TheVariants.{File}
+use Rattle.mp4_tables.specs.format.PlainSamples.{PlacedSample}
+use Rattle.mp4_head.specs.format.Tree.{TrackTree}
 use Rattle.mp4_present.specs.format.Presentation.{Presentation}
-use Rattle.mp4_present.specs.format.Denotes.{Denotes}
+use Rattle.mp4_present.specs.format.Denotes.{Denotes, FileTree, file_parts, placed_of}
 use Rattle.mp4_present.specs.format.Stands.{Stands}
 use Rattle.mp4norm.specs.format.BoxWalk.{rule_inside}
 use Rattle.mp4norm.specs.format.Strips.{is_top, is_named, payload_of, uuid_at, IsStripped, Halts}
@@ -77,3 +81,34 @@ ForeignIsFault = (file : List ℕ) (place : ℕ) → NamedBoxAt (Foreign ∷ [])
 abbrev pub AcceptedIsCopied : Type 0
 AcceptedIsCopied = (file text : List ℕ) (p : Presentation) → Denotes file p
     → IsStripped (Foreign ∷ []) file text → text ≡ file
+
+-- ---- copies that denote the same
+
+-- Types of a file's own boxes that say nothing of a presentation: brands, indexes, free space, and
+-- media data, of which samples are found by their place.
+abbrev pub passed_over : List (List ℕ)
+passed_over = codes "ftyp" ∷ codes "styp" ∷ codes "sidx" ∷ codes "mfra" ∷ codes "mdat" ∷ free_space
+
+-- What the names mean of the boxes of the profile are the file's own, of these types.
+abbrev pub MeansPassedOver : List Name → Type 0
+MeansPassedOver names = (rule : Rule) (kind : List ℕ) (uuid : Option (List ℕ))
+    → allows rule kind ≡ true → is_named names rule kind uuid ≡ true
+    → (is_top rule ≡ true) × (is_among passed_over kind ≡ true)
+
+-- no byte of so many at a place is one of the type of a named box
+abbrev pub SparesBytes : List Name → List ℕ → ℤ → ℕ → Type 0
+SparesBytes names file (pos at) size = (place : ℕ) → 0 < size → NamedBoxAt names File place file
+    → (at + size ≤ place + 4) ⊎ (place + 8 ≤ at)
+SparesBytes names file (negsuc below) size = ⊤
+
+-- no byte of a sample is
+abbrev pub SparesSamples : List Name → List ℕ → FileTree → Type 0
+SparesSamples names file tree = AllByRecursion (λ (t : TrackTree). AllByRecursion
+    (λ (s : PlacedSample). SparesBytes names file s.at s.size) (placed_of (file_parts tree) t))
+    tree.movie.tracks
+
+-- Then the copy denotes what the file denotes.
+abbrev pub CopyDenotesTheSame : Type 0
+CopyDenotesTheSame = (names : List Name) (file text : List ℕ) (p : Presentation)
+    (d : Denotes file p) → MeansPassedOver names → SparesSamples names file d.tree
+    → IsStripped names file text → Denotes text p

@@ -11,6 +11,7 @@ JobWorksWithin jobs.Show file old new = WalksWithin file old new
 JobWorksWithin (jobs.Samples track form) file old new = WalksWithin file old new
 JobWorksWithin (jobs.Extract track) file old new = WalksWithin file old new
 JobWorksWithin jobs.Normalise file old new = WorksWithin file old new
+JobWorksWithin (jobs.Print l) file old new = Unit {0}
 JobWorksWithin (jobs.Reduce l) file old new = WorksWithin file old new
 JobWorksWithin (jobs.Strip names) file old new = Unit {0}
 
@@ -21,5 +22,6 @@ JobLooksWithin jobs.Show file old new = FindsWithin file old new
 JobLooksWithin (jobs.Samples track form) file old new = FindsWithin file old new
 JobLooksWithin (jobs.Extract track) file old new = FindsWithin file old new
 JobLooksWithin jobs.Normalise file old new = TurnsWithin file old new
+JobLooksWithin (jobs.Print l) file old new = FindsWithin file old new
 JobLooksWithin (jobs.Reduce l) file old new = TurnsWithin file old new
 JobLooksWithin (jobs.Strip names) file old new = Unit {0}

@@ -1,5 +1,6 @@
-use Rattle.std.proofs.Common.{inl, ◌∙◌}
-use Rattle.std.proofs.lemmas.Result.{err_from_is_err_and}
+use Rattle.std.proofs.Common.{inl, ◌∙◌, arith}
+use Rattle.std.proofs.lemmas.Result.{err_from_is_err_and, on_ok_weaker}
+use Rattle.mp4norm.proofs.StepSums.{opened_least}
 use Rattle.mp4norm.proofs.StepsTaken.{not_opened, written_within}
 use Rattle.mp4norm.proofs.LooksTaken.{not_found, not_turned, turns_taken}
 use Rattle.mp4norm.specs.format.ReducedHeadline.{HasReducedForm}
@@ -64,3 +65,10 @@ returns-in_err-movie-clause-whole g c =
 
 pub returns-clause-whole : goal.returns-clause-whole
 returns-clause-whole g c = whole_put c.args.leaving _ _ c.write_reduced.result c.write_reduced.ensures.whole
+
+pub returns-clause-least : goal.returns-clause-least
+returns-clause-least g c = on_ok_weaker c.write_reduced.result
+    (λ grown told p d.
+    let taken = c.in_ok-movie.ensures.least told d.tree d.is_tree in
+    omega (arith, taken, grown, opened_least _ p d))
+    c.write_reduced.ensures.grows

@@ -1,5 +1,6 @@
 use Rattle.std.proofs.Common.{ℕ, List, ◌++◌, rules, arith, ap, ◌∙◌}
 use Rattle.std.specs.Prelude.{string_bytes}
+use Rattle.mp4norm.proofs.StepSums.{opened_least}
 use Rattle.mp4norm.proofs.ShownLines.{shows}
 use Rattle.mp4norm.proofs.StepsTaken.{not_looked, looked_within}
 use Rattle.mp4norm.proofs.LooksTaken.{not_found, finds_taken}
@@ -63,3 +64,8 @@ returns-in_err-push-clause-looks g c = λ told.
 pub returns-clause-looks : goal.returns-clause-looks
 returns-clause-looks g c = λ told.
     finds_taken _ c.in_ok-movie.movie _ _ (c.in_ok-movie.ensures.movie told) (c.in_ok-movie.ensures.looks told).said
+
+pub returns-clause-least : goal.returns-clause-least
+returns-clause-least g c = λ told p d.
+    let taken = c.in_ok-movie.ensures.least told d.tree d.is_tree in
+    omega (arith, taken, opened_least _ p d)
