@@ -1,7 +1,7 @@
 #!/usr/bin/env python3
 """Makes the files that `bench/run` measures.
 
-usage: make_inputs.py FOLDER [NAME ..]
+usage: make_inputs.py FOLDER [--files NAME,..]
 
   large      a plain file of 2 GB: one track, 250 samples of 8,000,000 bytes
   small      a plain file of 5,000,000 samples of 20 to 200 bytes, with a row of stts and ctts for each sample
@@ -14,10 +14,13 @@ usage: make_inputs.py FOLDER [NAME ..]
 
 The files hold made-up data in correct boxes (ISO/IEC 14496-12); nothing needs to be installed.
 """
-import argparse
 import os
 import random
 import struct
+import sys
+
+sys.path.insert(0, os.path.join(os.path.dirname(os.path.abspath(__file__)), '..', 'conformance'))
+from trials import options
 
 
 def box(kind, *parts):
@@ -25,12 +28,18 @@ def box(kind, *parts):
     return struct.pack('>I4s', 8 + len(payload), kind) + payload
 
 
-def full(kind, version, flags, *parts):
+def full(kind, flags, *parts, version=0):
+    """A box with a version and flags."""
     return box(kind, struct.pack('>I', version << 24 | flags), *parts)
 
 
+def numbers(*values):
+    """Numbers of 32 bits."""
+    return struct.pack(f'>{len(values)}I', *values)
+
+
 MATRIX = struct.pack('>9i', 0x10000, 0, 0, 0, 0x10000, 0, 0, 0, 0x40000000)
-URL = full(b'dref', 0, 0, struct.pack('>I', 1), full(b'url ', 0, 1))
+URL = full(b'dref', 0, struct.pack('>I', 1), full(b'url ', 1))
 
 
 # Codings that other tools copy without looking at the data: JPEG pictures of 64 by 64, MP3 sound.
@@ -39,32 +48,33 @@ SOUND = box(b'.mp3', bytes(6), struct.pack('>H', 1), bytes(8), struct.pack('>2H2
 
 
 def mvhd(scale):
-    return full(b'mvhd', 0, 0, struct.pack('>4I', 0, 0, scale, 0), struct.pack('>IH10x', 0x10000, 0x100), MATRIX, bytes(24), struct.pack('>I', 99))
+    return full(b'mvhd', 0, struct.pack('>4I', 0, 0, scale, 0), struct.pack('>IH10x', 0x10000, 0x100), MATRIX, bytes(24), struct.pack('>I', 99))
 
 
 def trak(number, kind, scale, tables):
-    tkhd = full(b'tkhd', 0, 7, struct.pack('>5I', 0, 0, number, 0, 0), bytes(8), struct.pack('>4h', 0, 0, 0x100 if kind == b'soun' else 0, 0), MATRIX, struct.pack('>2I', 0, 0))
-    mdhd = full(b'mdhd', 0, 0, struct.pack('>4I', 0, 0, scale, 0), struct.pack('>2H', 0x55c4, 0))
-    hdlr = full(b'hdlr', 0, 0, bytes(4), kind, bytes(12), b'\0')
-    header = full(b'smhd', 0, 0, bytes(4)) if kind == b'soun' else full(b'vmhd', 0, 1, bytes(8))
-    stsd = full(b'stsd', 0, 0, struct.pack('>I', 1), SOUND if kind == b'soun' else PICTURE)
+    tkhd = full(b'tkhd', 7, struct.pack('>5I', 0, 0, number, 0, 0), bytes(8), struct.pack('>4h', 0, 0, 0x100 if kind == b'soun' else 0, 0), MATRIX, struct.pack('>2I', 0, 0))
+    mdhd = full(b'mdhd', 0, struct.pack('>4I', 0, 0, scale, 0), struct.pack('>2H', 0x55c4, 0))
+    hdlr = full(b'hdlr', 0, bytes(4), kind, bytes(12), b'\0')
+    header = full(b'smhd', 0, bytes(4)) if kind == b'soun' else full(b'vmhd', 1, bytes(8))
+    stsd = full(b'stsd', 0, struct.pack('>I', 1), SOUND if kind == b'soun' else PICTURE)
     return box(b'trak', tkhd, box(b'mdia', mdhd, hdlr, box(b'minf', header, box(b'dinf', URL), box(b'stbl', stsd, *tables))))
 
 
-def words(numbers):
-    return struct.pack('>%dI' % len(numbers), *numbers)
-
-
-def table(kind, count, numbers):
-    return full(kind, 0, 0, struct.pack('>I', count), words(numbers))
+def table(kind, count, rows):
+    return full(kind, 0, numbers(count, *rows))
 
 
 def stsz(sizes):
-    return full(b'stsz', 0, 0, struct.pack('>2I', 0, len(sizes)), words(sizes))
+    return full(b'stsz', 0, numbers(0, len(sizes), *sizes))
 
 
 def co64(places):
-    return full(b'co64', 0, 0, struct.pack('>I', len(places)), struct.pack('>%dQ' % len(places), *places))
+    return full(b'co64', 0, numbers(len(places)), struct.pack('>%dQ' % len(places), *places))
+
+
+# Tables of a track without samples, and what its fragments begin with.
+NO_SAMPLES = [table(b'stts', 0, []), table(b'stsc', 0, []), stsz([]), table(b'stco', 0, [])]
+TREX = full(b'trex', 0, numbers(1, 1, 512, 0, 0x10000))
 
 
 FTYP = box(b'ftyp', b'isom', bytes(4), b'isommp41')
@@ -108,8 +118,8 @@ def small(path, count=5_000_000, duration=500):
     source, each = random.Random(2), 30
     sizes = [20 + source.randrange(181) for _ in range(count)]
     places, at = chunk_places(sizes, each)
-    rows = [number for n in range(count) for number in (1, duration + n % 3)]
-    offsets = [number for n in range(count) for number in (1, 1000 + n % 2)]
+    rows = [it for n in range(count) for it in (1, duration + n % 3)]
+    offsets = [it for n in range(count) for it in (1, 1000 + n % 2)]
     keys = range(1, count, 250)
     tables = lambda begin: [table(b'stts', count, rows), table(b'ctts', count, offsets), table(b'stss', len(keys), list(keys)), table(b'stsc', 2, [1, each, 1, len(places), count - each * (len(places) - 1), 1]), stsz(sizes), co64([begin + place for place in places])]
     plain(path, 1000, lambda begin: [trak(1, b'vide', 12800, tables(begin))], at)
@@ -118,16 +128,14 @@ def small(path, count=5_000_000, duration=500):
 def fragments(path, count=20_000, each=30, stride=1):
     """Fragments of so many samples. Each `stride` of them have the same bytes, and one sync sample, the first."""
     size = 500
-    empty = [table(b'stts', 0, []), table(b'stsc', 0, []), full(b'stsz', 0, 0, bytes(8)), table(b'stco', 0, [])]
-    trex = full(b'trex', 0, 0, words([1, 1, 512, 0, 0x10000]))
     with open(path, 'wb') as file:
         file.write(FTYP)
-        file.write(box(b'moov', mvhd(1000), trak(1, b'vide', 12800, empty), box(b'mvex', trex)))
+        file.write(box(b'moov', mvhd(1000), trak(1, b'vide', 12800, NO_SAMPLES), box(b'mvex', TREX)))
         for n in range(count):
             flags = [0x2000000 if n % stride == 0 else 0x10000]
-            head, time = full(b'tfhd', 0, 0x20000, words([1])), full(b'tfdt', 1, 0, struct.pack('>Q', n * each * 512))
-            trun = lambda offset: full(b'trun', 0, 0x205, words([each, offset]), words(flags), words([size] * each))
-            boxes = lambda offset: box(b'moof', full(b'mfhd', 0, 0, words([n + 1])), box(b'traf', head, time, trun(offset)))
+            head, time = full(b'tfhd', 0x20000, numbers(1)), full(b'tfdt', 0, struct.pack('>Q', n * each * 512), version=1)
+            trun = lambda offset: full(b'trun', 0x205, numbers(each, offset), numbers(*flags), numbers(*[size] * each))
+            boxes = lambda offset: box(b'moof', full(b'mfhd', 0, numbers(n + 1)), box(b'traf', head, time, trun(offset)))
             offset = len(boxes(0)) + 8
             file.write(boxes(offset))
             file.write(box(b'mdat', bytes([n // stride % 251]) * (each * size)))
@@ -155,8 +163,7 @@ def tracks(path):
 
 
 def heads(path):
-    empty = [table(b'stts', 0, []), table(b'stsc', 0, []), full(b'stsz', 0, 0, bytes(8)), table(b'stco', 0, [])]
-    plain(path, 1000, lambda begin: [trak(k + 1, b'vide', 12800, empty) for k in range(1000)], 0)
+    plain(path, 1000, lambda begin: [trak(k + 1, b'vide', 12800, NO_SAMPLES) for k in range(1000)], 0)
 
 
 def parts(path):
@@ -197,19 +204,23 @@ def differences(path):
 MAKERS = {'large': large, 'small': small, 'fragments': fragments, 'tracks': tracks, 'heads': heads, 'parts': parts, 'verdicts': verdicts, 'differences': differences}
 
 
+def make(folder, name):
+    """Makes a file, if it isn't there; its path."""
+    path = os.path.join(folder, name + '.mp4')
+    os.makedirs(folder, exist_ok=True)
+    if not os.path.exists(path):
+        MAKERS[name](path)
+    return path
+
+
 def main():
-    parser = argparse.ArgumentParser(description=__doc__, formatter_class=argparse.RawDescriptionHelpFormatter)
-    parser.add_argument('folder', help='where the files are made')
-    parser.add_argument('names', nargs='*', help=f'some of {", ".join(MAKERS)}; all where none is named')
-    args = parser.parse_args()
-    unknown = [name for name in args.names if name not in MAKERS]
-    if unknown:
-        parser.error(f'no such file: {", ".join(unknown)}')
-    os.makedirs(args.folder, exist_ok=True)
-    for name in args.names or MAKERS:
-        path = os.path.join(args.folder, name + '.mp4')
-        if not os.path.exists(path):
-            MAKERS[name](path)
+    names = ','.join(MAKERS)
+    args = options(__doc__, 'folder', counts=False,
+                   files={'default': names, 'help': f'some of {names}'})
+    for name in args.files.split(','):
+        if name not in MAKERS:
+            sys.exit(f'no such file: {name}')
+        path = make(args.folder, name)
         print(path, os.path.getsize(path))
 
 

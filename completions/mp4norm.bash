@@ -5,7 +5,7 @@ _mp4norm() {
     COMPREPLY=()
     for word in "${COMP_WORDS[@]:1:COMP_CWORD-1}"; do
         case $word in
-        normalise | show | samples | extract | boxes | strip | compare | check | sum | help)
+        normalise | show | samples | extract | boxes | strip | compare | check | sum | print | help)
             command=$word
             break
             ;;
@@ -19,7 +19,7 @@ _mp4norm() {
     --out | --names-from | --check) return ;;
     esac
     case $command in
-    '') words='normalise show samples extract boxes strip compare check sum help --help --version' ;;
+    '') words='normalise show samples extract boxes strip compare check sum print help --help --version' ;;
     normalise) words='--out --without --max-bytes --replace --progress --explain --brief --help' ;;
     show) words='--explain --brief --help' ;;
     samples) words='--track --header --json --explain --brief --help' ;;
@@ -29,7 +29,8 @@ _mp4norm() {
     compare) words='--without --all --limit --json --explain --brief --help' ;;
     check) words='--names-from --zero --json --explain --brief --help' ;;
     sum) words='--names-from --without --zero --json --no-header --check --quiet --explain --brief --help' ;;
-    help) words='normalise show samples extract boxes strip compare check sum' ;;
+    print) words='--without --out --replace --explain --brief --help' ;;
+    help) words='normalise show samples extract boxes strip compare check sum print' ;;
     esac
     # Behind a command that reads a file, words without a dash are files: bash completes them by itself.
     if [[ -z $command || $command = help || $current = -* ]]; then

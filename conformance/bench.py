@@ -1,19 +1,18 @@
-"""What the scripts beside this module have in common: some files, a folder in which the program
-runs, and counts."""
-import argparse
-import json
+"""What the scripts beside this module have in common: a folder in which the program runs, what is
+due of the suite's files, and how both are compared."""
+import contextlib
 import os
 import re
-import shutil
 import subprocess
-import sys
 import tempfile
 
-from suite import built
+import trials
+from suite import built, normal, printer, reader, strips
+from suite.stored import (BOXES, COLUMNS, CUT, CUT_LINE, DATA, DIFFERENCE, NORMAL, OTHER, PLAIN,
+                          SAMPLES, SHOWN, bytes_of, cases, objects)
+from trials import LIMIT, Room, Tally, other, printed
 
 HERE = os.path.dirname(os.path.abspath(__file__))
-# Seconds that one run may take.
-LIMIT = 60
 # Seconds within which a program that must not wait has ended.
 AT_ONCE = 5
 # A name as users have them.
@@ -21,34 +20,13 @@ ODD_NAME = 'a file of two\nlines'
 STATUS_OF = {'refused': 1, 'failed': 3}
 # The name of a new file beside NEW, in a folder.
 PART = re.compile(r'\.part')
-
-
-def bytes_of(folder, name):
-    with open(os.path.join(HERE, folder, name), 'rb') as file:
-        return file.read()
-
-
-PLAIN = bytes_of('files', 'plain.mp4')
-NORMAL = bytes_of('wanted', 'plain.normal.mp4')
-# The media data of plain.mp4.
-DATA = b'aaaaabbbbbbb'
-# Its last byte is missing: the `mdat` of 20 bytes at 541 ends behind the file.
-CUT = PLAIN[:-1]
-CUT_LINE = b'refused: Overrun in mdat at 541'
-SHOWN = bytes_of('wanted', 'plain.show.json')
-BOXES = bytes_of('wanted', 'plain.boxes.txt')
-SAMPLES = bytes_of('wanted', 'plain.samples.txt')
-COLUMNS = b'number decode_time composition_time duration flags description size\n'
-OBJECT = ('{{"composition_time":{2},"decode_time":{1},"description":{5},"duration":{3},"flags":{4},'
-          '"number":{0},"size":{6}}}\n')
-
-
-def objects():
-    """The lines of plain.mp4's samples as JSON."""
-    rows = [row.split() for row in SAMPLES.decode().splitlines()]
-    return ''.join(OBJECT.format(*row[:4], int(row[4], 16), *row[5:]) for row in rows).encode()
-
-
+# What NEW may be before a run.
+OLD = b'as it was'
+STORE, WRITE, CHANGED = b'failed: store\n', b'failed: write\n', b'failed: store changed\n'
+# The verdict on what can't be opened.
+NOT_THERE = b'failed: store'
+# What ends each verdict, and the words that ask for it.
+ENDS = ((b'\n', []), (b'\0', ['--zero']))
 # What each command puts to standard output of plain.mp4.
 WANTED = {
     ('boxes',): BOXES,
@@ -58,6 +36,7 @@ WANTED = {
     ('samples', '--json', '--track', '1'): objects(),
     ('extract', '--track', '1', '--out', '-'): DATA,
     ('normalise', '--out', '-'): NORMAL,
+    ('print',): printer.text(reader.Movie(PLAIN)),
 }
 
 
@@ -68,6 +47,23 @@ def shown(answer):
 
 def line(text):
     return text + b'\n'
+
+
+def reduced(data, words):
+    """The normal form of a file without some words."""
+    return normal.normal_form(reader.Movie(data).leave_out(words))
+
+
+def stripped():
+    """What is said of plain.mp4 without `hdlr`, and the copy."""
+    return strips.stripped(PLAIN, [strips.Name(b'hdlr')])[1:]
+
+
+def gone_process():
+    """The number of a process that is no more."""
+    with subprocess.Popen(['true']) as gone:
+        gone.wait()
+    return gone.pid
 
 
 def characters(name):
@@ -104,13 +100,19 @@ def escaped(name):
 
 def verdict(name, said, end=b'\n'):
     """A line of `check`; only where a zero byte ends it, the name stands there as it is."""
-    name = name.encode() if isinstance(name, str) else name
+    name = os.fsencode(name)
     return (escaped(name) if end == b'\n' else name) + b': ' + (said or b'accepted') + end
+
+
+def refusal_of(asked):
+    """The line by which `normalise` refuses a file, if it does."""
+    answer, = {it.answer.error for it in asked if it.command == 'normalise'}
+    return answer
 
 
 def cases_of_the_suite():
     """Files of the suite, and the line by which `normalise` refuses each, if it does."""
-    for number, case in enumerate(json.loads(bytes_of('.', 'cases.json'))):
+    for number, case in enumerate(cases()):
         if case['command'] == 'normalise' and 'length' not in case:
             whole = bytes_of('files', case['file'] + '.mp4')
             low, high = case.get('first_bytes', [len(whole), len(whole)])
@@ -118,38 +120,22 @@ def cases_of_the_suite():
                 yield f'case-{number}-{length}.mp4', whole[:length], case.get('error')
     for file in built.single_faults():
         data, asked = file.asked()
-        answer, = {it.answer.error for it in asked if it.command == 'normalise'}
-        yield f'{file.name}.mp4', data, answer
+        yield f'{file.name}.mp4', data, refusal_of(asked)
 
 
-class Bench:
+class Bench(Room, Tally):
     """Runs a program in a folder of its own, and counts."""
 
     def __init__(self, program, folder):
-        self.program, self.folder = program, folder
-        self.passed = self.failed = 0
-        self.made_library = None
+        Room.__init__(self, folder)
+        Tally.__init__(self)
+        self.program, self.made_library = program, None
         self.write('plain.mp4', PLAIN)
         self.write('cut.mp4', CUT)
 
-    def path(self, name):
-        return os.path.join(self.folder, name)
-
-    def write(self, name, data):
-        with open(self.path(name), 'wb') as file:
-            file.write(data)
-
-    def read(self, name):
-        with open(self.path(name), 'rb') as file:
-            return file.read()
-
-    def remove(self, *names):
-        for name in names:
-            path = self.path(name)
-            if os.path.isdir(path) and not os.path.islink(path):
-                shutil.rmtree(path)
-            elif os.path.lexists(path):
-                os.remove(path)
+    def beside(self, name):
+        """A path outside of the folder."""
+        return os.path.join(os.path.dirname(self.folder), name)
 
     def make_no_files(self):
         """A FIFO that nobody writes to, and a folder."""
@@ -162,24 +148,49 @@ class Bench:
         if there is not None:
             self.write('new', there)
 
+    def made(self):
+        """What NEW is behind a run."""
+        return self.read('new') if os.path.exists(self.path('new')) else None
+
     def parts(self):
         """The names of files that lie beside others."""
         return sorted(name for name in os.listdir(self.folder) if PART.search(name))
 
-    def run(self, *words, given=b'', limit=LIMIT, **how):
-        """Status, standard error, standard output; standard input is a pipe."""
-        run = subprocess.run([self.program, *words], input=given, capture_output=True,
-                             cwd=self.folder, timeout=limit, **how)
-        return run.returncode, run.stderr, run.stdout
+    # ---- runs
+
+    def run(self, *words, **how):
+        """Status, standard error, standard output."""
+        return trials.run(self.program, *words, cwd=self.folder, **how)
+
+    def run_in_shell(self, *words, before='', behind='', environment=(), **how):
+        """The same of a shell that runs the program; what is set for the program alone."""
+        setting = ''.join(f"export {name}='{value}'; " for name, value in dict(environment).items())
+        script = f'{before}{setting}exec "$0" "$@" {behind}'
+        return trials.run('sh', '-c', script, self.program, *words, cwd=self.folder, **how)
+
+    def run_to_full(self, *words):
+        """The same where standard output has no room."""
+        with open('/dev/full', 'wb') as full:
+            return self.run(*words, stdout=full, limit=AT_ONCE)
+
+    def run_piped(self, name, *words, limit=LIMIT):
+        """The same with a file in a pipe as standard input."""
+        with subprocess.Popen(['cat', self.path(name)], stdout=subprocess.PIPE) as cat:
+            got = self.run(*words, stdin=cat.stdout, limit=limit)
+            cat.stdout.close()
+        return got
+
+    def started(self, *words, **how):
+        """A run that goes on, whose standard output is read meanwhile."""
+        return subprocess.Popen([self.program, *words], stdin=subprocess.DEVNULL, cwd=self.folder,
+                                **{'stdout': subprocess.PIPE, 'stderr': subprocess.PIPE, **how})
 
     def library(self):
         """The library that fails calls, or runs words of the shell before them (`failures.c`)."""
         if self.made_library is None:
-            library = self.path('failures.so')
-            words = ['cc', '-shared', '-fPIC', '-O1', '-o', library,
-                     os.path.join(HERE, 'failures.c')]
-            subprocess.run(words, check=True)
-            self.made_library = library
+            self.made_library = self.beside('failures.so')
+            printed('cc', '-shared', '-fPIC', '-O1', '-o', self.made_library,
+                    os.path.join(HERE, 'failures.c'))
         return self.made_library
 
     def run_with(self, failing, *words, **how):
@@ -187,19 +198,17 @@ class Bench:
         environment = {**os.environ, 'LD_PRELOAD': self.library(), **failing}
         return self.run(*words, env=environment, **how)
 
-    def meanwhile(self, script, call, file, at, *words, **how):
-        """A run in which the shell runs a script before a call of a kind about a file."""
-        failing = {'MEANWHILE': script, 'MEANWHILE_CALL': call, 'MEANWHILE_FILE': file,
-                   'MEANWHILE_AT': str(at)}
-        return self.run_with(failing, *words, **how)
+    def before_call(self, script, call, file, at=1):
+        """The words for the library by which the shell runs a script before a call of a kind about
+        a file."""
+        return {'LD_PRELOAD': self.library(), 'MEANWHILE': script, 'MEANWHILE_CALL': call,
+                'MEANWHILE_FILE': file, 'MEANWHILE_AT': str(at)}
 
-    def note(self, name, *wrong):
-        wrong = [it for it in wrong if it]
-        if wrong:
-            self.failed += 1
-            print(f'FAILED: {name}:', *wrong, flush=True)
-        else:
-            self.passed += 1
+    def meanwhile(self, script, call, file, at, *words, **how):
+        """A run in which the shell runs a script before a call."""
+        return self.run_with(self.before_call(script, call, file, at), *words, **how)
+
+    # ---- what is due
 
     def wants(self, name, got, status, error=b'', output=b''):
         """Compares an answer."""
@@ -212,11 +221,32 @@ class Bench:
         due = status, error, output
         self.note(name, '' if is_due else f'{shown(got)}, not {shown(due)}', *wrong)
 
+    def asks(self, name, words, status, error=b'', output=b'', **how):
+        """Runs words, and compares the answer."""
+        self.wants(name, self.run(*words, **how), status, error, output)
+
+    def makes(self, name, words, there, made, status, error=b'', **how):
+        """Runs words that make NEW, of which it is said what is there before, and behind the run."""
+        self.new(there)
+        self.asks(name, words, status, error, **how)
+        self.has_made(name, made)
+
+    def has_made(self, name, made):
+        """Compares NEW; no file may lie beside it."""
+        self.note(f'{name}: files', self.is_as('new', made), self.has_no_part())
+
+    def refuses_words(self, *words, of=None, unmade='new'):
+        """Words that are wrong: that is said, and nothing is put or made."""
+        got = self.run(*words)
+        is_due = got[0] == 64 and got[1].startswith(b'error: ') and not got[2]
+        self.note(of or f'wrong words: {words}', '' if is_due else shown(got),
+                  self.is_as(unmade, None))
+
     def is_as(self, name, data):
         """What is wrong with a file that has to have these bytes, or, of None, not to be there."""
         path = self.path(name)
         there = self.read(name) if os.path.isfile(path) else os.path.lexists(path) or None
-        return '' if there == data else f'{name} is other than wanted'
+        return '' if there == data else f'{name} is other than wanted: {other(there, data)}'
 
     def has_no_part(self):
         """What is wrong where a file stayed beside another one."""
@@ -224,17 +254,23 @@ class Bench:
         return f'{parts} stayed' if parts else ''
 
 
-def run_parts(text, parts):
-    """Runs the parts of a script with the program that the words name; `text` is its help."""
-    shape = argparse.RawTextHelpFormatter
-    parser = argparse.ArgumentParser(description=text, formatter_class=shape)
-    parser.add_argument('program')
-    parser.add_argument('--only', default='', metavar='WORD', help='only parts of such a name')
-    args = parser.parse_args()
+@contextlib.contextmanager
+def benched(text):
+    """A bench for the program that the words name, and what `--only` says; `text` is the script's
+    help. Behind it the counts are printed."""
+    only = {'default': '', 'metavar': 'WORD', 'help': 'only parts with this in their name'}
+    args = trials.options(text, 'program', only=only)
     with tempfile.TemporaryDirectory() as folder:
-        bench = Bench(os.path.abspath(args.program), folder)
+        room = os.path.join(folder, 'room')
+        os.mkdir(room)
+        bench = Bench(args.program, room)
+        yield bench, args.only
+    bench.end()
+
+
+def run_parts(text, parts):
+    """Runs the parts of a script."""
+    with benched(text) as (bench, only):
         for part in parts:
-            if args.only in part.__name__:
+            if only in part.__name__:
                 part(bench)
-    print(f'{bench.passed} passed, {bench.failed} failed')
-    sys.exit(bench.failed != 0)

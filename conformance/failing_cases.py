@@ -3,14 +3,13 @@
 What is due is the suite's own: answers that are stored, or its own reading of the file.
 """
 import hashlib
-import json
-import os
 import re
 import struct
 
-from suite import lister, long, normal, objects, reader, strips
+from bench import (BOXES, COLUMNS, CUT, CUT_LINE, DATA, DIFFERENCE, NORMAL, OLD, OTHER, PLAIN,
+                   SAMPLES, SHOWN, bytes_of, line, objects as lines_as_json, reduced)
+from suite import lister, long, normal, objects, printer, reader, strips
 
-HERE = os.path.dirname(os.path.abspath(__file__))
 # Bytes of a free box that lies before each of a file's own boxes but the data, so that no read has
 # two.
 GAP = 200_000
@@ -18,28 +17,13 @@ GAP = 200_000
 LONG = 140_000
 DROPPED = [strips.Name(b'mfhd'), strips.Name(b'hdlr', 'mdia'), strips.Name(b'mdat')]
 DROP = ['--drop', ','.join(name.word for name in DROPPED)]
-OLD = b'as it was'
-
-
-def bytes_of(folder, name):
-    with open(os.path.join(HERE, folder, name), 'rb') as file:
-        return file.read()
-
-
-PLAIN = bytes_of('files', 'plain.mp4')
-NORMAL = bytes_of('wanted', 'plain.normal.mp4')
-SAMPLES = bytes_of('wanted', 'plain.samples.txt')
-COLUMNS = b'number decode_time composition_time duration flags description size\n'
-DATA = b'aaaaabbbbbbb'
-# Its last byte is missing.
-CUT = PLAIN[:-1]
-CUT_LINE = b'refused: Overrun in mdat at 541\n'
+REFUSED = line(CUT_LINE)
 # With a `uuid` behind it, whose first bytes are read.
 UUID = PLAIN + struct.pack('>I4s', 24, b'uuid') + bytes(range(16))
 # With a box that `strip --foreign` doesn't make free space unasked.
 EVENTS = PLAIN + struct.pack('>I4s', 12, b'emsg') + b'more'
 CUT_WORDS = (rb'way: mdat\nclause: ISO/IEC 14496-12, 8\.1\.1\nmeaning: [^\n]+\n'
-             + CUT_LINE)
+             + REFUSED)
 GAP_WORDS = (rb'way: moof 2 / traf / tfdt\nclause: ISO/IEC 14496-12, 8\.8\.12\nmeaning: [^\n]+\n'
              rb'numbers: track 1: time 1024, due 1536\nrefused: Gap in tfdt at (\d+)\n')
 
@@ -107,21 +91,6 @@ def grown(whole):
     return start + whole[moov + 4:trak] + kept + whole[trak:]
 
 
-def lines_as_json():
-    """The lines of plain.mp4's samples as JSON."""
-    names = COLUMNS.decode().split()
-    text = ''
-    for row in SAMPLES.decode().splitlines():
-        made = dict(zip(names, row.split()))
-        numbers = {key: int(value, 16 if key == 'flags' else 10) for key, value in made.items()}
-        text += json.dumps(numbers, sort_keys=True, separators=(',', ':')) + '\n'
-    return text.encode()
-
-
-def reduced(data, words):
-    return normal.normal_form(reader.Movie(data).leave_out(words))
-
-
 def stripped(name, data, *options, **due):
     _, said, whole = strips.stripped(data, DROPPED)
     return of(name, 'strip', data, whole, *DROP, *options, said=said, **due)
@@ -135,14 +104,12 @@ def foreign(name, data, *options):
 
 def of_one_file():
     """Each command, with and without its options, on files of the suite."""
-    boxes = bytes_of('wanted', 'plain.boxes.txt')
-    show = bytes_of('wanted', 'plain.show.json')
-    yield Case('plain', [], {}, put=boxes, given=PLAIN)
-    yield of('plain', 'boxes', PLAIN, boxes)
-    yield of('plain', 'boxes', PLAIN, boxes, '--explain')
+    yield Case('plain', [], {}, put=BOXES, given=PLAIN)
+    yield of('plain', 'boxes', PLAIN, BOXES)
+    yield of('plain', 'boxes', PLAIN, BOXES, '--explain')
     yield of('a uuid', 'boxes', UUID, objects.listed(UUID)[0].encode(), '--json')
-    yield of('plain', 'show', PLAIN, show)
-    yield Case('standard input', ['show', '-', '--explain'], {}, put=show, given=PLAIN)
+    yield of('plain', 'show', PLAIN, SHOWN)
+    yield Case('standard input', ['show', '-', '--explain'], {}, put=SHOWN, given=PLAIN)
     yield of('plain', 'samples', PLAIN, SAMPLES, '--track', '1')
     yield of('plain', 'samples', PLAIN, COLUMNS + SAMPLES, '--track', '1', '--header')
     yield of('plain', 'samples', PLAIN, lines_as_json(), '--track', '1', '--json')
@@ -169,7 +136,7 @@ def of_one_file():
              said=b'file: -\ncause: more than 11 bytes\nfailed: write\n')
     yield of('plain', 'normalise', PLAIN, NORMAL, '--out', '-', '--explain')
     for refused in ('show', 'boxes'):
-        yield of('cut', refused, CUT, b'', '--explain', status=1, said=CUT_WORDS, refused=CUT_LINE)
+        yield of('cut', refused, CUT, b'', '--explain', status=1, said=CUT_WORDS, refused=REFUSED)
     gap = bytes_of('files', 'gap-between-fragments.mp4')
     yield of('gap', 'show', gap, b'', '--explain', status=1, said=GAP_WORDS,
              refused=b'refused: Gap in tfdt at %d\n' % (gap.rindex(b'tfdt') - 4))
@@ -186,24 +153,22 @@ def that_replace():
              '--replace', '--explain', there=OLD)
     yield of('plain', 'normalise', PLAIN, NORMAL, '--replace', '--explain', '--progress', there=OLD)
     yield of('cut', 'normalise', CUT, OLD, '--replace', '--explain', status=1, said=CUT_WORDS,
-             refused=CUT_LINE, there=OLD)
+             refused=REFUSED, there=OLD)
     yield of('no track', 'extract', PLAIN, OLD, '--track', '7', '--replace', status=4,
              said=b'failed: no such track\n', there=OLD)
 
 
 def of_two_files():
     """Comparisons: of the same, of others, of all there is, with standard input."""
-    other = PLAIN.replace(b'bbbbbbb', b'bbbxbbb')
-    line = b'track 1: sample 3: byte 4 of 7: 62 | 78\n'
     last = b'1 difference: bytes 1; no words of --without make them the same\n'
     first = bytes_of('files', 'first-normal-form.mp4')
-    both = {'a.mp4': PLAIN, 'b.mp4': other}
+    both = {'a.mp4': PLAIN, 'b.mp4': OTHER}
     yield Case('the same', ['compare', 'a.mp4', 'b.mp4'], {'a.mp4': PLAIN, 'b.mp4': first})
-    yield Case('others', ['compare', 'a.mp4', 'b.mp4'], both, status=5, put=line)
+    yield Case('others', ['compare', 'a.mp4', 'b.mp4'], both, status=5, put=DIFFERENCE)
     yield Case('without', ['compare', 'a.mp4', 'b.mp4', '--without', 'times,groups'], both,
-               status=5, put=line)
-    yield Case('all', ['compare', 'a.mp4', 'b.mp4', '--all'], both, status=5, put=line + last)
-    found = [('bytes', line.decode()[:-1])]
+               status=5, put=DIFFERENCE)
+    yield Case('all', ['compare', 'a.mp4', 'b.mp4', '--all'], both, status=5, put=DIFFERENCE + last)
+    found = [('bytes', DIFFERENCE.decode()[:-1])]
     parsed = f'{objects.difference(*found[0])}\n{objects.last(found, None)}\n'.encode()
     yield Case('all as JSON', ['compare', 'a.mp4', 'b.mp4', '--all', '--json', '--explain'], both,
                status=5, put=parsed)
@@ -211,12 +176,12 @@ def of_two_files():
                {'a.mp4': PLAIN, 'b.mp4': first}, put=objects.last([], []).encode() + b'\n')
     yield Case('cut', ['compare', 'a.mp4', 'cut.mp4', '--explain'],
                {'a.mp4': PLAIN, 'cut.mp4': CUT}, status=1,
-               said=b'file: cut.mp4\n' + CUT_WORDS.replace(CUT_LINE, b'cut.mp4: ' + CUT_LINE),
-               refused=b'cut.mp4: ' + CUT_LINE)
+               said=b'file: cut.mp4\n' + CUT_WORDS.replace(REFUSED, b'cut.mp4: ' + REFUSED),
+               refused=b'cut.mp4: ' + REFUSED)
     yield Case('with standard input', ['compare', 'a.mp4', '-'], {'a.mp4': PLAIN}, status=5,
-               put=line, given=other)
-    yield Case('standard input first', ['compare', '-', 'b.mp4'], {'b.mp4': other}, status=5,
-               put=line, given=PLAIN)
+               put=DIFFERENCE, given=OTHER)
+    yield Case('standard input first', ['compare', '-', 'b.mp4'], {'b.mp4': OTHER}, status=5,
+               put=DIFFERENCE, given=PLAIN)
     data = long.with_far_fragments().filled()
     yield Case('far fragments', ['compare', 'a.mp4', 'b.mp4'], {'a.mp4': data, 'b.mp4': data},
                long=('read',))
@@ -224,7 +189,7 @@ def of_two_files():
 
 def of_many_files():
     """Verdicts, a line each."""
-    one, two = b'in.mp4: accepted\n', b'cut.mp4: ' + CUT_LINE
+    one, two = b'in.mp4: accepted\n', b'cut.mp4: ' + REFUSED
     more = b'more.mp4: accepted\n'
     files = {'in.mp4': PLAIN, 'cut.mp4': CUT}
     yield Case('one', ['check', 'in.mp4'], {'in.mp4': PLAIN}, put=one)
@@ -232,9 +197,9 @@ def of_many_files():
     yield Case('one as JSON', ['check', 'in.mp4', '--json', '--explain'], {'in.mp4': PLAIN},
                put=objects.verdict('in.mp4', b''))
     yield Case('two as JSON', ['check', 'in.mp4', 'cut.mp4', '--json'], files, status=1,
-               put=objects.verdict('in.mp4', b'') + objects.verdict('cut.mp4', CUT_LINE[:-1]))
+               put=objects.verdict('in.mp4', b'') + objects.verdict('cut.mp4', CUT_LINE))
     yield Case('two explained', ['check', 'in.mp4', 'cut.mp4', '--explain'], files, status=1,
-               put=one + two, said=b'file: cut.mp4\n' + CUT_WORDS.replace(CUT_LINE, b''))
+               put=one + two, said=b'file: cut.mp4\n' + CUT_WORDS.replace(REFUSED, b''))
     yield Case('a list', ['check', 'cut.mp4', '--names-from', 'list'],
                {**files, 'more.mp4': PLAIN, 'list': b'in.mp4\0more.mp4\0'}, status=1,
                put=two + one + more)
@@ -246,18 +211,25 @@ def of_many_files():
 def of_sums():
     """Sums, and a list of them that is checked."""
     digits = hashlib.sha256(NORMAL).hexdigest().encode()
-    line = digits + b'  in.mp4\n'
+    due = digits + b'  in.mp4\n'
     header = b'# mp4norm sum: normal form 1, without nothing\n'
-    yield Case('one', ['sum', 'in.mp4'], {'in.mp4': PLAIN}, put=header + line)
+    yield Case('one', ['sum', 'in.mp4'], {'in.mp4': PLAIN}, put=header + due)
     yield Case('one, explained', ['sum', 'in.mp4', '--no-header', '--explain'], {'in.mp4': PLAIN},
-               put=line)
+               put=due)
+
+
+def of_prints():
+    """The text of what a file says, put and made."""
+    text = printer.text(reader.Movie(PLAIN))
+    yield Case('plain', ['print', 'in.mp4'], {'in.mp4': PLAIN}, put=text)
+    yield Case('without, explained', ['print', 'in.mp4', '--without', 'times', '--explain'],
+               {'in.mp4': PLAIN}, put=printer.text(reader.Movie(PLAIN).leave_out(['times'])))
+    yield Case('to a file', ['print', 'in.mp4', '--out', 'new'], {'in.mp4': PLAIN}, made=text)
 
 
 def in_parts(data):
     """A file in parts that a list names, of which each but the first begins with a `moof`."""
-    cuts = [place for kind, place, _, _ in lister.headers(data, 0, len(data), is_file=True)
-            if kind == b'moof']
-    parts = [data[a:b] for a, b in zip([0, *cuts], [*cuts, len(data)])]
+    parts = lister.cut_before(data, b'moof')
     files = {f'part{number}.m4s': part for number, part in enumerate(parts)}
     return {'list': '\n'.join(files).encode(), **files}
 
@@ -305,6 +277,6 @@ def of_no_file():
 
 
 def all_cases():
-    for part in (of_one_file, that_replace, of_two_files, of_many_files, of_sums, of_lists,
-                 that_are_long, of_no_file):
+    for part in (of_one_file, that_replace, of_two_files, of_many_files, of_sums, of_prints,
+                 of_lists, that_are_long, of_no_file):
         yield from part()

@@ -5,6 +5,7 @@ line of a run that must fail.
 Edits that share a build (`joins`) touch different commands or different runs.
 """
 from left_out_checks import Edit
+from suite.clauses import CLAUSES
 
 CHECKING = 'mp4norm/src/checking.rt'
 COMMANDS = 'mp4norm/src/commands.rt'
@@ -29,7 +30,12 @@ REPLACING = 'mp4norm/src/replacing.rt'
 REPORTS = 'mp4norm/src/reports.rt'
 RUNS = 'mp4norm/src/runs.rt'
 SOURCES = 'mp4norm/src/sources.rt'
+COMMAND_LINE = 'mp4norm/src/command_line.rt'
 SUM_CHECKS = 'mp4norm/src/sum_checks.rt'
+HEAD_LINES = 'mp4norm/src/head_lines.rt'
+PAYLOAD_LINES = 'mp4norm/src/payload_lines.rt'
+PRINTING = 'mp4norm/src/printing.rt'
+SAMPLE_TEXTS = 'mp4norm/src/sample_texts.rt'
 SUM_LINES = 'mp4norm/src/sum_lines.rt'
 TARGETS = 'mp4norm/src/targets.rt'
 WATCHING = 'mp4norm/src/watching.rt'
@@ -39,21 +45,6 @@ SINK = 'mp4_store/src/io_sink.rt'
 
 # ---- explanations
 
-# A clause, and one of the types whose boxes it tells of.
-CLAUSES = (
-    ('4.3', 'ftyp'), ('8.1.1', 'mdat'), ('8.1.2', 'free'), ('8.1.3', 'pdin'), ('8.2.1', 'moov'),
-    ('8.2.2', 'mvhd'), ('8.3.1', 'trak'), ('8.3.2', 'tkhd'), ('8.3.3', 'tref'), ('8.4.1', 'mdia'),
-    ('8.4.2', 'mdhd'), ('8.4.3', 'hdlr'), ('8.4.4', 'minf'), ('8.4.5', 'smhd'), ('8.4.6', 'elng'),
-    ('8.5.1', 'stbl'), ('8.5.2', 'stsd'), ('8.6.1.2', 'stts'), ('8.6.1.3', 'ctts'),
-    ('8.6.1.4', 'cslg'), ('8.6.2', 'stss'), ('8.6.3', 'stsh'), ('8.6.4', 'sdtp'),
-    ('8.6.5', 'edts'), ('8.6.6', 'elst'), ('8.7.1', 'dinf'), ('8.7.2', 'urn '), ('8.7.3', 'stz2'),
-    ('8.7.4', 'stsc'), ('8.7.5', 'co64'), ('8.7.7', 'subs'), ('8.7.8', 'saiz'), ('8.7.9', 'saio'),
-    ('8.8.1', 'mvex'), ('8.8.2', 'mehd'), ('8.8.3', 'trex'), ('8.8.4', 'moof'), ('8.8.5', 'mfhd'),
-    ('8.8.6', 'traf'), ('8.8.7', 'tfhd'), ('8.8.8', 'trun'), ('8.8.9', 'mfra'),
-    ('8.8.10', 'tfra'), ('8.8.11', 'mfro'), ('8.8.12', 'tfdt'), ('8.9.2', 'sbgp'),
-    ('8.9.3', 'sgpd'), ('8.10.1', 'udta'), ('8.11.1', 'meta'), ('8.12.1', 'sinf'),
-    ('8.12.5', 'schm'), ('8.16.2', 'styp'), ('8.16.3', 'sidx'), ('8.16.5', 'prft'),
-    ('4.2', 'abcd'))
 MEANINGS = {
     'ShortHeader': 'a box is due, and its header is cut short',
     'BadSize': 'the size is smaller than the header, or is 0 inside a container',
@@ -94,44 +85,50 @@ CAUSES = {
     'an error of the system': 'the cause of EIO'}
 
 
+def texts():
+    """A text of the program, as it stands there; what stands in its place, what it is, and a run of
+    `explains` that fails."""
+    for clause, types in (*CLAUSES.items(), ('8.8.10', 'tfra')):
+        what = f'the clause of {types[:4]}'
+        yield EXPLAINING, f'=> "{clause}",', '=> "9.9",', what, f'{what}:'
+    for kind, text in MEANINGS.items():
+        what = f'the meaning of {kind}'
+        yield EXPLAINING, f'"{text}"', '"another thing is wrong"', what, f'{what}:'
+    for text, fails in CAUSES.items():
+        yield REPORTS, f'=> "{text}",', '=> "another thing",', f'the cause "{text}"', fails
+    yield (REPORTS, '"it can\'t be read"', '"it is so"', 'the cause of a failed read',
+           'the cause of a failed read')
+
+
 def of_explanations(joins='explanations'):
     """Each clause, each meaning, each cause; and numbers."""
-    def edit(*words, fails):
-        return Edit(*words, run='explains', fails=fails, joins=joins, optimised=True)
-    for clause, kind in CLAUSES:
-        yield edit(EXPLAINING, f'=> "{clause}",', '=> "9.9",', f'the clause of {kind} is another',
-                   fails=f'the clause of {kind}:')
-    for kind, text in MEANINGS.items():
-        yield edit(EXPLAINING, f'"{text}"', '"another thing is wrong"',
-                   f'the meaning of {kind} is another', fails=f'the meaning of {kind}:')
-    for text, fails in CAUSES.items():
-        yield edit(REPORTS, f'=> "{text}",', '=> "another thing",',
-                   f'the cause "{text}" is another', fails=fails)
-    yield edit(REPORTS, '"it can\'t be read"', '"it is so"', 'the cause of a failed read is another',
-               fails='the cause of a failed read')
-    yield edit(COUNTS, 'b"stts" | b"ctts" => counted_by_rows(payload, 4),',
-               'b"stts" => counted_by_rows(payload, 4),\n        b"ctts" => Some(7),',
-               'ctts is always told to count 7 samples', fails=r'numbers of .*: ctts:')
-    yield edit(PLACES, 'if k % 2 == 0 { byte / 16 } else { byte % 16 }',
-               'if k % 2 == 0 { byte % 16 } else { byte / 16 }',
-               'the two sizes in a byte of stz2 are swapped in numbers',
-               fails='numbers of nibbles:')
-    yield edit(PLACES, 'if u64::from(first) <= u64::from(chunk) + 1 {',
-               'if u64::from(first) <= u64::from(chunk) + 1 && false {',
-               'later rows of stsc are passed over in numbers',
-               fails='numbers of the third row of stsc:')
-    yield edit(RUNS, 'if telling.explain {', 'if telling.explain && !telling.progress {',
-               '--explain is dropped beside --progress',
-               fails=r"--explain \['--progress'\] of a cut file")
-    yield edit(CHECKING, 'files.len() != 1 || list.is_some()', 'files.len() > 1',
-               'the file of a list is not named where its fault is explained',
-               fails=r"check --explain \['--names-from', '-'\]")
-    yield edit(COMPARES, 'explain_fault(rt, name, refusal, telling, &mut first, steps, looks);',
-               'explain_fault(rt, name, refusal, telling, &mut second, steps, looks);',
-               'compare explains the fault of A in B',
-               fails=r"compare --explain \['gap.mp4', 'plain.mp4'\]")
-    yield edit(REPORTS, '|| (!self.telling.brief && rt.stderr().is_terminal())', '',
-               'on a terminal a failure stands alone', fails=r"\['show', 'none'\] on a terminal")
+    def edit(file, old, new, name, fails):
+        return Edit(file, old, new, name, run='explains', fails=fails, joins=joins, optimised=True)
+    return [
+        *(edit(file, old, new, f'{what} is another', fails)
+          for file, old, new, what, fails in texts()),
+        edit(COUNTS, 'b"stts" | b"ctts" => counted_by_rows(payload, 4),',
+             'b"stts" => counted_by_rows(payload, 4),\n        b"ctts" => Some(7),',
+             'ctts is always told to count 7 samples', r'numbers of .*: ctts:'),
+        edit(PLACES, 'if k % 2 == 0 { byte / 16 } else { byte % 16 }',
+             'if k % 2 == 0 { byte % 16 } else { byte / 16 }',
+             'the two sizes in a byte of stz2 are swapped in numbers', 'numbers of nibbles:'),
+        edit(PLACES, 'if u64::from(first) <= u64::from(chunk) + 1 {',
+             'if u64::from(first) <= u64::from(chunk) + 1 && false {',
+             'later rows of stsc are passed over in numbers', 'numbers of the third row of stsc:'),
+        edit(RUNS, 'if telling.explain {', 'if telling.explain && !telling.progress {',
+             '--explain is dropped beside --progress',
+             r"--explain \['--progress'\] of a cut file"),
+        edit(CHECKING, 'files.len() != 1 || list.is_some()', 'files.len() > 1',
+             'the file of a list is not named where its fault is explained',
+             r"check --explain \['--names-from', '-'\]"),
+        edit(COMPARES, 'explain_fault(rt, name, refusal, telling, &mut first, steps, looks);',
+             'explain_fault(rt, name, refusal, telling, &mut second, steps, looks);',
+             'compare explains the fault of A in B',
+             r"compare --explain \['gap.mp4', 'plain.mp4'\]"),
+        edit(REPORTS, '|| (!self.telling.brief && rt.stderr().is_terminal())', '',
+             'on a terminal a failure stands alone', r"\['show', 'none'\] on a terminal"),
+    ]
 
 
 HELP = {0: 'all is done', 1: 'refused: the file has a fault; its kind, box and place are named',
@@ -142,19 +139,20 @@ HELP = {0: 'all is done', 1: 'refused: the file has a fault; its kind, box and p
 
 def of_help(joins='help'):
     """Each status that the help names."""
-    for status, text in HELP.items():
-        row = f'  {status:<4}{text}\n'
-        yield Edit(COMMANDS, row, f'  {status:<4}something\n',
-                   f'what the help says of status {status}', run='lines',
-                   fails=f'what the help says of status {status}$', joins=joins)
-    yield Edit(COMMANDS, f'  64  {HELP[64]}\n', f'  65  {HELP[64]}\n',
-               'a status that the help names', run='lines',
-               fails='the statuses that the help names', joins='a status')
-    yield Edit(MAIN, 'CommandFault::Help(text) => end(rt, put_text(rt, text.as_str())),',
-               'CommandFault::Help(text) => {\n            let _ = put_text(rt, text.as_str());\n'
-               '            ExitCode::SUCCESS\n        }',
-               '--help to a full disk has status 0', run='descriptors full_devices',
-               fails='--help to a full device', joins=joins)
+    return [
+        *(Edit(COMMANDS, f'  {status:<4}{text}\n', f'  {status:<4}something\n', what, run='lines',
+               fails=f'{what}:', joins=joins)
+          for status, text in HELP.items()
+          for what in [f'what the help says of status {status}']),
+        Edit(COMMANDS, f'  64  {HELP[64]}\n', f'  65  {HELP[64]}\n',
+             'a status that the help names', run='lines',
+             fails='the statuses that the help names', joins='a status'),
+        Edit(MAIN, 'CommandFault::Help(text) => end(rt, put_text(rt, text.as_str())),',
+             'CommandFault::Help(text) => {\n            let _ = put_text(rt, text.as_str());\n'
+             '            ExitCode::SUCCESS\n        }',
+             '--help to a full disk has status 0', run='descriptors full_devices',
+             fails='--help to a full device', joins=joins),
+    ]
 
 
 # ---- verdicts and comparisons
@@ -386,7 +384,7 @@ def of_lists(joins='lists'):
              'a part is read though it is another one', run='lists changed_parts',
              fails='a part is another before open of part2.m4s', joins='states'),
         Edit(NAMED_FILES, 'if self.held.len() >= MOST_OPEN {', 'if self.held.len() >= 100 {',
-             'a hundred parts are open', run='lists many_parts', fails='203 parts, few open',
+             'a hundred parts are open', run='lists many_parts', fails='204 parts, few open',
              joins=joins, optimised=True),
         Edit(PLAYLISTS, "b',' if !is_quoted =>", "b',' =>",
              'a comma within quotation marks ends an attribute', run='lists playlists',
@@ -423,6 +421,40 @@ def of_sums(joins='sums'):
              '(Err(refusal), Finding::Sum { .. }) if matches!(style.syntax, Syntax::Json) => {',
              'a refused file has a line among the sums', run='sums of_many', fails='four files',
              joins='refused'),
+    ]
+
+
+# ---- texts
+
+def of_prints(joins='prints'):
+    return [
+        Edit(PAYLOAD_LINES, 'const MOST_SPELLED: usize = 4096;',
+             'const MOST_SPELLED: usize = 4095;',
+             'a payload of 4,096 bytes is told by its digest', run='prints of_lines',
+             fails='lines: udta of 4096', joins=joins),
+        Edit(PAYLOAD_LINES, '32 < *byte && *byte < 127', '32 <= *byte && *byte < 127',
+             'a type with a space stands for itself', run='prints of_lines',
+             fails='lines: type with a space', joins=joins),
+        Edit(SAMPLE_TEXTS, 'if rank < other.rank() {', 'if rank > other.rank() {',
+             'groups stand in no order', run='prints of_groups', fails='groups: four keys',
+             joins=joins),
+        Edit(SAMPLE_TEXTS, '0 => end,', '0 if place > 3 => end,',
+             'groups of index 0 are told', run='prints of_groups', fails='groups: index 0',
+             joins='zeros'),
+        Edit(PRINTING, '        len: u64::from(sample.size),',
+             '        len: u64::from(sample.size.min(65_536)),',
+             'no more than 65,536 bytes of a sample are hashed', run='prints of_large',
+             fails='3 samples of 65537', joins=joins),
+        Edit(PRINTING, '    desk.text.carry(b"end\\n", sink)?;\n', '',
+             'a text has no end', run='prints of_out', fails='--out: NEW', joins='ends'),
+        Edit(HEAD_LINES, 'if leaving.edits { &edits[..0] } else { edits }', 'edits',
+             'edits are told where they are left out', run='prints of_long',
+             fails=r"too-long-without-edits \('edits',\)$|too-long-without-edits \('edits',\):",
+             joins=joins),
+        Edit(COMMAND_LINE, 'found.get_flag("replace") && found.get_str("out").is_none()',
+             'found.get_flag("replace") && found.get_str("out") == Some("")',
+             '--replace without --out puts the text', run='prints of_words',
+             fails=r"print \('--replace',\)", joins=joins),
     ]
 
 
@@ -485,4 +517,5 @@ def of_edges(joins='edges'):
 
 def all_edits():
     return [*of_explanations(), *of_help(), *of_verdicts(), *of_comparisons(),
-            *of_foreign_boxes(), *of_files(), *of_lists(), *of_sums(), *of_edges()]
+            *of_foreign_boxes(), *of_files(), *of_lists(), *of_sums(), *of_prints(),
+            *of_edges()]

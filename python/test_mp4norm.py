@@ -30,29 +30,17 @@ from contextlib import redirect_stdout
 
 sys.dont_write_bytecode = True
 HERE = os.path.dirname(os.path.realpath(__file__))
-TOP = os.path.dirname(HERE)
-SUITE = os.path.join(TOP, 'conformance')
-sys.path[:0] = [HERE, SUITE]
+sys.path[:0] = [HERE, os.path.join(os.path.dirname(HERE), 'conformance')]
 import mp4norm
+import trials
+from bench import refusal_of
 from mp4norm import Box, Failed, Movie, Refused, Sample, Track
 from suite import built, differ, lister, normal, reader
+from suite.stored import CUT, NORMAL, OTHER, PLAIN, bytes_of
 
 COUNTS = collections.Counter()
-
-
-def bytes_of(*names):
-    with open(os.path.join(SUITE, *names), 'rb') as file:
-        return file.read()
-
-
-PLAIN = bytes_of('files', 'plain.mp4')
-NORMAL = bytes_of('wanted', 'plain.normal.mp4')
-# A byte of the third sample is another one.
-OTHER = PLAIN.replace(b'bbbbbbb', b'bbbxbbb')
 # The creation time of the movie, 4 bytes from 44 on, is another one.
 LATER = PLAIN[:44] + b'\0\0\0\x0b' + PLAIN[48:]
-# The `mdat` of 20 bytes at 541 ends behind the file.
-CUT = PLAIN[:-1]
 LINE = re.compile(r'refused: (\w+) in (.{4}|[0-9a-f]{8}) at (\d+)')
 # What pytest shows of a text without more words: so many characters, the middle of it cut out.
 SHORT = 240
@@ -68,21 +56,15 @@ class Case(unittest.TestCase):
         COUNTS[len(result.failures) + len(result.errors) == before] += 1
 
     def setUp(self):
-        room = tempfile.TemporaryDirectory()
-        self.addCleanup(room.cleanup)
+        folder = tempfile.TemporaryDirectory()
+        self.addCleanup(folder.cleanup)
         self.addCleanup(os.chdir, os.getcwd())
-        os.chdir(room.name)
+        os.chdir(folder.name)
+        room = trials.Room(folder.name)
+        self.write, self.read = room.write, room.read
         for name, data in (('plain.mp4', PLAIN), ('other.mp4', OTHER), ('later.mp4', LATER),
                            ('cut.mp4', CUT)):
             self.write(name, data)
-
-    def write(self, name, data):
-        with open(name, 'wb') as file:
-            file.write(data)
-
-    def read(self, name):
-        with open(name, 'rb') as file:
-            return file.read()
 
     def named(self, name, data):
         self.write(name, data)
@@ -124,8 +106,7 @@ def refused():
     """The name, the bytes and the fault of files that have one fault."""
     for file in built.single_faults():
         data, asked = file.asked()
-        line, = {it.answer.error for it in asked if it.command == 'normalise'}
-        kind, box, place = LINE.fullmatch(line).groups()
+        kind, box, place = LINE.fullmatch(refusal_of(asked)).groups()
         if isinstance(data, bytes):
             yield file.name, data, (kind, box, int(place))
 
@@ -205,7 +186,7 @@ class Answers(Case):
                 '2 differences: bytes 1, times 1; no words make them the same'])
 
     def test_normalise(self):
-        due = bytes_of('wanted', 'plain.normal.mp4')
+        due = NORMAL
         self.assertEqual(mp4norm.normalise('plain.mp4'), due)
         self.assertEqual(mp4norm.normalise(PLAIN), due)
         self.assertEqual(mp4norm.normalise('later.mp4', without=['times']), due)
@@ -480,9 +461,7 @@ class Programs(Case):
     """Which program is run, and what is made of a strange one."""
 
     def stub(self, name, script):
-        os.makedirs(os.path.dirname(name) or '.', exist_ok=True)
-        self.write(name, b'#!/bin/sh\n' + script)
-        os.chmod(name, 0o755)
+        self.write(name, b'#!/bin/sh\n' + script, 0o755)
         return os.path.realpath(name)
 
     def found(self, folder, **environment):
@@ -573,8 +552,7 @@ class Page(Case):
     """The example of docs/PYTHON.md."""
 
     def test_example(self):
-        with open(os.path.join(TOP, 'docs', 'PYTHON.md'), encoding='utf-8') as file:
-            blocks = re.findall(r'^```python\n(.*?)^```$', file.read(), re.M | re.S)
+        blocks = re.findall(r'^```python\n(.*?)^```$', trials.text('docs/PYTHON.md'), re.M | re.S)
         self.write('movie.mp4', PLAIN)
         self.write('want.mp4', bytes_of('files', 'fragment-after-fragment.mp4'))
         self.write('made.mp4', LATER)

@@ -3,6 +3,8 @@ from . import lister, normal, objects, reader
 
 # A track that no file of this suite has.
 NO_TRACK = 987654321
+# Commands that write to a new file.
+TO_FILES = ('extract', 'normalise')
 
 
 class Answer:
@@ -11,12 +13,25 @@ class Answer:
     def __init__(self, status, error=None, written=b''):
         self.status, self.error, self.written = status, error, written
 
+    def said(self):
+        """All of standard error."""
+        return (self.error + '\n').encode() if self.error else b''
+
 
 class Asked:
     """A command, with the track that it is asked of, and the answer that is wanted."""
 
     def __init__(self, command, track, answer):
         self.command, self.track, self.answer = command, track, answer
+
+    def words(self, path, out='-'):
+        """The words behind the program's name; `boxes-input` has none and reads standard input."""
+        if self.command == 'boxes-input':
+            return []
+        if self.command == 'boxes-json':
+            return ['boxes', path, '--json']
+        track = [] if self.track is None else ['--track', str(self.track)]
+        return [self.command, path, *track, *(['--out', out] if self.command in TO_FILES else [])]
 
 
 def of_boxes(data):

@@ -1,5 +1,5 @@
 """All files that are built when the suite runs."""
-from . import answers, close_cases, extras, faults, lister, normal, reader
+from . import answers, close_cases, extras, faults, lister, normal, reader, stored
 from .boxes import Box, File, Hole, u32
 from .movies import table, wide, whole
 
@@ -86,6 +86,19 @@ def files_in_pairs():
     """The files of which each two are compared: not those for a close reading, of which each is
     like one of these but for what it is for."""
     return of_extras(extras.all_extras())
+
+
+def accepted_files():
+    """The names and the bytes of accepted files of a few kilobytes, of which each two are
+    compared."""
+    names = {case['file'] for case in stored.cases() if case['command'] != 'boxes'
+             and not (case['status'] or 'length' in case or 'first_bytes' in case)}
+    for name in sorted(names):
+        yield name, stored.bytes_of('files', name + '.mp4')
+    for one in files_in_pairs():
+        file, line = one.make()
+        if line is None:
+            yield one.name, file.spelled()
 
 
 def all_files():

@@ -1,6 +1,6 @@
 """Changes of one value of the wide file, and the line of `compare` that tells of each, written by
 hand."""
-from .boxes import Box, full, i32, u16, u32, u64
+from .boxes import Box, i32, u16, u32, u64
 from .movies import wide
 
 MDIA = 'moov/trak/mdia'

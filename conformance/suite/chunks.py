@@ -1,24 +1,20 @@
 """A track in chunks, of which a sample does not lie in the file; and the numbers of that sample."""
 from .boxes import Box, File, full, u32
-from .many import box_at
-from .movies import media, movie_header, table, track_header
+from .movies import movie_header, table, with_tables
 
 
 def with_chunks(sizes, rows, from_end):
     """A file whose tables are these: the box of sizes, rows of `stsc`, and where each chunk begins,
     counted from the end of the file."""
     data = Box('mdat', bytes(100))
-    one = Box('trak', b'', [track_header(True, 1), media(True, 1, data)])
     count = int.from_bytes(sizes.fields[8:12], 'big')
 
     def places():
         end = data.place + data.header_length() + 100
         return full(0) + u32(len(from_end)) + b''.join(u32(end - it) for it in from_end)
-    box_at(one, 'mdia', 'minf').children[-1] = Box('stbl', b'', [
-        Box('stsd', full(0) + u32(1), [Box('mp4v', bytes(6) + b'\0\1')]),
-        table('stts', [u32(count) + u32(512)]),
-        table('stsc', [b''.join(map(u32, row)) for row in rows]),
-        sizes, Box('stco', places)])
+    one = with_tables(1, data, table('stts', [u32(count) + u32(512)]),
+                      table('stsc', [b''.join(map(u32, row)) for row in rows]),
+                      sizes, Box('stco', places), plainly=True)
     return File([Box('moov', b'', [movie_header(True), one]), data]).spelled()
 
 

@@ -7,7 +7,7 @@ from .boxes import KEPT, Box, full, i32, i64, u8, u16, u32, u64
 from .extras import (CONTAINERS, SECOND_STBL, STBL, TRAF, Extra, before, chunk_rows, emptied,
                      fields, fragment, grouping, head, moof_free, moof_of, naming, replaced, run,
                      trex_of)
-from .faults import LARGE, added, changed, name_of, put_over, renamed
+from .faults import LARGE, added, changed, name_of, put_over
 from .lister import INSIDE
 
 MDIA = 'moov/trak/mdia'

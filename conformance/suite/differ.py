@@ -5,7 +5,7 @@ gone through side by side; counts stand before what they count.
 """
 from . import lister
 from .boxes import KEPT
-from .normal import METADATA
+from .normal import METADATA, key_order
 
 WORDS = ('times', 'edits', 'flags', 'groups', 'metadata')
 
@@ -143,7 +143,7 @@ class Pair:
                        mine.tables.all('sgpd'), theirs.tables.all('sgpd'))
 
     def samples(self, way, mine, theirs):
-        keys = sorted({*self.left.keys(mine), *self.right.keys(theirs)}, key=order)
+        keys = sorted({*self.left.keys(mine), *self.right.keys(theirs)}, key=key_order)
         for number, (left, right) in enumerate(zip(mine.samples, theirs.samples), 1):
             self.sample(f'{way}: sample {number}', left, right, keys)
 
@@ -161,12 +161,6 @@ class Pair:
         else:
             self.bytes('bytes', way, 'size', self.left.bytes_of(left),
                        self.right.bytes_of(right))
-
-
-def order(key):
-    """The order of grouping keys: by type, then none before a parameter, then by the parameter."""
-    kind, parameter = key
-    return kind, parameter is not None, parameter or 0
 
 
 class Behind:

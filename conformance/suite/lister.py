@@ -67,6 +67,13 @@ def headers(data, place, end, container='file', is_file=False):
     return found
 
 
+def cut_before(data, of=None):
+    """A file in parts, of which each but the first begins with a box, or with one of a type."""
+    found = headers(data, 0, len(data), is_file=True)
+    cuts = [place for kind, place, _, _ in found if place and of in (None, kind)]
+    return [data[start:end] for start, end in zip([0, *cuts], [*cuts, len(data)])]
+
+
 def opens(name, path):
     """Whether a box at this path is looked into, and at how many bytes behind its header."""
     if name in INSIDE.get(path, ()):
@@ -80,25 +87,38 @@ def opens(name, path):
     return None
 
 
-def lines_in(data, found, path):
-    """The lines of boxes that stand at this path, and of those in them."""
-    lines = []
-    for kind, place, inner, end in found:
+def below(path, name):
+    """The path of what stands in a box."""
+    return f'{path}/{name}' if path else name
+
+
+def depth(path):
+    """How many containers what stands at a path lies in."""
+    return path.count('/') + bool(path)
+
+
+def walked(data, found, path=''):
+    """The path and the header of each box that stands at this path, and of those in them."""
+    for header in found:
+        yield path, header
+        kind, _, inner, end = header
         name = printed(kind)
-        depth = path.count('/') + bool(path)
-        lines.append(f"{'  ' * depth}{name} {place} {end - place}")
         skipped = opens(name, path)
         if skipped is not None:
-            own_path = f'{path}/{name}' if path else name
-            lines += lines_in(data, headers(data, inner + skipped, end, name), own_path)
-    return lines
+            held = headers(data, inner + skipped, end, name)
+            yield from walked(data, held, below(path, name))
+
+
+def all_boxes(data, length=None):
+    """The same of a file."""
+    return walked(data, headers(data, 0, len(data) if length is None else length, is_file=True))
 
 
 def listed(data, length=None):
     """The list of boxes as text, or the line that refuses it."""
-    length = len(data) if length is None else length
     try:
-        found = headers(data, 0, length, is_file=True)
-        return ''.join(line + '\n' for line in lines_in(data, found, '')), None
+        lines = [f"{'  ' * depth(path)}{printed(kind)} {place} {end - place}\n"
+                 for path, (kind, place, _, end) in all_boxes(data, length)]
+        return ''.join(lines), None
     except BadHeader as fault:
         return '', fault.line()

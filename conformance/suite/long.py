@@ -1,7 +1,7 @@
 """Files that take many reads and many writes, for the runs in which calls fail."""
-from .boxes import Box, File, Hole, full, i32, u16, u32, u64
-from .movies import (chunk_places, group_descriptions, media, movie_extends, movie_header, table,
-                     track, track_header)
+from .boxes import Box, File, Hole, full, i32, u32, u64
+from .movies import (chunk_places, group_descriptions, movie_extends, movie_header, table,
+                     with_tables)
 
 # Samples in the tables of a track, and in each of its fragments.
 PLAIN, IN_FRAGMENT = 80, 20
@@ -30,27 +30,19 @@ def groups(count, kind):
     return Box('sbgp', full(0) + kind + u32(count) + b''.join(rows))
 
 
-def long_tables(data, start):
+def long_track(number, data):
     """Tables of samples in chunks of ten, with a sync sample every tenth."""
+    start = PLAIN * SIZE * (number - 1)
     places = [start + chunk * 10 * SIZE for chunk in range(PLAIN // 10)]
-    return Box('stbl', b'', [
-        Box('stsd', full(0) + u32(1), [Box('mp4v', bytes(6) + u16(1))]),
+    return with_tables(
+        number, data,
         table('stts', [u32(PLAIN) + u32(DURATION)]),
         table('stss', [u32(1 + 10 * k) for k in range(PLAIN // 10)]),
         table('stsc', [u32(1) + u32(10) + u32(1)]),
         Box('stsz', full(0) + u32(SIZE) + u32(PLAIN)),
         chunk_places(True, data, *places),
         group_descriptions(False, b'roll'),
-        groups(PLAIN, b'roll'),
-    ])
-
-
-def long_track(number, data):
-    start = PLAIN * SIZE * (number - 1)
-    whole = media(True, number, data)
-    minf = [child for child in whole.children if child.kind == 'minf'][0]
-    minf.children[-1] = long_tables(data, start)
-    return Box('trak', b'', [track_header(True, number), whole])
+        groups(PLAIN, b'roll'), plainly=True)
 
 
 def long_run(moof, data, start, count, size):
@@ -103,19 +95,13 @@ def with_far_fragments():
     return File(boxes)
 
 
-def with_one_track(count, size):
-    """A track of so many samples of one size, in one chunk."""
+def with_one_track(count, size, *tables):
+    """A track of so many samples of one size, in one chunk, with further tables."""
     data = Box('mdat', pattern(count * size, 0))
-    one = track(True, 1, data)
-    stbl = [child for child in one.children if child.kind == 'mdia'][0]
-    minf = [child for child in stbl.children if child.kind == 'minf'][0]
-    minf.children[-1] = Box('stbl', b'', [
-        Box('stsd', full(0) + u32(1), [Box('mp4v', bytes(6) + u16(1))]),
-        table('stts', [u32(count) + u32(512)]),
-        table('stsc', [u32(1) + u32(count) + u32(1)]),
-        Box('stsz', full(0) + u32(size) + u32(count)),
-        chunk_places(True, data, 0),
-    ])
+    one = with_tables(1, data, table('stts', [u32(count) + u32(512)]),
+                      table('stsc', [u32(1) + u32(count) + u32(1)]),
+                      Box('stsz', full(0) + u32(size) + u32(count)), chunk_places(True, data, 0),
+                      *tables)
     return File([Box('moov', b'', [movie_header(True), one]), data])
 
 

@@ -118,6 +118,20 @@ def track(is_wide, number, data):
     ])
 
 
+def with_tables(number, data, *tables, plainly=False):
+    """A track of the wide form with these tables behind its description; plainly without edits and
+    user data."""
+    whole = media(True, number, data)
+    entry = Box('mp4v', bytes(6) + u16(1))
+    stbl = Box('stbl', b'', [Box('stsd', full(0) + u32(1), [entry]), *tables])
+    whole.children[-1].children[-1] = stbl
+    if plainly:
+        return Box('trak', b'', [track_header(True, number), whole])
+    made = track(True, number, data)
+    made.children[-1] = whole
+    return made
+
+
 def movie_extends(is_wide):
     boxes = [Box('mehd', full(int(is_wide)) + time(is_wide, 0))]
     for number in (1, 2):

@@ -220,5 +220,6 @@ def groupings(samples):
 
 
 def key_order(key):
+    """The order of grouping keys: by type, then none before a parameter, then by the parameter."""
     kind, parameter = key
     return kind, -1 if parameter is None else parameter

@@ -35,35 +35,29 @@ def text(value):
     return json.dumps(value, sort_keys=True, separators=(',', ':'))
 
 
+def allowed(path):
+    """The types that may stand at a path."""
+    return f'{PROFILE.get(path, "")} {EVERYWHERE}'.encode().split()
+
+
 # ---- boxes
 
 
 def box(data, path, kind, place, inner, end):
-    made = {'depth': path.count('/') + bool(path), 'offset': place, 'size': end - place,
+    made = {'depth': lister.depth(path), 'offset': place, 'size': end - place,
             'type': lister.printed(kind)}
-    allowed = f'{PROFILE[path]} {EVERYWHERE}'.split()
-    if kind not in (name.encode() for name in allowed):
+    if kind not in allowed(path):
         made['foreign'] = True
     if kind == b'uuid' and end - inner >= UUID:
         made['uuid'] = str(uuid.UUID(bytes=bytes(data[inner:inner + UUID])))
     return made
 
 
-def boxes_in(data, found, path):
-    """The objects of boxes that stand at this path, and of those in them."""
-    for kind, place, inner, end in found:
-        yield box(data, path, kind, place, inner, end)
-        name = lister.printed(kind)
-        if name in lister.INSIDE.get(path, ()):
-            headers = lister.headers(data, inner, end, name)
-            yield from boxes_in(data, headers, f'{path}/{name}' if path else name)
-
-
 def listed(data):
     """The objects of all boxes that are listed, or the line that refuses the file."""
     try:
-        found = lister.headers(data, 0, len(data), is_file=True)
-        return ''.join(text(one) + '\n' for one in boxes_in(data, found, '')), None
+        found = [box(data, path, *header) for path, header in lister.all_boxes(data)]
+        return ''.join(text(one) + '\n' for one in found), None
     except lister.BadHeader as fault:
         return '', fault.line()
 

@@ -1,14 +1,13 @@
 """Copies in which some boxes are free space, made from a file's headers by the definition: of each
 box that is named, and that lies in no other such box, the four bytes of its type are `free`."""
-import os
 from uuid import UUID
 
-from . import lister, objects
+from . import lister, objects, stored
 from .boxes import Box, Raw, u32
 from .built import single_faults
 from .movies import whole
+from .stored import PLAIN, bytes_of
 
-HERE = os.path.dirname(os.path.dirname(os.path.abspath(__file__)))
 FREE = b'free'
 # Types of boxes without which encrypted samples can't be read.
 OF_ENCRYPTION = ('senc', 'saiz', 'saio', 'sinf', 'pssh', 'tenc', 'schm')
@@ -74,8 +73,7 @@ class Foreign:
 
     def means(self, kind, container, _):
         path = next(it for it in objects.PROFILE if (it.rpartition('/')[2] or 'file') == container)
-        allowed = f'{objects.PROFILE[path]} {objects.EVERYWHERE}'.split()
-        return kind not in (name.encode() for name in allowed)
+        return kind not in objects.allowed(path)
 
 
 class Freed:
@@ -127,7 +125,7 @@ def named_in(data, found, path, names):
         elif lister.printed(kind) in lister.INSIDE.get(path, ()):
             name = kind.decode()
             held = lister.headers(data, inner, end, name)
-            yield from named_in(data, held, f'{path}/{name}' if path else name, names)
+            yield from named_in(data, held, lister.below(path, name), names)
 
 
 def told(names, freed):
@@ -176,23 +174,8 @@ def stripped(data, names, is_lossy=True):
 
 def kinds_in(data):
     """All pairs of a container and the type of a box in it."""
-    pairs = set()
-
-    def pass_over(found, path):
-        container = path.rpartition('/')[2] or 'file'
-        for kind, _, inner, end in found:
-            pairs.add((container, kind))
-            if lister.printed(kind) in lister.INSIDE.get(path, ()):
-                name = kind.decode()
-                pass_over(lister.headers(data, inner, end, name), f'{path}/{name}' if path else name)
-
-    pass_over(lister.headers(data, 0, len(data), is_file=True), '')
-    return sorted(pairs)
-
-
-def bytes_of(folder, name):
-    with open(os.path.join(HERE, folder, name), 'rb') as file:
-        return file.read()
+    return sorted({(path.rpartition('/')[2] or 'file', header[0])
+                   for path, header in lister.all_boxes(data)})
 
 
 def with_strangers(file):
@@ -207,7 +190,7 @@ def with_strangers(file):
     def fill(holder, path):
         for child in holder.children:
             if child.kind in lister.INSIDE.get(path, ()):
-                fill(child, f'{path}/{child.kind}' if path else child.kind)
+                fill(child, lister.below(path, child.kind))
         holder.children[:0] = strangers()
         holder.children += strangers()
 
@@ -263,7 +246,7 @@ def cases_of_uuids(strangers):
     yield 'a uuid in capitals', strangers, [OfUuid(first, word=f'uuid:{first.upper()}')]
     yield 'a uuid twice', strangers, [OfUuid(first), OfUuid(first, 'moov')]
     for size in (15, 16, 17):
-        data = bytes_of('files', 'plain.mp4') + Box('uuid', bytes(size)).spelled()
+        data = PLAIN + Box('uuid', bytes(size)).spelled()
         yield f'a uuid of {size} bytes', data, [OfUuid(str(UUID(int=0)))]
     file = whole(False)
     for number in range(3):
@@ -275,7 +258,7 @@ def cases_of_uuids(strangers):
 
 def cases_of_open_sizes():
     """The last box of a file goes on to its end."""
-    plain = bytes_of('files', 'plain.mp4')
+    plain = PLAIN
     for kind in (b'uuid', b'mdat', b'moov'):
         for content in (b'', b'some bytes', u32(8) + b'uuid'):
             data = plain + u32(0) + kind + content
@@ -291,11 +274,11 @@ def cases_of_faults():
         yield f'fault {file.name}', data, names
         for container in (b'moov', b'trak', b'minf', b'moof'):
             yield f'fault {file.name}, {container} named', data, [Name(container)]
-    for name in sorted(os.listdir(os.path.join(HERE, 'files'))):
-        data = bytes_of('files', name)
-        yield f'{name}', data, names
+    for name in stored.names():
+        name, data = f'{name}.mp4', bytes_of('files', f'{name}.mp4')
+        yield name, data, names
         yield f'{name} without its tracks', data, [Name(b'trak'), Name(b'mdat')]
-    plain = bytes_of('files', 'plain.mp4')
+    plain = PLAIN
     for length in range(0, len(plain), 3):
         yield f'plain.mp4, first {length} bytes', plain[:length], [Name(b'hdlr')]
         yield f'plain.mp4, first {length} bytes, without moov', plain[:length], [Name(b'moov')]
@@ -330,8 +313,8 @@ def foreign_files():
         yield f'strangers, wide {is_wide}', with_strangers(whole(is_wide))
     for file in single_faults():
         yield f'fault {file.name}', file.asked()[0]
-    for name in sorted(os.listdir(os.path.join(HERE, 'files'))):
-        yield name, bytes_of('files', name)
+    for name in stored.names():
+        yield f'{name}.mp4', bytes_of('files', f'{name}.mp4')
     data = with_strangers(whole(False))
     for length in range(0, len(data), 41):
         yield f'first {length} bytes of strangers', data[:length]

@@ -1,0 +1,125 @@
+"""The text of what a file denotes, by its description: a line for each value, for version control."""
+import hashlib
+
+from . import differ
+from .boxes import KEPT
+from .normal import METADATA, key_order
+
+# The most bytes of a payload that are spelled.
+MOST_SPELLED = 4096
+COLUMNS = 'duration, offset, flags, description, size, SHA-256, groups'
+
+
+def printed(kind):
+    """A type as a word of a line."""
+    kind = kind if isinstance(kind, bytes) else kind.encode('latin-1')
+    if all(0x20 < byte < 0x7f and byte != 0x5c for byte in kind):
+        return kind.decode('ascii')
+    return '\\' + kind.hex()
+
+
+def dump(row):
+    """Bytes as digits and as characters."""
+    return f"  {row.hex()} |{''.join(chr(byte) if 0x20 <= byte <= 0x7e else '.' for byte in row)}|"
+
+
+class Printer:
+    """The lines of a movie of which some words are left out."""
+
+    def __init__(self, movie):
+        self.movie, self.left = movie, movie.left
+        self.lines = []
+
+    def line(self, name, *values):
+        self.lines.append(f" {name}: {' '.join(map(str, values))}")
+
+    def payload(self, name, data):
+        text = f' {name}: {len(data)} bytes'
+        if len(data) > MOST_SPELLED:
+            self.lines.append(f'{text}, SHA-256 {hashlib.sha256(data).hexdigest()}')
+            return
+        self.lines.append(text)
+        self.lines += [dump(data[at:at + 16]) for at in range(0, len(data), 16)]
+
+    def boxes(self, name, boxes):
+        for box in boxes:
+            self.payload(f'{name} {printed(box.kind)}', bytes(box.payload()))
+
+    def kept(self, container, place):
+        kinds = [kind for kind in KEPT[place] if 'metadata' not in self.left or kind not in METADATA]
+        self.boxes('kept', container.all(*kinds))
+
+    def times(self, front, box):
+        for number, name in enumerate(('creation', 'modification')):
+            width = differ.width(box)
+            time = 0 if 'times' in self.left else box.number(4 + number * width, width)
+            self.line(front + name, time)
+
+    def matrix(self, fields):
+        self.line('matrix', *(fields.signed(16 + 4 * k, 4) for k in range(9)))
+
+    def all(self):
+        words = [word for word in differ.WORDS if word in self.left]
+        self.lines += ['MP4 presentation, form 1', 'without: ' + (','.join(words) or 'nothing')]
+        self.head()
+        for track in self.movie.tracks:
+            self.track(track)
+            self.media(track)
+            self.samples(track)
+        return ('\n'.join([*self.lines, 'end']) + '\n').encode('ascii')
+
+    def head(self):
+        self.lines.append('movie')
+        self.times('', self.movie.header)
+        self.line('timescale', self.movie.timescale)
+        fields = differ.behind_times(self.movie.header, 8, 12)
+        self.line('rate', fields.signed(0, 4))
+        self.line('volume', fields.signed(4, 2))
+        self.matrix(fields)
+        self.kept(self.movie.moov, 'moov')
+
+    def track(self, track):
+        self.lines.append(f'track {track.id}')
+        self.line('flags', f'{track.header.flags():06x}')
+        self.times('', track.header)
+        fields = differ.behind_times(track.header, 12, 16)
+        self.line('layer', fields.signed(8, 2))
+        self.line('alternate_group', fields.signed(10, 2))
+        self.line('volume', fields.signed(12, 2))
+        self.matrix(fields)
+        self.line('width', fields.number(52, 4))
+        self.line('height', fields.number(56, 4))
+        for edit in track.edits:
+            self.line('edit', *edit)
+        self.kept(track.trak, 'moov/trak')
+
+    def media(self, track):
+        header = track.media.one('mdhd')
+        self.times('media ', header)
+        self.line('media timescale', track.timescale)
+        self.line('language', f'{differ.behind_times(header, 8, 12).number(0, 2):04x}')
+        self.payload('handler', bytes(track.media.one('hdlr').payload()))
+        for box in track.media.all('elng'):
+            self.payload('extended language', bytes(box.payload()))
+        self.boxes('media header', [differ.media_header(track)])
+        self.boxes('description', track.descriptions)
+        if 'groups' not in self.left:
+            for box in track.tables.all('sgpd'):
+                self.payload('group description', bytes(box.payload()))
+
+    def samples(self, track):
+        self.line('start', track.start)
+        self.lines.append(f'samples of track {track.id}: {COLUMNS}')
+        for sample in track.samples:
+            data = self.movie.bytes_of(sample)
+            words = [sample.duration, sample.offset, f'{sample.flags:08x}', sample.description,
+                     len(data), hashlib.sha256(data).hexdigest()]
+            for key in sorted(sample.groups, key=key_order):
+                parameter = '' if key[1] is None else f'/{key[1]}'
+                words.append(f'{printed(key[0])}{parameter}={sample.groups[key]}')
+            self.lines.append(' ' + ' '.join(map(str, words)))
+
+
+def text(movie):
+    """The text of what is left of a movie."""
+    return Printer(movie).all()

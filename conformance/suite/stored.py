@@ -1,0 +1,47 @@
+"""The stored files of this suite."""
+import json
+import os
+
+FOLDER = os.path.dirname(os.path.dirname(os.path.abspath(__file__)))
+
+
+def bytes_of(folder, name):
+    with open(os.path.join(FOLDER, folder, name), 'rb') as file:
+        return file.read()
+
+
+def names():
+    """The names of all stored files, without their ending."""
+    found = os.listdir(os.path.join(FOLDER, 'files'))
+    return sorted(name.removesuffix('.mp4') for name in found)
+
+
+def cases():
+    """The cases of cases.json."""
+    return json.loads(bytes_of('.', 'cases.json'))
+
+
+PLAIN = bytes_of('files', 'plain.mp4')
+NORMAL = bytes_of('wanted', 'plain.normal.mp4')
+# The media data of plain.mp4.
+DATA = b'aaaaabbbbbbb'
+# A byte of its third sample is another one, and what `compare` says of it.
+OTHER = PLAIN.replace(b'bbbbbbb', b'bbbxbbb')
+DIFFERENCE = b'track 1: sample 3: byte 4 of 7: 62 | 78\n'
+# Its last byte is missing: the `mdat` of 20 bytes at 541 ends behind the file.
+CUT = PLAIN[:-1]
+CUT_LINE = b'refused: Overrun in mdat at 541'
+SHOWN = bytes_of('wanted', 'plain.show.json')
+BOXES = bytes_of('wanted', 'plain.boxes.txt')
+SAMPLES = bytes_of('wanted', 'plain.samples.txt')
+COLUMNS = b'number decode_time composition_time duration flags description size\n'
+
+
+def objects():
+    """The lines of plain.mp4's samples as JSON."""
+    made = b''
+    for row in SAMPLES.decode().splitlines():
+        numbers = dict(zip(COLUMNS.decode().split(), row.split()))
+        parsed = {name: int(it, 16 if name == 'flags' else 10) for name, it in numbers.items()}
+        made += json.dumps(parsed, sort_keys=True, separators=(',', ':')).encode() + b'\n'
+    return made

@@ -1,0 +1,69 @@
+"""The columns of `samples`: the definition has their names, and so has each of the places below."""
+import json
+import re
+
+from common import text
+from suite import stored
+
+TEXTS = 'crates/mp4norm/specs/format/Texts.antt'
+
+
+def columns():
+    """The names, as the definition of what stands before the lines has them."""
+    head = r'^listing_head forms\.Named =\s+codes "([^"]*)"'
+    return re.search(head, text(TEXTS), re.M)[1].split()
+
+
+def behind(path, pattern):
+    """What a pattern finds on a page whose line feeds are spaces; nothing where it finds nothing."""
+    found = re.search(pattern, text(path).replace('\n', ' '))
+    return found[1] if found else ''
+
+
+def listed(words):
+    """The names of a list for people: each of its words is a column's, perhaps with more words."""
+    cells = words.split(', ') if isinstance(words, str) else words
+    names = columns()
+    found = [next((name for name in names if name.replace('_', ' ') in cell), cell)
+             for cell in cells]
+    # In short for the decode time and the composition time.
+    return [it for name in found for it in (names[1:3] if name == 'times' else [name])]
+
+
+def rows_of(section):
+    """The second cells of the table of a section of docs/OUTPUT.md."""
+    page = text('docs/OUTPUT.md').partition(f'\n## `{section}`\n')[2].partition('\n## ')[0]
+    return re.findall(r'^\| \d+ \| (.*) \|$', page, re.M)
+
+
+def places():
+    """Each place, the names there, and those that are due."""
+    names, in_objects = columns(), sorted(columns())
+    object_of_page = behind('docs/PYTHON.md', r'`samples FILE --track ID --json` \| `([^`]*)`')
+    yield 'crates/mp4norm/src/forms.rt', behind(
+        'crates/mp4norm/src/forms.rt', r'NAMES: &\[u8\] = b"([^"\\]*)').split(), names
+    yield 'crates/mp4norm/src/sample_lines.rt, objects', re.findall(
+        r'[,{]\\"(\w+)\\":', text('crates/mp4norm/src/sample_lines.rt'))[::-1], in_objects
+    fields = text(TEXTS).partition('\nfields_value ')[2].partition('\n\n')[0]
+    yield f'{TEXTS}, objects', re.findall(r'codes "(\w+)"', fields), in_objects
+    yield 'conformance/suite/stored.py', stored.COLUMNS.decode().split(), names
+    yield 'docs/OUTPUT.md, table', listed(rows_of('samples')), names
+    yield 'docs/OUTPUT.md, --header', behind(
+        'docs/OUTPUT.md', 'the name of each column: `([^`]*)`').split(), names
+    yield 'docs/OUTPUT.md, --json', re.findall(r'`(\w+)`', behind(
+        'docs/OUTPUT.md', r'With `--json` each line is (.*?), as named above')), in_objects
+    yield 'README.md', listed(behind('README.md', 'a line for each sample: ([^|]*) ')), names[1:]
+    yield 'man/mp4norm.1', listed(behind(
+        'man/mp4norm.1', r'for each sample of a track, in decoding order: ([^.]*)\.')), names
+    yield 'python/mp4norm.py', re.findall(
+        r'^    (\w+): int$', text('python/mp4norm.py').partition('class Sample:')[2]
+        .partition('@property')[0], re.M), names
+    yield 'docs/PYTHON.md', list(json.loads(object_of_page or '{}')), in_objects
+
+
+def of_help(whole, own):
+    """The same of the program's help, and of that of `samples`."""
+    said = re.search(r'^Columns of samples: (.*)$', whole, re.M)
+    yield '--help, columns of samples', said[1].split() if said else [], columns()
+    first = own.partition('\n')[0].partition(': ')[2]
+    yield 'samples --help, columns', listed(first), columns()

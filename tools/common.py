@@ -1,0 +1,36 @@
+"""What the scripts of this folder have in common; how they count, run programs and read files is
+said by the conformance suite's own module."""
+import glob
+import os
+import sys
+
+TOP = os.path.dirname(os.path.dirname(os.path.abspath(__file__)))
+sys.path.insert(0, os.path.join(TOP, 'conformance'))
+from trials import Room, Tally, options, other, printed, read, run, text
+
+ROOMS = ('src', 'specs', 'proofs')
+
+
+def crates():
+    """The crates in the order in which they build on one another."""
+    return [line.split(':')[0] for line in text('crates.txt').splitlines() if line.strip()]
+
+
+def found(pattern):
+    """The files with such names, by their path from the top."""
+    paths = glob.glob(os.path.join(TOP, pattern), recursive=True)
+    return sorted(os.path.relpath(path, TOP) for path in paths if os.path.isfile(path))
+
+
+def sources(*rooms):
+    """The path and the text of each file of code, specifications and proofs in some rooms of the
+    crates, or in all."""
+    for room in rooms or ROOMS:
+        for path in found(f'crates/*/{room}/**'):
+            if path.endswith(('.rt', '.antt')):
+                yield path, text(path)
+
+
+def pages():
+    """The pages that are written by hand: README.md, and those of docs/."""
+    return ['README.md', *(it for it in found('docs/*.md') if it != 'docs/DEFINITIONS.md')]
