@@ -384,7 +384,7 @@ def of_lists(joins='lists'):
              'a part is read though it is another one', run='lists changed_parts',
              fails='a part is another before open of part2.m4s', joins='states'),
         Edit(NAMED_FILES, 'if self.held.len() >= MOST_OPEN {', 'if self.held.len() >= 100 {',
-             'a hundred parts are open', run='lists many_parts', fails='204 parts, few open',
+             'a hundred parts are open', run='lists many_parts', fails='64 parts far apart, few open',
              joins=joins, optimised=True),
         Edit(PLAYLISTS, "b',' if !is_quoted =>", "b',' =>",
              'a comma within quotation marks ends an attribute', run='lists playlists',
