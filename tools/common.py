@@ -33,4 +33,4 @@ def sources(*rooms):
 
 def pages():
     """The pages that are written by hand: README.md, and those of docs/."""
-    return ['README.md', *(it for it in found('docs/*.md') if it != 'docs/DEFINITIONS.md')]
+    return ['README.md', *(it for it in found('docs/**/*.md') if it != 'docs/DEFINITIONS.md')]
