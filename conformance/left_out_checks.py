@@ -47,13 +47,13 @@ SIZES = 'mp4_tables/src/size_checks.rt'
 GROUPS = 'mp4_tables/src/group_checks.rt'
 TABLE_LEAVES = 'mp4_tables/src/leaves.rt'
 HEADS = 'mp4_frag/src/heads.rt'
-RUNS = 'mp4_frag/src/runs.rt'
+RUNS = 'mp4_frag/src/trun.rt'
 RUN_CHECKS = 'mp4_frag/src/sample_runs.rt'
 TRAF = 'mp4_frag/src/check.rt'
 FRAGMENT_GROUPS = 'mp4_frag/src/groups.rt'
 GROUP_BOXES = 'mp4_tables/src/group_boxes.rt'
-OUTLINE = 'mp4_present/src/outline.rt'
-LIMITS = 'mp4_present/src/limit_checks.rt'
+OUTLINE = 'mp4_present/src/opening/outline.rt'
+LIMITS = 'mp4_present/src/opening/limit_checks.rt'
 STORE = 'mp4_store/src/file.rt'
 DREF = 'mp4_head/src/information.rt'
 STSD = 'mp4_head/src/sample_table.rt'
@@ -165,7 +165,7 @@ def of_sizes():
                 'stsz-short-and-too-many'),
         Edit(SIZES, '_ => None,', '_ => Some(SizeForm::Bytes),', 'BadValue of stz2',
              'wide-field-size-of-five-bits', 'field-size-zero', 'field-size-32'),
-        Edit('mp4_present/src/tables_pass.rt', 'self.room -= tables.count();',
+        Edit('mp4_present/src/opening/tables_pass.rt', 'self.room -= tables.count();',
              'self.room -= tables.count() / 100;', 'TooManySamples over all tables together',
              'too-many-samples-in-the-second-track'),
         unless(TABLE_LEAVES, 'version > last', 'BadVersion of tables',
@@ -241,8 +241,8 @@ def of_groups():
                       ('groups.keys.names(key)', 'groups.keys.count() == 4',
                        '!are_below(payload, rows, 0x1_0000, steps)',
                        '!counts_are_within(payload, rows, n, steps)')),
-        Edit('mp4_tables/src/runs.rt', 'if run_at(payload, rows, k).value >= bound {',
-             'let run = run_at(payload, rows, k);\n        if run.value >= bound && run.count > 0 {',
+        Edit('mp4_tables/src/stts_rows.rt', 'if run_at(steps.tick(), payload, rows, k).value >= bound {',
+             'let run = run_at(steps.tick(), payload, rows, k);\n        if run.value >= bound && run.count > 0 {',
              'rows of count 0 in ctts and sbgp', 'large-offset-of-no-sample',
              'large-index-of-no-sample'),
         Edit(FRAGMENT_GROUPS, 'if index > MAX_INDEX {', 'if index > MAX_INDEX && count > 0 {',
@@ -327,7 +327,7 @@ def of_fragments():
         Edit(TRAF, 'find_track(tracks, head.id, places, looks) else {',
              'find_track(tracks, head.id, places, looks).or(Some(0)) else {',
              'UnknownTrack: no track', 'narrow-tfhd-of-no-track', 'unknown-track-without-runs'),
-        Edit('mp4_present/src/tables_pass.rt', 'trexes.get(&track.id).copied()',
+        Edit('mp4_present/src/opening/tables_pass.rt', 'trexes.get(&track.id).copied()',
              'trexes.get(&track.id).or(trexes.get(&8)).copied()', 'UnknownTrack: no trex',
              'no-trex-for-the-track'),
         Edit(TRAF, 'passed.count > 0 && (index < 1 || index > state.descriptions)',
@@ -341,9 +341,9 @@ def of_fragments():
                 'bad-description-before-groups'),
         swapped(TRAF, groups, '', gap, 'the checks of sbgp in traf before Gap',
                 'groups-before-a-gap'),
-        unless('mp4_frag/src/times.rt', 'version > 1', 'BadVersion of tfdt',
+        unless('mp4_frag/src/tfdt.rt', 'version > 1', 'BadVersion of tfdt',
                'narrow-tfdt-of-version-2'),
-        unless('mp4_frag/src/times.rt', 'payload.len() < needed', 'ShortBox of tfdt',
+        unless('mp4_frag/src/tfdt.rt', 'payload.len() < needed', 'ShortBox of tfdt',
                'narrow-tfdt-with-short-fields'),
     ]
 

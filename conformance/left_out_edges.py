@@ -7,40 +7,40 @@ Edits that share a build (`joins`) touch different commands or different runs.
 from left_out_checks import Edit
 from suite.clauses import CLAUSES
 
-CHECKING = 'mp4norm/src/checking.rt'
-COMMANDS = 'mp4norm/src/commands.rt'
-COMPARING = 'mp4norm/src/comparing.rt'
-COMPARES = 'mp4norm/src/comparing_runs.rt'
-DESCRIPTORS = 'mp4norm/src/descriptors.rt'
-DIFFERENCE_JSON = 'mp4norm/src/difference_json.rt'
-EXPLAINING = 'mp4norm/src/explaining.rt'
-FILE_NAMES = 'mp4norm/src/file_names.rt'
-FREED = 'mp4norm/src/freed_boxes.rt'
-INPUT = 'mp4norm/src/input.rt'
-JSON_TEXT = 'mp4norm/src/json_text.rt'
-LINE = 'mp4norm/src/command_line.rt'
-LIST_SOURCES = 'mp4norm/src/list_sources.rt'
+CHECKING = 'mp4norm/src/shell/check_files.rt'
+COMMANDS = 'mp4norm/src/shell/command_table.rt'
+COMPARING = 'mp4norm/src/commands/compare.rt'
+COMPARES = 'mp4norm/src/shell/run_compare.rt'
+DESCRIPTORS = 'mp4norm/src/shell/descriptors.rt'
+DIFFERENCE_JSON = 'mp4norm/src/text/difference_json.rt'
+EXPLAINING = 'mp4norm/src/shell/explaining.rt'
+FILE_NAMES = 'mp4norm/src/shell/file_names.rt'
+FREED = 'mp4norm/src/commands/freed_boxes.rt'
+INPUT = 'mp4norm/src/shell/input.rt'
+JSON_TEXT = 'mp4norm/src/text/json_text.rt'
+LINE = 'mp4norm/src/shell/command_line.rt'
+LIST_SOURCES = 'mp4norm/src/shell/list_sources.rt'
 MAIN = 'mp4norm/src/main.rt'
-NAMED_FILES = 'mp4norm/src/named_files.rt'
-PART_CHECKS = 'mp4norm/src/part_checks.rt'
-PARTS = 'mp4norm/src/part_files.rt'
-PLAYLISTS = 'mp4norm/src/playlists.rt'
-PROGRESS = 'mp4norm/src/progress.rt'
-REPLACING = 'mp4norm/src/replacing.rt'
-REPORTS = 'mp4norm/src/reports.rt'
-RUNS = 'mp4norm/src/runs.rt'
-SOURCES = 'mp4norm/src/sources.rt'
-COMMAND_LINE = 'mp4norm/src/command_line.rt'
-SUM_CHECKS = 'mp4norm/src/sum_checks.rt'
-HEAD_LINES = 'mp4norm/src/head_lines.rt'
-PAYLOAD_LINES = 'mp4norm/src/payload_lines.rt'
-PRINTING = 'mp4norm/src/printing.rt'
-SAMPLE_TEXTS = 'mp4norm/src/sample_texts.rt'
-SUM_LINES = 'mp4norm/src/sum_lines.rt'
-TARGETS = 'mp4norm/src/targets.rt'
-WATCHING = 'mp4norm/src/watching.rt'
-COUNTS = 'mp4_present/src/fault_counts.rt'
-PLACES = 'mp4_present/src/fault_places.rt'
+NAMED_FILES = 'mp4norm/src/shell/named_files.rt'
+PART_CHECKS = 'mp4norm/src/shell/part_checks.rt'
+PARTS = 'mp4norm/src/shell/part_files.rt'
+PLAYLISTS = 'mp4norm/src/shell/playlists.rt'
+PROGRESS = 'mp4norm/src/shell/progress.rt'
+REPLACING = 'mp4norm/src/shell/replacing.rt'
+REPORTS = 'mp4norm/src/shell/reports.rt'
+RUNS = 'mp4norm/src/shell/run_command.rt'
+SOURCES = 'mp4norm/src/shell/sources.rt'
+COMMAND_LINE = 'mp4norm/src/shell/command_line.rt'
+SUM_CHECKS = 'mp4norm/src/shell/sum_checks.rt'
+HEAD_LINES = 'mp4norm/src/text/head_lines.rt'
+PAYLOAD_LINES = 'mp4norm/src/text/payload_lines.rt'
+PRINTING = 'mp4norm/src/commands/print.rt'
+SAMPLE_TEXTS = 'mp4norm/src/text/sample_texts.rt'
+SUM_LINES = 'mp4norm/src/text/sum_lines.rt'
+TARGETS = 'mp4norm/src/shell/output.rt'
+WATCHING = 'mp4norm/src/shell/file_change.rt'
+COUNTS = 'mp4_present/src/faults/counts.rt'
+PLACES = 'mp4_present/src/faults/places.rt'
 SINK = 'mp4_store/src/io_sink.rt'
 
 # ---- explanations
@@ -240,7 +240,7 @@ def of_comparisons(joins='comparisons'):
              optimised=True),
         Edit(DIFFERENCE_JSON, FIRST_WORD,
              FIRST_WORD.replace('edits', 'times') + FIRST_WORD.replace('true', 'is_first')
-             + 'let leaving = Leaving { times: false, ..leaving };',
+             + 'let leaving = Without { times: false, ..leaving };',
              'words of an object are in another order',
              run='compares', fails=r"compare --all .*\('times',\) --json", joins='objects words',
              optimised=True),
@@ -403,7 +403,7 @@ def of_sums(joins='sums'):
              'each sum of a list is right', run='sums of_lists', fails='check: another sum',
              joins=joins),
         Edit(SUM_CHECKS, 'ListedSum::Header(words) => leaving = words,',
-             'ListedSum::Header(_) => leaving = Leaving::NOTHING,',
+             'ListedSum::Header(_) => leaving = Without::NOTHING,',
              'what a list says is left out is not heeded', run='sums of_lists',
              fails='check: a header in between', joins='headers'),
         Edit(SUM_CHECKS, 'Ok(if worst > 0 { worst } else { differ })', 'Ok(worst.max(differ))',

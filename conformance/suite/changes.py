@@ -118,8 +118,9 @@ CHANGES = [
     one(put(MDIA + '/mdhd', 12, u64(26)), 'track 1: media modification time 16 | 26', 'times'),
     one(put(MDIA + '/mdhd', 20, u32(12801)), 'track 1: timescale 12800 | 12801'),
     one(put(MDIA + '/mdhd', 32, u16(0x15c7)), 'track 1: language 55c4 | 15c7'),
-    one(put(MDIA + '/hdlr', 11, b'x'), 'track 1: handler: byte 12 of 25: 65 | 78'),
-    one(longer(MDIA + '/hdlr'), 'track 1: handler: bytes 25 | 26'),
+    one(put(MDIA + '/hdlr', 11, b'x'), 'track 1: handler: byte 12 of 25: 65 | 78',
+        labels='track 1: handler: byte 12 of 24: 65 | 78'),
+    one(longer(MDIA + '/hdlr'), 'track 1: handler: bytes 25 | 26', 'labels'),
     one(gone(MDIA + '/elng'), 'track 1: extended languages 1 | 0'),
     one(put(MDIA + '/elng', 4, b'f'), 'track 1: extended language 1: byte 5 of 7: 65 | 66'),
     one(other_type(MDIA + '/minf/vmhd', 'nmhd'), 'track 1: media header: type vmhd | nmhd'),
@@ -141,4 +142,41 @@ CHANGES = [
     one(put(STBL + '/sbgp', 20, u32(2)), 'track 1: sample 1: group roll 7: 1 | 2', 'groups'),
     one(put(STBL + '/stz2', 12, b'\4'), 'track 1: sample 1: size 5 | 4'),
     one(put('mdat', 4, b'z'), 'track 1: sample 1: byte 5 of 5: 61 | 7a'),
+]
+
+# Changes by what hides them, a row of the table of docs/COMPARING.md each: the first five words, these and `labels`,
+# or none.
+DOUBLED = all_of(put('moov/trak[1]/mdia/minf/stbl/stts', 12, u32(1024)),
+                 put('moov/trak[1]/mdia/minf/stbl/stts', 20, u32(1000)),
+                 put('moof/traf[1]/tfdt', 4, u64(3048)), put('moof/traf[1]/tfhd', 12, u32(1024)))
+LATER = all_of(put('moov/trak[1]/mdia/minf/stbl/stts', 12, u32(612)),
+               put('moof/traf[1]/tfdt', 4, u64(1724)))
+
+
+def fragments_alone(file):
+    """The samples of the second track are those of fragments alone."""
+    stbl = 'moov/trak[1]/mdia/minf/stbl/'
+    for kind in ('stts', 'ctts', 'stss', 'stsc', 'co64'):
+        file.at(stbl + kind).fields = bytes(8)
+    file.at(stbl + 'stz2').fields = bytes(7) + b'\x08' + bytes(4)
+    file.at(stbl + 'sdtp').fields = bytes(4)
+    file.at(stbl).children = [box for box in file.at(stbl).children if box.kind != 'sbgp']
+
+
+HIDDEN = [
+    ('sound later by tfdt', put('moof/traf[1]/tfdt', 4, u64(2524)), None),
+    ('frames dropped', short_of_a_fragment, None),
+    ('a byte of a frame', put('mdat', 4, b'z'), None),
+    ('a sync flag', put(STBL + '/stss', 12, u32(2)), None),
+    ('a matrix', put('moov/trak/tkhd', 52, u32(0)), None),
+    ('a language', put(MDIA + '/mdhd', 32, u16(0x15c7)), None),
+    ('a track that is disabled', put('moov/trak/tkhd', 3, b'\2'), None),
+    ('tracks swapped', exchanged('moov', 'trak', 'trak[1]'), None),
+    ('the last frames twice as long', put('moof[1]/traf/tfhd', 12, u32(1024)), None),
+    ('first frames longer, and all behind them later', LATER, None),
+    ('all durations doubled', DOUBLED, None),
+    ('sound later by an empty edit', put('moov/trak[1]/edts/elst', 8, u64(1040)), 'edits'),
+    ('another name of a handler', longer(MDIA + '/hdlr'), 'labels'),
+    ('another type of handler', put(MDIA + '/hdlr', 11, b'x'), None),
+    ('another byte of a sample description', put(STBL + '/stsd/mp4v', 8, b'x'), None),
 ]

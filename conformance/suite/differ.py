@@ -5,9 +5,9 @@ gone through side by side; counts stand before what they count.
 """
 from . import lister
 from .boxes import KEPT
-from .normal import METADATA, key_order
+from .normal import METADATA, descriptions, handler, key_order
 
-WORDS = ('times', 'edits', 'flags', 'groups', 'metadata')
+WORDS = ('times', 'edits', 'flags', 'groups', 'metadata', 'labels')
 
 
 class Number:
@@ -131,13 +131,12 @@ class Pair:
         self.number('heads', f'{way}: timescale', mine.timescale, theirs.timescale)
         left, right = behind_times(left, 8, 12), behind_times(right, 8, 12)
         self.number('heads', f'{way}: language', left.number(0, 2), right.number(0, 2), 4)
-        self.bytes('heads', f'{way}: handler', 'bytes', mine.media.one('hdlr').payload(),
-                   theirs.media.one('hdlr').payload())
+        self.bytes('heads', f'{way}: handler', 'bytes', handler(mine), handler(theirs))
         self.boxes('heads', way, 'extended language', 'extended languages',
                    mine.media.all('elng'), theirs.media.all('elng'))
         self.box('heads', f'{way}: media header', media_header(mine), media_header(theirs))
-        self.boxes('heads', way, 'description', 'descriptions', mine.descriptions,
-                   theirs.descriptions)
+        self.boxes('heads', way, 'description', 'descriptions', descriptions(mine),
+                   descriptions(theirs))
         if 'groups' not in mine.left:
             self.boxes('groups', way, 'group description', 'group descriptions',
                        mine.tables.all('sgpd'), theirs.tables.all('sgpd'))

@@ -21,6 +21,38 @@ def kept_in(container, place, left):
     return kept(container.all(*kinds))
 
 
+def handler(track):
+    """The payload of `hdlr`: without labels its name is gone, and what is reserved is 0."""
+    payload = bytes(track.media.one('hdlr').payload())
+    if 'labels' not in track.left:
+        return payload
+    return payload[:4] + bytes(4) + payload[8:12] + bytes(12)
+
+
+# Where compressorname stands in the payload of a VisualSampleEntry, and how long that is at least.
+COMPRESSOR_NAME, VISUAL_ENTRY = slice(42, 74), 78
+
+
+class Entry:
+    """A sample description: its type, and its payload."""
+
+    def __init__(self, kind, data):
+        self.kind, self.data = kind, data
+
+    def payload(self):
+        return self.data
+
+
+def descriptions(track):
+    """The sample descriptions: without labels those of pictures name no compressor."""
+    entries = [Entry(box.kind, bytearray(box.payload())) for box in track.descriptions]
+    if 'labels' in track.left and handler(track)[8:12] == b'vide':
+        for entry in entries:
+            if len(entry.data) >= VISUAL_ENTRY:
+                entry.data[COMPRESSOR_NAME] = bytes(32)
+    return entries
+
+
 def normal_form(movie):
     head = [file_type(), movie_box(movie)]
     return spelled(head) + b''.join(pieces(movie))
@@ -87,7 +119,7 @@ def media_box(track):
     behind = box.inner + (32 if box.version() else 20)
     fields = full(1) + times_of(box, track.left) + u32(track.timescale) + u64(0)
     boxes = [Box('mdhd', fields + box.data[behind:behind + 2] + bytes(2))]
-    boxes += kept(track.media.all('hdlr')) + kept(track.media.all('elng'))
+    boxes += [Box('hdlr', handler(track))] + kept(track.media.all('elng'))
     header = track.information.all('vmhd', 'smhd', 'hmhd', 'nmhd', 'sthd', 'gmhd')
     reference = Box('dref', full(0) + u32(1), [Box('url ', full(0, 1))])
     inner = kept(header) + [Box('dinf', b'', [reference]), sample_table(track)]
@@ -95,8 +127,8 @@ def media_box(track):
 
 
 def sample_table(track):
-    descriptions = kept(track.descriptions)
-    boxes = [Box('stsd', full(0) + u32(len(descriptions)), descriptions)]
+    entries = kept(descriptions(track))
+    boxes = [Box('stsd', full(0) + u32(len(entries)), entries)]
     boxes += [Box('stts', bytes(8)), Box('stsc', bytes(8)), Box('stsz', bytes(12))]
     boxes.append(Box('stco', bytes(8)))
     groups = [] if 'groups' in track.left else kept(track.tables.all('sgpd'))

@@ -1,7 +1,7 @@
 """The text of what a file denotes, by its description: a line for each value, for version control."""
 import hashlib
 
-from . import differ
+from . import differ, normal
 from .boxes import KEPT
 from .normal import METADATA, key_order
 
@@ -98,11 +98,11 @@ class Printer:
         self.times('media ', header)
         self.line('media timescale', track.timescale)
         self.line('language', f'{differ.behind_times(header, 8, 12).number(0, 2):04x}')
-        self.payload('handler', bytes(track.media.one('hdlr').payload()))
+        self.payload('handler', normal.handler(track))
         for box in track.media.all('elng'):
             self.payload('extended language', bytes(box.payload()))
         self.boxes('media header', [differ.media_header(track)])
-        self.boxes('description', track.descriptions)
+        self.boxes('description', normal.descriptions(track))
         if 'groups' not in self.left:
             for box in track.tables.all('sgpd'):
                 self.payload('group description', bytes(box.payload()))

@@ -18,4 +18,5 @@ pub mod Sound
 pub mod Vectors
 mod TypeTexts
 pub mod FirstFaults
+pub mod CountedFaults
 pub mod ChildrenJudged

@@ -9,7 +9,8 @@
 //! - [`Fault`] is what a file is refused for: a kind, a box type, a place in the file. [`Refusal`]
 //!   is each reason for which a command has no answer. Both are errors as std has them, and print
 //!   as the program's lines do.
-//! - [`Steps`] counts work in contracts, and takes no bytes in the program.
+//! - [`Steps`] counts work in contracts, and takes no bytes in the program; each step gives a
+//!   [`Ticket`] to read one row of a table.
 //!
 //! Nothing here takes memory, reads a device, or panics. To list or to check children is one pass
 //! over their headers; payloads aren't looked at.
@@ -58,6 +59,6 @@ pub use refusal::{Memory, Refusal};
 pub use rule::Rule;
 pub use sequence::Children;
 pub use spelling::Header;
-pub use steps::Steps;
+pub use steps::{Steps, Ticket};
 pub use view::BoxView;
 pub use writing::header;

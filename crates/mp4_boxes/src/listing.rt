@@ -4,7 +4,7 @@ ghost use Rattle.mp4_boxes.specs.format.Box.{Box, Tiles, HasBoxes, first_boxes, 
 ghost use Rattle.mp4_boxes.specs.format.BoxFaults.{IsHeaderFault, IsChildFault};
 ghost use Rattle.mp4_boxes.specs.format.Children.{Holds, count_among, repeats, lacks};
 ghost use Rattle.mp4_boxes.specs.words.Lines.{kinds_seen};
-ghost use Rattle.mp4_boxes.specs.format.FirstFault.{IsJudged, boxes_or_fault, children_or_fault, no_tests};
+ghost use Rattle.mp4_boxes.specs.format.FirstFault.{counted_or_fault, IsJudged, boxes_or_fault, children_or_fault, no_tests};
 ghost use Rattle.mp4_boxes.specs.words.View.{box_seen};
 
 use crate::fault::{Fault, Kind};
@@ -50,6 +50,7 @@ pub fn counted<'a>(view: BoxView<'a>) -> Result<Children<'a>, Fault>
     ensures only { (boxes : List Box) → Tiles (counted_container (box_seen view.entry)) boxes
         → IsOkAnd result (λ c. c ≡ boxes) }
     ensures fault { IfErr result (IsHeaderFault (counted_container (box_seen view.entry))) }
+    ensures exact { IsJudged (counted_or_fault (counted_container (box_seen view.entry))) result }
 {
     let payload = view.payload();
     let base = view.payload_offset() + 8;

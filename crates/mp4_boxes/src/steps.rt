@@ -4,6 +4,21 @@ ghost use Rattle.std.specs.Prelude.{◌≡◌, ◌+◌, ◌<◌};
 use std::marker::Model;
 use std::sync::ledger::{Blank, Book, Ledger, Share};
 
+/// Leave to read one row of a table: a step that was counted. It takes no bytes, and is spent by
+/// the reading, so no loop of a check reads two rows for one step.
+#[derive(Drop)]
+pub struct Ticket {
+    counted: (),
+}
+
+impl Ticket {
+    /// For a cursor: its place counts the rows that it passes.
+    #[inline(always)]
+    pub fn of_place() -> Ticket {
+        Ticket { counted: () }
+    }
+}
+
 /// How many steps were taken. It takes no bytes, and only `tick` and `add` change it.
 #[derive(Drop)]
 pub struct Steps<L: Ledger> {
@@ -33,11 +48,12 @@ impl<L: Ledger> Steps<L> {
         Steps { book, share }
     }
 
-    /// One more step.
-    pub fn tick(&mut self)
+    /// One more step, and leave to read one row for it.
+    pub fn tick(&mut self) -> Ticket
         ensures one_more { self.new ≡ self.old + 1 }
     {
         self.book.add(&mut self.share, 1);
+        Ticket { counted: () }
     }
 
     /// So many more steps at once.

@@ -8,7 +8,7 @@ use Rattle.byteorder.specs.Endian.{twos_complement}
 use Rattle.mp4_boxes.specs.format.Bytes.{AreBytes}
 use Rattle.mp4_boxes.specs.format.Layout.{flags, column_values, trun_columns}
 use Rattle.mp4_boxes.proofs.OfBytes.{signed_32, bytes_dropped}
-use Rattle.mp4_frag.specs.format.Fragments.{RunRow, column, run_of}
+use Rattle.mp4_frag.specs.format.Fragments.{RunRow, column, sample_run_of}
 use Rattle.mp4_frag.specs.declared.heads.Inherited.{Inherited}
 use Rattle.mp4_frag.proofs.Ranges.{value_below}
 use Rattle.mp4_frag.specs.format.FragmentSamples.{run_start}
@@ -59,13 +59,13 @@ offset_fits None h = tt
 offset_fits (Some n) h = signed_32 n h
 
 -- the offset of a `trun` of bytes is one of 32 bits
-pub offset_of_bytes : (payload : List ℕ) → AreBytes payload → IfSome (run_of payload).data_offset (FitsSigned w32)
+pub offset_of_bytes : (payload : List ℕ) → AreBytes payload → IfSome (sample_run_of payload).data_offset (FitsSigned w32)
 offset_of_bytes payload bytes = offset_fits (column (column_values (flags payload) trun_columns (drop 8 payload)) 0) (value_below trun_columns (flags payload) (drop 8 payload) 0 (bytes_dropped 8 payload bytes))
 
 -- where the data of a run that passes ends
 pub run_up_to : (n L : ℕ) (inherited : Inherited) (base before : ℤ) (payload : List ℕ) (ends : ℤ) (samples lasts fills : ℕ) → AreBytes payload → L < 2 ^ 64 → IsRunPassed L inherited base before payload ends samples lasts fills → 2 ^ 64 ≤ n → IsUpTo n base → IsUpTo (n + 2 ^ 31) before
     → IsUpTo (n + 2 ^ 31) ends
 run_up_to n L inherited base before payload ends samples lasts fills bytes short p big b c =
-    let run = run_of payload in
+    let run = sample_run_of payload in
     let start = start_up_to n base before run.data_offset (offset_of_bytes payload bytes) b c in
     subst (IsUpTo (n + 2 ^ 31)) (sym p.end) (rows_up_to (n + 2 ^ 31) L inherited.size (run_start base before run.data_offset) run.rows (omega arith) p.within start)

@@ -11,7 +11,9 @@ use Rattle.mp4_frag.specs.words.Walks.{Reached, at_first, part_of, boxes_from, b
 use Rattle.mp4_frag.specs.declared.places.FragPlace.{FragPlace}
 use Rattle.mp4_frag.specs.declared.trex.Trex.{Trex}
 use Rattle.mp4_frag.proofs.BoxPlaces.{box_end, all_boxes}
-use Rattle.mp4_frag.proofs.RowsLeft.{no_rows}
+use Rattle.mp4_frag.proofs.RowsLeft.{no_rows, first_row, row_behind_first}
+use Rattle.std.proofs.Common.{◌<◌, inl, inr}
+use Rattle.std.proofs.lemmas.Bool.{cases_lt}
 
 -- types of boxes may be compared either way
 pub turned : (a b : List ℕ) → bytes_eq a b ≡ bytes_eq b a
@@ -112,6 +114,41 @@ sample_passed payload p q row e none on next =
     ≡ rows_coming (behind_row (reached payload p) row) None (rows_here payload q.run) (λ s. runs_coming s (boxes_from payload p.next)) =
     (λ i. rows_coming (on i) (none i) (rows_here payload q.run) (λ s. runs_coming s (boxes_from payload (next i)))) in
     rw e behind
+
+-- a row gives a sample, and those of the rows behind it come next
+pub row_passed : (payload : List ℕ) (p q : FragPlace) (row : RunRow) → rows_here payload p.run ≡ row ∷ rows_here payload q.run → q.run.first_flags ≡ None → reached payload q ≡ behind_row (reached payload p) row → q.next ≡ p.next
+    → coming payload p ≡ sample_of (reached payload p) p.run.first_flags row ∷ coming payload q
+unfolding coming
+row_passed payload p q row e none on next =
+    let behind : rows_coming (reached payload q) q.run.first_flags (rows_here payload q.run) (λ s. runs_coming s (boxes_from payload q.next))
+    ≡ rows_coming (behind_row (reached payload p) row) None (rows_here payload q.run) (λ s. runs_coming s (boxes_from payload p.next)) =
+    (λ i. rows_coming (on i) (none i) (rows_here payload q.run) (λ s. runs_coming s (boxes_from payload (next i)))) in
+    rw e (ap (λ (l : List SampleAt). sample_of (reached payload p) p.run.first_flags row ∷ l) (sym behind))
+
+-- what comes is the same whatever was passed
+pub steps_apart : (payload : List ℕ) (p : FragPlace) (n : ℕ) → coming payload (record p { passed = n }) ≡ coming payload p
+unfolding coming
+steps_apart payload p n = refl
+
+-- a sample is to come, so a row is left
+pub some_left : (payload : List ℕ) (p : FragPlace) (s : SampleAt) → (p.run.left ≡ 0 → p.next ≡ length payload) → slice_get (coming payload p) 0 ≡ Some s → 0 < p.run.left
+some_left payload p s settled e = elim (cases_lt 0 p.run.left) [
+  | inl some ↦ some
+  | inr over ↦
+      let none : p.run.left ≡ 0 = omega (arith, over) in
+      absurd (not_first (sym e ∙ ap (λ (l : List SampleAt). slice_get l 0) (none_to_come payload p none (settled none))))
+]
+  where
+    not_first : {s : SampleAt} → Some s ≡ None → ⊥
+    not_first e = cc
+
+-- the next sample is that of the first row
+pub next_is : (payload : List ℕ) (p : FragPlace) (s : SampleAt) → 0 < p.run.left → slice_get (coming payload p) 0 ≡ Some s → s ≡ sample_of (reached payload p) p.run.first_flags (first_row payload p.run)
+next_is payload p s some e =
+    same s _ (sym e ∙ sample_first payload p (first_row payload p.run) _ _ (row_behind_first payload p.run some) refl)
+  where
+    same : (a b : SampleAt) → Some a ≡ Some b → a ≡ b
+    same a b e = cc
 
 -- ---- a `traf` is opened
 

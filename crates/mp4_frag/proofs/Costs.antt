@@ -7,7 +7,7 @@ use Rattle.mp4_boxes.specs.format.Box.{Box, LieEndToEnd, Tiles, box_container, b
 use Rattle.mp4_boxes.specs.format.Children.{of_kind}
 use Rattle.mp4_boxes.proofs.Tiling.{box_size, header_is, sizes-cons, sizes_fit}
 use Rattle.mp4_tables.specs.format.Groups.{grouping_of, groupings_of}
-use Rattle.mp4_frag.specs.format.Fragments.{run_of, track_fragment_of}
+use Rattle.mp4_frag.specs.format.Fragments.{sample_run_of, track_fragment_of}
 use Rattle.mp4_frag.specs.words.RunsJudged.{children_of}
 use Rattle.mp4_frag.specs.words.TrafFaults.{traf_in}
 use Rattle.mp4_frag.specs.format.FragmentRows.{group_rows, traf_rows, fragment_rows, moof_says}
@@ -45,7 +45,7 @@ sum_one kind f left later b e k = ap (λ boxes. sum_of f (of_kind kind boxes)) e
 abbrev pub runs_among : List Box → ℕ
 runs_among boxes = sum_of (λ (b : Box). 1) (of_kind (codes "trun") boxes)
 
-runs_said : (runs : List Box) → sum_of (λ (b : Box). 1) runs ≡ length (map (λ (b : Box). run_of b.payload) runs)
+runs_said : (runs : List Box) → sum_of (λ (b : Box). 1) runs ≡ length (map (λ (b : Box). sample_run_of b.payload) runs)
 runs_said [] = refl
 runs_said (b ∷ runs) = let others = runs_said runs in omega (arith, others)
 
@@ -67,7 +67,7 @@ runs_fit all boxes kind base payload same t =
     omega (arith, eight, fit, ap (λ (bs : List Box). length bs) same)
 
 -- behind the last box
-pub runs_cost_said : (all left boxes : List Box) (first steps count : ℕ) → RunsCost all left first steps count → left ≡ [] → all ≡ boxes → steps ≡ first + length (map (λ (b : Box). run_of b.payload) (of_kind (codes "trun") boxes)) + count
+pub runs_cost_said : (all left boxes : List Box) (first steps count : ℕ) → RunsCost all left first steps count → left ≡ [] → all ≡ boxes → steps ≡ first + length (map (λ (b : Box). sample_run_of b.payload) (of_kind (codes "trun") boxes)) + count
 runs_cost_said all left boxes first steps count h none same =
     let said = h.said in
     omega (arith, said, ap runs_among none, ap runs_among same, runs_said (of_kind (codes "trun") boxes))

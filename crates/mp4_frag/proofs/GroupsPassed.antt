@@ -1,5 +1,5 @@
 -- The `sbgp`s of a `traf`, passed one by one.
-use Rattle.std.proofs.Common.{◌≡◌, ℕ, zero, suc, ◌≤◌, length, Bool, true, false, nat_le, List, [], ◌∷◌, ◌++◌, map, drop, replicate, inl, inr, refl, sym, ap, subst, ◌∙◌}
+use Rattle.std.proofs.Common.{◌≡◌, ℕ, zero, suc, ◌≤◌, length, Bool, true, false, nat_le, List, [], ◌∷◌, ◌++◌, map, drop, replicate, Some, None, inl, inr, refl, sym, ap, subst, ◌∙◌}
 use Rattle.std.specs.Prelude.{codes, bytes_eq, IsTrue}
 use Rattle.std.specs.List.{list_all}
 use Rattle.std.proofs.lemmas.List.{append_assoc, append-nil}
@@ -17,6 +17,11 @@ use Rattle.mp4_tables.specs.words.Rows.{run_of, runs_at}
 use Rattle.mp4_frag.specs.words.GroupsJudged.{IsGroupSound, AreGroupsSound, IsGroupFault, GroupsFail, AreNamed, NamesOneMore, IsNameFault, is_named_at}
 use Rattle.mp4_tables.specs.words.GroupBoxes.{IsGroup, group_runs}
 use Rattle.mp4_tables.specs.declared.group_boxes.Group.{Group}
+use Rattle.std.specs.Prelude.{option_map}
+use Rattle.mp4_boxes.specs.format.FirstFault.{first_failed, naming}
+use Rattle.mp4_tables.proofs.FirstGroups.{named_first}
+use Rattle.mp4_frag.specs.words.FragmentTests.{one_group_tests, traf_groups_tests}
+use Rattle.mp4_frag.proofs.FirstRun.{in_front, behind_all}
 use Rattle.mp4_frag.proofs.Comings.{turned}
 
 -- ---- one `sbgp`
@@ -41,6 +46,13 @@ index_fault n first before payload group g e = inr (g.readable, (index_range, re
 pub count_fault : (n : ℕ) (first : List GroupKey) (before : List Grouping) (payload : List ℕ) (group : Group) → IsGroup payload group → false ≡ nat_le (total (group_runs payload group)) n → IsGroupFault n first before payload kinds.CountMismatch
 count_fault n first before payload group g e = inr (g.readable, (group_counts, refl, ap (λ runs. nat_le (total runs) n) (sym (rows_are payload group g)) ∙ sym e))
 
+-- whether its indexes and its counts keep the rules
+pub index_kept : (n : ℕ) (first : List GroupKey) (before : List Grouping) (payload : List ℕ) (group : Group) (v : Bool) → IsGroup payload group → v ≡ list_all (λ run. nat_le run.1 max_index) (group_runs payload group) → keeps index_range n first before (grouping_of payload) ≡ v
+index_kept n first before payload group v g e = ap (list_all (λ run. nat_le run.1 max_index)) (sym (rows_are payload group g)) ∙ sym e
+
+pub count_kept : (n : ℕ) (first : List GroupKey) (before : List Grouping) (payload : List ℕ) (group : Group) (v : Bool) → IsGroup payload group → v ≡ nat_le (total (group_runs payload group)) n → keeps group_counts n first before (grouping_of payload) ≡ v
+count_kept n first before payload group v g e = ap (λ runs. nat_le (total runs) n) (sym (rows_are payload group g)) ∙ sym e
+
 -- it keeps all rules
 pub group_sound : (n : ℕ) (first now : List GroupKey) (before : List Grouping) (payload : List ℕ) (group : Group) (named : List Bool) → IsGroup payload group → NamesOneMore first before (grouping_of payload) now named
     → true ≡ list_all (λ run. nat_le run.1 max_index) (group_runs payload group) → true ≡ nat_le (total (group_runs payload group)) n → IsGroupSound n first before payload
@@ -64,6 +76,7 @@ pub record GroupsSeen (n : ℕ) (first : List GroupKey) (all left : List Box) (n
   pub groupings : groupings_of (groups_of all) ≡ before ++ groupings_of (groups_of left)
   pub sound : AreGroupsSound n first before (groups_of left) → AreGroupsSound n first [] (groups_of all)
   pub fails : (f : Fault) → GroupsFail n first before (groups_of left) f → GroupsFail n first [] (groups_of all) f
+  pub names_first : first_failed (traf_groups_tests n first [] (groups_of all)) ≡ first_failed (traf_groups_tests n first before (groups_of left))
 
 none_named : (j : ℕ) → is_named_at (replicate 4 false) j ≡ false
 none_named zero = refl
@@ -80,6 +93,7 @@ groups_none n first all named few e = record {
   groupings = refl;
   sound = λ h. h;
   fails = λ f h. h;
+  names_first = refl;
 }
 
 other_kept : (b : Box) (boxes : List Box) → bytes_eq b.kind (codes "sbgp") ≡ false → groups_of (b ∷ boxes) ≡ groups_of boxes
@@ -92,8 +106,9 @@ group_kept b boxes e = rw (turned (codes "sbgp") b.kind ∙ e) refl
 pub groups_more : (n : ℕ) (first : List GroupKey) (all left later : List Box) (b : Box) (now then_now : List GroupKey) (named then_named : List Bool) → GroupsSeen n first all left now named → left ≡ b ∷ later → bytes_eq b.kind (codes "sbgp") ≡ true
     → ((keys : List GroupKey) (before : List Grouping) → AreNamed keys before now named → IsGroupSound n keys before b.payload)
     → ((keys : List GroupKey) (before : List Grouping) → AreNamed keys before now named → AreNamed keys (before ++ grouping_of b.payload ∷ []) then_now then_named)
+    → ((keys : List GroupKey) (before : List Grouping) → AreNamed keys before now named → first_failed (one_group_tests n keys before b.payload) ≡ None)
     → GroupsSeen n first all later then_now then_named
-groups_more n first all left later b now then_now named then_named s e k is_sound is_named =
+groups_more n first all left later b now then_now named then_named s e k is_sound is_named is_fine =
     let same : groups_of left ≡ b ∷ groups_of later = ap groups_of e ∙ group_kept b later k in
     let one = is_sound first s.before s.names in
     record {
@@ -102,6 +117,9 @@ groups_more n first all left later b now then_now named then_named s e k is_soun
       groupings = s.groupings ∙ ap (λ boxes. s.before ++ groupings_of boxes) same ∙ sym (append_assoc s.before (grouping_of b.payload ∷ []) (groupings_of (groups_of later)));
       sound = λ h. s.sound (subst (AreGroupsSound n first s.before) (sym same) (one, h));
       fails = λ f h. s.fails f (subst (λ boxes. GroupsFail n first s.before boxes f) (sym same) (inr (one, h)));
+      names_first = s.names_first ∙ ap (λ (boxes : List Box). first_failed (traf_groups_tests n first s.before boxes)) same
+          ∙ behind_all (naming b (one_group_tests n first s.before b.payload)) (traf_groups_tests n first (s.before ++ grouping_of b.payload ∷ []) (groups_of later)) _
+          (named_first b (one_group_tests n first s.before b.payload) ∙ ap (option_map (λ (k : Kind). fault_of k b)) (is_fine first s.before s.names)) refl;
     }
 
 -- an `sbgp` that fails
@@ -110,6 +128,20 @@ pub group_fails : (n : ℕ) (first : List GroupKey) (all left later : List Box) 
 group_fails n first all left later b now named f kind s e k is h =
     let same : groups_of left ≡ b ∷ groups_of later = ap groups_of e ∙ group_kept b later k in
     s.fails f (subst (λ boxes. GroupsFail n first s.before boxes f) (sym same) (inl (kind, is, h first s.before s.names)))
+
+-- an `sbgp` that is named
+pub group_first : (n : ℕ) (first : List GroupKey) (all left later : List Box) (b : Box) (now : List GroupKey) (named : List Bool) (kind : Kind) → GroupsSeen n first all left now named → left ≡ b ∷ later → bytes_eq b.kind (codes "sbgp") ≡ true
+    → ((keys : List GroupKey) (before : List Grouping) → AreNamed keys before now named → first_failed (one_group_tests n keys before b.payload) ≡ Some kind) → first_failed (traf_groups_tests n first [] (groups_of all)) ≡ Some (fault_of kind b)
+group_first n first all left later b now named kind s e k h =
+    let same : groups_of left ≡ b ∷ groups_of later = ap groups_of e ∙ group_kept b later k in
+    s.names_first ∙ ap (λ (boxes : List Box). first_failed (traf_groups_tests n first s.before boxes)) same
+    ∙ in_front (naming b (one_group_tests n first s.before b.payload)) (traf_groups_tests n first (s.before ++ grouping_of b.payload ∷ []) (groups_of later)) (fault_of kind b)
+    (named_first b (one_group_tests n first s.before b.payload) ∙ ap (option_map (λ (k : Kind). fault_of k b)) (h first s.before s.names))
+
+-- none is
+pub groups_first : (n : ℕ) (first : List GroupKey) (all left boxes : List Box) (now : List GroupKey) (named : List Bool) → GroupsSeen n first all left now named → left ≡ [] → all ≡ boxes → first_failed (traf_groups_tests n first [] (groups_of boxes)) ≡ None
+groups_first n first all left boxes now named s e f =
+    ap (λ (bs : List Box). first_failed (traf_groups_tests n first [] (groups_of bs))) (sym f) ∙ s.names_first ∙ ap (λ (bs : List Box). first_failed (traf_groups_tests n first s.before (groups_of bs))) e
 
 -- behind the last box
 pub groups_sound : (n : ℕ) (first : List GroupKey) (all left boxes : List Box) (now : List GroupKey) (named : List Bool) → GroupsSeen n first all left now named → left ≡ [] → all ≡ boxes → AreGroupsSound n first [] (groups_of boxes)

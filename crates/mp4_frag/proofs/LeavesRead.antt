@@ -10,7 +10,7 @@ use Rattle.mp4_tables.specs.words.Rows.{runs_at}
 use Rattle.mp4_tables.specs.declared.sample.SampleAt.{SampleAt}
 use Rattle.mp4_tables.specs.words.Indexes.{low_half}
 use Rattle.mp4_frag.specs.words.ColumnsRead.{row_room}
-use Rattle.mp4_frag.specs.format.Fragments.{RunRow, run_of, run_rows}
+use Rattle.mp4_frag.specs.format.Fragments.{RunRow, sample_run_of, run_rows}
 use Rattle.mp4_frag.proofs.BoxPlaces.{part_length}
 use Rattle.mp4_tables.specs.words.GroupBoxes.{IsGroup}
 use Rattle.mp4_tables.specs.declared.group_boxes.Group.{Group}
@@ -20,7 +20,7 @@ use Rattle.mp4_boxes.specs.format.BoxFaults.{Fails}
 use Rattle.mp4_boxes.specs.declared.fault.Kind.{Kind}
 use Rattle.mp4_boxes.specs.declared.fault.Kind.TheVariants as kinds
 use Rattle.mp4_frag.specs.declared.heads.Head.{Head}
-use Rattle.mp4_frag.specs.declared.runs.Run.{Run}
+use Rattle.mp4_frag.specs.declared.trun.Run.{Run}
 use Rattle.mp4_frag.specs.declared.state.TrackState.{TrackState}
 use Rattle.mp4_frag.specs.declared.trex.Trex.{Trex}
 use Rattle.mp4_frag.proofs.PartsRead.{runs_in_part, run_rows_in_part}
@@ -130,10 +130,10 @@ pub run_skipped : (s : Reached) (part : List ℕ) (kind : Kind) (first : Option 
 run_skipped s part kind first rows more f d e = rw (run_unread part kind f d, e) refl
 
 -- its rows
-pub rows_taken : (payload : List ℕ) (inside end : ℕ) (run : Run) (first : Option ℕ) → inside ≤ end → end ≤ length payload → IsRun (part_of payload inside end) run
-    → rows_here payload (record { row = inside + run.rows; left = run.count; bits = run.bits; first_flags = first }) ≡ rows_of (part_of payload inside end)
+pub rows_taken : (payload : List ℕ) (inside end : ℕ) (run : Run) (width : ℕ) (first : Option ℕ) → inside ≤ end → end ≤ length payload → IsRun (part_of payload inside end) run
+    → rows_here payload (record { row = inside + run.rows; left = run.count; bits = run.bits; width = width; first_flags = first }) ≡ rows_of (part_of payload inside end)
 unfolding rows_here rows_of
-rows_taken payload inside end run first h k r =
+rows_taken payload inside end run width first h k r =
     let count = r.count in
     let bits = r.bits in
     let rows = r.rows in
@@ -145,7 +145,7 @@ pub run_own : (s : Reached) (part : List ℕ) (run : Run) (at : ℤ) (rows : Lis
     → rows_coming (record s { at = at }) run.first_flags rows more ≡ run_coming s part more
 run_own s part run at rows more r ea er =
     let there = read trun part r.readable in
-    let from : at ≡ begin s.base s.at (run_of part).data_offset = ea ∙ ap (begin s.base s.at) r.data_offset in
+    let from : at ≡ begin s.base s.at (sample_run_of part).data_offset = ea ∙ ap (begin s.base s.at) r.data_offset in
     let first = r.first_flags in
     rw there (λ i. rows_coming (record s { at = from i }) (first i) (er i) more)
 

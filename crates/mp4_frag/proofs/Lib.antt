@@ -1,4 +1,5 @@
 pub mod TrafRefused
+pub mod FirstTraf
 pub mod RunReasons
 pub mod GroupReasons
 pub mod PartReasons
@@ -34,6 +35,8 @@ pub mod RowsLeft
 pub mod BoxPlaces
 pub mod SamplesOfRows
 pub mod RunsRead
+pub mod FirstRun
+pub mod FirstGroup
 pub mod RunRows
 pub mod StateLists
 pub mod ColumnValues

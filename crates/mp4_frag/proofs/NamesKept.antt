@@ -4,7 +4,7 @@ use Rattle.std.specs.List.{list_any, position_from}
 use Rattle.std.proofs.lemmas.List.{map-append}
 use Rattle.std.proofs.lemmas.List.Folds.{list_any-append}
 use Rattle.std.proofs.lemmas.Bool.Decides.{nat_tests}
-use Rattle.mp4_tables.specs.format.Groups.{GroupKey, Grouping, one_of_key, keeps, same_key, keys_with, keys_after, max_keys}
+use Rattle.mp4_tables.specs.format.Groups.{GroupKey, Grouping, one_of_key, few_keys, keeps, same_key, keys_with, keys_after, max_keys}
 use Rattle.mp4_tables.specs.words.Keys.{key_place}
 use Rattle.mp4_tables.proofs.KeyLists.{not_named_yet, named_before}
 use Rattle.mp4_tables.proofs.SampleLists.{same_both}
@@ -181,3 +181,11 @@ name_new first now before named g a e h inside =
     missing_by key f (Some m) p v k = absurd (none_some m (sym f ∙ place_before key g.key 0 m now p))
     missing_by key f None p true k = absurd (none_some (0 + length now) (sym f ∙ place_at_end key g.key 0 now p ∙ rw k refl))
     missing_by key f None p false k = no_same before g key k ∙ a.missing key p
+
+-- its key is new to the track, which has four
+pub name_full : (first now : List GroupKey) (before : List Grouping) (named : List Bool) (g : Grouping) → AreNamed first before now named → key_place g.key now ≡ None → max_keys ≤ length now → (keeps one_of_key 0 first before g ≡ true) × (keeps few_keys 0 first before g ≡ false)
+name_full first now before named g a e many =
+    let not_there : list_any (same_key g.key) (keys_after first before) ≡ false = ap (list_any (same_key g.key)) (sym a.keys_now) ∙ not_named_yet g.key now e in
+    let few = a.few in
+    let full : (length (keys_after first before) == max_keys) ≡ true = ap (λ (ks : List GroupKey). length ks == max_keys) (sym a.keys_now) ∙ (let all : length now ≡ 4 = omega (arith, many, few) in rw all refl) in
+    (ap not (a.missing g.key e), rw (not_there, full) refl)

@@ -17,8 +17,8 @@ use Rattle.mp4_frag.specs.words.RunsJudged.{children_of, runs_total}
 use Rattle.mp4_frag.specs.words.Walks.{head_of, trex_among}
 use Rattle.mp4_frag.specs.declared.check.PassedTraf.{PassedTraf}
 use Rattle.mp4_frag.specs.declared.heads.Head.{Head}
-use Rattle.mp4_frag.specs.declared.own_trafs.OwnTraf.{OwnTraf}
-use Rattle.mp4_frag.specs.declared.own_trafs.OwnTrafs.{OwnTrafs}
+use Rattle.mp4_frag.specs.declared.next_traf.OwnTraf.{OwnTraf}
+use Rattle.mp4_frag.specs.declared.next_traf.OwnTrafs.{OwnTrafs}
 use Rattle.mp4_frag.specs.declared.state.TrackState.{TrackState}
 use Rattle.mp4_frag.specs.declared.trex.Trex.{Trex}
 use Rattle.mp4_frag.proofs.Comings.{turned}

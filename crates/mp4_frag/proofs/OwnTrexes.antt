@@ -4,7 +4,7 @@ use Rattle.std.specs.List.{AllByRecursion}
 use Rattle.std.specs.Prelude.{ℤ, pos, ◌+ℤ◌, unwrap_or}
 use Rattle.std.proofs.lemmas.Bool.{eqb-true}
 use Rattle.mp4_tables.specs.format.PlainSamples.{PlacedSample}
-use Rattle.mp4_frag.specs.format.Fragments.{RunRow, Run, TrackFragment, FragmentTree, fragment_of}
+use Rattle.mp4_frag.specs.format.Fragments.{RunRow, SampleRun, TrackFragment, FragmentTree, fragment_of}
 use Rattle.mp4_frag.specs.format.FragmentSamples.{Part, parts_of, parts_after, inherited, flags_of, run_samples, run_start, runs_samples, runs_end, end_of_data, base_of, trex_for, no_trex}
 use Rattle.mp4_frag.specs.words.Judged.{AreTrexesOf, IsSoundMoof, IsPlacedWithin, IsGrouped, is_known_among, own_trexes, part_with, end_with}
 use Rattle.mp4_frag.specs.words.Walks.{trex_among}
@@ -30,7 +30,7 @@ run_as id trex traf first at (row ∷ rows) =
       groups = [];
     } ∷ samples) (run_as id trex traf None (at +ℤ pos (inherited row.size traf.size trex.size)) rows)
 
-runs_as : (id : ℕ) (trex : Trex) (traf : TrackFragment) (base before : ℤ) (runs : List Run) → runs_samples trex traf base before runs ≡ runs_samples (as_of id trex) traf base before runs
+runs_as : (id : ℕ) (trex : Trex) (traf : TrackFragment) (base before : ℤ) (runs : List SampleRun) → runs_samples trex traf base before runs ≡ runs_samples (as_of id trex) traf base before runs
 runs_as id trex traf base before [] = refl
 runs_as id trex traf base before (run ∷ runs) =
     let at = run_start base before run.data_offset in
@@ -38,7 +38,7 @@ runs_as id trex traf base before (run ∷ runs) =
     (λ i. one i ∷ runs_samples trex traf base (end_of_data at (one i)) runs)
     ∙ ap (λ (more : List (List PlacedSample)). run_samples (as_of id trex) traf run.first_sample_flags at run.rows ∷ more) (runs_as id trex traf base (end_of_data at (run_samples (as_of id trex) traf run.first_sample_flags at run.rows)) runs)
 
-ends_as : (id : ℕ) (trex : Trex) (traf : TrackFragment) (base before : ℤ) (runs : List Run) → runs_end trex traf base before runs ≡ runs_end (as_of id trex) traf base before runs
+ends_as : (id : ℕ) (trex : Trex) (traf : TrackFragment) (base before : ℤ) (runs : List SampleRun) → runs_end trex traf base before runs ≡ runs_end (as_of id trex) traf base before runs
 ends_as id trex traf base before [] = refl
 ends_as id trex traf base before (run ∷ runs) =
     let at = run_start base before run.data_offset in

@@ -20,7 +20,7 @@ use Rattle.mp4_tables.specs.format.PlainSamples.{PlacedSample}
 use Rattle.mp4_tables.proofs.GroupMaps.{IsMap, KeepAll, keys_named}
 use Rattle.mp4_tables.proofs.Placed.{IsPlaced, IsKey, IsIndex, grouped, offset_fits, keys_valid, groups_valid}
 use Rattle.mp4_frag.specs.declared.trex.Trex.{Trex}
-use Rattle.mp4_frag.specs.format.Fragments.{RunRow, Run, TrackFragment, FragmentTree, IsFragmentTree, AreTrafs, column, run_rows, run_of, track_fragment_of, trex_of, fragment_of}
+use Rattle.mp4_frag.specs.format.Fragments.{RunRow, SampleRun, TrackFragment, FragmentTree, IsFragmentTree, AreTrafs, column, run_rows, sample_run_of, track_fragment_of, trex_of, fragment_of}
 use Rattle.mp4_frag.specs.format.FragmentSamples.{Part, inherited, flags_of, run_samples, run_start, end_of_data, runs_samples, runs_end, base_of, part_samples, trex_for, no_trex, parts_after, parts_of, all_parts}
 
 -- ---- columns
@@ -82,7 +82,7 @@ only_in true q e h = e
 only_in false q e h = absurd (cc)
 
 -- so are those of a sound `trun`
-run_small : (payload : List ℕ) → AreBytes payload → IsSound trun payload → AllByRecursion IsRow (run_of payload).rows
+run_small : (payload : List ℕ) → AreBytes payload → IsSound trun payload → AllByRecursion IsRow (sample_run_of payload).rows
 run_small payload h s =
     let bits = flags payload in
     let place = 8 + width_of (present bits trun_columns) in
@@ -93,7 +93,7 @@ run_small payload h s =
 pub record IsTraf (t : TrackFragment) : Type 0 where
   pub duration : IfSome t.duration (λ n. n < 2 ^ 32)
   pub size : IfSome t.size (λ n. n < 2 ^ 32)
-  pub runs : AllByRecursion (λ (r : Run). AllByRecursion IsRow r.rows) t.runs
+  pub runs : AllByRecursion (λ (r : SampleRun). AllByRecursion IsRow r.rows) t.runs
   pub keys : AllByRecursion (λ (g : Grouping). IsKey g.key) t.groups
 
 -- a `traf` of bytes with sound leaves
@@ -108,7 +108,7 @@ traf_valid boxes h s =
     record {
       duration = value_below tfhd_columns (flags head) (drop 8 head) 2 rest;
       size = value_below tfhd_columns (flags head) (drop 8 head) 3 rest;
-      runs = each_value (λ (b : Box). AreBytes b.payload × IsSound trun b.payload) (λ (r : Run). AllByRecursion IsRow r.rows) (λ (b : Box). run_of b.payload) (λ b k. run_small b.payload k.0 k.1) runs
+      runs = each_value (λ (b : Box). AreBytes b.payload × IsSound trun b.payload) (λ (r : SampleRun). AllByRecursion IsRow r.rows) (λ (b : Box). sample_run_of b.payload) (λ b k. run_small b.payload k.0 k.1) runs
           (each_from (λ (b : Box). AreBytes b.payload) (λ (b : Box). IsSound trun b.payload) (λ (b : Box). AreBytes b.payload × IsSound trun b.payload) (λ b x y. (x, y)) runs run_payloads sound_runs);
       keys = keys_valid groups (payloads_of_bytes (codes "sbgp") boxes h) (sound_each (ruled rules.TrackFragment) (codes "sbgp") sbgp refl boxes s);
     }
@@ -170,7 +170,7 @@ run_placed defaults traf first at (r ∷ rs) x t h = (
 )
 
 -- and of all runs
-runs_placed : (defaults : Trex) (traf : TrackFragment) (base before : ℤ) (runs : List Run) → IsTrex defaults → IsTraf traf → AllByRecursion (λ (r : Run). AllByRecursion IsRow r.rows) runs
+runs_placed : (defaults : Trex) (traf : TrackFragment) (base before : ℤ) (runs : List SampleRun) → IsTrex defaults → IsTraf traf → AllByRecursion (λ (r : SampleRun). AllByRecursion IsRow r.rows) runs
     → AllByRecursion (AllByRecursion IsOfRun) (runs_samples defaults traf base before runs)
 runs_placed defaults traf base before [] x t h = tt
 runs_placed defaults traf base before (run ∷ runs) x t h =

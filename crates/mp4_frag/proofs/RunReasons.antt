@@ -7,7 +7,7 @@ use Rattle.mp4_boxes.specs.format.Layout.{trun, row_count, IsReadable}
 use Rattle.mp4_boxes.specs.declared.fault.Fault.{Fault}
 use Rattle.mp4_boxes.specs.declared.fault.Kind.{Kind}
 use Rattle.mp4_boxes.specs.declared.fault.Kind.TheVariants as kinds
-use Rattle.mp4_frag.specs.format.Fragments.{TrackFragment, run_of}
+use Rattle.mp4_frag.specs.format.Fragments.{TrackFragment, sample_run_of}
 use Rattle.mp4_frag.specs.format.FragmentSamples.{runs_samples}
 use Rattle.mp4_frag.specs.format.FragmentRules.{is_within}
 use Rattle.mp4_frag.specs.words.Passing.{within_from, IsRunFault}
@@ -57,7 +57,7 @@ abbrev pub RunReason : ℕ → Inherited → ℤ → ℤ → ℕ → List ℕ �
 RunReason file_length inherited base before room payload kind =
     Fails trun payload kind
     ⊎ (((kind ≡ kinds.TooManySamples) × IsReadable trun payload × (room < row_count trun payload))
-    ⊎ ((kind ≡ kinds.SampleOutsideFile) × IsReadable trun payload × (within_from file_length inherited.size (run_begins base before payload) (run_of payload).rows ≡ false)))
+    ⊎ ((kind ≡ kinds.SampleOutsideFile) × IsReadable trun payload × (within_from file_length inherited.size (run_begins base before payload) (sample_run_of payload).rows ≡ false)))
 
 pub run_reason : (L : ℕ) (inherited : Inherited) (base before : ℤ) (room : ℕ) (payload : List ℕ) (kind : Kind) → IsRunFault L inherited base before room payload kind → RunReason L inherited base before room payload kind
 run_reason L inherited base before room payload kinds.ShortHeader h = inl h
@@ -93,6 +93,6 @@ run_there traf trex base before (b ∷ front) run after =
     ap later (ends_are traf trex base before b) ∙ run_there traf trex base (run_ends (inheritance traf trex) base before b.payload) front run after
 
 -- where a row does not lie in the file, a sample does not
-pub run_outside : (L : ℕ) (traf : TrackFragment) (trex : Trex) (base before : ℤ) (b : Box) → within_from L (inheritance traf trex).size (run_begins base before b.payload) (run_of b.payload).rows ≡ false
+pub run_outside : (L : ℕ) (traf : TrackFragment) (trex : Trex) (base before : ℤ) (b : Box) → within_from L (inheritance traf trex).size (run_begins base before b.payload) (sample_run_of b.payload).rows ≡ false
     → is_within L (samples_at traf trex base before b) ≡ false
-run_outside L traf trex base before b e = within_is L trex traf (run_of b.payload).first_sample_flags (run_begins base before b.payload) (run_of b.payload).rows ∙ e
+run_outside L traf trex base before b e = within_is L trex traf (sample_run_of b.payload).first_sample_flags (run_begins base before b.payload) (sample_run_of b.payload).rows ∙ e

@@ -11,7 +11,7 @@ use Rattle.mp4_frag.specs.format.Fragments.{RunRow}
 use Rattle.mp4_frag.specs.words.Reading.{row_values}
 use Rattle.mp4_frag.specs.words.Passing.{rows_left, offsets_left, bytes_left, row_seen, IsNear, IsNearer, within_from, end_from, lasting, filling}
 use Rattle.mp4_frag.specs.declared.run_rows.Row.{Row}
-use Rattle.mp4_frag.specs.declared.runs.Run.{Run}
+use Rattle.mp4_frag.specs.declared.trun.Run.{Run}
 
 -- one less is left behind a row
 less_left : (n k : ℕ) → k < n → n - k ≡ suc (n - (k + 1))

@@ -1,5 +1,5 @@
 -- The runs of a `traf`, passed one by one.
-use Rattle.std.proofs.Common.{◌≡◌, ℕ, ◌+◌, ◌-◌, ◌≤◌, true, false, List, [], ◌∷◌, inl, inr, refl, sym, ap, subst, ◌∙◌, arith}
+use Rattle.std.proofs.Common.{◌≡◌, ℕ, ◌+◌, ◌-◌, ◌≤◌, true, false, List, [], ◌∷◌, Some, None, inl, inr, refl, sym, ap, subst, ◌∙◌, arith}
 use Rattle.std.specs.Prelude.{ℤ, codes, bytes_eq}
 use Rattle.mp4_boxes.specs.format.Box.{Box, Tiles, box_container, bytes_container}
 use Rattle.mp4_tables.specs.words.Leaves.{boxes_of}
@@ -9,11 +9,21 @@ use Rattle.mp4_boxes.specs.format.Layout.{trun, row_count}
 use Rattle.mp4_boxes.specs.format.BoxFaults.{fault_of}
 use Rattle.mp4_boxes.specs.declared.fault.Fault.{Fault}
 use Rattle.mp4_boxes.specs.declared.fault.Kind.{Kind}
-use Rattle.mp4_frag.specs.format.Fragments.{run_of}
+use Rattle.mp4_frag.specs.format.Fragments.{sample_run_of}
 use Rattle.mp4_frag.specs.words.Passing.{lasting, filling, IsRunPassed, IsRunFault}
 use Rattle.mp4_frag.specs.words.RunsJudged.{children_of, run_ends, IsRunSound, AreRunsSound, all_end, runs_total, runs_lasting, runs_filling, RunsFail}
 use Rattle.mp4_frag.specs.declared.heads.Inherited.{Inherited}
+use Rattle.std.specs.Prelude.{option_map}
+use Rattle.mp4_boxes.specs.format.FirstFault.{first_failed, naming}
+use Rattle.mp4_tables.proofs.FirstGroups.{named_first}
+use Rattle.mp4_frag.specs.declared.sample_runs.Judged.{Judged}
+use Rattle.mp4_frag.specs.words.FragmentTests.{one_run_tests, runs_tests}
+use Rattle.mp4_frag.proofs.FirstRun.{in_front, behind_all}
 use Rattle.mp4_frag.proofs.Comings.{turned}
+
+-- what is known of the track of a `traf`
+abbrev pub judged_by : ℕ → Inherited → ℤ → Judged
+judged_by file_length inherited base = record { file_len = file_length; base = base; inherited = inherited }
 
 abbrev runs_of : List Box → List Box
 runs_of boxes = of_kind (codes "trun") boxes
@@ -26,6 +36,7 @@ pub record RunsSeen (file_length : ℕ) (inherited : Inherited) (base : ℤ) (al
   pub lasting : runs_lasting inherited (runs_of all) ≡ lasts + runs_lasting inherited (runs_of left)
   pub filling : runs_filling inherited (runs_of all) ≡ fills + runs_filling inherited (runs_of left)
   pub fails : (f : Fault) → RunsFail file_length inherited base at room (runs_of left) f → RunsFail file_length inherited base base whole (runs_of all) f
+  pub first : first_failed (runs_tests (judged_by file_length inherited base) base whole (runs_of all)) ≡ first_failed (runs_tests (judged_by file_length inherited base) at room (runs_of left))
 
 other_kept : (b : Box) (boxes : List Box) → bytes_eq b.kind (codes "trun") ≡ false → runs_of (b ∷ boxes) ≡ runs_of boxes
 other_kept b boxes e = rw (turned (codes "trun") b.kind ∙ e) refl
@@ -45,6 +56,7 @@ seen_other L inherited base all left later b whole room at count lasts fills s e
       lasting = s.lasting ∙ ap (λ runs. lasts + runs_lasting inherited runs) same;
       filling = s.filling ∙ ap (λ runs. fills + runs_filling inherited runs) same;
       fails = λ f h. s.fails f (subst (λ runs. RunsFail L inherited base at room runs f) (sym same) h);
+      first = s.first ∙ ap (λ (runs : List Box). first_failed (runs_tests (judged_by L inherited base) at room runs)) same;
     }
 
 -- a run that fails
@@ -57,11 +69,27 @@ run_fails L inherited base all left later b whole room at count lasts fills f ki
 passed_total : (whole n more rest : ℕ) → whole ≡ n + (more + rest) → whole ≡ (n + more) + rest
 passed_total whole n more rest e = omega arith
 
+-- a run that is named
+pub run_first : (L : ℕ) (inherited : Inherited) (base : ℤ) (all left later : List Box) (b : Box) (whole room : ℕ) (at : ℤ) (count lasts fills : ℕ) (kind : Kind) → RunsSeen L inherited base all left whole room at count lasts fills → left ≡ b ∷ later → bytes_eq b.kind (codes "trun") ≡ true
+    → first_failed (one_run_tests (judged_by L inherited base) at room b.payload) ≡ Some kind → first_failed (runs_tests (judged_by L inherited base) base whole (runs_of all)) ≡ Some (fault_of kind b)
+run_first L inherited base all left later b whole room at count lasts fills kind s e k named =
+    let same : runs_of left ≡ b ∷ runs_of later = ap runs_of e ∙ run_kept b later k in
+    s.first ∙ ap (λ (runs : List Box). first_failed (runs_tests (judged_by L inherited base) at room runs)) same
+    ∙ in_front (naming b (one_run_tests (judged_by L inherited base) at room b.payload)) (runs_tests (judged_by L inherited base) (run_ends inherited base at b.payload) (room - row_count trun b.payload) (runs_of later)) (fault_of kind b)
+    (named_first b (one_run_tests (judged_by L inherited base) at room b.payload) ∙ ap (option_map (λ (k : Kind). fault_of k b)) named)
+
+-- none is
+pub runs_first : (L : ℕ) (inherited : Inherited) (base : ℤ) (all left boxes : List Box) (whole room : ℕ) (at : ℤ) (count lasts fills : ℕ) → RunsSeen L inherited base all left whole room at count lasts fills → left ≡ [] → all ≡ boxes
+    → first_failed (runs_tests (judged_by L inherited base) base whole (runs_of boxes)) ≡ None
+runs_first L inherited base all left boxes whole room at count lasts fills s e f =
+    ap (λ (bs : List Box). first_failed (runs_tests (judged_by L inherited base) base whole (runs_of bs))) (sym f) ∙ s.first ∙ ap (λ (bs : List Box). first_failed (runs_tests (judged_by L inherited base) at room (runs_of bs))) e
+
 -- a run that passes
 pub seen_run : (L : ℕ) (inherited : Inherited) (base : ℤ) (all left later : List Box) (b : Box) (whole room less : ℕ) (at to : ℤ) (count more lasts longer fills larger : ℕ) → RunsSeen L inherited base all left whole room at count lasts fills → left ≡ b ∷ later → bytes_eq b.kind (codes "trun") ≡ true
     → IsRunPassed L inherited base at b.payload to (more - count) (longer - lasts) (larger - fills) → count ≤ more → lasts ≤ longer → fills ≤ larger → more + less ≡ count + room
+    → first_failed (one_run_tests (judged_by L inherited base) at room b.payload) ≡ None
     → RunsSeen L inherited base all later whole less to more longer larger
-seen_run L inherited base all left later b whole room less at to count more lasts longer fills larger s e k p few short small kept =
+seen_run L inherited base all left later b whole room less at to count more lasts longer fills larger s e k p few short small kept fine =
     let same : runs_of left ≡ b ∷ runs_of later = ap runs_of e ∙ run_kept b later k in
     let one : IsRunSound L inherited base at b.payload = record { sound = p.sound; within = p.within } in
     let ends : to ≡ run_ends inherited base at b.payload = p.end in
@@ -80,13 +108,17 @@ seen_run L inherited base all left later b whole room less at to count more last
       lasting = passed_total (runs_lasting inherited (runs_of all)) lasts (lasting_of b) (runs_lasting inherited (runs_of later)) (s.lasting ∙ ap (λ runs. lasts + runs_lasting inherited runs) same) ∙ ap (λ m. m + runs_lasting inherited (runs_of later)) (sym d);
       filling = passed_total (runs_filling inherited (runs_of all)) fills (filling_of b) (runs_filling inherited (runs_of later)) (s.filling ∙ ap (λ runs. fills + runs_filling inherited runs) same) ∙ ap (λ m. m + runs_filling inherited (runs_of later)) (sym z);
       fails = λ f h. s.fails f (subst (λ runs. RunsFail L inherited base at room runs f) (sym same) (inr (one, fits, behind f ends room_left h)));
+      first = s.first ∙ ap (λ (runs : List Box). first_failed (runs_tests (judged_by L inherited base) at room runs)) same
+          ∙ behind_all (naming b (one_run_tests (judged_by L inherited base) at room b.payload)) (runs_tests (judged_by L inherited base) (run_ends inherited base at b.payload) (room - row_count trun b.payload) (runs_of later)) _
+          (named_first b (one_run_tests (judged_by L inherited base) at room b.payload) ∙ ap (option_map (λ (k : Kind). fault_of k b)) fine) refl
+          ∙ (λ i. first_failed (runs_tests (judged_by L inherited base) (sym ends i) (sym room_left i) (runs_of later)));
     }
   where
     lasting_of : Box → ℕ
-    lasting_of c = lasting inherited.duration (run_of c.payload).rows
+    lasting_of c = lasting inherited.duration (sample_run_of c.payload).rows
 
     filling_of : Box → ℕ
-    filling_of c = filling inherited.size (run_of c.payload).rows
+    filling_of c = filling inherited.size (sample_run_of c.payload).rows
 
     behind : (f : Fault) → to ≡ run_ends inherited base at b.payload → less ≡ room - row_count trun b.payload → RunsFail L inherited base to less (runs_of later) f → RunsFail L inherited base (run_ends inherited base at b.payload) (room - row_count trun b.payload) (runs_of later) f
     behind f ends room_left h = subst (λ m. RunsFail L inherited base (run_ends inherited base at b.payload) m (runs_of later) f) room_left (subst (λ (place : ℤ). RunsFail L inherited base place less (runs_of later) f) ends h)

@@ -3,12 +3,12 @@ use Rattle.std.proofs.Common.{◌≡◌, ℕ, zero, suc, ◌+◌, ◌*◌, ◌-�
 use Rattle.std.specs.Prelude.{drop, ℤ}
 use Rattle.mp4_boxes.specs.format.Layout.{trun, version, flags, has_large_offset, too_large, run_offsets, row_count}
 use Rattle.mp4_frag.specs.words.ColumnsRead.{row_room, rows_from}
-use Rattle.mp4_frag.specs.format.Fragments.{run_of, run_rows}
+use Rattle.mp4_frag.specs.format.Fragments.{sample_run_of, run_rows}
 use Rattle.mp4_frag.specs.format.FragmentSamples.{run_start}
 use Rattle.mp4_frag.specs.words.Reading.{IsRun}
 use Rattle.mp4_frag.specs.words.Passing.{rows_left, offsets_left, run_version, within_from, end_from, lasting, filling, IsRunPassed}
 use Rattle.mp4_frag.specs.declared.heads.Inherited.{Inherited}
-use Rattle.mp4_frag.specs.declared.runs.Run.{Run}
+use Rattle.mp4_frag.specs.declared.trun.Run.{Run}
 
 -- a version up to 1 is told by whether it is 1
 version_of_two : (v : ℕ) (b : Bool) → b ≡ nat_eq v 1 → IsTrue (nat_le v 1) → (if b then 1 else 0) ≡ v
@@ -40,7 +40,7 @@ same_offsets count n bits b place p width payload ec eb ep =
     λ i. run_offsets (left i) (eb i) (drop (first i) payload)
 
 -- all rows are left before the first
-pub all_rows : (payload : List ℕ) (run : Run) → IsRun payload run → rows_left payload run 0 ≡ (run_of payload).rows
+pub all_rows : (payload : List ℕ) (run : Run) → IsRun payload run → rows_left payload run 0 ≡ (sample_run_of payload).rows
 unfolding rows_left
 all_rows payload run r =
     same_rows run.count (row_count trun payload) (run_version run) (version payload) run.bits (flags payload) run.rows (rows_from (flags payload)) (row_room run.bits) payload
@@ -65,8 +65,8 @@ large_is payload run large r e =
     ∙ ap (λ b. (version payload == 0) && b) (e ∙ ap too_large (all_offsets payload run r))
 
 -- the samples that were judged are those of the definition
-within_same : (payload : List ℕ) (run : Run) (length size : ℕ) (base before at : ℤ) (b : Bool) → IsRun payload run → at ≡ run_start base before run.data_offset
-    → b ≡ within_from length size at (rows_left payload run 0) → b ≡ within_from length size (run_start base before (run_of payload).data_offset) (run_of payload).rows
+pub within_same : (payload : List ℕ) (run : Run) (length size : ℕ) (base before at : ℤ) (b : Bool) → IsRun payload run → at ≡ run_start base before run.data_offset
+    → b ≡ within_from length size at (rows_left payload run 0) → b ≡ within_from length size (run_start base before (sample_run_of payload).data_offset) (sample_run_of payload).rows
 within_same payload run length size base before at b r ea eb =
     let from = ea ∙ ap (run_start base before) r.data_offset in
     let rows = all_rows payload run r in
@@ -74,7 +74,7 @@ within_same payload run length size base before at b r ea eb =
 
 -- one of them does not lie in the file
 pub run_outside : (payload : List ℕ) (run : Run) (length size : ℕ) (base before at : ℤ) (b : Bool) → IsRun payload run → at ≡ run_start base before run.data_offset
-    → b ≡ within_from length size at (rows_left payload run 0) → b ≡ false → within_from length size (run_start base before (run_of payload).data_offset) (run_of payload).rows ≡ false
+    → b ≡ within_from length size at (rows_left payload run 0) → b ≡ false → within_from length size (run_start base before (sample_run_of payload).data_offset) (sample_run_of payload).rows ≡ false
 run_outside payload run length size base before at b r ea eb e = sym (within_same payload run length size base before at b r ea eb) ∙ e
 
 -- all of it is as it should be

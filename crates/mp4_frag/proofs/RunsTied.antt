@@ -11,7 +11,7 @@ use Rattle.mp4_tables.specs.format.TableRules.{lies_within}
 use Rattle.mp4_tables.specs.words.Timed.{timed, sample_at}
 use Rattle.mp4_tables.specs.declared.sample.SampleAt.{SampleAt}
 use Rattle.mp4_frag.specs.words.ColumnsRead.{rows_from}
-use Rattle.mp4_frag.specs.format.Fragments.{RunRow, Run, TrackFragment, run_of, run_rows}
+use Rattle.mp4_frag.specs.format.Fragments.{RunRow, SampleRun, TrackFragment, sample_run_of, run_rows}
 use Rattle.mp4_frag.specs.format.FragmentSamples.{run_samples, run_start, runs_samples, end_of_data, duration_of, bytes_of}
 use Rattle.mp4_frag.specs.format.FragmentRules.{is_within}
 use Rattle.mp4_frag.specs.words.Passing.{lasting, within_from, end_from}
@@ -29,7 +29,7 @@ rows_of_two (suc zero) n bits bytes le e = refl
 rows_of_two (suc (suc v)) n bits bytes le e = absurd (search rules)
 
 -- the rows of a sound `trun`
-pub same_rows : (payload : List ℕ) → IsSound trun payload → rows_of payload ≡ (run_of payload).rows
+pub same_rows : (payload : List ℕ) → IsSound trun payload → rows_of payload ≡ (sample_run_of payload).rows
 unfolding rows_of
 same_rows payload s = rows_of_two (version payload) (row_count trun payload) (flags payload) (drop (rows_from (flags payload)) payload) s.readable.version s.offsets
 
@@ -56,11 +56,11 @@ samples_count trex traf first at (row ∷ rows) = ap suc (samples_count trex tra
 
 -- where the run of a `trun` begins
 abbrev pub start_of_run : ℤ → ℤ → List ℕ → ℤ
-start_of_run base before payload = run_start base before (run_of payload).data_offset
+start_of_run base before payload = run_start base before (sample_run_of payload).data_offset
 
 -- its samples
 abbrev pub samples_of_run : TrackFragment → Trex → ℤ → ℤ → List ℕ → List PlacedSample
-samples_of_run traf trex base before payload = run_samples trex traf (run_of payload).first_sample_flags (start_of_run base before payload) (run_of payload).rows
+samples_of_run traf trex base before payload = run_samples trex traf (sample_run_of payload).first_sample_flags (start_of_run base before payload) (sample_run_of payload).rows
 
 -- the samples of rows from such a place on, and what comes behind them, from another
 rows_held : (keys : List GroupKey) (L : ℕ) (traf : TrackFragment) (trex : Trex) (dts : ℕ) (kept at base : ℤ) (lists : List (List ℕ)) (first : Option ℕ) (rows : List RunRow) (maps : List Groups) (more : Reached → List SampleAt)
@@ -86,7 +86,7 @@ run_tied : (keys : List GroupKey) (L : ℕ) (traf : TrackFragment) (trex : Trex)
     ≡ timed keys dts (with_groups maps (samples_of_run traf trex base at payload))
     ++ more (stand traf trex (dts + duration_of (samples_of_run traf trex base at payload)) to base (map (drop (length (samples_of_run traf trex base at payload))) lists)))
 run_tied keys L traf trex dts kept at base lists payload maps more short held_at sound shown within fits =
-    let run = run_of payload in
+    let run = sample_run_of payload in
     let start = start_of_run base at payload in
     let there = read trun payload sound.readable in
     let rows = same_rows payload sound in
@@ -154,8 +154,8 @@ parts_joined keys dts maps xs ys =
 
 -- ---- the runs among boxes
 
-abbrev pub run_in : Box → Run
-run_in b = run_of b.payload
+abbrev pub run_in : Box → SampleRun
+run_in b = sample_run_of b.payload
 
 -- their samples
 abbrev pub samples_of_runs : TrackFragment → Trex → ℤ → ℤ → List Box → List PlacedSample

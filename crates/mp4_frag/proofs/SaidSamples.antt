@@ -7,7 +7,7 @@ use Rattle.mp4_boxes.specs.format.Box.{Box}
 use Rattle.mp4_boxes.specs.format.Children.{of_kind}
 use Rattle.mp4_boxes.specs.declared.rule.Rule.TheVariants as rules
 use Rattle.mp4_tables.specs.format.Groups.{maps_of}
-use Rattle.mp4_frag.specs.format.Fragments.{RunRow, Run, TrackFragment, Fragment, FragmentTree, AreTrafs, IsFragmentTree, fragment_of, track_fragment_of}
+use Rattle.mp4_frag.specs.format.Fragments.{RunRow, SampleRun, TrackFragment, Fragment, FragmentTree, AreTrafs, IsFragmentTree, fragment_of, track_fragment_of}
 use Rattle.mp4_frag.specs.format.FragmentSamples.{Part, part_samples, parts_after, parts_of, run_samples, run_start, runs_samples, runs_end, end_of_data, base_of, trex_for, no_trex}
 use Rattle.mp4_frag.specs.words.RunsJudged.{children_of}
 use Rattle.mp4_frag.specs.format.FragmentRows.{fragment_length, moof_says}
@@ -19,7 +19,7 @@ rows_said : (trex : Trex) (traf : TrackFragment) (first : Option ℕ) (at : ℤ)
 rows_said trex traf first at [] = refl
 rows_said trex traf first at (row ∷ rows) = ap suc (rows_said trex traf None _ rows)
 
-runs_said : (trex : Trex) (traf : TrackFragment) (base before : ℤ) (runs : List Run) → length (flat_map (λ samples. samples) (runs_samples trex traf base before runs)) ≡ sum_of (λ (run : Run). length run.rows) runs
+runs_said : (trex : Trex) (traf : TrackFragment) (base before : ℤ) (runs : List SampleRun) → length (flat_map (λ samples. samples) (runs_samples trex traf base before runs)) ≡ sum_of (λ (run : SampleRun). length run.rows) runs
 runs_said trex traf base before [] = refl
 runs_said trex traf base before (run ∷ runs) =
     let samples = run_samples trex traf run.first_sample_flags (run_start base before run.data_offset) run.rows in
@@ -29,7 +29,7 @@ runs_said trex traf base before (run ∷ runs) =
     omega (arith, length-append samples more, one, others)
 
 trafs_said : (trexes : List Trex) (moof : ℕ) (before : ℤ) (trafs : List TrackFragment)
-    → sum_of (λ (part : Part). length (part_samples part)) (parts_after trexes moof before trafs) ≡ sum_of (λ (traf : TrackFragment). sum_of (λ (run : Run). length run.rows) traf.runs) trafs
+    → sum_of (λ (part : Part). length (part_samples part)) (parts_after trexes moof before trafs) ≡ sum_of (λ (traf : TrackFragment). sum_of (λ (run : SampleRun). length run.rows) traf.runs) trafs
 trafs_said trexes moof before [] = refl
 trafs_said trexes moof before (traf ∷ trafs) =
     let trex = unwrap_or (trex_for trexes traf.id) no_trex in

@@ -9,7 +9,7 @@ use Rattle.mp4_tables.specs.words.Keys.{keys_seen}
 use Rattle.mp4_tables.specs.format.PlainSamples.{PlacedSample, with_groups}
 use Rattle.mp4_tables.specs.format.TableRules.{is_index}
 use Rattle.mp4_tables.specs.declared.keys.Keys.{Keys}
-use Rattle.mp4_frag.specs.format.Fragments.{RunRow, Run, TrackFragment, track_fragment_of, decode_time_of}
+use Rattle.mp4_frag.specs.format.Fragments.{RunRow, SampleRun, TrackFragment, track_fragment_of, decode_time_of}
 use Rattle.mp4_frag.specs.format.FragmentSamples.{Part, run_samples, runs_samples, part_samples, has_samples, duration_of, bytes_of, base_of, run_start, end_of_data}
 use Rattle.mp4_frag.specs.words.GroupsJudged.{AreGroupsSound}
 use Rattle.mp4_frag.specs.words.Judged.{part_with, TrackSeen, track_seen, track_behind, IsMovedOn}
@@ -43,7 +43,7 @@ join_tested test (x ∷ xs) ys h k = step (test x.description) h (λ g. join_tes
     step true h more = more h
     step false h more = absurd cc
 
-runs_tested : (test : ℕ → Bool) (trex : Trex) (traf : TrackFragment) (base before : ℤ) (runs : List Run) → test (unwrap_or traf.description trex.description) ≡ true → IsTested test (flat_map (λ samples. samples) (runs_samples trex traf base before runs))
+runs_tested : (test : ℕ → Bool) (trex : Trex) (traf : TrackFragment) (base before : ℤ) (runs : List SampleRun) → test (unwrap_or traf.description trex.description) ≡ true → IsTested test (flat_map (λ samples. samples) (runs_samples trex traf base before runs))
 runs_tested test trex traf base before [] e = refl
 runs_tested test trex traf base before (run ∷ runs) e =
     let start = run_start base before run.data_offset in

@@ -11,7 +11,7 @@ use Rattle.mp4_boxes.specs.format.Places.{ruled, IsSoundAs, AreSound}
 use Rattle.mp4_boxes.specs.declared.rule.Rule.TheVariants as rules
 use Rattle.mp4_tables.specs.format.Groups.{GroupKey, Grouping, GroupRule, grouping_of, groupings_of, group_test, keeps}
 use Rattle.mp4_tables.specs.format.PlainSamples.{PlacedSample}
-use Rattle.mp4_frag.specs.format.Fragments.{RunRow, TrackFragment, run_rows, run_of}
+use Rattle.mp4_frag.specs.format.Fragments.{RunRow, TrackFragment, run_rows, sample_run_of}
 use Rattle.mp4_frag.specs.format.FragmentSamples.{run_samples, runs_samples, runs_end, end_of_data, duration_of, bytes_of}
 use Rattle.mp4_frag.specs.format.FragmentRules.{is_within}
 use Rattle.mp4_frag.specs.words.GroupsJudged.{AreGroupsSound}
@@ -35,16 +35,16 @@ use Rattle.mp4_frag.proofs.SamplesOfRows.{within_is, lasting_is, end_is, filling
 -- ---- runs
 
 abbrev pub samples_at : TrackFragment → Trex → ℤ → ℤ → Box → List PlacedSample
-samples_at traf trex base before b = run_samples trex traf (run_of b.payload).first_sample_flags (run_begins base before b.payload) (run_of b.payload).rows
+samples_at traf trex base before b = run_samples trex traf (sample_run_of b.payload).first_sample_flags (run_begins base before b.payload) (sample_run_of b.payload).rows
 
 pub ends_are : (traf : TrackFragment) (trex : Trex) (base before : ℤ) (b : Box) → end_of_data (run_begins base before b.payload) (samples_at traf trex base before b) ≡ run_ends (inheritance traf trex) base before b.payload
-ends_are traf trex base before b = end_is trex traf (run_of b.payload).first_sample_flags (run_begins base before b.payload) (run_of b.payload).rows
+ends_are traf trex base before b = end_is trex traf (sample_run_of b.payload).first_sample_flags (run_begins base before b.payload) (sample_run_of b.payload).rows
 
 -- their samples lie in the file
 pub runs_placed : (L : ℕ) (traf : TrackFragment) (trex : Trex) (base before : ℤ) (runs : List Box) → AreRunsSound L (inheritance traf trex) base before runs → AllByRecursion (λ samples. IsTrue (is_within L samples)) (runs_samples trex traf base before (map run_in runs))
 runs_placed L traf trex base before [] h = tt
 runs_placed L traf trex base before (b ∷ runs) h =
-    let run = run_of b.payload in (
+    let run = sample_run_of b.payload in (
       within_is L trex traf run.first_sample_flags (run_begins base before b.payload) run.rows ∙ h.0.within,
       runs_placed L traf trex base (end_of_data (run_begins base before b.payload) (samples_at traf trex base before b)) runs
           (subst (λ (place : ℤ). AreRunsSound L (inheritance traf trex) base place runs) (sym (ends_are traf trex base before b)) h.1),
@@ -70,7 +70,7 @@ runs_count traf trex base before [] = refl
 runs_count traf trex base before (b ∷ runs) =
     let samples = samples_at traf trex base before b in
     let more = flat_map (λ samples. samples) (runs_samples trex traf base (end_of_data (run_begins base before b.payload) samples) (map run_in runs)) in
-    let one : length samples ≡ row_count trun b.payload = samples_count trex traf (run_of b.payload).first_sample_flags (run_begins base before b.payload) (run_of b.payload).rows ∙ rows_count (row_count trun b.payload) _ _ _ in
+    let one : length samples ≡ row_count trun b.payload = samples_count trex traf (sample_run_of b.payload).first_sample_flags (run_begins base before b.payload) (sample_run_of b.payload).rows ∙ rows_count (row_count trun b.payload) _ _ _ in
     let others = runs_count traf trex base (end_of_data (run_begins base before b.payload) samples) runs in
     let both = length-append samples more in
     omega arith
@@ -81,7 +81,7 @@ runs_last traf trex base before [] = refl
 runs_last traf trex base before (b ∷ runs) =
     let samples = samples_at traf trex base before b in
     let more = flat_map (λ samples. samples) (runs_samples trex traf base (end_of_data (run_begins base before b.payload) samples) (map run_in runs)) in
-    let one = lasting_is trex traf (run_of b.payload).first_sample_flags (run_begins base before b.payload) (run_of b.payload).rows in
+    let one = lasting_is trex traf (sample_run_of b.payload).first_sample_flags (run_begins base before b.payload) (sample_run_of b.payload).rows in
     let others = runs_last traf trex base (end_of_data (run_begins base before b.payload) samples) runs in
     let both = duration-append samples more in
     omega arith
@@ -92,7 +92,7 @@ runs_fill traf trex base before [] = refl
 runs_fill traf trex base before (b ∷ runs) =
     let samples = samples_at traf trex base before b in
     let more = flat_map (λ samples. samples) (runs_samples trex traf base (end_of_data (run_begins base before b.payload) samples) (map run_in runs)) in
-    let one = filling_is trex traf (run_of b.payload).first_sample_flags (run_begins base before b.payload) (run_of b.payload).rows in
+    let one = filling_is trex traf (sample_run_of b.payload).first_sample_flags (run_begins base before b.payload) (sample_run_of b.payload).rows in
     let others = runs_fill traf trex base (end_of_data (run_begins base before b.payload) samples) runs in
     let both = bytes-append samples more in
     omega arith

@@ -27,7 +27,7 @@ use Rattle.mp4_frag.proofs.LeavesRead.{head_is, got}
 use Rattle.mp4_frag.proofs.HeadsFound.{kept_count}
 use Rattle.mp4_frag.proofs.TrafPassed.{payload_is}
 
-same_head : (b h : Box) (head : Head) → IsOnly (codes "tfhd") b h → IsHead h.payload head → as_traf head ≡ head_of (payload_of (codes "tfhd") (children_of b))
+pub same_head : (b h : Box) (head : Head) → IsOnly (codes "tfhd") b h → IsHead h.payload head → as_traf head ≡ head_of (payload_of (codes "tfhd") (children_of b))
 same_head b h head one is = head_is h.payload head is ∙ ap head_of (sym (payload_is (codes "tfhd") h (children_of b) one))
 
 -- no track has the ID

@@ -9,7 +9,7 @@ use Rattle.mp4_boxes.specs.format.Layout.{trun, sbgp, row_count, needed, knows_v
 use Rattle.mp4_boxes.specs.declared.fault.Kind.{Kind}
 use Rattle.mp4_boxes.proofs.Tiling.{header_is, sizes_fit}
 use Rattle.mp4_tables.specs.format.Groups.{grouping_of, groupings_of}
-use Rattle.mp4_frag.specs.format.Fragments.{Run, TrackFragment, run_of, run_rows, track_fragment_of}
+use Rattle.mp4_frag.specs.format.Fragments.{SampleRun, TrackFragment, sample_run_of, run_rows, track_fragment_of}
 use Rattle.mp4_frag.specs.words.Judged.{AreMovedOn, end_with}
 use Rattle.mp4_frag.specs.words.OwnTrafs.{traf_steps}
 use Rattle.mp4_frag.specs.words.PlacesIn.{run_work, runs_work, group_work, groups_work, traf_work, IsPlaceIn}
@@ -123,17 +123,17 @@ rows_count zero v bits bytes = refl
 rows_count (suc n) v bits bytes = ap suc (rows_count n v bits (drop (width_of (present bits sample_columns)) bytes))
 
 -- runs, and their samples
-abbrev runs_say : List Run → ℕ
-runs_say runs = length runs + sum_of (λ (run : Run). length run.rows) runs
+abbrev runs_say : List SampleRun → ℕ
+runs_say runs = length runs + sum_of (λ (run : SampleRun). length run.rows) runs
 
-said_run : (v : Bool) (b : Box) (boxes kept : List Box) → runs_work boxes ≤ runs_say (map (λ (c : Box). run_of c.payload) kept) → cond v (run_work b.payload) 0 + runs_work boxes ≤ runs_say (map (λ (c : Box). run_of c.payload) (cond v (b ∷ kept) kept))
+said_run : (v : Bool) (b : Box) (boxes kept : List Box) → runs_work boxes ≤ runs_say (map (λ (c : Box). sample_run_of c.payload) kept) → cond v (run_work b.payload) 0 + runs_work boxes ≤ runs_say (map (λ (c : Box). sample_run_of c.payload) (cond v (b ∷ kept) kept))
 said_run true b boxes kept h =
     let few = no_more (can_read trun b.payload) (row_count trun b.payload) in
-    let count : length (run_of b.payload).rows ≡ row_count trun b.payload = rows_count (row_count trun b.payload) _ _ _ in
+    let count : length (sample_run_of b.payload).rows ≡ row_count trun b.payload = rows_count (row_count trun b.payload) _ _ _ in
     omega (arith, h, few, count)
 said_run false b boxes kept h = omega (arith, h)
 
-said_runs : (boxes : List Box) → runs_work boxes ≤ runs_say (map (λ (c : Box). run_of c.payload) (of_kind (codes "trun") boxes))
+said_runs : (boxes : List Box) → runs_work boxes ≤ runs_say (map (λ (c : Box). sample_run_of c.payload) (of_kind (codes "trun") boxes))
 said_runs [] = omega arith
 said_runs (b ∷ boxes) = said_run (bytes_eq (codes "trun") b.kind) b boxes (of_kind (codes "trun") boxes) (said_runs boxes)
 
@@ -157,14 +157,14 @@ walk_said traf = omega (arith, work_is traf, said_runs (children_of traf), said_
 pub place_said : (traf : Box) (place : FragPlace) → IsPlaceIn traf.payload place → place.passed ≤ traf_steps traf
 place_said traf place p = let work = p.lies.work in omega (arith, work, walk_said traf)
 
-length_said : (trafs : List Box) → sum_of (λ (traf : TrackFragment). sum_of (λ (run : Run). length run.rows) traf.runs) (map track_fragment_of (map children_of trafs)) ≡ trafs_samples trafs
+length_said : (trafs : List Box) → sum_of (λ (traf : TrackFragment). sum_of (λ (run : SampleRun). length run.rows) traf.runs) (map track_fragment_of (map children_of trafs)) ≡ trafs_samples trafs
 length_said [] = refl
 length_said (b ∷ trafs) = let one = runs_length (runs_in b) in let others = length_said trafs in omega (arith, one, others)
   where
-    runs_length : (runs : List Box) → sum_of (λ (run : Run). length run.rows) (map (λ (c : Box). run_of c.payload) runs) ≡ runs_total runs
+    runs_length : (runs : List Box) → sum_of (λ (run : SampleRun). length run.rows) (map (λ (c : Box). sample_run_of c.payload) runs) ≡ runs_total runs
     runs_length [] = refl
     runs_length (c ∷ runs) =
-        let count : length (run_of c.payload).rows ≡ row_count trun c.payload = rows_count (row_count trun c.payload) _ _ _ in
+        let count : length (sample_run_of c.payload).rows ≡ row_count trun c.payload = rows_count (row_count trun c.payload) _ _ _ in
         let others = runs_length runs in
         omega (arith, count, others)
 

@@ -6,7 +6,7 @@ use Rattle.mp4_boxes.specs.format.Layout.{trun, row_count}
 use Rattle.mp4_frag.specs.words.PlacesIn.{run_work, runs_work, groups_work, traf_work, work_behind}
 use Rattle.mp4_frag.specs.words.Reading.{IsRun}
 use Rattle.mp4_frag.specs.words.Walks.{boxes_from, part_of}
-use Rattle.mp4_frag.specs.declared.runs.Run.{Run}
+use Rattle.mp4_frag.specs.declared.trun.Run.{Run}
 use Rattle.mp4_frag.proofs.BoxPlaces.{box_end}
 use Rattle.mp4_frag.proofs.Comings.{turned}
 use Rattle.mp4_frag.proofs.LeavesRead.{read}

@@ -8,7 +8,9 @@ pub mod Walks
 pub mod Times
 pub mod Judged
 pub mod TrafFaults
+pub mod TrafTests
 pub mod RunsJudged
+pub mod FragmentTests
 pub mod GroupsJudged
 pub mod Finding
 pub mod Durations

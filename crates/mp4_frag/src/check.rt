@@ -7,6 +7,9 @@ ghost use Rattle.mp4_boxes.specs.words.View.{box_seen};
 ghost use Rattle.mp4_tables.specs.format.Groups.{groupings_of, keys_after};
 ghost use Rattle.mp4_tables.specs.words.Keys.{keys_seen};
 ghost use Rattle.mp4_frag.specs.words.CheckWork.{TrafWork, TrafLooks, MoofWork, MoofLooks, IfMemory, StopsWithin};
+ghost use Rattle.mp4_boxes.specs.format.FirstFault.{FirstNamed, leaf_tests, naming};
+ghost use Rattle.mp4_frag.specs.words.TrafTests.{ListsBoxes, NamesOne, NamesFirstOf, MoofFirst, TrafsFirst, time_tests, traf_fault};
+ghost use Rattle.mp4_frag.specs.words.FragmentTests.{runs_tests, traf_groups_tests};
 ghost use Rattle.mp4_frag.specs.words.Finding.{ArePlacesOf};
 ghost use Rattle.mp4_frag.specs.words.GroupsJudged.{groups_in, AreGroupsSound, GroupsFail};
 ghost use Rattle.mp4_frag.specs.words.Passing.{IsNearer, IsUpTo, EndsNear, IsPassed, AreBounded, is_late_at, state_with};
@@ -27,13 +30,13 @@ ghost use Rattle.mp4_boxes.specs.declared.refusal.Refusal.TheVariants as refusal
 ghost use Rattle.mp4_frag.specs.format.FragmentRows.{group_rows};
 ghost use Rattle.mp4_frag.specs.declared.state.TrackState.{TrackState};
 
-use crate::finding::{TrackPlaces, find_track};
 use crate::groups::check_group;
 use crate::heads::{Head, base_of, read_head, what_is_inherited};
-use crate::own_trafs::{OwnTraf, OwnTrafs};
+use crate::next_traf::{OwnTraf, OwnTrafs};
 use crate::sample_runs::{Judged, Passed, check_run};
 use crate::state::TrackState;
-use crate::times::read_time;
+use crate::tfdt::read_time;
+use crate::track_search::{TrackPlaces, find_track};
 use mp4_boxes::{
     BoxView, Children, Fault, FourCc, Kind, Memory, Refusal, Rule, Steps, check_children, children,
 };
@@ -64,6 +67,7 @@ fn check_boxes<'a>(traf: BoxView<'a>) -> Result<Heads<'a>, Fault>
         ≡ of_kind (codes "tfdt") (children_of (box_seen traf.entry))) }
     ensures fault { IfErr result
         (IsChildFault rules.TrackFragment (box_container (box_seen traf.entry))) }
+    ensures exact { ListsBoxes rules.TrackFragment (box_seen traf.entry) result }
 {
     let mut heads = Heads {
         head: None,
@@ -83,6 +87,8 @@ fn check_boxes<'a>(traf: BoxView<'a>) -> Result<Heads<'a>, Fault>
 fn head_of(tfhd: BoxView) -> Result<Head, Fault>
     ensures head { IfOk result (IsHead (box_seen tfhd.entry).payload) }
     ensures fault { IfErr result (IsLeafFault tfhd_leaf (box_seen tfhd.entry)) }
+    ensures exact { FirstNamed (naming (box_seen tfhd.entry)
+        (leaf_tests tfhd_leaf (box_seen tfhd.entry).payload)) result }
 {
     match read_head(tfhd.payload()) {
         Ok(head) => Ok(head),
@@ -98,6 +104,8 @@ fn time_of(traf: BoxView, tfdt: Option<BoxView>) -> Result<Option<u64>, Fault>
         (of_kind (codes "tfdt") (children_of (box_seen traf.entry)))) }
     ensures time { IfOk result (λ time. (traf_in (box_seen traf.entry)).decode_time ≡ time) }
     ensures fault { IfErr result (IsTimeFault (box_seen traf.entry)) }
+    ensures exact { FirstNamed
+        (time_tests (of_kind (codes "tfdt") (children_of (box_seen traf.entry)))) result }
 {
     let Some(tfdt) = tfdt else {
         return Ok(None);
@@ -125,6 +133,8 @@ fn check_runs<L: Ledger>(
     ensures fault { IfErr result (λ f. HoldsChildren (box_seen traf.entry)
         → RunsFail judged.file_len judged.inherited judged.base judged.base room.old
         (runs_in (box_seen traf.entry)) f) }
+    ensures exact { HoldsChildren (box_seen traf.entry) → FirstNamed
+        (runs_tests judged judged.base room.old (runs_in (box_seen traf.entry))) result }
     ensures cost { IfOk result (λ p. steps.new ≤ steps.old
         + length (traf_in (box_seen traf.entry)).runs + p.count) }
     ensures within { IfOk result (λ p. 8 * steps.new ≤ 8 * steps.old
@@ -165,6 +175,8 @@ fn check_groups<L: Ledger>(
         ≡ keys_after (keys_seen keys) (groupings_of (groups_in (box_seen traf.entry)))) }
     ensures fault { IfErr result (λ f. HoldsChildren (box_seen traf.entry)
         → GroupsFail n (keys_seen keys) [] (groups_in (box_seen traf.entry)) f) }
+    ensures exact { HoldsChildren (box_seen traf.entry) → FirstNamed
+        (traf_groups_tests n (keys_seen keys) [] (groups_in (box_seen traf.entry))) result }
     ensures cost { IfOk result (λ k. steps.new ≤ steps.old
         + group_rows (traf_in (box_seen traf.entry)).groups) }
     ensures work { 8 * steps.new ≤ 8 * steps.old + length (box_seen traf.entry).payload }
@@ -281,6 +293,8 @@ fn check_traf<L: Ledger, M: Ledger>(
     ensures ids { IfOk result (λ p. ids_of tracks.new ≡ ids_of tracks.old) }
     ensures fault { IfErr result
         (TrafFails file_len moof before tracks.old room.old (box_seen traf.entry)) }
+    ensures exact { NamesOne
+        (traf_fault file_len moof before tracks.old room.old (box_seen traf.entry)) result }
     ensures work { TrafWork (box_seen traf.entry) steps.old steps.new room.old room.new result }
     ensures looks { TrafLooks (min 1 (length tracks.old)) looks.old looks.new result }
     ensures many { length tracks.new ≡ length tracks.old }
@@ -357,6 +371,9 @@ fn check_trafs<'a, L: Ledger, M: Ledger>(
         tracks.old tracks.new room.old room.new) }
     ensures refusal { IfErr result
         (RefusesTrafs file_len tracks.old room.old (box_seen moof.entry) (length own.old)) }
+    ensures exact { NamesFirstOf (TrafsFirst file_len (box_seen moof.entry).offset
+        (pos (box_seen moof.entry).offset) tracks.old room.old
+        (of_kind (codes "traf") (children_of (box_seen moof.entry)))) result }
     ensures own { OnOk result ((trexes : List Trex) → AreTrexesOf trexes tracks.old
         → AreApart tracks.old → length own.old ≡ length tracks.old → map own_seen own.new
         ≡ noted_in trexes (tree_of (box_seen moof.entry)) tracks.old (map own_seen own.old)) }
@@ -416,6 +433,8 @@ pub fn check_moof<L: Ledger, M: Ledger>(
         tracks.old tracks.new room.old room.new) }
     ensures refusal { IfErr result
         (RefusesMoof file_len tracks.old room.old (box_seen moof.entry) (length own.old)) }
+    ensures exact { NamesFirstOf (MoofFirst file_len tracks.old room.old (box_seen moof.entry))
+        result }
     ensures only { IfErr result (λ r. (f : Fault) → r ≡ refusals.Fault f
         → IsAcceptable file_len tracks.old room.old (box_seen moof.entry) → ⊥) }
     ensures moved { OnOk result

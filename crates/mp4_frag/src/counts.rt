@@ -2,6 +2,7 @@
 //! sample.
 ghost use Rattle.std.specs.Prelude.{◌≡◌, ◌≤◌, ◌++◌};
 ghost use Rattle.mp4_frag.specs.words.Durations.{durations_of, rows_durations, rows_lasting};
+ghost use Rattle.mp4_frag.specs.words.ColumnsRead.{row_room};
 ghost use Rattle.mp4_frag.specs.words.PlacesIn.{LiesIn, IsRowPlace};
 ghost use Rattle.mp4_frag.specs.words.Walks.{coming, rows_here};
 
@@ -19,7 +20,8 @@ pub struct Counts {
 
 // How long the rows left of a run last, where some take this duration.
 fn rows_duration(payload: &[u8], run: RowPlace, inherited: u32) -> u64
-    requires { IsRowPlace payload.now run }
+    requires place { IsRowPlace payload.now run }
+    requires width { run.width ≡ row_room run.bits }
     ensures { result ≡ rows_lasting inherited (rows_here payload.now run) }
 {
     let mut duration = 0;

@@ -2,7 +2,7 @@
 use crate::counts::{Counts, leave_run};
 use crate::opened_runs::settle;
 use crate::places::FragPlace;
-use crate::traf_samples::{begin_traf, pass_sample, sample_here};
+use crate::traf_samples::{begin_traf, pass_non_sync, pass_sample, sample_here};
 use crate::trex::Trex;
 use mp4_tables::{Keys, SampleAt, Samples};
 use std::marker::Model;
@@ -144,11 +144,20 @@ impl<'a> Samples for FragCursor<'a> {
     fn next(&mut self) -> Option<SampleAt> {
         if self.place.run.left > 0 {
             let sample = sample_here(self.payload, &self.place);
-            pass_sample(self.payload, &mut self.place);
+            pass_sample(self.payload, &mut self.place, &sample);
             Some(sample)
         } else {
             None
         }
+    }
+
+    #[inline(always)]
+    fn pass(&mut self, sample: &SampleAt) {
+        pass_sample(self.payload, &mut self.place, sample);
+    }
+
+    fn pass_non_sync(&mut self, description: u32, most: u32) -> u32 {
+        pass_non_sync(self.payload, &mut self.place, description, most)
     }
 
     ghost follows_itself = { λ s. (refl, le_refl _, refl) };

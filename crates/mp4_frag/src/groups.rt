@@ -9,8 +9,10 @@ ghost use Rattle.std.specs.List.{list_all};
 ghost use Rattle.mp4_tables.specs.format.Groups.{Grouping, grouping_of};
 ghost use Rattle.mp4_tables.specs.words.Keys.{keys_seen};
 ghost use Rattle.mp4_frag.specs.words.GroupsJudged.{AreNamed, WhereNamed, NamesOneMore, IsNameFault, IsGroupSound, IsGroupFault};
+ghost use Rattle.mp4_boxes.specs.format.FirstFault.{FirstNamed};
+ghost use Rattle.mp4_frag.specs.words.FragmentTests.{name_tests, one_group_tests};
 
-use mp4_boxes::{Kind, Steps, u32_at};
+use mp4_boxes::{Kind, Steps, Ticket, u32_at};
 use mp4_tables::{Group, GroupKey, Keys, read_group};
 use std::sync::ledger::Ledger;
 
@@ -25,6 +27,8 @@ fn name(key: GroupKey, keys: &mut Keys, named: &mut [bool; 4]) -> Result<(), Kin
         → NamesOneMore first before g (keys_seen keys.new) named.new)) }
     ensures fault { IfErr result (λ kind. WhereNamed (keys_seen keys.old) named.old
         (λ first before. (g : Grouping) → g.key ≡ key_seen key → IsNameFault first before g kind)) }
+    ensures exact { WhereNamed (keys_seen keys.old) named.old (λ first before. (g : Grouping)
+        → g.key ≡ key_seen key → FirstNamed (name_tests first before g) result) }
 {
     let place = match keys.place(key) {
         Some(j) => {
@@ -47,7 +51,7 @@ fn name(key: GroupKey, keys: &mut Keys, named: &mut [bool; 4]) -> Result<(), Kin
 }
 
 // The count and the index of row `k`.
-fn row_of(payload: &[u8], group: Group, k: u32) -> (u32, u32)
+fn row_of(_ticket: Ticket, payload: &[u8], group: Group, k: u32) -> (u32, u32)
     requires room { group.rows + 8 * group.count ≤ length payload.now }
     requires inside { k < group.count }
     ensures { drop k (group_runs payload.now group) ≡ (result.0, result.1)
@@ -68,8 +72,7 @@ fn count_samples<L: Ledger>(payload: &[u8], group: Group, steps: &mut Steps<L>) 
 {
     let mut total: u64 = 0;
     for k in 0..group.count {
-        steps.tick();
-        let (count, index) = row_of(payload, group, k);
+        let (count, index) = row_of(steps.tick(), payload, group, k);
         if index > MAX_INDEX {
             return None;
         }
@@ -92,6 +95,8 @@ pub(crate) fn check_group<L: Ledger>(
         AreNamed first (before ++ grouping_of payload.now ∷ []) (keys_seen keys.new) named.new)) }
     ensures fault { IfErr result (λ kind. WhereNamed (keys_seen keys.old) named.old
         (λ first before. IsGroupFault n first before payload.now kind)) }
+    ensures exact { WhereNamed (keys_seen keys.old) named.old (λ first before.
+        FirstNamed (one_group_tests n first before payload.now) result) }
     ensures cost { steps.new ≤ steps.old + row_count sbgp payload.now }
     ensures work { 8 * steps.new ≤ 8 * steps.old + length payload.now }
     ensures counted { OnOk result (steps.new ≡ steps.old + row_count sbgp payload.now) }

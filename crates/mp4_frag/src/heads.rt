@@ -8,6 +8,7 @@ ghost use Rattle.mp4_boxes.specs.format.Layout.{has as has_flag};
 ghost use Rattle.mp4_frag.specs.words.ColumnsRead.{head_room};
 ghost use Rattle.mp4_frag.specs.format.FragmentSamples.{base_of as base_by};
 ghost use Rattle.mp4_frag.specs.words.Reading.{IsHead, head_values, as_traf, inheritance};
+ghost use Rattle.mp4_boxes.specs.format.FirstFault.{FirstNamed, leaf_tests};
 
 use crate::columns::{behind, has, number_at, wide_at};
 use crate::trex::Trex;
@@ -92,6 +93,7 @@ fn head_of(payload: &[u8], bits: u32) -> Head
 pub(crate) fn read_head(payload: &[u8]) -> Result<Head, Kind>
     ensures head { IfOk result (IsHead payload.now) }
     ensures fault { IfErr result (Fails tfhd payload.now) }
+    ensures exact { FirstNamed (leaf_tests tfhd payload.now) result }
 {
     let (version, bits) = front(payload)?;
     if version != 0 {

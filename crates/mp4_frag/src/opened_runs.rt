@@ -1,15 +1,19 @@
 //! Runs of a `traf` on the way of a walk.
-ghost use Rattle.std.specs.Prelude.{List, ◌≡◌, ◌+◌, ◌<◌, ◌≤◌, ◌∷◌, length};
+ghost use Rattle.std.specs.Prelude.{List, ◌≡◌, ◌+◌, ◌<◌, ◌≤◌, ◌∷◌, drop, length};
 ghost use Rattle.mp4_tables.specs.declared.sample.SampleAt.{SampleAt};
+ghost use Rattle.mp4_boxes.specs.format.Layout.{column_values, sample_columns};
 ghost use Rattle.mp4_frag.specs.words.ColumnsRead.{row_room};
+ghost use Rattle.mp4_frag.specs.words.Reading.{SaysRow};
 ghost use Rattle.mp4_frag.specs.words.PlacesIn.{row_behind, IsBoxIn, bytes_inside, left_coming, LiesIn, IsPlaceIn, IsRowPlace, SameToCome, run_work, work_behind, traf_work};
 ghost use Rattle.mp4_frag.specs.words.Walks.{Reached, rows_here, row_signed, run_coming, reached, begin as begin_by};
 
+use crate::box_places::{Lying, box_at};
 use crate::check::TRUN;
-use crate::lying::{Lying, box_at};
+use crate::heads::Inherited;
 use crate::places::{FragPlace, RowPlace};
-use crate::run_rows::{Row, row_at, row_size};
-use crate::runs::read_run;
+use crate::run_rows::{Row, Said, row_at, row_size, said_at};
+use crate::trun::read_run;
+use mp4_boxes::Ticket;
 
 /// The next row of a run.
 #[inline]
@@ -19,18 +23,30 @@ pub(crate) fn row_here(payload: &[u8], run: RowPlace) -> Row
     ensures { rows_here payload.now run
         ≡ row_signed result ∷ rows_here payload.now (row_behind run) }
 {
-    row_at(payload, run.row, run.bits)
+    row_at(Ticket::of_place(), payload, run.row, run.bits)
+}
+
+/// What the next row of a run says, or what is inherited.
+#[inline(always)]
+pub(crate) fn said_here(payload: &[u8], run: RowPlace, inherited: Inherited) -> Said
+    requires some { 0 < run.left }
+    requires place { IsRowPlace payload.now run }
+    ensures { SaysRow inherited
+        (column_values run.bits sample_columns (drop run.row payload.now)) result }
+{
+    said_at(Ticket::of_place(), payload, run.row, run.bits, inherited)
 }
 
 /// The row behind: `first_sample_flags` go for the first row alone.
 #[inline]
 pub(crate) fn next_row(run: RowPlace) -> RowPlace
     requires some { 0 < run.left }
+    requires width { run.width ≡ row_room run.bits }
     requires fits { run.row + row_room run.bits ≤ usize.MAX }
     ensures { result ≡ row_behind run }
 {
     RowPlace {
-        row: run.row + row_size(run.bits),
+        row: run.row + run.width,
         left: run.left - 1,
         first_flags: None::<u32>,
         ..run
@@ -72,6 +88,7 @@ fn open_run(payload: &[u8], lying: Lying, place: &mut FragPlace)
         row: lying.inside + run.rows,
         left: run.count,
         bits: run.bits,
+        width: row_size(run.bits),
         first_flags: run.first_flags,
     };
 }

@@ -5,9 +5,9 @@ ghost use Rattle.mp4_tables.specs.words.Keys.{keys_seen};
 ghost use Rattle.mp4_frag.specs.words.PlacesIn.{ChangesIndexes, ChangesHead, IsBoxIn, bytes_inside, group_work, groups_work};
 ghost use Rattle.mp4_frag.specs.words.Walks.{are_named, boxes_from, names, with_head, with_group, with_leaves, reached};
 
+use crate::box_places::{Lying, box_at};
 use crate::check::{SBGP, TFHD};
 use crate::heads::{read_head, what_is_inherited};
-use crate::lying::{Lying, box_at};
 use crate::places::FragPlace;
 use crate::trex::Trex;
 use mp4_tables::{Keys, open_rows, read_group};

@@ -9,6 +9,8 @@ pub(crate) struct RowPlace {
     pub(crate) row: usize,
     pub(crate) left: u32,
     pub(crate) bits: u32,
+    /// How many bytes a row takes.
+    pub(crate) width: usize,
     /// The flags of the next sample, if it is the first of its run and the run says them.
     pub(crate) first_flags: Option<u32>,
 }

@@ -2,9 +2,11 @@
 ghost use Rattle.std.specs.Prelude.{◌≡◌, ◌+◌, ◌≤◌, length, drop};
 ghost use Rattle.mp4_boxes.specs.format.Layout.{column_values, sample_columns};
 ghost use Rattle.mp4_frag.specs.words.ColumnsRead.{row_room};
-ghost use Rattle.mp4_frag.specs.words.Reading.{row_values};
+ghost use Rattle.mp4_frag.specs.words.Reading.{SaysRow, row_values};
 
 use crate::columns::{behind, has, number_at};
+use crate::heads::Inherited;
+use mp4_boxes::Ticket;
 
 pub(crate) const FIRST_FLAGS: u32 = 0x00_0004;
 
@@ -25,6 +27,16 @@ pub(crate) struct Row {
     pub(crate) offset: Option<u32>,
 }
 
+/// What a row says of its sample, or what that inherits where it doesn't say it.
+#[derive(Clone, Copy)]
+pub(crate) struct Said {
+    pub(crate) duration: u32,
+    pub(crate) size: u32,
+    pub(crate) flags: u32,
+    /// The composition offset as it stands, 0 where there is none.
+    pub(crate) offset: u32,
+}
+
 // How many bytes a row takes.
 #[inline]
 #[tactic(auto, using(crate::proofs::ColumnValues::row_width))]
@@ -40,7 +52,7 @@ pub(crate) fn row_size(bits: u32) -> usize
 
 // The row at a place.
 #[inline]
-pub(crate) fn row_at(bytes: &[u8], place: usize, bits: u32) -> Row
+pub(crate) fn row_at(_ticket: Ticket, bytes: &[u8], place: usize, bits: u32) -> Row
     requires { place + row_room bits ≤ length bytes.now }
     ensures { row_values result ≡ column_values bits sample_columns (drop place bytes.now) }
 {
@@ -56,5 +68,37 @@ pub(crate) fn row_at(bytes: &[u8], place: usize, bits: u32) -> Row
         size: number_at(bytes, size, has_size),
         flags: number_at(bytes, flags, has_flags),
         offset: number_at(bytes, offset, has_offset),
+    }
+}
+
+// What the row at a place says, or what is inherited. Each value is settled where it is read: so
+// whether it is there is tested once.
+#[inline(always)]
+pub(crate) fn said_at(
+    _ticket: Ticket,
+    bytes: &[u8],
+    place: usize,
+    bits: u32,
+    inherited: Inherited,
+) -> Said
+    requires { place + row_room bits ≤ length bytes.now }
+    ensures { SaysRow inherited (column_values bits sample_columns (drop place bytes.now)) result }
+{
+    let has_duration = has(bits, ROW_DURATION);
+    let duration = number_at(bytes, place, has_duration).unwrap_or(inherited.duration);
+    let has_size = has(bits, ROW_SIZE);
+    let size_place = behind(place, 4, has_duration);
+    let size = number_at(bytes, size_place, has_size).unwrap_or(inherited.size);
+    let has_flags = has(bits, ROW_FLAGS);
+    let flags_place = behind(size_place, 4, has_size);
+    let flags = number_at(bytes, flags_place, has_flags).unwrap_or(inherited.flags);
+    let has_offset = has(bits, ROW_OFFSET);
+    let offset_place = behind(flags_place, 4, has_flags);
+    let offset = number_at(bytes, offset_place, has_offset).unwrap_or(0);
+    Said {
+        duration,
+        size,
+        flags,
+        offset,
     }
 }

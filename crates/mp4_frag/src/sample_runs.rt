@@ -4,11 +4,13 @@ ghost use Rattle.mp4_boxes.specs.format.Layout.{too_large};
 ghost use Rattle.mp4_tables.specs.format.TableRules.{lies_within as lies_in};
 ghost use Rattle.mp4_frag.specs.format.FragmentSamples.{run_start as run_start_by};
 ghost use Rattle.mp4_frag.specs.words.Passing.{IsNear, IsNearer, IsUpTo, HasRows, AreSamplesOf, AreBounded, IsPassed, IsPassedWith, IsRunFault, rows_left, offsets_left, row_seen, within_from};
+ghost use Rattle.mp4_boxes.specs.format.FirstFault.{FirstNamed};
+ghost use Rattle.mp4_frag.specs.words.FragmentTests.{one_run_tests};
 
 use crate::heads::Inherited;
 use crate::run_rows::{Row, row_at, row_size};
-use crate::runs::{Run, read_run};
-use mp4_boxes::{Kind, Steps};
+use crate::trun::{Run, read_run};
+use mp4_boxes::{Kind, Steps, Ticket};
 use std::sync::ledger::Ledger;
 
 /// Samples that were passed: where their data ends, how many there are, how long they last, and how
@@ -83,7 +85,7 @@ fn is_too_large(before: bool, row: Row) -> bool
 
 // Row `k` of a run.
 #[inline]
-fn row_of(payload: &[u8], run: Run, k: u32) -> Row
+fn row_of(ticket: Ticket, payload: &[u8], run: Run, k: u32) -> Row
     requires rows { HasRows payload.now run }
     requires inside { k < run.count }
     ensures row { rows_left payload.now run k ≡ row_seen run result
@@ -92,6 +94,7 @@ fn row_of(payload: &[u8], run: Run, k: u32) -> Row
         ∷ offsets_left payload.now run (k + 1) }
 {
     row_at(
+        ticket,
         payload,
         run.rows + k as usize * row_size(run.bits),
         run.bits,
@@ -125,8 +128,7 @@ fn pass_samples<L: Ledger>(
         are_large: false,
     };
     for k in 0..run.count {
-        steps.tick();
-        let row = row_of(payload, run, k);
+        let row = row_of(steps.tick(), payload, run, k);
         let size = row.size.unwrap_or(judged.inherited.size);
         if !lies_within(judged.file_len, samples.end, size) {
             return Samples {
@@ -171,6 +173,7 @@ pub(crate) fn check_run<L: Ledger>(
         → IsUpTo (n + 2 ^ 31) passed.at → IsUpTo (n + 2 ^ 31) p.at) }
     ensures fault { IfErr result
         (IsRunFault judged.file_len judged.inherited judged.base passed.at room.old payload.now) }
+    ensures exact { FirstNamed (one_run_tests judged passed.at room.old payload.now) result }
     ensures cost { IfOk result (λ p. steps.new + passed.count ≤ steps.old + p.count) }
     ensures work { steps.new ≤ steps.old + room.old }
     ensures counted { IfOk result (λ p. steps.new + passed.count ≡ steps.old + p.count) }

@@ -1,18 +1,20 @@
 //! A walk over the samples of a `traf`, from place to place.
 ghost use Rattle.std.specs.Prelude.{ℕ, List, ◌≡◌, ◌<◌, ◌≤◌, drop, slice_get, None, Some};
+ghost use Rattle.byteorder.specs.Endian.{twos_complement};
 ghost use Rattle.mp4_boxes.specs.format.Bytes.{AreBytes};
 ghost use Rattle.mp4_tables.specs.words.Indexes.{AreIndexPlaces};
 ghost use Rattle.mp4_tables.specs.words.Keys.{keys_seen};
+ghost use Rattle.mp4_tables.specs.words.Next.{IsNext, PassesNonSync};
+ghost use Rattle.mp4_frag.specs.words.ColumnsRead.{row_room};
 ghost use Rattle.mp4_frag.specs.format.FragmentSamples.{flags_of as flags_by};
 ghost use Rattle.mp4_frag.specs.words.PlacesIn.{LiesIn, IsPlaceIn};
 ghost use Rattle.mp4_frag.specs.words.Times.{time_behind};
 ghost use Rattle.mp4_frag.specs.words.Walks.{at_first, first_byte, reached, coming, samples_in};
 
 use crate::heads::nothing_inherited;
-use crate::opened_runs::{next_row, row_here, settle};
+use crate::opened_runs::{next_row, row_here, said_here, settle};
 use crate::opened_trafs::open_traf;
 use crate::places::{FragPlace, RowPlace};
-use crate::runs::signed;
 use crate::trex::Trex;
 use mp4_tables::{Keys, SampleAt, no_indexes};
 
@@ -26,6 +28,14 @@ fn flags_of(first: Option<u32>, own: Option<u32>, inherited: u32) -> u32
         Some(flags) => flags % 0x1000_0000,
         None => own.unwrap_or(inherited) % 0x1000_0000,
     }
+}
+
+// An offset as two's complement.
+#[inline]
+fn signed(value: u32) -> i32
+    ensures { result ≡ twos_complement 4 value }
+{
+    value.cast_signed()
 }
 
 // A place in a file, 0 where 64 bits have none for it.
@@ -43,59 +53,121 @@ pub(crate) fn sample_here(payload: &[u8], place: &FragPlace) -> SampleAt
     requires place { LiesIn payload.now place.now }
     ensures { slice_get (coming payload.now place.now) 0 ≡ Some result }
 {
-    let row = row_here(payload, place.run);
+    let said = said_here(payload, place.run, place.inherited);
     SampleAt {
         dts: place.dts,
-        duration: row.duration.unwrap_or(place.inherited.duration),
-        cto: signed(row.offset).unwrap_or(0),
-        flags: flags_of(place.run.first_flags, row.flags, place.inherited.flags),
+        duration: said.duration,
+        cto: signed(said.offset),
+        flags: flags_of(place.run.first_flags, None, said.flags),
         description: place.inherited.description,
         at: file_place(place.at),
-        size: row.size.unwrap_or(place.inherited.size),
+        size: said.size,
         groups: place.indexes.here(),
     }
 }
 
-// Passes a sample, which may be the last of its run: those behind it are to come, at their times.
+// Passes the next sample, which has the duration and the size of this one and may be the last of
+// its run: those behind it are to come, at their times.
 #[inline(always)]
-fn pass_row(payload: &[u8], place: &mut FragPlace)
+fn pass_row(payload: &[u8], place: &mut FragPlace, sample: &SampleAt)
     requires some { 0 < place.old.run.left }
     requires place { LiesIn payload.now place.old }
+    requires next { IsNext sample.now (coming payload.now place.old) }
     ensures place { LiesIn payload.now place.new }
     ensures on { place.old.passed ≤ place.new.passed }
     ensures time { time_behind payload.now place.new ≡ time_behind payload.now place.old }
     ensures coming { coming payload.now place.new ≡ drop 1 (coming payload.now place.old) }
 {
-    let row = row_here(payload, place.run);
-    let duration = row.duration.unwrap_or(place.inherited.duration);
-    let size = row.size.unwrap_or(place.inherited.size);
-    place.dts = place.dts.saturating_add(u64::from(duration));
-    place.at = place.at.saturating_add(i128::from(size));
+    place.dts = place.dts.saturating_add(u64::from(sample.duration));
+    place.at = place.at.saturating_add(i128::from(sample.size));
     place.run = next_row(place.run);
     place.passed = place.passed.saturating_add(1);
     place.indexes.pass(payload, &place.index_rows);
 }
 
-/// Goes one sample on: those behind it are to come, at their times.
+/// Goes one sample on, which has the duration and the size of this one: those behind it are to
+/// come, at their times.
 #[inline(always)]
-pub(crate) fn pass_sample(payload: &[u8], place: &mut FragPlace)
+pub(crate) fn pass_sample(payload: &[u8], place: &mut FragPlace, sample: &SampleAt)
     requires some { 0 < place.old.run.left }
     requires place { LiesIn payload.now place.old }
+    requires next { IsNext sample.now (coming payload.now place.old) }
     ensures place { IsPlaceIn payload.now place.new }
     ensures on { place.old.passed ≤ place.new.passed }
     ensures time { time_behind payload.now place.new ≡ time_behind payload.now place.old }
     ensures coming { coming payload.now place.new ≡ drop 1 (coming payload.now place.old) }
 {
-    pass_row(payload, place);
+    pass_row(payload, place, sample);
     if place.run.left == 0 {
         settle(payload, place);
     }
+}
+
+// Passes samples of the run in hand that are no sync samples and have this description, at most so
+// many, where no index is left.
+fn pass_rows(payload: &[u8], place: &mut FragPlace, description: u32, most: u32) -> u32
+    requires { LiesIn payload.now place.old }
+    ensures place { LiesIn payload.now place.new }
+    ensures on { place.old.passed ≤ place.new.passed }
+    ensures few { result ≤ most }
+    ensures time { time_behind payload.now place.new ≡ time_behind payload.now place.old }
+    ensures passed { PassesNonSync description result (coming payload.now place.old)
+        (coming payload.now place.new) }
+{
+    let inherited = place.inherited;
+    if inherited.description != description || !place.indexes.are_over() {
+        return 0;
+    }
+    let mut run = place.run;
+    let mut dts = place.dts;
+    let mut at = place.at;
+    let mut count = 0;
+    while count < most && run.left > 0 {
+        let row = row_here(payload, run);
+        let flags = flags_of(run.first_flags, row.flags, inherited.flags);
+        if flags / 0x1_0000 % 2 == 0 {
+            break;
+        }
+        dts = dts.saturating_add(u64::from(row.duration.unwrap_or(inherited.duration)));
+        at = at.saturating_add(i128::from(row.size.unwrap_or(inherited.size)));
+        run = next_row(run);
+        count += 1;
+    }
+    place.run = run;
+    place.dts = dts;
+    place.at = at;
+    place.passed = place.passed.saturating_add(u64::from(count));
+    count
+}
+
+/// Passes samples that are no sync samples and have this description, at most so many, and says how
+/// many these are: those behind it are to come, at their times.
+pub(crate) fn pass_non_sync(
+    payload: &[u8],
+    place: &mut FragPlace,
+    description: u32,
+    most: u32,
+) -> u32
+    requires { IsPlaceIn payload.now place.old }
+    ensures place { IsPlaceIn payload.now place.new }
+    ensures on { place.old.passed ≤ place.new.passed }
+    ensures few { result ≤ most }
+    ensures time { time_behind payload.now place.new ≡ time_behind payload.now place.old }
+    ensures passed { PassesNonSync description result (coming payload.now place.old)
+        (coming payload.now place.new) }
+{
+    let count = pass_rows(payload, place, description, most);
+    if place.run.left == 0 {
+        settle(payload, place);
+    }
+    count
 }
 
 // Before the boxes of a `traf` whose runs are counted from this base. It is a step itself.
 fn first_place(base: i128, dts: u64) -> FragPlace
     ensures first { (result.next ≡ 0) × (result.run.left ≡ 0) × (result.run.row ≡ 0)
         × (result.passed ≡ 1) }
+    ensures width { result.run.width ≡ row_room result.run.bits }
     ensures indexes { (payload : List ℕ)
         → AreIndexPlaces payload result.index_rows result.indexes }
     ensures time { result.dts ≡ dts }
@@ -112,6 +184,7 @@ fn first_place(base: i128, dts: u64) -> FragPlace
             row: 0,
             left: 0,
             bits: 0,
+            width: 0,
             first_flags: None,
         },
         index_rows,

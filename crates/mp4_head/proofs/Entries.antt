@@ -34,16 +34,16 @@ stands_counted b all passed left e t w =
 -- ---- `dref`
 
 -- the third number of a `dref` is its count
-reference_count : (payload : List ℕ) → field payload 4 4 ≡ slice_index (leaf_fields dref payload) 2
+pub reference_count : (payload : List ℕ) → field payload 4 4 ≡ slice_index (leaf_fields dref payload) 2
 reference_count payload = number_is (fields dref (version payload)) payload 2 4 4 (lit< tt) refl refl
 
 references_needs : (payload : List ℕ) → needed dref payload ≡ 8
 references_needs payload = omega arith
 
-references_readable : (payload : List ℕ) (width : ℕ) → IsOpen 0 8 0 payload width → IsReadable dref payload
+pub references_readable : (payload : List ℕ) (width : ℕ) → IsOpen 0 8 0 payload width → IsReadable dref payload
 references_readable payload width o = let n = references_needs payload in open_readable dref 0 8 0 width payload refl refl (omega arith) o
 
-references_sound : (payload : List ℕ) (width : ℕ) → IsOpen 0 8 0 payload width → field payload 4 4 ≡ 1 → IsSound dref payload
+pub references_sound : (payload : List ℕ) (width : ℕ) → IsOpen 0 8 0 payload width → field payload 4 4 ≡ 1 → IsSound dref payload
 references_sound payload width o one =
     record { readable = references_readable payload width o; value = refl; inside = ap not (eq-eqb (slice_index (leaf_fields dref payload) 2) 1 (sym (reference_count payload) ∙ one)); offsets = refl }
 
@@ -90,7 +90,7 @@ references_fail b all left later e f t p w (at_fault k h) =
 -- ---- `stsd`
 
 -- an `stsd` that was opened is sound
-descriptions_sound : (payload : List ℕ) (width : ℕ) → IsOpen 0 8 0 payload width → IsSound stsd payload
+pub descriptions_sound : (payload : List ℕ) (width : ℕ) → IsOpen 0 8 0 payload width → IsSound stsd payload
 descriptions_sound payload width o =
     let n : needed stsd payload ≡ 8 = omega arith in
     record { readable = open_readable stsd 0 8 0 width payload refl refl (omega arith) o; value = refl; inside = refl; offsets = refl }

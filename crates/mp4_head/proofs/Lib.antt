@@ -11,6 +11,9 @@ pub mod HeadPieces
 pub mod HeadLengths
 pub mod Above
 pub mod Walks
+pub mod FaultWalks
+pub mod EntriesJudged
+pub mod IdsJudged
 pub mod EditBoxes
 pub mod Entries
 pub mod TableBoxes
@@ -33,6 +36,7 @@ pub mod ExtendsBoxes
 pub mod KeptWalks
 pub mod TrackBoxes
 pub mod MovieBoxes
+pub mod MovieJudged
 pub mod HeadPlaces
 pub mod HeadExcludes
 pub mod ReadAgain

@@ -79,7 +79,7 @@ module _ (b : Box) (old : BTreeSet ℕ) (all left later : List Box) (child : Box
   stands = stands_of b all p.walk.passed later child h.tiles split
 
   -- before its `tkhd` is read the set is as it was
-  ids_before : bytes_eq (codes "tkhd") child.kind ≡ true → ids ≡ old
+  pub ids_before : bytes_eq (codes "tkhd") child.kind ≡ true → ids ≡ old
   ids_before k =
       let one = holds_only h (codes "tkhd") refl in
       let none = none_before (codes "tkhd") all p.walk.passed later child split (omega (arith, one)) k in

@@ -1,6 +1,7 @@
 pub mod Leaves
 pub mod Seen
 pub mod Refuses
+pub mod FaultNamed
 pub mod Parts
 pub mod Containers
 pub mod Found

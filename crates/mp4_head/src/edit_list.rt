@@ -1,6 +1,6 @@
 //! `edts` and `elst`: which parts of the media are shown, in which order (ISO/IEC 14496-12, 8.6.5
 //! and 8.6.6).
-ghost use Rattle.std.specs.Prelude.{◌≡◌, ◌+◌, ◌*◌, ◌≤◌, ◌⊎◌, ℕ, length, map, Some, IfOk, IfErr, MatchResult, None};
+ghost use Rattle.std.specs.Prelude.{◌≡◌, ◌+◌, ◌*◌, ◌≤◌, ◌⊎◌, ℕ, suc, List, length, map, Some, IfOk, IfErr, MatchResult, None};
 ghost use Rattle.mp4_boxes.specs.format.Bytes.{numbers, signed_field};
 ghost use Rattle.mp4_boxes.specs.format.Layout.{elst, row, row_count, time_width, IsSound};
 ghost use Rattle.mp4_boxes.specs.words.View.{box_seen};
@@ -11,6 +11,8 @@ ghost use Rattle.mp4_head.specs.format.Tree.{edit_of, edits_of};
 ghost use Rattle.mp4_boxes.specs.format.Places.{ruled};
 ghost use Rattle.mp4_boxes.specs.declared.rule.Rule.TheVariants.{Edits};
 ghost use Rattle.mp4_head.specs.words.Containers.{SaysEdits};
+ghost use Rattle.mp4_head.specs.format.FirstFault.{fault_within};
+ghost use Rattle.mp4_head.specs.words.FaultNamed.{NamesRefused};
 ghost use Rattle.mp4_head.specs.words.Refuses.{RefusesLeaf, RefusesIn, place_of};
 
 use crate::leaves::{i16_at, is, open, time_at};
@@ -82,6 +84,7 @@ fn read_edit_list(alloc: Global, view: BoxView) -> Result<Vec<Edit>, Refusal>
         ≡ edits_of (Some (box_seen view.entry).payload)) }
     ensures sound { IfOk result (λ _. IsSound elst (box_seen view.entry).payload) }
     ensures refusal { IfErr result (RefusesLeaf elst (box_seen view.entry)) }
+    ensures exact { NamesRefused (leaf_fault elst (box_seen view.entry)) result }
 {
     let (count, width) = open_edit_list(view)?;
     let mut edits = Vec::with_capacity(alloc, count)?;
@@ -99,6 +102,8 @@ pub(crate) fn read_edits(alloc: Global, edts: BoxView) -> Result<Vec<Edit>, Refu
     ensures edits { IfOk result
         (λ edits. SaysEdits (box_seen edts.entry) (map edit_seen edits.items)) }
     ensures refusal { IfErr result (RefusesIn (place_of (ruled Edits) (box_seen edts.entry))) }
+    ensures exact { (n : ℕ) (ids : List ℕ) → NamesRefused
+        (fault_within (suc n) ids (place_of (ruled Edits) (box_seen edts.entry))) result }
 {
     let mut edits = Vec::new(alloc);
     for child in check_children(edts, Rule::Edits)? {

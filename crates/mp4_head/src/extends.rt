@@ -1,6 +1,6 @@
 //! `mvex` and `trex`: what fragments take where they say nothing (ISO/IEC 14496-12, 8.8.1 and
 //! 8.8.3).
-ghost use Rattle.std.specs.Prelude.{◌≡◌, IfOk, OnOk, IfErr, MatchResult, None, Some};
+ghost use Rattle.std.specs.Prelude.{◌≡◌, ℕ, suc, List, IfOk, OnOk, IfErr, MatchResult, None, Some};
 ghost use Rattle.mp4_boxes.specs.format.Layout.{trex, IsSound};
 ghost use Rattle.mp4_boxes.specs.format.Places.{ruled};
 ghost use Rattle.mp4_boxes.specs.words.View.{box_seen};
@@ -8,6 +8,8 @@ ghost use Rattle.mp4_boxes.specs.format.FirstFault.{leaf_fault};
 ghost use Rattle.mp4_boxes.specs.declared.rule.Rule.TheVariants as rules;
 ghost use Rattle.mp4_frag.specs.format.Fragments.{trex_of};
 ghost use Rattle.mp4_head.specs.words.Containers.{SaysExtends};
+ghost use Rattle.mp4_head.specs.format.FirstFault.{fault_within};
+ghost use Rattle.mp4_head.specs.words.FaultNamed.{NamesRefused};
 ghost use Rattle.mp4_head.specs.words.Leaves.{IsFaultOf};
 ghost use Rattle.mp4_head.specs.words.Refuses.{RefusesIn, place_of};
 
@@ -40,6 +42,8 @@ pub(crate) fn read_extends(alloc: Global, mvex: BoxView) -> Result<Vec<Trex>, Re
     ensures says { IfOk result (λ ts. SaysExtends (box_seen mvex.entry) ts.items) }
     ensures refusal { IfErr result
         (RefusesIn (place_of (ruled rules.MovieExtends) (box_seen mvex.entry))) }
+    ensures exact { (n : ℕ) (ids : List ℕ) → NamesRefused (fault_within (suc n) ids
+        (place_of (ruled rules.MovieExtends) (box_seen mvex.entry))) result }
 {
     let mut trexes = Vec::new(alloc);
     let mut ids = BTreeSet::new(alloc);

@@ -1,11 +1,14 @@
 //! `minf`: the media header, `dinf` and `stbl` (ISO/IEC 14496-12, 8.4.4 and 8.7.1).
-ghost use Rattle.std.specs.Prelude.{◌≡◌, true, map, IfOk, IfErr, OnOk, bytes_eq, codes};
+ghost use Rattle.std.specs.Prelude.{◌≡◌, ℕ, suc, List, [], true, map, IfOk, IfErr, OnOk, bytes_eq, codes};
 ghost use Rattle.mp4_boxes.specs.format.Layout.{dref, data_entry_url, IsSound};
 ghost use Rattle.mp4_boxes.specs.format.Places.{ruled, data_entries};
 ghost use Rattle.mp4_boxes.specs.words.View.{box_seen};
 ghost use Rattle.mp4_boxes.specs.declared.rule.Rule.TheVariants as rules;
 ghost use Rattle.mp4_head.specs.words.Containers.{SaysReferences, SaysDataInformation, SaysInformation};
 ghost use Rattle.mp4_head.specs.format.HeadFaults.{HeadStands};
+ghost use Rattle.mp4_boxes.specs.format.FirstFault.{first_failed, leaf_fault};
+ghost use Rattle.mp4_head.specs.format.FirstFault.{fault_within, own_tests, or_else};
+ghost use Rattle.mp4_head.specs.words.FaultNamed.{NamesFault, NamesRefused};
 ghost use Rattle.mp4_head.specs.words.Leaves.{FailsAsReference};
 ghost use Rattle.mp4_head.specs.words.Refuses.{StandsOrFails, RefusesIn, place_of};
 ghost use Rattle.mp4_head.specs.words.Seen.{kept_seen};
@@ -24,6 +27,8 @@ fn check_reference(entry: BoxView) -> Result<(), Fault>
     ensures url { OnOk result (bytes_eq (codes "url ") (box_seen entry.entry).kind ≡ true) }
     ensures sound { OnOk result (IsSound data_entry_url (box_seen entry.entry).payload) }
     ensures fault { IfErr result (FailsAsReference (box_seen entry.entry)) }
+    ensures exact { NamesFault
+        (first_failed (own_tests data_entries [] [] (box_seen entry.entry))) result }
 {
     if !is(entry, FourCc(*b"url ")) {
         return Err(entry.fault(Kind::OutsideData));
@@ -39,6 +44,9 @@ fn check_reference(entry: BoxView) -> Result<(), Fault>
 fn check_references(view: BoxView) -> Result<(), Fault>
     ensures says { OnOk result (SaysReferences (box_seen view.entry)) }
     ensures fault { IfErr result (StandsOrFails dref data_entries (box_seen view.entry)) }
+    ensures exact { (n : ℕ) (ids : List ℕ) → NamesFault (or_else
+        (leaf_fault dref (box_seen view.entry)) (λ u.
+        fault_within (suc n) ids (place_of data_entries (box_seen view.entry)))) result }
 {
     open(view, 0, 8, 0)?;
     if u32_at(view.payload(), 4) != 1 {
@@ -54,6 +62,8 @@ fn check_data_information(dinf: BoxView) -> Result<(), Fault>
     ensures says { OnOk result (SaysDataInformation (box_seen dinf.entry)) }
     ensures fault { IfErr result
         (HeadStands (place_of (ruled rules.DataInformation) (box_seen dinf.entry))) }
+    ensures exact { (n : ℕ) (ids : List ℕ) → NamesFault (fault_within (suc (suc n)) ids
+        (place_of (ruled rules.DataInformation) (box_seen dinf.entry))) result }
 {
     for child in check_children(dinf, Rule::DataInformation)? {
         if is(child, FourCc(*b"dref")) {
@@ -88,6 +98,8 @@ pub(crate) fn read_information<'a>(
         (map (λ p. p.now) i.table.group_descriptions.items)) }
     ensures refusal { IfErr result
         (RefusesIn (place_of (ruled rules.MediaInformation) (box_seen minf.entry))) }
+    ensures exact { (n : ℕ) (ids : List ℕ) → NamesRefused (fault_within (suc (suc (suc n))) ids
+        (place_of (ruled rules.MediaInformation) (box_seen minf.entry))) result }
 {
     let mut header = None;
     let mut tables = None;

@@ -1,12 +1,14 @@
 //! `stbl`, as far as it is no table: `stsd` (ISO/IEC 14496-12, 8.5.2), and the payloads of `sgpd`
 //! (8.9.3).
-ghost use Rattle.std.specs.Prelude.{◌≡◌, map, IfOk, IfErr, OnOk, MatchResult, None, Some};
+ghost use Rattle.std.specs.Prelude.{◌≡◌, ℕ, suc, List, map, IfOk, IfErr, OnOk, MatchResult, None, Some};
 ghost use Rattle.mp4_boxes.specs.format.Layout.{sample_entry, stsd, IsSound};
 ghost use Rattle.mp4_boxes.specs.format.Places.{ruled, sample_entries};
 ghost use Rattle.mp4_boxes.specs.words.View.{box_seen};
 ghost use Rattle.mp4_boxes.specs.format.FirstFault.{leaf_fault};
 ghost use Rattle.mp4_boxes.specs.declared.rule.Rule.TheVariants as rules;
 ghost use Rattle.mp4_head.specs.words.Containers.{SaysDescriptions, SaysTable, kept_of};
+ghost use Rattle.mp4_head.specs.format.FirstFault.{fault_within, or_else};
+ghost use Rattle.mp4_head.specs.words.FaultNamed.{NamesRefused};
 ghost use Rattle.mp4_head.specs.words.Leaves.{IsFaultOf};
 ghost use Rattle.mp4_head.specs.words.Refuses.{RefusesBoth, RefusesIn, place_of};
 ghost use Rattle.mp4_head.specs.words.Seen.{kept_seen};
@@ -46,6 +48,9 @@ fn read_descriptions<'a>(alloc: Global, view: BoxView<'a>) -> Result<Vec<Kept<'a
     ensures says { IfOk result
         (λ ds. SaysDescriptions (box_seen view.entry) (map kept_seen ds.items)) }
     ensures refusal { IfErr result (RefusesBoth stsd sample_entries (box_seen view.entry)) }
+    ensures exact { (n : ℕ) (ids : List ℕ) → NamesRefused (or_else
+        (leaf_fault stsd (box_seen view.entry)) (λ u.
+        fault_within (suc n) ids (place_of sample_entries (box_seen view.entry)))) result }
 {
     open(view, 0, 8, 0)?;
     let mut descriptions = Vec::new(alloc);
@@ -64,6 +69,8 @@ pub(crate) fn read_sample_table<'a>(
         (map (λ p. p.now) t.group_descriptions.items)) }
     ensures refusal { IfErr result
         (RefusesIn (place_of (ruled rules.SampleTable) (box_seen stbl.entry))) }
+    ensures exact { (n : ℕ) (ids : List ℕ) → NamesRefused (fault_within (suc (suc n)) ids
+        (place_of (ruled rules.SampleTable) (box_seen stbl.entry))) result }
 {
     let mut descriptions = Vec::new(alloc);
     let mut group_descriptions = Vec::new(alloc);

@@ -2,10 +2,10 @@
 use Rattle.std.proofs.Common.{◌≡◌, ℕ, ◌*◌, ◌/◌, ◌%◌, ◌^◌, Bool, true, false, if◌then◌else◌, List, [], ◌∷◌, refl, ap, arith}
 use Rattle.std.specs.Prelude.{map, filter}
 use Rattle.std.specs.List.{AllZip}
-use Rattle.mp4_head.specs.format.Head.{Media, TrackHead, MovieHead}
+use Rattle.mp4_head.specs.format.Head.{Kept, Media, TrackHead, MovieHead}
 use Rattle.mp4_present.specs.format.Presentation.{Sample, Track, Presentation}
-use Rattle.mp4_present.specs.format.Reduced.{sync_flag, reduce_sample, reduce_media, reduce_track_head, reduce_movie_head, reduce_track, reduce}
-use Rattle.mp4_present.specs.declared.leaving.Leaving.{Leaving}
+use Rattle.mp4_present.specs.format.Reduced.{sync_flag, plain_handler, plain_descriptions, reduce_sample, reduce_media, reduce_track_head, reduce_movie_head, reduce_track, reduce}
+use Rattle.mp4_present.specs.declared.without.Without.{Without}
 use Rattle.mp4_plan.specs.format.Agreeing.{is_other, SamplesAgree, MediaAgree, TrackHeadsAgree, MovieHeadsAgree, TracksAgree, Agree, ReduceIsExact}
 
 -- what stays is the same, where it stays
@@ -21,6 +21,19 @@ less false g x y e = ap g e
 same_less : {A : Type 0} (b : Bool) (g : A → A) (x y : A) → (b ≡ false → x ≡ y) → g x ≡ g y → (if b then g x else x) ≡ (if b then g y else y)
 same_less true g x y e h = h
 same_less false g x y e h = e refl
+
+-- of sample descriptions, which are plain by the handlers
+described_stay : (v : Bool) (h k : List ℕ) (x y : List Kept) → (if v then plain_descriptions h x else x) ≡ (if v then plain_descriptions k y else y) → v ≡ false → x ≡ y
+described_stay true h k x y e f = absurd cc
+described_stay false h k x y e f = e
+
+described : (v : Bool) (h k : List ℕ) (x y : List Kept) → (if v then plain_handler h else h) ≡ (if v then plain_handler k else k) → (if v then plain_descriptions h x else x) ≡ (if v then plain_descriptions k y else y) → plain_descriptions h x ≡ plain_descriptions k y
+described true h k x y e f = f
+described false h k x y e f = λ i. plain_descriptions (e i) (f i)
+
+same_described : (v : Bool) (h k : List ℕ) (x y : List Kept) → (v ≡ false → x ≡ y) → plain_descriptions h x ≡ plain_descriptions k y → (if v then plain_descriptions h x else x) ≡ (if v then plain_descriptions k y else y)
+same_described true h k x y e f = f
+same_described false h k x y e f = e refl
 
 first_same : {A : Type 0} (x y : A) (xs ys : List A) → x ∷ xs ≡ y ∷ ys → x ≡ y
 first_same x y xs ys e = cc
@@ -46,7 +59,7 @@ sync_to m n e = omega (arith, e)
 sync_from : (m n : ℕ) → m / 2 ^ 16 % 2 ≡ n / 2 ^ 16 % 2 → sync_flag m ≡ sync_flag n
 sync_from m n e = ap (λ k. k * 2 ^ 16) e
 
-module _ (l : Leaving) where
+module _ (l : Without) where
   sample_to : (a b : Sample) → reduce_sample l a ≡ reduce_sample l b → SamplesAgree l a b
   sample_to a b e = record {
     duration = ap (λ (x : Sample). x.duration) e;
@@ -72,24 +85,26 @@ module _ (l : Leaving) where
   media_to a b e = record {
     timescale = ap (λ (x : Media). x.timescale) e;
     language = ap (λ (x : Media). x.language) e;
-    handler = ap (λ (x : Media). x.handler) e;
     extended_languages = ap (λ (x : Media). x.extended_languages) e;
     header = ap (λ (x : Media). x.header) e;
-    descriptions = ap (λ (x : Media). x.descriptions) e;
     creation = stays l.times (λ n. 0) a.creation b.creation (ap (λ (x : Media). x.creation) e);
     modification = stays l.times (λ n. 0) a.modification b.modification (ap (λ (x : Media). x.modification) e);
+    handler = stays l.labels plain_handler a.handler b.handler (ap (λ (x : Media). x.handler) e);
+    left_handler = less l.labels plain_handler a.handler b.handler (ap (λ (x : Media). x.handler) e);
+    descriptions = described_stay l.labels a.handler b.handler a.descriptions b.descriptions (ap (λ (x : Media). x.descriptions) e);
+    left_descriptions = described l.labels a.handler b.handler a.descriptions b.descriptions (ap (λ (x : Media). x.handler) e) (ap (λ (x : Media). x.descriptions) e);
   }
 
   media_from : (a b : Media) → MediaAgree l a b → reduce_media l a ≡ reduce_media l b
   media_from a b h = λ i. record {
     timescale = h.timescale i;
     language = h.language i;
-    handler = h.handler i;
     extended_languages = h.extended_languages i;
     header = h.header i;
-    descriptions = h.descriptions i;
     creation = same_less l.times (λ n. 0) a.creation b.creation h.creation refl i;
     modification = same_less l.times (λ n. 0) a.modification b.modification h.modification refl i;
+    handler = same_less l.labels plain_handler a.handler b.handler h.handler h.left_handler i;
+    descriptions = same_described l.labels a.handler b.handler a.descriptions b.descriptions h.descriptions h.left_descriptions i;
   }
 
   track_head_to : (a b : TrackHead) → reduce_track_head l a ≡ reduce_track_head l b → TrackHeadsAgree l a b

@@ -9,7 +9,7 @@ use Rattle.mp4_present.specs.words.Movies.{MovieSeen, mark_of}
 use Rattle.mp4_present.specs.words.OpenedMovie.{IsInfoOf, IsOpenedAs}
 use Rattle.mp4_present.specs.words.SamplesComing.{Comes, own_trafs}
 use Rattle.mp4_present.specs.words.WalkSteps.{MayTake, TakesOn, trafs_steps, walk_steps}
-use Rattle.mp4_present.specs.declared.walks.Walk.{Walk}
+use Rattle.mp4_present.specs.declared.walking.Walk.{Walk}
 use Rattle.mp4_present.proofs.TracksPassed.{zip_length}
 use Rattle.mp4_plan.specs.words.WriterSteps.{MayAllTake, MayAllBegin, MayWrite, WriteAllBegin, again_steps, track_writes}
 use Rattle.mp4_plan.proofs.AllMay.{MayWithin, may_more, one_moves, one_ends}

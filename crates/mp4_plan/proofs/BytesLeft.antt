@@ -13,7 +13,7 @@ use Rattle.mp4_present.specs.format.Denotes.{FileTree, file_parts, parts_of_trac
 use Rattle.mp4_present.specs.words.Movies.{MovieSeen}
 use Rattle.mp4_present.specs.words.OpenedMovie.{IsInfoOf, IsOpenedAs}
 use Rattle.mp4_present.specs.words.SamplesComing.{track_keys, track_samples}
-use Rattle.mp4_present.specs.declared.leaving.Leaving.{Leaving}
+use Rattle.mp4_present.specs.declared.without.Without.{Without}
 use Rattle.mp4_present.specs.declared.track_info.TrackInfo.{TrackInfo}
 use Rattle.mp4_present.proofs.Counts.{sum-append}
 use Rattle.mp4_plan.specs.format.Pieces.{TimedSample}
@@ -63,7 +63,7 @@ bytes_behind lefts k n sent bytes all left at own whole =
 -- ---- before the first turn
 
 -- all that are kept
-kept_bytes : (leaving : Leaving) (file : List ℕ) (tree : FileTree) (trees : List TrackTree) (infos : List TrackInfo) → AllZip (IsInfoOf file tree) trees infos
+kept_bytes : (leaving : Without) (file : List ℕ) (tree : FileTree) (trees : List TrackTree) (infos : List TrackInfo) → AllZip (IsInfoOf file tree) trees infos
     → left_bytes (map (left_samples leaving tree) trees) ≡ sum_by (λ (i : TrackInfo). i.bytes) infos
 kept_bytes leaving file tree [] [] z = refl
 kept_bytes leaving file tree [] (info ∷ infos) z = absurd z
@@ -77,7 +77,7 @@ kept_bytes leaving file tree (t ∷ trees) (info ∷ infos) z =
     let same = timed_bytes (track_keys tree t) (start_of (plain_of t) (parts_of_track (file_parts tree) t)) (placed_of (file_parts tree) t) in
     omega (arith, kept, left, more, own, less, same)
 
-pub all_bytes : (leaving : Leaving) (file : List ℕ) (m : MovieSeen) (tree : FileTree) → IsOpenedAs file m tree → left_bytes (map (left_samples leaving tree) tree.movie.tracks) ≡ sum_by (λ (i : TrackInfo). i.bytes) m.tracks
+pub all_bytes : (leaving : Without) (file : List ℕ) (m : MovieSeen) (tree : FileTree) → IsOpenedAs file m tree → left_bytes (map (left_samples leaving tree) tree.movie.tracks) ≡ sum_by (λ (i : TrackInfo). i.bytes) m.tracks
 all_bytes leaving file m tree o = kept_bytes leaving file tree tree.movie.tracks m.tracks o.tracks
 
 -- ---- behind the last turn

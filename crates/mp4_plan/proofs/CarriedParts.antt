@@ -4,7 +4,7 @@ use Rattle.std.specs.Prelude.{slice_get, slice_index_or, codes}
 use Rattle.mp4_boxes.specs.format.Written.{header_bytes}
 use Rattle.mp4_present.specs.format.Denotes.{FileTree}
 use Rattle.mp4_present.specs.words.Movies.{MovieSeen}
-use Rattle.mp4_present.specs.declared.carrier.Carrier.{Carrier}
+use Rattle.mp4_present.specs.declared.out_buffer.OutBuffer.{OutBuffer}
 use Rattle.mp4_plan.specs.words.Writers.{IsNoted}
 use Rattle.mp4_plan.specs.declared.writer.Writer.{Writer}
 use Rattle.mp4_tables.specs.declared.sample.SampleAt.{SampleAt}
@@ -32,7 +32,7 @@ read_at (z ∷ xs) zero x y is e = let same : z ≡ x = cc in e ∙ same
 read_at (z ∷ xs) (suc k) x y is e = read_at xs k x y is e
 
 -- what was noted doesn't depend on what waits to be put
-unfoldable pub noted_with : (file : List ℕ) (tree : FileTree) (m : MovieSeen) (track count : ℕ) (samples : List SampleAt) (w : Writer) (c : Carrier) → IsNoted file tree m track count samples w → IsNoted file tree m track count samples (record w { carrier = c })
+unfoldable pub noted_with : (file : List ℕ) (tree : FileTree) (m : MovieSeen) (track count : ℕ) (samples : List SampleAt) (w : Writer) (c : OutBuffer) → IsNoted file tree m track count samples w → IsNoted file tree m track count samples (record w { carrier = c })
 noted_with file tree m track count samples w c h = record { t = h.t; walk = h.walk; is_walk = h.is_walk; comes = h.comes; none = h.none; next = h.next; rows = h.rows; stretches = h.stretches }
 
 -- ---- the bytes of a piece

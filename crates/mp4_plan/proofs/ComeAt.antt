@@ -1,16 +1,16 @@
 -- A walk for each track, and the samples that come in it: at one place, and with another walk there.
 use Rattle.std.proofs.Common.{◌≡◌, ℕ, zero, suc, ◌+◌, ◌<◌, List, [], ◌∷◌, ◌++◌, length, take, map, Some, refl, ap, subst, arith, slice_set}
-use Rattle.mp4_present.specs.declared.leaving.Leaving.{Leaving}
+use Rattle.mp4_present.specs.declared.without.Without.{Without}
 use Rattle.mp4_plan.specs.words.ComingLess.{ComesLess}
 use Rattle.std.specs.Prelude.{slice_get}
 use Rattle.mp4_head.specs.format.Tree.{TrackTree}
 use Rattle.mp4_tables.specs.declared.sample.SampleAt.{SampleAt}
 use Rattle.mp4_present.specs.format.Denotes.{FileTree}
 use Rattle.mp4_present.specs.words.Movies.{MovieSeen}
-use Rattle.mp4_present.specs.declared.walks.Walk.{Walk}
+use Rattle.mp4_present.specs.declared.walking.Walk.{Walk}
 use Rattle.mp4_plan.specs.words.Writers.{AllCome}
 
-module _ (leaving : Leaving) (file : List ℕ) (tree : FileTree) (m : MovieSeen) where
+module _ (leaving : Without) (file : List ℕ) (tree : FileTree) (m : MovieSeen) where
   -- what comes at one place
   pub record ComesAt (trees : List TrackTree) (walks : List Walk) (lefts : List (List SampleAt)) (k : ℕ) : Type 0 where
     pub t : TrackTree

@@ -1,6 +1,6 @@
 -- The first turn over the tracks of an opened file of which something may be left out: all of their samples are left, and so are all pieces.
 use Rattle.std.proofs.Common.{◌≡◌, ℕ, suc, ◌<◌, false, List, [], ◌∷◌, length, None, refl, sym, ap, subst, ◌∙◌, arith}
-use Rattle.mp4_present.specs.declared.leaving.Leaving.{Leaving}
+use Rattle.mp4_present.specs.declared.without.Without.{Without}
 use Rattle.mp4_plan.specs.words.ComingLess.{reduce_at, left_samples}
 use Rattle.mp4_present.specs.format.Reduced.{reduce_track, reduce_movie_head, reduce}
 use Rattle.mp4_head.proofs.Distinct.{map_twice}
@@ -55,10 +55,10 @@ pub record IsFirst (infos : List TrackInfo) (lefts : List (List SampleAt)) (s : 
   pub left : s.left ≡ left_count lefts
 
 -- what is left of a track
-abbrev pub left_track : Leaving → List ℕ → FileTree → TrackTree → Track
+abbrev pub left_track : Without → List ℕ → FileTree → TrackTree → Track
 left_track leaving file tree t = reduce_track leaving (track_of file (file_parts tree) t)
 
-module _ (leaving : Leaving) where
+module _ (leaving : Without) where
   -- ---- the first track
 
   -- a track begins with its first sample; one without samples at 0

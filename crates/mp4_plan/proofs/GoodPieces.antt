@@ -17,7 +17,7 @@ use Rattle.mp4_head.proofs.WrittenMovie.{traks_small}
 use Rattle.mp4_present.specs.format.Presentation.{Sample, Track, Presentation, heads, movie_length, IsSample, IsTrack, Valid, IsInTime, end_time, keys_of, max_time}
 use Rattle.mp4_plan.specs.format.Pieces.{TimedSample, timed, Piece, pieces}
 use Rattle.mp4_plan.specs.format.Normal.{first_time, first_description, piece_keys}
-use Rattle.mp4_plan.specs.format.PieceLaws.{IsOne}
+use Rattle.mp4_plan.specs.format.PieceLaws.{IsOnePiece}
 use Rattle.mp4_plan.proofs.Filters.{all_weaker, all_from_splits, found_by_id}
 use Rattle.mp4_plan.proofs.PieceLists.{pieces_one, ids_apart}
 use Rattle.mp4_plan.proofs.PieceFacts.{all_timed, ids_in_pieces, samples_in_pieces, pieces_within, pieces_in_time}
@@ -117,7 +117,7 @@ few_in_piece named (s ∷ samples) h =
 
 -- a piece of such samples can be written
 piece_good : (named : List GroupKey) (piece : Piece) → piece.id < 2 ^ 32 → length piece.samples ≤ 2 ^ 24 → AllByRecursion (IsWritableSample named) piece.samples
-    → AllByRecursion (λ (s : TimedSample). s.time + s.sample.duration ≤ max_time) piece.samples → IsOne piece.samples → IsGood piece
+    → AllByRecursion (λ (s : TimedSample). s.time + s.sample.duration ≤ max_time) piece.samples → IsOnePiece piece.samples → IsGood piece
 piece_good named piece id few samples times one = record {
   writable = record {
     id = id;
@@ -187,7 +187,7 @@ samples_good p v = samples_in_pieces (λ id s. IsWritableSample (named_by p.trac
 each_good : (p : Presentation) (list : List Piece) → AllByRecursion (λ (piece : Piece). piece.id < 2 ^ 32) list → AllByRecursion (λ (piece : Piece). length piece.samples ≤ 2 ^ 24) list
     → AllByRecursion (λ (piece : Piece). AllByRecursion (IsWritableSample (named_by p.tracks piece.id)) piece.samples) list
     → AllByRecursion (λ (piece : Piece). AllByRecursion (λ (s : TimedSample). s.time + s.sample.duration ≤ max_time) piece.samples) list
-    → AllByRecursion (λ (piece : Piece). IsOne piece.samples) list → AllByRecursion IsGood list
+    → AllByRecursion (λ (piece : Piece). IsOnePiece piece.samples) list → AllByRecursion IsGood list
 each_good p [] a b c d e = tt
 each_good p (piece ∷ list) a b c d e = (piece_good (named_by p.tracks piece.id) piece a.0 b.0 c.0 d.0 e.0, each_good p list a.1 b.1 c.1 d.1 e.1)
 

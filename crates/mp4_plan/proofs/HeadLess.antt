@@ -19,7 +19,8 @@ use Rattle.mp4_present.specs.words.OpenedMovie.{IsOpenedAs}
 use Rattle.mp4_present.specs.format.Presentation.{heads as heads_of}
 use Rattle.mp4_present.specs.format.Presentation.{Track, Presentation, movie_length, track_length, normal_moov_length}
 use Rattle.mp4_present.specs.format.Reduced.{metadata_kinds, reduce, reduce_track, reduce_track_head, reduce_movie_head}
-use Rattle.mp4_present.specs.declared.leaving.Leaving.{Leaving}
+use Rattle.mp4_present.specs.words.PayloadsLeft.{keeping_labels, without_labels}
+use Rattle.mp4_present.specs.declared.without.Without.{Without}
 use Rattle.mp4_head.specs.words.Parts.{capped}
 use Rattle.mp4_plan.specs.format.Normal.{normal, pieces_bytes}
 use Rattle.mp4_plan.specs.format.Pieces.{pieces}
@@ -40,7 +41,7 @@ kept_less (k ∷ kept) = one_less k kept (not (is_among metadata_kinds k.kind.0)
 
 -- ---- how long the movie is where edits stay
 
-module _ (l : Leaving) (stay : l.edits ≡ false) where
+module _ (l : Without) (stay : l.edits ≡ false) where
   longest_same : (timescale most : ℕ) (tracks : List Track) → fold (λ n (t : Track). max n (track_length timescale t)) most (map (reduce_track l) tracks) ≡ fold (λ n (t : Track). max n (track_length timescale t)) most tracks
   longest_same timescale most [] = refl
   longest_same timescale most (t ∷ tracks) =
@@ -52,7 +53,7 @@ module _ (l : Leaving) (stay : l.edits ≡ false) where
 
 -- ---- the head
 
-module _ (l : Leaving) where
+module _ (l : Without) where
   -- the head that is read anew, and then reduced, is that of the normal form, and short
   pub head_left : (file : List ℕ) (m : MovieSeen) (tree : FileTree) (head left : MovieHead) → IsOpenedAs file m tree → SaysHead (moov_box m) head → movie_seen left ≡ reduce_movie_head l (movie_seen head) → tracks_seen left ≡ map (reduce_track_head l) (tracks_seen head)
       → IsHeadOf (reduce l (presentation_of file tree)) left (movie_length (reduce l (presentation_of file tree)))
@@ -76,19 +77,19 @@ module _ (l : Leaving) where
 -- ---- one track more
 
 -- those before a place are reduced, and the others are as they were
-abbrev pub ReducedTo : Leaving → List TrackHead → List TrackHead → ℕ → Type 0
+abbrev pub ReducedTo : Without → List TrackHead → List TrackHead → ℕ → Type 0
 ReducedTo l [] [] k = ⊤
 ReducedTo l (x ∷ old) (y ∷ now) zero = y ∷ now ≡ x ∷ old
 ReducedTo l (x ∷ old) (y ∷ now) (suc k) = (track_seen y ≡ reduce_track_head l (track_seen x)) × ReducedTo l old now k
 ReducedTo l _ _ k = ⊥
 
-pub reduced_none : (l : Leaving) (old now : List TrackHead) → now ≡ old → ReducedTo l old now 0
+pub reduced_none : (l : Without) (old now : List TrackHead) → now ≡ old → ReducedTo l old now 0
 reduced_none l [] [] e = tt
 reduced_none l [] (y ∷ now) e = absurd cc
 reduced_none l (x ∷ old) [] e = absurd cc
 reduced_none l (x ∷ old) (y ∷ now) e = e
 
-one_reduced : (l : Leaving) (old now : List TrackHead) (k : ℕ) (was is d : TrackHead) → ReducedTo l old now k → k < length now → was ≡ slice_index_or now k d → track_seen is ≡ reduce_track_head l (track_seen was) → ReducedTo l old (slice_set now k is) (suc k)
+one_reduced : (l : Without) (old now : List TrackHead) (k : ℕ) (was is d : TrackHead) → ReducedTo l old now k → k < length now → was ≡ slice_index_or now k d → track_seen is ≡ reduce_track_head l (track_seen was) → ReducedTo l old (slice_set now k is) (suc k)
 one_reduced l [] [] k was is d h lt at e = absurd (omega (arith, lt))
 one_reduced l [] (y ∷ now) k was is d h lt at e = absurd h
 one_reduced l (x ∷ old) [] k was is d h lt at e = absurd (omega (arith, lt))
@@ -98,10 +99,10 @@ one_reduced l (x ∷ old) (y ∷ now) zero was is d h lt at e =
     (e ∙ ap (λ (t : TrackHead). reduce_track_head l (track_seen t)) (at ∙ first), reduced_none l old now rest)
 one_reduced l (x ∷ old) (y ∷ now) (suc k) was is d h lt at e = (h.0, one_reduced l old now k was is d h.1 (omega (arith, lt)) at e)
 
-pub reduced_one : (l : Leaving) (old now : List TrackHead) (k : ℕ) (was is d : TrackHead) → ReducedTo l old now k → k < length now → was ≡ slice_index_or now k d → track_seen is ≡ reduce_track_head l (track_seen was) → ReducedTo l old (slice_set now k is) (k + 1)
+pub reduced_one : (l : Without) (old now : List TrackHead) (k : ℕ) (was is d : TrackHead) → ReducedTo l old now k → k < length now → was ≡ slice_index_or now k d → track_seen is ≡ reduce_track_head l (track_seen was) → ReducedTo l old (slice_set now k is) (k + 1)
 reduced_one l old now k was is d h lt at e = let n : suc k ≡ k + 1 = omega arith in subst (λ i. ReducedTo l old (slice_set now k is) i) n (one_reduced l old now k was is d h lt at e)
 
-pub reduced_all : (l : Leaving) (old now : List TrackHead) (k : ℕ) → ReducedTo l old now k → length now ≤ k → map track_seen now ≡ map (reduce_track_head l) (map track_seen old)
+pub reduced_all : (l : Without) (old now : List TrackHead) (k : ℕ) → ReducedTo l old now k → length now ≤ k → map track_seen now ≡ map (reduce_track_head l) (map track_seen old)
 reduced_all l [] [] k h le = refl
 reduced_all l [] (y ∷ now) k h le = absurd h
 reduced_all l (x ∷ old) [] k h le = absurd h
@@ -116,3 +117,9 @@ less_long p head mehd len n short total h is count cut sum =
     let same = ap (λ (bs : List ℕ). length bs) h.bytes in
     let few = h.short in
     both_long (head_of_normal p) (pieces_bytes 1 (pieces p)) n short len total (omega (arith, same, few, count)) (omega (arith, same, few, count)) cut is.len is.within sum
+
+-- ---- payloads first, and then all else
+
+pub both_left : (l : Without) (tracks : List heads.TrackHead) → map (reduce_track_head (keeping_labels l)) (map (without_labels l) tracks) ≡ map (reduce_track_head l) tracks
+both_left l [] = refl
+both_left l (t ∷ tracks) = λ i. reduce_track_head l t ∷ both_left l tracks i

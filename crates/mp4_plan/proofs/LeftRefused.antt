@@ -5,7 +5,7 @@ use Rattle.mp4_boxes.specs.declared.refusal.Refusal.{Refusal}
 use Rattle.mp4_boxes.specs.declared.refusal.Refusal.TheVariants as refusals
 use Rattle.mp4_present.specs.format.Denotes.{FileTree}
 use Rattle.mp4_present.specs.words.Carried.{RefusesCarry, RefusesCopy}
-use Rattle.mp4_present.specs.declared.leaving.Leaving.{Leaving}
+use Rattle.mp4_present.specs.declared.without.Without.{Without}
 use Rattle.mp4_plan.specs.words.Writers.{RefusesPlan}
 use Rattle.mp4_plan.specs.words.LeftTimes.{NamesLong, RefusesLeft, RefusesLeftCopy}
 
@@ -19,7 +19,7 @@ so_if_err (Ok x) P p = tt
 so_if_err (Err r) P p = λ _. p
 
 -- planning puts nothing
-pub plan_puts_nothing : (l : Leaving) (reads reads_after : ℕ) (r : Refusal) (P : Type 0) → RefusesLeft l reads reads_after r → r ≡ refusals.WriteFailed → P
+pub plan_puts_nothing : (l : Without) (reads reads_after : ℕ) (r : Refusal) (P : Type 0) → RefusesLeft l reads reads_after r → r ≡ refusals.WriteFailed → P
 plan_puts_nothing l reads reads_after (refusals.Fault f) P w e = absurd cc
 plan_puts_nothing l reads reads_after refusals.Memory P w e = absurd cc
 plan_puts_nothing l reads reads_after refusals.StoreFailed P w e = absurd cc
@@ -40,7 +40,7 @@ pub so_both : {T : Type 0} (answer : Result T Refusal) (P Q : Type 0) → P → 
 so_both (Ok x) P Q p q = p
 so_both (Err r) P Q p q = q
 
-carry_names : (l : Leaving) (file : List ℕ) (tree : FileTree) (reads reads_after puts puts_after : ℕ) (r : Refusal) → RefusesCarry reads reads_after puts puts_after r → NamesLong l file tree r
+carry_names : (l : Without) (file : List ℕ) (tree : FileTree) (reads reads_after puts puts_after : ℕ) (r : Refusal) → RefusesCarry reads reads_after puts puts_after r → NamesLong l file tree r
 carry_names l file tree reads reads_after puts puts_after (refusals.Fault f) w = absurd w
 carry_names l file tree reads reads_after puts puts_after refusals.Memory w = tt
 carry_names l file tree reads reads_after puts puts_after refusals.StoreFailed w = tt
@@ -49,13 +49,13 @@ carry_names l file tree reads reads_after puts puts_after refusals.WriteFailed w
 carry_names l file tree reads reads_after puts puts_after refusals.NoSuchTrack w = tt
 
 -- bytes that are not taken along name no fault
-pub carried_names : (l : Leaving) (file : List ℕ) (tree : FileTree) {T : Type 0} (answer : Result T Refusal) (reads reads_after puts puts_after : ℕ) → IfErr answer (RefusesCarry reads reads_after puts puts_after) → IfErr answer (NamesLong l file tree)
+pub carried_names : (l : Without) (file : List ℕ) (tree : FileTree) {T : Type 0} (answer : Result T Refusal) (reads reads_after puts puts_after : ℕ) → IfErr answer (RefusesCarry reads reads_after puts puts_after) → IfErr answer (NamesLong l file tree)
 carried_names l file tree (Ok x) reads reads_after puts puts_after w = tt
 carried_names l file tree (Err r) reads reads_after puts puts_after w = carry_names l file tree reads reads_after puts puts_after r w
 
 -- ---- where edits stay no track is too long
 
-plan_left : (l : Leaving) (reads reads_after : ℕ) (r : Refusal) → l.edits ≡ false → RefusesLeft l reads reads_after r → RefusesPlan reads reads_after r
+plan_left : (l : Without) (reads reads_after : ℕ) (r : Refusal) → l.edits ≡ false → RefusesLeft l reads reads_after r → RefusesPlan reads reads_after r
 plan_left l reads reads_after (refusals.Fault f) e w = let out = w.0 in absurd cc
 plan_left l reads reads_after refusals.Memory e w = w
 plan_left l reads reads_after refusals.StoreFailed e w = w
@@ -63,11 +63,11 @@ plan_left l reads reads_after refusals.StoreChanged e w = w
 plan_left l reads reads_after refusals.WriteFailed e w = w
 plan_left l reads reads_after refusals.NoSuchTrack e w = w
 
-pub planned_left : (l : Leaving) {T : Type 0} (answer : Result T Refusal) (reads reads_after : ℕ) → l.edits ≡ false → IfErr answer (RefusesLeft l reads reads_after) → IfErr answer (RefusesPlan reads reads_after)
+pub planned_left : (l : Without) {T : Type 0} (answer : Result T Refusal) (reads reads_after : ℕ) → l.edits ≡ false → IfErr answer (RefusesLeft l reads reads_after) → IfErr answer (RefusesPlan reads reads_after)
 planned_left l (Ok x) reads reads_after e w = tt
 planned_left l (Err r) reads reads_after e w = plan_left l reads reads_after r e w
 
-copy_left : (l : Leaving) (Took : List ℕ → Type 0) (reads reads_after puts puts_after : ℕ) (r : Refusal) → l.edits ≡ false → RefusesLeftCopy l Took reads reads_after puts puts_after r → RefusesCopy Took reads reads_after puts puts_after r
+copy_left : (l : Without) (Took : List ℕ → Type 0) (reads reads_after puts puts_after : ℕ) (r : Refusal) → l.edits ≡ false → RefusesLeftCopy l Took reads reads_after puts puts_after r → RefusesCopy Took reads reads_after puts puts_after r
 copy_left l Took reads reads_after puts puts_after (refusals.Fault f) e w = let out = w.0.0 in absurd cc
 copy_left l Took reads reads_after puts puts_after refusals.Memory e w = w
 copy_left l Took reads reads_after puts puts_after refusals.StoreFailed e w = w
@@ -75,12 +75,12 @@ copy_left l Took reads reads_after puts puts_after refusals.StoreChanged e w = w
 copy_left l Took reads reads_after puts puts_after refusals.WriteFailed e w = w
 copy_left l Took reads reads_after puts puts_after refusals.NoSuchTrack e w = w
 
-pub copied_left : (l : Leaving) {T : Type 0} (answer : Result T Refusal) (Took : List ℕ → Type 0) (reads reads_after puts puts_after : ℕ) → l.edits ≡ false
+pub copied_left : (l : Without) {T : Type 0} (answer : Result T Refusal) (Took : List ℕ → Type 0) (reads reads_after puts puts_after : ℕ) → l.edits ≡ false
     → IfErr answer (RefusesLeftCopy l Took reads reads_after puts puts_after) → IfErr answer (RefusesCopy Took reads reads_after puts puts_after)
 copied_left l (Ok x) Took reads reads_after puts puts_after e w = tt
 copied_left l (Err r) Took reads reads_after puts puts_after e w = copy_left l Took reads reads_after puts puts_after r e w
 
-carry_left : (l : Leaving) (Took : List ℕ → Type 0) (reads reads_after puts puts_after : ℕ) (r : Refusal) → RefusesCarry reads reads_after puts puts_after r → RefusesLeftCopy l Took reads reads_after puts puts_after r
+carry_left : (l : Without) (Took : List ℕ → Type 0) (reads reads_after puts puts_after : ℕ) (r : Refusal) → RefusesCarry reads reads_after puts puts_after r → RefusesLeftCopy l Took reads reads_after puts puts_after r
 carry_left l Took reads reads_after puts puts_after (refusals.Fault f) w = absurd w
 carry_left l Took reads reads_after puts puts_after refusals.Memory w = absurd w
 carry_left l Took reads reads_after puts puts_after refusals.StoreFailed w = w
@@ -89,6 +89,6 @@ carry_left l Took reads reads_after puts puts_after refusals.WriteFailed w = w
 carry_left l Took reads reads_after puts puts_after refusals.NoSuchTrack w = w
 
 -- bytes that are not taken along are refused as a whole is
-pub carried_left : (l : Leaving) {T : Type 0} (answer : Result T Refusal) (Took : List ℕ → Type 0) (reads reads_after puts puts_after : ℕ) → IfErr answer (RefusesCarry reads reads_after puts puts_after) → IfErr answer (RefusesLeftCopy l Took reads reads_after puts puts_after)
+pub carried_left : (l : Without) {T : Type 0} (answer : Result T Refusal) (Took : List ℕ → Type 0) (reads reads_after puts puts_after : ℕ) → IfErr answer (RefusesCarry reads reads_after puts puts_after) → IfErr answer (RefusesLeftCopy l Took reads reads_after puts puts_after)
 carried_left l (Ok x) Took reads reads_after puts puts_after w = tt
 carried_left l (Err r) Took reads reads_after puts puts_after w = carry_left l Took reads reads_after puts puts_after r w

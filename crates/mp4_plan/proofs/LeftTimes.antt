@@ -24,7 +24,7 @@ use Rattle.mp4_present.specs.format.Presentation.{Track, IsInTime, max_time, mov
 use Rattle.mp4_present.specs.format.Reduced.{ReducesInTime, reduce, reduce_track}
 use Rattle.mp4_present.specs.words.Movies.{MovieSeen, moov_box}
 use Rattle.mp4_present.specs.words.OpenedMovie.{IsInfoOf, IsOpenedAs}
-use Rattle.mp4_present.specs.declared.leaving.Leaving.{Leaving}
+use Rattle.mp4_present.specs.declared.without.Without.{Without}
 use Rattle.mp4_present.specs.declared.track_info.TrackInfo.{TrackInfo}
 use Rattle.mp4_present.proofs.Assembled.{take_one, timescale_there}
 use Rattle.mp4_plan.specs.format.ReducedTimes.{LeftInTime, ReducedTimePasses}
@@ -64,7 +64,7 @@ long_here timescale hs tracks k longest info head f h lt e less is long named = 
 
 -- ---- one track of the file
 
-module _ (l : Leaving) (out : l.edits ≡ true) (file : List ℕ) (tree : FileTree) where
+module _ (l : Without) (out : l.edits ≡ true) (file : List ℕ) (tree : FileTree) where
   abbrev track : TrackTree → Track
   track t = track_of file (file_parts tree) t
 
@@ -196,7 +196,7 @@ module _ (l : Leaving) (out : l.edits ≡ true) (file : List ℕ) (tree : FileTr
 
 -- ---- such a fault
 
-module _ (l : Leaving) (file : List ℕ) (tree : FileTree) where
+module _ (l : Without) (file : List ℕ) (tree : FileTree) where
   here : (P : Track → Type 0) (before after : List TrackTree) (t : TrackTree) → AllByRecursion P (map (track_of file (file_parts tree)) (before ++ t ∷ after)) → P (track_of file (file_parts tree) t)
   here P [] after t h = h.0
   here P (u ∷ before) after t h = here P before after t h.1
@@ -209,7 +209,7 @@ module _ (l : Leaving) (file : List ℕ) (tree : FileTree) where
 
 -- ---- where edits stay
 
-pub edits_stay : (l : Leaving) (file : List ℕ) (m : MovieSeen) (tree : FileTree) → l.edits ≡ false → IsOpenedAs file m tree → ReducesInTime l (presentation_of file tree) × (m.mehd ≡ movie_length (reduce l (presentation_of file tree)))
+pub edits_stay : (l : Without) (file : List ℕ) (m : MovieSeen) (tree : FileTree) → l.edits ≡ false → IsOpenedAs file m tree → ReducesInTime l (presentation_of file tree) × (m.mehd ≡ movie_length (reduce l (presentation_of file tree)))
 edits_stay l file m tree stay o =
     let p = presentation_of file tree in (
       each_weaker (IsInTime p.movie.timescale) (λ (t : Track). IsInTime p.movie.timescale (reduce_track l t)) (λ t h. in_time_stays l p.movie.timescale t stay h) p.tracks o.limits.times,

@@ -25,6 +25,7 @@ mod WalksOn
 mod PieceCarried
 mod PieceFed
 mod HandsCounted
+mod NonSyncCounted
 pub mod WrittenFragment
 pub mod PieceTree
 pub mod PieceSays
@@ -96,3 +97,4 @@ mod WritingSteps
 mod PiecesPut
 mod WriterMade
 mod BytesLeft
+pub mod Plain

@@ -1,6 +1,6 @@
 -- The next samples of tracks, and turns in which none goes into a piece.
 use Rattle.std.proofs.Common.{rules, ◌≡◌, ℕ, zero, suc, ◌+◌, ◌<◌, ◌≤◌, ◌==◌, ◌&&◌, Bool, true, false, List, [], ◌∷◌, ◌++◌, length, take, map, Some, None, refl, sym, ap, ◌∙◌, arith, slice_set}
-use Rattle.mp4_present.specs.declared.leaving.Leaving.{Leaving}
+use Rattle.mp4_present.specs.declared.without.Without.{Without}
 use Rattle.std.specs.Prelude.{Option, slice_get, slice_index_or}
 use Rattle.std.proofs.lemmas.List.Sums.{sum_by-cons}
 use Rattle.std.proofs.lemmas.List.{take_all, take_more_set, map-append}
@@ -8,7 +8,7 @@ use Rattle.mp4_head.specs.format.Tree.{TrackTree}
 use Rattle.mp4_tables.specs.declared.sample.SampleAt.{SampleAt}
 use Rattle.mp4_present.specs.format.Denotes.{FileTree}
 use Rattle.mp4_present.specs.words.Movies.{MovieSeen}
-use Rattle.mp4_present.specs.declared.walks.Walk.{Walk}
+use Rattle.mp4_present.specs.declared.walking.Walk.{Walk}
 use Rattle.mp4_plan.specs.words.Ends.{first_goes}
 use Rattle.mp4_plan.specs.words.Gathering.{piece_from, more_of}
 use Rattle.mp4_plan.specs.words.Writers.{AllCome, firsts, turn_head}
@@ -70,7 +70,7 @@ pub noted_all : (nexts : List (Option SampleAt)) (lefts : List (List SampleAt)) 
 noted_all nexts lefts k h a b = sym (take_all k nexts a) ∙ h ∙ ap firsts (take_all k lefts b)
 
 -- as many tracks as walks
-pub come_length : (leaving : Leaving) (file : List ℕ) (tree : FileTree) (m : MovieSeen) (trees : List TrackTree) (walks : List Walk) (lefts : List (List SampleAt)) → AllCome leaving file tree m trees walks lefts → length lefts ≡ length walks
+pub come_length : (leaving : Without) (file : List ℕ) (tree : FileTree) (m : MovieSeen) (trees : List TrackTree) (walks : List Walk) (lefts : List (List SampleAt)) → AllCome leaving file tree m trees walks lefts → length lefts ≡ length walks
 come_length leaving file tree m [] [] [] h = refl
 come_length leaving file tree m [] [] (l ∷ lefts) h = absurd h
 come_length leaving file tree m [] (w ∷ walks) lefts h = absurd h

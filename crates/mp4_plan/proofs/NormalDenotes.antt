@@ -13,7 +13,7 @@ use Rattle.mp4_tables.specs.format.TableRules.{Fit, is_index}
 use Rattle.mp4_frag.specs.declared.trex.Trex.{Trex}
 use Rattle.mp4_frag.specs.format.FragmentSamples.{all_parts, Part, part_samples, parts_for, fragment_samples, start_of, duration_of, trex_for, AreOnTime, AreGrouped}
 use Rattle.mp4_frag.specs.format.Fragments.{fragment_of}
-use Rattle.mp4_frag.specs.format.FragmentRules.{TrackInfo, track_for, is_known, has_indexes, is_within}
+use Rattle.mp4_frag.specs.format.FragmentRules.{TrackFacts, track_for, is_known, has_indexes, is_within}
 use Rattle.mp4_head.specs.format.Head.{TrackHead, IsTrackHead}
 use Rattle.mp4_head.specs.format.Tree.{TrackTree, track_head_of, trexes_of, first_of}
 use Rattle.mp4_head.proofs.WrittenContents.{content_of, contents_of, trak_payload}
@@ -39,10 +39,10 @@ use Rattle.mp4_plan.proofs.NormalGroups.{parts_grouped, track_spells, of_track}
 -- ---- tracks as fragments see them
 
 -- a head as fragments see the track
-abbrev head_info : TrackHead → TrackInfo
+abbrev head_info : TrackHead → TrackFacts
 head_info h = record { id = h.id; descriptions = length h.media.descriptions }
 
-abbrev infos : Presentation → List TrackInfo
+abbrev infos : Presentation → List TrackFacts
 infos p = map head_info (heads p)
 
 -- the heads of written `trak`s can be read
@@ -74,7 +74,7 @@ mapped_found f p q same t (x ∷ xs) e = mapped_at f p q x t xs (p x) refl (same
 -- the track that is found among heads, and its `trex`
 info_found : (id : ℕ) (tracks : List Track) (t : Track) → find (λ (u : Track). u.head.id == id) tracks ≡ Some t → track_for (map head_info (map (λ (u : Track). u.head) tracks)) id ≡ Some (head_info t.head)
 info_found id tracks t e =
-    mapped_found head_info (λ (h : TrackHead). h.id == id) (λ (i : TrackInfo). i.id == id) (λ h. refl) t.head (map (λ (u : Track). u.head) tracks)
+    mapped_found head_info (λ (h : TrackHead). h.id == id) (λ (i : TrackFacts). i.id == id) (λ h. refl) t.head (map (λ (u : Track). u.head) tracks)
     (mapped_found (λ (u : Track). u.head) (λ (u : Track). u.head.id == id) (λ (h : TrackHead). h.id == id) (λ u. refl) t tracks e)
 
 -- its `trex`
@@ -141,12 +141,12 @@ track_says file parts at t r =
 -- ---- each part
 
 -- a track with this ID is there, with its `trex`
-abbrev IsThere : List TrackInfo → List Trex → ℕ → Type 0
+abbrev IsThere : List TrackFacts → List Trex → ℕ → Type 0
 IsThere tracks trexes id = (is_some (track_for tracks id) && is_some (trex_for trexes id)) ≡ true
 
 -- the description of a sample is one of those of its track
-abbrev HasIndex : List TrackInfo → ℕ → Sample → Type 0
-HasIndex tracks id s = is_index (unwrap_or (option_map (λ (track : TrackInfo). track.descriptions) (track_for tracks id)) 0) s.description ≡ true
+abbrev HasIndex : List TrackFacts → ℕ → Sample → Type 0
+HasIndex tracks id s = is_index (unwrap_or (option_map (λ (track : TrackFacts). track.descriptions) (track_for tracks id)) 0) s.description ≡ true
 
 -- a test that each passes
 all_tests : {A : Type 0} (test : A → Bool) (xs : List A) → AllByRecursion (λ x. test x ≡ true) xs → list_all test xs ≡ true
@@ -179,7 +179,7 @@ index_of tracks t c =
     let found = info_found t.head.id tracks t c.found in
     all_timed (HasIndex infos t.head.id) 1 t.start t.samples
     (all_weaker (IsSample n) (HasIndex infos t.head.id)
-    (λ s h. ap (λ (o : Option TrackInfo). is_index (unwrap_or (option_map (λ (track : TrackInfo). track.descriptions) o) 0) s.description) found
+    (λ s h. ap (λ (o : Option TrackFacts). is_index (unwrap_or (option_map (λ (track : TrackFacts). track.descriptions) o) 0) s.description) found
     ∙ and_from (leb 1 s.description) (leb s.description n) (le-leb 1 s.description h.description_from_1) (le-leb s.description n h.description)) t.samples c.valid.samples)
 
 -- ---- the whole
@@ -243,14 +243,14 @@ module _ (p : Presentation) (v : Valid p) where
       let indexes = samples_in_parts (sample_of (normal p)) (λ s. refl) (HasIndex infos) parts (pieces p) all_say
       (samples_in_pieces (λ id s. HasIndex infos id s.sample) p (all_weaker (CanWrite p.tracks) (λ (t : Track). AllByRecursion (λ (s : TimedSample). HasIndex infos t.head.id s.sample) (timed t)) (λ t c. index_of p.tracks t c) p.tracks (valid_tracks p v))) in
       let indexed = all_weaker (λ (part : Part). AllByRecursion (λ (s : PlacedSample). HasIndex infos part.id (sample_of (normal p) s)) (part_samples part)) (λ (part : Part). IsTrue (has_indexes infos part))
-      (λ part h. all_tests (λ (s : PlacedSample). is_index (unwrap_or (option_map (λ (track : TrackInfo). track.descriptions) (track_for infos part.id)) 0) s.description) (part_samples part) h) parts indexes in
+      (λ part h. all_tests (λ (s : PlacedSample). is_index (unwrap_or (option_map (λ (track : TrackFacts). track.descriptions) (track_for infos part.id)) 0) s.description) (part_samples part) h) parts indexes in
       record {
         tables = all_of_tracks (λ (t : TrackTree). Fit (surroundings (normal p) t) (tables_of t.table)) (CanWrite p.tracks) (λ n t c. track_fits (normal p) n t) at p.tracks (valid_tracks p v);
         known = subst (λ (l : List Part). AllByRecursion (λ (part : Part). IsTrue (is_known (track_infos (normal_tree p).movie) (trexes_of (normal_tree p).movie) part)) l) (sym parts_of_file)
-            (subst (λ (l : List TrackInfo). AllByRecursion (λ (part : Part). IsTrue (is_known l (trexes_of (normal_tree p).movie) part)) parts) (sym infos_are)
+            (subst (λ (l : List TrackFacts). AllByRecursion (λ (part : Part). IsTrue (is_known l (trexes_of (normal_tree p).movie) part)) parts) (sym infos_are)
             (subst (λ (l : List Trex). AllByRecursion (λ (part : Part). IsTrue (is_known infos l part)) parts) (sym trexes_are) known));
         indexes = subst (λ (l : List Part). AllByRecursion (λ (part : Part). IsTrue (has_indexes (track_infos (normal_tree p).movie) part)) l) (sym parts_of_file)
-            (subst (λ (l : List TrackInfo). AllByRecursion (λ (part : Part). IsTrue (has_indexes l part)) parts) (sym infos_are) indexed);
+            (subst (λ (l : List TrackFacts). AllByRecursion (λ (part : Part). IsTrue (has_indexes l part)) parts) (sym infos_are) indexed);
         places = subst (λ (l : List Part). AllByRecursion (λ (part : Part). AllByRecursion (λ run. IsTrue (is_within (length (normal p)) run)) part.runs) l) (sym parts_of_file)
             (zip_first (Spells (normal p)) (λ (part : Part). AllByRecursion (λ run. IsTrue (is_within (length (normal p)) run)) part.runs) (λ x y h. h.within) parts (pieces p) all_spell);
         groups = subst (λ (l : List Part). AllByRecursion (λ (track : TrackTree). AreGrouped (plain_keys track) (parts_of_track l track)) (normal_tree p).movie.tracks) (sym parts_of_file)

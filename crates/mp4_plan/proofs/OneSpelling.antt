@@ -13,7 +13,7 @@ use Rattle.mp4_frag.specs.format.Fragments.{column}
 use Rattle.mp4_present.specs.format.Presentation.{Sample, Track, IsSample, IsTrack}
 use Rattle.mp4_plan.specs.format.Pieces.{TimedSample, Piece, timed, pieces}
 use Rattle.mp4_plan.specs.format.Normal.{common, shared_by, row_flags, trun_row, first_description}
-use Rattle.mp4_plan.specs.format.SpellingLaws.{Agree, IsSpelledOnce, defaults, run_bits, HasOneSpelling, ColumnsAreSpelledOnce}
+use Rattle.mp4_plan.specs.format.SpellingLaws.{AreAlike, IsSpelledOnce, defaults, run_bits, HasOneSpelling, ColumnsAreSpelledOnce}
 use Rattle.mp4_plan.proofs.Shared.{common_is}
 use Rattle.mp4_plan.proofs.WrittenRun.{common_has}
 use Rattle.mp4_plan.proofs.PieceSays.{offsets_none}
@@ -115,7 +115,7 @@ all_same value n [] h = refl
 all_same value n (s ∷ samples) h = and_from (nat_eq n (value s)) (list_all (nat_eq n) (map value samples)) (eq-eqb n (value s) (sym h.0)) (all_same value n samples h.1)
 
 -- where samples agree they have a number in common
-agreed : (value : TimedSample → ℕ) (samples : List TimedSample) → 0 < length samples → Agree value samples → common (map value samples) ≡ None → ⊥
+agreed : (value : TimedSample → ℕ) (samples : List TimedSample) → 0 < length samples → AreAlike value samples → common (map value samples) ≡ None → ⊥
 agreed value [] some a e = omega (arith, some)
 agreed value (s ∷ samples) some a e =
     let all = all_same value (value s) samples a in

@@ -15,7 +15,7 @@ use Rattle.mp4_frag.specs.format.Fragments.{Fragment, FragmentTree, IsFragmentTr
 use Rattle.mp4_frag.specs.format.FragmentSamples.{Part, parts_of, all_parts, trex_for, no_trex}
 use Rattle.mp4_plan.specs.format.Pieces.{TimedSample, Piece}
 use Rattle.mp4_plan.specs.format.Normal.{piece_data, moof_bytes, piece_bytes, pieces_bytes}
-use Rattle.mp4_plan.specs.format.PieceLaws.{IsOne}
+use Rattle.mp4_plan.specs.format.PieceLaws.{IsOnePiece}
 use Rattle.mp4_plan.proofs.RunRows.{FitsRow}
 use Rattle.mp4_plan.proofs.WrittenFragment.{IsWritablePiece, moof_payload, moof_short, moof_same}
 use Rattle.mp4_plan.proofs.PieceTree.{moof_content, piece_tree, piece_tree_is, fragment_again, traf_sound}
@@ -25,7 +25,7 @@ use Rattle.mp4_plan.proofs.PieceSays.{HasFlags, offset_of, piece_part, Spells, p
 pub record IsGood (piece : Piece) : Type 0 where
   pub writable : IsWritablePiece piece
   pub flags : AllByRecursion HasFlags piece.samples
-  pub one : IsOne piece.samples
+  pub one : IsOnePiece piece.samples
 
 -- ---- sizes
 

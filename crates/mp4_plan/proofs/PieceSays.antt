@@ -18,7 +18,7 @@ use Rattle.mp4_present.specs.format.Presentation.{Sample}
 use Rattle.mp4_present.specs.format.Denotes.{sample_of}
 use Rattle.mp4_plan.specs.format.Pieces.{TimedSample, Piece}
 use Rattle.mp4_plan.specs.format.Normal.{piece_data, common, shared_by, first_description, first_time, piece_keys, moof_length}
-use Rattle.mp4_plan.specs.format.PieceLaws.{IsOne}
+use Rattle.mp4_plan.specs.format.PieceLaws.{IsOnePiece}
 use Rattle.mp4_plan.proofs.PartLists.{Says, untimed_samples}
 use Rattle.mp4_plan.proofs.RunLists.{Gives, IsFoundAs, data_of, run_found, found_within}
 use Rattle.mp4_plan.proofs.RunRows.{FitsRow, row_read}
@@ -87,7 +87,7 @@ module _ (trex : Trex) (data_offset : ℕ) (piece : Piece) where
   )
 
   -- The rows of a piece give its samples.
-  pub rows_give : AllByRecursion FitsRow piece.samples → AllByRecursion HasFlags piece.samples → IsOne piece.samples → AllZip (Gives trex (traf_read data_offset piece)) (map (row_read (shared_by piece.samples)) piece.samples) (untimed_samples piece.samples)
+  pub rows_give : AllByRecursion FitsRow piece.samples → AllByRecursion HasFlags piece.samples → IsOnePiece piece.samples → AllZip (Gives trex (traf_read data_offset piece)) (map (row_read (shared_by piece.samples)) piece.samples) (untimed_samples piece.samples)
   rows_give fits small one =
       gives piece.samples (common_of (λ s. s.sample.duration) piece.samples) (common_of (λ s. length s.sample.bytes) piece.samples) (common_of (λ s. s.sample.flags) piece.samples)
       (λ e. offsets_none piece.samples (each_weaker FitsRow (λ (s : TimedSample). FitsSigned w32 s.sample.offset) (λ s h. h.offset) piece.samples fits) (flipped (list_all (λ (s : TimedSample). unsigned 4 s.sample.offset == 0) piece.samples) e)) small one
@@ -131,7 +131,7 @@ pub record Spells (file : List ℕ) (part : Part) (piece : Piece) : Type 0 where
   pub many : length (part_samples part) ≡ length piece.samples
 
 -- Where a file has the data of a piece behind as many bytes as its part says, the part spells the piece.
-pub part_spells : (trex : Trex) (file front back : List ℕ) (at : ℕ) (piece : Piece) → IsWritablePiece piece → AllByRecursion HasFlags piece.samples → IsOne piece.samples
+pub part_spells : (trex : Trex) (file front back : List ℕ) (at : ℕ) (piece : Piece) → IsWritablePiece piece → AllByRecursion HasFlags piece.samples → IsOnePiece piece.samples
     → at + offset_of piece ≡ length front → file ≡ front ++ (piece_data piece ++ back) → Spells file (piece_part trex at piece) piece
 part_spells trex file front back at piece h small one e f =
     let samples = untimed_samples piece.samples in

@@ -7,7 +7,7 @@ use Rattle.mp4_boxes.specs.format.Places.{ruled, AreSound}
 use Rattle.mp4_boxes.specs.declared.rule.Rule.TheVariants as rules
 use Rattle.mp4_boxes.proofs.WrittenBoxes.{Content, written, placed, placed_box, children, AreTypes, typed, length-box_bytes, fits_written, holds_written, count_before, of_kind-none, of_kind-all}
 use Rattle.mp4_tables.specs.format.Groups.{groupings_of}
-use Rattle.mp4_frag.specs.format.Fragments.{TrackFragment, FragmentTree, IsFragmentTree, run_of, column, track_fragment_of, fragment_of}
+use Rattle.mp4_frag.specs.format.Fragments.{TrackFragment, FragmentTree, IsFragmentTree, sample_run_of, column, track_fragment_of, fragment_of}
 use Rattle.mp4_head.proofs.WrittenTrackHead.{sound_placed}
 use Rattle.mp4_plan.specs.format.Pieces.{Piece}
 use Rattle.mp4_plan.specs.format.Normal.{shared_by, first_time, first_description, piece_keys}
@@ -91,7 +91,7 @@ module _ (data_offset : ℕ) (piece : Piece) (near : data_offset < 2 ^ 31) (h : 
         flags = column (values i) 4;
         base_is_moof = is_moof i;
         decode_time = Some (time i);
-        runs = run i ∷ map (λ (b : Box). run_of b.payload) (no_runs i);
+        runs = run i ∷ map (λ (b : Box). sample_run_of b.payload) (no_runs i);
         groups = groupings_of (all_groups i);
       })
       ∙ (λ i. record (traf_read data_offset piece) { groups = groups i })

@@ -1,6 +1,6 @@
 -- What is planned of the pieces of an opened file, turn by turn.
 use Rattle.std.proofs.Common.{◌≡◌, ℕ, zero, suc, ◌+◌, ◌-◌, ◌*◌, ◌^◌, ◌<◌, ◌≤◌, nat_lt, Bool, true, false, cond, List, [], ◌∷◌, ◌++◌, length, take, map, Option, Some, None, refl, sym, ap, subst, ◌∙◌, arith, length-append, append-nil}
-use Rattle.mp4_present.specs.declared.leaving.Leaving.{Leaving}
+use Rattle.mp4_present.specs.declared.without.Without.{Without}
 use Rattle.mp4_plan.specs.words.ComingLess.{ComesLess, left_samples}
 use Rattle.mp4_present.specs.format.Reduced.{reduce}
 use Rattle.mp4_plan.proofs.ReducedTaken.{less_counted}
@@ -16,7 +16,7 @@ use Rattle.mp4_present.specs.format.Denotes.{FileTree, presentation_of}
 use Rattle.mp4_present.specs.words.Movies.{MovieSeen}
 use Rattle.mp4_present.specs.words.OpenedMovie.{IsOpenedAs}
 use Rattle.mp4_present.specs.declared.track_info.TrackInfo.{TrackInfo}
-use Rattle.mp4_present.specs.declared.walks.Walk.{Walk}
+use Rattle.mp4_present.specs.declared.walking.Walk.{Walk}
 use Rattle.mp4_plan.specs.words.PiecesComing.{Coming, coming_of}
 use Rattle.mp4_plan.specs.words.Gathering.{gather_all, planned_of, more_of, piece_from, piece_fed, samples_after}
 use Rattle.mp4_plan.specs.format.Normal.{pieces_bytes, piece_bytes}
@@ -131,21 +131,21 @@ added keys p len next long left adds four small none some le fits = by p.count r
 -- ---- all turns
 
 -- The walks stand before a turn: these samples are left of each track, and these are the next ones.
-pub record StandsAt (leaving : Leaving) (file : List ℕ) (tree : FileTree) (m : MovieSeen) (s : Schedule) (walks : List Walk) (nexts : List (Option SampleAt)) (lefts : List (List SampleAt)) (comings : List Coming) : Type 0 where
+pub record StandsAt (leaving : Without) (file : List ℕ) (tree : FileTree) (m : MovieSeen) (s : Schedule) (walks : List Walk) (nexts : List (Option SampleAt)) (lefts : List (List SampleAt)) (comings : List Coming) : Type 0 where
   pub come : AllCome leaving file tree m tree.movie.tracks walks lefts
   pub shown : nexts ≡ firsts lefts
   pub turn : IsTurn file m.tracks s lefts comings
   pub few : left_count lefts ≤ 2 ^ 24
 
 -- The most samples of a piece before it.
-pub record IsLongest (leaving : Leaving) (file : List ℕ) (tree : FileTree) (m : MovieSeen) (s : Schedule) (walks : List Walk) (nexts : List (Option SampleAt)) (most : ℕ) : Type 0 where
+pub record IsLongest (leaving : Without) (file : List ℕ) (tree : FileTree) (m : MovieSeen) (s : Schedule) (walks : List Walk) (nexts : List (Option SampleAt)) (most : ℕ) : Type 0 where
   pub lefts : List (List SampleAt)
   pub comings : List Coming
   pub at : StandsAt leaving file tree m s walks nexts lefts comings
   pub longest : max most (longest_piece (pieces_from s comings)) ≡ longest_piece (pieces (reduce leaving (presentation_of file tree)))
 
 -- The bytes of the pieces before it.
-pub record IsLength (leaving : Leaving) (file : List ℕ) (tree : FileTree) (m : MovieSeen) (s : Schedule) (walks : List Walk) (nexts : List (Option SampleAt)) (so_far : ℕ) : Type 0 where
+pub record IsLength (leaving : Without) (file : List ℕ) (tree : FileTree) (m : MovieSeen) (s : Schedule) (walks : List Walk) (nexts : List (Option SampleAt)) (so_far : ℕ) : Type 0 where
   pub lefts : List (List SampleAt)
   pub comings : List Coming
   pub at : StandsAt leaving file tree m s walks nexts lefts comings
@@ -158,7 +158,7 @@ begins_same [] = refl
 begins_same ([] ∷ lefts) = refl
 begins_same ((s ∷ samples) ∷ lefts) = refl
 
-module _ (leaving : Leaving) (file : List ℕ) (tree : FileTree) (m : MovieSeen) (s : Schedule) (walks : List Walk) (nexts : List (Option SampleAt)) (from : ℕ) (o : IsOpenedAs file m tree) (come : AllBegin leaving file tree m walks)
+module _ (leaving : Without) (file : List ℕ) (tree : FileTree) (m : MovieSeen) (s : Schedule) (walks : List Walk) (nexts : List (Option SampleAt)) (from : ℕ) (o : IsOpenedAs file m tree) (come : AllBegin leaving file tree m walks)
     (shown : nexts ≡ firsts (map (left_samples leaving tree) tree.movie.tracks)) (time : from ≡ writers.first_dts (map (left_samples leaving tree) tree.movie.tracks))
     (tracks : s.tracks ≡ length m.tracks) (first : s.first ≡ first_scale m.tracks) (left : s.left ≡ sum_by (λ (i : TrackInfo). i.samples) m.tracks) (starts : (s.track ≡ 0) × (s.from ≡ from) × (s.next ≡ None)) where
   abbrev all_lefts : List (List SampleAt)
@@ -199,7 +199,7 @@ module _ (leaving : Leaving) (file : List ℕ) (tree : FileTree) (m : MovieSeen)
         len = (let n : 0 + length (pieces_bytes 1 (pieces_from s all_comings)) ≡ length (pieces_bytes 1 (pieces_from s all_comings)) = omega arith in n) ∙ ap (λ ps. length (pieces_bytes 1 ps)) begins.1;
       }
 
-module _ (leaving : Leaving) (file : List ℕ) (tree : FileTree) (m : MovieSeen) (s : Schedule) (walks : List Walk) (nexts : List (Option SampleAt)) where
+module _ (leaving : Without) (file : List ℕ) (tree : FileTree) (m : MovieSeen) (s : Schedule) (walks : List Walk) (nexts : List (Option SampleAt)) where
   -- Behind the last turn all were passed.
   pub longest_end : (most : ℕ) → IsLongest leaving file tree m s walks nexts most → s.tracks ≤ s.track → most ≡ longest_piece (pieces (reduce leaving (presentation_of file tree)))
   longest_end most h le =
@@ -215,7 +215,7 @@ module _ (leaving : Leaving) (file : List ℕ) (tree : FileTree) (m : MovieSeen)
       record { len = (let n : total ≡ total + 0 = omega arith in n) ∙ len; within = omega (arith, fits) }
 
 -- The turn of a track: what is kept of it, and what comes of it.
-pub record HasTurn (leaving : Leaving) (file : List ℕ) (tree : FileTree) (m : MovieSeen) (s : Schedule) (nexts : List (Option SampleAt)) (lefts : List (List SampleAt)) (k : ℕ) (walk : Walk) (end : End) : Type 0 where
+pub record HasTurn (leaving : Without) (file : List ℕ) (tree : FileTree) (m : MovieSeen) (s : Schedule) (nexts : List (Option SampleAt)) (lefts : List (List SampleAt)) (k : ℕ) (walk : Walk) (end : End) : Type 0 where
   pub info : TrackInfo
   pub left : List SampleAt
   pub t : TrackTree
@@ -228,7 +228,7 @@ pub record HasTurn (leaving : Leaving) (file : List ℕ) (tree : FileTree) (m : 
   pub few : length left ≤ 2 ^ 24
   pub shown : slice_get nexts s.track ≡ Some (slice_get left 0)
 
-module _ (leaving : Leaving) (file : List ℕ) (tree : FileTree) (m : MovieSeen) (s : Schedule) (walks : List Walk) (nexts : List (Option SampleAt)) (lefts : List (List SampleAt)) (comings : List Coming) (o : IsOpenedAs file m tree)
+module _ (leaving : Without) (file : List ℕ) (tree : FileTree) (m : MovieSeen) (s : Schedule) (walks : List Walk) (nexts : List (Option SampleAt)) (lefts : List (List SampleAt)) (comings : List Coming) (o : IsOpenedAs file m tree)
     (h : StandsAt leaving file tree m s walks nexts lefts comings) where
   pub has_turn : (k : ℕ) (walk : Walk) (end : End) → (k ≡ s.track) × (s.track < s.tracks) → walk ≡ slice_index_or walks k walk → length walks ≡ length m.tracks → ((info : TrackInfo) → slice_get m.tracks s.track ≡ Some info → end ≡ turn_end s info.timescale)
       → HasTurn leaving file tree m s nexts lefts k walk end
@@ -355,7 +355,7 @@ module _ (leaving : Leaving) (file : List ℕ) (tree : FileTree) (m : MovieSeen)
 
 -- ---- where tracks are skipped
 
-module _ (leaving : Leaving) (file : List ℕ) (tree : FileTree) (m : MovieSeen) (s later : Schedule) (walks : List Walk) (nexts : List (Option SampleAt)) (d : DueTracks) (o : IsOpenedAs file m tree) (skips : Skips d s later) (due : IsDueAt m.tracks nexts later d) where
+module _ (leaving : Without) (file : List ℕ) (tree : FileTree) (m : MovieSeen) (s later : Schedule) (walks : List Walk) (nexts : List (Option SampleAt)) (d : DueTracks) (o : IsOpenedAs file m tree) (skips : Skips d s later) (due : IsDueAt m.tracks nexts later d) where
   stands_skipped : (lefts : List (List SampleAt)) (comings : List Coming) → StandsAt leaving file tree m s walks nexts lefts comings → StandsAt leaving file tree m later walks nexts lefts comings × (pieces_from s comings ≡ pieces_from later comings)
   stands_skipped lefts comings h =
       let r = turns_skipped file m.tracks d s later nexts lefts comings skips h.turn h.shown due (opened_scales file m tree o) in

@@ -1,6 +1,6 @@
 -- Walks over the tracks of an opened file, and what is planned of the pieces that come in them.
 use Rattle.std.proofs.Common.{◌≡◌, ℕ, zero, suc, ◌+◌, ◌*◌, ◌<◌, ◌≤◌, List, [], ◌∷◌, ◌++◌, length, take, map, Some, refl, sym, ap, subst, ◌∙◌, arith, length-set}
-use Rattle.mp4_present.specs.declared.leaving.Leaving.{Leaving}
+use Rattle.mp4_present.specs.declared.without.Without.{Without}
 use Rattle.mp4_plan.specs.words.ComingLess.{ComesLess, left_samples}
 use Rattle.std.specs.Prelude.{slice_get, slice_set, slice_index_or}
 use Rattle.std.specs.List.{AllByRecursion}
@@ -13,7 +13,7 @@ use Rattle.mp4_present.specs.words.SamplesComing.{Comes, track_samples, traf_tot
 use Rattle.mp4_present.specs.format.Denotes.{FileTree}
 use Rattle.mp4_present.specs.words.Movies.{MovieSeen, IsWalkOf, mark_of, own_room}
 use Rattle.mp4_present.specs.words.OpenedMovie.{IsInfoOf, IsOpenedAs}
-use Rattle.mp4_present.specs.declared.walks.Walk.{Walk}
+use Rattle.mp4_present.specs.declared.walking.Walk.{Walk}
 use Rattle.mp4_present.specs.declared.track_info.TrackInfo.{TrackInfo}
 use Rattle.mp4_present.proofs.Counts.{sum-append}
 use Rattle.mp4_present.proofs.OwnSums.{rooms_within}
@@ -32,7 +32,7 @@ use Rattle.mp4_plan.proofs.TurnTaken.{there_is}
 
 -- walks over the first tracks of a file
 abbrev pub BeginSoFar : MovieSeen → ℕ → List Walk → Type 0
-BeginSoFar m k walks = (file : List ℕ) (tree : FileTree) → IsOpenedAs file m tree → (leaving : Leaving) → AllCome leaving file tree m (take k tree.movie.tracks) walks (map (left_samples leaving tree) (take k tree.movie.tracks))
+BeginSoFar m k walks = (file : List ℕ) (tree : FileTree) → IsOpenedAs file m tree → (leaving : Without) → AllCome leaving file tree m (take k tree.movie.tracks) walks (map (left_samples leaving tree) (take k tree.movie.tracks))
 
 -- the room of one walk more
 more_room : (walks : List Walk) (walk : Walk) → rooms (walks ++ walk ∷ []) ≡ rooms walks + length walk.bytes.items
@@ -63,7 +63,7 @@ one_begins m k walks walk h n lt comes file tree o leaving =
     come_more leaving file tree m tree.movie.tracks walks (left_samples leaving tree) k t.0 walk (h file tree o leaving) n t.1 (record { samples = track_samples tree t.0; comes = comes file tree t.0 o t.1; is_left = refl })
 
 -- all tracks have walks
-pub all_begin : (m : MovieSeen) (k : ℕ) (walks : List Walk) → BeginSoFar m k walks → length m.tracks ≤ k → (file : List ℕ) (tree : FileTree) → IsOpenedAs file m tree → (leaving : Leaving) → AllBegin leaving file tree m walks
+pub all_begin : (m : MovieSeen) (k : ℕ) (walks : List Walk) → BeginSoFar m k walks → length m.tracks ≤ k → (file : List ℕ) (tree : FileTree) → IsOpenedAs file m tree → (leaving : Without) → AllBegin leaving file tree m walks
 all_begin m k walks h le file tree o leaving =
     let many = zip_length (IsInfoOf file tree) tree.movie.tracks m.tracks o.tracks in
     let all = take_all k tree.movie.tracks (omega (arith, le, many)) in
@@ -72,7 +72,7 @@ all_begin m k walks h le file tree o leaving =
 -- ---- walks that have marked where they begin
 
 abbrev pub BeginMarked : MovieSeen → ℕ → List Walk → Type 0
-BeginMarked m k walks = (file : List ℕ) (tree : FileTree) → IsOpenedAs file m tree → (leaving : Leaving) → AreMarked walks (map (left_samples leaving tree) (take k tree.movie.tracks))
+BeginMarked m k walks = (file : List ℕ) (tree : FileTree) → IsOpenedAs file m tree → (leaving : Without) → AreMarked walks (map (left_samples leaving tree) (take k tree.movie.tracks))
 
 marked_behind : (walks : List Walk) (lefts : List (List SampleAt)) (w : Walk) (left : List SampleAt) → AreMarked walks lefts → w.mark ≡ mark_of w (length left) → AreMarked (walks ++ w ∷ []) (lefts ++ left ∷ [])
 marked_behind [] [] w left h is = (is, tt)
@@ -100,7 +100,7 @@ one_marked m k walks walk h lt mark file tree o leaving =
     subst (λ (ls : List (List SampleAt)). AreMarked (walks ++ walk ∷ []) ls) (sym all) (marked_behind walks (map (left_samples leaving tree) (take k tree.movie.tracks)) walk (left_samples leaving tree t.0) (h file tree o leaving) (mark info.0 info.1 ∙ ap (mark_of walk) long))
 
 -- all tracks have walks
-pub all_marked : (m : MovieSeen) (k : ℕ) (walks : List Walk) → BeginMarked m k walks → length m.tracks ≤ k → (file : List ℕ) (tree : FileTree) → IsOpenedAs file m tree → (leaving : Leaving) → AreMarked walks (map (left_samples leaving tree) tree.movie.tracks)
+pub all_marked : (m : MovieSeen) (k : ℕ) (walks : List Walk) → BeginMarked m k walks → length m.tracks ≤ k → (file : List ℕ) (tree : FileTree) → IsOpenedAs file m tree → (leaving : Without) → AreMarked walks (map (left_samples leaving tree) tree.movie.tracks)
 all_marked m k walks h le file tree o leaving =
     let many = zip_length (IsInfoOf file tree) tree.movie.tracks m.tracks o.tracks in
     let all = take_all k tree.movie.tracks (omega (arith, le, many)) in
@@ -118,7 +118,7 @@ first_marked m walk k comes lt mark file tree t o is =
 -- ---- the walk of one track
 
 -- the track, and the samples that come, of the walk at a place
-pub record ComesThere (leaving : Leaving) (file : List ℕ) (tree : FileTree) (m : MovieSeen) (lefts : List (List SampleAt)) (k : ℕ) (walk : Walk) : Type 0 where
+pub record ComesThere (leaving : Without) (file : List ℕ) (tree : FileTree) (m : MovieSeen) (lefts : List (List SampleAt)) (k : ℕ) (walk : Walk) : Type 0 where
   pub t : TrackTree
   pub left : List SampleAt
   pub is_tree : slice_get tree.movie.tracks k ≡ Some t
@@ -133,7 +133,7 @@ got_there [] k d lt = absurd (omega (arith, lt))
 got_there (x ∷ xs) zero d lt = refl
 got_there (x ∷ xs) (suc k) d lt = got_there xs k d (omega (arith, lt))
 
-pub comes_there : (leaving : Leaving) (file : List ℕ) (tree : FileTree) (m : MovieSeen) (walks : List Walk) (lefts : List (List SampleAt)) (k : ℕ) (d : Walk) → AllCome leaving file tree m tree.movie.tracks walks lefts → k < length walks
+pub comes_there : (leaving : Without) (file : List ℕ) (tree : FileTree) (m : MovieSeen) (walks : List Walk) (lefts : List (List SampleAt)) (k : ℕ) (d : Walk) → AllCome leaving file tree m tree.movie.tracks walks lefts → k < length walks
     → ComesThere leaving file tree m lefts k (slice_index_or walks k d)
 comes_there leaving file tree m walks lefts k d h lt =
     let r = come_at leaving file tree m tree.movie.tracks walks lefts k h lt in
@@ -141,7 +141,7 @@ comes_there leaving file tree m walks lefts k d h lt =
     record { t = r.t; left = r.left; is_tree = r.is_tree; is_left = r.is_left; comes = subst (λ (w : Walk). ComesLess leaving file tree r.t m w r.left) same r.comes }
 
 -- another walk at its place, in which the same samples come
-pub same_come : (leaving : Leaving) (file : List ℕ) (tree : FileTree) (m : MovieSeen) (walks : List Walk) (lefts : List (List SampleAt)) (k : ℕ) (walk next : Walk) → AllCome leaving file tree m tree.movie.tracks walks lefts → (r : ComesThere leaving file tree m lefts k walk)
+pub same_come : (leaving : Without) (file : List ℕ) (tree : FileTree) (m : MovieSeen) (walks : List Walk) (lefts : List (List SampleAt)) (k : ℕ) (walk next : Walk) → AllCome leaving file tree m tree.movie.tracks walks lefts → (r : ComesThere leaving file tree m lefts k walk)
     → ComesLess leaving file tree r.t m next r.left → AllCome leaving file tree m tree.movie.tracks (slice_set walks k next) lefts
 same_come leaving file tree m walks lefts k walk next h r c =
     subst (λ (ls : List (List SampleAt)). AllCome leaving file tree m tree.movie.tracks (slice_set walks k next) ls) (set_same lefts k r.left r.is_left) (come_with leaving file tree m tree.movie.tracks walks lefts k r.t next r.left h r.is_tree c)

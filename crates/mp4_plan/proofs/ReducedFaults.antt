@@ -12,7 +12,7 @@ use Rattle.mp4_present.specs.format.Denotes.{FileTree, file_parts, movie_timesca
 use Rattle.mp4_present.specs.format.Reduced.{ReducesInTime, reduce_track}
 use Rattle.mp4_present.specs.words.Movies.{MovieSeen}
 use Rattle.mp4_present.specs.words.OpenedMovie.{IsOpenedAs}
-use Rattle.mp4_present.specs.declared.leaving.Leaving.{Leaving}
+use Rattle.mp4_present.specs.declared.without.Without.{Without}
 use Rattle.mp4_present.proofs.One.{denotes_one, file_tree_one}
 use Rattle.mp4_plan.specs.format.ReducedTimes.{LeftInTime, ReducedTimePasses, ReducedFaultStands}
 use Rattle.mp4_plan.specs.format.ReducedLaws.{ReducedFaultRefuses, ReducedFaultIsOne}
@@ -61,19 +61,19 @@ same_first P [] (y ∷ ys) more rest t u e hx hy first second = absurd (first (s
 same_first P (x ∷ xs) [] more rest t u e hx hy first second = absurd (second (subst P (head_same x u (xs ++ t ∷ more) rest e) hx.0))
 same_first P (x ∷ xs) (y ∷ ys) more rest t u e hx hy first second = same_first P xs ys more rest t u (tail_same x y (xs ++ t ∷ more) (ys ++ u ∷ rest) e) hx.1 hy.1 first second
 
-all_mapped : (l : Leaving) (file : List ℕ) (tree : FileTree) (trees : List TrackTree) → AllByRecursion (LeftInTime l file tree) trees → AllByRecursion (λ (t : Track). IsInTime (movie_timescale file tree) (reduce_track l t)) (map (track_of file (file_parts tree)) trees)
+all_mapped : (l : Without) (file : List ℕ) (tree : FileTree) (trees : List TrackTree) → AllByRecursion (LeftInTime l file tree) trees → AllByRecursion (λ (t : Track). IsInTime (movie_timescale file tree) (reduce_track l t)) (map (track_of file (file_parts tree)) trees)
 all_mapped l file tree [] h = tt
 all_mapped l file tree (t ∷ trees) h = (h.0, all_mapped l file tree trees h.1)
 
 -- ---- of one file
 
-there_is : (l : Leaving) (file : List ℕ) (tree : FileTree) → (ReducesInTime l (presentation_of file tree) → ⊥) → (f : Fault) × ReducedTimePasses l file tree f
+there_is : (l : Without) (file : List ℕ) (tree : FileTree) → (ReducesInTime l (presentation_of file tree) → ⊥) → (f : Fault) × ReducedTimePasses l file tree f
 there_is l file tree long =
     let or : (t : TrackTree) → LeftInTime l file tree t ⊎ (LeftInTime l file tree t → ⊥) = λ t. in_time_or (movie_timescale file tree) (reduce_track l (track_of file (file_parts tree) t)) in
     let r = found_first (LeftInTime l file tree) or tree.movie.tracks (λ all. long (all_mapped l file tree tree.movie.tracks all)) in
     (fault_of TimeTooLarge (first_of (codes "tkhd") r.t.track), record { before = r.before; t = r.t; after = r.after; tracks = r.split; in_time = r.each; passes = r.fails; named = refl })
 
-one_of_tree : (l : Leaving) (file : List ℕ) (tree : FileTree) (f g : Fault) → ReducedTimePasses l file tree f → ReducedTimePasses l file tree g → g ≡ f
+one_of_tree : (l : Without) (file : List ℕ) (tree : FileTree) (f g : Fault) → ReducedTimePasses l file tree f → ReducedTimePasses l file tree g → g ≡ f
 one_of_tree l file tree f g p q =
     let same = same_first (LeftInTime l file tree) q.before p.before q.after p.after q.t p.t (sym q.tracks ∙ p.tracks) q.in_time p.in_time q.passes p.passes in
     q.named ∙ ap (λ (t : TrackTree). fault_of TimeTooLarge (first_of (codes "tkhd") t.track)) same ∙ sym p.named
@@ -94,7 +94,7 @@ is_one l file p d long =
     )
 
 -- a file that was opened denotes what its boxes say
-pub opened_stands : (l : Leaving) (file : List ℕ) (m : MovieSeen) (tree : FileTree) (f : Fault) → IsOpenedAs file m tree → ReducedTimePasses l file tree f → ReducedFaultStands l file f
+pub opened_stands : (l : Without) (file : List ℕ) (m : MovieSeen) (tree : FileTree) (f : Fault) → IsOpenedAs file m tree → ReducedTimePasses l file tree f → ReducedFaultStands l file f
 opened_stands l file m tree f o passes = record {
   p = presentation_of file tree;
   denotes = record { tree = tree; is_tree = o.is_tree; is_sound = o.is_sound; is_consistent = o.is_consistent; says = refl; limits = o.limits };

@@ -17,7 +17,7 @@ use Rattle.mp4_present.specs.words.Joined.{IsBelow, sample_bytes}
 use Rattle.mp4_present.specs.format.Presentation.{Sample, Track, IsGroup}
 use Rattle.mp4_plan.specs.format.Pieces.{TimedSample, timed_from, timed}
 use Rattle.mp4_present.specs.format.Reduced.{sync_flag, reduce_sample, reduce_track}
-use Rattle.mp4_present.specs.declared.leaving.Leaving.{Leaving}
+use Rattle.mp4_present.specs.declared.without.Without.{Without}
 use Rattle.mp4_plan.specs.words.ComingLess.{reduce_at, less, left_samples}
 use Rattle.mp4_plan.specs.words.Taken.{IsTaken, AreTaken}
 
@@ -37,10 +37,10 @@ groups_less true keys taken groups e = sym (no_indexes keys)
 groups_less false keys taken groups e = e
 
 -- what is left of a sample with its number and time
-abbrev pub reduce_timed : Leaving → TimedSample → TimedSample
+abbrev pub reduce_timed : Without → TimedSample → TimedSample
 reduce_timed l s = record s { sample = reduce_sample l s.sample }
 
-module _ (l : Leaving) where
+module _ (l : Without) where
   one_taken : (file : List ℕ) (keys : List GroupKey) (a : SampleAt) (s : TimedSample) → IsTaken file keys a s → IsTaken file keys (reduce_at l a) (reduce_timed l s)
   one_taken file keys a s h = record {
     time = h.time;
@@ -67,10 +67,10 @@ module _ (l : Leaving) where
   bytes_stay file (a ∷ taken) = ap (λ bytes. range file a.at a.size ++ bytes) (bytes_stay file taken)
 
 -- What is left of samples that are handed out is what is left of those of the presentation.
-pub reduced_are_taken : (l : Leaving) (file : List ℕ) (keys : List GroupKey) (taken : List SampleAt) (t : Track) → AreTaken file keys taken (timed t) → AreTaken file keys (less l taken) (timed (reduce_track l t))
+pub reduced_are_taken : (l : Without) (file : List ℕ) (keys : List GroupKey) (taken : List SampleAt) (t : Track) → AreTaken file keys taken (timed t) → AreTaken file keys (less l taken) (timed (reduce_track l t))
 reduced_are_taken l file keys taken t h = all_taken l file keys 1 t.start taken t.samples h
 
-module _ (l : Leaving) where
+module _ (l : Without) where
   -- they are as many
   pub less_length : (samples : List SampleAt) → length (less l samples) ≡ length samples
   less_length [] = refl

@@ -3,7 +3,7 @@ use Rattle.std.proofs.Common.{◌≡◌, ℕ, ◌+◌, ◌*◌, ◌<◌, ◌≤�
 use Rattle.std.specs.Prelude.{not, map, filter, codes}
 use Rattle.std.specs.List.{AllByRecursion, flat_map}
 use Rattle.std.specs.Int.{div_ceil}
-use Rattle.mp4_boxes.specs.format.Bytes.{sum_of}
+use Rattle.mp4_boxes.specs.format.Bytes.{AreBytes, sum_of}
 use Rattle.mp4_boxes.specs.format.Children.{is_among}
 use Rattle.mp4_boxes.specs.format.Written.{box_bytes}
 use Rattle.mp4_boxes.proofs.Each.{each_value, each_weaker, each_kept}
@@ -11,10 +11,11 @@ use Rattle.mp4_tables.specs.format.Groups.{GroupKey, Groups, keys_with, is_in_or
 use Rattle.mp4_head.specs.format.Head.{Kept, Edit, Media, TrackHead, MovieHead, IsMedia, IsTrackHead, IsMovieHead, IsEdit, IsGroupDescription}
 use Rattle.mp4_head.specs.format.Tree.{are_distinct}
 use Rattle.mp4_head.specs.format.Writing.{kept_bytes, edts_bytes, trak_bytes, trex_bytes, moov_bytes, head_bytes, ftyp_bytes}
-use Rattle.mp4_head.proofs.HeadLengths.{length_head, length_track}
+use Rattle.mp4_head.proofs.HeadLengths.{length_any, length_head, length_track}
+use Rattle.mp4_plan.proofs.Plain.{handler_shorter, handler_room, handler_bytes, descriptions_many, descriptions_long, descriptions_good}
 use Rattle.mp4_present.specs.format.Presentation.{Sample, Track, Presentation, IsGroup, IsSample, IsTrack, Valid, IsInTime, heads, keys_of, total_duration, movie_length, says_all, track_length, normal_moov_length, max_time}
-use Rattle.mp4_present.specs.format.Reduced.{metadata_kinds, sync_flag, reduce_kept, reduce_sample, reduce_media, reduce_track_head, reduce_movie_head, reduce_track, reduce, ReducesInTime}
-use Rattle.mp4_present.specs.declared.leaving.Leaving.{Leaving}
+use Rattle.mp4_present.specs.format.Reduced.{metadata_kinds, sync_flag, plain_handler, reduce_kept, reduce_sample, reduce_media, reduce_track_head, reduce_movie_head, reduce_track, reduce, ReducesInTime}
+use Rattle.mp4_present.specs.declared.without.Without.{Without}
 use Rattle.mp4_plan.specs.format.ReducedLaws.{ReducedIsValid, ReducedStaysValid}
 
 by_case : {A : Type 0} (P : A → Type 0) (b : Bool) (x y : A) → P x → P y → P (if b then x else y)
@@ -53,7 +54,7 @@ both_lengths t = length (trak_bytes t) + length (trex_bytes t)
 abbrev pub length_by : ℕ → ℕ → List Edit → ℕ → ℕ
 length_by timescale media edits total = if says_all edits then sum_of (λ (e : Edit). e.segment_duration) edits else div_ceil (total * timescale) media
 
-module _ (l : Leaving) where
+module _ (l : Without) where
   kept_shorter : (kept : List Kept) → length (flat_map kept_bytes (reduce_kept l kept)) ≤ length (flat_map kept_bytes kept)
   kept_shorter kept = by_case (λ (ks : List Kept). length (flat_map kept_bytes ks) ≤ length (flat_map kept_bytes kept)) l.metadata (filter (λ (k : Kept). not (is_among metadata_kinds k.kind)) kept) kept
       (shorter kept_bytes (λ (k : Kept). not (is_among metadata_kinds k.kind)) kept) (no_longer (length (flat_map kept_bytes kept)))
@@ -65,6 +66,13 @@ module _ (l : Leaving) where
   groups_shorter groups = by_case (λ (gs : List (List ℕ)). length (flat_map (box_bytes (codes "sgpd")) gs) ≤ length (flat_map (box_bytes (codes "sgpd")) groups)) l.groups [] groups
       (some_length (length (flat_map (box_bytes (codes "sgpd")) groups))) (no_longer (length (flat_map (box_bytes (codes "sgpd")) groups)))
 
+  handler_less : (handler : List ℕ) → length (box_bytes (codes "hdlr") (if l.labels then plain_handler handler else handler)) ≤ length (box_bytes (codes "hdlr") handler)
+  handler_less handler =
+      let now = length_any (codes "hdlr") (if l.labels then plain_handler handler else handler) in
+      let was = length_any (codes "hdlr") handler in
+      let less = by_case (λ (h : List ℕ). length h ≤ length handler) l.labels (plain_handler handler) handler (handler_shorter handler) (no_longer (length handler)) in
+      omega (arith, now, was, less)
+
   track_shorter : (t : TrackHead) → length t.matrix ≡ 9 → both_lengths (reduce_track_head l t) ≤ both_lengths t
   track_shorter t n =
       let a = length_track t n in
@@ -72,7 +80,9 @@ module _ (l : Leaving) where
       let k = kept_shorter t.kept in
       let e = edits_shorter t.edits in
       let g = groups_shorter t.group_descriptions in
-      omega (arith, a, b, k, e, g)
+      let h = handler_less t.media.handler in
+      let d = descriptions_long l.labels t.media.handler t.media.descriptions in
+      omega (arith, a, b, k, e, g, h, d)
 
   tracks_shorter : (tracks : List Track) → AllByRecursion (λ (t : Track). length t.head.matrix ≡ 9) tracks → sum_of both_lengths (map (λ (t : Track). t.head) (map (reduce_track l) tracks)) ≤ sum_of both_lengths (map (λ (t : Track). t.head) tracks)
   tracks_shorter [] h = omega arith
@@ -127,12 +137,12 @@ module _ (l : Leaving) where
     timescale = h.timescale;
     timescale_not_0 = h.timescale_not_0;
     language = h.language;
-    handler = h.handler;
-    handler_room = h.handler_room;
+    handler = by_case AreBytes l.labels (plain_handler m.handler) m.handler (handler_bytes m.handler h.handler) h.handler;
+    handler_room = by_case (λ (x : List ℕ). 24 ≤ length x) l.labels (plain_handler m.handler) m.handler (handler_room m.handler h.handler_room) h.handler_room;
     extended_languages = h.extended_languages;
     header = h.header;
     header_bytes = h.header_bytes;
-    descriptions = h.descriptions;
+    descriptions = descriptions_good l.labels m.handler m.descriptions h.descriptions;
   }
 
   track_head_good : (t : TrackHead) → IsTrackHead t → IsTrackHead (reduce_track_head l t)
@@ -189,7 +199,8 @@ module _ (l : Leaving) where
   track_good : (t : Track) → IsTrack t → IsTrack (reduce_track l t)
   track_good t h = record {
     head = track_head_good t.head h.head;
-    samples = each_value (IsSample (length t.head.media.descriptions)) (IsSample (length t.head.media.descriptions)) (reduce_sample l) (sample_good (length t.head.media.descriptions)) t.samples h.samples;
+    samples = subst (λ n. AllByRecursion (IsSample n) (map (reduce_sample l) t.samples)) (sym (descriptions_many l.labels t.head.media.handler t.head.media.descriptions))
+        (each_value (IsSample (length t.head.media.descriptions)) (IsSample (length t.head.media.descriptions)) (reduce_sample l) (sample_good (length t.head.media.descriptions)) t.samples h.samples);
     keys = keys_good t.samples h.keys;
     empty = λ e. h.empty (none_left (reduce_sample l) t.samples e);
   }

@@ -4,8 +4,9 @@ use Rattle.std.specs.Prelude.{◌||◌, not, map, filter}
 use Rattle.mp4_boxes.specs.format.Children.{is_among}
 use Rattle.mp4_head.specs.format.Head.{Kept, Media, TrackHead, MovieHead}
 use Rattle.mp4_present.specs.format.Presentation.{Sample, Track, Presentation}
-use Rattle.mp4_present.specs.format.Reduced.{metadata_kinds, sync_flag, reduce_kept, reduce_sample, reduce_media, reduce_track_head, reduce_movie_head, reduce_track, reduce}
-use Rattle.mp4_present.specs.declared.leaving.Leaving.{Leaving}
+use Rattle.mp4_present.specs.format.Reduced.{metadata_kinds, sync_flag, plain_handler, reduce_kept, reduce_sample, reduce_media, reduce_track_head, reduce_movie_head, reduce_track, reduce}
+use Rattle.mp4_present.specs.declared.without.Without.{Without}
+use Rattle.mp4_plan.proofs.Plain.{handler_twice, descriptions_twice}
 use Rattle.mp4_plan.specs.format.ReducedLaws.{nothing, both, NothingReduces, ReducesOnce, ReducesInAnyOrder, ReduceIsFixed}
 
 -- ---- lists
@@ -45,7 +46,7 @@ less_twice false b g same x = refl
 sync_twice : (flags : ℕ) → sync_flag (sync_flag flags) ≡ sync_flag flags
 sync_twice flags = omega arith
 
-module _ (l m : Leaving) where
+module _ (l m : Without) where
   sample_twice : (s : Sample) → reduce_sample l (reduce_sample m s) ≡ reduce_sample (both l m) s
   sample_twice s = λ i. record s {
     flags = less_twice l.flags m.flags sync_flag sync_twice s.flags i;
@@ -59,7 +60,12 @@ module _ (l m : Leaving) where
   time_twice time = less_twice l.times m.times (λ n. 0) (λ n. refl) time
 
   media_twice : (x : Media) → reduce_media l (reduce_media m x) ≡ reduce_media (both l m) x
-  media_twice x = λ i. record x { creation = time_twice x.creation i; modification = time_twice x.modification i }
+  media_twice x = λ i. record x {
+    creation = time_twice x.creation i;
+    modification = time_twice x.modification i;
+    handler = less_twice l.labels m.labels plain_handler handler_twice x.handler i;
+    descriptions = descriptions_twice l.labels m.labels x.handler x.descriptions i;
+  }
 
   track_head_twice : (t : TrackHead) → reduce_track_head l (reduce_track_head m t) ≡ reduce_track_head (both l m) t
   track_head_twice t = λ i. record t {
@@ -89,25 +95,26 @@ or_turned true false = refl
 or_turned false true = refl
 or_turned false false = refl
 
-both_turned : (l m : Leaving) → both l m ≡ both m l
+both_turned : (l m : Without) → both l m ≡ both m l
 both_turned l m = λ i. record l {
   times = or_turned l.times m.times i;
   edits = or_turned l.edits m.edits i;
   flags = or_turned l.flags m.flags i;
   groups = or_turned l.groups m.groups i;
   metadata = or_turned l.metadata m.metadata i;
+  labels = or_turned l.labels m.labels i;
 }
 
 pub reduces_in_any_order : ReducesInAnyOrder
 reduces_in_any_order l m p =
-    reduces_once l m p ∙ ap (λ (words : Leaving). reduce words p) (both_turned l m) ∙ sym (reduces_once m l p)
+    reduces_once l m p ∙ ap (λ (words : Without). reduce words p) (both_turned l m) ∙ sym (reduces_once m l p)
 
 or_same : (b : Bool) → (b || b) ≡ b
 or_same true = refl
 or_same false = refl
 
-both_same : (l : Leaving) → both l l ≡ l
-both_same l = λ i. record l { times = or_same l.times i; edits = or_same l.edits i; flags = or_same l.flags i; groups = or_same l.groups i; metadata = or_same l.metadata i }
+both_same : (l : Without) → both l l ≡ l
+both_same l = λ i. record l { times = or_same l.times i; edits = or_same l.edits i; flags = or_same l.flags i; groups = or_same l.groups i; metadata = or_same l.metadata i; labels = or_same l.labels i }
 
 pub reduce_is_fixed : ReduceIsFixed
-reduce_is_fixed l p = reduces_once l l p ∙ ap (λ (words : Leaving). reduce words p) (both_same l)
+reduce_is_fixed l p = reduces_once l l p ∙ ap (λ (words : Without). reduce words p) (both_same l)

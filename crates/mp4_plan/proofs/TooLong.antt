@@ -8,7 +8,7 @@ use Rattle.mp4_boxes.proofs.Each.{each_again}
 use Rattle.mp4_head.specs.format.Head.{Edit, Media, TrackHead, MovieHead, IsMatrix, IsMedia, IsTrackHead, IsMovieHead}
 use Rattle.mp4_present.specs.format.Presentation.{Sample, Track, Presentation, IsTrack, Valid, says_all, max_time}
 use Rattle.mp4_present.specs.format.Reduced.{reduce}
-use Rattle.mp4_present.specs.declared.leaving.Leaving.{Leaving}
+use Rattle.mp4_present.specs.declared.without.Without.{Without}
 use Rattle.mp4_plan.specs.format.ReducedLaws.{EditsMayHoldTime}
 use Rattle.mp4_plan.proofs.ReducedValid.{valid_to}
 
@@ -124,7 +124,7 @@ movie_good = record { creation = omega arith; modification = omega arith; timesc
 long_good : Valid long
 long_good = record { movie = movie_good; tracks = (track_good, tt); ids = refl; limits = record { samples = omega arith; times = ((omega arith, omega arith), tt); moov = omega arith } }
 
-too_long : (l : Leaving) → l.edits ≡ true → Valid (reduce l long) → ⊥
+too_long : (l : Without) → l.edits ≡ true → Valid (reduce l long) → ⊥
 too_long l e v = over (subst (λ (b : Bool). length_by (if b then [] else edit ∷ []) ≤ max_time) e (valid_to l long v).0.1)
   where
     length_by : List Edit → ℕ

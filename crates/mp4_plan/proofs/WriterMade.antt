@@ -2,16 +2,16 @@
 use Rattle.std.proofs.Common.{◌≡◌, ◌+◌, ◌≤◌, ◌^◌, [], ◌++◌, length, ap, arith}
 use Rattle.mp4_present.specs.words.Carried.{waiting}
 use Rattle.mp4_present.specs.words.Movies.{MovieSeen}
-use Rattle.mp4_present.specs.declared.leaving.Leaving.{Leaving}
+use Rattle.mp4_present.specs.declared.without.Without.{Without}
 use Rattle.mp4_plan.specs.words.DueTracks.{IsDueTree}
-use Rattle.mp4_plan.specs.words.OverDevices.{IsMade}
-use Rattle.mp4_plan.specs.words.OverWriters.{HaveRooms}
+use Rattle.mp4_plan.specs.words.MadeWriters.{IsMade}
+use Rattle.mp4_plan.specs.words.WriterWalks.{HaveRooms}
 use Rattle.mp4_plan.specs.words.PutPieces.{IsHeadLeft}
 use Rattle.mp4_plan.specs.declared.writer.TheConstants.{PIECE}
 use Rattle.mp4_plan.specs.declared.writer.Writer.{Writer}
 
 -- of its walks, rows, next samples, due tracks, buffer and head
-pub writer_made : (m : MovieSeen) (l : Leaving) (w : Writer) → HaveRooms m w.walks.items → length w.rows.items ≤ 2 ^ 24 → length w.nexts.items ≡ length m.tracks → IsDueTree w.due → w.due.leaves ≡ length m.tracks
+pub writer_made : (m : MovieSeen) (l : Without) (w : Writer) → HaveRooms m w.walks.items → length w.rows.items ≤ 2 ^ 24 → length w.nexts.items ≡ length m.tracks → IsDueTree w.due → w.due.leaves ≡ length m.tracks
     → length w.carrier.buffer.items ≡ PIECE → waiting w.carrier ≡ [] → w.leaving ≡ l → IsHeadLeft m l w.head.items → IsMade m l w
 writer_made m l w walks few nexts due many room empty left head =
     let rooms = walks.rooms in

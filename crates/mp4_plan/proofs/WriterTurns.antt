@@ -1,6 +1,6 @@
 -- One turn of the writer, by what its steps promise.
 use Rattle.std.proofs.Common.{◌≡◌, ℕ, ◌+◌, ◌<◌, ◌≤◌, List, ◌++◌, length, take, drop, Some, sym, ap, subst, ◌∙◌, slice_set}
-use Rattle.mp4_present.specs.declared.leaving.Leaving.{Leaving}
+use Rattle.mp4_present.specs.declared.without.Without.{Without}
 use Rattle.mp4_plan.specs.words.ComingLess.{ComesLess}
 use Rattle.mp4_present.specs.format.Reduced.{reduce}
 use Rattle.std.specs.Prelude.{Option, slice_get}
@@ -14,13 +14,13 @@ use Rattle.mp4_present.specs.words.Carried.{BytesGoOn, waiting}
 use Rattle.mp4_present.specs.format.Denotes.{FileTree, presentation_of}
 use Rattle.mp4_present.specs.words.Movies.{MovieSeen, mark_of}
 use Rattle.mp4_present.specs.words.OpenedMovie.{IsOpenedAs}
-use Rattle.mp4_present.specs.declared.carrier.Carrier.{Carrier}
+use Rattle.mp4_present.specs.declared.out_buffer.OutBuffer.{OutBuffer}
 use Rattle.mp4_present.specs.declared.track_info.TrackInfo.{TrackInfo}
-use Rattle.mp4_present.specs.declared.walks.Walk.{Walk}
+use Rattle.mp4_present.specs.declared.walking.Walk.{Walk}
 use Rattle.mp4_plan.specs.words.GoneOn.{ComesMarked}
 use Rattle.mp4_plan.specs.words.Gathering.{piece_from, piece_fed, samples_after, more_of, planned_of}
 use Rattle.mp4_plan.specs.format.Normal.{normal}
-use Rattle.mp4_plan.specs.words.OverCarrying.{AreThere}
+use Rattle.mp4_plan.specs.words.CarriedSamples.{AreThere}
 use Rattle.mp4_plan.specs.words.Turns.{turn_end, turned, Sticks}
 use Rattle.mp4_plan.specs.words.UsedKeys.{AreApart}
 use Rattle.mp4_plan.specs.words.Writers.{IsWriterOf, HasNoted, IsNoted, HaveCopied, turn_head, sequence_behind, turn_bytes}
@@ -40,7 +40,7 @@ use Rattle.mp4_plan.proofs.SkippedTurns.{due_here, opened_scales}
 use Rattle.mp4_plan.proofs.TurnTaken.{turn_moves}
 use Rattle.mp4_plan.proofs.WritesOn.{WritesOn, AtTurn, at_turn, turn_stops, turn_over}
 
-module _ (leaving : Leaving) (file : List ℕ) (tree : FileTree) (m : MovieSeen) (o : IsOpenedAs file m tree) (s : Schedule) (sequence sent : ℕ) (w : Writer) {Y : Type 0} {takes : Y → Y → List ℕ → Type 0} (joins : IsJoining takes) (before after : Y)
+module _ (leaving : Without) (file : List ℕ) (tree : FileTree) (m : MovieSeen) (o : IsOpenedAs file m tree) (s : Schedule) (sequence sent : ℕ) (w : Writer) {Y : Type 0} {takes : Y → Y → List ℕ → Type 0} (joins : IsJoining takes) (before after : Y)
     (h : WritesOn leaving file tree m s sequence sent w.walks.items w.nexts.items (length w.rows.items) (takes before after) (waiting w.carrier)) (turn : Turn) (here : (turn.track ≡ s.track) × (s.track < s.tracks))
     (ends : (info : TrackInfo) → slice_get m.tracks s.track ≡ Some info → turn.end ≡ turn_end s info.timescale) (tracks : s.tracks ≡ length m.tracks) (goes : IsWriterOf m w) (same_leaving : w.leaving ≡ leaving) where
   at : AtTurn leaving file tree m s w.walks.items w.nexts.items (length w.rows.items) h.lefts h.comings
@@ -56,7 +56,7 @@ module _ (leaving : Leaving) (file : List ℕ) (tree : FileTree) (m : MovieSeen)
   next_there = ap (λ k. slice_get w.nexts.items k) here.0 ∙ at.shown
 
   comes_there : ComesLess w.leaving file tree at.t m at.walk at.left
-  comes_there = subst (λ (l : Leaving). ComesLess l file tree at.t m at.walk at.left) (sym same_leaving) at.comes
+  comes_there = subst (λ (l : Without). ComesLess l file tree at.t m at.walk at.left) (sym same_leaving) at.comes
 
   -- there is room for the rows
   pub note_lacks : (X : Type 0) → ((t : TrackTree) (walk : Walk) (left : List SampleAt) → slice_get w.walks.items turn.track ≡ Some walk → ComesLess w.leaving file tree t m walk left → walk.mark ≡ mark_of walk (length left)
@@ -96,7 +96,7 @@ module _ (leaving : Leaving) (file : List ℕ) (tree : FileTree) (m : MovieSeen)
       t = at.t;
       walk = it.walk;
       is_walk = there_now;
-      comes = subst (λ (l : Leaving). ComesMarked l file tree at.t m it.walk n.planned.count at.left) (sym keeps.0) it.comes;
+      comes = subst (λ (l : Without). ComesMarked l file tree at.t m it.walk n.planned.count at.left) (sym keeps.0) it.comes;
       none = it.none;
       next = ap (λ v. slice_get v.items turn.track) keeps.3 ∙ next_there;
       rows = it.rows;
@@ -109,7 +109,7 @@ module _ (leaving : Leaving) (file : List ℕ) (tree : FileTree) (m : MovieSeen)
     carry_stops last f =
         let q = f at.left is_noted at.info info_there at.keys.apart in
         let own = subst (λ (hd : Option PieceHead). TakesPrefix (takes after last) (waiting w1.carrier ++ turn_bytes file hd n.planned (keys_seen at.info.keys) (take n.planned.count at.left))) head_is q in
-        let same = subst (λ (c : Carrier). TakesPrefix (takes after last) (waiting c ++ turn_bytes file (turn_head sequence at.info.id n.planned.count (slice_get at.left 0)) n.planned (keys_seen at.info.keys) (take n.planned.count at.left))) keeps.1 own in
+        let same = subst (λ (c : OutBuffer). TakesPrefix (takes after last) (waiting c ++ turn_bytes file (turn_head sequence at.info.id n.planned.count (slice_get at.left 0)) n.planned (keys_seen at.info.keys) (take n.planned.count at.left))) keeps.1 own in
         turn_stops leaving file tree m s sequence sent w.walks.items w.nexts.items (length w.rows.items) joins before after (waiting w.carrier) h at n.planned planned_is few last same
 
     -- its samples lie in the file, with as many bytes as were planned
@@ -157,8 +157,8 @@ module _ (leaving : Leaving) (file : List ℕ) (tree : FileTree) (m : MovieSeen)
       turn_goes last later put kept is =
           let q = put at.left is_noted at.info info_there at.keys.apart in
           let own = subst (λ (hd : Option PieceHead). BytesGoOn (takes after last) (waiting w1.carrier) (waiting w2.carrier) (turn_bytes file hd n.planned (keys_seen at.info.keys) (take n.planned.count at.left))) head_is q in
-          let same = subst (λ (c : Carrier). BytesGoOn (takes after last) (waiting c) (waiting w2.carrier) (turn_bytes file (turn_head sequence at.info.id n.planned.count (slice_get at.left 0)) n.planned (keys_seen at.info.keys) (take n.planned.count at.left))) keeps.1 own in
-          let comes = subst (λ (l : Leaving). ComesLess l file tree at.t m done.0 (drop n.planned.count at.left)) (keeps.0 ∙ same_leaving) done.3 in
+          let same = subst (λ (c : OutBuffer). BytesGoOn (takes after last) (waiting c) (waiting w2.carrier) (turn_bytes file (turn_head sequence at.info.id n.planned.count (slice_get at.left 0)) n.planned (keys_seen at.info.keys) (take n.planned.count at.left))) keeps.1 own in
+          let comes = subst (λ (l : Without). ComesLess l file tree at.t m done.0 (drop n.planned.count at.left)) (keeps.0 ∙ same_leaving) done.3 in
           let comes_rest = subst (λ (ss : List SampleAt). ComesLess leaving file tree at.t m done.0 ss) rest_is comes in
           let marked = subst (λ (ss : List SampleAt). done.0.mark ≡ mark_of done.0 (length ss)) rest_is done.4 in
           let on = turn_over leaving file tree m s sequence sent w.walks.items w.nexts.items (length w.rows.items) joins before after (waiting w.carrier) h at n.planned planned_is few done.0 last (waiting w2.carrier) comes_rest marked same in

@@ -1,6 +1,6 @@
 -- The writer from turn to turn: what was put and what waits are the head and the pieces so far, and the walks stand before the samples that are left.
 use Rattle.std.proofs.Common.{◌≡◌, ℕ, zero, suc, ◌+◌, ◌-◌, ◌^◌, ◌<◌, ◌≤◌, max, ◌==◌, Bool, true, false, List, [], ◌∷◌, ◌++◌, length, take, Some, None, refl, sym, ap, subst, ◌∙◌, append_assoc, append-nil, arith, slice_set}
-use Rattle.mp4_present.specs.declared.leaving.Leaving.{Leaving}
+use Rattle.mp4_present.specs.declared.without.Without.{Without}
 use Rattle.mp4_plan.specs.words.ComingLess.{ComesLess, left_samples}
 use Rattle.mp4_present.specs.format.Reduced.{reduce}
 use Rattle.mp4_plan.proofs.ReducedTaken.{less_counted, less_below}
@@ -19,8 +19,8 @@ use Rattle.mp4_present.specs.words.Joined.{IsBelow}
 use Rattle.mp4_present.specs.words.Movies.{MovieSeen, mark_of}
 use Rattle.mp4_present.specs.words.OpenedMovie.{IsOpenedAs}
 use Rattle.mp4_present.specs.declared.track_info.TrackInfo.{TrackInfo}
-use Rattle.mp4_present.specs.declared.walks.Mark.{Mark}
-use Rattle.mp4_present.specs.declared.walks.Walk.{Walk}
+use Rattle.mp4_present.specs.declared.walking.Mark.{Mark}
+use Rattle.mp4_present.specs.declared.walking.Walk.{Walk}
 use Rattle.mp4_present.proofs.Carrying.{BytesGoOn-then, BytesGoOn-all, BytesGoOn-fails}
 use Rattle.mp4_store.proofs.Known.{IsJoining, TakesPrefix-longer}
 use Rattle.mp4_plan.specs.words.PiecesComing.{Coming, coming_of}
@@ -134,7 +134,7 @@ marked_kept (v ∷ walks) (l ∷ lefts) (suc k) w now h is e = (h.0, marked_kept
 
 -- ---- at a turn
 
-module _ (leaving : Leaving) (file : List ℕ) (tree : FileTree) (m : MovieSeen) where
+module _ (leaving : Without) (file : List ℕ) (tree : FileTree) (m : MovieSeen) where
   pub record WritesOn (s : Schedule) (sequence sent : ℕ) (walks : List Walk) (nexts : List (Option SampleAt)) (rows : ℕ) (Took : List ℕ → Type 0) (held : List ℕ) : Type 0 where
     pub lefts : List (List SampleAt)
     pub comings : List Coming
@@ -323,12 +323,12 @@ module _ (leaving : Leaving) (file : List ℕ) (tree : FileTree) (m : MovieSeen)
         turn = all.0;
         lie = all_lie m.tracks tree.movie.tracks (track_facts file m tree o);
         fits = subst (λ (ps : List Piece). AllByRecursion (λ (q : Piece). length q.samples ≤ length w.rows.items) ps) (sym all.1)
-            (subst (λ n. AllByRecursion (λ (q : Piece). length q.samples ≤ n) (pieces p)) (sym (r.rows ∙ ap (λ (k : Leaving). longest_piece (pieces (reduce k (presentation_of file tree)))) same)) (no_longer (pieces p)));
+            (subst (λ n. AllByRecursion (λ (q : Piece). length q.samples ≤ n) (pieces p)) (sym (r.rows ∙ ap (λ (k : Without). longest_piece (pieces (reduce k (presentation_of file tree)))) same)) (no_longer (pieces p)));
         small = omega (arith, few);
         sizes = (let all = all_bytes leaving file m tree o in omega (arith, all));
         done = waiting w.carrier ++ w.head.items;
         goes = goes;
-        whole = (let head = sym (r.head ∙ ap (λ (k : Leaving). head_of_normal (reduce k (presentation_of file tree))) same) in let ps = sym all.1 in λ i. head i ++ pieces_bytes 1 (ps i));
+        whole = (let head = sym (r.head ∙ ap (λ (k : Without). head_of_normal (reduce k (presentation_of file tree))) same) in let ps = sym all.1 in λ i. head i ++ pieces_bytes 1 (ps i));
       }
 
   -- ---- before the first turn
@@ -337,14 +337,14 @@ module _ (leaving : Leaving) (file : List ℕ) (tree : FileTree) (m : MovieSeen)
   pub head_stops : (w : Writer) (Took : List ℕ → Type 0) (bytes : List ℕ) → IsReady file tree m w → w.leaving ≡ leaving → bytes ≡ w.head.items → TakesPrefix Took (waiting w.carrier ++ bytes) → TakesPrefix Took (normal (reduce leaving (presentation_of file tree)))
   head_stops w Took bytes r same e q =
       let p = reduce leaving (presentation_of file tree) in
-      let own : TakesPrefix Took (head_of_normal p) = subst (λ (bs : List ℕ). TakesPrefix Took bs) (ap (λ (bs : List ℕ). waiting w.carrier ++ bs) e ∙ r.head ∙ ap (λ (k : Leaving). head_of_normal (reduce k (presentation_of file tree))) same) q in
+      let own : TakesPrefix Took (head_of_normal p) = subst (λ (bs : List ℕ). TakesPrefix Took bs) (ap (λ (bs : List ℕ). waiting w.carrier ++ bs) e ∙ r.head ∙ ap (λ (k : Without). head_of_normal (reduce k (presentation_of file tree))) same) q in
       TakesPrefix-longer Took (head_of_normal p) (pieces_bytes 1 (pieces p)) own
 
   -- nothing behind the head is put
   pub head_put : (w : Writer) (Took : List ℕ → Type 0) (held bytes : List ℕ) → IsReady file tree m w → w.leaving ≡ leaving → bytes ≡ w.head.items → BytesGoOn Took (waiting w.carrier) held bytes → TakesPrefix Took (normal (reduce leaving (presentation_of file tree)))
   head_put w Took held bytes r same e q =
       let p = reduce leaving (presentation_of file tree) in
-      let whole : waiting w.carrier ++ bytes ≡ head_of_normal p = ap (λ (bs : List ℕ). waiting w.carrier ++ bs) e ∙ r.head ∙ ap (λ (k : Leaving). head_of_normal (reduce k (presentation_of file tree))) same in
+      let whole : waiting w.carrier ++ bytes ≡ head_of_normal p = ap (λ (bs : List ℕ). waiting w.carrier ++ bs) e ∙ r.head ∙ ap (λ (k : Without). head_of_normal (reduce k (presentation_of file tree))) same in
       stopped_behind Took [] held (waiting w.carrier ++ bytes) (pieces_bytes 1 (pieces p)) (normal p) q (ap (λ (bs : List ℕ). bs ++ pieces_bytes 1 (pieces p)) (sym whole))
 
   -- a new schedule stands at the first turn

@@ -12,12 +12,12 @@ use Rattle.mp4_present.specs.words.SamplesComing.{Comes, StandsBefore}
 use Rattle.mp4_present.specs.words.WalkSteps.{MayTake, TakesOn, trafs_steps, steps_to, table_way, way_through}
 use Rattle.mp4_frag.specs.words.OwnTrafs.{PlacedTraf, traf_steps}
 use Rattle.mp4_present.proofs.WayThrough.{same_steps}
-use Rattle.mp4_present.specs.declared.in_hand.Place.{Place}
-use Rattle.mp4_present.specs.declared.in_hand.Place.TheVariants.{Tables, Fragment}
-use Rattle.mp4_present.specs.declared.leaving.Leaving.{Leaving}
-use Rattle.mp4_present.specs.declared.walks.Due.{Due}
-use Rattle.mp4_present.specs.declared.walks.Mark.{Mark}
-use Rattle.mp4_present.specs.declared.walks.Walk.{Walk}
+use Rattle.mp4_present.specs.declared.walking.loaded.Place.{Place}
+use Rattle.mp4_present.specs.declared.walking.loaded.Place.TheVariants.{Tables, Fragment}
+use Rattle.mp4_present.specs.declared.without.Without.{Without}
+use Rattle.mp4_present.specs.declared.walking.Due.{Due}
+use Rattle.mp4_present.specs.declared.walking.Mark.{Mark}
+use Rattle.mp4_present.specs.declared.walking.Walk.{Walk}
 use Rattle.mp4_present.proofs.GoneBack.{back_is, marked_before}
 use Rattle.mp4_plan.specs.words.ComingLess.{ComesLess, less}
 use Rattle.mp4_plan.specs.words.GoneOn.{ComesMarked, GoesPast, HasLoaded, Stays, WentOn}
@@ -86,7 +86,7 @@ module _ (file : List ℕ) (m : MovieSeen) (tree : FileTree) (o : IsOpenedAs fil
 
   -- ---- a piece is noted
 
-  pub finishes_noted : (l : Leaving) (count : ℕ) (w now : Walk) (n old new : ℕ) (left : List SampleAt) (h : MayWrite file tree m t w n) (k : ComesMarked l file tree t m now count left)
+  pub finishes_noted : (l : Without) (count : ℕ) (w now : Walk) (n old new : ℕ) (left : List SampleAt) (h : MayWrite file tree m t w n) (k : ComesMarked l file tree t m now count left)
       → k.begun ≡ w → WentOn m w now old new → TakesOn file tree t h.own now old new → (count ≡ 0 → now.mark ≡ mark_of now (length left)) → FinishesOn l file tree m count t n now old new
   finishes_noted l count w now n old new left h k same went takes none =
       let few = rest_few w now h.own old new went.grows takes in
@@ -112,7 +112,7 @@ module _ (file : List ℕ) (m : MovieSeen) (tree : FileTree) (o : IsOpenedAs fil
       )
 
   -- nothing was noted
-  pub finishes_none : (l : Leaving) (w : Walk) (n old : ℕ) (left : List SampleAt) (h : MayWrite file tree m t w n) (k : ComesMarked l file tree t m w 0 left) → k.begun ≡ w → w.mark ≡ mark_of w (length left) → FinishesOn l file tree m 0 t n w old old
+  pub finishes_none : (l : Without) (w : Walk) (n old : ℕ) (left : List SampleAt) (h : MayWrite file tree m t w n) (k : ComesMarked l file tree t m w 0 left) → k.begun ≡ w → w.mark ≡ mark_of w (length left) → FinishesOn l file tree m 0 t n w old old
   finishes_none l w n old left h k same none =
       let sum = h.sum in
       let began = subst (λ (b : Walk). MayTake file tree t b h.own) (sym same) h.may in
@@ -137,7 +137,7 @@ module _ (file : List ℕ) (m : MovieSeen) (tree : FileTree) (o : IsOpenedAs fil
 
   -- ---- it is carried, and the next sample is looked for
 
-  module _ (l : Leaving) (count : ℕ) (w : Walk) (n : ℕ) (h : MayFinish l file tree m count t w n) (i : IsWalkOf m w) where
+  module _ (l : Without) (count : ℕ) (w : Walk) (n : ℕ) (h : MayFinish l file tree m count t w n) (i : IsWalkOf m w) where
     mark_next : w.mark.next ≡ h.marked.begun.next
     mark_next = ap (λ (k : Mark). k.next) h.marked.back.mark
 
@@ -327,7 +327,7 @@ module _ (file : List ℕ) (m : MovieSeen) (tree : FileTree) (o : IsOpenedAs fil
 
 -- ---- all walks, of which one has noted a piece
 
-module _ (l : Leaving) (file : List ℕ) (m : MovieSeen) (tree : FileTree) (o : IsOpenedAs file m tree) (walks : List Walk) (k count : ℕ) (w : Walk) (n : ℕ) (h : MayAllWrite file tree m walks n) (is : slice_get walks k ≡ Some w) where
+module _ (l : Without) (file : List ℕ) (m : MovieSeen) (tree : FileTree) (o : IsOpenedAs file m tree) (walks : List Walk) (k count : ℕ) (w : Walk) (n : ℕ) (h : MayAllWrite file tree m walks n) (is : slice_get walks k ≡ Some w) where
   pub all_noted : (now : Walk) (old new : ℕ) → ((t : TrackTree) (own : ℕ) → MayWrite file tree m t w own → FinishesOn l file tree m count t own now old new) → AllFinishOn l file tree m k count n (slice_set walks k now) old new
   all_noted now old new notes =
       let r = may_at (MayWrite file tree m) tree.movie.tracks walks k w n h is in
@@ -375,7 +375,7 @@ module _ (l : Leaving) (file : List ℕ) (m : MovieSeen) (tree : FileTree) (o : 
       )
 
 -- the piece that was noted is carried
-module _ (l : Leaving) (file : List ℕ) (m : MovieSeen) (tree : FileTree) (o : IsOpenedAs file m tree) (walks : List Walk) (k count n : ℕ) (h : MayAllFinish l file tree m k count walks n) where
+module _ (l : Without) (file : List ℕ) (m : MovieSeen) (tree : FileTree) (o : IsOpenedAs file m tree) (walks : List Walk) (k count n : ℕ) (h : MayAllFinish l file tree m k count walks n) where
   pub all_carried : (now : Walk) (old new : ℕ) → ((t : TrackTree) (own : ℕ) → MayFinish l file tree m count t h.walk own → WritesOn file tree m t own now old new) → AllWriteOn file tree m n (slice_set walks k now) old new
   all_carried now old new carries =
       let on = carries h.t h.own h.may in

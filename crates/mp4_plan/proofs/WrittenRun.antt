@@ -9,7 +9,7 @@ use Rattle.mp4_boxes.specs.format.Layout.{tfhd, tfdt, trun, fields, flags, has, 
 use Rattle.mp4_boxes.specs.format.Written.{column_flags, column_bytes}
 use Rattle.mp4_boxes.proofs.Fields.{field_again}
 use Rattle.mp4_boxes.proofs.Columns.{FitColumns, columns_again, length-column_bytes}
-use Rattle.mp4_frag.specs.format.Fragments.{Run, run_rows, run_of, column, decode_time_of}
+use Rattle.mp4_frag.specs.format.Fragments.{SampleRun, run_rows, sample_run_of, column, decode_time_of}
 use Rattle.mp4_head.proofs.Again.{signed_again}
 use Rattle.mp4_head.proofs.WrittenLeaves.{alone_again}
 use Rattle.mp4_plan.specs.format.Pieces.{TimedSample}
@@ -69,7 +69,7 @@ run_payload data_offset shared samples =
     ++ column_bytes trun_columns (Some data_offset ∷ None ∷ []) ++ rows_bytes shared samples
 
 -- a `trun` by its flags
-abbrev run_by : ℕ → List ℕ → Run
+abbrev run_by : ℕ → List ℕ → SampleRun
 run_by bits payload =
     let values = column_values bits trun_columns (drop 8 payload) in
     record {
@@ -79,7 +79,7 @@ run_by bits payload =
     }
 
 -- the run that is read
-abbrev pub run_read : ℕ → Shared → List TimedSample → Run
+abbrev pub run_read : ℕ → Shared → List TimedSample → SampleRun
 run_read data_offset shared samples = record { data_offset = Some (pos data_offset); first_sample_flags = None; rows = map (row_read shared) samples }
 
 module _ (data_offset : ℕ) (shared : Shared) (samples : List TimedSample) (near : data_offset < 2 ^ 31) (few : length samples < 2 ^ 32) (fits : AllByRecursion FitsRow samples) where
@@ -100,7 +100,7 @@ module _ (data_offset : ℕ) (shared : Shared) (samples : List TimedSample) (nea
   options_wide = sym (length-column_bytes (run_flags shared) trun_columns (Some data_offset ∷ None ∷ []) options_fit)
 
   -- The run that was written is read again.
-  pub run_again : run_of (run_payload data_offset shared samples) ≡ run_read data_offset shared samples
+  pub run_again : sample_run_of (run_payload data_offset shared samples) ≡ run_read data_offset shared samples
   run_again =
       let payload = run_payload data_offset shared samples in
       let values : column_values (run_flags shared) trun_columns (drop 8 payload) ≡ Some data_offset ∷ None ∷ [] = columns_again (run_flags shared) trun_columns (Some data_offset ∷ None ∷ []) (rows_bytes shared samples) options_fit in

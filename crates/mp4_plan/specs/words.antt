@@ -18,8 +18,8 @@ pub mod LeftTimes
 pub mod GoneOn
 pub mod PutPieces
 pub mod Counting
-pub mod OverLess
+pub mod ReducedWalks
 pub mod OwnRooms
-pub mod OverDevices
-pub mod OverCarrying
-pub mod OverWriters
+pub mod MadeWriters
+pub mod CarriedSamples
+pub mod WriterWalks

@@ -2,26 +2,26 @@
 ghost use Rattle.std.specs.Prelude.{◌≡◌, ◌+◌, ◌-◌, ◌<◌, ◌≤◌, [], length, take, drop, vec_len, IfOk, MatchResult, OnOk};
 ghost use Rattle.std.specs.List.{AllByRecursion};
 ghost use Rattle.mp4_present.specs.words.Carried.{GoOnBy, RefusesCarry, waiting};
-ghost use Rattle.mp4_present.specs.declared.leaving.Leaving.{Leaving};
+ghost use Rattle.mp4_present.specs.declared.without.Without.{Without};
 ghost use Rattle.mp4_present.specs.words.HandCarried.{RefusedByBoth};
 ghost use Rattle.mp4_present.specs.words.SamplesComing.{Comes};
-ghost use Rattle.mp4_present.specs.words.InHand.{Follows, left_in_hand};
+ghost use Rattle.mp4_present.specs.words.Loaded.{Follows, left_in_hand};
 ghost use Rattle.mp4_present.specs.words.Joined.{IsBelow, sample_bytes};
 ghost use Rattle.mp4_present.specs.words.Movies.{IsWalkOf};
-ghost use Rattle.mp4_present.specs.words.OverCarriers.{Carries, OnlyCopies, TakesAlong};
-ghost use Rattle.mp4_present.specs.words.OverStores.{IsUnchanged, WhereHonest};
-ghost use Rattle.mp4_present.specs.words.OverWalks.{TakesSteps, WhereComes};
+ghost use Rattle.mp4_present.specs.words.OutBuffers.{Carries, OnlyCopies, TakesAlong};
+ghost use Rattle.mp4_present.specs.words.StoresRead.{IsUnchanged, WhereHonest};
+ghost use Rattle.mp4_present.specs.words.TrackWalks.{TakesSteps, WhereComes};
 ghost use Rattle.mp4_plan.specs.words.ComingLess.{ComesLess};
 ghost use Rattle.mp4_plan.specs.words.GoneOn.{GoesPast, WentOn};
 ghost use Rattle.mp4_plan.specs.words.HandsFed.{sizes_of};
-ghost use Rattle.mp4_plan.specs.words.OverCarrying.{AreThere, CarriesFirst, HasMarkInHand, MarksNext, StepsAgain, StepsInHand, StepsMarked, WhereMarkedLess, WhereMayFinish, WhereToldLess};
-ghost use Rattle.mp4_plan.specs.words.OverLess.{KeepsWalk};
+ghost use Rattle.mp4_plan.specs.words.CarriedSamples.{AreThere, CarriesFirst, HasMarkInHand, MarksNext, StepsAgain, StepsInHand, StepsMarked, WhereMarkedLess, WhereMayFinish, WhereToldLess};
+ghost use Rattle.mp4_plan.specs.words.ReducedWalks.{KeepsWalk};
 ghost use Rattle.mp4_plan.specs.words.WriterSteps.{WritesOn};
 
 use crate::joined::Stretches;
 use crate::track_pieces::next_sample;
 use mp4_boxes::{Refusal, Steps};
-use mp4_present::{Carrier, InHand, Leaving, Movie, Walk, next_stretch};
+use mp4_present::{Loaded, Movie, OutBuffer, Walk, Without, next_stretch};
 use mp4_store::{Sink, Store};
 use mp4_tables::SampleAt;
 use std::sync::ledger::Ledger;
@@ -36,9 +36,9 @@ pub(crate) struct Load {
 // Takes the bytes of samples in hand along, and says what is left then. Where they have more bytes
 // than are left, the store has changed.
 fn carry_hand<S: Store, K: Sink>(
-    hand: &mut InHand,
+    hand: &mut Loaded,
     load: Load,
-    carrier: &mut Carrier,
+    carrier: &mut OutBuffer,
     store: &mut S,
     sink: &mut K,
 ) -> Result<Load, Refusal>
@@ -78,7 +78,7 @@ fn carry_hand<S: Store, K: Sink>(
 fn carry_piece<S: Store, K: Sink, L: Ledger>(
     walk: &mut Walk,
     load: Load,
-    carrier: &mut Carrier,
+    carrier: &mut OutBuffer,
     movie: &Movie,
     store: &mut S,
     sink: &mut K,
@@ -123,7 +123,7 @@ fn carry_piece<S: Store, K: Sink, L: Ledger>(
 fn carry_in_hand<S: Store, K: Sink, L: Ledger>(
     walk: &mut Walk,
     load: Load,
-    carrier: &mut Carrier,
+    carrier: &mut OutBuffer,
     movie: &Movie,
     store: &mut S,
     sink: &mut K,
@@ -131,14 +131,14 @@ fn carry_in_hand<S: Store, K: Sink, L: Ledger>(
 ) -> Result<(), Refusal>
     requires { HasMarkInHand movie.now walk.old }
     ensures walk { KeepsWalk movie.now walk.old walk.new result }
-    ensures put { (l : Leaving) → WhereMarkedLess S.Store store.old movie.now l walk.old
+    ensures put { (l : Without) → WhereMarkedLess S.Store store.old movie.now l walk.old
         load.samples (λ file tree t samples.
         Carries K.Sink sink.old sink.new carrier.old carrier.new result
         (sample_bytes file (take load.samples samples))) }
-    ensures comes { (l : Leaving) → WhereMarkedLess S.Store store.old movie.now l walk.old
+    ensures comes { (l : Without) → WhereMarkedLess S.Store store.old movie.now l walk.old
         load.samples (λ file tree t samples. OnOk result
         (ComesLess l file tree t movie.now walk.new (drop load.samples samples))) }
-    ensures unchanged { (l : Leaving) → WhereMarkedLess S.Store store.old movie.now l walk.old
+    ensures unchanged { (l : Without) → WhereMarkedLess S.Store store.old movie.now l walk.old
         load.samples (λ file tree t samples. AreThere file load.samples load.bytes samples
         → IsUnchanged result) }
     ensures along { TakesAlong K.Sink sink.old sink.new carrier.old carrier.new result load.bytes }
@@ -161,7 +161,7 @@ fn carry_in_hand<S: Store, K: Sink, L: Ledger>(
 fn carry_again<S: Store, K: Sink, L: Ledger>(
     walk: &mut Walk,
     load: Load,
-    carrier: &mut Carrier,
+    carrier: &mut OutBuffer,
     movie: &Movie,
     store: &mut S,
     sink: &mut K,
@@ -169,14 +169,14 @@ fn carry_again<S: Store, K: Sink, L: Ledger>(
 ) -> Result<(), Refusal>
     requires { IsWalkOf movie.now walk.old }
     ensures walk { KeepsWalk movie.now walk.old walk.new result }
-    ensures put { (l : Leaving) → WhereMarkedLess S.Store store.old movie.now l walk.old
+    ensures put { (l : Without) → WhereMarkedLess S.Store store.old movie.now l walk.old
         load.samples (λ file tree t samples.
         Carries K.Sink sink.old sink.new carrier.old carrier.new result
         (sample_bytes file (take load.samples samples))) }
-    ensures comes { (l : Leaving) → WhereMarkedLess S.Store store.old movie.now l walk.old
+    ensures comes { (l : Without) → WhereMarkedLess S.Store store.old movie.now l walk.old
         load.samples (λ file tree t samples. OnOk result
         (ComesLess l file tree t movie.now walk.new (drop load.samples samples))) }
-    ensures unchanged { (l : Leaving) → WhereMarkedLess S.Store store.old movie.now l walk.old
+    ensures unchanged { (l : Without) → WhereMarkedLess S.Store store.old movie.now l walk.old
         load.samples (λ file tree t samples. AreThere file load.samples load.bytes samples
         → IsUnchanged result) }
     ensures along { TakesAlong K.Sink sink.old sink.new carrier.old carrier.new result load.bytes }
@@ -198,7 +198,7 @@ fn carry_marked<S: Store, K: Sink, L: Ledger>(
     walk: &mut Walk,
     stretches: &Stretches,
     load: Load,
-    carrier: &mut Carrier,
+    carrier: &mut OutBuffer,
     movie: &Movie,
     store: &mut S,
     sink: &mut K,
@@ -206,14 +206,14 @@ fn carry_marked<S: Store, K: Sink, L: Ledger>(
 ) -> Result<(), Refusal>
     requires { IsWalkOf movie.now walk.old }
     ensures walk { KeepsWalk movie.now walk.old walk.new result }
-    ensures put { (l : Leaving) → WhereToldLess S.Store store.old movie.now l walk.old load.samples
+    ensures put { (l : Without) → WhereToldLess S.Store store.old movie.now l walk.old load.samples
         stretches.now (λ file tree t samples.
         Carries K.Sink sink.old sink.new carrier.old carrier.new result
         (sample_bytes file (take load.samples samples))) }
-    ensures comes { (l : Leaving) → WhereMarkedLess S.Store store.old movie.now l walk.old
+    ensures comes { (l : Without) → WhereMarkedLess S.Store store.old movie.now l walk.old
         load.samples (λ file tree t samples. OnOk result
         (ComesLess l file tree t movie.now walk.new (drop load.samples samples))) }
-    ensures unchanged { (l : Leaving) → WhereToldLess S.Store store.old movie.now l walk.old
+    ensures unchanged { (l : Without) → WhereToldLess S.Store store.old movie.now l walk.old
         load.samples stretches.now (λ file tree t samples.
         AreThere file load.samples load.bytes samples → IsUnchanged result) }
     ensures along { TakesAlong K.Sink sink.old sink.new carrier.old carrier.new result load.bytes }
@@ -238,10 +238,10 @@ fn carry_marked<S: Store, K: Sink, L: Ledger>(
 /// these are all. Then it looks for the next sample, gives what is left of it, and marks its place.
 pub(crate) fn carry_noted<S: Store, K: Sink, L: Ledger>(
     walk: &mut Walk,
-    leaving: Leaving,
+    leaving: Without,
     stretches: &Stretches,
     load: Load,
-    carrier: &mut Carrier,
+    carrier: &mut OutBuffer,
     movie: &Movie,
     store: &mut S,
     sink: &mut K,

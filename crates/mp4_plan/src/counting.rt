@@ -1,18 +1,18 @@
 //! How many samples the next piece of a walk has.
-ghost use Rattle.std.specs.Prelude.{◌≡◌, ◌+◌, ◌≤◌, length, slice_get, IfOk, OnOk};
+ghost use Rattle.std.specs.Prelude.{◌≡◌, ◌+◌, ◌<◌, ◌≤◌, length, slice_get, IfOk, OnOk};
 ghost use Rattle.mp4_present.specs.words.Movies.{IsWalkOf, RefusesLoad};
-ghost use Rattle.mp4_present.specs.words.OverStores.{IsUnchanged, OnlyReads, Refused};
-ghost use Rattle.mp4_present.specs.words.OverWalks.{TakesSteps};
+ghost use Rattle.mp4_present.specs.words.StoresRead.{IsUnchanged, OnlyReads, Refused};
+ghost use Rattle.mp4_present.specs.words.TrackWalks.{TakesSteps};
 ghost use Rattle.mp4_plan.specs.words.Counting.{CountsFirst, HandCounted, HasCounted, PieceCounted, StopsAt};
 ghost use Rattle.mp4_plan.specs.words.Ends.{goes_in};
 ghost use Rattle.mp4_plan.specs.words.HandsFed.{KeepsOn};
-ghost use Rattle.mp4_plan.specs.words.OverLess.{KeepsWalk, WhereLess};
+ghost use Rattle.mp4_plan.specs.words.ReducedWalks.{KeepsWalk, WhereLess};
 
 use crate::ends::{End, goes_in, has_ended};
 use crate::reduced::Reduced;
 use crate::track_pieces::MOST_SAMPLES;
 use mp4_boxes::{Refusal, Steps};
-use mp4_present::{Leaving, Movie, Place, Walk};
+use mp4_present::{Loaded, Movie, Place, Walk, Without};
 use mp4_store::Store;
 use mp4_tables::{SampleAt, Samples};
 use std::sync::ledger::Ledger;
@@ -32,6 +32,37 @@ struct CountedHand {
     place: Place,
 }
 
+// Passes some samples that go into a piece with this end and description, at most so many, and
+// counts them: none where the next one doesn't go in. Pieces of the first track end at sync
+// samples, so others are passed together.
+#[inline(always)]
+fn count_some<S: Samples>(samples: &mut S, end: &End, description: u32, most: u32) -> u32
+    requires { 0 < most }
+    ensures counts { CountsFirst (goes_in end.now description) result (S.rest samples.old)
+        (S.rest samples.new) }
+    ensures few { result ≤ most }
+    ensures stops { result ≡ 0
+        → StopsAt (goes_in end.now description) 1 0 (slice_get (S.rest samples.new) 0) }
+    ensures later { S.follows samples.old samples.new }
+{
+    let Some(sample) = samples.peek() else {
+        return 0;
+    };
+    if !goes_in(end, description, &sample) {
+        return 0;
+    }
+    if let End::Sync { .. } = *end
+        && sample.flags / 0x1_0000 % 2 == 1
+    {
+        let count = samples.pass_non_sync(description, most);
+        if count > 0 {
+            return count;
+        }
+    }
+    samples.pass(&sample);
+    1
+}
+
 // Passes the samples that go into a piece with this end and description, at most so many, and
 // counts them.
 #[inline(always)]
@@ -45,14 +76,11 @@ fn count_in<S: Samples>(samples: &mut S, end: &End, description: u32, most: u32)
 {
     let mut count = 0;
     while count < most {
-        let Some(sample) = samples.peek() else {
-            return count;
-        };
-        if !goes_in(end, description, &sample) {
+        let some = count_some(samples, end, description, most - count);
+        if some == 0 {
             return count;
         }
-        let _ = samples.next();
-        count += 1;
+        count += some;
     }
     count
 }
@@ -62,7 +90,7 @@ fn count_in<S: Samples>(samples: &mut S, end: &End, description: u32, most: u32)
 #[inline(never)]
 fn count_hand(
     walk: &Walk,
-    leaving: Leaving,
+    leaving: Without,
     movie: &Movie,
     end: &End,
     description: u32,
@@ -74,15 +102,25 @@ fn count_hand(
     ensures place { IsWalkOf movie.now (record walk.now { place = result.place }) }
     ensures keeps { KeepsOn movie.now walk.now result.place }
 {
-    let mut hand = Reduced {
-        inner: walk.in_hand(movie),
-        leaving,
-    };
-    let count = count_in(&mut hand, end, description, most);
-    CountedHand {
-        count,
-        next: hand.peek(),
-        place: hand.inner.place(),
+    match walk.in_hand(movie) {
+        Loaded::Tables(inner) => {
+            let mut hand = Reduced { inner, leaving };
+            let count = count_in(&mut hand, end, description, most);
+            CountedHand {
+                count,
+                next: hand.peek(),
+                place: Place::Tables(hand.inner.place()),
+            }
+        }
+        Loaded::Fragment(inner) => {
+            let mut hand = Reduced { inner, leaving };
+            let count = count_in(&mut hand, end, description, most);
+            CountedHand {
+                count,
+                next: hand.peek(),
+                place: Place::Fragment(hand.inner.place()),
+            }
+        }
     }
 }
 
@@ -90,7 +128,7 @@ fn count_hand(
 // Where they are more than 2^24, the store has changed.
 fn count_piece<S: Store, L: Ledger>(
     walk: &mut Walk,
-    leaving: Leaving,
+    leaving: Without,
     end: &End,
     description: u32,
     movie: &Movie,
@@ -135,7 +173,7 @@ fn count_piece<S: Store, L: Ledger>(
 /// is the next. Where they are more than 2^24, the store has changed.
 pub(crate) fn count_turn<S: Store, L: Ledger>(
     walk: &mut Walk,
-    leaving: Leaving,
+    leaving: Without,
     next: &mut Option<SampleAt>,
     end: &End,
     movie: &Movie,

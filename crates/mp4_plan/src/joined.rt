@@ -2,7 +2,7 @@
 ghost use Rattle.std.specs.Prelude.{◌≤◌};
 
 use mp4_boxes::Refusal;
-use mp4_present::{Carrier, Stretch};
+use mp4_present::{OutBuffer, Stretch};
 use mp4_store::{Sink, Store};
 use mp4_tables::SampleAt;
 
@@ -32,8 +32,8 @@ impl Span {
     ghost use Rattle.std.specs.Prelude.{◌≡◌, ◌+◌, ◌≤◌, length, IfOk};
     ghost use Rattle.mp4_present.specs.words.Carried.{RefusesCarry};
     ghost use Rattle.mp4_present.specs.words.HandCarried.{RefusedByBoth};
-    ghost use Rattle.mp4_present.specs.words.OverCarriers.{Carries, OnlyCopies, TakesAlong};
-    ghost use Rattle.mp4_present.specs.words.OverStores.{IsUnchanged, WhereHonest};
+    ghost use Rattle.mp4_present.specs.words.OutBuffers.{Carries, OnlyCopies, TakesAlong};
+    ghost use Rattle.mp4_present.specs.words.StoresRead.{IsUnchanged, WhereHonest};
     ghost use Rattle.mp4_plan.specs.words.Stretches.{span_len, span_bytes, EndsBelow};
 
     // How many bytes these are.
@@ -48,7 +48,7 @@ impl Span {
     fn carry<S: Store, K: Sink>(
         &self,
         left: u64,
-        carrier: &mut Carrier,
+        carrier: &mut OutBuffer,
         store: &mut S,
         sink: &mut K,
     ) -> Result<u64, Refusal>
@@ -85,8 +85,8 @@ impl Stretches {
     ghost use Rattle.mp4_tables.specs.declared.sample.SampleAt.{SampleAt};
     ghost use Rattle.mp4_present.specs.words.Carried.{RefusesCarry};
     ghost use Rattle.mp4_present.specs.words.HandCarried.{RefusedByBoth};
-    ghost use Rattle.mp4_present.specs.words.OverCarriers.{Carries, OnlyCopies, TakesAlong};
-    ghost use Rattle.mp4_present.specs.words.OverStores.{IsUnchanged, WhereHonest};
+    ghost use Rattle.mp4_present.specs.words.OutBuffers.{Carries, OnlyCopies, TakesAlong};
+    ghost use Rattle.mp4_present.specs.words.StoresRead.{IsUnchanged, WhereHonest};
     ghost use Rattle.mp4_plan.specs.words.Stretches.{AreBytesOf, spans_of, spans_bytes, spans_len, EndsBelow, Tells, JoinsOn, IsRoomFor};
 
     /// Those of no samples.
@@ -174,7 +174,7 @@ impl Stretches {
     pub(crate) fn carry<S: Store, K: Sink>(
         &self,
         bytes: u64,
-        carrier: &mut Carrier,
+        carrier: &mut OutBuffer,
         store: &mut S,
         sink: &mut K,
     ) -> Result<(), Refusal>

@@ -7,7 +7,7 @@ ghost use Rattle.mp4_plan.specs.words.Spelling.{bit_of, bit_without, bit_if, mfh
 use crate::moof_sizes::{MFHD_SIZE, MoofSizes, TFDT_SIZE, short};
 use crate::offsets::data_offset;
 use crate::planner::Planned;
-use crate::spelled::Spelled;
+use crate::short_bytes::Spelled;
 use mp4_boxes::FourCc;
 
 /// What a piece says once.

@@ -5,7 +5,7 @@ ghost use Rattle.mp4_store.specs.words.Device.{TakesPrefix};
 ghost use Rattle.mp4_tables.specs.format.Groups.{GroupKey as KeySeen};
 ghost use Rattle.mp4_tables.specs.words.Keys.{key_seen, keys_seen};
 ghost use Rattle.mp4_present.specs.words.Carried.{BytesGoOn, waiting};
-ghost use Rattle.mp4_present.specs.words.OverCarriers.{Carries, OnlyPuts};
+ghost use Rattle.mp4_present.specs.words.OutBuffers.{Carries, OnlyPuts};
 ghost use Rattle.mp4_plan.specs.format.Normal.{own};
 ghost use Rattle.mp4_plan.specs.words.Spelling.{offset_of, run_row, run_rows, group_row, group_rows, runs_left, WritesRuns};
 ghost use Rattle.mp4_plan.specs.words.UsedKeys.{used_seen, is_above, is_below, least_above, used_from, IsKeyAt, AreApart, key_front, group_front, group_bytes, groups_bytes, some_groups};
@@ -13,9 +13,9 @@ ghost use Rattle.mp4_plan.specs.words.UsedKeys.{used_seen, is_above, is_below, l
 use crate::moof_sizes::{group_size, short};
 use crate::noted_rows::Row;
 use crate::planner::Planned;
-use crate::spelled::Spelled;
+use crate::short_bytes::Spelled;
 use mp4_boxes::{FourCc, Refusal};
-use mp4_present::Carrier;
+use mp4_present::OutBuffer;
 use mp4_store::Sink;
 use mp4_tables::{GroupKey, Keys};
 
@@ -65,7 +65,7 @@ fn spell_rows(rows: &[Row], planned: &Planned, out: &mut Spelled)
 pub(crate) fn carry_run<K: Sink>(
     rows: &[Row],
     planned: &Planned,
-    carrier: &mut Carrier,
+    carrier: &mut OutBuffer,
     sink: &mut K,
 ) -> Result<(), Refusal>
     ensures sink { OnlyPuts K.Sink sink.old sink.new carrier.old carrier.new result }
@@ -133,7 +133,7 @@ pub(crate) struct IndexRun {
 // Takes a run along, where there is one.
 fn carry_index_run<K: Sink>(
     run: IndexRun,
-    carrier: &mut Carrier,
+    carrier: &mut OutBuffer,
     sink: &mut K,
 ) -> Result<(), Refusal>
     ensures sink { OnlyPuts K.Sink sink.old sink.new carrier.old carrier.new result }
@@ -150,7 +150,7 @@ fn carry_index_run<K: Sink>(
 fn carry_index<K: Sink>(
     run: IndexRun,
     index: u16,
-    carrier: &mut Carrier,
+    carrier: &mut OutBuffer,
     sink: &mut K,
 ) -> Result<IndexRun, Refusal>
     requires { run.count + 1 < 2 ^ 32 }
@@ -176,7 +176,7 @@ fn carry_index<K: Sink>(
 fn carry_indexes<K: Sink>(
     rows: &[Row],
     place: u8,
-    carrier: &mut Carrier,
+    carrier: &mut OutBuffer,
     sink: &mut K,
 ) -> Result<(), Refusal>
     requires place { place < 4 }
@@ -242,7 +242,7 @@ fn carry_group<K: Sink>(
     used: UsedKey,
     rows: &[Row],
     planned: &Planned,
-    carrier: &mut Carrier,
+    carrier: &mut OutBuffer,
     sink: &mut K,
 ) -> Result<(), Refusal>
     requires place { used.place < 4 }
@@ -262,7 +262,7 @@ pub(crate) fn carry_groups<K: Sink>(
     rows: &[Row],
     planned: &Planned,
     keys: &Keys,
-    carrier: &mut Carrier,
+    carrier: &mut OutBuffer,
     sink: &mut K,
 ) -> Result<(), Refusal>
     requires { length rows.now < 2 ^ 32 - 1 }

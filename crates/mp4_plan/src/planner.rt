@@ -148,8 +148,8 @@ impl Planner {
             if !self.takes(&sample) {
                 return Fed::Closed;
             }
+            samples.pass(&sample);
             self.take(sample);
-            let _ = samples.next();
         }
         Fed::More
     }
@@ -182,8 +182,8 @@ impl Planner {
             rows[noted] = row_of(&sample);
             stretches.add(&sample);
             noted += 1;
+            samples.pass(&sample);
             self.take(sample);
-            let _ = samples.next();
         }
     }
 }

@@ -2,11 +2,12 @@
 ghost use Rattle.std.specs.Prelude.{◌≡◌, map};
 ghost use Rattle.mp4_boxes.specs.format.Children.{is_among};
 ghost use Rattle.mp4_head.specs.words.Seen.{kept_seen, media_seen, movie_seen, track_seen, tracks_seen};
+ghost use Rattle.mp4_present.specs.words.PayloadsLeft.{keeping_labels};
 ghost use Rattle.mp4_present.specs.format.Reduced.{metadata_kinds, reduce_kept, reduce_media, reduce_movie_head, reduce_track_head};
 
 use mp4_boxes::FourCc;
 use mp4_head::{Kept, Media, MovieHead, TrackHead};
-use mp4_present::Leaving;
+use mp4_present::Without;
 
 // Whether a kept box of this type is metadata.
 fn is_metadata(kind: FourCc) -> bool
@@ -16,7 +17,7 @@ fn is_metadata(kind: FourCc) -> bool
 }
 
 // Kept boxes without those that are metadata, where these are left out.
-fn reduce_kept(kept: &mut Vec<Kept>, leaving: Leaving)
+fn reduce_kept(kept: &mut Vec<Kept>, leaving: Without)
     ensures { map kept_seen kept.new.items ≡ reduce_kept leaving (map kept_seen kept.old.items) }
 {
     if leaving.metadata {
@@ -24,9 +25,10 @@ fn reduce_kept(kept: &mut Vec<Kept>, leaving: Leaving)
     }
 }
 
-// Media without their times, where these are left out.
-fn reduce_media(media: &mut Media, leaving: Leaving)
-    ensures { media_seen media.new ≡ reduce_media leaving (media_seen media.old) }
+// Media without their times, where these are left out; labels stay.
+fn reduce_media(media: &mut Media, leaving: Without)
+    ensures { media_seen media.new
+        ≡ reduce_media (keeping_labels leaving) (media_seen media.old) }
 {
     if leaving.times {
         media.creation = 0;
@@ -34,9 +36,10 @@ fn reduce_media(media: &mut Media, leaving: Leaving)
     }
 }
 
-// What is left of the head of a track.
-fn reduce_track(track: &mut TrackHead, leaving: Leaving)
-    ensures { track_seen track.new ≡ reduce_track_head leaving (track_seen track.old) }
+// What is left of the head of a track, but for labels, which stay.
+fn reduce_track(track: &mut TrackHead, leaving: Without)
+    ensures { track_seen track.new
+        ≡ reduce_track_head (keeping_labels leaving) (track_seen track.old) }
 {
     if leaving.times {
         track.creation = 0;
@@ -52,21 +55,21 @@ fn reduce_track(track: &mut TrackHead, leaving: Leaving)
     reduce_media(&mut track.media, leaving);
 }
 
-// What is left of the heads of tracks.
-fn reduce_tracks(tracks: &mut Vec<TrackHead>, leaving: Leaving)
+// What is left of the heads of tracks, but for labels, which stay.
+fn reduce_tracks(tracks: &mut Vec<TrackHead>, leaving: Without)
     ensures { map track_seen tracks.new.items
-        ≡ map (reduce_track_head leaving) (map track_seen tracks.old.items) }
+        ≡ map (reduce_track_head (keeping_labels leaving)) (map track_seen tracks.old.items) }
 {
     for k in 0..tracks.len() {
         reduce_track(&mut tracks[k], leaving);
     }
 }
 
-/// What is left of the head of a movie; it takes no memory.
-pub(crate) fn reduce_head(head: &mut MovieHead, leaving: Leaving)
+/// What is left of the head of a movie, but for labels, which stay; it takes no memory.
+pub(crate) fn reduce_head(head: &mut MovieHead, leaving: Without)
     ensures movie { movie_seen head.new ≡ reduce_movie_head leaving (movie_seen head.old) }
     ensures tracks { tracks_seen head.new
-        ≡ map (reduce_track_head leaving) (tracks_seen head.old) }
+        ≡ map (reduce_track_head (keeping_labels leaving)) (tracks_seen head.old) }
 {
     if leaving.times {
         head.creation = 0;

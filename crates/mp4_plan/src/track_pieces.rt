@@ -2,24 +2,24 @@
 ghost use Rattle.std.specs.Prelude.{◌≡◌, ◌+◌, ◌-◌, ◌*◌, ◌^◌, ◌<◌, ◌≤◌, List, length, None, slice_get, IfOk, OnOk, MatchResult};
 ghost use Rattle.mp4_present.specs.words.SamplesComing.{Comes};
 ghost use Rattle.mp4_present.specs.words.Movies.{IsWalkOf, HasSome, RefusesLoad, mark_of};
-ghost use Rattle.mp4_present.specs.words.OverStores.{IsUnchanged, OnlyReads, Refused};
-ghost use Rattle.mp4_present.specs.words.OverWalks.{TakesSteps, WhereComes};
+ghost use Rattle.mp4_present.specs.words.StoresRead.{IsUnchanged, OnlyReads, Refused};
+ghost use Rattle.mp4_present.specs.words.TrackWalks.{TakesSteps, WhereComes};
 ghost use Rattle.mp4_plan.specs.words.Gathering.{count_of, more_of, planned_of, piece_from, piece_fed, samples_after};
 ghost use Rattle.mp4_plan.specs.words.GoneOn.{ComesMarked, WentOn};
 ghost use Rattle.mp4_plan.specs.words.WriterSteps.{FinishesOn, WritesOn};
 ghost use Rattle.mp4_plan.specs.words.HandsFed.{stop_of, HandFed, HandNoted, KeepsOn};
 ghost use Rattle.mp4_plan.specs.words.ComingLess.{ComesLess, less};
-ghost use Rattle.mp4_plan.specs.words.OverLess.{HasBounds, HasRows, KeepsWalk, MayNote, WhereLess, WhereMayWrite};
+ghost use Rattle.mp4_plan.specs.words.ReducedWalks.{HasBounds, HasRows, KeepsWalk, MayNote, WhereLess, WhereMayWrite};
 ghost use Rattle.mp4_tables.specs.declared.sample.SampleAt.{SampleAt};
 
+use crate::at_most::Limited;
 use crate::ends::{End, first_goes};
 use crate::joined::Stretches;
-use crate::limited::Limited;
 use crate::noted_rows::Row;
 use crate::planner::{Planned, Planner};
 use crate::reduced::{Reduced, reduced_sample};
 use mp4_boxes::{Refusal, Steps};
-use mp4_present::{Leaving, Movie, Place, Walk};
+use mp4_present::{Loaded, Movie, Place, Walk, Without};
 use mp4_store::Store;
 use mp4_tables::{SampleAt, Samples};
 use std::sync::ledger::Ledger;
@@ -56,7 +56,7 @@ fn peek_sample<S: Store, L: Ledger>(
 }
 
 // What is left of a sample, where there is one.
-fn reduced_next(leaving: Leaving, next: Option<SampleAt>) -> Option<SampleAt>
+fn reduced_next(leaving: Without, next: Option<SampleAt>) -> Option<SampleAt>
     ensures is { (samples : List SampleAt) → next ≡ slice_get samples 0
         → result ≡ slice_get (less leaving samples) 0 }
     ensures none { next ≡ None → result ≡ None }
@@ -70,7 +70,7 @@ fn reduced_next(leaving: Leaving, next: Option<SampleAt>) -> Option<SampleAt>
 /// What is left of the next sample of a walk, which stays the next.
 pub(crate) fn next_sample<S: Store, L: Ledger>(
     walk: &mut Walk,
-    leaving: Leaving,
+    leaving: Without,
     movie: &Movie,
     store: &mut S,
     steps: &mut Steps<L>,
@@ -98,7 +98,7 @@ pub(crate) fn next_sample<S: Store, L: Ledger>(
 /// are to come as at its mark before.
 pub(crate) fn next_marked<S: Store, L: Ledger>(
     walk: &mut Walk,
-    leaving: Leaving,
+    leaving: Without,
     movie: &Movie,
     store: &mut S,
     steps: &mut Steps<L>,
@@ -158,7 +158,7 @@ fn stop_at(planner: &Planner, next: Option<SampleAt>) -> Stop
 // Feeds the samples in hand to a planner, at most 2^24 for a piece. Its loop stays apart from that
 // of its one caller, as that of `count_hand` does.
 #[inline(never)]
-fn feed_hand(planner: &mut Planner, walk: &Walk, leaving: Leaving, movie: &Movie) -> FedHand
+fn feed_hand(planner: &mut Planner, walk: &Walk, leaving: Without, movie: &Movie) -> FedHand
     requires walk { IsWalkOf movie.now walk.now }
     requires few { count_of planner.old.gathered ≤ MOST_SAMPLES }
     ensures fed { HandFed leaving movie.now walk.now (MOST_SAMPLES - count_of planner.old.gathered)
@@ -187,7 +187,7 @@ fn feed_hand(planner: &mut Planner, walk: &Walk, leaving: Leaving, movie: &Movie
 fn note_hand(
     planner: &mut Planner,
     walk: &Walk,
-    leaving: Leaving,
+    leaving: Without,
     movie: &Movie,
     rows: &mut [Row],
     stretches: &mut Stretches,
@@ -200,21 +200,30 @@ fn note_hand(
     ensures place { IsWalkOf movie.now (record walk.now { place = result.place }) }
     ensures keeps { KeepsOn movie.now walk.now result.place }
 {
-    let mut hand = Reduced {
-        inner: walk.in_hand(movie),
-        leaving,
-    };
-    planner.note(&mut hand, rows, stretches);
-    FedHand {
-        stop: stop_at(planner, hand.peek()),
-        place: hand.inner.place(),
+    match walk.in_hand(movie) {
+        Loaded::Tables(inner) => {
+            let mut hand = Reduced { inner, leaving };
+            planner.note(&mut hand, rows, stretches);
+            FedHand {
+                stop: stop_at(planner, hand.peek()),
+                place: Place::Tables(hand.inner.place()),
+            }
+        }
+        Loaded::Fragment(inner) => {
+            let mut hand = Reduced { inner, leaving };
+            planner.note(&mut hand, rows, stretches);
+            FedHand {
+                stop: stop_at(planner, hand.peek()),
+                place: Place::Fragment(hand.inner.place()),
+            }
+        }
     }
 }
 
 /// Plans the next piece of a walk with this end.
 pub(crate) fn plan_piece<S: Store, L: Ledger>(
     walk: &mut Walk,
-    leaving: Leaving,
+    leaving: Without,
     end: End,
     movie: &Movie,
     store: &mut S,
@@ -256,7 +265,7 @@ pub(crate) fn plan_piece<S: Store, L: Ledger>(
 /// next.
 pub(crate) fn plan_turn<S: Store, L: Ledger>(
     walk: &mut Walk,
-    leaving: Leaving,
+    leaving: Without,
     next: &mut Option<SampleAt>,
     end: End,
     movie: &Movie,
@@ -292,7 +301,7 @@ pub(crate) fn plan_turn<S: Store, L: Ledger>(
 // bytes lie. Where there is no room for the rows, the store has changed.
 fn note_piece<S: Store, L: Ledger>(
     walk: &mut Walk,
-    leaving: Leaving,
+    leaving: Without,
     end: End,
     rows: &mut [Row],
     stretches: &mut Stretches,
@@ -343,7 +352,7 @@ fn note_piece<S: Store, L: Ledger>(
 /// the rows, the store has changed.
 pub(crate) fn note_marked<S: Store, L: Ledger>(
     walk: &mut Walk,
-    leaving: Leaving,
+    leaving: Without,
     end: End,
     rows: &mut [Row],
     stretches: &mut Stretches,

@@ -6,43 +6,45 @@ ghost use Rattle.mp4_tables.specs.declared.sample.SampleAt.{SampleAt};
 ghost use Rattle.mp4_present.specs.declared.track_info.TrackInfo.{TrackInfo};
 ghost use Rattle.mp4_present.specs.words.Carried.{GoOnBy, waiting};
 ghost use Rattle.mp4_present.specs.format.Reduced.{ReducesInTime, reduce};
-ghost use Rattle.mp4_present.specs.declared.leaving.Leaving.{Leaving};
+ghost use Rattle.mp4_present.specs.declared.without.Without.{Without};
 ghost use Rattle.mp4_plan.specs.words.LeftTimes.{NamesLong, RefusesLeft, RefusesLeftCopy};
 ghost use Rattle.mp4_present.specs.format.Denotes.{presentation_of};
 ghost use Rattle.mp4_present.specs.words.Joined.{sample_bytes};
-ghost use Rattle.mp4_present.specs.words.OverStores.{IsUnchanged, OnlyReads, Refused};
+ghost use Rattle.mp4_present.specs.words.StoresRead.{IsUnchanged, OnlyReads, Refused};
 ghost use Rattle.mp4_present.specs.words.WalkSteps.{walks_steps};
 ghost use Rattle.mp4_plan.specs.format.Normal.{normal};
 ghost use Rattle.mp4_plan.specs.words.PutPieces.{IsHeadLeft, PiecesFollow, IsPutWhole};
 ghost use Rattle.mp4_plan.specs.words.WriterSteps.{MayAllWrite, WriteAllBegin, writing_steps};
-ghost use Rattle.mp4_plan.specs.words.OverCarrying.{AreThere};
-ghost use Rattle.mp4_plan.specs.words.OverWriters.{IsPlanned, MayCarry, OnTurn, OnlyCarries, OnlyNotes, StepsToCarry, StepsToNote, WhereNoted, WithKeys};
-ghost use Rattle.mp4_plan.specs.words.OverDevices.{IsMade, OverOpened, TellsLong};
+ghost use Rattle.mp4_plan.specs.words.CarriedSamples.{AreThere};
+ghost use Rattle.mp4_plan.specs.words.WriterWalks.{IsPlanned, MayCarry, OnTurn, OnlyCarries, OnlyNotes, StepsToCarry, StepsToNote, WhereNoted, WithKeys};
+ghost use Rattle.mp4_plan.specs.words.MadeWriters.{IsMade, OverOpened, TellsLong};
 ghost use Rattle.mp4_plan.specs.words.Turns.{movie_turns};
 ghost use Rattle.mp4_present.specs.words.HandCarried.{RefusedByBoth};
 ghost use Rattle.mp4_present.specs.words.Carried.{RefusesCarry, RefusesCopy};
-ghost use Rattle.mp4_present.specs.declared.walks.Walk.{Walk};
+ghost use Rattle.mp4_present.specs.declared.walking.Walk.{Walk};
 ghost use Rattle.mp4_plan.specs.words.Gathering.{more_of, piece_from};
 ghost use Rattle.mp4_present.specs.words.Movies.{RefusesLoad};
-ghost use Rattle.mp4_present.specs.words.OverCarriers.{Carries, OnlyCopies};
+ghost use Rattle.mp4_present.specs.words.OutBuffers.{Carries, OnlyCopies};
 ghost use Rattle.mp4_plan.specs.words.Writers.{RefusesPlan, IsWriterOf, turn_head, sequence_behind, IsReady, IsReadyWithin, turn_bytes, HasNoted, HaveCopied};
 ghost use Rattle.mp4_plan.specs.format.Held.{held};
 
 use crate::carrying::{Load, carry_noted};
 use crate::due_tracks::DueTracks;
 use crate::ends::first_goes;
+use crate::first_samples::{first_time, peek_each, walks_of};
 use crate::joined::Stretches;
-use crate::left_times::length_left;
-use crate::measuring::{first_time, head_of, longest_piece, peek_each, walks_of};
 use crate::moof_front::{PieceHead, moof_front};
 use crate::moof_rows::{carry_groups, carry_run};
 use crate::moof_sizes::sizes_of;
+use crate::normal_head::head_of;
 use crate::noted_rows::{NO_ROW, Row};
+use crate::piece_totals::longest_piece;
 use crate::planner::{Planned, Planner};
+use crate::reduced_lengths::length_left;
 use crate::schedule::{Schedule, Turn};
 use crate::track_pieces::note_marked;
 use mp4_boxes::{FourCc, Refusal, Steps, header};
-use mp4_present::{Carrier, Leaving, Movie, TrackInfo, Walk};
+use mp4_present::{Movie, OutBuffer, TrackInfo, Walk, Without};
 use mp4_store::{Sink, Store};
 use mp4_tables::SampleAt;
 use std::alloc::Global;
@@ -66,9 +68,9 @@ struct Noted {
 #[derive(Drop)]
 pub struct Writer {
     /// What is left out.
-    leaving: Leaving,
+    leaving: Without,
     /// What waits to be put.
-    carrier: Carrier,
+    carrier: OutBuffer,
     /// The bytes of `ftyp` and `moov`.
     head: Vec<u8>,
     rows: Vec<Row>,
@@ -138,7 +140,7 @@ impl Writer {
         alloc: Global,
         movie: &Movie,
         store: &mut S,
-        leaving: Leaving,
+        leaving: Without,
         steps: &mut Steps<L>,
         looks: &mut Steps<M>,
     ) -> Result<Writer, Refusal>
@@ -165,7 +167,7 @@ impl Writer {
         let due = DueTracks::new(alloc, movie.tracks().len())?;
         Ok(Writer {
             leaving,
-            carrier: Carrier::new(alloc, PIECE)?,
+            carrier: OutBuffer::new(alloc, PIECE)?,
             head: head_of(alloc, movie, leaving, mehd)?,
             rows: vec![in alloc; NO_ROW; longest as usize]?,
             stretches: Stretches::new(),
@@ -183,7 +185,7 @@ impl Writer {
         steps: &mut Steps<L>,
         looks: &mut Steps<M>,
     ) -> Result<Writer, Refusal>
-        ensures made { IfOk result (IsMade movie.now Leaving.NOTHING) }
+        ensures made { IfOk result (IsMade movie.now Without.NOTHING) }
         ensures store { OnlyReads S.Store store.old store.new result }
         ensures ready { OverOpened S.Store store.old movie.now
             (λ file tree. IfOk result (IsReadyWithin file tree movie.now)) }
@@ -197,7 +199,7 @@ impl Writer {
             IfOk result (λ w. WriteAllBegin file tree movie.now w.walks.items)) }
         ensures turns { looks.new ≤ looks.old + movie_turns movie.now }
     {
-        Writer::reduced(alloc, movie, store, Leaving::NOTHING, steps, looks)
+        Writer::reduced(alloc, movie, store, Without::NOTHING, steps, looks)
     }
 
     // Plans the piece of a turn, and notes its samples. The next piece has this sequence number,
@@ -421,7 +423,7 @@ pub fn write_reduced<S: Store, K: Sink, L: Ledger, M: Ledger>(
     movie: &Movie,
     store: &mut S,
     sink: &mut K,
-    leaving: Leaving,
+    leaving: Without,
     steps: &mut Steps<L>,
     looks: &mut Steps<M>,
 ) -> Result<(), Refusal>
@@ -466,7 +468,7 @@ pub fn write_normal<S: Store, K: Sink, L: Ledger, M: Ledger>(
         OnErr result (TakesPrefix (K.takes sink.old sink.new)
         (normal (presentation_of file tree)))) }
     ensures unchanged { OverOpened S.Store store.old movie.now (λ file tree. IsUnchanged result) }
-    ensures whole { OnOk result ((head : List ℕ) × IsHeadLeft movie.now Leaving.NOTHING head
+    ensures whole { OnOk result ((head : List ℕ) × IsHeadLeft movie.now Without.NOTHING head
         × IsPutWhole movie.now (K.takes sink.old sink.new) head) }
     ensures refusal { RefusedByBoth S.Store store.old store.new K.Sink sink.old sink.new result
         (RefusesCopy (K.takes sink.old sink.new)) }
@@ -475,5 +477,5 @@ pub fn write_normal<S: Store, K: Sink, L: Ledger, M: Ledger>(
         (λ file tree. steps.new ≤ steps.old + (walks_steps tree + writing_steps tree)) }
     ensures turns { looks.new ≤ looks.old + 2 * movie_turns movie.now }
 {
-    write_reduced(alloc, movie, store, sink, Leaving::NOTHING, steps, looks)
+    write_reduced(alloc, movie, store, sink, Without::NOTHING, steps, looks)
 }

@@ -38,8 +38,8 @@ use Rattle.mp4_present.specs.words.PassedMoofs.{IsBegun, IsPassed}
 use Rattle.mp4_present.specs.words.Passing.{seen_behind}
 use Rattle.mp4_present.specs.format.Presentation.{Track, IsInTime, total_duration, end_time, movie_length, normal_moov_length, max_moov}
 use Rattle.mp4_present.specs.words.TrackTrees.{IsTrackOf, AreTracksOf, HaveTables}
-use Rattle.mp4_present.specs.declared.outline.Outline.{Outline}
-use Rattle.mp4_present.specs.declared.tables_pass.PlainTracks.{PlainTracks}
+use Rattle.mp4_present.specs.declared.opening.outline.Outline.{Outline}
+use Rattle.mp4_present.specs.declared.opening.tables_pass.PlainTracks.{PlainTracks}
 use Rattle.mp4_present.specs.declared.track_info.TrackInfo.{TrackInfo}
 use Rattle.mp4_present.proofs.Counts.{sum-append}
 use Rattle.mp4_present.proofs.MoofBehind.{begins_behind}

@@ -8,21 +8,21 @@ use Rattle.mp4_tables.specs.format.Groups.{GroupKey, Groups, key_rank, same_key,
 use Rattle.mp4_tables.proofs.NamedKeys.{IsAmong}
 use Rattle.mp4_head.specs.format.Head.{Kept, Edit}
 use Rattle.mp4_present.specs.format.Presentation.{Sample, Track, Presentation}
-use Rattle.mp4_present.specs.format.Differences.{same_value, differ, numbers, signed, first_unequal, bytes_differ, payload_differences, each_differ, list_differences, box_differences, edit_differences, matrix_differences, movie_rates, movie_differences, head_differences, kept_differences, track_fields, track_layers, track_shape, track_sizes, media_fields, media_lists}
+use Rattle.mp4_present.specs.format.Differences.{same_value, differ, numbers_differ, signed, first_unequal, bytes_differ, payload_differences, each_differ, list_differences, box_differences, edit_differences, matrix_differences, movie_rates, movie_differences, head_differences, kept_differences, track_fields, track_layers, track_shape, track_sizes, media_fields, media_lists}
 use Rattle.mp4_present.specs.format.Comparison.{keys_of_both, sample_differences, track_differences, differences}
 use Rattle.mp4_present.specs.format.ComparisonLaws.{member, byte_value, payload_value, box_value, edit_value, movie_value, count_value, entry_value, track_value, sample_value, value_at}
 use Rattle.mp4_present.specs.format.CompleteLaws.{IsSameBut, same, sample_byte, entry_byte, index, DifferencesAreAll}
-use Rattle.mp4_present.specs.declared.differences.Subject.{Subject}
-use Rattle.mp4_present.specs.declared.differences.Subject.TheVariants as subjects
-use Rattle.mp4_present.specs.declared.differences.Entries.{Entries}
-use Rattle.mp4_present.specs.declared.differences.Entries.TheVariants as entries
-use Rattle.mp4_present.specs.declared.differences.Part.{Part}
-use Rattle.mp4_present.specs.declared.differences.Part.TheVariants as parts
-use Rattle.mp4_present.specs.declared.differences.Field.{Field}
-use Rattle.mp4_present.specs.declared.differences.Field.TheVariants as fields
-use Rattle.mp4_present.specs.declared.differences.Value.{Value}
-use Rattle.mp4_present.specs.declared.differences.Value.TheVariants.{Number, Signed, Kind, Byte}
-use Rattle.mp4_present.specs.declared.differences.Difference.{Difference}
+use Rattle.mp4_present.specs.declared.comparing.differences.Subject.{Subject}
+use Rattle.mp4_present.specs.declared.comparing.differences.Subject.TheVariants as subjects
+use Rattle.mp4_present.specs.declared.comparing.differences.Entries.{Entries}
+use Rattle.mp4_present.specs.declared.comparing.differences.Entries.TheVariants as entries
+use Rattle.mp4_present.specs.declared.comparing.differences.Part.{Part}
+use Rattle.mp4_present.specs.declared.comparing.differences.Part.TheVariants as parts
+use Rattle.mp4_present.specs.declared.comparing.differences.Field.{Field}
+use Rattle.mp4_present.specs.declared.comparing.differences.Field.TheVariants as fields
+use Rattle.mp4_present.specs.declared.comparing.differences.Value.{Value}
+use Rattle.mp4_present.specs.declared.comparing.differences.Value.TheVariants.{Number, Signed, Kind, Byte}
+use Rattle.mp4_present.specs.declared.comparing.differences.Difference.{Difference}
 use Rattle.mp4_present.proofs.ComparisonGroups.{at_keys, index_rank, key_field, none_same}
 
 -- ---- lists that have a difference of a place
@@ -191,7 +191,7 @@ module _ (n : ℕ) (s t : Track) where
   IsHere field = Lists (subjects.Track n) field (track_differences n s t)
 
   counts : (list : Entries) (x y : Value) → Some (Number (count_value s.head list)) ≡ Some x → Some (Number (count_value t.head list)) ≡ Some y → same_value x y ≡ false
-      → Lists (subjects.Track n) (fields.Count list) (numbers (subjects.Track n) (fields.Count list) (count_value s.head list) (count_value t.head list))
+      → Lists (subjects.Track n) (fields.Count list) (numbers_differ (subjects.Track n) (fields.Count list) (count_value s.head list) (count_value t.head list))
   counts list x y e f ne = leaf (fields.Count list) (Number (count_value s.head list)) (Number (count_value t.head list)) x y (same refl) e f ne
 
   -- one and one is the same

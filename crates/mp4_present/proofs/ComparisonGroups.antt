@@ -8,13 +8,13 @@ use Rattle.mp4_boxes.proofs.Among.{true_false}
 use Rattle.mp4_tables.specs.format.Groups.{GroupKey, Groups, key_rank, parameter_rank, same_key, is_in_order, index_at}
 use Rattle.mp4_tables.proofs.NamedKeys.{IsAmong, IsNone, same_itself, among_more, among_first, among_through}
 use Rattle.mp4_present.specs.format.Presentation.{IsParameter, IsGroup}
-use Rattle.mp4_present.specs.format.Differences.{numbers}
+use Rattle.mp4_present.specs.format.Differences.{numbers_differ}
 use Rattle.mp4_present.specs.format.Comparison.{with_key, keys_of_both, index_differences}
-use Rattle.mp4_present.specs.declared.differences.Subject.{Subject}
-use Rattle.mp4_present.specs.declared.differences.Field.{Field}
-use Rattle.mp4_present.specs.declared.differences.Field.TheVariants as fields
-use Rattle.mp4_present.specs.declared.differences.Value.TheVariants.{Number}
-use Rattle.mp4_present.specs.declared.differences.Difference.{Difference}
+use Rattle.mp4_present.specs.declared.comparing.differences.Subject.{Subject}
+use Rattle.mp4_present.specs.declared.comparing.differences.Field.{Field}
+use Rattle.mp4_present.specs.declared.comparing.differences.Field.TheVariants as fields
+use Rattle.mp4_present.specs.declared.comparing.differences.Value.TheVariants.{Number}
+use Rattle.mp4_present.specs.declared.comparing.differences.Difference.{Difference}
 use Rattle.mp4_present.proofs.ComparisonValues.{Tells, both, weaker, number_tells, differ_self}
 
 -- ---- a key is known by its rank
@@ -231,7 +231,7 @@ key_field key = fields.Group (record { kind = record { 0 = key.kind }; parameter
 module _ (of : Subject) (a b : Groups) where
   -- what differs at some keys
   abbrev pub at_keys : List GroupKey → List Difference
-  at_keys keys = flat_map (λ (key : GroupKey). numbers of (key_field key) (index_at key a) (index_at key b)) keys
+  at_keys keys = flat_map (λ (key : GroupKey). numbers_differ of (key_field key) (index_at key a) (index_at key b)) keys
 
   keys_tell : (keys : List GroupKey) → Tells (at_keys keys) ((key : GroupKey) → IsAmong keys key → index_at key a ≡ index_at key b)
   keys_tell [] = record { none = λ e key h. absurd (cc); each = tt }

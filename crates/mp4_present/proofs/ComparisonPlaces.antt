@@ -8,20 +8,20 @@ use Rattle.mp4_boxes.proofs.Each.{each_weaker}
 use Rattle.mp4_tables.specs.format.Groups.{GroupKey, index_at}
 use Rattle.mp4_head.specs.format.Head.{Kept, Edit}
 use Rattle.mp4_present.specs.format.Presentation.{Sample, Track, Presentation}
-use Rattle.mp4_present.specs.format.Differences.{same_value, differ, numbers, signed, first_unequal, byte_at, bytes_differ, payload_differences, each_differ, box_differences, edit_differences, matrix_differences, movie_differences, head_differences, movie_rates, kept_differences, track_fields, track_layers, track_shape, track_sizes, media_fields, media_lists}
+use Rattle.mp4_present.specs.format.Differences.{same_value, differ, numbers_differ, signed, first_unequal, byte_at, bytes_differ, payload_differences, each_differ, box_differences, edit_differences, matrix_differences, movie_differences, head_differences, movie_rates, kept_differences, track_fields, track_layers, track_shape, track_sizes, media_fields, media_lists}
 use Rattle.mp4_present.specs.format.Comparison.{keys_of_both, sample_differences, track_differences, differences}
 use Rattle.mp4_present.specs.format.ComparisonLaws.{member, byte_value, payload_value, box_value, edit_value, movie_value, count_value, track_value, sample_value, value_at, IsTheirs, DifferencesAreTheirs}
-use Rattle.mp4_present.specs.declared.differences.Subject.{Subject}
-use Rattle.mp4_present.specs.declared.differences.Subject.TheVariants as subjects
-use Rattle.mp4_present.specs.declared.differences.Entries.{Entries}
-use Rattle.mp4_present.specs.declared.differences.Entries.TheVariants as entries
-use Rattle.mp4_present.specs.declared.differences.Part.{Part}
-use Rattle.mp4_present.specs.declared.differences.Part.TheVariants as parts
-use Rattle.mp4_present.specs.declared.differences.Field.{Field}
-use Rattle.mp4_present.specs.declared.differences.Field.TheVariants as fields
-use Rattle.mp4_present.specs.declared.differences.Value.{Value}
-use Rattle.mp4_present.specs.declared.differences.Value.TheVariants.{Number, Signed, Kind, Byte}
-use Rattle.mp4_present.specs.declared.differences.Difference.{Difference}
+use Rattle.mp4_present.specs.declared.comparing.differences.Subject.{Subject}
+use Rattle.mp4_present.specs.declared.comparing.differences.Subject.TheVariants as subjects
+use Rattle.mp4_present.specs.declared.comparing.differences.Entries.{Entries}
+use Rattle.mp4_present.specs.declared.comparing.differences.Entries.TheVariants as entries
+use Rattle.mp4_present.specs.declared.comparing.differences.Part.{Part}
+use Rattle.mp4_present.specs.declared.comparing.differences.Part.TheVariants as parts
+use Rattle.mp4_present.specs.declared.comparing.differences.Field.{Field}
+use Rattle.mp4_present.specs.declared.comparing.differences.Field.TheVariants as fields
+use Rattle.mp4_present.specs.declared.comparing.differences.Value.{Value}
+use Rattle.mp4_present.specs.declared.comparing.differences.Value.TheVariants.{Number, Signed, Kind, Byte}
+use Rattle.mp4_present.specs.declared.comparing.differences.Difference.{Difference}
 use Rattle.mp4_present.proofs.ComparisonGroups.{key_field, at_keys}
 
 -- ---- lists of which each entry has the values of its place
@@ -194,7 +194,7 @@ module _ (n : ℕ) (s t : Track) where
   media_fields_here : AreHere (media_fields (subjects.Track n) s.head.media t.head.media)
   media_fields_here = search (both, differ_at)
 
-  count_here : (list : Entries) → AreHere (numbers (subjects.Track n) (fields.Count list) (count_value s.head list) (count_value t.head list))
+  count_here : (list : Entries) → AreHere (numbers_differ (subjects.Track n) (fields.Count list) (count_value s.head list) (count_value t.head list))
   count_here list = differ_at (fields.Count list) (Number (count_value s.head list)) (Number (count_value t.head list)) refl refl
 
   media_lists_here : AreHere (media_lists (subjects.Track n) s.head.media t.head.media)
@@ -203,10 +203,10 @@ module _ (n : ℕ) (s t : Track) where
   head_here : AreHere (head_differences (subjects.Track n) s.head t.head)
   head_here = both (both (both (both (both fixed_here (both (count_here entries.Edits) edits_here)) (both (count_here entries.Kept) kept_here)) media_fields_here) media_lists_here) (both (count_here entries.GroupDescriptions) groups_here)
 
-  start_here : AreHere (numbers (subjects.Track n) fields.Start s.start t.start)
+  start_here : AreHere (numbers_differ (subjects.Track n) fields.Start s.start t.start)
   start_here = differ_at fields.Start (Number s.start) (Number t.start) refl refl
 
-  samples_here : AreHere (numbers (subjects.Track n) fields.Samples (length s.samples) (length t.samples))
+  samples_here : AreHere (numbers_differ (subjects.Track n) fields.Samples (length s.samples) (length t.samples))
   samples_here = differ_at fields.Samples (Number (length s.samples)) (Number (length t.samples)) refl refl
 
 -- ---- samples
@@ -222,7 +222,8 @@ module _ (n k : ℕ) (s t : Sample) where
   bytes_in : AreIn (bytes_differ (subjects.Sample n k) (λ (j : ℕ). fields.Byte j (length s.bytes)) (length s.bytes) (length t.bytes) s.bytes t.bytes)
   bytes_in = bytes_at (λ (j count : ℕ). fields.Byte j count) s.bytes t.bytes (λ j count. refl) (λ j count. refl)
 
-  numbers_in : AreIn (numbers (subjects.Sample n k) fields.Duration s.duration t.duration ++ signed (subjects.Sample n k) fields.Offset s.offset t.offset ++ numbers (subjects.Sample n k) fields.Flags s.flags t.flags ++ numbers (subjects.Sample n k) fields.Description s.description t.description)
+  numbers_in : AreIn (numbers_differ (subjects.Sample n k) fields.Duration s.duration t.duration ++ signed (subjects.Sample n k) fields.Offset s.offset t.offset ++ numbers_differ (subjects.Sample n k) fields.Flags s.flags t.flags
+      ++ numbers_differ (subjects.Sample n k) fields.Description s.description t.description)
   numbers_in = search (both, differ_at)
 
   sample_in : AreIn (sample_differences n k s t)
@@ -259,14 +260,14 @@ module _ (p q : Presentation) where
 
   one_track : (n : ℕ) (s t : Track) → member p.tracks n ≡ Some s → member q.tracks n ≡ Some t → AreTheirs (track_differences n s t)
   one_track n s t e f =
-      let front = head_differences (subjects.Track n) s.head t.head ++ numbers (subjects.Track n) fields.Start s.start t.start ++ numbers (subjects.Track n) fields.Samples (length s.samples) (length t.samples) in
+      let front = head_differences (subjects.Track n) s.head t.head ++ numbers_differ (subjects.Track n) fields.Start s.start t.start ++ numbers_differ (subjects.Track n) fields.Samples (length s.samples) (length t.samples) in
       all_append (IsTheirs p q) front (each_differ (sample_differences n) 1 s.samples t.samples)
       (of_track n s t front e f (both (both (head_here n s t) (start_here n s t)) (samples_here n s t))) (of_samples n s t e f)
 
   abbrev AreMovies : List Difference → Type 0
   AreMovies ds = AreAt subjects.Movie (movie_value p) (movie_value q) ds
 
-  movie_times : AreMovies (numbers subjects.Movie fields.Creation p.movie.creation q.movie.creation ++ numbers subjects.Movie fields.Modification p.movie.modification q.movie.modification ++ numbers subjects.Movie fields.Timescale p.movie.timescale q.movie.timescale)
+  movie_times : AreMovies (numbers_differ subjects.Movie fields.Creation p.movie.creation q.movie.creation ++ numbers_differ subjects.Movie fields.Modification p.movie.modification q.movie.modification ++ numbers_differ subjects.Movie fields.Timescale p.movie.timescale q.movie.timescale)
   movie_times = search (both, differ_at)
 
   movie_rates_here : AreMovies (movie_rates p.movie q.movie)
@@ -278,12 +279,12 @@ module _ (p q : Presentation) where
   movie_kept : AreMovies (kept_differences subjects.Movie p.movie.kept q.movie.kept)
   movie_kept = both (differ_at (fields.Count entries.Kept) (Number (length p.movie.kept)) (Number (length q.movie.kept)) refl refl) (boxes_at entries.Kept p.movie.kept q.movie.kept (λ k part. refl) (λ k part. refl))
 
-  movie_here : AreMovies (movie_differences p.movie q.movie ++ numbers subjects.Movie fields.Tracks (length p.tracks) (length q.tracks))
+  movie_here : AreMovies (movie_differences p.movie q.movie ++ numbers_differ subjects.Movie fields.Tracks (length p.tracks) (length q.tracks))
   movie_here = both (both (both (both movie_times movie_rates_here) movie_matrix) movie_kept) (differ_at fields.Tracks (Number (length p.tracks)) (Number (length q.tracks)) refl refl)
 
   all_theirs : AreTheirs (differences p q)
   all_theirs =
-      let front = movie_differences p.movie q.movie ++ numbers subjects.Movie fields.Tracks (length p.tracks) (length q.tracks) in
+      let front = movie_differences p.movie q.movie ++ numbers_differ subjects.Movie fields.Tracks (length p.tracks) (length q.tracks) in
       all_append (IsTheirs p q) front (each_differ track_differences 1 p.tracks q.tracks) (of_movie front movie_here) (members_hold (IsTheirs p q) track_differences p.tracks q.tracks one_track)
 
 pub differences_are_theirs : DifferencesAreTheirs

@@ -8,18 +8,18 @@ use Rattle.mp4_tables.specs.format.Groups.{GroupKey, Groups, index_at}
 use Rattle.mp4_head.specs.format.Head.{Kept, Edit, TrackHead, MovieHead}
 use Rattle.mp4_present.specs.format.Presentation.{Sample, Track, Presentation}
 use Rattle.mp4_present.specs.format.Reduced.{reduce}
-use Rattle.mp4_present.specs.format.Differences.{same_value, differ, numbers, signed, first_unequal, byte_at, bytes_differ, payload_differences, each_differ, box_differences, edit_differences, matrix_differences, movie_differences, head_differences}
+use Rattle.mp4_present.specs.format.Differences.{same_value, differ, numbers_differ, signed, first_unequal, byte_at, bytes_differ, payload_differences, each_differ, box_differences, edit_differences, matrix_differences, movie_differences, head_differences}
 use Rattle.mp4_present.specs.format.Comparison.{keys_of_both, index_differences, sample_differences, track_differences, differences}
 use Rattle.mp4_present.specs.format.ComparisonLaws.{swapped, SwappedFilesSwapValues}
-use Rattle.mp4_present.specs.declared.differences.Subject.{Subject}
-use Rattle.mp4_present.specs.declared.differences.Subject.TheVariants as subjects
-use Rattle.mp4_present.specs.declared.differences.Entries.{Entries}
-use Rattle.mp4_present.specs.declared.differences.Part.TheVariants as parts
-use Rattle.mp4_present.specs.declared.differences.Field.{Field}
-use Rattle.mp4_present.specs.declared.differences.Field.TheVariants as fields
-use Rattle.mp4_present.specs.declared.differences.Value.{Value}
-use Rattle.mp4_present.specs.declared.differences.Value.TheVariants.{Number, Signed, Byte}
-use Rattle.mp4_present.specs.declared.differences.Difference.{Difference}
+use Rattle.mp4_present.specs.declared.comparing.differences.Subject.{Subject}
+use Rattle.mp4_present.specs.declared.comparing.differences.Subject.TheVariants as subjects
+use Rattle.mp4_present.specs.declared.comparing.differences.Entries.{Entries}
+use Rattle.mp4_present.specs.declared.comparing.differences.Part.TheVariants as parts
+use Rattle.mp4_present.specs.declared.comparing.differences.Field.{Field}
+use Rattle.mp4_present.specs.declared.comparing.differences.Field.TheVariants as fields
+use Rattle.mp4_present.specs.declared.comparing.differences.Value.{Value}
+use Rattle.mp4_present.specs.declared.comparing.differences.Value.TheVariants.{Number, Signed, Byte}
+use Rattle.mp4_present.specs.declared.comparing.differences.Difference.{Difference}
 use Rattle.mp4_present.proofs.ComparisonValues.{same_value_is_equal, all_good}
 use Rattle.mp4_present.proofs.ComparisonGroups.{IsMap, key_field, at_keys}
 use Rattle.mp4_present.proofs.ComparisonKeys.{keys_turned}
@@ -125,7 +125,7 @@ movie_turned a b = simp (map-append, differ_turned, matrix_turned, boxes_turned)
 at_keys_turned : (of : Subject) (a b : Groups) (keys : List GroupKey) → map swapped (at_keys of a b keys) ≡ at_keys of b a keys
 at_keys_turned of a b [] = refl
 at_keys_turned of a b (key ∷ keys) =
-    map-append swapped (numbers of (key_field key) (index_at key a) (index_at key b)) (at_keys of a b keys)
+    map-append swapped (numbers_differ of (key_field key) (index_at key a) (index_at key b)) (at_keys of a b keys)
     ∙ (λ i. differ_turned of (key_field key) (Number (index_at key a)) (Number (index_at key b)) i ++ at_keys_turned of a b keys i)
 
 index_turned : (of : Subject) (a b : Groups) → IsMap a → IsMap b → map swapped (index_differences of a b) ≡ index_differences of b a
@@ -149,8 +149,8 @@ track_turned : (n : ℕ) (a b : Track) → IsPlain a → IsPlain b → map swapp
 track_turned n a b g h =
     let of = subjects.Track n in
     let head = head_differences of a.head b.head in
-    let start = numbers of fields.Start a.start b.start in
-    let count = numbers of fields.Samples (length a.samples) (length b.samples) in
+    let start = numbers_differ of fields.Start a.start b.start in
+    let count = numbers_differ of fields.Samples (length a.samples) (length b.samples) in
     let front = joined_turned head start (head_turned of a.head b.head) (differ_turned of fields.Start (Number a.start) (Number b.start)) in
     let counted = joined_turned (head ++ start) count front (differ_turned of fields.Samples (Number (length a.samples)) (Number (length b.samples))) in
     joined_turned (head ++ start ++ count) (each_differ (sample_differences n) 1 a.samples b.samples) counted (samples_turned n a.samples b.samples g.maps h.maps)
@@ -158,7 +158,7 @@ track_turned n a b g h =
 whole_turned : (p q : Presentation) → IsAllPlain p → IsAllPlain q → map swapped (differences p q) ≡ differences q p
 whole_turned p q g h =
     let movie = movie_differences p.movie q.movie in
-    let count = numbers subjects.Movie fields.Tracks (length p.tracks) (length q.tracks) in
+    let count = numbers_differ subjects.Movie fields.Tracks (length p.tracks) (length q.tracks) in
     let front = joined_turned movie count (movie_turned p.movie q.movie) (differ_turned subjects.Movie fields.Tracks (Number (length p.tracks)) (Number (length q.tracks))) in
     joined_turned (movie ++ count) (each_differ track_differences 1 p.tracks q.tracks) front (each_turned IsPlain track_differences track_turned 1 p.tracks q.tracks g.tracks h.tracks)
 

@@ -6,16 +6,16 @@ use Rattle.std.proofs.lemmas.Bool.{eqb-true, eqb-false, eq-eqb}
 use Rattle.std.proofs.lemmas.Slice.Eq.{bytes_eq-Decides}
 use Rattle.mp4_boxes.specs.declared.four_cc.FourCc.{FourCc}
 use Rattle.mp4_boxes.proofs.Among.{all_append}
-use Rattle.mp4_present.specs.format.Differences.{same_signed, same_value, differ, numbers, signed, first_unequal, byte_at, bytes_differ, payload_differences, each_differ, list_differences}
-use Rattle.mp4_present.specs.format.ComparisonLaws.{SameValueIsEqual, IsOne}
-use Rattle.mp4_present.specs.declared.differences.Subject.{Subject}
-use Rattle.mp4_present.specs.declared.differences.Entries.{Entries}
-use Rattle.mp4_present.specs.declared.differences.Part.TheVariants as parts
-use Rattle.mp4_present.specs.declared.differences.Field.{Field}
-use Rattle.mp4_present.specs.declared.differences.Field.TheVariants as fields
-use Rattle.mp4_present.specs.declared.differences.Value.{Value}
-use Rattle.mp4_present.specs.declared.differences.Value.TheVariants.{Number, Signed, Kind, Byte}
-use Rattle.mp4_present.specs.declared.differences.Difference.{Difference}
+use Rattle.mp4_present.specs.format.Differences.{same_signed, same_value, differ, numbers_differ, signed, first_unequal, byte_at, bytes_differ, payload_differences, each_differ, list_differences}
+use Rattle.mp4_present.specs.format.ComparisonLaws.{SameValueIsEqual, IsOneDifference}
+use Rattle.mp4_present.specs.declared.comparing.differences.Subject.{Subject}
+use Rattle.mp4_present.specs.declared.comparing.differences.Entries.{Entries}
+use Rattle.mp4_present.specs.declared.comparing.differences.Part.TheVariants as parts
+use Rattle.mp4_present.specs.declared.comparing.differences.Field.{Field}
+use Rattle.mp4_present.specs.declared.comparing.differences.Field.TheVariants as fields
+use Rattle.mp4_present.specs.declared.comparing.differences.Value.{Value}
+use Rattle.mp4_present.specs.declared.comparing.differences.Value.TheVariants.{Number, Signed, Kind, Byte}
+use Rattle.mp4_present.specs.declared.comparing.differences.Difference.{Difference}
 use Rattle.mp4_present.proofs.Differing.{nowhere}
 
 -- ---- the test of two values
@@ -53,7 +53,7 @@ same_value_is_equal a b = (same_to a b, λ e. ap (same_value a) (sym e) ∙ same
 -- where it is empty this holds, and each entry is a difference
 pub record Tells (ds : List Difference) (P : Type 0) : Type 0 where
   pub none : ds ≡ [] → P
-  pub each : AllByRecursion IsOne ds
+  pub each : AllByRecursion IsOneDifference ds
 
 front_none : (xs ys : List Difference) → xs ++ ys ≡ [] → xs ≡ []
 front_none [] ys e = refl
@@ -67,7 +67,7 @@ rest_none (x ∷ xs) ys e = absurd cc
 pub both : {xs ys : List Difference} {P Q : Type 0} → Tells xs P → Tells ys Q → Tells (xs ++ ys) (P × Q)
 both {xs} {ys} t u = record {
   none = λ e. (t.none (front_none xs ys e), u.none (rest_none xs ys e));
-  each = all_append IsOne xs ys t.each u.each;
+  each = all_append IsOneDifference xs ys t.each u.each;
 }
 
 -- what follows from it
@@ -85,7 +85,7 @@ module _ (of : Subject) (field : Field) where
   unfolding differ
   differ_tells l r = differ_by l r (same_value l r) refl
 
-  pub number_tells : (m n : ℕ) → Tells (numbers of field m n) (m ≡ n)
+  pub number_tells : (m n : ℕ) → Tells (numbers_differ of field m n) (m ≡ n)
   number_tells m n = weaker (differ_tells (Number m) (Number n)) (λ (e : Number m ≡ Number n). cc)
 
   pub signed_tells : (m n : ℤ) → Tells (signed of field m n) (m ≡ n)

@@ -5,13 +5,13 @@ use Rattle.mp4_boxes.proofs.Each.{each_value}
 use Rattle.mp4_tables.specs.format.Groups.{Groups}
 use Rattle.mp4_present.specs.format.Presentation.{Sample, Track, Presentation, IsSample, IsTrack, Valid}
 use Rattle.mp4_present.specs.format.Reduced.{reduce_sample, reduce_track, reduce}
-use Rattle.mp4_present.specs.declared.leaving.Leaving.{Leaving}
+use Rattle.mp4_present.specs.declared.without.Without.{Without}
 use Rattle.mp4_present.specs.format.Comparison.{byte_differences, sample_differences, track_differences, differences}
 use Rattle.mp4_present.specs.format.Differences.{each_differ}
 use Rattle.mp4_present.specs.format.ComparisonLaws.{EachDifferenceIsOne, NoDifferenceIsSame}
-use Rattle.mp4_present.specs.declared.differences.Subject.{Subject}
-use Rattle.mp4_present.specs.declared.differences.Subject.TheVariants as subjects
-use Rattle.mp4_present.specs.declared.differences.Field.TheVariants as fields
+use Rattle.mp4_present.specs.declared.comparing.differences.Subject.{Subject}
+use Rattle.mp4_present.specs.declared.comparing.differences.Subject.TheVariants as subjects
+use Rattle.mp4_present.specs.declared.comparing.differences.Field.TheVariants as fields
 use Rattle.mp4_present.proofs.ComparisonValues.{Tells, both, weaker, number_tells, signed_tells, bytes_tell, each_tells, differ_self, bytes_self, each_self}
 use Rattle.mp4_present.proofs.ComparisonHeads.{head_tells, movie_tells, head_self, movie_self}
 use Rattle.mp4_present.proofs.ComparisonGroups.{IsMap, index_tells, index_self}
@@ -94,7 +94,7 @@ map_left : (b : Bool) (groups : Groups) → IsMap groups → IsMap (if b then []
 map_left true groups h = record { each = tt; order = refl }
 map_left false groups h = h
 
-module _ (l : Leaving) where
+module _ (l : Without) where
   sample_plain : (descriptions : ℕ) (s : Sample) → IsSample descriptions s → HasMap (reduce_sample l s)
   sample_plain descriptions s h = map_left l.groups s.groups (record { each = h.groups; order = h.groups_in_order })
 

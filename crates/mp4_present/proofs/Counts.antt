@@ -19,9 +19,9 @@ use Rattle.mp4_tables.specs.format.TableRules.{Fit}
 use Rattle.mp4_tables.proofs.Counts.{samples_counted, groups_length}
 use Rattle.mp4_tables.specs.format.Groups.{maps_of}
 use Rattle.mp4_frag.specs.declared.trex.Trex.{Trex}
-use Rattle.mp4_frag.specs.format.Fragments.{RunRow, TrackFragment, FragmentTree, run_rows, run_of, fragment_of, track_fragment_of}
+use Rattle.mp4_frag.specs.format.Fragments.{RunRow, TrackFragment, FragmentTree, run_rows, sample_run_of, fragment_of, track_fragment_of}
 use Rattle.mp4_frag.specs.format.FragmentSamples.{Part, part_samples, run_samples, runs_samples, run_start, runs_end, end_of_data, base_of, trex_for, no_trex, parts_after, parts_of, all_parts, fragment_samples}
-use Rattle.mp4_frag.specs.format.FragmentRules.{TrackInfo, track_for, is_known}
+use Rattle.mp4_frag.specs.format.FragmentRules.{TrackFacts, track_for, is_known}
 use Rattle.mp4_head.specs.format.Tree.{TrackTree, MovieTree, IsTrackTree, track_head_of, trexes_of}
 use Rattle.mp4_head.proofs.Trees.{movie_tree_one}
 use Rattle.mp4_present.specs.format.Presentation.{Presentation, Track, max_samples}
@@ -50,13 +50,13 @@ run_length trex traf first at [] = refl
 run_length trex traf first at (row ∷ rows) = ap suc (run_length trex traf None _ rows)
 
 runs_length : (trex : Trex) (traf : TrackFragment) (base before : ℤ) (bs : List Box)
-    → length (flat_map (λ (samples : List PlacedSample). samples) (runs_samples trex traf base before (map (λ (b : Box). run_of b.payload) bs))) ≡ run_total bs
+    → length (flat_map (λ (samples : List PlacedSample). samples) (runs_samples trex traf base before (map (λ (b : Box). sample_run_of b.payload) bs))) ≡ run_total bs
 runs_length trex traf base before [] = refl
 runs_length trex traf base before (b ∷ bs) =
-    let run = run_of b.payload in
+    let run = sample_run_of b.payload in
     let at = run_start base before run.data_offset in
     let samples = run_samples trex traf run.first_sample_flags at run.rows in
-    let more = runs_samples trex traf base (end_of_data at samples) (map (λ (c : Box). run_of c.payload) bs) in
+    let more = runs_samples trex traf base (end_of_data at samples) (map (λ (c : Box). sample_run_of c.payload) bs) in
     let own : length samples ≡ row_count trun b.payload = run_length trex traf run.first_sample_flags at run.rows ∙ rows_count (row_count trun b.payload) _ _ _ in
     length-append samples (flat_map (λ (samples : List PlacedSample). samples) more) ∙ (λ i. own i + runs_length trex traf base (end_of_data at samples) bs i)
 
@@ -126,7 +126,7 @@ no_fewer q parts (u ∷ tracks) =
       not_less (length (part_samples q)) (length (fragment_samples (track_head_of u).id parts)) (length (fragment_samples (track_head_of u).id (q ∷ parts))) (eqb q.id (track_head_of u).id) (with_part (track_head_of u).id q parts (eqb q.id (track_head_of u).id) refl),
     )
 
-abbrev info : TrackTree → TrackInfo
+abbrev info : TrackTree → TrackFacts
 info t = record { id = (track_head_of t).id; descriptions = length t.descriptions }
 
 has_choice : (q : Part) (u : TrackTree) (tracks : List TrackTree) (v : Bool) → eqb (track_head_of u).id q.id ≡ v → is_some (track_for (map info (u ∷ tracks)) q.id) ≡ true

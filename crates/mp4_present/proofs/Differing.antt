@@ -9,12 +9,12 @@ use Rattle.mp4_head.specs.words.Seen.{kept_seen}
 use Rattle.mp4_head.specs.declared.kept_boxes.Kept.{Kept as KeptBox}
 use Rattle.mp4_store.specs.words.Device.{range}
 use Rattle.mp4_present.specs.format.Reduced.{metadata_kinds, reduce_kept}
-use Rattle.mp4_present.specs.declared.leaving.Leaving.{Leaving}
-use Rattle.mp4_present.specs.format.Differences.{numbers, first_unequal, each_differ, list_differences}
-use Rattle.mp4_present.specs.declared.differences.Difference.{Difference}
-use Rattle.mp4_present.specs.declared.differences.Subject.{Subject}
-use Rattle.mp4_present.specs.declared.differences.Entries.{Entries}
-use Rattle.mp4_present.specs.declared.differences.Field.TheVariants as fields
+use Rattle.mp4_present.specs.declared.without.Without.{Without}
+use Rattle.mp4_present.specs.format.Differences.{numbers_differ, first_unequal, each_differ, list_differences}
+use Rattle.mp4_present.specs.declared.comparing.differences.Difference.{Difference}
+use Rattle.mp4_present.specs.declared.comparing.differences.Subject.{Subject}
+use Rattle.mp4_present.specs.declared.comparing.differences.Entries.{Entries}
+use Rattle.mp4_present.specs.declared.comparing.differences.Field.TheVariants as fields
 
 plus_one : (k : ℕ) → k + 1 ≡ suc k
 plus_one k = omega arith
@@ -89,9 +89,9 @@ module _ {A B : Type 0} (g : A → B) (one : ℕ → B → B → List Difference
   pub goes_whole : (k : ℕ) (now whole : List Difference) → (length xs ≤ k) ⊎ (length ys ≤ k) → Goes k now whole → now ≡ whole
   goes_whole k now whole le h = sym (append-nil now) ∙ ap (λ (ds : List Difference). now ++ ds) (sym (none_left k le)) ∙ h
 
-  pub goes_first : (of : Subject) (list : Entries) (old now : List Difference) → now ≡ old ++ numbers of (fields.Count list) (length xs) (length ys)
+  pub goes_first : (of : Subject) (list : Entries) (old now : List Difference) → now ≡ old ++ numbers_differ of (fields.Count list) (length xs) (length ys)
       → Goes 0 now (old ++ list_differences of list one (map g xs) (map g ys))
-  goes_first of list old now e = rw (length-map xs g, length-map ys g) (rw e (append_assoc old (numbers of (fields.Count list) (length xs) (length ys)) (each_differ one 1 (map g xs) (map g ys))))
+  goes_first of list old now e = rw (length-map xs g, length-map ys g) (rw e (append_assoc old (numbers_differ of (fields.Count list) (length xs) (length ys)) (each_differ one 1 (map g xs) (map g ys))))
 
 -- ---- bytes
 
@@ -118,7 +118,7 @@ byte_found k x y xs ys whole lx ly ex ey e h =
 -- ---- kept boxes
 
 -- these boxes, and those that are left of the others from a place on, are all that are left
-abbrev pub KeptOn : Leaving → List KeptBox → ℕ → List KeptBox → Type 0
+abbrev pub KeptOn : Without → List KeptBox → ℕ → List KeptBox → Type 0
 KeptOn l kept k now = map kept_seen now ++ reduce_kept l (map kept_seen (drop k kept)) ≡ reduce_kept l (map kept_seen kept)
 
 abbrev is_other : Kept → Bool
@@ -132,7 +132,7 @@ skips : (b : Bool) (x : Kept) (xs : List Kept) → not b || is_other x ≡ false
 skips true x xs e = rw e refl
 skips false x xs e = absurd cc
 
-module _ (l : Leaving) (kept : List KeptBox) (k : ℕ) (x : KeptBox) (lt : k < length kept) (is : x ≡ slice_index_or kept k x) where
+module _ (l : Without) (kept : List KeptBox) (k : ℕ) (x : KeptBox) (lt : k < length kept) (is : x ≡ slice_index_or kept k x) where
   first : reduce_kept l (map kept_seen (drop k kept)) ≡ reduce_kept l (kept_seen x ∷ map kept_seen (drop (suc k) kept))
   first = ap (λ (xs : List KeptBox). reduce_kept l (map kept_seen xs)) (at_drop kept k x lt is)
 
@@ -149,14 +149,14 @@ module _ (l : Leaving) (kept : List KeptBox) (k : ℕ) (x : KeptBox) (lt : k < l
       subst (λ n. map kept_seen now ++ reduce_kept l (map kept_seen (drop n kept)) ≡ reduce_kept l (map kept_seen kept)) (sym (plus_one k))
       (ap (λ (ks : List Kept). map kept_seen now ++ ks) (sym (skips l.metadata (kept_seen x) (map kept_seen (drop (suc k) kept)) e) ∙ sym first) ∙ h)
 
-none_of_none : (l : Leaving) → reduce_kept l [] ≡ []
+none_of_none : (l : Without) → reduce_kept l [] ≡ []
 none_of_none l = by l.metadata
   where
     by : (b : Bool) → (if b then filter is_other [] else []) ≡ []
     by true = refl
     by false = refl
 
-pub kept_all : (l : Leaving) (kept : List KeptBox) (k : ℕ) (now : List KeptBox) → length kept ≤ k → KeptOn l kept k now → map kept_seen now ≡ reduce_kept l (map kept_seen kept)
+pub kept_all : (l : Without) (kept : List KeptBox) (k : ℕ) (now : List KeptBox) → length kept ≤ k → KeptOn l kept k now → map kept_seen now ≡ reduce_kept l (map kept_seen kept)
 kept_all l kept k now le h = sym (append-nil (map kept_seen now)) ∙ ap (λ (ks : List Kept). map kept_seen now ++ ks) (sym (ap (λ (xs : List KeptBox). reduce_kept l (map kept_seen xs)) (none_behind kept k le) ∙ none_of_none l)) ∙ h
 
 -- ---- parts of a file

@@ -12,7 +12,7 @@ use Rattle.mp4_head.specs.declared.heads.MovieHead.{MovieHead}
 use Rattle.mp4_head.specs.declared.heads.TrackHead.{TrackHead}
 use Rattle.mp4_head.proofs.ReadAgain.{said_of}
 use Rattle.mp4_present.specs.format.Comparison as whole
-use Rattle.mp4_present.specs.format.Differences.{numbers, each_differ, head_differences, movie_differences}
+use Rattle.mp4_present.specs.format.Differences.{numbers_differ, each_differ, head_differences, movie_differences}
 use Rattle.mp4_present.specs.format.Denotes.{FileTree, file_parts, track_of}
 use Rattle.mp4_present.specs.format.Presentation.{Track}
 use Rattle.mp4_present.specs.format.Reduced.{reduce_sample, reduce_track, reduce_track_head, reduce_movie_head}
@@ -21,10 +21,10 @@ use Rattle.mp4_present.specs.words.Differing.{as_list, is_none_yet}
 use Rattle.mp4_present.specs.words.Movies.{MovieSeen, moov_box}
 use Rattle.mp4_present.specs.words.OpenedMovie.{IsOpenedAs, IsInfoOf}
 use Rattle.mp4_present.specs.words.WalkSteps.{walk_steps, walks_steps}
-use Rattle.mp4_present.specs.declared.differences.Difference.{Difference}
-use Rattle.mp4_present.specs.declared.differences.Subject.TheVariants as subjects
-use Rattle.mp4_present.specs.declared.differences.Field.TheVariants as fields
-use Rattle.mp4_present.specs.declared.leaving.Leaving.{Leaving}
+use Rattle.mp4_present.specs.declared.comparing.differences.Difference.{Difference}
+use Rattle.mp4_present.specs.declared.comparing.differences.Subject.TheVariants as subjects
+use Rattle.mp4_present.specs.declared.comparing.differences.Field.TheVariants as fields
+use Rattle.mp4_present.specs.declared.without.Without.{Without}
 use Rattle.mp4_present.specs.declared.track_info.TrackInfo.{TrackInfo}
 use Rattle.mp4_present.proofs.TrafTaken.{zipped_at}
 use Rattle.mp4_present.proofs.TracksPassed.{zip_length}
@@ -38,9 +38,10 @@ if_ok P Q (Err e) f h = tt
 -- ---- the heads of two tracks
 
 -- what was found of them is what differs between the tracks apart from their samples
-heads_differ : (l : Leaving) (number k : ℕ) (file other : List ℕ) (m n : MovieSeen) (tree other_tree : FileTree) (t u : TrackTree) (info other_info : TrackInfo) (head other_head : TrackHead) → IsOpenedAs file m tree → IsOpenedAs other n other_tree
+heads_differ : (l : Without) (number k : ℕ) (file other : List ℕ) (m n : MovieSeen) (tree other_tree : FileTree) (t u : TrackTree) (info other_info : TrackInfo) (head other_head : TrackHead) → IsOpenedAs file m tree → IsOpenedAs other n other_tree
     → slice_get tree.movie.tracks k ≡ Some t → slice_get other_tree.movie.tracks k ≡ Some u → slice_get m.tracks k ≡ Some info → slice_get n.tracks k ≡ Some other_info → track_seen head ≡ track_head_of t → track_seen other_head ≡ track_head_of u
-    → (head_differences (subjects.Track number) (reduce_track_head l (track_seen head)) (reduce_track_head l (track_seen other_head)) ++ numbers (subjects.Track number) fields.Start info.start other_info.start ++ numbers (subjects.Track number) fields.Samples info.samples other_info.samples)
+    → (head_differences (subjects.Track number) (reduce_track_head l (track_seen head)) (reduce_track_head l (track_seen other_head)) ++ numbers_differ (subjects.Track number) fields.Start info.start other_info.start
+    ++ numbers_differ (subjects.Track number) fields.Samples info.samples other_info.samples)
     ++ samples_differ l number file tree t other other_tree u ≡ tracks_differ l number file tree t other other_tree u
 heads_differ l number k file other m n tree other_tree t u info other_info head other_head o p at bt it jt e f =
     let of = subjects.Track number in
@@ -48,13 +49,13 @@ heads_differ l number k file other m n tree other_tree t u info other_info head 
     let y = zipped_at (IsInfoOf other other_tree) other_tree.movie.tracks n.tracks k u other_info p.tracks bt jt in
     let count = x.samples ∙ sym (length-map (track_of file (file_parts tree) t).samples (reduce_sample l)) in
     let other_count = y.samples ∙ sym (length-map (track_of other (file_parts other_tree) u).samples (reduce_sample l)) in
-    λ i. (head_differences of (reduce_track_head l (e i)) (reduce_track_head l (f i)) ++ numbers of fields.Start (x.start i) (y.start i) ++ numbers of fields.Samples (count i) (other_count i)) ++ samples_differ l number file tree t other other_tree u
+    λ i. (head_differences of (reduce_track_head l (e i)) (reduce_track_head l (f i)) ++ numbers_differ of fields.Start (x.start i) (y.start i) ++ numbers_differ of fields.Samples (count i) (other_count i)) ++ samples_differ l number file tree t other other_tree u
 
 -- Two tracks whose heads were compared: their samples are left.
-pub track_begun : (l : Leaving) (number k : ℕ) (file other : List ℕ) (m n : MovieSeen) (tree other_tree : FileTree) (t u : TrackTree) (info other_info : TrackInfo) (head other_head : TrackHead) → IsOpenedAs file m tree → IsOpenedAs other n other_tree
+pub track_begun : (l : Without) (number k : ℕ) (file other : List ℕ) (m n : MovieSeen) (tree other_tree : FileTree) (t u : TrackTree) (info other_info : TrackInfo) (head other_head : TrackHead) → IsOpenedAs file m tree → IsOpenedAs other n other_tree
     → slice_get tree.movie.tracks k ≡ Some t → slice_get other_tree.movie.tracks k ≡ Some u → slice_get m.tracks k ≡ Some info → slice_get n.tracks k ≡ Some other_info → track_seen head ≡ track_head_of t → track_seen other_head ≡ track_head_of u
-    → (found : List Difference) → found ≡ head_differences (subjects.Track number) (reduce_track_head l (track_seen head)) (reduce_track_head l (track_seen other_head)) ++ numbers (subjects.Track number) fields.Start info.start other_info.start
-    ++ numbers (subjects.Track number) fields.Samples info.samples other_info.samples
+    → (found : List Difference) → found ≡ head_differences (subjects.Track number) (reduce_track_head l (track_seen head)) (reduce_track_head l (track_seen other_head)) ++ numbers_differ (subjects.Track number) fields.Start info.start other_info.start
+    ++ numbers_differ (subjects.Track number) fields.Samples info.samples other_info.samples
     → tracks_differ l number file tree t other other_tree u ≡ found ++ samples_differ l number file tree t other other_tree u
 track_begun l number k file other m n tree other_tree t u info other_info head other_head o p at bt it jt e f found is =
     sym (ap (λ (ds : List Difference). ds ++ samples_differ l number file tree t other other_tree u) is ∙ heads_differ l number k file other m n tree other_tree t u info other_info head other_head o p at bt it jt e f)
@@ -100,19 +101,19 @@ head_own file m tree head k t h o says at there =
     some_same (track_seen h) (track_head_of t) (sym (get_mapped track_seen head.tracks.items k h there) ∙ ap (λ (x : heads.Head). slice_get x.tracks k) (said file m tree head o says) ∙ get_mapped track_head_of tree.movie.tracks k t at)
 
 -- the tracks of the presentation, behind what was left out
-abbrev tracks_left : Leaving → List ℕ → FileTree → List Track
+abbrev tracks_left : Without → List ℕ → FileTree → List Track
 tracks_left l file tree = map (reduce_track l) (map (track_of file (file_parts tree)) tree.movie.tracks)
 
-tracks_many : (l : Leaving) (file : List ℕ) (tree : FileTree) → length (tracks_left l file tree) ≡ length tree.movie.tracks
+tracks_many : (l : Without) (file : List ℕ) (tree : FileTree) → length (tracks_left l file tree) ≡ length tree.movie.tracks
 tracks_many l file tree = length-map (map (track_of file (file_parts tree)) tree.movie.tracks) (reduce_track l) ∙ length-map tree.movie.tracks (track_of file (file_parts tree))
 
-abbrev tracks_from : Leaving → List ℕ → FileTree → List ℕ → FileTree → ℕ → List Difference
+abbrev tracks_from : Without → List ℕ → FileTree → List ℕ → FileTree → ℕ → List Difference
 tracks_from l file tree other other_tree k = each_differ whole.track_differences (k + 1) (drop k (tracks_left l file tree)) (drop k (tracks_left l other other_tree))
 
 -- Two movies whose heads were compared: their tracks are left.
-pub movie_begun : (l : Leaving) (file other : List ℕ) (m n : MovieSeen) (tree other_tree : FileTree) (head other_head : MovieHead) → IsOpenedAs file m tree → IsOpenedAs other n other_tree → SaysHead (moov_box m) head → SaysHead (moov_box n) other_head
+pub movie_begun : (l : Without) (file other : List ℕ) (m n : MovieSeen) (tree other_tree : FileTree) (head other_head : MovieHead) → IsOpenedAs file m tree → IsOpenedAs other n other_tree → SaysHead (moov_box m) head → SaysHead (moov_box n) other_head
     → (found : List Difference)
-    → found ≡ movie_differences (reduce_movie_head l (movie_seen head)) (reduce_movie_head l (movie_seen other_head)) ++ numbers subjects.Movie fields.Tracks (length head.tracks.items) (length other_head.tracks.items)
+    → found ≡ movie_differences (reduce_movie_head l (movie_seen head)) (reduce_movie_head l (movie_seen other_head)) ++ numbers_differ subjects.Movie fields.Tracks (length head.tracks.items) (length other_head.tracks.items)
     → files_differ l file tree other other_tree ≡ found ++ tracks_from l file tree other other_tree 0
 movie_begun l file other m n tree other_tree head other_head o p says other_says found is =
     let first = ap (λ (h : heads.Head). h.movie) (said file m tree head o says) in
@@ -120,7 +121,7 @@ movie_begun l file other m n tree other_tree head other_head o p says other_says
     let count = heads_all file m tree head o says ∙ sym (tracks_many l file tree) in
     let other_count = heads_all other n other_tree other_head p other_says ∙ sym (tracks_many l other other_tree) in
     sym (ap (λ (ds : List Difference). ds ++ tracks_from l file tree other other_tree 0) is
-    ∙ (λ i. (movie_differences (reduce_movie_head l (first i)) (reduce_movie_head l (second i)) ++ numbers subjects.Movie fields.Tracks (count i) (other_count i)) ++ tracks_from l file tree other other_tree 0))
+    ∙ (λ i. (movie_differences (reduce_movie_head l (first i)) (reduce_movie_head l (second i)) ++ numbers_differ subjects.Movie fields.Tracks (count i) (other_count i)) ++ tracks_from l file tree other other_tree 0))
 
 -- ---- track after track
 
@@ -133,7 +134,7 @@ behind_got : {A : Type 0} (xs : List A) (k : ℕ) (x : A) → slice_get xs k ≡
 behind_got xs k x e = let one : suc k ≡ k + 1 = omega arith in after_got xs k x e ∙ ap (λ n. x ∷ drop n xs) one
 
 -- what differs of the tracks from a place on begins with what differs there
-track_next : (l : Leaving) (file : List ℕ) (tree : FileTree) (other : List ℕ) (other_tree : FileTree) (k : ℕ) (t u : TrackTree) → slice_get tree.movie.tracks k ≡ Some t → slice_get other_tree.movie.tracks k ≡ Some u
+track_next : (l : Without) (file : List ℕ) (tree : FileTree) (other : List ℕ) (other_tree : FileTree) (k : ℕ) (t u : TrackTree) → slice_get tree.movie.tracks k ≡ Some t → slice_get other_tree.movie.tracks k ≡ Some u
     → tracks_from l file tree other other_tree k ≡ tracks_differ l (k + 1) file tree t other other_tree u ++ tracks_from l file tree other other_tree (k + 1)
 track_next l file tree other other_tree k t u at bt =
     let xs = tracks_left l file tree in
@@ -149,11 +150,11 @@ abbrev steps_left : FileTree → FileTree → ℕ → ℕ
 steps_left tree other k = sum_of (walk_steps tree) (drop k tree.movie.tracks) + sum_of (walk_steps other) (drop k other.movie.tracks)
 
 -- the tracks of two files in front of a place were compared
-pub record FilesGo (l : Leaving) (file : List ℕ) (tree : FileTree) (other : List ℕ) (other_tree : FileTree) (k : ℕ) (before now : List Difference) (old new : ℕ) : Type 0 where
+pub record FilesGo (l : Without) (file : List ℕ) (tree : FileTree) (other : List ℕ) (other_tree : FileTree) (k : ℕ) (before now : List Difference) (old new : ℕ) : Type 0 where
   pub grows : GrowsTo before now (files_differ l file tree other other_tree) (tracks_from l file tree other other_tree k)
   pub takes : new + steps_left tree other_tree k ≤ old + (walks_steps tree + walks_steps other_tree)
 
-module _ (l : Leaving) (file : List ℕ) (tree : FileTree) (other : List ℕ) (other_tree : FileTree) (before : List Difference) (old : ℕ) where
+module _ (l : Without) (file : List ℕ) (tree : FileTree) (other : List ℕ) (other_tree : FileTree) (before : List Difference) (old : ℕ) where
   -- before the first
   pub files_first : (now found : List Difference) → files_differ l file tree other other_tree ≡ found ++ tracks_from l file tree other other_tree 0 → now ≡ before ++ found → FilesGo l file tree other other_tree 0 before now old old
   files_first now found e f = record { grows = grows_more before before now _ _ found (tracks_from l file tree other other_tree 0) (grows_none before _) e f; takes = omega arith }

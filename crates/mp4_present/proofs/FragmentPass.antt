@@ -13,7 +13,7 @@ use Rattle.mp4_present.proofs.PlainLists.{next_of}
 use Rattle.mp4_present.specs.words.Movies.{IsWhole}
 use Rattle.mp4_present.specs.words.Outline.{AreFrom, AreMoofsFrom, IsNextFragment, IsOutline, box_at, longest}
 use Rattle.mp4_present.specs.declared.reading.TopBox.{TopBox}
-use Rattle.mp4_present.specs.declared.outline.Outline.{Outline}
+use Rattle.mp4_present.specs.declared.opening.outline.Outline.{Outline}
 
 -- the boxes of the file from a place on, of which no `moof` is longer than so many bytes
 pub record Left (file : List ℕ) (at most : ℕ) : Type 0 where

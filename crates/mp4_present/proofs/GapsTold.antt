@@ -9,14 +9,14 @@ use Rattle.mp4_frag.specs.words.RunsJudged.{children_of}
 use Rattle.mp4_frag.specs.declared.state.TrackState.{TrackState}
 use Rattle.mp4_frag.specs.declared.trex.Trex.{Trex}
 use Rattle.mp4_head.specs.format.Tree.{MovieTree, trexes_of}
-use Rattle.mp4_present.specs.format.FaultNumbers.{Tells, up_to}
+use Rattle.mp4_present.specs.format.FaultNumbers.{Tells, box_up_to}
 use Rattle.mp4_present.specs.words.NumbersTold.{ComesNext, FindsIn, IsPlain}
 use Rattle.mp4_present.specs.words.Outline.{box_at}
 use Rattle.mp4_present.specs.words.PassedMoofs.{IsBegun}
 use Rattle.mp4_present.specs.words.Passing.{parts_behind, seen_behind}
-use Rattle.mp4_present.specs.declared.fault_details.FaultNumbers.{FaultNumbers}
-use Rattle.mp4_present.specs.declared.fault_details.FaultNumbers.TheVariants as numbers
-use Rattle.mp4_present.specs.declared.fault_gaps.Reached.{Reached}
+use Rattle.mp4_present.specs.declared.faults.FaultNumbers.{FaultNumbers}
+use Rattle.mp4_present.specs.declared.faults.FaultNumbers.TheVariants as numbers
+use Rattle.mp4_present.specs.declared.faults.gaps.Reached.{Reached}
 use Rattle.mp4_present.proofs.FaultGaps.{found_there}
 use Rattle.mp4_present.proofs.MoofBehind.{passes_front, trexes_behind}
 use Rattle.mp4_present.proofs.PartsBehind.{tracked}
@@ -25,18 +25,18 @@ use Rattle.mp4_present.proofs.PartsBehind.{tracked}
 
 module _ (file : List ℕ) (movie : MovieTree) (boxes : List Box) (start states : List TrackState) (whole L : ℕ) (b : IsBegun file movie boxes start whole) (r : Reached) (n : ComesNext file movie r states) (e : L ≡ length file) where
   -- the tracks behind the front of the `moof`
-  front_behind : (place : ℕ) (new : List TrackState) (less : ℕ) → ((trexes : List Trex) → AreTrexesOf trexes states → IsSoundFront L trexes (tree_of (up_to place (box_at file r.moof))))
-      → AreMovedOn r.moof.offset (pos r.moof.offset) (of_kind (codes "traf") (children_of (up_to place (box_at file r.moof)))) states new r.room less
-      → map track_seen new ≡ map (seen_behind movie (parts_behind movie (n.earlier ++ tree_of (up_to place (box_at file r.moof)) ∷ []))) movie.tracks
+  front_behind : (place : ℕ) (new : List TrackState) (less : ℕ) → ((trexes : List Trex) → AreTrexesOf trexes states → IsSoundFront L trexes (tree_of (box_up_to place (box_at file r.moof))))
+      → AreMovedOn r.moof.offset (pos r.moof.offset) (of_kind (codes "traf") (children_of (box_up_to place (box_at file r.moof)))) states new r.room less
+      → map track_seen new ≡ map (seen_behind movie (parts_behind movie (n.earlier ++ tree_of (box_up_to place (box_at file r.moof)) ∷ []))) movie.tracks
   front_behind place new less sound moved =
       let own = sound (trexes_of movie) (trexes_behind file movie n.earlier states r.room n.behind) in
-      passes_front file movie n.earlier (up_to place (box_at file r.moof)) states new r.room less b.movie_is n.behind (subst (λ (k : ℕ). IsSoundFront k (trexes_of movie) (tree_of (up_to place (box_at file r.moof)))) e own) moved
+      passes_front file movie n.earlier (box_up_to place (box_at file r.moof)) states new r.room less b.movie_is n.behind (subst (λ (k : ℕ). IsSoundFront k (trexes_of movie) (tree_of (box_up_to place (box_at file r.moof)))) e own) moved
 
   -- what is found is what is due
   pub tells_gap : (place : ℕ) (told : FaultNumbers) → FindsIn L (box_at file r.moof) states r.room place told → Tells file place told
   tells_gap place (numbers.Gap track due found) f =
       let moof = box_at file r.moof in
-      let front = tree_of (up_to f.traf.offset moof) in
+      let front = tree_of (box_up_to f.traf.offset moof) in
       let sound = f.sound (trexes_of movie) (trexes_behind file movie n.earlier states r.room n.behind) in
       let now = front_behind f.traf.offset f.after f.less f.sound f.moved in
       let ps = parts_behind movie (n.earlier ++ front ∷ []) in

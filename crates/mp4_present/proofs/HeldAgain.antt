@@ -6,10 +6,10 @@ use Rattle.mp4_head.specs.format.Tree.{TrackTree}
 use Rattle.mp4_present.specs.words.SamplesComing.{HoldsNext, HoldsLast, StandsBefore}
 use Rattle.mp4_present.specs.format.Denotes.{FileTree}
 use Rattle.mp4_present.specs.words.Movies.{traf_bytes}
-use Rattle.mp4_present.specs.declared.in_hand.Place.{Place}
-use Rattle.mp4_present.specs.declared.walks.Due.{Due}
-use Rattle.mp4_present.specs.declared.walks.Mark.{Mark}
-use Rattle.mp4_present.specs.declared.walks.Walk.{Walk}
+use Rattle.mp4_present.specs.declared.walking.loaded.Place.{Place}
+use Rattle.mp4_present.specs.declared.walking.Due.{Due}
+use Rattle.mp4_present.specs.declared.walking.Mark.{Mark}
+use Rattle.mp4_present.specs.declared.walking.Walk.{Walk}
 
 -- two walks of one track hold the same `traf`
 pub record HoldSame (w now : Walk) : Type 0 where

@@ -136,8 +136,8 @@ short_enough p head states total m e le = fits total _ _ _ (e (movie_length p)) 
     fits total whole moov normal a b c d = omega arith
 
 pub too_long : (p : Presentation) (head : MovieHead) (states : List TrackState) (moov : Box) (total : ℕ) (f : Fault) → IsMeasure p head states → ((n : ℕ) → total ≡ capped (length (written.head_bytes (movie_seen head) (tracks_seen head) n)))
-    → 2 ^ 30 + 24 < total → f ≡ fault_of MovieTooLarge moov → LimitFails p head moov f
-too_long p head states moov total f m e lt named = inr (record { passes = over total _ _ _ (e (movie_length p)) (both (movie_seen head) (tracks_seen head) (movie_length p)) (moov_is p head states m) lt; named = named })
+    → 2 ^ 30 + 24 < total → AllByRecursion (IsInTime p.movie.timescale) p.tracks → f ≡ fault_of MovieTooLarge moov → LimitFails p head moov f
+too_long p head states moov total f m e lt times named = inr (record { in_time = times; passes = over total _ _ _ (e (movie_length p)) (both (movie_seen head) (tracks_seen head) (movie_length p)) (moov_is p head states m) lt; named = named })
   where
     over : (total whole moov normal : ℕ) → total ≡ min whole (2 ^ 128 - 1) → whole ≡ 24 + moov → normal ≡ moov → 2 ^ 30 + 24 < total → 2 ^ 30 < normal
     over total whole moov normal a b c d = omega arith

@@ -22,6 +22,8 @@ pub mod PlacedTracks
 pub mod DenotedValid
 pub mod Vectors
 pub mod TopLevel
+pub mod OutlineCounts
+pub mod TopJudged
 pub mod Outlines
 pub mod Fragmented
 pub mod Payloads
@@ -94,3 +96,5 @@ mod TracksCompared
 mod FilesCompared
 pub mod TrafsNoted
 pub mod JudgeVectors
+pub mod Zeroed
+pub mod OwnPayloads

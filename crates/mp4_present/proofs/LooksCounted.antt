@@ -18,7 +18,7 @@ use Rattle.mp4_present.specs.words.NumbersTold.{LooksFit}
 use Rattle.mp4_present.specs.words.Outline.{AreFrom, IsNextFragment}
 use Rattle.mp4_present.specs.format.ByBytes.{LooksByBytes}
 use Rattle.mp4_present.specs.words.ToOpen.{LooksWithin, boxes_looks, moof_looks, opening_looks}
-use Rattle.mp4_present.specs.declared.outline.Outline.{Outline}
+use Rattle.mp4_present.specs.declared.opening.outline.Outline.{Outline}
 use Rattle.mp4_present.specs.declared.reading.TopBox.{TopBox}
 use Rattle.mp4_present.proofs.ChecksCounted.{next_left}
 use Rattle.mp4_present.proofs.FragmentPass.{whole_file}

@@ -8,7 +8,7 @@ use Rattle.mp4_boxes.proofs.Joined.{all_first, all_last}
 use Rattle.mp4_tables.specs.format.Groups.{GroupKey, keys_after}
 use Rattle.mp4_frag.specs.format.Fragments.{FragmentTree, IsFragmentTree, fragment_of}
 use Rattle.mp4_frag.specs.format.FragmentSamples.{Part, parts_of, parts_for, trex_for, AreGrouped}
-use Rattle.mp4_frag.specs.format.FragmentRules.{TrackInfo, track_for, is_known, is_within}
+use Rattle.mp4_frag.specs.format.FragmentRules.{TrackFacts, track_for, is_known, is_within}
 use Rattle.mp4_frag.specs.words.Judged.{AreTrexesOf, IsSoundMoof, IsGrouped, IsPlacedWithin, TrackSeen, track_seen, is_known_among}
 use Rattle.mp4_frag.specs.words.Walks.{trex_among}
 use Rattle.mp4_frag.specs.declared.state.TrackState.{TrackState}
@@ -29,7 +29,7 @@ each_turned P Q f (x ∷ xs) h = (f x h.0, each_turned P Q f xs h.1)
 
 -- ---- what fragments of a track inherit
 
-abbrev infos_of : List TrackTree → List TrackInfo
+abbrev infos_of : List TrackTree → List TrackFacts
 infos_of tracks = map (λ (t : TrackTree). record { id = id_of t; descriptions = length t.descriptions }) tracks
 
 module _ (trexes : List Trex) where

@@ -29,7 +29,7 @@ use Rattle.mp4_present.specs.words.PassedMoofs.{IsBegun, IsPassed, RefusesFragme
 use Rattle.mp4_present.specs.words.Passing.{AreBehind, IsNextMoof}
 use Rattle.mp4_present.specs.words.Reading.{RefusesPayload}
 use Rattle.mp4_present.specs.format.Stands.{Stands}
-use Rattle.mp4_present.specs.declared.outline.Outline.{Outline}
+use Rattle.mp4_present.specs.declared.opening.outline.Outline.{Outline}
 use Rattle.mp4_present.specs.declared.reading.TopBox.{TopBox}
 use Rattle.mp4_present.proofs.FragmentPass.{Left, Next, left_first, left_next, next_boxes}
 use Rattle.mp4_present.proofs.Opened.{moov_is}

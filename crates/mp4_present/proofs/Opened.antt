@@ -32,7 +32,7 @@ use Rattle.mp4_present.proofs.TablesStand.{tables_stand}
 use Rattle.mp4_present.specs.format.Denotes.{begins_with_movie}
 use Rattle.mp4_present.specs.format.Stands.{Stands, header, child, missing, leaf}
 use Rattle.mp4_present.specs.declared.reading.TopBox.{TopBox}
-use Rattle.mp4_present.specs.declared.outline.Outline.{Outline}
+use Rattle.mp4_present.specs.declared.opening.outline.Outline.{Outline}
 
 -- ---- the `moov` among the boxes of the file
 

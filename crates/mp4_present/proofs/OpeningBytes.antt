@@ -14,7 +14,7 @@ use Rattle.mp4_head.specs.words.Found.{LiesIn, SaysHead}
 use Rattle.mp4_head.specs.declared.heads.MovieHead.{MovieHead}
 use Rattle.mp4_head.specs.declared.heads.TrackHead.{TrackHead}
 use Rattle.mp4_present.specs.format.ByBytes.{OpensWithin}
-use Rattle.mp4_present.specs.declared.outline.Outline.{Outline}
+use Rattle.mp4_present.specs.declared.opening.outline.Outline.{Outline}
 use Rattle.mp4_present.proofs.Opened.{IsRead, its_movie}
 
 -- ---- the tables of one track

@@ -17,7 +17,7 @@ use Rattle.mp4_present.specs.words.OpenedMovie.{IsOpenedAs}
 use Rattle.mp4_present.specs.words.Opening.{IsOpened}
 use Rattle.mp4_present.specs.words.TrackTrees.{AreTracksOf}
 use Rattle.mp4_present.specs.words.WalkSteps.{ChecksAll, ChecksWithin, moof_steps, moofs_steps, boxes_steps, table_steps, least_table_steps, opening_steps, least_steps}
-use Rattle.mp4_present.specs.declared.outline.Outline.{Outline}
+use Rattle.mp4_present.specs.declared.opening.outline.Outline.{Outline}
 use Rattle.mp4_present.proofs.Opened.{IsRead, its_moov, tracks_read}
 use Rattle.mp4_present.proofs.TablesWork.{TracksDone}
 

@@ -2,7 +2,6 @@
 use Rattle.std.proofs.Common.{◌≡◌, ℕ, drop, Err, ◌-◌, ◌<◌, ◌≤◌, Bool, true, false, List, [], ◌∷◌, ◌++◌, Option, Some, None, length, max, refl, sym, ap, subst, ◌∙◌, arith, inl, inr}
 use Rattle.std.specs.Prelude.{codes, bytes_eq, IsTrue}
 use Rattle.std.proofs.lemmas.List.Sums.{fold-append}
-use Rattle.std.proofs.lemmas.Slice.Eq.{bytes_eq-Decides}
 use Rattle.mp4_boxes.specs.format.Box.{Box, IsFront, StandsAfter, Tiles, size, sizes, file_container}
 use Rattle.mp4_boxes.specs.format.Children.{of_kind, count_among, allows, repeats, Holds}
 use Rattle.mp4_boxes.specs.format.BoxFaults.{header_there}
@@ -20,18 +19,13 @@ use Rattle.mp4_present.specs.format.Denotes.{begins_with_movie}
 use Rattle.mp4_present.specs.format.Stands.{Stands, child, missing, header, order}
 use Rattle.mp4_present.specs.words.Outline.{AreSeen, AreMoofsFrom, IsOutline, IsOrdered, longest, moov_seen, RefusesOutline}
 use Rattle.mp4_present.specs.declared.reading.TopBox.{TopBox}
-use Rattle.mp4_present.specs.declared.outline.Outline.{Outline}
-use Rattle.mp4_present.specs.declared.outline.Seen.{Seen}
+use Rattle.mp4_present.specs.declared.opening.outline.Outline.{Outline}
+use Rattle.mp4_present.specs.declared.opening.outline.Seen.{Seen}
+use Rattle.mp4_present.proofs.OutlineCounts.{same_text, not_both, count_is}
+use Rattle.mp4_present.proofs.TopJudged.{TopGoes, top_goes_none}
 use Rattle.mp4_present.proofs.TopLevel.{TopPassed, top_more, top_tiles, top_fault}
 
 -- ---- boxes of one type, with one box more
-
-same_text : (xs ys : List ℕ) → bytes_eq xs ys ≡ true → xs ≡ ys
-same_text xs ys e = (bytes_eq-Decides xs ys).0 e
-
--- a type is not two
-not_both : (kind : List ℕ) → bytes_eq (codes "moov") kind ≡ true → bytes_eq (codes "moof") kind ≡ false
-not_both kind e = subst (λ (k : List ℕ). bytes_eq (codes "moof") k ≡ false) (same_text (codes "moov") kind e) refl
 
 -- one box more, of another type
 pub push_other : (kind : List ℕ) (boxes : List Box) (b : Box) → bytes_eq kind b.kind ≡ false → of_kind kind (boxes ++ b ∷ []) ≡ of_kind kind boxes
@@ -47,16 +41,6 @@ push_this : (kind : List ℕ) (boxes : List Box) (b : Box) → bytes_eq kind b.k
 push_this kind boxes b e =
     let one : of_kind kind (b ∷ []) ≡ b ∷ [] = rw e refl in
     of_kind-append kind boxes (b ∷ []) ∙ ap (λ (bs : List Box). of_kind kind boxes ++ bs) one
-
--- as many are counted as there are
-count_one : (kind : List ℕ) (b : Box) (bs : List Box) (v : Bool) → bytes_eq kind b.kind ≡ v → count_among (kind ∷ []) bs ≡ length (of_kind kind bs)
-    → count_among (kind ∷ []) (b ∷ bs) ≡ length (of_kind kind (b ∷ bs))
-count_one kind b bs true e h = rw e (omega (arith, h))
-count_one kind b bs false e h = rw e (omega (arith, h))
-
-count_is : (kind : List ℕ) (bs : List Box) → count_among (kind ∷ []) bs ≡ length (of_kind kind bs)
-count_is kind [] = refl
-count_is kind (b ∷ bs) = count_one kind b bs (bytes_eq kind b.kind) refl (count_is kind bs)
 
 -- ---- the order of `moov` and `moof`
 
@@ -199,15 +183,16 @@ pub record Outlining (file : List ℕ) (at : ℕ) (seen : Seen) : Type 0 where
   pub front : IsFront (file_container file) boxes
   pub taken : sizes boxes ≡ at
   pub are_seen : AreSeen file boxes seen
+  pub goes : TopGoes file boxes
 
 pub outlining_none : (file : List ℕ) → Outlining file 0 (record { moov = None; longest = 0 })
-outlining_none file = record { boxes = []; front = (tt, tt); taken = refl; are_seen = record { allowed = tt; moov = refl; order = refl; longest = refl } }
+outlining_none file = record { boxes = []; front = (tt, tt); taken = refl; are_seen = record { allowed = tt; moov = refl; order = refl; longest = refl }; goes = top_goes_none file }
 
 pub outlining_more : (file : List ℕ) (at : ℕ) (h : TopHeader) (seen : Seen) (boxes : List Box) → IsFront (file_container file) boxes → sizes boxes ≡ at → IsTopHeader file at h → at ≤ h.end
-    → AreSeen file (boxes ++ top_box file at h ∷ []) seen → Outlining file h.end seen
-outlining_more file at h seen boxes f t r le s =
+    → AreSeen file (boxes ++ top_box file at h ∷ []) seen → TopGoes file (boxes ++ top_box file at h ∷ []) → Outlining file h.end seen
+outlining_more file at h seen boxes f t r le s g =
     let m = more file boxes at h (record { front = f; taken = t; read = r; room = le }) in
-    record { boxes = boxes ++ top_box file at h ∷ []; front = (m.lie, tt); taken = m.taken; are_seen = s }
+    record { boxes = boxes ++ top_box file at h ∷ []; front = (m.lie, tt); taken = m.taken; are_seen = s; goes = g }
 
 -- a header that can't be read
 pub unread : (file : List ℕ) (at : ℕ) (seen : Seen) (f : Fault) → Outlining file at seen → at < length file → header_there true (length file - at) (drop at file) (codes "file") at ≡ Err f → Stands file f

@@ -11,31 +11,31 @@ use Rattle.mp4_tables.specs.declared.keys.Keys.{Keys}
 use Rattle.mp4_tables.specs.declared.sample.SampleAt.{SampleAt}
 use Rattle.mp4_head.specs.format.Tree.{TrackTree}
 use Rattle.mp4_present.specs.format.Denotes.{FileTree}
-use Rattle.mp4_present.specs.format.Differences.{same_signed, differ, numbers, signed, first_unequal, byte_at, each_differ}
+use Rattle.mp4_present.specs.format.Differences.{same_signed, differ, numbers_differ, signed, first_unequal, byte_at, each_differ}
 use Rattle.mp4_present.specs.words.Differing.{flags_left, index_in, group_differences, differences_at, pair_differences}
-use Rattle.mp4_present.specs.words.InHand.{left_in_hand, Follows, IsPlaceOf}
+use Rattle.mp4_present.specs.words.Loaded.{left_in_hand, Follows, IsPlaceOf}
 use Rattle.mp4_present.specs.words.Movies.{MovieSeen, InHandOf}
 use Rattle.mp4_present.specs.words.SamePairs.{indexes_differ, IsSamePair, BeginSame, SaySame}
 use Rattle.mp4_present.specs.words.SamplesComing.{Comes, samples_behind}
 use Rattle.mp4_present.specs.words.Windows.{Shows}
-use Rattle.mp4_present.specs.declared.comparing_samples.Pairing.{Pairing}
-use Rattle.mp4_present.specs.declared.differences.Difference.{Difference}
-use Rattle.mp4_present.specs.declared.differences.Field.{Field}
-use Rattle.mp4_present.specs.declared.differences.Field.TheVariants as fields
-use Rattle.mp4_present.specs.declared.differences.Subject.{Subject}
-use Rattle.mp4_present.specs.declared.differences.Subject.TheVariants as subjects
+use Rattle.mp4_present.specs.declared.comparing.samples.Pairing.{Pairing}
+use Rattle.mp4_present.specs.declared.comparing.differences.Difference.{Difference}
+use Rattle.mp4_present.specs.declared.comparing.differences.Field.{Field}
+use Rattle.mp4_present.specs.declared.comparing.differences.Field.TheVariants as fields
+use Rattle.mp4_present.specs.declared.comparing.differences.Subject.{Subject}
+use Rattle.mp4_present.specs.declared.comparing.differences.Subject.TheVariants as subjects
 use Rattle.mp4_present.specs.declared.file_window.FileWindow.{FileWindow}
-use Rattle.mp4_present.specs.declared.in_hand.InHand.{InHand}
-use Rattle.mp4_present.specs.declared.in_hand.Place.{Place}
-use Rattle.mp4_present.specs.declared.leaving.Leaving.{Leaving}
-use Rattle.mp4_present.specs.declared.walks.Walk.{Walk}
+use Rattle.mp4_present.specs.declared.walking.loaded.Loaded.{Loaded}
+use Rattle.mp4_present.specs.declared.walking.loaded.Place.{Place}
+use Rattle.mp4_present.specs.declared.without.Without.{Without}
+use Rattle.mp4_present.specs.declared.walking.Walk.{Walk}
 use Rattle.mp4_present.proofs.Differing.{at_drop, nowhere_same}
 use Rattle.mp4_present.proofs.GoneBack.{hand_later}
 use Rattle.mp4_present.proofs.WalkCopied.{hand_one, kept_before}
 
 -- ---- values that are the same
 
-pub none_of_numbers : (of : Subject) (field : Field) (a b : ℕ) → a ≡ b → numbers of field a b ≡ []
+pub none_of_numbers : (of : Subject) (field : Field) (a b : ℕ) → a ≡ b → numbers_differ of field a b ≡ []
 unfolding differ
 none_of_numbers of field a b e = rw (eq-eqb a b e) refl
 
@@ -54,7 +54,7 @@ none_of_signed of field a b e = subst (λ (c : ℤ). signed of field a c ≡ [])
 nothing_joined : (a b c d g s : List Difference) → a ≡ [] → b ≡ [] → c ≡ [] → d ≡ [] → g ≡ [] → s ≡ [] → a ++ b ++ c ++ d ++ g ++ s ≡ []
 nothing_joined a b c d g s ea eb ec ed eg es = λ i. ea i ++ eb i ++ ec i ++ ed i ++ eg i ++ es i
 
-pub none_said : (l : Leaving) (of : Subject) (keys : List GroupKey) (lk rk : Keys) (x y : SampleAt) → x.duration ≡ y.duration → x.cto ≡ y.cto → flags_left l x.flags ≡ flags_left l y.flags → x.description ≡ y.description
+pub none_said : (l : Without) (of : Subject) (keys : List GroupKey) (lk rk : Keys) (x y : SampleAt) → x.duration ≡ y.duration → x.cto ≡ y.cto → flags_left l x.flags ≡ flags_left l y.flags → x.description ≡ y.description
     → group_differences of keys lk x rk y ≡ [] → x.size ≡ y.size → differences_at l of keys lk x rk y ≡ []
 none_said l of keys lk rk x y ed eo ef ei eg es =
     nothing_joined _ _ _ _ _ _ (none_of_numbers of _ _ _ ed) (none_of_signed of _ _ _ eo) (none_of_numbers of _ _ _ ef) (none_of_numbers of _ _ _ ei) eg (none_of_numbers of _ _ _ es)
@@ -136,19 +136,19 @@ module _ (by : Pairing) (w v : FileWindow) where
 abbrev behind : (file : List ℕ) (tree : FileTree) (t : TrackTree) (m : MovieSeen) (w : Walk) (samples : List SampleAt) → Comes file tree t m w samples → List SampleAt
 behind file tree t m w samples k = samples_behind tree t k.0 k.1
 
-module _ (file : List ℕ) (tree : FileTree) (t : TrackTree) (m : MovieSeen) (w : Walk) (a : InHand) (samples : List SampleAt) (hand : InHandOf m w a) (k : Comes file tree t m w samples) where
+module _ (file : List ℕ) (tree : FileTree) (t : TrackTree) (m : MovieSeen) (w : Walk) (a : Loaded) (samples : List SampleAt) (hand : InHandOf m w a) (k : Comes file tree t m w samples) where
   pub come_are : samples ≡ left_in_hand a ++ behind file tree t m w samples k
-  come_are = k.3.2 ∙ ap (λ (h : InHand). left_in_hand h ++ behind file tree t m w samples k) (hand_one m w k.2 a k.3.1 hand)
+  come_are = k.3.2 ∙ ap (λ (h : Loaded). left_in_hand h ++ behind file tree t m w samples k) (hand_one m w k.2 a k.3.1 hand)
 
   -- so many of those in hand are passed
-  pub come_later : (b : InHand) (p : Place) (n : ℕ) → Follows a b → IsPlaceOf b p → left_in_hand b ≡ drop n (left_in_hand a) → n ≤ length (left_in_hand a) → Comes file tree t m (record w { place = p }) (drop n samples)
+  pub come_later : (b : Loaded) (p : Place) (n : ℕ) → Follows a b → IsPlaceOf b p → left_in_hand b ≡ drop n (left_in_hand a) → n ≤ length (left_in_hand a) → Comes file tree t m (record w { place = p }) (drop n samples)
   come_later b p n later at rest le =
       let gone : drop n samples ≡ left_in_hand b ++ behind file tree t m w samples k =
       ap (λ (ss : List SampleAt). drop n ss) come_are ∙ drop-append-le n (left_in_hand a) (behind file tree t m w samples k) le ∙ ap (λ (ss : List SampleAt). ss ++ behind file tree t m w samples k) (sym rest) in
       (k.0, k.1, b, (kept_before file tree t k.0 k.1 w p k.3.0, hand_later m w a b p hand later at, gone))
 
 -- what begins alike in hand does so in all that comes
-pub same_come : (by : Pairing) (one two : FileWindow) (file other : List ℕ) (tree other_tree : FileTree) (t u : TrackTree) (m n : MovieSeen) (w v : Walk) (a b : InHand) (count : ℕ) (xs ys : List SampleAt) → InHandOf m w a → InHandOf n v b → Comes file tree t m w xs → Comes other other_tree u n v ys
+pub same_come : (by : Pairing) (one two : FileWindow) (file other : List ℕ) (tree other_tree : FileTree) (t u : TrackTree) (m n : MovieSeen) (w v : Walk) (a b : Loaded) (count : ℕ) (xs ys : List SampleAt) → InHandOf m w a → InHandOf n v b → Comes file tree t m w xs → Comes other other_tree u n v ys
     → BeginSame by one two count (left_in_hand a) (left_in_hand b) → BeginSame by one two count xs ys
 same_come by one two file other tree other_tree t u m n w v a b count xs ys ha hb k l h =
     let first = come_are file tree t m w a xs ha k in

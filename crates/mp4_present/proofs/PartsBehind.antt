@@ -8,7 +8,7 @@ use Rattle.std.proofs.lemmas.List.{append-nil}
 use Rattle.mp4_tables.specs.format.TableRules.{is_index}
 use Rattle.mp4_frag.specs.declared.trex.Trex.{Trex}
 use Rattle.mp4_frag.specs.format.FragmentSamples.{Part, part_samples, parts_for, trex_for, start_of, duration_of, AreOnTime, AreGrouped}
-use Rattle.mp4_frag.specs.format.FragmentRules.{TrackInfo, track_for, is_known, has_indexes, is_within}
+use Rattle.mp4_frag.specs.format.FragmentRules.{TrackFacts, track_for, is_known, has_indexes, is_within}
 use Rattle.mp4_frag.specs.words.Judged.{TrackSeen, track_behind, IsDue, IsPlacedWithin}
 use Rattle.mp4_frag.proofs.SeenLists.{find_map, some_is}
 use Rattle.mp4_head.specs.format.Head.{TrackHead}
@@ -169,7 +169,7 @@ tracked movie ps id seen now e f =
 -- so its ID and its descriptions are known
 pub track_known : (movie : MovieTree) (ps : List Part) (id : ℕ) (now : TrackSeen) → (t : IsTracked movie ps id now) → track_for (track_infos movie) id ≡ Some (record { id = id_of t.tree; descriptions = now.descriptions })
 track_known movie ps id now t =
-    find_map (λ (u : TrackTree). record { id = id_of u; descriptions = length u.descriptions }) (λ (i : TrackInfo). i.id == id) movie.tracks
+    find_map (λ (u : TrackTree). record { id = id_of u; descriptions = length u.descriptions }) (λ (i : TrackFacts). i.id == id) movie.tracks
     ∙ ap (option_map (λ (u : TrackTree). record { id = id_of u; descriptions = length u.descriptions })) t.among
     ∙ (λ i. Some (record { id = id_of t.tree; descriptions = (t.seen i).descriptions }))
 
@@ -182,7 +182,7 @@ part_known movie ps part now trex t e = λ i. is_some (track_known movie ps part
 -- the test of its indexes is that by its descriptions
 pub indexes_same : (movie : MovieTree) (ps : List Part) (part : Part) (now : TrackSeen) → IsTracked movie ps part.id now
     → has_indexes (track_infos movie) part ≡ list_all (λ s. is_index now.descriptions s.description) (part_samples part)
-indexes_same movie ps part now t = ap (λ (o : Option TrackInfo). list_all (λ s. is_index (unwrap_or (option_map (λ (track : TrackInfo). track.descriptions) o) 0) s.description) (part_samples part)) (track_known movie ps part.id now t)
+indexes_same movie ps part now t = ap (λ (o : Option TrackFacts). list_all (λ s. is_index (unwrap_or (option_map (λ (track : TrackFacts). track.descriptions) o) 0) s.description) (part_samples part)) (track_known movie ps part.id now t)
 
 -- the tree at the place of the track
 track_at : (movie : MovieTree) (ps : List Part) (seen : List TrackSeen) (place : ℕ) (now : TrackSeen) → seen ≡ map (seen_behind movie ps) movie.tracks → slice_get seen place ≡ Some now

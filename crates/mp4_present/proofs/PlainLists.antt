@@ -16,7 +16,7 @@ use Rattle.mp4_head.specs.words.Found.{LiesIn, IsFoundIn, SaysHead}
 use Rattle.mp4_present.specs.words.Movies.{LieIn, table_bytes}
 use Rattle.mp4_present.specs.words.Plain.{ArePlain, HaveTablesIn}
 use Rattle.mp4_present.specs.declared.movie.TrackTables.{TrackTables}
-use Rattle.mp4_present.specs.declared.tables_pass.PlainTracks.{PlainTracks}
+use Rattle.mp4_present.specs.declared.opening.tables_pass.PlainTracks.{PlainTracks}
 
 -- what holds of each and of one more
 pub all_push : {A : Type 0} (P : A → Type 0) (xs : List A) (x : A) → AllByRecursion P xs → P x → AllByRecursion P (xs ++ x ∷ [])

@@ -21,19 +21,19 @@ use Rattle.mp4_tables.specs.format.TableRules.{lies_within}
 use Rattle.mp4_head.specs.format.Tree.{TrackTree}
 use Rattle.mp4_present.specs.format.Denotes.{FileTree, bytes_at, sample_of, file_parts, placed_of, track_of}
 use Rattle.mp4_present.specs.format.Reduced.{reduce_sample}
-use Rattle.mp4_present.specs.format.Differences.{differ, numbers, signed, first_unequal, byte_at, bytes_differ, each_differ}
+use Rattle.mp4_present.specs.format.Differences.{differ, numbers_differ, signed, first_unequal, byte_at, bytes_differ, each_differ}
 use Rattle.mp4_present.specs.format.Comparison.{with_key, keys_of_both, index_differences, sample_differences}
 use Rattle.mp4_present.specs.words.Differing.{index_in, index_of, flags_left, group_differences, pair_differences}
 use Rattle.mp4_present.specs.words.OpenedMovie.{IsOpenedAs, IsInfoOf}
 use Rattle.mp4_present.specs.words.Movies.{MovieSeen}
 use Rattle.mp4_present.specs.words.SamplesComing.{track_keys, track_samples}
-use Rattle.mp4_present.specs.declared.leaving.Leaving.{Leaving}
+use Rattle.mp4_present.specs.declared.without.Without.{Without}
 use Rattle.mp4_present.specs.declared.track_info.TrackInfo.{TrackInfo}
-use Rattle.mp4_present.specs.declared.differences.Subject.{Subject}
-use Rattle.mp4_present.specs.declared.differences.Subject.TheVariants as subjects
-use Rattle.mp4_present.specs.declared.differences.Field.{Field}
-use Rattle.mp4_present.specs.declared.differences.Field.TheVariants as fields
-use Rattle.mp4_present.specs.declared.differences.Difference.{Difference}
+use Rattle.mp4_present.specs.declared.comparing.differences.Subject.{Subject}
+use Rattle.mp4_present.specs.declared.comparing.differences.Subject.TheVariants as subjects
+use Rattle.mp4_present.specs.declared.comparing.differences.Field.{Field}
+use Rattle.mp4_present.specs.declared.comparing.differences.Field.TheVariants as fields
+use Rattle.mp4_present.specs.declared.comparing.differences.Difference.{Difference}
 use Rattle.mp4_present.proofs.KeysOfBoth.{fold_rising, fold_each, fold_there, NothingElse, joint}
 use Rattle.mp4_present.proofs.TrafTaken.{zipped_at}
 use Rattle.mp4_present.proofs.PlacedTracks.{IsTrackPlaced, tracks_placed}
@@ -80,9 +80,9 @@ index_there keys groups key few named = place_from key groups keys 4 0 (indexes 
 
 -- what differs at a key
 abbrev at_key : Subject → Groups → Groups → GroupKey → List Difference
-at_key of a b key = numbers of (fields.Group (record { kind = record { 0 = key.kind }; parameter = key.parameter })) (index_at key a) (index_at key b)
+at_key of a b key = numbers_differ of (fields.Group (record { kind = record { 0 = key.kind }; parameter = key.parameter })) (index_at key a) (index_at key b)
 
-no_difference : (of : Subject) (field : Field) → numbers of field 0 0 ≡ []
+no_difference : (of : Subject) (field : Field) → numbers_differ of field 0 0 ≡ []
 unfolding differ
 no_difference of field = refl
 
@@ -129,7 +129,7 @@ module _ (of : Subject) (left right : List GroupKey) (a b : Groups) (ha : AreKey
       nothing : (x : GroupKey) → IsNone (keys_of_both a b) x → at_key of a b x ≡ []
       nothing x none =
           let field = fields.Group (record { kind = record { 0 = x.kind }; parameter = x.parameter }) in
-          (λ i. numbers of field (none_in (keys_of_both a b) a x (all_first (IsAmong (keys_of_both a b)) (keys_in a) (keys_in b) there) none i) (none_in (keys_of_both a b) b x (all_last (IsAmong (keys_of_both a b)) (keys_in a) (keys_in b) there) none i))
+          (λ i. numbers_differ of field (none_in (keys_of_both a b) a x (all_first (IsAmong (keys_of_both a b)) (keys_in a) (keys_in b) there) none i) (none_in (keys_of_both a b) b x (all_last (IsAmong (keys_of_both a b)) (keys_in a) (keys_in b) there) none i))
           ∙ no_difference of field
 
   -- what differs at all keys of two tracks differs at the keys of the two samples
@@ -146,7 +146,7 @@ seen_at of (key ∷ keys) lk rk left right a b x y el er gx gy ha hb =
     let first : index_of lk x key ≡ index_at (key_seen key) a = (λ i. index_in (key_place (key_seen key) (el i)) (gx i)) ∙ index_there left a (key_seen key) ha.few ha.map.named in
     let second : index_of rk y key ≡ index_at (key_seen key) b = (λ i. index_in (key_place (key_seen key) (er i)) (gy i)) ∙ index_there right b (key_seen key) hb.few hb.map.named in
     let more = seen_at of keys lk rk left right a b x y el er gx gy ha hb in
-    λ i. numbers of (fields.Group key) (first i) (second i) ++ more i
+    λ i. numbers_differ of (fields.Group key) (first i) (second i) ++ more i
 
 -- none where groups are left out
 groups_differ : (v : Bool) (of : Subject) (keys : List KeyNamed) (lk rk : Keys) (left right : List GroupKey) (a b : Groups) (x y : SampleAt) → keys_seen lk ≡ left → keys_seen rk ≡ right → x.groups ≡ indexes left a → y.groups ≡ indexes right b → AreKeysOf left a → AreKeysOf right b
@@ -191,19 +191,19 @@ module _ (of : Subject) (file other : List ℕ) (s t : PlacedSample) (hs : IsInF
 abbrev IsSampleOf : List ℕ → List GroupKey → PlacedSample → Type 0
 IsSampleOf file keys s = AreKeysOf keys s.groups × IsInFile (length file) s
 
-module _ (l : Leaving) (track : ℕ) (keys : List KeyNamed) (lk rk : Keys) (left right : List GroupKey) (file other : List ℕ) (el : keys_seen lk ≡ left) (er : keys_seen rk ≡ right) (joined : map key_seen keys ≡ (if l.groups then [] else fold with_key [] (left ++ right))) where
+module _ (l : Without) (track : ℕ) (keys : List KeyNamed) (lk rk : Keys) (left right : List GroupKey) (file other : List ℕ) (el : keys_seen lk ≡ left) (er : keys_seen rk ≡ right) (joined : map key_seen keys ≡ (if l.groups then [] else fold with_key [] (left ++ right))) where
   two_samples : (n dts later : ℕ) (s t : PlacedSample) → IsSampleOf file left s → IsSampleOf other right t
       → pair_differences l track keys lk file rk other n (sample_at left dts s) (sample_at right later t) ≡ sample_differences track n (reduce_sample l (sample_of file s)) (reduce_sample l (sample_of other t))
   two_samples n dts later s t hs ht =
       let of = subjects.Sample track n in
-      let values = λ (g : List Difference). numbers of fields.Duration s.duration t.duration ++ signed of fields.Offset s.offset t.offset ++ numbers of fields.Flags (flags_left l s.flags) (flags_left l t.flags) ++ numbers of fields.Description s.description t.description ++ g in
+      let values = λ (g : List Difference). numbers_differ of fields.Duration s.duration t.duration ++ signed of fields.Offset s.offset t.offset ++ numbers_differ of fields.Flags (flags_left l s.flags) (flags_left l t.flags) ++ numbers_differ of fields.Description s.description t.description ++ g in
       let groups = groups_differ l.groups of keys lk rk left right s.groups t.groups (sample_at left dts s) (sample_at right later t) el er refl refl hs.0 ht.0 joined in
       let bytes = bytes_are of file other s t hs.1 ht.1 in
       let first = size_is of file other s t hs.1 ht.1 in
       let second = other_is of file other s t hs.1 ht.1 in
-      append_assoc (values (group_differences of keys lk (sample_at left dts s) rk (sample_at right later t))) (numbers of fields.Size s.size t.size)
+      append_assoc (values (group_differences of keys lk (sample_at left dts s) rk (sample_at right later t))) (numbers_differ of fields.Size s.size t.size)
       (bytes_differ of (λ (k : ℕ). fields.Byte k s.size) s.size t.size (range file (place_of s.at) s.size) (range other (place_of t.at) s.size))
-      ∙ (λ j. values (groups j) ++ (numbers of fields.Size (first j) (second j) ++ bytes j))
+      ∙ (λ j. values (groups j) ++ (numbers_differ of fields.Size (first j) (second j) ++ bytes j))
 
   all_samples : (n dts later : ℕ) (xs ys : List PlacedSample) → AllByRecursion (IsSampleOf file left) xs → AllByRecursion (IsSampleOf other right) ys
       → each_differ (pair_differences l track keys lk file rk other) n (timed left dts xs) (timed right later ys) ≡ each_differ (sample_differences track) n (map (reduce_sample l) (map (sample_of file) xs)) (map (reduce_sample l) (map (sample_of other) ys))
@@ -231,7 +231,7 @@ pub own_keys : (file : List ℕ) (m : MovieSeen) (tree : FileTree) (t : TrackTre
 own_keys file m tree t k info o at there = (zipped_at (IsInfoOf file tree) tree.movie.tracks m.tracks k t info o.tracks at there).keys
 
 -- What differs between the samples of two tracks, one by one, differs between those of the two presentations.
-pub tracks_differ : (l : Leaving) (track k : ℕ) (keys : List KeyNamed) (file other : List ℕ) (m n : MovieSeen) (tree other_tree : FileTree) (t u : TrackTree) (info other_info : TrackInfo)
+pub tracks_differ : (l : Without) (track k : ℕ) (keys : List KeyNamed) (file other : List ℕ) (m n : MovieSeen) (tree other_tree : FileTree) (t u : TrackTree) (info other_info : TrackInfo)
     → map key_seen keys ≡ (if l.groups then [] else fold with_key [] (keys_seen info.keys ++ keys_seen other_info.keys)) → IsOpenedAs file m tree → IsOpenedAs other n other_tree → slice_get tree.movie.tracks k ≡ Some t → slice_get other_tree.movie.tracks k ≡ Some u
     → slice_get m.tracks k ≡ Some info → slice_get n.tracks k ≡ Some other_info
     → each_differ (pair_differences l track keys info.keys file other_info.keys other) 1 (track_samples tree t) (track_samples other_tree u)

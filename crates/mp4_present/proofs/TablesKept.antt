@@ -48,7 +48,7 @@ use Rattle.mp4_present.specs.format.Presentation.{max_samples}
 use Rattle.mp4_present.specs.format.Stands.{table_total}
 use Rattle.mp4_present.specs.words.TrackTrees.{IsTrackOf, HaveTables, TableFails, surroundings_in}
 use Rattle.mp4_present.specs.declared.movie.TrackTables.{TrackTables}
-use Rattle.mp4_present.specs.declared.tables_pass.PlainTracks.{PlainTracks}
+use Rattle.mp4_present.specs.declared.opening.tables_pass.PlainTracks.{PlainTracks}
 use Rattle.mp4_present.proofs.Chain.{is_first}
 use Rattle.mp4_present.proofs.Counts.{sizes_few, sum-append}
 use Rattle.mp4_present.proofs.TableReasons.{descriptions_counted}

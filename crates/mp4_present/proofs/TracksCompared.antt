@@ -17,12 +17,12 @@ use Rattle.mp4_present.specs.words.SamePairs.{PassesSame}
 use Rattle.mp4_present.specs.words.SamplesComing.{Comes, track_samples}
 use Rattle.mp4_present.specs.words.WalkSteps.{MayTake, walk_steps}
 use Rattle.mp4_present.specs.words.Windows.{Shows}
-use Rattle.mp4_present.specs.declared.comparing_samples.Pairing.{Pairing}
-use Rattle.mp4_present.specs.declared.comparing_samples.Side.{Side}
-use Rattle.mp4_present.specs.declared.differences.Difference.{Difference}
-use Rattle.mp4_present.specs.declared.leaving.Leaving.{Leaving}
+use Rattle.mp4_present.specs.declared.comparing.samples.Pairing.{Pairing}
+use Rattle.mp4_present.specs.declared.comparing.samples.Side.{Side}
+use Rattle.mp4_present.specs.declared.comparing.differences.Difference.{Difference}
+use Rattle.mp4_present.specs.declared.without.Without.{Without}
 use Rattle.mp4_present.specs.declared.track_info.TrackInfo.{TrackInfo}
-use Rattle.mp4_present.specs.declared.walks.Walk.{Walk}
+use Rattle.mp4_present.specs.declared.walking.Walk.{Walk}
 use Rattle.mp4_present.proofs.Differing.{none_behind, each_ends, one_ends}
 use Rattle.mp4_present.proofs.PairsPassed.{same_skipped}
 use Rattle.mp4_present.proofs.TrafTaken.{zipped_at}
@@ -201,7 +201,7 @@ module _ (by : Pairing) (file : List ℕ) (tree : FileTree) (t : TrackTree) (m :
   pairs_all k w v now new h le = grows_all before now _ _ h.grows (each_over one k (track_samples tree t) (track_samples other_tree u) le)
 
 -- what differs between the samples is what differs between those of the presentations
-pub pairs_are : (l : Leaving) (k : ℕ) (by : Pairing) (file other : List ℕ) (m n : MovieSeen) (tree other_tree : FileTree) (t u : TrackTree) (info other_info : TrackInfo) → IsPairingOf l k info other_info by → IsOpenedAs file m tree → IsOpenedAs other n other_tree
+pub pairs_are : (l : Without) (k : ℕ) (by : Pairing) (file other : List ℕ) (m n : MovieSeen) (tree other_tree : FileTree) (t u : TrackTree) (info other_info : TrackInfo) → IsPairingOf l k info other_info by → IsOpenedAs file m tree → IsOpenedAs other n other_tree
     → slice_get tree.movie.tracks k ≡ Some t → slice_get other_tree.movie.tracks k ≡ Some u → slice_get m.tracks k ≡ Some info → slice_get n.tracks k ≡ Some other_info
     → each_differ (pair_differences by.leaving by.track by.keys.items by.left file by.right other) 1 (track_samples tree t) (track_samples other_tree u) ≡ samples_differ l (k + 1) file tree t other other_tree u
 pairs_are l k by file other m n tree other_tree t u info other_info h o p at bt it jt =

@@ -18,7 +18,7 @@ use Rattle.mp4_tables.specs.format.PlainSamples.{PlacedSample}
 use Rattle.mp4_tables.specs.format.TableRules.{is_index, GroupsReadable}
 use Rattle.mp4_frag.specs.format.Fragments.{FragmentTree, IsFragmentTree, AreTrafs, track_fragment_of}
 use Rattle.mp4_frag.specs.format.FragmentSamples.{Part, parts_for, parts_after, trex_for, no_trex, base_of, start_of, duration_of, is_on_time, keys_behind}
-use Rattle.mp4_frag.specs.format.FragmentRules.{TrackInfo, track_for, is_known, is_within}
+use Rattle.mp4_frag.specs.format.FragmentRules.{TrackFacts, track_for, is_known, is_within}
 use Rattle.mp4_frag.specs.words.Judged.{TrackSeen, track_seen, part_with}
 use Rattle.mp4_frag.specs.words.Passing.{is_late_at}
 use Rattle.mp4_frag.specs.words.Reading.{inheritance}
@@ -177,10 +177,10 @@ module _ (file : List ℕ) (movie : MovieTree) (earlier : List FragmentTree) (be
       → (trex : Trex) → is_known (track_infos movie) (trexes_of movie) (part_by trex) ≡ false
   unknown_by None e none trex =
       let id = (traf_in b).id in
-      let info : TrackTree → TrackInfo = (λ u. record { id = id_of u; descriptions = length u.descriptions }) in
+      let info : TrackTree → TrackFacts = (λ u. record { id = id_of u; descriptions = length u.descriptions }) in
       let seen : option_map (seen_behind movie so_far) (find (λ (u : TrackTree). id_of u == id) movie.tracks) ≡ None =
       sym (find_map (seen_behind movie so_far) (λ (s : TrackSeen). s.id == id) movie.tracks) ∙ sym (ap (find (λ (s : TrackSeen). s.id == id)) a.inside.passed.tracks) ∙ find_map track_seen (λ (s : TrackSeen). s.id == id) states ∙ ap (option_map track_seen) e in
-      let no_track : track_for (track_infos movie) id ≡ None = find_map info (λ (i : TrackInfo). i.id == id) movie.tracks ∙ ap (option_map info) (not_mapped (seen_behind movie so_far) (find (λ (u : TrackTree). id_of u == id) movie.tracks) seen) in
+      let no_track : track_for (track_infos movie) id ≡ None = find_map info (λ (i : TrackFacts). i.id == id) movie.tracks ∙ ap (option_map info) (not_mapped (seen_behind movie so_far) (find (λ (u : TrackTree). id_of u == id) movie.tracks) seen) in
       ap (λ o. is_some o && is_some (trex_for (trexes_of movie) id)) no_track
   unknown_by (Some t) e none trex =
       let id = (traf_in b).id in

@@ -18,7 +18,7 @@ use Rattle.mp4_frag.specs.format.FragmentSamples.{Part, start_of, duration_of, f
 use Rattle.mp4_frag.specs.words.Judged.{AreTrexesOf, IsSoundMoof, TrackSeen, track_seen, is_known_among}
 use Rattle.mp4_frag.specs.words.OwnTrafs.{PlacedTraf, is_own, own_in, placed_in, placed_samples}
 use Rattle.mp4_frag.specs.words.Walks.{samples_in, trex_among}
-use Rattle.mp4_frag.specs.declared.own_trafs.OwnTraf.{OwnTraf}
+use Rattle.mp4_frag.specs.declared.next_traf.OwnTraf.{OwnTraf}
 use Rattle.mp4_frag.specs.declared.state.TrackState.{TrackState}
 use Rattle.mp4_frag.specs.declared.trex.Trex.{Trex}
 use Rattle.mp4_frag.proofs.OwnParts.{placed_parts}
@@ -32,8 +32,8 @@ use Rattle.mp4_present.specs.words.Movies.{MovieSeen, all_in_traf, traf_bytes, t
 use Rattle.mp4_present.specs.words.GoingBack.{StandsBehind}
 use Rattle.mp4_present.specs.words.SamplesComing.{track_keys, due_behind, samples_behind, own_trafs, StandsBefore, HoldsNext, HoldsLast}
 use Rattle.mp4_present.specs.declared.track_info.TrackInfo.{TrackInfo}
-use Rattle.mp4_present.specs.declared.walks.Due.{Due}
-use Rattle.mp4_present.specs.declared.walks.Walk.{Walk}
+use Rattle.mp4_present.specs.declared.walking.Due.{Due}
+use Rattle.mp4_present.specs.declared.walking.Walk.{Walk}
 use Rattle.mp4_present.proofs.HeldAgain.{HoldSame, holds_as}
 use Rattle.mp4_present.proofs.KeysExtended.{distinct_keys}
 use Rattle.mp4_present.proofs.MoofSound.{moof_sound, kept_trexes}

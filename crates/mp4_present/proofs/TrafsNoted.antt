@@ -23,7 +23,7 @@ use Rattle.mp4_present.specs.words.Outline.{IsNextFragment, IsOutline, box_at}
 use Rattle.mp4_present.specs.words.OwnTrafs.{AreOwn, AreOwnBehind, IsOwn, none_noted, own_of}
 use Rattle.mp4_present.specs.words.PassedMoofs.{IsBegun}
 use Rattle.mp4_present.specs.words.Passing.{seen_behind, parts_behind}
-use Rattle.mp4_present.specs.declared.outline.Outline.{Outline}
+use Rattle.mp4_present.specs.declared.opening.outline.Outline.{Outline}
 use Rattle.mp4_present.specs.declared.reading.TopBox.{TopBox}
 use Rattle.mp4_present.proofs.MoofBehind.{trexes_behind}
 use Rattle.mp4_present.proofs.MoofsPassed.{IsUnderWay, IsRead, under_way_first, all_passed, read_is, next_passed, next_fragments}

@@ -16,7 +16,7 @@ use Rattle.mp4_tables.proofs.NamedKeys.{IsAmong, among_with, few_with}
 use Rattle.mp4_tables.proofs.GroupMaps.{IsMap, keys_named, order_test, map_through, named_after, after-append, still_few}
 use Rattle.mp4_tables.proofs.Placed.{IsPlaced, IsIndex}
 use Rattle.mp4_frag.specs.format.FragmentSamples.{Part, part_samples, has_samples, start_of, keys_behind, AreGrouped}
-use Rattle.mp4_frag.specs.format.FragmentRules.{TrackInfo, track_for, has_indexes}
+use Rattle.mp4_frag.specs.format.FragmentRules.{TrackFacts, track_for, has_indexes}
 use Rattle.mp4_frag.proofs.Ranges.{IsPart, part_placed}
 use Rattle.mp4_head.specs.format.Tree.{TrackTree, MovieTree, are_distinct, track_head_of}
 use Rattle.mp4_head.proofs.Distinct.{distinct_same}
@@ -113,14 +113,14 @@ parts_few keys (part ∷ parts) g few =
 -- ---- the descriptions of a track
 
 -- a track as fragments see it
-abbrev info : TrackTree → TrackInfo
+abbrev info : TrackTree → TrackFacts
 info t = record { id = (track_head_of t).id; descriptions = length t.descriptions }
 
 -- what a track info of this ID says is so of the track
 own_info : (tracks : List TrackTree) (u : TrackTree) → are_distinct (map (λ (t : TrackTree). (track_head_of t).id) tracks) ≡ true → IsIn tracks u
-    → AllByRecursion (λ (i : TrackInfo). i.id ≡ (track_head_of u).id → i.descriptions ≡ length u.descriptions) (map info tracks)
+    → AllByRecursion (λ (i : TrackFacts). i.id ≡ (track_head_of u).id → i.descriptions ≡ length u.descriptions) (map info tracks)
 own_info tracks u d i =
-    each_value (λ (t : TrackTree). (track_head_of t).id ≡ (track_head_of u).id → t ≡ u) (λ (x : TrackInfo). x.id ≡ (track_head_of u).id → x.descriptions ≡ length u.descriptions) info
+    each_value (λ (t : TrackTree). (track_head_of t).id ≡ (track_head_of u).id → t ≡ u) (λ (x : TrackFacts). x.id ≡ (track_head_of u).id → x.descriptions ≡ length u.descriptions) info
     (λ t h e. ap (λ (v : TrackTree). length v.descriptions) (h e)) tracks
     (each_member (λ (t : TrackTree). (track_head_of t).id ≡ (track_head_of u).id → t ≡ u) tracks (λ t j e. distinct_same (λ (v : TrackTree). (track_head_of v).id) tracks t u d j i e))
 
@@ -129,7 +129,7 @@ not_none : (d : ℕ) → IsTrue (is_index 0 d) → ⊥
 not_none d h = let p = and_parts (leb 1 d) (leb d 0) h in let low = leb-true 1 d p.0 in let high = leb-true d 0 p.1 in omega arith
 
 -- an index of the track that is found
-index_of : (o : Option TrackInfo) (n d : ℕ) → ((i : TrackInfo) → o ≡ Some i → i.descriptions ≡ n) → IsTrue (is_index (unwrap_or (option_map (λ (t : TrackInfo). t.descriptions) o) 0) d) → IsTrue (is_index n d)
+index_of : (o : Option TrackFacts) (n d : ℕ) → ((i : TrackFacts) → o ≡ Some i → i.descriptions ≡ n) → IsTrue (is_index (unwrap_or (option_map (λ (t : TrackFacts). t.descriptions) o) 0) d) → IsTrue (is_index n d)
 index_of None n d h k = absurd (not_none d k)
 index_of (Some i) n d h k = subst (λ (m : ℕ). IsTrue (is_index m d)) (h i refl) k
 
@@ -139,9 +139,9 @@ pub part_indexed : (m : MovieTree) (u : TrackTree) (part : Part) → are_distinc
 part_indexed m u part d i e h =
     let id = eqb-true part.id (track_head_of u).id e in
     let infos = own_info m.tracks u d i in
-    let says : (x : TrackInfo) → track_for (track_infos m) part.id ≡ Some x → x.descriptions ≡ length u.descriptions =
-    λ x f. (let r = found_has (λ (y : TrackInfo). y.id ≡ (track_head_of u).id → y.descriptions ≡ length u.descriptions) (λ (y : TrackInfo). eqb y.id part.id) (track_infos m) x infos f in r.0 (eqb-true x.id part.id r.1 ∙ id)) in
-    each_weaker (λ (s : PlacedSample). IsTrue (is_index (unwrap_or (option_map (λ (t : TrackInfo). t.descriptions) (track_for (track_infos m) part.id)) 0) s.description)) (λ (s : PlacedSample). IsTrue (is_index (length u.descriptions) s.description))
+    let says : (x : TrackFacts) → track_for (track_infos m) part.id ≡ Some x → x.descriptions ≡ length u.descriptions =
+    λ x f. (let r = found_has (λ (y : TrackFacts). y.id ≡ (track_head_of u).id → y.descriptions ≡ length u.descriptions) (λ (y : TrackFacts). eqb y.id part.id) (track_infos m) x infos f in r.0 (eqb-true x.id part.id r.1 ∙ id)) in
+    each_weaker (λ (s : PlacedSample). IsTrue (is_index (unwrap_or (option_map (λ (t : TrackFacts). t.descriptions) (track_for (track_infos m) part.id)) 0) s.description)) (λ (s : PlacedSample). IsTrue (is_index (length u.descriptions) s.description))
     (λ s k. index_of (track_for (track_infos m) part.id) (length u.descriptions) s.description says k) (part_samples part) (each_tested _ (part_samples part) h)
 
 -- ---- keys and starts

@@ -24,8 +24,8 @@ use Rattle.mp4_present.specs.words.Passing.{parts_behind}
 use Rattle.mp4_present.specs.words.SamplesComing.{track_keys, track_samples, due_behind, samples_behind, own_trafs, StandsBefore, HoldsLast}
 use Rattle.mp4_present.specs.declared.track_info.TrackInfo.{TrackInfo}
 use Rattle.mp4_present.specs.declared.movie.TrackTables.{TrackTables}
-use Rattle.mp4_present.specs.declared.walks.Due.{Due}
-use Rattle.mp4_present.specs.declared.walks.Walk.{Walk}
+use Rattle.mp4_present.specs.declared.walking.Due.{Due}
+use Rattle.mp4_present.specs.declared.walking.Walk.{Walk}
 use Rattle.mp4_present.proofs.OwnPlaced.{all_placed}
 use Rattle.mp4_present.proofs.KeysExtended.{HaveNone, grouped_within, timed_with}
 use Rattle.mp4_present.proofs.TrafTaken.{zipped_at, seen_at, tables_in_time}

@@ -19,7 +19,7 @@ pub(crate) struct FileWindow {
 impl FileWindow {
     ghost use Rattle.std.specs.Prelude.{◌≡◌, ◌+◌, ◌<◌, ◌≤◌, ℕ, List, length, IfOk, IsTrue};
     ghost use Rattle.mp4_store.specs.words.Device.{range};
-    ghost use Rattle.mp4_present.specs.words.OverStores.{OnlyReads, WhereHonest, Refused};
+    ghost use Rattle.mp4_present.specs.words.StoresRead.{OnlyReads, WhereHonest, Refused};
     ghost use Rattle.mp4_present.specs.words.Reading.{RefusesFront};
     ghost use Rattle.mp4_present.specs.words.Windows.{Shows, DoesShow};
 

@@ -16,7 +16,7 @@ use Rattle.mp4_boxes.specs.format.FirstFault.{Test, first_failed, naming, leaf_t
 use Rattle.mp4_tables.specs.format.TableRules.{TableRule}
 use Rattle.mp4_tables.specs.words.Leaves.{boxes_of, tables_in, surroundings_of, AllOf, IsFirstOf}
 use Rattle.mp4_tables.specs.declared.leaves.Limits.{Limits}
-use Rattle.mp4_tables.specs.format.FirstFault.{rule_tests}
+use Rattle.mp4_tables.specs.format.FirstFault.{table_rule_tests}
 use Rattle.mp4_tables.specs.words.RowTests.{row_tests, tests_of}
 use Rattle.mp4_boxes.proofs.Among.{count-append}
 use Rattle.mp4_tables.proofs.ChunkLists.{yes_le}
@@ -60,7 +60,7 @@ found_either kinds kind leaf stbl b i among one l =
     record { found = ap (find (λ (x : Box). is_among kinds x.kind)) i.is ∙ find_among kinds i.before i.after b is none; read = ap (leaf_of (ruled SampleTable)) same ∙ l }
 
 -- the tests of the first of these types are those of the leaf
-pub first_tests : (kinds : List (List ℕ)) (leaf : Leaf) (rules : List TableRule) (l : Limits) (stbl b : Box) → Found kinds stbl b leaf → tests_of kinds rules l stbl ≡ naming b (leaf_tests_with leaf (rule_tests (surroundings_of l) (tables_in stbl) rules) b.payload)
+pub first_tests : (kinds : List (List ℕ)) (leaf : Leaf) (rules : List TableRule) (l : Limits) (stbl b : Box) → Found kinds stbl b leaf → tests_of kinds rules l stbl ≡ naming b (leaf_tests_with leaf (table_rule_tests (surroundings_of l) (tables_in stbl) rules) b.payload)
 first_tests kinds leaf rules l stbl b f =
     let found = f.found in
     let read = f.read in
@@ -105,10 +105,10 @@ shape_goes leaf rules last width b v k n e = (λ i. leaf_by (v i) (k i) (n i) le
 module _ (kinds : List (List ℕ)) (leaf : Leaf) (rules : List TableRule) (last width : ℕ) (l : Limits) (stbl b : Box) (found : Found kinds stbl b leaf) (v : knows_version leaf b.payload ≡ nat_le (version b.payload) last) (k : knows_flags leaf b.payload ≡ true) (n : needed leaf b.payload
     ≡ 8 + width * field b.payload 4 4) where
   pub rows_stop : (f : Fault) → first_failed (naming b (row_tests last width b.payload)) ≡ Some f → first_failed (tests_of kinds rules l stbl) ≡ Some f
-  rows_stop f e = ap first_failed (first_tests kinds leaf rules l stbl b found) ∙ shape_stops leaf (rule_tests (surroundings_of l) (tables_in stbl) rules) last width b f v k n e
+  rows_stop f e = ap first_failed (first_tests kinds leaf rules l stbl b found) ∙ shape_stops leaf (table_rule_tests (surroundings_of l) (tables_in stbl) rules) last width b f v k n e
 
-  pub rows_go : (o : Option Fault) → first_failed (naming b (row_tests last width b.payload)) ≡ None → first_failed (behind leaf (rule_tests (surroundings_of l) (tables_in stbl) rules) b) ≡ o → first_failed (tests_of kinds rules l stbl) ≡ o
-  rows_go o e r = ap first_failed (first_tests kinds leaf rules l stbl b found) ∙ shape_goes leaf (rule_tests (surroundings_of l) (tables_in stbl) rules) last width b v k n e ∙ r
+  pub rows_go : (o : Option Fault) → first_failed (naming b (row_tests last width b.payload)) ≡ None → first_failed (behind leaf (table_rule_tests (surroundings_of l) (tables_in stbl) rules) b) ≡ o → first_failed (tests_of kinds rules l stbl) ≡ o
+  rows_go o e r = ap first_failed (first_tests kinds leaf rules l stbl b found) ∙ shape_goes leaf (table_rule_tests (surroundings_of l) (tables_in stbl) rules) last width b v k n e ∙ r
 
 -- ---- a table that can be read
 
@@ -116,11 +116,11 @@ goes_four : (a v k n : Bool) (x y z w : Fault) (more : List (Test Fault)) → a 
 goes_four a v k n x y z w more p q r s = rw (p, q, r, s) refl
 
 pub readable_goes : (kinds : List (List ℕ)) (leaf : Leaf) (rules : List TableRule) (l : Limits) (stbl b : Box) (o : Option Fault) → Found kinds stbl b leaf → 4 ≤ length b.payload → IsReadable leaf b.payload
-    → first_failed (behind leaf (rule_tests (surroundings_of l) (tables_in stbl) rules) b) ≡ o → first_failed (tests_of kinds rules l stbl) ≡ o
+    → first_failed (behind leaf (table_rule_tests (surroundings_of l) (tables_in stbl) rules) b) ≡ o → first_failed (tests_of kinds rules l stbl) ≡ o
 readable_goes kinds leaf rules l stbl b o found long read e =
     ap first_failed (first_tests kinds leaf rules l stbl b found)
     ∙ goes_four (nat_le 4 (length b.payload)) (knows_version leaf b.payload) (knows_flags leaf b.payload) (nat_le (needed leaf b.payload) (length b.payload)) (fault_of ShortBox b) (fault_of BadVersion b) (fault_of BadFlags b) (fault_of ShortBox b)
-    (behind leaf (rule_tests (surroundings_of l) (tables_in stbl) rules) b) (yes_le 4 (length b.payload) long) read.version read.flags (yes_le (needed leaf b.payload) (length b.payload) read.room)
+    (behind leaf (table_rule_tests (surroundings_of l) (tables_in stbl) rules) b) (yes_le 4 (length b.payload) long) read.version read.flags (yes_le (needed leaf b.payload) (length b.payload) read.room)
     ∙ e
 
 -- what holds of all holds of one

@@ -1,5 +1,5 @@
 -- Indexes of samples to come, key by key.
-use Rattle.std.proofs.Common.{◌≡◌, ℕ, zero, suc, ◌+◌, ◌<◌, ◌≤◌, ◌∷◌, List, [], length, drop, map, slice_index, slice_index_or, refl, ap, sym, subst, ◌∙◌, arith}
+use Rattle.std.proofs.Common.{◌≡◌, ℕ, zero, suc, ◌+◌, ◌<◌, ◌≤◌, ◌∷◌, List, [], length, drop, map, slice_index, slice_index_or, refl, ap, sym, subst, ◌∙◌, arith, Bool, false}
 use Rattle.std.specs.Prelude.{slice_set}
 use Rattle.std.specs.List.{AllByRecursion, AllZip}
 use Rattle.mp4_boxes.specs.format.Bytes.{sum_of}
@@ -90,37 +90,38 @@ four (a ∷ b ∷ c ∷ e ∷ []) d h = refl
 four (a ∷ b ∷ c ∷ e ∷ f ∷ xs) d h = absurd (omega (arith, h))
 
 pub none_placed_yet : (payload : List ℕ) → AreIndexPlaces payload (record { by_key = record { place = 0; count = 0 } ∷ record { place = 0; count = 0 } ∷ record { place = 0; count = 0 } ∷ record { place = 0; count = 0 } ∷ [] })
-    (record { by_key = record { row = 0; left = 0; value = 0 } ∷ record { row = 0; left = 0; value = 0 } ∷ record { row = 0; left = 0; value = 0 } ∷ record { row = 0; left = 0; value = 0 } ∷ [] })
-none_placed_yet payload = record { each = (none_placed payload, (none_placed payload, (none_placed payload, (none_placed payload, tt)))) }
+    (record { by_key = record { row = 0; left = 0; value = 0 } ∷ record { row = 0; left = 0; value = 0 } ∷ record { row = 0; left = 0; value = 0 } ∷ record { row = 0; left = 0; value = 0 } ∷ []; are_left = false })
+none_placed_yet payload = record { each = (none_placed payload, (none_placed payload, (none_placed payload, (none_placed payload, tt)))); over = λ e. (refl, (refl, (refl, (refl, tt)))) }
 
 pub none_coming : (payload : List ℕ) → indexes_coming payload (record { by_key = record { place = 0; count = 0 } ∷ record { place = 0; count = 0 } ∷ record { place = 0; count = 0 } ∷ record { place = 0; count = 0 } ∷ [] })
-    (record { by_key = record { row = 0; left = 0; value = 0 } ∷ record { row = 0; left = 0; value = 0 } ∷ record { row = 0; left = 0; value = 0 } ∷ record { row = 0; left = 0; value = 0 } ∷ [] }) ≡ [] ∷ [] ∷ [] ∷ [] ∷ []
+    (record { by_key = record { row = 0; left = 0; value = 0 } ∷ record { row = 0; left = 0; value = 0 } ∷ record { row = 0; left = 0; value = 0 } ∷ record { row = 0; left = 0; value = 0 } ∷ []; are_left = false }) ≡ [] ∷ [] ∷ [] ∷ [] ∷ []
 unfolding indexes_coming
 none_coming payload = let e = none_left payload in rw e refl
 
-pub opened_places : (payload : List ℕ) (rows : IndexRows) (places : IndexPlaces) (j : ℕ) (r : RowsAt) (p : RunPlace) → AreIndexPlaces payload rows places → IsIndexPlace payload r p
-    → AreIndexPlaces payload (record { by_key = slice_set rows.by_key j r }) (record { by_key = slice_set places.by_key j p })
-opened_places payload rows places j r p h own = record { each = placed_set payload rows.by_key places.by_key j r p h.each own }
+pub opened_places : (payload : List ℕ) (rows : IndexRows) (places : IndexPlaces) (j : ℕ) (r : RowsAt) (p : RunPlace) (left : Bool) → AreIndexPlaces payload rows places → IsIndexPlace payload r p
+    → (left ≡ false → AllByRecursion (λ (q : RunPlace). q.left ≡ 0) (slice_set places.by_key j p))
+    → AreIndexPlaces payload (record { by_key = slice_set rows.by_key j r }) (record { by_key = slice_set places.by_key j p; are_left = left })
+opened_places payload rows places j r p left h own over = record { each = placed_set payload rows.by_key places.by_key j r p h.each own; over = over }
 
-pub opened_coming : (payload : List ℕ) (rows : IndexRows) (places : IndexPlaces) (j k : ℕ) (r : RowsAt) (p : RunPlace) (indexes : List ℕ) → j ≡ k → indexes_left payload r p ≡ indexes
-    → indexes_coming payload (record { by_key = slice_set rows.by_key j r }) (record { by_key = slice_set places.by_key j p }) ≡ slice_set (indexes_coming payload rows places) k indexes
+pub opened_coming : (payload : List ℕ) (rows : IndexRows) (places : IndexPlaces) (j k : ℕ) (r : RowsAt) (p : RunPlace) (left : Bool) (indexes : List ℕ) → j ≡ k → indexes_left payload r p ≡ indexes
+    → indexes_coming payload (record { by_key = slice_set rows.by_key j r }) (record { by_key = slice_set places.by_key j p; are_left = left }) ≡ slice_set (indexes_coming payload rows places) k indexes
 unfolding indexes_coming
-opened_coming payload rows places j k r p indexes same e = each_set payload rows.by_key places.by_key j r p ∙ ap (slice_set (each_left payload rows.by_key places.by_key) j) e
+opened_coming payload rows places j k r p left indexes same e = each_set payload rows.by_key places.by_key j r p ∙ ap (slice_set (each_left payload rows.by_key places.by_key) j) e
     ∙ ap (λ n. slice_set (each_left payload rows.by_key places.by_key) n indexes) same
 
-pub over_next : (payload : List ℕ) (rows : IndexRows) (places : IndexPlaces) → AreIndexPlaces payload rows places → AllByRecursion (λ (p : RunPlace). p.left ≡ 0) places.by_key
+pub over_next : (payload : List ℕ) (rows : IndexRows) (places : IndexPlaces) → AreIndexPlaces payload rows places → places.are_left ≡ false
     → indexes_coming payload rows places ≡ map (drop 1) (indexes_coming payload rows places)
 unfolding indexes_coming
-over_next payload rows places h over = ended_next payload rows.by_key places.by_key h.each over
+over_next payload rows places h over = ended_next payload rows.by_key places.by_key h.each (h.over over)
 
 -- what an index is in hand of a key
 abbrev pub IsHere : RunPlace → ℕ → Type 0
 IsHere p x = (payload : List ℕ) (r : RowsAt) → IsIndexPlace payload r p → x ≡ slice_index (indexes_left payload r p) 0
 
-pub over_here : (payload : List ℕ) (rows : IndexRows) (places : IndexPlaces) → length places.by_key ≡ 4 → AreIndexPlaces payload rows places → AllByRecursion (λ (p : RunPlace). p.left ≡ 0) places.by_key
+pub over_here : (payload : List ℕ) (rows : IndexRows) (places : IndexPlaces) → length places.by_key ≡ 4 → AreIndexPlaces payload rows places → places.are_left ≡ false
     → ◌≡◌ {A = List ℕ} (0 ∷ 0 ∷ 0 ∷ 0 ∷ []) (map (λ (indexes : List ℕ). slice_index indexes 0) (indexes_coming payload rows places))
 unfolding indexes_coming
-over_here payload rows places n h over = zeros places.by_key n ∙ all_here payload rows.by_key places.by_key (map (λ _. 0) places.by_key) h.each (none_here places.by_key over)
+over_here payload rows places n h over = zeros places.by_key n ∙ all_here payload rows.by_key places.by_key (map (λ _. 0) places.by_key) h.each (none_here places.by_key (h.over over))
   where
     zeros : (ps : List RunPlace) → length ps ≡ 4 → ◌≡◌ {A = List ℕ} (0 ∷ 0 ∷ 0 ∷ 0 ∷ []) (map (λ _. 0) ps)
     zeros ps n = ap (map (λ _. 0)) (sym (four ps (record { row = 0; left = 0; value = 0 }) n))
@@ -141,24 +142,24 @@ four_here payload rows places d a b c e n h p q r s = all_here payload rows.by_k
 abbrev pub IsBehind : List ℕ → RowsAt → RunPlace → RunPlace → Type 0
 IsBehind payload r p q = indexes_left payload r q ≡ drop 1 (indexes_left payload r p)
 
-pub four_passed : (payload : List ℕ) (rows : IndexRows) (places : IndexPlaces) (d : RowsAt) (f : RunPlace) (a b c e : RunPlace) → length rows.by_key ≡ 4 → length places.by_key ≡ 4
+pub four_passed : (payload : List ℕ) (rows : IndexRows) (places : IndexPlaces) (d : RowsAt) (f : RunPlace) (a b c e : RunPlace) (left : Bool) → length rows.by_key ≡ 4 → length places.by_key ≡ 4
     → IsBehind payload (slice_index_or rows.by_key 0 d) (slice_index_or places.by_key 0 f) a → IsBehind payload (slice_index_or rows.by_key 1 d) (slice_index_or places.by_key 1 f) b
     → IsBehind payload (slice_index_or rows.by_key 2 d) (slice_index_or places.by_key 2 f) c → IsBehind payload (slice_index_or rows.by_key 3 d) (slice_index_or places.by_key 3 f) e
-    → indexes_coming payload rows (record { by_key = a ∷ b ∷ c ∷ e ∷ [] }) ≡ map (drop 1) (indexes_coming payload rows places)
+    → indexes_coming payload rows (record { by_key = a ∷ b ∷ c ∷ e ∷ []; are_left = left }) ≡ map (drop 1) (indexes_coming payload rows places)
 unfolding indexes_coming
-four_passed payload rows places d f a b c e m n p q r s =
+four_passed payload rows places d f a b c e left m n p q r s =
     subst (λ rs. each_left payload rs (a ∷ b ∷ c ∷ e ∷ []) ≡ map (drop 1) (each_left payload rs places.by_key)) (sym (four rows.by_key d m))
     (subst (λ ps. each_left payload (slice_index_or rows.by_key 0 d ∷ slice_index_or rows.by_key 1 d ∷ slice_index_or rows.by_key 2 d ∷ slice_index_or rows.by_key 3 d ∷ []) (a ∷ b ∷ c ∷ e ∷ [])
     ≡ map (drop 1) (each_left payload (slice_index_or rows.by_key 0 d ∷ slice_index_or rows.by_key 1 d ∷ slice_index_or rows.by_key 2 d ∷ slice_index_or rows.by_key 3 d ∷ []) ps))
     (sym (four places.by_key f n)) (rw (p, q, r, s) refl))
 
 -- before the first index of each key
-pub four_first : (payload : List ℕ) (rows : IndexRows) (d : RowsAt) (a b c e : RunPlace) → length rows.by_key ≡ 4
+pub four_first : (payload : List ℕ) (rows : IndexRows) (d : RowsAt) (a b c e : RunPlace) (left : Bool) → length rows.by_key ≡ 4
     → indexes_left payload (slice_index_or rows.by_key 0 d) a ≡ indexes_in payload (slice_index_or rows.by_key 0 d) → indexes_left payload (slice_index_or rows.by_key 1 d) b ≡ indexes_in payload (slice_index_or rows.by_key 1 d)
     → indexes_left payload (slice_index_or rows.by_key 2 d) c ≡ indexes_in payload (slice_index_or rows.by_key 2 d) → indexes_left payload (slice_index_or rows.by_key 3 d) e ≡ indexes_in payload (slice_index_or rows.by_key 3 d)
-    → indexes_coming payload rows (record { by_key = a ∷ b ∷ c ∷ e ∷ [] }) ≡ map (indexes_in payload) rows.by_key
+    → indexes_coming payload rows (record { by_key = a ∷ b ∷ c ∷ e ∷ []; are_left = left }) ≡ map (indexes_in payload) rows.by_key
 unfolding indexes_coming
-four_first payload rows d a b c e n p q r s = subst (λ rs. each_left payload rs (a ∷ b ∷ c ∷ e ∷ []) ≡ map (indexes_in payload) rs) (sym (four rows.by_key d n)) (rw (p, q, r, s) refl)
+four_first payload rows d a b c e left n p q r s = subst (λ rs. each_left payload rs (a ∷ b ∷ c ∷ e ∷ []) ≡ map (indexes_in payload) rs) (sym (four rows.by_key d n)) (rw (p, q, r, s) refl)
 
 -- no more rows were passed than there are
 rows_within : (payload : List ℕ) (rows : List RowsAt) (places : List RunPlace) → AllZip (IsIndexPlace payload) rows places → rows_before places ≤ sum_of (λ (r : RowsAt). r.count) rows

@@ -24,6 +24,7 @@ pub mod ChunkLists
 pub mod RunLists
 pub mod IndexesLeft
 pub mod GroupsHere
+pub mod NonSyncPassed
 pub mod NamedKeys
 pub mod GroupMaps
 pub mod Placed

@@ -23,6 +23,10 @@ use Rattle.mp4_tables.specs.declared.places.ChunkPlace.{ChunkPlace}
 use Rattle.mp4_tables.specs.declared.places.SyncPlace.{SyncPlace}
 use Rattle.mp4_tables.specs.declared.indexes.IndexPlaces.{IndexPlaces}
 use Rattle.mp4_tables.specs.declared.places.TablePlace.{TablePlace}
+use Rattle.mp4_tables.specs.declared.sample.SampleAt.{SampleAt}
+use Rattle.std.specs.List.{slice_get}
+use Rattle.std.proofs.Common.{inl, inr}
+use Rattle.std.proofs.lemmas.Bool.{cases_lt}
 use Rattle.mp4_tables.proofs.Counts.{eqb_is, leb_is, repeated_length, plain_length}
 use Rattle.mp4_tables.proofs.RowLists.{runs_length, sizes_length, numbers_length, chunk_rows_length}
 use Rattle.mp4_tables.proofs.ChunkLists.{yes_lt, both}
@@ -325,3 +329,26 @@ samples_left payload at k ok = let n = all_samples payload at ok in omega (arith
 
 pub none_left : (payload : List ℕ) (at : TablesAt) (k : ℕ) → IsAccepted payload at → at.sizes.rows.count ≤ k → drop k (samples_of (tables_at payload at)) ≡ []
 none_left payload at k ok h = let n = all_samples payload at ok in let m = count_is payload at in drop_all k (samples_of (tables_at payload at)) (omega arith)
+
+-- a sample is to come, so there is one
+pub some_left : (payload : List ℕ) (at : TablesAt) (k : ℕ) (s : SampleAt) → IsAccepted payload at → slice_get (drop k (samples_of (tables_at payload at))) 0 ≡ Some s → k < at.sizes.rows.count
+some_left payload at k s ok e = elim (cases_lt k at.sizes.rows.count) [
+  | inl inside ↦ inside
+  | inr behind ↦ absurd (not_first (sym e ∙ ap (λ (l : List SampleAt). slice_get l 0) (none_left payload at k ok behind)))
+]
+  where
+    not_first : {s : SampleAt} → Some s ≡ None → ⊥
+    not_first e = cc
+
+-- the next sample has the size that stands in the table
+pub size_here : (payload : List ℕ) (at : TablesAt) (p : TablePlace) (s : SampleAt) → IsAccepted payload at → IsPlace payload at p → slice_get (drop p.number (samples_of (tables_at payload at))) 0 ≡ Some s
+    → s.size ≡ slice_index (sizes_at payload at.sizes) p.number
+size_here payload at p s ok is e =
+    let size = slice_index (sizes_at payload at.sizes) p.number in
+    let h = some_left payload at p.number s ok e in
+    let first = timed_more (tables_at payload at) (keys_here payload at) p.number p.dts (placed_here payload at p size) is.time (plain_here payload at p size ok is h refl) in
+    same_first _ _ _ s first e
+  where
+    same_first : (xs ys : List SampleAt) (x s : SampleAt) → xs ≡ x ∷ ys → slice_get xs 0 ≡ Some s → s.size ≡ x.size
+    same_first [] ys x s e f = cc
+    same_first (y ∷ xs) ys x s e f = cc

@@ -8,5 +8,6 @@ pub mod Leaves
 pub mod ChunkPlaces
 pub mod Indexes
 pub mod GroupBoxes
+pub mod Next
 pub mod Stops
 pub mod RowTests

@@ -10,7 +10,7 @@ ghost use Rattle.mp4_tables.specs.words.TablesComing.{are_described as described
 
 use crate::places::{ChunkPlace, ChunksAt, RowPlace, RowsAt};
 use crate::table_rows::{chunk_row_at, offset_at};
-use mp4_boxes::Steps;
+use mp4_boxes::{Steps, Ticket};
 use std::sync::ledger::Ledger;
 
 // Before the first row.
@@ -27,7 +27,13 @@ pub(crate) fn no_row() -> RowPlace
 
 // Goes on to the row of the next chunk, where `opened` chunks were opened.
 #[inline]
-pub(crate) fn next_row(payload: &[u8], rows: RowsAt, opened: u32, place: RowPlace) -> RowPlace
+pub(crate) fn next_row(
+    ticket: Ticket,
+    payload: &[u8],
+    rows: RowsAt,
+    opened: u32,
+    place: RowPlace,
+) -> RowPlace
     requires room { HaveRoom 12 payload.now rows }
     requires at { IsRowPlace (chunk_rows_at payload.now rows) opened place }
     requires within { place.row ≤ rows.count }
@@ -36,7 +42,7 @@ pub(crate) fn next_row(payload: &[u8], rows: RowsAt, opened: u32, place: RowPlac
     ensures on { place.row ≤ result.row }
 {
     if place.row < rows.count {
-        let row = chunk_row_at(payload, rows, place.row);
+        let row = chunk_row_at(ticket, payload, rows, place.row);
         if u64::from(row.first) <= u64::from(opened) + 1 {
             return RowPlace {
                 row: place.row + 1,
@@ -70,14 +76,12 @@ pub(crate) fn are_ordered<L: Ledger>(
     if rows.count == 0 {
         return !has_chunks;
     }
-    steps.tick();
-    let mut last = chunk_row_at(payload, rows, 0).first;
+    let mut last = chunk_row_at(steps.tick(), payload, rows, 0).first;
     if has_chunks && last != 1 {
         return false;
     }
     for k in 1..rows.count {
-        steps.tick();
-        let first = chunk_row_at(payload, rows, k).first;
+        let first = chunk_row_at(steps.tick(), payload, rows, k).first;
         if first <= last {
             return false;
         }
@@ -112,8 +116,8 @@ pub(crate) fn chunk_counts_are<L: Ledger>(
     let mut place = no_row();
     let mut total: u64 = 0;
     for opened in 0..chunks.rows.count {
-        steps.add(2);
-        place = next_row(payload, rows, opened, place);
+        steps.add(1);
+        place = next_row(steps.tick(), payload, rows, opened, place);
         total += u64::from(place.samples);
         if total > u64::from(n) {
             return false;
@@ -151,8 +155,8 @@ pub(crate) fn are_described<L: Ledger>(
 {
     let mut place = no_row();
     for opened in 0..chunks.rows.count {
-        steps.add(2);
-        place = next_row(payload, rows, opened, place);
+        steps.add(1);
+        place = next_row(steps.tick(), payload, rows, opened, place);
         if !has_description(place, descriptions) {
             return false;
         }
@@ -181,12 +185,12 @@ pub(crate) fn open_chunk(payload: &[u8], rows: &RowsAt, chunks: &ChunksAt, place
 {
     while place.left == 0 && place.opened < chunks.rows.count {
         let opened = place.opened;
-        let row = next_row(payload, *rows, opened, place.row);
+        let row = next_row(Ticket::of_place(), payload, *rows, opened, place.row);
         *place = ChunkPlace {
             opened: opened + 1,
             row,
             left: row.samples,
-            at: offset_at(payload, *chunks, opened),
+            at: offset_at(Ticket::of_place(), payload, *chunks, opened),
         };
     }
 }

@@ -1,7 +1,7 @@
 //! A walk over the samples of tables, one by one.
 use crate::places::{TablePlace, TablesAt};
 use crate::sample::{SampleAt, Samples};
-use crate::table_samples::{first_place, pass_place, sample_here};
+use crate::table_samples::{first_place, pass_non_sync, pass_place, sample_here};
 use crate::tables::Tables;
 use std::marker::Model;
 
@@ -91,11 +91,20 @@ impl<'a> Samples for TableCursor<'a> {
     fn next(&mut self) -> Option<SampleAt> {
         if self.place.number < self.at.sizes.rows.count {
             let sample = sample_here(self.payload, &self.at, &self.place);
-            pass_place(self.payload, &self.at, &mut self.place);
+            pass_place(self.payload, &self.at, &mut self.place, sample.size);
             Some(sample)
         } else {
             None
         }
+    }
+
+    #[inline(always)]
+    fn pass(&mut self, sample: &SampleAt) {
+        pass_place(self.payload, &self.at, &mut self.place, sample.size);
+    }
+
+    fn pass_non_sync(&mut self, description: u32, most: u32) -> u32 {
+        pass_non_sync(self.payload, &self.at, &mut self.place, description, most)
     }
 
     ghost follows_itself = { λ s. (refl, le_refl _) };

@@ -52,8 +52,8 @@ pub(crate) fn lie_within<L: Ledger>(
     steps.add(2 * u64::from(chunks.rows.count));
     let mut place = first_chunk(payload, rows, chunks);
     for i in 0..sizes.rows.count {
-        steps.add(2);
-        let size = size_at(payload, sizes, i);
+        steps.add(1);
+        let size = size_at(steps.tick(), payload, sizes, i);
         if !lies(place.at, size, file_len) {
             return false;
         }

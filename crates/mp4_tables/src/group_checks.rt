@@ -13,7 +13,7 @@ use crate::indexes::{IndexRows, NO_ROWS};
 use crate::keys::{GroupKey, Keys};
 use crate::leaves::{Limits, children_of, place_in, version_of};
 use crate::places::{GroupsAt, RowsAt};
-use crate::runs::{are_below, counts_are_within};
+use crate::stts_rows::{are_below, counts_are_within};
 use mp4_boxes::{BoxView, Fault, FourCc, Kind, Steps};
 use std::sync::ledger::Ledger;
 

@@ -1,12 +1,14 @@
 //! The indexes of samples in the `sbgp` of each key of a track (ISO/IEC 14496-12, 8.9.2).
-ghost use Rattle.std.specs.Prelude.{ℕ, List, ◌≡◌, ◌+◌, ◌*◌, ◌≤◌, [], ◌∷◌, length, min, map, drop, slice_index, slice_set};
+ghost use Rattle.std.specs.Prelude.{ℕ, List, ◌≡◌, ◌+◌, ◌*◌, ◌≤◌, [], ◌∷◌, length, min, map, drop, slice_index, slice_set, false};
+ghost use Rattle.std.specs.List.{AllByRecursion};
+ghost use Rattle.mp4_tables.specs.declared.places.RunPlace.{RunPlace};
 ghost use Rattle.mp4_tables.specs.format.Repeated.{repeated};
 ghost use Rattle.mp4_tables.specs.declared.places.RowsAt.{RowsAt};
 ghost use Rattle.mp4_tables.specs.words.Rows.{HaveRoom, runs_at};
 ghost use Rattle.mp4_tables.specs.words.Indexes.{IsIndexPlace, AreIndexPlaces, indexes_left, indexes_in, indexes_coming, low_half};
 
 use crate::places::{RowsAt, RunPlace, rows};
-use crate::runs::{BEFORE_ROWS, pass, settle};
+use crate::stts_rows::{BEFORE_ROWS, pass, settle};
 
 /// Where the rows of the `sbgp` of each key of a track lie in a payload: by the places of the keys.
 #[derive(Clone, Copy)]
@@ -18,6 +20,9 @@ pub struct IndexRows {
 #[derive(Clone, Copy)]
 pub struct IndexPlaces {
     by_key: [RunPlace; 4],
+    /// Whether an index is left in hand: none is where there are no `sbgp`s, and behind their last
+    /// rows.
+    are_left: bool,
 }
 
 pub(crate) const NO_ROWS: RowsAt = RowsAt { place: 0, count: 0 };
@@ -33,8 +38,17 @@ pub fn no_indexes() -> (IndexRows, IndexPlaces)
     };
     let places = IndexPlaces {
         by_key: [BEFORE_ROWS, BEFORE_ROWS, BEFORE_ROWS, BEFORE_ROWS],
+        are_left: false,
     };
     (rows, places)
+}
+
+// Whether a value is left at one of the places.
+#[inline]
+fn are_left(places: &[RunPlace; 4]) -> bool
+    ensures { result ≡ false → AllByRecursion (λ (p : RunPlace). p.left ≡ 0) places.now }
+{
+    places[0].left > 0 || places[1].left > 0 || places[2].left > 0 || places[3].left > 0
 }
 
 // Before the first index of the rows.
@@ -68,6 +82,7 @@ pub fn open_rows(
     let key = usize::from(j.min(3));
     rows.by_key[key] = own;
     places.by_key[key] = first_index(payload, own);
+    places.are_left = are_left(&places.by_key);
 }
 
 // The index in hand: 0 behind the last row.
@@ -100,7 +115,7 @@ fn index_passed(payload: &[u8], rows: RowsAt, place: RunPlace) -> RunPlace
 }
 
 impl IndexPlaces {
-    ghost use Rattle.std.specs.Prelude.{ℕ, List, ◌≡◌, ◌≤◌, ◌<◌, ◌^◌, map, drop, slice_index, IsTrue};
+    ghost use Rattle.std.specs.Prelude.{ℕ, List, ◌≡◌, ◌≤◌, ◌<◌, ◌^◌, map, drop, slice_index, false, IsTrue};
     ghost use Rattle.std.specs.List.{AllByRecursion};
     ghost use Rattle.mp4_tables.specs.words.Rows.{HaveRoom, runs_at};
     ghost use Rattle.mp4_tables.specs.words.Indexes.{AreIndexPlaces, indexes_coming, indexes_in, rows_passed};
@@ -114,25 +129,24 @@ impl IndexPlaces {
         ensures all { indexes_coming payload.now rows.now result
             ≡ map (indexes_in payload.now) rows.now.by_key }
     {
+        let by_key = [
+            first_index(payload, rows.by_key[0]),
+            first_index(payload, rows.by_key[1]),
+            first_index(payload, rows.by_key[2]),
+            first_index(payload, rows.by_key[3]),
+        ];
         IndexPlaces {
-            by_key: [
-                first_index(payload, rows.by_key[0]),
-                first_index(payload, rows.by_key[1]),
-                first_index(payload, rows.by_key[2]),
-                first_index(payload, rows.by_key[3]),
-            ],
+            by_key,
+            are_left: are_left(&by_key),
         }
     }
 
-    // Whether no index is left in hand: where there are no `sbgp`s, and behind their last rows.
+    /// Whether no index is left in hand: then none is to come.
     #[inline(always)]
-    fn are_over(&self) -> bool
-        ensures { IsTrue result → AllByRecursion (λ (p : RunPlace). p.left ≡ 0) self.now.by_key }
+    pub fn are_over(&self) -> bool
+        ensures { IsTrue result → self.now.are_left ≡ false }
     {
-        self.by_key[0].left == 0
-            && self.by_key[1].left == 0
-            && self.by_key[2].left == 0
-            && self.by_key[3].left == 0
+        !self.are_left
     }
 
     /// The index in hand of each key, 0 for none.
@@ -169,6 +183,7 @@ impl IndexPlaces {
             index_passed(payload, rows.by_key[2], self.by_key[2]),
             index_passed(payload, rows.by_key[3], self.by_key[3]),
         ];
+        self.are_left = are_left(&self.by_key);
     }
 
     /// Passes a sample in each: behind the last row there is nothing to pass.

@@ -1,5 +1,6 @@
 //! Samples, and lists of samples that are handed out one by one.
-ghost use Rattle.std.specs.Prelude.{◌≡◌, List, drop, slice_get};
+ghost use Rattle.std.specs.Prelude.{◌≡◌, ◌≤◌, List, drop, slice_get};
+ghost use Rattle.mp4_tables.specs.words.Next.{IsNext, PassesNonSync};
 ghost use Rattle.mp4_tables.specs.declared.sample.SampleAt.{SampleAt};
 
 /// What is known of a sample apart from its bytes.
@@ -36,6 +37,19 @@ pub trait Samples {
     fn next(&mut self) -> Option<SampleAt>
         ensures given { result ≡ slice_get (rest self.old) 0 }
         ensures rest { rest self.new ≡ drop 1 (rest self.old) }
+        ensures later { follows self.old self.new };
+
+    /// Passes the next sample, which has the duration and the size of this one.
+    fn pass(&mut self, sample: &SampleAt)
+        requires { IsNext sample.now (rest self.old) }
+        ensures rest { rest self.new ≡ drop 1 (rest self.old) }
+        ensures later { follows self.old self.new };
+
+    /// Passes samples that are no sync samples and have this description, at most so many, and says
+    /// how many these are: not always all that come.
+    fn pass_non_sync(&mut self, description: u32, most: u32) -> u32
+        ensures few { result ≤ most }
+        ensures passed { PassesNonSync description result (rest self.old) (rest self.new) }
         ensures later { follows self.old self.new };
 
     ghost follows_itself: { (s : Self) → follows s s };

@@ -4,7 +4,7 @@ ghost use Rattle.mp4_tables.specs.words.Rows.{HaveSizes, sizes_at, sizes_in};
 ghost use Rattle.mp4_tables.specs.declared.places.SizeForm.TheVariants as forms;
 
 use crate::places::{RowsAt, SizeForm, SizesAt};
-use mp4_boxes::{u16_at, u32_at};
+use mp4_boxes::{Ticket, u16_at, u32_at};
 
 // Half byte `i`: of two in a byte the first is the high one.
 #[inline]
@@ -25,7 +25,7 @@ fn half_at(payload: &[u8], rows: RowsAt, i: u32) -> u32
 /// The size of sample `i`, from 0.
 #[inline(always)]
 #[tactic(auto, using(crate::proofs::RowLists::whole_sizes))]
-pub(crate) fn size_at(payload: &[u8], sizes: SizesAt, i: u32) -> u32
+pub(crate) fn size_at(_ticket: Ticket, payload: &[u8], sizes: SizesAt, i: u32) -> u32
     requires room { HaveSizes payload.now sizes.form sizes.rows }
     requires inside { i < sizes.rows.count }
     ensures { result ≡ slice_index (sizes_at payload.now sizes) i }

@@ -7,7 +7,7 @@ ghost use Rattle.mp4_tables.specs.words.Stops.{StopsIn};
 
 use crate::places::{RowsAt, SyncPlace};
 use crate::table_rows::number_at;
-use mp4_boxes::Steps;
+use mp4_boxes::{Steps, Ticket};
 use std::sync::ledger::Ledger;
 
 // Whether the numbers rise, from 1 to `n`.
@@ -28,8 +28,7 @@ pub(crate) fn are_numbers<L: Ledger>(
 {
     let mut last = 0;
     for k in 0..rows.count {
-        steps.tick();
-        let number = number_at(payload, rows, k);
+        let number = number_at(steps.tick(), payload, rows, k);
         if number <= last || number > n {
             return false;
         }
@@ -46,7 +45,7 @@ fn number_in(payload: &[u8], rows: RowsAt, row: u32) -> u32
     ensures { result ≡ slice_index (numbers_at 4 payload.now rows) row }
 {
     if row < rows.count {
-        number_at(payload, rows, row)
+        number_at(Ticket::of_place(), payload, rows, row)
     } else {
         0
     }

@@ -3,7 +3,7 @@ ghost use Rattle.std.specs.Prelude.{◌≡◌, ◌+◌, ◌<◌, ◌∷◌, drop
 ghost use Rattle.mp4_tables.specs.words.Rows.{HaveRoom, runs_at, chunk_rows_at, numbers_at, offsets_at, offset_width};
 
 use crate::places::{ChunksAt, RowsAt};
-use mp4_boxes::{u32_at, u64_at};
+use mp4_boxes::{Ticket, u32_at, u64_at};
 
 /// A row of a count and a value: of `stts`, `ctts` or `sbgp`.
 #[derive(Clone, Copy)]
@@ -23,7 +23,7 @@ pub(crate) struct ChunkRow {
 // Row `k` of a count and a value.
 #[inline]
 #[tactic(auto, using(crate::proofs::RowLists::runs_more))]
-pub(crate) fn run_at(payload: &[u8], rows: RowsAt, k: u32) -> Run
+pub(crate) fn run_at(_ticket: Ticket, payload: &[u8], rows: RowsAt, k: u32) -> Run
     requires room { HaveRoom 8 payload.now rows }
     requires inside { k < rows.count }
     ensures { drop k (runs_at payload.now rows) ≡ (result.count, result.value)
@@ -39,7 +39,7 @@ pub(crate) fn run_at(payload: &[u8], rows: RowsAt, k: u32) -> Run
 // Row `k` of `stsc`.
 #[inline]
 #[tactic(auto, using(crate::proofs::RowLists::chunk_rows_more))]
-pub(crate) fn chunk_row_at(payload: &[u8], rows: RowsAt, k: u32) -> ChunkRow
+pub(crate) fn chunk_row_at(_ticket: Ticket, payload: &[u8], rows: RowsAt, k: u32) -> ChunkRow
     requires room { HaveRoom 12 payload.now rows }
     requires inside { k < rows.count }
     ensures { drop k (chunk_rows_at payload.now rows)
@@ -57,7 +57,7 @@ pub(crate) fn chunk_row_at(payload: &[u8], rows: RowsAt, k: u32) -> ChunkRow
 // Number `k` of four bytes each.
 #[inline]
 #[tactic(auto, using(crate::proofs::RowLists::numbers_more))]
-pub(crate) fn number_at(payload: &[u8], rows: RowsAt, k: u32) -> u32
+pub(crate) fn number_at(_ticket: Ticket, payload: &[u8], rows: RowsAt, k: u32) -> u32
     requires room { HaveRoom 4 payload.now rows }
     requires inside { k < rows.count }
     ensures { drop k (numbers_at 4 payload.now rows) ≡ result
@@ -69,7 +69,7 @@ pub(crate) fn number_at(payload: &[u8], rows: RowsAt, k: u32) -> u32
 // Number `k` of eight bytes each.
 #[inline]
 #[tactic(auto, using(crate::proofs::RowLists::numbers_more))]
-fn wide_at(payload: &[u8], rows: RowsAt, k: u32) -> u64
+fn wide_at(_ticket: Ticket, payload: &[u8], rows: RowsAt, k: u32) -> u64
     requires room { HaveRoom 8 payload.now rows }
     requires inside { k < rows.count }
     ensures { drop k (numbers_at 8 payload.now rows) ≡ result
@@ -80,15 +80,15 @@ fn wide_at(payload: &[u8], rows: RowsAt, k: u32) -> u64
 
 // The offset of chunk `k`, from 0.
 #[inline]
-pub(crate) fn offset_at(payload: &[u8], chunks: ChunksAt, k: u32) -> u64
+pub(crate) fn offset_at(ticket: Ticket, payload: &[u8], chunks: ChunksAt, k: u32) -> u64
     requires room { HaveRoom (offset_width chunks.is_wide) payload.now chunks.rows }
     requires inside { k < chunks.rows.count }
     ensures { drop k (offsets_at payload.now chunks) ≡ result
         ∷ drop (k + 1) (offsets_at payload.now chunks) }
 {
     if chunks.is_wide {
-        wide_at(payload, chunks.rows, k)
+        wide_at(ticket, payload, chunks.rows, k)
     } else {
-        u64::from(number_at(payload, chunks.rows, k))
+        u64::from(number_at(ticket, payload, chunks.rows, k))
     }
 }

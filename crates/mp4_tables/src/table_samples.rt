@@ -1,9 +1,10 @@
 //! A walk over the samples of tables, from place to place.
 ghost use Rattle.std.specs.Prelude.{◌≡◌, ◌+◌, ◌*◌, ◌<◌, ◌≤◌, ◌∷◌, drop, length, slice_index, option_map};
 ghost use Rattle.byteorder.specs.Endian.{twos_complement};
-ghost use Rattle.mp4_tables.specs.words.Rows.{HaveRoom, numbers_at, runs_at};
+ghost use Rattle.mp4_tables.specs.words.Rows.{HaveRoom, numbers_at, runs_at, sizes_at};
 ghost use Rattle.mp4_tables.specs.words.TablesComing.{IsRunPlace};
 ghost use Rattle.mp4_tables.specs.format.PlainSamples.{non_sync};
+ghost use Rattle.mp4_tables.specs.words.Next.{PassesNonSync};
 ghost use Rattle.mp4_tables.specs.words.Timed.{samples_of};
 ghost use Rattle.mp4_tables.specs.words.Accepted.{IsAccepted, IsPlace, HaveBytes, HaveOffsets, HaveSync, IsRunPlaceAt, IsSyncPlaceIn, AreInOrder, tables_at, bytes_at, bytes_for, passed, offset_values, flags_here};
 ghost use Rattle.mp4_tables.specs.words.Accepted.{offset_rows as rows_of_offsets};
@@ -11,10 +12,11 @@ ghost use Rattle.mp4_tables.specs.words.Accepted.{offset_rows as rows_of_offsets
 use crate::chunks::{first_chunk, pass_sample};
 use crate::indexes::{IndexPlaces, NO_ROWS};
 use crate::places::{BytesAt, OffsetsAt, RowsAt, RunPlace, SyncPlace, TablePlace, TablesAt};
-use crate::runs::{BEFORE_ROWS, pass, settle};
 use crate::sample::SampleAt;
 use crate::sizes::size_at;
+use crate::stts_rows::{BEFORE_ROWS, lasting, pass, settle};
 use crate::sync_samples::{first_sync, pass_sync};
+use mp4_boxes::Ticket;
 
 // The rows of offsets, none where there is no table.
 #[inline]
@@ -97,7 +99,7 @@ pub(crate) fn sample_here(payload: &[u8], at: &TablesAt, place: &TablePlace) -> 
         flags: flags_at(payload, at, place),
         description: place.chunk.row.description,
         at: place.chunk.at,
-        size: size_at(payload, at.sizes, place.number),
+        size: size_at(Ticket::of_place(), payload, at.sizes, place.number),
         groups: place.groups.here(),
     }
 }
@@ -116,12 +118,14 @@ fn pass_sync_in(payload: &[u8], sync: Option<RowsAt>, place: &mut SyncPlace, i: 
     }
 }
 
-// Goes one sample on.
+// Goes one sample on, which has this size.
 #[inline(always)]
-pub(crate) fn pass_place(payload: &[u8], at: &TablesAt, place: &mut TablePlace)
+pub(crate) fn pass_place(payload: &[u8], at: &TablesAt, place: &mut TablePlace, size: u32)
     requires ok { IsAccepted payload.now at.now }
     requires place { IsPlace payload.now at.now place.old }
     requires inside { place.old.number < at.now.sizes.rows.count }
+    requires size { size
+        ≡ slice_index (sizes_at payload.now at.now.sizes) place.old.number }
     ensures place { IsPlace payload.now at.now place.new }
     ensures number { place.new.number ≡ place.old.number + 1 }
     ensures on { passed place.old ≤ passed place.new }
@@ -129,7 +133,6 @@ pub(crate) fn pass_place(payload: &[u8], at: &TablesAt, place: &mut TablePlace)
     let count = at.sizes.rows.count;
     let number = place.number;
     prove!(number < count);
-    let size = size_at(payload, at.sizes, number);
     place.number = number + 1;
     place.dts += u64::from(place.duration.value);
     pass(payload, at.durations, &mut place.duration);
@@ -137,6 +140,57 @@ pub(crate) fn pass_place(payload: &[u8], at: &TablesAt, place: &mut TablePlace)
     pass_sample(payload, &at.chunk_rows, &at.chunks, &mut place.chunk, size);
     pass_sync_in(payload, at.sync, &mut place.sync, number + 1);
     place.groups.pass(payload, &at.groups.rows);
+}
+
+// Passes samples that are no sync samples and have this description, at most so many, where no
+// index is left. Up to the next sync sample the places in `stss` and in the `sbgp`s stay.
+pub(crate) fn pass_non_sync(
+    payload: &[u8],
+    at: &TablesAt,
+    place: &mut TablePlace,
+    description: u32,
+    most: u32,
+) -> u32
+    requires ok { IsAccepted payload.now at.now }
+    requires place { IsPlace payload.now at.now place.old }
+    ensures place { IsPlace payload.now at.now place.new }
+    ensures few { result ≤ most }
+    ensures passed { PassesNonSync description result
+        (drop place.old.number (samples_of (tables_at payload.now at.now)))
+        (drop place.new.number (samples_of (tables_at payload.now at.now))) }
+    ensures on { passed place.old ≤ passed place.new }
+{
+    let Some(_) = at.sync else {
+        return 0;
+    };
+    if !place.groups.are_over() {
+        return 0;
+    }
+    let offsets = offset_rows(at.offsets);
+    let mut number = place.number;
+    let mut dts = place.dts;
+    let mut duration = place.duration;
+    let mut offset = place.offset;
+    let mut chunk = place.chunk;
+    let mut count = 0;
+    while count < most && number < at.sizes.rows.count {
+        if chunk.row.description != description || place.sync.next == number + 1 {
+            break;
+        }
+        let size = size_at(Ticket::of_place(), payload, at.sizes, number);
+        number += 1;
+        dts += lasting(duration);
+        pass(payload, at.durations, &mut duration);
+        pass(payload, offsets, &mut offset);
+        pass_sample(payload, &at.chunk_rows, &at.chunks, &mut chunk, size);
+        count += 1;
+    }
+    place.number = number;
+    place.dts = dts;
+    place.duration = duration;
+    place.offset = offset;
+    place.chunk = chunk;
+    count
 }
 
 // Before the first composition offset: one 0 for each sample where there is no table.

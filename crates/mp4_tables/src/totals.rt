@@ -34,8 +34,7 @@ pub(crate) fn sum_of_values<L: Ledger>(payload: &[u8], rows: RowsAt, steps: &mut
 {
     let mut sum: u64 = 0;
     for k in 0..rows.count {
-        steps.tick();
-        let run = run_at(payload, rows, k);
+        let run = run_at(steps.tick(), payload, rows, k);
         sum = sum.saturating_add(times(run.count, run.value));
     }
     sum
@@ -49,8 +48,8 @@ pub(crate) fn sum_of_sizes<L: Ledger>(payload: &[u8], sizes: SizesAt, steps: &mu
 {
     let mut sum: u64 = 0;
     for i in 0..sizes.rows.count {
-        steps.tick();
-        sum = sum.saturating_add(u64::from(size_at(payload, sizes, i)));
+        let size = size_at(steps.tick(), payload, sizes, i);
+        sum = sum.saturating_add(u64::from(size));
     }
     sum
 }

@@ -9,7 +9,7 @@ use Rattle.mp4_boxes.specs.declared.fault.Fault.{Fault}
 use Rattle.mp4_boxes.proofs.Tiling.{header_fault_refuses}
 use Rattle.mp4_boxes.proofs.Among.{in_zip}
 use Rattle.mp4_boxes.proofs.Refusing.{stands_in}
-use Rattle.mp4norm.specs.declared.wanted.Syntax.{Syntax}
+use Rattle.mp4norm.specs.declared.shell.action.Syntax.{Syntax}
 use Rattle.mp4norm.specs.format.Texts.{descends, IsPart, AreBoxLines, box_line}
 use Rattle.mp4norm.specs.format.BoxWalk.{height, under, rule_inside}
 use Rattle.mp4norm.proofs.BoxLists.{inside_lower, height_some, zip_map}

@@ -20,12 +20,12 @@ use Rattle.mp4_boxes.proofs.Walking.{located_err}
 use Rattle.mp4_present.specs.words.Reading.{top_box}
 use Rattle.mp4_present.specs.declared.reading.TopBox.{TopBox}
 use Rattle.mp4norm.specs.format.BoxWalk.{height, under, rule_inside, FaultSeen, IsListed, IsWithin, RefusesTops, top_seen}
-use Rattle.mp4norm.specs.format.Strips.{holder, is_top, payload_of, RefusesHeaderUnder}
+use Rattle.mp4norm.specs.format.Strips.{holder, is_top, payload_behind, RefusesHeaderUnder}
 use Rattle.serde_json.specs.Written.{compact_text, has_float}
 use Rattle.mp4_boxes.specs.format.Children.{allows}
-use Rattle.mp4norm.specs.declared.wanted.Syntax.{Syntax}
-use Rattle.mp4norm.specs.declared.wanted.Syntax.TheVariants as syntaxes
-use Rattle.mp4norm.specs.format.Texts.{descends, AreBoxLines, BoxLines, box_line, box_value, line_feed, type_text, uuid_of, uuid_text}
+use Rattle.mp4norm.specs.declared.shell.action.Syntax.{Syntax}
+use Rattle.mp4norm.specs.declared.shell.action.Syntax.TheVariants as syntaxes
+use Rattle.mp4norm.specs.format.Texts.{descends, AreBoxLines, BoxLines, box_line, box_data, line_feed, type_text, uuid_of, uuid_text}
 use Rattle.mp4norm.specs.words.BoxSpans.{extent_of, span_of, found_value, RefusesLine, RefusesSpan}
 use Rattle.mp4norm.proofs.BoxLists.{not_entries, inside_lower, levels_rise, seen_above}
 use Rattle.mp4norm.proofs.StripWalks.{drop_range, take_range, its_payload}
@@ -75,7 +75,7 @@ span_more file rule from end boxes at h p e inside le =
     let read : header_at (is_top rule) (drop (sizes boxes) bytes) ≡ Ok g = ap (header_at (is_top rule)) rest ∙ e in
     let b = box_of (from + sizes boxes) (drop (sizes boxes) bytes) g in
     let less : h.end - (at + h.header) ≡ h.end - at - h.header = omega (arith, inside) in
-    let payload = ap (payload_of g) rest ∙ its_payload file at end h inside le ∙ ap (range file (at + h.header)) less in
+    let payload = ap (payload_behind g) rest ∙ its_payload file at end h inside le ∙ ap (range file (at + h.header)) less in
     let same : b ≡ top_box file at h = λ i. record { kind = h.kind.0; offset = t i; header = h.header; payload = payload i } in
     let big = box_size (from + sizes boxes) (drop (sizes boxes) bytes) g (header_is (is_top rule) (drop (sizes boxes) bytes) g read) in
     record {
@@ -178,7 +178,7 @@ top_size file top w =
 -- the object of a box says its size
 pub top_object : (file : List ℕ) (rule : Rule) (depth : ℕ) (top : TopBox) (uuid : Option (List ℕ)) → IsWithin file top → uuid ≡ uuid_of (top_seen file top)
     → compact_text (found_value depth rule top uuid) ++ line_feed ≡ box_line syntaxes.Json rule depth (top_seen file top)
-top_object file rule depth top uuid w e = λ i. compact_text (box_value depth (allows rule top.header.kind.0) top.offset (top_size file top w i) (type_text top.header.kind.0) (option_map uuid_text (e i))) ++ line_feed
+top_object file rule depth top uuid w e = λ i. compact_text (box_data depth (allows rule top.header.kind.0) top.offset (top_size file top w i) (type_text top.header.kind.0) (option_map uuid_text (e i))) ++ line_feed
 
 -- sixteen bytes that were read of a `uuid` are its UUID
 pub uuid_read : (file : List ℕ) (top : TopBox) (bytes : List ℕ) → IsWithin file top → top.header.kind.0 ≡ codes "uuid" → payload_at top + 16 ≤ top.header.end → bytes ≡ range file (payload_at top) 16
@@ -196,7 +196,7 @@ uuid_read file top bytes w named enough e =
 pub found-has_float : (depth : ℕ) (rule : Rule) (top : TopBox) (uuid : Option (List ℕ)) → has_float (found_value depth rule top uuid) ≡ false
 found-has_float depth rule top uuid = box-has_float depth (allows rule top.header.kind.0) top.offset (top.header.end - top.offset) (type_text top.header.kind.0) (option_map uuid_text uuid)
   where
-    box-has_float : (depth : ℕ) (allowed : Bool) (offset size : ℕ) (kind : List ℕ) (uuid : Option (List ℕ)) → has_float (box_value depth allowed offset size kind uuid) ≡ false
+    box-has_float : (depth : ℕ) (allowed : Bool) (offset size : ℕ) (kind : List ℕ) (uuid : Option (List ℕ)) → has_float (box_data depth allowed offset size kind uuid) ≡ false
     box-has_float depth true offset size kind None = refl
     box-has_float depth true offset size kind (Some u) = refl
     box-has_float depth false offset size kind None = refl

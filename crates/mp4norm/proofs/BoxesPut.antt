@@ -3,7 +3,7 @@ use Rattle.std.proofs.Common.{inl}
 use Rattle.std.specs.Prelude.{Err}
 use Rattle.mp4_boxes.specs.declared.refusal.Refusal.{Refusal}
 use Rattle.mp4_boxes.specs.declared.refusal.Refusal.TheVariants as refusals
-use Rattle.mp4norm.specs.declared.wanted.Syntax.{Syntax}
+use Rattle.mp4norm.specs.declared.shell.action.Syntax.{Syntax}
 use Rattle.mp4norm.specs.format.Answers.{BoxesListed}
 use Rattle.mp4norm.specs.format.BoxWalk.{RefusesTops}
 use Rattle.mp4norm.specs.format.Run.{Run, PutsNothing}

@@ -13,15 +13,15 @@ use Rattle.mp4_present.specs.words.Differing.{RefusesSample}
 use Rattle.mp4_present.specs.words.Movies.{MovieSeen}
 use Rattle.mp4_present.specs.words.OpenedMovie.{IsOpenedAs}
 use Rattle.mp4_present.specs.words.WalkSteps.{opening_steps, walks_steps}
-use Rattle.mp4_present.specs.declared.differences.Difference.{Difference}
-use Rattle.mp4_present.specs.declared.leaving.Leaving.{Leaving}
+use Rattle.mp4_present.specs.declared.comparing.differences.Difference.{Difference}
+use Rattle.mp4_present.specs.declared.without.Without.{Without}
 use Rattle.mp4_present.proofs.ComparisonWhole.{no_difference_is_same}
 use Rattle.mp4_present.proofs.DenotedValid.{denoted_is_valid}
 use Rattle.mp4norm.specs.format.CompareHeadline.{IsVerdict, ComparesWithin, most_counted}
 use Rattle.mp4norm.specs.format.Steps.{WorksWithin, most_steps, row_total}
 use Rattle.mp4_present.specs.words.Compared.{files_differ}
 use Rattle.mp4norm.specs.words.Compares.{side_of, says_nothing, IsSaid, ListsFront, WalksThrice, RefusesBoth, RefusesCompare}
-use Rattle.mp4norm.specs.declared.comparing.Failure.{Failure}
+use Rattle.mp4norm.specs.declared.commands.compare.Failure.{Failure}
 use Rattle.mp4norm.proofs.StepSums.{two_walks}
 use Rattle.mp4norm.proofs.StepsTaken.{opened_within, written_within}
 
@@ -73,7 +73,7 @@ both_of_three old mid new a b g h = omega (arith, g, h)
 
 -- ---- the answer
 
-verdict_of : (l : Leaving) (p q : Presentation) {A : Type 0} (found : Option A) (same : Bool) → same ≡ says_nothing found → IsSaid found (differences (reduce l p) (reduce l q)) → Valid p → Valid q → (same ≡ true) ↔ (reduce l p ≡ reduce l q)
+verdict_of : (l : Without) (p q : Presentation) {A : Type 0} (found : Option A) (same : Bool) → same ≡ says_nothing found → IsSaid found (differences (reduce l p) (reduce l q)) → Valid p → Valid q → (same ≡ true) ↔ (reduce l p ≡ reduce l q)
 verdict_of l p q None same is said v w = (λ e. (no_difference_is_same l p q v w).0 said, λ e. is)
 verdict_of l p q (Some text) same is said v w = (λ e. absurd (true_false (sym e ∙ is)), λ e. absurd (said ((no_difference_is_same l p q v w).1 e)))
 
@@ -81,7 +81,7 @@ module _ (file : List ℕ) (m : MovieSeen) (tree : FileTree) (o : IsOpenedAs fil
   pub denotes_by : Denotes file (presentation_of file tree)
   denotes_by = record { tree = tree; is_tree = o.is_tree; is_sound = o.is_sound; is_consistent = o.is_consistent; says = refl; limits = o.limits }
 
-pub verdict : (l : Leaving) (file other : List ℕ) (m n : MovieSeen) {A : Type 0} (found : Option A) (same : Bool) → same ≡ says_nothing found → (a : (tree : FileTree) × IsOpenedAs file m tree) → (b : (tree : FileTree) × IsOpenedAs other n tree)
+pub verdict : (l : Without) (file other : List ℕ) (m n : MovieSeen) {A : Type 0} (found : Option A) (same : Bool) → same ≡ says_nothing found → (a : (tree : FileTree) × IsOpenedAs file m tree) → (b : (tree : FileTree) × IsOpenedAs other n tree)
     → IsSaid found (files_differ l file a.0 other b.0) → IsVerdict l file other same
 verdict l file other m n found same is a b said = record {
   p = presentation_of file a.0;

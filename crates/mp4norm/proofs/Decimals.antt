@@ -5,7 +5,7 @@ use Rattle.std.proofs.Math.Nat.{pow-suc, div-div-eq-div-mul}
 use lib.Ieee.Fits.{and_l, and_r}
 use Rattle.mp4norm.specs.format.Texts.{hex_digits}
 use Rattle.mp4norm.specs.words.Pairs.{pair}
-use Rattle.mp4norm.specs.declared.digits.TheConstants.{PAIRS}
+use Rattle.mp4norm.specs.declared.text.digits.TheConstants.{PAIRS}
 
 -- the last digit of a number stands behind those of its tenth
 pub last_digit : (n : ℕ) (behind : List ℕ) → 10 ≤ n → n < 10 ^ 64 → decimal (n / 10) ++ (48 + n % 10) ∷ behind ≡ decimal n ++ behind

@@ -1,6 +1,6 @@
 -- Words with which two presentations are the same: which are needed, and that these are enough.
-use Rattle.std.proofs.Common.{◌≡◌, ℕ, zero, suc, ◌+◌, ◌*◌, ◌^◌, Bool, true, false, ◌||◌, if◌then◌else◌, List, [], ◌∷◌, length, take, Option, None, Some, ℤ, pos, refl, sym, ap, subst, ◌∙◌, arith}
-use Rattle.std.specs.Prelude.{◌==◌, slice_get, option_map, option_and_then}
+use Rattle.std.proofs.Common.{◌≡◌, ℕ, zero, suc, ◌+◌, ◌*◌, ◌^◌, Bool, true, false, ◌||◌, ◌&&◌, if◌then◌else◌, List, [], ◌∷◌, length, take, Option, None, Some, ℤ, pos, refl, sym, ap, subst, ◌∙◌, arith}
+use Rattle.std.specs.Prelude.{◌==◌, nat_le, not, map, slice_get, option_map, option_and_then}
 use Rattle.std.specs.List.{AllByRecursion, AllZip, Any, list_any}
 use Rattle.std.proofs.lemmas.Bool.{eqb-true, eq-eqb, lt-ltb}
 use Rattle.std.proofs.lemmas.List.Sums.{sum_by-cons}
@@ -9,24 +9,26 @@ use Rattle.mp4_boxes.proofs.Among.{true_false}
 use Rattle.mp4_tables.specs.format.Groups.{Groups, index_at}
 use Rattle.mp4_head.specs.format.Head.{Kept, Edit}
 use Rattle.mp4_present.specs.format.Presentation.{Sample, Track, Presentation, Valid}
-use Rattle.mp4_present.specs.format.Reduced.{sync_flag, reduce}
+use Rattle.mp4_present.specs.format.Reduced.{sync_flag, zeroed, is_picture, plain_picture, plain_descriptions, reduce}
+use Rattle.mp4_present.proofs.Zeroed.{zeroed_length}
+use Rattle.mp4_plan.proofs.Plain.{descriptions_many}
 use Rattle.mp4_present.specs.format.Differences.{same_value}
 use Rattle.mp4_present.specs.format.Comparison.{differences}
-use Rattle.mp4_present.specs.format.ComparisonLaws.{member, byte_value, payload_value, box_value, edit_value, movie_value, count_value, entry_value, track_value, sample_value, value_at, IsOne, IsTheirs}
+use Rattle.mp4_present.specs.format.ComparisonLaws.{member, byte_value, payload_value, box_value, edit_value, movie_value, count_value, entry_value, track_value, sample_value, value_at, IsOneDifference, IsTheirs}
 use Rattle.mp4_present.specs.format.CompleteLaws.{IsSameBut, same as same_field, sample_byte, entry_byte, index as same_index}
 use Rattle.mp4_present.proofs.ComparisonComplete.{differences_are_all}
-use Rattle.mp4_present.specs.declared.differences.Subject.{Subject}
-use Rattle.mp4_present.specs.declared.differences.Subject.TheVariants as subjects
-use Rattle.mp4_present.specs.declared.differences.Entries.{Entries}
-use Rattle.mp4_present.specs.declared.differences.Entries.TheVariants as entries
-use Rattle.mp4_present.specs.declared.differences.Part.{Part}
-use Rattle.mp4_present.specs.declared.differences.Part.TheVariants as parts
-use Rattle.mp4_present.specs.declared.differences.Field.{Field}
-use Rattle.mp4_present.specs.declared.differences.Field.TheVariants as fields
-use Rattle.mp4_present.specs.declared.differences.Value.{Value}
-use Rattle.mp4_present.specs.declared.differences.Value.TheVariants.{Number, Signed, Kind, Byte}
-use Rattle.mp4_present.specs.declared.differences.Difference.{Difference}
-use Rattle.mp4_present.specs.declared.leaving.Leaving.{Leaving}
+use Rattle.mp4_present.specs.declared.comparing.differences.Subject.{Subject}
+use Rattle.mp4_present.specs.declared.comparing.differences.Subject.TheVariants as subjects
+use Rattle.mp4_present.specs.declared.comparing.differences.Entries.{Entries}
+use Rattle.mp4_present.specs.declared.comparing.differences.Entries.TheVariants as entries
+use Rattle.mp4_present.specs.declared.comparing.differences.Part.{Part}
+use Rattle.mp4_present.specs.declared.comparing.differences.Part.TheVariants as parts
+use Rattle.mp4_present.specs.declared.comparing.differences.Field.{Field}
+use Rattle.mp4_present.specs.declared.comparing.differences.Field.TheVariants as fields
+use Rattle.mp4_present.specs.declared.comparing.differences.Value.{Value}
+use Rattle.mp4_present.specs.declared.comparing.differences.Value.TheVariants.{Number, Signed, Kind, Byte}
+use Rattle.mp4_present.specs.declared.comparing.differences.Difference.{Difference}
+use Rattle.mp4_present.specs.declared.without.Without.{Without}
 use Rattle.mp4_present.proofs.ComparisonGroups.{key_field, maps_same}
 use Rattle.mp4_present.proofs.ComparisonPlaces.{differences_are_theirs}
 use Rattle.mp4_present.proofs.ComparisonWhole.{HasMap, IsPlain, IsAllPlain, all_plain, each_difference_is_one}
@@ -36,10 +38,10 @@ use Rattle.mp4_plan.proofs.Agreed.{reduce_is_exact}
 use Rattle.mp4_plan.proofs.Covering.{reduced_more}
 use Rattle.mp4_plan.specs.format.Agreeing.{SamplesAgree, MediaAgree, TrackHeadsAgree, MovieHeadsAgree, TracksAgree, Agree}
 use Rattle.mp4_present.proofs.ComparisonValues.{same_value_is_equal}
-use Rattle.mp4norm.specs.declared.tally.Kind.TheVariants as kinds
-use Rattle.mp4norm.specs.declared.tally.Kind.{Kind as KindOf}
-use Rattle.mp4norm.specs.format.LastLine.{kind_of, kind_of_field, kind_of_entries, kind_place, count_of}
-use Rattle.mp4norm.specs.words.Suggested.{differ_in_sync, is_in_sync, differ_in_all, has, suggested}
+use Rattle.mp4norm.specs.declared.commands.tally.Kind.TheVariants as kinds
+use Rattle.mp4norm.specs.declared.commands.tally.Kind.{Kind as KindOf}
+use Rattle.mp4norm.specs.format.LastLine.{kind_of_difference, kind_of_field, kind_of_entries, kind_place, count_of_kind}
+use Rattle.mp4norm.specs.words.Suggested.{differ_in_sync, is_in_sync, is_label_entry, is_label_field, is_label, is_fixed, differ_in_all, has, suggested}
 
 -- ---- words that cover others
 
@@ -51,29 +53,41 @@ pub or_true : (a : Bool) → (a || true) ≡ true
 or_true true = refl
 or_true false = refl
 
-pub covers_more : (l m : Leaving) → Covers l (both l m)
+pub covers_more : (l m : Without) → Covers l (both l m)
 covers_more l m i = record {
   times = or_twice l.times m.times i;
   edits = or_twice l.edits m.edits i;
   flags = or_twice l.flags m.flags i;
   groups = or_twice l.groups m.groups i;
   metadata = or_twice l.metadata m.metadata i;
+  labels = or_twice l.labels m.labels i;
 }
 
 -- words for all kinds of these
-abbrev pub words_for : List Difference → Leaving
-words_for ds = record { times = has kinds.Times ds; edits = has kinds.Edits ds; flags = has kinds.Flags ds; groups = has kinds.Groups ds; metadata = has kinds.Kept ds }
+abbrev pub words_for : List Difference → Without
+words_for ds = record {
+  times = has kinds.Times ds;
+  edits = has kinds.Edits ds;
+  flags = has kinds.Flags ds;
+  groups = has kinds.Groups ds;
+  metadata = has kinds.Kept ds;
+  labels = list_any is_label ds;
+}
 
 -- ---- which word leaves out a difference
 
 -- the word that leaves out a kind is among these
-abbrev left_out : Leaving → KindOf → Bool
+abbrev left_out : Without → KindOf → Bool
 left_out k kinds.Times = k.times
 left_out k kinds.Edits = k.edits
 left_out k kinds.Flags = k.flags
 left_out k kinds.Groups = k.groups
 left_out k kinds.Kept = k.metadata
 left_out k _ = false
+
+-- the word that leaves out a difference at a place is
+abbrev left_at : Without → Subject → Field → Bool
+left_at k of field = if is_label_field field then k.labels else left_out k (kind_of_field of field)
 
 -- a value that both say is the same
 no_two : {A : Type 0} (a b : A) (x y : Value) (f : A → Option Value) → a ≡ b → f a ≡ Some x → f b ≡ Some y → same_value x y ≡ false → ⊥
@@ -96,8 +110,42 @@ of_signed n = Some (Signed n)
 abbrev of_count : {A : Type 0} → List A → Option Value
 of_count xs = Some (Number (length xs))
 
-module _ (k : Leaving) where
-  movie_left : (p q : Presentation) (field : Field) (x y : Value) → Agree k p q → movie_value p field ≡ Some x → movie_value q field ≡ Some y → same_value x y ≡ false → left_out k (kind_of_field subjects.Movie field) ≡ true
+-- sample descriptions are as many without labels, and each says the same of all but its bytes
+many_same : (h i : List ℕ) (xs ys : List Kept) → plain_descriptions h xs ≡ plain_descriptions i ys → length xs ≡ length ys
+many_same h i xs ys e = sym (descriptions_many true h xs) ∙ ap (λ (ks : List Kept). length ks) e ∙ descriptions_many true i ys
+
+picture_length : (k : Kept) → length (plain_picture k).payload ≡ length k.payload
+picture_length k = by (nat_le 78 (length k.payload))
+  where
+    by : (v : Bool) → length (if v then zeroed 42 32 k.payload else k.payload) ≡ length k.payload
+    by true = zeroed_length 42 32 k.payload
+    by false = refl
+
+part_stays : (part : Part) (k : Kept) → is_label_entry entries.Descriptions part ≡ false → box_value part (plain_picture k) ≡ box_value part k
+part_stays parts.Kind k e = refl
+part_stays parts.Length k e = ap (λ (n : ℕ). Some (Number n)) (picture_length k)
+part_stays (parts.Byte j c) k e = absurd cc
+part_stays parts.SegmentDuration k e = refl
+part_stays parts.MediaTime k e = refl
+part_stays parts.RateInteger k e = refl
+part_stays parts.RateFraction k e = refl
+
+get_stays : (part : Part) → is_label_entry entries.Descriptions part ≡ false → (v : Bool) (xs : List Kept) (n : ℕ) → option_and_then (box_value part) (slice_get (if v then map plain_picture xs else xs) n) ≡ option_and_then (box_value part) (slice_get xs n)
+get_stays part e false xs n = refl
+get_stays part e true [] n = refl
+get_stays part e true (x ∷ xs) zero = part_stays part x e
+get_stays part e true (x ∷ xs) (suc n) = get_stays part e true xs n
+
+entry_stays : (part : Part) → is_label_entry entries.Descriptions part ≡ false → (h : List ℕ) (xs : List Kept) (n : ℕ) → option_and_then (box_value part) (member (plain_descriptions h xs) n) ≡ option_and_then (box_value part) (member xs n)
+entry_stays part e h xs zero = refl
+entry_stays part e h xs (suc n) = get_stays part e (is_picture h) xs n
+
+parts_same : (part : Part) → is_label_entry entries.Descriptions part ≡ false → (h i : List ℕ) (xs ys : List Kept) (n : ℕ) → plain_descriptions h xs ≡ plain_descriptions i ys
+    → option_and_then (box_value part) (member xs n) ≡ option_and_then (box_value part) (member ys n)
+parts_same part e h i xs ys n same = sym (entry_stays part e h xs n) ∙ ap (λ (ks : List Kept). option_and_then (box_value part) (member ks n)) same ∙ entry_stays part e i ys n
+
+module _ (k : Without) where
+  movie_left : (p q : Presentation) (field : Field) (x y : Value) → Agree k p q → movie_value p field ≡ Some x → movie_value q field ≡ Some y → same_value x y ≡ false → left_at k subjects.Movie field ≡ true
   movie_left p q fields.Creation x y h u v ne = unless k.times p.movie.creation q.movie.creation x y of_number h.movie.creation u v ne
   movie_left p q fields.Modification x y h u v ne = unless k.times p.movie.modification q.movie.modification x y of_number h.movie.modification u v ne
   movie_left p q fields.Timescale x y h u v ne = absurd (no_two p.movie.timescale q.movie.timescale x y of_number h.movie.timescale u v ne)
@@ -116,19 +164,30 @@ module _ (k : Leaving) where
     count_left entries.Handler x y u v ne = absurd (no_two 1 1 x y of_number refl u v ne)
     count_left entries.ExtendedLanguages x y u v ne = absurd (no_two s.head.media.extended_languages t.head.media.extended_languages x y of_count h.head.media.extended_languages u v ne)
     count_left entries.MediaHeader x y u v ne = absurd (no_two 1 1 x y of_number refl u v ne)
-    count_left entries.Descriptions x y u v ne = absurd (no_two s.head.media.descriptions t.head.media.descriptions x y of_count h.head.media.descriptions u v ne)
+    count_left entries.Descriptions x y u v ne = absurd (no_two (length s.head.media.descriptions) (length t.head.media.descriptions) x y of_number
+        (many_same s.head.media.handler t.head.media.handler s.head.media.descriptions t.head.media.descriptions h.head.media.left_descriptions) u v ne)
     count_left entries.GroupDescriptions x y u v ne = unless k.groups s.head.group_descriptions t.head.group_descriptions x y of_count h.head.group_descriptions u v ne
 
-    entry_left : (list : Entries) (n : ℕ) (part : Part) (x y : Value) → entry_value s.head list n part ≡ Some x → entry_value t.head list n part ≡ Some y → same_value x y ≡ false → left_out k (kind_of_entries list) ≡ true
+    entry_same : (n : ℕ) (part : Part) → is_label_entry entries.Descriptions part ≡ false → (x y : Value) → option_and_then (box_value part) (member s.head.media.descriptions n) ≡ Some x → option_and_then (box_value part) (member t.head.media.descriptions n) ≡ Some y → same_value x y ≡ false → ⊥
+    entry_same n part e x y u v ne = no_two (option_and_then (box_value part) (member s.head.media.descriptions n)) (option_and_then (box_value part) (member t.head.media.descriptions n)) x y (λ o. o)
+        (parts_same part e s.head.media.handler t.head.media.handler s.head.media.descriptions t.head.media.descriptions n h.head.media.left_descriptions) u v ne
+
+    entry_left : (list : Entries) (n : ℕ) (part : Part) (x y : Value) → entry_value s.head list n part ≡ Some x → entry_value t.head list n part ≡ Some y → same_value x y ≡ false → left_at k (subjects.Track of) (fields.Entry list n part) ≡ true
     entry_left entries.Edits n part x y u v ne = unless k.edits s.head.edits t.head.edits x y (λ xs. option_and_then (edit_value part) (member xs n)) h.head.edits u v ne
     entry_left entries.Kept n part x y u v ne = unless k.metadata s.head.kept t.head.kept x y (λ xs. option_and_then (box_value part) (member xs n)) h.head.kept u v ne
-    entry_left entries.Handler n part x y u v ne = absurd (no_two s.head.media.handler t.head.media.handler x y (λ a. option_and_then (payload_value part) (member (a ∷ []) n)) h.head.media.handler u v ne)
+    entry_left entries.Handler n part x y u v ne = unless k.labels s.head.media.handler t.head.media.handler x y (λ a. option_and_then (payload_value part) (member (a ∷ []) n)) h.head.media.handler u v ne
     entry_left entries.ExtendedLanguages n part x y u v ne = absurd (no_two s.head.media.extended_languages t.head.media.extended_languages x y (λ xs. option_and_then (payload_value part) (member xs n)) h.head.media.extended_languages u v ne)
     entry_left entries.MediaHeader n part x y u v ne = absurd (no_two s.head.media.header t.head.media.header x y (λ a. option_and_then (box_value part) (member (a ∷ []) n)) h.head.media.header u v ne)
-    entry_left entries.Descriptions n part x y u v ne = absurd (no_two s.head.media.descriptions t.head.media.descriptions x y (λ xs. option_and_then (box_value part) (member xs n)) h.head.media.descriptions u v ne)
+    entry_left entries.Descriptions n (parts.Byte j c) x y u v ne = unless k.labels s.head.media.descriptions t.head.media.descriptions x y (λ xs. option_and_then (box_value (parts.Byte j c)) (member xs n)) h.head.media.descriptions u v ne
+    entry_left entries.Descriptions n parts.Kind x y u v ne = absurd (entry_same n parts.Kind refl x y u v ne)
+    entry_left entries.Descriptions n parts.Length x y u v ne = absurd (entry_same n parts.Length refl x y u v ne)
+    entry_left entries.Descriptions n parts.SegmentDuration x y u v ne = absurd (entry_same n parts.SegmentDuration refl x y u v ne)
+    entry_left entries.Descriptions n parts.MediaTime x y u v ne = absurd (entry_same n parts.MediaTime refl x y u v ne)
+    entry_left entries.Descriptions n parts.RateInteger x y u v ne = absurd (entry_same n parts.RateInteger refl x y u v ne)
+    entry_left entries.Descriptions n parts.RateFraction x y u v ne = absurd (entry_same n parts.RateFraction refl x y u v ne)
     entry_left entries.GroupDescriptions n part x y u v ne = unless k.groups s.head.group_descriptions t.head.group_descriptions x y (λ xs. option_and_then (payload_value part) (member xs n)) h.head.group_descriptions u v ne
 
-    track_left : (field : Field) (x y : Value) → track_value s field ≡ Some x → track_value t field ≡ Some y → same_value x y ≡ false → left_out k (kind_of_field (subjects.Track of) field) ≡ true
+    track_left : (field : Field) (x y : Value) → track_value s field ≡ Some x → track_value t field ≡ Some y → same_value x y ≡ false → left_at k (subjects.Track of) field ≡ true
     track_left fields.Flags x y u v ne = absurd (no_two s.head.flags t.head.flags x y of_number h.head.flags u v ne)
     track_left fields.Creation x y u v ne = unless k.times s.head.creation t.head.creation x y of_number h.head.creation u v ne
     track_left fields.Modification x y u v ne = unless k.times s.head.modification t.head.modification x y of_number h.head.modification u v ne
@@ -150,7 +209,7 @@ module _ (k : Leaving) where
     track_left _ x y u v ne = absurd cc
 
   module _ (of number : ℕ) (s t : Sample) (h : SamplesAgree k s t) where
-    sample_left : (field : Field) (x y : Value) → sample_value s field ≡ Some x → sample_value t field ≡ Some y → same_value x y ≡ false → left_out k (kind_of_field (subjects.Sample of number) field) ≡ true
+    sample_left : (field : Field) (x y : Value) → sample_value s field ≡ Some x → sample_value t field ≡ Some y → same_value x y ≡ false → left_at k (subjects.Sample of number) field ≡ true
     sample_left fields.Duration x y u v ne = absurd (no_two s.duration t.duration x y of_number h.duration u v ne)
     sample_left fields.Offset x y u v ne = absurd (no_two s.offset t.offset x y of_signed h.offset u v ne)
     sample_left fields.Flags x y u v ne = unless k.flags s.flags t.flags x y of_number h.flags u v ne
@@ -204,12 +263,12 @@ zip_member R xs ys zero a b z e f = absurd cc
 zip_member R xs ys (suc k) a b z e f = zip_get R xs ys k a b z e f
 
 -- of what differs nothing is left without these words
-abbrev IsLeft : Leaving → Difference → Type 0
-IsLeft k d = (left_out k (kind_of d) ≡ true) × (is_in_sync d ≡ false)
+abbrev IsLeft : Without → Difference → Type 0
+IsLeft k d = (left_at k d.subject d.field ≡ true) × (is_in_sync d ≡ false)
 
-module _ (k : Leaving) (p q : Presentation) (h : Agree k p q) where
+module _ (k : Without) (p q : Presentation) (h : Agree k p q) where
   place_left : (of : Subject) (field : Field) (x y : Value) → value_at p of field ≡ Some x → value_at q of field ≡ Some y → same_value x y ≡ false
-      → (left_out k (kind_of_field of field) ≡ true) × (differ_in_sync (kind_of_field of field) x y ≡ false)
+      → (left_at k of field ≡ true) × (differ_in_sync (kind_of_field of field) x y ≡ false)
   place_left subjects.Movie field x y u v ne = (movie_left k p q field x y h u v ne, movie_calm field x y)
   place_left (subjects.Track n) field x y u v ne =
       let a = then_some (λ (t : Track). track_value t field) (member p.tracks n) x u in
@@ -224,14 +283,14 @@ module _ (k : Leaving) (p q : Presentation) (h : Agree k p q) where
       let samples = zip_member (SamplesAgree k) a.0.samples b.0.samples i c.0 d.0 tracks.samples c.1 d.1 in
       (sample_left k n i c.0 d.0 samples field x y c.2 d.2 ne, in_sync k n i c.0 d.0 samples field x y c.2 d.2)
 
-  each_left : (ds : List Difference) → AllByRecursion IsOne ds → AllByRecursion (IsTheirs p q) ds → AllByRecursion (IsLeft k) ds
+  each_left : (ds : List Difference) → AllByRecursion IsOneDifference ds → AllByRecursion (IsTheirs p q) ds → AllByRecursion (IsLeft k) ds
   each_left [] one theirs = tt
   each_left (d ∷ ds) one theirs = (place_left d.subject d.field d.left d.right theirs.0.0 theirs.0.1 one.0, each_left ds one.1 theirs.1)
 
 -- ---- counts
 
 -- the word at the place of its kind
-abbrev left_place : Leaving → ℕ → Bool
+abbrev left_place : Without → ℕ → Bool
 left_place k zero = k.times
 left_place k (suc zero) = k.edits
 left_place k (suc (suc zero)) = k.flags
@@ -239,7 +298,7 @@ left_place k (suc (suc (suc zero))) = k.groups
 left_place k (suc (suc (suc (suc zero)))) = k.metadata
 left_place k _ = false
 
-left_placed : (k : Leaving) (kind : KindOf) → left_out k kind ≡ left_place k (kind_place kind)
+left_placed : (k : Without) (kind : KindOf) → left_out k kind ≡ left_place k (kind_place kind)
 left_placed k kinds.Times = refl
 left_placed k kinds.Edits = refl
 left_placed k kinds.Flags = refl
@@ -250,39 +309,88 @@ left_placed k kinds.Samples = refl
 left_placed k kinds.Bytes = refl
 
 abbrev one_if : KindOf → Difference → ℕ
-one_if kind d = if (kind_place (kind_of d) == kind_place kind) then 1 else 0
+one_if kind d = if (kind_place (kind_of_difference d) == kind_place kind) then 1 else 0
 
 add_none : (n : ℕ) → 0 + n ≡ n
 add_none n = omega arith
 
 -- one more that is of a kind, or isn't
-counted_yes : (kind : KindOf) (d : Difference) (ds : List Difference) → (kind_place (kind_of d) == kind_place kind) ≡ true → count_of kind (d ∷ ds) ≡ 1 + count_of kind ds
-counted_yes kind d ds e = sum_by-cons (one_if kind) d ds ∙ ap (λ (b : Bool). (if b then 1 else 0) + count_of kind ds) e
+counted_yes : (kind : KindOf) (d : Difference) (ds : List Difference) → (kind_place (kind_of_difference d) == kind_place kind) ≡ true → count_of_kind kind (d ∷ ds) ≡ 1 + count_of_kind kind ds
+counted_yes kind d ds e = sum_by-cons (one_if kind) d ds ∙ ap (λ (b : Bool). (if b then 1 else 0) + count_of_kind kind ds) e
 
-counted_no : (kind : KindOf) (d : Difference) (ds : List Difference) → (kind_place (kind_of d) == kind_place kind) ≡ false → count_of kind (d ∷ ds) ≡ count_of kind ds
-counted_no kind d ds e = sum_by-cons (one_if kind) d ds ∙ ap (λ (b : Bool). (if b then 1 else 0) + count_of kind ds) e ∙ add_none (count_of kind ds)
+counted_no : (kind : KindOf) (d : Difference) (ds : List Difference) → (kind_place (kind_of_difference d) == kind_place kind) ≡ false → count_of_kind kind (d ∷ ds) ≡ count_of_kind kind ds
+counted_no kind d ds e = sum_by-cons (one_if kind) d ds ∙ ap (λ (b : Bool). (if b then 1 else 0) + count_of_kind kind ds) e ∙ add_none (count_of_kind kind ds)
 
--- where all are left out there is none of a kind that isn't
-none_counted : (k : Leaving) (kind : KindOf) (ds : List Difference) → left_out k kind ≡ false → AllByRecursion (IsLeft k) ds → count_of kind ds ≡ 0
-none_counted k kind [] e h = refl
-none_counted k kind (d ∷ ds) e h = by (kind_place (kind_of d) == kind_place kind) refl (none_counted k kind ds e h.1)
+-- names for people are of heads
+label_heads : (of : Subject) (field : Field) → is_label_field field ≡ true → kind_of_field of field ≡ kinds.Heads
+label_heads of (fields.Entry entries.Handler n part) e = refl
+label_heads of (fields.Entry entries.Descriptions n part) e = refl
+label_heads of (fields.Entry entries.Edits n part) e = absurd cc
+label_heads of (fields.Entry entries.Kept n part) e = absurd cc
+label_heads of (fields.Entry entries.ExtendedLanguages n part) e = absurd cc
+label_heads of (fields.Entry entries.MediaHeader n part) e = absurd cc
+label_heads of (fields.Entry entries.GroupDescriptions n part) e = absurd cc
+label_heads of _ e = absurd cc
+
+-- the word for a kind that isn't that of heads
+left_kind : (k : Without) (d : Difference) → left_at k d.subject d.field ≡ true → (kind_place (kind_of_difference d) == kind_place kinds.Heads) ≡ false → left_out k (kind_of_difference d) ≡ true
+left_kind k d h other = by (is_label d) refl
   where
-    by : (b : Bool) → (kind_place (kind_of d) == kind_place kind) ≡ b → count_of kind ds ≡ 0 → count_of kind (d ∷ ds) ≡ 0
+    by : (b : Bool) → is_label d ≡ b → left_out k (kind_of_difference d) ≡ true
+    by true e = absurd (true_false (kind_place (kind_of_difference d) == kind_place kinds.Heads) (ap (λ (kind : KindOf). kind_place kind == kind_place kinds.Heads) (label_heads d.subject d.field e)) other)
+    by false e = sym (ap (λ (b : Bool). if b then k.labels else left_out k (kind_of_difference d)) e) ∙ h
+
+-- where all are left out there is none of such a kind that isn't
+none_counted : (k : Without) (kind : KindOf) (ds : List Difference) → left_out k kind ≡ false → (kind_place kind == kind_place kinds.Heads) ≡ false → AllByRecursion (IsLeft k) ds → count_of_kind kind ds ≡ 0
+none_counted k kind [] e o h = refl
+none_counted k kind (d ∷ ds) e o h = by (kind_place (kind_of_difference d) == kind_place kind) refl (none_counted k kind ds e o h.1)
+  where
+    by : (b : Bool) → (kind_place (kind_of_difference d) == kind_place kind) ≡ b → count_of_kind kind ds ≡ 0 → count_of_kind kind (d ∷ ds) ≡ 0
     by true match rest =
-        let place : kind_place (kind_of d) ≡ kind_place kind = eqb-true (kind_place (kind_of d)) (kind_place kind) match in
-        absurd (true_false (left_out k kind) (left_placed k kind ∙ ap (left_place k) (sym place) ∙ sym (left_placed k (kind_of d)) ∙ h.0.0) e)
+        let place : kind_place (kind_of_difference d) ≡ kind_place kind = eqb-true (kind_place (kind_of_difference d)) (kind_place kind) match in
+        let out = left_kind k d h.0.0 (ap (λ (n : ℕ). n == kind_place kinds.Heads) place ∙ o) in
+        absurd (true_false (left_out k kind) (left_placed k kind ∙ ap (left_place k) (sym place) ∙ sym (left_placed k (kind_of_difference d)) ∙ out) e)
     by false other rest = counted_no kind d ds other ∙ rest
 
-none_had : (k : Leaving) (kind : KindOf) (ds : List Difference) → left_out k kind ≡ false → AllByRecursion (IsLeft k) ds → has kind ds ≡ false
-none_had k kind ds e h = rw (none_counted k kind ds e h) refl
+none_had : (k : Without) (kind : KindOf) (ds : List Difference) → left_out k kind ≡ false → (kind_place kind == kind_place kinds.Heads) ≡ false → AllByRecursion (IsLeft k) ds → has kind ds ≡ false
+none_had k kind ds e o h = rw (none_counted k kind ds e o h) refl
 
-none_in_sync : (k : Leaving) (ds : List Difference) → AllByRecursion (IsLeft k) ds → list_any is_in_sync ds ≡ false
+-- none is of a head but of names for people
+none_fixed : (k : Without) (ds : List Difference) → AllByRecursion (IsLeft k) ds → list_any is_fixed ds ≡ false
+none_fixed k [] h = refl
+none_fixed k (d ∷ ds) h = rw (one (is_label d) refl, none_fixed k ds h.1) refl
+  where
+    out : is_label d ≡ false → (b : Bool) → (kind_place (kind_of_difference d) == kind_place kinds.Heads) ≡ b → b ≡ false
+    out e true f =
+        let place : kind_place (kind_of_difference d) ≡ kind_place kinds.Heads = eqb-true (kind_place (kind_of_difference d)) (kind_place kinds.Heads) f in
+        let left : left_out k (kind_of_difference d) ≡ true = sym (ap (λ (b : Bool). if b then k.labels else left_out k (kind_of_difference d)) e) ∙ h.0.0 in
+        absurd (true_false (left_out k kinds.Heads) (left_placed k kinds.Heads ∙ ap (left_place k) (sym place) ∙ sym (left_placed k (kind_of_difference d)) ∙ left) refl)
+    out e false f = refl
+
+    none_and : (b : Bool) → (b && false) ≡ false
+    none_and true = refl
+    none_and false = refl
+
+    one : (b : Bool) → is_label d ≡ b → is_fixed d ≡ false
+    one true e = ap (λ (v : Bool). (kind_place (kind_of_difference d) == kind_place kinds.Heads) && not v) e ∙ none_and (kind_place (kind_of_difference d) == kind_place kinds.Heads)
+    one false e = ap (λ (v : Bool). v && not (is_label d)) (out e (kind_place (kind_of_difference d) == kind_place kinds.Heads) refl)
+
+-- and none of these where they stay
+none_label : (k : Without) (ds : List Difference) → k.labels ≡ false → AllByRecursion (IsLeft k) ds → list_any is_label ds ≡ false
+none_label k [] e h = refl
+none_label k (d ∷ ds) e h = rw (one (is_label d) refl, none_label k ds e h.1) refl
+  where
+    one : (b : Bool) → is_label d ≡ b → is_label d ≡ false
+    one true f = absurd (true_false k.labels (sym (ap (λ (b : Bool). if b then k.labels else left_out k (kind_of_difference d)) f) ∙ h.0.0) e)
+    one false f = f
+
+none_in_sync : (k : Without) (ds : List Difference) → AllByRecursion (IsLeft k) ds → list_any is_in_sync ds ≡ false
 none_in_sync k [] h = refl
 none_in_sync k (d ∷ ds) h = rw (h.0.1, none_in_sync k ds h.1) refl
 
 -- then words leave all of them out
-all_left : (k : Leaving) (ds : List Difference) → AllByRecursion (IsLeft k) ds → differ_in_all ds ≡ false
-all_left k ds h = rw (none_had k kinds.Heads ds refl h, none_had k kinds.Samples ds refl h, none_had k kinds.Bytes ds refl h, none_in_sync k ds h) refl
+all_left : (k : Without) (ds : List Difference) → AllByRecursion (IsLeft k) ds → differ_in_all ds ≡ false
+all_left k ds h = rw (none_fixed k ds h, none_had k kinds.Samples ds refl refl h, none_had k kinds.Bytes ds refl refl h, none_in_sync k ds h) refl
 
 -- ---- what is the same where no difference of a kind is listed
 
@@ -294,25 +402,54 @@ kind_same of f g (entry_byte list n j m k c e i) = ap (kind_of_field of) e ∙ a
 kind_same of f g (same_index a b r e i) = ap (kind_of_field of) e ∙ ap (kind_of_field of) (sym i)
 
 -- where there is one of a kind they are counted
-any_counted : (P : Difference → Type 0) (kind : KindOf) (ds : List Difference) → ((d : Difference) → P d → kind_of d ≡ kind) → Any P ds → count_of kind ds ≡ 0 → ⊥
+any_counted : (P : Difference → Type 0) (kind : KindOf) (ds : List Difference) → ((d : Difference) → P d → kind_of_difference d ≡ kind) → Any P ds → count_of_kind kind ds ≡ 0 → ⊥
 any_counted P kind [] f h e = let within = h.2 in omega (arith, within)
 any_counted P kind (d ∷ ds) f (zero, x, within, is, p) e =
-    let kinds : kind_of d ≡ kind = ap kind_of is ∙ f x p in
-    let place : (kind_place (kind_of d) == kind_place kind) ≡ true = eq-eqb (kind_place (kind_of d)) (kind_place kind) (ap kind_place kinds) in
+    let kinds : kind_of_difference d ≡ kind = ap kind_of_difference is ∙ f x p in
+    let place : (kind_place (kind_of_difference d) == kind_place kind) ≡ true = eq-eqb (kind_place (kind_of_difference d)) (kind_place kind) (ap kind_place kinds) in
     let one = counted_yes kind d ds place in
     omega (arith, one, e)
-any_counted P kind (d ∷ ds) f (suc i, x, within, is, p) e = any_counted P kind ds f (i, x, omega (arith, within), is, p) (by (kind_place (kind_of d) == kind_place kind) refl e)
+any_counted P kind (d ∷ ds) f (suc i, x, within, is, p) e = any_counted P kind ds f (i, x, omega (arith, within), is, p) (by (kind_place (kind_of_difference d) == kind_place kind) refl e)
   where
-    by : (b : Bool) → (kind_place (kind_of d) == kind_place kind) ≡ b → count_of kind (d ∷ ds) ≡ 0 → count_of kind ds ≡ 0
+    by : (b : Bool) → (kind_place (kind_of_difference d) == kind_place kind) ≡ b → count_of_kind kind (d ∷ ds) ≡ 0 → count_of_kind kind ds ≡ 0
     by true match e = absurd (let one = counted_yes kind d ds match in omega (arith, one, e))
     by false other e = sym (counted_no kind d ds other) ∙ e
 
-none_of : (kind : KindOf) (ds : List Difference) → has kind ds ≡ false → count_of kind ds ≡ 0
-none_of kind ds e = by (count_of kind ds) refl
+-- a difference at a place may be of a name where the place may
+byte_label : (list : Entries) (j m i n : ℕ) → is_label_entry list (parts.Byte j m) ≡ is_label_entry list (parts.Byte i n)
+byte_label entries.Handler j m i n = refl
+byte_label entries.Descriptions j m i n = refl
+byte_label entries.Edits j m i n = refl
+byte_label entries.Kept j m i n = refl
+byte_label entries.ExtendedLanguages j m i n = refl
+byte_label entries.MediaHeader j m i n = refl
+byte_label entries.GroupDescriptions j m i n = refl
+
+label_same : (f g : Field) → IsSameBut f g → is_label_field f ≡ is_label_field g
+label_same f g (same_field e) = ap is_label_field e
+label_same f g (sample_byte j m k n e i) = ap is_label_field e ∙ ap is_label_field (sym i)
+label_same f g (entry_byte list n j m k c e i) = ap is_label_field e ∙ byte_label list j m k c ∙ ap is_label_field (sym i)
+label_same f g (same_index a b r e i) = ap is_label_field e ∙ ap is_label_field (sym i)
+
+none_first : (a b : Bool) → (a || b) ≡ false → a ≡ false
+none_first true b e = absurd cc
+none_first false b e = refl
+
+none_behind : (a b : Bool) → (a || b) ≡ false → b ≡ false
+none_behind true b e = absurd cc
+none_behind false b e = e
+
+any_label : (P : Difference → Type 0) (ds : List Difference) → ((d : Difference) → P d → is_label d ≡ true) → Any P ds → list_any is_label ds ≡ false → ⊥
+any_label P [] f h e = let within = h.2 in omega (arith, within)
+any_label P (d ∷ ds) f (zero, x, within, is, p) e = true_false (is_label d) (ap is_label is ∙ f x p) (none_first (is_label d) (list_any is_label ds) e)
+any_label P (d ∷ ds) f (suc i, x, within, is, p) e = any_label P ds f (i, x, omega (arith, within), is, p) (none_behind (is_label d) (list_any is_label ds) e)
+
+none_of : (kind : KindOf) (ds : List Difference) → has kind ds ≡ false → count_of_kind kind ds ≡ 0
+none_of kind ds e = by (count_of_kind kind ds) refl
   where
-    by : (n : ℕ) → count_of kind ds ≡ n → count_of kind ds ≡ 0
+    by : (n : ℕ) → count_of_kind kind ds ≡ n → count_of_kind kind ds ≡ 0
     by zero is = is
-    by (suc n) is = absurd (true_false (has kind ds) (lt-ltb 0 (count_of kind ds) (omega (arith, is))) e)
+    by (suc n) is = absurd (true_false (has kind ds) (lt-ltb 0 (count_of_kind kind ds) (omega (arith, is))) e)
 
 module _ (p q : Presentation) where
   -- what both say at a place of a kind of which nothing is listed
@@ -324,6 +461,14 @@ module _ (p q : Presentation) where
       by false e = absurd (any_counted (λ (d : Difference). (d.subject ≡ of) × IsSameBut d.field field) (kind_of_field of field) (differences p q)
           (λ d h. ap (λ s. kind_of_field s d.field) h.0 ∙ kind_same of d.field field h.1)
           (differences_are_all p q of field x y u v e) (none_of (kind_of_field of field) (differences p q) none))
+
+  -- the same of names for people
+  label_at : (of : Subject) (field : Field) (x y : Value) → value_at p of field ≡ Some x → value_at q of field ≡ Some y → is_label_field field ≡ true → list_any is_label (differences p q) ≡ false → x ≡ y
+  label_at of field x y u v label none = by (same_value x y) refl
+    where
+      by : (b : Bool) → same_value x y ≡ b → x ≡ y
+      by true e = (same_value_is_equal x y).0 e
+      by false e = absurd (any_label (λ (d : Difference). (d.subject ≡ of) × IsSameBut d.field field) (differences p q) (λ d h. label_same d.field field h.1 ∙ label) (differences_are_all p q of field x y u v e) none)
 
 abbrev number_of : Value → ℕ
 number_of (Number n) = n
@@ -395,9 +540,10 @@ zip_better R S (x ∷ xs) [] z f = absurd z
 zip_better R S (x ∷ xs) (y ∷ ys) z f = (f 0 x y refl refl z.0, zip_better R S xs ys z.1 (λ k a b e g r. f (suc k) a b e g r))
 
 -- Two presentations agree without some words if they agree without others, and no difference is listed that the first don't leave out.
-module _ (s k : Leaving) (p q : Presentation) (h : Agree k p q) (plain : IsAllPlain p) (other : IsAllPlain q) (none : (kind : KindOf) → left_out s kind ≡ false → has kind (differences p q) ≡ false) where
-  at : (of : Subject) (field : Field) (x y : Value) → value_at p of field ≡ Some x → value_at q of field ≡ Some y → left_out s (kind_of_field of field) ≡ false → x ≡ y
-  at of field x y u v e = place_same p q of field x y u v (none (kind_of_field of field) e)
+module _ (s k : Without) (p q : Presentation) (h : Agree k p q) (plain : IsAllPlain p) (other : IsAllPlain q) (none : (kind : KindOf) → left_out s kind ≡ false → (kind_place kind == kind_place kinds.Heads) ≡ false → has kind (differences p q) ≡ false) (no_label : s.labels ≡ false
+    → list_any is_label (differences p q) ≡ false) where
+  at : (of : Subject) (field : Field) (x y : Value) → value_at p of field ≡ Some x → value_at q of field ≡ Some y → (kind_place (kind_of_field of field) == kind_place kinds.Heads) ≡ false → left_out s (kind_of_field of field) ≡ false → x ≡ y
+  at of field x y u v o e = place_same p q of field x y u v (none (kind_of_field of field) e o)
 
   movies_agree : MovieHeadsAgree s p.movie q.movie
   movies_agree = record {
@@ -405,30 +551,43 @@ module _ (s k : Leaving) (p q : Presentation) (h : Agree k p q) (plain : IsAllPl
     rate = h.movie.rate;
     volume = h.movie.volume;
     matrix = h.movie.matrix;
-    creation = λ e. ap number_of (at subjects.Movie fields.Creation (Number p.movie.creation) (Number q.movie.creation) refl refl e);
-    modification = λ e. ap number_of (at subjects.Movie fields.Modification (Number p.movie.modification) (Number q.movie.modification) refl refl e);
-    kept = λ e. boxes_same p.movie.kept q.movie.kept (ap number_of (at subjects.Movie (fields.Count entries.Kept) (Number (length p.movie.kept)) (Number (length q.movie.kept)) refl refl e))
-        (λ n part x y u v. at subjects.Movie (fields.Entry entries.Kept n part) x y u v e);
+    creation = λ e. ap number_of (at subjects.Movie fields.Creation (Number p.movie.creation) (Number q.movie.creation) refl refl refl e);
+    modification = λ e. ap number_of (at subjects.Movie fields.Modification (Number p.movie.modification) (Number q.movie.modification) refl refl refl e);
+    kept = λ e. boxes_same p.movie.kept q.movie.kept (ap number_of (at subjects.Movie (fields.Count entries.Kept) (Number (length p.movie.kept)) (Number (length q.movie.kept)) refl refl refl e))
+        (λ n part x y u v. at subjects.Movie (fields.Entry entries.Kept n part) x y u v refl e);
     other_kept = h.movie.other_kept;
   }
 
   module _ (n : ℕ) (a b : Track) (e : member p.tracks n ≡ Some a) (f : member q.tracks n ≡ Some b) (r : TracksAgree k a b) (maps : IsPlain a) (other_maps : IsPlain b) where
-    in_track : (field : Field) (x y : Value) → track_value a field ≡ Some x → track_value b field ≡ Some y → left_out s (kind_of_field (subjects.Track n) field) ≡ false → x ≡ y
+    in_track : (field : Field) (x y : Value) → track_value a field ≡ Some x → track_value b field ≡ Some y → (kind_place (kind_of_field (subjects.Track n) field) == kind_place kinds.Heads) ≡ false → left_out s (kind_of_field (subjects.Track n) field) ≡ false → x ≡ y
     in_track field x y u v = at (subjects.Track n) field x y (ap (option_and_then (λ (t : Track). track_value t field)) e ∙ u) (ap (option_and_then (λ (t : Track). track_value t field)) f ∙ v)
 
-    number_in : (field : Field) (m i : ℕ) → track_value a field ≡ Some (Number m) → track_value b field ≡ Some (Number i) → left_out s (kind_of_field (subjects.Track n) field) ≡ false → m ≡ i
-    number_in field m i u v out = ap number_of (in_track field (Number m) (Number i) u v out)
+    number_in : (field : Field) (m i : ℕ) → track_value a field ≡ Some (Number m) → track_value b field ≡ Some (Number i) → (kind_place (kind_of_field (subjects.Track n) field) == kind_place kinds.Heads) ≡ false → left_out s (kind_of_field (subjects.Track n) field) ≡ false → m ≡ i
+    number_in field m i u v o out = ap number_of (in_track field (Number m) (Number i) u v o out)
+
+    in_label : (field : Field) (x y : Value) → track_value a field ≡ Some x → track_value b field ≡ Some y → is_label_field field ≡ true → s.labels ≡ false → x ≡ y
+    in_label field x y u v label out = label_at p q (subjects.Track n) field x y (ap (option_and_then (λ (t : Track). track_value t field)) e ∙ u) (ap (option_and_then (λ (t : Track). track_value t field)) f ∙ v) label (no_label out)
+
+    in_description : (i : ℕ) (part : Part) (x y : Value) → option_and_then (box_value part) (member a.head.media.descriptions i) ≡ Some x → option_and_then (box_value part) (member b.head.media.descriptions i) ≡ Some y → (w : Bool) → is_label_entry entries.Descriptions part ≡ w → s.labels ≡ false
+        → x ≡ y
+    in_description i part x y u v true label out = in_label (fields.Entry entries.Descriptions i part) x y u v label out
+    in_description i part x y u v false stays out =
+        let whole : Some x ≡ Some y = sym u ∙ parts_same part stays a.head.media.handler b.head.media.handler a.head.media.descriptions b.head.media.descriptions i r.head.media.left_descriptions ∙ v in
+        cc
 
     media_agree : MediaAgree s a.head.media b.head.media
     media_agree = record {
       timescale = r.head.media.timescale;
       language = r.head.media.language;
-      handler = r.head.media.handler;
       extended_languages = r.head.media.extended_languages;
       header = r.head.media.header;
-      descriptions = r.head.media.descriptions;
-      creation = number_in fields.MediaCreation a.head.media.creation b.head.media.creation refl refl;
-      modification = number_in fields.MediaModification a.head.media.modification b.head.media.modification refl refl;
+      creation = number_in fields.MediaCreation a.head.media.creation b.head.media.creation refl refl refl;
+      modification = number_in fields.MediaModification a.head.media.modification b.head.media.modification refl refl refl;
+      handler = λ out. payload_same a.head.media.handler b.head.media.handler (λ part x y u v. in_label (fields.Entry entries.Handler 1 part) x y u v refl out);
+      left_handler = r.head.media.left_handler;
+      descriptions = λ out. boxes_same a.head.media.descriptions b.head.media.descriptions (many_same a.head.media.handler b.head.media.handler a.head.media.descriptions b.head.media.descriptions r.head.media.left_descriptions)
+          (λ i part x y u v. in_description i part x y u v (is_label_entry entries.Descriptions part) refl out);
+      left_descriptions = r.head.media.left_descriptions;
     }
 
     heads_agree : TrackHeadsAgree s a.head b.head
@@ -441,25 +600,26 @@ module _ (s k : Leaving) (p q : Presentation) (h : Agree k p q) (plain : IsAllPl
       matrix = r.head.matrix;
       width = r.head.width;
       height = r.head.height;
-      creation = number_in fields.Creation a.head.creation b.head.creation refl refl;
-      modification = number_in fields.Modification a.head.modification b.head.modification refl refl;
-      edits = λ out. edits_same a.head.edits b.head.edits (number_in (fields.Count entries.Edits) (length a.head.edits) (length b.head.edits) refl refl out)
-          (λ i part x y u v. in_track (fields.Entry entries.Edits i part) x y u v out);
-      kept = λ out. boxes_same a.head.kept b.head.kept (number_in (fields.Count entries.Kept) (length a.head.kept) (length b.head.kept) refl refl out)
-          (λ i part x y u v. in_track (fields.Entry entries.Kept i part) x y u v out);
+      creation = number_in fields.Creation a.head.creation b.head.creation refl refl refl;
+      modification = number_in fields.Modification a.head.modification b.head.modification refl refl refl;
+      edits = λ out. edits_same a.head.edits b.head.edits (number_in (fields.Count entries.Edits) (length a.head.edits) (length b.head.edits) refl refl refl out)
+          (λ i part x y u v. in_track (fields.Entry entries.Edits i part) x y u v refl out);
+      kept = λ out. boxes_same a.head.kept b.head.kept (number_in (fields.Count entries.Kept) (length a.head.kept) (length b.head.kept) refl refl refl out)
+          (λ i part x y u v. in_track (fields.Entry entries.Kept i part) x y u v refl out);
       other_kept = r.head.other_kept;
       media = media_agree;
       group_descriptions = λ out. payloads_same a.head.group_descriptions b.head.group_descriptions
-          (number_in (fields.Count entries.GroupDescriptions) (length a.head.group_descriptions) (length b.head.group_descriptions) refl refl out)
-          (λ i part x y u v. in_track (fields.Entry entries.GroupDescriptions i part) x y u v out);
+          (number_in (fields.Count entries.GroupDescriptions) (length a.head.group_descriptions) (length b.head.group_descriptions) refl refl refl out)
+          (λ i part x y u v. in_track (fields.Entry entries.GroupDescriptions i part) x y u v refl out);
     }
 
     module _ (j : ℕ) (c d : Sample) (g : slice_get a.samples j ≡ Some c) (i : slice_get b.samples j ≡ Some d) (w : SamplesAgree k c d) where
-      in_sample : (field : Field) (m o : ℕ) → sample_value c field ≡ Some (Number m) → sample_value d field ≡ Some (Number o) → left_out s (kind_of_field (subjects.Sample n (suc j)) field) ≡ false → m ≡ o
-      in_sample field m o u v out =
+      in_sample : (field : Field) (m o : ℕ) → sample_value c field ≡ Some (Number m) → sample_value d field ≡ Some (Number o) → (kind_place (kind_of_field (subjects.Sample n (suc j)) field) == kind_place kinds.Heads) ≡ false → left_out s (kind_of_field (subjects.Sample n (suc j)) field) ≡ false
+          → m ≡ o
+      in_sample field m o u v other out =
           let of_tracks = option_and_then (λ (t : Track). option_and_then (λ (x : Sample). sample_value x field) (member t.samples (suc j))) in
           let of_samples = option_and_then (λ (x : Sample). sample_value x field) in
-          ap number_of (at (subjects.Sample n (suc j)) field (Number m) (Number o) (ap of_tracks e ∙ ap of_samples g ∙ u) (ap of_tracks f ∙ ap of_samples i ∙ v) out)
+          ap number_of (at (subjects.Sample n (suc j)) field (Number m) (Number o) (ap of_tracks e ∙ ap of_samples g ∙ u) (ap of_tracks f ∙ ap of_samples i ∙ v) other out)
 
       sample_agrees : SamplesAgree s c d
       sample_agrees = record {
@@ -468,9 +628,9 @@ module _ (s k : Leaving) (p q : Presentation) (h : Agree k p q) (plain : IsAllPl
         description = w.description;
         bytes = w.bytes;
         sync = w.sync;
-        flags = in_sample fields.Flags c.flags d.flags refl refl;
+        flags = in_sample fields.Flags c.flags d.flags refl refl refl;
         groups = λ out. maps_same c.groups d.groups (all_get HasMap a.samples j c maps.maps g) (all_get HasMap b.samples j d other_maps.maps i)
-            (λ key. in_sample (key_field key) (index_at key c.groups) (index_at key d.groups) refl refl out);
+            (λ key. in_sample (key_field key) (index_at key c.groups) (index_at key d.groups) refl refl refl out);
       }
 
     track_agrees : TracksAgree s a b
@@ -499,37 +659,38 @@ none_right true b e = absurd cc
 none_right false b e = e
 
 -- Where the same is left of both with more words than were given, words are suggested, each of which is among these, and the same is left of both with them.
-pub words_suggested : (l k : Leaving) (p q : Presentation) → Valid p → Valid q → Covers l k → reduce k p ≡ reduce k q
-    → (s : Leaving) × (suggested l (differences (reduce l p) (reduce l q)) ≡ Some s) × Covers s k × (reduce s p ≡ reduce s q)
+pub words_suggested : (l k : Without) (p q : Presentation) → Valid p → Valid q → Covers l k → reduce k p ≡ reduce k q
+    → (s : Without) × (suggested l (differences (reduce l p) (reduce l q)) ≡ Some s) × Covers s k × (reduce s p ≡ reduce s q)
 words_suggested l k p q v w c e =
     let ds = differences (reduce l p) (reduce l q) in
     let same : reduce k (reduce l p) ≡ reduce k (reduce l q) = sym (reduced_more l k p c) ∙ e ∙ reduced_more l k q c in
     let h = (reduce_is_exact k (reduce l p) (reduce l q)).0 same in
     let left = each_left k (reduce l p) (reduce l q) h ds (each_difference_is_one (reduce l p) (reduce l q)) (differences_are_theirs (reduce l p) (reduce l q)) in
     let s = both l (words_for ds) in
-    let agree = all_agree s k (reduce l p) (reduce l q) h (all_plain l p v) (all_plain l q w) (not_had k l ds left) in
+    let agree = all_agree s k (reduce l p) (reduce l q) h (all_plain l p v) (all_plain l q w) (not_had k l ds left) (λ out. none_right l.labels (list_any is_label ds) out) in
     let more = covers_more l (words_for ds) in (
       s,
       rw (all_left k ds left) refl,
       λ i. record {
-        times = covered l.times (has kinds.Times ds) k.times (ap (λ (x : Leaving). x.times) c) (λ out. none_had k kinds.Times ds out left) i;
-        edits = covered l.edits (has kinds.Edits ds) k.edits (ap (λ (x : Leaving). x.edits) c) (λ out. none_had k kinds.Edits ds out left) i;
-        flags = covered l.flags (has kinds.Flags ds) k.flags (ap (λ (x : Leaving). x.flags) c) (λ out. none_had k kinds.Flags ds out left) i;
-        groups = covered l.groups (has kinds.Groups ds) k.groups (ap (λ (x : Leaving). x.groups) c) (λ out. none_had k kinds.Groups ds out left) i;
-        metadata = covered l.metadata (has kinds.Kept ds) k.metadata (ap (λ (x : Leaving). x.metadata) c) (λ out. none_had k kinds.Kept ds out left) i;
+        times = covered l.times (has kinds.Times ds) k.times (ap (λ (x : Without). x.times) c) (λ out. none_had k kinds.Times ds out refl left) i;
+        edits = covered l.edits (has kinds.Edits ds) k.edits (ap (λ (x : Without). x.edits) c) (λ out. none_had k kinds.Edits ds out refl left) i;
+        flags = covered l.flags (has kinds.Flags ds) k.flags (ap (λ (x : Without). x.flags) c) (λ out. none_had k kinds.Flags ds out refl left) i;
+        groups = covered l.groups (has kinds.Groups ds) k.groups (ap (λ (x : Without). x.groups) c) (λ out. none_had k kinds.Groups ds out refl left) i;
+        metadata = covered l.metadata (has kinds.Kept ds) k.metadata (ap (λ (x : Without). x.metadata) c) (λ out. none_had k kinds.Kept ds out refl left) i;
+        labels = covered l.labels (list_any is_label ds) k.labels (ap (λ (x : Without). x.labels) c) (λ out. none_label k ds out left) i;
       },
       reduced_more l s p more ∙ (reduce_is_exact s (reduce l p) (reduce l q)).1 agree ∙ sym (reduced_more l s q more),
     )
   where
-    not_had : (k l : Leaving) (ds : List Difference) → AllByRecursion (IsLeft k) ds → (kind : KindOf) → left_out (both l (words_for ds)) kind ≡ false → has kind ds ≡ false
-    not_had k l ds left kinds.Times e = none_right l.times (has kinds.Times ds) e
-    not_had k l ds left kinds.Edits e = none_right l.edits (has kinds.Edits ds) e
-    not_had k l ds left kinds.Flags e = none_right l.flags (has kinds.Flags ds) e
-    not_had k l ds left kinds.Groups e = none_right l.groups (has kinds.Groups ds) e
-    not_had k l ds left kinds.Kept e = none_right l.metadata (has kinds.Kept ds) e
-    not_had k l ds left kinds.Heads e = none_had k kinds.Heads ds refl left
-    not_had k l ds left kinds.Samples e = none_had k kinds.Samples ds refl left
-    not_had k l ds left kinds.Bytes e = none_had k kinds.Bytes ds refl left
+    not_had : (k l : Without) (ds : List Difference) → AllByRecursion (IsLeft k) ds → (kind : KindOf) → left_out (both l (words_for ds)) kind ≡ false → (kind_place kind == kind_place kinds.Heads) ≡ false → has kind ds ≡ false
+    not_had k l ds left kinds.Times e o = none_right l.times (has kinds.Times ds) e
+    not_had k l ds left kinds.Edits e o = none_right l.edits (has kinds.Edits ds) e
+    not_had k l ds left kinds.Flags e o = none_right l.flags (has kinds.Flags ds) e
+    not_had k l ds left kinds.Groups e o = none_right l.groups (has kinds.Groups ds) e
+    not_had k l ds left kinds.Kept e o = none_right l.metadata (has kinds.Kept ds) e
+    not_had k l ds left kinds.Heads e o = absurd cc
+    not_had k l ds left kinds.Samples e o = none_had k kinds.Samples ds refl refl left
+    not_had k l ds left kinds.Bytes e o = none_had k kinds.Bytes ds refl refl left
 
 each_taken : (P : Difference → Type 0) (n : ℕ) (ds : List Difference) → AllByRecursion P ds → AllByRecursion P (take n ds)
 each_taken P zero ds h = tt
@@ -537,8 +698,8 @@ each_taken P (suc n) [] h = tt
 each_taken P (suc n) (d ∷ ds) h = (h.0, each_taken P n ds h.1)
 
 -- and some words are suggested by any first of the differences
-pub some_suggested : (l k : Leaving) (p q : Presentation) (n : ℕ) → Valid p → Valid q → Covers l k → reduce k p ≡ reduce k q
-    → (s : Leaving) × (suggested l (take n (differences (reduce l p) (reduce l q))) ≡ Some s)
+pub some_suggested : (l k : Without) (p q : Presentation) (n : ℕ) → Valid p → Valid q → Covers l k → reduce k p ≡ reduce k q
+    → (s : Without) × (suggested l (take n (differences (reduce l p) (reduce l q))) ≡ Some s)
 some_suggested l k p q n v w c e =
     let ds = differences (reduce l p) (reduce l q) in
     let same : reduce k (reduce l p) ≡ reduce k (reduce l q) = sym (reduced_more l k p c) ∙ e ∙ reduced_more l k q c in

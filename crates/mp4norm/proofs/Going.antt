@@ -7,7 +7,7 @@ use Rattle.mp4_present.specs.words.Carried.{BytesGoOn}
 use Rattle.mp4_present.proofs.Carrying.{BytesGoOn-then, no_room}
 use Rattle.mp4_store.proofs.Known.{IsJoining}
 use Rattle.mp4_tables.specs.declared.sample.SampleAt.{SampleAt}
-use Rattle.mp4norm.specs.declared.wanted.Form.{Form}
+use Rattle.mp4norm.specs.declared.shell.action.Form.{Form}
 use Rattle.mp4norm.specs.format.Texts.{sample_at_line, sample_at_lines}
 
 -- ---- a loop over samples that adds the line of each

@@ -7,8 +7,8 @@ use Rattle.std.proofs.lemmas.List.{append-nil}
 use Rattle.mp4norm.specs.format.Text.{edit_line, kept_lines, media_lines, movie_lines, named_line, number_line, payload_lines, track_lines}
 use Rattle.mp4norm.specs.format.Texts.{hex_digits, line_feed}
 use Rattle.mp4norm.specs.words.Telling.{media_front, movie_front, said_line, said_words, track_front}
-use Rattle.mp4norm.specs.declared.named_lines.Said.{Said}
-use Rattle.mp4norm.specs.declared.named_lines.Named.{Named}
+use Rattle.mp4norm.specs.declared.text.named_lines.Said.{Said}
+use Rattle.mp4norm.specs.declared.text.named_lines.Named.{Named}
 use Rattle.mp4norm.proofs.Told.{flat_of_map}
 
 -- a name, and what is said of it

@@ -11,7 +11,7 @@ use Rattle.mp4_boxes.specs.declared.rule.Rule.{Rule}
 use Rattle.mp4_boxes.proofs.HeaderFronts.{header_there-take}
 use Rattle.mp4_boxes.proofs.Walking.{located_ok}
 use Rattle.mp4_store.specs.words.Device.{range}
-use Rattle.mp4norm.specs.declared.named.Name.{Name}
+use Rattle.mp4norm.specs.declared.commands.box_names.Name.{Name}
 use Rattle.mp4norm.specs.format.Strips.{Halts, here, RefusesHeaderUnder, RefusesWalk}
 use Rattle.mp4norm.proofs.StripWalks.{take_range}
 

@@ -39,4 +39,11 @@ pub mod Told
 pub mod PartTexts
 pub mod HeadTexts
 pub mod KeyOrder
+pub mod TextsGoOn
+pub mod ToldWalks
+pub mod ToldLines
+pub mod PrintedTracks
+mod TextWords
+mod TextParts
+mod TextsTell
 pub mod Printed

@@ -5,8 +5,8 @@ use Rattle.serde_json.proofs.OnLiterals.{serde_json_on_literals}
 use Rattle.serde_json.specs.Find.{of_integer}
 use Rattle.serde_json.specs.Written.{number_text}
 use Rattle.mp4_tables.specs.declared.sample.SampleAt.{SampleAt}
-use Rattle.mp4norm.specs.declared.wanted.Form.{Form}
-use Rattle.mp4norm.specs.declared.wanted.Form.TheVariants as forms
+use Rattle.mp4norm.specs.declared.shell.action.Form.{Form}
+use Rattle.mp4norm.specs.declared.shell.action.Form.TheVariants as forms
 use Rattle.mp4norm.specs.format.Texts.{line_feed, form_line, sample_at_line}
 
 integer_text : (z : ℤ) → number_text (of_integer z) ≡ signed_decimal z

@@ -10,3 +10,8 @@ match_both A B (Err e) a b = b
 pub told_ok : {T E : Type 0} (A B : Type 0) (r : Result T E) → (A → OnOk r B) → OnOk r (A → B)
 told_ok A B (Ok x) f = f
 told_ok A B (Err e) f = tt
+
+-- what is so anyway
+pub ok_anyway : {T E : Type 0} (A : Type 0) (r : Result T E) → A → OnOk r A
+ok_anyway A (Ok x) a = a
+ok_anyway A (Err e) a = tt

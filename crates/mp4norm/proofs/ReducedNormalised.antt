@@ -10,13 +10,13 @@ use Rattle.mp4_present.specs.format.Presentation.{Presentation, Track, IsInTime}
 use Rattle.mp4_present.specs.format.Reduced.{ReducesInTime, reduce, reduce_track}
 use Rattle.mp4_present.specs.words.Movies.{MovieSeen}
 use Rattle.mp4_present.specs.words.OpenedMovie.{IsOpenedAs}
-use Rattle.mp4_present.specs.declared.leaving.Leaving.{Leaving}
+use Rattle.mp4_present.specs.declared.without.Without.{Without}
 use Rattle.mp4_present.proofs.One.{denotes_one}
 use Rattle.mp4_present.proofs.WalkCopied.{on_err}
 use Rattle.mp4_plan.specs.format.Normal.{normal}
 use Rattle.mp4_plan.specs.format.ReducedTimes.{ReducedFaultStands}
 use Rattle.mp4_plan.specs.words.LeftTimes.{NamesLong, RefusesLeftCopy}
-use Rattle.mp4_plan.specs.words.OverDevices.{TellsLong}
+use Rattle.mp4_plan.specs.words.MadeWriters.{TellsLong}
 use Rattle.mp4_plan.proofs.ReducedFaults.{in_time_or, opened_stands}
 use Rattle.mp4norm.specs.format.Answers.{IsFaultOf}
 use Rattle.mp4norm.specs.format.ReducedHeadline.{HasReducedForm, IsTooLong}
@@ -24,11 +24,11 @@ use Rattle.mp4norm.specs.format.Run.{Run, Honest, PutsNothing, PutsAll, PutsFron
 use Rattle.mp4norm.proofs.ShownLines.{denoted}
 
 -- the normal form of what is left of what was opened is one of its file
-reduced_form : (l : Leaving) (file : List ℕ) (m : MovieSeen) (tree : FileTree) → IsOpenedAs file m tree → ReducesInTime l (presentation_of file tree) → HasReducedForm l file (normal (reduce l (presentation_of file tree)))
+reduced_form : (l : Without) (file : List ℕ) (m : MovieSeen) (tree : FileTree) → IsOpenedAs file m tree → ReducesInTime l (presentation_of file tree) → HasReducedForm l file (normal (reduce l (presentation_of file tree)))
 reduced_form l file m tree o in_time = (presentation_of file tree, denoted file m tree o, in_time, refl)
 
 -- what is left is too long, or it is not
-times_or : (l : Leaving) (timescale : ℕ) (tracks : List Track) → AllByRecursion (λ (t : Track). IsInTime timescale (reduce_track l t)) tracks ⊎ (AllByRecursion (λ (t : Track). IsInTime timescale (reduce_track l t)) tracks → ⊥)
+times_or : (l : Without) (timescale : ℕ) (tracks : List Track) → AllByRecursion (λ (t : Track). IsInTime timescale (reduce_track l t)) tracks ⊎ (AllByRecursion (λ (t : Track). IsInTime timescale (reduce_track l t)) tracks → ⊥)
 times_or l timescale [] = inl tt
 times_or l timescale (t ∷ tracks) = elim (in_time_or timescale (reduce_track l t)) [
   | inl here ↦ elim (times_or l timescale tracks) [
@@ -38,21 +38,21 @@ times_or l timescale (t ∷ tracks) = elim (in_time_or timescale (reduce_track l
   | inr long ↦ inr (λ h. long h.0)
 ]
 
-reduces_or : (l : Leaving) (p : Presentation) → ReducesInTime l p ⊎ (ReducesInTime l p → ⊥)
+reduces_or : (l : Without) (p : Presentation) → ReducesInTime l p ⊎ (ReducesInTime l p → ⊥)
 reduces_or l p = times_or l p.movie.timescale p.tracks
 
 -- ---- why it is not put
 
 -- what is named where what is left is too long
-abbrev pub TooLong : Leaving → List ℕ → Refusal → Type 0
+abbrev pub TooLong : Without → List ℕ → Refusal → Type 0
 TooLong l file (refusals.Fault f) = ReducedFaultStands l file f
 TooLong l file _ = Unit {0}
 
 -- a fault is one of what the file denotes, or of what is left of it
-abbrev pub IsReducedFault : Leaving → List ℕ → Fault → Type 0
+abbrev pub IsReducedFault : Without → List ℕ → Fault → Type 0
 IsReducedFault l file f = IsFaultOf file f ⊎ ReducedFaultStands l file f
 
-module _ (A : Type 0) (l : Leaving) (r : Run) where
+module _ (A : Type 0) (l : Without) (r : Run) where
   write_fails : (e : Refusal) → RefusesLeftCopy l r.took r.reads r.reads_after r.puts r.puts_after e → (Honest r → PutsNothing r ⊎ PutsFront r (HasReducedForm l r.file)) → (Honest r → e ≡ refusals.WriteFailed → PutsFront r (HasReducedForm l r.file))
       → (Honest r → e ≡ refusals.StoreChanged → ⊥) → (Honest r → TooLong l r.file e) → Answered {A = A} r (HasReducedForm l r.file) (IsReducedFault l r.file) ⊥ (Err e)
   write_fails (refusals.Fault f) w p b u t = (w.1, λ told. inr (t told))
@@ -70,7 +70,7 @@ module _ (A : Type 0) (l : Leaving) (r : Run) where
   write_answers (Ok x) reads puts text w p b u t = ((reads, puts), text)
   write_answers (Err e) reads puts text w p b u t = write_fails e w p b u t
 
-too_long : (l : Leaving) (file : List ℕ) (m : MovieSeen) (tree : FileTree) → IsOpenedAs file m tree → (r : Refusal) → NamesLong l file tree r → TooLong l file r
+too_long : (l : Without) (file : List ℕ) (m : MovieSeen) (tree : FileTree) → IsOpenedAs file m tree → (r : Refusal) → NamesLong l file tree r → TooLong l file r
 too_long l file m tree o (refusals.Fault f) n = opened_stands l file m tree f o n.0
 too_long l file m tree o refusals.Memory n = tt
 too_long l file m tree o refusals.StoreFailed n = tt
@@ -78,14 +78,14 @@ too_long l file m tree o refusals.StoreChanged n = tt
 too_long l file m tree o refusals.WriteFailed n = tt
 too_long l file m tree o refusals.NoSuchTrack n = tt
 
-if_too_long : (l : Leaving) (file : List ℕ) (m : MovieSeen) (tree : FileTree) → IsOpenedAs file m tree → {T : Type 0} (answer : Result T Refusal) → IfErr answer (NamesLong l file tree) → IfErr answer (TooLong l file)
+if_too_long : (l : Without) (file : List ℕ) (m : MovieSeen) (tree : FileTree) → IsOpenedAs file m tree → {T : Type 0} (answer : Result T Refusal) → IfErr answer (NamesLong l file tree) → IfErr answer (TooLong l file)
 if_too_long l file m tree o (Ok x) n = tt
 if_too_long l file m tree o (Err r) n = too_long l file m tree o r n
 
 -- ---- what is so of the boxes of a file that was opened, is so of what it denotes
 
 -- the store and its file as they are when the file is opened, in the run, and when it is written
-module _ (l : Leaving) (r : Run) (honest_then : Bool) (file_then : List ℕ) (m : MovieSeen) (same_honesty : honest_then ≡ r.honest) (same_file : file_then ≡ r.file) (opened : Honest r → (t : FileTree) × IsOpenedAs r.file m t) where
+module _ (l : Without) (r : Run) (honest_then : Bool) (file_then : List ℕ) (m : MovieSeen) (same_honesty : honest_then ≡ r.honest) (same_file : file_then ≡ r.file) (opened : Honest r → (t : FileTree) × IsOpenedAs r.file m t) where
   -- what is so of the boxes that were opened
   abbrev Then : Bool → List ℕ → (List ℕ → FileTree → Type 0) → Type 0
   Then told f P = IsTrue told → (t : FileTree) → IsOpenedAs f m t → P f t

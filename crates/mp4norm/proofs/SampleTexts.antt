@@ -6,7 +6,7 @@ use Rattle.mp4_tables.specs.format.PlainSamples.{PlacedSample}
 use Rattle.mp4_tables.specs.words.Timed.{timed}
 use Rattle.mp4_tables.specs.declared.sample.SampleAt.{SampleAt}
 use Rattle.mp4_present.specs.format.Denotes.{bytes_at, sample_of}
-use Rattle.mp4norm.specs.declared.wanted.Form.{Form}
+use Rattle.mp4norm.specs.declared.shell.action.Form.{Form}
 use Rattle.mp4norm.specs.format.Texts.{form_line, sample_at_line, sample_at_lines, sample_lines_from}
 
 -- some samples, and then some more

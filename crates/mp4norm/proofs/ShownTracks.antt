@@ -13,7 +13,7 @@ use Rattle.mp4_head.specs.declared.heads.TrackHead.{TrackHead}
 use Rattle.mp4_present.specs.declared.track_info.TrackInfo.{TrackInfo}
 use Rattle.mp4_present.specs.format.Presentation.{Track, Presentation, total_duration, movie_length}
 use Rattle.mp4_present.specs.format.Presentation.{heads as heads_of}
-use Rattle.mp4norm.specs.format.Texts.{edit_value, description_value, movie_data, track_value, sample_data, show_value}
+use Rattle.mp4norm.specs.format.Texts.{edit_data, description_value, movie_data, shown_track, sample_data, show_value}
 use Rattle.mp4norm.specs.words.ShowValue.{info_value, infos_values, ShowValue}
 
 -- one track more
@@ -41,7 +41,7 @@ integer-has_float : (z : ℤ) → has_float (number (of_integer z)) ≡ false
 integer-has_float (pos n) = refl
 integer-has_float (negsuc n) = refl
 
-edits-has_float : (edits : List heads.Edit) → items_have_float (items_of (map edit_value edits)) ≡ false
+edits-has_float : (edits : List heads.Edit) → items_have_float (items_of (map edit_data edits)) ≡ false
 edits-has_float [] = refl
 edits-has_float (e ∷ edits) = simp (integer-has_float, edits-has_float edits)
 
@@ -72,11 +72,11 @@ pub record IsInfoOf (t : Track) (info : TrackInfo) : Type 0 where
   pub samples : info.samples ≡ length t.samples
   pub start : info.start ≡ t.start
 
-infos_are : (tracks : List Track) (infos : List TrackInfo) → AllZip IsInfoOf tracks infos → infos_values (map (λ (t : Track). t.head) tracks) infos ≡ map track_value tracks
+infos_are : (tracks : List Track) (infos : List TrackInfo) → AllZip IsInfoOf tracks infos → infos_values (map (λ (t : Track). t.head) tracks) infos ≡ map shown_track tracks
 infos_are [] [] h = refl
 infos_are [] (n ∷ infos) h = absurd h
 infos_are (t ∷ tracks) [] h = absurd h
-infos_are (t ∷ tracks) (n ∷ infos) h = rw (h.0.bytes, h.0.duration, h.0.samples, h.0.start) (ap (λ (ds : List Data). track_value t ∷ ds) (infos_are tracks infos h.1))
+infos_are (t ∷ tracks) (n ∷ infos) h = rw (h.0.bytes, h.0.duration, h.0.samples, h.0.start) (ap (λ (ds : List Data). shown_track t ∷ ds) (infos_are tracks infos h.1))
 
 pub shown_is : (p : Presentation) (movie : heads.MovieHead) (hs : List heads.TrackHead) (length : ℕ) (infos : List TrackInfo) → movie ≡ p.movie → hs ≡ heads_of p → length ≡ movie_length p → AllZip IsInfoOf p.tracks infos
     → ShowValue movie hs length infos ≡ show_value p

@@ -162,6 +162,26 @@ tree_looks file tree way short h c =
 pub opened_looks : (file : List ℕ) (p : Presentation) (d : Denotes file p) → opening_steps d.tree ≤ 8 * (sample_total p + row_total d.tree)
 opened_looks file p d = subst (λ (q : Presentation). opening_steps d.tree ≤ 8 * (sample_total q + row_total d.tree)) (sym d.says) (let all = tree_looks file d.tree 0 (omega arith) d.is_tree d.is_consistent in omega (arith, all))
 
+-- opening a file and a walk over each of its tracks
+all_walked : (m o s f r more checks ways : ℕ) → o ≤ m → m ≤ f + more → checks ≡ 7 * r + 3 * s → ways ≡ r + 3 * s + 2 * o → (checks + m) + ways ≤ 8 * ((s + f) + (r + more))
+all_walked m o s f r more checks ways own le c w = omega (arith, own, le, c, w)
+
+tree_walks : (file : List ℕ) (tree : FileTree) → IsFileTree file tree → IsSoundFile tree → IsConsistent file tree → opening_steps tree + walks_steps tree ≤ 8 * (sample_total (presentation_of file tree) + row_total tree)
+tree_walks file tree h s c =
+    let tracks = tree.movie.tracks in
+    let fragments = tree.fragments in
+    let parts = file_parts tree in
+    let total : sample_total (presentation_of file tree) ≡ plain_total tracks + fragments_total parts tracks =
+    total_is file parts tracks h.movie.tracks c.tables ∙ ap (λ n. n + fragments_total parts tracks) (sym (plain_counted file tracks h.movie.tracks c.tables)) in
+    let moofs = moofs_sum (trexes_of tree.movie) fragments h.fragments in
+    let known = all_belong tree.movie parts c.known in
+    let few : moofs_steps fragments ≤ fragments_total parts tracks + fragment_rows_of fragments = omega (arith, moofs, known) in
+    let all = all_walked (moofs_steps fragments) (owns_total tree tracks) (plain_total tracks) (fragments_total parts tracks) (rows_of tracks) (fragment_rows_of fragments) (sum_of table_steps tracks) (walks_steps tree) (owns_few file tree h s.movie) few (checks_sum tracks) (ways_sum tree tracks) in
+    subst (λ n. opening_steps tree + walks_steps tree ≤ 8 * (n + row_total tree)) (sym total) all
+
+pub walks_looks : (file : List ℕ) (p : Presentation) (d : Denotes file p) → opening_steps d.tree + walks_steps d.tree ≤ 8 * (sample_total p + row_total d.tree)
+walks_looks file p d = subst (λ (q : Presentation). opening_steps d.tree + walks_steps d.tree ≤ 8 * (sample_total q + row_total d.tree)) (sym d.says) (tree_walks file d.tree d.is_tree d.is_sound d.is_consistent)
+
 -- opening a file takes at least a step for each sample and row
 least_of : (m s f r more leasts few : ℕ) → f ≤ few → m ≡ more + few → leasts ≡ r + 3 * s → (s + f) + (r + more) ≤ leasts + m
 least_of m s f r more leasts few le e l = omega (arith, le, e, l)

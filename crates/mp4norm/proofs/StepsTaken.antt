@@ -16,7 +16,7 @@ use Rattle.mp4norm.specs.format.Steps.{WorksWithin, WalksWithin, row_total}
 use Rattle.mp4norm.proofs.RunParts.{denotes_nothing}
 use Rattle.mp4norm.proofs.ShownLines.{denoted}
 use Rattle.mp4_plan.specs.words.WriterSteps.{writing_steps}
-use Rattle.mp4norm.proofs.StepSums.{all_within, opened_looks, walked_looks}
+use Rattle.mp4norm.proofs.StepSums.{all_within, opened_looks, walked_looks, walks_looks}
 
 few_times : (k n : ℕ) → 8 * n ≤ 8 * ((k + 1) * n)
 few_times k n = let small : n ≤ (k + 1) * n = omega arith in omega (arith, small)
@@ -87,6 +87,17 @@ module _ (file : List ℕ) (old new : ℕ) where
         let same = file_tree_one file tree d.tree o.is_tree d.is_tree in
         let own = subst (λ (u : FileTree). new ≤ old + (opening_steps u + walk_steps u t)) same (omega (arith, opening, walk)) in
         let all = walked_looks file p d k t (subst (λ (u : FileTree). slice_get u.movie.tracks k ≡ Some t) same is) in
+        omega (arith, own, all);
+    refused = λ nothing. absurd (nothing (presentation_of file tree) (denoted file m tree o));
+  }
+
+  -- a file that is opened, and of which each track is walked over once
+  pub all_walked_within : (m : MovieSeen) (tree : FileTree) (behind : ℕ) → IsOpenedAs file m tree → behind ≤ old + opening_steps tree → new ≤ behind + walks_steps tree → WalksWithin file old new
+  all_walked_within m tree behind o opening walks = record {
+    denoted = λ p d.
+        let same = file_tree_one file tree d.tree o.is_tree d.is_tree in
+        let own = subst (λ (u : FileTree). new ≤ old + (opening_steps u + walks_steps u)) same (omega (arith, opening, walks)) in
+        let all = walks_looks file p d in
         omega (arith, own, all);
     refused = λ nothing. absurd (nothing (presentation_of file tree) (denoted file m tree o));
   }

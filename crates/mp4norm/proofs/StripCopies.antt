@@ -18,8 +18,8 @@ use Rattle.mp4_present.specs.words.Carried.{BytesGoOn, RefusesRange, RefusesCarr
 use Rattle.mp4_present.proofs.Carrying.{BytesGoOn-nothing, BytesGoOn-then, BytesGoOn-fails, BytesGoOn-front}
 use Rattle.mp4norm.specs.format.BoxWalk.{rule_inside}
 use Rattle.mp4norm.proofs.StripWalks.{freed_range, whole_box, its_header, behind_it, its_payload}
-use Rattle.mp4norm.specs.declared.named.Name.{Name}
-use Rattle.mp4norm.specs.format.Strips.{is_top, holder, is_named, freed, payload_of, uuid_at, Strips, ends, frees, keeps, enters, RefusesHeaderAgain}
+use Rattle.mp4norm.specs.declared.commands.box_names.Name.{Name}
+use Rattle.mp4norm.specs.format.Strips.{is_top, holder, is_named, freed, payload_behind, uuid_at, Strips, ends, frees, keeps, enters, RefusesHeaderAgain}
 
 -- ---- copying
 
@@ -76,7 +76,7 @@ some_same : (o : Option Rule) (x y : Rule) → o ≡ Some x → o ≡ Some y →
 some_same o x y p q = ap (rule_or x) (sym p ∙ q)
 
 pub next_entered : (names : List Name) (rule : Rule) (bytes text : List ℕ) (g : Header) (into : Rule) → 0 < length bytes → header_at (is_top rule) bytes ≡ Ok g → is_named names rule g.kind (uuid_at g bytes) ≡ false → rule_inside rule g.kind ≡ Some into → Strips names rule bytes text
-    → (inside rest : List ℕ) × Strips names into (payload_of g bytes) inside × Strips names rule (drop g.size bytes) rest × (text ≡ take g.length bytes ++ (inside ++ rest))
+    → (inside rest : List ℕ) × Strips names into (payload_behind g bytes) inside × Strips names rule (drop g.size bytes) rest × (text ≡ take g.length bytes ++ (inside ++ rest))
 next_entered names rule bytes text g into some read n there (ends _ _ _ b t) = absurd (no_bytes bytes some b)
 next_entered names rule bytes text g into some read n there (frees _ _ _ h rest e m s t) =
     let same = same_header (header_at (is_top rule) bytes) h g e read in
@@ -89,7 +89,7 @@ next_entered names rule bytes text g into some read n there (enters _ _ _ h inne
     let held = some_same (rule_inside rule g.kind) inner into (subst (λ (x : Header). rule_inside rule x.kind ≡ Some inner) same i) there in (
       inside,
       rest,
-      subst (λ r. Strips names r (payload_of g bytes) inside) held (subst (λ (x : Header). Strips names inner (payload_of x bytes) inside) same w),
+      subst (λ r. Strips names r (payload_behind g bytes) inside) held (subst (λ (x : Header). Strips names inner (payload_behind x bytes) inside) same w),
       subst (λ (x : Header). Strips names rule (drop x.size bytes) rest) same s,
       t ∙ ap (λ (x : Header). take x.length bytes ++ (inside ++ rest)) same,
     )

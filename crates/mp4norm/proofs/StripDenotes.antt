@@ -20,9 +20,9 @@ use Rattle.mp4_frag.specs.format.FragmentRules.{is_within}
 use Rattle.mp4_head.specs.format.Tree.{TrackTree, movie_head_of}
 use Rattle.mp4_present.specs.format.Denotes.{FileTree, begins_with_movie, bytes_at, sample_of, placed_of, track_of, file_parts}
 use Rattle.mp4_present.proofs.DenotedOpens.{stands_refuses}
-use Rattle.mp4norm.specs.declared.named.Name.{Name}
+use Rattle.mp4norm.specs.declared.commands.box_names.Name.{Name}
 use Rattle.mp4norm.specs.format.BoxWalk.{rule_inside}
-use Rattle.mp4norm.specs.format.Strips.{is_top, is_named, freed, payload_of, uuid_at, Strips, ends, frees, keeps, enters}
+use Rattle.mp4norm.specs.format.Strips.{is_top, is_named, freed, payload_behind, uuid_at, Strips, ends, frees, keeps, enters}
 use Rattle.mp4norm.specs.format.StripLaws.{NamedBoxAt, at_front, further, inside, passed_over, MeansPassedOver, SparesBytes, CopyDenotesTheSame}
 use Rattle.mp4norm.proofs.BoxLists.{inside_lower}
 use Rattle.mp4norm.proofs.StripCopies.{same_header, no_header}
@@ -61,7 +61,7 @@ clean_front rule bytes h clean e = elim (bool_cases (allows rule h.kind)) [
 clean_behind : (rule : Rule) (bytes : List ℕ) (h : Header) → IsClean rule bytes → header_at (is_top rule) bytes ≡ Ok h → IsClean rule (drop h.size bytes)
 clean_behind rule bytes h clean e place x = clean (h.size + place) (further rule (h.size + place) bytes h place e x refl)
 
-clean_within : (rule : Rule) (bytes : List ℕ) (h : Header) (inner : Rule) → IsClean rule bytes → header_at (is_top rule) bytes ≡ Ok h → rule_inside rule h.kind ≡ Some inner → IsClean inner (payload_of h bytes)
+clean_within : (rule : Rule) (bytes : List ℕ) (h : Header) (inner : Rule) → IsClean rule bytes → header_at (is_top rule) bytes ≡ Ok h → rule_inside rule h.kind ≡ Some inner → IsClean inner (payload_behind h bytes)
 clean_within rule bytes h inner clean e i place x =
     let a = passes (allows rule h.kind) (clean_front rule bytes h clean e) in
     clean (h.length + place) (inside rule (h.length + place) bytes h inner place e a i x refl)
@@ -77,7 +77,7 @@ none_named names means rule place bytes low clean (at_front _ _ _ h e n p) =
 none_named names means rule place bytes low clean (further _ _ _ h left e x p) =
     none_named names means rule left (drop h.size bytes) low (clean_behind rule bytes h clean e) x
 none_named names means rule place bytes low clean (inside _ _ _ h inner left e n i x p) =
-    none_named names means inner left (payload_of h bytes) (entered_low rule inner h.kind i) (clean_within rule bytes h inner clean e i) x
+    none_named names means inner left (payload_behind h bytes) (entered_low rule inner h.kind i) (clean_within rule bytes h inner clean e i) x
 
 -- ---- the file's own boxes, one after the other
 
@@ -89,13 +89,13 @@ data Copied (names : List Name) : List ℕ → List ℕ → Type 0 where
   same_box : (bytes text : List ℕ) (h : Header) (rest : List ℕ) → header_at true bytes ≡ Ok h → length text ≡ length bytes → Copied names (drop h.size bytes) rest → text ≡ take h.size bytes ++ rest → Copied names bytes text
 
 -- the first box is its header and its payload
-box_whole : (bytes : List ℕ) (h : Header) → IsRead (length bytes) h → take h.length bytes ++ payload_of h bytes ≡ take h.size bytes
+box_whole : (bytes : List ℕ) (h : Header) → IsRead (length bytes) h → take h.length bytes ++ payload_behind h bytes ≡ take h.size bytes
 box_whole bytes h r =
     let from : h.length ≤ h.size = r.inside in
     let sum : h.size ≡ h.length + (h.size - h.length) = omega (arith, from) in
     let front : take h.length (take h.size bytes) ≡ take h.length bytes = take-take h.length h.size bytes from in
-    let behind : drop h.length (take h.size bytes) ≡ payload_of h bytes = ap (λ n. drop h.length (take n bytes)) sum ∙ drop-take h.length (h.size - h.length) bytes in
-    sym (ap (λ xs. xs ++ payload_of h bytes) front) ∙ sym (ap (λ xs. take h.length (take h.size bytes) ++ xs) behind) ∙ take-append-drop h.length (take h.size bytes)
+    let behind : drop h.length (take h.size bytes) ≡ payload_behind h bytes = ap (λ n. drop h.length (take n bytes)) sum ∙ drop-take h.length (h.size - h.length) bytes in
+    sym (ap (λ xs. xs ++ payload_behind h bytes) front) ∙ sym (ap (λ xs. take h.length (take h.size bytes) ++ xs) behind) ∙ take-append-drop h.length (take h.size bytes)
 
 copied : (names : List Name) → MeansPassedOver names → (bytes text : List ℕ) → IsClean File bytes → Strips names File bytes text → Copied names bytes text
 copied names means bytes text clean (ends _ _ _ b t) = ended bytes text b t
@@ -111,9 +111,9 @@ copied names means bytes text clean (enters _ _ _ h inner middle rest e n i w s 
     let r = header_is true bytes h e in
     let low = entered_low File inner h.kind i in
     let within = clean_within File bytes h inner clean e i in
-    let held : middle ≡ payload_of h bytes = unnamed_copied names inner (payload_of h bytes) middle (λ place x. none_named names means inner place (payload_of h bytes) low within x) w in
+    let held : middle ≡ payload_behind h bytes = unnamed_copied names inner (payload_behind h bytes) middle (λ place x. none_named names means inner place (payload_behind h bytes) low within x) w in
     let whole : take h.length bytes ++ (middle ++ rest) ≡ take h.size bytes ++ rest =
-    ap (λ xs. take h.length bytes ++ (xs ++ rest)) held ∙ sym (append_assoc (take h.length bytes) (payload_of h bytes) rest) ∙ ap (λ xs. xs ++ rest) (box_whole bytes h r)
+    ap (λ xs. take h.length bytes ++ (xs ++ rest)) held ∙ sym (append_assoc (take h.length bytes) (payload_behind h bytes) rest) ∙ ap (λ xs. xs ++ rest) (box_whole bytes h r)
     in
     same_box bytes text h rest e long (copied names means (drop h.size bytes) rest (clean_behind File bytes h clean e) s) (t ∙ whole)
 
@@ -205,7 +205,7 @@ Retyped [] (c ∷ cs) = ⊥
 Retyped (b ∷ bs) [] = ⊥
 
 -- a payload that was kept
-kept_payload : (bytes rest : List ℕ) (h : Header) → IsRead (length bytes) h → payload_of h (take h.size bytes ++ rest) ≡ payload_of h bytes
+kept_payload : (bytes rest : List ℕ) (h : Header) → IsRead (length bytes) h → payload_behind h (take h.size bytes ++ rest) ≡ payload_behind h bytes
 kept_payload bytes rest h r =
     let from : h.length ≤ h.size = r.inside in
     let sum : h.size ≡ h.length + (h.size - h.length) = omega (arith, from) in
@@ -266,7 +266,7 @@ new_boxes names at bytes text (b ∷ bs) (same_box _ _ h rest e long c t) lie fu
     let wide : size b ≡ h.size = ap size is ∙ box_size at bytes h r in
     let whole = length_box bytes h.size to in
     let read : header_at true text ≡ Ok h = ap (header_at true) t ∙ kept_header true bytes rest h.size h e to from (sym (ap length t) ∙ long) in
-    let held : payload_of h text ≡ payload_of h bytes = ap (payload_of h) t ∙ kept_payload bytes rest h r in
+    let held : payload_behind h text ≡ payload_behind h bytes = ap (payload_behind h) t ∙ kept_payload bytes rest h r in
     let stays : b ≡ box_of at text h = is ∙ ap (λ (xs : List ℕ). record { kind = h.kind; offset = at; header = h.length; payload = xs }) (sym held) in
     let behind : drop (size b) text ≡ rest = ap (drop (size b)) t ∙ behind_part (take h.size bytes) rest (size b) (whole ∙ sym wide) in
     let sum : length text ≡ size b + length rest = ap length t ∙ length-append (take h.size bytes) rest ∙ omega (arith, whole, wide) in

@@ -14,11 +14,11 @@ use Rattle.mp4_boxes.proofs.Tiling.{header_is, box_size, sizes-append, lies_push
 use Rattle.mp4_head.specs.format.HeadFaults.{ChildStands}
 use Rattle.mp4_present.specs.format.Stands.{child}
 use Rattle.mp4_present.proofs.DenotedOpens.{stands_refuses}
-use Rattle.mp4norm.specs.declared.named.Name.{Name}
-use Rattle.mp4norm.specs.declared.named.Name.TheVariants.{Foreign}
+use Rattle.mp4norm.specs.declared.commands.box_names.Name.{Name}
+use Rattle.mp4norm.specs.declared.commands.box_names.Name.TheVariants.{Foreign}
 use Rattle.mp4norm.specs.format.Texts.{descends}
 use Rattle.mp4norm.specs.format.BoxWalk.{height, rule_inside, under}
-use Rattle.mp4norm.specs.format.Strips.{is_top, payload_of}
+use Rattle.mp4norm.specs.format.Strips.{is_top, payload_behind}
 use Rattle.mp4norm.specs.format.StripLaws.{NamedBoxAt, at_front, further, ForeignIsFault, AcceptedIsCopied}
 use Rattle.mp4norm.specs.format.StripLaws as copies
 use Rattle.mp4norm.proofs.BoxLists.{inside_lower}
@@ -116,7 +116,7 @@ stands_foreign file rule left rest c before (copies.inside _ _ _ h inner more e 
     let there : Leads (whole file) (reaches.0 ++ b ∷ []) (under inner (box_container b)) =
     leads_more (whole file) (under rule c) (under inner (box_container b)) reaches.0 before b reaches.1 (front (before ++ b ∷ []) (lies_push (is_top rule) c.at c.bytes before h lie read)) (entered rule inner c b i)
     in
-    stands_foreign file inner more (payload_of h rest) (box_container b) [] x (λ bs l. (subst (λ t. LieEndToEnd t (box_container b).at (box_container b).bytes bs) top l, tt)) tt (ap (payload_of h) at) (reaches.0 ++ b ∷ [], there)
+    stands_foreign file inner more (payload_behind h rest) (box_container b) [] x (λ bs l. (subst (λ t. LieEndToEnd t (box_container b).at (box_container b).bytes bs) top l, tt)) tt (ap (payload_behind h) at) (reaches.0 ++ b ∷ [], there)
 
 fault_stands : (file : List ℕ) (place : ℕ) → NamedBoxAt foreign File place file → FaultIn file
 fault_stands file place x = stands_foreign file File place file (file_container file) [] x (λ bs l. (l, tt)) tt refl ([], refl)

@@ -9,8 +9,8 @@ use Rattle.mp4_boxes.specs.declared.fault.Fault.{Fault}
 use Rattle.mp4_boxes.specs.declared.rule.Rule.{Rule}
 use Rattle.mp4_boxes.specs.declared.rule.Rule.TheVariants.{File}
 use Rattle.mp4_boxes.proofs.Tiling.{header_is, IsRead}
-use Rattle.mp4norm.specs.declared.named.Name.{Name}
-use Rattle.mp4norm.specs.format.Strips.{is_top, freed, payload_of, Strips, ends, frees, keeps, enters, Halts, here, behind, within}
+use Rattle.mp4norm.specs.declared.commands.box_names.Name.{Name}
+use Rattle.mp4norm.specs.format.Strips.{is_top, freed, payload_behind, Strips, ends, frees, keeps, enters, Halts, here, behind, within}
 use Rattle.mp4norm.specs.format.StripLaws.{NamedBoxAt, at_front, further, inside, StripKeepsLength, UnnamedIsCopied, NamedIsFree, HaltedStripsNothing}
 use Rattle.mp4norm.proofs.StripCopies.{same_header, next_freed, next_entered, fault_strips_nothing, no_header}
 
@@ -22,7 +22,7 @@ length_box bytes n le = grind (arith, common_steps)
 pub length_freed : (bytes : List ℕ) → 8 ≤ length bytes → length (freed bytes) ≡ length bytes
 length_freed bytes le = grind (arith, common_steps)
 
-pub length_payload : (bytes : List ℕ) (h : Header) → IsRead (length bytes) h → length (payload_of h bytes) ≡ h.size - h.length
+pub length_payload : (bytes : List ℕ) (h : Header) → IsRead (length bytes) h → length (payload_behind h bytes) ≡ h.size - h.length
 length_payload bytes h r =
     let from : h.length ≤ h.size = r.inside in
     let to : h.size ≤ length bytes = r.fits in
@@ -54,7 +54,7 @@ strip_length names rule bytes text (enters _ _ _ h inner middle rest e n i w s t
     let from : h.length ≤ h.size = r.inside in
     let to : h.size ≤ length bytes = r.fits in
     let front = length_box bytes h.length (omega (arith, from, to)) in
-    let held = strip_length names inner (payload_of h bytes) middle w ∙ length_payload bytes h r in
+    let held = strip_length names inner (payload_behind h bytes) middle w ∙ length_payload bytes h r in
     let more = strip_length names rule (drop h.size bytes) rest s in
     let d : length (drop h.size bytes) ≡ length bytes - h.size = length-drop h.size bytes in
     let sum : length (take h.length bytes ++ (middle ++ rest)) ≡ length (take h.length bytes) + length (middle ++ rest) = length-append (take h.length bytes) (middle ++ rest) in
@@ -66,11 +66,11 @@ strip_keeps_length names file text s = strip_length names File file text s
 
 -- ---- without named boxes
 
-three_parts : (bytes : List ℕ) (h : Header) → h.length ≤ h.size → take h.length bytes ++ (payload_of h bytes ++ drop h.size bytes) ≡ bytes
+three_parts : (bytes : List ℕ) (h : Header) → h.length ≤ h.size → take h.length bytes ++ (payload_behind h bytes ++ drop h.size bytes) ≡ bytes
 three_parts bytes h le =
     let place : h.length + (h.size - h.length) ≡ h.size = omega (arith, le) in
     let rest : drop h.size bytes ≡ drop (h.size - h.length) (drop h.length bytes) = sym (drop-drop (h.size - h.length) h.length bytes ∙ ap (λ k. drop k bytes) place) in
-    ap (λ xs. take h.length bytes ++ (payload_of h bytes ++ xs)) rest
+    ap (λ xs. take h.length bytes ++ (payload_behind h bytes ++ xs)) rest
     ∙ ap (λ xs. take h.length bytes ++ xs) (take-append-drop (h.size - h.length) (drop h.length bytes))
     ∙ take-append-drop h.length bytes
 
@@ -81,7 +81,7 @@ unnamed_copied names rule bytes text none (keeps _ _ _ h rest e n i s t) =
     let more = unnamed_copied names rule (drop h.size bytes) rest (λ place x. none (h.size + place) (further rule (h.size + place) bytes h place e x refl)) s in
     t ∙ ap (λ xs. take h.size bytes ++ xs) more ∙ take-append-drop h.size bytes
 unnamed_copied names rule bytes text none (enters _ _ _ h inner middle rest e n i w s t) =
-    let held = unnamed_copied names inner (payload_of h bytes) middle (λ place x. none (h.length + place) (inside rule (h.length + place) bytes h inner place e n i x refl)) w in
+    let held = unnamed_copied names inner (payload_behind h bytes) middle (λ place x. none (h.length + place) (inside rule (h.length + place) bytes h inner place e n i x refl)) w in
     let more = unnamed_copied names rule (drop h.size bytes) rest (λ place x. none (h.size + place) (further rule (h.size + place) bytes h place e x refl)) s in
     t ∙ (λ k. take h.length bytes ++ (held k ++ more k)) ∙ three_parts bytes h (header_is (is_top rule) bytes h e).inside
 
@@ -134,7 +134,7 @@ first_part names rule bytes text g some read (enters _ _ _ h inner middle rest e
     let from : h.length ≤ h.size = r.inside in
     let to : h.size ≤ length bytes = r.fits in
     let front = length_box bytes h.length (omega (arith, from, to)) in
-    let held = strip_length names inner (payload_of h bytes) middle w ∙ length_payload bytes h r in
+    let held = strip_length names inner (payload_behind h bytes) middle w ∙ length_payload bytes h r in
     let sum : length (take h.length bytes ++ middle) ≡ length (take h.length bytes) + length middle = length-append (take h.length bytes) middle in
     let whole : length (take h.length bytes ++ middle) ≡ h.size = omega (arith, front, held, sum, from) in
     (take h.length bytes ++ middle, rest, whole ∙ ap (λ (x : Header). x.size) same, subst (λ (x : Header). Strips names rule (drop x.size bytes) rest) same s, t ∙ sym (append_assoc (take h.length bytes) middle rest))
@@ -165,7 +165,7 @@ named_free names rule place bytes text (inside _ _ _ h inner left e n i x p) s =
     let from : h.length ≤ h.size = r.inside in
     let to : h.size ≤ length bytes = r.fits in
     let front = length_box bytes h.length (omega (arith, from, to)) in
-    let found = named_free names inner left (payload_of h bytes) y.0 x y.2 in
+    let found = named_free names inner left (payload_behind h bytes) y.0 x y.2 in
     ap (λ k. take 4 (drop (k + 4) text)) p ∙ ap (λ xs. take 4 (drop ((h.length + left) + 4) xs)) y.4
     ∙ four_behind (take h.length bytes) (y.0 ++ y.1) h.length left front ∙ four_within y.0 y.1 left (four_there y.0 left found) ∙ found
 
@@ -181,7 +181,7 @@ halted names f rule at bytes text (behind _ _ _ h e x) s =
     halted names f rule (at + h.size) (drop h.size bytes) y.1 x y.3
 halted names f rule at bytes text (within _ _ _ h inner e n i x) s =
     let y = next_entered names rule bytes text h inner (some_bytes (is_top rule) bytes h e) e n i s in
-    halted names f inner (at + h.length) (payload_of h bytes) y.0 x y.2
+    halted names f inner (at + h.length) (payload_behind h bytes) y.0 x y.2
 
 pub halted_strips_nothing : HaltedStripsNothing
 halted_strips_nothing names f file text x s = halted names f File 0 file text x s

@@ -14,10 +14,10 @@ use Rattle.mp4_boxes.specs.declared.rule.Rule.{Rule}
 use Rattle.mp4_boxes.specs.declared.rule.Rule.TheVariants.{File, Movie, Track, Edits, Media, MediaInformation, DataInformation, SampleTable, MovieExtends, MovieFragment, TrackFragment}
 use Rattle.mp4_boxes.proofs.Tiling.{IsRead, header_is}
 use Rattle.mp4_tables.proofs.RowLists.{field_behind}
-use Rattle.mp4norm.specs.declared.named.Name.{Name}
+use Rattle.mp4norm.specs.declared.commands.box_names.Name.{Name}
 use Rattle.mp4norm.specs.format.BoxWalk.{rule_inside}
 use Rattle.mp4norm.specs.format.Texts.{uuid_in}
-use Rattle.mp4norm.specs.format.Strips.{is_top, is_named, freed, payload_of, uuid_at, Strips, ends, frees, keeps, enters}
+use Rattle.mp4norm.specs.format.Strips.{is_top, is_named, freed, payload_behind, uuid_at, Strips, ends, frees, keeps, enters}
 use Rattle.mp4norm.specs.format.StripLaws.{NamedBoxAt, at_front, further, inside, SparesFree, StripLeavesNone, StripTwiceIsOnce, ForeignSparesFree}
 use Rattle.mp4norm.proofs.StripCopies.{same_header, no_header}
 use Rattle.mp4norm.proofs.StripLaws.{length_box, length_freed, length_payload, strip_length, four_first, unnamed_is_copied}
@@ -157,7 +157,7 @@ freed_header is_open bytes rest h e long =
 
 -- where a named box stands, by the header in front
 abbrev Found : List Name → Rule → List ℕ → Header → Type 0
-Found names rule bytes g = (is_named names rule g.kind (uuid_at g bytes) ≡ true) ⊎ (((left : ℕ) × NamedBoxAt names rule left (drop g.size bytes)) ⊎ ((inner : Rule) × (left : ℕ) × (rule_inside rule g.kind ≡ Some inner) × NamedBoxAt names inner left (payload_of g bytes)))
+Found names rule bytes g = (is_named names rule g.kind (uuid_at g bytes) ≡ true) ⊎ (((left : ℕ) × NamedBoxAt names rule left (drop g.size bytes)) ⊎ ((inner : Rule) × (left : ℕ) × (rule_inside rule g.kind ≡ Some inner) × NamedBoxAt names inner left (payload_behind g bytes)))
 
 found : (names : List Name) (rule : Rule) (place : ℕ) (bytes : List ℕ) (g : Header) → header_at (is_top rule) bytes ≡ Ok g → NamedBoxAt names rule place bytes → Found names rule bytes g
 found names rule place bytes g read (at_front _ _ _ h e n p) =
@@ -168,7 +168,7 @@ found names rule place bytes g read (further _ _ _ h left e x p) =
     inr (inl (left, subst (λ (y : Header). NamedBoxAt names rule left (drop y.size bytes)) same x))
 found names rule place bytes g read (inside _ _ _ h inner left e n i x p) =
     let same = same_header (header_at (is_top rule) bytes) h g e read in
-    inr (inr (inner, left, subst (λ (y : Header). rule_inside rule y.kind ≡ Some inner) same i, subst (λ (y : Header). NamedBoxAt names inner left (payload_of y bytes)) same x))
+    inr (inr (inner, left, subst (λ (y : Header). rule_inside rule y.kind ≡ Some inner) same i, subst (λ (y : Header). NamedBoxAt names inner left (payload_behind y bytes)) same x))
 
 nothing_found : (names : List Name) (rule : Rule) (place : ℕ) (bytes : List ℕ) → bytes ≡ [] → NamedBoxAt names rule place bytes → ⊥
 nothing_found names rule place bytes none (at_front _ _ _ h e n p) = no_header (is_top rule) bytes h none e
@@ -214,7 +214,7 @@ middle_part part middle rest n m e f =
     ap (take m) (behind_part part (middle ++ rest) n e) ∙ take-append-le m middle rest (omega (arith, f)) ∙ take_all m middle (omega (arith, f))
 
 -- the payload of the first box, by the box alone
-held_in : (bytes : List ℕ) (h : Header) → h.length ≤ h.size → drop h.length (take h.size bytes) ≡ payload_of h bytes
+held_in : (bytes : List ℕ) (h : Header) → h.length ≤ h.size → drop h.length (take h.size bytes) ≡ payload_behind h bytes
 held_in bytes h from =
     let sum : h.size ≡ h.length + (h.size - h.length) = omega (arith, from) in
     ap (λ n. drop h.length (take n bytes)) sum ∙ drop-take h.length (h.size - h.length) bytes
@@ -226,7 +226,7 @@ uuid_kept bytes rest h r =
     let box = length_box bytes h.size r.fits in
     let less : length (drop h.length (take h.size bytes)) ≡ h.size - h.length = length-drop h.length (take h.size bytes) ∙ ap (λ n. n - h.length) box in
     let same : drop h.length (take h.size bytes ++ rest) ≡ drop h.length (take h.size bytes) ++ rest = drop-append-le h.length (take h.size bytes) rest (omega (arith, from, box)) in
-    let kept : payload_of h (take h.size bytes ++ rest) ≡ payload_of h bytes =
+    let kept : payload_behind h (take h.size bytes ++ rest) ≡ payload_behind h bytes =
     ap (take (h.size - h.length)) same ∙ take-append-le (h.size - h.length) (drop h.length (take h.size bytes)) rest (omega (arith, less))
     ∙ take_all (h.size - h.length) (drop h.length (take h.size bytes)) (omega (arith, less)) ∙ held_in bytes h from
     in
@@ -284,21 +284,21 @@ nothing_left names rule place bytes text spares (enters _ _ _ h inner middle res
     let from : h.length ≤ h.size = r.inside in
     let to : h.size ≤ length bytes = r.fits in
     let head = length_box bytes h.length (omega (arith, from, to)) in
-    let held = strip_length names inner (payload_of h bytes) middle w ∙ length_payload bytes h r in
+    let held = strip_length names inner (payload_behind h bytes) middle w ∙ length_payload bytes h r in
     let long = sym (ap length t) ∙ strip_length names rule bytes text (enters rule bytes text h inner middle rest e n i w s t) in
     let read = kept_header (is_top rule) bytes (middle ++ rest) h.length h e (omega (arith, from, to)) (omega arith) long in
     let both : length (take h.length bytes ++ middle) ≡ h.size = length-append (take h.length bytes) middle ∙ omega (arith, head, held, from) in
     elim (found names rule place (take h.length bytes ++ (middle ++ rest)) h read (subst (NamedBoxAt names rule place) t x)) [
       | inl named ↦
           both_ways (is_named names rule h.kind (uuid_at h bytes)) n
-          (subst (λ (u : Option (List ℕ)). is_named names rule h.kind u ≡ true) (no_uuid rule inner h.kind (payload_of h (take h.length bytes ++ (middle ++ rest))) i ∙ sym (no_uuid rule inner h.kind (payload_of h bytes) i)) named)
+          (subst (λ (u : Option (List ℕ)). is_named names rule h.kind u ≡ true) (no_uuid rule inner h.kind (payload_behind h (take h.length bytes ++ (middle ++ rest))) i ∙ sym (no_uuid rule inner h.kind (payload_behind h bytes) i)) named)
       | inr (inl more) ↦
           nothing_left names rule more.0 (drop h.size bytes) rest spares s
           (subst (NamedBoxAt names rule more.0) (ap (drop h.size) (sym (append_assoc (take h.length bytes) middle rest)) ∙ behind_part (take h.length bytes ++ middle) rest h.size both) more.1)
       | inr (inr into) ↦
           let same = one_rule (rule_inside rule h.kind) into.0 inner into.2 i in
           let there = subst (NamedBoxAt names into.0 into.1) (middle_part (take h.length bytes) middle rest h.length (h.size - h.length) head held) into.3 in
-          nothing_left names inner into.1 (payload_of h bytes) middle spares w (subst (λ r. NamedBoxAt names r into.1 middle) same there)
+          nothing_left names inner into.1 (payload_behind h bytes) middle spares w (subst (λ r. NamedBoxAt names r into.1 middle) same there)
     ]
 
 pub strip_leaves_none : StripLeavesNone

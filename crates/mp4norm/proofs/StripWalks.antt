@@ -10,8 +10,8 @@ use Rattle.mp4_boxes.specs.declared.headers.TopHeader.{TopHeader}
 use Rattle.mp4_boxes.specs.declared.rule.Rule.{Rule}
 use Rattle.mp4norm.specs.format.BoxWalk.{rule_inside}
 use Rattle.mp4norm.specs.format.Texts.{uuid_in}
-use Rattle.mp4norm.specs.declared.named.Name.{Name}
-use Rattle.mp4norm.specs.format.Strips.{is_top, is_named, freed, payload_of, uuid_at, Strips, ends, frees, keeps, enters, Halts, behind, within}
+use Rattle.mp4norm.specs.declared.commands.box_names.Name.{Name}
+use Rattle.mp4norm.specs.format.Strips.{is_top, is_named, freed, payload_behind, uuid_at, Strips, ends, frees, keeps, enters, Halts, behind, within}
 
 -- ---- parts of a range
 
@@ -37,7 +37,7 @@ module _ (file : List ℕ) (at end : ℕ) (h : TopHeader) (from : at + h.header 
       let left : end - at - (h.end - at) ≡ end - h.end = omega (arith, from, to) in
       drop_range file at (h.end - at) (end - at) (omega (arith, from, to)) ∙ (λ i. range file (place i) (left i))
 
-  pub its_payload : payload_of (top_header_seen at h) (range file at (end - at)) ≡ range file (at + h.header) (h.end - (at + h.header))
+  pub its_payload : payload_behind (top_header_seen at h) (range file at (end - at)) ≡ range file (at + h.header) (h.end - (at + h.header))
   its_payload =
       let less : h.end - at - h.header ≡ h.end - (at + h.header) = omega (arith, from, to) in
       ap (take (h.end - at - h.header)) (drop_range file at h.header (end - at) (omega (arith, from, to)))

@@ -10,7 +10,7 @@ use Rattle.mp4_present.specs.words.Carried.{BytesGoOn}
 use Rattle.mp4_present.proofs.Carrying.{BytesGoOn-all}
 use Rattle.mp4norm.specs.format.Answers.{StrippedOf}
 use Rattle.mp4norm.specs.format.Run.{Run, PutsNothing}
-use Rattle.mp4norm.specs.declared.named.Name.{Name}
+use Rattle.mp4norm.specs.declared.commands.box_names.Name.{Name}
 use Rattle.mp4norm.specs.format.Strips.{Strips, IsStripped, Halts, RefusesWalk}
 use Rattle.mp4norm.proofs.StripCopies.{front_fails}
 

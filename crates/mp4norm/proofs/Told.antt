@@ -7,14 +7,14 @@ use Rattle.mp4_head.specs.format.Head as heads
 use Rattle.mp4_head.specs.words.Seen.{kept_seen}
 use Rattle.mp4_head.specs.declared.kept_boxes.Kept.{Kept}
 use Rattle.mp4_present.specs.format.Reduced.{metadata_kinds, reduce_kept}
-use Rattle.mp4_present.specs.declared.leaving.Leaving.{Leaving}
+use Rattle.mp4_present.specs.declared.without.Without.{Without}
 use Rattle.mp4_boxes.specs.declared.refusal.Refusal.{Refusal}
 use Rattle.mp4_store.specs.words.Device.{TakesPrefix}
 use Rattle.mp4_store.specs.declared.sink.Sink.{Ghosts as Sink}
 use Rattle.mp4_store.proofs.Known.{IsJoining, TakesPrefix-longer}
 use Rattle.mp4_present.specs.words.Carried.{RefusesPut, waiting}
-use Rattle.mp4_present.specs.words.OverCarriers.{TakesBytes, PutsFrontOf}
-use Rattle.mp4_present.specs.declared.carrier.Carrier.{Carrier}
+use Rattle.mp4_present.specs.words.OutBuffers.{TakesBytes, PutsFrontOf}
+use Rattle.mp4_present.specs.declared.out_buffer.OutBuffer.{OutBuffer}
 use Rattle.mp4_present.proofs.Carrying.{BytesGoOn-nothing, BytesGoOn-then, BytesGoOn-fails}
 use Rattle.mp4norm.specs.words.Telling.{Tells}
 
@@ -70,11 +70,11 @@ apart true f (x ∷ boxes) =
 apart false f (x ∷ boxes) = ap (λ (bs : List ℕ). f (kept_seen x) ++ bs) (apart false f boxes) ∙ ap (λ (bs : List ℕ). bs ++ flat_map (λ (k : Kept). flat_map f (kept_seen k ∷ [])) boxes) (sym (append-nil (f (kept_seen x))))
 
 -- the kept boxes that are left, one by one
-pub kept_apart : (l : Leaving) (f : heads.Kept → List ℕ) (boxes : List Kept) → flat_map f (reduce_kept l (map kept_seen boxes)) ≡ flat_map (λ (k : Kept). flat_map f (reduce_kept l (kept_seen k ∷ []))) boxes
+pub kept_apart : (l : Without) (f : heads.Kept → List ℕ) (boxes : List Kept) → flat_map f (reduce_kept l (map kept_seen boxes)) ≡ flat_map (λ (k : Kept). flat_map f (reduce_kept l (kept_seen k ∷ []))) boxes
 kept_apart l f boxes = apart l.metadata f boxes
 
 -- one that is left, and one that isn't
-pub one_left : (l : Leaving) (f : heads.Kept → List ℕ) (k : heads.Kept) (b : Bool) → b ≡ not l.metadata || not (is_among metadata_kinds k.kind) → b ≡ true → f k ≡ flat_map f (reduce_kept l (k ∷ []))
+pub one_left : (l : Without) (f : heads.Kept → List ℕ) (k : heads.Kept) (b : Bool) → b ≡ not l.metadata || not (is_among metadata_kinds k.kind) → b ≡ true → f k ≡ flat_map f (reduce_kept l (k ∷ []))
 one_left l f k b e t = by l.metadata (is_among metadata_kinds k.kind) (sym t ∙ e)
   where
     by : (m a : Bool) → true ≡ not m || not a → f k ≡ flat_map f (if m then (if not a then k ∷ [] else []) else k ∷ [])
@@ -83,7 +83,7 @@ one_left l f k b e t = by l.metadata (is_among metadata_kinds k.kind) (sym t ∙
     by false true e = sym (append-nil (f k))
     by false false e = sym (append-nil (f k))
 
-pub none_of : (l : Leaving) (f : heads.Kept → List ℕ) (k : heads.Kept) (b : Bool) → b ≡ not l.metadata || not (is_among metadata_kinds k.kind) → b ≡ false → [] ≡ flat_map f (reduce_kept l (k ∷ []))
+pub none_of : (l : Without) (f : heads.Kept → List ℕ) (k : heads.Kept) (b : Bool) → b ≡ not l.metadata || not (is_among metadata_kinds k.kind) → b ≡ false → [] ≡ flat_map f (reduce_kept l (k ∷ []))
 none_of l f k b e t = by l.metadata (is_among metadata_kinds k.kind) (sym t ∙ e)
   where
     by : (m a : Bool) → false ≡ not m || not a → [] ≡ flat_map f (if m then (if not a then k ∷ [] else []) else k ∷ [])
@@ -95,22 +95,22 @@ none_of l f k b e t = by l.metadata (is_among metadata_kinds k.kind) (sym t ∙ 
 -- ---- text after text
 
 -- this is told between two states, and no put failed
-pub record ToldSoFar {Y : Type 0} (K : Sink Y) (sink sink_after : Y) (c c_after : Carrier) (done : List ℕ) : Type 0 where
+pub record ToldSoFar {Y : Type 0} (K : Sink Y) (sink sink_after : Y) (c c_after : OutBuffer) (done : List ℕ) : Type 0 where
   pub told : TakesBytes K sink sink_after c c_after done
   pub puts : K.put_failures sink_after ≡ K.put_failures sink
 
 module _ {Y : Type 0} (K : Sink Y) (joins : IsJoining K.takes) where
-  pub told_none : (s : Y) (c : Carrier) → K.takes s s [] → ToldSoFar K s s c c []
+  pub told_none : (s : Y) (c : OutBuffer) → K.takes s s [] → ToldSoFar K s s c c []
   told_none s c nothing = record { told = BytesGoOn-nothing (K.takes s s) nothing (waiting c); puts = refl }
 
-  pub told_more : (s t u : Y) (c d e : Carrier) (done x whole : List ℕ) → ToldSoFar K s t c d done → TakesBytes K t u d e x → K.put_failures u ≡ K.put_failures t → whole ≡ done ++ x → ToldSoFar K s u c e whole
+  pub told_more : (s t u : Y) (c d e : OutBuffer) (done x whole : List ℕ) → ToldSoFar K s t c d done → TakesBytes K t u d e x → K.put_failures u ≡ K.put_failures t → whole ≡ done ++ x → ToldSoFar K s u c e whole
   told_more s t u c d e done x whole p told puts w = record {
     told = BytesGoOn-then joins s t u (waiting c) (waiting d) (waiting e) done x whole p.told told w;
     puts = puts ∙ p.puts;
   }
 
   -- a put fails
-  pub told_fails : {B : Type 0} (s t u : Y) (c d e : Carrier) (done x whole : List ℕ) (v : Refusal) → ToldSoFar K s t c d done → PutsFrontOf K t u d x → RefusesPut (K.put_failures t) (K.put_failures u) v → whole ≡ done ++ x → Tells {T = B} K s u c e whole (Err v)
+  pub told_fails : {B : Type 0} (s t u : Y) (c d e : OutBuffer) (done x whole : List ℕ) (v : Refusal) → ToldSoFar K s t c d done → PutsFrontOf K t u d x → RefusesPut (K.put_failures t) (K.put_failures u) v → whole ≡ done ++ x → Tells {T = B} K s u c e whole (Err v)
   told_fails s t u c d e done x whole v p front cause w = record {
     all = tt;
     front = subst (λ (bs : List ℕ). TakesPrefix (K.takes s u) (waiting c ++ bs)) (sym w) (BytesGoOn-fails joins s t u (waiting c) (waiting d) done x p.told front);
@@ -119,20 +119,20 @@ module _ {Y : Type 0} (K : Sink Y) (joins : IsJoining K.takes) where
   }
 
   -- it goes on with a text, and then as it is
-  pub told_last : {T : Type 0} (s t u : Y) (c d e : Carrier) (done x whole : List ℕ) (r : Result T Refusal) → ToldSoFar K s t c d done → Tells K t u d e x r → whole ≡ done ++ x → Tells K s u c e whole r
+  pub told_last : {T : Type 0} (s t u : Y) (c d e : OutBuffer) (done x whole : List ℕ) (r : Result T Refusal) → ToldSoFar K s t c d done → Tells K t u d e x r → whole ≡ done ++ x → Tells K s u c e whole r
   told_last s t u c d e done x whole (Ok v) p q w =
       let m = told_more s t u c d e done x whole p q.all q.puts w in
       record { all = m.told; front = tt; puts = m.puts; refusal = tt }
   told_last s t u c d e done x whole (Err v) p q w = told_fails s t u c d e done x whole v p q.front q.refusal w
 
   -- it stops meanwhile
-  pub told_stops : {B : Type 0} (s t u : Y) (c d e : Carrier) (done x more whole : List ℕ) (v : Refusal) → ToldSoFar K s t c d done → PutsFrontOf K t u d x → RefusesPut (K.put_failures t) (K.put_failures u) v → whole ≡ done ++ (x ++ more) → Tells {T = B} K s u c e whole (Err v)
+  pub told_stops : {B : Type 0} (s t u : Y) (c d e : OutBuffer) (done x more whole : List ℕ) (v : Refusal) → ToldSoFar K s t c d done → PutsFrontOf K t u d x → RefusesPut (K.put_failures t) (K.put_failures u) v → whole ≡ done ++ (x ++ more) → Tells {T = B} K s u c e whole (Err v)
   told_stops s t u c d e done x more whole v p front cause w =
       told_fails s t u c d e done (x ++ more) whole v p (subst (λ (bs : List ℕ). TakesPrefix (K.takes t u) bs) (append_assoc (waiting d) x more) (TakesPrefix-longer (K.takes t u) (waiting d ++ x) more front)) cause w
 
-  pub told_all : {T : Type 0} (s t : Y) (c d : Carrier) (done whole : List ℕ) (r : T) → ToldSoFar K s t c d done → done ≡ whole → Tells K s t c d whole (Ok r)
+  pub told_all : {T : Type 0} (s t : Y) (c d : OutBuffer) (done whole : List ℕ) (r : T) → ToldSoFar K s t c d done → done ≡ whole → Tells K s t c d whole (Ok r)
   told_all s t c d done whole r p w = record { all = subst (λ (bs : List ℕ). TakesBytes K s t c d bs) w p.told; front = tt; puts = p.puts; refusal = tt }
 
 -- the same text
-pub tells_is : {Y T : Type 0} (K : Sink Y) (s t : Y) (c d : Carrier) (x whole : List ℕ) (r : Result T Refusal) → Tells K s t c d x r → x ≡ whole → Tells K s t c d whole r
+pub tells_is : {Y T : Type 0} (K : Sink Y) (s t : Y) (c d : OutBuffer) (x whole : List ℕ) (r : Result T Refusal) → Tells K s t c d x r → x ≡ whole → Tells K s t c d whole r
 tells_is K s t c d x whole r p w = subst (λ (bs : List ℕ). Tells K s t c d bs r) w p

@@ -17,7 +17,7 @@ use Rattle.mp4_present.proofs.SamplesLie.{all_whole, timed_data, timed_length}
 use Rattle.mp4_present.proofs.WalkPlaces.{of_got}
 use Rattle.mp4_plan.proofs.TakenFrom.{got_map}
 use Rattle.mp4norm.specs.format.FileTexts.{AreOthers, LacksTrack, IsTrackWith, ListsSamples, HasData}
-use Rattle.mp4norm.specs.declared.wanted.Form.{Form}
+use Rattle.mp4norm.specs.declared.shell.action.Form.{Form}
 use Rattle.mp4norm.specs.format.Texts.{listing_head, sample_at_lines}
 use Rattle.mp4norm.proofs.SampleTexts.{lines_of_placed}
 use Rattle.mp4norm.proofs.ShownLines.{denoted, LieInFile, each_lies}

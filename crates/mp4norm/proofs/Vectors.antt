@@ -9,8 +9,8 @@ use Rattle.mp4_present.proofs.Vectors.{p_presentation, p_samples}
 use Rattle.mp4_head.proofs.Vectors.{p_track}
 use Rattle.mp4_boxes.proofs.Vectors.{v1, v1_moov, v1_mvhd, v1-tiles, v1-moov-tiles}
 use Rattle.mp4norm.specs.format.Texts.{BoxLines, box_line, fault_line, sample_lines, sample_listing, show_value}
-use Rattle.mp4norm.specs.declared.wanted.Form.TheVariants as forms
-use Rattle.mp4norm.specs.declared.wanted.Syntax.TheVariants as syntaxes
+use Rattle.mp4norm.specs.declared.shell.action.Form.TheVariants as forms
+use Rattle.mp4norm.specs.declared.shell.action.Syntax.TheVariants as syntaxes
 
 p-lines : sample_lines forms.Plain (record { head = p_track; start = 0; samples = p_samples })
     ≡ codes "1 0 0 512 00000000 1 5" ++ 10 ∷ codes "2 512 512 512 00010000 1 0" ++ 10 ∷ codes "3 1024 1024 512 00010000 1 7" ++ 10 ∷ []

@@ -7,9 +7,10 @@ pub mod Compares
 pub mod Suggested
 pub mod Telling
 pub mod ToldSamples
+pub mod PrintedTracks
 pub mod Pairs
-pub mod OverDevices
-pub mod OverFiles
+pub mod StoreAndSink
+pub mod TwoFiles
 pub mod ListedWalks
 pub mod StripSpans
 pub mod AddedWays

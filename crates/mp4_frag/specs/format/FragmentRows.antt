@@ -4,7 +4,7 @@ use Rattle.std.specs.Prelude.{ℕ, suc, ◌+◌, List, length}
 use Rattle.mp4_boxes.specs.format.Bytes.{sum_of}
 use Rattle.mp4_boxes.specs.format.Box.{Box}
 use Rattle.mp4_tables.specs.format.Groups.{Grouping}
-use Rattle.mp4_frag.specs.format.Fragments.{Run, TrackFragment, Fragment, fragment_of}
+use Rattle.mp4_frag.specs.format.Fragments.{SampleRun, TrackFragment, Fragment, fragment_of}
 use Rattle.mp4_frag.specs.words.Judged.{tree_of}
 
 -- the rows of these `sbgp`s
@@ -21,7 +21,7 @@ fragment_rows f = sum_of traf_rows f.trafs
 
 -- the samples of the runs of a `traf`
 abbrev pub traf_length : TrackFragment → ℕ
-traf_length traf = sum_of (λ (run : Run). length run.rows) traf.runs
+traf_length traf = sum_of (λ (run : SampleRun). length run.rows) traf.runs
 
 -- those of all `traf`s of a `moof`
 abbrev pub fragment_length : Fragment → ℕ

@@ -10,20 +10,20 @@ use Rattle.mp4_frag.specs.format.FragmentSamples.{Part, part_samples, trex_for}
 
 -- a track as fragments see it: its ID, how many descriptions it has, and what comes before: at
 -- which decode time the next sample is due, if any came
-pub record TrackInfo : Type 0 where
+pub record TrackFacts : Type 0 where
   pub id : ℕ
   pub descriptions : ℕ
 
-abbrev pub track_for : List TrackInfo → ℕ → Option TrackInfo
+abbrev pub track_for : List TrackFacts → ℕ → Option TrackFacts
 track_for tracks id = find (λ track. track.id == id) tracks
 
 -- the track and its `trex` are there
-abbrev pub is_known : List TrackInfo → List Trex → Part → Bool
+abbrev pub is_known : List TrackFacts → List Trex → Part → Bool
 is_known tracks trexes part = is_some (track_for tracks part.id)
     && is_some (trex_for trexes part.id)
 
 -- each sample has a description of its track
-abbrev pub has_indexes : List TrackInfo → Part → Bool
+abbrev pub has_indexes : List TrackFacts → Part → Bool
 has_indexes tracks part =
     list_all (λ s.
     is_index (unwrap_or (option_map (λ track. track.descriptions) (track_for tracks part.id)) 0)

@@ -4,7 +4,7 @@ use Rattle.mp4_boxes.specs.format.Bytes.{sum_of}
 use Rattle.mp4_tables.specs.format.Groups.{GroupRule, GroupKey, Grouping, maps_of, keys_after, group_test}
 use Rattle.mp4_tables.specs.format.PlainSamples.{PlacedSample, with_groups}
 use Rattle.mp4_frag.specs.declared.trex.Trex.{Trex}
-use Rattle.mp4_frag.specs.format.Fragments.{RunRow, Run, TrackFragment, Fragment}
+use Rattle.mp4_frag.specs.format.Fragments.{RunRow, SampleRun, TrackFragment, Fragment}
 
 -- the first of them that is present: the run's own, that of `tfhd`, that of `trex`
 abbrev pub inherited : Option ℕ → Option ℕ → ℕ → ℕ
@@ -45,14 +45,14 @@ run_start base before None = before
 run_start base before (Some offset) = base +ℤ offset
 
 -- each run's samples, where `before` is where the data so far ends; and where it ends behind them
-abbrev pub runs_samples : Trex → TrackFragment → ℤ → ℤ → List Run → List (List PlacedSample)
+abbrev pub runs_samples : Trex → TrackFragment → ℤ → ℤ → List SampleRun → List (List PlacedSample)
 runs_samples trex traf base before [] = []
 runs_samples trex traf base before (run ∷ runs) =
     let at = run_start base before run.data_offset in
     let samples = run_samples trex traf run.first_sample_flags at run.rows in
     samples ∷ runs_samples trex traf base (end_of_data at samples) runs
 
-abbrev pub runs_end : Trex → TrackFragment → ℤ → ℤ → List Run → ℤ
+abbrev pub runs_end : Trex → TrackFragment → ℤ → ℤ → List SampleRun → ℤ
 runs_end trex traf base before [] = before
 runs_end trex traf base before (run ∷ runs) =
     let at = run_start base before run.data_offset in

@@ -20,7 +20,7 @@ pub record RunRow : Type 0 where
   pub offset : Option ℤ
 
 -- a `trun`
-pub record Run : Type 0 where
+pub record SampleRun : Type 0 where
   pub data_offset : Option ℤ
   pub first_sample_flags : Option ℕ
   pub rows : List RunRow
@@ -36,7 +36,7 @@ pub record TrackFragment : Type 0 where
   pub flags : Option ℕ
   pub base_is_moof : Bool
   pub decode_time : Option ℕ
-  pub runs : List Run
+  pub runs : List SampleRun
   pub groups : List Grouping
 
 -- a `moof`: its first byte's place in the file, its `traf`s
@@ -61,8 +61,8 @@ run_rows zero v bits bytes = []
 run_rows (suc n) v bits bytes = run_row_of v (column_values bits sample_columns bytes)
     ∷ run_rows n v bits (drop (width_of (present bits sample_columns)) bytes)
 
-abbrev pub run_of : List ℕ → Run
-run_of payload =
+abbrev pub sample_run_of : List ℕ → SampleRun
+sample_run_of payload =
     let bits = flags payload in
     let values = column_values bits trun_columns (drop 8 payload) in
     record {
@@ -89,7 +89,7 @@ track_fragment_of boxes =
       flags = column values 4;
       base_is_moof = has (flags head) default_base_is_moof;
       decode_time = option_map decode_time_of (payload_if (codes "tfdt") boxes);
-      runs = map (λ (b : Box). run_of b.payload) (of_kind (codes "trun") boxes);
+      runs = map (λ (b : Box). sample_run_of b.payload) (of_kind (codes "trun") boxes);
       groups = groupings_of (of_kind (codes "sbgp") boxes);
     }
 

@@ -2,7 +2,7 @@
 use Rattle.std.specs.Prelude.{◌≡◌, ℕ, suc, ◌==◌, cond, List, [], ◌∷◌, take, find, slice_get, Option, Some, None}
 use Rattle.std.specs.BTreeMap.{get}
 use Rattle.std.specs.Ordering.{nat_cmp}
-use Rattle.mp4_frag.specs.declared.finding.TrackPlaces.{TrackPlaces}
+use Rattle.mp4_frag.specs.declared.track_search.TrackPlaces.{TrackPlaces}
 use Rattle.mp4_frag.specs.declared.state.TrackState.{TrackState}
 
 -- the place of the first of these IDs that is this one, where they begin at a place

@@ -7,7 +7,7 @@ use Rattle.mp4_frag.specs.words.RunsJudged.{children_of}
 use Rattle.mp4_frag.specs.words.TrafFaults.{traf_in}
 use Rattle.mp4_frag.specs.words.Walks.{trex_among}
 use Rattle.mp4_frag.specs.declared.check.PassedTraf.{PassedTraf}
-use Rattle.mp4_frag.specs.declared.own_trafs.OwnTraf.{OwnTraf}
+use Rattle.mp4_frag.specs.declared.next_traf.OwnTraf.{OwnTraf}
 use Rattle.mp4_frag.specs.declared.state.TrackState.{TrackState}
 use Rattle.mp4_frag.specs.declared.trex.Trex.{Trex}
 

@@ -11,8 +11,8 @@ use Rattle.mp4_frag.specs.format.Fragments.{FragmentTree, track_fragment_of}
 use Rattle.mp4_frag.specs.words.Judged.{part_with, end_with}
 use Rattle.mp4_frag.specs.words.RunsJudged.{children_of}
 use Rattle.mp4_frag.specs.words.TrafFaults.{traf_in}
-use Rattle.mp4_frag.specs.declared.own_trafs.OwnTraf.{OwnTraf}
-use Rattle.mp4_frag.specs.declared.own_trafs.OwnTrafs.{OwnTrafs}
+use Rattle.mp4_frag.specs.declared.next_traf.OwnTraf.{OwnTraf}
+use Rattle.mp4_frag.specs.declared.next_traf.OwnTrafs.{OwnTrafs}
 use Rattle.mp4_frag.specs.declared.state.TrackState.{TrackState}
 use Rattle.mp4_frag.specs.declared.trex.Trex.{Trex}
 

@@ -2,7 +2,7 @@
 use Rattle.std.specs.Prelude.{◌≡◌, ℕ, suc, ◌+◌, ◌-◌, ◌<◌, ◌≤◌, ◌*◌, ◌^◌, nat_lt, ◌==◌, ◌&&◌, not, Bool, true, false, if◌then◌else◌, List, [], ◌∷◌, length, drop, Option, Some, None, unwrap_or, option_map, ℤ, pos, negsuc, ◌+ℤ◌, ◌≤ℤ◌}
 use Rattle.mp4_tables.specs.format.TableRules.{lies_within}
 use Rattle.mp4_frag.specs.words.ColumnsRead.{row_room}
-use Rattle.mp4_frag.specs.format.Fragments.{RunRow, run_rows, run_of}
+use Rattle.mp4_frag.specs.format.Fragments.{RunRow, run_rows, sample_run_of}
 use Rattle.mp4_frag.specs.format.FragmentSamples.{run_start}
 use Rattle.mp4_frag.specs.declared.heads.Inherited.{Inherited}
 use Rattle.mp4_boxes.specs.format.Layout.{run_offsets, too_large, trun, row_count, IsReadable, IsSound}
@@ -12,7 +12,7 @@ use Rattle.mp4_boxes.specs.declared.fault.Kind.TheVariants.{TooManySamples, Samp
 use Rattle.mp4_tables.specs.format.Tables.{composition_offset}
 use Rattle.mp4_tables.specs.declared.keys.Keys.{Keys}
 use Rattle.mp4_frag.specs.declared.run_rows.Row.{Row}
-use Rattle.mp4_frag.specs.declared.runs.Run.{Run}
+use Rattle.mp4_frag.specs.declared.trun.Run.{Run}
 use Rattle.mp4_frag.specs.declared.sample_runs.Judged.{Judged}
 use Rattle.mp4_frag.specs.declared.sample_runs.Passed.{Passed}
 use Rattle.mp4_frag.specs.declared.sample_runs.Samples.{Samples}
@@ -139,7 +139,8 @@ IsRunFault file_length inherited base before room payload TooManySamples = IsRea
 IsRunFault file_length inherited base before room payload SampleOutsideFile =
     IsReadable trun payload
     × (within_from file_length inherited.size
-    (run_start base before (run_of payload).data_offset) (run_of payload).rows ≡ false)
+    (run_start base before (sample_run_of payload).data_offset) (sample_run_of payload).rows
+    ≡ false)
 IsRunFault file_length inherited base before room payload kind = Fails trun payload kind
 
 -- what a `trun` keeps there: where its data ends, how many samples it has, how long they last, and
@@ -148,12 +149,14 @@ pub record IsRunPassed (file_length : ℕ) (inherited : Inherited) (base before 
     (payload : List ℕ) (ends : ℤ) (samples lasts fills : ℕ) : Type 0 where
   pub sound : IsSound trun payload
   pub within : within_from file_length inherited.size
-      (run_start base before (run_of payload).data_offset) (run_of payload).rows ≡ true
-  pub end : ends ≡ end_from inherited.size (run_start base before (run_of payload).data_offset)
-      (run_of payload).rows
+      (run_start base before (sample_run_of payload).data_offset) (sample_run_of payload).rows
+      ≡ true
+  pub end : ends
+      ≡ end_from inherited.size (run_start base before (sample_run_of payload).data_offset)
+      (sample_run_of payload).rows
   pub count : samples ≡ row_count trun payload
-  pub duration : lasts ≡ lasting inherited.duration (run_of payload).rows
-  pub bytes : fills ≡ filling inherited.size (run_of payload).rows
+  pub duration : lasts ≡ lasting inherited.duration (sample_run_of payload).rows
+  pub bytes : fills ≡ filling inherited.size (sample_run_of payload).rows
 
 -- samples were passed, and now those of one run more, for which there was room
 pub record IsPassedWith (judged : Judged) (payload : List ℕ) (old : Passed) (room less : ℕ)

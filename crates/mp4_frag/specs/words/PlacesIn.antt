@@ -6,7 +6,7 @@ use Rattle.mp4_tables.specs.words.Indexes.{AreIndexPlaces}
 use Rattle.mp4_frag.specs.words.ColumnsRead.{row_room}
 use Rattle.mp4_tables.specs.declared.sample.SampleAt.{SampleAt}
 use Rattle.mp4_frag.specs.words.Walks.{Reached, can_read, part_of, boxes_from, rows_here, rows_coming, reached, coming}
-use Rattle.mp4_frag.specs.declared.lying.Lying.{Lying}
+use Rattle.mp4_frag.specs.declared.box_places.Lying.{Lying}
 use Rattle.mp4_frag.specs.declared.places.FragPlace.{FragPlace}
 use Rattle.mp4_frag.specs.declared.places.RowPlace.{RowPlace}
 
@@ -70,6 +70,7 @@ work_behind payload next = runs_work (boxes_from payload next)
 pub record LiesIn (payload : List ℕ) (place : FragPlace) : Type 0 where
   pub next : place.next ≤ length payload
   pub rows : IsRowPlace payload place.run
+  pub width : place.run.width ≡ row_room place.run.bits
   pub indexes : AreIndexPlaces payload place.index_rows place.indexes
   -- what was passed and what is left cost no more than all
   pub work : place.passed + place.run.left + work_behind payload place.next ≤ traf_work payload

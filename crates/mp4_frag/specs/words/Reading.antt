@@ -8,12 +8,22 @@ use Rattle.mp4_frag.specs.format.FragmentSamples.{base_of}
 use Rattle.mp4_frag.specs.declared.heads.Inherited.{Inherited}
 use Rattle.mp4_frag.specs.declared.trex.Trex.{Trex}
 use Rattle.mp4_frag.specs.declared.run_rows.Row.{Row}
-use Rattle.mp4_frag.specs.declared.runs.Run.{Run}
+use Rattle.mp4_frag.specs.declared.run_rows.Said.{Said}
+use Rattle.mp4_frag.specs.declared.trun.Run.{Run}
 use Rattle.mp4_frag.specs.declared.heads.Head.{Head}
 
 -- the values in a row of `trun`
 abbrev pub row_values : Row → List (Option ℕ)
 row_values row = row.duration ∷ row.size ∷ row.flags ∷ row.offset ∷ []
+
+-- these are the values of a row, or what is inherited where one isn't there
+pub record SaysRow (inherited : Inherited) (values : List (Option ℕ)) (said : Said) : Type 0 where
+  pub row : Row
+  pub is : row_values row ≡ values
+  pub duration : said.duration ≡ unwrap_or row.duration inherited.duration
+  pub size : said.size ≡ unwrap_or row.size inherited.size
+  pub flags : said.flags ≡ unwrap_or row.flags inherited.flags
+  pub offset : said.offset ≡ unwrap_or row.offset 0
 
 -- the optional values of a `tfhd`
 abbrev pub head_values : Head → List (Option ℕ)

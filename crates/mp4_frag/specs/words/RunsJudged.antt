@@ -7,7 +7,7 @@ use Rattle.mp4_boxes.specs.format.Children.{of_kind}
 use Rattle.mp4_boxes.specs.format.Layout.{trun, row_count, IsSound}
 use Rattle.mp4_boxes.specs.declared.fault.Fault.{Fault}
 use Rattle.mp4_boxes.specs.declared.fault.Kind.{Kind}
-use Rattle.mp4_frag.specs.format.Fragments.{run_of}
+use Rattle.mp4_frag.specs.format.Fragments.{sample_run_of}
 use Rattle.mp4_frag.specs.format.FragmentSamples.{run_start}
 use Rattle.mp4_frag.specs.words.Passing.{within_from, end_from, lasting, filling, IsRunFault}
 use Rattle.mp4_frag.specs.words.Walks.{boxes_in}
@@ -34,19 +34,19 @@ runs_in traf = of_kind (codes "trun") (children_of traf)
 
 -- where the data of a `trun` begins, behind data that ends at a place
 abbrev pub run_begins : ℤ → ℤ → List ℕ → ℤ
-run_begins base before payload = run_start base before (run_of payload).data_offset
+run_begins base before payload = run_start base before (sample_run_of payload).data_offset
 
 -- where it ends
 abbrev pub run_ends : Inherited → ℤ → ℤ → List ℕ → ℤ
 run_ends inherited base before payload = end_from inherited.size (run_begins base before payload)
-    (run_of payload).rows
+    (sample_run_of payload).rows
 
 -- a `trun` is sound, and its samples lie in the file
 pub record IsRunSound (file_length : ℕ) (inherited : Inherited) (base before : ℤ) (payload : List ℕ)
     : Type 0 where
   pub sound : IsSound trun payload
   pub within : within_from file_length inherited.size (run_begins base before payload)
-      (run_of payload).rows ≡ true
+      (sample_run_of payload).rows ≡ true
 
 abbrev pub AreRunsSound : ℕ → Inherited → ℤ → ℤ → List Box → Type 0
 AreRunsSound file_length inherited base before [] = ⊤
@@ -66,10 +66,11 @@ runs_total runs = sum_of (λ (b : Box). row_count trun b.payload) runs
 
 abbrev pub runs_lasting : Inherited → List Box → ℕ
 runs_lasting inherited runs =
-    sum_of (λ (b : Box). lasting inherited.duration (run_of b.payload).rows) runs
+    sum_of (λ (b : Box). lasting inherited.duration (sample_run_of b.payload).rows) runs
 
 abbrev pub runs_filling : Inherited → List Box → ℕ
-runs_filling inherited runs = sum_of (λ (b : Box). filling inherited.size (run_of b.payload).rows)
+runs_filling inherited runs =
+    sum_of (λ (b : Box). filling inherited.size (sample_run_of b.payload).rows)
     runs
 
 -- the runs are sound, and these are their samples: where their data ends, how many there are, how

@@ -14,7 +14,7 @@ use Rattle.mp4_tables.specs.words.Indexes.{low_half, indexes_coming}
 use Rattle.mp4_tables.specs.format.Tables.{composition_offset}
 use Rattle.mp4_tables.specs.declared.sample.SampleAt.{SampleAt}
 use Rattle.mp4_frag.specs.words.ColumnsRead.{rows_from}
-use Rattle.mp4_frag.specs.format.Fragments.{RunRow, TrackFragment, column, run_of, run_rows}
+use Rattle.mp4_frag.specs.format.Fragments.{RunRow, TrackFragment, column, sample_run_of, run_rows}
 use Rattle.mp4_frag.specs.format.FragmentSamples.{flags_of}
 use Rattle.mp4_frag.specs.words.Reading.{inheritance}
 use Rattle.mp4_frag.specs.words.FragmentsSeen.{CursorSeen}
@@ -96,13 +96,14 @@ begin base before (Some offset) = held (base +ℤ offset)
 
 -- before the first row of a `trun`
 abbrev pub before_run : Reached → List ℕ → Reached
-before_run s payload = record s { at = begin s.base s.at (run_of payload).data_offset }
+before_run s payload = record s { at = begin s.base s.at (sample_run_of payload).data_offset }
 
 -- the samples of a `trun`, and then those of what is behind it
 abbrev pub run_coming : Reached → List ℕ → (Reached → List SampleAt) → List SampleAt
 run_coming s payload more =
     cond (can_read trun payload)
-    (rows_coming (before_run s payload) (run_of payload).first_sample_flags (rows_of payload) more)
+    (rows_coming (before_run s payload) (sample_run_of payload).first_sample_flags (rows_of payload)
+    more)
     (more s)
 
 -- what a `tfhd` says

@@ -5,14 +5,14 @@ use Rattle.std.specs.List.{AllZip}
 use Rattle.mp4_boxes.specs.format.Children.{is_among}
 use Rattle.mp4_head.specs.format.Head.{Kept, Media, TrackHead, MovieHead}
 use Rattle.mp4_present.specs.format.Presentation.{Sample, Track, Presentation}
-use Rattle.mp4_present.specs.format.Reduced.{metadata_kinds, reduce}
-use Rattle.mp4_present.specs.declared.leaving.Leaving.{Leaving}
+use Rattle.mp4_present.specs.format.Reduced.{metadata_kinds, plain_handler, plain_descriptions, reduce}
+use Rattle.mp4_present.specs.declared.without.Without.{Without}
 
 -- a kept box that is no metadata
 abbrev pub is_other : Kept → Bool
 is_other k = not (is_among metadata_kinds k.kind)
 
-pub record SamplesAgree (l : Leaving) (a b : Sample) : Type 0 where
+pub record SamplesAgree (l : Without) (a b : Sample) : Type 0 where
   pub duration : a.duration ≡ b.duration
   pub offset : a.offset ≡ b.offset
   pub description : a.description ≡ b.description
@@ -21,17 +21,20 @@ pub record SamplesAgree (l : Leaving) (a b : Sample) : Type 0 where
   pub flags : l.flags ≡ false → a.flags ≡ b.flags
   pub groups : l.groups ≡ false → a.groups ≡ b.groups
 
-pub record MediaAgree (l : Leaving) (a b : Media) : Type 0 where
+pub record MediaAgree (l : Without) (a b : Media) : Type 0 where
   pub timescale : a.timescale ≡ b.timescale
   pub language : a.language ≡ b.language
-  pub handler : a.handler ≡ b.handler
   pub extended_languages : a.extended_languages ≡ b.extended_languages
   pub header : a.header ≡ b.header
-  pub descriptions : a.descriptions ≡ b.descriptions
   pub creation : l.times ≡ false → a.creation ≡ b.creation
   pub modification : l.times ≡ false → a.modification ≡ b.modification
+  pub handler : l.labels ≡ false → a.handler ≡ b.handler
+  pub left_handler : plain_handler a.handler ≡ plain_handler b.handler
+  pub descriptions : l.labels ≡ false → a.descriptions ≡ b.descriptions
+  pub left_descriptions : plain_descriptions a.handler a.descriptions
+      ≡ plain_descriptions b.handler b.descriptions
 
-pub record TrackHeadsAgree (l : Leaving) (a b : TrackHead) : Type 0 where
+pub record TrackHeadsAgree (l : Without) (a b : TrackHead) : Type 0 where
   pub flags : a.flags ≡ b.flags
   pub id : a.id ≡ b.id
   pub layer : a.layer ≡ b.layer
@@ -48,7 +51,7 @@ pub record TrackHeadsAgree (l : Leaving) (a b : TrackHead) : Type 0 where
   pub media : MediaAgree l a.media b.media
   pub group_descriptions : l.groups ≡ false → a.group_descriptions ≡ b.group_descriptions
 
-pub record MovieHeadsAgree (l : Leaving) (a b : MovieHead) : Type 0 where
+pub record MovieHeadsAgree (l : Without) (a b : MovieHead) : Type 0 where
   pub timescale : a.timescale ≡ b.timescale
   pub rate : a.rate ≡ b.rate
   pub volume : a.volume ≡ b.volume
@@ -58,15 +61,15 @@ pub record MovieHeadsAgree (l : Leaving) (a b : MovieHead) : Type 0 where
   pub kept : l.metadata ≡ false → a.kept ≡ b.kept
   pub other_kept : filter is_other a.kept ≡ filter is_other b.kept
 
-pub record TracksAgree (l : Leaving) (a b : Track) : Type 0 where
+pub record TracksAgree (l : Without) (a b : Track) : Type 0 where
   pub start : a.start ≡ b.start
   pub head : TrackHeadsAgree l a.head b.head
   pub samples : AllZip (SamplesAgree l) a.samples b.samples
 
-pub record Agree (l : Leaving) (a b : Presentation) : Type 0 where
+pub record Agree (l : Without) (a b : Presentation) : Type 0 where
   pub movie : MovieHeadsAgree l a.movie b.movie
   pub tracks : AllZip (TracksAgree l) a.tracks b.tracks
 
 -- What is left is the same exactly where they agree.
 abbrev pub ReduceIsExact : Type 0
-ReduceIsExact = (l : Leaving) (p q : Presentation) → (reduce l p ≡ reduce l q) ↔ Agree l p q
+ReduceIsExact = (l : Without) (p q : Presentation) → (reduce l p ≡ reduce l q) ↔ Agree l p q

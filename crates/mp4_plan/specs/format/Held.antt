@@ -1,7 +1,7 @@
 -- What a writer holds whose length the file decides.
 use Rattle.std.specs.Prelude.{ℕ, ◌+◌, ◌*◌, List, length}
 use Rattle.std.specs.List.{sum_by}
-use Rattle.mp4_present.specs.declared.walks.Walk.{Walk}
+use Rattle.mp4_present.specs.declared.walking.Walk.{Walk}
 use Rattle.mp4_plan.specs.declared.writer.Writer.{Writer}
 
 -- the room for `moof`s in some walks

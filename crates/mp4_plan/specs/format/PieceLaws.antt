@@ -77,8 +77,8 @@ PiecesAreDue = (p : Presentation) → are_distinct (map (λ (h : TrackHead). h.i
     → AllByRecursion (λ (t : Track). AreDue t.start (pieces_for t.head.id (pieces p))) p.tracks
 
 -- all samples of the list have one description
-abbrev pub IsOne : List TimedSample → Type 0
-IsOne samples = AllByRecursion (λ (s : TimedSample). s.sample.description
+abbrev pub IsOnePiece : List TimedSample → Type 0
+IsOnePiece samples = AllByRecursion (λ (s : TimedSample). s.sample.description
     ≡ first_description samples) samples
 
 abbrev pub StartsOther : List TimedSample → List (List TimedSample) → Type 0
@@ -96,7 +96,7 @@ pub record AreLongestRuns (samples : List TimedSample) (runs : List (List TimedS
     : Type 0 where
   pub joined : flat_map (λ (run : List TimedSample). run) runs ≡ samples
   pub some : AllByRecursion (λ (run : List TimedSample). 0 < length run) runs
-  pub one : AllByRecursion IsOne runs
+  pub one : AllByRecursion IsOnePiece runs
   pub longest : Alternate runs
 
 -- The pieces of a track in a fragment are the longest runs of one description among its samples

@@ -4,28 +4,30 @@ use Rattle.mp4_boxes.specs.declared.fault.Fault.{Fault}
 use Rattle.mp4_present.specs.format.Presentation.{Presentation, Valid}
 use Rattle.mp4_present.specs.format.Denotes.{Denotes}
 use Rattle.mp4_present.specs.format.Reduced.{reduce, ReducesInTime}
-use Rattle.mp4_present.specs.declared.leaving.Leaving.{Leaving}
+use Rattle.mp4_present.specs.declared.without.Without.{Without}
 use Rattle.mp4_plan.specs.format.Normal.{normal}
 use Rattle.mp4_plan.specs.format.ReducedTimes.{ReducedFaultStands}
 
 -- nothing is left out
-abbrev pub nothing : Leaving
+abbrev pub nothing : Without
 nothing = record {
   times = false;
   edits = false;
   flags = false;
   groups = false;
   metadata = false;
+  labels = false;
 }
 
 -- what one of the two leaves out
-abbrev pub both : Leaving → Leaving → Leaving
+abbrev pub both : Without → Without → Without
 both l m = record {
   times = l.times || m.times;
   edits = l.edits || m.edits;
   flags = l.flags || m.flags;
   groups = l.groups || m.groups;
   metadata = l.metadata || m.metadata;
+  labels = l.labels || m.labels;
 }
 
 -- Where nothing is left out, all stays.
@@ -34,55 +36,55 @@ NothingReduces = (p : Presentation) → reduce nothing p ≡ p
 
 -- Twice is once, by the words of both.
 abbrev pub ReducesOnce : Type 0
-ReducesOnce = (l m : Leaving) (p : Presentation) → reduce l (reduce m p) ≡ reduce (both l m) p
+ReducesOnce = (l m : Without) (p : Presentation) → reduce l (reduce m p) ≡ reduce (both l m) p
 
 -- The order of two words doesn't matter.
 abbrev pub ReducesInAnyOrder : Type 0
-ReducesInAnyOrder = (l m : Leaving) (p : Presentation)
+ReducesInAnyOrder = (l m : Without) (p : Presentation)
     → reduce l (reduce m p) ≡ reduce m (reduce l p)
 
 -- Twice by the same words is once.
 abbrev pub ReduceIsFixed : Type 0
-ReduceIsFixed = (l : Leaving) (p : Presentation) → reduce l (reduce l p) ≡ reduce l p
+ReduceIsFixed = (l : Without) (p : Presentation) → reduce l (reduce l p) ≡ reduce l p
 
 -- What is left of what is valid is valid exactly if its tracks are not too long.
 abbrev pub ReducedIsValid : Type 0
-ReducedIsValid = (l : Leaving) (p : Presentation) → Valid p → Valid (reduce l p) ↔ ReducesInTime l p
+ReducedIsValid = (l : Without) (p : Presentation) → Valid p → Valid (reduce l p) ↔ ReducesInTime l p
 
 -- Where edits stay they are not.
 abbrev pub ReducedStaysValid : Type 0
-ReducedStaysValid = (l : Leaving) (p : Presentation) → Valid p → l.edits ≡ false
+ReducedStaysValid = (l : Without) (p : Presentation) → Valid p → l.edits ≡ false
     → ReducesInTime l p × Valid (reduce l p)
 
 -- Without its edits what is valid may be too long, whatever else is left out.
 abbrev pub EditsMayHoldTime : Type 0
-EditsMayHoldTime = (l : Leaving) → l.edits ≡ true
+EditsMayHoldTime = (l : Without) → l.edits ≡ true
     → (p : Presentation) × Valid p × (Valid (reduce l p) → ⊥)
 
 -- The normal form of what is left denotes it.
 abbrev pub ReducedNormalDenotes : Type 0
-ReducedNormalDenotes = (l : Leaving) (p : Presentation) → Valid p → ReducesInTime l p
+ReducedNormalDenotes = (l : Without) (p : Presentation) → Valid p → ReducesInTime l p
     → Denotes (normal (reduce l p)) (reduce l p)
 
 -- To normalise it once more gives the same bytes, by the same words or by none.
 abbrev pub ReducedNormalIsFixed : Type 0
-ReducedNormalIsFixed = (l : Leaving) (p q : Presentation) → Valid p → ReducesInTime l p
+ReducedNormalIsFixed = (l : Without) (p q : Presentation) → Valid p → ReducesInTime l p
     → Denotes (normal (reduce l p)) q
     → (normal (reduce l q) ≡ normal (reduce l p)) × (normal q ≡ normal (reduce l p))
 
 -- Such normal forms are equal exactly if what is left is.
 abbrev pub ReducedNormalIsExact : Type 0
-ReducedNormalIsExact = (l : Leaving) (p q : Presentation) → Valid p → ReducesInTime l p
+ReducedNormalIsExact = (l : Without) (p q : Presentation) → Valid p → ReducesInTime l p
     → Valid q → ReducesInTime l q
     → (normal (reduce l p) ≡ normal (reduce l q)) ↔ (reduce l p ≡ reduce l q)
 
 -- Where a track is named that is too long without its edits, what is left of the presentation is.
 abbrev pub ReducedFaultRefuses : Type 0
-ReducedFaultRefuses = (l : Leaving) (file : List ℕ) (f : Fault) (p : Presentation)
+ReducedFaultRefuses = (l : Without) (file : List ℕ) (f : Fault) (p : Presentation)
     → ReducedFaultStands l file f → Denotes file p → ReducesInTime l p → ⊥
 
 -- Where what is left is too long, one such fault stands, and no other.
 abbrev pub ReducedFaultIsOne : Type 0
-ReducedFaultIsOne = (l : Leaving) (file : List ℕ) (p : Presentation) → Denotes file p
+ReducedFaultIsOne = (l : Without) (file : List ℕ) (p : Presentation) → Denotes file p
     → (ReducesInTime l p → ⊥) → (f : Fault) × ReducedFaultStands l file f
     × ((g : Fault) → ReducedFaultStands l file g → g ≡ f)

@@ -8,15 +8,15 @@ use Rattle.mp4_head.specs.format.Tree.{TrackTree, first_of}
 use Rattle.mp4_present.specs.format.Presentation.{Presentation, IsInTime}
 use Rattle.mp4_present.specs.format.Denotes.{Denotes, FileTree, file_parts, movie_timescale, track_of}
 use Rattle.mp4_present.specs.format.Reduced.{reduce_track}
-use Rattle.mp4_present.specs.declared.leaving.Leaving.{Leaving}
+use Rattle.mp4_present.specs.declared.without.Without.{Without}
 
 -- what is left of a track of the file is not too long
-abbrev pub LeftInTime : Leaving → List ℕ → FileTree → TrackTree → Type 0
+abbrev pub LeftInTime : Without → List ℕ → FileTree → TrackTree → Type 0
 LeftInTime l file tree t = IsInTime (movie_timescale file tree)
     (reduce_track l (track_of file (file_parts tree) t))
 
 -- What is left of a track is too long: the first such track of the file.
-pub record ReducedTimePasses (l : Leaving) (file : List ℕ) (tree : FileTree) (f : Fault)
+pub record ReducedTimePasses (l : Without) (file : List ℕ) (tree : FileTree) (f : Fault)
     : Type 0 where
   pub before : List TrackTree
   pub t : TrackTree
@@ -28,7 +28,7 @@ pub record ReducedTimePasses (l : Leaving) (file : List ℕ) (tree : FileTree) (
 
 -- What is left of the presentation that the file denotes is too long: the fault names the first
 -- track of which that is so.
-pub record ReducedFaultStands (l : Leaving) (file : List ℕ) (f : Fault) : Type 0 where
+pub record ReducedFaultStands (l : Without) (file : List ℕ) (f : Fault) : Type 0 where
   pub p : Presentation
   pub denotes : Denotes file p
   pub passes : ReducedTimePasses l file denotes.tree f

@@ -13,16 +13,16 @@ use Rattle.mp4_plan.specs.format.Normal.{tfhd_bytes, trun_bytes, piece_keys, lon
 -- ---- columns
 
 -- all samples have one number
-abbrev pub Agree : (TimedSample → ℕ) → List TimedSample → Type 0
-Agree value [] = Unit {0}
-Agree value (s ∷ samples) = AllByRecursion (λ (t : TimedSample). value t ≡ value s) samples
+abbrev pub AreAlike : (TimedSample → ℕ) → List TimedSample → Type 0
+AreAlike value [] = Unit {0}
+AreAlike value (s ∷ samples) = AllByRecursion (λ (t : TimedSample). value t ≡ value s) samples
 
 -- A number is spelled once: where all samples have one, it is the default and no column; where they
 -- differ, it is a column and there is no default.
 abbrev pub IsSpelledOnce : (TimedSample → ℕ) → List TimedSample → Option ℕ → Bool → Type 0
 IsSpelledOnce value samples (Some n) is_column = AllByRecursion (λ (s : TimedSample). value s ≡ n)
     samples × (is_column ≡ false)
-IsSpelledOnce value samples None is_column = (Agree value samples → ⊥) × (is_column ≡ true)
+IsSpelledOnce value samples None is_column = (AreAlike value samples → ⊥) × (is_column ≡ true)
 
 -- what the `tfhd` of a piece says of all samples: default_sample_duration, default_sample_size,
 -- default_sample_flags behind two other fields

@@ -6,26 +6,26 @@ use Rattle.mp4_present.specs.format.Denotes.{FileTree}
 use Rattle.mp4_present.specs.format.Reduced.{sync_flag}
 use Rattle.mp4_present.specs.words.Movies.{MovieSeen}
 use Rattle.mp4_present.specs.words.SamplesComing.{Comes, track_samples}
-use Rattle.mp4_present.specs.declared.leaving.Leaving.{Leaving}
-use Rattle.mp4_present.specs.declared.walks.Walk.{Walk}
+use Rattle.mp4_present.specs.declared.without.Without.{Without}
+use Rattle.mp4_present.specs.declared.walking.Walk.{Walk}
 
 -- what is left of a sample as it is handed out: it is in no group where each index is 0
-abbrev pub reduce_at : Leaving → SampleAt → SampleAt
+abbrev pub reduce_at : Without → SampleAt → SampleAt
 reduce_at l s = record s {
   flags = if l.flags then sync_flag s.flags else s.flags;
   groups = if l.groups then 0 ∷ 0 ∷ 0 ∷ 0 ∷ [] else s.groups;
 }
 
-abbrev pub less : Leaving → List SampleAt → List SampleAt
+abbrev pub less : Without → List SampleAt → List SampleAt
 less l samples = map (reduce_at l) samples
 
 -- this is left of the samples that come
-pub record ComesLess (l : Leaving) (file : List ℕ) (tree : FileTree) (t : TrackTree) (m : MovieSeen)
+pub record ComesLess (l : Without) (file : List ℕ) (tree : FileTree) (t : TrackTree) (m : MovieSeen)
     (w : Walk) (left : List SampleAt) : Type 0 where
   pub samples : List SampleAt
   pub comes : Comes file tree t m w samples
   pub is_left : left ≡ less l samples
 
 -- what is left of all samples of a track
-abbrev pub left_samples : Leaving → FileTree → TrackTree → List SampleAt
+abbrev pub left_samples : Without → FileTree → TrackTree → List SampleAt
 left_samples l tree t = less l (track_samples tree t)

@@ -11,7 +11,7 @@ use Rattle.mp4_present.specs.format.Presentation.{max_time}
 use Rattle.mp4_present.specs.format.Denotes.{FileTree, presentation_of}
 use Rattle.mp4_present.specs.format.Reduced.{ReducesInTime}
 use Rattle.mp4_present.specs.words.Carried.{RefusesCopy}
-use Rattle.mp4_present.specs.declared.leaving.Leaving.{Leaving}
+use Rattle.mp4_present.specs.declared.without.Without.{Without}
 use Rattle.mp4_present.specs.declared.track_info.TrackInfo.{TrackInfo}
 use Rattle.mp4_plan.specs.format.ReducedTimes.{ReducedTimePasses}
 use Rattle.mp4_plan.specs.words.Writers.{RefusesPlan}
@@ -51,24 +51,24 @@ pub record FirstLong (timescale : ℕ) (heads : List TrackHead) (tracks : List T
 -- ---- refusals
 
 -- Where edits are left out, some track may be too long.
-abbrev pub MayBeLong : Leaving → Fault → Type 0
+abbrev pub MayBeLong : Without → Fault → Type 0
 MayBeLong l f = (l.edits ≡ true) × (f.kind ≡ TimeTooLarge) × (f.box_type ≡ codes "tkhd")
 
 -- Why the length of what is left is not answered.
-abbrev pub RefusesLength : Leaving → Refusal → Type 0
+abbrev pub RefusesLength : Without → Refusal → Type 0
 RefusesLength l (refusals.Fault f) = MayBeLong l f
 RefusesLength l refusals.Memory = Unit {0}
 RefusesLength l _ = ⊥
 
 -- Why what is left of a movie is not planned. The numbers are counts of failed reads, before and
 -- after.
-abbrev pub RefusesLeft : Leaving → ℕ → ℕ → Refusal → Type 0
+abbrev pub RefusesLeft : Without → ℕ → ℕ → Refusal → Type 0
 RefusesLeft l reads reads_after (refusals.Fault f) = MayBeLong l f
 RefusesLeft l reads reads_after r = RefusesPlan reads reads_after r
 
 -- Why what is left of a movie is not written: what was put, and counts of failed reads, and of
 -- failed puts.
-abbrev pub RefusesLeftCopy : Leaving → (List ℕ → Type 0) → ℕ → ℕ → ℕ → ℕ → Refusal → Type 0
+abbrev pub RefusesLeftCopy : Without → (List ℕ → Type 0) → ℕ → ℕ → ℕ → ℕ → Refusal → Type 0
 RefusesLeftCopy l Took reads reads_after puts puts_after (refusals.Fault f) = MayBeLong l f
     × Took []
 RefusesLeftCopy l Took reads reads_after puts puts_after r =
@@ -77,7 +77,7 @@ RefusesLeftCopy l Took reads reads_after puts puts_after r =
 -- ---- over an opened file
 
 -- a fault is that of the first track that is too long
-abbrev pub NamesLong : Leaving → List ℕ → FileTree → Refusal → Type 0
+abbrev pub NamesLong : Without → List ℕ → FileTree → Refusal → Type 0
 NamesLong l file tree (refusals.Fault f) = ReducedTimePasses l file tree f
     × (ReducesInTime l (presentation_of file tree) → ⊥)
 NamesLong l file tree _ = Unit {0}

@@ -11,7 +11,7 @@ use Rattle.mp4_head.specs.words.Seen.{movie_seen, tracks_seen}
 use Rattle.mp4_head.specs.declared.heads.MovieHead.{MovieHead}
 use Rattle.mp4_present.specs.format.Reduced.{reduce_movie_head, reduce_track_head}
 use Rattle.mp4_present.specs.words.Movies.{MovieSeen, moov_box}
-use Rattle.mp4_present.specs.declared.leaving.Leaving.{Leaving}
+use Rattle.mp4_present.specs.declared.without.Without.{Without}
 use Rattle.mp4_present.specs.declared.track_info.TrackInfo.{TrackInfo}
 use Rattle.mp4_plan.specs.words.Sizes.{moof_sizes}
 use Rattle.mp4_plan.specs.words.Spelling.{moof_front, run_rows}
@@ -75,14 +75,14 @@ pub record IsPutWhole (m : MovieSeen) (Took : List ℕ → Type 0) (head : List 
 -- ---- the head
 
 -- what is left of this movie's own head
-pub record IsLeftOf (m : MovieSeen) (l : Leaving) (head : MovieHead) : Type 0 where
+pub record IsLeftOf (m : MovieSeen) (l : Without) (head : MovieHead) : Type 0 where
   pub own : MovieHead
   pub says : SaysHead (moov_box m) own
   pub movie : movie_seen head ≡ reduce_movie_head l (movie_seen own)
   pub tracks : tracks_seen head ≡ map (reduce_track_head l) (tracks_seen own)
 
 -- `ftyp` and `moov` of what is left of this movie, with some length of the longest track
-pub record IsHeadLeft (m : MovieSeen) (l : Leaving) (bytes : List ℕ) : Type 0 where
+pub record IsHeadLeft (m : MovieSeen) (l : Without) (bytes : List ℕ) : Type 0 where
   pub head : MovieHead
   pub left : IsLeftOf m l head
   pub mehd : ℕ

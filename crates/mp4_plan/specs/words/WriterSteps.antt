@@ -9,8 +9,8 @@ use Rattle.mp4_present.specs.words.GoingBack.{IsMarkInHand, back_steps}
 use Rattle.mp4_present.specs.words.Movies.{MovieSeen, mark_of}
 use Rattle.mp4_present.specs.words.SamplesComing.{Comes, own_trafs}
 use Rattle.mp4_present.specs.words.WalkSteps.{MayTake, trafs_steps, walk_steps, walks_steps}
-use Rattle.mp4_present.specs.declared.leaving.Leaving.{Leaving}
-use Rattle.mp4_present.specs.declared.walks.Walk.{Walk}
+use Rattle.mp4_present.specs.declared.without.Without.{Without}
+use Rattle.mp4_present.specs.declared.walking.Walk.{Walk}
 use Rattle.mp4_plan.specs.words.GoneOn.{ComesMarked, HasLoaded, Stays, GoesPast}
 
 -- each of these walks, one for each track, may take some steps, and all may take so many together
@@ -63,7 +63,7 @@ WritesOn file tree m t n w old new = (rest : ℕ) × MayWrite file tree m t w re
 
 -- The walk has noted a piece of so many samples since its mark, and may take so many steps: to copy
 -- the piece, and to go on.
-pub record MayFinish (l : Leaving) (file : List ℕ) (tree : FileTree) (m : MovieSeen) (count : ℕ)
+pub record MayFinish (l : Without) (file : List ℕ) (tree : FileTree) (m : MovieSeen) (count : ℕ)
     (t : TrackTree) (w : Walk) (n : ℕ) : Type 0 where
   pub left : List SampleAt
   pub marked : ComesMarked l file tree t m w count left
@@ -76,7 +76,7 @@ pub record MayFinish (l : Leaving) (file : List ℕ) (tree : FileTree) (m : Movi
   pub none : count ≡ 0 → w.mark ≡ mark_of w (length left)
   pub sum : n ≡ own + now + again_steps began.earlier began.later
 
-abbrev pub FinishesOn : Leaving → List ℕ → FileTree → MovieSeen → ℕ → TrackTree → ℕ → Walk → ℕ → ℕ
+abbrev pub FinishesOn : Without → List ℕ → FileTree → MovieSeen → ℕ → TrackTree → ℕ → Walk → ℕ → ℕ
     → Type 0
 FinishesOn l file tree m count t n w old new = (rest : ℕ) × MayFinish l file tree m count t w rest
     × (new + rest ≤ old + n)
@@ -124,7 +124,7 @@ WriteAllBegin file tree m walks = (n : ℕ) × MayAllWrite file tree m walks n
     × (n ≤ writing_steps tree)
 
 -- one of them has noted a piece
-pub record MayAllFinish (l : Leaving) (file : List ℕ) (tree : FileTree) (m : MovieSeen)
+pub record MayAllFinish (l : Without) (file : List ℕ) (tree : FileTree) (m : MovieSeen)
     (track count : ℕ) (walks : List Walk) (n : ℕ) : Type 0 where
   pub t : TrackTree
   pub walk : Walk
@@ -136,7 +136,7 @@ pub record MayAllFinish (l : Leaving) (file : List ℕ) (tree : FileTree) (m : M
   pub moved : (now : Walk) (rest : ℕ) → MayWrite file tree m t now rest
       → MayAllWrite file tree m (slice_set walks track now) (rest + others)
 
-abbrev pub AllFinishOn : Leaving → List ℕ → FileTree → MovieSeen → ℕ → ℕ → ℕ → List Walk → ℕ → ℕ
+abbrev pub AllFinishOn : Without → List ℕ → FileTree → MovieSeen → ℕ → ℕ → ℕ → List Walk → ℕ → ℕ
     → Type 0
 AllFinishOn l file tree m track count n walks old new = (rest : ℕ)
     × MayAllFinish l file tree m track count walks rest × (new + rest ≤ old + n)

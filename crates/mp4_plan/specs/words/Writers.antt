@@ -10,13 +10,13 @@ use Rattle.mp4_head.specs.format.Writing as written
 use Rattle.mp4_tables.specs.format.Groups.{GroupKey}
 use Rattle.mp4_present.specs.words.Carried.{waiting}
 use Rattle.mp4_present.specs.format.Reduced.{reduce}
-use Rattle.mp4_present.specs.declared.leaving.Leaving.{Leaving}
+use Rattle.mp4_present.specs.declared.without.Without.{Without}
 use Rattle.mp4_present.specs.format.Denotes.{FileTree, presentation_of}
 use Rattle.mp4_present.specs.words.Joined.{sample_bytes}
 use Rattle.mp4_present.specs.words.SamplesComing.{traf_total}
 use Rattle.mp4_present.specs.words.Movies.{MovieSeen, IsWalkOf, mark_of}
 use Rattle.mp4_present.specs.format.Presentation.{Presentation, heads, movie_length}
-use Rattle.mp4_present.specs.declared.walks.Walk.{Walk}
+use Rattle.mp4_present.specs.declared.walking.Walk.{Walk}
 use Rattle.mp4_tables.specs.declared.sample.SampleAt.{SampleAt}
 use Rattle.mp4_plan.specs.words.ComingLess.{ComesLess, left_samples}
 use Rattle.mp4_plan.specs.words.DueTracks.{IsDueTree}
@@ -77,7 +77,7 @@ sequence_behind sequence (Some head) = min (sequence + 1) (2 ^ 32 - 1)
 -- ---- over an opened file
 
 -- for each track a walk of which these samples come
-abbrev pub AllCome : Leaving → List ℕ → FileTree → MovieSeen → List TrackTree → List Walk
+abbrev pub AllCome : Without → List ℕ → FileTree → MovieSeen → List TrackTree → List Walk
     → List (List SampleAt) → Type 0
 AllCome l file tree m [] [] [] = Unit {0}
 AllCome l file tree m (t ∷ trees) (w ∷ walks) (samples ∷ more) =
@@ -85,7 +85,7 @@ AllCome l file tree m (t ∷ trees) (w ∷ walks) (samples ∷ more) =
 AllCome l file tree m _ _ _ = ⊥
 
 -- for each track a walk from its first sample on
-abbrev pub AllBegin : Leaving → List ℕ → FileTree → MovieSeen → List Walk → Type 0
+abbrev pub AllBegin : Without → List ℕ → FileTree → MovieSeen → List Walk → Type 0
 AllBegin l file tree m walks = AllCome l file tree m tree.movie.tracks walks
     (map (left_samples l tree) tree.movie.tracks)
 

@@ -7,18 +7,18 @@ use Rattle.mp4_present.specs.format.Presentation.{Sample, Track, Presentation, V
 use Rattle.mp4_present.specs.format.Reduced.{reduce}
 use Rattle.mp4_present.specs.format.Differences.{same_value}
 use Rattle.mp4_present.specs.format.Comparison.{differences}
-use Rattle.mp4_present.specs.declared.differences.Subject.{Subject}
-use Rattle.mp4_present.specs.declared.differences.Subject.TheVariants as subjects
-use Rattle.mp4_present.specs.declared.differences.Entries.{Entries}
-use Rattle.mp4_present.specs.declared.differences.Entries.TheVariants as entries
-use Rattle.mp4_present.specs.declared.differences.Part.{Part}
-use Rattle.mp4_present.specs.declared.differences.Part.TheVariants as parts
-use Rattle.mp4_present.specs.declared.differences.Field.{Field}
-use Rattle.mp4_present.specs.declared.differences.Field.TheVariants as fields
-use Rattle.mp4_present.specs.declared.differences.Value.{Value}
-use Rattle.mp4_present.specs.declared.differences.Value.TheVariants.{Number, Signed, Kind, Byte}
-use Rattle.mp4_present.specs.declared.differences.Difference.{Difference}
-use Rattle.mp4_present.specs.declared.leaving.Leaving.{Leaving}
+use Rattle.mp4_present.specs.declared.comparing.differences.Subject.{Subject}
+use Rattle.mp4_present.specs.declared.comparing.differences.Subject.TheVariants as subjects
+use Rattle.mp4_present.specs.declared.comparing.differences.Entries.{Entries}
+use Rattle.mp4_present.specs.declared.comparing.differences.Entries.TheVariants as entries
+use Rattle.mp4_present.specs.declared.comparing.differences.Part.{Part}
+use Rattle.mp4_present.specs.declared.comparing.differences.Part.TheVariants as parts
+use Rattle.mp4_present.specs.declared.comparing.differences.Field.{Field}
+use Rattle.mp4_present.specs.declared.comparing.differences.Field.TheVariants as fields
+use Rattle.mp4_present.specs.declared.comparing.differences.Value.{Value}
+use Rattle.mp4_present.specs.declared.comparing.differences.Value.TheVariants.{Number, Signed, Kind, Byte}
+use Rattle.mp4_present.specs.declared.comparing.differences.Difference.{Difference}
+use Rattle.mp4_present.specs.declared.without.Without.{Without}
 
 -- ---- what a presentation says at a place
 
@@ -133,12 +133,12 @@ abbrev pub SameValueIsEqual : Type 0
 SameValueIsEqual = (a b : Value) → (same_value a b ≡ true) ↔ (a ≡ b)
 
 -- its two values are not the same
-abbrev pub IsOne : Difference → Type 0
-IsOne d = same_value d.left d.right ≡ false
+abbrev pub IsOneDifference : Difference → Type 0
+IsOneDifference d = same_value d.left d.right ≡ false
 
 -- Each entry names two values that are not the same.
 abbrev pub EachDifferenceIsOne : Type 0
-EachDifferenceIsOne = (p q : Presentation) → AllByRecursion IsOne (differences p q)
+EachDifferenceIsOne = (p q : Presentation) → AllByRecursion IsOneDifference (differences p q)
 
 -- its values are what the two presentations say at its place
 abbrev pub IsTheirs : Presentation → Presentation → Difference → Type 0
@@ -151,7 +151,7 @@ DifferencesAreTheirs = (p q : Presentation) → AllByRecursion (IsTheirs p q) (d
 
 -- Nothing differs exactly if what is left of the two is the same.
 abbrev pub NoDifferenceIsSame : Type 0
-NoDifferenceIsSame = (l : Leaving) (p q : Presentation) → Valid p → Valid q
+NoDifferenceIsSame = (l : Without) (p q : Presentation) → Valid p → Valid q
     → (differences (reduce l p) (reduce l q) ≡ []) ↔ (reduce l p ≡ reduce l q)
 
 -- with its two values swapped
@@ -160,5 +160,5 @@ swapped d = record d { left = d.right; right = d.left }
 
 -- With the two presentations swapped the same is listed, with values swapped.
 abbrev pub SwappedFilesSwapValues : Type 0
-SwappedFilesSwapValues = (l : Leaving) (p q : Presentation) → Valid p → Valid q
+SwappedFilesSwapValues = (l : Without) (p q : Presentation) → Valid p → Valid q
     → differences (reduce l q) (reduce l p) ≡ map swapped (differences (reduce l p) (reduce l q))

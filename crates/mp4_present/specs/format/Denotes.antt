@@ -11,7 +11,7 @@ use Rattle.mp4_tables.specs.format.PlainSamples.{PlacedSample, plain_samples}
 use Rattle.mp4_tables.specs.format.TableRules.{Surroundings, Fit}
 use Rattle.mp4_frag.specs.format.Fragments.{FragmentTree, IsFragmentTree, fragment_of}
 use Rattle.mp4_frag.specs.format.FragmentSamples.{Part, all_parts, parts_for, fragment_samples, start_of, duration_of, AreOnTime, AreGrouped}
-use Rattle.mp4_frag.specs.format.FragmentRules.{TrackInfo, is_known, has_indexes, is_within}
+use Rattle.mp4_frag.specs.format.FragmentRules.{TrackFacts, is_known, has_indexes, is_within}
 use Rattle.mp4_head.specs.format.Tree.{TrackTree, MovieTree, IsMovieTree, IsSoundMovie, track_head_of, movie_head_of, trexes_of}
 use Rattle.mp4_present.specs.format.Presentation.{Sample, Track, Presentation, IsWithinLimits}
 
@@ -56,7 +56,7 @@ pub record IsSoundFile (t : FileTree) : Type 0 where
 abbrev pub surroundings : List ℕ → TrackTree → Surroundings
 surroundings file t = record { file_length = length file; descriptions = length t.descriptions }
 
-abbrev pub track_infos : MovieTree → List TrackInfo
+abbrev pub track_infos : MovieTree → List TrackFacts
 track_infos m =
     map (λ (t : TrackTree). record {
       id = (track_head_of t).id;

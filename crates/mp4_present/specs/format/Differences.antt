@@ -3,16 +3,16 @@
 -- differs is named.
 use Rattle.std.specs.Prelude.{ℕ, suc, ◌+◌, ◌==◌, Bool, false, if◌then◌else◌, List, [], ◌∷◌, ◌++◌, length, Option, None, Some, ℤ, pos, negsuc, bytes_eq}
 use Rattle.mp4_head.specs.format.Head.{Kept, Edit, Media, TrackHead, MovieHead}
-use Rattle.mp4_present.specs.declared.differences.Subject.{Subject}
-use Rattle.mp4_present.specs.declared.differences.Subject.TheVariants as subjects
-use Rattle.mp4_present.specs.declared.differences.Entries.{Entries}
-use Rattle.mp4_present.specs.declared.differences.Entries.TheVariants as entries
-use Rattle.mp4_present.specs.declared.differences.Part.TheVariants as parts
-use Rattle.mp4_present.specs.declared.differences.Field.{Field}
-use Rattle.mp4_present.specs.declared.differences.Field.TheVariants as fields
-use Rattle.mp4_present.specs.declared.differences.Value.{Value}
-use Rattle.mp4_present.specs.declared.differences.Value.TheVariants.{Number, Signed, Kind, Byte}
-use Rattle.mp4_present.specs.declared.differences.Difference.{Difference}
+use Rattle.mp4_present.specs.declared.comparing.differences.Subject.{Subject}
+use Rattle.mp4_present.specs.declared.comparing.differences.Subject.TheVariants as subjects
+use Rattle.mp4_present.specs.declared.comparing.differences.Entries.{Entries}
+use Rattle.mp4_present.specs.declared.comparing.differences.Entries.TheVariants as entries
+use Rattle.mp4_present.specs.declared.comparing.differences.Part.TheVariants as parts
+use Rattle.mp4_present.specs.declared.comparing.differences.Field.{Field}
+use Rattle.mp4_present.specs.declared.comparing.differences.Field.TheVariants as fields
+use Rattle.mp4_present.specs.declared.comparing.differences.Value.{Value}
+use Rattle.mp4_present.specs.declared.comparing.differences.Value.TheVariants.{Number, Signed, Kind, Byte}
+use Rattle.mp4_present.specs.declared.comparing.differences.Difference.{Difference}
 
 -- ---- single values
 
@@ -32,8 +32,8 @@ unfoldable pub differ : Subject → Field → Value → Value → List Differenc
 differ of field left right = if same_value left right then []
     else record { subject = of; field = field; left = left; right = right } ∷ []
 
-abbrev pub numbers : Subject → Field → ℕ → ℕ → List Difference
-numbers of field m n = differ of field (Number m) (Number n)
+abbrev pub numbers_differ : Subject → Field → ℕ → ℕ → List Difference
+numbers_differ of field m n = differ of field (Number m) (Number n)
 
 abbrev pub signed : Subject → Field → ℤ → ℤ → List Difference
 signed of field m n = differ of field (Signed m) (Signed n)
@@ -57,7 +57,8 @@ bytes_differ of field m n xs ys = if m == n then byte_at of field (first_unequal
 
 -- the length, or the first byte
 abbrev pub payload_differences : Subject → Entries → ℕ → List ℕ → List ℕ → List Difference
-payload_differences of list n xs ys = numbers of (fields.Entry list n parts.Length) (length xs)
+payload_differences of list n xs ys = numbers_differ of (fields.Entry list n parts.Length)
+    (length xs)
     (length ys)
     ++ bytes_differ of (λ (k : ℕ). fields.Entry list n (parts.Byte k (length xs))) (length xs)
     (length ys) xs ys
@@ -73,7 +74,7 @@ each_differ one n (x ∷ xs) (y ∷ ys) = one n x y ++ each_differ one (suc n) x
 
 abbrev pub list_differences : {A : Type 0} → Subject → Entries → (ℕ → A → A → List Difference)
     → List A → List A → List Difference
-list_differences of list one xs ys = numbers of (fields.Count list) (length xs) (length ys)
+list_differences of list one xs ys = numbers_differ of (fields.Count list) (length xs) (length ys)
     ++ each_differ one 1 xs ys
 
 abbrev pub box_differences : Subject → Entries → ℕ → Kept → Kept → List Difference
@@ -83,7 +84,7 @@ box_differences of list n a b = differ of (fields.Entry list n parts.Kind)
 
 abbrev pub edit_times : Subject → ℕ → Edit → Edit → List Difference
 edit_times of n a b =
-    numbers of (fields.Entry entries.Edits n parts.SegmentDuration) a.segment_duration
+    numbers_differ of (fields.Entry entries.Edits n parts.SegmentDuration) a.segment_duration
     b.segment_duration
     ++ signed of (fields.Entry entries.Edits n parts.MediaTime) a.media_time b.media_time
 
@@ -106,9 +107,9 @@ movie_rates a b = signed subjects.Movie fields.Rate a.rate b.rate
     ++ signed subjects.Movie fields.Volume a.volume b.volume
 
 abbrev pub movie_fields : MovieHead → MovieHead → List Difference
-movie_fields a b = numbers subjects.Movie fields.Creation a.creation b.creation
-    ++ numbers subjects.Movie fields.Modification a.modification b.modification
-    ++ numbers subjects.Movie fields.Timescale a.timescale b.timescale
+movie_fields a b = numbers_differ subjects.Movie fields.Creation a.creation b.creation
+    ++ numbers_differ subjects.Movie fields.Modification a.modification b.modification
+    ++ numbers_differ subjects.Movie fields.Timescale a.timescale b.timescale
     ++ movie_rates a b ++ matrix_differences subjects.Movie a.matrix b.matrix
 
 abbrev pub kept_differences : Subject → List Kept → List Kept → List Difference
@@ -119,10 +120,10 @@ abbrev pub movie_differences : MovieHead → MovieHead → List Difference
 movie_differences a b = movie_fields a b ++ kept_differences subjects.Movie a.kept b.kept
 
 abbrev pub track_fields : Subject → TrackHead → TrackHead → List Difference
-track_fields of a b = numbers of fields.Flags a.flags b.flags
-    ++ numbers of fields.Creation a.creation b.creation
-    ++ numbers of fields.Modification a.modification b.modification
-    ++ numbers of fields.Id a.id b.id
+track_fields of a b = numbers_differ of fields.Flags a.flags b.flags
+    ++ numbers_differ of fields.Creation a.creation b.creation
+    ++ numbers_differ of fields.Modification a.modification b.modification
+    ++ numbers_differ of fields.Id a.id b.id
 
 abbrev pub track_layers : Subject → TrackHead → TrackHead → List Difference
 track_layers of a b = signed of fields.Layer a.layer b.layer
@@ -133,14 +134,14 @@ track_shape of a b = signed of fields.Volume a.volume b.volume
     ++ matrix_differences of a.matrix b.matrix
 
 abbrev pub track_sizes : Subject → TrackHead → TrackHead → List Difference
-track_sizes of a b = numbers of fields.Width a.width b.width
-    ++ numbers of fields.Height a.height b.height
+track_sizes of a b = numbers_differ of fields.Width a.width b.width
+    ++ numbers_differ of fields.Height a.height b.height
 
 abbrev pub media_fields : Subject → Media → Media → List Difference
-media_fields of a b = numbers of fields.MediaCreation a.creation b.creation
-    ++ numbers of fields.MediaModification a.modification b.modification
-    ++ numbers of fields.MediaTimescale a.timescale b.timescale
-    ++ numbers of fields.Language a.language b.language
+media_fields of a b = numbers_differ of fields.MediaCreation a.creation b.creation
+    ++ numbers_differ of fields.MediaModification a.modification b.modification
+    ++ numbers_differ of fields.MediaTimescale a.timescale b.timescale
+    ++ numbers_differ of fields.Language a.language b.language
 
 abbrev pub media_lists : Subject → Media → Media → List Difference
 media_lists of a b = payload_differences of entries.Handler 1 a.handler b.handler

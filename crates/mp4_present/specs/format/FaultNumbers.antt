@@ -10,8 +10,8 @@ use Rattle.mp4_frag.specs.format.Fragments.{FragmentTree, AreTrafs, IsFragmentTr
 use Rattle.mp4_frag.specs.format.FragmentSamples.{Part, all_parts, duration_of, fragment_samples}
 use Rattle.mp4_head.specs.format.Tree.{TrackTree, MovieTree, IsMovieTree, IsSoundMovie, track_head_of, trexes_of}
 use Rattle.mp4_present.specs.format.Denotes.{HasSoundTables, surroundings, first_due}
-use Rattle.mp4_present.specs.declared.fault_details.FaultNumbers.{FaultNumbers}
-use Rattle.mp4_present.specs.declared.fault_details.FaultNumbers.TheVariants as numbers
+use Rattle.mp4_present.specs.declared.faults.FaultNumbers.{FaultNumbers}
+use Rattle.mp4_present.specs.declared.faults.FaultNumbers.TheVariants as numbers
 
 -- one of the boxes that fill a box
 abbrev pub IsChildOf : Box → Box → Type 0
@@ -19,8 +19,8 @@ IsChildOf container b =
     (boxes : List Box) × Tiles (box_container container) boxes × Contains boxes b
 
 -- a box up to a place in it
-abbrev pub up_to : ℕ → Box → Box
-up_to place b = record b { payload = take (place - (b.offset + b.header)) b.payload }
+abbrev pub box_up_to : ℕ → Box → Box
+box_up_to place b = record b { payload = take (place - (b.offset + b.header)) b.payload }
 
 -- a `traf` of the `moof` says this time in its `tfdt`, which stands at the place, and this track in
 -- its `tfhd`
@@ -62,7 +62,7 @@ pub record IsGap (file : List ℕ) (place track due found : ℕ) : Type 0 where
   pub says : SaysTime moof place traf track found
   pub trees : AllByRecursion IsFragmentTree earlier
   pub front : FragmentTree
-  pub is_front : front.moof ≡ up_to traf.offset moof
+  pub is_front : front.moof ≡ box_up_to traf.offset moof
   pub front_tiles : Tiles (box_container front.moof) front.children
   pub front_trafs : AreTrafs (of_kind (codes "traf") front.children) front.trafs
   pub t : TrackTree

@@ -64,11 +64,11 @@ run_tests file_length room (samples ∷ placed) (b ∷ runs) =
     ∷ (is_within file_length samples, SampleOutsideFile) ∷ []) b.payload)
     ++ run_tests file_length (room - n) placed runs
 
-abbrev pub groups_tests : ℕ → List GroupKey → Part → ℕ → List Box → List (Test Fault)
-groups_tests n keys part k [] = []
-groups_tests n keys part k (b ∷ groups) =
+abbrev pub group_boxes_tests : ℕ → List GroupKey → Part → ℕ → List Box → List (Test Fault)
+group_boxes_tests n keys part k [] = []
+group_boxes_tests n keys part k (b ∷ groups) =
     naming b (leaf_tests_with sbgp (group_tests n keys part.groups k) b.payload)
-    ++ groups_tests n keys part (suc k) groups
+    ++ group_boxes_tests n keys part (suc k) groups
 
 abbrev pub traf_tests : ℕ → MovieTree → Passed → Part → List Box → List (Test Fault)
 traf_tests file_length movie passed part inside =
@@ -80,7 +80,7 @@ traf_tests file_length movie passed part inside =
     ++ times (λ b. naming b (leaf_tests tfdt b.payload))
     ++ run_tests file_length passed.room part.runs (of_kind (codes "trun") inside)
     ++ naming head ((has_indexes (track_infos movie) part, BadDescriptionIndex) ∷ [])
-    ++ groups_tests (length (part_samples part)) (named_keys passed.parts part track) part 0
+    ++ group_boxes_tests (length (part_samples part)) (named_keys passed.parts part track) part 0
     (of_kind (codes "sbgp") inside)
     ++ times (λ b. naming b ((is_due_time passed.parts part track, Gap) ∷ []))
 

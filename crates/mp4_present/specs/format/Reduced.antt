@@ -1,18 +1,18 @@
 -- What is left of a presentation where some of what it says doesn't count, as in comparing,
 -- archiving and caching files by the rest.
-use Rattle.std.specs.Prelude.{ℕ, ◌*◌, ◌/◌, ◌%◌, ◌^◌, not, if◌then◌else◌, List, [], ◌∷◌, map, filter, codes}
+use Rattle.std.specs.Prelude.{ℕ, zero, suc, ◌*◌, ◌/◌, ◌%◌, ◌^◌, nat_le, not, Bool, if◌then◌else◌, List, [], ◌∷◌, length, take, map, filter, codes, bytes_eq}
 use Rattle.std.specs.List.{AllByRecursion}
 use Rattle.mp4_boxes.specs.format.Children.{is_among}
-use Rattle.mp4_head.specs.format.Head.{Kept, Media, TrackHead, MovieHead}
+use Rattle.mp4_head.specs.format.Head.{Kept, Media, TrackHead, MovieHead, handler_type}
 use Rattle.mp4_present.specs.format.Presentation.{Sample, Track, Presentation, IsInTime}
-use Rattle.mp4_present.specs.declared.leaving.Leaving.{Leaving}
+use Rattle.mp4_present.specs.declared.without.Without.{Without}
 
 -- kept boxes that are metadata: `tref` names other tracks and `elng` refines the language, so they
 -- are none
 abbrev pub metadata_kinds : List (List ℕ)
 metadata_kinds = codes "udta" ∷ codes "meta" ∷ codes "iods" ∷ []
 
-abbrev pub reduce_kept : Leaving → List Kept → List Kept
+abbrev pub reduce_kept : Without → List Kept → List Kept
 reduce_kept l kept = if l.metadata
     then filter (λ (k : Kept). not (is_among metadata_kinds k.kind)) kept else kept
 
@@ -20,19 +20,51 @@ reduce_kept l kept = if l.metadata
 abbrev pub sync_flag : ℕ → ℕ
 sync_flag flags = flags / 2 ^ 16 % 2 * 2 ^ 16
 
-abbrev pub reduce_sample : Leaving → Sample → Sample
+abbrev pub reduce_sample : Without → Sample → Sample
 reduce_sample l s = record s {
   flags = if l.flags then sync_flag s.flags else s.flags;
   groups = if l.groups then [] else s.groups;
 }
 
-abbrev pub reduce_media : Leaving → Media → Media
+-- ---- names for people
+
+-- zeros in the place of so many bytes, from a place on
+abbrev pub zeroed : ℕ → ℕ → List ℕ → List ℕ
+zeroed from count [] = []
+zeroed zero zero (b ∷ bytes) = b ∷ bytes
+zeroed zero (suc count) (b ∷ bytes) = 0 ∷ zeroed zero count bytes
+zeroed (suc from) count (b ∷ bytes) = b ∷ zeroed from count bytes
+
+-- `hdlr` without its name, and with zeros in pre_defined and reserved (8.4.3)
+abbrev pub plain_handler : List ℕ → List ℕ
+plain_handler payload = zeroed 4 4 (zeroed 12 12 (take 24 payload))
+
+-- a VisualSampleEntry, where it is whole, without its compressorname (12.1.3)
+abbrev pub plain_picture : Kept → Kept
+plain_picture k = record k {
+  payload = if nat_le 78 (length k.payload) then zeroed 42 32 k.payload else k.payload;
+}
+
+abbrev pub is_picture : List ℕ → Bool
+is_picture handler = bytes_eq (handler_type handler) (codes "vide")
+
+-- sample descriptions of a track with this handler
+abbrev pub plain_descriptions : List ℕ → List Kept → List Kept
+plain_descriptions handler descriptions =
+    if is_picture handler then map plain_picture descriptions else descriptions
+
+-- ---- heads
+
+abbrev pub reduce_media : Without → Media → Media
 reduce_media l m = record m {
   creation = if l.times then 0 else m.creation;
   modification = if l.times then 0 else m.modification;
+  handler = if l.labels then plain_handler m.handler else m.handler;
+  descriptions = if l.labels then plain_descriptions m.handler m.descriptions
+      else m.descriptions;
 }
 
-abbrev pub reduce_track_head : Leaving → TrackHead → TrackHead
+abbrev pub reduce_track_head : Without → TrackHead → TrackHead
 reduce_track_head l t = record t {
   creation = if l.times then 0 else t.creation;
   modification = if l.times then 0 else t.modification;
@@ -42,27 +74,27 @@ reduce_track_head l t = record t {
   group_descriptions = if l.groups then [] else t.group_descriptions;
 }
 
-abbrev pub reduce_movie_head : Leaving → MovieHead → MovieHead
+abbrev pub reduce_movie_head : Without → MovieHead → MovieHead
 reduce_movie_head l m = record m {
   creation = if l.times then 0 else m.creation;
   modification = if l.times then 0 else m.modification;
   kept = reduce_kept l m.kept;
 }
 
-abbrev pub reduce_track : Leaving → Track → Track
+abbrev pub reduce_track : Without → Track → Track
 reduce_track l t = record t {
   head = reduce_track_head l t.head;
   samples = map (reduce_sample l) t.samples;
 }
 
 -- what is left of a presentation
-abbrev pub reduce : Leaving → Presentation → Presentation
+abbrev pub reduce : Without → Presentation → Presentation
 reduce l p = record {
   movie = reduce_movie_head l p.movie;
   tracks = map (reduce_track l) p.tracks;
 }
 
 -- Its tracks are not too long: without its edits a track is as long as its samples are.
-abbrev pub ReducesInTime : Leaving → Presentation → Type 0
+abbrev pub ReducesInTime : Without → Presentation → Type 0
 ReducesInTime l p = AllByRecursion
     (λ (t : Track). IsInTime p.movie.timescale (reduce_track l t)) p.tracks

@@ -3,11 +3,11 @@ use Rattle.std.specs.Prelude.{◌≡◌, ◌+◌, ◌<◌, ℕ, List, [], ◌++�
 use Rattle.mp4_store.specs.words.Device.{HasRisen, count_after}
 use Rattle.mp4_boxes.specs.declared.refusal.Refusal.{Refusal}
 use Rattle.mp4_boxes.specs.declared.refusal.Refusal.TheVariants as refusals
-use Rattle.mp4_present.specs.declared.carrier.Carrier.{Carrier}
-use Rattle.mp4_present.specs.declared.stretches.Stretch.{Stretch}
+use Rattle.mp4_present.specs.declared.out_buffer.OutBuffer.{OutBuffer}
+use Rattle.mp4_present.specs.declared.walking.stretches.Stretch.{Stretch}
 
 -- the bytes that wait
-abbrev pub waiting : Carrier → List ℕ
+abbrev pub waiting : OutBuffer → List ℕ
 waiting c = take c.used c.buffer.items
 
 -- These bytes follow: what was put since, and then what waits now, is what waited before, and then

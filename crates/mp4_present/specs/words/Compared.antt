@@ -19,12 +19,12 @@ use Rattle.mp4_present.specs.words.SamplesComing.{Comes}
 use Rattle.mp4_present.specs.words.WalkSteps.{MayTake, walk_steps}
 use Rattle.mp4_present.specs.words.Windows.{Shows}
 use Rattle.mp4_store.specs.declared.store.Store.{Ghosts as Store}
-use Rattle.mp4_present.specs.declared.comparing_samples.Pairing.{Pairing}
-use Rattle.mp4_present.specs.declared.comparing_samples.Side.{Side}
-use Rattle.mp4_present.specs.declared.differences.Difference.{Difference}
-use Rattle.mp4_present.specs.declared.leaving.Leaving.{Leaving}
+use Rattle.mp4_present.specs.declared.comparing.samples.Pairing.{Pairing}
+use Rattle.mp4_present.specs.declared.comparing.samples.Side.{Side}
+use Rattle.mp4_present.specs.declared.comparing.differences.Difference.{Difference}
+use Rattle.mp4_present.specs.declared.without.Without.{Without}
 use Rattle.mp4_present.specs.declared.track_info.TrackInfo.{TrackInfo}
-use Rattle.mp4_present.specs.declared.walks.Walk.{Walk}
+use Rattle.mp4_present.specs.declared.walking.Walk.{Walk}
 
 -- it is so of all trees that two movies were opened as, over honest stores of these files
 abbrev pub WhereBothOpened : Bool → List ℕ → MovieSeen → Bool → List ℕ → MovieSeen
@@ -35,7 +35,7 @@ WhereBothOpened honest file m honest_right file_right n P = IsTrue honest → Is
 
 -- The samples of these two tracks, at this place among the tracks of their movies, are compared by
 -- the keys of both in their order.
-pub record IsPairingOf (leaving : Leaving) (track : ℕ) (info other : TrackInfo) (by : Pairing)
+pub record IsPairingOf (leaving : Without) (track : ℕ) (info other : TrackInfo) (by : Pairing)
     : Type 0 where
   pub left_out : by.leaving ≡ leaving
   pub number : by.track ≡ track + 1
@@ -45,7 +45,7 @@ pub record IsPairingOf (leaving : Leaving) (track : ℕ) (info other : TrackInfo
       else fold with_key [] (keys_seen info.keys ++ keys_seen other.keys))
 
 -- the same of the tracks at this place of two movies
-abbrev pub IsPairingAt : Leaving → ℕ → MovieSeen → MovieSeen → Pairing → Type 0
+abbrev pub IsPairingAt : Without → ℕ → MovieSeen → MovieSeen → Pairing → Type 0
 IsPairingAt leaving track m n by = (info other : TrackInfo) → slice_get m.tracks track ≡ Some info
     → slice_get n.tracks track ≡ Some other → IsPairingOf leaving track info other by
 
@@ -65,7 +65,7 @@ AtTracks track tree other P = (t u : TrackTree) → slice_get tree.movie.tracks 
     → slice_get other.movie.tracks track ≡ Some u → P t u
 
 -- what differs between the samples of two tracks with this number, behind what was left out
-abbrev pub samples_differ : Leaving → ℕ → List ℕ → FileTree → TrackTree → List ℕ → FileTree
+abbrev pub samples_differ : Without → ℕ → List ℕ → FileTree → TrackTree → List ℕ → FileTree
     → TrackTree → List Difference
 samples_differ l number file tree t file_right other u = each_differ (sample_differences number) 1
     (map (reduce_sample l) (track_of file (file_parts tree) t).samples)
@@ -82,14 +82,14 @@ AtHeads track tree other head other_head P = AtTracks track tree other
     (λ t u. track_seen head ≡ track_head_of t → track_seen other_head ≡ track_head_of u → P t u)
 
 -- what differs between two tracks with this number, behind what was left out
-abbrev pub tracks_differ : Leaving → ℕ → List ℕ → FileTree → TrackTree → List ℕ → FileTree
+abbrev pub tracks_differ : Without → ℕ → List ℕ → FileTree → TrackTree → List ℕ → FileTree
     → TrackTree → List Difference
 tracks_differ l number file tree t file_right other u = track_differences number
     (reduce_track l (track_of file (file_parts tree) t))
     (reduce_track l (track_of file_right (file_parts other) u))
 
 -- what differs between two files, behind what was left out
-abbrev pub files_differ : Leaving → List ℕ → FileTree → List ℕ → FileTree → List Difference
+abbrev pub files_differ : Without → List ℕ → FileTree → List ℕ → FileTree → List Difference
 files_differ l file tree file_right other =
     differences (reduce l (presentation_of file tree)) (reduce l (presentation_of file_right other))
 
@@ -102,7 +102,7 @@ WhereOpenedBoth S a m T b n P =
     WhereBothOpened (S.is_honest a) (S.file a) m (T.is_honest b) (T.file b) n P
 
 -- the same, of what differs between them, behind what is left out
-abbrev pub OfFiles : {X Y : Type 0} → Store X → X → MovieSeen → Store Y → Y → MovieSeen → Leaving
+abbrev pub OfFiles : {X Y : Type 0} → Store X → X → MovieSeen → Store Y → Y → MovieSeen → Without
     → (List Difference → Type 0) → Type 0
 OfFiles S a m T b n l P = WhereOpenedBoth S a m T b n
     (λ tree other. P (files_differ l (S.file a) tree (T.file b) other))
@@ -126,13 +126,13 @@ WhereTracks S a m T b n track P =
 
 -- the same, of what differs between their samples
 abbrev pub OfSamples : {X Y : Type 0} → Store X → X → MovieSeen → Store Y → Y → MovieSeen → ℕ
-    → Leaving → (List Difference → Type 0) → Type 0
+    → Without → (List Difference → Type 0) → Type 0
 OfSamples S a m T b n track l P = WhereTracks S a m T b n track (λ tree t other u.
     P (samples_differ l (track + 1) (S.file a) tree t (T.file b) other u))
 
 -- the same, of what differs between them, where these heads were read
 abbrev pub OfTracks : {X Y : Type 0} → Store X → X → MovieSeen → TrackHead → Store Y → Y → MovieSeen
-    → TrackHead → ℕ → Leaving → (List Difference → Type 0) → Type 0
+    → TrackHead → ℕ → Without → (List Difference → Type 0) → Type 0
 OfTracks S a m head T b n other_head track l P =
     WhereBothOpened (S.is_honest a) (S.file a) m (T.is_honest b) (T.file b) n
     (λ tree other. AtHeads track tree other head other_head (λ t u.

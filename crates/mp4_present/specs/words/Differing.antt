@@ -6,22 +6,22 @@ use Rattle.mp4_tables.specs.words.Keys.{key_seen, keys_seen, key_place}
 use Rattle.mp4_tables.specs.declared.keys.GroupKey.{GroupKey}
 use Rattle.mp4_tables.specs.declared.keys.Keys.{Keys}
 use Rattle.mp4_tables.specs.declared.sample.SampleAt.{SampleAt}
-use Rattle.mp4_present.specs.format.Differences.{differ, numbers, signed, bytes_differ, each_differ}
+use Rattle.mp4_present.specs.format.Differences.{differ, numbers_differ, signed, bytes_differ, each_differ}
 use Rattle.mp4_present.specs.format.Reduced.{sync_flag}
-use Rattle.mp4_present.specs.declared.leaving.Leaving.{Leaving}
+use Rattle.mp4_present.specs.declared.without.Without.{Without}
 use Rattle.mp4_head.specs.format.Head.{Edit, Media, TrackHead, MovieHead}
-use Rattle.mp4_present.specs.declared.comparing_entries.Spot.{Spot}
-use Rattle.mp4_present.specs.declared.differences.Entries.{Entries}
-use Rattle.mp4_present.specs.declared.differences.Part.TheVariants as parts
-use Rattle.mp4_present.specs.declared.differences.Field.{Field}
-use Rattle.mp4_present.specs.declared.differences.Value.{Value}
-use Rattle.mp4_present.specs.declared.differences.Value.TheVariants.{Number, Signed}
-use Rattle.mp4_present.specs.declared.differences.Subject.{Subject}
-use Rattle.mp4_present.specs.declared.differences.Subject.TheVariants as subjects
-use Rattle.mp4_present.specs.declared.differences.Field.TheVariants as fields
+use Rattle.mp4_present.specs.declared.comparing.entries.Spot.{Spot}
+use Rattle.mp4_present.specs.declared.comparing.differences.Entries.{Entries}
+use Rattle.mp4_present.specs.declared.comparing.differences.Part.TheVariants as parts
+use Rattle.mp4_present.specs.declared.comparing.differences.Field.{Field}
+use Rattle.mp4_present.specs.declared.comparing.differences.Value.{Value}
+use Rattle.mp4_present.specs.declared.comparing.differences.Value.TheVariants.{Number, Signed}
+use Rattle.mp4_present.specs.declared.comparing.differences.Subject.{Subject}
+use Rattle.mp4_present.specs.declared.comparing.differences.Subject.TheVariants as subjects
+use Rattle.mp4_present.specs.declared.comparing.differences.Field.TheVariants as fields
 use Rattle.mp4_store.specs.words.Device.{HasRisen, range}
 use Rattle.mp4_store.specs.declared.store.Store.{Ghosts as Store}
-use Rattle.mp4_present.specs.declared.differences.Difference.{Difference}
+use Rattle.mp4_present.specs.declared.comparing.differences.Difference.{Difference}
 
 -- the first that was taken, if there is one
 abbrev pub as_list : Option Difference → List Difference
@@ -109,11 +109,11 @@ index_in (Some place) groups = slice_index groups place
 abbrev pub index_of : Keys → SampleAt → GroupKey → ℕ
 index_of keys s key = index_in (key_place (key_seen key) (keys_seen keys)) s.groups
 
-abbrev pub flags_left : Leaving → ℕ → ℕ
+abbrev pub flags_left : Without → ℕ → ℕ
 flags_left l flags = if l.flags then sync_flag flags else flags
 
 -- what a sample says before its indexes
-abbrev pub sample_values : Leaving → SampleAt → List (Field × Value)
+abbrev pub sample_values : Without → SampleAt → List (Field × Value)
 sample_values l s = (fields.Duration, Number s.duration) ∷ (fields.Offset, Signed s.cto)
     ∷ (fields.Flags, Number (flags_left l s.flags))
     ∷ (fields.Description, Number s.description) ∷ []
@@ -122,18 +122,19 @@ sample_values l s = (fields.Duration, Number s.duration) ∷ (fields.Offset, Sig
 abbrev pub group_differences : Subject → List GroupKey → Keys → SampleAt → Keys → SampleAt
     → List Difference
 group_differences of keys left_keys a right_keys b = flat_map (λ (key : GroupKey).
-    numbers of (fields.Group key) (index_of left_keys a key) (index_of right_keys b key)) keys
+    numbers_differ of (fields.Group key) (index_of left_keys a key) (index_of right_keys b key))
+    keys
 
 -- what differs between two samples apart from their bytes, at these keys
-abbrev pub differences_at : Leaving → Subject → List GroupKey → Keys → SampleAt → Keys → SampleAt
+abbrev pub differences_at : Without → Subject → List GroupKey → Keys → SampleAt → Keys → SampleAt
     → List Difference
 differences_at l of keys left_keys a right_keys b =
-    numbers of fields.Duration a.duration b.duration
+    numbers_differ of fields.Duration a.duration b.duration
     ++ signed of fields.Offset a.cto b.cto
-    ++ numbers of fields.Flags (flags_left l a.flags) (flags_left l b.flags)
-    ++ numbers of fields.Description a.description b.description
+    ++ numbers_differ of fields.Flags (flags_left l a.flags) (flags_left l b.flags)
+    ++ numbers_differ of fields.Description a.description b.description
     ++ group_differences of keys left_keys a right_keys b
-    ++ numbers of fields.Size a.size b.size
+    ++ numbers_differ of fields.Size a.size b.size
 
 -- the first byte that differs, of two samples of two files and of one size
 abbrev pub sample_bytes_differ : Subject → List ℕ → SampleAt → List ℕ → SampleAt → List Difference
@@ -141,7 +142,7 @@ sample_bytes_differ of file a other b = bytes_differ of (λ (k : ℕ). fields.By
     b.size (range file a.at a.size) (range other b.at a.size)
 
 -- what differs between two samples of two files, which have these numbers: also the first byte
-abbrev pub pair_differences : Leaving → ℕ → List GroupKey → Keys → List ℕ → Keys → List ℕ → ℕ
+abbrev pub pair_differences : Without → ℕ → List GroupKey → Keys → List ℕ → Keys → List ℕ → ℕ
     → SampleAt → SampleAt → List Difference
 pair_differences l track keys left_keys file right_keys other n a b =
     differences_at l (subjects.Sample track n) keys left_keys a right_keys b

@@ -7,8 +7,8 @@ use Rattle.mp4_present.specs.format.Denotes.{FileTree}
 use Rattle.mp4_present.specs.words.Movies.{MovieSeen, IsWalkOf, all_in_traf, mark_of, traf_box}
 use Rattle.mp4_present.specs.words.WalkSteps.{steps_to}
 use Rattle.mp4_present.specs.declared.track_info.TrackInfo.{TrackInfo}
-use Rattle.mp4_present.specs.declared.walks.Due.{Due}
-use Rattle.mp4_present.specs.declared.walks.Walk.{Walk}
+use Rattle.mp4_present.specs.declared.walking.Due.{Due}
+use Rattle.mp4_present.specs.declared.walking.Walk.{Walk}
 
 -- what was due before the `traf` of the mark, where another one is in hand; the tables always are
 -- at hand

@@ -10,16 +10,16 @@ use Rattle.mp4_frag.specs.words.OwnTrafs.{PlacedTraf}
 use Rattle.mp4_head.specs.format.Tree.{TrackTree}
 use Rattle.mp4_present.specs.format.Denotes.{FileTree}
 use Rattle.mp4_present.specs.words.Carried.{waiting, BytesGoOn, GoOnBy}
-use Rattle.mp4_present.specs.words.InHand.{left_in_hand}
+use Rattle.mp4_present.specs.words.Loaded.{left_in_hand}
 use Rattle.mp4_present.specs.words.Joined.{IsBelow, sample_bytes, sizes_of}
 use Rattle.mp4_present.specs.words.Movies.{MovieSeen, IsWalkOf, InHandOf}
 use Rattle.mp4_present.specs.words.OpenedMovie.{IsOpenedAs}
-use Rattle.mp4_present.specs.words.OverStores.{IsUnchanged}
+use Rattle.mp4_present.specs.words.StoresRead.{IsUnchanged}
 use Rattle.mp4_present.specs.words.SamplesComing.{StandsBefore}
 use Rattle.mp4_present.specs.words.WalkSteps.{MayTake, TakesOn}
-use Rattle.mp4_present.specs.declared.carrier.Carrier.{Carrier}
-use Rattle.mp4_present.specs.declared.in_hand.InHand.{InHand}
-use Rattle.mp4_present.specs.declared.walks.Walk.{Walk}
+use Rattle.mp4_present.specs.declared.out_buffer.OutBuffer.{OutBuffer}
+use Rattle.mp4_present.specs.declared.walking.loaded.Loaded.{Loaded}
+use Rattle.mp4_present.specs.declared.walking.Walk.{Walk}
 
 -- The walk is one of this movie, and stands where it stood among its fragments.
 pub record StaysBefore (m : MovieSeen) (w w_after : Walk) : Type 0 where
@@ -30,12 +30,12 @@ pub record StaysBefore (m : MovieSeen) (w w_after : Walk) : Type 0 where
       → StandsBefore file tree t earlier later w → StandsBefore file tree t earlier later w_after
 
 -- it is so of the samples in hand
-abbrev pub OfHand : MovieSeen → Walk → (InHand → Type 0) → Type 0
-OfHand m w P = (hand : InHand) × InHandOf m w hand × P hand
+abbrev pub OfHand : MovieSeen → Walk → (Loaded → Type 0) → Type 0
+OfHand m w P = (hand : Loaded) × InHandOf m w hand × P hand
 
 -- over an honest store, the bytes of the samples in hand are taken along: at Ok all of them
 abbrev pub CarriesHand : {X Y T E : Type 0} → Store X → X → MovieSeen → Walk → Sink Y → Y → Y
-    → Carrier → Carrier → Result T E → Type 0
+    → OutBuffer → OutBuffer → Result T E → Type 0
 CarriesHand S store m w K sink sink_after c c_after result = MatchResult result
     (λ _. IsTrue (S.is_honest store) → OfHand m w (λ hand.
     BytesGoOn (K.takes sink sink_after) (waiting c) (waiting c_after)
@@ -47,7 +47,7 @@ CarriesHand S store m w K sink sink_after c c_after result = MatchResult result
 -- Of so many bytes so many are left: the others are those of the samples in hand, and were taken
 -- along.
 pub record LeavesBytes {Y : Type 0} (m : MovieSeen) (w : Walk) (K : Sink Y) (sink sink_after : Y)
-    (c c_after : Carrier) (bytes left : ℕ) : Type 0 where
+    (c c_after : OutBuffer) (bytes left : ℕ) : Type 0 where
   pub many : (left ≤ bytes) × GoOnBy (K.takes sink sink_after) (waiting c)
       (waiting c_after) (bytes - left)
   pub sizes : OfHand m w (λ hand. sizes_of (left_in_hand hand) + left ≡ bytes)
@@ -55,7 +55,7 @@ pub record LeavesBytes {Y : Type 0} (m : MovieSeen) (w : Walk) (K : Sink Y) (sin
 -- The bytes of the samples in hand are taken along, at Ok all of them, of so many bytes so many are
 -- left then, and the buffer keeps its length.
 pub record TakesHand {X Y E : Type 0} (S : Store X) (store : X) (m : MovieSeen) (w : Walk)
-    (K : Sink Y) (sink sink_after : Y) (c c_after : Carrier) (bytes : ℕ) (result : Result ℕ E)
+    (K : Sink Y) (sink sink_after : Y) (c c_after : OutBuffer) (bytes : ℕ) (result : Result ℕ E)
     : Type 0 where
   pub put : CarriesHand S store m w K sink sink_after c c_after result
   pub left : IfOk result (LeavesBytes m w K sink sink_after c c_after bytes)

@@ -49,11 +49,12 @@ pub record TimeFails (p : Presentation) (head : MovieHead) (f : Fault) : Type 0 
   pub head_is : slice_get head.tracks.items k ≡ Some h
   pub named : f ≡ record { kind = TimeTooLarge; box_type = codes "tkhd"; offset = h.offset }
 
--- the `moov` of the normal form is too long
+-- no track is, and the `moov` of the normal form is
 pub record MovieFails (p : Presentation) (moov : Box) (f : Fault) : Type 0 where
+  pub in_time : AllByRecursion (IsInTime p.movie.timescale) p.tracks
   pub passes : max_moov < normal_moov_length p
   pub named : f ≡ fault_of MovieTooLarge moov
 
--- a limit is passed
+-- a limit is passed, and none before it
 abbrev pub LimitFails : Presentation → MovieHead → Box → Fault → Type 0
 LimitFails p head moov f = TimeFails p head f ⊎ MovieFails p moov f

@@ -6,7 +6,7 @@ use Rattle.mp4_head.specs.format.Tree.{TrackTree}
 use Rattle.mp4_present.specs.format.Denotes.{FileTree}
 use Rattle.mp4_present.specs.words.Movies.{MovieSeen}
 use Rattle.mp4_present.specs.words.SamplesComing.{StandsBefore, Comes, samples_behind}
-use Rattle.mp4_present.specs.declared.walks.Walk.{Walk}
+use Rattle.mp4_present.specs.declared.walking.Walk.{Walk}
 
 -- this is the first of these samples, and the others come
 abbrev pub TakesFirst : List ℕ → FileTree → TrackTree → MovieSeen → Walk → List SampleAt → SampleAt

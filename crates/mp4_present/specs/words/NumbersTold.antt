@@ -9,9 +9,9 @@ use Rattle.mp4_boxes.specs.format.Children.{of_kind}
 use Rattle.mp4_frag.specs.words.Judged.{AreTrexesOf, IsSoundFront, AreMovedOn, tree_of}
 use Rattle.mp4_frag.specs.words.RunsJudged.{children_of}
 use Rattle.mp4_frag.specs.declared.trex.Trex.{Trex}
-use Rattle.mp4_present.specs.format.FaultNumbers.{SaysTime, up_to}
-use Rattle.mp4_present.specs.declared.fault_details.FaultNumbers.{FaultNumbers}
-use Rattle.mp4_present.specs.declared.fault_details.FaultNumbers.TheVariants as numbers
+use Rattle.mp4_present.specs.format.FaultNumbers.{SaysTime, box_up_to}
+use Rattle.mp4_present.specs.declared.faults.FaultNumbers.{FaultNumbers}
+use Rattle.mp4_present.specs.declared.faults.FaultNumbers.TheVariants as numbers
 use Rattle.mp4_frag.specs.declared.state.TrackState.{TrackState}
 use Rattle.mp4_head.specs.format.Tree.{MovieTree}
 use Rattle.mp4_present.specs.words.Movies.{IsWhole}
@@ -20,7 +20,7 @@ use Rattle.mp4_present.specs.words.PassedMoofs.{IsBegun}
 use Rattle.mp4_frag.specs.words.States.{HaveRoom}
 use Rattle.mp4_present.specs.words.Passing.{AreBehind, IsNextMoof}
 use Rattle.mp4_present.specs.declared.reading.TopBox.{TopBox}
-use Rattle.mp4_present.specs.declared.fault_gaps.Reached.{Reached}
+use Rattle.mp4_present.specs.declared.faults.gaps.Reached.{Reached}
 
 -- Why no numbers are told of a fault. The numbers are counts of failed reads, before and after.
 abbrev pub RefusesNumbers : Bool → ℕ → ℕ → Refusal → Type 0
@@ -94,9 +94,9 @@ pub record FindsGap (file_length : ℕ) (moof : Box) (states : List TrackState) 
   pub after : List TrackState
   pub less : ℕ
   pub sound : (trexes : List Trex) → AreTrexesOf trexes states
-      → IsSoundFront file_length trexes (tree_of (up_to traf.offset moof))
+      → IsSoundFront file_length trexes (tree_of (box_up_to traf.offset moof))
   pub moved : AreMovedOn moof.offset (pos moof.offset)
-      (of_kind (codes "traf") (children_of (up_to traf.offset moof))) states after room less
+      (of_kind (codes "traf") (children_of (box_up_to traf.offset moof))) states after room less
   pub state : TrackState
   pub found_state : find (λ (t : TrackState). t.id == track) after ≡ Some state
   pub due_is : due ≡ min state.time (2 ^ 64 - 1)

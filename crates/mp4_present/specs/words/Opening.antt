@@ -10,7 +10,7 @@ use Rattle.mp4_present.specs.format.Denotes.{begins_with_movie}
 use Rattle.mp4_present.specs.format.Stands.{Stands}
 use Rattle.mp4_present.specs.words.Movies.{MovieSeen, moov_box}
 use Rattle.mp4_present.specs.words.Outline.{IsOutline, longest}
-use Rattle.mp4_present.specs.declared.outline.Outline.{Outline}
+use Rattle.mp4_present.specs.declared.opening.outline.Outline.{Outline}
 
 -- the file of an honest store has the boxes of the table, with this outline
 abbrev pub HasOutline : Bool → List ℕ → Outline → Type 0

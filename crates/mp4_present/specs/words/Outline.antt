@@ -11,8 +11,8 @@ use Rattle.mp4_present.specs.words.Reading.{top_box}
 use Rattle.mp4_present.specs.format.Denotes.{begins_with_movie}
 use Rattle.mp4_present.specs.format.Stands.{Stands}
 use Rattle.mp4_present.specs.declared.reading.TopBox.{TopBox}
-use Rattle.mp4_present.specs.declared.outline.Seen.{Seen}
-use Rattle.mp4_present.specs.declared.outline.Outline.{Outline}
+use Rattle.mp4_present.specs.declared.opening.outline.Seen.{Seen}
+use Rattle.mp4_present.specs.declared.opening.outline.Outline.{Outline}
 
 abbrev pub box_at : List ℕ → TopBox → Box
 box_at file top = top_box file top.offset top.header

@@ -8,7 +8,7 @@ use Rattle.mp4_frag.specs.words.States.{HaveRoom}
 use Rattle.mp4_head.specs.words.Found.{LiesIn}
 use Rattle.mp4_head.specs.declared.heads.TrackHead.{TrackHead}
 use Rattle.mp4_present.specs.words.Movies.{LieIn}
-use Rattle.mp4_present.specs.declared.tables_pass.PlainTracks.{PlainTracks}
+use Rattle.mp4_present.specs.declared.opening.tables_pass.PlainTracks.{PlainTracks}
 
 -- the `stbl` of a track lies in the `moov`, with the tables of the profile
 pub record HasTablesIn (moov : Box) (track : TrackHead) : Type 0 where

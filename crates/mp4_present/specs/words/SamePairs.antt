@@ -6,7 +6,7 @@ use Rattle.mp4_tables.specs.declared.keys.Keys.{Keys}
 use Rattle.mp4_tables.specs.declared.sample.SampleAt.{SampleAt}
 use Rattle.mp4_head.specs.format.Tree.{TrackTree}
 use Rattle.mp4_present.specs.format.Denotes.{FileTree}
-use Rattle.mp4_present.specs.format.Differences.{numbers}
+use Rattle.mp4_present.specs.format.Differences.{numbers_differ}
 use Rattle.mp4_present.specs.words.Compared.{BothTakeOn}
 use Rattle.mp4_present.specs.words.Differing.{index_in, differences_at, pair_differences}
 use Rattle.mp4_present.specs.words.Movies.{MovieSeen, IsWalkOf}
@@ -14,18 +14,19 @@ use Rattle.mp4_present.specs.words.OpenedMovie.{IsOpenedAs}
 use Rattle.mp4_present.specs.words.SamplesComing.{Comes}
 use Rattle.mp4_present.specs.words.WalkSteps.{MayTake}
 use Rattle.mp4_present.specs.words.Windows.{Shows}
-use Rattle.mp4_present.specs.declared.comparing_samples.Pairing.{Pairing}
-use Rattle.mp4_present.specs.declared.comparing_samples.Side.{Side}
-use Rattle.mp4_present.specs.declared.differences.Difference.{Difference}
-use Rattle.mp4_present.specs.declared.differences.Field.TheVariants as fields
-use Rattle.mp4_present.specs.declared.differences.Subject.{Subject}
+use Rattle.mp4_present.specs.declared.comparing.samples.Pairing.{Pairing}
+use Rattle.mp4_present.specs.declared.comparing.samples.Side.{Side}
+use Rattle.mp4_present.specs.declared.comparing.differences.Difference.{Difference}
+use Rattle.mp4_present.specs.declared.comparing.differences.Field.TheVariants as fields
+use Rattle.mp4_present.specs.declared.comparing.differences.Subject.{Subject}
 use Rattle.mp4_present.specs.declared.file_window.FileWindow.{FileWindow}
 
 -- what differs at these keys between samples that have these indexes
 abbrev pub indexes_differ : Subject → List GroupKey → Keys → List ℕ → Keys → List ℕ
     → List Difference
 indexes_differ of keys left_keys a right_keys b = flat_map (λ (key : GroupKey).
-    numbers of (fields.Group key) (index_in (key_place (key_seen key) (keys_seen left_keys)) a)
+    numbers_differ of (fields.Group key)
+    (index_in (key_place (key_seen key) (keys_seen left_keys)) a)
     (index_in (key_place (key_seen key) (keys_seen right_keys)) b)) keys
 
 -- two samples differ in nothing but their bytes, whatever their number

@@ -17,7 +17,7 @@ use Rattle.mp4_head.specs.format.Tree.{MovieTree, TrackTree}
 use Rattle.mp4_present.specs.format.ByBytes.{LooksByBytes}
 use Rattle.mp4_present.specs.words.Plain.{ArePlain}
 use Rattle.mp4_present.specs.words.TrackTrees.{IsTrackOf, HaveTables}
-use Rattle.mp4_present.specs.declared.tables_pass.PlainTracks.{PlainTracks}
+use Rattle.mp4_present.specs.declared.opening.tables_pass.PlainTracks.{PlainTracks}
 use Rattle.mp4_present.specs.format.Denotes.{FileTree, IsFileTree, HasMovie}
 use Rattle.mp4_present.specs.words.Outline.{AreSeen}
 use Rattle.mp4_present.specs.words.OwnTrafs.{AreOwnBehind}
@@ -25,8 +25,8 @@ use Rattle.mp4_present.specs.words.PassedMoofs.{IsBegun, IsPassed}
 use Rattle.mp4_present.specs.words.Reading.{IsTopHeader}
 use Rattle.mp4_present.specs.words.WalkSteps.{IfNoFault, least_steps, opening_steps}
 use Rattle.mp4_present.specs.declared.opening.Found.{Found}
-use Rattle.mp4_present.specs.declared.outline.Outline.{Outline}
-use Rattle.mp4_present.specs.declared.outline.Seen.{Seen}
+use Rattle.mp4_present.specs.declared.opening.outline.Outline.{Outline}
+use Rattle.mp4_present.specs.declared.opening.outline.Seen.{Seen}
 use Rattle.mp4_present.specs.declared.track_info.TrackInfo.{TrackInfo}
 
 -- these bytes are the payload of the `moov`

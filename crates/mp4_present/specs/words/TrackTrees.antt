@@ -18,7 +18,7 @@ use Rattle.mp4_head.specs.declared.heads.TrackHead.{TrackHead}
 use Rattle.mp4_present.specs.format.Presentation.{max_samples}
 use Rattle.mp4_present.specs.format.Stands.{table_total}
 use Rattle.mp4_present.specs.words.OpenedMovie.{AreTablesOf, plain_seen}
-use Rattle.mp4_present.specs.declared.tables_pass.PlainTracks.{PlainTracks}
+use Rattle.mp4_present.specs.declared.opening.tables_pass.PlainTracks.{PlainTracks}
 
 -- the head of a track was read of this tree
 pub record IsTrackOf (t : TrackTree) (h : TrackHead) : Type 0 where

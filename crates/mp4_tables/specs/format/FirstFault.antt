@@ -30,8 +30,8 @@ table_leaf_tests rules b = naming b (by (leaf_of (ruled SampleTable) b.kind))
     by None = rules
     by (Some leaf) = leaf_tests_with leaf rules b.payload
 
-abbrev pub rule_tests : Surroundings → Tables → List TableRule → List (Test Kind)
-rule_tests s t rules = map (λ rule. (test rule s t, kind_of rule)) rules
+abbrev pub table_rule_tests : Surroundings → Tables → List TableRule → List (Test Kind)
+table_rule_tests s t rules = map (λ rule. (test rule s t, kind_of rule)) rules
 
 -- ---- sample groups
 
@@ -62,7 +62,7 @@ table_tests room s boxes =
     let t = tables_of boxes in
     let n = length t.sizes in
     let of_first = λ (kinds : List (List ℕ)) (rules : List TableRule).
-    first_box_tests kinds boxes (table_leaf_tests (rule_tests s t rules)) in
+    first_box_tests kinds boxes (table_leaf_tests (table_rule_tests s t rules)) in
     first_box_tests sample_sizes boxes
     (λ b. table_leaf_tests ((nat_le (sample_count b.payload) room, TooManySamples) ∷ []) b)
     ++ of_first (codes "stts" ∷ []) (duration_counts ∷ [])

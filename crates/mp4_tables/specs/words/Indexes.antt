@@ -1,6 +1,6 @@
 -- Indexes of samples still to come in the `sbgp` of each key of a track.
-use Rattle.std.specs.Prelude.{◌≡◌, ℕ, ◌+◌, ◌%◌, ◌^◌, ◌≤◌, List, [], ◌∷◌, map}
-use Rattle.std.specs.List.{AllZip}
+use Rattle.std.specs.Prelude.{◌≡◌, ℕ, ◌+◌, ◌%◌, ◌^◌, ◌≤◌, List, [], ◌∷◌, map, false}
+use Rattle.std.specs.List.{AllByRecursion, AllZip}
 use Rattle.mp4_tables.specs.format.Repeated.{repeated}
 use Rattle.mp4_tables.specs.words.Rows.{HaveRoom, runs_at}
 use Rattle.mp4_tables.specs.words.TablesComing.{coming}
@@ -37,10 +37,11 @@ pub record IsIndexPlace (payload : List ℕ) (rows : RowsAt) (p : RunPlace) : Ty
   pub settled : p.left ≡ 0 → coming (runs_at payload rows) p ≡ []
   pub within : p.row ≤ rows.count
 
--- so it is for each key
+-- so it is for each key, and where it is said that none is left, none has an index in hand
 pub record AreIndexPlaces (payload : List ℕ) (rows : IndexRows) (places : IndexPlaces)
     : Type 0 where
   pub each : AllZip (IsIndexPlace payload) rows.by_key places.by_key
+  pub over : places.are_left ≡ false → AllByRecursion (λ (p : RunPlace). p.left ≡ 0) places.by_key
 
 -- how many rows were passed of all keys
 abbrev pub rows_before : List RunPlace → ℕ

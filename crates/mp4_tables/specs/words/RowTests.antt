@@ -12,7 +12,7 @@ use Rattle.mp4_boxes.specs.declared.fault.Kind.TheVariants.{ShortBox, BadVersion
 use Rattle.mp4_tables.specs.format.Tables.{sample_count}
 use Rattle.mp4_tables.specs.format.Groups.{Grouping, grouping_of, keeps, group_kind}
 use Rattle.mp4_tables.specs.format.TableRules.{TableRule, duration_counts, offset_counts, chunk_order, chunk_counts, description_indexes, places, sync_order, dependency_room}
-use Rattle.mp4_tables.specs.format.FirstFault.{first_box_tests, table_leaf_tests, rule_tests, group_rules, groups_tests}
+use Rattle.mp4_tables.specs.format.FirstFault.{first_box_tests, table_leaf_tests, table_rule_tests, group_rules, groups_tests}
 use Rattle.mp4_tables.specs.words.Leaves.{boxes_of, tables_in, surroundings_of, GroupsSo}
 use Rattle.mp4_tables.specs.declared.leaves.Limits.{Limits}
 use Rattle.mp4_tables.specs.declared.places.GroupsAt.{GroupsAt}
@@ -29,7 +29,7 @@ row_tests last width payload = (nat_le 4 (length payload), ShortBox)
 -- the tests of the first table of one of these types, with these rules
 abbrev pub tests_of : List (List ℕ) → List TableRule → Limits → Box → List (Test Fault)
 tests_of kinds rules l stbl = first_box_tests kinds (boxes_of stbl)
-    (table_leaf_tests (rule_tests (surroundings_of l) (tables_in stbl) rules))
+    (table_leaf_tests (table_rule_tests (surroundings_of l) (tables_in stbl) rules))
 
 -- the tests of the box of sizes, where there is room for so many samples
 abbrev pub size_tests : Limits → Box → List (Test Fault)

@@ -1,25 +1,24 @@
 -- What each command promises of every file, said of its run.
-use Rattle.std.specs.Prelude.{◌≡◌, ◌⊎◌, ℕ, List, [], Result, Ok, Err}
+use Rattle.std.specs.Prelude.{◌≡◌, ◌⊎◌, ℕ, List, [], Result}
 use Rattle.mp4_boxes.specs.format.Box.{file_container}
 use Rattle.mp4_boxes.specs.declared.fault.Fault.{Fault}
 use Rattle.mp4_boxes.specs.declared.refusal.Refusal.{Refusal}
-use Rattle.mp4_boxes.specs.declared.refusal.Refusal.TheVariants as refusals
 use Rattle.mp4_boxes.specs.declared.rule.Rule.TheVariants.{File}
 use Rattle.mp4_present.specs.format.Stands.{Stands}
-use Rattle.mp4_present.specs.declared.leaving.Leaving.{Leaving}
+use Rattle.mp4_present.specs.declared.without.Without.{Without}
 use Rattle.mp4_plan.specs.format.ReducedTimes.{ReducedFaultStands}
-use Rattle.mp4norm.specs.format.Run.{Run, Honest, Answered, NeverChanged, NothingFailed, PutFailed, PutsAtOnce, PutsNothing, ReadFailed}
+use Rattle.mp4norm.specs.format.Run.{Run, Honest, Answered, NeverChanged, PutsAtOnce, PutsNothing}
 use Rattle.mp4norm.specs.format.Headline.{HasNormalForm, DenotesNothing}
 use Rattle.mp4norm.specs.format.ReducedHeadline.{HasReducedForm, IsTooLong}
-use Rattle.mp4norm.specs.format.FileTexts.{ShowsLine, ListsSamples, HasData, LacksTrack}
+use Rattle.mp4norm.specs.format.FileTexts.{ShowsLine, ListsSamples, HasData, LacksTrack, PrintsText}
 use Rattle.mp4norm.specs.format.BoxWalk.{under, FaultSeen}
 use Rattle.mp4norm.specs.format.Strips.{IsStripped, Halts}
 use Rattle.mp4norm.specs.format.Texts.{BoxLines}
-use Rattle.mp4norm.specs.declared.named.Name.{Name}
-use Rattle.mp4norm.specs.declared.wanted.Form.{Form}
-use Rattle.mp4norm.specs.declared.wanted.Job.{Job}
-use Rattle.mp4norm.specs.declared.wanted.Job.TheVariants as jobs
-use Rattle.mp4norm.specs.declared.wanted.Syntax.{Syntax}
+use Rattle.mp4norm.specs.declared.commands.box_names.Name.{Name}
+use Rattle.mp4norm.specs.declared.shell.action.Form.{Form}
+use Rattle.mp4norm.specs.declared.shell.action.Job.{Job}
+use Rattle.mp4norm.specs.declared.shell.action.Job.TheVariants as jobs
+use Rattle.mp4norm.specs.declared.shell.action.Syntax.{Syntax}
 
 -- a fault that stands in the file, which denotes nothing
 abbrev pub IsFaultOf : List ℕ → Fault → Type 0
@@ -35,7 +34,7 @@ Judged r result = Answered r (λ text. (text ≡ []) × (form : List ℕ) × Has
     (IsFaultOf r.file) ⊥ result
 
 -- `normalise --without`: the normal form of what is left; nothing, where that is too long
-abbrev pub ReducedTo : {A : Type 0} → Leaving → Run → Result A Refusal → Type 0
+abbrev pub ReducedTo : {A : Type 0} → Without → Run → Result A Refusal → Type 0
 ReducedTo l r result = Answered r (HasReducedForm l r.file)
     (λ f. IsFaultOf r.file f ⊎ ReducedFaultStands l r.file f) ⊥ result
     × (Honest r → IsTooLong l r.file → PutsNothing r)
@@ -65,22 +64,15 @@ abbrev pub StrippedOf : {A : Type 0} → List Name → Run → Result A Refusal 
 StrippedOf names r result = Answered r (IsStripped names r.file)
     (λ f. Halts names f File 0 r.file) ⊥ result
 
--- `print`: nothing is put of a file that is refused, nor where there is no memory; every other
--- failure is one of the store or of the sink
-abbrev pub Printed : {A : Type 0} → Run → Result A Refusal → Type 0
-Printed r (Ok done) = NothingFailed r
-Printed r (Err (refusals.Fault f)) = PutsNothing r × (Honest r → IsFaultOf r.file f)
-Printed r (Err refusals.Memory) = PutsNothing r
-Printed r (Err refusals.NoSuchTrack) = ⊥
-Printed r (Err refusals.StoreChanged) = Unit {0}
-Printed r (Err refusals.StoreFailed) = ReadFailed r
-Printed r (Err refusals.WriteFailed) = PutFailed r
+-- `print`: the text of what is left
+abbrev pub Printed : {A : Type 0} → Without → Run → Result A Refusal → Type 0
+Printed l r result = Answered r (PrintsText l r.file) (IsFaultOf r.file) ⊥ result
 
 -- a job: what its command promises
 abbrev pub Performed : {A : Type 0} → Job → Run → Result A Refusal → Type 0
 Performed jobs.Normalise r result = Normalised r result
 Performed (jobs.Reduce l) r result = ReducedTo l r result
-Performed (jobs.Print l) r result = Printed r result
+Performed (jobs.Print l) r result = Printed l r result
 Performed jobs.Show r result = Shown r result
 Performed (jobs.Samples track form) r result = Listed track form r result
 Performed (jobs.Extract track) r result = Extracted track r result

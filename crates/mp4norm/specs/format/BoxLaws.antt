@@ -3,7 +3,7 @@ use Rattle.std.specs.Prelude.{ℕ, ◌≤◌, ◌↔◌, List}
 use Rattle.mp4_boxes.specs.format.Box.{file_container}
 use Rattle.mp4_boxes.specs.declared.rule.Rule.TheVariants.{File}
 use Rattle.mp4_boxes.specs.declared.fault.Fault.{Fault}
-use Rattle.mp4norm.specs.declared.wanted.Syntax.{Syntax}
+use Rattle.mp4norm.specs.declared.shell.action.Syntax.{Syntax}
 use Rattle.mp4norm.specs.format.Texts.{AreBoxLines, BoxLines}
 use Rattle.mp4norm.specs.format.BoxWalk.{under, FaultSeen}
 

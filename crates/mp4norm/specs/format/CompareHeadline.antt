@@ -5,20 +5,20 @@ use Rattle.mp4_present.specs.format.Presentation.{Presentation}
 use Rattle.mp4_present.specs.format.Denotes.{Denotes}
 use Rattle.mp4_present.specs.format.Reduced.{reduce}
 use Rattle.mp4_present.specs.format.Comparison.{differences}
-use Rattle.mp4_present.specs.declared.differences.Difference.{Difference}
-use Rattle.mp4_present.specs.declared.leaving.Leaving.{Leaving}
+use Rattle.mp4_present.specs.declared.comparing.differences.Difference.{Difference}
+use Rattle.mp4_present.specs.declared.without.Without.{Without}
 use Rattle.mp4_plan.specs.format.CoveringLaws.{Covers}
-use Rattle.mp4norm.specs.declared.comparing.Listing.{Listing}
-use Rattle.mp4norm.specs.declared.comparing.Listing.TheVariants as listings
-use Rattle.mp4norm.specs.declared.wanted.Syntax.{Syntax}
-use Rattle.mp4norm.specs.declared.wanted.Syntax.TheVariants as syntaxes
+use Rattle.mp4norm.specs.declared.commands.compare.Listing.{Listing}
+use Rattle.mp4norm.specs.declared.commands.compare.Listing.TheVariants as listings
+use Rattle.mp4norm.specs.declared.shell.action.Syntax.{Syntax}
+use Rattle.mp4norm.specs.declared.shell.action.Syntax.TheVariants as syntaxes
 use Rattle.mp4norm.specs.format.DifferenceLine.{difference_line}
 use Rattle.mp4norm.specs.format.DifferenceObject.{difference_object, last_object}
 use Rattle.mp4norm.specs.format.LastLine.{last_line}
 use Rattle.mp4norm.specs.format.Steps.{WorksWithin, FindsWithin}
 
 -- Both files denote a presentation, and the answer is whether the same is left of both.
-pub record IsVerdict (l : Leaving) (file other : List ℕ) (same : Bool) : Type 0 where
+pub record IsVerdict (l : Without) (file other : List ℕ) (same : Bool) : Type 0 where
   pub p : Presentation
   pub q : Presentation
   pub first : Denotes file p
@@ -33,11 +33,11 @@ most_counted = 1048576
 
 -- Words are named that leave out what was asked for, and with which the same is left of both;
 -- where all differences are counted no fewer do. Or none are named, and there are none.
-abbrev pub AreEnough : Leaving → Presentation → Presentation → Option Leaving → Type 0
-AreEnough l p q None = (m : Leaving) → reduce m p ≡ reduce m q → ⊥
+abbrev pub AreEnough : Without → Presentation → Presentation → Option Without → Type 0
+AreEnough l p q None = (m : Without) → reduce m p ≡ reduce m q → ⊥
 AreEnough l p q (Some m) = Covers l m × (reduce m p ≡ reduce m q)
     × (length (differences (reduce l p) (reduce l q)) ≤ most_counted
-    → (k : Leaving) → Covers l k → reduce k p ≡ reduce k q → Covers m k)
+    → (k : Without) → Covers l k → reduce k p ≡ reduce k q → Covers m k)
 
 -- a difference as a line or as an object
 abbrev pub difference_in : Syntax → Difference → List ℕ
@@ -45,28 +45,28 @@ difference_in syntaxes.Text d = difference_line d
 difference_in syntaxes.Json d = difference_object d
 
 -- and what is said of all
-abbrev pub last_in : Syntax → Bool → List Difference → Option Leaving → List ℕ
+abbrev pub last_in : Syntax → Bool → List Difference → Option Without → List ℕ
 last_in syntaxes.Text whole ds enough = last_line whole ds enough
 last_in syntaxes.Json whole ds enough = last_object whole ds enough
 
 -- the first differences, as many as are asked for, and what is said of all that are counted
-abbrev pub listing_text : Syntax → ℕ → List Difference → Option Leaving → List ℕ
+abbrev pub listing_text : Syntax → ℕ → List Difference → Option Without → List ℕ
 listing_text syntax limit ds enough =
     flat_map (difference_in syntax) (take limit (take most_counted ds))
     ++ last_in syntax (nat_le (length ds) most_counted) (take most_counted ds) enough
 
 -- What is said of two presentations of which not the same is left: the first difference; or all of
 -- them, with the words that make the two the same.
-abbrev pub TellsOf : Listing → Leaving → Presentation → Presentation → List ℕ → Type 0
+abbrev pub TellsOf : Listing → Without → Presentation → Presentation → List ℕ → Type 0
 TellsOf (listings.First syntax) l p q text = (first : Difference)
     × (slice_get (differences (reduce l p) (reduce l q)) 0 ≡ Some first)
     × (text ≡ difference_in syntax first)
-TellsOf (listings.All lines) l p q text = (enough : Option Leaving) × AreEnough l p q enough
+TellsOf (listings.All lines) l p q text = (enough : Option Without) × AreEnough l p q enough
     × (text
     ≡ listing_text lines.syntax lines.limit (differences (reduce l p) (reduce l q)) enough)
 
 -- The text tells of what the two files denote.
-pub record IsTold (listing : Listing) (l : Leaving) (file other text : List ℕ) : Type 0 where
+pub record IsTold (listing : Listing) (l : Without) (file other text : List ℕ) : Type 0 where
   pub p : Presentation
   pub q : Presentation
   pub first : Denotes file p

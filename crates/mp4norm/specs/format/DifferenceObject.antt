@@ -2,21 +2,21 @@
 -- bytes, types and lines as strings.
 use Rattle.std.specs.Prelude.{ℕ, ◌==◌, ◌||◌, ◌&&◌, not, Bool, true, if◌then◌else◌, List, [], ◌∷◌, ◌++◌, length, flat_map, Option, Some, None, codes, decimal}
 use Rattle.std.specs.Fmt.{signed_decimal}
-use Rattle.mp4_present.specs.declared.differences.Subject.{Subject}
-use Rattle.mp4_present.specs.declared.differences.Subject.TheVariants as subjects
-use Rattle.mp4_present.specs.declared.differences.Part.{Part}
-use Rattle.mp4_present.specs.declared.differences.Part.TheVariants as parts
-use Rattle.mp4_present.specs.declared.differences.Field.{Field}
-use Rattle.mp4_present.specs.declared.differences.Field.TheVariants as fields
-use Rattle.mp4_present.specs.declared.differences.Value.{Value}
-use Rattle.mp4_present.specs.declared.differences.Value.TheVariants as values
-use Rattle.mp4_present.specs.declared.differences.Difference.{Difference}
-use Rattle.mp4_present.specs.declared.leaving.Leaving.{Leaving}
-use Rattle.mp4norm.specs.declared.tally.Kind.{Kind}
-use Rattle.mp4norm.specs.declared.tally.Kind.TheVariants as kinds
+use Rattle.mp4_present.specs.declared.comparing.differences.Subject.{Subject}
+use Rattle.mp4_present.specs.declared.comparing.differences.Subject.TheVariants as subjects
+use Rattle.mp4_present.specs.declared.comparing.differences.Part.{Part}
+use Rattle.mp4_present.specs.declared.comparing.differences.Part.TheVariants as parts
+use Rattle.mp4_present.specs.declared.comparing.differences.Field.{Field}
+use Rattle.mp4_present.specs.declared.comparing.differences.Field.TheVariants as fields
+use Rattle.mp4_present.specs.declared.comparing.differences.Value.{Value}
+use Rattle.mp4_present.specs.declared.comparing.differences.Value.TheVariants as values
+use Rattle.mp4_present.specs.declared.comparing.differences.Difference.{Difference}
+use Rattle.mp4_present.specs.declared.without.Without.{Without}
+use Rattle.mp4norm.specs.declared.commands.tally.Kind.{Kind}
+use Rattle.mp4norm.specs.declared.commands.tally.Kind.TheVariants as kinds
 use Rattle.mp4norm.specs.format.Texts.{hex_digits, type_text, line_feed}
 use Rattle.mp4norm.specs.format.DifferenceLine.{entry_name, entries_name, is_numbered, field_name, digits_of, difference_text}
-use Rattle.mp4norm.specs.format.LastLine.{kind_name, kind_of, count_of}
+use Rattle.mp4norm.specs.format.LastLine.{kind_name, kind_of_difference, count_of_kind}
 
 -- ---- strings
 
@@ -98,7 +98,7 @@ value_members d = codes "{\"a\":" ++ json_value (digits_of d.subject d.field) d.
 
 -- what kind of difference it is, its line, and of a byte, of how many
 abbrev pub line_members : Difference → List ℕ
-line_members d = codes ",\"kind\":\"" ++ kind_name (kind_of d)
+line_members d = codes ",\"kind\":\"" ++ kind_name (kind_of_difference d)
     ++ codes "\",\"line\":\"" ++ escaped (difference_text d) ++ quote ++ of_member d.field
 
 abbrev pub difference_object : Difference → List ℕ
@@ -112,14 +112,14 @@ kinds_by_name = kinds.Bytes ∷ kinds.Edits ∷ kinds.Flags ∷ kinds.Groups ∷
 
 -- the count of a kind, where it isn't 0; each but the first stands behind a comma
 unfoldable pub count_member : Bool → Kind → List Difference → List ℕ
-count_member first kind ds = if count_of kind ds == 0 then []
+count_member first kind ds = if count_of_kind kind ds == 0 then []
     else (if first then codes "\"" else codes ",\"") ++ kind_name kind ++ codes "\":"
-    ++ decimal (count_of kind ds)
+    ++ decimal (count_of_kind kind ds)
 
 abbrev pub count_members : Bool → List Kind → List Difference → List ℕ
 count_members first [] ds = []
 count_members first (kind ∷ more) ds = count_member first kind ds
-    ++ count_members (first && (count_of kind ds == 0)) more ds
+    ++ count_members (first && (count_of_kind kind ds == 0)) more ds
 
 -- the words that leave these out
 abbrev pub word_list : Bool → List (List ℕ × Bool) → List ℕ
@@ -128,11 +128,12 @@ word_list first (word ∷ words) =
     (if word.1 then (if first then codes "\"" else codes ",\"") ++ word.0 ++ quote else [])
     ++ word_list (first && not word.1) words
 
-abbrev pub leaving_list : Leaving → List ℕ
+abbrev pub leaving_list : Without → List ℕ
 leaving_list l = word_list true ((codes "edits", l.edits) ∷ (codes "flags", l.flags)
-    ∷ (codes "groups", l.groups) ∷ (codes "metadata", l.metadata) ∷ (codes "times", l.times) ∷ [])
+    ∷ (codes "groups", l.groups) ∷ (codes "labels", l.labels) ∷ (codes "metadata", l.metadata)
+    ∷ (codes "times", l.times) ∷ [])
 
-abbrev pub enough_value : Option Leaving → List ℕ
+abbrev pub enough_value : Option Without → List ℕ
 enough_value (Some l) = codes "[" ++ leaving_list l ++ codes "]"
 enough_value None = codes "null"
 
@@ -146,6 +147,6 @@ abbrev pub total_members : Bool → List Difference → List ℕ
 total_members whole ds = totals_front whole ++ decimal (length ds) ++ codes ",\"kinds\":{"
     ++ count_members true kinds_by_name ds
 
-abbrev pub last_object : Bool → List Difference → Option Leaving → List ℕ
+abbrev pub last_object : Bool → List Difference → Option Without → List ℕ
 last_object whole ds enough = total_members whole ds
     ++ codes "},\"without\":" ++ enough_value enough ++ codes "}" ++ line_feed

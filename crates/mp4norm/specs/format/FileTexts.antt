@@ -1,12 +1,14 @@
--- What `show`, `samples` and `extract` put of a file.
+-- What `show`, `samples`, `extract` and `print` put of a file.
 use Rattle.std.specs.Prelude.{◌≡◌, ℕ, List, ◌++◌, map, Some, slice_get}
 use Rattle.std.specs.List.{AllByRecursion}
 use Rattle.serde_json.specs.Written.{compact_text}
 use Rattle.mp4_head.specs.format.Head.{TrackHead}
 use Rattle.mp4_present.specs.format.Denotes.{Denotes}
 use Rattle.mp4_present.specs.format.Presentation.{Track, Presentation, heads}
+use Rattle.mp4_present.specs.declared.without.Without.{Without}
+use Rattle.mp4norm.specs.format.Text.{text}
 use Rattle.mp4norm.specs.format.Texts.{line_feed, sample_listing, sample_data, show_value}
-use Rattle.mp4norm.specs.declared.wanted.Form.{Form}
+use Rattle.mp4norm.specs.declared.shell.action.Form.{Form}
 
 -- the line that shows the presentation that the file denotes
 abbrev pub ShowsLine : List ℕ → List ℕ → Type 0
@@ -38,3 +40,7 @@ ListsSamples file id form text = (t : Track) × IsTrackWith file id t
 -- the bytes of the samples of the track with this ID
 abbrev pub HasData : List ℕ → ℕ → List ℕ → Type 0
 HasData file id bytes = (t : Track) × IsTrackWith file id t × (bytes ≡ sample_data t)
+
+-- the text of what is left of the presentation that the file denotes
+abbrev pub PrintsText : Without → List ℕ → List ℕ → Type 0
+PrintsText l file bytes = (p : Presentation) × Denotes file p × (bytes ≡ text l p)

@@ -2,16 +2,16 @@
 -- be left out for two files to be the same.
 use Rattle.std.specs.Prelude.{ℕ, ◌==◌, ◌&&◌, not, Bool, true, if◌then◌else◌, List, [], ◌∷◌, ◌++◌, length, Option, Some, None, codes, decimal}
 use Rattle.std.specs.List.{count_by}
-use Rattle.mp4_present.specs.declared.differences.Subject.{Subject}
-use Rattle.mp4_present.specs.declared.differences.Subject.TheVariants as subjects
-use Rattle.mp4_present.specs.declared.differences.Entries.{Entries}
-use Rattle.mp4_present.specs.declared.differences.Entries.TheVariants as entries
-use Rattle.mp4_present.specs.declared.differences.Field.{Field}
-use Rattle.mp4_present.specs.declared.differences.Field.TheVariants as fields
-use Rattle.mp4_present.specs.declared.differences.Difference.{Difference}
-use Rattle.mp4_present.specs.declared.leaving.Leaving.{Leaving}
-use Rattle.mp4norm.specs.declared.tally.Kind.{Kind}
-use Rattle.mp4norm.specs.declared.tally.Kind.TheVariants as kinds
+use Rattle.mp4_present.specs.declared.comparing.differences.Subject.{Subject}
+use Rattle.mp4_present.specs.declared.comparing.differences.Subject.TheVariants as subjects
+use Rattle.mp4_present.specs.declared.comparing.differences.Entries.{Entries}
+use Rattle.mp4_present.specs.declared.comparing.differences.Entries.TheVariants as entries
+use Rattle.mp4_present.specs.declared.comparing.differences.Field.{Field}
+use Rattle.mp4_present.specs.declared.comparing.differences.Field.TheVariants as fields
+use Rattle.mp4_present.specs.declared.comparing.differences.Difference.{Difference}
+use Rattle.mp4_present.specs.declared.without.Without.{Without}
+use Rattle.mp4norm.specs.declared.commands.tally.Kind.{Kind}
+use Rattle.mp4norm.specs.declared.commands.tally.Kind.TheVariants as kinds
 use Rattle.mp4norm.specs.format.Texts.{space, line_feed}
 
 -- ---- kinds of differences
@@ -70,12 +70,12 @@ kind_of_field of fields.Samples = kinds.Samples
 kind_of_field of fields.Flags = kind_of_flags of
 kind_of_field of _ = kind_of_others of
 
-abbrev pub kind_of : Difference → Kind
-kind_of d = kind_of_field d.subject d.field
+abbrev pub kind_of_difference : Difference → Kind
+kind_of_difference d = kind_of_field d.subject d.field
 
 -- how many of these are of a kind
-abbrev pub count_of : Kind → List Difference → ℕ
-count_of kind ds = count_by (λ d. kind_place (kind_of d) == kind_place kind) ds
+abbrev pub count_of_kind : Kind → List Difference → ℕ
+count_of_kind kind ds = count_by (λ d. kind_place (kind_of_difference d) == kind_place kind) ds
 
 -- ---- the line
 
@@ -88,14 +88,14 @@ total_end count = if count == 1 then codes " difference" else codes " difference
 
 -- the count of a kind, where it isn't 0; the first stands behind other words
 unfoldable pub count_text : Bool → Kind → List Difference → List ℕ
-count_text first kind ds = if count_of kind ds == 0 then []
+count_text first kind ds = if count_of_kind kind ds == 0 then []
     else (if first then codes ": " else codes ", ") ++ kind_name kind ++ space
-    ++ decimal (count_of kind ds)
+    ++ decimal (count_of_kind kind ds)
 
 abbrev pub counts_text : Bool → List Kind → List Difference → List ℕ
 counts_text first [] ds = []
 counts_text first (kind ∷ more) ds = count_text first kind ds
-    ++ counts_text (first && (count_of kind ds == 0)) more ds
+    ++ counts_text (first && (count_of_kind kind ds == 0)) more ds
 
 -- the words that leave these out
 abbrev pub words_text : Bool → List (List ℕ × Bool) → List ℕ
@@ -104,15 +104,16 @@ words_text first (word ∷ words) =
     (if word.1 then (if first then codes " " else codes ",") ++ word.0 else [])
     ++ words_text (first && not word.1) words
 
-abbrev pub leaving_text : Leaving → List ℕ
+abbrev pub leaving_text : Without → List ℕ
 leaving_text l = words_text true ((codes "times", l.times) ∷ (codes "edits", l.edits)
-    ∷ (codes "flags", l.flags) ∷ (codes "groups", l.groups) ∷ (codes "metadata", l.metadata) ∷ [])
+    ∷ (codes "flags", l.flags) ∷ (codes "groups", l.groups) ∷ (codes "metadata", l.metadata)
+    ∷ (codes "labels", l.labels) ∷ [])
 
 -- with which words the files are the same, or that there are none
-abbrev pub enough_text : Option Leaving → List ℕ
+abbrev pub enough_text : Option Without → List ℕ
 enough_text (Some l) = codes "; the same --without" ++ leaving_text l
 enough_text None = codes "; no words of --without make them the same"
 
-abbrev pub last_line : Bool → List Difference → Option Leaving → List ℕ
+abbrev pub last_line : Bool → List Difference → Option Without → List ℕ
 last_line whole ds enough = total_front whole ++ decimal (length ds) ++ total_end (length ds)
     ++ counts_text true all_kinds ds ++ enough_text enough ++ line_feed

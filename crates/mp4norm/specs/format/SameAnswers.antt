@@ -5,9 +5,9 @@ use Rattle.mp4_boxes.specs.declared.fault.Fault.{Fault}
 use Rattle.mp4_present.specs.format.Presentation.{Presentation}
 use Rattle.mp4_present.specs.format.Denotes.{Denotes}
 use Rattle.mp4_present.specs.format.Stands.{Stands}
-use Rattle.mp4_present.specs.declared.leaving.Leaving.{Leaving}
+use Rattle.mp4_present.specs.declared.without.Without.{Without}
 use Rattle.mp4_plan.specs.format.CoveringLaws.{Covers}
-use Rattle.mp4norm.specs.declared.wanted.Form.{Form}
+use Rattle.mp4norm.specs.declared.shell.action.Form.{Form}
 use Rattle.mp4norm.specs.format.CompareHeadline.{IsVerdict}
 use Rattle.mp4norm.specs.format.Headline.{HasNormalForm}
 use Rattle.mp4norm.specs.format.ReducedHeadline.{HasReducedForm}
@@ -16,14 +16,14 @@ use Rattle.mp4norm.specs.format.FileTexts.{ShowsLine, ListsSamples, HasData}
 -- Two files are told the same, without some things, exactly if the normal forms of what is left of
 -- them are the same bytes.
 abbrev pub SameIsSameBytes : Type 0
-SameIsSameBytes = (l : Leaving) (file other text other_text : List ℕ) (same : Bool)
+SameIsSameBytes = (l : Without) (file other text other_text : List ℕ) (same : Bool)
     → AreBytes file → AreBytes other → IsVerdict l file other same
     → HasReducedForm l file text → HasReducedForm l other other_text
     → (same ≡ true) ↔ (text ≡ other_text)
 
 -- Files that are told the same without some things are told the same without more.
 abbrev pub SameStaysSame : Type 0
-SameStaysSame = (l m : Leaving) (file other : List ℕ) (more : Bool) → AreBytes file
+SameStaysSame = (l m : Without) (file other : List ℕ) (more : Bool) → AreBytes file
     → AreBytes other → Covers l m → IsVerdict l file other true → IsVerdict m file other more
     → more ≡ true
 

@@ -13,9 +13,9 @@ use Rattle.mp4_present.specs.format.Presentation.{Presentation}
 use Rattle.mp4_present.specs.format.Denotes.{Denotes, FileTree, file_parts, placed_of}
 use Rattle.mp4_present.specs.format.Stands.{Stands}
 use Rattle.mp4norm.specs.format.BoxWalk.{rule_inside}
-use Rattle.mp4norm.specs.format.Strips.{is_top, is_named, payload_of, uuid_at, IsStripped, Halts}
-use Rattle.mp4norm.specs.declared.named.Name.{Name}
-use Rattle.mp4norm.specs.declared.named.Name.TheVariants.{Foreign}
+use Rattle.mp4norm.specs.format.Strips.{is_top, is_named, payload_behind, uuid_at, IsStripped, Halts}
+use Rattle.mp4norm.specs.declared.commands.box_names.Name.{Name}
+use Rattle.mp4norm.specs.declared.commands.box_names.Name.TheVariants.{Foreign}
 
 -- A named box stands at this place of bytes that are boxes, end to end under a rule, and in no
 -- other named box.
@@ -29,7 +29,7 @@ pub data NamedBoxAt (names : List Name) : Rule → ℕ → List ℕ → Type 0 w
       → place ≡ h.size + left → NamedBoxAt names rule place bytes
   inside : (rule : Rule) (place : ℕ) (bytes : List ℕ) (h : Header) (inner : Rule) (left : ℕ)
       → header_at (is_top rule) bytes ≡ Ok h → is_named names rule h.kind (uuid_at h bytes) ≡ false
-      → rule_inside rule h.kind ≡ Some inner → NamedBoxAt names inner left (payload_of h bytes)
+      → rule_inside rule h.kind ≡ Some inner → NamedBoxAt names inner left (payload_behind h bytes)
       → place ≡ h.length + left → NamedBoxAt names rule place bytes
 
 -- A copy is as long as the file.

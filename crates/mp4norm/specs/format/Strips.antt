@@ -13,8 +13,8 @@ use Rattle.mp4_boxes.specs.declared.refusal.Refusal.{Refusal}
 use Rattle.mp4_boxes.specs.declared.refusal.Refusal.TheVariants as refusals
 use Rattle.mp4norm.specs.format.BoxWalk.{rule_inside}
 use Rattle.mp4norm.specs.format.Texts.{uuid_in}
-use Rattle.mp4norm.specs.declared.named.Name.{Name}
-use Rattle.mp4norm.specs.declared.named.Name.TheVariants as names
+use Rattle.mp4norm.specs.declared.commands.box_names.Name.{Name}
+use Rattle.mp4norm.specs.declared.commands.box_names.Name.TheVariants as names
 
 -- ---- which boxes are named
 
@@ -65,12 +65,12 @@ abbrev pub freed : List ℕ → List ℕ
 freed bytes = take 4 bytes ++ (codes "free" ++ drop 8 bytes)
 
 -- the payload of the box with this header in front of these bytes
-abbrev pub payload_of : Header → List ℕ → List ℕ
-payload_of h bytes = take (h.size - h.length) (drop h.length bytes)
+abbrev pub payload_behind : Header → List ℕ → List ℕ
+payload_behind h bytes = take (h.size - h.length) (drop h.length bytes)
 
 -- and the 16 bytes that say which it is, if it is a `uuid` that has them
 abbrev pub uuid_at : Header → List ℕ → Option (List ℕ)
-uuid_at h bytes = uuid_in h.kind (payload_of h bytes)
+uuid_at h bytes = uuid_in h.kind (payload_behind h bytes)
 
 -- What stands for bytes that are boxes, end to end under a rule, where the named are free space:
 -- box by box, and in a container that is no named box, for its boxes in turn.
@@ -87,7 +87,7 @@ pub data Strips (names : List Name) : Rule → List ℕ → List ℕ → Type 0 
       → Strips names rule bytes text
   enters : (rule : Rule) (bytes text : List ℕ) (h : Header) (inner : Rule) (inside rest : List ℕ)
       → header_at (is_top rule) bytes ≡ Ok h → is_named names rule h.kind (uuid_at h bytes) ≡ false
-      → rule_inside rule h.kind ≡ Some inner → Strips names inner (payload_of h bytes) inside
+      → rule_inside rule h.kind ≡ Some inner → Strips names inner (payload_behind h bytes) inside
       → Strips names rule (drop h.size bytes) rest → text ≡ take h.length bytes ++ (inside ++ rest)
       → Strips names rule bytes text
 
@@ -107,7 +107,7 @@ pub data Halts (names : List Name) (f : Fault) : Rule → ℕ → List ℕ → T
   within : (rule : Rule) (at : ℕ) (bytes : List ℕ) (h : Header) (inner : Rule)
       → header_at (is_top rule) bytes ≡ Ok h → is_named names rule h.kind (uuid_at h bytes) ≡ false
       → rule_inside rule h.kind ≡ Some inner
-      → Halts names f inner (at + h.length) (payload_of h bytes) → Halts names f rule at bytes
+      → Halts names f inner (at + h.length) (payload_behind h bytes) → Halts names f rule at bytes
 
 -- ---- why a copy is not put
 

@@ -8,7 +8,7 @@ use Rattle.mp4_tables.specs.format.Groups.{GroupKey}
 use Rattle.mp4_head.specs.format.Head.{Edit, Kept, Media, TrackHead, MovieHead}
 use Rattle.mp4_present.specs.format.Presentation.{Sample, Track, Presentation}
 use Rattle.mp4_present.specs.format.Reduced.{reduce}
-use Rattle.mp4_present.specs.declared.leaving.Leaving.{Leaving}
+use Rattle.mp4_present.specs.declared.without.Without.{Without}
 use Rattle.mp4norm.specs.format.Texts.{hex_digits, hex_text, space, line_feed}
 use Rattle.mp4norm.specs.format.LastLine.{leaving_text}
 
@@ -136,7 +136,7 @@ or_nothing [] = codes " nothing"
 or_nothing (b ∷ words) = b ∷ words
 
 -- the number of the form, and what is left out
-abbrev pub front_lines : Leaving → List ℕ
+abbrev pub front_lines : Without → List ℕ
 front_lines l = codes "MP4 presentation, form 1\nwithout:" ++ or_nothing (leaving_text l)
     ++ line_feed
 
@@ -144,5 +144,5 @@ abbrev pub text_of : Presentation → List ℕ
 text_of p = movie_lines p.movie ++ flat_map track_text p.tracks ++ codes "end\n"
 
 -- what is left of a presentation, as text
-abbrev pub text : Leaving → Presentation → List ℕ
+abbrev pub text : Without → Presentation → List ℕ
 text l p = front_lines l ++ text_of (reduce l p)

@@ -16,10 +16,10 @@ use Rattle.mp4_boxes.specs.declared.refusal.Refusal.TheVariants as refusals
 use Rattle.mp4_tables.specs.declared.sample.SampleAt.{SampleAt}
 use Rattle.mp4_head.specs.format.Head.{Edit, Kept, TrackHead, handler_type}
 use Rattle.mp4_present.specs.format.Presentation.{Sample, Track, Presentation, total_duration, movie_length}
-use Rattle.mp4norm.specs.declared.wanted.Form.{Form}
-use Rattle.mp4norm.specs.declared.wanted.Form.TheVariants as forms
-use Rattle.mp4norm.specs.declared.wanted.Syntax.{Syntax}
-use Rattle.mp4norm.specs.declared.wanted.Syntax.TheVariants as syntaxes
+use Rattle.mp4norm.specs.declared.shell.action.Form.{Form}
+use Rattle.mp4norm.specs.declared.shell.action.Form.TheVariants as forms
+use Rattle.mp4norm.specs.declared.shell.action.Syntax.{Syntax}
+use Rattle.mp4norm.specs.declared.shell.action.Syntax.TheVariants as syntaxes
 use Rattle.mp4_boxes.specs.format.Children.{allows}
 
 abbrev pub line_feed : List ℕ
@@ -154,8 +154,8 @@ uuid_member (Some text) = (codes "uuid", string text) ∷ []
 
 -- a box as JSON: in how many containers it stands, that the profile refuses it there, its place,
 -- its size, its type, its UUID, the last two as texts; keys in order of their bytes
-abbrev pub box_value : ℕ → Bool → ℕ → ℕ → List ℕ → Option (List ℕ) → Data
-box_value depth allowed offset length kind uuid = object (members (
+abbrev pub box_data : ℕ → Bool → ℕ → ℕ → List ℕ → Option (List ℕ) → Data
+box_data depth allowed offset length kind uuid = object (members (
     (codes "depth", nat_value depth) ∷ foreign_member allowed
     ++ (codes "offset", nat_value offset)
     ∷ (codes "size", nat_value length)
@@ -165,7 +165,7 @@ box_value depth allowed offset length kind uuid = object (members (
 -- the line of a box that stands in so many containers, under this rule
 abbrev pub box_line : Syntax → Rule → ℕ → Box → List ℕ
 box_line syntaxes.Text rule depth b = line_text depth b.kind b.offset (size b)
-box_line syntaxes.Json rule depth b = compact_text (box_value depth (allows rule b.kind) b.offset
+box_line syntaxes.Json rule depth b = compact_text (box_data depth (allows rule b.kind) b.offset
     (size b) (type_text b.kind) (option_map uuid_text (uuid_of b))) ++ line_feed
 
 -- containers of boxes are descended into, and no others
@@ -195,8 +195,8 @@ BoxLines syntax file text = AreBoxLines syntax 6 0 rules.File (file_container fi
 
 -- ---- a movie as JSON
 
-abbrev pub edit_value : Edit → Data
-edit_value e =
+abbrev pub edit_data : Edit → Data
+edit_data e =
     array (items_of (nat_value e.segment_duration ∷ int_value e.media_time
     ∷ int_value e.rate_integer ∷ int_value e.rate_fraction ∷ []))
 
@@ -210,7 +210,7 @@ track_data head bytes duration samples start = object (members (
     (codes "bytes", nat_value bytes)
     ∷ (codes "descriptions", array (items_of (map description_value head.media.descriptions)))
     ∷ (codes "duration", nat_value duration)
-    ∷ (codes "edits", array (items_of (map edit_value head.edits)))
+    ∷ (codes "edits", array (items_of (map edit_data head.edits)))
     ∷ (codes "handler", string (type_text (handler_type head.media.handler)))
     ∷ (codes "id", nat_value head.id)
     ∷ (codes "samples", nat_value samples)
@@ -218,8 +218,8 @@ track_data head bytes duration samples start = object (members (
     ∷ (codes "timescale", nat_value head.media.timescale)
     ∷ []))
 
-abbrev pub track_value : Track → Data
-track_value t = track_data t.head (length (sample_data t)) (total_duration t.samples)
+abbrev pub shown_track : Track → Data
+shown_track t = track_data t.head (length (sample_data t)) (total_duration t.samples)
     (length t.samples) t.start
 
 -- a movie by its length, its timescale and its tracks; keys in order of their bytes
@@ -232,4 +232,4 @@ movie_data length timescale tracks = object (members (
 
 -- what is shown of a presentation
 abbrev pub show_value : Presentation → Data
-show_value p = movie_data (movie_length p) p.movie.timescale (map track_value p.tracks)
+show_value p = movie_data (movie_length p) p.movie.timescale (map shown_track p.tracks)

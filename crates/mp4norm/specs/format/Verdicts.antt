@@ -4,9 +4,9 @@ use Rattle.mp4_store.specs.words.Device.{HasRisen, TakesPrefix}
 use Rattle.mp4_boxes.specs.declared.refusal.Refusal.{Refusal}
 use Rattle.mp4_boxes.specs.declared.refusal.Refusal.TheVariants as refusals
 use Rattle.mp4_boxes.specs.declared.fault.Fault.{Fault}
-use Rattle.mp4norm.specs.declared.wanted.Syntax.{Syntax}
-use Rattle.mp4norm.specs.declared.wanted.Syntax.TheVariants as syntaxes
-use Rattle.mp4norm.specs.declared.wanted.VerdictStyle.{VerdictStyle}
+use Rattle.mp4norm.specs.declared.shell.action.Syntax.{Syntax}
+use Rattle.mp4norm.specs.declared.shell.action.Syntax.TheVariants as syntaxes
+use Rattle.mp4norm.specs.declared.shell.action.VerdictStyle.{VerdictStyle}
 use Rattle.serde_json.specs.Data.{Data, string, object}
 use Rattle.serde_json.specs.Written.{compact_text}
 use Rattle.mp4norm.specs.format.Texts.{fault_line, kind_text, members, nat_value, status_of, type_text}

@@ -1,12 +1,12 @@
 -- What the command line asks for.
 use Rattle.std.specs.Prelude.{◌<◌, ◌≤◌, length, false, None}
-use Rattle.mp4norm.specs.declared.wanted.Action.{Action}
-use Rattle.mp4norm.specs.declared.wanted.Action.TheVariants as actions
-use Rattle.mp4norm.specs.declared.wanted.Input.TheVariants as inputs
-use Rattle.mp4norm.specs.declared.wanted.Job.{Job}
-use Rattle.mp4norm.specs.declared.wanted.Job.TheVariants as jobs
-use Rattle.mp4norm.specs.declared.wanted.Syntax.TheVariants as syntaxes
-use Rattle.mp4norm.specs.declared.wanted.Target.TheVariants as targets
+use Rattle.mp4norm.specs.declared.shell.action.Action.{Action}
+use Rattle.mp4norm.specs.declared.shell.action.Action.TheVariants as actions
+use Rattle.mp4norm.specs.declared.shell.action.Input.TheVariants as inputs
+use Rattle.mp4norm.specs.declared.shell.action.Job.{Job}
+use Rattle.mp4norm.specs.declared.shell.action.Job.TheVariants as jobs
+use Rattle.mp4norm.specs.declared.shell.action.Syntax.TheVariants as syntaxes
+use Rattle.mp4norm.specs.declared.shell.action.Target.TheVariants as targets
 
 -- a track's ID is at least 1
 abbrev pub IsJob : Job → Type 0

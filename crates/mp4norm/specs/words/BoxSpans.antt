@@ -10,8 +10,8 @@ use Rattle.mp4_boxes.specs.declared.refusal.Refusal.TheVariants as refusals
 use Rattle.mp4_present.specs.declared.reading.TopBox.{TopBox}
 use Rattle.mp4norm.specs.format.BoxWalk.{height, under, tops_seen, FaultSeen}
 use Rattle.mp4norm.specs.format.Strips.{holder, is_top}
-use Rattle.mp4norm.specs.declared.wanted.Syntax.{Syntax}
-use Rattle.mp4norm.specs.format.Texts.{AreBoxLines, box_value, type_text, uuid_text}
+use Rattle.mp4norm.specs.declared.shell.action.Syntax.{Syntax}
+use Rattle.mp4norm.specs.format.Texts.{AreBoxLines, box_data, type_text, uuid_text}
 
 -- how far boxes go: those of the file itself to its end, others to the end of their box
 abbrev pub extent_of : Bool → Extent
@@ -42,7 +42,7 @@ AddsLines file syntax rule depth from end old new = (start : ℕ) → (part : Li
 
 -- what is told of a box that was found under a rule, in so many containers
 abbrev pub found_value : ℕ → Rule → TopBox → Option (List ℕ) → Data
-found_value depth rule top uuid = box_value depth (allows rule top.header.kind.0) top.offset
+found_value depth rule top uuid = box_data depth (allows rule top.header.kind.0) top.offset
     (top.header.end - top.offset) (type_text top.header.kind.0) (option_map uuid_text uuid)
 
 -- why they are not listed

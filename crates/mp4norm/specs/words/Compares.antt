@@ -7,18 +7,18 @@ use Rattle.mp4_boxes.specs.declared.refusal.Refusal.TheVariants as refusals
 use Rattle.mp4_present.specs.format.Comparison.{differences}
 use Rattle.mp4_present.specs.format.Denotes.{FileTree}
 use Rattle.mp4_present.specs.words.WalkSteps.{walks_steps}
-use Rattle.mp4_present.specs.declared.differences.Difference.{Difference}
-use Rattle.mp4_present.specs.declared.leaving.Leaving.{Leaving}
+use Rattle.mp4_present.specs.declared.comparing.differences.Difference.{Difference}
+use Rattle.mp4_present.specs.declared.without.Without.{Without}
 use Rattle.mp4norm.specs.format.CompareHeadline.{difference_in, last_in, listing_text, most_counted}
 use Rattle.mp4norm.specs.format.DifferenceObject.{last_object}
 use Rattle.mp4norm.specs.words.Suggested.{suggested}
-use Rattle.mp4norm.specs.declared.comparing.Listing.{Listing}
-use Rattle.mp4norm.specs.declared.comparing.Listing.TheVariants as listings
-use Rattle.mp4norm.specs.declared.comparing.Side.{Side}
-use Rattle.mp4norm.specs.declared.comparing.Side.TheVariants as sides
-use Rattle.mp4norm.specs.declared.comparing.Failure.{Failure}
-use Rattle.mp4norm.specs.declared.wanted.Syntax.{Syntax}
-use Rattle.mp4norm.specs.declared.wanted.Syntax.TheVariants as syntaxes
+use Rattle.mp4norm.specs.declared.commands.compare.Listing.{Listing}
+use Rattle.mp4norm.specs.declared.commands.compare.Listing.TheVariants as listings
+use Rattle.mp4norm.specs.declared.commands.compare.Side.{Side}
+use Rattle.mp4norm.specs.declared.commands.compare.Side.TheVariants as sides
+use Rattle.mp4norm.specs.declared.commands.compare.Failure.{Failure}
+use Rattle.mp4norm.specs.declared.shell.action.Syntax.{Syntax}
+use Rattle.mp4norm.specs.declared.shell.action.Syntax.TheVariants as syntaxes
 
 -- ---- what there is to say
 
@@ -37,46 +37,53 @@ abbrev pub AddsLines : Syntax → List Difference → List ℕ → List ℕ → 
 AddsLines syntax ds old new = new ≡ old ++ flat_map (difference_in syntax) ds
 
 -- the last line was added
-abbrev pub AddsLast : Syntax → Bool → List Difference → Option Leaving → List ℕ → List ℕ → Type 0
+abbrev pub AddsLast : Syntax → Bool → List Difference → Option Without → List ℕ → List ℕ → Type 0
 AddsLast syntax whole ds enough old new = new ≡ old ++ last_in syntax whole ds enough
 
 -- the lines of some first of these, and the last one, which says whether these are all
-abbrev pub IsCounted : Syntax → ℕ → List Difference → Bool → Option Leaving → List ℕ → Type 0
+abbrev pub IsCounted : Syntax → ℕ → List Difference → Bool → Option Without → List ℕ → Type 0
 IsCounted syntax limit ds whole enough text = text
     ≡ flat_map (difference_in syntax) (take limit ds) ++ last_in syntax whole ds enough
 
 -- all that can be left out
-abbrev pub everything : Leaving
-everything = record { times = true; edits = true; flags = true; groups = true; metadata = true }
+abbrev pub everything : Without
+everything = record {
+  times = true;
+  edits = true;
+  flags = true;
+  groups = true;
+  metadata = true;
+  labels = true;
+}
 
 -- Whether nothing differs without what is tried. The differences are given for whatever is left
 -- out.
-abbrev pub IsEnoughOf : Option Leaving → (Leaving → List Difference) → Option Leaving → Type 0
-IsEnoughOf more differ None = (m : Leaving) → more ≡ Some m → differ m ≡ [] → ⊥
+abbrev pub IsEnoughOf : Option Without → (Without → List Difference) → Option Without → Type 0
+IsEnoughOf more differ None = (m : Without) → more ≡ Some m → differ m ≡ [] → ⊥
 IsEnoughOf more differ (Some m) = (more ≡ Some m) × (differ m ≡ [])
 
 -- The same, where of a list that was cut all is tried too.
-abbrev pub IsEnoughFor : Option Leaving → Bool → (Leaving → List Difference) → Option Leaving
+abbrev pub IsEnoughFor : Option Without → Bool → (Without → List Difference) → Option Without
     → Type 0
-IsEnoughFor more whole differ None = (m : Leaving) → more ≡ Some m → (differ m ≡ [] → ⊥)
+IsEnoughFor more whole differ None = (m : Without) → more ≡ Some m → (differ m ≡ [] → ⊥)
     × (whole ≡ false → differ everything ≡ [] → ⊥)
 IsEnoughFor more whole differ (Some m) =
     ((more ≡ Some m) ⊎ ((whole ≡ false) × (m ≡ everything))) × (differ m ≡ [])
 
 -- The same of what the counted differences ask for.
-abbrev pub IsEnough : Leaving → (Leaving → List Difference) → Option Leaving → Type 0
+abbrev pub IsEnough : Without → (Without → List Difference) → Option Without → Type 0
 IsEnough l differ enough = IsEnoughFor (suggested l (take most_counted (differ l)))
     (nat_le (length (differ l)) most_counted) differ enough
 
 -- what is said where something differs
-abbrev pub IsSaidOf : Listing → Leaving → (Leaving → List Difference) → List ℕ → Type 0
+abbrev pub IsSaidOf : Listing → Without → (Without → List Difference) → List ℕ → Type 0
 IsSaidOf (listings.First syntax) l differ text = (first : Difference)
     × (slice_get (differ l) 0 ≡ Some first) × (text ≡ difference_in syntax first)
-IsSaidOf (listings.All lines) l differ text = (enough : Option Leaving) × IsEnough l differ enough
+IsSaidOf (listings.All lines) l differ text = (enough : Option Without) × IsEnough l differ enough
     × (text ≡ listing_text lines.syntax lines.limit (differ l) enough)
 
 -- the same of what was found
-abbrev pub IsFoundOf : {A : Type 0} → (A → List ℕ) → Listing → Leaving → (Leaving → List Difference)
+abbrev pub IsFoundOf : {A : Type 0} → (A → List ℕ) → Listing → Without → (Without → List Difference)
     → Option A → Type 0
 IsFoundOf bytes listing l differ None = Unit {0}
 IsFoundOf bytes listing l differ (Some text) = IsSaidOf listing l differ (bytes text)
@@ -107,13 +114,13 @@ abbrev pub PutsSome : (List ℕ → Type 0) → Type 0
 PutsSome Took = (text : List ℕ) × (0 < length text) × Took text
 
 -- what was put of files that are the same without this
-abbrev pub PutsSame : Leaving → Bool → (List ℕ → Type 0) → Type 0
+abbrev pub PutsSame : Without → Bool → (List ℕ → Type 0) → Type 0
 PutsSame l true Took = Took []
 PutsSame l false Took = Took (last_object true [] (Some l))
 
 -- nothing was put where two files are the same and nothing is said of that, or the object that says
 -- so; where they differ, some text
-abbrev pub PutsAnswer : Leaving → Bool → (List ℕ → Type 0) → Bool → Type 0
+abbrev pub PutsAnswer : Without → Bool → (List ℕ → Type 0) → Bool → Type 0
 PutsAnswer l silent Took true = PutsSame l silent Took
 PutsAnswer l silent Took false = PutsSome Took
 

@@ -1,8 +1,8 @@
 -- How many steps and looks a job may take.
 use Rattle.std.specs.Prelude.{ℕ, List}
 use Rattle.mp4norm.specs.format.Steps.{WorksWithin, WalksWithin, FindsWithin, TurnsWithin}
-use Rattle.mp4norm.specs.declared.wanted.Job.{Job}
-use Rattle.mp4norm.specs.declared.wanted.Job.TheVariants as jobs
+use Rattle.mp4norm.specs.declared.shell.action.Job.{Job}
+use Rattle.mp4norm.specs.declared.shell.action.Job.TheVariants as jobs
 
 -- the steps, where they are counted
 abbrev pub JobWorksWithin : Job → List ℕ → ℕ → ℕ → Type 0
@@ -11,7 +11,7 @@ JobWorksWithin jobs.Show file old new = WalksWithin file old new
 JobWorksWithin (jobs.Samples track form) file old new = WalksWithin file old new
 JobWorksWithin (jobs.Extract track) file old new = WalksWithin file old new
 JobWorksWithin jobs.Normalise file old new = WorksWithin file old new
-JobWorksWithin (jobs.Print l) file old new = Unit {0}
+JobWorksWithin (jobs.Print l) file old new = WalksWithin file old new
 JobWorksWithin (jobs.Reduce l) file old new = WorksWithin file old new
 JobWorksWithin (jobs.Strip names) file old new = Unit {0}
 

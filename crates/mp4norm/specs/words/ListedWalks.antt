@@ -6,13 +6,13 @@ use Rattle.mp4_store.specs.declared.store.Store.{Ghosts as Store}
 use Rattle.mp4_store.specs.declared.sink.Sink.{Ghosts as Sink}
 use Rattle.mp4_store.specs.words.Device.{TakesPrefix}
 use Rattle.mp4_tables.specs.declared.sample.SampleAt.{SampleAt}
-use Rattle.mp4_present.specs.declared.carrier.Carrier.{Carrier}
-use Rattle.mp4_present.specs.declared.walks.Walk.{Walk}
+use Rattle.mp4_present.specs.declared.out_buffer.OutBuffer.{OutBuffer}
+use Rattle.mp4_present.specs.declared.walking.Walk.{Walk}
 use Rattle.mp4_present.specs.words.Carried.{waiting, BytesGoOn}
 use Rattle.mp4_present.specs.words.Movies.{MovieSeen}
-use Rattle.mp4_present.specs.words.OverStores.{IsUnchanged}
-use Rattle.mp4_present.specs.words.OverWalks.{WhereComes}
-use Rattle.mp4norm.specs.declared.wanted.Form.{Form}
+use Rattle.mp4_present.specs.words.StoresRead.{IsUnchanged}
+use Rattle.mp4_present.specs.words.TrackWalks.{WhereComes}
+use Rattle.mp4norm.specs.declared.shell.action.Form.{Form}
 use Rattle.mp4norm.specs.format.Texts.{sample_at_lines}
 
 -- over an honest store: this is true of the samples that a walk has still to come, which 32 bits
@@ -24,7 +24,7 @@ WhereFewCome S store m walk P = WhereComes S store m walk
 
 -- The sink took what waited, and then this text; at Err some of the first bytes of these. The store
 -- is not taken as changed.
-pub record PutsAll {Y T : Type 0} (K : Sink Y) (sink sink_after : Y) (c : Carrier) (text : List ℕ)
+pub record PutsAll {Y T : Type 0} (K : Sink Y) (sink sink_after : Y) (c : OutBuffer) (text : List ℕ)
     (result : Result T Refusal) : Type 0 where
   pub all : OnOk result (K.takes sink sink_after (waiting c ++ text))
   pub front :
@@ -39,7 +39,7 @@ PassesOn K sink sink_after held held_after result = MatchResult result
 
 -- The lines of these samples follow, numbered on from a number, where 64 bits can number them: at
 -- Ok all of them, and the number goes on by as many; at Err some of the first bytes were put.
-abbrev pub PutsLines : {Y T E : Type 0} → Sink Y → Y → Y → Carrier → Carrier → Form → ℕ → ℕ
+abbrev pub PutsLines : {Y T E : Type 0} → Sink Y → Y → Y → OutBuffer → OutBuffer → Form → ℕ → ℕ
     → List SampleAt → Result T E → Type 0
 PutsLines K sink sink_after c c_after form number number_after samples result = MatchResult result
     (λ _. number + length samples < 2 ^ 64

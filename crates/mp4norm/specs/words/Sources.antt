@@ -4,9 +4,9 @@ use Rattle.std.specs.Prelude.{ℕ, List, Bool, true}
 use Rattle.mp4_store.specs.declared.buffered.BufferedStore.{BufferedStore}
 use Rattle.mp4_store.specs.declared.file.FileStore.{FileStore}
 use Rattle.mp4_store.specs.declared.store.Store.{Ghosts as Store}
-use Rattle.mp4norm.specs.declared.named_files.ListStore.{ListStore}
-use Rattle.mp4norm.specs.declared.sources.Source.{Source}
-use Rattle.mp4norm.specs.declared.sources.Source.TheVariants as sources
+use Rattle.mp4norm.specs.declared.shell.named_files.ListStore.{ListStore}
+use Rattle.mp4norm.specs.declared.shell.sources.Source.{Source}
+use Rattle.mp4norm.specs.declared.shell.sources.Source.TheVariants as sources
 
 -- all reads of standard input are of the bytes that were read
 abbrev pub honest_of : Store (BufferedStore FileStore) → Store (BufferedStore ListStore) → Source

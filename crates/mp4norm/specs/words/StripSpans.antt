@@ -8,8 +8,8 @@ use Rattle.mp4_boxes.specs.declared.rule.Rule.{Rule}
 use Rattle.mp4_boxes.specs.declared.headers.TopHeader.{TopHeader}
 use Rattle.mp4_store.specs.declared.store.Store.{Ghosts as Store}
 use Rattle.mp4_store.specs.words.Device.{range}
-use Rattle.mp4_present.specs.words.OverStores.{WhereHonest}
-use Rattle.mp4norm.specs.declared.named.Name.{Name}
+use Rattle.mp4_present.specs.words.StoresRead.{WhereHonest}
+use Rattle.mp4norm.specs.declared.commands.box_names.Name.{Name}
 use Rattle.mp4norm.specs.format.Strips.{is_top, uuid_at, Strips, RefusesHeaderUnder, RefusesHeaderAgain, RefusesWalk}
 
 -- ---- a header at a place, before an end

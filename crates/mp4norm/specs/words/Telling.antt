@@ -5,17 +5,17 @@ use Rattle.mp4_boxes.specs.declared.refusal.Refusal.{Refusal}
 use Rattle.mp4_head.specs.format.Head.{Media, TrackHead, MovieHead}
 use Rattle.mp4_head.specs.words.Seen.{edit_seen}
 use Rattle.mp4_store.specs.declared.sink.Sink.{Ghosts as Sink}
-use Rattle.mp4_present.specs.declared.carrier.Carrier.{Carrier}
-use Rattle.mp4_present.specs.words.OverCarriers.{PutsFrontOf, RefusedByPut, TakesBytes}
+use Rattle.mp4_present.specs.declared.out_buffer.OutBuffer.{OutBuffer}
+use Rattle.mp4_present.specs.words.OutBuffers.{PutsFrontOf, RefusedByPut, TakesBytes}
 use Rattle.mp4norm.specs.format.Text.{edit_words, named_line, number_line}
 use Rattle.mp4norm.specs.format.Texts.{hex_digits, space}
-use Rattle.mp4norm.specs.declared.named_lines.Said.{Said}
-use Rattle.mp4norm.specs.declared.named_lines.Said.TheVariants as said
-use Rattle.mp4norm.specs.declared.named_lines.Named.{Named}
+use Rattle.mp4norm.specs.declared.text.named_lines.Said.{Said}
+use Rattle.mp4norm.specs.declared.text.named_lines.Said.TheVariants as said
+use Rattle.mp4norm.specs.declared.text.named_lines.Named.{Named}
 
 -- This text is taken along: at Ok all of it, and at Err a front of what waited and of it was put.
 -- Nothing but a put can fail.
-pub record Tells {Y T : Type 0} (K : Sink Y) (sink sink_after : Y) (c c_after : Carrier)
+pub record Tells {Y T : Type 0} (K : Sink Y) (sink sink_after : Y) (c c_after : OutBuffer)
     (text : List ℕ) (result : Result T Refusal) : Type 0 where
   pub all : OnOk result (TakesBytes K sink sink_after c c_after text)
   pub front : OnErr result (PutsFrontOf K sink sink_after c text)
@@ -23,7 +23,7 @@ pub record Tells {Y T : Type 0} (K : Sink Y) (sink sink_after : Y) (c c_after : 
   pub refusal : RefusedByPut K sink sink_after result
 
 -- The same of a text alone.
-pub record TellsText {Y T E : Type 0} (K : Sink Y) (sink sink_after : Y) (c c_after : Carrier)
+pub record TellsText {Y T E : Type 0} (K : Sink Y) (sink sink_after : Y) (c c_after : OutBuffer)
     (text : List ℕ) (result : Result T E) : Type 0 where
   pub all : OnOk result (TakesBytes K sink sink_after c c_after text)
   pub front : OnErr result (PutsFrontOf K sink sink_after c text)

@@ -10,15 +10,17 @@ use Rattle.mp4_tables.specs.words.Keys.{key_place, keys_seen}
 use Rattle.mp4_tables.specs.declared.keys.Keys.{Keys}
 use Rattle.mp4_tables.specs.declared.sample.SampleAt.{SampleAt}
 use Rattle.mp4_present.specs.words.Differing.{flags_left, index_in}
-use Rattle.mp4_present.specs.declared.leaving.Leaving.{Leaving}
+use Rattle.mp4_present.specs.declared.without.Without.{Without}
+use Rattle.mp4_plan.specs.format.Normal.{in_key_order}
 use Rattle.mp4norm.specs.format.Text.{group_text}
 use Rattle.mp4norm.specs.format.Texts.{hex_digits, hex_text, space, line_feed}
-use Rattle.mp4norm.specs.declared.sample_texts.SampleStyle.{SampleStyle}
+use Rattle.mp4norm.specs.declared.text.sample_texts.SampleStyle.{SampleStyle}
 
--- it tells of the samples of a track with these keys
-pub record IsStyle (l : Leaving) (keys : Keys) (style : SampleStyle) : Type 0 where
+-- it tells of the samples of a track with these keys, in the order of keys
+pub record IsStyle (l : Without) (keys : Keys) (style : SampleStyle) : Type 0 where
   pub leaving : style.leaving ≡ l
   pub keys_are : style.keys ≡ keys
+  pub order : keys_seen style.order ≡ (if l.groups then [] else in_key_order (keys_seen keys))
 
 -- the index at a key, where there is one
 abbrev pub index_text : GroupKey → ℕ → List ℕ

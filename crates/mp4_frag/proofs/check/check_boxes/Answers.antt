@@ -5,6 +5,7 @@ use Rattle.mp4_boxes.specs.format.Children.{Holds}
 use Rattle.mp4_boxes.specs.declared.rule.Rule.TheVariants as rules
 use Rattle.mp4_boxes.specs.words.View.{box_seen}
 use Rattle.mp4_frag.specs.words.RunsJudged.{children_of}
+use Rattle.mp4_boxes.proofs.ChildrenJudged.{held_are}
 use Rattle.mp4_frag.proofs.HeadsFound.{last_all, holds_children, one_head, one_time}
 use Rattle.mp4_frag.proofs.check.check_boxes.Goals as goal
 
@@ -29,3 +30,6 @@ returns-clause-time c =
     let all = holds_children rules.TrackFragment b _ h in
     let held = subst (λ (boxes : List Box). Holds rules.TrackFragment (box_container b) boxes) all h in
     last_all (codes "tfdt") c.into_iter-child-iterator.result c.loop-child.child-iterator (children_of b) _ c.loop-child.invariant.3 c.in-None.ensures.steps.0 (c.into_iter-child-iterator.ensures.into_iter_gives ∙ all) (one_time b (children_of b) held)
+
+pub returns-clause-exact : goal.returns-clause-exact
+returns-clause-exact c = record { names = held_are rules.TrackFragment (box_container (box_seen c.args.traf)) (children_of (box_seen c.args.traf)) (returns-clause-holds c) }

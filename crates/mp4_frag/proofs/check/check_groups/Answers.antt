@@ -3,9 +3,13 @@ use Rattle.std.proofs.lemmas.List.{length-map, length-take}
 use Rattle.mp4_boxes.specs.words.View.{box_seen}
 use Rattle.mp4_tables.specs.words.Keys.{key_seen, keys_seen}
 use Rattle.mp4_frag.proofs.Costs.{groups_cost_none, groups_cost_more, groups_cost_said}
-use Rattle.mp4_frag.proofs.GroupsPassed.{groups_none, groups_more, group_fails, groups_sound, groups_keys}
+use Rattle.mp4_frag.proofs.GroupsPassed.{groups_none, groups_more, group_fails, group_first, groups_first, groups_sound, groups_keys}
 use Rattle.mp4_frag.proofs.RunsPassed.{all_children}
-use Rattle.std.proofs.Common.{subst, codes, []}
+use Rattle.std.proofs.Common.{◌≡◌, List, Some, subst, codes, []}
+use Rattle.mp4_boxes.specs.format.Box.{Box}
+use Rattle.mp4_boxes.specs.format.BoxFaults.{fault_of}
+use Rattle.mp4_boxes.specs.format.FirstFault.{first_failed}
+use Rattle.mp4_frag.specs.words.FragmentTests.{traf_groups_tests}
 use Rattle.mp4_boxes.specs.format.Children.{of_kind}
 use Rattle.mp4_frag.specs.words.GroupsJudged.{GroupsFail}
 use Rattle.mp4_frag.proofs.check.check_groups.Goals as goal
@@ -21,7 +25,7 @@ loop-child-preserved-in_default g c = (
   tt,
   tt,
   groups_more c.args.n (keys_seen c.args.keys) _ _ _ (box_seen c.in-Some.child) _ _ _ _ c.loop-child.invariant.2 c.in-Some.ensures.steps (rw c.kind-in-loop-child.ensures at (sym c.if-eq.ensures))
-      (rw c.payload-then-eq.ensures at c.in_default.ensures.sound) (rw c.payload-then-eq.ensures at c.in_default.ensures.named),
+      (rw c.payload-then-eq.ensures at c.in_default.ensures.sound) (rw c.payload-then-eq.ensures at c.in_default.ensures.named) (λ keys before is. ((rw c.payload-then-eq.ensures at c.in_default.ensures.exact) keys before is).names),
   groups_cost_more _ _ _ (box_seen c.in-Some.child) _ _ _ _ c.loop-child.invariant.3 c.in-Some.ensures.steps (rw c.kind-in-loop-child.ensures at (sym c.if-eq.ensures)) c.payload-then-eq.ensures c.in_default.ensures.counted c.in_default.ensures.work,
 )
 
@@ -48,3 +52,18 @@ returns-in-Err-clause-fault g c = λ _.
     let all = all_children (box_seen c.args.traf) _ _ _ _ c.payload.ensures c.payload_offset.ensures c.in_ok-child-items.ensures.tiles in
     subst (λ boxes. GroupsFail c.args.n (keys_seen c.args.keys) [] (of_kind (codes "sbgp") boxes) c.fault.result) (c.into_iter-child-iterator.ensures.into_iter_gives ∙ all)
     (group_fails _ _ _ _ _ (box_seen c.in-Some.child) _ _ c.fault.result _ c.loop-child.invariant.2 c.in-Some.ensures.steps (rw c.kind-in-loop-child.ensures at (sym c.if-eq.ensures)) c.fault.ensures (rw c.payload-then-eq.ensures at c.in-Err.ensures.fault))
+
+-- ---- the first fault
+
+pub returns-in-Err-clause-exact : goal.returns-in-Err-clause-exact
+returns-in-Err-clause-exact g c = λ _.
+    let all = all_children (box_seen c.args.traf) _ _ _ _ c.payload.ensures c.payload_offset.ensures c.in_ok-child-items.ensures.tiles in
+    record {
+      names = rw c.fault.ensures (subst (λ (boxes : List Box). first_failed (traf_groups_tests c.args.n (keys_seen c.args.keys) [] (of_kind (codes "sbgp") boxes)) ≡ Some (fault_of c.in-Err.kind (box_seen c.in-Some.child))) (c.into_iter-child-iterator.ensures.into_iter_gives ∙ all)
+          (group_first _ _ _ _ _ (box_seen c.in-Some.child) _ _ c.in-Err.kind c.loop-child.invariant.2 c.in-Some.ensures.steps (rw c.kind-in-loop-child.ensures at (sym c.if-eq.ensures)) (λ keys before is. ((rw c.payload-then-eq.ensures at c.in-Err.ensures.exact) keys before is).names)));
+    }
+
+pub returns-clause-exact : goal.returns-clause-exact
+returns-clause-exact g c = λ _.
+    let all = all_children (box_seen c.args.traf) _ _ _ _ c.payload.ensures c.payload_offset.ensures c.in_ok-child-items.ensures.tiles in
+    record { names = groups_first _ _ _ _ _ _ _ c.loop-child.invariant.2 c.in-None.ensures.steps.0 (c.into_iter-child-iterator.ensures.into_iter_gives ∙ all) }

@@ -3,6 +3,15 @@ use Rattle.std.proofs.lemmas.Result.{IfErr-weaker, on_ok_weaker}
 use Rattle.mp4_boxes.specs.words.View.{box_seen}
 use Rattle.mp4_frag.specs.words.TrafFaults.{RefusesMoof, RefusesTrafs}
 use Rattle.mp4_frag.proofs.TrafsJudged.{never_refused, passed_accepted, passed_sound, refuses_moof}
+use Rattle.std.proofs.Common.{List, inl, inr, refl, subst}
+use Rattle.std.proofs.lemmas.Result.{err_from_is_err_and, MatchResult-weaker}
+use Rattle.mp4_boxes.specs.format.Box.{Box, box_container}
+use Rattle.mp4_boxes.specs.format.Children.{Holds}
+use Rattle.mp4_boxes.specs.declared.rule.Rule.TheVariants as rules
+use Rattle.mp4_boxes.proofs.ChildrenJudged.{held_are}
+use Rattle.mp4_frag.specs.words.RunsJudged.{children_of}
+use Rattle.mp4_frag.proofs.FirstTraf.{trafs_first}
+use Rattle.mp4_frag.proofs.HeadsFound.{holds_children}
 use Rattle.mp4_frag.proofs.check.check_moof.Goals as goal
 
 pub returns-clause-sound : goal.returns-clause-sound
@@ -26,3 +35,16 @@ returns-clause-only g c =
     let a = c.args in
     let moof = box_seen a.moof in
     IfErr-weaker c.check_trafs.result (RefusesTrafs a.file_len a.tracks.now a.room.now moof _) _ (never_refused a.file_len moof _ a.tracks.now a.room.now _ c.in_ok-boxes.ensures.holds) c.check_trafs.ensures.refusal
+
+-- ---- the first fault
+
+pub returns-in_err-boxes-clause-exact : goal.returns-in_err-boxes-clause-exact
+returns-in_err-boxes-clause-exact g c =
+    let p = err_from_is_err_and c.from_residual.result c.from_residual.ensures.1 in
+    record { names = rw (p.1, p.2) (inl (c.in_err-boxes.field-0.0, c.in_err-boxes.ensures.exact.same, refl)) }
+
+pub returns-clause-exact : goal.returns-clause-exact
+returns-clause-exact g c =
+    let moof = box_seen c.args.moof in
+    let held = held_are rules.MovieFragment (box_container moof) (children_of moof) (subst (λ (boxes : List Box). Holds rules.MovieFragment (box_container moof) boxes) (holds_children rules.MovieFragment moof _ c.in_ok-boxes.ensures.holds) c.in_ok-boxes.ensures.holds) in
+    record { names = MatchResult-weaker c.check_trafs.result c.check_trafs.ensures.exact.names (λ p h. inr (held, h)) (trafs_first c.args.file_len c.args.tracks.now c.args.room.now moof held) }

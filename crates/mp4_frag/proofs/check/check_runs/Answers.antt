@@ -4,7 +4,12 @@ use Rattle.mp4_frag.proofs.Costs.{runs_cost_run, runs_cost_said, runs_cost_ended
 use Rattle.std.proofs.Common.{subst, codes}
 use Rattle.mp4_boxes.specs.format.Children.{of_kind}
 use Rattle.mp4_frag.specs.words.RunsJudged.{RunsFail}
-use Rattle.mp4_frag.proofs.RunsPassed.{all_children, seen_run, run_fails, runs_sound, runs_ended}
+use Rattle.std.proofs.Common.{◌≡◌, List, Some}
+use Rattle.mp4_boxes.specs.format.Box.{Box}
+use Rattle.mp4_boxes.specs.format.BoxFaults.{fault_of}
+use Rattle.mp4_boxes.specs.format.FirstFault.{first_failed}
+use Rattle.mp4_frag.specs.words.FragmentTests.{runs_tests}
+use Rattle.mp4_frag.proofs.RunsPassed.{all_children, seen_run, run_fails, run_first, runs_first, runs_sound, runs_ended}
 use Rattle.mp4_frag.proofs.check.check_runs.Goals as goal
 
 pub loop-child-preserved-then-eq : goal.loop-child-preserved-then-eq
@@ -16,7 +21,8 @@ loop-child-preserved-then-eq g c =
       search rules,
       r.passed,
       (λ n big base. r.bound n big base (i.4 n big base)),
-      seen_run _ _ _ _ _ _ (box_seen c.in-Some.child) _ _ _ _ _ _ _ _ _ _ _ i.5 c.in-Some.ensures.steps (rw c.kind-in-loop-child.ensures at (sym c.if-eq.ensures)) (rw c.payload-then-eq.ensures at r.run.run) r.run.count r.run.duration r.run.bytes r.run.taken,
+      seen_run _ _ _ _ _ _ (box_seen c.in-Some.child) _ _ _ _ _ _ _ _ _ _ _ i.5 c.in-Some.ensures.steps (rw c.kind-in-loop-child.ensures at (sym c.if-eq.ensures)) (rw c.payload-then-eq.ensures at r.run.run) r.run.count r.run.duration r.run.bytes r.run.taken
+          (rw c.payload-then-eq.ensures at r.exact.names),
       runs_cost_run _ _ _ (box_seen c.in-Some.child) _ _ _ _ _ i.6 c.in-Some.ensures.steps (rw c.kind-in-loop-child.ensures at (sym c.if-eq.ensures)) (let more = r.counted in omega (arith, more)),
     )
 
@@ -56,3 +62,18 @@ returns-in-Err-clause-fault g c = λ _.
     let all = all_children (box_seen c.args.traf) _ _ _ _ c.payload.ensures c.payload_offset.ensures c.in_ok-child-items.ensures.tiles in
     subst (λ boxes. RunsFail c.args.judged.file_len c.args.judged.inherited c.args.judged.base c.args.judged.base c.args.room.now (of_kind (codes "trun") boxes) c.fault.result) (c.into_iter-child-iterator.ensures.into_iter_gives ∙ all)
     (run_fails _ _ _ _ _ _ (box_seen c.in-Some.child) _ _ _ _ _ _ c.fault.result c.in-Err.kind c.loop-child.invariant.5 c.in-Some.ensures.steps (rw c.kind-in-loop-child.ensures at (sym c.if-eq.ensures)) c.fault.ensures (rw c.payload-then-eq.ensures at c.in-Err.ensures.fault))
+
+-- ---- the first fault
+
+pub returns-in-Err-clause-exact : goal.returns-in-Err-clause-exact
+returns-in-Err-clause-exact g c = λ _.
+    let all = all_children (box_seen c.args.traf) _ _ _ _ c.payload.ensures c.payload_offset.ensures c.in_ok-child-items.ensures.tiles in
+    record {
+      names = rw c.fault.ensures (subst (λ (boxes : List Box). first_failed (runs_tests c.args.judged c.args.judged.base c.args.room.now (of_kind (codes "trun") boxes)) ≡ Some (fault_of c.in-Err.kind (box_seen c.in-Some.child))) (c.into_iter-child-iterator.ensures.into_iter_gives ∙ all)
+          (run_first _ _ _ _ _ _ (box_seen c.in-Some.child) _ _ _ _ _ _ c.in-Err.kind c.loop-child.invariant.5 c.in-Some.ensures.steps (rw c.kind-in-loop-child.ensures at (sym c.if-eq.ensures)) (rw c.payload-then-eq.ensures at c.in-Err.ensures.exact.names)));
+    }
+
+pub returns-clause-exact : goal.returns-clause-exact
+returns-clause-exact g c = λ _.
+    let same = c.into_iter-child-iterator.ensures.into_iter_gives ∙ all_children (box_seen c.args.traf) _ _ _ _ c.payload.ensures c.payload_offset.ensures c.in_ok-child-items.ensures.tiles in
+    record { names = runs_first _ _ _ _ _ _ _ _ _ _ _ _ c.loop-child.invariant.5 c.in-None.ensures.steps.0 same }

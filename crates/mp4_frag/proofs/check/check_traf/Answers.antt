@@ -1,4 +1,4 @@
-use Rattle.std.proofs.Common.{◌≡◌, ℕ, false, ◌+◌, ◌^◌, ◌≤◌, ◌∙◌, [], ◌∷◌, Option, Some, sym, ap, refl, to_z, of_z, rules, arith}
+use Rattle.std.proofs.Common.{◌≡◌, ℕ, None, subst, false, ◌+◌, ◌^◌, ◌≤◌, ◌∙◌, [], ◌∷◌, Option, Some, sym, ap, refl, to_z, of_z, rules, arith}
 use Rattle.std.specs.Prelude.{codes, option_map}
 use Rattle.std.proofs.lemmas.Result.{err_from_is_err_and}
 use Rattle.std.specs.Int.{w128}
@@ -9,9 +9,23 @@ use Rattle.mp4_tables.specs.words.Keys.{keys_seen}
 use Rattle.mp4_frag.specs.words.Passing.{IsUpTo}
 use Rattle.mp4_frag.specs.words.Passing.{is_late_at}
 use Rattle.mp4_frag.specs.words.TrafFaults.{head_fails, time_fails}
-use Rattle.mp4_frag.proofs.TrafRefused.{no_head, unknown_id, unknown_trex, opened, runs_refused, description_refused, groups_refused, time_refused}
+use Rattle.mp4_boxes.specs.format.BoxFaults.{fault_of}
+use Rattle.mp4_boxes.specs.format.FirstFault.{first_failed}
+use Rattle.mp4_boxes.specs.declared.fault.Kind.TheVariants.{UnknownTrack, BadDescriptionIndex, Gap}
+use Rattle.mp4_frag.specs.format.Fragments.{TrackFragment}
+use Rattle.mp4_frag.specs.format.FragmentSamples.{base_of}
+use Rattle.mp4_frag.specs.words.Finding.{track_with}
+use Rattle.mp4_frag.specs.words.FragmentTests.{traf_groups_tests}
+use Rattle.mp4_frag.specs.words.GroupsJudged.{groups_in}
+use Rattle.mp4_frag.specs.words.Reading.{inheritance}
+use Rattle.mp4_frag.specs.words.TrafFaults.{traf_in}
+use Rattle.mp4_frag.specs.words.TrafTests.{lacks}
+use Rattle.mp4_frag.proofs.FirstTraf.{list_first, head_first, behind_head, no_track_first, no_trex_first, some_track, known_first, time_first, runs_then, description_then, groups_then, rest_then, late_first, late_none}
+use Rattle.mp4_frag.proofs.LeavesRead.{got}
+use Rattle.mp4_frag.proofs.RunsPassed.{judged_by}
+use Rattle.mp4_frag.proofs.TrafRefused.{same_head, no_head, unknown_id, unknown_trex, opened, runs_refused, description_refused, groups_refused, time_refused}
 use Rattle.mp4_frag.proofs.TracksMoved.{traf_moved, no_time}
-use Rattle.mp4_frag.specs.words.RunsJudged.{children_of, only_list}
+use Rattle.mp4_frag.specs.words.RunsJudged.{children_of, runs_in, runs_total, only_list}
 use Rattle.mp4_frag.specs.words.States.{HasRoom}
 use Rattle.mp4_frag.specs.words.Walks.{trex_among}
 use Rattle.mp4_frag.proofs.Bounds.{up_to_near}
@@ -179,3 +193,157 @@ returns-then-is_late-clause-fault g c =
     time_refused c.args.file_len c.args.moof c.args.room.now c.in_ok-passed.passed.count c.args.before c.base_of.result c.args.tracks.now (box_seen c.args.traf) (box_seen c.in-Some.tfhd) (box_seen c.in-Some-time.tfdt)
     c.index-tracks-k.result c.in-Some-trex.trex c.what_is_inherited.result c.in_ok-time.time _ o (rw same at c.in_ok-passed.ensures.runs.sound) c.in_ok-passed.ensures.runs.count c.in_ok-keys.ensures.sound there
     c.in_ok-time.ensures.sound c.in_ok-time.ensures.time (sym c.if-is_late.ensures) c.fault-then-is_late.ensures
+
+-- ---- the first fault
+
+pub returns-in_err-heads-clause-exact : goal.returns-in_err-heads-clause-exact
+returns-in_err-heads-clause-exact g c =
+    let p = err_from_is_err_and c.from_residual.result c.from_residual.ensures.1 in
+    record { names = rw (p.1, p.2) (list_first c.args.file_len c.args.moof c.args.before c.args.tracks.now c.args.room.now (box_seen c.args.traf) c.in_err-heads.field-0.0 c.in_err-heads.ensures.exact.names) }
+
+pub returns-in_default-clause-exact : goal.returns-in_default-clause-exact
+returns-in_default-clause-exact g c =
+    let none : [] ≡ of_kind (codes "tfhd") (children_of (box_seen c.args.traf)) = ap (λ (o : Option BoxView). only_list (option_map box_seen o)) (sym c.in_default.is) ∙ c.in_ok-heads.ensures.head in
+    absurd (no_head (box_seen c.args.traf) (children_of (box_seen c.args.traf)) c.in_ok-heads.ensures.holds (sym none))
+
+pub returns-in_err-head-clause-exact : goal.returns-in_err-head-clause-exact
+returns-in_err-head-clause-exact g c =
+    let p = err_from_is_err_and c.from_residual-in_err-head.result c.from_residual-in_err-head.ensures.1 in
+    let head = sym c.in_ok-heads.ensures.head ∙ ap (λ (o : Option BoxView). only_list (option_map box_seen o)) c.in-Some.is in
+    record { names = rw (p.1, p.2) (head_first c.args.file_len c.args.moof c.args.before c.args.tracks.now c.args.room.now (box_seen c.args.traf) (box_seen c.in-Some.tfhd) c.in_ok-heads.ensures.exact.names head c.in_err-head.field-0.0 c.in_err-head.ensures.exact.names) }
+
+pub returns-in_default-find_track-clause-exact : goal.returns-in_default-find_track-clause-exact
+returns-in_default-find_track-clause-exact g c =
+    let head = sym c.in_ok-heads.ensures.head ∙ ap (λ (o : Option BoxView). only_list (option_map box_seen o)) c.in-Some.is in
+    let none = ap (λ (t : TrackFragment). track_with t.id c.args.tracks.now) (sym (same_head (box_seen c.args.traf) (box_seen c.in-Some.tfhd) c.in_ok-head.head head c.in_ok-head.ensures.head)) ∙ c.in_default-find_track.ensures.none refl in
+    record {
+      names =
+          rw c.fault-in_default-find_track.ensures (behind_head c.args.file_len c.args.moof c.args.before c.args.tracks.now c.args.room.now (box_seen c.args.traf) (box_seen c.in-Some.tfhd) c.in_ok-heads.ensures.exact.names head (Some (fault_of UnknownTrack (box_seen c.in-Some.tfhd)))
+          c.in_ok-head.ensures.exact.names (no_track_first c.args.file_len c.args.moof c.args.before c.args.room.now (box_seen c.args.traf) (box_seen c.in-Some.tfhd) _ none));
+    }
+
+pub returns-in_default-trex-clause-exact : goal.returns-in_default-trex-clause-exact
+returns-in_default-trex-clause-exact g c =
+    let head = sym c.in_ok-heads.ensures.head ∙ ap (λ (o : Option BoxView). only_list (option_map box_seen o)) c.in-Some.is in
+    let found = ap (λ (t : TrackFragment). track_with t.id c.args.tracks.now) (sym (same_head (box_seen c.args.traf) (box_seen c.in-Some.tfhd) c.in_ok-head.head head c.in_ok-head.ensures.head)) ∙ c.in-Some-find_track.ensures.there.found
+    ∙ got c.in-Some-find_track.k c.args.tracks.now _ c.in-Some-find_track.ensures.inside ∙ ap (λ (t : TrackState). Some t) (sym c.index-tracks-k.is) in
+    record {
+      names =
+          rw c.fault-in_default-trex.ensures (behind_head c.args.file_len c.args.moof c.args.before c.args.tracks.now c.args.room.now (box_seen c.args.traf) (box_seen c.in-Some.tfhd) c.in_ok-heads.ensures.exact.names head (Some (fault_of UnknownTrack (box_seen c.in-Some.tfhd)))
+          c.in_ok-head.ensures.exact.names (no_trex_first c.args.file_len c.args.moof c.args.before c.args.room.now (box_seen c.args.traf) (box_seen c.in-Some.tfhd) _ c.index-tracks-k.result found c.in_default-trex.is));
+    }
+
+pub returns-in_err-time-clause-exact : goal.returns-in_err-time-clause-exact
+returns-in_err-time-clause-exact g c =
+    let p = err_from_is_err_and c.from_residual-in_err-time.result c.from_residual-in_err-time.ensures.1 in
+    let head = sym c.in_ok-heads.ensures.head ∙ ap (λ (o : Option BoxView). only_list (option_map box_seen o)) c.in-Some.is in
+    let found = ap (λ (t : TrackFragment). track_with t.id c.args.tracks.now) (sym (same_head (box_seen c.args.traf) (box_seen c.in-Some.tfhd) c.in_ok-head.head head c.in_ok-head.ensures.head)) ∙ c.in-Some-find_track.ensures.there.found
+    ∙ got c.in-Some-find_track.k c.args.tracks.now _ c.in-Some-find_track.ensures.inside ∙ ap (λ (t : TrackState). Some t) (sym c.index-tracks-k.is) in
+    record {
+      names = rw (p.1, p.2) (behind_head c.args.file_len c.args.moof c.args.before c.args.tracks.now c.args.room.now (box_seen c.args.traf) (box_seen c.in-Some.tfhd) c.in_ok-heads.ensures.exact.names head (Some c.in_err-time.field-0.0) c.in_ok-head.ensures.exact.names
+          (some_track c.args.file_len c.args.moof c.args.before c.args.room.now (box_seen c.args.traf) (box_seen c.in-Some.tfhd) _ c.index-tracks-k.result c.in-Some-trex.trex found c.in-Some-trex.is
+          ∙ time_first (judged_by c.args.file_len (inheritance (traf_in (box_seen c.args.traf)) c.in-Some-trex.trex) (base_of c.args.moof c.args.before (traf_in (box_seen c.args.traf)))) c.args.room.now (box_seen c.args.traf) (box_seen c.in-Some.tfhd)
+          c.index-tracks-k.result c.in_err-time.field-0.0 c.in_err-time.ensures.exact.names));
+    }
+
+pub returns-in_err-passed-clause-exact : goal.returns-in_err-passed-clause-exact
+returns-in_err-passed-clause-exact g c =
+    let p = err_from_is_err_and c.from_residual-in_err-passed.result c.from_residual-in_err-passed.ensures.1 in
+    let head = sym c.in_ok-heads.ensures.head ∙ ap (λ (o : Option BoxView). only_list (option_map box_seen o)) c.in-Some.is in
+    let same : to_z w128 (of_z w128 c.base_of.result) ≡ c.base_of.result = search rules in
+    let before : to_z w128 (of_z w128 c.args.before) ≡ c.args.before = search rules in
+    let o = opened c.args.moof c.in-Some-find_track.k c.args.before c.base_of.result c.args.tracks.now _ c.index-tracks-k.result (box_seen c.args.traf) (box_seen c.in-Some.tfhd) c.in_ok-head.head c.in-Some-trex.trex c.what_is_inherited.result c.in_ok-heads.ensures.holds head
+    c.in_ok-head.ensures.head
+    c.in-Some-find_track.ensures.inside c.in-Some-find_track.ensures.there.found c.index-tracks-k.is c.in-Some-trex.is (rw before at c.base_of.ensures.is) c.what_is_inherited.ensures in
+    let known = known_first c.args.file_len c.args.moof c.args.room.now c.args.before c.base_of.result c.args.tracks.now (box_seen c.args.traf) (box_seen c.in-Some.tfhd) c.index-tracks-k.result c.in-Some-trex.trex c.what_is_inherited.result o in
+    let judged = judged_by c.args.file_len c.what_is_inherited.result c.base_of.result in
+    record {
+      names = rw (p.1, p.2) (behind_head c.args.file_len c.args.moof c.args.before c.args.tracks.now c.args.room.now (box_seen c.args.traf) (box_seen c.in-Some.tfhd) c.in_ok-heads.ensures.exact.names head (Some c.in_err-passed.field-0.0) c.in_ok-head.ensures.exact.names (known
+          ∙ runs_then judged c.args.room.now (box_seen c.args.traf) (box_seen c.in-Some.tfhd) c.index-tracks-k.result c.in_err-passed.field-0.0 c.in_ok-time.ensures.exact.names ((rw same at c.in_err-passed.ensures.exact) c.in_ok-heads.ensures.holds.tiles).names));
+    }
+
+pub returns-then-lacks_description-clause-exact : goal.returns-then-lacks_description-clause-exact
+returns-then-lacks_description-clause-exact g c =
+    let head = sym c.in_ok-heads.ensures.head ∙ ap (λ (o : Option BoxView). only_list (option_map box_seen o)) c.in-Some.is in
+    let same : to_z w128 (of_z w128 c.base_of.result) ≡ c.base_of.result = search rules in
+    let before : to_z w128 (of_z w128 c.args.before) ≡ c.args.before = search rules in
+    let o = opened c.args.moof c.in-Some-find_track.k c.args.before c.base_of.result c.args.tracks.now _ c.index-tracks-k.result (box_seen c.args.traf) (box_seen c.in-Some.tfhd) c.in_ok-head.head c.in-Some-trex.trex c.what_is_inherited.result c.in_ok-heads.ensures.holds head
+    c.in_ok-head.ensures.head
+    c.in-Some-find_track.ensures.inside c.in-Some-find_track.ensures.there.found c.index-tracks-k.is c.in-Some-trex.is (rw before at c.base_of.ensures.is) c.what_is_inherited.ensures in
+    let known = known_first c.args.file_len c.args.moof c.args.room.now c.args.before c.base_of.result c.args.tracks.now (box_seen c.args.traf) (box_seen c.in-Some.tfhd) c.index-tracks-k.result c.in-Some-trex.trex c.what_is_inherited.result o in
+    let judged = judged_by c.args.file_len c.what_is_inherited.result c.base_of.result in
+    record {
+      names =
+          rw c.fault-then-lacks_description.ensures (behind_head c.args.file_len c.args.moof c.args.before c.args.tracks.now c.args.room.now (box_seen c.args.traf) (box_seen c.in-Some.tfhd) c.in_ok-heads.ensures.exact.names head (Some (fault_of BadDescriptionIndex (box_seen c.in-Some.tfhd)))
+          c.in_ok-head.ensures.exact.names (known
+          ∙ description_then judged c.args.room.now (box_seen c.args.traf) (box_seen c.in-Some.tfhd) c.index-tracks-k.result c.in_ok-time.ensures.exact.names ((rw same at c.in_ok-passed.ensures.exact) c.in_ok-heads.ensures.holds.tiles).names
+          (ap (λ m. lacks c.index-tracks-k.result c.what_is_inherited.result.description m) (sym c.in_ok-passed.ensures.runs.count) ∙ sym c.if-lacks_description.ensures)));
+    }
+
+pub returns-in_err-keys-clause-exact : goal.returns-in_err-keys-clause-exact
+returns-in_err-keys-clause-exact g c =
+    let p = err_from_is_err_and c.from_residual-in_err-keys.result c.from_residual-in_err-keys.ensures.1 in
+    let head = sym c.in_ok-heads.ensures.head ∙ ap (λ (o : Option BoxView). only_list (option_map box_seen o)) c.in-Some.is in
+    let same : to_z w128 (of_z w128 c.base_of.result) ≡ c.base_of.result = search rules in
+    let before : to_z w128 (of_z w128 c.args.before) ≡ c.args.before = search rules in
+    let o = opened c.args.moof c.in-Some-find_track.k c.args.before c.base_of.result c.args.tracks.now _ c.index-tracks-k.result (box_seen c.args.traf) (box_seen c.in-Some.tfhd) c.in_ok-head.head c.in-Some-trex.trex c.what_is_inherited.result c.in_ok-heads.ensures.holds head
+    c.in_ok-head.ensures.head
+    c.in-Some-find_track.ensures.inside c.in-Some-find_track.ensures.there.found c.index-tracks-k.is c.in-Some-trex.is (rw before at c.base_of.ensures.is) c.what_is_inherited.ensures in
+    let known = known_first c.args.file_len c.args.moof c.args.room.now c.args.before c.base_of.result c.args.tracks.now (box_seen c.args.traf) (box_seen c.in-Some.tfhd) c.index-tracks-k.result c.in-Some-trex.trex c.what_is_inherited.result o in
+    let judged = judged_by c.args.file_len c.what_is_inherited.result c.base_of.result in
+    record {
+      names = rw (p.1, p.2) (behind_head c.args.file_len c.args.moof c.args.before c.args.tracks.now c.args.room.now (box_seen c.args.traf) (box_seen c.in-Some.tfhd) c.in_ok-heads.ensures.exact.names head (Some c.in_err-keys.field-0.0) c.in_ok-head.ensures.exact.names (known
+          ∙ groups_then judged c.args.room.now (box_seen c.args.traf) (box_seen c.in-Some.tfhd) c.index-tracks-k.result c.in_err-keys.field-0.0 c.in_ok-time.ensures.exact.names ((rw same at c.in_ok-passed.ensures.exact) c.in_ok-heads.ensures.holds.tiles).names
+          (ap (λ m. lacks c.index-tracks-k.result c.what_is_inherited.result.description m) (sym c.in_ok-passed.ensures.runs.count)
+          ∙ sym c.if-lacks_description.ensures)
+          (subst (λ m. first_failed (traf_groups_tests m (keys_seen c.index-tracks-k.result.keys) [] (groups_in (box_seen c.args.traf))) ≡ Some c.in_err-keys.field-0.0) c.in_ok-passed.ensures.runs.count (c.in_err-keys.ensures.exact c.in_ok-heads.ensures.holds.tiles).names)));
+    }
+
+pub returns-then-is_late-clause-exact : goal.returns-then-is_late-clause-exact
+returns-then-is_late-clause-exact g c =
+    let head = sym c.in_ok-heads.ensures.head ∙ ap (λ (o : Option BoxView). only_list (option_map box_seen o)) c.in-Some.is in
+    let same : to_z w128 (of_z w128 c.base_of.result) ≡ c.base_of.result = search rules in
+    let before : to_z w128 (of_z w128 c.args.before) ≡ c.args.before = search rules in
+    let o = opened c.args.moof c.in-Some-find_track.k c.args.before c.base_of.result c.args.tracks.now _ c.index-tracks-k.result (box_seen c.args.traf) (box_seen c.in-Some.tfhd) c.in_ok-head.head c.in-Some-trex.trex c.what_is_inherited.result c.in_ok-heads.ensures.holds head
+    c.in_ok-head.ensures.head
+    c.in-Some-find_track.ensures.inside c.in-Some-find_track.ensures.there.found c.index-tracks-k.is c.in-Some-trex.is (rw before at c.base_of.ensures.is) c.what_is_inherited.ensures in
+    let known = known_first c.args.file_len c.args.moof c.args.room.now c.args.before c.base_of.result c.args.tracks.now (box_seen c.args.traf) (box_seen c.in-Some.tfhd) c.index-tracks-k.result c.in-Some-trex.trex c.what_is_inherited.result o in
+    let judged = judged_by c.args.file_len c.what_is_inherited.result c.base_of.result in
+    let there = sym c.in_ok-heads.ensures.time ∙ ap (λ (o : Option BoxView). only_list (option_map box_seen o)) c.in-Some-time.is in
+    record {
+      names =
+          rw c.fault-then-is_late.ensures (behind_head c.args.file_len c.args.moof c.args.before c.args.tracks.now c.args.room.now (box_seen c.args.traf) (box_seen c.in-Some.tfhd) c.in_ok-heads.ensures.exact.names head (Some (fault_of Gap (box_seen c.in-Some-time.tfdt)))
+          c.in_ok-head.ensures.exact.names (known
+          ∙ rest_then judged c.args.room.now (box_seen c.args.traf) (box_seen c.in-Some.tfhd) c.index-tracks-k.result (Some (fault_of Gap (box_seen c.in-Some-time.tfdt))) c.in_ok-time.ensures.exact.names ((rw same at c.in_ok-passed.ensures.exact) c.in_ok-heads.ensures.holds.tiles).names
+          (ap (λ m. lacks c.index-tracks-k.result c.what_is_inherited.result.description m) (sym c.in_ok-passed.ensures.runs.count)
+          ∙ sym c.if-lacks_description.ensures) (subst (λ m. first_failed (traf_groups_tests m (keys_seen c.index-tracks-k.result.keys) [] (groups_in (box_seen c.args.traf))) ≡ None) c.in_ok-passed.ensures.runs.count (c.in_ok-keys.ensures.exact c.in_ok-heads.ensures.holds.tiles).names)
+          (late_first c.index-tracks-k.result (traf_in (box_seen c.args.traf)).decode_time (runs_total (runs_in (box_seen c.args.traf))) (of_kind (codes "tfdt") (children_of (box_seen c.args.traf))) (box_seen c.in-Some-time.tfdt) there
+          ((λ i. is_late_at c.index-tracks-k.result (c.in_ok-time.ensures.time i) (sym c.in_ok-passed.ensures.runs.count i)) ∙ (sym c.if-is_late.ensures)))));
+    }
+
+pub returns-clause-exact : goal.returns-clause-exact
+returns-clause-exact g c =
+    let head = sym c.in_ok-heads.ensures.head ∙ ap (λ (o : Option BoxView). only_list (option_map box_seen o)) c.in-Some.is in
+    let same : to_z w128 (of_z w128 c.base_of.result) ≡ c.base_of.result = search rules in
+    let before : to_z w128 (of_z w128 c.args.before) ≡ c.args.before = search rules in
+    let o = opened c.args.moof c.in-Some-find_track.k c.args.before c.base_of.result c.args.tracks.now _ c.index-tracks-k.result (box_seen c.args.traf) (box_seen c.in-Some.tfhd) c.in_ok-head.head c.in-Some-trex.trex c.what_is_inherited.result c.in_ok-heads.ensures.holds head
+    c.in_ok-head.ensures.head
+    c.in-Some-find_track.ensures.inside c.in-Some-find_track.ensures.there.found c.index-tracks-k.is c.in-Some-trex.is (rw before at c.base_of.ensures.is) c.what_is_inherited.ensures in
+    let known = known_first c.args.file_len c.args.moof c.args.room.now c.args.before c.base_of.result c.args.tracks.now (box_seen c.args.traf) (box_seen c.in-Some.tfhd) c.index-tracks-k.result c.in-Some-trex.trex c.what_is_inherited.result o in
+    let judged = judged_by c.args.file_len c.what_is_inherited.result c.base_of.result in
+    let boxes = children_of (box_seen c.args.traf) in
+    let fine : is_late_at c.index-tracks-k.result c.in_ok-time.time c.in_ok-passed.passed.count ≡ false =
+    elim c.match-heads-2.branch [
+      | in-Some-time+else-is_late w ↦ sym w.if-is_late.ensures
+      | in_default-time w ↦
+          let none = no_time boxes (sym c.in_ok-heads.ensures.time ∙ ap (λ (o : Option BoxView). only_list (option_map box_seen o)) w.in_default-time.is) in
+          ap (λ (o : Option ℕ). is_late_at c.index-tracks-k.result o c.in_ok-passed.passed.count) (sym c.in_ok-time.ensures.time ∙ none)
+    ] in
+    record {
+      names = behind_head c.args.file_len c.args.moof c.args.before c.args.tracks.now c.args.room.now (box_seen c.args.traf) (box_seen c.in-Some.tfhd) c.in_ok-heads.ensures.exact.names head None c.in_ok-head.ensures.exact.names (known
+          ∙ rest_then judged c.args.room.now (box_seen c.args.traf) (box_seen c.in-Some.tfhd) c.index-tracks-k.result None c.in_ok-time.ensures.exact.names ((rw same at c.in_ok-passed.ensures.exact) c.in_ok-heads.ensures.holds.tiles).names
+          (ap (λ m. lacks c.index-tracks-k.result c.what_is_inherited.result.description m) (sym c.in_ok-passed.ensures.runs.count)
+          ∙ sym c.if-lacks_description.ensures) (subst (λ m. first_failed (traf_groups_tests m (keys_seen c.index-tracks-k.result.keys) [] (groups_in (box_seen c.args.traf))) ≡ None) c.in_ok-passed.ensures.runs.count (c.in_ok-keys.ensures.exact c.in_ok-heads.ensures.holds.tiles).names)
+          (late_none c.index-tracks-k.result (traf_in (box_seen c.args.traf)).decode_time (runs_total (runs_in (box_seen c.args.traf))) (of_kind (codes "tfdt") (children_of (box_seen c.args.traf)))
+          ((λ i. is_late_at c.index-tracks-k.result (c.in_ok-time.ensures.time i) (sym c.in_ok-passed.ensures.runs.count i)) ∙ fine)));
+    }

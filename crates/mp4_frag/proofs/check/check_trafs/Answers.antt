@@ -7,7 +7,7 @@ use Rattle.mp4_frag.proofs.HeadsFound.{holds_boxes}
 use Rattle.mp4_frag.proofs.ChecksStopped.{taken_traf, taken_other, stops_within}
 use Rattle.mp4_frag.proofs.Costs.{moof_cost_traf, moof_cost_said, moof_cost_ended, moof_cost_fault}
 use Rattle.mp4_frag.proofs.CheckLooks.{looked_traf, looked_one, looked_each, looked_ended, looked_fault}
-use Rattle.mp4_frag.proofs.MoofPassed.{moof_traf, moof_ended, moves_traf, moves_fault, moves_ended}
+use Rattle.mp4_frag.proofs.MoofPassed.{moof_traf, moof_ended, moves_traf, moves_fault, moves_first, moves_none, moves_ended}
 use Rattle.mp4_frag.specs.words.OwnTrafs.{own_seen}
 use Rattle.mp4_frag.proofs.OwnNoted.{data_ended, notes_other, notes_traf, notes_ended}
 use Rattle.mp4_frag.proofs.check.check_trafs.Goals as goal
@@ -49,7 +49,7 @@ loop-child-preserved-then-eq g c =
       fits,
       r.kept.each,
       rw kept (moof_traf c.args.file_len _ _ _ _ _ (box_seen c.in-Some.child) _ ends _ _ i.4 c.in-Some.ensures.steps is_traf r.passed.holds sound r.passed.bound r.kept.same),
-      rw kept (moves_traf c.args.file_len _ _ _ _ _ _ (box_seen c.in-Some.child) _ ends _ _ _ _ i.5 c.in-Some.ensures.steps is_traf r.passed.holds sound (rw there at r.passed.moved)),
+      rw kept (moves_traf c.args.file_len _ _ _ _ _ _ (box_seen c.in-Some.child) _ ends _ _ _ _ i.5 c.in-Some.ensures.steps is_traf r.passed.holds sound (rw there at r.passed.moved) (rw there at r.exact.names)),
       moof_cost_traf _ _ _ (box_seen c.in-Some.child) _ _ _ _ _ _ i.6 c.in-Some.ensures.steps is_traf (rw c.tick.ensures.one_more at r.work.cost) (rw c.tick.ensures.one_more at r.work.within),
       r.ids ∙ i.7,
       looked_traf _ _ _ (box_seen c.in-Some.child) _ _ _ _ i.8 c.in-Some.ensures.steps is_traf r.looks.one (rw i.9 at r.looks.most),
@@ -153,3 +153,24 @@ pub returns-clause-ends : goal.returns-clause-ends
 returns-clause-ends g c trexes defaults =
     let all = holds_boxes (box_seen c.args.moof) _ c.requires.boxes in
     data_ended trexes (box_seen c.args.moof) _ _ _ _ _ _ _ c.loop-child.invariant.10 c.in-None.ensures.steps.0 (c.into_iter-child-iterator.ensures.into_iter_gives ∙ all) defaults
+
+-- ---- the first fault
+
+pub returns-in_err-passed-clause-exact : goal.returns-in_err-passed-clause-exact
+returns-in_err-passed-clause-exact g c =
+    let p = err_from_is_err_and c.from_residual.result c.from_residual.ensures.1 in
+    let all = holds_boxes (box_seen c.args.moof) _ c.requires.boxes in
+    record {
+      names = rw (p.1, p.2) (moves_first c.args.file_len _ _ _ _ _ _ _ (box_seen c.in-Some.child) _ _ _ c.in_err-passed.field-0.0 c.loop-child.invariant.5 c.in-Some.ensures.steps (rw c.kind.ensures at (sym c.if-eq.ensures))
+          (c.into_iter-child-iterator.ensures.into_iter_gives ∙ all) (rw c.offset-then-eq.ensures at c.in_err-passed.ensures.exact.names));
+    }
+
+pub returns-in_err-note_traf-clause-exact : goal.returns-in_err-note_traf-clause-exact
+returns-in_err-note_traf-clause-exact g c =
+    let p = err_from_is_err_and c.from_residual-in_err-note_traf.result c.from_residual-in_err-note_traf.ensures.1 in
+    record { names = rw (p.1, p.2) tt }
+
+pub returns-clause-exact : goal.returns-clause-exact
+returns-clause-exact g c =
+    let all = holds_boxes (box_seen c.args.moof) _ c.requires.boxes in
+    record { names = moves_none _ _ _ _ _ _ _ _ _ _ c.loop-child.invariant.5 c.in-None.ensures.steps.0 (c.into_iter-child-iterator.ensures.into_iter_gives ∙ all) }

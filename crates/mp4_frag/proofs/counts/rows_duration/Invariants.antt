@@ -1,5 +1,6 @@
 use Rattle.std.proofs.Common.{◌≡◌, ◌+◌, ◌*◌, ◌^◌, ◌≤◌}
 use Rattle.mp4_frag.specs.words.Durations.{rows_lasting}
+use Rattle.mp4_frag.specs.words.ColumnsRead.{row_room}
 use Rattle.mp4_frag.specs.words.PlacesIn.{IsRowPlace}
 use Rattle.mp4_frag.specs.words.Walks.{rows_here}
 use Rattle.mp4_frag.proofs.counts.rows_duration.Given as goal
@@ -8,6 +9,7 @@ use Rattle.mp4_frag.proofs.counts.rows_duration.Given as goal
 abbrev pub invariant-loop-run : goal.invariant-loop-run
 invariant-loop-run l = record {
   place : IsRowPlace l.payload l.run;
+  width : l.run.width ≡ row_room l.run.bits;
   sum : l.duration + rows_lasting l.inherited (rows_here l.payload l.run) ≡ rows_lasting l.inherited (rows_here l.payload l.fn.run);
   small : l.duration + 2 ^ 32 * l.run.left ≤ 2 ^ 32 * l.fn.run.left;
 }

@@ -17,6 +17,7 @@ returns-clause-place c =
     record {
       next = c.requires.lies.within;
       rows = run_room c.args.payload.now c.args.lying.inside c.args.lying.end c.in-Ok.run' c.requires.lies.inside c.requires.lies.within c.in-Ok.ensures.run;
+      width = c.row_size.ensures.is;
       indexes = p.indexes;
       work = own_work _ c.args.place.now.passed _ c.in-Ok.run'.count _ _ (run_cost (part_of c.args.payload.now c.args.lying.inside c.args.lying.end) c.in-Ok.run' c.in-Ok.ensures.run) (let more : c.saturating_add-place.result ≤ c.args.place.now.passed + 1 = search rules in more) c.requires.work;
     }
@@ -28,5 +29,5 @@ returns-clause-coming c more =
     let base : to_z w128 (of_z w128 c.args.place.now.base) ≡ c.args.place.now.base = search rules in
     let before : to_z w128 (of_z w128 c.args.place.now.at) ≡ c.args.place.now.at = search rules in
     let run = c.in-Ok.run' in
-    let rows = rows_taken c.args.payload.now c.args.lying.inside c.args.lying.end run run.first_flags c.requires.lies.inside c.requires.lies.within c.in-Ok.ensures.run in
+    let rows = rows_taken c.args.payload.now c.args.lying.inside c.args.lying.end run _ run.first_flags c.requires.lies.inside c.requires.lies.within c.in-Ok.ensures.run in
     rw at (run_own (reached c.args.payload.now c.args.place.now) part run c.begin-place.result _ more c.in-Ok.ensures.run (rw (base, before) at c.begin-place.ensures) rows)

@@ -1,6 +1,7 @@
-use Rattle.std.proofs.Common.{◌≡◌, ◌∙◌, ap, sym, refl, to_z, of_z, rules, arith}
+use Rattle.std.proofs.Common.{◌≡◌, ◌∙◌, ap, sym, subst, refl, to_z, of_z, rules, arith}
 use Rattle.std.specs.Int.{w128}
 use Rattle.mp4_tables.specs.words.Keys.{keys_seen}
+use Rattle.mp4_frag.specs.words.ColumnsRead.{row_room}
 use Rattle.mp4_frag.specs.words.Walks.{at_first}
 use Rattle.mp4_frag.specs.declared.places.RowPlace.{RowPlace}
 use Rattle.mp4_frag.proofs.Comings.{begun, not_begun}
@@ -19,6 +20,7 @@ settle-requires c =
     record {
       next = omega (arith, next);
       rows = none_fit c.args.payload.now p.run row left;
+      width = subst (λ (r : RowPlace). r.width ≡ row_room r.bits) (sym o.same.1) c.first_place-place.ensures.width;
       indexes = o.indexes;
       work = rw (left, next) (work_opened c.args.payload.now _ p.passed first.3 o.work);
     }
@@ -43,6 +45,7 @@ returns-else-open_traf-clause-place c =
       lies = record {
         next = omega arith;
         rows = none_fit c.args.payload.now p.run row left;
+        width = subst (λ (r : RowPlace). r.width ≡ row_room r.bits) (sym o.same.1) c.first_place-place.ensures.width;
         indexes = o.indexes;
         work = rw left (work_none c.args.payload.now _ p.passed _ first.3 o.work refl);
       };
@@ -54,3 +57,6 @@ returns-else-open_traf-clause-coming c =
     let first = c.first_place-place.ensures.first in
     let o = c.open_traf.ensures in
     not_begun c.args.payload.now c.args.base c.args.id c.args.trex c.args.dts (keys_seen c.args.keys) _ (ap (λ (r : RowPlace). r.left) o.same.1 ∙ first.1) refl (sym o.named ∙ c.if-open_traf.false)
+
+pub open_traf-requires : goal.open_traf-requires
+open_traf-requires c = record { indexes = c.first_place-place.ensures.indexes c.args.payload.now }

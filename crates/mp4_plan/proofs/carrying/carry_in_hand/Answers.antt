@@ -1,8 +1,8 @@
 use Rattle.std.proofs.Common.{length, drop, refl, ap, ◌∙◌, arith, if◌then◌else◌}
 use Rattle.std.proofs.lemmas.Result.{err_from_is_err_and}
 use Rattle.mp4_present.specs.words.GoingBack.{GoesBackTo, is_mark_farther}
-use Rattle.mp4_present.specs.declared.walks.Mark.{Mark}
-use Rattle.mp4_present.specs.declared.walks.Walk.{Walk}
+use Rattle.mp4_present.specs.declared.walking.Mark.{Mark}
+use Rattle.mp4_present.specs.declared.walking.Walk.{Walk}
 use Rattle.mp4_plan.proofs.CarriedLess.{carried_less, comes_either, prefix_less, there_less}
 use Rattle.mp4_plan.proofs.WritingSteps.{no_farther_back, farther_fits, farther_mark, farther_walk}
 use Rattle.mp4_plan.proofs.carrying.carry_in_hand.Goals as goal

@@ -4,7 +4,7 @@ use Rattle.std.proofs.lemmas.Result.{err_from_is_err_and}
 use Rattle.mp4_tables.specs.declared.sample.SampleAt.{SampleAt}
 use Rattle.mp4_present.specs.words.Carried.{waiting}
 use Rattle.mp4_present.specs.words.Movies.{mark_of}
-use Rattle.mp4_present.specs.declared.walks.Mark.{Mark}
+use Rattle.mp4_present.specs.declared.walking.Mark.{Mark}
 use Rattle.mp4_plan.proofs.FrontsPut.{front_put}
 use Rattle.mp4_plan.proofs.ReducedTaken.{less_length}
 use Rattle.mp4_plan.proofs.WalksGone.{marked_ahead, marked_has, marked_is, some_or_none}

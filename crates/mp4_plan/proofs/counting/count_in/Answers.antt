@@ -1,6 +1,6 @@
-use Rattle.std.proofs.Common.{sym, arith, rules}
+use Rattle.std.proofs.Common.{arith, rules}
 use Rattle.mp4_plan.specs.words.Ends.{goes_in}
-use Rattle.mp4_plan.proofs.HandsCounted.{counts_none, counts_one}
+use Rattle.mp4_plan.proofs.HandsCounted.{counts_none, counts_then}
 use Rattle.mp4_plan.proofs.counting.count_in.Goals as goal
 
 pub loop-count-init : goal.loop-count-init
@@ -14,7 +14,7 @@ pub loop-count-preserved : goal.loop-count-preserved
 loop-count-preserved g c =
     let i = c.loop-count.invariant in
     record {
-      counts = counts_one (goes_in c.args.end.now c.args.description) c.loop-count.count _ _ _ c.in-Some.sample i.counts c.in-Some.ensures (sym c.if-not-goes_in.ensures) c.next.ensures.rest;
+      counts = counts_then (goes_in c.args.end.now c.args.description) c.loop-count.count c.count_some-some.result _ _ _ i.counts c.count_some-some.ensures.counts;
       few = search rules;
-      later = g.met.S.Samples.follows_on _ _ _ i.later c.next.ensures.later;
+      later = g.met.S.Samples.follows_on _ _ _ i.later c.count_some-some.ensures.later;
     }

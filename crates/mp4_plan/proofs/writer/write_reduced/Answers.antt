@@ -4,7 +4,7 @@ use Rattle.std.specs.Prelude.{OnOk, OnErr}
 use Rattle.mp4_store.specs.words.Device.{TakesPrefix}
 use Rattle.mp4_store.proofs.Known.{TakesPrefix-nothing}
 use Rattle.mp4_present.specs.format.Denotes.{presentation_of}
-use Rattle.mp4_present.specs.declared.leaving.Leaving.{Leaving}
+use Rattle.mp4_present.specs.declared.without.Without.{Without}
 use Rattle.mp4_present.specs.format.Reduced.{ReducesInTime, reduce}
 use Rattle.mp4_present.proofs.WalkCopied.{on_ok}
 use Rattle.mp4_plan.specs.format.Normal.{normal}
@@ -23,7 +23,7 @@ pub returns-clause-bytes : goal.returns-clause-bytes
 returns-clause-bytes g c = λ told tree o.
     let bytes = still_opened _ _ _ _ c.args.movie.now (λ file t. IsReady file t c.args.movie.now c.in_ok-writer.writer → OnOk c.write.result (g.K.Sink.takes c.args.sink.now c.write.new.sink (normal (reduce c.in_ok-writer.writer.leaving (presentation_of file t)))))
     c.in_ok-writer.ensures.store.honesty c.in_ok-writer.ensures.store.file c.write.ensures.bytes in
-    subst (λ (l : Leaving). OnOk c.write.result (g.K.Sink.takes c.args.sink.now c.write.new.sink (normal (reduce l (presentation_of (g.S.Store.file c.args.store.now) tree)))))
+    subst (λ (l : Without). OnOk c.write.result (g.K.Sink.takes c.args.sink.now c.write.new.sink (normal (reduce l (presentation_of (g.S.Store.file c.args.store.now) tree)))))
     c.in_ok-writer.ensures.made.left (bytes told tree o (c.in_ok-writer.ensures.ready told tree o).ready)
 
 pub returns-clause-prefix : goal.returns-clause-prefix
@@ -31,7 +31,7 @@ returns-clause-prefix g c = λ told tree o.
     let prefix = still_opened _ _ _ _ c.args.movie.now (λ file t. IsReady file t c.args.movie.now c.in_ok-writer.writer
     → OnErr c.write.result (TakesPrefix (g.K.Sink.takes c.args.sink.now c.write.new.sink) (normal (reduce c.in_ok-writer.writer.leaving (presentation_of file t)))))
     c.in_ok-writer.ensures.store.honesty c.in_ok-writer.ensures.store.file c.write.ensures.prefix in
-    subst (λ (l : Leaving). OnErr c.write.result (TakesPrefix (g.K.Sink.takes c.args.sink.now c.write.new.sink) (normal (reduce l (presentation_of (g.S.Store.file c.args.store.now) tree)))))
+    subst (λ (l : Without). OnErr c.write.result (TakesPrefix (g.K.Sink.takes c.args.sink.now c.write.new.sink) (normal (reduce l (presentation_of (g.S.Store.file c.args.store.now) tree)))))
     c.in_ok-writer.ensures.made.left (prefix told tree o (c.in_ok-writer.ensures.ready told tree o).ready)
 
 pub returns-clause-whole : goal.returns-clause-whole

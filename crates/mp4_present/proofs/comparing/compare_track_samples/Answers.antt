@@ -2,7 +2,7 @@ use Rattle.std.proofs.Common.{rules, refl, List, ◌≡◌, ◌+◌, ◌<◌, �
 use Rattle.std.proofs.lemmas.Result.{err_from_is_err_and}
 use Rattle.mp4_present.specs.words.Compared.{TakesFront}
 use Rattle.mp4_present.specs.words.Windows.{Shows}
-use Rattle.mp4_present.specs.declared.differences.Difference.{Difference}
+use Rattle.mp4_present.specs.declared.comparing.differences.Difference.{Difference}
 use Rattle.mp4_present.specs.declared.file_window.FileWindow.{FileWindow}
 use Rattle.mp4_present.proofs.TrafTaken.{at_place}
 use Rattle.mp4_present.proofs.PairsCompared.{both_most}

@@ -23,7 +23,7 @@ pub pass_sample-requires-clause-some : goal.pass_sample-requires-clause-some
 pass_sample-requires-clause-some c = chunk_left c.args.payload.now c.args.at.now c.args.place.now c.requires.ok c.requires.place c.requires.inside
 
 pub pass_sample-requires-clause-fits : goal.pass_sample-requires-clause-fits
-pass_sample-requires-clause-fits c = end_fits c.args.payload.now c.args.at.now c.args.place.now c.size_at-size.result c.requires.ok c.requires.place c.requires.inside c.size_at-size.ensures
+pass_sample-requires-clause-fits c = end_fits c.args.payload.now c.args.at.now c.args.place.now c.args.size c.requires.ok c.requires.place c.requires.inside c.requires.size
 
 pub returns-clause-place : goal.returns-clause-place
 returns-clause-place c =
@@ -32,6 +32,6 @@ returns-clause-place c =
     let d = c.pass.ensures in
     let o = c.pass-2.ensures in
     let s = c.pass_sample.ensures in
-    rw c.from.ensures (place_passed c.args.payload.now c.args.at.now p c.size_at-size.result c.offset_rows.result c.pass.new.place c.pass-2.new.place c.pass_sample.new.place c.pass_sync_in.new.place c.pass-3.new.self
-    c.requires.ok c.requires.place c.requires.inside c.size_at-size.ensures small c.offset_rows.ensures d.next d.settled d.within o.next o.settled o.within s.next s.settled s.place.at s.place.opened s.place.passed
+    rw c.from.ensures (place_passed c.args.payload.now c.args.at.now p c.args.size c.offset_rows.result c.pass.new.place c.pass-2.new.place c.pass_sample.new.place c.pass_sync_in.new.place c.pass-3.new.self
+    c.requires.ok c.requires.place c.requires.inside c.requires.size small c.offset_rows.ensures d.next d.settled d.within o.next o.settled o.within s.next s.settled s.place.at s.place.opened s.place.passed
     c.pass_sync_in.ensures.at (groups_next c.args.payload.now c.args.at.now.groups p.groups c.pass-3.new.self p.number c.requires.place.groups c.pass-3.ensures.places c.pass-3.ensures.next))

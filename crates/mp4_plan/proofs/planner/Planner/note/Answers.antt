@@ -4,6 +4,7 @@ use Rattle.mp4_plan.specs.words.Stretches.{JoinsOn}
 use Rattle.mp4_plan.proofs.HandSteps.{notes_none, notes_one, notes_empty, notes_ended, notes_full, taken_more, taken_counted}
 use Rattle.mp4_plan.proofs.Stretched.{joins_none, joins_then}
 use Rattle.mp4_plan.proofs.PlannerSteps.{count_with}
+use Rattle.mp4_plan.proofs.NonSyncCounted.{next_seen}
 use Rattle.mp4_plan.proofs.planner.Planner.note.Goals as goal
 
 pub loop-noted-init : goal.loop-noted-init
@@ -25,9 +26,9 @@ loop-noted-preserved g c =
     let i = c.loop-noted.invariant in
     let count = i.count in
     record {
-      notes = notes_one _ c.loop-noted.self c.take.new.self c.loop-noted.noted _ _ _ _ _ c.in-Some.sample c.row_of.result i.notes (search rules) c.in-Some.ensures (sym c.if-not-takes.ensures) c.take.ensures c.next.ensures.rest c.row_of.ensures;
+      notes = notes_one _ c.loop-noted.self c.take.new.self c.loop-noted.noted _ _ _ _ _ c.in-Some.sample c.row_of.result i.notes (search rules) c.in-Some.ensures (sym c.if-not-takes.ensures) c.take.ensures c.pass.ensures.rest c.row_of.ensures;
       count = omega (arith, count, count_with _ _ _ c.take.ensures);
-      later = g.met.S.Samples.follows_on _ _ _ i.later c.next.ensures.later;
+      later = g.met.S.Samples.follows_on _ _ _ i.later c.pass.ensures.later;
       joined = joins_then _ _ _ _ _ _ i.joined c.add.ensures.joined (taken_more _ _ _ _ _ _ _ _ i.notes c.in-Some.ensures);
     }
 
@@ -48,3 +49,6 @@ pub returns-clause-joined : goal.returns-clause-joined
 returns-clause-joined g c =
     let i = c.loop-noted.invariant in
     subst (λ (l : List SampleAt). JoinsOn c.args.stretches.now c.loop-noted.stretches l) (taken_counted c.loop-noted.noted _ _ _ i.count) i.joined
+
+pub pass-requires : goal.pass-requires
+pass-requires g c = next_seen _ _ c.in-Some.ensures

@@ -1,6 +1,6 @@
 use Rattle.std.proofs.Common.{refl, sym, ap, subst, slice_set}
 use Rattle.std.proofs.lemmas.Result.{err_from_is_err_and}
-use Rattle.mp4_present.specs.declared.walks.Walk.{Walk}
+use Rattle.mp4_present.specs.declared.walking.Walk.{Walk}
 use Rattle.mp4_plan.specs.words.GoneOn.{ComesMarked}
 use Rattle.mp4_plan.specs.words.WriterSteps.{MayFinish}
 use Rattle.mp4_plan.proofs.CarriedParts.{read_at}

@@ -6,7 +6,7 @@ use Rattle.std.proofs.lemmas.Result.{err_from_is_err_and}
 use Rattle.mp4_present.specs.words.Movies.{IsWalkOf, mark_of}
 use Rattle.mp4_present.proofs.WalkPlaces.{of_got}
 use Rattle.mp4_plan.specs.words.ComingLess.{ComesLess}
-use Rattle.mp4_present.specs.declared.walks.Walk.{Walk}
+use Rattle.mp4_present.specs.declared.walking.Walk.{Walk}
 use Rattle.mp4_plan.specs.words.Gathering.{Planning, planned_of, piece_from}
 use Rattle.mp4_plan.specs.words.Stretches.{Tells}
 use Rattle.mp4_plan.specs.words.Writers.{turn_head}

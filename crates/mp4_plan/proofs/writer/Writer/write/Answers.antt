@@ -8,7 +8,7 @@ use Rattle.mp4_plan.specs.words.ComingLess.{left_samples}
 use Rattle.mp4_plan.specs.words.PutPieces.{PiecesFollow}
 use Rattle.mp4_plan.specs.words.DueTracks.{FindsMore, IsDueAt}
 use Rattle.mp4_tables.specs.declared.sample.SampleAt.{SampleAt}
-use Rattle.mp4_present.specs.declared.carrier.Carrier.{Carrier}
+use Rattle.mp4_present.specs.declared.out_buffer.OutBuffer.{OutBuffer}
 use Rattle.mp4_present.specs.declared.track_info.TrackInfo.{TrackInfo}
 use Rattle.mp4_present.proofs.WalkCopied.{put_unchanged, on_ok, on_err, if_err}
 use Rattle.std.specs.Prelude.{Option, Some, slice_get}
@@ -245,7 +245,7 @@ loop-turn-preserved g c =
           let count = c.in_ok-noted.noted.planned.count in
           let bytes = c.in_ok-noted.noted.planned.bytes in
           let left = c.in_ok-pass.ensures.left in
-          let more = subst (λ (k : Carrier). PiecesFollow (g.K.Sink.takes c.loop-turn.sink c.carry_turn.new.sink) (waiting k) (waiting c.carry_turn.new.self.carrier) [] count bytes) c.in_ok-noted.ensures.writer.keeps.1 c.in_ok-carry_turn.ensures.many in
+          let more = subst (λ (k : OutBuffer). PiecesFollow (g.K.Sink.takes c.loop-turn.sink c.carry_turn.new.sink) (waiting k) (waiting c.carry_turn.new.self.carrier) [] count bytes) c.in_ok-noted.ensures.writer.keeps.1 c.in_ok-carry_turn.ensures.many in
           rw c.from-bytes.ensures (
             i.sent.0 + count,
             fewer_to_come i.sent.0 c.loop-turn.schedule.left count c.pass.new.self.left _ i.sent.1 c.in_ok-pass.ensures.enough left,

@@ -77,6 +77,7 @@ loop-carrier-init g c =
       many = λ other at.
           subst (λ (i : TrackInfo). (c.in_ok-left.left ≤ i.bytes) × GoOnBy (g.K.Sink.takes c.args.sink.now c.carry_hand.new.sink) [] (waiting c.carry_hand.new.carrier) (i.bytes - c.in_ok-left.left)) (same_info info other (sym info_at ∙ at))
           (rw c.in_ok-carrier.ensures.empty at e.taken.left.many);
+      grows = e.grows;
       takes = λ told tree t o is.
           let may = c.in_ok-walk.ensures.may file tree t o is in
           takes_within file tree t may.0 (walk_steps tree t) _ _ c.carry_hand.new.walk may.2 (e.work file tree t may.0 o may.1);
@@ -130,6 +131,11 @@ loop-carrier-preserved g c =
             GoOnBy-then g.met.K.Sink.takes_on _ _ _ [] (waiting c.loop-carrier.carrier) (waiting c.carry_hand-in-loop-carrier.new.carrier) (info.bytes - c.loop-carrier.left) (c.loop-carrier.left - c.in_ok-left-2.left) (info.bytes - c.in_ok-left-2.left) before.1 more.1
                 (less_by info.bytes c.loop-carrier.left c.in_ok-left-2.left before.0 more.0),
           );
+      grows =
+          let before = i.grows in
+          let loaded = l.grows in
+          let carried = e.grows in
+          omega (arith, before, loaded, carried);
       takes = λ told tree t o is.
           let loads = takes_then file tree t (walk_steps tree t) _ _ _ c.loop-carrier.walk c.load.new.self (i.takes told tree t o is) (λ k may. (rw (i.honesty, i.file) at l.work) told tree t k o may) in
           takes_then file tree t (walk_steps tree t) _ _ _ c.load.new.self c.carry_hand-in-loop-carrier.new.walk loads (λ k may. e.work file tree t k o may);

@@ -23,6 +23,7 @@ invariant-loop-carrier g l =
       going : IsTrue (g.S.Store.is_honest l.fn.store) → (tree : FileTree) (t : TrackTree) → IsOpenedAs (g.S.Store.file l.fn.store) l.self tree → slice_get tree.movie.tracks l.track ≡ Some t
           → TrackGoesOn (g.S.Store.file l.fn.store) tree t (g.K.Sink.takes l.fn.sink l.sink) (waiting l.carrier) l.walk (track_samples tree t) l.left;
       many : (info : TrackInfo) → slice_get l.self.tracks l.track ≡ Some info → (l.left ≤ info.bytes) × GoOnBy (g.K.Sink.takes l.fn.sink l.sink) [] (waiting l.carrier) (info.bytes - l.left);
+      grows : l.fn.steps ≤ l.steps;
       takes : IsTrue (g.S.Store.is_honest l.fn.store) → (tree : FileTree) (t : TrackTree) → IsOpenedAs (g.S.Store.file l.fn.store) l.self tree → slice_get tree.movie.tracks l.track ≡ Some t
           → TakesOn (g.S.Store.file l.fn.store) tree t (walk_steps tree t) l.walk l.fn.steps l.steps;
     }

@@ -1,0 +1,24 @@
+use Rattle.std.proofs.Common.{◌≡◌, ◌+◌, ◌-◌, ◌≤◌}
+use Rattle.mp4_tables.specs.words.Next.{PassesNonSync}
+use Rattle.mp4_frag.specs.words.ColumnsRead.{row_room}
+use Rattle.mp4_frag.specs.words.PlacesIn.{IsRowPlace}
+use Rattle.mp4_frag.specs.words.Times.{time_behind}
+use Rattle.mp4_frag.specs.words.Walks.{coming}
+use Rattle.mp4_frag.specs.declared.places.FragPlace.{FragPlace}
+use Rattle.mp4_frag.proofs.traf_samples.pass_rows.Given as goal
+
+-- so many rows were passed
+abbrev pub invariant-loop-count : goal.invariant-loop-count
+invariant-loop-count l =
+    let here : FragPlace = record l.place { run = l.run; dts = l.dts; at = l.at } in
+    record {
+      rows : IsRowPlace l.payload l.run;
+      width : l.run.width ≡ row_room l.run.bits;
+      left : l.count + l.run.left ≡ l.place.run.left;
+      few : l.count ≤ l.most;
+      time : time_behind l.payload here ≡ time_behind l.payload l.place;
+      passed : PassesNonSync l.description l.count (coming l.payload l.place) (coming l.payload here);
+    }
+
+abbrev pub decreases-loop-count : goal.decreases-loop-count
+decreases-loop-count l = l.most - l.count

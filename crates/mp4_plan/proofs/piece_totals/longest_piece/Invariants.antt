@@ -1,0 +1,28 @@
+use Rattle.std.specs.Prelude.{IsTrue}
+use Rattle.std.proofs.Common.{◌≡◌, ◌+◌, ◌^◌, ◌≤◌, length}
+use Rattle.mp4_present.specs.format.Denotes.{FileTree}
+use Rattle.mp4_present.specs.words.OpenedMovie.{IsOpenedAs}
+use Rattle.mp4_plan.specs.words.Turns.{movie_turns, turns_left, IsSomeLeft}
+use Rattle.mp4_plan.specs.words.DueTracks.{IsDueAt}
+use Rattle.mp4_plan.specs.words.Writers.{AreWalksOf}
+use Rattle.mp4_plan.proofs.PlannedTurns.{IsLongest}
+use Rattle.mp4_present.specs.words.WalkSteps.{walks_steps}
+use Rattle.mp4_plan.specs.words.WriterSteps.{AllTakeOn}
+use Rattle.mp4_plan.proofs.piece_totals.longest_piece.Given as goal
+
+-- the walks go on, what was passed is planned, and they took no more steps than they may
+abbrev pub invariant-loop-turn : goal.invariant-loop-turn
+invariant-loop-turn g l =
+    AreWalksOf l.movie l.walks.items
+    × (l.schedule.tracks ≡ length l.movie.tracks)
+    × (g.S.Store.file l.store ≡ g.S.Store.file l.fn.store)
+    × (g.S.Store.read_failures l.store ≡ g.S.Store.read_failures l.fn.store)
+    × (l.longest ≤ 2 ^ 24)
+    × (g.S.Store.is_honest l.store ≡ g.S.Store.is_honest l.fn.store)
+    × (IsTrue (g.S.Store.is_honest l.fn.store) → (tree : FileTree) → IsOpenedAs (g.S.Store.file l.fn.store) l.movie tree → IsLongest l.leaving (g.S.Store.file l.fn.store) tree l.movie l.schedule l.walks.items l.nexts.items l.longest)
+    × (IsTrue (g.S.Store.is_honest l.fn.store) → (tree : FileTree) → IsOpenedAs (g.S.Store.file l.fn.store) l.movie tree → AllTakeOn (g.S.Store.file l.fn.store) tree (walks_steps tree) l.walks.items l.fn.steps l.steps)
+    × (length l.nexts.items ≡ length l.movie.tracks) × (l.looks + turns_left l.schedule ≤ l.fn.looks + movie_turns l.movie)
+    × IsDueAt l.movie.tracks l.nexts.items l.schedule l.due × IsSomeLeft l.schedule × (l.fn.steps ≤ l.steps)
+
+abbrev pub decreases-loop-turn : goal.decreases-loop-turn
+decreases-loop-turn g l = turns_left l.schedule

@@ -1,0 +1,128 @@
+//! The head of the normal form, and how long all of it is.
+ghost use Rattle.std.specs.Prelude.{◌≡◌, ℕ, ◌+◌, ◌-◌, ◌<◌, ◌≤◌, min, List, length, map, true, IfOk, IfErr, OnOk};
+ghost use Rattle.mp4_boxes.specs.declared.refusal.Refusal.TheVariants as refusals;
+ghost use Rattle.mp4_head.specs.words.Seen.{movie_seen, tracks_seen};
+ghost use Rattle.mp4_present.specs.format.Presentation.{movie_length};
+ghost use Rattle.mp4_present.specs.format.Reduced.{ReducesInTime, reduce, reduce_movie_head, reduce_track_head};
+ghost use Rattle.mp4_present.specs.words.PayloadsLeft.{AreMediaLeft};
+ghost use Rattle.mp4_present.specs.declared.without.Without.{Without};
+ghost use Rattle.mp4_plan.specs.words.LeftTimes.{NamesLong, RefusesLeft};
+ghost use Rattle.mp4_present.specs.format.Denotes.{FileTree, presentation_of};
+ghost use Rattle.mp4_present.specs.words.OpenedMovie.{IsOpenedAs};
+ghost use Rattle.mp4_present.specs.words.StoresRead.{IsUnchanged, OnlyReads, Refused};
+ghost use Rattle.mp4_present.specs.words.WalkSteps.{walks_steps};
+ghost use Rattle.mp4_plan.specs.format.Normal.{normal};
+ghost use Rattle.mp4_plan.specs.words.MadeWriters.{OverOpened};
+ghost use Rattle.mp4_plan.specs.words.Turns.{movie_turns};
+ghost use Rattle.mp4_plan.specs.words.Writers.{RefusesMemory, RefusesPlan, head_of_normal};
+ghost use Rattle.mp4_plan.specs.words.PutPieces.{IsHeadLeft};
+
+use crate::piece_totals::pieces_len;
+use crate::reduced_head::reduce_head;
+use crate::reduced_lengths::length_left;
+use mp4_boxes::{Memory, Refusal, Steps};
+use mp4_head::{MovieHead, head_bytes, head_len};
+use mp4_present::{MediaLeft, Movie, Without, payloads_left, put_payloads_left};
+use mp4_store::Store;
+use std::alloc::Global;
+use std::sync::ledger::Ledger;
+
+/// The most bytes of `ftyp` and `moov`.
+const MOST_HEAD: u128 = (1 << 30) + 24;
+
+// What is left of the head of a movie, of which this is left of the payloads.
+fn head_left<'a>(
+    alloc: Global,
+    head: MovieHead<'a>,
+    leaving: Without,
+    lefts: &'a Vec<MediaLeft>,
+) -> Result<MovieHead<'a>, Memory>
+    requires { leaving.labels ≡ true → AreMediaLeft leaving head.tracks.items lefts.now.items }
+    ensures movie { IfOk result
+        (λ left. movie_seen left ≡ reduce_movie_head leaving (movie_seen head.entry)) }
+    ensures tracks { IfOk result
+        (λ left. tracks_seen left ≡ map (reduce_track_head leaving) (tracks_seen head.entry)) }
+{
+    let mut left = head;
+    put_payloads_left(alloc, &mut left, leaving, lefts)?;
+    reduce_head(&mut left, leaving);
+    Ok(left)
+}
+
+/// The bytes of `ftyp` and `moov`, where this is the length of the longest track.
+pub(crate) fn head_of(
+    alloc: Global,
+    movie: &Movie,
+    leaving: Without,
+    mehd: u64,
+) -> Result<Vec<u8>, Refusal>
+    ensures head { (file : List ℕ) (tree : FileTree) → IsOpenedAs file movie.now tree
+        → mehd ≡ movie_length (reduce leaving (presentation_of file tree))
+        → IfOk result (λ bytes. bytes.items
+        ≡ head_of_normal (reduce leaving (presentation_of file tree))) }
+    ensures named { IfOk result (λ bytes. IsHeadLeft movie.now leaving bytes.items) }
+    ensures unchanged { (file : List ℕ) (tree : FileTree) → IsOpenedAs file movie.now tree
+        → IfErr result (λ r. r ≡ refusals.StoreChanged → ⊥) }
+    ensures refusal { IfErr result RefusesMemory }
+{
+    let read = movie.head(alloc)?;
+    let lefts = payloads_left(alloc, leaving, read.tracks.as_slice())?;
+    let head = head_left(alloc, read, leaving, &lefts)?;
+    if head_len(&head) > MOST_HEAD {
+        return Err(Refusal::StoreChanged);
+    }
+    Ok(head_bytes(alloc, &head, mehd)?)
+}
+
+/// The length of the normal form of what is left of a movie; a fault where a track is too long
+/// without its edits.
+pub fn reduced_len<S: Store, L: Ledger, M: Ledger>(
+    alloc: Global,
+    movie: &Movie,
+    store: &mut S,
+    leaving: Without,
+    steps: &mut Steps<L>,
+    looks: &mut Steps<M>,
+) -> Result<u64, Refusal>
+    ensures store { OnlyReads S.Store store.old store.new result }
+    ensures length { OverOpened S.Store store.old movie.now (λ file tree.
+        IfOk result (λ len. len ≡ length (normal (reduce leaving (presentation_of file tree))))) }
+    ensures in_time { OverOpened S.Store store.old movie.now
+        (λ file tree. OnOk result (ReducesInTime leaving (presentation_of file tree))) }
+    ensures fault { OverOpened S.Store store.old movie.now
+        (λ file tree. IfErr result (NamesLong leaving file tree)) }
+    ensures unchanged { OverOpened S.Store store.old movie.now (λ file tree. IsUnchanged result) }
+    ensures refusal { Refused S.Store store.old store.new result (RefusesLeft leaving) }
+    ensures grows { OnOk result (steps.old ≤ steps.new) }
+    ensures work { OverOpened S.Store store.old movie.now
+        (λ file tree. steps.new ≤ steps.old + walks_steps tree) }
+    ensures turns { looks.new ≤ looks.old + movie_turns movie.now }
+{
+    length_left(alloc, movie, leaving)?;
+    let len = pieces_len(alloc, movie, store, leaving, steps, looks)?;
+    let read = movie.head(alloc)?;
+    let lefts = payloads_left(alloc, leaving, read.tracks.as_slice())?;
+    let head = head_left(alloc, read, leaving, &lefts)?;
+    Ok(len.saturating_add(head_len(&head).min(MOST_HEAD) as u64))
+}
+
+/// The length of the normal form of a movie.
+pub fn normal_len<S: Store, L: Ledger, M: Ledger>(
+    alloc: Global,
+    movie: &Movie,
+    store: &mut S,
+    steps: &mut Steps<L>,
+    looks: &mut Steps<M>,
+) -> Result<u64, Refusal>
+    ensures store { OnlyReads S.Store store.old store.new result }
+    ensures length { OverOpened S.Store store.old movie.now (λ file tree.
+        IfOk result (λ len. len ≡ length (normal (presentation_of file tree)))) }
+    ensures unchanged { OverOpened S.Store store.old movie.now (λ file tree. IsUnchanged result) }
+    ensures refusal { Refused S.Store store.old store.new result RefusesPlan }
+    ensures grows { OnOk result (steps.old ≤ steps.new) }
+    ensures work { OverOpened S.Store store.old movie.now
+        (λ file tree. steps.new ≤ steps.old + walks_steps tree) }
+    ensures turns { looks.new ≤ looks.old + movie_turns movie.now }
+{
+    reduced_len(alloc, movie, store, Without::NOTHING, steps, looks)
+}

@@ -1,0 +1,125 @@
+//! What all pieces of a movie come to: the most samples of one, and the bytes of all.
+ghost use Rattle.std.specs.Prelude.{◌≡◌, ◌+◌, ◌*◌, ◌-◌, ◌^◌, ◌<◌, ◌≤◌, max, min, length, Some, None, IfOk, OnOk};
+ghost use Rattle.mp4_tables.specs.words.Keys.{keys_seen};
+ghost use Rattle.mp4_present.specs.format.Reduced.{reduce};
+ghost use Rattle.mp4_present.specs.declared.without.Without.{Without};
+ghost use Rattle.mp4_present.specs.format.Denotes.{presentation_of};
+ghost use Rattle.mp4_present.specs.words.StoresRead.{IsUnchanged, OnlyReads, Refused};
+ghost use Rattle.mp4_present.specs.words.WalkSteps.{walks_steps};
+ghost use Rattle.mp4_plan.specs.format.Pieces.{pieces};
+ghost use Rattle.mp4_plan.specs.words.MadeWriters.{OverOpened};
+ghost use Rattle.mp4_plan.specs.words.Turns.{movie_turns};
+ghost use Rattle.mp4_plan.specs.words.Writers.{RefusesPlan, ArePiecesLong, longest_piece, planned_length};
+
+use crate::counting::count_turn;
+use crate::due_tracks::DueTracks;
+use crate::first_samples::{first_time, peek_each, walks_of};
+use crate::moof_sizes::sizes_of;
+use crate::planner::Planned;
+use crate::schedule::Schedule;
+use crate::track_pieces::plan_turn;
+use mp4_boxes::{Refusal, Steps};
+use mp4_present::{Movie, Without};
+use mp4_store::Store;
+use mp4_tables::Keys;
+use std::alloc::Global;
+use std::sync::ledger::Ledger;
+
+// The bytes of a piece, as far as 64 bits go: its `moof`, and its `mdat`.
+fn piece_len(planned: &Planned, keys: &Keys) -> u64
+    ensures { result ≡ min (planned_length planned.now (keys_seen keys.now)) (2 ^ 64 - 1) }
+{
+    let header = if planned.bytes < (1 << 32) - 8 { 8 } else { 16 };
+    (sizes_of(planned, keys).moof + header).saturating_add(planned.bytes)
+}
+
+// The length of some pieces and of one more, where it has samples, as far as 64 bits go.
+fn len_with(len: u64, planned: &Planned, keys: &Keys) -> u64
+    ensures none { planned.now.count ≡ 0 → result ≡ len }
+    ensures some { 0 < planned.now.count
+        → result ≡ min (len + planned_length planned.now (keys_seen keys.now)) (2 ^ 64 - 1) }
+{
+    if planned.count == 0 {
+        return len;
+    }
+    len.saturating_add(piece_len(planned, keys))
+}
+
+/// The most samples of a piece of what is left of a movie.
+pub(crate) fn longest_piece<S: Store, L: Ledger, M: Ledger>(
+    alloc: Global,
+    movie: &Movie,
+    store: &mut S,
+    leaving: Without,
+    steps: &mut Steps<L>,
+    looks: &mut Steps<M>,
+) -> Result<u32, Refusal>
+    ensures store { OnlyReads S.Store store.old store.new result }
+    ensures few { IfOk result (λ longest. longest ≤ 2 ^ 24) }
+    ensures longest { OverOpened S.Store store.old movie.now (λ file tree. IfOk result (λ longest.
+        longest ≡ longest_piece (pieces (reduce leaving (presentation_of file tree))))) }
+    ensures unchanged { OverOpened S.Store store.old movie.now (λ file tree. IsUnchanged result) }
+    ensures refusal { Refused S.Store store.old store.new result RefusesPlan }
+    ensures grows { OnOk result (steps.old ≤ steps.new) }
+    ensures work { OverOpened S.Store store.old movie.now
+        (λ file tree. steps.new ≤ steps.old + walks_steps tree) }
+    ensures turns { looks.new ≤ looks.old + movie_turns movie.now }
+{
+    let tracks = movie.tracks();
+    let mut walks = walks_of(alloc, movie)?;
+    let mut nexts = vec![in alloc; None; tracks.len()]?;
+    let mut due = DueTracks::new(alloc, tracks.len())?;
+    let all = walks.as_mut_slice();
+    peek_each(all, nexts.as_mut_slice(), leaving, movie, store, steps)?;
+    let mut schedule = Schedule::new(tracks, first_time(nexts.as_slice()));
+    schedule.begin(tracks, nexts.as_slice(), &mut due);
+    let mut longest: u32 = 0;
+    while let Some(turn) = schedule.turn(tracks, looks) {
+        let walk = &mut walks[turn.track];
+        let next = &mut nexts[turn.track];
+        let count = count_turn(walk, leaving, next, &turn.end, movie, store, steps)?;
+        let sample = *next;
+        longest = longest.max(count);
+        schedule.pass(&turn, count, sample, tracks, &mut due)?;
+    }
+    Ok(longest)
+}
+
+/// The bytes of all pieces of what is left of a movie.
+pub(crate) fn pieces_len<S: Store, L: Ledger, M: Ledger>(
+    alloc: Global,
+    movie: &Movie,
+    store: &mut S,
+    leaving: Without,
+    steps: &mut Steps<L>,
+    looks: &mut Steps<M>,
+) -> Result<u64, Refusal>
+    ensures store { OnlyReads S.Store store.old store.new result }
+    ensures length { OverOpened S.Store store.old movie.now (λ file tree.
+        IfOk result (ArePiecesLong (reduce leaving (presentation_of file tree)))) }
+    ensures unchanged { OverOpened S.Store store.old movie.now (λ file tree. IsUnchanged result) }
+    ensures refusal { Refused S.Store store.old store.new result RefusesPlan }
+    ensures grows { OnOk result (steps.old ≤ steps.new) }
+    ensures work { OverOpened S.Store store.old movie.now
+        (λ file tree. steps.new ≤ steps.old + walks_steps tree) }
+    ensures turns { looks.new ≤ looks.old + movie_turns movie.now }
+{
+    let tracks = movie.tracks();
+    let mut walks = walks_of(alloc, movie)?;
+    let mut nexts = vec![in alloc; None; tracks.len()]?;
+    let mut due = DueTracks::new(alloc, tracks.len())?;
+    let all = walks.as_mut_slice();
+    peek_each(all, nexts.as_mut_slice(), leaving, movie, store, steps)?;
+    let mut schedule = Schedule::new(tracks, first_time(nexts.as_slice()));
+    schedule.begin(tracks, nexts.as_slice(), &mut due);
+    let mut len = 0;
+    while let Some(turn) = schedule.turn(tracks, looks) {
+        let walk = &mut walks[turn.track];
+        let next = &mut nexts[turn.track];
+        let planned = plan_turn(walk, leaving, next, turn.end, movie, store, steps)?;
+        let sample = *next;
+        len = len_with(len, &planned, &tracks[turn.track].keys);
+        schedule.pass(&turn, planned.count, sample, tracks, &mut due)?;
+    }
+    Ok(len)
+}

@@ -1,0 +1,33 @@
+use Rattle.std.proofs.Common.{rules, ◌≡◌, false, refl}
+use Rattle.mp4_head.specs.words.Seen.{kept_seen}
+use Rattle.mp4_present.specs.words.PayloadsLeft.{box_left_seen}
+use Rattle.mp4_present.specs.format.Differences.{box_differences}
+use Rattle.mp4_present.specs.declared.comparing.differences.Entries.TheVariants as lists
+use Rattle.mp4_present.proofs.FieldValues.{lists_seen}
+use Rattle.mp4_present.proofs.WalkCopied.{on_ok}
+use Rattle.mp4_present.proofs.comparing.heads.compare_descriptions.Goals as goal
+
+pub returns-then-not-leaving : goal.returns-then-not-leaving
+returns-then-not-leaving c =
+    let of = c.args.of in
+    let stay : c.args.leaving.labels ≡ false = search rules in
+    on_ok _ _ c.compare_lists.result (λ p.
+    rw stay (rw (
+      c.deref.ensures.value,
+      c.deref-then-not-leaving.ensures.value,
+      lists_seen kept_seen of lists.Descriptions (box_differences of lists.Descriptions) (λ n x y. box_differences of lists.Descriptions n (kept_seen x) (kept_seen y))
+          (λ n x y. refl) c.args.left.now.descriptions.items c.args.right.now.descriptions.items,
+    ) at p)) c.compare_lists.ensures
+
+pub returns : goal.returns
+returns c =
+    let of = c.args.of in
+    on_ok _ _ c.compare_lists-2.result (λ p.
+    rw (
+      c.deref-2.ensures.value,
+      c.deref-3.ensures.value,
+      lists_seen box_left_seen of lists.Descriptions (box_differences of lists.Descriptions) (λ n x y. box_differences of lists.Descriptions n (box_left_seen x) (box_left_seen y))
+          (λ n x y. refl) c.in_ok-own.own.items c.in_ok-other.other.items,
+      c.in_ok-own.ensures,
+      c.in_ok-other.ensures,
+    ) at p) c.compare_lists-2.ensures

@@ -1,4 +1,0 @@
-use Rattle.mp4_present.proofs.fault_details.numbers_in_tables.Goals as goal
-
-pub returns-in-CountMismatch : goal.returns-in-CountMismatch
-returns-in-CountMismatch c = c.counts_in_tables.ensures c.args.file_len

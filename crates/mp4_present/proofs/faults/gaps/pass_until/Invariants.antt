@@ -1,0 +1,34 @@
+use Rattle.std.proofs.Common.{◌≡◌, ◌^◌, ◌≤◌, List, min, length, ℕ, drop}
+use Rattle.std.specs.List.{AllByRecursion}
+use Rattle.mp4_present.specs.words.Movies.{IsWhole}
+use Rattle.mp4_present.specs.words.Outline.{AreMoofsFrom}
+use Rattle.std.specs.Prelude.{IsTrue}
+use Rattle.mp4_boxes.specs.format.Box.{Box}
+use Rattle.mp4_frag.specs.words.Noted.{ids_of}
+use Rattle.mp4_frag.specs.words.States.{HaveRoom}
+use Rattle.mp4_head.specs.format.Tree.{MovieTree}
+use Rattle.mp4_present.specs.words.NumbersTold.{LooksFit}
+use Rattle.mp4_present.specs.words.PassedMoofs.{IsBegun}
+use Rattle.mp4_present.proofs.FragmentPass.{Left}
+use Rattle.mp4_present.proofs.MoofBytes.{MoofsFit}
+use Rattle.mp4_present.proofs.MoofsPassed.{IsUnderWay}
+use Rattle.mp4_present.proofs.faults.gaps.pass_until.Given as goal
+
+-- there is room for more samples, and the `moof`s to come are known
+abbrev pub invariant-loop-top : goal.invariant-loop-top
+invariant-loop-top g l =
+    (next : ℕ) × record {
+      honesty : g.S.Store.is_honest l.store ≡ g.S.Store.is_honest l.fn.store;
+      file : g.S.Store.file l.store ≡ g.S.Store.file l.fn.store;
+      reads : g.S.Store.read_failures l.store ≡ g.S.Store.read_failures l.fn.store;
+      states : HaveRoom l.room l.states;
+      ids : ids_of l.states ≡ ids_of l.fn.states;
+      few : l.room ≤ 2 ^ 24;
+      longest : length l.bytes ≡ l.outline.longest;
+      whole : AllByRecursion (IsWhole (length (g.S.Store.file l.fn.store))) (drop l.top-index l.top-items);
+      to_come : IsTrue (g.S.Store.is_honest l.fn.store) → AreMoofsFrom (g.S.Store.file l.fn.store) next (drop l.top-index l.top-items);
+      left : IsTrue (g.S.Store.is_honest l.fn.store) → Left (g.S.Store.file l.fn.store) next l.outline.longest;
+      so : IsTrue (g.S.Store.is_honest l.fn.store) → (movie : MovieTree) (boxes : List Box) → IsBegun (g.S.Store.file l.fn.store) movie boxes l.fn.states l.fn.room → IsUnderWay (g.S.Store.file l.fn.store) movie boxes next l.outline.longest l.states l.room;
+      looks : IsTrue (g.S.Store.is_honest l.fn.store) → LooksFit (length (g.S.Store.file l.fn.store)) next (min 1 (length l.fn.states)) l.fn.looks l.looks;
+      fit : IsTrue (g.S.Store.is_honest l.fn.store) → MoofsFit (length (g.S.Store.file l.fn.store)) next l.room l.fn.steps l.steps;
+    }

@@ -1,0 +1,94 @@
+use Rattle.std.proofs.Common.{◌≡◌, List, length, rules}
+use Rattle.std.specs.Prelude.{IsTrue}
+use Rattle.mp4_boxes.specs.format.Bytes.{AreBytes}
+use Rattle.mp4_boxes.specs.format.Box.{Box}
+use Rattle.mp4_head.specs.format.Tree.{MovieTree}
+use Rattle.mp4_present.specs.declared.faults.FaultNumbers.{FaultNumbers}
+use Rattle.mp4_present.specs.format.FaultNumbers.{Tells}
+use Rattle.mp4_present.specs.words.PassedMoofs.{IsBegun}
+use Rattle.mp4_present.proofs.Assembled.{begun}
+use Rattle.mp4_present.proofs.FaultGaps.{some_so}
+use Rattle.mp4_present.proofs.GapsTold.{tells_plain}
+use Rattle.mp4_present.proofs.LooksCounted.{looks_open, none_looks}
+use Rattle.mp4_boxes.specs.words.View.{box_seen}
+use Rattle.mp4_present.proofs.Opened.{IsRead, tracks_read}
+use Rattle.mp4_present.proofs.OpeningBytes.{tables_open, moofs_open, none_open}
+use Rattle.mp4_present.proofs.PlainLists.{found_tables}
+use Rattle.mp4_present.proofs.faults.numbers_behind.Goals as goal
+
+pub check_tables-requires : goal.check_tables-requires
+check_tables-requires g c = record {
+  inside = found_tables _ c.in_ok-head.head c.in_ok-head.ensures.head c.in_ok-head.ensures.inside;
+  read = (c.in_ok-head.ensures.head.has.tree.tracks, tracks_read _ c.in_ok-head.head c.in_ok-head.ensures.head);
+}
+
+pub returns-in_err-head-clause-work : goal.returns-in_err-head-clause-work
+returns-in_err-head-clause-work g c = λ told. record { steps = none_open _ _; looks = none_looks _ _ }
+
+pub returns-in_err-plain-clause-work : goal.returns-in_err-plain-clause-work
+returns-in_err-plain-clause-work g c =
+    let honest = g.S.Store.is_honest c.args.store.now in
+    let file = g.S.Store.file c.args.store.now in
+    let outline = c.args.outline.now in
+    let moov = c.args.moov.now in
+    let b = box_seen c.view-view.result in
+    let r : IsRead honest file outline moov b = record { outline = c.requires.outline; is = c.view-view.ensures; fills = c.requires.fills; bytes = c.requires.bytes } in
+    λ told. record { steps = tables_open honest file outline moov b c.in_ok-head.head r c.in_ok-head.ensures.head told _ _ c.in_err-plain.ensures.within; looks = none_looks _ _ }
+
+pub returns-in_err-told-clause-work : goal.returns-in_err-told-clause-work
+returns-in_err-told-clause-work g c =
+    let honest = g.S.Store.is_honest c.args.store.now in
+    let file = g.S.Store.file c.args.store.now in
+    let outline = c.args.outline.now in
+    let moov = c.args.moov.now in
+    let b = box_seen c.view-view.result in
+    let r : IsRead honest file outline moov b = record { outline = c.requires.outline; is = c.view-view.ensures; fills = c.requires.fills; bytes = c.requires.bytes } in
+    let head = c.in_ok-head.head in
+    let says = c.in_ok-head.ensures.head in
+    let many : length c.in_ok-plain.plain.states.items ≡ length head.tracks.items = search rules in
+    λ told.
+    let work = c.in_err-told.ensures.work told in
+    record {
+      steps = moofs_open honest file outline moov b head r says told _ _ _ c.in_ok-plain.ensures.within work.steps;
+      looks = looks_open honest file outline moov b head r says told _ _ (rw many at work.looks);
+    }
+
+pub returns-clause-work : goal.returns-clause-work
+returns-clause-work g c =
+    let honest = g.S.Store.is_honest c.args.store.now in
+    let file = g.S.Store.file c.args.store.now in
+    let outline = c.args.outline.now in
+    let moov = c.args.moov.now in
+    let b = box_seen c.view-view.result in
+    let r : IsRead honest file outline moov b = record { outline = c.requires.outline; is = c.view-view.ensures; fills = c.requires.fills; bytes = c.requires.bytes } in
+    let head = c.in_ok-head.head in
+    let says = c.in_ok-head.ensures.head in
+    let many : length c.in_ok-plain.plain.states.items ≡ length head.tracks.items = search rules in
+    λ told.
+    let work = c.in_ok-told.ensures.work told in
+    record {
+      steps = moofs_open honest file outline moov b head r says told _ _ _ c.in_ok-plain.ensures.within work.steps;
+      looks = looks_open honest file outline moov b head r says told _ _ (rw many at work.looks);
+    }
+
+pub returns-clause-told : goal.returns-clause-told
+returns-clause-told g c =
+    let honest = g.S.Store.is_honest c.args.store.now in
+    let file = g.S.Store.file c.args.store.now in
+    let b = box_seen c.view-view.result in
+    let r : IsRead honest file c.args.outline.now c.args.moov.now b = record { outline = c.requires.outline; is = c.view-view.ensures; fills = c.requires.fills; bytes = c.requires.bytes } in
+    let bytes : AreBytes c.args.moov.now = λ k. search rules in
+    let says = c.in_ok-head.ensures.head in
+    let outline = c.args.outline.now in
+    let moov = c.args.moov.now in
+    let head = c.in_ok-head.head in
+    let plain = c.in_ok-plain.plain in
+    let place = c.args.fault.now.offset in
+    some_so (λ (n : FaultNumbers). IsTrue honest → (m : MovieTree) (boxes : List Box) → IsBegun file m boxes plain.states.items plain.room → Tells file place n)
+    (λ (n : FaultNumbers). IsTrue honest → Tells file place n)
+    c.in_ok-told.told
+    (λ n f told. f told _ _ (begun honest file outline moov b head plain r says bytes _ c.len-2.ensures c.in_ok-plain.ensures.says told))
+    c.in_ok-told.ensures.told
+
+pub returns-in-Some-clause-told : goal.returns-in-Some-clause-told
+returns-in-Some-clause-told g c = λ told. tells_plain (g.S.Store.file c.args.store.now) _ c.args.fault.now.offset c.in-Some.told c.len.ensures c.in-Some.ensures

@@ -1,0 +1,254 @@
+use Rattle.std.proofs.Common.{◌≡◌, rules, min, length, map, refl, sym, ◌∙◌}
+use Rattle.std.specs.Prelude.{ℤ, IsTrue}
+use Rattle.std.proofs.lemmas.Result.{err_from_is_err_and}
+use Rattle.mp4_present.proofs.FragmentPass.{last_moof, left_first, left_next, next_moof, next_whole, stands_behind, top_at}
+use Rattle.mp4_frag.specs.words.OwnTrafs.{own_seen}
+use Rattle.mp4_present.proofs.TrafsNoted.{owns_first, owns_next, all_noted}
+use Rattle.mp4_present.proofs.MoofsPassed.{IsRead, under_way_first, not_read, not_passed, all_passed, next_passed, next_refused}
+use Rattle.mp4_boxes.specs.words.View.{box_seen}
+use Rattle.mp4_present.proofs.ChecksCounted.{steps_first, next_checked, next_stopped, stopped_steps, if_stopped, checks_all, checks_done}
+use Rattle.mp4_present.proofs.WalkWork.{checked_all}
+use Rattle.mp4_present.proofs.LooksCounted.{looks_first, looks_done, next_looked, none_looked, all_looked, next_looks, refused_looks}
+use Rattle.mp4_present.proofs.MoofBytes.{none_fit, next_fits, all_fit, refused_fits}
+use Rattle.mp4_present.proofs.TablesWork.{if_no_fault}
+use Rattle.mp4_present.specs.words.ToOpen.{LooksWithin}
+use Rattle.mp4_present.specs.words.WalkSteps.{ChecksWithin}
+use Rattle.mp4_present.proofs.opening.fragments.pass_fragments.Goals as goal
+
+pub loop-top-init : goal.loop-top-init
+loop-top-init g c =
+    let file = g.S.Store.file c.args.store.now in
+    let outline = c.args.outline.now in (
+      0,
+      record {
+        honesty = refl;
+        file = refl;
+        reads = refl;
+        states = search rules;
+        few = search rules;
+        longest = search rules;
+        whole = rw c.deref-top-items.ensures.value c.requires.whole;
+        to_come = λ told. let o = c.requires.outline told in rw c.deref-top-items.ensures.value o.3.moofs;
+        left = λ told. let o = c.requires.outline told in left_first file o.0 outline o.1 o.3;
+        so = λ told movie boxes b. let o = c.requires.outline told in under_way_first file movie boxes o.0 outline c.args.states.now c.args.room o.1 o.3 b;
+        each = c.requires.rooms.1;
+        ids = refl;
+        own = λ told movie boxes b own. let o = c.requires.outline told in owns_first file movie boxes o.0 outline c.args.states.now c.args.room (map own_seen c.args.own.now) o.1 o.3 b own;
+        work = λ told. steps_first file _;
+        looked = λ told. looks_first file _ _;
+        looks = λ told. none_looked _ _ _ _;
+        fit = λ told. none_fit _ _ _ _ c.requires.room.0;
+      },
+    )
+
+pub returns-in_err-len-clause-refusal : goal.returns-in_err-len-clause-refusal
+returns-in_err-len-clause-refusal g c =
+    let p = err_from_is_err_and c.from_residual.result c.from_residual.ensures.1 in
+    let at = c.loop-top.invariant.0 in
+    let i = c.loop-top.invariant.1 in
+    let file = g.S.Store.file c.args.store.now in
+    let items = c.deref-top-items.result.now in
+    let k = c.loop-top.top-index in
+    let top = top_at items k in
+    let whole = next_whole items k c.loop-top-test.true (length file) i.whole in
+    let coming = λ (told : IsTrue (g.S.Store.is_honest c.args.store.now)). next_moof items k c.loop-top-test.true file at (i.to_come told) in
+    rw (p.1, p.2) (not_read (g.S.Store.is_honest c.args.store.now) file c.args.states.now c.args.room top c.args.outline.now.longest _ _ _ _ (λ told. let l = i.left told in left_next file _ _ top l whole.0 ((coming told).0 l.boxes l.are_from)) (search rules)
+    (rw i.reads at c.in_err-len.ensures.refusal))
+
+pub loop-top-preserved : goal.loop-top-preserved
+loop-top-preserved g c =
+    let at = c.loop-top.invariant.0 in
+    let i = c.loop-top.invariant.1 in
+    let file = g.S.Store.file c.args.store.now in
+    let items = c.deref-top-items.result.now in
+    let k = c.loop-top.top-index in
+    let top = top_at items k in
+    let whole = next_whole items k c.loop-top-test.true (length file) i.whole in
+    let coming = λ (told : IsTrue (g.S.Store.is_honest c.args.store.now)). next_moof items k c.loop-top-test.true file at (i.to_come told) in
+    let many : length c.loop-top.states ≡ length c.args.states.now = search rules in (
+      top.header.end,
+      record {
+        honesty = search rules;
+        file = search rules;
+        reads = search rules;
+        states = search rules;
+        few = search rules;
+        longest = search rules;
+        whole = whole.1;
+        to_come = λ told. (coming told).1;
+        left = λ told. let l = i.left told in (left_next file _ _ top l whole.0 ((coming told).0 l.boxes l.are_from)).left;
+        so = λ told movie boxes b.
+            let u = i.so told movie boxes b in
+            let r : IsRead file top (box_seen c.view-moof.result) c.read_payload.new.room c.in_ok-len.len = record {
+              is = c.view-moof.ensures;
+              fills = c.in_ok-len.ensures.fills.0;
+              within = c.in_ok-len.ensures.fills.1;
+              read = (rw (i.honesty, i.file) at c.in_ok-len.ensures.bytes) told;
+              of_bytes = c.in_ok-len.ensures.room;
+            } in
+            next_passed file movie boxes at c.args.outline.now.longest c.args.states.now c.loop-top.states c.args.room c.loop-top.room b u top whole.0 ((coming told).0 u.left.boxes u.left.are_from)
+            (box_seen c.view-moof.result) c.read_payload.new.room c.in_ok-len.len c.len-file_len.result r c.len-file_len.ensures
+            c.check_moof.new.tracks c.check_moof.new.room c.in_ok-check_moof.ensures.sound c.in_ok-check_moof.ensures.moved;
+        each = search rules;
+        ids = c.in_ok-check_moof.ensures.accepted.kept.ids ∙ i.ids;
+        own = λ told movie boxes b own.
+            let u = i.own told movie boxes b own in
+            let r : IsRead file top (box_seen c.view-moof.result) c.read_payload.new.room c.in_ok-len.len = record {
+              is = c.view-moof.ensures;
+              fills = c.in_ok-len.ensures.fills.0;
+              within = c.in_ok-len.ensures.fills.1;
+              read = (rw (i.honesty, i.file) at c.in_ok-len.ensures.bytes) told;
+              of_bytes = c.in_ok-len.ensures.room;
+            } in
+            owns_next file movie boxes at c.args.outline.now.longest c.args.states.now c.loop-top.states c.args.room c.loop-top.room (map own_seen c.loop-top.own) b u top whole.0 ((coming told).0 u.0.left.boxes u.0.left.are_from)
+            (box_seen c.view-moof.result) c.read_payload.new.room c.in_ok-len.len c.len-file_len.result r c.len-file_len.ensures
+            c.check_moof.new.tracks c.check_moof.new.room (map own_seen c.check_moof.new.own) c.in_ok-check_moof.ensures.sound c.in_ok-check_moof.ensures.moved
+            (λ trexes defaults apart. c.in_ok-check_moof.ensures.own trexes defaults apart (i.each ∙ sym many));
+        work = λ told all h.
+            let u = i.work told all h in
+            let r : IsRead file top (box_seen c.view-moof.result) c.read_payload.new.room c.in_ok-len.len = record {
+              is = c.view-moof.ensures;
+              fills = c.in_ok-len.ensures.fills.0;
+              within = c.in_ok-len.ensures.fills.1;
+              read = (rw (i.honesty, i.file) at c.in_ok-len.ensures.bytes) told;
+              of_bytes = c.in_ok-len.ensures.room;
+            } in
+            let e = c.in_ok-check_moof.ensures in
+            next_checked file at top all whole.0 u.0 u.1.0 ((coming told).0 u.0 u.1.0) (box_seen c.view-moof.result) c.read_payload.new.room c.in_ok-len.len r
+            _ _ _ (checked_all _ _ _ _ _ _ _ (box_seen c.view-moof.result) refl e.moved e.work.cost) u.1.1;
+        looked = λ told all h.
+            let u = i.looked told all h in
+            let r : IsRead file top (box_seen c.view-moof.result) c.read_payload.new.room c.in_ok-len.len = record {
+              is = c.view-moof.ensures;
+              fills = c.in_ok-len.ensures.fills.0;
+              within = c.in_ok-len.ensures.fills.1;
+              read = (rw (i.honesty, i.file) at c.in_ok-len.ensures.bytes) told;
+              of_bytes = c.in_ok-len.ensures.room;
+            } in
+            next_looked file at top all whole.0 u.0 u.1.0 ((coming told).0 u.0 u.1.0) (box_seen c.view-moof.result) c.read_payload.new.room c.in_ok-len.len r
+            (min 1 (length c.args.states.now)) _ _ _ (rw many at c.in_ok-check_moof.ensures.looks.each) u.1.1;
+        looks = λ told.
+            let r : IsRead file top (box_seen c.view-moof.result) c.read_payload.new.room c.in_ok-len.len = record {
+              is = c.view-moof.ensures;
+              fills = c.in_ok-len.ensures.fills.0;
+              within = c.in_ok-len.ensures.fills.1;
+              read = (rw (i.honesty, i.file) at c.in_ok-len.ensures.bytes) told;
+              of_bytes = c.in_ok-len.ensures.room;
+            } in
+            next_looks file at top whole.0 (let l = i.left told in stands_behind file at top l.boxes ((coming told).0 l.boxes l.are_from)) (box_seen c.view-moof.result) c.read_payload.new.room c.in_ok-len.len r
+            (min 1 (length c.args.states.now)) _ _ _ (rw many at c.check_moof.ensures.looks.most) (i.looks told);
+        fit = λ told.
+            let r : IsRead file top (box_seen c.view-moof.result) c.read_payload.new.room c.in_ok-len.len = record {
+              is = c.view-moof.ensures;
+              fills = c.in_ok-len.ensures.fills.0;
+              within = c.in_ok-len.ensures.fills.1;
+              read = (rw (i.honesty, i.file) at c.in_ok-len.ensures.bytes) told;
+              of_bytes = c.in_ok-len.ensures.room;
+            } in
+            next_fits file at top whole.0 (let l = i.left told in stands_behind file at top l.boxes ((coming told).0 l.boxes l.are_from)) (box_seen c.view-moof.result) c.read_payload.new.room c.in_ok-len.len r _ _ _ _ _ c.in_ok-check_moof.ensures.work.within (i.fit told);
+      },
+    )
+
+pub returns-in_err-check_moof-clause-refusal : goal.returns-in_err-check_moof-clause-refusal
+returns-in_err-check_moof-clause-refusal g c =
+    let p = err_from_is_err_and c.from_residual-in_err-check_moof.result c.from_residual-in_err-check_moof.ensures.1 in
+    let at = c.loop-top.invariant.0 in
+    let i = c.loop-top.invariant.1 in
+    let file = g.S.Store.file c.args.store.now in
+    let items = c.deref-top-items.result.now in
+    let k = c.loop-top.top-index in
+    let top = top_at items k in
+    let whole = next_whole items k c.loop-top-test.true (length file) i.whole in
+    let coming = λ (told : IsTrue (g.S.Store.is_honest c.args.store.now)). next_moof items k c.loop-top-test.true file at (i.to_come told) in
+    rw (p.1, p.2) (not_passed (g.S.Store.is_honest c.args.store.now) file c.args.states.now c.loop-top.states c.args.room c.loop-top.room c.len-file_len.result _ _ _ (box_seen c.view-moof.result) c.in_err-check_moof.field-0.0 (λ f fails told movie boxes b.
+    let u = i.so told movie boxes b in
+    let r : IsRead file top (box_seen c.view-moof.result) c.read_payload.new.room c.in_ok-len.len = record {
+      is = c.view-moof.ensures;
+      fills = c.in_ok-len.ensures.fills.0;
+      within = c.in_ok-len.ensures.fills.1;
+      read = (rw (i.honesty, i.file) at c.in_ok-len.ensures.bytes) told;
+      of_bytes = c.in_ok-len.ensures.room;
+    } in
+    next_refused file movie boxes at c.args.outline.now.longest c.args.states.now c.loop-top.states c.args.room c.loop-top.room b u top whole.0 ((coming told).0 u.left.boxes u.left.are_from)
+    (box_seen c.view-moof.result) c.read_payload.new.room c.in_ok-len.len c.len-file_len.result r c.len-file_len.ensures f fails)
+    (c.in_err-check_moof.ensures.refusal))
+
+pub returns-clause-passed : goal.returns-clause-passed
+returns-clause-passed g c = λ told movie boxes b.
+    let at = c.loop-top.invariant.0 in
+    let i = c.loop-top.invariant.1 in
+    let u = i.so told movie boxes b in
+    let file = g.S.Store.file c.args.store.now in
+    all_passed file movie boxes at c.args.outline.now.longest c.loop-top.states c.loop-top.room u (last_moof file at c.deref-top-items.result.now c.loop-top.top-index c.loop-top-test.false (i.to_come told) u.left.boxes u.left.are_from)
+
+pub returns-clause-own : goal.returns-clause-own
+returns-clause-own g c = λ told own movie boxes b.
+    let at = c.loop-top.invariant.0 in
+    let i = c.loop-top.invariant.1 in
+    let u = i.own told movie boxes b own in
+    let file = g.S.Store.file c.args.store.now in
+    all_noted file movie boxes at c.args.outline.now.longest c.loop-top.states c.loop-top.room (map own_seen c.loop-top.own) u (last_moof file at c.deref-top-items.result.now c.loop-top.top-index c.loop-top-test.false (i.to_come told) u.0.left.boxes u.0.left.are_from)
+
+pub returns-clause-work : goal.returns-clause-work
+returns-clause-work g c =
+    λ told. record {
+      work = checks_done _ _ _ _ (c.loop-top.invariant.1.work told);
+      within = all_fit _ _ _ _ _ (c.loop-top.invariant.1.fit told);
+      looks = record { said = looks_done _ _ _ _ _ (c.loop-top.invariant.1.looked told); within = all_looked _ _ _ _ _ (c.loop-top.invariant.1.looks told) };
+    }
+
+pub returns-clause-least : goal.returns-clause-least
+returns-clause-least g c = λ told.
+    let at = c.loop-top.invariant.0 in
+    let i = c.loop-top.invariant.1 in
+    checks_all _ at _ _ (i.work told) (last_moof (g.S.Store.file c.args.store.now) at c.deref-top-items.result.now c.loop-top.top-index c.loop-top-test.false (i.to_come told))
+
+pub returns-in_err-len-clause-work : goal.returns-in_err-len-clause-work
+returns-in_err-len-clause-work g c =
+    λ told. record {
+      work = if_no_fault _ _ (checks_done _ _ _ _ (c.loop-top.invariant.1.work told));
+      within = all_fit _ _ _ _ _ (c.loop-top.invariant.1.fit told);
+      looks = record { said = if_no_fault _ _ (looks_done _ _ _ _ _ (c.loop-top.invariant.1.looked told)); within = all_looked _ _ _ _ _ (c.loop-top.invariant.1.looks told) };
+    }
+
+pub returns-in_err-check_moof-clause-work : goal.returns-in_err-check_moof-clause-work
+returns-in_err-check_moof-clause-work g c =
+    let p = err_from_is_err_and c.from_residual-in_err-check_moof.result c.from_residual-in_err-check_moof.ensures.1 in
+    let at = c.loop-top.invariant.0 in
+    let i = c.loop-top.invariant.1 in
+    let file = g.S.Store.file c.args.store.now in
+    let items = c.deref-top-items.result.now in
+    let k = c.loop-top.top-index in
+    let top = top_at items k in
+    let whole = next_whole items k c.loop-top-test.true (length file) i.whole in
+    let coming = λ (told : IsTrue (g.S.Store.is_honest c.args.store.now)). next_moof items k c.loop-top-test.true file at (i.to_come told) in
+    let many : length c.loop-top.states ≡ length c.args.states.now = search rules in
+    let moof = box_seen c.view-moof.result in
+    let refused = c.in_err-check_moof.ensures.refusal in
+    let stops = c.in_err-check_moof.ensures.stops in
+    rw (p.1, p.2) (λ told.
+    let r : IsRead file top moof c.read_payload.new.room c.in_ok-len.len = record {
+      is = c.view-moof.ensures;
+      fills = c.in_ok-len.ensures.fills.0;
+      within = c.in_ok-len.ensures.fills.1;
+      read = (rw (i.honesty, i.file) at c.in_ok-len.ensures.bytes) told;
+      of_bytes = c.in_ok-len.ensures.room;
+    } in
+    record {
+      work = if_stopped ℤ (Unit {0}) (ChecksWithin file _ _) _ _ _ _ _ moof _ refused stops (λ s all h.
+          let u = i.work told all h in
+          next_stopped file at top all whole.0 u.0 u.1.0 ((coming told).0 u.0 u.1.0) moof c.read_payload.new.room c.in_ok-len.len r
+          _ _ _ (stopped_steps moof _ _ s.checked) u.1.1);
+      within = refused_fits file at top whole.0 (let l = i.left told in stands_behind file at top l.boxes ((coming told).0 l.boxes l.are_from)) moof c.read_payload.new.room c.in_ok-len.len r _ _ _ _ c.check_moof.ensures.work.most (i.fit told);
+      looks = record {
+        said = if_stopped ℤ (Unit {0}) (LooksWithin file _ _ _) _ _ _ _ _ moof _ refused stops (λ s. looks_done file top.header.end _ _ _ (λ all h.
+            let u = i.looked told all h in
+            next_looked file at top all whole.0 u.0 u.1.0 ((coming told).0 u.0 u.1.0) moof c.read_payload.new.room c.in_ok-len.len r
+            (min 1 (length c.args.states.now)) _ _ _ (rw many at s.looked) u.1.1));
+        within = refused_looks file at top whole.0 (let l = i.left told in stands_behind file at top l.boxes ((coming told).0 l.boxes l.are_from)) moof c.read_payload.new.room c.in_ok-len.len r
+            (min 1 (length c.args.states.now)) _ _ _ (rw many at c.check_moof.ensures.looks.most) (i.looks told);
+      };
+    })
+
+pub check_moof-requires-clause-places : goal.check_moof-requires-clause-places
+check_moof-requires-clause-places g c = rw c.loop-top.invariant.1.ids c.requires.places

@@ -1,0 +1,249 @@
+//! Pairs of samples that are the same, passed where both are in hand and the windows show their
+//! bytes.
+ghost use Rattle.std.specs.Prelude.{◌≡◌, ◌<◌, ◌≤◌, [], drop, IsTrue};
+ghost use Rattle.mp4_present.specs.words.Loaded.{left_in_hand, Follows};
+ghost use Rattle.mp4_present.specs.words.Movies.{IsWalkOf};
+ghost use Rattle.mp4_present.specs.words.SamePairs.{indexes_differ, BeginSame, IsSamePair, PassesSame, SaySame};
+ghost use Rattle.mp4_present.specs.declared.comparing.differences.Subject.{Subject};
+
+use crate::comparing::samples::{Pairing, Side, flags_left, index_at};
+use crate::file_window::FileWindow;
+use crate::movie::Movie;
+use crate::walking::loaded::Loaded;
+use mp4_boxes::Steps;
+use mp4_tables::{SampleAt, Samples};
+use std::sync::ledger::Ledger;
+
+// Whether samples with these indexes have the same one at each key.
+#[inline(never)]
+fn have_same_indexes(by: &Pairing, left: [u16; 4], right: [u16; 4]) -> bool
+    ensures { IsTrue result → (of : Subject)
+        → indexes_differ of by.now.keys.items by.now.left left by.now.right right ≡ [] }
+{
+    for k in 0..by.keys.len() {
+        let key = by.keys[k];
+        if index_at(&by.left, left, key) != index_at(&by.right, right, key) {
+            return false;
+        }
+    }
+    true
+}
+
+// Whether two samples say the same, apart from their bytes.
+#[inline(always)]
+fn say_the_same(by: &Pairing, left: &SampleAt, right: &SampleAt) -> bool
+    ensures { IsTrue result → SaySame by.now left.now right.now }
+{
+    if left.duration != right.duration {
+        return false;
+    }
+    if left.cto != right.cto {
+        return false;
+    }
+    if flags_left(by.leaving, left.flags) != flags_left(by.leaving, right.flags) {
+        return false;
+    }
+    if left.description != right.description {
+        return false;
+    }
+    if left.size != right.size {
+        return false;
+    }
+    if by.keys.len() == 0 {
+        return true;
+    }
+    have_same_indexes(by, left.groups, right.groups)
+}
+
+// Whether two samples say the same, and the windows show their bytes, which are the same.
+#[inline(always)]
+fn are_same(
+    by: &Pairing,
+    left: &SampleAt,
+    left_window: &FileWindow,
+    right: &SampleAt,
+    right_window: &FileWindow,
+) -> bool
+    ensures { IsTrue result
+        → IsSamePair by.now left_window.now right_window.now left.now right.now }
+{
+    if !say_the_same(by, left, right) {
+        return false;
+    }
+    left_window.shows_same(left.at, right_window, right.at, left.size as usize)
+}
+
+// Passes pairs of samples that say the same and have the same bytes, as far as the windows show
+// them, so many at most, and says how many these are. Each two kinds of samples have their own
+// loop.
+#[inline(never)]
+fn pass_pairs<C: Samples, D: Samples>(
+    by: &Pairing,
+    left: &mut C,
+    left_window: &FileWindow,
+    right: &mut D,
+    right_window: &FileWindow,
+    most: u32,
+) -> u32
+    ensures most { result ≤ most }
+    ensures same { BeginSame by.now left_window.now right_window.now result (C.rest left.old)
+        (D.rest right.old) }
+    ensures left { C.rest left.new ≡ drop result (C.rest left.old) }
+    ensures right { D.rest right.new ≡ drop result (D.rest right.old) }
+    ensures later { C.follows left.old left.new }
+    ensures right_later { D.follows right.old right.new }
+{
+    let mut passed = 0;
+    while passed < most {
+        let Some(x) = left.peek() else {
+            break;
+        };
+        let Some(y) = right.peek() else {
+            break;
+        };
+        if !are_same(by, &x, left_window, &y, right_window) {
+            break;
+        }
+        left.pass(&x);
+        right.pass(&y);
+        passed += 1;
+    }
+    passed
+}
+
+// The same of what two walks have in hand.
+fn pass_in_hand(
+    by: &Pairing,
+    left: &mut Loaded,
+    left_window: &FileWindow,
+    right: &mut Loaded,
+    right_window: &FileWindow,
+    most: u32,
+) -> u32
+    ensures most { result ≤ most }
+    ensures same { BeginSame by.now left_window.now right_window.now result (left_in_hand left.old)
+        (left_in_hand right.old) }
+    ensures left { left_in_hand left.new ≡ drop result (left_in_hand left.old) }
+    ensures right { left_in_hand right.new ≡ drop result (left_in_hand right.old) }
+    ensures later { Follows left.old left.new }
+    ensures right_later { Follows right.old right.new }
+{
+    match left {
+        Loaded::Tables(x) => match right {
+            Loaded::Tables(y) => pass_pairs(by, x, left_window, y, right_window, most),
+            Loaded::Fragment(y) => pass_pairs(by, x, left_window, y, right_window, most),
+        },
+        Loaded::Fragment(x) => match right {
+            Loaded::Tables(y) => pass_pairs(by, x, left_window, y, right_window, most),
+            Loaded::Fragment(y) => pass_pairs(by, x, left_window, y, right_window, most),
+        },
+    }
+}
+
+// How many pairs are compared one by one before it is tried again to pass some: more and more of
+// them, while none can be passed.
+#[derive(Drop)]
+pub(crate) struct Pause {
+    left: u32,
+    len: u32,
+}
+
+impl Pause {
+    pub(crate) fn new() -> Pause {
+        Pause { left: 0, len: 0 }
+    }
+
+    // Whether it is to be tried now.
+    fn is_over(&mut self) -> bool {
+        if self.left > 0 {
+            self.left -= 1;
+            return false;
+        }
+        true
+    }
+
+    // None were passed.
+    fn begin(&mut self) {
+        self.left = self.len;
+        self.len = self.len.saturating_mul(2).saturating_add(1).min(63);
+    }
+
+    // Some were passed.
+    fn end(&mut self) {
+        self.left = 0;
+        self.len = 0;
+    }
+}
+
+// How many pairs were passed, and whether a side has none left in hand behind these.
+#[derive(Clone, Copy)]
+pub(crate) struct Passed {
+    pub(crate) count: u32,
+    pub(crate) is_used_up: bool,
+}
+
+// Passes the next pairs of samples in hand that are the same, so many at most. Never inlined: what
+// it holds would be made ready where it isn't to be tried, too.
+#[inline(never)]
+fn pass_now<L: Ledger>(
+    by: &Pairing,
+    left: &Movie,
+    left_side: &mut Side,
+    right: &Movie,
+    right_side: &mut Side,
+    most: u32,
+    steps: &mut Steps<L>,
+) -> Passed
+    requires left { IsWalkOf left.now left_side.old.walk }
+    requires right { IsWalkOf right.now right_side.old.walk }
+    ensures most { result.count ≤ most }
+    ensures passed { PassesSame by.now left.now left_side.old left_side.new right.now
+        right_side.old right_side.new result.count steps.old steps.new }
+{
+    let (count, is_used_up, place, other) = {
+        let mut x = left_side.walk.in_hand(left);
+        let mut y = right_side.walk.in_hand(right);
+        let first = &left_side.window;
+        let second = &right_side.window;
+        let count = pass_in_hand(by, &mut x, first, &mut y, second, most);
+        let is_used_up = x.peek().is_none() || y.peek().is_none();
+        (count, is_used_up, x.place(), y.place())
+    };
+    left_side.walk.keep(place, steps);
+    right_side.walk.keep(other, steps);
+    Passed { count, is_used_up }
+}
+
+// The same where the pause is over. A side is used up only where some were passed.
+pub(crate) fn pass_same<L: Ledger>(
+    by: &Pairing,
+    left: &Movie,
+    left_side: &mut Side,
+    right: &Movie,
+    right_side: &mut Side,
+    most: u32,
+    pause: &mut Pause,
+    steps: &mut Steps<L>,
+) -> Passed
+    requires left { IsWalkOf left.now left_side.old.walk }
+    requires right { IsWalkOf right.now right_side.old.walk }
+    ensures most { result.count ≤ most }
+    ensures some { IsTrue result.is_used_up → 0 < result.count }
+    ensures passed { PassesSame by.now left.now left_side.old left_side.new right.now
+        right_side.old right_side.new result.count steps.old steps.new }
+{
+    let none = Passed {
+        count: 0,
+        is_used_up: false,
+    };
+    if !pause.is_over() {
+        return none;
+    }
+    let passed = pass_now(by, left, left_side, right, right_side, most, steps);
+    if passed.count == 0 {
+        pause.begin();
+        return none;
+    }
+    pause.end();
+    passed
+}

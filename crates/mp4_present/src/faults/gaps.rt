@@ -1,0 +1,344 @@
+//! Numbers of a fault in a fragment; and the time that is due where one begins at another (ISO/IEC
+//! 14496-12, 8.8.12).
+ghost use Rattle.std.specs.Prelude.{◌≡◌, ◌+◌, ◌-◌, ◌*◌, ◌^◌, ◌≤◌, ◌==◌, min, length, take, find, IfOk, IfErr, IfSome, OnOk};
+ghost use Rattle.std.specs.List.{AllByRecursion};
+ghost use Rattle.mp4_boxes.specs.format.Bytes.{field};
+ghost use Rattle.mp4_boxes.specs.format.Box.{Box};
+ghost use Rattle.mp4_boxes.specs.words.View.{box_seen};
+ghost use Rattle.mp4_frag.specs.format.Fragments.{decode_time_of};
+ghost use Rattle.mp4_present.specs.format.FaultNumbers.{IsChildOf, SaysTime};
+ghost use Rattle.mp4_frag.specs.words.Finding.{ArePlacesOf};
+ghost use Rattle.mp4_frag.specs.words.Noted.{ids_of};
+ghost use Rattle.mp4_frag.specs.words.States.{HaveRoom};
+ghost use Rattle.mp4_frag.specs.declared.state.TrackState.{TrackState};
+ghost use Rattle.mp4_present.specs.words.NumbersTold.{IsBehind, IsReached, MeetsFault, RefusesSearch};
+ghost use Rattle.mp4_present.specs.words.FaultSearches.{FindsOf, PassesWithin, TellsBehind};
+ghost use Rattle.mp4_present.specs.words.StoresRead.{OnlyReads, RefusedOf, WhereHonest};
+ghost use Rattle.mp4_present.specs.words.Movies.{Fills, IsWhole};
+ghost use Rattle.mp4_present.specs.words.Opening.{HasOutline};
+
+use crate::faults::FaultNumbers;
+use crate::faults::counts::{counts_in_fragment, number_at};
+use crate::faults::places::outside_in_fragment;
+use crate::opening::outline::Outline;
+use crate::opening::tables_pass::PlainTracks;
+use crate::opening::totals::in_64_bits;
+use crate::reading::{TopBox, read_payload};
+use mp4_boxes::{BoxView, Fault, FourCc, Kind, Refusal, Steps, TopHeader, children, u64_at};
+use mp4_frag::{TrackPlaces, TrackState, base_in, check_front, check_moof};
+use mp4_store::Store;
+use std::alloc::Global;
+use std::sync::ledger::Ledger;
+
+pub(crate) const TFHD: FourCc = FourCc(*b"tfhd");
+
+// A `moof`, with the room for samples that is left before it.
+#[derive(Clone, Copy)]
+struct Reached {
+    moof: TopBox,
+    room: u32,
+}
+
+/// The child in which a place of the file lies.
+pub(crate) fn child_at<'a>(view: BoxView<'a>, place: u64) -> Option<BoxView<'a>>
+    ensures { IfSome result (λ b. IsChildOf (box_seen view.entry) (box_seen b)) }
+{
+    let Ok(boxes) = children(view.payload(), view.payload_offset(), view.kind()) else {
+        return None;
+    };
+    for child in boxes {
+        let end = child.payload_offset() + child.payload().len() as u64;
+        if child.offset() <= place && place < end {
+            return Some(child);
+        }
+    }
+    None
+}
+
+/// The first child of a type.
+pub(crate) fn child_of<'a>(view: BoxView<'a>, kind: FourCc) -> Option<BoxView<'a>>
+    ensures child { IfSome result (λ b. IsChildOf (box_seen view.entry) (box_seen b)) }
+    ensures kind { IfSome result (λ b. (box_seen b).kind ≡ kind.0) }
+{
+    let Ok(boxes) = children(view.payload(), view.payload_offset(), view.kind()) else {
+        return None;
+    };
+    for child in boxes {
+        if child.kind() == kind {
+            return Some(child);
+        }
+    }
+    None
+}
+
+// The decode time that a `tfdt` says.
+fn time_in(payload: &[u8]) -> Option<u64>
+    ensures { IfSome result (λ t. t ≡ decode_time_of payload.now) }
+{
+    let short = number_at(payload, 4)?;
+    if payload[0] == 0 {
+        return Some(u64::from(short));
+    }
+    if payload[0] > 1 || payload.len() < 12 {
+        return None;
+    }
+    Some(u64_at(payload, 4))
+}
+
+/// The ID that a `tfhd` says.
+pub(crate) fn track_in(payload: &[u8]) -> Option<u32>
+    ensures { IfSome result (λ id. id ≡ field payload.now 4 4) }
+{
+    number_at(payload, 4)
+}
+
+/// The track with an ID.
+pub(crate) fn state_with(states: &[TrackState], id: u32) -> Option<TrackState>
+    ensures { result ≡ find (λ (t : TrackState). t.id == id) states.now }
+{
+    states.iter().copied().find(|state| state.id == id)
+}
+
+// A `moof` of which these are the bytes behind its header, up to a place in it.
+fn front_of<'a>(top: TopBox, bytes: &'a [u8], place: u64) -> Option<BoxView<'a>>
+    requires { Fills (length bytes.now) top }
+    ensures { IfSome result (λ v. box_seen v ≡ record {
+      kind = top.header.kind.0;
+      offset = top.offset;
+      header = top.header.header;
+      payload = take (place - (top.offset + top.header.header)) bytes.entry.now;
+    }) }
+{
+    let start = top.payload_offset();
+    if place < start || place - start > bytes.len() as u64 {
+        return None;
+    }
+    let header = TopHeader {
+        end: place,
+        ..top.header
+    };
+    let front = TopBox {
+        offset: top.offset,
+        header,
+    };
+    Some(front.view(&bytes[..(place - start) as usize]))
+}
+
+// What a `traf` says of its track, where its `tfdt` stands at a place.
+fn time_in_traf(traf: BoxView, place: u64) -> Option<(u32, u64)>
+    ensures { IfSome result (λ said. (moof : Box)
+        → IsChildOf moof (box_seen traf.entry)
+        → SaysTime moof place (box_seen traf.entry) said.0 said.1) }
+{
+    let tfdt = child_of(traf, FourCc(*b"tfdt"))?;
+    if tfdt.offset() != place {
+        return None;
+    }
+    let found = time_in(tfdt.payload())?;
+    let tfhd = child_of(traf, TFHD)?;
+    let track = track_in(tfhd.payload())?;
+    Some((track, found))
+}
+
+// What is due and what is found where a `tfdt` stands at a place in this `moof`. The tracks are
+// moved on by what comes before its `traf`.
+fn gap_in<L: Ledger, M: Ledger>(
+    reached: Reached,
+    bytes: &[u8],
+    place: u64,
+    file_len: u64,
+    places: &TrackPlaces,
+    states: &mut [TrackState],
+    steps: &mut Steps<L>,
+    looks: &mut Steps<M>,
+) -> Result<Option<FaultNumbers>, Refusal>
+    requires fills { Fills (length bytes.now) reached.moof }
+    requires room { (reached.room ≤ 2 ^ 24) × HaveRoom reached.room states.old }
+    requires places { ArePlacesOf (ids_of states.old) places.now }
+    ensures finds { FindsOf file_len reached.moof bytes.now states.old reached.room place result }
+    ensures work { 2 * steps.new ≤ 2 * steps.old + 2 * reached.room + length bytes.now }
+    ensures looks { 8 * looks.new ≤ 8 * looks.old + min 1 (length states.old) * length bytes.now }
+    ensures refusal { IfErr result MeetsFault }
+{
+    let Reached { moof: top, room } = reached;
+    let Some(traf) = child_at(top.view(bytes), place) else {
+        return Ok(None);
+    };
+    let Some((track, found)) = time_in_traf(traf, place) else {
+        return Ok(None);
+    };
+    let Some(front) = front_of(top, bytes, traf.offset()) else {
+        return Ok(None);
+    };
+    let mut room = room;
+    check_front(front, file_len, places, states, &mut room, steps, looks)?;
+    let Some(state) = state_with(states, track) else {
+        return Ok(None);
+    };
+    let due = in_64_bits(state.time);
+    Ok(Some(FaultNumbers::Gap { track, due, found }))
+}
+
+// The sample that does not lie in the file, of the `trun` at a place in this `moof`. The tracks are
+// moved on by what comes before its `traf`.
+fn outside_in<L: Ledger, M: Ledger>(
+    reached: Reached,
+    bytes: &[u8],
+    place: u64,
+    file_len: u64,
+    places: &TrackPlaces,
+    states: &mut [TrackState],
+    steps: &mut Steps<L>,
+    looks: &mut Steps<M>,
+) -> Result<Option<FaultNumbers>, Refusal>
+    requires fills { Fills (length bytes.now) reached.moof }
+    requires room { (reached.room ≤ 2 ^ 24) × HaveRoom reached.room states.old }
+    requires places { ArePlacesOf (ids_of states.old) places.now }
+    ensures finds { FindsOf file_len reached.moof bytes.now states.old reached.room place result }
+    ensures work { 2 * steps.new ≤ 2 * steps.old + 2 * reached.room + length bytes.now }
+    ensures looks { 8 * looks.new ≤ 8 * looks.old + min 1 (length states.old) * length bytes.now }
+    ensures refusal { IfErr result MeetsFault }
+{
+    let Reached { moof: top, room } = reached;
+    let Some(traf) = child_at(top.view(bytes), place) else {
+        return Ok(None);
+    };
+    let Some(tfhd) = child_of(traf, TFHD) else {
+        return Ok(None);
+    };
+    let Some(front) = front_of(top, bytes, traf.offset()) else {
+        return Ok(None);
+    };
+    let mut room = room;
+    let before = check_front(front, file_len, places, states, &mut room, steps, looks)?;
+    let base = base_in(tfhd, top.offset, before)?;
+    Ok(outside_in_fragment(traf, base, states, file_len))
+}
+
+// What is told of a fault of this kind where the named box stands at a place in this `moof`.
+fn numbers_in_moof<L: Ledger, M: Ledger>(
+    kind: Kind,
+    reached: Reached,
+    bytes: &[u8],
+    place: u64,
+    file_len: u64,
+    places: &TrackPlaces,
+    states: &mut [TrackState],
+    steps: &mut Steps<L>,
+    looks: &mut Steps<M>,
+) -> Result<Option<FaultNumbers>, Refusal>
+    requires fills { Fills (length bytes.now) reached.moof }
+    requires room { (reached.room ≤ 2 ^ 24) × HaveRoom reached.room states.old }
+    requires places { ArePlacesOf (ids_of states.old) places.now }
+    ensures finds { FindsOf file_len reached.moof bytes.now states.old reached.room place result }
+    ensures work { 2 * steps.new ≤ 2 * steps.old + 2 * reached.room + length bytes.now }
+    ensures looks { 8 * looks.new ≤ 8 * looks.old + min 1 (length states.old) * length bytes.now }
+    ensures refusal { IfErr result MeetsFault }
+{
+    match kind {
+        Kind::CountMismatch => Ok(counts_in_fragment(reached.moof.view(bytes), place)),
+        Kind::SampleOutsideFile => {
+            outside_in(
+                reached, bytes, place, file_len, places, states, steps, looks,
+            )
+        }
+        _ => gap_in(
+            reached, bytes, place, file_len, places, states, steps, looks,
+        ),
+    }
+}
+
+// The `moof` in which a place lies, where there is one. The tracks are moved on by those before it.
+fn pass_until<S: Store, L: Ledger, M: Ledger>(
+    store: &mut S,
+    outline: &Outline,
+    places: &TrackPlaces,
+    states: &mut [TrackState],
+    bytes: &mut [u8],
+    room: u32,
+    place: u64,
+    steps: &mut Steps<L>,
+    looks: &mut Steps<M>,
+) -> Result<Option<Reached>, Refusal>
+    requires room { (room ≤ 2 ^ 24) × HaveRoom room states.old }
+    requires places { ArePlacesOf (ids_of states.old) places.now }
+    requires outline { HasOutline (S.is_honest store.old) (S.file store.old) outline.now }
+    requires whole { AllByRecursion (IsWhole (length (S.file store.old))) outline.now.moofs.items }
+    requires longest { length bytes.old ≡ outline.now.longest }
+    ensures store { OnlyReads S.Store store.old store.new result }
+    ensures bytes { length bytes.new ≡ length bytes.old }
+    ensures ids { OnOk result (ids_of states.new ≡ ids_of states.old) }
+    ensures reached { IfOk result (λ found. IfSome found
+        (IsReached (length (S.file store.old)) states.new)) }
+    ensures next { IfOk result (λ found. IfSome found (λ r. WhereHonest S.Store store.old (λ file.
+        IsBehind file states.old room (length bytes.old) r states.new steps.old steps.new
+        looks.old looks.new))) }
+    ensures work { WhereHonest S.Store store.old (λ file. PassesWithin file
+        (min 1 (length states.old)) steps.old steps.new looks.old looks.new) }
+    ensures refusal { RefusedOf S.Store store.old store.new result
+        (λ honest file. RefusesSearch honest) }
+{
+    let file_len = store.len();
+    let mut room = room;
+    for top in &outline.moofs {
+        if place < top.header.end {
+            return Ok(Some(Reached { moof: *top, room }));
+        }
+        let len = read_payload(store, *top, bytes)?;
+        let moof = top.view(&bytes[..len]);
+        check_moof(
+            moof,
+            file_len,
+            places,
+            states,
+            &mut [],
+            &mut room,
+            steps,
+            looks,
+        )?;
+    }
+    Ok(None)
+}
+
+/// Numbers that go with a fault of a `moof`, behind tables that were checked.
+pub(crate) fn numbers_in_fragments<S: Store, L: Ledger, M: Ledger>(
+    alloc: Global,
+    store: &mut S,
+    outline: &Outline,
+    plain: &PlainTracks,
+    fault: &Fault,
+    steps: &mut Steps<L>,
+    looks: &mut Steps<M>,
+) -> Result<Option<FaultNumbers>, Refusal>
+    requires room { (plain.now.room ≤ 2 ^ 24)
+        × HaveRoom plain.now.room plain.now.states.items }
+    requires outline { HasOutline (S.is_honest store.old) (S.file store.old) outline.now }
+    requires whole { AllByRecursion (IsWhole (length (S.file store.old))) outline.now.moofs.items }
+    ensures store { OnlyReads S.Store store.old store.new result }
+    ensures told { TellsBehind S.Store store.old plain.now fault.now.offset result }
+    ensures work { WhereHonest S.Store store.old (λ file. PassesWithin file
+        (min 1 (length plain.now.states.items)) steps.old steps.new looks.old looks.new) }
+    ensures refusal { RefusedOf S.Store store.old store.new result
+        (λ honest file. RefusesSearch honest) }
+{
+    let mut states = Vec::new(alloc);
+    states.extend_from_slice(plain.states.as_slice())?;
+    let places = TrackPlaces::new(alloc, states.as_slice())?;
+    let states = states.as_mut_slice();
+    let mut bytes = vec![in alloc; 0u8; outline.longest as usize]?;
+    let bytes = bytes.as_mut_slice();
+    let place = fault.offset;
+    let Some(reached) = pass_until(
+        store, outline, &places, states, bytes, plain.room, place, steps, looks,
+    )?
+    else {
+        return Ok(None);
+    };
+    let len = read_payload(store, reached.moof, bytes)?;
+    let file_len = store.len();
+    let bytes = &bytes[..len];
+    let told = numbers_in_moof(
+        fault.kind, reached, bytes, place, file_len, &places, states, steps, looks,
+    )?;
+    Ok(told)
+}

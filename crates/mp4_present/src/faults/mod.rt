@@ -1,0 +1,140 @@
+//! Numbers that go with a fault: what a table counts and what there is, which time is due, where a
+//! sample would end.
+ghost use Rattle.std.specs.Prelude.{◌≡◌, length, IfOk, IfErr, IfSome, IsTrue};
+ghost use Rattle.mp4_present.specs.format.FaultNumbers.{Tells};
+ghost use Rattle.mp4_present.specs.words.NumbersTold.{IsPlain, RefusesNumbers, RefusesSearch};
+ghost use Rattle.std.specs.List.{AllByRecursion};
+ghost use Rattle.mp4_present.specs.words.Movies.{Fills, IsWhole};
+ghost use Rattle.mp4_present.specs.words.Opening.{HasOutline};
+ghost use Rattle.mp4_present.specs.words.FaultSearches.{SearchesWithin, TellsOf};
+ghost use Rattle.mp4_present.specs.words.StoresRead.{OnlyReads, RefusedOf, WhereHonest};
+ghost use Rattle.mp4_present.specs.words.ToOpen.{IsPayloadIn};
+ghost use Rattle.mp4_present.specs.format.ByBytes.{OpensWithin, LooksByBytes};
+
+pub mod counts;
+pub mod gaps;
+pub mod places;
+
+use crate::faults::counts::counts_in_tables;
+use crate::faults::gaps::numbers_in_fragments;
+use crate::faults::places::outside_in_tables;
+use crate::opening::outline::{Outline, read_outline};
+use crate::opening::tables_pass::check_tables;
+use crate::reading::read_bytes;
+use mp4_boxes::{Fault, Kind, Refusal, Steps};
+use mp4_head::{MovieHead, read_head};
+use mp4_store::Store;
+use std::alloc::Global;
+use std::sync::ledger::Ledger;
+
+/// Numbers that go with a fault.
+#[derive(Clone, Copy, Debug, PartialEq, Eq)]
+pub enum FaultNumbers {
+    /// The samples of a `traf` of this track begin at the time `found`, where `due` is due: the end
+    /// of the track up to that `traf`, in its timescale.
+    Gap { track: u32, due: u64, found: u64 },
+    /// What the named table counts, and how many samples there are.
+    Counts { counted: u64, wanted: u64 },
+    /// A sample of so many bytes at a place, of which some lie behind the file's last one.
+    Outside { at: u64, size: u32, file_len: u64 },
+}
+
+// The same, where the fault is of a track's tables.
+fn numbers_in_tables(head: &MovieHead, fault: &Fault, file_len: u64) -> Option<FaultNumbers>
+    ensures { IfSome result (IsPlain file_len) }
+{
+    match fault.kind {
+        Kind::CountMismatch => counts_in_tables(head, fault.offset),
+        Kind::SampleOutsideFile => outside_in_tables(head, fault.offset, file_len),
+        _ => None,
+    }
+}
+
+// The same, of a file with this outline and this `moov`; or a fault that comes before what is asked
+// for.
+fn numbers_behind<S: Store, L: Ledger, M: Ledger>(
+    alloc: Global,
+    fault: &Fault,
+    store: &mut S,
+    outline: &Outline,
+    moov: &[u8],
+    steps: &mut Steps<L>,
+    looks: &mut Steps<M>,
+) -> Result<Option<FaultNumbers>, Refusal>
+    requires fills { Fills (length moov.now) outline.now.moov }
+    requires bytes { WhereHonest S.Store store.old (λ file.
+        IsPayloadIn file outline.now moov.now) }
+    requires outline { HasOutline (S.is_honest store.old) (S.file store.old) outline.now }
+    requires whole { AllByRecursion (IsWhole (length (S.file store.old))) outline.now.moofs.items }
+    ensures store { OnlyReads S.Store store.old store.new result }
+    ensures told { TellsOf S.Store store.old fault.now.offset result }
+    ensures work { WhereHonest S.Store store.old (λ file.
+        SearchesWithin file steps.old steps.new looks.old looks.new) }
+    ensures refusal { RefusedOf S.Store store.old store.new result
+        (λ honest file. RefusesSearch honest) }
+{
+    let view = outline.moov.view(moov);
+    let head = read_head(alloc, view)?;
+    if let Some(told) = numbers_in_tables(&head, fault, store.len()) {
+        return Ok(Some(told));
+    }
+    let plain = check_tables(alloc, view, &head, store.len(), steps)?;
+    let told = numbers_in_fragments(alloc, store, outline, &plain, fault, steps, looks)?;
+    Ok(told)
+}
+
+// The same, of a file that is read once more.
+fn numbers_in<S: Store, L: Ledger, M: Ledger>(
+    alloc: Global,
+    fault: &Fault,
+    store: &mut S,
+    steps: &mut Steps<L>,
+    looks: &mut Steps<M>,
+) -> Result<Option<FaultNumbers>, Refusal>
+    ensures store { OnlyReads S.Store store.old store.new result }
+    ensures told { TellsOf S.Store store.old fault.now.offset result }
+    ensures work { WhereHonest S.Store store.old (λ file.
+        SearchesWithin file steps.old steps.new looks.old looks.new) }
+    ensures refusal { RefusedOf S.Store store.old store.new result
+        (λ honest file. RefusesSearch honest) }
+{
+    let outline = read_outline(alloc, store)?;
+    let at = outline.moov.payload_offset();
+    let moov = read_bytes(alloc, store, at, outline.moov.header.end - at)?;
+    let told = numbers_behind(alloc, fault, store, &outline, moov.as_slice(), steps, looks)?;
+    Ok(told)
+}
+
+/// Numbers that go with a fault for which a file was refused, where some are to be had. The file
+/// is read once more, as far as the fault, with no more memory than to open it.
+pub fn fault_numbers<S: Store, L: Ledger, M: Ledger>(
+    alloc: Global,
+    fault: &Fault,
+    store: &mut S,
+    steps: &mut Steps<L>,
+    looks: &mut Steps<M>,
+) -> Result<Option<FaultNumbers>, Refusal>
+    ensures honesty { S.is_honest store.new ≡ S.is_honest store.old }
+    ensures file { S.file store.new ≡ S.file store.old }
+    ensures told { IfOk result (λ told. IfSome told (λ n. IsTrue (S.is_honest store.old)
+        → Tells (S.file store.old) fault.now.offset n)) }
+    ensures within { IsTrue (S.is_honest store.old)
+        → OpensWithin (S.file store.old) steps.old steps.new }
+    ensures looks { IsTrue (S.is_honest store.old)
+        → LooksByBytes (S.file store.old) looks.old looks.new }
+    ensures reads { IfOk result (λ told. IfSome told
+        (λ _. S.read_failures store.new ≡ S.read_failures store.old)) }
+    ensures refusal { IfErr result
+        (RefusesNumbers (S.is_honest store.old) (S.read_failures store.old)
+        (S.read_failures store.new)) }
+{
+    match fault.kind {
+        Kind::Gap | Kind::CountMismatch | Kind::SampleOutsideFile => {}
+        _ => return Ok(None),
+    }
+    match numbers_in(alloc, fault, store, steps, looks) {
+        Ok(told) => Ok(told),
+        Err(Refusal::Fault(_)) => Ok(None),
+        Err(refusal) => Err(refusal),
+    }
+}

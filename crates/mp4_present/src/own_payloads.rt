@@ -1,0 +1,231 @@
+//! What is left of payloads of heads, in memory of its own.
+ghost use Rattle.std.specs.Prelude.{◌≡◌, ◌+◌, ◌<◌, ◌^◌, if◌then◌else◌, true, map, IfOk, OnOk};
+ghost use Rattle.mp4_head.specs.words.Seen.{kept_seen, media_seen, movie_seen, track_seen, tracks_seen};
+ghost use Rattle.mp4_present.specs.format.Reduced.{is_picture, plain_handler, plain_picture, reduce_media, zeroed};
+ghost use Rattle.mp4_present.specs.words.PayloadsLeft.{AreMediaLeft, IsMediaLeft, box_left_seen, without_labels};
+
+use crate::without::Without;
+use mp4_boxes::{FourCc, Memory};
+use mp4_head::{Kept, Media, MovieHead, TrackHead};
+use std::alloc::Global;
+
+/// What is left of a box: its type and its payload.
+#[derive(Drop)]
+pub struct BoxLeft {
+    pub kind: FourCc,
+    pub payload: Vec<u8>,
+}
+
+/// What is left of the payloads of a track's media.
+#[derive(Drop)]
+pub struct MediaLeft {
+    /// The payload of `hdlr`.
+    pub handler: Vec<u8>,
+    /// The entries of `stsd`.
+    pub descriptions: Vec<BoxLeft>,
+}
+
+// Puts zeros in the place of so many bytes, from a place on, as far as there are some.
+fn put_zeros(bytes: &mut [u8], from: usize, count: usize)
+    requires { from + count < 2 ^ 32 }
+    ensures { bytes.new ≡ zeroed from count bytes.old }
+{
+    let mut done = 0;
+    while done < count && from + done < bytes.len() {
+        bytes[from + done] = 0;
+        done += 1;
+    }
+}
+
+// A copy of some bytes.
+fn copied(alloc: Global, bytes: &[u8]) -> Result<Vec<u8>, Memory>
+    ensures { IfOk result (λ copy. copy.items ≡ bytes.now) }
+{
+    let mut copy = Vec::new(alloc);
+    copy.extend_from_slice(bytes).map_err(|_| Memory)?;
+    Ok(copy)
+}
+
+// The payload of `hdlr` without its name, and with zeros in what is reserved.
+fn plain_handler(alloc: Global, payload: &[u8]) -> Result<Vec<u8>, Memory>
+    ensures { IfOk result (λ plain. plain.items ≡ plain_handler payload.now) }
+{
+    let mut plain = copied(alloc, &payload[..payload.len().min(24)])?;
+    put_zeros(plain.as_mut_slice(), 12, 12);
+    put_zeros(plain.as_mut_slice(), 4, 4);
+    Ok(plain)
+}
+
+/// What is left of the payload of `hdlr`.
+pub(crate) fn handler_left(
+    alloc: Global,
+    leaving: Without,
+    payload: &[u8],
+) -> Result<Vec<u8>, Memory>
+    ensures { IfOk result (λ left. left.items
+        ≡ (if leaving.labels then plain_handler payload.now else payload.now)) }
+{
+    if leaving.labels {
+        plain_handler(alloc, payload)
+    } else {
+        copied(alloc, payload)
+    }
+}
+
+// Whether a handler is that of pictures.
+fn is_picture(handler: &[u8]) -> bool
+    ensures { result ≡ is_picture handler.now }
+{
+    handler.len() >= 12 && &handler[8..12] == b"vide".as_slice()
+}
+
+// A copy of a sample description.
+fn copied_box(alloc: Global, kept: &Kept) -> Result<BoxLeft, Memory>
+    ensures { IfOk result (λ copy. box_left_seen copy ≡ kept_seen kept.now) }
+{
+    Ok(BoxLeft {
+        kind: kept.kind,
+        payload: copied(alloc, kept.payload)?,
+    })
+}
+
+// A copy of a sample description of pictures without the name of a compressor.
+fn plain_picture(alloc: Global, kept: &Kept) -> Result<BoxLeft, Memory>
+    ensures { IfOk result (λ plain. box_left_seen plain ≡ plain_picture (kept_seen kept.now)) }
+{
+    let mut plain = copied_box(alloc, kept)?;
+    if plain.payload.len() >= 78 {
+        put_zeros(plain.payload.as_mut_slice(), 42, 32);
+    }
+    Ok(plain)
+}
+
+// What is left of a sample description, which is to be plain or is not.
+fn description_left(alloc: Global, is_plain: bool, kept: &Kept) -> Result<BoxLeft, Memory>
+    ensures { IfOk result (λ left. box_left_seen left
+        ≡ (if is_plain then plain_picture (kept_seen kept.now) else kept_seen kept.now)) }
+{
+    if is_plain {
+        plain_picture(alloc, kept)
+    } else {
+        copied_box(alloc, kept)
+    }
+}
+
+/// What is left of the sample descriptions of a track.
+pub(crate) fn descriptions_left(
+    alloc: Global,
+    leaving: Without,
+    media: &Media,
+) -> Result<Vec<BoxLeft>, Memory>
+    ensures { IfOk result (λ left. map box_left_seen left.items
+        ≡ (reduce_media leaving (media_seen media.now)).descriptions) }
+{
+    let is_plain = leaving.labels && is_picture(media.handler);
+    let mut left = Vec::new(alloc);
+    for k in 0..media.descriptions.len() {
+        let one = description_left(alloc, is_plain, &media.descriptions[k])?;
+        left.push(one).map_err(|_| Memory)?;
+    }
+    Ok(left)
+}
+
+// What is left of the payloads of a track's media.
+fn media_left(alloc: Global, leaving: Without, media: &Media) -> Result<MediaLeft, Memory>
+    ensures { IfOk result (IsMediaLeft leaving (media_seen media.now)) }
+{
+    Ok(MediaLeft {
+        handler: handler_left(alloc, leaving, media.handler)?,
+        descriptions: descriptions_left(alloc, leaving, media)?,
+    })
+}
+
+/// What is left of the payloads of each track's media; nothing where all of them stay.
+pub fn payloads_left(
+    alloc: Global,
+    leaving: Without,
+    tracks: &[TrackHead],
+) -> Result<Vec<MediaLeft>, Memory>
+    ensures { IfOk result (λ lefts. leaving.labels ≡ true
+        → AreMediaLeft leaving tracks.now lefts.items) }
+{
+    let mut lefts = Vec::new(alloc);
+    if leaving.labels {
+        for k in 0..tracks.len() {
+            let left = media_left(alloc, leaving, &tracks[k].media)?;
+            lefts.push(left).map_err(|_| Memory)?;
+        }
+    }
+    Ok(lefts)
+}
+
+// A box that is left, as one that is kept.
+fn as_kept<'a>(left: &'a BoxLeft) -> Kept<'a>
+    ensures { kept_seen result ≡ box_left_seen left.now }
+{
+    Kept {
+        kind: left.kind,
+        payload: left.payload.as_slice(),
+    }
+}
+
+// The boxes that are left.
+fn boxes_left<'a>(alloc: Global, boxes: &'a Vec<BoxLeft>) -> Result<Vec<Kept<'a>>, Memory>
+    ensures { IfOk result (λ left. map kept_seen left.items ≡ map box_left_seen boxes.now.items) }
+{
+    let mut left = Vec::new(alloc);
+    for k in 0..boxes.len() {
+        let one = as_kept(&boxes[k]);
+        left.push(one).map_err(|_| Memory)?;
+    }
+    Ok(left)
+}
+
+// Puts what is left of the payloads of a track's media into its head.
+fn put_media_left<'a>(
+    alloc: Global,
+    track: &mut TrackHead<'a>,
+    left: &'a MediaLeft,
+) -> Result<(), Memory>
+    ensures { (l : Without) → IsMediaLeft l (media_seen track.old.media) left.now
+        → OnOk result (track_seen track.new ≡ without_labels l (track_seen track.old)) }
+{
+    track.media.handler = left.handler.as_slice();
+    track.media.descriptions = boxes_left(alloc, &left.descriptions)?;
+    Ok(())
+}
+
+// Puts what is left of the payloads of each track's media into its head.
+fn put_tracks_left<'a>(
+    alloc: Global,
+    tracks: &mut Vec<TrackHead<'a>>,
+    leaving: Without,
+    lefts: &'a [MediaLeft],
+) -> Result<(), Memory>
+    requires { AreMediaLeft leaving tracks.old.items lefts.now }
+    ensures { OnOk result (map track_seen tracks.new.items
+        ≡ map (without_labels leaving) (map track_seen tracks.old.items)) }
+{
+    for k in 0..tracks.len().min(lefts.len()) {
+        put_media_left(alloc, &mut tracks[k], &lefts[k])?;
+    }
+    Ok(())
+}
+
+/// Puts what is left of payloads into a head, where they don't all stay.
+pub fn put_payloads_left<'a>(
+    alloc: Global,
+    head: &mut MovieHead<'a>,
+    leaving: Without,
+    lefts: &'a Vec<MediaLeft>,
+) -> Result<(), Memory>
+    requires { leaving.labels ≡ true → AreMediaLeft leaving head.old.tracks.items lefts.now.items }
+    ensures movie { OnOk result (movie_seen head.new ≡ movie_seen head.old) }
+    ensures tracks { OnOk result (tracks_seen head.new
+        ≡ map (without_labels leaving) (tracks_seen head.old)) }
+{
+    if leaving.labels {
+        put_tracks_left(alloc, &mut head.tracks, leaving, lefts.as_slice())?;
+    }
+    Ok(())
+}

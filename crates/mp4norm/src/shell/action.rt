@@ -1,0 +1,173 @@
+//! What the words behind the program's name can ask for.
+use crate::commands::box_names::Name;
+use crate::commands::compare::Listing;
+use mp4_present::Without;
+use std::alloc::AllocError;
+
+/// How the samples of a track are listed: a line each, the same behind the names of the columns, or
+/// an object of JSON each.
+#[derive(Clone, Copy)]
+pub enum Form {
+    Plain,
+    Named,
+    Json,
+}
+
+/// How an answer is written: as lines for people, or as an object of JSON a line.
+#[derive(Clone, Copy)]
+pub enum Syntax {
+    Text,
+    Json,
+}
+
+/// What is done over a file.
+#[derive(Clone, Copy)]
+pub enum Job<'a> {
+    Boxes { syntax: Syntax },
+    Show,
+    Samples { track: u32, form: Form },
+    Extract { track: u32 },
+    Normalise,
+    /// The normal form of what is left.
+    Reduce { leaving: Without },
+    /// The text of what is left.
+    Print { leaving: Without },
+    Strip { names: &'a [Name] },
+}
+
+/// What is read: standard input, the file of this name, or those that a list names, one after the
+/// other; of a list the word, with the `@` before it.
+#[derive(Clone, Copy)]
+pub enum Input<'a> {
+    Standard,
+    File { name: &'a str },
+    List { word: &'a str },
+}
+
+impl<'a> Input<'a> {
+    /// The word that names it.
+    pub(crate) fn name(&self) -> &'a str {
+        match self {
+            Input::Standard => "-",
+            Input::File { name } => name,
+            Input::List { word } => word,
+        }
+    }
+}
+
+/// Where the answer goes: to standard output, to a new file of this name, or to one that takes the
+/// place of what is there.
+#[derive(Clone, Copy)]
+pub enum Target<'a> {
+    Standard,
+    New { name: &'a str },
+    Replaced { name: &'a str },
+}
+
+impl<'a> Target<'a> {
+    /// The word that names it.
+    pub(crate) fn name(&self) -> &'a str {
+        match self {
+            Target::Standard => "-",
+            Target::New { name } | Target::Replaced { name } => name,
+        }
+    }
+}
+
+/// What is said on standard error beside the answer: what is wrong, in more words; no more than a
+/// line of it, also on a terminal; and how far the job has come.
+#[derive(Clone, Copy)]
+pub struct Telling {
+    pub explain: bool,
+    pub brief: bool,
+    pub progress: bool,
+}
+
+impl Telling {
+    /// Nothing but the line of a refusal or failure, and on a terminal the cause of a failure.
+    pub const NOTHING: Telling = Telling {
+        explain: false,
+        brief: false,
+        progress: false,
+    };
+}
+
+/// What a job reads, where its answer goes, how many bytes that may have, whether it may be made
+/// where something that a player needs is lost, and what is said beside it.
+#[derive(Clone, Copy)]
+pub struct Order<'a> {
+    pub input: Input<'a>,
+    pub target: Target<'a>,
+    pub most: Option<u64>,
+    pub lossy: bool,
+    pub telling: Telling,
+}
+
+/// How verdicts are written: in which syntax, and with which byte at the end of each.
+#[derive(Clone, Copy)]
+pub struct VerdictStyle {
+    pub syntax: Syntax,
+    pub end: u8,
+}
+
+/// What is found of each of some files: whether it is accepted, or its sum, of what is left of it;
+/// then a line that says of what may stand before all of them.
+#[derive(Clone, Copy)]
+pub enum Finding {
+    Verdict,
+    Sum { leaving: Without, header: bool },
+}
+
+/// Which files are compared, without what, and what is told of it.
+#[derive(Clone, Copy)]
+pub struct Comparison<'a> {
+    pub left: Input<'a>,
+    pub right: Input<'a>,
+    pub leaving: Without,
+    pub listing: Listing,
+    pub telling: Telling,
+}
+
+/// What the words ask for: a job, a copy without the boxes of some names, a comparison of two
+/// files, a verdict on each of some files and of those that a list names, or the sum of each, in a
+/// line that is ended by a line feed or a zero byte; or whether files have the sums of a list.
+#[derive(Drop)]
+pub enum Action<'a> {
+    Check {
+        files: Vec<Input<'a>>,
+        list: Option<Input<'a>>,
+        finding: Finding,
+        style: VerdictStyle,
+        telling: Telling,
+    },
+    CheckSums {
+        list: Input<'a>,
+        quiet: bool,
+        telling: Telling,
+    },
+    Compare(Comparison<'a>),
+    Strip {
+        names: Vec<Name>,
+        order: Order<'a>,
+    },
+    Run {
+        job: Job<'a>,
+        order: Order<'a>,
+    },
+}
+
+/// Why there is nothing to do: a text was asked for, the words are wrong, or there is no memory. Of
+/// wrong words it is said what is wrong, with the words as they are, or as people are shown them.
+#[derive(Drop)]
+pub enum CommandFault {
+    Help(String),
+    Usage(String),
+    Shown(String),
+    Memory,
+}
+
+impl From<AllocError> for CommandFault {
+    fn from(_error: AllocError) -> CommandFault {
+        CommandFault::Memory
+    }
+}

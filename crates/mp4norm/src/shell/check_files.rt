@@ -1,0 +1,285 @@
+//! Many files, judged or summed one after the other.
+use crate::commands::check::check_counted;
+use crate::commands::hash_sink::DIGEST;
+use crate::commands::sum::sum_file;
+use crate::shell::action::{Finding, Input, Syntax, Telling, VerdictStyle};
+use crate::shell::file_names::{push_plain, shown, word_of};
+use crate::shell::input::read_input;
+use crate::shell::reports::{Noted, Report, tell_of};
+use crate::shell::run_command::explain_fault;
+use crate::shell::sources::{MOST_INPUT, Source, open};
+use crate::text::fault_text::{fault_line, status};
+use crate::text::json_text::name_json;
+use crate::text::sum_lines::{push_header, sum_line, sum_object};
+use crate::text::verdicts::{first_name, put_verdict, verdict_status};
+use mp4_boxes::{Refusal, Steps};
+use mp4_store::{IoSink, Sink};
+use std::alloc::{AllocError, Global};
+use std::fs::File;
+use std::sync::ledger::Ledger;
+
+/// What was found of a file: its sum, where that was asked for, or that it is accepted.
+pub(crate) type Found = Result<Option<[u8; DIGEST]>, Refusal>;
+
+/// How files are judged: what is found of each, how it is written, what is said beside that, and
+/// whether the file is named there.
+#[derive(Clone, Copy)]
+pub(crate) struct Manner {
+    finding: Finding,
+    style: VerdictStyle,
+    telling: Telling,
+    is_named: bool,
+}
+
+impl Manner {
+    /// Of these files and this list.
+    pub(crate) fn of(
+        files: &[Input],
+        list: Option<Input>,
+        finding: Finding,
+        style: VerdictStyle,
+        telling: Telling,
+    ) -> Manner {
+        let is_named = files.len() != 1 || list.is_some();
+        Manner {
+            finding,
+            style,
+            telling,
+            is_named,
+        }
+    }
+}
+
+// Finds what is asked for of what is read.
+fn find<L: Ledger, M: Ledger>(
+    alloc: Global,
+    finding: Finding,
+    source: &mut Source,
+    steps: &mut Steps<L>,
+    looks: &mut Steps<M>,
+) -> Found {
+    source.check_parts()?;
+    match finding {
+        Finding::Verdict => {
+            check_counted(alloc, source, steps, looks)?;
+            Ok(None)
+        }
+        Finding::Sum { leaving, .. } => {
+            let digest = sum_file(alloc, source, leaving, steps, looks)?;
+            Ok(Some(digest))
+        }
+    }
+}
+
+// Judges what is read, and explains a fault where that is asked for.
+fn judged<L: Ledger, M: Ledger>(
+    rt: &HostRuntime,
+    input: Input,
+    manner: Manner,
+    report: &mut Report,
+    steps: &mut Steps<L>,
+    looks: &mut Steps<M>,
+) -> Found {
+    let mut source = open(rt, input, report)?;
+    let answer = find(rt.alloc(), manner.finding, &mut source, steps, looks);
+    let answer = source.settled(answer);
+    if let Err(refusal) = &answer {
+        let name = manner.is_named.then_some(input.name());
+        explain_fault(rt, name, refusal, manner.telling, &mut source, steps, looks);
+        if matches!(refusal, Refusal::StoreFailed) {
+            report.concerns_part(rt, &source)?;
+        }
+    }
+    answer
+}
+
+/// Judges what is read, and says why it can't be read.
+pub(crate) fn answer_of<L: Ledger, M: Ledger>(
+    rt: &HostRuntime,
+    input: Input,
+    manner: Manner,
+    steps: &mut Steps<L>,
+    looks: &mut Steps<M>,
+) -> Found {
+    let mut report = Report::new(manner.telling);
+    let answer = judged(rt, input, manner, &mut report, steps, looks);
+    if matches!(answer, Err(Refusal::StoreFailed)) {
+        report.tell_input(rt, input.name());
+    }
+    answer
+}
+
+// Judges a file of a list.
+fn answer_of_listed<L: Ledger, M: Ledger>(
+    rt: &HostRuntime,
+    name: &[u8],
+    manner: Manner,
+    steps: &mut Steps<L>,
+    looks: &mut Steps<M>,
+) -> Found {
+    let word = word_of(rt.alloc(), name)?;
+    let name = word.as_str();
+    answer_of(rt, Input::File { name }, manner, steps, looks)
+}
+
+/// Reads a list whole. It may come through a pipe.
+pub(crate) fn read_list(
+    rt: &HostRuntime,
+    list: Option<Input>,
+    report: &mut Report,
+) -> Result<Vec<u8>, Refusal> {
+    match list {
+        None => Ok(Vec::new(rt.alloc())),
+        Some(Input::Standard) => {
+            let out = &mut rt.reader();
+            read_input(rt.alloc(), &mut Noted { out, report }, MOST_INPUT)
+        }
+        Some(Input::File { name } | Input::List { word: name }) => {
+            let mut file = report.outcome(File::open(rt, name), Refusal::StoreFailed)?;
+            let out = &mut file;
+            read_input(rt.alloc(), &mut Noted { out, report }, MOST_INPUT)
+        }
+    }
+}
+
+// A name as it stands in a verdict: as a string of JSON, as it is where a zero byte ends it, else
+// as people are shown it.
+fn named(alloc: Global, name: &[u8], style: VerdictStyle) -> Result<Vec<u8>, AllocError> {
+    if matches!(style.syntax, Syntax::Json) {
+        return name_json(alloc, name);
+    }
+    if style.end != 0 {
+        return shown(alloc, name);
+    }
+    let mut plain = Vec::new(alloc);
+    push_plain(&mut plain, name)?;
+    Ok(plain)
+}
+
+// Puts the verdict on a file of this name, and gives its status.
+fn put_answer<K: Sink>(
+    alloc: Global,
+    name: &[u8],
+    answer: &Result<(), Refusal>,
+    style: VerdictStyle,
+    sink: &mut K,
+) -> Result<u8, Refusal> {
+    let name = named(alloc, name, style)?;
+    put_verdict(alloc, name.as_slice(), answer, style, sink)?;
+    Ok(verdict_status(answer))
+}
+
+// Puts the sum of a file of this name.
+fn put_sum<K: Sink>(
+    alloc: Global,
+    name: &[u8],
+    digest: &[u8; DIGEST],
+    style: VerdictStyle,
+    sink: &mut K,
+) -> Result<u8, Refusal> {
+    let line = match style.syntax {
+        Syntax::Text => sum_line(alloc, name, digest, style.end)?,
+        Syntax::Json => sum_object(alloc, name, digest, style.end)?,
+    };
+    sink.put(line.as_slice())?;
+    Ok(0)
+}
+
+// Puts what was found of a file of this name, and gives its status. A file that has no sum is told
+// of on standard error, but in JSON.
+fn put_named<K: Sink>(
+    rt: &HostRuntime,
+    name: &[u8],
+    found: &Found,
+    manner: Manner,
+    sink: &mut K,
+) -> Result<u8, Refusal> {
+    let (alloc, style) = (rt.alloc(), manner.style);
+    match (found, manner.finding) {
+        (Ok(Some(digest)), _) => put_sum(alloc, name, digest, style, sink),
+        (Ok(None), _) => put_answer(alloc, name, &Ok(()), style, sink),
+        (Err(refusal), Finding::Sum { .. }) if matches!(style.syntax, Syntax::Text) => {
+            tell_of(rt, name, fault_line(refusal).as_bytes());
+            Ok(status(refusal))
+        }
+        (Err(refusal), _) => put_answer(alloc, name, &Err(*refusal), style, sink),
+    }
+}
+
+// Judges the files of a list, and gives the greatest status.
+fn check_list<K: Sink, L: Ledger, M: Ledger>(
+    rt: &HostRuntime,
+    list: &[u8],
+    manner: Manner,
+    sink: &mut K,
+    steps: &mut Steps<L>,
+    looks: &mut Steps<M>,
+) -> Result<u8, Refusal> {
+    let mut worst = 0;
+    let mut left = list;
+    while !left.is_empty() {
+        let (name, rest) = first_name(left);
+        let answer = answer_of_listed(rt, name, manner, steps, looks);
+        worst = put_named(rt, name, &answer, manner, sink)?.max(worst);
+        left = rest;
+    }
+    Ok(worst)
+}
+
+// Judges these files and then those of a list.
+fn check_each<L: Ledger, M: Ledger>(
+    rt: &HostRuntime,
+    files: &[Input],
+    list: &[u8],
+    manner: Manner,
+    report: &mut Report,
+    steps: &mut Steps<L>,
+    looks: &mut Steps<M>,
+) -> Result<u8, Refusal> {
+    let out = &mut rt.stdout();
+    let mut sink = IoSink::new(Noted { out, report });
+    if let Finding::Sum {
+        leaving,
+        header: true,
+    } = manner.finding
+    {
+        let mut header = Vec::new(rt.alloc());
+        push_header(&mut header, leaving)?;
+        sink.put(header.as_slice())?;
+    }
+    let mut worst = 0;
+    for input in files {
+        let answer = answer_of(rt, *input, manner, steps, looks);
+        let name = input.name().as_bytes();
+        worst = put_named(rt, name, &answer, manner, &mut sink)?.max(worst);
+    }
+    Ok(worst.max(check_list(rt, list, manner, &mut sink, steps, looks)?))
+}
+
+/// Judges each of these files and then those of a list, or sums them, puts what is found of each to
+/// standard output, and gives the greatest status. Where the list can't be read, or no verdict be
+/// put, the cause is said.
+pub(crate) fn check_all<L: Ledger, M: Ledger>(
+    rt: &HostRuntime,
+    files: &[Input],
+    list: Option<Input>,
+    manner: Manner,
+    steps: &mut Steps<L>,
+    looks: &mut Steps<M>,
+) -> Result<u8, Refusal> {
+    let mut report = Report::new(manner.telling);
+    let names = match (read_list(rt, list, &mut report), list) {
+        (Ok(names), _) => names,
+        (Err(refusal), Some(list)) if matches!(refusal, Refusal::StoreFailed) => {
+            report.tell_input(rt, list.name());
+            return Err(refusal);
+        }
+        (Err(refusal), _) => return Err(refusal),
+    };
+    let names = names.as_slice();
+    let worst = check_each(rt, files, names, manner, &mut report, steps, looks);
+    if matches!(worst, Err(Refusal::WriteFailed)) {
+        report.tell_output(rt, "-");
+    }
+    worst
+}

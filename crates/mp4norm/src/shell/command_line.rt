@@ -1,0 +1,433 @@
+//! What the words of a command line ask for.
+ghost use Rattle.std.specs.Prelude.{◌≡◌, ◌≤◌, [], IfOk, IfSome, Ok};
+ghost use Rattle.mp4norm.specs.words.Actions.{IsJob, IsAction, boxes_of_input};
+
+use crate::commands::box_names::Name;
+use crate::commands::compare::{Lines, Listing};
+use crate::shell::action::{
+    Action, CommandFault, Comparison, Finding, Form, Input, Job, Order, Syntax, Target, Telling,
+    VerdictStyle,
+};
+use crate::shell::command_table::whole_command;
+use crate::shell::drop_lists::names_of;
+use crate::shell::file_names::shown_word;
+use crate::shell::without_words::leaving_of;
+use clap::error::ErrorKind;
+use clap::{ArgMatches, Error};
+use mp4_present::Without;
+use std::alloc::{AllocError, Global};
+
+// What may be wrong with words that clap accepts.
+const REPLACED_OUTPUT: &str = "the argument '--replace' cannot be used with '--out -'";
+
+const REPLACED_NOTHING: &str = "the argument '--replace' is of use only with '--out <NEW>'";
+
+const TWO_FORMS: &str = "the argument '--header' cannot be used with '--json'";
+
+const BRIEFLY_EXPLAINED: &str = "the argument '--brief' cannot be used with '--explain'";
+
+const LIMIT_ALONE: &str = "the argument '--limit <N>' is of use only with '--all'";
+
+const NO_LIST: &str = "'@' names no list of files; a file of this name is './@'";
+
+const LOSSY_ALONE: &str = "the argument '--lossy' is of use only with '--foreign'";
+
+const QUIET_ALONE: &str = "the argument '--quiet' is of use only with '--check <LIST>'";
+
+const CHECK_ALONE: &str = "\
+the argument '--check <LIST>' can be used only with '--quiet', '--explain' and '--brief'";
+
+const INPUT_TWICE: &str = "standard input ('-') can be read only once";
+
+// The rules of lists of words.
+const DROP_RULE: &str = "\
+each type is four printable characters or eight hexadecimal digits, and not free, or uuid: and a \
+UUID; before a slash only a container whose boxes are listed may stand";
+
+const WITHOUT_RULE: &str = "each word is times, edits, flags, groups, metadata or labels";
+
+/// How many differences are listed where no number is given.
+const LIMIT: u32 = 100;
+
+// The ID of a track; none where it is 0.
+fn track_of(found: &ArgMatches) -> Option<u32>
+    ensures { IfSome result (λ track. 1 ≤ track) }
+{
+    found.get_one::<u32>("track").filter(|track| *track >= 1)
+}
+
+// What a word names that is to be read, and is never a list.
+fn plain_input_of(word: &str) -> Input<'_> {
+    match word {
+        "-" => Input::Standard,
+        name => Input::File { name },
+    }
+}
+
+// What a word names that is to be read.
+fn input_of(word: &str) -> Input<'_> {
+    if word.starts_with('@') {
+        Input::List { word }
+    } else {
+        plain_input_of(word)
+    }
+}
+
+// Where the answer goes: to standard output where no other word is given.
+fn target_of<'a>(found: &ArgMatches<'a>) -> Target<'a> {
+    match found.get_str("out") {
+        None | Some("-") => Target::Standard,
+        Some(name) if found.get_flag("replace") => Target::Replaced { name },
+        Some(name) => Target::New { name },
+    }
+}
+
+// What is said beside the answer.
+fn telling_of(found: &ArgMatches) -> Telling {
+    Telling {
+        explain: found.get_flag("explain"),
+        brief: found.get_flag("brief"),
+        progress: found.get_flag("progress"),
+    }
+}
+
+// What is read, where the answer goes, and what is said beside it.
+fn order_of<'a>(found: &ArgMatches<'a>, file: &'a str) -> Order<'a> {
+    Order {
+        input: input_of(file),
+        target: target_of(found),
+        most: found.get_one::<u64>("max-bytes"),
+        lossy: found.get_flag("lossy"),
+        telling: telling_of(found),
+    }
+}
+
+// In which syntax the answer is asked for.
+fn syntax_of(found: &ArgMatches) -> Syntax {
+    if found.get_flag("json") {
+        Syntax::Json
+    } else {
+        Syntax::Text
+    }
+}
+
+// How samples are listed.
+fn form_of(found: &ArgMatches) -> Form {
+    if found.get_flag("json") {
+        Form::Json
+    } else if found.get_flag("header") {
+        Form::Named
+    } else {
+        Form::Plain
+    }
+}
+
+// Which files are to be judged, or summed.
+fn check_asked<'a>(
+    alloc: Global,
+    found: &ArgMatches<'a>,
+    finding: Finding,
+) -> Result<Action<'a>, AllocError>
+    ensures { IfOk result IsAction }
+{
+    let mut files = Vec::new(alloc);
+    for word in found.get_strs("file").unwrap_or(&[]) {
+        files.push(input_of(word))?;
+    }
+    let list = found.get_str("names-from").map(plain_input_of);
+    let style = VerdictStyle {
+        syntax: syntax_of(found),
+        end: if found.get_flag("zero") { 0 } else { b'\n' },
+    };
+    let telling = telling_of(found);
+    Ok(Action::Check {
+        files,
+        list,
+        finding,
+        style,
+        telling,
+    })
+}
+
+// What is wrong with the words, said as clap does.
+fn usage(alloc: Global, what: &str) -> CommandFault {
+    match format!(in alloc; "error: {what}\n\nFor more information, try '--help'.\n") {
+        Ok(text) => CommandFault::Shown(text),
+        Err(_) => CommandFault::Memory,
+    }
+}
+
+// What is wrong with a list of words, by the rule of such lists.
+fn list_fault(alloc: Global, list: &str, option: &str, rule: &str) -> CommandFault {
+    let Ok(list) = shown_word(alloc, list) else {
+        return CommandFault::Memory;
+    };
+    match format!(in alloc; "invalid value '{list}' for '{option}': {rule}") {
+        Ok(what) => usage(alloc, &what),
+        Err(_) => CommandFault::Memory,
+    }
+}
+
+// A word is missing. clap has seen that none is.
+fn missing(alloc: Global) -> CommandFault {
+    CommandFault::Shown(String::new(alloc))
+}
+
+// The boxes that a list of types names.
+fn listed_names(alloc: Global, list: &str) -> Result<Vec<Name>, CommandFault> {
+    match names_of(alloc, list)? {
+        Some(names) => Ok(names),
+        None => Err(list_fault(alloc, list, "--drop <TYPES>", DROP_RULE)),
+    }
+}
+
+// Which boxes of which file are to be free space.
+fn strip_asked<'a>(alloc: Global, found: &ArgMatches<'a>) -> Result<Action<'a>, CommandFault>
+    ensures { IfOk result IsAction }
+{
+    let mut names = match found.get_str("drop") {
+        Some(list) => listed_names(alloc, list)?,
+        None => Vec::new(alloc),
+    };
+    if found.get_flag("foreign") && names.push(Name::Foreign).is_err() {
+        return Err(CommandFault::Memory);
+    }
+    match found.get_str("file") {
+        Some(file) if !names.is_empty() => {
+            let order = order_of(found, file);
+            Ok(Action::Strip { names, order })
+        }
+        _ => Err(missing(alloc)),
+    }
+}
+
+// What a list of words leaves out.
+fn listed_out(alloc: Global, list: &str) -> Result<Without, CommandFault> {
+    match leaving_of(list) {
+        Some(leaving) => Ok(leaving),
+        None => Err(list_fault(alloc, list, "--without <WORDS>", WITHOUT_RULE)),
+    }
+}
+
+// What is left out; nothing where no words are given.
+fn left_out(alloc: Global, found: &ArgMatches) -> Result<Without, CommandFault> {
+    match found.get_str("without") {
+        Some(list) => listed_out(alloc, list),
+        None => Ok(Without::NOTHING),
+    }
+}
+
+// What is to be done; nothing where a word is missing.
+fn job_of(
+    alloc: Global,
+    name: &str,
+    found: &ArgMatches,
+) -> Result<Option<Job<'static>>, CommandFault>
+    ensures { IfOk result (λ job. IfSome job IsJob) }
+{
+    let job = match (name, track_of(found)) {
+        ("boxes", _) => {
+            let syntax = syntax_of(found);
+            Job::Boxes { syntax }
+        }
+        ("show", _) => Job::Show,
+        ("samples", Some(track)) => {
+            let form = form_of(found);
+            Job::Samples { track, form }
+        }
+        ("extract", Some(track)) => Job::Extract { track },
+        ("print", _) => {
+            let leaving = left_out(alloc, found)?;
+            Job::Print { leaving }
+        }
+        ("normalise", _) => match found.get_str("without") {
+            Some(list) => {
+                let leaving = listed_out(alloc, list)?;
+                Job::Reduce { leaving }
+            }
+            None => Job::Normalise,
+        },
+        _ => return Ok(None),
+    };
+    Ok(Some(job))
+}
+
+// Which job is asked for, over which file.
+fn run_asked<'a>(
+    alloc: Global,
+    name: &str,
+    found: &ArgMatches<'a>,
+) -> Result<Action<'a>, CommandFault>
+    ensures { IfOk result IsAction }
+{
+    let (Some(job), Some(file)) = (job_of(alloc, name, found)?, found.get_str("file")) else {
+        return Err(missing(alloc));
+    };
+    let order = order_of(found, file);
+    Ok(Action::Run { job, order })
+}
+
+// Which files are to be summed, or which list of sums is to be checked.
+fn sum_asked<'a>(alloc: Global, found: &ArgMatches<'a>) -> Result<Action<'a>, CommandFault>
+    ensures { IfOk result IsAction }
+{
+    if let Some(word) = found.get_str("check") {
+        return Ok(Action::CheckSums {
+            list: plain_input_of(word),
+            quiet: found.get_flag("quiet"),
+            telling: telling_of(found),
+        });
+    }
+    let is_plain = !found.get_flag("zero") && !found.get_flag("json");
+    let finding = Finding::Sum {
+        leaving: left_out(alloc, found)?,
+        header: is_plain && !found.get_flag("no-header"),
+    };
+    Ok(check_asked(alloc, found, finding)?)
+}
+
+// How differences are to be told of.
+fn listing_of(found: &ArgMatches) -> Listing {
+    let syntax = syntax_of(found);
+    if !found.get_flag("all") {
+        return Listing::First(syntax);
+    }
+    let limit = found.get_one::<u32>("limit").unwrap_or(LIMIT);
+    Listing::All(Lines { limit, syntax })
+}
+
+// Which files are to be compared, and how.
+fn compare_asked<'a>(alloc: Global, found: &ArgMatches<'a>) -> Result<Action<'a>, CommandFault>
+    ensures { IfOk result IsAction }
+{
+    let (Some(left), Some(right)) = (found.get_str("left"), found.get_str("right")) else {
+        return Err(missing(alloc));
+    };
+    Ok(Action::Compare(Comparison {
+        left: input_of(left),
+        right: input_of(right),
+        leaving: left_out(alloc, found)?,
+        listing: listing_of(found),
+        telling: telling_of(found),
+    }))
+}
+
+// Whether a word names standard input, or a list that is read from there.
+fn is_standard(word: &str) -> bool {
+    word == "-" || word == "@-"
+}
+
+// Whether a word should name a list, and names none.
+fn names_no_list(found: &ArgMatches) -> bool {
+    let files = found.get_strs("file").unwrap_or(&[]);
+    let sides = ["left", "right"];
+    files.iter().any(|file| *file == "@") || sides.iter().any(|it| found.get_str(*it) == Some("@"))
+}
+
+// Whether words say which files are summed, and how; a list of sums says that itself.
+fn says_how_to_sum(found: &ArgMatches) -> bool {
+    let flags = ["zero", "json", "no-header"];
+    found
+        .get_strs("file")
+        .is_some_and(|files| !files.is_empty())
+        || found.get_str("names-from").is_some()
+        || found.get_str("without").is_some()
+        || flags.iter().any(|flag| found.get_flag(*flag))
+}
+
+// How often standard input is named.
+fn inputs_in(found: &ArgMatches) -> usize {
+    let files = found.get_strs("file").unwrap_or(&[]);
+    let named = files.iter().filter(|file| is_standard(file)).count();
+    let sides = ["left", "right"];
+    let more = sides
+        .iter()
+        .filter(|name| found.get_str(*name).is_some_and(is_standard));
+    let list = usize::from(found.get_str("names-from") == Some("-"));
+    named.saturating_add(more.count()).saturating_add(list)
+}
+
+// What is wrong with words that clap accepts.
+fn conflict_in(matches: &ArgMatches) -> Option<&'static str> {
+    let (_, found) = matches.subcommand()?;
+    if found.get_flag("replace") && found.get_str("out") == Some("-") {
+        Some(REPLACED_OUTPUT)
+    } else if found.get_flag("replace") && found.get_str("out").is_none() {
+        Some(REPLACED_NOTHING)
+    } else if found.get_flag("brief") && found.get_flag("explain") {
+        Some(BRIEFLY_EXPLAINED)
+    } else if found.get_flag("header") && found.get_flag("json") {
+        Some(TWO_FORMS)
+    } else if names_no_list(found) {
+        Some(NO_LIST)
+    } else if inputs_in(found) > 1 {
+        Some(INPUT_TWICE)
+    } else if found.get_one::<u32>("limit").is_some() && !found.get_flag("all") {
+        Some(LIMIT_ALONE)
+    } else if found.get_flag("lossy") && !found.get_flag("foreign") {
+        Some(LOSSY_ALONE)
+    } else if found.get_flag("quiet") && found.get_str("check").is_none() {
+        Some(QUIET_ALONE)
+    } else if found.get_str("check").is_some() && says_how_to_sum(found) {
+        Some(CHECK_ALONE)
+    } else {
+        None
+    }
+}
+
+fn fault_of(alloc: Global, error: &Error) -> CommandFault {
+    let Ok(text) = error.to_string(alloc) else {
+        return CommandFault::Memory;
+    };
+    match error.kind() {
+        ErrorKind::OutOfMemory => CommandFault::Memory,
+        ErrorKind::DisplayHelp | ErrorKind::DisplayVersion => CommandFault::Help(text),
+        _ => CommandFault::Usage(text),
+    }
+}
+
+// What the words ask for that clap accepted.
+fn of_matches<'a>(alloc: Global, matches: &ArgMatches<'a>) -> Result<Action<'a>, CommandFault>
+    ensures { IfOk result IsAction }
+{
+    if let Some(text) = conflict_in(matches) {
+        return Err(usage(alloc, text));
+    }
+    let Some((name, found)) = matches.subcommand() else {
+        return Err(missing(alloc));
+    };
+    match name {
+        "check" => Ok(check_asked(alloc, found, Finding::Verdict)?),
+        "sum" => sum_asked(alloc, found),
+        "strip" => strip_asked(alloc, found),
+        "compare" => compare_asked(alloc, found),
+        name => run_asked(alloc, name, found),
+    }
+}
+
+/// What the words behind the program's name ask for: with no words, the boxes of standard input.
+pub fn action<'a>(alloc: Global, words: &'a [String]) -> Result<Action<'a>, CommandFault>
+    ensures none { words.entry.now ≡ [] → result ≡ Ok boxes_of_input }
+    ensures action { IfOk result IsAction }
+{
+    if words.is_empty() {
+        let order = Order {
+            input: Input::Standard,
+            target: Target::Standard,
+            most: None,
+            lossy: false,
+            telling: Telling::NOTHING,
+        };
+        return Ok(Action::Run {
+            job: Job::Boxes {
+                syntax: Syntax::Text,
+            },
+            order,
+        });
+    }
+    let command = whole_command(alloc)?;
+    match command.try_get_matches_from(words) {
+        Ok(matches) => of_matches(alloc, &matches),
+        Err(error) => Err(fault_of(alloc, &error)),
+    }
+}

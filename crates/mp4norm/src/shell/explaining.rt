@@ -1,0 +1,242 @@
+//! What there is to say of a fault besides its line: the way to the box, where the standard tells
+//! of it, what the kind means.
+ghost use Rattle.std.specs.Prelude.{◌≡◌, ◌++◌, OnOk};
+ghost use Rattle.mp4norm.specs.format.Texts.{line_feed};
+
+use crate::commands::box_path::{Way, number_at_top, step_line, way_to};
+use crate::shell::file_names::shown;
+use crate::text::difference_lines::{say, say_counted};
+use mp4_boxes::{Fault, FourCc, Kind, Refusal, Steps};
+use mp4_present::{FaultNumbers, fault_numbers};
+use mp4_store::{Sink, Store};
+use std::alloc::{AllocError, Global};
+use std::sync::ledger::Ledger;
+
+// The clause of ISO/IEC 14496-12 that tells of boxes of this type; that on boxes in general, where
+// no other is read here.
+fn clause_of(kind: FourCc) -> &'static str {
+    match &kind.0 {
+        b"ftyp" => "4.3",
+        b"mdat" => "8.1.1",
+        b"free" | b"skip" => "8.1.2",
+        b"pdin" => "8.1.3",
+        b"moov" => "8.2.1",
+        b"mvhd" => "8.2.2",
+        b"trak" => "8.3.1",
+        b"tkhd" => "8.3.2",
+        b"tref" => "8.3.3",
+        b"mdia" => "8.4.1",
+        b"mdhd" => "8.4.2",
+        b"hdlr" => "8.4.3",
+        b"minf" => "8.4.4",
+        b"vmhd" | b"smhd" | b"hmhd" | b"nmhd" | b"sthd" | b"gmhd" => "8.4.5",
+        b"elng" => "8.4.6",
+        b"stbl" => "8.5.1",
+        b"stsd" => "8.5.2",
+        b"stts" => "8.6.1.2",
+        b"ctts" => "8.6.1.3",
+        b"cslg" => "8.6.1.4",
+        b"stss" => "8.6.2",
+        b"stsh" => "8.6.3",
+        b"sdtp" => "8.6.4",
+        b"edts" => "8.6.5",
+        b"elst" => "8.6.6",
+        b"dinf" => "8.7.1",
+        b"dref" | b"url " | b"urn " => "8.7.2",
+        b"stsz" | b"stz2" => "8.7.3",
+        b"stsc" => "8.7.4",
+        b"stco" | b"co64" => "8.7.5",
+        b"subs" => "8.7.7",
+        b"saiz" => "8.7.8",
+        b"saio" => "8.7.9",
+        b"mvex" => "8.8.1",
+        b"mehd" => "8.8.2",
+        b"trex" => "8.8.3",
+        b"moof" => "8.8.4",
+        b"mfhd" => "8.8.5",
+        b"traf" => "8.8.6",
+        b"tfhd" => "8.8.7",
+        b"trun" => "8.8.8",
+        b"mfra" => "8.8.9",
+        b"tfra" => "8.8.10",
+        b"mfro" => "8.8.11",
+        b"tfdt" => "8.8.12",
+        b"sbgp" => "8.9.2",
+        b"sgpd" => "8.9.3",
+        b"udta" => "8.10.1",
+        b"meta" => "8.11.1",
+        b"sinf" => "8.12.1",
+        b"schm" => "8.12.5",
+        b"styp" => "8.16.2",
+        b"sidx" => "8.16.3",
+        b"prft" => "8.16.5",
+        _ => "4.2",
+    }
+}
+
+// What a kind of fault means.
+fn meaning_of(kind: Kind) -> &'static str {
+    match kind {
+        Kind::ShortHeader => "a box is due, and its header is cut short",
+        Kind::BadSize => "the size is smaller than the header, or is 0 inside a container",
+        Kind::Overrun => "the box ends behind its container",
+        Kind::ShortBox => "the box has no room for its fields or rows",
+        Kind::BoxNotInProfile => "the profile has no such box there; strip can make it free space",
+        Kind::DuplicateBox => "the box is one too many",
+        Kind::MissingBox => "the container lacks a box that the profile wants",
+        Kind::BadVersion => "the box has a version that the profile does not have",
+        Kind::BadFlags => "the box has flags that the profile does not have",
+        Kind::BadValue => "a field has a value that is not allowed",
+        Kind::OutsideData => "the data is not in this file alone",
+        Kind::CountMismatch => "the table counts other than the samples are",
+        Kind::BadOrder => "rows do not rise, or do not begin at 1",
+        Kind::BadDescriptionIndex => "a sample has no description",
+        Kind::SampleOutsideFile => "a sample does not lie in the file",
+        Kind::UnknownTrack => "the fragment is of a track that the movie does not have",
+        Kind::Gap => "the fragment begins at another time than is due",
+        Kind::OffsetTooLarge => "a table of version 0 has an offset of 2^31 or more",
+        Kind::ItemLocation =>
+            "a kept box holds the letters iloc, and so may name places in the file",
+        Kind::TooManySamples => "with this box there are more than 2^24 samples",
+        Kind::TimeTooLarge => "the track ends, or is, too long for its times",
+        Kind::MovieTooLarge => "the normal form would have a moov of more than 2^30 bytes",
+        Kind::FragmentBeforeMovie => "no moov stands before the fragment",
+    }
+}
+
+// Adds a line.
+fn push_line(text: &mut Vec<u8>, label: &[u8], rest: &[u8]) -> Result<(), AllocError>
+    ensures { OnOk result (text.new.items ≡ text.old.items ++ label.now ++ rest.now ++ line_feed) }
+{
+    text.extend_from_slice(label)?;
+    text.extend_from_slice(rest)?;
+    text.extend_from_slice(b"\n")
+}
+
+// The way to the box of a fault, as far as its boxes can be read. Where a header is cut short
+// behind the last of boxes that are counted, the container ends there.
+fn way_read<S: Store>(alloc: Global, store: &mut S, fault: &Fault) -> Result<Way, Refusal>
+    ensures honesty { S.is_honest store.new ≡ S.is_honest store.old }
+    ensures file { S.file store.new ≡ S.file store.old }
+{
+    let way = way_to(alloc, store, fault.offset)?;
+    if fault.kind != Kind::ShortHeader || way.last.0 == fault.box_type || fault.offset == 0 {
+        return Ok(way);
+    }
+    way_to(alloc, store, fault.offset - 1)
+}
+
+// The way to the named box. Where its header can't be read, its type stands at the end.
+fn whole_way<S: Store>(alloc: Global, store: &mut S, fault: &Fault) -> Result<Vec<u8>, Refusal>
+    ensures honesty { S.is_honest store.new ≡ S.is_honest store.old }
+    ensures file { S.file store.new ≡ S.file store.old }
+{
+    let named = FourCc(fault.box_type);
+    let mut text = Vec::new(alloc);
+    if named == FourCc::FILE {
+        text.extend_from_slice(b"file")?;
+        return Ok(text);
+    }
+    let way = way_read(alloc, store, fault)?;
+    text.extend_from_slice(way.text.as_slice())?;
+    if !text.is_empty() && way.last == named {
+        return Ok(text);
+    }
+    let mut number = None;
+    if text.is_empty() {
+        number = number_at_top(store, named, fault.offset);
+    } else {
+        text.extend_from_slice(b" / ")?;
+    }
+    text.extend_from_slice(step_line(named, number).as_bytes())?;
+    Ok(text)
+}
+
+// Numbers that go with a fault; none where another fault stands before it.
+fn numbers_of<S: Store, L: Ledger, M: Ledger>(
+    alloc: Global,
+    store: &mut S,
+    fault: &Fault,
+    steps: &mut Steps<L>,
+    looks: &mut Steps<M>,
+) -> Result<Option<FaultNumbers>, Refusal>
+    ensures honesty { S.is_honest store.new ≡ S.is_honest store.old }
+    ensures file { S.file store.new ≡ S.file store.old }
+{
+    match fault_numbers(alloc, fault, store, steps, looks) {
+        Err(Refusal::Fault(_)) => Ok(None),
+        told => told,
+    }
+}
+
+// Adds the numbers that go with a fault.
+fn say_told(text: &mut Vec<u8>, numbers: FaultNumbers) -> Result<(), AllocError> {
+    say(text, "numbers: ")?;
+    match numbers {
+        FaultNumbers::Gap { track, due, found } => {
+            say_counted(text, "track ", u64::from(track), ": time ")?;
+            say_counted(text, "", found, ", due ")?;
+            say_counted(text, "", due, "\n")
+        }
+        FaultNumbers::Counts { counted, wanted } => {
+            say_counted(text, "counted ", counted, ", samples ")?;
+            say_counted(text, "", wanted, "\n")
+        }
+        FaultNumbers::Outside { at, size, file_len } => {
+            say_counted(text, "sample at ", at, ", size ")?;
+            say_counted(text, "", u64::from(size), ", file ")?;
+            say_counted(text, "", file_len, "\n")
+        }
+    }
+}
+
+// The lines of an explanation, behind the file's name where that is given.
+fn explanation(
+    alloc: Global,
+    name: Option<&str>,
+    fault: &Fault,
+    way: &[u8],
+    numbers: Option<FaultNumbers>,
+) -> Result<Vec<u8>, AllocError> {
+    let mut text = Vec::new(alloc);
+    if let Some(name) = name {
+        push_line(
+            &mut text,
+            b"file: ",
+            shown(alloc, name.as_bytes())?.as_slice(),
+        )?;
+    }
+    push_line(&mut text, b"way: ", way)?;
+    push_line(
+        &mut text,
+        b"clause: ISO/IEC 14496-12, ",
+        clause_of(FourCc(fault.box_type)).as_bytes(),
+    )?;
+    push_line(&mut text, b"meaning: ", meaning_of(fault.kind).as_bytes())?;
+    if let Some(numbers) = numbers {
+        say_told(&mut text, numbers)?;
+    }
+    Ok(text)
+}
+
+/// Puts three lines on a fault of a file: the way to the named box, the clause of the standard that
+/// tells of it, and what the kind means; and a fourth one where numbers go with the fault. Before
+/// them stands the name of the file, where it is given.
+pub(crate) fn explain<S: Store, K: Sink, L: Ledger, M: Ledger>(
+    alloc: Global,
+    name: Option<&str>,
+    fault: &Fault,
+    store: &mut S,
+    sink: &mut K,
+    steps: &mut Steps<L>,
+    looks: &mut Steps<M>,
+) -> Result<(), Refusal>
+    ensures honesty { S.is_honest store.new ≡ S.is_honest store.old }
+    ensures file { S.file store.new ≡ S.file store.old }
+{
+    let way = whole_way(alloc, store, fault)?;
+    let numbers = numbers_of(alloc, store, fault, steps, looks)?;
+    let text = explanation(alloc, name, fault, way.as_slice(), numbers)?;
+    sink.put(text.as_slice())?;
+    Ok(())
+}

@@ -1,0 +1,182 @@
+//! A command from what is read to where its answer goes.
+use crate::commands::answer_len::text_len;
+use crate::commands::box_names::Name;
+use crate::commands::strip::count_named;
+use crate::shell::action::{Job, Order, Target, Telling};
+use crate::shell::explaining::explain;
+use crate::shell::output::{Out, make, write};
+use crate::shell::replacing::replace;
+use crate::shell::reports::Report;
+use crate::shell::sources::{Source, open};
+use crate::text::strip_lines::{count_lines, find_told, refusal_of, warnings};
+use mp4_boxes::{Refusal, Steps};
+use mp4_store::{IoSink, Sink};
+use std::io::Write;
+use std::sync::ledger::Ledger;
+
+/// What is said where nothing is put since something would be lost, with more words.
+const LOSSY: &[u8] = b"strip: with --lossy it is put all the same\n";
+
+// Finds how long the answer gets, where that is asked for, and refuses one that is too long.
+fn measure<'a, L: Ledger, M: Ledger>(
+    rt: &'a HostRuntime,
+    job: Job,
+    source: &mut Source,
+    most: Option<u64>,
+    steps: &mut Steps<L>,
+    looks: &mut Steps<M>,
+    report: &mut Report<'a>,
+) -> Result<(), Refusal> {
+    if most.is_none() && !report.counts() {
+        return Ok(());
+    }
+    let total = text_len(rt.alloc(), job, source, steps, looks);
+    let total = source.settled(total)?;
+    match most {
+        Some(most) if total > most => Err(report.too_long(most)),
+        _ => {
+            report.begin(rt, total);
+            Ok(())
+        }
+    }
+}
+
+// Opens where the answer goes, once it is known that it isn't too long, and does the job.
+fn write_to<'a, L: Ledger, M: Ledger>(
+    rt: &'a HostRuntime,
+    job: Job,
+    source: &mut Source,
+    order: Order,
+    steps: &mut Steps<L>,
+    looks: &mut Steps<M>,
+    report: &mut Report<'a>,
+) -> Result<(), Refusal> {
+    measure(rt, job, source, order.most, steps, looks, report)?;
+    let mut out = match order.target {
+        Target::Standard => Out::Standard(rt.stdout()),
+        Target::New { name } => make(rt, name, report)?,
+        Target::Replaced { name } => return replace(rt, job, source, steps, looks, name, report),
+    };
+    write(rt.alloc(), job, source, &mut out, steps, looks, report)
+}
+
+// Copies a file without the boxes of some names, and says which these are. Where something is lost
+// with those that the profile refuses, nothing is put, but where that is allowed.
+fn strip_and_tell<'a, L: Ledger, M: Ledger>(
+    rt: &'a HostRuntime,
+    names: &[Name],
+    source: &mut Source,
+    order: Order,
+    steps: &mut Steps<L>,
+    looks: &mut Steps<M>,
+    report: &mut Report<'a>,
+) -> Result<(), Refusal> {
+    let alloc = rt.alloc();
+    let counts = count_named(alloc, source, names);
+    let counts = source.settled(counts)?;
+    let found = find_told(alloc, source, names);
+    let found = source.settled(found)?;
+    let warnings = warnings(alloc, names, &found)?;
+    if !order.lossy
+        && let Some(refusal) = refusal_of(&found)
+    {
+        let mut errors = rt.stderr();
+        let _ = errors.write_all(warnings.as_slice());
+        if order.telling.explain {
+            let _ = errors.write_all(LOSSY);
+        }
+        return Err(refusal);
+    }
+    let lines = count_lines(alloc, names, counts.as_slice(), &found)?;
+    let job = Job::Strip { names };
+    write_to(rt, job, source, order, steps, looks, report)?;
+    report.end();
+    let mut errors = rt.stderr();
+    let _ = errors.write_all(warnings.as_slice());
+    let _ = errors.write_all(lines.as_slice());
+    Ok(())
+}
+
+// Does a job.
+fn answer<'a, L: Ledger, M: Ledger>(
+    rt: &'a HostRuntime,
+    job: Job,
+    source: &mut Source,
+    order: Order,
+    steps: &mut Steps<L>,
+    looks: &mut Steps<M>,
+    report: &mut Report<'a>,
+) -> Result<(), Refusal> {
+    match job {
+        Job::Strip { names } => strip_and_tell(rt, names, source, order, steps, looks, report),
+        job => write_to(rt, job, source, order, steps, looks, report),
+    }
+}
+
+// Opens what is read, and does the job. A fault is explained where that is asked for.
+fn open_and_answer<'a, L: Ledger, M: Ledger>(
+    rt: &'a HostRuntime,
+    job: Job,
+    order: Order,
+    steps: &mut Steps<L>,
+    looks: &mut Steps<M>,
+    report: &mut Report<'a>,
+) -> Result<(), Refusal> {
+    let mut source = open(rt, order.input, report)?;
+    let answer = match source.check_parts() {
+        Ok(()) => answer(rt, job, &mut source, order, steps, looks, report),
+        Err(refusal) => source.settled(Err(refusal)),
+    };
+    report.end();
+    if let Err(refusal) = &answer {
+        explain_fault(rt, None, refusal, order.telling, &mut source, steps, looks);
+        if matches!(refusal, Refusal::StoreFailed) {
+            report.concerns_part(rt, &source)?;
+        }
+    }
+    answer
+}
+
+/// Explains a fault on standard error, where that is asked for, behind the file's name if it is
+/// given.
+pub(crate) fn explain_fault<L: Ledger, M: Ledger>(
+    rt: &HostRuntime,
+    name: Option<&str>,
+    refusal: &Refusal,
+    telling: Telling,
+    source: &mut Source,
+    steps: &mut Steps<L>,
+    looks: &mut Steps<M>,
+) {
+    let Refusal::Fault(fault) = refusal else {
+        return;
+    };
+    if telling.explain {
+        let mut errors = IoSink::new(rt.stderr());
+        let part = source.part_text(rt.alloc(), fault.offset);
+        let _ = explain(rt.alloc(), name, fault, source, &mut errors, steps, looks);
+        if let Ok(Some(part)) = part {
+            let _ = errors.put(part.as_slice());
+        }
+    }
+}
+
+/// Does a job from what is read to where its answer goes. What is wrong is explained where that is
+/// asked for: a fault, and which file can't be opened, read or written, with the system's cause.
+/// How far the job has come is said where that is.
+pub(crate) fn run<L: Ledger, M: Ledger>(
+    rt: &HostRuntime,
+    job: Job,
+    order: Order,
+    steps: &mut Steps<L>,
+    looks: &mut Steps<M>,
+) -> Result<(), Refusal> {
+    let mut report = Report::new(order.telling);
+    let answer = open_and_answer(rt, job, order, steps, looks, &mut report);
+    match answer {
+        Err(Refusal::StoreFailed) => report.tell_input(rt, order.input.name()),
+        Err(Refusal::WriteFailed) => report.tell_output(rt, order.target.name()),
+        _ => {}
+    }
+    answer
+}

@@ -1,0 +1,182 @@
+//! Comparing, from the names of two files to what is printed.
+use crate::commands::compare::{Failure, Side, compare_files};
+use crate::shell::action::{Comparison, Input, Telling};
+use crate::shell::file_names::push_shown;
+use crate::shell::reports::{Noted, Report};
+use crate::shell::run_command::explain_fault;
+use crate::shell::sources::{Source, is_of_file, open};
+use crate::text::fault_text::{fault_line, status};
+use mp4_boxes::{Refusal, Steps};
+use mp4_store::IoSink;
+use std::alloc::{AllocError, Global};
+use std::io::Write;
+use std::process::ExitCode;
+use std::sync::ledger::Ledger;
+
+/// The status where two files differ.
+const DIFFER: u8 = 5;
+
+// What comes of a step over the file of this side.
+fn on_side<R>(step: Result<R, Refusal>, side: Side) -> Result<R, Failure> {
+    match step {
+        Ok(result) => Ok(result),
+        Err(refusal) => Err(Failure { side, refusal }),
+    }
+}
+
+// Whether an answer says something of the files, and not of what failed.
+fn is_settled(answer: &Result<bool, Failure>) -> bool {
+    match answer {
+        Ok(_) => true,
+        Err(failure) => is_of_file(&failure.refusal),
+    }
+}
+
+// Opens what is to be read, or says why it can't be.
+fn open_side<'a>(
+    rt: &'a HostRuntime,
+    input: Input,
+    telling: Telling,
+    side: Side,
+) -> Result<Source<'a>, Failure> {
+    let mut report = Report::new(telling);
+    let opened = open(rt, input, &mut report);
+    if matches!(opened, Err(Refusal::StoreFailed)) {
+        report.tell_input(rt, input.name());
+    }
+    on_side(opened, side)
+}
+
+// Says why reading or writing failed, once both files are open.
+fn tell_cause(
+    rt: &HostRuntime,
+    asked: Comparison,
+    failure: &Failure,
+    first: &Source,
+    second: &Source,
+    report: &Report,
+) {
+    let (left, right) = (asked.left.name(), asked.right.name());
+    match (&failure.refusal, failure.side) {
+        (Refusal::StoreFailed, Side::First) => {
+            report.tell_input(rt, first.trouble().unwrap_or(left));
+        }
+        (Refusal::StoreFailed, Side::Second) => {
+            report.tell_input(rt, second.trouble().unwrap_or(right));
+        }
+        (Refusal::StoreFailed, _) => report.tell_either(rt, left, right),
+        (Refusal::WriteFailed, _) => report.tell_output(rt, "-"),
+        _ => {}
+    }
+}
+
+// Goes over the parts of both, where they are lists.
+fn parts_of(first: &mut Source, second: &mut Source) -> Result<(), Failure> {
+    on_side(first.check_parts(), Side::First)?;
+    on_side(second.check_parts(), Side::Second)
+}
+
+// Compares two opened files. Then it looks whether either has changed meanwhile.
+fn answer_of<L: Ledger, M: Ledger>(
+    rt: &HostRuntime,
+    asked: Comparison,
+    first: &mut Source,
+    second: &mut Source,
+    report: &mut Report,
+    steps: &mut Steps<L>,
+    looks: &mut Steps<M>,
+) -> Result<bool, Failure> {
+    let (leaving, listing) = (asked.leaving, asked.listing);
+    let out = &mut rt.stdout();
+    let mut sink = IoSink::new(Noted { out, report });
+    let alloc = rt.alloc();
+    let answer = match parts_of(first, second) {
+        Ok(()) => compare_files(
+            alloc, first, second, leaving, listing, &mut sink, steps, looks,
+        ),
+        Err(failure) => Err(failure),
+    };
+    if is_settled(&answer) {
+        on_side(first.stays(), Side::First)?;
+        on_side(second.stays(), Side::Second)?;
+    }
+    answer
+}
+
+// Opens both, and compares them. What is wrong is explained where that is asked for.
+fn answer<L: Ledger, M: Ledger>(
+    rt: &HostRuntime,
+    asked: Comparison,
+    steps: &mut Steps<L>,
+    looks: &mut Steps<M>,
+) -> Result<bool, Failure> {
+    let (left, right, telling) = (asked.left, asked.right, asked.telling);
+    let mut first = open_side(rt, left, telling, Side::First)?;
+    let mut second = open_side(rt, right, telling, Side::Second)?;
+    let mut report = Report::new(telling);
+    let answer = answer_of(
+        rt,
+        asked,
+        &mut first,
+        &mut second,
+        &mut report,
+        steps,
+        looks,
+    );
+    if let Err(failure) = &answer {
+        let refusal = &failure.refusal;
+        tell_cause(rt, asked, failure, &first, &second, &report);
+        if matches!(failure.side, Side::First) {
+            let name = Some(left.name());
+            explain_fault(rt, name, refusal, telling, &mut first, steps, looks);
+        } else {
+            let name = Some(right.name());
+            explain_fault(rt, name, refusal, telling, &mut second, steps, looks);
+        }
+    }
+    answer
+}
+
+// The names of the files that a failure is about, as people are shown them; both where it is about
+// neither.
+fn names_of(alloc: Global, left: Input, right: Input, side: Side) -> Result<Vec<u8>, AllocError> {
+    let mut text = Vec::new(alloc);
+    if !matches!(side, Side::Second) {
+        push_shown(&mut text, left.name().as_bytes())?;
+    }
+    if matches!(side, Side::Both | Side::Neither) {
+        text.extend_from_slice(b", ")?;
+    }
+    if !matches!(side, Side::First) {
+        push_shown(&mut text, right.name().as_bytes())?;
+    }
+    text.extend_from_slice(b": ")?;
+    Ok(text)
+}
+
+// Says why there is no answer, behind the names of the files that it is about.
+fn tell(rt: &HostRuntime, left: Input, right: Input, failure: Failure) {
+    let mut errors = rt.stderr();
+    if let Ok(names) = names_of(rt.alloc(), left, right, failure.side) {
+        let _ = errors.write_all(names.as_slice());
+    }
+    let _ = errors.write_all(fault_line(&failure.refusal).as_bytes());
+    let _ = errors.write_all(b"\n");
+}
+
+/// Compares two files, prints where they differ, and gives the status.
+pub(crate) fn compare_named<L: Ledger, M: Ledger>(
+    rt: &HostRuntime,
+    asked: Comparison,
+    steps: &mut Steps<L>,
+    looks: &mut Steps<M>,
+) -> ExitCode {
+    match answer(rt, asked, steps, looks) {
+        Ok(true) => ExitCode::SUCCESS,
+        Ok(false) => ExitCode::from(DIFFER),
+        Err(failure) => {
+            tell(rt, asked.left, asked.right, failure);
+            ExitCode::from(status(&failure.refusal))
+        }
+    }
+}

@@ -1,0 +1,159 @@
+//! What a command reads: a file, by place, or standard input, whole.
+
+use crate::shell::action::Input;
+use crate::shell::file_change::Watched;
+use crate::shell::file_names::push_shown;
+use crate::shell::input::read_input;
+use crate::shell::list_sources::{ListSource, open_list};
+use crate::shell::named_files::ListStore;
+use crate::shell::reports::{Noted, Report};
+use crate::text::difference_lines::say_number;
+use mp4_boxes::Refusal;
+use mp4_store::{BufferedStore, FileStore, MemStore, Store, StoreFailed};
+use std::alloc::{AllocError, Global};
+use std::fs::File;
+use std::io::ErrorKind;
+use std::os::unix::fs::FileTypeExt;
+use std::{fs, io};
+
+/// The most bytes that are read of standard input.
+pub(crate) const MOST_INPUT: usize = 1 << 30;
+
+/// What is read: a file, of which nothing is known, or the bytes of standard input. As a store it
+/// is honest where it is standard input: all reads are of the bytes that were read.
+#[derive(Drop)]
+pub(crate) enum Source<'a> {
+    File(BufferedStore<FileStore>, Watched),
+    Input(Vec<u8>),
+    List(ListSource<'a>),
+}
+
+// Opens a regular file or a block device. Whatever else there is can't be read by place, or its
+// length isn't known; its kind is looked at first, since opening a pipe would wait for whoever
+// writes it.
+fn open_file<'a>(rt: &'a HostRuntime, name: &str) -> io::Result<Source<'a>> {
+    let metadata = fs::metadata(rt, name)?;
+    if metadata.is_dir() {
+        return Err(ErrorKind::IsADirectory.into());
+    }
+    if !metadata.is_file() && !metadata.file_type().is_block_device() {
+        return Err(ErrorKind::Unsupported.into());
+    }
+    let file = File::open(rt, name)?;
+    let watched = Watched::new(&file)?;
+    let store = FileStore::new(file)?;
+    let store = BufferedStore::new(rt.alloc(), store)?;
+    Ok(Source::File(store, watched))
+}
+
+/// Opens what is to be read. Standard input is read to its end.
+pub(crate) fn open<'a>(
+    rt: &'a HostRuntime,
+    input: Input,
+    report: &mut Report,
+) -> Result<Source<'a>, Refusal> {
+    match input {
+        Input::Standard => {
+            let mut reader = rt.reader();
+            let out = &mut reader;
+            let bytes = read_input(rt.alloc(), &mut Noted { out, report }, MOST_INPUT)?;
+            Ok(Source::Input(bytes))
+        }
+        Input::File { name } => report.outcome(open_file(rt, name), Refusal::StoreFailed),
+        Input::List { word } => {
+            let list = word.strip_prefix('@').unwrap_or(word);
+            Ok(Source::List(open_list(rt, list, report)?))
+        }
+    }
+}
+
+/// Whether a refusal says something of the file, and not of what failed.
+pub(crate) fn is_of_file(refusal: &Refusal) -> bool {
+    matches!(refusal, Refusal::Fault(_) | Refusal::NoSuchTrack)
+}
+
+impl<'a> Source<'a> {
+    /// Goes over the headers of the file's own boxes where it is of several parts: each part has to
+    /// end with a box.
+    pub(crate) fn check_parts(&mut self) -> Result<(), Refusal> {
+        match self {
+            Source::List(list) => list.check_parts(),
+            _ => Ok(()),
+        }
+    }
+
+    /// The file of a list that could not be read last, where the source is one.
+    pub(crate) fn trouble(&self) -> Option<&str> {
+        match self {
+            Source::List(list) => list.trouble(),
+            _ => None,
+        }
+    }
+
+    /// The line that says in which part a place lies, where there are several.
+    pub(crate) fn part_text(&self, alloc: Global, at: u64) -> Result<Option<Vec<u8>>, AllocError> {
+        let Source::List(list) = self else {
+            return Ok(None);
+        };
+        let Some((name, offset)) = list.part_at(at) else {
+            return Ok(None);
+        };
+        let mut text = Vec::new(alloc);
+        text.extend_from_slice(b"part: ")?;
+        push_shown(&mut text, name)?;
+        text.extend_from_slice(b" at ")?;
+        say_number(&mut text, offset)?;
+        text.extend_from_slice(b"\n")?;
+        Ok(Some(text))
+    }
+
+    /// Whether a file is as it was when it was opened, so far as its length and the times of its
+    /// last change tell.
+    pub(crate) fn stays(&self) -> Result<(), Refusal> {
+        match self {
+            Source::File(_, watched) => watched.stays(),
+            Source::Input(_) => Ok(()),
+            Source::List(list) => list.stays(),
+        }
+    }
+
+    /// An answer that says something of the file, if the file is still as it was; else that it has
+    /// changed. A failure stays as it is.
+    pub(crate) fn settled<T: Drop>(&self, answer: Result<T, Refusal>) -> Result<T, Refusal> {
+        let is_failed_list = matches!(self, Source::List(_))
+            && matches!(answer, Err(Refusal::StoreFailed));
+        if answer.is_ok() || answer.as_ref().is_err_and(is_of_file) || is_failed_list {
+            self.stays()?;
+        }
+        answer
+    }
+}
+
+impl<'a> Store for Source<'a> {
+    ghost use Rattle.mp4norm.specs.words.Sources.{honest_of, file_of, failures_of};
+
+    ghost is_honest = { honest_of ⟦<BufferedStore<FileStore> as Store>⟧
+        ⟦<BufferedStore<ListStore<'a>> as Store>⟧ };
+
+    ghost file = { file_of ⟦<BufferedStore<FileStore> as Store>⟧
+        ⟦<BufferedStore<ListStore<'a>> as Store>⟧ };
+
+    ghost read_failures = { failures_of ⟦<BufferedStore<FileStore> as Store>⟧
+        ⟦<BufferedStore<ListStore<'a>> as Store>⟧ };
+
+    fn len(&self) -> u64 {
+        match self {
+            Source::File(store, _) => store.len(),
+            Source::Input(bytes) => bytes.len() as u64,
+            Source::List(list) => list.store.len(),
+        }
+    }
+
+    fn read_at(&mut self, at: u64, out: &mut [u8]) -> Result<(), StoreFailed> {
+        match self {
+            Source::File(store, _) => store.read_at(at, out),
+            Source::Input(bytes) => MemStore::new(bytes.as_slice()).read_at(at, out),
+            Source::List(list) => list.store.read_at(at, out),
+        }
+    }
+}

@@ -1,0 +1,177 @@
+//! Lists of sums: whether each file that is named has the sum that stands there.
+use crate::commands::hash_sink::DIGEST;
+use crate::shell::action::{Finding, Input, Syntax, Telling, VerdictStyle};
+use crate::shell::check_files::{Found, Manner, answer_of, read_list};
+use crate::shell::file_names::word_of;
+use crate::shell::list_sources::tell_fault;
+use crate::shell::lists::{ListFault, first_line, without_return};
+use crate::shell::reports::{Noted, Report, tell_of};
+use crate::text::fault_text::{fault_line, status};
+use crate::text::sum_lines::{ListedSum, listed_sum, push_name};
+use mp4_boxes::{Refusal, Steps};
+use mp4_present::Without;
+use mp4_store::{IoSink, Sink};
+use std::alloc::{AllocError, Global};
+use std::sync::ledger::Ledger;
+
+/// The status of a list that can't be taken.
+const NO_LIST: u8 = 64;
+
+/// The status where a file has another sum.
+const DIFFER: u8 = 5;
+
+// A file of a list: its name, its sum, and what is left out of it.
+#[derive(Drop)]
+struct ListedFile {
+    name: Vec<u8>,
+    digest: [u8; DIGEST],
+    leaving: Without,
+}
+
+// The files of a list, in their order; or which line can't be taken, and why.
+fn files_of(alloc: Global, list: &[u8]) -> Result<Result<Vec<ListedFile>, ListFault>, AllocError> {
+    let mut files = Vec::new(alloc);
+    let mut leaving = Without::NOTHING;
+    let mut left = list;
+    let mut line = 0u64;
+    while !left.is_empty() {
+        let (own, rest) = first_line(left);
+        line = line.saturating_add(1);
+        match listed_sum(alloc, without_return(own))? {
+            ListedSum::Header(words) => leaving = words,
+            ListedSum::Sum { digest, name } => files.push(ListedFile {
+                name,
+                digest,
+                leaving,
+            })?,
+            ListedSum::Passed => {}
+            ListedSum::Odd(what) => return Ok(Err(ListFault { line, what })),
+        }
+        left = rest;
+    }
+    Ok(Ok(files))
+}
+
+// Sums a file, and explains why it has no sum where that is asked for.
+fn sum_of<L: Ledger, M: Ledger>(
+    rt: &HostRuntime,
+    file: &ListedFile,
+    telling: Telling,
+    steps: &mut Steps<L>,
+    looks: &mut Steps<M>,
+) -> Found {
+    let word = word_of(rt.alloc(), file.name.as_slice())?;
+    let input = match word.as_str() {
+        "-" => Input::Standard,
+        name => Input::File { name },
+    };
+    let finding = Finding::Sum {
+        leaving: file.leaving,
+        header: false,
+    };
+    let style = VerdictStyle {
+        syntax: Syntax::Text,
+        end: b'\n',
+    };
+    let manner = Manner::of(&[], Some(input), finding, style, telling);
+    answer_of(rt, input, manner, steps, looks)
+}
+
+// What is said of a file, and the status of that; nothing where it has its sum and that isn't told.
+fn verdict_on(file: &ListedFile, found: &Found, is_quiet: bool) -> (Option<&'static str>, u8) {
+    match found {
+        Ok(Some(digest)) if *digest == file.digest => ((!is_quiet).then_some("OK"), 0),
+        Ok(_) => (Some("FAILED"), DIFFER),
+        Err(refusal) => (None, status(refusal)),
+    }
+}
+
+// The line that tells of a file, if there is one to tell.
+fn line_of(
+    alloc: Global,
+    file: &ListedFile,
+    found: &Found,
+    is_quiet: bool,
+) -> Result<Vec<u8>, AllocError> {
+    let mut line = Vec::new(alloc);
+    let (said, _) = verdict_on(file, found, is_quiet);
+    if said.is_none() && found.is_ok() {
+        return Ok(line);
+    }
+    push_name(&mut line, file.name.as_slice())?;
+    line.extend_from_slice(b": ")?;
+    match (said, found) {
+        (Some(said), _) => line.extend_from_slice(said.as_bytes())?,
+        (None, Err(refusal)) => line.extend_from_slice(fault_line(refusal).as_bytes())?,
+        (None, Ok(_)) => {}
+    }
+    line.extend_from_slice(b"\n")?;
+    Ok(line)
+}
+
+// Sums the files one after the other, and puts what is said of each. The status is the greatest of
+// those of files without a sum, else whether some file has another one.
+fn check_files<L: Ledger, M: Ledger>(
+    rt: &HostRuntime,
+    files: &[ListedFile],
+    is_quiet: bool,
+    telling: Telling,
+    report: &mut Report,
+    steps: &mut Steps<L>,
+    looks: &mut Steps<M>,
+) -> Result<u8, Refusal> {
+    let out = &mut rt.stdout();
+    let mut sink = IoSink::new(Noted { out, report });
+    let (mut worst, mut differ) = (0, 0);
+    for file in files {
+        let found = sum_of(rt, file, telling, steps, looks);
+        let line = line_of(rt.alloc(), file, &found, is_quiet)?;
+        if !line.is_empty() {
+            sink.put(line.as_slice())?;
+        }
+        match verdict_on(file, &found, is_quiet) {
+            (_, DIFFER) => differ = DIFFER,
+            (_, status) => worst = status.max(worst),
+        }
+    }
+    Ok(if worst > 0 { worst } else { differ })
+}
+
+/// Reads a list of sums whole, says of each file that it names whether it has its sum, and gives
+/// the status. Where a line can't be taken, or none has a sum, no file is opened.
+pub(crate) fn check_sums<L: Ledger, M: Ledger>(
+    rt: &HostRuntime,
+    list: Input,
+    is_quiet: bool,
+    telling: Telling,
+    steps: &mut Steps<L>,
+    looks: &mut Steps<M>,
+) -> Result<u8, Refusal> {
+    let mut report = Report::new(telling);
+    let text = match read_list(rt, Some(list), &mut report) {
+        Ok(text) => text,
+        Err(refusal) => {
+            if matches!(refusal, Refusal::StoreFailed) {
+                report.tell_input(rt, list.name());
+            }
+            return Err(refusal);
+        }
+    };
+    let files = match files_of(rt.alloc(), text.as_slice())? {
+        Ok(files) => files,
+        Err(fault) => {
+            tell_fault(rt, list.name(), fault)?;
+            return Ok(NO_LIST);
+        }
+    };
+    if files.is_empty() {
+        tell_of(rt, list.name().as_bytes(), b"no checksum");
+        return Ok(NO_LIST);
+    }
+    let files = files.as_slice();
+    let worst = check_files(rt, files, is_quiet, telling, &mut report, steps, looks);
+    if matches!(worst, Err(Refusal::WriteFailed)) {
+        report.tell_output(rt, "-");
+    }
+    worst
+}
