@@ -1,6 +1,6 @@
 -- Payloads, types and groups in a text: the same text tells the same, or two messages of one digest are at hand.
 use Rattle.std.proofs.Common.{◌≡◌, ◌⊎◌, inl, inr, ℕ, zero, suc, ◌+◌, ◌-◌, ◌*◌, ◌/◌, ◌<◌, ◌≤◌, leb, eqb, Bool, true, false, List, [], ◌∷◌, ◌++◌, length, take, drop, Option, Some, None, refl, sym, ap, subst, ◌∙◌, arith, append_assoc, length-take, length-drop, codes, decimal}
-use Rattle.std.specs.Prelude.{map, if◌then◌else◌, not, ◌&&◌, nat_lt, ◌==◌}
+use Rattle.std.specs.Prelude.{Contains, map, if◌then◌else◌, not, ◌&&◌, nat_lt, ◌==◌}
 use Rattle.std.proofs.lemmas.Bool.{leb-true, eqb-true, eq-eqb, ltb-true, and_parts}
 use Rattle.std.proofs.lemmas.Fmt.{decimal_injective}
 use Rattle.std.proofs.lemmas.List.{take-append-drop}
@@ -18,13 +18,13 @@ use Rattle.mp4norm.specs.format.Texts.{hex_text, space, line_feed}
 use Rattle.mp4norm.proofs.TextWords.{IsDigit, IsWord, EachByte, bytes_same, bytes_word, cancel, decimal_digits, decimal_word, run_ends, sha256_each}
 
 -- two values are the same, and what follows them, or two messages of one digest are at hand
-abbrev pub Same : {A : Type 0} → A → A → List ℕ → List ℕ → Type 0
-Same x y xs ys = ((x ≡ y) × (xs ≡ ys)) ⊎ Collision
+abbrev pub Same : {A : Type 0} → List (List ℕ) → List (List ℕ) → A → A → List ℕ → List ℕ → Type 0
+Same these those x y xs ys = ((x ≡ y) × (xs ≡ ys)) ⊎ Collision these those
 
 -- where this is so of values, another thing is
-pub with_same : {A : Type 0} (X : Type 0) (x y : A) (xs ys : List ℕ) → Same x y xs ys → (x ≡ y → xs ≡ ys → X ⊎ Collision) → X ⊎ Collision
-with_same X x y xs ys (inl h) f = f h.0 h.1
-with_same X x y xs ys (inr c) f = inr c
+pub with_same : {A : Type 0} (these those : List (List ℕ)) (X : Type 0) (x y : A) (xs ys : List ℕ) → Same these those x y xs ys → (x ≡ y → xs ≡ ys → X ⊎ Collision these those) → X ⊎ Collision these those
+with_same these those X x y xs ys (inl h) f = f h.0 h.1
+with_same these those X x y xs ys (inr c) f = inr c
 
 -- ---- bytes
 
@@ -43,13 +43,13 @@ same_list (x ∷ a) (y ∷ b) = by (eqb x y) refl (same_list a b)
     by true e (inr n) = inr (λ f. n (tail_is x y a b f))
     by false e s = inr (λ f. true_false (eqb x y) (eq-eqb x y (head_is x y a b f)) e)
 
--- messages of one digest are the same, or two at hand
-pub of_digest : (a b : List ℕ) → sha256 a ≡ sha256 b → (a ≡ b) ⊎ Collision
-of_digest a b e = by (same_list a b)
+-- messages of one digest, among these and those, are the same, or two at hand
+pub of_digest : (these those : List (List ℕ)) (a b : List ℕ) → Contains these a → Contains those b → sha256 a ≡ sha256 b → (a ≡ b) ⊎ Collision these those
+of_digest these those a b i j e = by (same_list a b)
   where
-    by : (a ≡ b) ⊎ (a ≡ b → ⊥) → (a ≡ b) ⊎ Collision
+    by : (a ≡ b) ⊎ (a ≡ b → ⊥) → (a ≡ b) ⊎ Collision these those
     by (inl s) = inl s
-    by (inr n) = inr (record { first = a; second = b; unequal = n; same = e })
+    by (inr n) = inr (record { first = a; second = b; is_first = i; is_second = j; unequal = n; same = e })
 
 -- fronts of one length
 pub same_length : (u v xs ys : List ℕ) → length u ≡ length v → u ++ xs ≡ v ++ ys → (u ≡ v) × (xs ≡ ys)
@@ -106,25 +106,29 @@ payload_is front number bytes end xs = simp append_assoc
 digest_is : (comma digits feed xs : List ℕ) → (comma ++ digits ++ feed) ++ xs ≡ comma ++ (digits ++ (feed ++ xs))
 digest_is comma digits feed xs = simp append_assoc
 
-module _ (a b xs ys : List ℕ) (ha : EachByte a) (hb : EachByte b) where
+-- bytes, among these
+abbrev pub IsToldIn : List (List ℕ) → List ℕ → Type 0
+IsToldIn these bytes = EachByte bytes × Contains these bytes
+
+module _ (these those : List (List ℕ)) (a b xs ys : List ℕ) (ha : IsToldIn these a) (hb : IsToldIn those b) where
   spelled_both : length a ≡ length b → dump_lines ((length a + 15) / 16) a ++ xs ≡ dump_lines ((length b + 15) / 16) b ++ ys → (a ≡ b) × (xs ≡ ys)
   spelled_both n e =
       let f : dump_lines ((length a + 15) / 16) a ++ xs ≡ dump_lines ((length a + 15) / 16) b ++ ys = subst (λ (k : ℕ). dump_lines ((length a + 15) / 16) a ++ xs ≡ dump_lines ((k + 15) / 16) b ++ ys) (sym n) e in
-      same_dumps ((length a + 15) / 16) a b xs ys ha hb n (omega arith) f
+      same_dumps ((length a + 15) / 16) a b xs ys ha.0 hb.0 n (omega arith) f
 
-  digests_both : end_by false a ++ xs ≡ end_by false b ++ ys → Same a b xs ys
+  digests_both : end_by false a ++ xs ≡ end_by false b ++ ys → Same these those a b xs ys
   digests_both e =
       let both = cancel (codes ", SHA-256 ") (hex_text (sha256 a) ++ (line_feed ++ xs)) (hex_text (sha256 b) ++ (line_feed ++ ys))
       (sym (digest_is (codes ", SHA-256 ") (hex_text (sha256 a)) line_feed xs) ∙ e ∙ digest_is (codes ", SHA-256 ") (hex_text (sha256 b)) line_feed ys) in
       let r = bytes_same (sha256 a) (sha256 b) (line_feed ++ xs) (line_feed ++ ys) (sha256_each a) (sha256_each b) (length-sha256 a ∙ sym (length-sha256 b)) both in
       let rest = cancel line_feed xs ys r.1 in
-      by (of_digest a b r.0) rest
+      by (of_digest these those a b ha.1 hb.1 r.0) rest
     where
-      by : (a ≡ b) ⊎ Collision → xs ≡ ys → Same a b xs ys
+      by : (a ≡ b) ⊎ Collision these those → xs ≡ ys → Same these those a b xs ys
       by (inl s) rest = inl (s, rest)
       by (inr c) rest = inr c
 
-  ends_by : (v w : Bool) → leb (length a) most_spelled ≡ v → leb (length b) most_spelled ≡ w → decimal (length a) ≡ decimal (length b) → end_by v a ++ xs ≡ end_by w b ++ ys → Same a b xs ys
+  ends_by : (v w : Bool) → leb (length a) most_spelled ≡ v → leb (length b) most_spelled ≡ w → decimal (length a) ≡ decimal (length b) → end_by v a ++ xs ≡ end_by w b ++ ys → Same these those a b xs ys
   ends_by true true f g d e =
       let few = leb-true (length a) most_spelled f in
       let few_too = leb-true (length b) most_spelled g in
@@ -138,16 +142,16 @@ module _ (a b xs ys : List ℕ) (ha : EachByte a) (hb : EachByte b) where
   no_digit h = let low = h.0 in omega (arith, low)
 
   -- a payload behind a name
-  pub same_payload : payload_end a xs ≡ payload_end b ys → Same a b xs ys
+  pub same_payload : payload_end a xs ≡ payload_end b ys → Same these those a b xs ys
   same_payload e =
       let r = run_ends IsDigit (decimal (length a)) (decimal (length b)) 32 32 (codes "bytes" ++ (end_by (leb (length a) most_spelled) a ++ xs)) (codes "bytes" ++ (end_by (leb (length b) most_spelled) b ++ ys)) (decimal_digits (length a)) (decimal_digits (length b)) no_digit no_digit e in
       let rest = cancel (codes " bytes") (end_by (leb (length a) most_spelled) a ++ xs) (end_by (leb (length b) most_spelled) b ++ ys) r.1 in
       ends_by (leb (length a) most_spelled) (leb (length b) most_spelled) refl refl r.0 rest
 
 -- a payload under a name
-pub same_under : (name a b xs ys : List ℕ) → EachByte a → EachByte b → payload_lines name a ++ xs ≡ payload_lines name b ++ ys → Same a b xs ys
-same_under name a b xs ys ha hb e =
-    same_payload a b xs ys ha hb (cancel (space ++ name ++ codes ": ") (payload_end a xs) (payload_end b ys)
+pub same_under : (these those : List (List ℕ)) (name a b xs ys : List ℕ) → IsToldIn these a → IsToldIn those b → payload_lines name a ++ xs ≡ payload_lines name b ++ ys → Same these those a b xs ys
+same_under these those name a b xs ys ha hb e =
+    same_payload these those a b xs ys ha hb (cancel (space ++ name ++ codes ": ") (payload_end a xs) (payload_end b ys)
     (sym (payload_is (space ++ name ++ codes ": ") (decimal (length a)) (codes " bytes") (end_by (leb (length a) most_spelled) a) xs) ∙ e ∙ payload_is (space ++ name ++ codes ": ") (decimal (length b)) (codes " bytes") (end_by (leb (length b) most_spelled) b) ys))
 
 -- ---- types
@@ -199,16 +203,16 @@ type_word kind = by (is_plain_type kind) refl
 kept_is : (sp name colon number bytes end xs type : List ℕ) → (sp ++ (name ++ sp ++ type) ++ colon ++ number ++ bytes ++ end) ++ xs ≡ (sp ++ name ++ sp) ++ (type ++ (colon ++ (number ++ (bytes ++ (end ++ xs)))))
 kept_is sp name colon number bytes end xs type = simp append_assoc
 
-pub same_kept : (name : List ℕ) (j k : Kept) (xs ys : List ℕ) → IsType j.kind → IsType k.kind → EachByte j.payload → EachByte k.payload → kept_lines name j ++ xs ≡ kept_lines name k ++ ys → Same j k xs ys
-same_kept name j k xs ys hj hk bj bk e =
+pub same_kept : (these those : List (List ℕ)) (name : List ℕ) (j k : Kept) (xs ys : List ℕ) → IsType j.kind → IsType k.kind → IsToldIn these j.payload → IsToldIn those k.payload → kept_lines name j ++ xs ≡ kept_lines name k ++ ys → Same these those j k xs ys
+same_kept these those name j k xs ys hj hk bj bk e =
     let ends = λ (x : Kept) (zs : List ℕ). codes ": " ++ payload_end x.payload zs in
     let split = λ (x : Kept) (zs : List ℕ). kept_is space name (codes ": ") (decimal (length x.payload)) (codes " bytes") (end_by (leb (length x.payload) most_spelled) x.payload) zs (spelled_type x.kind) in
     let both = cancel (space ++ name ++ space) (spelled_type j.kind ++ ends j xs) (spelled_type k.kind ++ ends k ys) (sym (split j xs) ∙ e ∙ split k ys) in
     let r = same_type j.kind k.kind (ends j xs) (ends k ys) hj hk both in
-    let s = same_payload j.payload k.payload xs ys bj bk (cancel (codes ": ") (payload_end j.payload xs) (payload_end k.payload ys) r.1) in
+    let s = same_payload these those j.payload k.payload xs ys bj bk (cancel (codes ": ") (payload_end j.payload xs) (payload_end k.payload ys) r.1) in
     by r.0 s
   where
-    by : j.kind ≡ k.kind → Same j.payload k.payload xs ys → Same j k xs ys
+    by : j.kind ≡ k.kind → Same these those j.payload k.payload xs ys → Same these those j k xs ys
     by t (inl p) = inl (λ i. record { kind = t i; payload = p.0 i }, p.1)
     by t (inr c) = inr c
 

@@ -1,18 +1,20 @@
 -- Texts tell what they are of: heads, samples, tracks, and the whole.
 use Rattle.std.proofs.Common.{◌≡◌, ◌⊎◌, inl, inr, ℕ, zero, suc, ◌+◌, ◌^◌, ◌<◌, ◌≤◌, leb, ltb, Bool, true, false, List, [], ◌∷◌, ◌++◌, length, take, refl, sym, ap, subst, ◌∙◌, arith, append_assoc, codes, decimal}
-use Rattle.std.specs.Prelude.{◌&&◌, map, flat_map, filter, not, if◌then◌else◌, slice_index, ℤ, pos, negsuc, FitsSigned}
+use Rattle.std.specs.Prelude.{Contains, ◌&&◌, map, flat_map, filter, not, if◌then◌else◌, slice_index, ℤ, pos, negsuc, FitsSigned}
 use Rattle.std.specs.Fmt.{signed_decimal}
 use Rattle.std.specs.Int.{w16, w32, w64}
 use Rattle.std.specs.List.{AllByRecursion}
 use Rattle.std.proofs.lemmas.Bool.{and_parts, ltb-true}
 use Rattle.std.proofs.lemmas.Fmt.{decimal_injective}
 use Rattle.std.proofs.lemmas.List.{append-nil}
+use Rattle.std.proofs.lemmas.List.Elements.{Contains-append_right}
 use Rattle.sha2.specs.Sha256.{sha256}
 use Rattle.sha2.proofs.Facts256.{length-sha256}
 use Rattle.mp4_boxes.specs.format.Bytes.{AreBytes}
 use Rattle.mp4_boxes.specs.format.Children.{is_among, kept_kinds, media_headers}
 use Rattle.mp4_boxes.specs.declared.rule.Rule.TheVariants as rules
 use Rattle.mp4_boxes.proofs.Among.{tail_is}
+use Rattle.mp4_boxes.proofs.Joined.{all_first, all_last}
 use Rattle.mp4_boxes.proofs.Each.{each_from, each_kept, each_taken, each_value, each_weaker}
 use Rattle.mp4_boxes.proofs.WrittenBoxes.{among_has}
 use Rattle.mp4_tables.specs.format.Groups.{Groups}
@@ -22,9 +24,9 @@ use Rattle.mp4_present.specs.format.Reduced.{is_picture, metadata_kinds, plain_d
 use Rattle.mp4_present.specs.declared.without.Without.{Without}
 use Rattle.mp4_plan.proofs.GoodPieces.{CanWrite, valid_tracks}
 use Rattle.mp4norm.specs.format.Text.{edit_line, edit_words, front_lines, group_text, head_lines, kept_lines, media_lines, movie_lines, named_line, number_line, payload_lines, sample_text, samples_heading, text_of, track_lines, track_text}
-use Rattle.mp4norm.specs.format.TextLaws.{Collision, TextsTell}
+use Rattle.mp4norm.specs.format.TextLaws.{Collision, TextsTell, digested, digested_head, digested_media, digested_track, payloads_of}
 use Rattle.mp4norm.specs.format.Texts.{hex_digits, hex_text, space, line_feed}
-use Rattle.mp4norm.proofs.TextParts.{Same, IsType, each_byte, group_is_word, group_word, of_digest, same_group, same_kept, same_under, with_same}
+use Rattle.mp4norm.proofs.TextParts.{IsToldIn, Same, IsType, each_byte, group_is_word, group_word, of_digest, same_group, same_kept, same_under, with_same}
 use Rattle.mp4norm.proofs.TextWords.{IsDigit, IsSmall, IsWord, EachByte, bytes_same, bytes_word, cancel, decimal_digits, decimal_word, hex_same_4, hex_same_6, hex_same_8, hex_word, run_ends, same_words, sha256_each, signed_same, signed_word, spaced, words_end}
 
 -- ---- lists of things, each told apart, up to something else
@@ -34,20 +36,20 @@ abbrev pub Differs : ℕ → ℕ → List ℕ → Type 0
 Differs place first zs = slice_index zs place ≡ first → ⊥
 
 -- `R` is so of what follows each of the things
-module _ {A : Type 0} (P : A → Type 0) (R : List ℕ → Type 0) (f : A → List ℕ) (place first : ℕ) (begins : (x : A) (zs : List ℕ) → slice_index (f x ++ zs) place ≡ first) (goes_on : (x : A) (zs : List ℕ) → R (f x ++ zs))
-    (one : (x y : A) (xs ys : List ℕ) → R xs → R ys → P x → P y → f x ++ xs ≡ f y ++ ys → Same x y xs ys) where
+module _ {A : Type 0} (these those : List (List ℕ)) (P Q : A → Type 0) (R : List ℕ → Type 0) (f : A → List ℕ) (place first : ℕ) (begins : (x : A) (zs : List ℕ) → slice_index (f x ++ zs) place ≡ first) (goes_on : (x : A) (zs : List ℕ) → R (f x ++ zs))
+    (one : (x y : A) (xs ys : List ℕ) → R xs → R ys → P x → Q y → f x ++ xs ≡ f y ++ ys → Same these those x y xs ys) where
   behind : (us : List A) (zs : List ℕ) → R zs → R (flat_map f us ++ zs)
   behind [] zs r = r
   behind (a ∷ us) zs r = subst R (sym (append_assoc (f a) (flat_map f us) zs)) (goes_on a (flat_map f us ++ zs))
 
-  pub same_each : (us bs : List A) (xs ys : List ℕ) → R xs → R ys → Differs place first xs → Differs place first ys → AllByRecursion P us → AllByRecursion P bs → flat_map f us ++ xs ≡ flat_map f bs ++ ys → Same us bs xs ys
+  pub same_each : (us bs : List A) (xs ys : List ℕ) → R xs → R ys → Differs place first xs → Differs place first ys → AllByRecursion P us → AllByRecursion Q bs → flat_map f us ++ xs ≡ flat_map f bs ++ ys → Same these those us bs xs ys
   same_each [] [] xs ys r s p q h k e = inl (refl, e)
   same_each [] (b ∷ bs) xs ys r s p q h k e = absurd (p (ap (λ (zs : List ℕ). slice_index zs place) (e ∙ append_assoc (f b) (flat_map f bs) ys) ∙ begins b (flat_map f bs ++ ys)))
   same_each (a ∷ us) [] xs ys r s p q h k e = absurd (q (ap (λ (zs : List ℕ). slice_index zs place) (sym e ∙ append_assoc (f a) (flat_map f us) xs) ∙ begins a (flat_map f us ++ xs)))
   same_each (a ∷ us) (b ∷ bs) xs ys r s p q h k e =
-      with_same (((a ∷ us) ≡ (b ∷ bs)) × (xs ≡ ys)) a b (flat_map f us ++ xs) (flat_map f bs ++ ys)
+      with_same these those (((a ∷ us) ≡ (b ∷ bs)) × (xs ≡ ys)) a b (flat_map f us ++ xs) (flat_map f bs ++ ys)
       (one a b (flat_map f us ++ xs) (flat_map f bs ++ ys) (behind us xs r) (behind bs ys s) h.0 k.0 (sym (append_assoc (f a) (flat_map f us) xs) ∙ e ∙ append_assoc (f b) (flat_map f bs) ys))
-      (λ head rest. with_same (((a ∷ us) ≡ (b ∷ bs)) × (xs ≡ ys)) us bs xs ys (same_each us bs xs ys r s p q h.1 k.1 rest) (λ more end. inl (λ i. head i ∷ more i, end)))
+      (λ head rest. with_same these those (((a ∷ us) ≡ (b ∷ bs)) × (xs ≡ ys)) us bs xs ys (same_each us bs xs ys r s p q h.1 k.1 rest) (λ more end. inl (λ i. head i ∷ more i, end)))
 
 -- what stands behind a list of things differs from something where these do, and what follows them
 differs_behind : {A : Type 0} (f : A → List ℕ) (place first other : ℕ) → ((x : A) (zs : List ℕ) → slice_index (f x ++ zs) place ≡ first) → (first ≡ other → ⊥) → (us : List A) (zs : List ℕ) → Differs place other zs → Differs place other (flat_map f us ++ zs)
@@ -133,6 +135,24 @@ told_kept kinds h k i = (among_has IsType kinds k.kind h i.kind, each_byte k.pay
 told_description : (k : Kept) → IsDescription k → IsToldBox k
 told_description k i = (record { four = i.kind_length; bytes = each_byte k.kind i.kind }, each_byte k.payload i.bytes)
 
+-- ---- among what is digested
+
+-- each of a list is among it
+in_itself : {A : Type 0} (xs : List A) → AllByRecursion (Contains xs) xs
+in_itself [] = tt
+in_itself (x ∷ xs) = ((0, omega arith, refl), each_weaker (Contains xs) (Contains (x ∷ xs)) (λ y c. Contains-append_right (x ∷ []) xs y c) xs (in_itself xs))
+
+-- a box that is told, with its payload among these
+abbrev IsBoxIn : List (List ℕ) → Kept → Type 0
+IsBoxIn these k = IsToldBox k × Contains these k.payload
+
+boxes_in : (these : List (List ℕ)) (kept : List Kept) → AllByRecursion IsToldBox kept → AllByRecursion (Contains these) (payloads_of kept) → AllByRecursion (IsBoxIn these) kept
+boxes_in these [] h i = tt
+boxes_in these (k ∷ kept) h i = ((h.0, i.0), boxes_in these kept h.1 i.1)
+
+payloads_in : (these payloads : List (List ℕ)) → AllByRecursion EachByte payloads → AllByRecursion (Contains these) payloads → AllByRecursion (IsToldIn these) payloads
+payloads_in these payloads h i = each_from EachByte (Contains these) (IsToldIn these) (λ x a b. (a, b)) payloads h i
+
 -- what is left of kept boxes
 left_kept : (l : Without) (kept : List Kept) → AllByRecursion IsToldBox kept → AllByRecursion IsToldBox (reduce_kept l kept)
 left_kept l kept h = by l.metadata
@@ -144,14 +164,14 @@ left_kept l kept h = by l.metadata
     by true = each_weaker (λ (k : Kept). IsToldBox k × (test k ≡ true)) IsToldBox (λ k x. x.0) (filter test kept) (each_kept IsToldBox test kept h)
     by false = h
 
-same_box : (name : List ℕ) (j k : Kept) (xs ys : List ℕ) → IsToldBox j → IsToldBox k → kept_lines name j ++ xs ≡ kept_lines name k ++ ys → Same j k xs ys
-same_box name j k xs ys hj hk e = same_kept name j k xs ys hj.0 hk.0 hj.1 hk.1 e
+same_box : (these those : List (List ℕ)) (name : List ℕ) (j k : Kept) (xs ys : List ℕ) → IsBoxIn these j → IsBoxIn those k → kept_lines name j ++ xs ≡ kept_lines name k ++ ys → Same these those j k xs ys
+same_box these those name j k xs ys hj hk e = same_kept these those name j k xs ys hj.0.0 hk.0.0 (hj.0.1, hj.1) (hk.0.1, hk.1) e
 
 edit_are_words : (e : Edit) → AllByRecursion IsWord (edit_words e)
 edit_are_words e = (decimal_word e.segment_duration, (signed_word e.media_time, (signed_word e.rate_integer, (signed_word e.rate_fraction, tt))))
 
-same_edit : (a b : Edit) (xs ys : List ℕ) → IsEdit a → IsEdit b → edit_line a ++ xs ≡ edit_line b ++ ys → Same a b xs ys
-same_edit a b xs ys h k e =
+same_edit : (these those : List (List ℕ)) (a b : Edit) (xs ys : List ℕ) → IsEdit a → IsEdit b → edit_line a ++ xs ≡ edit_line b ++ ys → Same these those a b xs ys
+same_edit these those a b xs ys h k e =
     let r = same_words (codes "edit") (edit_words a) (edit_words b) xs ys (edit_are_words a) (edit_are_words b) e in
     let words = r.0 in
     let d : decimal a.segment_duration ≡ decimal b.segment_duration = cc in
@@ -165,16 +185,16 @@ same_edit a b xs ys h k e =
     inl (λ i. record { segment_duration = duration i; media_time = time i; rate_integer = integer i; rate_fraction = fraction i }, r.1)
 
 -- lists of boxes under a name, of payloads under a name, and of edits
-same_boxes : (name : List ℕ) (first : ℕ) → ((x : Kept) (zs : List ℕ) → slice_index (kept_lines name x ++ zs) 1 ≡ first) → (us bs : List Kept) (xs ys : List ℕ) → Differs 1 first xs → Differs 1 first ys → AllByRecursion IsToldBox us → AllByRecursion IsToldBox bs
-    → flat_map (kept_lines name) us ++ xs ≡ flat_map (kept_lines name) bs ++ ys → Same us bs xs ys
-same_boxes name first begins us bs xs ys p q h k e = same_each IsToldBox (λ zs. Unit {0}) (kept_lines name) 1 first begins (λ x zs. tt) (λ x y us vs r s i j f. same_box name x y us vs i j f) us bs xs ys tt tt p q h k e
+same_boxes : (these those : List (List ℕ)) (name : List ℕ) (first : ℕ) → ((x : Kept) (zs : List ℕ) → slice_index (kept_lines name x ++ zs) 1 ≡ first) → (us bs : List Kept) (xs ys : List ℕ) → Differs 1 first xs → Differs 1 first ys → AllByRecursion (IsBoxIn these) us → AllByRecursion (IsBoxIn those) bs
+    → flat_map (kept_lines name) us ++ xs ≡ flat_map (kept_lines name) bs ++ ys → Same these those us bs xs ys
+same_boxes these those name first begins us bs xs ys p q h k e = same_each these those (IsBoxIn these) (IsBoxIn those) (λ zs. Unit {0}) (kept_lines name) 1 first begins (λ x zs. tt) (λ x y us vs r s i j f. same_box these those name x y us vs i j f) us bs xs ys tt tt p q h k e
 
-same_payloads : (name : List ℕ) (first : ℕ) → ((x : List ℕ) (zs : List ℕ) → slice_index (payload_lines name x ++ zs) 1 ≡ first) → (us bs : List (List ℕ)) (xs ys : List ℕ) → Differs 1 first xs → Differs 1 first ys → AllByRecursion EachByte us → AllByRecursion EachByte bs
-    → flat_map (payload_lines name) us ++ xs ≡ flat_map (payload_lines name) bs ++ ys → Same us bs xs ys
-same_payloads name first begins us bs xs ys p q h k e = same_each EachByte (λ zs. Unit {0}) (payload_lines name) 1 first begins (λ x zs. tt) (λ x y us vs r s i j f. same_under name x y us vs i j f) us bs xs ys tt tt p q h k e
+same_payloads : (these those : List (List ℕ)) (name : List ℕ) (first : ℕ) → ((x : List ℕ) (zs : List ℕ) → slice_index (payload_lines name x ++ zs) 1 ≡ first) → (us bs : List (List ℕ)) (xs ys : List ℕ) → Differs 1 first xs → Differs 1 first ys → AllByRecursion (IsToldIn these) us → AllByRecursion (IsToldIn those) bs
+    → flat_map (payload_lines name) us ++ xs ≡ flat_map (payload_lines name) bs ++ ys → Same these those us bs xs ys
+same_payloads these those name first begins us bs xs ys p q h k e = same_each these those (IsToldIn these) (IsToldIn those) (λ zs. Unit {0}) (payload_lines name) 1 first begins (λ x zs. tt) (λ x y us vs r s i j f. same_under these those name x y us vs i j f) us bs xs ys tt tt p q h k e
 
-same_edits : (us bs : List Edit) (xs ys : List ℕ) → Differs 1 101 xs → Differs 1 101 ys → AllByRecursion IsEdit us → AllByRecursion IsEdit bs → flat_map edit_line us ++ xs ≡ flat_map edit_line bs ++ ys → Same us bs xs ys
-same_edits us bs xs ys p q h k e = same_each IsEdit (λ zs. Unit {0}) edit_line 1 101 (λ x zs. refl) (λ x zs. tt) (λ x y us vs r s i j f. same_edit x y us vs i j f) us bs xs ys tt tt p q h k e
+same_edits : (these those : List (List ℕ)) (us bs : List Edit) (xs ys : List ℕ) → Differs 1 101 xs → Differs 1 101 ys → AllByRecursion IsEdit us → AllByRecursion IsEdit bs → flat_map edit_line us ++ xs ≡ flat_map edit_line bs ++ ys → Same these those us bs xs ys
+same_edits these those us bs xs ys p q h k e = same_each these those IsEdit IsEdit (λ zs. Unit {0}) edit_line 1 101 (λ x zs. refl) (λ x zs. tt) (λ x y us vs r s i j f. same_edit these those x y us vs i j f) us bs xs ys tt tt p q h k e
 
 -- ---- samples
 
@@ -218,8 +238,18 @@ same_groups (x ∷ a) (y ∷ b) h k e =
     let more = same_groups a b h.1 k.1 rest in
     λ i. first i ∷ more i
 
-same_sample : (s t : Sample) (xs ys : List ℕ) → IsToldSample s → IsToldSample t → sample_text s ++ xs ≡ sample_text t ++ ys → Same s t xs ys
-same_sample s t xs ys h k e =
+-- a sample that is told, with its bytes among these
+abbrev IsSampleIn : List (List ℕ) → Sample → Type 0
+IsSampleIn these s = IsToldSample s × Contains these s.bytes
+
+samples_in : (these : List (List ℕ)) (samples : List Sample) → AllByRecursion IsToldSample samples → AllByRecursion (Contains these) (map (λ (s : Sample). s.bytes) samples) → AllByRecursion (IsSampleIn these) samples
+samples_in these [] h i = tt
+samples_in these (s ∷ samples) h i = ((h.0, i.0), samples_in these samples h.1 i.1)
+
+same_sample : (these those : List (List ℕ)) (s t : Sample) (xs ys : List ℕ) → IsSampleIn these s → IsSampleIn those t → sample_text s ++ xs ≡ sample_text t ++ ys → Same these those s t xs ys
+same_sample these those s t xs ys hi ki e =
+    let h = hi.0 in
+    let k = ki.0 in
     let r = words_end (sample_words s) (sample_words t) xs ys (sample_are_words s) (sample_are_words t) (sym (sample_is s xs) ∙ e ∙ sample_is t ys) in
     let words = r.0 in
     let d : decimal s.duration ≡ decimal t.duration = cc in
@@ -234,14 +264,14 @@ same_sample s t xs ys h k e =
     let description = decimal_injective s.description t.description h.description k.description n in
     let groups = same_groups s.groups t.groups h.groups k.groups g in
     let digest = (bytes_same (sha256 s.bytes) (sha256 t.bytes) [] [] (sha256_each s.bytes) (sha256_each t.bytes) (length-sha256 s.bytes ∙ sym (length-sha256 t.bytes)) (ap (λ (bs : List ℕ). bs ++ []) b)).0 in
-    by duration offset flags description groups r.1 (of_digest s.bytes t.bytes digest)
+    by duration offset flags description groups r.1 (of_digest these those s.bytes t.bytes hi.1 ki.1 digest)
   where
-    by : s.duration ≡ t.duration → s.offset ≡ t.offset → s.flags ≡ t.flags → s.description ≡ t.description → s.groups ≡ t.groups → xs ≡ ys → (s.bytes ≡ t.bytes) ⊎ Collision → Same s t xs ys
+    by : s.duration ≡ t.duration → s.offset ≡ t.offset → s.flags ≡ t.flags → s.description ≡ t.description → s.groups ≡ t.groups → xs ≡ ys → (s.bytes ≡ t.bytes) ⊎ Collision these those → Same these those s t xs ys
     by d o f n g rest (inl b) = inl (λ i. record { duration = d i; offset = o i; flags = f i; description = n i; bytes = b i; groups = g i }, rest)
     by d o f n g rest (inr c) = inr c
 
-same_samples : (us bs : List Sample) (xs ys : List ℕ) → Differs 0 32 xs → Differs 0 32 ys → AllByRecursion IsToldSample us → AllByRecursion IsToldSample bs → flat_map sample_text us ++ xs ≡ flat_map sample_text bs ++ ys → Same us bs xs ys
-same_samples us bs xs ys p q h k e = same_each IsToldSample (λ zs. Unit {0}) sample_text 0 32 (λ x zs. refl) (λ x zs. tt) (λ x y us vs r s i j f. same_sample x y us vs i j f) us bs xs ys tt tt p q h k e
+same_samples : (these those : List (List ℕ)) (us bs : List Sample) (xs ys : List ℕ) → Differs 0 32 xs → Differs 0 32 ys → AllByRecursion (IsSampleIn these) us → AllByRecursion (IsSampleIn those) bs → flat_map sample_text us ++ xs ≡ flat_map sample_text bs ++ ys → Same these those us bs xs ys
+same_samples these those us bs xs ys p q h k e = same_each these those (IsSampleIn these) (IsSampleIn those) (λ zs. Unit {0}) sample_text 0 32 (λ x zs. refl) (λ x zs. tt) (λ x y us vs r s i j f. same_sample these those x y us vs i j f) us bs xs ys tt tt p q h k e
 
 -- ---- heads
 
@@ -266,8 +296,8 @@ record IsToldMovie (m : MovieHead) : Type 0 where
 movie_are_words : (m : MovieHead) → AreWords (movie_words m)
 movie_are_words m = ((decimal_word m.creation, tt), ((decimal_word m.modification, tt), ((decimal_word m.timescale, tt), ((signed_word m.rate, tt), ((signed_word m.volume, tt), (matrix_words m.matrix, tt))))))
 
-same_movie : (m n : MovieHead) (xs ys : List ℕ) → IsToldMovie m → IsToldMovie n → Differs 1 107 xs → Differs 1 107 ys → movie_lines m ++ xs ≡ movie_lines n ++ ys → Same m n xs ys
-same_movie m n xs ys h k p q e =
+same_movie : (these those : List (List ℕ)) (m n : MovieHead) (xs ys : List ℕ) → IsToldMovie m → IsToldMovie n → AllByRecursion (Contains these) (payloads_of m.kept) → AllByRecursion (Contains those) (payloads_of n.kept) → Differs 1 107 xs → Differs 1 107 ys → movie_lines m ++ xs ≡ movie_lines n ++ ys → Same these those m n xs ys
+same_movie these those m n xs ys h k i o p q e =
     let split = λ (x : MovieHead) (zs : List ℕ). six_apart (codes "movie\n") (number_line (codes "creation") x.creation) (number_line (codes "modification") x.modification) (number_line (codes "timescale") x.timescale) (named_line (codes "rate") (signed_decimal x.rate ∷ []))
     (named_line (codes "volume") (signed_decimal x.volume ∷ [])) (named_line (codes "matrix") (map signed_decimal x.matrix)) (flat_map (kept_lines (codes "kept")) x.kept) zs in
     let behind = λ (x : MovieHead) (zs : List ℕ). flat_map (kept_lines (codes "kept")) x.kept ++ zs in
@@ -286,7 +316,7 @@ same_movie m n xs ys h k p q e =
     let rate = signed_same m.rate n.rate h.rate k.rate a in
     let volume = signed_same m.volume n.volume h.volume k.volume v in
     let matrix = same_matrix m.matrix n.matrix h.matrix k.matrix x in
-    with_same ((m ≡ n) × (xs ≡ ys)) m.kept n.kept xs ys (same_boxes (codes "kept") 107 (λ y zs. refl) m.kept n.kept xs ys p q h.kept k.kept r.1)
+    with_same these those ((m ≡ n) × (xs ≡ ys)) m.kept n.kept xs ys (same_boxes these those (codes "kept") 107 (λ y zs. refl) m.kept n.kept xs ys p q (boxes_in these m.kept h.kept i) (boxes_in those n.kept k.kept o) r.1)
     (λ kept rest. inl (λ i. record { creation = creation i; modification = modification i; timescale = timescale i; rate = rate i; volume = volume i; matrix = matrix i; kept = kept i }, rest))
 
 abbrev media_names : List (List ℕ)
@@ -314,8 +344,20 @@ media_are_words m = ((decimal_word m.creation, tt), ((decimal_word m.modificatio
 no_e : ◌≡◌ {A = ℕ} 109 101 → ⊥
 no_e e = omega (arith, e)
 
-same_media : (m n : Media) (xs ys : List ℕ) → IsToldMedia m → IsToldMedia n → Differs 1 100 xs → Differs 1 100 ys → media_lines m ++ xs ≡ media_lines n ++ ys → Same m n xs ys
-same_media m n xs ys h k p q e =
+-- each payload is among what is digested
+abbrev IsMediaIn : List (List ℕ) → Media → Type 0
+IsMediaIn these m = AllByRecursion (Contains these) (digested_media m)
+
+languages_in : (these : List (List ℕ)) (m : Media) → IsMediaIn these m → AllByRecursion (Contains these) m.extended_languages
+languages_in these m i = all_first (Contains these) m.extended_languages (m.header.payload ∷ payloads_of m.descriptions) i.1
+
+behind_languages : (these : List (List ℕ)) (m : Media) → IsMediaIn these m → AllByRecursion (Contains these) (m.header.payload ∷ payloads_of m.descriptions)
+behind_languages these m i = all_last (Contains these) m.extended_languages (m.header.payload ∷ payloads_of m.descriptions) i.1
+
+same_media : (these those : List (List ℕ)) (m n : Media) (xs ys : List ℕ) → IsToldMedia m → IsToldMedia n → IsMediaIn these m → IsMediaIn those n → Differs 1 100 xs → Differs 1 100 ys → media_lines m ++ xs ≡ media_lines n ++ ys → Same these those m n xs ys
+same_media these those m n xs ys h k i o p q e =
+    let rest_in = behind_languages these m i in
+    let rest_too = behind_languages those n o in
     let split = λ (x : Media) (zs : List ℕ). media_apart (number_line (codes "media creation") x.creation) (number_line (codes "media modification") x.modification) (number_line (codes "media timescale") x.timescale) (named_line (codes "language") (hex_digits 4 x.language ∷ []))
     (payload_lines (codes "handler") x.handler) (flat_map (payload_lines (codes "extended language")) x.extended_languages) (kept_lines (codes "media header") x.header) (flat_map (kept_lines (codes "description")) x.descriptions) zs in
     let third = λ (x : Media) (zs : List ℕ). flat_map (kept_lines (codes "description")) x.descriptions ++ zs in
@@ -333,11 +375,11 @@ same_media m n xs ys h k p q e =
     let timescale = decimal_injective m.timescale n.timescale h.timescale k.timescale t in
     let language = hex_same_4 m.language n.language h.language k.language l in
     let X = (m ≡ n) × (xs ≡ ys) in
-    with_same X m.handler n.handler (first m xs) (first n ys) (same_under (codes "handler") m.handler n.handler (first m xs) (first n ys) h.handler k.handler r.1)
-    (λ handler more. with_same X m.extended_languages n.extended_languages (second m xs) (second n ys)
-    (same_payloads (codes "extended language") 101 (λ y zs. refl) m.extended_languages n.extended_languages (second m xs) (second n ys) no_e no_e h.languages k.languages more)
-    (λ languages rest. with_same X m.header n.header (third m xs) (third n ys) (same_box (codes "media header") m.header n.header (third m xs) (third n ys) h.header k.header rest)
-    (λ header last. with_same X m.descriptions n.descriptions xs ys (same_boxes (codes "description") 100 (λ y zs. refl) m.descriptions n.descriptions xs ys p q h.descriptions k.descriptions last)
+    with_same these those X m.handler n.handler (first m xs) (first n ys) (same_under these those (codes "handler") m.handler n.handler (first m xs) (first n ys) (h.handler, i.0) (k.handler, o.0) r.1)
+    (λ handler more. with_same these those X m.extended_languages n.extended_languages (second m xs) (second n ys)
+    (same_payloads these those (codes "extended language") 101 (λ y zs. refl) m.extended_languages n.extended_languages (second m xs) (second n ys) no_e no_e (payloads_in these m.extended_languages h.languages (languages_in these m i)) (payloads_in those n.extended_languages k.languages (languages_in those n o)) more)
+    (λ languages rest. with_same these those X m.header n.header (third m xs) (third n ys) (same_box these those (codes "media header") m.header n.header (third m xs) (third n ys) (h.header, rest_in.0) (k.header, rest_too.0) rest)
+    (λ header last. with_same these those X m.descriptions n.descriptions xs ys (same_boxes these those (codes "description") 100 (λ y zs. refl) m.descriptions n.descriptions xs ys p q (boxes_in these m.descriptions h.descriptions rest_in.1) (boxes_in those n.descriptions k.descriptions rest_too.1) last)
     (λ descriptions end. inl (
       λ i. record {
         creation = creation i;
@@ -396,7 +438,23 @@ m_not_k e = omega (arith, e)
 g_not_d : ◌≡◌ {A = ℕ} 103 100 → ⊥
 g_not_d e = omega (arith, e)
 
-module _ (t u : TrackHead) (xs ys : List ℕ) (h : IsToldHead t) (k : IsToldHead u) (p : Differs 1 103 xs) (q : Differs 1 103 ys) (pd : Differs 1 100 xs) (qd : Differs 1 100 ys) where
+-- each payload is among what is digested
+abbrev IsHeadIn : List (List ℕ) → TrackHead → Type 0
+IsHeadIn these t = AllByRecursion (Contains these) (digested_head t)
+
+boxes_front : (these : List (List ℕ)) (t : TrackHead) → IsHeadIn these t → AllByRecursion (Contains these) (payloads_of t.kept ++ digested_media t.media)
+boxes_front these t i = all_first (Contains these) (payloads_of t.kept ++ digested_media t.media) t.group_descriptions i
+
+kept_in : (these : List (List ℕ)) (t : TrackHead) → IsHeadIn these t → AllByRecursion (Contains these) (payloads_of t.kept)
+kept_in these t i = all_first (Contains these) (payloads_of t.kept) (digested_media t.media) (boxes_front these t i)
+
+media_in : (these : List (List ℕ)) (t : TrackHead) → IsHeadIn these t → IsMediaIn these t.media
+media_in these t i = all_last (Contains these) (payloads_of t.kept) (digested_media t.media) (boxes_front these t i)
+
+groups_in : (these : List (List ℕ)) (t : TrackHead) → IsHeadIn these t → AllByRecursion (Contains these) t.group_descriptions
+groups_in these t i = all_last (Contains these) (payloads_of t.kept ++ digested_media t.media) t.group_descriptions i
+
+module _ (these those : List (List ℕ)) (t u : TrackHead) (xs ys : List ℕ) (h : IsToldHead t) (k : IsToldHead u) (i : IsHeadIn these t) (o : IsHeadIn those u) (p : Differs 1 103 xs) (q : Differs 1 103 ys) (pd : Differs 1 100 xs) (qd : Differs 1 100 ys) where
   abbrev groups_then : TrackHead → List ℕ → List ℕ
   groups_then x zs = flat_map (payload_lines (codes "group description")) x.group_descriptions ++ zs
 
@@ -420,7 +478,7 @@ module _ (t u : TrackHead) (xs ys : List ℕ) (h : IsToldHead t) (k : IsToldHead
       (named_line (codes "alternate_group") (signed_decimal x.alternate_group ∷ [])) (named_line (codes "volume") (signed_decimal x.volume ∷ [])) (named_line (codes "matrix") (map signed_decimal x.matrix)) (number_line (codes "width") x.width) (number_line (codes "height") x.height)
       (flat_map edit_line x.edits) (flat_map (kept_lines (codes "kept")) x.kept) (media_then x zs)
 
-  same_head : head_lines t ++ xs ≡ head_lines u ++ ys → Same t u xs ys
+  same_head : head_lines t ++ xs ≡ head_lines u ++ ys → Same these those t u xs ys
   same_head e =
       let front = cancel (codes "track ") (decimal t.id ++ 10 ∷ lines_then t xs) (decimal u.id ++ 10 ∷ lines_then u ys) (sym (head_is t xs) ∙ e ∙ head_is u ys) in
       let ids = run_ends IsDigit (decimal t.id) (decimal u.id) 10 10 (lines_then t xs) (lines_then u ys) (decimal_digits t.id) (decimal_digits u.id) no_line no_line front in
@@ -448,12 +506,12 @@ module _ (t u : TrackHead) (xs ys : List ℕ) (h : IsToldHead t) (k : IsToldHead
       let X = (t ≡ u) × (xs ≡ ys) in
       let no_edit = λ (x : TrackHead) (zs : List ℕ). differs_behind (kept_lines (codes "kept")) 1 107 101 (λ y zs. refl) k_not_e x.kept (media_then x zs) no_e in
       let no_description = λ (x : TrackHead) (zs : List ℕ) (d : Differs 1 100 zs). differs_behind (payload_lines (codes "group description")) 1 103 100 (λ y zs. refl) g_not_d x.group_descriptions zs d in
-      with_same X t.edits u.edits (kept_then t xs) (kept_then u ys)
-      (same_edits t.edits u.edits (kept_then t xs) (kept_then u ys) (no_edit t xs) (no_edit u ys) h.edits k.edits r.1)
-      (λ edits more. with_same X t.kept u.kept (media_then t xs) (media_then u ys) (same_boxes (codes "kept") 107 (λ y zs. refl) t.kept u.kept (media_then t xs) (media_then u ys) m_not_k m_not_k h.kept k.kept more)
-      (λ kept rest. with_same X t.media u.media (groups_then t xs) (groups_then u ys)
-      (same_media t.media u.media (groups_then t xs) (groups_then u ys) h.media k.media (no_description t xs pd) (no_description u ys qd) rest)
-      (λ media last. with_same X t.group_descriptions u.group_descriptions xs ys (same_payloads (codes "group description") 103 (λ y zs. refl) t.group_descriptions u.group_descriptions xs ys p q h.group_descriptions k.group_descriptions last)
+      with_same these those X t.edits u.edits (kept_then t xs) (kept_then u ys)
+      (same_edits these those t.edits u.edits (kept_then t xs) (kept_then u ys) (no_edit t xs) (no_edit u ys) h.edits k.edits r.1)
+      (λ edits more. with_same these those X t.kept u.kept (media_then t xs) (media_then u ys) (same_boxes these those (codes "kept") 107 (λ y zs. refl) t.kept u.kept (media_then t xs) (media_then u ys) m_not_k m_not_k (boxes_in these t.kept h.kept (kept_in these t i)) (boxes_in those u.kept k.kept (kept_in those u o)) more)
+      (λ kept rest. with_same these those X t.media u.media (groups_then t xs) (groups_then u ys)
+      (same_media these those t.media u.media (groups_then t xs) (groups_then u ys) h.media k.media (media_in these t i) (media_in those u o) (no_description t xs pd) (no_description u ys qd) rest)
+      (λ media last. with_same these those X t.group_descriptions u.group_descriptions xs ys (same_payloads these those (codes "group description") 103 (λ y zs. refl) t.group_descriptions u.group_descriptions xs ys p q (payloads_in these t.group_descriptions h.group_descriptions (groups_in these t i)) (payloads_in those u.group_descriptions k.group_descriptions (groups_in those u o)) last)
       (λ descriptions end. inl (
         λ i. record {
           flags = flags i;
@@ -487,7 +545,21 @@ s_not_g e = omega (arith, e)
 s_not_d : ◌≡◌ {A = ℕ} 115 100 → ⊥
 s_not_d e = omega (arith, e)
 
-module _ (t u : Track) (xs ys : List ℕ) (r : Differs 0 32 xs) (s : Differs 0 32 ys) (h : IsToldTrack t) (k : IsToldTrack u) where
+-- a track that is told, with all that is digested of it among these
+abbrev IsTrackIn : List (List ℕ) → Track → Type 0
+IsTrackIn these t = IsToldTrack t × AllByRecursion (Contains these) (digested_track t)
+
+tracks_in : (these : List (List ℕ)) (tracks : List Track) → AllByRecursion IsToldTrack tracks → AllByRecursion (Contains these) (flat_map digested_track tracks) → AllByRecursion (IsTrackIn these) tracks
+tracks_in these [] h i = tt
+tracks_in these (t ∷ tracks) h i = ((h.0, all_first (Contains these) (digested_track t) (flat_map digested_track tracks) i), tracks_in these tracks h.1 (all_last (Contains these) (digested_track t) (flat_map digested_track tracks) i))
+
+head_in : (these : List (List ℕ)) (t : Track) → IsTrackIn these t → IsHeadIn these t.head
+head_in these t i = all_first (Contains these) (digested_head t.head) (map (λ (s : Sample). s.bytes) t.samples) i.1
+
+bytes_in : (these : List (List ℕ)) (t : Track) → IsTrackIn these t → AllByRecursion (Contains these) (map (λ (s : Sample). s.bytes) t.samples)
+bytes_in these t i = all_last (Contains these) (digested_head t.head) (map (λ (s : Sample). s.bytes) t.samples) i.1
+
+module _ (these those : List (List ℕ)) (t u : Track) (xs ys : List ℕ) (r : Differs 0 32 xs) (s : Differs 0 32 ys) (hi : IsTrackIn these t) (ki : IsTrackIn those u) where
   abbrev samples_then : Track → List ℕ → List ℕ
   samples_then x zs = flat_map sample_text x.samples ++ zs
 
@@ -503,19 +575,19 @@ module _ (t u : Track) (xs ys : List ℕ) (r : Differs 0 32 xs) (s : Differs 0 3
       ∙ append_assoc (head_lines x.head ++ number_line (codes "start") x.start) (samples_heading x.head.id) (samples_then x zs)
       ∙ append_assoc (head_lines x.head) (number_line (codes "start") x.start) (heading_then x zs)
 
-  behind_head : t.head ≡ u.head → start_then t xs ≡ start_then u ys → Same t u xs ys
+  behind_head : t.head ≡ u.head → start_then t xs ≡ start_then u ys → Same these those t u xs ys
   behind_head head e =
       let n = same_words (codes "start") (decimal t.start ∷ []) (decimal u.start ∷ []) (heading_then t xs) (heading_then u ys) (decimal_word t.start, tt) (decimal_word u.start, tt) e in
       let words = n.0 in
       let d : decimal t.start ≡ decimal u.start = cc in
-      let start = decimal_injective t.start u.start h.start k.start d in
+      let start = decimal_injective t.start u.start hi.0.start ki.0.start d in
       let heading : samples_heading u.head.id ++ samples_then t xs ≡ samples_heading u.head.id ++ samples_then u ys = ap (λ (x : TrackHead). samples_heading x.id ++ samples_then t xs) (sym head) ∙ n.1 in
-      with_same ((t ≡ u) × (xs ≡ ys)) t.samples u.samples xs ys (same_samples t.samples u.samples xs ys r s h.samples k.samples (cancel (samples_heading u.head.id) (samples_then t xs) (samples_then u ys) heading))
+      with_same these those ((t ≡ u) × (xs ≡ ys)) t.samples u.samples xs ys (same_samples these those t.samples u.samples xs ys r s (samples_in these t.samples hi.0.samples (bytes_in these t hi)) (samples_in those u.samples ki.0.samples (bytes_in those u ki)) (cancel (samples_heading u.head.id) (samples_then t xs) (samples_then u ys) heading))
       (λ samples end. inl (λ i. record { head = head i; start = start i; samples = samples i }, end))
 
-  same_track : track_text t ++ xs ≡ track_text u ++ ys → Same t u xs ys
-  same_track e = with_same ((t ≡ u) × (xs ≡ ys)) t.head u.head (start_then t xs) (start_then u ys)
-      (same_head t.head u.head (start_then t xs) (start_then u ys) h.head k.head s_not_g s_not_g s_not_d s_not_d (sym (track_is t xs) ∙ e ∙ track_is u ys)) behind_head
+  same_track : track_text t ++ xs ≡ track_text u ++ ys → Same these those t u xs ys
+  same_track e = with_same these those ((t ≡ u) × (xs ≡ ys)) t.head u.head (start_then t xs) (start_then u ys)
+      (same_head these those t.head u.head (start_then t xs) (start_then u ys) hi.0.head ki.0.head (head_in these t hi) (head_in those u ki) s_not_g s_not_g s_not_d s_not_d (sym (track_is t xs) ∙ e ∙ track_is u ys)) behind_head
 
 t_not_space : ◌≡◌ {A = ℕ} 116 32 → ⊥
 t_not_space e = omega (arith, e)
@@ -637,8 +709,8 @@ told_tracks l p v =
 abbrev end : List ℕ
 end = codes "end\n"
 
-same_tracks : (ts us : List Track) → AllByRecursion IsToldTrack ts → AllByRecursion IsToldTrack us → flat_map track_text ts ++ end ≡ flat_map track_text us ++ end → Same ts us end end
-same_tracks ts us h k e = same_each IsToldTrack (Differs 0 32) track_text 0 116 (λ x zs. refl) (λ x zs. t_not_space) (λ x y xs ys r s i j f. same_track x y xs ys r s i j f) ts us end end e_not_space e_not_space e_not_t e_not_t h k e
+same_tracks : (these those : List (List ℕ)) (ts us : List Track) → AllByRecursion (IsTrackIn these) ts → AllByRecursion (IsTrackIn those) us → flat_map track_text ts ++ end ≡ flat_map track_text us ++ end → Same these those ts us end end
+same_tracks these those ts us h k e = same_each these those (IsTrackIn these) (IsTrackIn those) (Differs 0 32) track_text 0 116 (λ x zs. refl) (λ x zs. t_not_space) (λ x y xs ys r s i j f. same_track these those x y xs ys r s i j f) ts us end end e_not_space e_not_space e_not_t e_not_t h k e
 
 no_k : (tracks : List Track) → Differs 1 107 (flat_map track_text tracks ++ end)
 no_k tracks = differs_behind track_text 1 114 107 (λ x zs. refl) r_not_k tracks end n_not_k
@@ -649,11 +721,15 @@ same_text_tells l p q v w e =
     let n = reduce_movie_head l q.movie in
     let ts = (reduce l p).tracks in
     let us = (reduce l q).tracks in
+    let these = digested (reduce l p) in
+    let those = digested (reduce l q) in
+    let i = in_itself these in
+    let o = in_itself those in
     let whole = cancel (front_lines l) (text_of (reduce l p)) (text_of (reduce l q)) e in
     let both = sym (append_assoc (movie_lines m) (flat_map track_text ts) end) ∙ whole ∙ append_assoc (movie_lines n) (flat_map track_text us) end in
-    by (with_same ((m ≡ n) × (ts ≡ us)) m n (flat_map track_text ts ++ end) (flat_map track_text us ++ end) (same_movie m n (flat_map track_text ts ++ end) (flat_map track_text us ++ end) (told_movie l p.movie v.movie) (told_movie l q.movie w.movie) (no_k ts) (no_k us) both)
-    (λ movie rest. with_same ((m ≡ n) × (ts ≡ us)) ts us end end (same_tracks ts us (told_tracks l p v) (told_tracks l q w) rest) (λ tracks stop. inl (movie, tracks))))
+    by (with_same these those ((m ≡ n) × (ts ≡ us)) m n (flat_map track_text ts ++ end) (flat_map track_text us ++ end) (same_movie these those m n (flat_map track_text ts ++ end) (flat_map track_text us ++ end) (told_movie l p.movie v.movie) (told_movie l q.movie w.movie) (all_first (Contains these) (payloads_of m.kept) (flat_map digested_track ts) i) (all_first (Contains those) (payloads_of n.kept) (flat_map digested_track us) o) (no_k ts) (no_k us) both)
+    (λ movie rest. with_same these those ((m ≡ n) × (ts ≡ us)) ts us end end (same_tracks these those ts us (tracks_in these ts (told_tracks l p v) (all_last (Contains these) (payloads_of m.kept) (flat_map digested_track ts) i)) (tracks_in those us (told_tracks l q w) (all_last (Contains those) (payloads_of n.kept) (flat_map digested_track us) o)) rest) (λ tracks stop. inl (movie, tracks))))
   where
-    by : ((reduce_movie_head l p.movie ≡ reduce_movie_head l q.movie) × ((reduce l p).tracks ≡ (reduce l q).tracks)) ⊎ Collision → (reduce l p ≡ reduce l q) ⊎ Collision
+    by : ((reduce_movie_head l p.movie ≡ reduce_movie_head l q.movie) × ((reduce l p).tracks ≡ (reduce l q).tracks)) ⊎ Collision (digested (reduce l p)) (digested (reduce l q)) → (reduce l p ≡ reduce l q) ⊎ Collision (digested (reduce l p)) (digested (reduce l q))
     by (inl s) = inl (λ i. record { movie = s.0 i; tracks = s.1 i })
     by (inr c) = inr c

@@ -6,8 +6,8 @@ pub fn same_is_same_text()
     ensures { SameIsSameText }
 {}
 
-/// Where two presentations have the same text, the same is left of them, or two messages of one
-/// SHA-256 are at hand: samples of theirs, or payloads.
+/// Where two valid presentations have the same text, the same is left of them, or two messages of
+/// one SHA-256 are at hand: a sample or payload that is left of the one, and another of the other.
 pub fn texts_tell()
     ensures { TextsTell }
 {}
