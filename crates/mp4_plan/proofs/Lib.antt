@@ -19,6 +19,7 @@ pub mod SampleGroups
 pub mod PlannerSteps
 pub mod Gatherings
 pub mod Vectors
+pub mod SuiteVectors
 pub mod WrittenGroups
 pub mod WrittenRun
 mod WalksOn
