@@ -117,7 +117,7 @@ fn time_of(traf: BoxView, tfdt: Option<BoxView>) -> Result<Option<u64>, Fault>
 }
 
 // Checks the runs of a `traf` in file order: all are sound, and what was passed is what they come
-// to, or one has a fault, at a step for each run and sample.
+// to, or the first fault of them is named, at a step for each run and sample.
 fn check_runs<L: Ledger>(
     traf: BoxView,
     judged: Judged,
@@ -270,8 +270,8 @@ fn note_of(traf: BoxView, base: i128, count: u32) -> Option<OwnTraf>
 }
 
 // Checks a `traf` of a `moof` at this place, where the data of the `traf` before ends there: it
-// passes, and the tracks and the room are those behind it; or it has the fault, at a step for each
-// row, run and sample, and at most one look.
+// passes, and the tracks and the room are those behind it; or its first fault is named, at a step
+// for each row, run and sample, and at most one look.
 fn check_traf<L: Ledger, M: Ledger>(
     traf: BoxView,
     moof: u64,

@@ -155,8 +155,8 @@ fn have_large_offset(run: Run, samples: Samples) -> bool
     !run.is_signed && samples.are_large
 }
 
-/// Checks a `trun`, behind others of its `traf`: its samples are passed too, or it has the fault; a
-/// step for each sample.
+/// Checks a `trun`, behind others of its `traf`: its samples are passed too, or its first fault is
+/// named; a step for each sample.
 pub(crate) fn check_run<L: Ledger>(
     payload: &[u8],
     judged: Judged,

@@ -32,7 +32,8 @@ stands_of b all passed left child t e =
 reaches_above : (from next place : Place) (before : List Box) (b : Box) → StandsAfter from.container before b → inside from b ≡ Some next → Reaches next place → Reaches from place
 reaches_above from next place before b s i r = (b ∷ r.0, (before, s, next, i, r.1))
 
-stands_above : (from next place : Place) (before inner : List Box) (b c : Box) → StandsAfter from.container before b → inside from b ≡ Some next → StandsIn next place inner c → StandsIn from place inner c
+-- a box that stands in a box stands in the container that the box stands in
+pub stands_above : (from next place : Place) (before inner : List Box) (b c : Box) → StandsAfter from.container before b → inside from b ≡ Some next → StandsIn next place inner c → StandsIn from place inner c
 stands_above from next place before inner b c s i h = record { reaches = reaches_above from next place before b s i h.reaches; after = h.after }
 
 taken_above : (from next : Place) (before : List Box) (b : Box) (leaf : Leaf) (n : ℕ) (f : Fault) → StandsAfter from.container before b → inside from b ≡ Some next → IsTakenId next leaf n f → IsTakenId from leaf n f

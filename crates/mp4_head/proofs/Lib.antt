@@ -12,6 +12,12 @@ pub mod HeadLengths
 pub mod Above
 pub mod Walks
 pub mod FaultWalks
+pub mod JudgedWalks
+pub mod JudgedLeaves
+pub mod CountedJudged
+pub mod JudgedSound
+pub mod JudgedStands
+pub mod JudgedTrees
 pub mod EntriesJudged
 pub mod IdsJudged
 pub mod EditBoxes

@@ -3,3 +3,4 @@ pub mod Tree
 pub mod Writing
 pub mod HeadFaults
 pub mod FirstFault
+pub mod FirstFaultLaws

@@ -36,7 +36,7 @@ found_in : {A B : Type 0} (f : A → B) (xs ys : List A) (y : A) → slice_get (
 found_in f [] ys y = refl
 found_in f (x ∷ xs) ys y = found_in f xs ys y
 
-found_there : {A : Type 0} (xs ys : List A) (y : A) → slice_get (xs ++ y ∷ ys) (length xs) ≡ Some y
+pub found_there : {A : Type 0} (xs ys : List A) (y : A) → slice_get (xs ++ y ∷ ys) (length xs) ≡ Some y
 found_there [] ys y = refl
 found_there (x ∷ xs) ys y = found_there xs ys y
 
@@ -44,7 +44,7 @@ taken_in : {A B : Type 0} (f : A → B) (xs ys : List A) → take (length xs) (m
 taken_in f [] ys = refl
 taken_in f (x ∷ xs) ys = ap (λ zs. f x ∷ zs) (taken_in f xs ys)
 
-taken_with : {A : Type 0} (xs ys : List A) (y : A) → take (suc (length xs)) (xs ++ y ∷ ys) ≡ xs ++ y ∷ []
+pub taken_with : {A : Type 0} (xs ys : List A) (y : A) → take (suc (length xs)) (xs ++ y ∷ ys) ≡ xs ++ y ∷ []
 taken_with [] ys y = refl
 taken_with (x ∷ xs) ys y = ap (λ zs. x ∷ zs) (taken_with xs ys y)
 
@@ -99,7 +99,7 @@ group_readable few_keys stbl n k s = no_readable (boxes_of stbl)
 group_readable index_range stbl n k s = no_readable (boxes_of stbl)
 group_readable group_counts stbl n k s = s.readable
 
-groups_readable : (rule : GroupRule) (gs more : List Box) (b : Box) → GroupsReadable gs → IsReadable sbgp b.payload → GroupsReadable (group_reads rule (length gs) (gs ++ b ∷ more))
+pub groups_readable : (rule : GroupRule) (gs more : List Box) (b : Box) → GroupsReadable gs → IsReadable sbgp b.payload → GroupsReadable (group_reads rule (length gs) (gs ++ b ∷ more))
 groups_readable one_of_key gs more b h k = subst GroupsReadable (sym (taken_with gs more b)) (all_append (λ (c : Box). IsReadable sbgp c.payload) gs (b ∷ []) h (k, tt))
 groups_readable few_keys gs more b h k = subst GroupsReadable (sym (taken_with gs more b)) (all_append (λ (c : Box). IsReadable sbgp c.payload) gs (b ∷ []) h (k, tt))
 groups_readable index_range gs more b h k = subst GroupsReadable (sym (ap (drop (length gs)) (taken_with gs more b) ∙ dropped_to gs b)) (k, tt)

@@ -22,9 +22,11 @@ pub mod SyncLists
 pub mod SpotLists
 pub mod ChunkLists
 pub mod RunLists
+pub mod RunsPassed
 pub mod IndexesLeft
 pub mod GroupsHere
 pub mod NonSyncPassed
+pub mod ManyPassed
 pub mod NamedKeys
 pub mod GroupMaps
 pub mod Placed
@@ -36,3 +38,10 @@ pub mod FirstTables
 pub mod FirstReads
 pub mod FirstGroups
 pub mod FirstOfAll
+pub mod InOrder
+pub mod LeafJudged
+pub mod AmongTypes
+pub mod FirstJudged
+pub mod GroupsJudged
+pub mod TablesJudged
+pub mod TablesExcluded

@@ -5,3 +5,4 @@ pub mod PlainSamples
 pub mod TableRules
 pub mod TableRows
 pub mod FirstFault
+pub mod FirstFaultLaws

@@ -1,5 +1,5 @@
 //! Chunks: which row of `stsc` each has and where its samples lie (ISO/IEC 14496-12, 8.7.4, 8.7.5).
-ghost use Rattle.std.specs.Prelude.{◌≡◌, ℕ, List, ◌+◌, ◌*◌, ◌^◌, ◌<◌, ◌≤◌, ◌∷◌, ◌==◌, map, nat_lt, nat_eq, ◌||◌, ◌⊎◌, true, false, IsTrue};
+ghost use Rattle.std.specs.Prelude.{◌≡◌, ℕ, List, ◌+◌, ◌-◌, ◌*◌, ◌^◌, ◌<◌, ◌≤◌, ◌∷◌, ◌==◌, map, nat_lt, nat_eq, ◌||◌, ◌⊎◌, true, false, IsTrue};
 ghost use Rattle.mp4_tables.specs.words.Rows.{HaveRoom, chunk_rows_at, offsets_at, offset_width};
 ghost use Rattle.mp4_tables.specs.format.PlainSamples.{in_chunks_total};
 ghost use Rattle.mp4_tables.specs.format.TableRules.{is_chunk_order, is_index};
@@ -245,6 +245,39 @@ pub(crate) fn pass_sample(
 {
     place.left -= 1;
     place.at += u64::from(size);
+    if place.left == 0 {
+        open_chunk(payload, rows, chunks, place);
+    }
+}
+
+// Passes so many samples of the chunk, which together have so many bytes. Those behind them are
+// still to come, and a sample is left in the chunk, or none is to come.
+#[inline]
+pub(crate) fn pass_samples(
+    payload: &[u8],
+    rows: &RowsAt,
+    chunks: &ChunksAt,
+    place: &mut ChunkPlace,
+    count: u32,
+    bytes: u64,
+)
+    requires room { HaveRoom 12 payload.now rows.now }
+    requires offsets { HaveRoom (offset_width chunks.now.is_wide) payload.now chunks.now.rows }
+    requires place { LiesInChunks payload.now rows.now chunks.now place.old }
+    requires some { count ≤ place.old.left }
+    requires fits { place.old.at + bytes < 2 ^ 64 }
+    ensures same { spots_coming (chunk_rows_at payload.now rows.now)
+        (offsets_at payload.now chunks.now) place.new
+        ≡ spots_coming (chunk_rows_at payload.now rows.now) (offsets_at payload.now chunks.now)
+        (record place.old { left = place.old.left - count; at = place.old.at + bytes }) }
+    ensures settled { place.new.left ≡ 0
+        → spots_coming (chunk_rows_at payload.now rows.now) (offsets_at payload.now chunks.now)
+        place.new ≡ no_spots }
+    ensures place { LiesInChunks payload.now rows.now chunks.now place.new }
+    ensures on { (place.old.opened ≤ place.new.opened) × (place.old.row.row ≤ place.new.row.row) }
+{
+    place.left -= count;
+    place.at += bytes;
     if place.left == 0 {
         open_chunk(payload, rows, chunks, place);
     }

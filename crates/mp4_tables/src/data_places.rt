@@ -8,7 +8,7 @@ ghost use Rattle.mp4_tables.specs.words.Stops.{StopsIn};
 
 use crate::chunks::{first_chunk, pass_sample};
 use crate::places::{ChunksAt, RowsAt, SizesAt};
-use crate::sizes::size_at;
+use crate::sizes::checked_size_at;
 use mp4_boxes::Steps;
 use std::sync::ledger::Ledger;
 
@@ -53,7 +53,7 @@ pub(crate) fn lie_within<L: Ledger>(
     let mut place = first_chunk(payload, rows, chunks);
     for i in 0..sizes.rows.count {
         steps.add(1);
-        let size = size_at(steps.tick(), payload, sizes, i);
+        let size = checked_size_at(steps.tick(), payload, sizes, i);
         if !lies(place.at, size, file_len) {
             return false;
         }

@@ -1,5 +1,6 @@
 //! Rows that repeat a value: `stts`, `ctts` and `sbgp` (ISO/IEC 14496-12, 8.6.1, 8.9.2).
-ghost use Rattle.std.specs.Prelude.{◌≡◌, ◌+◌, ◌^◌, ◌<◌, ◌≤◌, ◌∷◌, ◌==◌, ◌↔◌, IsTrue, IfSome, IfNone, ◌⊎◌, false, []};
+ghost use Rattle.std.specs.Prelude.{ℕ, ◌≡◌, ◌+◌, ◌-◌, ◌*◌, ◌^◌, ◌<◌, ◌≤◌, ◌∷◌, ◌==◌, ◌↔◌, IsTrue, IfSome, IfNone, ◌⊎◌, false, [], length, take, drop};
+ghost use Rattle.mp4_boxes.specs.format.Bytes.{sum_of};
 ghost use Rattle.mp4_tables.specs.format.Repeated.{total};
 ghost use Rattle.mp4_tables.specs.words.Rows.{HaveRoom, runs_at};
 ghost use Rattle.mp4_tables.specs.words.TablesComing.{coming, all_below};
@@ -7,6 +8,7 @@ ghost use Rattle.mp4_tables.specs.words.Stops.{StopsIn};
 
 use crate::places::{RowsAt, RunPlace};
 use crate::table_rows::run_at;
+use crate::totals::times;
 use mp4_boxes::{Steps, Ticket};
 use std::sync::ledger::Ledger;
 
@@ -124,13 +126,19 @@ pub(crate) fn settle(payload: &[u8], rows: RowsAt, place: RunPlace) -> RunPlace
     place
 }
 
-// The value in hand, as a time.
-#[inline]
-pub(crate) fn lasting(place: RunPlace) -> u64
-    ensures is { result ≡ place.value }
-    ensures small { result < 2 ^ 32 }
+// Passes rows until a value is left. Few rows stand for no value: this stays apart.
+#[cold]
+#[inline(never)]
+fn settle_on(payload: &[u8], rows: RowsAt, place: &mut RunPlace)
+    requires room { HaveRoom 8 payload.now rows }
+    requires within { place.old.row ≤ rows.count }
+    ensures same { coming (runs_at payload.now rows) place.new
+        ≡ coming (runs_at payload.now rows) place.old }
+    ensures settled { place.new.left ≡ 0 → coming (runs_at payload.now rows) place.new ≡ [] }
+    ensures within { place.new.row ≤ rows.count }
+    ensures on { place.old.row ≤ place.new.row }
 {
-    u64::from(place.value)
+    *place = settle(payload, rows, *place);
 }
 
 // Passes the value in hand.
@@ -147,7 +155,46 @@ pub(crate) fn pass(payload: &[u8], rows: RowsAt, place: &mut RunPlace)
     ensures on { place.old.row ≤ place.new.row }
 {
     place.left -= 1;
-    if place.left == 0 {
-        *place = settle(payload, rows, *place);
+    if place.left == 0 && place.row < rows.count {
+        let run = run_at(Ticket::of_place(), payload, rows, place.row);
+        place.row += 1;
+        place.left = run.count;
+        place.value = run.value;
+        if run.count == 0 {
+            settle_on(payload, rows, place);
+        }
     }
+}
+
+// Passes so many values, row by row, and says their sum.
+pub(crate) fn pass_many(payload: &[u8], rows: RowsAt, place: &mut RunPlace, count: u32) -> u64
+    requires room { HaveRoom 8 payload.now rows }
+    requires within { place.old.row ≤ rows.count }
+    requires many { count ≤ length (coming (runs_at payload.now rows) place.old) }
+    ensures next { coming (runs_at payload.now rows) place.new
+        ≡ drop count (coming (runs_at payload.now rows) place.old) }
+    ensures sum { result
+        ≡ sum_of (λ (x : ℕ). x) (take count (coming (runs_at payload.now rows) place.old)) }
+    ensures small { result ≤ count * (2 ^ 32 - 1) }
+    ensures settled { place.new.left ≡ 0 → coming (runs_at payload.now rows) place.new ≡ [] }
+    ensures within { place.new.row ≤ rows.count }
+    ensures on { place.old.row ≤ place.new.row }
+{
+    let mut now = *place;
+    let mut more = count;
+    let mut sum: u64 = 0;
+    while now.left <= more && now.row < rows.count {
+        sum += times(now.left, now.value);
+        more -= now.left;
+        let run = run_at(Ticket::of_place(), payload, rows, now.row);
+        now = RunPlace {
+            row: now.row + 1,
+            left: run.count,
+            value: run.value,
+        };
+    }
+    sum += times(more, now.value);
+    now.left -= more;
+    *place = now;
+    sum
 }

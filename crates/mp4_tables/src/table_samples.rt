@@ -9,12 +9,12 @@ ghost use Rattle.mp4_tables.specs.words.Timed.{samples_of};
 ghost use Rattle.mp4_tables.specs.words.Accepted.{IsAccepted, IsPlace, HaveBytes, HaveOffsets, HaveSync, IsRunPlaceAt, IsSyncPlaceIn, AreInOrder, tables_at, bytes_at, bytes_for, passed, offset_values, flags_here};
 ghost use Rattle.mp4_tables.specs.words.Accepted.{offset_rows as rows_of_offsets};
 
-use crate::chunks::{first_chunk, pass_sample};
+use crate::chunks::{first_chunk, pass_sample, pass_samples};
 use crate::indexes::{IndexPlaces, NO_ROWS};
 use crate::places::{BytesAt, OffsetsAt, RowsAt, RunPlace, SyncPlace, TablePlace, TablesAt};
 use crate::sample::SampleAt;
-use crate::sizes::size_at;
-use crate::stts_rows::{BEFORE_ROWS, lasting, pass, settle};
+use crate::sizes::{bytes_of, size_at};
+use crate::stts_rows::{BEFORE_ROWS, pass, pass_many, settle};
 use crate::sync_samples::{first_sync, pass_sync};
 use mp4_boxes::Ticket;
 
@@ -142,8 +142,24 @@ pub(crate) fn pass_place(payload: &[u8], at: &TablesAt, place: &mut TablePlace, 
     place.groups.pass(payload, &at.groups.rows);
 }
 
+// How many of all samples come behind so many and before the next number of `stss`.
+#[inline]
+fn before_sync(number: u32, all: u32, next: u32) -> u32
+    requires { number ≤ all }
+    ensures inside { number + result ≤ all }
+    ensures before { number < next → number + result < next }
+{
+    let left = all - number;
+    if next > number {
+        left.min(next - number - 1)
+    } else {
+        left
+    }
+}
+
 // Passes samples that are no sync samples and have this description, at most so many, where no
-// index is left. Up to the next sync sample the places in `stss` and in the `sbgp`s stay.
+// index is left: chunk by chunk, and then row by row in `stts` and in `ctts`. Up to the next sync
+// sample the places in `stss` and in the `sbgp`s stay.
 pub(crate) fn pass_non_sync(
     payload: &[u8],
     at: &TablesAt,
@@ -166,29 +182,19 @@ pub(crate) fn pass_non_sync(
     if !place.groups.are_over() {
         return 0;
     }
-    let offsets = offset_rows(at.offsets);
-    let mut number = place.number;
-    let mut dts = place.dts;
-    let mut duration = place.duration;
-    let mut offset = place.offset;
+    let first = place.number;
+    let few = before_sync(first, at.sizes.rows.count, place.sync.next).min(most);
     let mut chunk = place.chunk;
     let mut count = 0;
-    while count < most && number < at.sizes.rows.count {
-        if chunk.row.description != description || place.sync.next == number + 1 {
-            break;
-        }
-        let size = size_at(Ticket::of_place(), payload, at.sizes, number);
-        number += 1;
-        dts += lasting(duration);
-        pass(payload, at.durations, &mut duration);
-        pass(payload, offsets, &mut offset);
-        pass_sample(payload, &at.chunk_rows, &at.chunks, &mut chunk, size);
-        count += 1;
+    while count < few && chunk.row.description == description {
+        let some = chunk.left.min(few - count);
+        let bytes = bytes_of(payload, at.sizes, first + count, some);
+        pass_samples(payload, &at.chunk_rows, &at.chunks, &mut chunk, some, bytes);
+        count += some;
     }
-    place.number = number;
-    place.dts = dts;
-    place.duration = duration;
-    place.offset = offset;
+    place.number = first + count;
+    place.dts += pass_many(payload, at.durations, &mut place.duration, count);
+    pass_many(payload, offset_rows(at.offsets), &mut place.offset, count);
     place.chunk = chunk;
     count
 }

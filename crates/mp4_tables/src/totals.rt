@@ -1,11 +1,11 @@
 //! What the samples of tables come to together.
-ghost use Rattle.std.specs.Prelude.{ℕ, ◌≡◌, ◌+◌, ◌-◌, ◌*◌, ◌^◌, min};
+ghost use Rattle.std.specs.Prelude.{ℕ, ◌≡◌, ◌+◌, ◌-◌, ◌*◌, ◌^◌, ◌≤◌, min};
 ghost use Rattle.mp4_boxes.specs.format.Bytes.{sum_of};
 ghost use Rattle.mp4_tables.specs.format.Repeated.{repeated};
 ghost use Rattle.mp4_tables.specs.words.Rows.{HaveRoom, HaveSizes, runs_at, sizes_at};
 
 use crate::places::{RowsAt, SizesAt};
-use crate::sizes::size_at;
+use crate::sizes::checked_size_at;
 use crate::table_rows::run_at;
 use mp4_boxes::Steps;
 use std::sync::ledger::Ledger;
@@ -19,8 +19,10 @@ pub struct Totals {
 }
 
 // A number so many times.
-fn times(count: u32, value: u32) -> u64
-    ensures { result ≡ count * value }
+#[inline]
+pub(crate) fn times(count: u32, value: u32) -> u64
+    ensures is { result ≡ count * value }
+    ensures small { result ≤ count * (2 ^ 32 - 1) }
 {
     u64::from(count) * u64::from(value)
 }
@@ -48,7 +50,7 @@ pub(crate) fn sum_of_sizes<L: Ledger>(payload: &[u8], sizes: SizesAt, steps: &mu
 {
     let mut sum: u64 = 0;
     for i in 0..sizes.rows.count {
-        let size = size_at(steps.tick(), payload, sizes, i);
+        let size = checked_size_at(steps.tick(), payload, sizes, i);
         sum = sum.saturating_add(u64::from(size));
     }
     sum

@@ -17,8 +17,8 @@ pub returns-then-not-lies-clause-same : goal.returns-then-not-lies-clause-same
 returns-then-not-lies-clause-same g c =
     let n = sizes_length c.args.sizes.form c.args.payload.now c.args.sizes.rows in
     sym (c.loop-i.invariant.same
-    ∙ within_no (chunk_rows_at c.args.payload.now c.args.rows) (offsets_at c.args.payload.now c.args.chunks) (sizes_at c.args.payload.now c.args.sizes) c.loop-i.place c.args.file_len c.loop-i.i c.size_at-size.result
-    (c.requires.counts ∙ sym n) c.loop-i.invariant.place (omega arith) c.size_at-size.ensures (sym c.if-not-lies.ensures))
+    ∙ within_no (chunk_rows_at c.args.payload.now c.args.rows) (offsets_at c.args.payload.now c.args.chunks) (sizes_at c.args.payload.now c.args.sizes) c.loop-i.place c.args.file_len c.loop-i.i c.checked_size_at-size.result
+    (c.requires.counts ∙ sym n) c.loop-i.invariant.place (omega arith) c.checked_size_at-size.ensures (sym c.if-not-lies.ensures))
 
 pub pass_sample-requires-clause-place : goal.pass_sample-requires-clause-place
 pass_sample-requires-clause-place g c = lies_in_chunks c.args.payload.now c.args.rows c.args.chunks _ _ _ c.loop-i.invariant.place
@@ -37,11 +37,11 @@ loop-i-preserved g c =
     let opened = e.place.opened in
     let passed = e.place.passed in
     record {
-      place = spot_passed (chunk_rows_at c.args.payload.now c.args.rows) (offsets_at c.args.payload.now c.args.chunks) (sizes_at c.args.payload.now c.args.sizes) c.loop-i.place c.pass_sample.new.place c.loop-i.i c.size_at-size.result
-          c.loop-i.invariant.place (omega arith) c.size_at-size.ensures e.next e.settled (λ h. e.place.at (omega arith)) (omega arith) (omega arith);
+      place = spot_passed (chunk_rows_at c.args.payload.now c.args.rows) (offsets_at c.args.payload.now c.args.chunks) (sizes_at c.args.payload.now c.args.sizes) c.loop-i.place c.pass_sample.new.place c.loop-i.i c.checked_size_at-size.result
+          c.loop-i.invariant.place (omega arith) c.checked_size_at-size.ensures e.next e.settled (λ h. e.place.at (omega arith)) (omega arith) (omega arith);
       same = c.loop-i.invariant.same
-          ∙ within_yes (chunk_rows_at c.args.payload.now c.args.rows) (offsets_at c.args.payload.now c.args.chunks) (sizes_at c.args.payload.now c.args.sizes) c.loop-i.place c.args.file_len c.loop-i.i c.size_at-size.result
-          (c.requires.counts ∙ sym n) c.loop-i.invariant.place (omega arith) c.size_at-size.ensures (sym c.if-not-lies.ensures);
+          ∙ within_yes (chunk_rows_at c.args.payload.now c.args.rows) (offsets_at c.args.payload.now c.args.chunks) (sizes_at c.args.payload.now c.args.sizes) c.loop-i.place c.args.file_len c.loop-i.i c.checked_size_at-size.result
+          (c.requires.counts ∙ sym n) c.loop-i.invariant.place (omega arith) c.checked_size_at-size.ensures (sym c.if-not-lies.ensures);
       cost = omega arith;
     }
 
@@ -60,5 +60,5 @@ returns-then-not-lies-clause-stopped g c _ =
       count = c.loop-i.i + 1;
       steps = omega arith;
       wrong = front_fails _ (in_chunks rows 1 offsets sizes) _ c.loop-i.i _
-          (spot_ahead rows offsets sizes c.loop-i.place c.loop-i.i c.size_at-size.result (c.requires.counts ∙ sym n) c.loop-i.invariant.place (omega arith) c.size_at-size.ensures) (sym c.if-not-lies.ensures);
+          (spot_ahead rows offsets sizes c.loop-i.place c.loop-i.i c.checked_size_at-size.result (c.requires.counts ∙ sym n) c.loop-i.invariant.place (omega arith) c.checked_size_at-size.ensures) (sym c.if-not-lies.ensures);
     }

@@ -1,89 +1,68 @@
-use Rattle.std.proofs.Common.{◌+◌, ◌^◌, ◌<◌, ◌∙◌, refl, arith, rules}
-use Rattle.mp4_tables.specs.declared.places.TablePlace.{TablePlace}
-use Rattle.mp4_tables.proofs.GroupsHere.{groups_next}
-use Rattle.mp4_tables.proofs.IndexesLeft.{over_next}
-use Rattle.mp4_tables.proofs.NonSyncPassed.{non_sync_next, passes_one, sync_kept_in}
-use Rattle.mp4_tables.proofs.PlaceLists.{duration_left, duration_within, offset_left, offset_within, chunk_left, end_fits, place_passed}
+use Rattle.std.proofs.Common.{refl, arith, rules}
+use Rattle.mp4_tables.proofs.ManyPassed.{may_pass, samples_on, ends_fit, some_left_on, durations_come, offsets_come, placed_on}
+use Rattle.mp4_tables.proofs.PlaceLists.{duration_within, offset_within}
 use Rattle.mp4_tables.proofs.SpotLists.{lies_in_chunks}
 use Rattle.mp4_tables.proofs.table_samples.pass_non_sync.Goals as goal
 
-pub loop-count-init : goal.loop-count-init
-loop-count-init c = record {
-  place = c.requires.place;
-  few = omega arith;
-  passed = refl;
-  number = omega arith;
-  duration = omega arith;
-  offset = omega arith;
-  opened = omega arith;
-  row = omega arith;
-}
+pub pass_samples-requires-clause-place : goal.pass_samples-requires-clause-place
+pass_samples-requires-clause-place c = lies_in_chunks c.args.payload.now c.args.at.now.chunk_rows c.args.at.now.chunks _ _ _ c.loop-count.invariant.on.place.chunk
 
-pub overflow_add-dts : goal.overflow_add-dts
-overflow_add-dts c =
-    let early = c.loop-count.invariant.place.early in
-    omega (arith, early, c.lasting-dts.ensures.small)
+pub pass_samples-requires-clause-fits : goal.pass_samples-requires-clause-fits
+pass_samples-requires-clause-fits c =
+    let before = c.before_sync.ensures in
+    let few = c.min-few.ensures in
+    let some = c.min-some.ensures in
+    let test = c.loop-count-test.true in
+    let may = may_pass c.args.payload.now c.args.at.now c.args.place.now c.in-Some.field-0 c.before_sync.result c.min-few.result c.requires.ok (λ i. search rules) c.in-Some.is (c.if-not-are_over.ensures refl) before.inside before.before (omega (arith, few)) in
+    let left = some_left_on c.args.payload.now c.args.at.now c.args.description c.args.place.now c.min-few.result c.loop-count.chunk c.loop-count.count may test c.loop-count.invariant.on in
+    let fits = ends_fit c.args.payload.now c.args.at.now c.args.description c.args.place.now c.min-few.result c.loop-count.chunk c.loop-count.count c.min-some.result may (omega (arith, some, test)) (omega (arith, some, test, left)) (omega (arith, some))
+    c.if-chunk-description.true c.loop-count.invariant.on in
+    omega (arith, fits, c.bytes_of-bytes.ensures.is)
 
-pub pass-requires-clause-within : goal.pass-requires-clause-within
-pass-requires-clause-within c = duration_within c.args.payload.now c.args.at.now _ c.loop-count.invariant.place
-
-pub pass-requires-clause-some : goal.pass-requires-clause-some
-pass-requires-clause-some c = duration_left c.args.payload.now c.args.at.now _ c.requires.ok c.loop-count.invariant.place c.if-number-at.true
-
-pub pass-requires-in-loop-count-clause-within : goal.pass-requires-in-loop-count-clause-within
-pass-requires-in-loop-count-clause-within c = offset_within c.args.payload.now c.args.at.now _ c.offset_rows-offsets.result c.loop-count.invariant.place c.offset_rows-offsets.ensures
-
-pub pass-requires-in-loop-count-clause-some : goal.pass-requires-in-loop-count-clause-some
-pass-requires-in-loop-count-clause-some c = offset_left c.args.payload.now c.args.at.now _ c.requires.ok c.loop-count.invariant.place c.if-number-at.true
-
-pub pass_sample-requires-clause-place : goal.pass_sample-requires-clause-place
-pass_sample-requires-clause-place c = lies_in_chunks c.args.payload.now c.args.at.now.chunk_rows c.args.at.now.chunks _ _ _ c.loop-count.invariant.place.chunk
-
-pub pass_sample-requires-clause-some : goal.pass_sample-requires-clause-some
-pass_sample-requires-clause-some c = chunk_left c.args.payload.now c.args.at.now _ c.requires.ok c.loop-count.invariant.place c.if-number-at.true
-
-pub pass_sample-requires-clause-fits : goal.pass_sample-requires-clause-fits
-pass_sample-requires-clause-fits c = end_fits c.args.payload.now c.args.at.now _ c.size_at-size.result c.requires.ok c.loop-count.invariant.place c.if-number-at.true c.size_at-size.ensures
+pub loop-count-smaller : goal.loop-count-smaller
+loop-count-smaller c =
+    let before = c.before_sync.ensures in
+    let few = c.min-few.ensures in
+    let some = c.min-some.ensures in
+    let test = c.loop-count-test.true in
+    let may = may_pass c.args.payload.now c.args.at.now c.args.place.now c.in-Some.field-0 c.before_sync.result c.min-few.result c.requires.ok (λ i. search rules) c.in-Some.is (c.if-not-are_over.ensures refl) before.inside before.before (omega (arith, few)) in
+    let left = some_left_on c.args.payload.now c.args.at.now c.args.description c.args.place.now c.min-few.result c.loop-count.chunk c.loop-count.count may test c.loop-count.invariant.on in
+    omega (arith, some, test, left)
 
 pub loop-count-preserved : goal.loop-count-preserved
 loop-count-preserved c =
-    let payload = c.args.payload.now in
-    let at = c.args.at.now in
+    let before = c.before_sync.ensures in
+    let few = c.min-few.ensures in
+    let some = c.min-some.ensures in
+    let test = c.loop-count-test.true in
     let i = c.loop-count.invariant in
-    let is = i.place in
-    let p : TablePlace = record c.args.place.now { number = c.loop-count.number; dts = c.loop-count.dts; duration = c.loop-count.duration; offset = c.loop-count.offset; chunk = c.loop-count.chunk } in
-    let inside = c.if-number-at.true in
-    let lasts = c.lasting-dts.ensures in
-    let small : c.loop-count.duration.value < 2 ^ 32 = omega (arith, lasts.is, lasts.small) in
-    let d = c.pass.ensures in
-    let o = c.pass-in-loop-count.ensures in
-    let s = c.pass_sample.ensures in
-    let over = c.if-not-are_over.ensures refl in
-    let next = non_sync_next payload at p c.in-Some.field-0 c.requires.ok is inside c.in-Some.is c.if-place-number.false in
+    let s = c.pass_samples.ensures in
+    let may = may_pass c.args.payload.now c.args.at.now c.args.place.now c.in-Some.field-0 c.before_sync.result c.min-few.result c.requires.ok (λ i. search rules) c.in-Some.is (c.if-not-are_over.ensures refl) before.inside before.before (omega (arith, few)) in
+    let left = some_left_on c.args.payload.now c.args.at.now c.args.description c.args.place.now c.min-few.result c.loop-count.chunk c.loop-count.count may test i.on in
+    let same = rw c.bytes_of-bytes.ensures.is at s.same in
     record {
-      place = rw lasts.is (place_passed payload at p c.size_at-size.result c.offset_rows-offsets.result c.pass.new.place c.pass-in-loop-count.new.place c.pass_sample.new.place c.args.place.now.sync c.args.place.now.groups
-          c.requires.ok is inside c.size_at-size.ensures small c.offset_rows-offsets.ensures d.next d.settled d.within o.next o.settled o.within s.next s.settled s.place.at s.place.opened s.place.passed
-          (sync_kept_in payload at.sync p.sync (p.number + 1) is.sync (omega arith) c.if-place-number.false)
-          (groups_next payload at.groups p.groups p.groups p.number is.groups is.groups.places (over_next payload at.groups.rows p.groups is.groups.places over)));
-      few = search rules;
-      passed = passes_one c.args.description c.loop-count.count _ _ _ next.next i.passed next.first (next.is.0, next.is.1 ∙ c.if-chunk-description.false);
-      number = omega (arith, i.number);
-      duration = omega (arith, i.duration, d.on);
-      offset = omega (arith, i.offset, o.on);
+      on = samples_on c.args.payload.now c.args.at.now c.args.description c.args.place.now c.min-few.result c.loop-count.chunk c.pass_samples.new.place c.loop-count.count c.min-some.result may (omega (arith, some, test)) (omega (arith, some, test, left)) (omega (arith, some))
+          c.if-chunk-description.true i.on same s.settled s.place;
+      few = omega (arith, some, test);
       opened = omega (arith, i.opened, s.on.0);
       row = omega (arith, i.row, s.on.1);
     }
 
+pub pass_many-requires-clause-within : goal.pass_many-requires-clause-within
+pass_many-requires-clause-within c = duration_within c.args.payload.now c.args.at.now c.args.place.now c.requires.place
+
+pub pass_many-requires-clause-many : goal.pass_many-requires-clause-many
+pass_many-requires-clause-many c = durations_come c.args.payload.now c.args.at.now c.args.place.now c.loop-count.count c.requires.ok c.requires.place c.loop-count.invariant.on.place.within
+
+pub pass_many-requires-2-clause-within : goal.pass_many-requires-2-clause-within
+pass_many-requires-2-clause-within c = offset_within c.args.payload.now c.args.at.now c.args.place.now c.offset_rows.result c.requires.place c.offset_rows.ensures
+
+pub pass_many-requires-2-clause-many : goal.pass_many-requires-2-clause-many
+pass_many-requires-2-clause-many c = offsets_come c.args.payload.now c.args.at.now c.offset_rows.result c.args.place.now c.loop-count.count c.requires.ok c.requires.place c.loop-count.invariant.on.place.within c.offset_rows.ensures
+
 pub returns-clause-place : goal.returns-clause-place
-returns-clause-place c = c.loop-count.invariant.place
-
-pub returns-clause-few : goal.returns-clause-few
-returns-clause-few c = c.loop-count.invariant.few
-
-pub returns-clause-passed : goal.returns-clause-passed
-returns-clause-passed c = c.loop-count.invariant.passed
-
-pub returns-clause-on : goal.returns-clause-on
-returns-clause-on c =
-    let i = c.loop-count.invariant in
-    omega (arith, i.number, i.duration, i.offset, i.opened, i.row)
+returns-clause-place c =
+    let d = c.pass_many.ensures in
+    let o = c.pass_many-2.ensures in
+    placed_on c.args.payload.now c.args.at.now c.args.description c.args.place.now c.loop-count.count c.pass_many.result c.offset_rows.result c.pass_many.new.place c.pass_many-2.new.place c.loop-count.chunk
+    c.loop-count.invariant.on c.requires.place c.offset_rows.ensures d.sum d.next d.settled d.within o.next o.settled o.within

@@ -1,0 +1,20 @@
+//! Laws of the definitions: contracts that functions without a body meet.
+ghost use Rattle.mp4_head.specs.format.FirstFaultLaws.{JudgedHeadIsSound, JudgedHeadFaultStands};
+ghost use Rattle.mp4_head.specs.format.FirstFaultLaws.{SoundHeadIsJudged};
+
+/// Where no fault of a `moov` is named, apart from tables, it has the tree that is answered, and
+/// the tree is sound.
+pub fn judged_head_is_sound()
+    ensures { JudgedHeadIsSound }
+{}
+
+/// The fault of a `moov` that is named, apart from tables, stands there.
+pub fn judged_head_fault_stands()
+    ensures { JudgedHeadFaultStands }
+{}
+
+/// Where a `moov` has a sound tree, no fault of it is named, apart from tables, and the tree that
+/// is answered is that one.
+pub fn sound_head_is_judged()
+    ensures { SoundHeadIsJudged }
+{}
