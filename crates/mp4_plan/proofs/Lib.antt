@@ -99,3 +99,4 @@ mod PiecesPut
 mod WriterMade
 mod BytesLeft
 pub mod Plain
+pub mod Judged

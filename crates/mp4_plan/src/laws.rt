@@ -1,6 +1,6 @@
 //! Laws of the definitions.
 
-ghost use Rattle.mp4_plan.specs.format.Laws.{DenotedIsValid, DenotesOne, FaultRefuses, NormalDenotes, NormalIsExact, NormalIsFixed};
+ghost use Rattle.mp4_plan.specs.format.Laws.{DenotedIsValid, DenotesOne, FaultRefuses, FirstFaultRefuses, JudgedIsDenoted, NormalDenotes, NormalIsExact, NormalIsFixed, NormalIsJudged};
 ghost use Rattle.mp4_plan.specs.format.PieceLaws.{CutsAreLeast, FragmentsAreLast, PiecesAreDue, PiecesAreLongest, PiecesJoin};
 ghost use Rattle.mp4_plan.specs.words.PlannerLaws.{GatheringSumsUp};
 ghost use Rattle.mp4_plan.specs.words.PiecesComing.{TurnsBeginWithAll};
@@ -19,6 +19,21 @@ pub fn denotes_one()
 /// The normal form of a valid presentation denotes it.
 pub fn normal_denotes()
     ensures { NormalDenotes }
+{}
+
+/// A file denotes a presentation exactly if it is judged to be that one.
+pub fn judged_is_denoted()
+    ensures { JudgedIsDenoted }
+{}
+
+/// The normal form of a valid presentation is judged to be it.
+pub fn normal_is_judged()
+    ensures { NormalIsJudged }
+{}
+
+/// What has a first fault denotes nothing.
+pub fn first_fault_refuses()
+    ensures { FirstFaultRefuses }
 {}
 
 /// Normal forms of valid presentations are equal exactly if the presentations are.

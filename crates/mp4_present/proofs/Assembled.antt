@@ -24,7 +24,7 @@ use Rattle.mp4_head.specs.format.Tree.{TrackTree, MovieTree, IsTrackTree, IsSoun
 use Rattle.mp4_head.specs.declared.heads.MovieHead.{MovieHead}
 use Rattle.mp4_head.specs.declared.heads.TrackHead.{TrackHead}
 use Rattle.mp4_present.specs.declared.opening.Found.{Found}
-use Rattle.mp4_present.specs.format.Denotes.{FileTree, IsFileTree, IsSoundFile, IsConsistent, sample_of, plain_of, placed_of, first_due, track_of, file_parts, presentation_of}
+use Rattle.mp4_present.specs.format.Denotes.{Denotes, FileTree, IsFileTree, IsSoundFile, IsConsistent, sample_of, plain_of, placed_of, first_due, track_of, file_parts, presentation_of}
 use Rattle.mp4_present.specs.words.Measured.{IsMeasured, AreMeasured, IsMeasure, TimeFails, MovieFails, LimitFails}
 use Rattle.mp4_present.specs.format.Stands.{Stands, limit}
 use Rattle.mp4_boxes.specs.format.BoxFaults.{fault_of}
@@ -297,6 +297,17 @@ module _ (honest : Bool) (file : List ℕ) (o : Outline) (moov : List ℕ) (b : 
         own = own;
         mehd = longest;
       }
+
+  -- so it denotes their presentation
+  pub denoted : AllByRecursion (IsInTime (presentation_of file tree).movie.timescale) (presentation_of file tree).tracks → normal_moov_length (presentation_of file tree) ≤ max_moov → Denotes file (presentation_of file tree)
+  denoted times short = record {
+    tree = tree;
+    is_tree = is_file_tree;
+    is_sound = is_sound_file;
+    is_consistent = is_consistent_file;
+    says = refl;
+    limits = record { samples = few_samples file tree states p.room begin.movie_is p.behind; times = times; moov = short };
+  }
 
   -- ---- a limit that is passed
 

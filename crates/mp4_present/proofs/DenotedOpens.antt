@@ -5,7 +5,7 @@ use Rattle.mp4_boxes.specs.declared.fault.Fault.{Fault}
 use Rattle.mp4_boxes.specs.declared.refusal.Refusal.{Refusal}
 use Rattle.mp4_boxes.specs.declared.refusal.Refusal.TheVariants as refusals
 use Rattle.mp4_present.specs.format.Denotes.{Denotes}
-use Rattle.mp4_present.specs.words.Opening.{RefusesOpen, RefusesDenoted}
+use Rattle.mp4_present.specs.words.Opening.{RefusesFile, RefusesDenoted}
 use Rattle.mp4_present.specs.words.Outline.{RefusesOutline}
 use Rattle.mp4_present.specs.format.Presentation.{Presentation}
 use Rattle.mp4_present.specs.words.Reading.{RefusesRead}
@@ -30,7 +30,7 @@ stands_refuses count = count_refuses
 stands_refuses limit = limit_refuses
 stands_refuses order = order_refuses
 
-pub denoted_opens : (honest : Bool) (file : List ℕ) (p : Presentation) (reads reads_after : ℕ) (r : Refusal) → IsTrue honest → Denotes file p → RefusesOpen honest file reads reads_after r → RefusesDenoted reads reads_after r
+pub denoted_opens : (honest : Bool) (file : List ℕ) (p : Presentation) (reads reads_after : ℕ) (r : Refusal) → IsTrue honest → Denotes file p → RefusesFile honest file reads reads_after r → RefusesDenoted reads reads_after r
 denoted_opens honest file p reads reads_after (refusals.Fault f) told d w = let s = w told in stands_refuses s.0 file f p s.1 d
 denoted_opens honest file p reads reads_after refusals.Memory told d w = tt
 denoted_opens honest file p reads reads_after refusals.StoreFailed told d w = w
@@ -39,7 +39,7 @@ denoted_opens honest file p reads reads_after refusals.WriteFailed told d w = w
 denoted_opens honest file p reads reads_after refusals.NoSuchTrack told d w = w
 
 -- why there is no outline is why the file is not opened
-pub outline_refuses : (honest : Bool) (file : List ℕ) (reads reads_after : ℕ) (r : Refusal) → RefusesOutline honest file reads reads_after r → RefusesOpen honest file reads reads_after r
+pub outline_refuses : (honest : Bool) (file : List ℕ) (reads reads_after : ℕ) (r : Refusal) → RefusesOutline honest file reads reads_after r → RefusesFile honest file reads reads_after r
 outline_refuses honest file reads reads_after (refusals.Fault f) w = w
 outline_refuses honest file reads reads_after refusals.Memory w = tt
 outline_refuses honest file reads reads_after refusals.StoreFailed w = w

@@ -147,7 +147,8 @@ parts_joined movie earlier t =
     ap (flat_map (parts_of (trexes_of movie))) (map-append fragment_of earlier (t ∷ [])) ∙ flat_map-append (parts_of (trexes_of movie)) (map fragment_of earlier) (fragment_of t ∷ [])
     ∙ ap (λ ps. parts_behind movie earlier ++ ps) (append-nil (parts_of (trexes_of movie) (fragment_of t)))
 
-counted_more : (movie : MovieTree) (earlier : List FragmentTree) (t : FragmentTree) → counted movie (earlier ++ t ∷ []) ≡ counted movie earlier + trafs_total t.trafs
+-- how many samples are named with one more
+pub counted_more : (movie : MovieTree) (earlier : List FragmentTree) (t : FragmentTree) → counted movie (earlier ++ t ∷ []) ≡ counted movie earlier + trafs_total t.trafs
 counted_more movie earlier t = joined (table_total movie.tracks) _ _ _ (sum-append (λ (e : FragmentTree). trafs_total e.trafs) earlier (t ∷ []))
   where
     joined : (tables before one all : ℕ) → all ≡ before + (one + 0) → tables + all ≡ (tables + before) + one

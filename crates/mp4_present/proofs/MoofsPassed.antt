@@ -145,6 +145,11 @@ module _ (file : List ℕ) (movie : MovieTree) (boxes : List Box) (at most : ℕ
     unfolding under_way_more
     more_fragments = refl
 
+    -- those behind it are left
+    pub more_left : under_way_more.left.boxes ≡ n.1
+    unfolding under_way_more
+    more_left = next_boxes file at most top u.left w n
+
 -- a `moof` that was read to the front of a room
 pub record IsRead (file : List ℕ) (top : TopBox) (m : Box) (bytes : List ℕ) (len : ℕ) : Type 0 where
   pub is : m ≡ record { kind = top.header.kind.0; offset = top.offset; header = top.header.header; payload = take len bytes }
@@ -185,6 +190,17 @@ module _ (file : List ℕ) (movie : MovieTree) (boxes : List Box) (at most : ℕ
       let on = subst (λ (x : Box). AreMovedOn x.offset (pos x.offset) (of_kind (codes "traf") (children_of x)) states new room less) there moved in
       let of_bytes : AreBytes (box_at file top).payload = subst (λ (x : Box). AreBytes x.payload) there (subst (λ (x : Box). AreBytes x.payload) (sym r.is) (bytes_taken len bytes r.of_bytes)) in
       more_fragments file movie boxes at most start states whole room b u top w n new less sound on of_bytes
+
+  -- those behind it are left
+  pub next_left : (new : List TrackState) (less : ℕ) (sound_by : (trexes : List Trex) → AreTrexesOf trexes states → IsSoundMoof L trexes states (tree_of m)) (moved : AreMovedOn m.offset (pos m.offset) (of_kind (codes "traf") (children_of m)) states new room less)
+      → (next_passed new less sound_by moved).left.boxes ≡ n.1
+  unfolding next_passed
+  next_left new less sound_by moved =
+      let own = sound_by (trexes_of movie) (trexes_behind file movie u.fragments states room u.behind) in
+      let sound : IsSoundMoof (length file) (trexes_of movie) states (tree_of (box_at file top)) = subst (λ (k : ℕ). IsSoundMoof k (trexes_of movie) states (tree_of (box_at file top))) e (subst (λ (x : Box). IsSoundMoof L (trexes_of movie) states (tree_of x)) there own) in
+      let on = subst (λ (x : Box). AreMovedOn x.offset (pos x.offset) (of_kind (codes "traf") (children_of x)) states new room less) there moved in
+      let of_bytes : AreBytes (box_at file top).payload = subst (λ (x : Box). AreBytes x.payload) there (subst (λ (x : Box). AreBytes x.payload) (sym r.is) (bytes_taken len bytes r.of_bytes)) in
+      more_left file movie boxes at most start states whole room b u top w n new less sound on of_bytes
 
   -- it was refused
   pub next_refused : (f : Fault) → MoofFails L states room m f → Stands file f

@@ -23,7 +23,7 @@ use Rattle.mp4_head.specs.declared.heads.MovieHead.{MovieHead}
 use Rattle.mp4_head.proofs.Above.{stands_in_file}
 use Rattle.mp4_present.specs.words.Movies.{Fills}
 use Rattle.mp4_present.specs.words.Outline.{box_at}
-use Rattle.mp4_present.specs.words.Opening.{HasOutline, RefusesOpen}
+use Rattle.mp4_present.specs.words.Opening.{HasOutline, RefusesFile}
 use Rattle.mp4_present.specs.format.Denotes.{HasMovie}
 use Rattle.mp4_present.specs.words.PassedMoofs.{IsBegun, RefusesFragments}
 use Rattle.mp4_frag.specs.declared.state.TrackState.{TrackState}
@@ -130,7 +130,7 @@ pub its_movie : (honest : Bool) (file : List ℕ) (o : Outline) (moov : List ℕ
 its_movie honest file o moov b head ids r says are told = let k = r.outline told in has_movie file k.0 b head ids k.1 k.2 (its_moov honest file o moov b r told) says are
 
 -- its head is at fault
-pub open_not_sound : (honest : Bool) (file : List ℕ) (o : Outline) (moov : List ℕ) (b : Box) (reads : ℕ) (r : Refusal) → IsRead honest file o moov b → RefusesIn (place_of (ruled Movie) b) r → RefusesOpen honest file reads reads r
+pub open_not_sound : (honest : Bool) (file : List ℕ) (o : Outline) (moov : List ℕ) (b : Box) (reads : ℕ) (r : Refusal) → IsRead honest file o moov b → RefusesIn (place_of (ruled Movie) b) r → RefusesFile honest file reads reads r
 open_not_sound honest file o moov b reads (refusals.Fault f) i w = λ told. let k = i.outline told in head_stands file k.0 b f k.1 (its_moov honest file o moov b i told) w
 open_not_sound honest file o moov b reads refusals.Memory i w = tt
 open_not_sound honest file o moov b reads refusals.StoreFailed i w = absurd w
@@ -144,7 +144,7 @@ pub record IsThere (file : List ℕ) (m : MovieTree) : Type 0 where
   pub stands : StandsAfter (file_container file) before m.moov
   pub kind : m.moov.kind ≡ codes "moov"
 
-moov_there : (file : List ℕ) (boxes : List Box) (b : Box) (m : MovieTree) → Holds File (file_container file) boxes → of_kind (codes "moov") boxes ≡ b ∷ [] → m.moov ≡ b → IsThere file m
+pub moov_there : (file : List ℕ) (boxes : List Box) (b : Box) (m : MovieTree) → Holds File (file_container file) boxes → of_kind (codes "moov") boxes ≡ b ∷ [] → m.moov ≡ b → IsThere file m
 moov_there file boxes b m holds one e =
     let i = is_among (codes "moov") boxes b [] one in
     let all : LieEndToEnd true 0 file ((i.before ++ b ∷ []) ++ i.after) = subst (λ (bs : List Box). LieEndToEnd true 0 file bs) (i.is ∙ sym (append_assoc i.before (b ∷ []) i.after)) holds.tiles.front.0 in
@@ -166,7 +166,7 @@ tracks_read b head says = are_tracks says.has.tree.tracks head.tracks.items says
 
 -- its tables are at fault
 pub open_not_fit : (honest : Bool) (file : List ℕ) (o : Outline) (moov : List ℕ) (b : Box) (head : MovieHead) (file_length reads : ℕ) (r : Refusal) → IsRead honest file o moov b → SaysHead b head → file_length ≡ length file
-    → RefusesTables file_length head.tracks.items r → RefusesOpen honest file reads reads r
+    → RefusesTables file_length head.tracks.items r → RefusesFile honest file reads reads r
 open_not_fit honest file o moov b head file_length reads (refusals.Fault f) i says e w = λ told.
     let k = i.outline told in
     let there = moov_there file k.0 b says.has.tree k.1 (its_moov honest file o moov b i told) says.has.is_moov in
@@ -178,7 +178,7 @@ open_not_fit honest file o moov b head file_length reads refusals.WriteFailed i 
 open_not_fit honest file o moov b head file_length reads refusals.NoSuchTrack i says e w = w
 
 pub open_not_passed : (honest : Bool) (file : List ℕ) (states : List TrackState) (room reads reads_after : ℕ) (r : Refusal) → (IsTrue honest → (movie : MovieTree) × (boxes : List Box) × IsBegun file movie boxes states room)
-    → RefusesFragments honest file states room reads reads_after r → RefusesOpen honest file reads reads_after r
+    → RefusesFragments honest file states room reads reads_after r → RefusesFile honest file reads reads_after r
 open_not_passed honest file states room reads reads_after (refusals.Fault f) m w = λ told. let k = m told in w told k.0 k.1 k.2
 open_not_passed honest file states room reads reads_after refusals.Memory m w = tt
 open_not_passed honest file states room reads reads_after refusals.StoreFailed m w = w

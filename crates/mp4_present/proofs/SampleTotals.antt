@@ -57,7 +57,7 @@ none_total : (tracks : List TrackTree) → fragments_total [] tracks ≡ 0
 none_total [] = refl
 none_total (u ∷ tracks) = omega (arith, none_total tracks)
 
-parts_most : (parts : List Part) (tracks : List TrackTree) → are_distinct (map id_of tracks) ≡ true → fragments_total parts tracks ≤ parts_total parts
+pub parts_most : (parts : List Part) (tracks : List TrackTree) → are_distinct (map id_of tracks) ≡ true → fragments_total parts tracks ≤ parts_total parts
 parts_most [] tracks d = let e = none_total tracks in omega (arith, e)
 parts_most (q ∷ parts) tracks d = omega (arith, part_most q parts tracks d, parts_most parts tracks d)
 

@@ -27,7 +27,7 @@ empty (x ∷ xs) e = absurd (omega arith)
 has_none : (part : Part) → has_samples part ≡ false → length (part_samples part) ≡ 0
 has_none part e = let le = ltb-false 0 (length (part_samples part)) e in omega arith
 
-lasts_none : (xs : List PlacedSample) → length xs ≡ 0 → duration_of xs ≡ 0
+pub lasts_none : (xs : List PlacedSample) → length xs ≡ 0 → duration_of xs ≡ 0
 lasts_none xs e = ap duration_of (empty xs e)
 
 fills_none : (xs : List PlacedSample) → length xs ≡ 0 → bytes_of xs ≡ 0
@@ -79,7 +79,7 @@ start_by [] xs ys e = rw e refl
 one_starts : (part : Part) → has_samples part ≡ true → start_of [] (part ∷ []) ≡ says_time part
 one_starts part e = rw e refl
 
-start_first : (plain : List PlacedSample) (own : List Part) (part : Part) → length (plain ++ samples_of own) ≡ 0 → has_samples part ≡ true → start_of plain (own ++ part ∷ []) ≡ says_time part
+pub start_first : (plain : List PlacedSample) (own : List Part) (part : Part) → length (plain ++ samples_of own) ≡ 0 → has_samples part ≡ true → start_of plain (own ++ part ∷ []) ≡ says_time part
 start_first [] own part e h = start_by [] (own ++ part ∷ []) (part ∷ []) (find_behind own (part ∷ []) e) ∙ one_starts part h
 start_first (s ∷ plain) own part e h = absurd (omega arith)
 

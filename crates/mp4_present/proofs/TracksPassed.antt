@@ -16,15 +16,16 @@ pub record IsBeside {A B : Type 0} (R : A → B → Type 0) (xs : List A) (k : �
   pub goes : R x y
   pub split : xs ≡ take k xs ++ x ∷ drop (suc k) xs
   pub first : take (suc k) xs ≡ take k xs ++ x ∷ []
+  pub rest : drop k xs ≡ x ∷ drop (suc k) xs
 
 pub beside : {A B : Type 0} (R : A → B → Type 0) (xs : List A) (ys : List B) (k : ℕ) (d : B) → AllZip R xs ys → k < length ys → IsBeside R xs k (slice_index_or ys k d)
 beside R [] [] k d z lt = absurd (omega (arith, lt))
 beside R [] (y ∷ ys) k d z lt = absurd z
 beside R (x ∷ xs) [] k d z lt = absurd z
-beside R (x ∷ xs) (y ∷ ys) zero d z lt = record { x = x; goes = z.0; split = refl; first = refl }
+beside R (x ∷ xs) (y ∷ ys) zero d z lt = record { x = x; goes = z.0; split = refl; first = refl; rest = refl }
 beside {A} R (x ∷ xs) (y ∷ ys) (suc k) d z lt =
     let r = beside R xs ys k d z.1 (omega (arith, lt)) in
-    record { x = r.x; goes = r.goes; split = ap (λ (l : List A). x ∷ l) r.split; first = ap (λ (l : List A). x ∷ l) r.first }
+    record { x = r.x; goes = r.goes; split = ap (λ (l : List A). x ∷ l) r.split; first = ap (λ (l : List A). x ∷ l) r.first; rest = r.rest }
 
 pub zip_length : {A B : Type 0} (R : A → B → Type 0) (xs : List A) (ys : List B) → AllZip R xs ys → length xs ≡ length ys
 zip_length R [] [] z = refl

@@ -9,3 +9,4 @@ pub mod ComparisonLaws
 pub mod CompleteLaws
 pub mod FaultNumbers
 pub mod Judge
+pub mod JudgeLaws

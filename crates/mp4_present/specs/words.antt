@@ -3,6 +3,9 @@ pub mod Movies
 pub mod Reading
 pub mod Outline
 pub mod TopJudged
+pub mod TablesFirst
+pub mod MoofsJudged
+pub mod FileJudged
 pub mod Joined
 pub mod Plain
 pub mod Carried

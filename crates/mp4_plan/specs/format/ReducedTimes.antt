@@ -27,7 +27,7 @@ pub record ReducedTimePasses (l : Without) (file : List ℕ) (tree : FileTree) (
   pub named : f ≡ fault_of TimeTooLarge (first_of (codes "tkhd") t.track)
 
 -- What is left of the presentation that the file denotes is too long: the fault names the first
--- track of which that is so.
+-- track of which that is so. (It is said by `Denotes`, whose tree has the place of the `tkhd`.)
 pub record ReducedFaultStands (l : Without) (file : List ℕ) (f : Fault) : Type 0 where
   pub p : Presentation
   pub denotes : Denotes file p

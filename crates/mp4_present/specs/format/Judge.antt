@@ -118,17 +118,18 @@ moofs_or_fault file_length movie passed (moof ∷ moofs) =
 
 -- ---- limits
 
+-- the times of each track
+abbrev pub times_tests : ℕ → List TrackTree → List Track → List (Test Fault)
+times_tests timescale [] ts = []
+times_tests timescale (u ∷ us) [] = []
+times_tests timescale (u ∷ us) (t ∷ ts) = (
+  nat_le (end_time t) max_time && nat_le (track_length timescale t) max_time,
+  fault_of TimeTooLarge (first_of (codes "tkhd") u.track),
+) ∷ times_tests timescale us ts
+
 abbrev pub limit_tests : FileTree → Presentation → List (Test Fault)
-limit_tests tree p = each tree.movie.tracks p.tracks
+limit_tests tree p = times_tests p.movie.timescale tree.movie.tracks p.tracks
     ++ (nat_le (normal_moov_length p) max_moov, fault_of MovieTooLarge tree.movie.moov) ∷ []
-  where
-    each : List TrackTree → List Track → List (Test Fault)
-    each [] ts = []
-    each (u ∷ us) [] = []
-    each (u ∷ us) (t ∷ ts) = (
-      nat_le (end_time t) max_time && nat_le (track_length p.movie.timescale t) max_time,
-      fault_of TimeTooLarge (first_of (codes "tkhd") u.track),
-    ) ∷ each us ts
 
 -- ---- all of it
 

@@ -1,8 +1,8 @@
--- Which faults stand in a file: what is so where a fault is named, by nine kinds of reason. Checks
--- go in this order, and the first fault found is named: headers at top level; `moov`; the tables of
--- each track; each `moof`; the limits. Within a leaf: room for its first four bytes, version,
--- flags, room for the rest, the count of samples, then the other kinds in the order of `Kind`, but
--- in `stsc` order before counts.
+-- Which faults stand in a file: what is so where a fault is named, by nine kinds of reason, without
+-- an order. Which is the first is said by `Judge`: headers at top level; `moov`; the tables of each
+-- track; each `moof`; the limits. Within a leaf: room for its first four bytes, version, flags,
+-- room for the rest, the count of samples, then the other kinds in the order of `Kind`, but in
+-- `stsc` order before counts.
 use Rattle.std.specs.Prelude.{◌≡◌, ℕ, suc, ◌+◌, ◌<◌, ◌≤◌, ◌⊎◌, false, IsTrue, List, [], ◌∷◌, ◌++◌, length, take, map, Some, unwrap_or, slice_get, codes, Contains, flat_map}
 use Rattle.std.specs.List.{AllByRecursion}
 use Rattle.mp4_boxes.specs.format.Bytes.{sum_of, field}

@@ -10,6 +10,7 @@ ghost use Rattle.mp4_frag.specs.words.OwnTrafs.{own_seen};
 ghost use Rattle.mp4_present.specs.words.OwnTrafs.{none_noted};
 ghost use Rattle.mp4_frag.specs.words.States.{HaveRoom};
 ghost use Rattle.mp4_present.specs.words.Opening.{HasOutline};
+ghost use Rattle.mp4_present.specs.words.MoofsJudged.{NamesMoofs};
 ghost use Rattle.mp4_present.specs.words.OpeningWork.{ChecksMoofs, NotesOn};
 ghost use Rattle.mp4_present.specs.words.PassedMoofs.{RefusesFragments};
 ghost use Rattle.mp4_present.specs.words.WalkSteps.{ChecksAll};
@@ -53,6 +54,8 @@ fn pass_fragments<S: Store, L: Ledger, M: Ledger>(
         ChecksAll file steps.old steps.new)) }
     ensures refusal { RefusedOf S.Store store.old store.new result (λ honest file.
         RefusesFragments honest file states.old room) }
+    ensures exact { WhereHonest S.Store store.old (λ file.
+        NamesMoofs file states.old room (λ _. states.new) result) }
 {
     let file_len = store.len();
     let mut room = room;
@@ -104,6 +107,8 @@ pub(crate) fn check_fragments<S: Store, L: Ledger, M: Ledger>(
         ChecksAll file steps.old steps.new)) }
     ensures refusal { RefusedOf S.Store store.old store.new result (λ honest file.
         RefusesFragments honest file plain.now.states.items plain.now.room) }
+    ensures exact { WhereHonest S.Store store.old (λ file. NamesMoofs file
+        plain.now.states.items plain.now.room (λ states. states.items) result) }
 {
     let mut states = Vec::new(alloc);
     states.extend_from_slice(plain.states.as_slice())?;

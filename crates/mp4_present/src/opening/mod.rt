@@ -7,7 +7,8 @@ ghost use Rattle.mp4_head.specs.declared.heads.TrackHead.{TrackHead};
 ghost use Rattle.mp4_present.specs.format.Presentation.{Presentation};
 ghost use Rattle.mp4_present.specs.format.Denotes.{Denotes, FileTree};
 ghost use Rattle.mp4_present.specs.words.OpenedMovie.{IsInfoBy, IsOpenedAs, OpensAs, kept_of};
-ghost use Rattle.mp4_present.specs.words.Opening.{HasOutline, IsOpened, RefusesDenoted, RefusesOpen};
+ghost use Rattle.mp4_present.specs.words.Opening.{HasOutline, IsOpened, RefusesDenoted, RefusesFile, RefusesOpen};
+ghost use Rattle.mp4_present.specs.words.FileJudged.{NamesBehindTop, NamesJudged};
 ghost use Rattle.mp4_present.specs.words.OpeningWork.{ChecksFile, HaveInfos};
 ghost use Rattle.mp4_present.specs.words.StoresRead.{OnlyReads, WhereHonest, WhereRead, Refused, RefusedOf};
 ghost use Rattle.mp4_present.specs.words.ToOpen.{IsPayloadIn, HasTables, HasTracks, LooksToOpen, TakesToOpen, WorksToOpen};
@@ -78,7 +79,7 @@ fn infos_of(
 }
 
 // Checks all that a file of this outline has, behind the headers of its own boxes: what is found is
-// what is kept of an opened movie, or a fault stands in the file.
+// what is kept of an opened movie, or the first fault of the file is named.
 fn find<S: Store, L: Ledger, M: Ledger>(
     alloc: Global,
     store: &mut S,
@@ -100,7 +101,8 @@ fn find<S: Store, L: Ledger, M: Ledger>(
         ChecksFile file result steps.old steps.new looks.old looks.new) }
     ensures least { OnOk result (WhereHonest S.Store store.old (λ file.
         TakesToOpen file steps.old steps.new)) }
-    ensures refusal { RefusedOf S.Store store.old store.new result RefusesOpen }
+    ensures refusal { RefusedOf S.Store store.old store.new result RefusesFile }
+    ensures exact { WhereHonest S.Store store.old (λ file. NamesBehindTop file result) }
 {
     let view = outline.moov.view(moov);
     let head = read_head(alloc, view)?;
@@ -117,10 +119,9 @@ fn find<S: Store, L: Ledger, M: Ledger>(
     })
 }
 
-/// Reads a file to the presentation that it denotes, or names a fault that stands in it. The `moov`
-/// is read once and kept; each `moof` is read, checked and given up before the next; media data is
-/// not read. Steps are rows, runs, samples and `traf`s; a look finds the track of a `traf` by its
-/// ID.
+/// Reads a file to the presentation that it denotes, or names its first fault. The `moov` is read
+/// once and kept; each `moof` is read, checked and given up before the next; media data is not
+/// read. Steps are rows, runs, samples and `traf`s; a look finds the track of a `traf` by its ID.
 pub fn open_movie<S: Store, L: Ledger, M: Ledger>(
     alloc: Global,
     store: &mut S,
@@ -143,6 +144,7 @@ pub fn open_movie<S: Store, L: Ledger, M: Ledger>(
     ensures looks { WhereHonest S.Store store.old (λ file. LooksToOpen file result looks.old
         looks.new) }
     ensures refusal { RefusedOf S.Store store.old store.new result RefusesOpen }
+    ensures exact { WhereHonest S.Store store.old (λ file. NamesJudged file result) }
 {
     let outline = read_outline(alloc, store)?;
     let at = outline.moov.payload_offset();

@@ -7,6 +7,7 @@ ghost use Rattle.mp4_head.specs.format.Tree.{TrackTree};
 ghost use Rattle.mp4_present.specs.words.TablesChecked.{AreTrexesById, IsStateBehind, WhereTrees};
 ghost use Rattle.mp4_present.specs.words.Plain.{ArePlain, HaveTablesIn};
 ghost use Rattle.mp4_present.specs.words.TrackTrees.{AreTracksOf, HaveTables, RefusesTables};
+ghost use Rattle.mp4_present.specs.words.TablesFirst.{NamesOfTracks};
 ghost use Rattle.mp4_present.specs.words.WalkSteps.{IfNoFault, least_table_steps, table_steps};
 
 use crate::movie::TrackTables;
@@ -88,6 +89,7 @@ impl PlainTracks {
     ghost use Rattle.mp4_present.specs.words.TablesChecked.{AreTrexesById, ChecksTables};
     ghost use Rattle.mp4_present.specs.words.Plain.{ArePlain, HasTablesIn};
     ghost use Rattle.mp4_present.specs.words.TrackTrees.{IsTrackOf, HaveTables, RefusesTable};
+    ghost use Rattle.mp4_present.specs.words.TablesFirst.{NamesOfTrack};
     ghost use Rattle.mp4_present.specs.words.ToOpen.{OneMorePlain, OneMoreSaid};
     ghost use Rattle.mp4_present.specs.words.WalkSteps.{IfNoFault, least_table_steps, table_steps};
 
@@ -126,6 +128,7 @@ impl PlainTracks {
         ensures least { OnOk result ((t : TrackTree) → IsTrackOf t track.now
             → steps.old + least_table_steps t ≤ steps.new) }
         ensures refusal { IfErr result (RefusesTable file_len self.old.room track.now) }
+        ensures exact { NamesOfTrack file_len self.old.room track.now result }
     {
         let mut keys = Keys::new();
         let stbl = track.stbl;
@@ -166,6 +169,7 @@ pub(crate) fn check_tables<L: Ledger>(
     ensures within { steps.new ≤ steps.old + 5 * 2 ^ 24
         + 6 * (length head.now.tracks.items * length (box_seen moov.entry).payload) }
     ensures refusal { IfErr result (RefusesTables file_len head.now.tracks.items) }
+    ensures exact { NamesOfTracks file_len head.now.tracks.items result }
 {
     let trexes = trexes_by_id(alloc, &head.trexes)?;
     let mut plain = PlainTracks::none(alloc);

@@ -1,10 +1,13 @@
 use Rattle.std.proofs.Common.{◌≡◌, rules, min, length, map, refl, sym, ◌∙◌}
-use Rattle.std.specs.Prelude.{ℤ, IsTrue}
+use Rattle.std.specs.Prelude.{ℤ, IsTrue, codes}
+use Rattle.mp4_boxes.specs.format.Children.{of_kind}
+use Rattle.mp4_frag.specs.words.TrafTests.{MoofFirst}
 use Rattle.std.proofs.lemmas.Result.{err_from_is_err_and}
 use Rattle.mp4_present.proofs.FragmentPass.{last_moof, left_first, left_next, next_moof, next_whole, stands_behind, top_at}
 use Rattle.mp4_frag.specs.words.OwnTrafs.{own_seen}
 use Rattle.mp4_present.proofs.TrafsNoted.{owns_first, owns_next, all_noted}
 use Rattle.mp4_present.proofs.MoofsPassed.{IsRead, under_way_first, not_read, not_passed, all_passed, next_passed, next_refused}
+use Rattle.mp4_present.proofs.MoofsJudged.{judged_first, judged_next, judged_refused, all_judged, refused_judged, unread_judged}
 use Rattle.mp4_boxes.specs.words.View.{box_seen}
 use Rattle.mp4_present.proofs.ChecksCounted.{steps_first, next_checked, next_stopped, stopped_steps, if_stopped, checks_all, checks_done}
 use Rattle.mp4_present.proofs.WalkWork.{checked_all}
@@ -31,6 +34,7 @@ loop-top-init g c =
         to_come = λ told. let o = c.requires.outline told in rw c.deref-top-items.ensures.value o.3.moofs;
         left = λ told. let o = c.requires.outline told in left_first file o.0 outline o.1 o.3;
         so = λ told movie boxes b. let o = c.requires.outline told in under_way_first file movie boxes o.0 outline c.args.states.now c.args.room o.1 o.3 b;
+        first = λ told movie boxes b. let o = c.requires.outline told in judged_first file movie boxes o.0 outline c.args.states.now c.args.room o.1 o.3 b;
         each = c.requires.rooms.1;
         ids = refl;
         own = λ told movie boxes b own. let o = c.requires.outline told in owns_first file movie boxes o.0 outline c.args.states.now c.args.room (map own_seen c.args.own.now) o.1 o.3 b own;
@@ -89,6 +93,18 @@ loop-top-preserved g c =
             next_passed file movie boxes at c.args.outline.now.longest c.args.states.now c.loop-top.states c.args.room c.loop-top.room b u top whole.0 ((coming told).0 u.left.boxes u.left.are_from)
             (box_seen c.view-moof.result) c.read_payload.new.room c.in_ok-len.len c.len-file_len.result r c.len-file_len.ensures
             c.check_moof.new.tracks c.check_moof.new.room c.in_ok-check_moof.ensures.sound c.in_ok-check_moof.ensures.moved;
+        first = λ told movie boxes b.
+            let u = i.first told movie boxes b in
+            let r : IsRead file top (box_seen c.view-moof.result) c.read_payload.new.room c.in_ok-len.len = record {
+              is = c.view-moof.ensures;
+              fills = c.in_ok-len.ensures.fills.0;
+              within = c.in_ok-len.ensures.fills.1;
+              read = (rw (i.honesty, i.file) at c.in_ok-len.ensures.bytes) told;
+              of_bytes = c.in_ok-len.ensures.room;
+            } in
+            judged_next file movie boxes at c.args.outline.now.longest c.args.states.now c.loop-top.states c.args.room c.loop-top.room b u top whole.0 ((coming told).0 u.0.left.boxes u.0.left.are_from)
+            (box_seen c.view-moof.result) c.read_payload.new.room c.in_ok-len.len c.len-file_len.result r c.len-file_len.ensures
+            c.check_moof.new.tracks c.check_moof.new.room c.in_ok-check_moof.ensures.sound c.in_ok-check_moof.ensures.moved c.in_ok-check_moof.ensures.exact.names;
         each = search rules;
         ids = c.in_ok-check_moof.ensures.accepted.kept.ids ∙ i.ids;
         own = λ told movie boxes b own.
@@ -252,3 +268,49 @@ returns-in_err-check_moof-clause-work g c =
 
 pub check_moof-requires-clause-places : goal.check_moof-requires-clause-places
 check_moof-requires-clause-places g c = rw c.loop-top.invariant.1.ids c.requires.places
+
+pub returns-in_err-len-clause-exact : goal.returns-in_err-len-clause-exact
+returns-in_err-len-clause-exact g c =
+    let p = err_from_is_err_and c.from_residual.result c.from_residual.ensures.1 in
+    let file = g.S.Store.file c.args.store.now in
+    rw (p.1, p.2) (λ told. record {
+      names = λ movie boxes b.
+          unread_judged file movie c.args.room (of_kind (codes "moof") boxes) _ (top_at c.deref-top-items.result.now c.loop-top.top-index) _ _ c.in_err-len.field-0.0 c.in_err-len.ensures.refusal;
+    })
+
+pub returns-in_err-check_moof-clause-exact : goal.returns-in_err-check_moof-clause-exact
+returns-in_err-check_moof-clause-exact g c =
+    let p = err_from_is_err_and c.from_residual-in_err-check_moof.result c.from_residual-in_err-check_moof.ensures.1 in
+    let at = c.loop-top.invariant.0 in
+    let i = c.loop-top.invariant.1 in
+    let file = g.S.Store.file c.args.store.now in
+    let items = c.deref-top-items.result.now in
+    let k = c.loop-top.top-index in
+    let top = top_at items k in
+    let whole = next_whole items k c.loop-top-test.true (length file) i.whole in
+    let coming = λ (told : IsTrue (g.S.Store.is_honest c.args.store.now)). next_moof items k c.loop-top-test.true file at (i.to_come told) in
+    rw (p.1, p.2) (λ told. record {
+      names = λ movie boxes b.
+          let u = i.first told movie boxes b in
+          let r : IsRead file top (box_seen c.view-moof.result) c.read_payload.new.room c.in_ok-len.len = record {
+            is = c.view-moof.ensures;
+            fills = c.in_ok-len.ensures.fills.0;
+            within = c.in_ok-len.ensures.fills.1;
+            read = (rw (i.honesty, i.file) at c.in_ok-len.ensures.bytes) told;
+            of_bytes = c.in_ok-len.ensures.room;
+          } in
+          refused_judged file movie c.args.room (of_kind (codes "moof") boxes) (MoofFirst c.len-file_len.result c.loop-top.states c.loop-top.room (box_seen c.view-moof.result)) c.in_err-check_moof.field-0.0
+          (judged_refused file movie boxes at c.args.outline.now.longest c.args.states.now c.loop-top.states c.args.room c.loop-top.room b u top whole.0 ((coming told).0 u.0.left.boxes u.0.left.are_from)
+          (box_seen c.view-moof.result) c.read_payload.new.room c.in_ok-len.len c.len-file_len.result r c.len-file_len.ensures)
+          c.in_err-check_moof.ensures.exact.names;
+    })
+
+pub returns-clause-exact : goal.returns-clause-exact
+returns-clause-exact g c = λ told. record {
+  names = λ movie boxes b.
+      let at = c.loop-top.invariant.0 in
+      let i = c.loop-top.invariant.1 in
+      let u = i.first told movie boxes b in
+      let file = g.S.Store.file c.args.store.now in
+      all_judged file movie boxes at c.args.outline.now.longest c.loop-top.states c.args.room c.loop-top.room u (last_moof file at c.deref-top-items.result.now c.loop-top.top-index c.loop-top-test.false (i.to_come told) u.0.left.boxes u.0.left.are_from);
+}

@@ -6,6 +6,7 @@ use Rattle.mp4_boxes.specs.format.Box.{Box}
 use Rattle.mp4_head.specs.format.Tree.{MovieTree}
 use Rattle.mp4_present.specs.words.PassedMoofs.{IsBegun}
 use Rattle.mp4_present.proofs.MoofsPassed.{IsUnderWay}
+use Rattle.mp4_present.proofs.MoofsJudged.{JudgedUnderWay}
 use Rattle.std.specs.Prelude.{IsTrue}
 use Rattle.mp4_frag.specs.words.States.{HaveRoom}
 use Rattle.mp4_frag.specs.words.Noted.{ids_of}
@@ -33,6 +34,8 @@ invariant-loop-top g l =
       to_come : IsTrue (g.S.Store.is_honest l.fn.store) → AreMoofsFrom (g.S.Store.file l.fn.store) next (drop l.top-index l.top-items);
       left : IsTrue (g.S.Store.is_honest l.fn.store) → Left (g.S.Store.file l.fn.store) next l.outline.longest;
       so : IsTrue (g.S.Store.is_honest l.fn.store) → (movie : MovieTree) (boxes : List Box) → IsBegun (g.S.Store.file l.fn.store) movie boxes l.fn.states l.fn.room → IsUnderWay (g.S.Store.file l.fn.store) movie boxes next l.outline.longest l.states l.room;
+      first : IsTrue (g.S.Store.is_honest l.fn.store) → (movie : MovieTree) (boxes : List Box) → IsBegun (g.S.Store.file l.fn.store) movie boxes l.fn.states l.fn.room
+          → JudgedUnderWay (g.S.Store.file l.fn.store) movie boxes next l.outline.longest l.states l.fn.room l.room;
       each : length l.own ≡ length l.fn.states;
       ids : ids_of l.states ≡ ids_of l.fn.states;
       own : IsTrue (g.S.Store.is_honest l.fn.store) → (movie : MovieTree) (boxes : List Box) → IsBegun (g.S.Store.file l.fn.store) movie boxes l.fn.states l.fn.room → map own_seen l.fn.own ≡ map (λ _. none_noted) l.fn.states

@@ -4,6 +4,7 @@ use Rattle.mp4_head.specs.format.Tree.{TrackTree}
 use Rattle.mp4_present.specs.words.Plain.{ArePlain, HaveTablesIn}
 use Rattle.mp4_present.specs.words.TrackTrees.{AreTracksOf, HaveTables}
 use Rattle.mp4_present.proofs.OpeningBytes.{TracksFit}
+use Rattle.mp4_present.proofs.TablesFirst.{TablesLeft}
 use Rattle.mp4_present.proofs.TablesWork.{TracksLeft, TracksTaken}
 use Rattle.mp4_present.proofs.opening.tables_pass.check_tables.Given as goal
 
@@ -15,3 +16,4 @@ invariant-loop-track g l =
     × TracksLeft l.track-items l.track-index l.fn.steps l.steps
     × TracksTaken l.track-items l.track-index l.fn.steps l.steps
     × TracksFit l.track-index (length (box_seen l.moov).payload) l.plain.room l.fn.steps l.steps
+    × TablesLeft l.file_len l.track-items l.track-index l.plain.room

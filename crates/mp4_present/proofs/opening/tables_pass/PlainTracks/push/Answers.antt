@@ -9,6 +9,9 @@ use Rattle.mp4_present.proofs.TablesKept.{IsRead, tables_are, state_is, bytes_fe
 use Rattle.mp4_boxes.specs.words.View.{box_seen}
 use Rattle.mp4_present.proofs.OpeningBytes.{track_fits, of_less, refused_fits}
 use Rattle.mp4_present.proofs.TablesWork.{if_no_fault, track_least, track_within}
+use Rattle.std.proofs.Common.{ap}
+use Rattle.mp4_boxes.specs.format.FirstFault.{first_failed}
+use Rattle.mp4_present.proofs.TablesFirst.{tests_are}
 use Rattle.mp4_present.proofs.opening.tables_pass.PlainTracks.push.Goals as goal
 
 pub returns-clause-one_more : goal.returns-clause-one_more
@@ -95,3 +98,21 @@ pub returns-in_err-tables-clause-work : goal.returns-in_err-tables-clause-work
 returns-in_err-tables-clause-work g c =
     let p = err_from_is_err_and c.from_residual.result c.from_residual.ensures.1 in
     rw (p.1, p.2) (record { said = tt; within = refused_fits (box_seen c.args.moov) (box_seen c.args.track.now.stbl) _ _ _ c.requires.inside.inside c.check.ensures.work; less = tt })
+
+pub returns-in_err-tables-clause-exact : goal.returns-in_err-tables-clause-exact
+returns-in_err-tables-clause-exact g c =
+    let p = err_from_is_err_and c.from_residual.result c.from_residual.ensures.1 in
+    rw (p.1, p.2) (λ file e t i. record { names = sym (ap first_failed (tests_are _ _ _ c.args.track.now t file e i (subst AreBytes c.payload.ensures c.length_of-len.ensures.bytes) c.description_count-descriptions.ensures)) ∙ c.in_err-tables.ensures.exact.names })
+
+pub returns-clause-exact : goal.returns-clause-exact
+returns-clause-exact g c = λ file e t i. record { names = sym (ap first_failed (tests_are _ _ _ c.args.track.now t file e i (subst AreBytes c.payload.ensures c.length_of-len.ensures.bytes) c.description_count-descriptions.ensures)) ∙ c.in_ok-tables.ensures.exact.names }
+
+pub returns-in_err-push-clause-exact : goal.returns-in_err-push-clause-exact
+returns-in_err-push-clause-exact g c =
+    let p = err_from_is_err_and c.from_residual-in_err-push.result c.from_residual-in_err-push.ensures.1 in
+    rw (p.1, p.2) (λ file e t i. record { names = tt })
+
+pub returns-in_err-push-2-clause-exact : goal.returns-in_err-push-2-clause-exact
+returns-in_err-push-2-clause-exact g c =
+    let p = err_from_is_err_and c.from_residual-in_err-push-2.result c.from_residual-in_err-push-2.ensures.1 in
+    rw (p.1, p.2) (λ file e t i. record { names = tt })
