@@ -1,11 +1,12 @@
 -- Two files compared: what is listed, and what there is to say of it.
-use Rattle.std.proofs.Common.{◌≡◌, ◌⊎◌, inl, inr, ℕ, zero, suc, ◌+◌, ◌*◌, ◌<◌, ◌≤◌, List, [], ◌∷◌, ◌++◌, length, take, nat_eq, Bool, true, false, refl, sym, ap, subst, ◌∙◌, arith}
+use Rattle.std.proofs.Common.{◌≡◌, ◌⊎◌, inl, inr, ℕ, zero, suc, ◌+◌, ◌*◌, ◌<◌, ◌≤◌, List, [], ◌∷◌, ◌++◌, length, take, nat_eq, Bool, true, false, refl, sym, ap, subst, ◌∙◌, arith, Ok}
 use Rattle.std.specs.Prelude.{◌↔◌, Option, None, Some, slice_get, IsTrue}
 use Rattle.std.proofs.lemmas.Bool.{ne_eqb}
 use Rattle.mp4_boxes.specs.declared.refusal.Refusal.{Refusal}
 use Rattle.mp4_boxes.specs.declared.refusal.Refusal.TheVariants as refusals
 use Rattle.mp4_present.specs.format.Comparison.{differences}
 use Rattle.mp4_present.specs.format.Denotes.{FileTree, IsFileTree, Denotes, presentation_of}
+use Rattle.mp4_present.specs.format.Judge.{judge}
 use Rattle.mp4_present.specs.format.Presentation.{Presentation, Valid, sample_total}
 use Rattle.mp4_present.specs.format.Reduced.{reduce}
 use Rattle.mp4_present.specs.words.Compared.{TakesFront}
@@ -20,6 +21,7 @@ use Rattle.mp4_present.proofs.DenotedValid.{denoted_is_valid}
 use Rattle.mp4norm.specs.format.CompareHeadline.{IsVerdict, ComparesWithin, most_counted}
 use Rattle.mp4norm.specs.format.Steps.{WorksWithin, most_steps, row_total}
 use Rattle.mp4_present.specs.words.Compared.{files_differ}
+use Rattle.mp4_plan.proofs.Judged.{denoted_judged}
 use Rattle.mp4norm.specs.words.Compares.{side_of, says_nothing, IsSaid, ListsFront, WalksThrice, RefusesBoth, RefusesCompare}
 use Rattle.mp4norm.specs.declared.commands.compare.Failure.{Failure}
 use Rattle.mp4norm.proofs.StepSums.{two_walks}
@@ -81,13 +83,16 @@ module _ (file : List ℕ) (m : MovieSeen) (tree : FileTree) (o : IsOpenedAs fil
   pub denotes_by : Denotes file (presentation_of file tree)
   denotes_by = record { tree = tree; is_tree = o.is_tree; is_sound = o.is_sound; is_consistent = o.is_consistent; says = refl; limits = o.limits }
 
+  pub judged_by : judge file ≡ Ok (presentation_of file tree)
+  judged_by = denoted_judged file (presentation_of file tree) denotes_by
+
 pub verdict : (l : Without) (file other : List ℕ) (m n : MovieSeen) {A : Type 0} (found : Option A) (same : Bool) → same ≡ says_nothing found → (a : (tree : FileTree) × IsOpenedAs file m tree) → (b : (tree : FileTree) × IsOpenedAs other n tree)
     → IsSaid found (files_differ l file a.0 other b.0) → IsVerdict l file other same
 verdict l file other m n found same is a b said = record {
   p = presentation_of file a.0;
   q = presentation_of other b.0;
-  first = denotes_by file m a.0 a.1;
-  second = denotes_by other n b.0 b.1;
+  first = judged_by file m a.0 a.1;
+  second = judged_by other n b.0 b.1;
   is = λ x y. verdict_of l (presentation_of file a.0) (presentation_of other b.0) found same is said
       (denoted_is_valid file (presentation_of file a.0) x (denotes_by file m a.0 a.1)) (denoted_is_valid other (presentation_of other b.0) y (denotes_by other n b.0 b.1));
 }

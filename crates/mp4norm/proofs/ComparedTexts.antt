@@ -25,7 +25,7 @@ use Rattle.mp4norm.specs.words.Compares.{IsCounted, IsEnough, IsEnoughFor, IsEno
 use Rattle.mp4norm.specs.words.Suggested.{differ_in_all, suggested}
 use Rattle.mp4_plan.proofs.Covering.{same_without_more}
 use Rattle.mp4norm.proofs.EnoughWords.{covers_more, or_true, some_suggested, words_for, words_suggested}
-use Rattle.mp4norm.proofs.ComparedFiles.{denotes_by, first_said, true_false}
+use Rattle.mp4norm.proofs.ComparedFiles.{denotes_by, first_said, judged_by, true_false}
 
 -- ---- words that are named leave out what was asked for
 
@@ -189,8 +189,8 @@ told_of bytes listing l file other m n (Some text) same Took is differ put a b h
       record {
         p = presentation_of file a.0;
         q = presentation_of other b.0;
-        first = first;
-        second = second;
+        first = judged_by file m a.0 a.1;
+        second = judged_by other n b.0 b.1;
         tells = λ x y. tells_of listing l (presentation_of file a.0) (presentation_of other b.0) (bytes text) (denoted_is_valid file (presentation_of file a.0) x first) (denoted_is_valid other (presentation_of other b.0) y second) h;
       },
       put,

@@ -13,11 +13,11 @@ use Rattle.mp4norm.specs.format.AnswerLaws.{run_told, NormalisedSaysBytes}
 use Rattle.mp4norm.specs.format.Headline.{HasNormalForm}
 use Rattle.mp4norm.specs.format.Headline as headline
 use Rattle.mp4norm.specs.format.Run.{Run, Honest, PutsAll, PutsFront, PutsSomeOf}
-use Rattle.mp4norm.proofs.ShownLines.{denoted}
+use Rattle.mp4norm.proofs.ShownLines.{judged}
 
 -- the normal form of what was opened is that of its file
 pub normal_form : (file : List ℕ) (m : MovieSeen) (tree : FileTree) → IsOpenedAs file m tree → HasNormalForm file (normal (presentation_of file tree))
-normal_form file m tree o = (presentation_of file tree, denoted file m tree o, refl)
+normal_form file m tree o = (presentation_of file tree, judged file m tree o, refl)
 
 -- ---- what is so of the boxes of a file that was opened, is so of what it denotes
 
@@ -53,7 +53,7 @@ front_told file before after reads reads_after puts puts_after p = (take p.2.0 p
 
 pub says_bytes : NormalisedSaysBytes
 says_bytes file before after reads reads_after puts puts_after (Ok done) n = let p = n.1 refl in (p.0, p.1, p.2)
-says_bytes file before after reads reads_after puts puts_after (Err (refusals.Fault f)) n = let s = n.1 refl in (s.0, s.1, n.0 ∙ append-nil before)
+says_bytes file before after reads reads_after puts puts_after (Err (refusals.Fault f)) n = (n.1 refl, n.0 ∙ append-nil before)
 says_bytes file before after reads reads_after puts puts_after (Err refusals.Memory) n = n ∙ append-nil before
 says_bytes file before after reads reads_after puts puts_after (Err refusals.StoreFailed) n = elim (n.1 refl) [
   | inl none ↦ inl (none ∙ append-nil before)

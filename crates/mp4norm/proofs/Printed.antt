@@ -19,7 +19,7 @@ use Rattle.mp4_present.specs.declared.without.Without.{Without}
 use Rattle.mp4norm.specs.format.FileTexts.{PrintsText}
 use Rattle.mp4norm.specs.format.Text.{front_lines, movie_lines, text, track_text}
 use Rattle.mp4norm.proofs.Going.{Going, going_none}
-use Rattle.mp4norm.proofs.ShownLines.{denoted}
+use Rattle.mp4norm.proofs.ShownLines.{judged}
 use Rattle.mp4norm.proofs.TextsGoOn.{text_next, text_fails, texts_not_put, texts_put}
 
 -- some of the first bytes of the text of the file were put; all of them were
@@ -55,7 +55,7 @@ module _ (l : Without) (file : List ℕ) (m : MovieSeen) (tree : FileTree) (head
       ∙ ap (λ (h : heads.Head). front_lines l ++ (movie_lines (reduce_movie_head l h.movie) ++ (tracks_part ++ end))) (sym said)
 
   prints : PrintsText l file whole
-  prints = (presentation_of file tree, denoted file m tree o, refl)
+  prints = (presentation_of file tree, judged file m tree o, refl)
 
   module _ {Y : Type 0} {takes : Y → Y → List ℕ → Type 0} (joins : IsJoining takes) (a b c d e f : Y) (nothing : takes a a []) (held_b held_c held_d held_e : List ℕ) where
     begun : Going (takes a a) [] [] whole whole

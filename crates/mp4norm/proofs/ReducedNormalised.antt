@@ -11,21 +11,21 @@ use Rattle.mp4_present.specs.format.Reduced.{ReducesInTime, reduce, reduce_track
 use Rattle.mp4_present.specs.words.Movies.{MovieSeen}
 use Rattle.mp4_present.specs.words.OpenedMovie.{IsOpenedAs}
 use Rattle.mp4_present.specs.declared.without.Without.{Without}
-use Rattle.mp4_present.proofs.One.{denotes_one}
 use Rattle.mp4_present.proofs.WalkCopied.{on_err}
 use Rattle.mp4_plan.specs.format.Normal.{normal}
 use Rattle.mp4_plan.specs.format.ReducedTimes.{ReducedFaultStands}
 use Rattle.mp4_plan.specs.words.LeftTimes.{NamesLong, RefusesLeftCopy}
 use Rattle.mp4_plan.specs.words.MadeWriters.{TellsLong}
+use Rattle.mp4_plan.proofs.Judged.{judged_one}
 use Rattle.mp4_plan.proofs.ReducedFaults.{in_time_or, opened_stands}
 use Rattle.mp4norm.specs.format.Answers.{IsFaultOf}
 use Rattle.mp4norm.specs.format.ReducedHeadline.{HasReducedForm, IsTooLong}
 use Rattle.mp4norm.specs.format.Run.{Run, Honest, PutsNothing, PutsAll, PutsFront, PutsSomeOf, Answered}
-use Rattle.mp4norm.proofs.ShownLines.{denoted}
+use Rattle.mp4norm.proofs.ShownLines.{judged}
 
 -- the normal form of what is left of what was opened is one of its file
 reduced_form : (l : Without) (file : List ℕ) (m : MovieSeen) (tree : FileTree) → IsOpenedAs file m tree → ReducesInTime l (presentation_of file tree) → HasReducedForm l file (normal (reduce l (presentation_of file tree)))
-reduced_form l file m tree o in_time = (presentation_of file tree, denoted file m tree o, in_time, refl)
+reduced_form l file m tree o in_time = (presentation_of file tree, judged file m tree o, in_time, refl)
 
 -- what is left is too long, or it is not
 times_or : (l : Without) (timescale : ℕ) (tracks : List Track) → AllByRecursion (λ (t : Track). IsInTime timescale (reduce_track l t)) tracks ⊎ (AllByRecursion (λ (t : Track). IsInTime timescale (reduce_track l t)) tracks → ⊥)
@@ -134,7 +134,7 @@ module _ (l : Without) (r : Run) (honest_then : Bool) (file_then : List ℕ) (m 
   pub none_too_long : {T : Type 0} (answer : Result T Refusal) → Then honest_then file_then (λ f t. TellsLong l f t answer (PutsNothing r)) → Honest r → IsTooLong l r.file → PutsNothing r
   none_too_long answer long told late =
       let tells = so (λ f t. TellsLong l f t answer (PutsNothing r)) long told in
-      let same : presentation_of r.file (opened told).0 ≡ late.0 = denotes_one r.file (presentation_of r.file (opened told).0) late.0 (denoted r.file m (opened told).0 (opened told).1) late.1 in
+      let same : presentation_of r.file (opened told).0 ≡ late.0 = judged_one r.file (presentation_of r.file (opened told).0) late.0 (judged r.file m (opened told).0 (opened told).1) late.1 in
       tells.nothing (λ in_time. late.2 (subst (ReducesInTime l) same in_time))
 
   pub reduced_unchanged : {T : Type 0} (answer : Result T Refusal) → Then honest_then file_then (λ f t. IfErr answer (λ e. e ≡ refusals.StoreChanged → ⊥)) → Honest r → IfErr answer (λ e. e ≡ refusals.StoreChanged → ⊥)

@@ -7,22 +7,22 @@ use Rattle.mp4_boxes.specs.declared.refusal.Refusal.{Refusal}
 use Rattle.mp4_boxes.specs.declared.refusal.Refusal.TheVariants as refusals
 use Rattle.mp4_present.specs.words.Carried.{RefusesCarry, RefusesCopy, RefusesPut}
 use Rattle.mp4_present.specs.words.Opening.{RefusesOpen}
-use Rattle.mp4_present.specs.format.Stands.{Stands}
-use Rattle.mp4_present.proofs.DenotedOpens.{stands_refuses}
+use Rattle.mp4_present.specs.format.Judge.{judge}
+use Rattle.mp4_plan.proofs.Judged.{first_fault_refuses}
 use Rattle.mp4norm.specs.format.Answers.{IsFaultOf}
 use Rattle.mp4norm.specs.format.Headline.{DenotesNothing}
 use Rattle.mp4norm.specs.format.Run.{Run, Honest, PutsNothing, PutsAll, PutsFront, PutsAtOnce, Answered}
 
--- where a fault stands nothing is denoted
-pub denotes_nothing : (file : List ℕ) (f : Fault) → Stands file f → DenotesNothing file
-denotes_nothing file f s p d = stands_refuses s.0 file f p s.1 d
+-- what has a first fault denotes nothing
+pub denotes_nothing : (file : List ℕ) (f : Fault) → judge file ≡ Err f → DenotesNothing file
+denotes_nothing file f e p d = first_fault_refuses file f p e d
 
 -- ---- one refusal
 
 module _ (A : Type 0) (r : Run) (IsText : List ℕ → Type 0) (IsFault : Fault → Type 0) (Lacks : Type 0) where
   -- a file is not opened
   pub open_fails : (e : Refusal) → ((f : Fault) → IsFaultOf r.file f → IsFault f) → PutsNothing r → RefusesOpen r.honest r.file r.reads r.reads_after e → Answered {A = A} r IsText IsFault Lacks (Err e)
-  open_fails (refusals.Fault f) i n w = (n, λ told. i f (w told, denotes_nothing r.file f (w told)))
+  open_fails (refusals.Fault f) i n w = (n, λ told. i f (w told))
   open_fails refusals.Memory i n w = n
   open_fails refusals.StoreFailed i n w = (w, λ told. inl n)
   open_fails refusals.StoreChanged i n w = w

@@ -1,5 +1,5 @@
 -- The line that shows a movie is that of the presentation that its file denotes.
-use Rattle.std.proofs.Common.{◌≡◌, ℕ, List, [], ◌∷◌, ◌++◌, length, refl, sym, ap, subst, ◌∙◌}
+use Rattle.std.proofs.Common.{◌≡◌, ℕ, List, [], ◌∷◌, ◌++◌, length, refl, sym, ap, subst, ◌∙◌, Ok}
 use Rattle.std.specs.Prelude.{map}
 use Rattle.std.specs.List.{AllByRecursion, AllZip}
 use Rattle.serde_json.specs.Data.{Data}
@@ -13,12 +13,14 @@ use Rattle.mp4_head.specs.declared.heads.MovieHead.{MovieHead}
 use Rattle.mp4_head.proofs.Distinct.{map_twice}
 use Rattle.mp4_head.proofs.ReadAgain.{said_of}
 use Rattle.mp4_present.specs.format.Denotes.{FileTree, Denotes, file_parts, placed_of, track_of, presentation_of}
+use Rattle.mp4_present.specs.format.Judge.{judge}
 use Rattle.mp4_present.specs.words.Movies.{MovieSeen, moov_box}
 use Rattle.mp4_present.specs.words.OpenedMovie.{IsOpenedAs}
 use Rattle.mp4_present.specs.words.OpenedMovie as opened
 use Rattle.mp4_present.specs.format.Presentation.{Track}
 use Rattle.mp4_present.specs.declared.track_info.TrackInfo.{TrackInfo}
 use Rattle.mp4_present.proofs.SamplesLie.{IsInFile, placed_lie, data_length}
+use Rattle.mp4_plan.proofs.Judged.{denoted_judged}
 use Rattle.mp4norm.specs.format.Texts.{line_feed}
 use Rattle.mp4norm.specs.words.ShowValue.{ShowValue}
 use Rattle.mp4norm.specs.format.FileTexts.{ShowsLine}
@@ -27,6 +29,10 @@ use Rattle.mp4norm.proofs.ShownTracks.{IsInfoOf, shown_is}
 -- what was opened is what the file denotes
 pub denoted : (file : List ℕ) (m : MovieSeen) (tree : FileTree) → IsOpenedAs file m tree → Denotes file (presentation_of file tree)
 denoted file m tree o = record { tree = tree; is_tree = o.is_tree; is_sound = o.is_sound; is_consistent = o.is_consistent; says = refl; limits = o.limits }
+
+-- and what the file is judged to be
+pub judged : (file : List ℕ) (m : MovieSeen) (tree : FileTree) → IsOpenedAs file m tree → judge file ≡ Ok (presentation_of file tree)
+judged file m tree o = denoted_judged file (presentation_of file tree) (denoted file m tree o)
 
 -- the samples of the track lie in the file
 abbrev pub LieInFile : List ℕ → FileTree → TrackTree → Type 0
@@ -53,4 +59,4 @@ shows file m tree head mehd infos text line o says t e n l =
     let tracks : tracks_seen head ≡ map (λ (u : Track). u.head) p.tracks = ap (λ (h : heads.Head). h.tracks) said ∙ sym (map_twice (track_of file (file_parts tree)) (λ (u : Track). u.head) tree.movie.tracks) in
     let numbers : AllZip IsInfoOf p.tracks infos = subst (λ (ns : List TrackInfo). AllZip IsInfoOf p.tracks ns) (sym n) (infos_of file tree tree.movie.tracks m.tracks (each_lies file m tree o) o.tracks) in
     let value = shown_is p (movie_seen head) (tracks_seen head) mehd infos (ap (λ (h : heads.Head). h.movie) said) tracks (e ∙ o.mehd) numbers in
-    (p, denoted file m tree o, l ∙ ap (λ (bs : List ℕ). bs ++ line_feed) (t ∙ ap (λ (d : Data). compact_text d) value))
+    (p, judged file m tree o, l ∙ ap (λ (bs : List ℕ). bs ++ line_feed) (t ∙ ap (λ (d : Data). compact_text d) value))

@@ -185,11 +185,13 @@ same_edit these those a b xs ys h k e =
     inl (λ i. record { segment_duration = duration i; media_time = time i; rate_integer = integer i; rate_fraction = fraction i }, r.1)
 
 -- lists of boxes under a name, of payloads under a name, and of edits
-same_boxes : (these those : List (List ℕ)) (name : List ℕ) (first : ℕ) → ((x : Kept) (zs : List ℕ) → slice_index (kept_lines name x ++ zs) 1 ≡ first) → (us bs : List Kept) (xs ys : List ℕ) → Differs 1 first xs → Differs 1 first ys → AllByRecursion (IsBoxIn these) us → AllByRecursion (IsBoxIn those) bs
+same_boxes : (these those : List (List ℕ)) (name : List ℕ) (first : ℕ) → ((x : Kept) (zs : List ℕ) → slice_index (kept_lines name x ++ zs) 1 ≡ first) → (us bs : List Kept) (xs ys : List ℕ) → Differs 1 first xs → Differs 1 first ys → AllByRecursion (IsBoxIn these) us
+    → AllByRecursion (IsBoxIn those) bs
     → flat_map (kept_lines name) us ++ xs ≡ flat_map (kept_lines name) bs ++ ys → Same these those us bs xs ys
 same_boxes these those name first begins us bs xs ys p q h k e = same_each these those (IsBoxIn these) (IsBoxIn those) (λ zs. Unit {0}) (kept_lines name) 1 first begins (λ x zs. tt) (λ x y us vs r s i j f. same_box these those name x y us vs i j f) us bs xs ys tt tt p q h k e
 
-same_payloads : (these those : List (List ℕ)) (name : List ℕ) (first : ℕ) → ((x : List ℕ) (zs : List ℕ) → slice_index (payload_lines name x ++ zs) 1 ≡ first) → (us bs : List (List ℕ)) (xs ys : List ℕ) → Differs 1 first xs → Differs 1 first ys → AllByRecursion (IsToldIn these) us → AllByRecursion (IsToldIn those) bs
+same_payloads : (these those : List (List ℕ)) (name : List ℕ) (first : ℕ) → ((x : List ℕ) (zs : List ℕ) → slice_index (payload_lines name x ++ zs) 1 ≡ first) → (us bs : List (List ℕ)) (xs ys : List ℕ) → Differs 1 first xs → Differs 1 first ys → AllByRecursion (IsToldIn these) us
+    → AllByRecursion (IsToldIn those) bs
     → flat_map (payload_lines name) us ++ xs ≡ flat_map (payload_lines name) bs ++ ys → Same these those us bs xs ys
 same_payloads these those name first begins us bs xs ys p q h k e = same_each these those (IsToldIn these) (IsToldIn those) (λ zs. Unit {0}) (payload_lines name) 1 first begins (λ x zs. tt) (λ x y us vs r s i j f. same_under these those name x y us vs i j f) us bs xs ys tt tt p q h k e
 
@@ -296,7 +298,8 @@ record IsToldMovie (m : MovieHead) : Type 0 where
 movie_are_words : (m : MovieHead) → AreWords (movie_words m)
 movie_are_words m = ((decimal_word m.creation, tt), ((decimal_word m.modification, tt), ((decimal_word m.timescale, tt), ((signed_word m.rate, tt), ((signed_word m.volume, tt), (matrix_words m.matrix, tt))))))
 
-same_movie : (these those : List (List ℕ)) (m n : MovieHead) (xs ys : List ℕ) → IsToldMovie m → IsToldMovie n → AllByRecursion (Contains these) (payloads_of m.kept) → AllByRecursion (Contains those) (payloads_of n.kept) → Differs 1 107 xs → Differs 1 107 ys → movie_lines m ++ xs ≡ movie_lines n ++ ys → Same these those m n xs ys
+same_movie : (these those : List (List ℕ)) (m n : MovieHead) (xs ys : List ℕ) → IsToldMovie m → IsToldMovie n → AllByRecursion (Contains these) (payloads_of m.kept) → AllByRecursion (Contains those) (payloads_of n.kept) → Differs 1 107 xs → Differs 1 107 ys
+    → movie_lines m ++ xs ≡ movie_lines n ++ ys → Same these those m n xs ys
 same_movie these those m n xs ys h k i o p q e =
     let split = λ (x : MovieHead) (zs : List ℕ). six_apart (codes "movie\n") (number_line (codes "creation") x.creation) (number_line (codes "modification") x.modification) (number_line (codes "timescale") x.timescale) (named_line (codes "rate") (signed_decimal x.rate ∷ []))
     (named_line (codes "volume") (signed_decimal x.volume ∷ [])) (named_line (codes "matrix") (map signed_decimal x.matrix)) (flat_map (kept_lines (codes "kept")) x.kept) zs in
@@ -377,9 +380,11 @@ same_media these those m n xs ys h k i o p q e =
     let X = (m ≡ n) × (xs ≡ ys) in
     with_same these those X m.handler n.handler (first m xs) (first n ys) (same_under these those (codes "handler") m.handler n.handler (first m xs) (first n ys) (h.handler, i.0) (k.handler, o.0) r.1)
     (λ handler more. with_same these those X m.extended_languages n.extended_languages (second m xs) (second n ys)
-    (same_payloads these those (codes "extended language") 101 (λ y zs. refl) m.extended_languages n.extended_languages (second m xs) (second n ys) no_e no_e (payloads_in these m.extended_languages h.languages (languages_in these m i)) (payloads_in those n.extended_languages k.languages (languages_in those n o)) more)
+    (same_payloads these those (codes "extended language") 101 (λ y zs. refl) m.extended_languages n.extended_languages (second m xs) (second n ys) no_e no_e (payloads_in these m.extended_languages h.languages (languages_in these m i))
+    (payloads_in those n.extended_languages k.languages (languages_in those n o)) more)
     (λ languages rest. with_same these those X m.header n.header (third m xs) (third n ys) (same_box these those (codes "media header") m.header n.header (third m xs) (third n ys) (h.header, rest_in.0) (k.header, rest_too.0) rest)
-    (λ header last. with_same these those X m.descriptions n.descriptions xs ys (same_boxes these those (codes "description") 100 (λ y zs. refl) m.descriptions n.descriptions xs ys p q (boxes_in these m.descriptions h.descriptions rest_in.1) (boxes_in those n.descriptions k.descriptions rest_too.1) last)
+    (λ header last.
+    with_same these those X m.descriptions n.descriptions xs ys (same_boxes these those (codes "description") 100 (λ y zs. refl) m.descriptions n.descriptions xs ys p q (boxes_in these m.descriptions h.descriptions rest_in.1) (boxes_in those n.descriptions k.descriptions rest_too.1) last)
     (λ descriptions end. inl (
       λ i. record {
         creation = creation i;
@@ -508,10 +513,14 @@ module _ (these those : List (List ℕ)) (t u : TrackHead) (xs ys : List ℕ) (h
       let no_description = λ (x : TrackHead) (zs : List ℕ) (d : Differs 1 100 zs). differs_behind (payload_lines (codes "group description")) 1 103 100 (λ y zs. refl) g_not_d x.group_descriptions zs d in
       with_same these those X t.edits u.edits (kept_then t xs) (kept_then u ys)
       (same_edits these those t.edits u.edits (kept_then t xs) (kept_then u ys) (no_edit t xs) (no_edit u ys) h.edits k.edits r.1)
-      (λ edits more. with_same these those X t.kept u.kept (media_then t xs) (media_then u ys) (same_boxes these those (codes "kept") 107 (λ y zs. refl) t.kept u.kept (media_then t xs) (media_then u ys) m_not_k m_not_k (boxes_in these t.kept h.kept (kept_in these t i)) (boxes_in those u.kept k.kept (kept_in those u o)) more)
+      (λ edits more.
+      with_same these those X t.kept u.kept (media_then t xs) (media_then u ys)
+      (same_boxes these those (codes "kept") 107 (λ y zs. refl) t.kept u.kept (media_then t xs) (media_then u ys) m_not_k m_not_k (boxes_in these t.kept h.kept (kept_in these t i)) (boxes_in those u.kept k.kept (kept_in those u o)) more)
       (λ kept rest. with_same these those X t.media u.media (groups_then t xs) (groups_then u ys)
       (same_media these those t.media u.media (groups_then t xs) (groups_then u ys) h.media k.media (media_in these t i) (media_in those u o) (no_description t xs pd) (no_description u ys qd) rest)
-      (λ media last. with_same these those X t.group_descriptions u.group_descriptions xs ys (same_payloads these those (codes "group description") 103 (λ y zs. refl) t.group_descriptions u.group_descriptions xs ys p q (payloads_in these t.group_descriptions h.group_descriptions (groups_in these t i)) (payloads_in those u.group_descriptions k.group_descriptions (groups_in those u o)) last)
+      (λ media last.
+      with_same these those X t.group_descriptions u.group_descriptions xs ys (same_payloads these those (codes "group description") 103 (λ y zs. refl) t.group_descriptions u.group_descriptions xs ys p q (payloads_in these t.group_descriptions h.group_descriptions (groups_in these t i))
+      (payloads_in those u.group_descriptions k.group_descriptions (groups_in those u o)) last)
       (λ descriptions end. inl (
         λ i. record {
           flags = flags i;
@@ -582,7 +591,9 @@ module _ (these those : List (List ℕ)) (t u : Track) (xs ys : List ℕ) (r : D
       let d : decimal t.start ≡ decimal u.start = cc in
       let start = decimal_injective t.start u.start hi.0.start ki.0.start d in
       let heading : samples_heading u.head.id ++ samples_then t xs ≡ samples_heading u.head.id ++ samples_then u ys = ap (λ (x : TrackHead). samples_heading x.id ++ samples_then t xs) (sym head) ∙ n.1 in
-      with_same these those ((t ≡ u) × (xs ≡ ys)) t.samples u.samples xs ys (same_samples these those t.samples u.samples xs ys r s (samples_in these t.samples hi.0.samples (bytes_in these t hi)) (samples_in those u.samples ki.0.samples (bytes_in those u ki)) (cancel (samples_heading u.head.id) (samples_then t xs) (samples_then u ys) heading))
+      with_same these those ((t ≡ u)
+      × (xs ≡ ys)) t.samples u.samples xs ys
+      (same_samples these those t.samples u.samples xs ys r s (samples_in these t.samples hi.0.samples (bytes_in these t hi)) (samples_in those u.samples ki.0.samples (bytes_in those u ki)) (cancel (samples_heading u.head.id) (samples_then t xs) (samples_then u ys) heading))
       (λ samples end. inl (λ i. record { head = head i; start = start i; samples = samples i }, end))
 
   same_track : track_text t ++ xs ≡ track_text u ++ ys → Same these those t u xs ys
@@ -727,8 +738,14 @@ same_text_tells l p q v w e =
     let o = in_itself those in
     let whole = cancel (front_lines l) (text_of (reduce l p)) (text_of (reduce l q)) e in
     let both = sym (append_assoc (movie_lines m) (flat_map track_text ts) end) ∙ whole ∙ append_assoc (movie_lines n) (flat_map track_text us) end in
-    by (with_same these those ((m ≡ n) × (ts ≡ us)) m n (flat_map track_text ts ++ end) (flat_map track_text us ++ end) (same_movie these those m n (flat_map track_text ts ++ end) (flat_map track_text us ++ end) (told_movie l p.movie v.movie) (told_movie l q.movie w.movie) (all_first (Contains these) (payloads_of m.kept) (flat_map digested_track ts) i) (all_first (Contains those) (payloads_of n.kept) (flat_map digested_track us) o) (no_k ts) (no_k us) both)
-    (λ movie rest. with_same these those ((m ≡ n) × (ts ≡ us)) ts us end end (same_tracks these those ts us (tracks_in these ts (told_tracks l p v) (all_last (Contains these) (payloads_of m.kept) (flat_map digested_track ts) i)) (tracks_in those us (told_tracks l q w) (all_last (Contains those) (payloads_of n.kept) (flat_map digested_track us) o)) rest) (λ tracks stop. inl (movie, tracks))))
+    by (with_same these those ((m ≡ n) × (ts ≡ us)) m n (flat_map track_text ts ++ end) (flat_map track_text us
+    ++ end) (same_movie these those m n (flat_map track_text ts ++ end) (flat_map track_text us ++ end) (told_movie l p.movie v.movie) (told_movie l q.movie w.movie) (all_first (Contains these) (payloads_of m.kept) (flat_map digested_track ts) i)
+    (all_first (Contains those) (payloads_of n.kept) (flat_map digested_track us) o) (no_k ts) (no_k us) both)
+    (λ movie rest.
+    with_same these those ((m ≡ n)
+    × (ts ≡ us)) ts us end end
+    (same_tracks these those ts us (tracks_in these ts (told_tracks l p v) (all_last (Contains these) (payloads_of m.kept) (flat_map digested_track ts) i)) (tracks_in those us (told_tracks l q w) (all_last (Contains those) (payloads_of n.kept) (flat_map digested_track us) o)) rest)
+    (λ tracks stop. inl (movie, tracks))))
   where
     by : ((reduce_movie_head l p.movie ≡ reduce_movie_head l q.movie) × ((reduce l p).tracks ≡ (reduce l q).tracks)) ⊎ Collision (digested (reduce l p)) (digested (reduce l q)) → (reduce l p ≡ reduce l q) ⊎ Collision (digested (reduce l p)) (digested (reduce l q))
     by (inl s) = inl (λ i. record { movie = s.0 i; tracks = s.1 i })

@@ -20,7 +20,7 @@ use Rattle.mp4norm.specs.format.FileTexts.{AreOthers, LacksTrack, IsTrackWith, L
 use Rattle.mp4norm.specs.declared.shell.action.Form.{Form}
 use Rattle.mp4norm.specs.format.Texts.{listing_head, sample_at_lines}
 use Rattle.mp4norm.proofs.SampleTexts.{lines_of_placed}
-use Rattle.mp4norm.proofs.ShownLines.{denoted, LieInFile, each_lies}
+use Rattle.mp4norm.proofs.ShownLines.{LieInFile, each_lies, judged}
 
 -- ---- the track with an ID
 
@@ -53,7 +53,7 @@ track_found file m tree k id o lt e =
     record {
       t = r.0;
       is_there = r.1;
-      with_id = record { p = presentation_of file tree; denotes = denoted file m tree o; place = k; is_there = there; id_is = r.2 };
+      with_id = record { p = presentation_of file tree; judged = judged file m tree o; place = k; is_there = there; id_is = r.2 };
       lies = of_got (LieInFile file tree) tree.movie.tracks k r.0 r.1 (each_lies file m tree o);
       few = below _ _ _ _ (few_at (presentation_of file tree).tracks k (track_of file (file_parts tree) r.0) there) o.limits.samples (length-map (placed_of (file_parts tree) r.0) (sample_of file)) (timed_length _ _ (placed_of (file_parts tree) r.0));
     }
@@ -71,7 +71,7 @@ ids_are file tree (t ∷ trees) (x ∷ infos) z = λ j. z.0.id j ∷ ids_are fil
 
 -- no track has the ID
 pub lacks : (file : List ℕ) (m : MovieSeen) (tree : FileTree) (id : ℕ) → IsOpenedAs file m tree → AreOthers id (map (λ (i : TrackInfo). i.id) m.tracks) → LacksTrack file id
-lacks file m tree id o h = (presentation_of file tree, denoted file m tree o, subst (AreOthers id) (ids_are file tree tree.movie.tracks m.tracks o.tracks) h)
+lacks file m tree id o h = (presentation_of file tree, judged file m tree o, subst (AreOthers id) (ids_are file tree tree.movie.tracks m.tracks o.tracks) h)
 
 -- ---- its texts
 

@@ -6,8 +6,9 @@ pub fn same_is_same_text()
     ensures { SameIsSameText }
 {}
 
-/// Where two valid presentations have the same text, the same is left of them, or two messages of
-/// one SHA-256 are at hand: a sample or payload that is left of the one, and another of the other.
+/// Where two valid presentations have the same text, the same is left of them, or a sample or
+/// payload that is left of the one, and one of other bytes that is left of the other, have one
+/// SHA-256.
 pub fn texts_tell()
     ensures { TextsTell }
 {}

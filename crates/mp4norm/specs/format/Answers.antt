@@ -1,14 +1,14 @@
 -- What each command promises of every file, said of its run.
-use Rattle.std.specs.Prelude.{◌≡◌, ◌⊎◌, ℕ, List, [], Result}
+use Rattle.std.specs.Prelude.{◌≡◌, ◌⊎◌, ℕ, List, [], Result, Err}
 use Rattle.mp4_boxes.specs.format.Box.{file_container}
 use Rattle.mp4_boxes.specs.declared.fault.Fault.{Fault}
 use Rattle.mp4_boxes.specs.declared.refusal.Refusal.{Refusal}
 use Rattle.mp4_boxes.specs.declared.rule.Rule.TheVariants.{File}
-use Rattle.mp4_present.specs.format.Stands.{Stands}
+use Rattle.mp4_present.specs.format.Judge.{judge}
 use Rattle.mp4_present.specs.declared.without.Without.{Without}
 use Rattle.mp4_plan.specs.format.ReducedTimes.{ReducedFaultStands}
 use Rattle.mp4norm.specs.format.Run.{Run, Honest, Answered, NeverChanged, PutsAtOnce, PutsNothing}
-use Rattle.mp4norm.specs.format.Headline.{HasNormalForm, DenotesNothing}
+use Rattle.mp4norm.specs.format.Headline.{HasNormalForm}
 use Rattle.mp4norm.specs.format.ReducedHeadline.{HasReducedForm, IsTooLong}
 use Rattle.mp4norm.specs.format.FileTexts.{ShowsLine, ListsSamples, HasData, LacksTrack, PrintsText}
 use Rattle.mp4norm.specs.format.BoxWalk.{under, FaultSeen}
@@ -20,11 +20,11 @@ use Rattle.mp4norm.specs.declared.shell.action.Job.{Job}
 use Rattle.mp4norm.specs.declared.shell.action.Job.TheVariants as jobs
 use Rattle.mp4norm.specs.declared.shell.action.Syntax.{Syntax}
 
--- a fault that stands in the file, which denotes nothing
+-- the first fault of the file (laws say that it stands there, and that nothing is denoted)
 abbrev pub IsFaultOf : List ℕ → Fault → Type 0
-IsFaultOf file f = Stands file f × DenotesNothing file
+IsFaultOf file f = judge file ≡ Err f
 
--- `normalise`: the normal form of what the file denotes
+-- `normalise`: the normal form of what the file is judged to be
 abbrev pub Normalised : {A : Type 0} → Run → Result A Refusal → Type 0
 Normalised r result = Answered r (HasNormalForm r.file) (IsFaultOf r.file) ⊥ result
 

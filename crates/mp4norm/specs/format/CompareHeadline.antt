@@ -1,8 +1,8 @@
 -- What comparing two files answers.
-use Rattle.std.specs.Prelude.{◌≡◌, ◌↔◌, ◌≤◌, ℕ, nat_le, List, ◌++◌, length, take, flat_map, slice_get, Bool, true, Option, Some, None}
+use Rattle.std.specs.Prelude.{◌≡◌, ◌↔◌, ◌≤◌, ℕ, nat_le, List, ◌++◌, length, take, flat_map, slice_get, Bool, true, Option, Some, None, Ok}
 use Rattle.mp4_boxes.specs.format.Bytes.{AreBytes}
 use Rattle.mp4_present.specs.format.Presentation.{Presentation}
-use Rattle.mp4_present.specs.format.Denotes.{Denotes}
+use Rattle.mp4_present.specs.format.Judge.{judge}
 use Rattle.mp4_present.specs.format.Reduced.{reduce}
 use Rattle.mp4_present.specs.format.Comparison.{differences}
 use Rattle.mp4_present.specs.declared.comparing.differences.Difference.{Difference}
@@ -17,12 +17,12 @@ use Rattle.mp4norm.specs.format.DifferenceObject.{difference_object, last_object
 use Rattle.mp4norm.specs.format.LastLine.{last_line}
 use Rattle.mp4norm.specs.format.Steps.{WorksWithin, FindsWithin}
 
--- Both files denote a presentation, and the answer is whether the same is left of both.
+-- Both files are judged to be a presentation, and the answer is whether the same is left of both.
 pub record IsVerdict (l : Without) (file other : List ℕ) (same : Bool) : Type 0 where
   pub p : Presentation
   pub q : Presentation
-  pub first : Denotes file p
-  pub second : Denotes other q
+  pub first : judge file ≡ Ok p
+  pub second : judge other ≡ Ok q
   pub is : AreBytes file → AreBytes other → (same ≡ true) ↔ (reduce l p ≡ reduce l q)
 
 -- ---- what is said of two files that differ
@@ -65,12 +65,12 @@ TellsOf (listings.All lines) l p q text = (enough : Option Without) × AreEnough
     × (text
     ≡ listing_text lines.syntax lines.limit (differences (reduce l p) (reduce l q)) enough)
 
--- The text tells of what the two files denote.
+-- The text tells of what the two files are judged to be.
 pub record IsTold (listing : Listing) (l : Without) (file other text : List ℕ) : Type 0 where
   pub p : Presentation
   pub q : Presentation
-  pub first : Denotes file p
-  pub second : Denotes other q
+  pub first : judge file ≡ Ok p
+  pub second : judge other ≡ Ok q
   pub tells : AreBytes file → AreBytes other → TellsOf listing l p q text
 
 -- such a text was put

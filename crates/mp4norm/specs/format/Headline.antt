@@ -4,14 +4,14 @@ use Rattle.mp4_boxes.specs.declared.refusal.Refusal.{Refusal}
 use Rattle.mp4_boxes.specs.declared.refusal.Refusal.TheVariants as refusals
 use Rattle.mp4_present.specs.format.Presentation.{Presentation}
 use Rattle.mp4_present.specs.format.Denotes.{Denotes}
-use Rattle.mp4_present.specs.format.Stands.{Stands}
+use Rattle.mp4_present.specs.format.Judge.{judge}
 use Rattle.mp4_plan.specs.format.Normal.{normal}
 
--- the file denotes a presentation, whose normal form these bytes are
+-- the file is judged to be a presentation, whose normal form these bytes are
 abbrev pub HasNormalForm : List ℕ → List ℕ → Type 0
-HasNormalForm file bytes = (p : Presentation) × Denotes file p × (bytes ≡ normal p)
+HasNormalForm file bytes = (p : Presentation) × (judge file ≡ Ok p) × (bytes ≡ normal p)
 
--- nothing is denoted
+-- nothing is denoted (bounds are said with it)
 abbrev pub DenotesNothing : List ℕ → Type 0
 DenotesNothing file = (p : Presentation) → Denotes file p → ⊥
 
@@ -21,12 +21,11 @@ PutsFront file before after = (front rest : List ℕ) × HasNormalForm file (fro
     × (after ≡ before ++ front)
 
 -- The answer to a file, with what the sink held before and holds after: all of the normal form, or
--- a fault that stands where nothing is denoted.
+-- the first fault.
 abbrev pub Normalises : {A : Type 0} → List ℕ → List ℕ → List ℕ → Result A Refusal → Type 0
 Normalises file before after (Ok done) = (bytes : List ℕ) × HasNormalForm file bytes
     × (after ≡ before ++ bytes)
-Normalises file before after (Err (refusals.Fault f)) = Stands file f × DenotesNothing file
-    × (after ≡ before)
+Normalises file before after (Err (refusals.Fault f)) = (judge file ≡ Err f) × (after ≡ before)
 Normalises file before after (Err refusals.Memory) = after ≡ before
 Normalises file before after (Err refusals.StoreFailed) = (after ≡ before)
     ⊎ PutsFront file before after

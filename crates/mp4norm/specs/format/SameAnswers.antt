@@ -47,8 +47,7 @@ abbrev pub NormalFormHasTheSameData : Type 0
 NormalFormHasTheSameData = (file text : List ℕ) → AreBytes file → HasNormalForm file text
     → (id : ℕ) (bytes : List ℕ) → HasData file id bytes ↔ HasData text id bytes
 
--- No fault stands in a file that has a normal form. So `check` and `normalise` never disagree: the
--- one answers Ok only where there is a normal form, the other a fault only where one stands, and
--- the other way round.
+-- No fault stands in a file that has a normal form. (That `check` and `normalise` never disagree
+-- needs no law: both say what `judge` says.)
 abbrev pub AcceptedHasNoFault : Type 0
 AcceptedHasNoFault = (file text : List ℕ) (f : Fault) → HasNormalForm file text → Stands file f → ⊥

@@ -38,7 +38,8 @@ pub record Collision (these those : List (List ℕ)) : Type 0 where
   pub same : sha256 first ≡ sha256 second
 
 -- Where two valid presentations have the same text, the same is left of them, or a payload or
--- sample that is left of the one and another that is left of the other have one SHA-256.
+-- sample that is left of the one, and one of other bytes that is left of the other, have one
+-- SHA-256.
 abbrev pub TextsTell : Type 0
 TextsTell = (l : Without) (p q : Presentation) → Valid p → Valid q → text l p ≡ text l q
     → (reduce l p ≡ reduce l q) ⊎ Collision (digested (reduce l p)) (digested (reduce l q))
