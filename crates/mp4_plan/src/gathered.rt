@@ -1,6 +1,6 @@
 //! What is known of the samples of a piece, gathered one sample at a time.
 ghost use Rattle.std.specs.Prelude.{◌≡◌, ◌+◌, ◌^◌, ◌<◌};
-ghost use Rattle.mp4_plan.specs.words.Gathering.{common_more, runs_first, runs_more, gathered_first, gathered_more, IsBounded};
+ghost use Rattle.mp4_plan.specs.words.Gathering.{common_more, runs_first, runs_more, gathered_first, gathered_more, IsBounded, IsUsed};
 
 use mp4_tables::SampleAt;
 
@@ -68,18 +68,19 @@ fn runs_first(index: u16) -> GroupRuns
     }
 }
 
-// One more index.
+// One more index. Where it is that of the last sample there is nothing new.
 #[inline(always)]
 fn add_index(runs: &mut GroupRuns, index: u16)
-    requires { runs.old.rows + 1 < 2 ^ 32 }
+    requires room { runs.old.rows + 1 < 2 ^ 32 }
+    requires used { IsUsed runs.old }
     ensures { runs.new ≡ runs_more runs.old index }
 {
     if runs.last != index {
         runs.last = index;
         runs.rows += 1;
-    }
-    if index != 0 {
-        runs.is_used = true;
+        if index != 0 {
+            runs.is_used = true;
+        }
     }
 }
 

@@ -1,5 +1,5 @@
 -- What is known of the samples of a piece, gathered one sample at a time.
-use Rattle.std.specs.Prelude.{ℕ, ◌+◌, ◌*◌, ◌≤◌, ◌==◌, Bool, false, not, ◌||◌, if◌then◌else◌, List, [], ◌∷◌, take, drop, slice_index, Option, Some, None, slice_index_or}
+use Rattle.std.specs.Prelude.{◌≡◌, ℕ, ◌+◌, ◌*◌, ◌≤◌, ◌==◌, Bool, false, not, ◌||◌, if◌then◌else◌, List, [], ◌∷◌, take, drop, slice_index, Option, Some, None, slice_index_or}
 use Rattle.std.specs.List.{prefix_len}
 use Rattle.mp4_boxes.specs.format.Bytes.{unsigned}
 use Rattle.mp4_tables.specs.declared.sample.SampleAt.{SampleAt}
@@ -119,10 +119,16 @@ abbrev pub count_of : Option Gathered → ℕ
 count_of None = 0
 count_of (Some g) = g.count
 
--- a sum of sizes fits its type, and no key has more rows than there are samples
+-- where the last index is not 0, some index is not
+abbrev pub IsUsed : GroupRuns → Type 0
+IsUsed runs = runs.is_used ≡ false → runs.last ≡ 0
+
+-- a sum of sizes fits its type, no key has more rows than there are samples, and where its last
+-- index is not 0 it has some
 pub record IsBounded (g : Gathered) : Type 0 where
   pub bytes : g.bytes ≤ g.count * 4294967295
   pub rows : (j : ℕ) → (runs_at g j).rows ≤ g.count
+  pub used : (j : ℕ) → IsUsed (runs_at g j)
 
 abbrev pub AreBounded : Option Gathered → Type 0
 AreBounded None = Unit {0}
