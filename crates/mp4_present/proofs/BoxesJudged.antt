@@ -83,7 +83,7 @@ walk (suc n) tests c bs g f = by_due (is_due c.extent (length c.bytes) (length b
     by_due false d on = rw d (record { front = g; full = full_is c.extent (length c.bytes) bs d (sizes_fit (may_be_open c.extent) c.at c.bytes bs g.0) g.1 })
     by_due true d on = rw d (by_header (there c bs) refl (due_is c.extent (length c.bytes) bs d) on)
 
--- no boxes are not too many
+-- no boxes are within any count
 none_counted : (e : Extent) → IsCounted e []
 none_counted to_end_of_file = tt
 none_counted to_end_of_box = tt

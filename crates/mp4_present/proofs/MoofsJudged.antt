@@ -33,7 +33,7 @@ use Rattle.mp4_present.proofs.MoofsPassed.{IsUnderWay, IsRead, under_way_first, 
 
 -- ---- one answer behind another
 
--- an answer that is handed on
+-- nothing is put in front of an answer
 ok_same : (r : Result (List FragmentTree) Fault) → r ≡ and_then r (λ more. Ok more)
 ok_same (Ok xs) = refl
 ok_same (Err f) = refl
