@@ -122,8 +122,8 @@ def of_explanations(joins='explanations'):
         edit(CHECKING, 'files.len() != 1 || list.is_some()', 'files.len() > 1',
              'the file of a list is not named where its fault is explained',
              r"check --explain \['--names-from', '-'\]"),
-        edit(COMPARES, 'explain_fault(rt, name, refusal, telling, &mut first, steps, looks);',
-             'explain_fault(rt, name, refusal, telling, &mut second, steps, looks);',
+        edit(COMPARES, 'explain_fault(rt, name, refusal, telling, &mut first, costs);',
+             'explain_fault(rt, name, refusal, telling, &mut second, costs);',
              'compare explains the fault of A in B',
              r"compare --explain \['gap.mp4', 'plain.mp4'\]"),
         edit(REPORTS, '|| (!self.telling.brief && rt.stderr().is_terminal())', '',
@@ -157,24 +157,25 @@ def of_help(joins='help'):
 
 # ---- verdicts and comparisons
 
-ONE_OF_WORDS = '        let answer = answer_of(rt, *input, manner, steps, looks);'
-JUDGED = '            check_counted(alloc, source, steps, looks)?;\n            Ok(None)'
-LISTED = '    answer_of(rt, Input::File { name }, manner, steps, looks)\n'
+ONE_OF_WORDS = '        let answer = answer_of(rt, *input, manner, costs);'
+JUDGED = ('            check_counted(alloc, source, &mut costs.steps, &mut costs.looks)?;\n'
+          '            Ok(None)')
+LISTED = '    answer_of(rt, Input::File { name }, manner, costs)\n'
 PUT_LISTED = '        worst = put_named(rt, name, &answer, manner, sink)?.max(worst);'
-WORST = 'Ok(worst.max(check_list(rt, list, manner, &mut sink, steps, looks)?))'
+WORST = 'Ok(worst.max(check_list(rt, list, manner, &mut sink, costs)?))'
 
 
 def of_verdicts(joins='verdicts'):
     return [
         Edit(CHECKING, JUDGED,
-             '            match check_counted(alloc, source, steps, looks) {\n'
+             '            match check_counted(alloc, source, &mut costs.steps, &mut costs.looks) {\n'
              '                Err(Refusal::StoreFailed) => Ok(None),\n'
              '                answer => {\n                    answer?;\n'
              '                    Ok(None)\n                }\n            }',
              'a failed read is told as accepted', run='failures check',
              fails=r'check in.mp4, one: \d+ times read of in.mp4 rest', joins=joins),
         Edit(CHECKING, LISTED,
-             '    match answer_of(rt, Input::File { name }, manner, steps, looks) {\n'
+             '    match answer_of(rt, Input::File { name }, manner, costs) {\n'
              '        Err(Refusal::Memory) => Ok(None),\n        answer => answer,\n    }\n',
              'want of memory is told as accepted', run='failures check',
              fails=r'check cut.mp4 --names-from list, a list: \d+ times alloc', joins=joins),
@@ -182,7 +183,7 @@ def of_verdicts(joins='verdicts'):
              'a file that changed is told as accepted', run='changes in_checks',
              fails='one that was accepted grows', joins=joins),
         Edit(CHECKING, WORST,
-             'let listed = check_list(rt, list, manner, &mut sink, steps, looks)?;\n'
+             'let listed = check_list(rt, list, manner, &mut sink, costs)?;\n'
              '    Ok(if list.is_empty() { worst } else { listed })',
              'the status of words is lost beside --names-from', run='checks statuses',
              fails="the status of .'cut.mp4'. and b'plain.mp4'", joins=joins),

@@ -39,6 +39,7 @@ pub use shell::action::{
 };
 use shell::check_files::{Manner, check_all};
 pub use shell::command_line::action;
+use shell::costs::Costs;
 use shell::descriptors::take_closed;
 use shell::file_names::{shown_word, word_of};
 use shell::run_command::run;
@@ -136,24 +137,23 @@ fn act<L: Ledger, M: Ledger>(
     requires steps { IsOf L.Ledger steps }
     requires looks { IsOf M.Ledger looks }
 {
-    let mut steps = Steps::<L>::new(steps);
-    let mut looks = Steps::<M>::new(looks);
+    let mut costs = Costs {
+        steps: Steps::<L>::new(steps),
+        looks: Steps::<M>::new(looks),
+    };
     match action {
-        Action::Run { job, order } => end(rt, run(rt, job, order, &mut steps, &mut looks)),
+        Action::Run { job, order } => end(rt, run(rt, job, order, &mut costs)),
         Action::Strip { names, order } => {
             let names = names.as_slice();
             let job = Job::Strip { names };
-            end(rt, run(rt, job, order, &mut steps, &mut looks))
+            end(rt, run(rt, job, order, &mut costs))
         }
         Action::CheckSums {
             list,
             quiet,
             telling,
-        } => end_verdicts(
-            rt,
-            check_sums(rt, list, quiet, telling, &mut steps, &mut looks),
-        ),
-        Action::Compare(comparison) => compare_named(rt, comparison, &mut steps, &mut looks),
+        } => end_verdicts(rt, check_sums(rt, list, quiet, telling, &mut costs)),
+        Action::Compare(comparison) => compare_named(rt, comparison, &mut costs),
         Action::Check {
             files,
             list,
@@ -163,10 +163,7 @@ fn act<L: Ledger, M: Ledger>(
         } => {
             let files = files.as_slice();
             let manner = Manner::of(files, list, finding, style, telling);
-            end_verdicts(
-                rt,
-                check_all(rt, files, list, manner, &mut steps, &mut looks),
-            )
+            end_verdicts(rt, check_all(rt, files, list, manner, &mut costs))
         }
     }
 }

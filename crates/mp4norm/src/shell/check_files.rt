@@ -3,6 +3,7 @@ use crate::commands::check::check_counted;
 use crate::commands::hash_sink::DIGEST;
 use crate::commands::sum::sum_file;
 use crate::shell::action::{Finding, Input, Syntax, Telling, VerdictStyle};
+use crate::shell::costs::Costs;
 use crate::shell::file_names::{push_plain, shown, word_of};
 use crate::shell::input::read_input;
 use crate::shell::reports::{Noted, Report, tell_of};
@@ -12,7 +13,7 @@ use crate::text::fault_text::{fault_line, status};
 use crate::text::json_text::name_json;
 use crate::text::sum_lines::{push_header, sum_line, sum_object};
 use crate::text::verdicts::{first_name, put_verdict, verdict_status};
-use mp4_boxes::{Refusal, Steps};
+use mp4_boxes::Refusal;
 use mp4_store::{IoSink, Sink};
 use std::alloc::{AllocError, Global};
 use std::fs::File;
@@ -55,17 +56,16 @@ fn find<L: Ledger, M: Ledger>(
     alloc: Global,
     finding: Finding,
     source: &mut Source,
-    steps: &mut Steps<L>,
-    looks: &mut Steps<M>,
+    costs: &mut Costs<L, M>,
 ) -> Found {
     source.check_parts()?;
     match finding {
         Finding::Verdict => {
-            check_counted(alloc, source, steps, looks)?;
+            check_counted(alloc, source, &mut costs.steps, &mut costs.looks)?;
             Ok(None)
         }
         Finding::Sum { leaving, .. } => {
-            let digest = sum_file(alloc, source, leaving, steps, looks)?;
+            let digest = sum_file(alloc, source, leaving, &mut costs.steps, &mut costs.looks)?;
             Ok(Some(digest))
         }
     }
@@ -77,15 +77,14 @@ fn judged<L: Ledger, M: Ledger>(
     input: Input,
     manner: Manner,
     report: &mut Report,
-    steps: &mut Steps<L>,
-    looks: &mut Steps<M>,
+    costs: &mut Costs<L, M>,
 ) -> Found {
     let mut source = open(rt, input, report)?;
-    let answer = find(rt.alloc(), manner.finding, &mut source, steps, looks);
+    let answer = find(rt.alloc(), manner.finding, &mut source, costs);
     let answer = source.settled(answer);
     if let Err(refusal) = &answer {
         let name = manner.is_named.then_some(input.name());
-        explain_fault(rt, name, refusal, manner.telling, &mut source, steps, looks);
+        explain_fault(rt, name, refusal, manner.telling, &mut source, costs);
         if matches!(refusal, Refusal::StoreFailed) {
             report.concerns_part(rt, &source)?;
         }
@@ -98,11 +97,10 @@ pub(crate) fn answer_of<L: Ledger, M: Ledger>(
     rt: &HostRuntime,
     input: Input,
     manner: Manner,
-    steps: &mut Steps<L>,
-    looks: &mut Steps<M>,
+    costs: &mut Costs<L, M>,
 ) -> Found {
     let mut report = Report::new(manner.telling);
-    let answer = judged(rt, input, manner, &mut report, steps, looks);
+    let answer = judged(rt, input, manner, &mut report, costs);
     if matches!(answer, Err(Refusal::StoreFailed)) {
         report.tell_input(rt, input.name());
     }
@@ -114,12 +112,11 @@ fn answer_of_listed<L: Ledger, M: Ledger>(
     rt: &HostRuntime,
     name: &[u8],
     manner: Manner,
-    steps: &mut Steps<L>,
-    looks: &mut Steps<M>,
+    costs: &mut Costs<L, M>,
 ) -> Found {
     let word = word_of(rt.alloc(), name)?;
     let name = word.as_str();
-    answer_of(rt, Input::File { name }, manner, steps, looks)
+    answer_of(rt, Input::File { name }, manner, costs)
 }
 
 /// Reads a list whole. It may come through a pipe.
@@ -212,14 +209,13 @@ fn check_list<K: Sink, L: Ledger, M: Ledger>(
     list: &[u8],
     manner: Manner,
     sink: &mut K,
-    steps: &mut Steps<L>,
-    looks: &mut Steps<M>,
+    costs: &mut Costs<L, M>,
 ) -> Result<u8, Refusal> {
     let mut worst = 0;
     let mut left = list;
     while !left.is_empty() {
         let (name, rest) = first_name(left);
-        let answer = answer_of_listed(rt, name, manner, steps, looks);
+        let answer = answer_of_listed(rt, name, manner, costs);
         worst = put_named(rt, name, &answer, manner, sink)?.max(worst);
         left = rest;
     }
@@ -233,8 +229,7 @@ fn check_each<L: Ledger, M: Ledger>(
     list: &[u8],
     manner: Manner,
     report: &mut Report,
-    steps: &mut Steps<L>,
-    looks: &mut Steps<M>,
+    costs: &mut Costs<L, M>,
 ) -> Result<u8, Refusal> {
     let out = &mut rt.stdout();
     let mut sink = IoSink::new(Noted { out, report });
@@ -249,11 +244,11 @@ fn check_each<L: Ledger, M: Ledger>(
     }
     let mut worst = 0;
     for input in files {
-        let answer = answer_of(rt, *input, manner, steps, looks);
+        let answer = answer_of(rt, *input, manner, costs);
         let name = input.name().as_bytes();
         worst = put_named(rt, name, &answer, manner, &mut sink)?.max(worst);
     }
-    Ok(worst.max(check_list(rt, list, manner, &mut sink, steps, looks)?))
+    Ok(worst.max(check_list(rt, list, manner, &mut sink, costs)?))
 }
 
 /// Judges each of these files and then those of a list, or sums them, puts what is found of each to
@@ -264,8 +259,7 @@ pub(crate) fn check_all<L: Ledger, M: Ledger>(
     files: &[Input],
     list: Option<Input>,
     manner: Manner,
-    steps: &mut Steps<L>,
-    looks: &mut Steps<M>,
+    costs: &mut Costs<L, M>,
 ) -> Result<u8, Refusal> {
     let mut report = Report::new(manner.telling);
     let names = match (read_list(rt, list, &mut report), list) {
@@ -277,7 +271,7 @@ pub(crate) fn check_all<L: Ledger, M: Ledger>(
         (Err(refusal), _) => return Err(refusal),
     };
     let names = names.as_slice();
-    let worst = check_each(rt, files, names, manner, &mut report, steps, looks);
+    let worst = check_each(rt, files, names, manner, &mut report, costs);
     if matches!(worst, Err(Refusal::WriteFailed)) {
         report.tell_output(rt, "-");
     }

@@ -4,9 +4,10 @@ ghost use Rattle.std.specs.Prelude.{◌≡◌, ◌++◌, OnOk};
 ghost use Rattle.mp4norm.specs.format.Texts.{line_feed};
 
 use crate::commands::box_path::{Way, number_at_top, step_line, way_to};
+use crate::shell::costs::Costs;
 use crate::shell::file_names::shown;
 use crate::text::difference_lines::{say, say_counted};
-use mp4_boxes::{Fault, FourCc, Kind, Refusal, Steps};
+use mp4_boxes::{Fault, FourCc, Kind, Refusal};
 use mp4_present::{FaultNumbers, fault_numbers};
 use mp4_store::{Sink, Store};
 use std::alloc::{AllocError, Global};
@@ -157,13 +158,12 @@ fn numbers_of<S: Store, L: Ledger, M: Ledger>(
     alloc: Global,
     store: &mut S,
     fault: &Fault,
-    steps: &mut Steps<L>,
-    looks: &mut Steps<M>,
+    costs: &mut Costs<L, M>,
 ) -> Result<Option<FaultNumbers>, Refusal>
     ensures honesty { S.is_honest store.new ≡ S.is_honest store.old }
     ensures file { S.file store.new ≡ S.file store.old }
 {
-    match fault_numbers(alloc, fault, store, steps, looks) {
+    match fault_numbers(alloc, fault, store, &mut costs.steps, &mut costs.looks) {
         Err(Refusal::Fault(_)) => Ok(None),
         told => told,
     }
@@ -228,14 +228,13 @@ pub(crate) fn explain<S: Store, K: Sink, L: Ledger, M: Ledger>(
     fault: &Fault,
     store: &mut S,
     sink: &mut K,
-    steps: &mut Steps<L>,
-    looks: &mut Steps<M>,
+    costs: &mut Costs<L, M>,
 ) -> Result<(), Refusal>
     ensures honesty { S.is_honest store.new ≡ S.is_honest store.old }
     ensures file { S.file store.new ≡ S.file store.old }
 {
     let way = whole_way(alloc, store, fault)?;
-    let numbers = numbers_of(alloc, store, fault, steps, looks)?;
+    let numbers = numbers_of(alloc, store, fault, costs)?;
     let text = explanation(alloc, name, fault, way.as_slice(), numbers)?;
     sink.put(text.as_slice())?;
     Ok(())

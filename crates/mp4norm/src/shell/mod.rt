@@ -4,6 +4,7 @@ pub mod action;
 pub mod check_files;
 pub mod command_line;
 pub mod command_table;
+pub mod costs;
 pub mod descriptors;
 pub mod drop_lists;
 pub mod explaining;

@@ -1,9 +1,10 @@
 //! Where the answer goes.
 use crate::commands::perform::perform;
 use crate::shell::action::Job;
+use crate::shell::costs::Costs;
 use crate::shell::reports::{Noted, Report};
 use crate::shell::sources::Source;
-use mp4_boxes::{Refusal, Steps};
+use mp4_boxes::Refusal;
 use mp4_store::IoSink;
 use std::alloc::Global;
 use std::fs::File;
@@ -49,11 +50,17 @@ pub(crate) fn write<L: Ledger, M: Ledger>(
     job: Job,
     source: &mut Source,
     out: &mut Out,
-    steps: &mut Steps<L>,
-    looks: &mut Steps<M>,
+    costs: &mut Costs<L, M>,
     report: &mut Report,
 ) -> Result<(), Refusal> {
     let noted = Noted { out, report };
-    let answer = perform(alloc, job, source, &mut IoSink::new(noted), steps, looks);
+    let answer = perform(
+        alloc,
+        job,
+        source,
+        &mut IoSink::new(noted),
+        &mut costs.steps,
+        &mut costs.looks,
+    );
     source.settled(answer)
 }

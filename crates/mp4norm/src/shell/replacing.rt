@@ -1,10 +1,11 @@
 //! A file that is put in the place of another only once it is whole.
 use crate::shell::action::Job;
+use crate::shell::costs::Costs;
 use crate::shell::output::{Out, write};
 use crate::shell::part_files::{Part, replaced};
 use crate::shell::reports::Report;
 use crate::shell::sources::Source;
-use mp4_boxes::{Refusal, Steps};
+use mp4_boxes::Refusal;
 use std::sync::ledger::Ledger;
 
 /// The cause where a new file isn't the one of its name any more.
@@ -30,15 +31,14 @@ pub(crate) fn replace<L: Ledger, M: Ledger>(
     rt: &HostRuntime,
     job: Job,
     source: &mut Source,
-    steps: &mut Steps<L>,
-    looks: &mut Steps<M>,
+    costs: &mut Costs<L, M>,
     name: &str,
     report: &mut Report,
 ) -> Result<(), Refusal> {
     report.outcome(replaced(rt, name), Refusal::WriteFailed)?;
     let part = Part::new(rt, name, report)?;
     let mut out = Out::Part(&part.file);
-    let answer = match write(rt.alloc(), job, source, &mut out, steps, looks, report) {
+    let answer = match write(rt.alloc(), job, source, &mut out, costs, report) {
         Ok(()) => put_in_place(rt, &part, name, report),
         Err(refusal) => Err(refusal),
     };

@@ -3,13 +3,14 @@ use crate::commands::answer_len::text_len;
 use crate::commands::box_names::Name;
 use crate::commands::strip::count_named;
 use crate::shell::action::{Job, Order, Target, Telling};
+use crate::shell::costs::Costs;
 use crate::shell::explaining::explain;
 use crate::shell::output::{Out, make, write};
 use crate::shell::replacing::replace;
 use crate::shell::reports::Report;
 use crate::shell::sources::{Source, open};
 use crate::text::strip_lines::{count_lines, find_told, refusal_of, warnings};
-use mp4_boxes::{Refusal, Steps};
+use mp4_boxes::Refusal;
 use mp4_store::{IoSink, Sink};
 use std::io::Write;
 use std::sync::ledger::Ledger;
@@ -23,14 +24,13 @@ fn measure<'a, L: Ledger, M: Ledger>(
     job: Job,
     source: &mut Source,
     most: Option<u64>,
-    steps: &mut Steps<L>,
-    looks: &mut Steps<M>,
+    costs: &mut Costs<L, M>,
     report: &mut Report<'a>,
 ) -> Result<(), Refusal> {
     if most.is_none() && !report.counts() {
         return Ok(());
     }
-    let total = text_len(rt.alloc(), job, source, steps, looks);
+    let total = text_len(rt.alloc(), job, source, &mut costs.steps, &mut costs.looks);
     let total = source.settled(total)?;
     match most {
         Some(most) if total > most => Err(report.too_long(most)),
@@ -47,17 +47,16 @@ fn write_to<'a, L: Ledger, M: Ledger>(
     job: Job,
     source: &mut Source,
     order: Order,
-    steps: &mut Steps<L>,
-    looks: &mut Steps<M>,
+    costs: &mut Costs<L, M>,
     report: &mut Report<'a>,
 ) -> Result<(), Refusal> {
-    measure(rt, job, source, order.most, steps, looks, report)?;
+    measure(rt, job, source, order.most, costs, report)?;
     let mut out = match order.target {
         Target::Standard => Out::Standard(rt.stdout()),
         Target::New { name } => make(rt, name, report)?,
-        Target::Replaced { name } => return replace(rt, job, source, steps, looks, name, report),
+        Target::Replaced { name } => return replace(rt, job, source, costs, name, report),
     };
-    write(rt.alloc(), job, source, &mut out, steps, looks, report)
+    write(rt.alloc(), job, source, &mut out, costs, report)
 }
 
 // Copies a file without the boxes of some names, and says which these are. Where something is lost
@@ -67,8 +66,7 @@ fn strip_and_tell<'a, L: Ledger, M: Ledger>(
     names: &[Name],
     source: &mut Source,
     order: Order,
-    steps: &mut Steps<L>,
-    looks: &mut Steps<M>,
+    costs: &mut Costs<L, M>,
     report: &mut Report<'a>,
 ) -> Result<(), Refusal> {
     let alloc = rt.alloc();
@@ -89,7 +87,7 @@ fn strip_and_tell<'a, L: Ledger, M: Ledger>(
     }
     let lines = count_lines(alloc, names, counts.as_slice(), &found)?;
     let job = Job::Strip { names };
-    write_to(rt, job, source, order, steps, looks, report)?;
+    write_to(rt, job, source, order, costs, report)?;
     report.end();
     let mut errors = rt.stderr();
     let _ = errors.write_all(warnings.as_slice());
@@ -103,13 +101,12 @@ fn answer<'a, L: Ledger, M: Ledger>(
     job: Job,
     source: &mut Source,
     order: Order,
-    steps: &mut Steps<L>,
-    looks: &mut Steps<M>,
+    costs: &mut Costs<L, M>,
     report: &mut Report<'a>,
 ) -> Result<(), Refusal> {
     match job {
-        Job::Strip { names } => strip_and_tell(rt, names, source, order, steps, looks, report),
-        job => write_to(rt, job, source, order, steps, looks, report),
+        Job::Strip { names } => strip_and_tell(rt, names, source, order, costs, report),
+        job => write_to(rt, job, source, order, costs, report),
     }
 }
 
@@ -118,18 +115,17 @@ fn open_and_answer<'a, L: Ledger, M: Ledger>(
     rt: &'a HostRuntime,
     job: Job,
     order: Order,
-    steps: &mut Steps<L>,
-    looks: &mut Steps<M>,
+    costs: &mut Costs<L, M>,
     report: &mut Report<'a>,
 ) -> Result<(), Refusal> {
     let mut source = open(rt, order.input, report)?;
     let answer = match source.check_parts() {
-        Ok(()) => answer(rt, job, &mut source, order, steps, looks, report),
+        Ok(()) => answer(rt, job, &mut source, order, costs, report),
         Err(refusal) => source.settled(Err(refusal)),
     };
     report.end();
     if let Err(refusal) = &answer {
-        explain_fault(rt, None, refusal, order.telling, &mut source, steps, looks);
+        explain_fault(rt, None, refusal, order.telling, &mut source, costs);
         if matches!(refusal, Refusal::StoreFailed) {
             report.concerns_part(rt, &source)?;
         }
@@ -145,8 +141,7 @@ pub(crate) fn explain_fault<L: Ledger, M: Ledger>(
     refusal: &Refusal,
     telling: Telling,
     source: &mut Source,
-    steps: &mut Steps<L>,
-    looks: &mut Steps<M>,
+    costs: &mut Costs<L, M>,
 ) {
     let Refusal::Fault(fault) = refusal else {
         return;
@@ -154,7 +149,7 @@ pub(crate) fn explain_fault<L: Ledger, M: Ledger>(
     if telling.explain {
         let mut errors = IoSink::new(rt.stderr());
         let part = source.part_text(rt.alloc(), fault.offset);
-        let _ = explain(rt.alloc(), name, fault, source, &mut errors, steps, looks);
+        let _ = explain(rt.alloc(), name, fault, source, &mut errors, costs);
         if let Ok(Some(part)) = part {
             let _ = errors.put(part.as_slice());
         }
@@ -168,11 +163,10 @@ pub(crate) fn run<L: Ledger, M: Ledger>(
     rt: &HostRuntime,
     job: Job,
     order: Order,
-    steps: &mut Steps<L>,
-    looks: &mut Steps<M>,
+    costs: &mut Costs<L, M>,
 ) -> Result<(), Refusal> {
     let mut report = Report::new(order.telling);
-    let answer = open_and_answer(rt, job, order, steps, looks, &mut report);
+    let answer = open_and_answer(rt, job, order, costs, &mut report);
     match answer {
         Err(Refusal::StoreFailed) => report.tell_input(rt, order.input.name()),
         Err(Refusal::WriteFailed) => report.tell_output(rt, order.target.name()),

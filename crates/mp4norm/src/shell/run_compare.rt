@@ -1,12 +1,13 @@
 //! Comparing, from the names of two files to what is printed.
 use crate::commands::compare::{Failure, Side, compare_files};
 use crate::shell::action::{Comparison, Input, Telling};
+use crate::shell::costs::Costs;
 use crate::shell::file_names::push_shown;
 use crate::shell::reports::{Noted, Report};
 use crate::shell::run_command::explain_fault;
 use crate::shell::sources::{Source, is_of_file, open};
 use crate::text::fault_text::{fault_line, status};
-use mp4_boxes::{Refusal, Steps};
+use mp4_boxes::Refusal;
 use mp4_store::IoSink;
 use std::alloc::{AllocError, Global};
 use std::io::Write;
@@ -83,8 +84,7 @@ fn answer_of<L: Ledger, M: Ledger>(
     first: &mut Source,
     second: &mut Source,
     report: &mut Report,
-    steps: &mut Steps<L>,
-    looks: &mut Steps<M>,
+    costs: &mut Costs<L, M>,
 ) -> Result<bool, Failure> {
     let (leaving, listing) = (asked.leaving, asked.listing);
     let out = &mut rt.stdout();
@@ -92,7 +92,14 @@ fn answer_of<L: Ledger, M: Ledger>(
     let alloc = rt.alloc();
     let answer = match parts_of(first, second) {
         Ok(()) => compare_files(
-            alloc, first, second, leaving, listing, &mut sink, steps, looks,
+            alloc,
+            first,
+            second,
+            leaving,
+            listing,
+            &mut sink,
+            &mut costs.steps,
+            &mut costs.looks,
         ),
         Err(failure) => Err(failure),
     };
@@ -107,31 +114,22 @@ fn answer_of<L: Ledger, M: Ledger>(
 fn answer<L: Ledger, M: Ledger>(
     rt: &HostRuntime,
     asked: Comparison,
-    steps: &mut Steps<L>,
-    looks: &mut Steps<M>,
+    costs: &mut Costs<L, M>,
 ) -> Result<bool, Failure> {
     let (left, right, telling) = (asked.left, asked.right, asked.telling);
     let mut first = open_side(rt, left, telling, Side::First)?;
     let mut second = open_side(rt, right, telling, Side::Second)?;
     let mut report = Report::new(telling);
-    let answer = answer_of(
-        rt,
-        asked,
-        &mut first,
-        &mut second,
-        &mut report,
-        steps,
-        looks,
-    );
+    let answer = answer_of(rt, asked, &mut first, &mut second, &mut report, costs);
     if let Err(failure) = &answer {
         let refusal = &failure.refusal;
         tell_cause(rt, asked, failure, &first, &second, &report);
         if matches!(failure.side, Side::First) {
             let name = Some(left.name());
-            explain_fault(rt, name, refusal, telling, &mut first, steps, looks);
+            explain_fault(rt, name, refusal, telling, &mut first, costs);
         } else {
             let name = Some(right.name());
-            explain_fault(rt, name, refusal, telling, &mut second, steps, looks);
+            explain_fault(rt, name, refusal, telling, &mut second, costs);
         }
     }
     answer
@@ -168,10 +166,9 @@ fn tell(rt: &HostRuntime, left: Input, right: Input, failure: Failure) {
 pub(crate) fn compare_named<L: Ledger, M: Ledger>(
     rt: &HostRuntime,
     asked: Comparison,
-    steps: &mut Steps<L>,
-    looks: &mut Steps<M>,
+    costs: &mut Costs<L, M>,
 ) -> ExitCode {
-    match answer(rt, asked, steps, looks) {
+    match answer(rt, asked, costs) {
         Ok(true) => ExitCode::SUCCESS,
         Ok(false) => ExitCode::from(DIFFER),
         Err(failure) => {

@@ -2,13 +2,14 @@
 use crate::commands::hash_sink::DIGEST;
 use crate::shell::action::{Finding, Input, Syntax, Telling, VerdictStyle};
 use crate::shell::check_files::{Found, Manner, answer_of, read_list};
+use crate::shell::costs::Costs;
 use crate::shell::file_names::word_of;
 use crate::shell::list_sources::tell_fault;
 use crate::shell::lists::{ListFault, first_line, without_return};
 use crate::shell::reports::{Noted, Report, tell_of};
 use crate::text::fault_text::{fault_line, status};
 use crate::text::sum_lines::{ListedSum, listed_sum, push_name};
-use mp4_boxes::{Refusal, Steps};
+use mp4_boxes::Refusal;
 use mp4_present::Without;
 use mp4_store::{IoSink, Sink};
 use std::alloc::{AllocError, Global};
@@ -57,8 +58,7 @@ fn sum_of<L: Ledger, M: Ledger>(
     rt: &HostRuntime,
     file: &ListedFile,
     telling: Telling,
-    steps: &mut Steps<L>,
-    looks: &mut Steps<M>,
+    costs: &mut Costs<L, M>,
 ) -> Found {
     let word = word_of(rt.alloc(), file.name.as_slice())?;
     let input = match word.as_str() {
@@ -74,7 +74,7 @@ fn sum_of<L: Ledger, M: Ledger>(
         end: b'\n',
     };
     let manner = Manner::of(&[], Some(input), finding, style, telling);
-    answer_of(rt, input, manner, steps, looks)
+    answer_of(rt, input, manner, costs)
 }
 
 // What is said of a file, and the status of that; nothing where it has its sum and that isn't told.
@@ -117,14 +117,13 @@ fn check_files<L: Ledger, M: Ledger>(
     is_quiet: bool,
     telling: Telling,
     report: &mut Report,
-    steps: &mut Steps<L>,
-    looks: &mut Steps<M>,
+    costs: &mut Costs<L, M>,
 ) -> Result<u8, Refusal> {
     let out = &mut rt.stdout();
     let mut sink = IoSink::new(Noted { out, report });
     let (mut worst, mut differ) = (0, 0);
     for file in files {
-        let found = sum_of(rt, file, telling, steps, looks);
+        let found = sum_of(rt, file, telling, costs);
         let line = line_of(rt.alloc(), file, &found, is_quiet)?;
         if !line.is_empty() {
             sink.put(line.as_slice())?;
@@ -144,8 +143,7 @@ pub(crate) fn check_sums<L: Ledger, M: Ledger>(
     list: Input,
     is_quiet: bool,
     telling: Telling,
-    steps: &mut Steps<L>,
-    looks: &mut Steps<M>,
+    costs: &mut Costs<L, M>,
 ) -> Result<u8, Refusal> {
     let mut report = Report::new(telling);
     let text = match read_list(rt, Some(list), &mut report) {
@@ -169,7 +167,7 @@ pub(crate) fn check_sums<L: Ledger, M: Ledger>(
         return Ok(NO_LIST);
     }
     let files = files.as_slice();
-    let worst = check_files(rt, files, is_quiet, telling, &mut report, steps, looks);
+    let worst = check_files(rt, files, is_quiet, telling, &mut report, costs);
     if matches!(worst, Err(Refusal::WriteFailed)) {
         report.tell_output(rt, "-");
     }
