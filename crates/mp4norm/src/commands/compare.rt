@@ -50,6 +50,15 @@ pub struct Failure {
     pub refusal: Refusal,
 }
 
+// What was kept of two files when they were opened.
+#[derive(Drop)]
+struct Movies {
+    /// Of the first file.
+    left: Movie,
+    /// Of the second one.
+    right: Movie,
+}
+
 // A failure for a file.
 pub(crate) fn failed(side: Side, refusal: Refusal) -> Failure
     ensures side { result.side ≡ side }
@@ -220,23 +229,24 @@ fn same_text(
 // What differs between two opened files: all, or more than is counted.
 fn all_of<S: Store, T: Store, L: Ledger>(
     alloc: Global,
-    left: &Movie,
+    movies: &Movies,
     a: &mut S,
-    right: &Movie,
     b: &mut T,
     leaving: Without,
     steps: &mut Steps<L>,
 ) -> Result<Listed, Refusal>
     ensures stores { ReadsBoth S.Store a.old a.new T.Store b.old b.new result }
-    ensures all { IfOk result (λ found. OfFiles S.Store a.old left.now T.Store b.old right.now
+    ensures all { IfOk result
+        (λ found. OfFiles S.Store a.old movies.now.left T.Store b.old movies.now.right
         leaving (ListsFront found.all.items)) }
-    ensures opened { WhereOpenedBoth S.Store a.old left.now T.Store b.old right.now
+    ensures opened { WhereOpenedBoth S.Store a.old movies.now.left T.Store b.old movies.now.right
         (λ tree other. IsUnchanged result × WalksOnce tree other steps.old steps.new) }
 {
     let mut listed = Listed::new(alloc)?;
     if !listed.has_room() {
         return Err(Refusal::Memory);
     }
+    let (left, right) = (&movies.left, &movies.right);
     let is_whole = compare_all(alloc, left, a, right, b, leaving, &mut listed, steps)?;
     if !is_whole && listed.all.len() <= MOST {
         return Err(Refusal::Memory);
@@ -247,22 +257,23 @@ fn all_of<S: Store, T: Store, L: Ledger>(
 // What is left out more, if two opened files are the same without it.
 fn enough_of<S: Store, T: Store, L: Ledger>(
     alloc: Global,
-    left: &Movie,
+    movies: &Movies,
     a: &mut S,
-    right: &Movie,
     b: &mut T,
     more: Option<Without>,
     steps: &mut Steps<L>,
 ) -> Result<Option<Without>, Refusal>
     ensures stores { ReadsBoth S.Store a.old a.new T.Store b.old b.new result }
-    ensures enough { IfOk result (λ enough. OfBoth S.Store a.old left.now T.Store b.old right.now
+    ensures enough { IfOk result
+        (λ enough. OfBoth S.Store a.old movies.now.left T.Store b.old movies.now.right
         (λ differ. IsEnoughOf more differ enough)) }
-    ensures opened { WhereOpenedBoth S.Store a.old left.now T.Store b.old right.now
+    ensures opened { WhereOpenedBoth S.Store a.old movies.now.left T.Store b.old movies.now.right
         (λ tree other. IsUnchanged result × WalksOnce tree other steps.old steps.new) }
 {
     let Some(more) = more else {
         return Ok(None);
     };
+    let (left, right) = (&movies.left, &movies.right);
     match compare(alloc, left, a, right, b, more, steps)? {
         None => Ok(Some(more)),
         Some(_) => Ok(None),
@@ -273,33 +284,32 @@ fn enough_of<S: Store, T: Store, L: Ledger>(
 // are held. Of a list that was cut the rest isn't known: where these aren't enough, all are tried.
 fn enough_for<S: Store, T: Store, L: Ledger>(
     alloc: Global,
-    left: &Movie,
+    movies: &Movies,
     a: &mut S,
-    right: &Movie,
     b: &mut T,
     more: Option<Without>,
     is_whole: bool,
     steps: &mut Steps<L>,
 ) -> Result<Option<Without>, Refusal>
     ensures stores { ReadsBoth S.Store a.old a.new T.Store b.old b.new result }
-    ensures enough { IfOk result (λ enough. OfBoth S.Store a.old left.now T.Store b.old right.now
+    ensures enough { IfOk result
+        (λ enough. OfBoth S.Store a.old movies.now.left T.Store b.old movies.now.right
         (λ differ. IsEnoughFor more is_whole differ enough)) }
-    ensures opened { WhereOpenedBoth S.Store a.old left.now T.Store b.old right.now
+    ensures opened { WhereOpenedBoth S.Store a.old movies.now.left T.Store b.old movies.now.right
         (λ tree other. IsUnchanged result × WalksTwice tree other steps.old steps.new) }
 {
-    let enough = enough_of(alloc, left, a, right, b, more, steps)?;
+    let enough = enough_of(alloc, movies, a, b, more, steps)?;
     if enough.is_some() || more.is_none() || is_whole {
         return Ok(enough);
     }
-    enough_of(alloc, left, a, right, b, Some(EVERYTHING), steps)
+    enough_of(alloc, movies, a, b, Some(EVERYTHING), steps)
 }
 
 // Compares two opened files, and gives the text of all differences; none where there are none.
 fn all_text<S: Store, T: Store, L: Ledger>(
     alloc: Global,
-    left: &Movie,
+    movies: &Movies,
     a: &mut S,
-    right: &Movie,
     b: &mut T,
     leaving: Without,
     lines: Lines,
@@ -307,30 +317,31 @@ fn all_text<S: Store, T: Store, L: Ledger>(
 ) -> Result<Option<Vec<u8>>, Refusal>
     ensures stores { ReadsBoth S.Store a.old a.new T.Store b.old b.new result }
     ensures some { IfOk result (λ found. IfSome found (λ text. 0 < length text.items)) }
-    ensures said { IfOk result (λ text. OfFiles S.Store a.old left.now T.Store b.old right.now
+    ensures said { IfOk result
+        (λ text. OfFiles S.Store a.old movies.now.left T.Store b.old movies.now.right
         leaving (IsSaid text)) }
-    ensures told { IfOk result (λ text. OfBoth S.Store a.old left.now T.Store b.old right.now
+    ensures told { IfOk result
+        (λ text. OfBoth S.Store a.old movies.now.left T.Store b.old movies.now.right
         (λ differ. IsFoundOf (λ bytes. bytes.items) (All lines) leaving differ text)) }
-    ensures opened { WhereOpenedBoth S.Store a.old left.now T.Store b.old right.now
+    ensures opened { WhereOpenedBoth S.Store a.old movies.now.left T.Store b.old movies.now.right
         (λ tree other. IsUnchanged result × WalksThrice tree other steps.old steps.new) }
 {
-    let listed = all_of(alloc, left, a, right, b, leaving, steps)?;
+    let listed = all_of(alloc, movies, a, b, leaving, steps)?;
     if listed.is_empty() {
         return Ok(None);
     }
     let is_whole = listed.all.len() <= MOST;
     let all = first_of(listed.all.as_slice(), MOST);
     let more = suggested(leaving, all);
-    let enough = enough_for(alloc, left, a, right, b, more, is_whole, steps)?;
+    let enough = enough_for(alloc, movies, a, b, more, is_whole, steps)?;
     Ok(Some(listed_text(alloc, all, lines, is_whole, enough)?))
 }
 
 // Compares two opened files, and gives what there is to say; nothing where they are the same.
 fn text_of<S: Store, T: Store, L: Ledger>(
     alloc: Global,
-    left: &Movie,
+    movies: &Movies,
     a: &mut S,
-    right: &Movie,
     b: &mut T,
     leaving: Without,
     listing: Listing,
@@ -338,19 +349,22 @@ fn text_of<S: Store, T: Store, L: Ledger>(
 ) -> Result<Option<Vec<u8>>, Refusal>
     ensures stores { ReadsBoth S.Store a.old a.new T.Store b.old b.new result }
     ensures some { IfOk result (λ found. IfSome found (λ text. 0 < length text.items)) }
-    ensures said { IfOk result (λ text. OfFiles S.Store a.old left.now T.Store b.old right.now
+    ensures said { IfOk result
+        (λ text. OfFiles S.Store a.old movies.now.left T.Store b.old movies.now.right
         leaving (IsSaid text)) }
-    ensures told { IfOk result (λ text. OfBoth S.Store a.old left.now T.Store b.old right.now
+    ensures told { IfOk result
+        (λ text. OfBoth S.Store a.old movies.now.left T.Store b.old movies.now.right
         (λ differ. IsFoundOf (λ bytes. bytes.items) listing leaving differ text)) }
-    ensures opened { WhereOpenedBoth S.Store a.old left.now T.Store b.old right.now
+    ensures opened { WhereOpenedBoth S.Store a.old movies.now.left T.Store b.old movies.now.right
         (λ tree other. IsUnchanged result × WalksThrice tree other steps.old steps.new) }
 {
+    let (left, right) = (&movies.left, &movies.right);
     match listing {
         Listing::First(syntax) => match compare(alloc, left, a, right, b, leaving, steps)? {
             None => Ok(None),
             Some(difference) => Ok(Some(first_text(alloc, difference, syntax)?)),
         },
-        Listing::All(lines) => all_text(alloc, left, a, right, b, leaving, lines, steps),
+        Listing::All(lines) => all_text(alloc, movies, a, b, leaving, lines, steps),
     }
 }
 
@@ -431,7 +445,8 @@ pub fn compare_files<S: Store, T: Store, K: Sink, L: Ledger, M: Ledger>(
         Ok(right) => right,
         Err(refusal) => return Err(failed(Side::Second, refusal)),
     };
-    let found = match text_of(alloc, &left, a, &right, b, leaving, listing, steps) {
+    let movies = Movies { left, right };
+    let found = match text_of(alloc, &movies, a, b, leaving, listing, steps) {
         Ok(found) => found,
         Err(refusal) => return Err(failed_together(refusal)),
     };

@@ -202,16 +202,25 @@ fn keeps_time<S: Store>(
     Ok(false)
 }
 
-// Adds a named box at a place of a container in which a time is kept or not.
+// A container of boxes.
+#[derive(Clone, Copy)]
+struct Container {
+    /// The rule that its boxes lie under.
+    rule: Rule,
+    /// Whether a time is kept in it.
+    has_time: bool,
+}
+
+// Adds a named box at a place of a container.
 fn add_box(
     alloc: Global,
     names: &[Name],
-    rule: Rule,
-    has_time: bool,
+    within: Container,
     offset: u64,
     own: FullType,
     found: &mut Found,
 ) -> Result<(), AllocError> {
+    let Container { rule, has_time } = within;
     let uuid = own.uuid.map(u128::from_be_bytes);
     if !is_named_foreign(names, rule, own) {
         found.has_encryption |= uuid.is_some_and(|uuid| OF_ENCRYPTION.contains(&uuid));
@@ -244,6 +253,7 @@ fn find_boxes<S: Store>(
     ensures store { KeepsFile S.Store store.old store.new }
 {
     let has_time = keeps_time(names, rule, from, end, store)?;
+    let within = Container { rule, has_time };
     let mut at = from;
     while at < end {
         let header = read_header(store, rule, at, end)?;
@@ -251,7 +261,7 @@ fn find_boxes<S: Store>(
         let kind = header.kind;
         let own = FullType { kind, uuid };
         if is_named(names, rule, own) {
-            add_box(alloc, names, rule, has_time, at, own, found)?;
+            add_box(alloc, names, within, at, own, found)?;
         } else if let Some(inner) = rule_inside(rule, header.kind) {
             let payload = at + u64::from(header.header);
             find_boxes(alloc, names, inner, payload, header.end, store, found)?;

@@ -45,7 +45,7 @@ returns-clause-enough g c =
     let is = c.in_ok-enough.ensures in
     let more = rw (is.stores.left.honesty, is.stores.left.file, is.stores.right.honesty, is.stores.right.file) at c.enough_of-2.ensures.enough in
     ok_weaker c.enough_of-2.result
-    (λ enough. OfBoth g.S.Store c.args.a.now c.args.left.now g.T.Store c.args.b.now c.args.right.now (λ differ. IsEnoughOf (Some everything) differ enough))
-    (λ enough. OfBoth g.S.Store c.args.a.now c.args.left.now g.T.Store c.args.b.now c.args.right.now (λ differ. IsEnoughFor c.args.more c.args.is_whole differ enough))
+    (λ enough. OfBoth g.S.Store c.args.a.now c.args.movies.now.left g.T.Store c.args.b.now c.args.movies.now.right (λ differ. IsEnoughOf (Some everything) differ enough))
+    (λ enough. OfBoth g.S.Store c.args.a.now c.args.movies.now.left g.T.Store c.args.b.now c.args.movies.now.right (λ differ. IsEnoughFor c.args.more c.args.is_whole differ enough))
     (λ enough k told right tree other o u. enough_all c.args.more c.args.is_whole (λ l. files_differ l (g.S.Store.file c.args.a.now) tree (g.T.Store.file c.args.b.now) other) c.in_ok-enough.enough enough
     (sym c.is_some.ensures ∙ c.if-is_some.false) c.if-is_whole.false (is.enough told right tree other o u) (k told right tree other o u)) more
