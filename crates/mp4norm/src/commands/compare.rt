@@ -430,8 +430,7 @@ pub fn compare_files<S: Store, T: Store, K: Sink, L: Ledger, M: Ledger>(
     ensures verdict { IfOk result (λ same. WhereBothHonest S.Store a.old T.Store b.old
         (λ file other. IsVerdict leaving file other same)) }
     ensures told { IfOk result (λ same. same ≡ false → WhereBothHonest S.Store a.old T.Store b.old
-        (λ file other. PutsSuch (K.takes sink.old sink.new)
-        (IsTold listing leaving file other))) }
+        (λ file other. PutsSuch (K.takes sink.old sink.new) (IsTold listing leaving file other))) }
     ensures work { WhereBothHonest S.Store a.old T.Store b.old
         (λ file other. ComparesWithin file other steps.old steps.new) }
     ensures looks { WhereBothHonest S.Store a.old T.Store b.old
