@@ -268,7 +268,7 @@ def of_comparisons(joins='comparisons'):
              fails='a list of one more: ',
              joins='all words of a cut list', optimised=True),
         *(Edit(COMPARING, ALL_OF,
-               ALL_OF.replace('leaving,', f'Leaving {{ {word}: false, ..leaving }},'),
+               ALL_OF.replace('leaving,', f'Without {{ {word}: false, ..leaving }},'),
                f'--all ignores {word} among the words of --without', run='compares',
                fails=rf"compare --all .*\('{word}',\)", joins=f'without {word}', optimised=True)
           for word in ('times', 'edits', 'flags', 'groups', 'metadata')),
