@@ -6,6 +6,7 @@ Edits that share a build (`joins`) touch different commands or different runs.
 """
 from left_out_checks import Edit
 from suite.clauses import CLAUSES
+from suite.differ import KNOWN
 
 CHECKING = 'mp4norm/src/shell/check_files.rt'
 COMMANDS = 'mp4norm/src/shell/command_table.rt'
@@ -209,7 +210,7 @@ def of_verdicts(joins='verdicts'):
     ]
 
 
-FIRST_WORD = 'let is_first = say_left_out(text, "edits", leaving.edits, true)?;'
+FIRST_WORD = 'let is_first = say_left_out(text, "bitrates", leaving.bitrates, true)?;'
 ALL_OF = 'compare_all(alloc, left, a, right, b, leaving, &mut listed, steps)?;'
 RIGHT = 'open_side(rt, right, telling, Side::Second)'
 
@@ -240,7 +241,7 @@ def of_comparisons(joins='comparisons'):
              run='compares', fails=r'handler: byte 12 of 25: 65 \| 78 --json', joins='objects',
              optimised=True),
         Edit(DIFFERENCE_JSON, FIRST_WORD,
-             FIRST_WORD.replace('edits', 'times') + FIRST_WORD.replace('true', 'is_first')
+             FIRST_WORD.replace('bitrates', 'times') + FIRST_WORD.replace('true', 'is_first')
              + 'let leaving = Without { times: false, ..leaving };',
              'words of an object are in another order',
              run='compares', fails=r"compare --all .*\('times',\) --json", joins='objects words',
@@ -258,12 +259,13 @@ def of_comparisons(joins='comparisons'):
         Edit(COMPARING, 'const MOST: usize = 1 << 20;', 'const MOST: usize = 1 << 12;',
              'the list of differences is cut at 4,096', run='limits differences',
              fails='a list of exactly', joins='limits', optimised=True),
-        Edit(COMPARING, 'if enough.is_some() || more.is_none() || is_whole {', 'if true {',
+        Edit(COMPARING, 'if enough.is_some() || tries.is_empty() || is_whole {', 'if true {',
              'of a list that was cut, the words of what was counted alone are tried',
              run='limits differences', fails='a list of one more, of another group',
              joins='words of a cut list', optimised=True),
-        Edit(COMPARING, 'let more = suggested(leaving, all);',
-             'let more = if is_whole { suggested(leaving, all) } else { Some(EVERYTHING) };',
+        Edit(COMPARING, 'enough_for(alloc, movies, a, b, &tries, is_whole, steps)?',
+             'if is_whole { enough_for(alloc, movies, a, b, &tries, is_whole, steps)? } '
+             'else { first_enough(alloc, movies, a, b, &[EVERYTHING], steps)? }',
              'of a list that was cut, all words are named where fewer do', run='limits differences',
              fails='a list of one more: ',
              joins='all words of a cut list', optimised=True),
@@ -271,7 +273,7 @@ def of_comparisons(joins='comparisons'):
                ALL_OF.replace('leaving,', f'Without {{ {word}: false, ..leaving }},'),
                f'--all ignores {word} among the words of --without', run='compares',
                fails=rf"compare --all .*\('{word}',\)", joins=f'without {word}', optimised=True)
-          for word in ('times', 'edits', 'flags', 'groups', 'metadata')),
+          for word in KNOWN),
     ]
 
 

@@ -1,14 +1,21 @@
 """Changes of one value of the wide file, and the line of `compare` that tells of each, written by
 hand."""
-from .boxes import Box, i32, u16, u32, u64
-from .movies import wide
+from . import entries
+from .boxes import Box, full, i32, u16, u32, u64
+from .movies import pairs, table, wide
 
 MDIA = 'moov/trak/mdia'
 STBL = MDIA + '/minf/stbl'
+SECOND = 'moov/trak[1]/mdia/minf/stbl'
 
 
 def whole():
-    return wide()
+    """The wide file, in which each word of `--without` leaves something out."""
+    file = wide()
+    file.at(STBL + '/stsd/mp4v').fields = entries.pictures(entries.btrt())
+    file.at(SECOND + '/stsd/mp4a').fields = entries.sound(0, entries.esds(entries.RATES))
+    file.at(SECOND + '/ctts').patches.append((12, i32(100)))
+    return file
 
 
 def put(path, at, new):
@@ -68,10 +75,47 @@ def short_of_a_fragment(file):
     del file.children[-2:]
 
 
-def one(change, line, word=None, **others):
-    """A change, its line, the word of `--without` that leaves it out, and other lines with some
-    words."""
-    return change, line, word, others
+def other_fields(path, new):
+    """Other fields of a box."""
+    def change(file):
+        box = file.at(path)
+        box.fields, box.patches = new, []
+    return change
+
+
+def durations(*rows):
+    """Other durations in the tables of the second track, and the decode time behind them."""
+    end = sum(count * duration for count, duration in rows)
+    return all_of(other_fields(SECOND + '/stts', table('stts', pairs(*rows)).fields),
+                  put('moof/traf[1]/tfdt', 4, u64(end)))
+
+
+def offsets(*numbers, stbl=STBL):
+    """Other composition offsets in tables."""
+    rows = [u32(1) + i32(number) for number in numbers]
+    return other_fields(stbl + '/ctts', table('ctts', rows, 1).fields)
+
+
+def last_run(flags, *numbers, moof='moof[1]'):
+    """The last run of the first track in a fragment, with these columns too."""
+    return other_fields(moof + '/traf/trun[1]', full(1, 0x204 | flags) + u32(1)
+                        + u32(0x02000000) + b''.join(map(i32, numbers)))
+
+
+def moved_in(moof):
+    """The offsets of the first track in a fragment are 1000 more."""
+    return all_of(put(moof + '/traf/trun', 20, i32(1000)), put(moof + '/traf/trun', 32, i32(744)),
+                  last_run(0x800, 2, 1000, moof=moof))
+
+
+LAST_LONGER = last_run(0x100, 1024, 2)
+MOVED = all_of(offsets(1000, 1256, 1256), moved_in('moof'), moved_in('moof[1]'))
+
+
+def one(change, line, words='', **others):
+    """A change, its line, the words of `--without` of which each leaves it out, and other lines
+    with some words."""
+    return change, line, words.split(), others
 
 
 CHANGES = [
@@ -79,7 +123,7 @@ CHANGES = [
     # 36, matrix at 48.
     one(put('moov/mvhd', 4, u64(3800000001)), 'movie: creation time 11 | 3800000001', 'times'),
     one(put('moov/mvhd', 12, u64(22)), 'movie: modification time 12 | 22', 'times'),
-    one(put('moov/mvhd', 20, u32(600)), 'movie: timescale 1000 | 600'),
+    one(put('moov/mvhd', 20, u32(600)), 'movie: timescale 1000 | 600', 'timing'),
     one(put('moov/mvhd', 32, i32(-65536)), 'movie: rate 65536 | -65536'),
     one(put('moov/mvhd', 36, u16(0)), 'movie: volume 256 | 0'),
     one(put('moov/mvhd', 80, u32(1)), 'movie: matrix entry 9 1073741824 | 1'),
@@ -116,7 +160,7 @@ CHANGES = [
     one(put('moov/trak/meta', 5, b'x'), 'track 1: kept box 3: byte 6 of 10: 74 | 78', 'metadata'),
     one(put(MDIA + '/mdhd', 4, u64(25)), 'track 1: media creation time 15 | 25', 'times'),
     one(put(MDIA + '/mdhd', 12, u64(26)), 'track 1: media modification time 16 | 26', 'times'),
-    one(put(MDIA + '/mdhd', 20, u32(12801)), 'track 1: timescale 12800 | 12801'),
+    one(put(MDIA + '/mdhd', 20, u32(12801)), 'track 1: timescale 12800 | 12801', 'timing'),
     one(put(MDIA + '/mdhd', 32, u16(0x15c7)), 'track 1: language 55c4 | 15c7'),
     one(put(MDIA + '/hdlr', 11, b'x'), 'track 1: handler: byte 12 of 25: 65 | 78',
         labels='track 1: handler: byte 12 of 24: 65 | 78'),
@@ -127,15 +171,29 @@ CHANGES = [
     one(put(MDIA + '/minf/vmhd', 11, b'\1'), 'track 1: media header: byte 12 of 12: 00 | 01'),
     one(second_description, 'track 1: descriptions 1 | 2'),
     one(other_type(STBL + '/stsd/mp4v', 'avc1'), 'track 1: description 1: type mp4v | avc1'),
-    one(put(STBL + '/stsd/mp4v', 8, b'x'), 'track 1: description 1: byte 9 of 12: 6d | 78'),
-    one(longer(STBL + '/stsd/mp4v'), 'track 1: description 1: bytes 12 | 13'),
+    one(put(STBL + '/stsd/mp4v', 8, b'x'), 'track 1: description 1: byte 9 of 98: 00 | 78',
+        bitrates='track 1: description 1: byte 9 of 78: 00 | 78'),
+    one(longer(STBL + '/stsd/mp4v'), 'track 1: description 1: bytes 98 | 99',
+        bitrates='track 1: description 1: bytes 78 | 99'),
+    one(put(STBL + '/stsd/mp4v', 89, b'\7'), 'track 1: description 1: byte 90 of 98: 01 | 07',
+        'bitrates'),
+    one(put(SECOND + '/stsd/mp4a', 49, b'\7'), 'track 2: description 1: byte 50 of 64: 01 | 07',
+        'bitrates'),
+    one(put(STBL + '/stsd/mp4v', 50, b'x'), 'track 1: description 1: byte 51 of 98: 00 | 78',
+        'labels', bitrates='track 1: description 1: byte 51 of 78: 00 | 78'),
     one(gone(STBL + '/sgpd'), 'track 1: group descriptions 1 | 0', 'groups'),
     one(put(STBL + '/sgpd', 17, b'\xfe'), 'track 1: group description 1: byte 18 of 18: ff | fe',
         'groups'),
     one(short_of_a_fragment, 'track 1: samples 9 | 6'),
     # The durations of the last fragment, at 12 of its tfhd.
-    one(put('moof[1]/traf/tfhd', 12, u32(500)), 'track 1: sample 7: duration 512 | 500'),
-    one(put(STBL + '/ctts', 20, i32(-256)), 'track 1: sample 2: offset 256 | -256'),
+    one(put('moof[1]/traf/tfhd', 12, u32(500)), 'track 1: sample 7: duration 512 | 500', 'timing'),
+    one(durations((1, 600), (1, 512), (1, 500)), 'track 2: sample 1: duration 512 | 600',
+        'ends timing'),
+    one(LAST_LONGER, 'track 1: sample 9: duration 512 | 1024', 'ends timing'),
+    one(put(STBL + '/ctts', 20, i32(-256)), 'track 1: sample 2: offset 256 | -256', 'timing'),
+    one(put(STBL + '/ctts', 12, i32(8)), 'track 1: sample 1: offset 0 | 8', 'timing',
+        origins='track 1: sample 2: offset 256 | 248'),
+    one(MOVED, 'track 1: sample 1: offset 0 | 1000', 'origins timing'),
     one(put(STBL + '/sdtp', 4, b'\x10'), 'track 1: sample 1: flags 02000000 | 01000000', 'flags'),
     one(put(STBL + '/stss', 12, u32(2)), 'track 1: sample 2: flags 01810000 | 01800000',
         flags='track 1: sample 2: flags 00010000 | 00000000'),
@@ -144,27 +202,25 @@ CHANGES = [
     one(put('mdat', 4, b'z'), 'track 1: sample 1: byte 5 of 5: 61 | 7a'),
 ]
 
-# Changes by what hides them, a row of the table of docs/COMPARING.md each: the first five words, these and `labels`,
-# or none.
-DOUBLED = all_of(put('moov/trak[1]/mdia/minf/stbl/stts', 12, u32(1024)),
-                 put('moov/trak[1]/mdia/minf/stbl/stts', 20, u32(1000)),
-                 put('moof/traf[1]/tfdt', 4, u64(3048)), put('moof/traf[1]/tfhd', 12, u32(1024)))
-LATER = all_of(put('moov/trak[1]/mdia/minf/stbl/stts', 12, u32(612)),
-               put('moof/traf[1]/tfdt', 4, u64(1724)))
 
 
 def fragments_alone(file):
     """The samples of the second track are those of fragments alone."""
-    stbl = 'moov/trak[1]/mdia/minf/stbl/'
     for kind in ('stts', 'ctts', 'stss', 'stsc', 'co64'):
-        file.at(stbl + kind).fields = bytes(8)
-    file.at(stbl + 'stz2').fields = bytes(7) + b'\x08' + bytes(4)
-    file.at(stbl + 'sdtp').fields = bytes(4)
-    file.at(stbl).children = [box for box in file.at(stbl).children if box.kind != 'sbgp']
+        other_fields(f'{SECOND}/{kind}', bytes(8))(file)
+    other_fields(SECOND + '/stz2', bytes(7) + b'\x08' + bytes(4))(file)
+    other_fields(SECOND + '/sdtp', bytes(4))(file)
+    file.at(SECOND).children = [box for box in file.at(SECOND).children if box.kind != 'sbgp']
 
 
+def tables_alone(file):
+    """All samples are those of tables."""
+    del file.children[file.children.index(file.at('moof')):]
+
+
+# Changes by the word that hides them: a row of the table of docs/COMPARING.md each. The words are
+# left out one after the other, the first five at once; what some of them hide, more hide too.
 HIDDEN = [
-    ('sound later by tfdt', put('moof/traf[1]/tfdt', 4, u64(2524)), None),
     ('frames dropped', short_of_a_fragment, None),
     ('a byte of a frame', put('mdat', 4, b'z'), None),
     ('a sync flag', put(STBL + '/stss', 12, u32(2)), None),
@@ -172,11 +228,20 @@ HIDDEN = [
     ('a language', put(MDIA + '/mdhd', 32, u16(0x15c7)), None),
     ('a track that is disabled', put('moov/trak/tkhd', 3, b'\2'), None),
     ('tracks swapped', exchanged('moov', 'trak', 'trak[1]'), None),
-    ('the last frames twice as long', put('moof[1]/traf/tfhd', 12, u32(1024)), None),
-    ('first frames longer, and all behind them later', LATER, None),
-    ('all durations doubled', DOUBLED, None),
-    ('sound later by an empty edit', put('moov/trak[1]/edts/elst', 8, u64(1040)), 'edits'),
-    ('another name of a handler', longer(MDIA + '/hdlr'), 'labels'),
     ('another type of handler', put(MDIA + '/hdlr', 11, b'x'), None),
     ('another byte of a sample description', put(STBL + '/stsd/mp4v', 8, b'x'), None),
+    ('sound later by an empty edit', put('moov/trak[1]/edts/elst', 8, u64(1040)), 'edits'),
+    ('a btrt of other numbers', put(STBL + '/stsd/mp4v', 86, u32(7)), 'bitrates'),
+    ('no btrt', other_fields(STBL + '/stsd/mp4v', entries.pictures()), 'bitrates'),
+    ('an esds of other rates', put(SECOND + '/stsd/mp4a', 49, entries.OTHERS), 'bitrates'),
+    ('the last frame twice as long', LAST_LONGER, 'ends'),
+    ('the first frame a second longer', durations((1, 26112), (1, 512), (1, 500)), 'ends'),
+    ('sound a second later by tfdt', put('moof/traf[1]/tfdt', 4, u64(27124)), 'origins'),
+    ('all offsets moved', MOVED, 'origins'),
+    ('another name of a handler', longer(MDIA + '/hdlr'), 'labels'),
+    ('another name of a compressor', put(STBL + '/stsd/mp4v', 50, b'x'), 'labels'),
+    ('all durations doubled', all_of(durations((2, 1024), (1, 1000)),
+                                     put('moof/traf[1]/tfhd', 12, u32(1024))), 'timing'),
+    ('one frame inside longer', durations((1, 512), (1, 612), (1, 500)), 'timing'),
+    ('two frames exchanged in composition', offsets(0, 768, -256), 'timing'),
 ]

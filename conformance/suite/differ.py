@@ -4,10 +4,26 @@ A file is turned into a list of what it says: the way to a value, and the value.
 gone through side by side; counts stand before what they count.
 """
 from . import lister
-from .boxes import KEPT
-from .normal import METADATA, descriptions, handler, key_order
+from .normal import descriptions, handler, kept_in, key_order
 
-WORDS = ('times', 'edits', 'flags', 'groups', 'metadata', 'labels')
+# The words of `--without`, in their order, and the named sets of them.
+WORDS = ('times', 'edits', 'flags', 'groups', 'metadata', 'bitrates', 'ends', 'origins', 'labels',
+         'timing')
+SETS = {'packaging-1': WORDS[:8], 'media-1': WORDS}
+# Those that the program doesn't know yet.
+UNKNOWN = ('ends', 'origins', 'timing')
+KNOWN = tuple(word for word in WORDS if word not in UNKNOWN)
+KNOWN_SETS = tuple(name for name, words in SETS.items() if set(words) <= set(KNOWN))
+
+
+def meant(names):
+    """The words that words and names of sets stand for."""
+    return frozenset(word for name in names for word in SETS.get(name, [name]))
+
+
+def in_order(names):
+    """The words that words and names of sets stand for, in their order."""
+    return tuple(word for word in WORDS if word in meant(names))
 
 
 class Number:
@@ -99,8 +115,8 @@ class Pair:
             at += 4
 
     def kept(self, way, left, right, place, words):
-        kinds = [kind for kind in KEPT[place] if 'metadata' not in words or kind not in METADATA]
-        self.boxes('kept', way, 'kept box', 'kept boxes', left.all(*kinds), right.all(*kinds))
+        self.boxes('kept', way, 'kept box', 'kept boxes', kept_in(left, place, words),
+                   kept_in(right, place, words))
 
     def track(self, way, mine, theirs):
         left, right = mine.header, theirs.header

@@ -1,4 +1,5 @@
 """The normal form of what a file denotes, by its description."""
+from . import rates
 from .boxes import KEPT, Box, full, i32, u16, u32, u64
 from .misreadings import taken
 
@@ -17,8 +18,8 @@ def kept(boxes):
 
 def kept_in(container, place, left):
     """The kept boxes of a container, but those that are left out."""
-    kinds = [kind for kind in KEPT[place] if 'metadata' not in left or kind not in METADATA]
-    return kept(container.all(*kinds))
+    return container.all(*(kind for kind in KEPT[place]
+                           if 'metadata' not in left or kind not in METADATA))
 
 
 def handler(track):
@@ -45,12 +46,24 @@ class Entry:
 
 def descriptions(track):
     """The sample descriptions: without labels those of pictures name no compressor."""
-    entries = [Entry(box.kind, bytearray(box.payload())) for box in track.descriptions]
-    if 'labels' in track.left and handler(track)[8:12] == b'vide':
-        for entry in entries:
-            if len(entry.data) >= VISUAL_ENTRY:
-                entry.data[COMPRESSOR_NAME] = bytes(32)
+    kind, entries = handler(track)[8:12], []
+    for box in track.descriptions:
+        data = bytes(box.payload())
+        if 'bitrates' in track.left:
+            data = rates.left(kind, data)
+        if 'labels' in track.left and kind == b'vide' and len(data) >= VISUAL_ENTRY:
+            data = data[:COMPRESSOR_NAME.start] + bytes(32) + data[COMPRESSOR_NAME.stop:]
+        entries.append(Entry(box.kind, data))
     return entries
+
+
+def answer(movie):
+    """What `normalise` answers: the status, the line that refuses what is left, the normal
+    form."""
+    refusal = movie.refusal()
+    if refusal:
+        return 1, refusal.encode() + b'\n', b''
+    return 0, b'', normal_form(movie)
 
 
 def normal_form(movie):
@@ -81,7 +94,7 @@ def movie_header(movie):
 
 
 def movie_box(movie):
-    boxes = [movie_header(movie)] + kept_in(movie.moov, 'moov', movie.left)
+    boxes = [movie_header(movie)] + kept(kept_in(movie.moov, 'moov', movie.left))
     boxes += [track_box(track) for track in movie.tracks]
     extends = [Box('mehd', full(1) + u64(movie.length()))]
     for track in movie.tracks:
@@ -110,7 +123,7 @@ def edits(track):
 
 def track_box(track):
     boxes = [track_header(track)] + edits(track)
-    boxes += kept_in(track.trak, 'moov/trak', track.left)
+    boxes += kept(kept_in(track.trak, 'moov/trak', track.left))
     return Box('trak', b'', boxes + [media_box(track)])
 
 

@@ -1,9 +1,9 @@
-"""The text of what a file denotes, by its description: a line for each value, for version control."""
+"""The text of what a file denotes, by its description: a line for each value, for version
+control."""
 import hashlib
 
 from . import differ, normal
-from .boxes import KEPT
-from .normal import METADATA, key_order
+from .normal import key_order
 
 # The most bytes of a payload that are spelled.
 MOST_SPELLED = 4096
@@ -46,8 +46,7 @@ class Printer:
             self.payload(f'{name} {printed(box.kind)}', bytes(box.payload()))
 
     def kept(self, container, place):
-        kinds = [kind for kind in KEPT[place] if 'metadata' not in self.left or kind not in METADATA]
-        self.boxes('kept', container.all(*kinds))
+        self.boxes('kept', normal.kept_in(container, place, self.left))
 
     def times(self, front, box):
         for number, name in enumerate(('creation', 'modification')):
@@ -59,8 +58,8 @@ class Printer:
         self.line('matrix', *(fields.signed(16 + 4 * k, 4) for k in range(9)))
 
     def all(self):
-        words = [word for word in differ.WORDS if word in self.left]
-        self.lines += ['MP4 presentation, form 1', 'without: ' + (','.join(words) or 'nothing')]
+        words = ','.join(differ.in_order(self.left)) or 'nothing'
+        self.lines += ['MP4 presentation, form 1', 'without: ' + words]
         self.head()
         for track in self.movie.tracks:
             self.track(track)

@@ -6,7 +6,11 @@ It looks for no faults: it is for the wanted answers of files that are known to 
 import json
 
 from . import lister
+from .differ import meant
 from .misreadings import taken
+
+# The last time that a track may have, and the timescale without timing.
+MOST_TIME, PLAIN_TIMESCALE = 2**63 - 1, 1000
 
 
 class Node:
@@ -66,6 +70,19 @@ class Sample:
         self.description, self.place, self.size = description, place, size
         self.groups = {}
 
+    def leave_out(self, words, is_at_end, origin):
+        """The origin is the offset of the first sample."""
+        if 'timing' in words or 'ends' in words and is_at_end:
+            self.duration = 1
+        if 'origins' in words:
+            self.offset -= origin
+        if 'timing' in words:
+            self.offset = 0
+        if 'flags' in words:
+            self.flags &= 1 << 16
+        if 'groups' in words:
+            self.groups = {}
+
 
 class Track:
     """A track: the boxes that say it, and its samples."""
@@ -98,6 +115,26 @@ class Track:
             return sum(edit[0] for edit in self.edits)
         return -(-self.duration() * movie_timescale // self.timescale)
 
+    def leave_out(self, words):
+        self.left = words
+        if 'edits' in words:
+            self.edits = []
+        if 'timing' in words:
+            self.timescale = PLAIN_TIMESCALE
+        if 'origins' in words or 'timing' in words:
+            self.start = 0
+        ends = 0, len(self.samples) - 1
+        origin = self.samples[0].offset if self.samples else 0
+        for number, sample in enumerate(self.samples):
+            sample.leave_out(words, number in ends, origin)
+
+    def fault(self, movie_timescale):
+        """Why what is left has no normal form, if it has none."""
+        if max(self.start + self.duration(), self.length(movie_timescale)) > MOST_TIME:
+            return 'TimeTooLarge'
+        is_near = all(-2**31 <= sample.offset < 2**31 for sample in self.samples)
+        return None if is_near else 'OffsetTooLarge'
+
 
 class Movie:
     """What a file denotes."""
@@ -121,19 +158,22 @@ class Movie:
     def length(self):
         return max([track.length(self.timescale) for track in self.tracks], default=0)
 
-    def leave_out(self, words):
-        """Leaves out what these words of `--without` name."""
-        self.left = frozenset(words)
+    def leave_out(self, names):
+        """Leaves out what these words of `--without`, and sets of them, name."""
+        self.left = meant(names)
+        if 'timing' in self.left:
+            self.timescale = PLAIN_TIMESCALE
         for track in self.tracks:
-            track.left = self.left
-            if 'edits' in words:
-                track.edits = []
-            for sample in track.samples:
-                if 'flags' in words:
-                    sample.flags &= 1 << 16
-                if 'groups' in words:
-                    sample.groups = {}
+            track.leave_out(self.left)
         return self
+
+    def refusal(self):
+        """The line that refuses what is left, if it has no normal form."""
+        for track in self.tracks:
+            fault = track.fault(self.timescale)
+            if fault:
+                return f'refused: {fault} in tkhd at {track.header.place}'
+        return None
 
     def keys(self, track):
         """The grouping keys of a track, in the order in which the file first names them."""

@@ -40,11 +40,11 @@ runs_moved s (suc n) at to bytes =
     (λ h t. runs_moved t n (at + h.size) (to + h.size) (drop h.size bytes))
 
 -- the samples of a `traf`
-pub traf_moved : (base : ℤ) (id : ℕ) (trex : Trex) (dts : ℕ) (keys : List GroupKey) (at to : ℕ) (payload : List ℕ) → boxes_coming base id trex dts keys (boxes_in at payload) ≡ boxes_coming base id trex dts keys (boxes_in to payload)
-traf_moved base id trex dts keys at to payload =
+pub traf_moved : (base : ℤ) (id : ℕ) (trex : Trex) (number dts : ℕ) (keys : List GroupKey) (at to : ℕ) (payload : List ℕ) → boxes_coming base id trex number dts keys (boxes_in at payload) ≡ boxes_coming base id trex number dts keys (boxes_in to payload)
+traf_moved base id trex number dts keys at to payload =
     let n = length payload in
     let named = names_moved id false n at to payload in
-    let leaves = leaves_moved trex keys (at_first base dts) n at to payload in
-    let runs : runs_coming (with_leaves trex keys (at_first base dts) (boxes_in at payload)) (boxes_in at payload) ≡ runs_coming (with_leaves trex keys (at_first base dts) (boxes_in to payload)) (boxes_in to payload) =
-    ap (λ (s : Reached). runs_coming s (boxes_in at payload)) leaves ∙ runs_moved (with_leaves trex keys (at_first base dts) (boxes_in to payload)) n at to payload in
+    let leaves = leaves_moved trex keys (at_first base number dts) n at to payload in
+    let runs : runs_coming (with_leaves trex keys (at_first base number dts) (boxes_in at payload)) (boxes_in at payload) ≡ runs_coming (with_leaves trex keys (at_first base number dts) (boxes_in to payload)) (boxes_in to payload) =
+    ap (λ (s : Reached). runs_coming s (boxes_in at payload)) leaves ∙ runs_moved (with_leaves trex keys (at_first base number dts) (boxes_in to payload)) n at to payload in
     λ i. cond (named i) (runs i) []

@@ -153,19 +153,19 @@ next_is payload p s some e =
 -- ---- a `traf` is opened
 
 -- the walk from its first sample on
-pub begun : (payload : List ℕ) (base : ℤ) (id : ℕ) (trex : Trex) (dts : ℕ) (keys : List GroupKey) (first opened settled : FragPlace) → reached payload first ≡ at_first base dts → opened.run.left ≡ 0 → opened.next ≡ 0
+pub begun : (payload : List ℕ) (base : ℤ) (id : ℕ) (trex : Trex) (number dts : ℕ) (keys : List GroupKey) (first opened settled : FragPlace) → reached payload first ≡ at_first base number dts → opened.run.left ≡ 0 → opened.next ≡ 0
     → are_named id false (boxes_from payload 0) ≡ true → reached payload opened ≡ with_leaves trex keys (reached payload first) (boxes_from payload 0) → coming payload settled ≡ coming payload opened
-    → coming payload settled ≡ samples_in payload base id trex dts keys
-begun payload base id trex dts keys first opened settled f none next named o e =
+    → coming payload settled ≡ samples_in payload base id trex number dts keys
+begun payload base id trex number dts keys first opened settled f none next named o e =
     let all = all_boxes payload in
-    let here : runs_coming (reached payload opened) (boxes_from payload opened.next) ≡ runs_coming (with_leaves trex keys (at_first base dts) (boxes_from payload 0)) (boxes_from payload 0) =
+    let here : runs_coming (reached payload opened) (boxes_from payload opened.next) ≡ runs_coming (with_leaves trex keys (at_first base number dts) (boxes_from payload 0)) (boxes_from payload 0) =
     (λ i. runs_coming (o i) (boxes_from payload (next i))) ∙ ap (λ s. runs_coming (with_leaves trex keys s (boxes_from payload 0)) (boxes_from payload 0)) f in
-    let own : boxes_coming base id trex dts keys (boxes_from payload 0) ≡ runs_coming (with_leaves trex keys (at_first base dts) (boxes_from payload 0)) (boxes_from payload 0) = rw named refl in
-    e ∙ rows_done payload opened none ∙ here ∙ sym own ∙ ap (boxes_coming base id trex dts keys) all
+    let own : boxes_coming base id trex number dts keys (boxes_from payload 0) ≡ runs_coming (with_leaves trex keys (at_first base number dts) (boxes_from payload 0)) (boxes_from payload 0) = rw named refl in
+    e ∙ rows_done payload opened none ∙ here ∙ sym own ∙ ap (boxes_coming base id trex number dts keys) all
 
 -- where it names another track there is none
-pub not_begun : (payload : List ℕ) (base : ℤ) (id : ℕ) (trex : Trex) (dts : ℕ) (keys : List GroupKey) (p : FragPlace) → p.run.left ≡ 0 → p.next ≡ length payload → are_named id false (boxes_from payload 0) ≡ false
-    → coming payload p ≡ samples_in payload base id trex dts keys
-not_begun payload base id trex dts keys p none next named =
-    let other : boxes_coming base id trex dts keys (boxes_from payload 0) ≡ [] = rw named refl in
-    none_to_come payload p none next ∙ sym other ∙ ap (boxes_coming base id trex dts keys) (all_boxes payload)
+pub not_begun : (payload : List ℕ) (base : ℤ) (id : ℕ) (trex : Trex) (number dts : ℕ) (keys : List GroupKey) (p : FragPlace) → p.run.left ≡ 0 → p.next ≡ length payload → are_named id false (boxes_from payload 0) ≡ false
+    → coming payload p ≡ samples_in payload base id trex number dts keys
+not_begun payload base id trex number dts keys p none next named =
+    let other : boxes_coming base id trex number dts keys (boxes_from payload 0) ≡ [] = rw named refl in
+    none_to_come payload p none next ∙ sym other ∙ ap (boxes_coming base id trex number dts keys) (all_boxes payload)

@@ -92,14 +92,14 @@ with_one_head trex keys s t (b ∷ boxes) lists n h =
     choice false false e f m k later = later lists (omega (arith, m)) k
 
 -- what the one `tfhd` says
-head_says : (trex : Trex) (base : ℤ) (dts : ℕ) (payload : List ℕ) (lists : List (List ℕ)) → IsReadable tfhd payload → with_head trex (record (at_first base dts) { indexes = lists }) payload ≡ stand (head_of payload) trex dts base base lists
-head_says trex base dts payload lists r = let there = read tfhd payload r in rw there refl
+head_says : (trex : Trex) (base : ℤ) (number dts : ℕ) (payload : List ℕ) (lists : List (List ℕ)) → IsReadable tfhd payload → with_head trex (record (at_first base number dts) { indexes = lists }) payload ≡ stand (head_of payload) trex number dts base base lists
+head_says trex base number dts payload lists r = let there = read tfhd payload r in rw there refl
 
 -- what goes for the samples of a `traf` with one `tfhd`
-pub leaves_tied : (trex : Trex) (keys : List GroupKey) (base : ℤ) (dts : ℕ) (boxes : List Box) → count_among (codes "tfhd" ∷ []) boxes ≡ 1 → IsReadable tfhd (payload_of (codes "tfhd") boxes)
-    → with_leaves trex keys (at_first base dts) boxes ≡ stand (track_fragment_of boxes) trex dts base base (groups_taken keys no_indexes (of_kind (codes "sbgp") boxes))
-leaves_tied trex keys base dts boxes n r =
-    with_one_head trex keys (at_first base dts) (stand (track_fragment_of boxes) trex dts base base []) boxes no_indexes n (λ ls. head_says trex base dts (payload_of (codes "tfhd") boxes) ls r)
+pub leaves_tied : (trex : Trex) (keys : List GroupKey) (base : ℤ) (number dts : ℕ) (boxes : List Box) → count_among (codes "tfhd" ∷ []) boxes ≡ 1 → IsReadable tfhd (payload_of (codes "tfhd") boxes)
+    → with_leaves trex keys (at_first base number dts) boxes ≡ stand (track_fragment_of boxes) trex number dts base base (groups_taken keys no_indexes (of_kind (codes "sbgp") boxes))
+leaves_tied trex keys base number dts boxes n r =
+    with_one_head trex keys (at_first base number dts) (stand (track_fragment_of boxes) trex number dts base base []) boxes no_indexes n (λ ls. head_says trex base number dts (payload_of (codes "tfhd") boxes) ls r)
 
 -- ---- whose the `traf` is
 

@@ -19,8 +19,8 @@ use Rattle.mp4_frag.specs.words.Walks.{samples_in}
 use Rattle.mp4_frag.specs.declared.state.TrackState.{TrackState}
 use Rattle.mp4_frag.specs.declared.trex.Trex.{Trex}
 use Rattle.mp4_frag.proofs.GroupsTied.{KeepRules}
-use Rattle.mp4_frag.proofs.RunsTied.{duration_grouped}
-use Rattle.mp4_frag.proofs.TrafsTied.{traf_tied, grouped_length}
+use Rattle.mp4_frag.proofs.RunsTied.{duration_grouped, grouped_length}
+use Rattle.mp4_frag.proofs.TrafsTied.{traf_tied}
 
 -- ---- one of those of a `moof`
 
@@ -59,22 +59,22 @@ one_among P xs x h c = subst P c.2 (at_place P xs c.0 x h c.1)
 -- ---- its samples
 
 -- by the defaults of its track
-part_tied : (keys : List GroupKey) (L id dts : ℕ) (base : ℤ) (b : Box) (boxes : List Box) (trex : Trex) → L < 2 ^ 64 → length keys ≤ 4 → AreDistinct keys → Holds rules.TrackFragment (box_container b) boxes → AreSound (ruled rules.TrackFragment) boxes
+part_tied : (keys : List GroupKey) (L id number dts : ℕ) (base : ℤ) (b : Box) (boxes : List Box) (trex : Trex) → L < 2 ^ 64 → length keys ≤ 4 → AreDistinct keys → Holds rules.TrackFragment (box_container b) boxes → AreSound (ruled rules.TrackFragment) boxes
     → (track_fragment_of boxes).id ≡ id → IsPlacedWithin L (part_from base trex (track_fragment_of boxes)) → IsGrouped (part_from base trex (track_fragment_of boxes))
-    → dts + duration_of (part_samples (part_from base trex (track_fragment_of boxes))) < 2 ^ 64
-    → samples_in b.payload base id trex dts keys ≡ timed keys dts (part_samples (part_from base trex (track_fragment_of boxes)))
-part_tied keys L id dts base b boxes trex short few distinct holds sound same places groups fits =
+    → number + length (part_samples (part_from base trex (track_fragment_of boxes))) < 2 ^ 32 → dts + duration_of (part_samples (part_from base trex (track_fragment_of boxes))) < 2 ^ 64
+    → samples_in b.payload base id trex number dts keys ≡ timed keys number dts (part_samples (part_from base trex (track_fragment_of boxes)))
+part_tied keys L id number dts base b boxes trex short few distinct holds sound same places groups room fits =
     let traf = track_fragment_of boxes in
     let xs = flat_map (λ samples. samples) (runs_samples trex traf base base traf.runs) in
     let count = grouped_length (maps_of (length xs) traf.groups) xs in
     let kept : KeepRules (length xs) traf.groups = subst (λ m. KeepRules m traf.groups) count groups in
-    traf_tied keys L id (length xs) dts base b boxes trex short few distinct holds sound same places kept (omega (arith, fits, duration_grouped (maps_of (length xs) traf.groups) xs))
+    traf_tied keys L id (length xs) number dts base b boxes trex short few distinct holds sound same places kept (omega (arith, room, grouped_length (maps_of (length xs) traf.groups) xs)) (omega (arith, fits, duration_grouped (maps_of (length xs) traf.groups) xs))
 
 -- those of one of a track's own
-pub own_tied : (keys : List GroupKey) (L id dts : ℕ) (trexes : List Trex) (tracks : List TrackState) (t : FragmentTree) (p : PlacedTraf) (trex : Trex) → length keys ≤ 4 → AreDistinct keys → IsSoundMoof L trexes tracks t → Contains (own_in trexes id t) p → trex_for trexes id ≡ Some trex
-    → dts + duration_of (part_samples p.part) < 2 ^ 64
-    → samples_in p.traf.payload p.base id trex dts keys ≡ timed keys dts (part_samples p.part)
-own_tied keys L id dts trexes tracks t p trex few distinct sound among known fits =
+pub own_tied : (keys : List GroupKey) (L id number dts : ℕ) (trexes : List Trex) (tracks : List TrackState) (t : FragmentTree) (p : PlacedTraf) (trex : Trex) → length keys ≤ 4 → AreDistinct keys → IsSoundMoof L trexes tracks t → Contains (own_in trexes id t) p → trex_for trexes id ≡ Some trex
+    → number + length (part_samples p.part) < 2 ^ 32 → dts + duration_of (part_samples p.part) < 2 ^ 64
+    → samples_in p.traf.payload p.base id trex number dts keys ≡ timed keys number dts (part_samples p.part)
+own_tied keys L id number dts trexes tracks t p trex few distinct sound among known room fits =
     let all = each_sound L trexes t.moof.offset (pos t.moof.offset) (of_kind (codes "traf") t.children) t.trafs sound.tree.trafs sound.leaves sound.places sound.groups in
     let here = one_among (λ (q : PlacedTraf). IsSoundTraf L trexes q × (is_own id q ≡ true)) (own_in trexes id t) p (each_kept (IsSoundTraf L trexes) (is_own id) (placed_in trexes t) all) among in
     let s = here.0 in
@@ -82,6 +82,6 @@ own_tied keys L id dts trexes tracks t p trex few distinct sound among known fit
     let named : (track_fragment_of s.boxes).id ≡ id = sym (ap (λ (q : Part). q.id) s.part) ∙ eqb-true p.part.id id mine in
     let defaults : trex_by trexes s.boxes ≡ trex = ap (λ n. unwrap_or (trex_for trexes n) no_trex) named ∙ ap (λ (o : Option Trex). unwrap_or o no_trex) known in
     let part : p.part ≡ part_from p.base trex (track_fragment_of s.boxes) = s.part ∙ ap (λ (x : Trex). part_from p.base x (track_fragment_of s.boxes)) defaults in
-    part_tied keys L id dts p.base p.traf s.boxes trex sound.short few distinct s.holds s.sound named (subst (IsPlacedWithin L) part s.places) (subst IsGrouped part s.groups)
-    (subst (λ (q : Part). dts + duration_of (part_samples q) < 2 ^ 64) part fits)
-    ∙ ap (λ (q : Part). timed keys dts (part_samples q)) (sym part)
+    part_tied keys L id number dts p.base p.traf s.boxes trex sound.short few distinct s.holds s.sound named (subst (IsPlacedWithin L) part s.places) (subst IsGrouped part s.groups)
+    (subst (λ (q : Part). number + length (part_samples q) < 2 ^ 32) part room) (subst (λ (q : Part). dts + duration_of (part_samples q) < 2 ^ 64) part fits)
+    ∙ ap (λ (q : Part). timed keys number dts (part_samples q)) (sym part)

@@ -17,7 +17,7 @@ use Rattle.mp4_frag.specs.declared.state.TrackState.{TrackState}
 use Rattle.mp4_frag.specs.declared.trex.Trex.{Trex}
 use Rattle.mp4_frag.proofs.TracksMoved.{IsTested, part_tested}
 use Rattle.mp4_frag.proofs.TrafPassed.{runs_count}
-use Rattle.mp4_frag.proofs.TrafsTied.{grouped_length}
+use Rattle.mp4_frag.proofs.RunsTied.{grouped_length}
 
 -- a `traf` has as many samples as its runs
 pub part_counts : (moof : ℕ) (before : ℤ) (trex : Trex) (boxes : List Box) → length (part_samples (part_with moof before trex (track_fragment_of boxes))) ≡ runs_total (of_kind (codes "trun") boxes)

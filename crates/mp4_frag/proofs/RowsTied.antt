@@ -15,7 +15,7 @@ use Rattle.mp4_frag.specs.format.Fragments.{RunRow, TrackFragment, column, run_r
 use Rattle.mp4_frag.specs.format.FragmentSamples.{inherited, flags_of, run_samples}
 use Rattle.mp4_frag.specs.words.Passing.{within_from, end_from, lasting}
 use Rattle.mp4_frag.specs.words.Reading.{inheritance}
-use Rattle.mp4_frag.specs.words.Walks.{Reached, capped, held, first_byte, sample_of, rows_coming}
+use Rattle.mp4_frag.specs.words.Walks.{Reached, capped, held, first_byte, sample_of, next_number, rows_coming}
 use Rattle.mp4_frag.specs.declared.trex.Trex.{Trex}
 use Rattle.mp4_frag.proofs.SamplesOfRows.{inherited_is}
 
@@ -85,8 +85,8 @@ first_grouped (m ∷ maps) s samples e = refl
 -- ---- rows
 
 -- what goes for the samples of a `traf`
-abbrev pub stand : TrackFragment → Trex → ℕ → ℤ → ℤ → List (List ℕ) → Reached
-stand traf trex dts at base lists = record { dts = dts; at = at; base = base; inherited = inheritance traf trex; indexes = lists }
+abbrev pub stand : TrackFragment → Trex → ℕ → ℕ → ℤ → ℤ → List (List ℕ) → Reached
+stand traf trex number dts at base lists = record { number = number; dts = dts; at = at; base = base; inherited = inheritance traf trex; indexes = lists }
 
 abbrev pub size_of : TrackFragment → Trex → ℕ
 size_of traf trex = unwrap_or traf.size trex.size
@@ -107,10 +107,10 @@ lists_passed k [] = refl
 lists_passed k (l ∷ lists) = let next : 1 + k ≡ suc k = omega arith in let one : drop k (drop 1 l) ≡ drop (suc k) l = drop-drop k 1 l ∙ ap (λ n. drop n l) next in let more = lists_passed k lists in λ i. one i ∷ more i
 
 -- the sample of a row
-sample_tied : (keys : List GroupKey) (L : ℕ) (traf : TrackFragment) (trex : Trex) (dts : ℕ) (at : ℤ) (base : ℤ) (lists : List (List ℕ)) (first : Option ℕ) (row : RunRow) (maps : List Groups)
+sample_tied : (keys : List GroupKey) (L : ℕ) (traf : TrackFragment) (trex : Trex) (number dts : ℕ) (at : ℤ) (base : ℤ) (lists : List (List ℕ)) (first : Option ℕ) (row : RunRow) (maps : List Groups)
     → L < 2 ^ 64 → AreShown keys lists maps → lies_within L at (unwrap_or row.size (size_of traf trex)) ≡ true
-    → sample_of (stand traf trex dts at base lists) first row
-    ≡ sample_at keys dts (record {
+    → sample_of (stand traf trex number dts at base lists) first row
+    ≡ sample_at keys number dts (record {
       duration = inherited row.duration traf.duration trex.duration;
       offset = unwrap_or row.offset (pos 0);
       flags = flags_of first row.flags traf.flags trex.flags;
@@ -119,40 +119,43 @@ sample_tied : (keys : List GroupKey) (L : ℕ) (traf : TrackFragment) (trex : Tr
       size = inherited row.size traf.size trex.size;
       groups = get_or maps 0 [];
     })
-sample_tied keys L traf trex dts at base lists first row maps short shown lies =
+sample_tied keys L traf trex number dts at base lists first row maps short shown lies =
     let duration = sym (inherited_is row.duration traf.duration trex.duration) in
     let size = sym (inherited_is row.size traf.size trex.size) in
     let flags = flags_alike first row.flags traf.flags trex.flags in
     let there = (in_file L (unwrap_or row.size (size_of traf trex)) at short lies).1 in
     let groups = shown 0 in
-    λ i. record { dts = dts; duration = duration i; cto = unwrap_or row.offset (pos 0); flags = flags i; description = unwrap_or traf.description trex.description; at = there i; size = size i; groups = groups i }
+    λ i. record { dts = dts; duration = duration i; cto = unwrap_or row.offset (pos 0); flags = flags i; description = unwrap_or traf.description trex.description; at = there i; size = size i; groups = groups i; number = number }
 
 -- the samples of rows, and what comes behind them
-pub rows_tied : (keys : List GroupKey) (L : ℕ) (traf : TrackFragment) (trex : Trex) (dts : ℕ) (at : ℤ) (base : ℤ) (lists : List (List ℕ)) (first : Option ℕ) (rows : List RunRow) (maps : List Groups) (more : Reached → List SampleAt)
-    → L < 2 ^ 64 → AreShown keys lists maps → within_from L (size_of traf trex) at rows ≡ true → dts + lasting (lasts_of traf trex) rows < 2 ^ 64
-    → rows_coming (stand traf trex dts at base lists) first rows more
-    ≡ timed keys dts (with_groups maps (run_samples trex traf first at rows)) ++ more (stand traf trex (dts + lasting (lasts_of traf trex) rows) (end_from (size_of traf trex) at rows) base (map (drop (length rows)) lists))
-rows_tied keys L traf trex dts at base lists first [] maps more short shown within fits =
+pub rows_tied : (keys : List GroupKey) (L : ℕ) (traf : TrackFragment) (trex : Trex) (number dts : ℕ) (at : ℤ) (base : ℤ) (lists : List (List ℕ)) (first : Option ℕ) (rows : List RunRow) (maps : List Groups) (more : Reached → List SampleAt)
+    → L < 2 ^ 64 → AreShown keys lists maps → within_from L (size_of traf trex) at rows ≡ true → number + length rows < 2 ^ 32 → dts + lasting (lasts_of traf trex) rows < 2 ^ 64
+    → rows_coming (stand traf trex number dts at base lists) first rows more
+    ≡ timed keys number dts (with_groups maps (run_samples trex traf first at rows)) ++ more (stand traf trex (number + length rows) (dts + lasting (lasts_of traf trex) rows) (end_from (size_of traf trex) at rows) base (map (drop (length rows)) lists))
+rows_tied keys L traf trex number dts at base lists first [] maps more short shown within room fits =
     let none : with_groups maps [] ≡ [] = no_samples maps in
+    let next : number ≡ number + 0 = omega arith in
     let time : dts ≡ dts + 0 = omega arith in
     let same = no_lists_passed lists in
-    (λ i. more (stand traf trex (time i) at base (same i))) ∙ ap (λ (ss : List PlacedSample). timed keys dts ss ++ more (stand traf trex (dts + 0) at base (map (drop 0) lists))) (sym none)
+    (λ i. more (stand traf trex (next i) (time i) at base (same i))) ∙ ap (λ (ss : List PlacedSample). timed keys number dts ss ++ more (stand traf trex (number + 0) (dts + 0) at base (map (drop 0) lists))) (sym none)
   where
     no_samples : (ms : List Groups) → with_groups ms [] ≡ []
     no_samples [] = refl
     no_samples (m ∷ ms) = refl
-rows_tied keys L traf trex dts at base lists first (row ∷ rows) maps more short shown within fits =
+rows_tied keys L traf trex number dts at base lists first (row ∷ rows) maps more short shown within room fits =
     let size = unwrap_or row.size (size_of traf trex) in
     let lasts = unwrap_or row.duration (lasts_of traf trex) in
     let parts = both (lies_within L at size) (within_from L (size_of traf trex) (at +ℤ pos size) rows) within in
-    let one = sample_tied keys L traf trex dts at base lists first row maps short shown parts.0 in
+    let one = sample_tied keys L traf trex number dts at base lists first row maps short shown parts.0 in
+    let next : next_number number ≡ number + 1 = omega (arith, room) in
+    let last : number + 1 + length rows ≡ number + suc (length rows) = omega arith in
     let time : capped (dts + lasts) ≡ dts + lasts = in_time (dts + lasts) (omega arith) in
     let place = (in_file L size at short parts.0).0 in
     let whole : dts + lasts + lasting (lasts_of traf trex) rows ≡ dts + (lasts + lasting (lasts_of traf trex) rows) = omega arith in
     let passed = lists_passed (length rows) lists in
     let duration = inherited_is row.duration traf.duration trex.duration in
     let width = inherited_is row.size traf.size trex.size in
-    let others = rows_tied keys L traf trex (dts + lasts) (at +ℤ pos size) base (map (drop 1) lists) None rows (drop 1 maps) more short (shown_later keys 1 lists maps shown) parts.1 (omega arith) in
+    let others = rows_tied keys L traf trex (number + 1) (dts + lasts) (at +ℤ pos size) base (map (drop 1) lists) None rows (drop 1 maps) more short (shown_later keys 1 lists maps shown) parts.1 (omega (arith, room)) (omega arith) in
     let grouped = first_grouped maps (record {
       duration = inherited row.duration traf.duration trex.duration;
       offset = unwrap_or row.offset (pos 0);
@@ -163,7 +166,7 @@ rows_tied keys L traf trex dts at base lists first (row ∷ rows) maps more shor
       groups = [];
     })
     (run_samples trex traf None (at +ℤ pos (inherited row.size traf.size trex.size)) rows) refl in
-    (λ i. one i ∷ rows_coming (stand traf trex (time i) (place i) base (map (drop 1) lists)) None rows more)
+    (λ i. one i ∷ rows_coming (stand traf trex (next i) (time i) (place i) base (map (drop 1) lists)) None rows more)
     ∙ (λ i. one 1 ∷ others i)
-    ∙ (λ i. one 1 ∷ (timed keys (dts + sym duration i) (with_groups (drop 1 maps) (run_samples trex traf None (at +ℤ pos (sym width i)) rows)) ++ more (stand traf trex (whole i) (end_from (size_of traf trex) (at +ℤ pos size) rows) base (passed i))))
-    ∙ ap (λ (ss : List PlacedSample). timed keys dts ss ++ more (stand traf trex (dts + (lasts + lasting (lasts_of traf trex) rows)) (end_from (size_of traf trex) (at +ℤ pos size) rows) base (map (drop (suc (length rows))) lists))) (sym grouped)
+    ∙ (λ i. one 1 ∷ (timed keys (number + 1) (dts + sym duration i) (with_groups (drop 1 maps) (run_samples trex traf None (at +ℤ pos (sym width i)) rows)) ++ more (stand traf trex (last i) (whole i) (end_from (size_of traf trex) (at +ℤ pos size) rows) base (passed i))))
+    ∙ ap (λ (ss : List PlacedSample). timed keys number dts ss ++ more (stand traf trex (number + suc (length rows)) (dts + (lasts + lasting (lasts_of traf trex) rows)) (end_from (size_of traf trex) (at +ℤ pos size) rows) base (map (drop (suc (length rows))) lists))) (sym grouped)

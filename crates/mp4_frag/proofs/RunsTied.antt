@@ -2,6 +2,7 @@
 use Rattle.std.proofs.Common.{◌≡◌, ℕ, zero, suc, ◌+◌, ◌-◌, ◌^◌, ◌<◌, ◌≤◌, ◌&&◌, ◌==◌, nat_le, IsTrue, Bool, true, false, cond, List, [], ◌∷◌, ◌++◌, length, drop, map, Option, Some, None, refl, sym, ap, subst, ◌∙◌, rules, arith}
 use Rattle.std.specs.Prelude.{ℤ, pos, negsuc, ◌+ℤ◌, unwrap_or, flat_map, codes, bytes_eq}
 use Rattle.std.specs.List.{AllByRecursion}
+use Rattle.std.proofs.lemmas.List.{length-append}
 use Rattle.mp4_boxes.specs.format.Box.{Box}
 use Rattle.mp4_boxes.specs.format.Children.{of_kind}
 use Rattle.mp4_boxes.specs.format.Layout.{trun, version, flags, row_count, run_offsets, too_large, IsSound}
@@ -63,29 +64,29 @@ abbrev pub samples_of_run : TrackFragment → Trex → ℤ → ℤ → List ℕ 
 samples_of_run traf trex base before payload = run_samples trex traf (sample_run_of payload).first_sample_flags (start_of_run base before payload) (sample_run_of payload).rows
 
 -- the samples of rows from such a place on, and what comes behind them, from another
-rows_held : (keys : List GroupKey) (L : ℕ) (traf : TrackFragment) (trex : Trex) (dts : ℕ) (kept at base : ℤ) (lists : List (List ℕ)) (first : Option ℕ) (rows : List RunRow) (maps : List Groups) (more : Reached → List SampleAt)
-    → L < 2 ^ 64 → IsHeldFor kept at → AreShown keys lists maps → within_from L (size_of traf trex) at rows ≡ true → dts + lasting (lasts_of traf trex) rows < 2 ^ 64
+rows_held : (keys : List GroupKey) (L : ℕ) (traf : TrackFragment) (trex : Trex) (number dts : ℕ) (kept at base : ℤ) (lists : List (List ℕ)) (first : Option ℕ) (rows : List RunRow) (maps : List Groups) (more : Reached → List SampleAt)
+    → L < 2 ^ 64 → IsHeldFor kept at → AreShown keys lists maps → within_from L (size_of traf trex) at rows ≡ true → number + length rows < 2 ^ 32 → dts + lasting (lasts_of traf trex) rows < 2 ^ 64
     → (to : ℤ) × (IsHeldFor to (end_from (size_of traf trex) at rows))
-    × (rows_coming (stand traf trex dts kept base lists) first rows more
-    ≡ timed keys dts (with_groups maps (run_samples trex traf first at rows)) ++ more (stand traf trex (dts + lasting (lasts_of traf trex) rows) to base (map (drop (length rows)) lists)))
-rows_held keys L traf trex dts kept at base lists first [] maps more short held_at shown within fits = (kept, held_at, rows_tied keys L traf trex dts kept base lists first [] maps more short shown refl fits)
-rows_held keys L traf trex dts kept at base lists first (row ∷ rows) maps more short held_at shown within fits =
+    × (rows_coming (stand traf trex number dts kept base lists) first rows more
+    ≡ timed keys number dts (with_groups maps (run_samples trex traf first at rows)) ++ more (stand traf trex (number + length rows) (dts + lasting (lasts_of traf trex) rows) to base (map (drop (length rows)) lists)))
+rows_held keys L traf trex number dts kept at base lists first [] maps more short held_at shown within room fits = (kept, held_at, rows_tied keys L traf trex number dts kept base lists first [] maps more short shown refl room fits)
+rows_held keys L traf trex number dts kept at base lists first (row ∷ rows) maps more short held_at shown within room fits =
     let size = unwrap_or row.size (size_of traf trex) in
     let there = begins_in L size at short (both (lies_within L at size) (within_from L (size_of traf trex) (at +ℤ pos size) rows) within).0 in
     let same : kept ≡ at = held_at there.0 there.1 there.2 ∙ sym there.1 in (
       end_from (size_of traf trex) at (row ∷ rows),
       (λ n e small. e),
-      ap (λ (z : ℤ). rows_coming (stand traf trex dts z base lists) first (row ∷ rows) more) same ∙ rows_tied keys L traf trex dts at base lists first (row ∷ rows) maps more short shown within fits,
+      ap (λ (z : ℤ). rows_coming (stand traf trex number dts z base lists) first (row ∷ rows) more) same ∙ rows_tied keys L traf trex number dts at base lists first (row ∷ rows) maps more short shown within room fits,
     )
 
 -- the samples of a run, and what comes behind them
-run_tied : (keys : List GroupKey) (L : ℕ) (traf : TrackFragment) (trex : Trex) (dts : ℕ) (kept at base : ℤ) (lists : List (List ℕ)) (payload : List ℕ) (maps : List Groups) (more : Reached → List SampleAt)
-    → L < 2 ^ 64 → IsHeldFor kept at → IsSound trun payload → AreShown keys lists maps → is_within L (samples_of_run traf trex base at payload) ≡ true → dts + duration_of (samples_of_run traf trex base at payload) < 2 ^ 64
+run_tied : (keys : List GroupKey) (L : ℕ) (traf : TrackFragment) (trex : Trex) (number dts : ℕ) (kept at base : ℤ) (lists : List (List ℕ)) (payload : List ℕ) (maps : List Groups) (more : Reached → List SampleAt)
+    → L < 2 ^ 64 → IsHeldFor kept at → IsSound trun payload → AreShown keys lists maps → is_within L (samples_of_run traf trex base at payload) ≡ true → number + length (samples_of_run traf trex base at payload) < 2 ^ 32 → dts + duration_of (samples_of_run traf trex base at payload) < 2 ^ 64
     → (to : ℤ) × (IsHeldFor to (end_of_data (start_of_run base at payload) (samples_of_run traf trex base at payload)))
-    × (run_coming (stand traf trex dts kept base lists) payload more
-    ≡ timed keys dts (with_groups maps (samples_of_run traf trex base at payload))
-    ++ more (stand traf trex (dts + duration_of (samples_of_run traf trex base at payload)) to base (map (drop (length (samples_of_run traf trex base at payload))) lists)))
-run_tied keys L traf trex dts kept at base lists payload maps more short held_at sound shown within fits =
+    × (run_coming (stand traf trex number dts kept base lists) payload more
+    ≡ timed keys number dts (with_groups maps (samples_of_run traf trex base at payload))
+    ++ more (stand traf trex (number + length (samples_of_run traf trex base at payload)) (dts + duration_of (samples_of_run traf trex base at payload)) to base (map (drop (length (samples_of_run traf trex base at payload))) lists)))
+run_tied keys L traf trex number dts kept at base lists payload maps more short held_at sound shown within room fits =
     let run = sample_run_of payload in
     let start = start_of_run base at payload in
     let there = read trun payload sound.readable in
@@ -96,12 +97,12 @@ run_tied keys L traf trex dts kept at base lists payload maps more short held_at
     let count = samples_count trex traf run.first_sample_flags start run.rows in
     let time : dts + lasting (lasts_of traf trex) run.rows < 2 ^ 64 = omega (arith, fits, lasts) in
     let begun = begin base kept run.data_offset in
-    let all = rows_held keys L traf trex dts begun start base lists run.first_sample_flags run.rows maps more short (begin_held base kept at run.data_offset held_at) shown inside time in (
+    let all = rows_held keys L traf trex number dts begun start base lists run.first_sample_flags run.rows maps more short (begin_held base kept at run.data_offset held_at) shown inside (omega (arith, room, count)) time in (
       all.0,
       subst (IsHeldFor all.0) (sym ends) all.1,
-      rw there (ap (λ (rs : List RunRow). rows_coming (stand traf trex dts begun base lists) run.first_sample_flags rs more) rows
+      rw there (ap (λ (rs : List RunRow). rows_coming (stand traf trex number dts begun base lists) run.first_sample_flags rs more) rows
           ∙ all.2
-          ∙ (λ i. timed keys dts (with_groups maps (samples_of_run traf trex base at payload)) ++ more (stand traf trex (dts + sym lasts i) all.0 base (map (drop (count i)) lists)))),
+          ∙ (λ i. timed keys number dts (with_groups maps (samples_of_run traf trex base at payload)) ++ more (stand traf trex (number + count i) (dts + sym lasts i) all.0 base (map (drop (count i)) lists)))),
     )
 
 -- ---- lists of samples in two parts
@@ -129,6 +130,12 @@ duration_grouped [] (x ∷ xs) = refl
 duration_grouped (m ∷ maps) [] = refl
 duration_grouped (m ∷ maps) (x ∷ xs) = ap (λ n. x.duration + n) (duration_grouped maps xs)
 
+pub grouped_length : (maps : List Groups) (xs : List PlacedSample) → length (with_groups maps xs) ≡ length xs
+grouped_length [] [] = refl
+grouped_length [] (x ∷ xs) = refl
+grouped_length (m ∷ maps) [] = refl
+grouped_length (m ∷ maps) (x ∷ xs) = ap suc (grouped_length maps xs)
+
 pub bytes-append : (xs ys : List PlacedSample) → bytes_of (xs ++ ys) ≡ bytes_of xs + bytes_of ys
 bytes-append [] ys = omega arith
 bytes-append (x ∷ xs) ys = omega (arith, bytes-append xs ys)
@@ -139,18 +146,19 @@ bytes_grouped [] (x ∷ xs) = refl
 bytes_grouped (m ∷ maps) [] = refl
 bytes_grouped (m ∷ maps) (x ∷ xs) = ap (λ n. x.size + n) (bytes_grouped maps xs)
 
-pub timed-append : (keys : List GroupKey) (dts : ℕ) (xs ys : List PlacedSample) → timed keys dts (xs ++ ys) ≡ timed keys dts xs ++ timed keys (dts + duration_of xs) ys
-timed-append keys dts [] ys = let e : dts ≡ dts + 0 = omega arith in ap (λ n. timed keys n ys) e
-timed-append keys dts (x ∷ xs) ys =
+pub timed-append : (keys : List GroupKey) (number dts : ℕ) (xs ys : List PlacedSample) → timed keys number dts (xs ++ ys) ≡ timed keys number dts xs ++ timed keys (number + length xs) (dts + duration_of xs) ys
+timed-append keys number dts [] ys = let k : number ≡ number + 0 = omega arith in let e : dts ≡ dts + 0 = omega arith in λ i. timed keys (k i) (e i) ys
+timed-append keys number dts (x ∷ xs) ys =
+    let k : number + 1 + length xs ≡ number + suc (length xs) = omega arith in
     let e : dts + x.duration + duration_of xs ≡ dts + (x.duration + duration_of xs) = omega arith in
-    ap (λ (ss : List SampleAt). sample_at keys dts x ∷ ss) (timed-append keys (dts + x.duration) xs ys ∙ ap (λ n. timed keys (dts + x.duration) xs ++ timed keys n ys) e)
+    ap (λ (ss : List SampleAt). sample_at keys number dts x ∷ ss) (timed-append keys (number + 1) (dts + x.duration) xs ys ∙ (λ i. timed keys (number + 1) (dts + x.duration) xs ++ timed keys (k i) (e i) ys))
 
 -- samples with their times and groups, in two parts
-pub parts_joined : (keys : List GroupKey) (dts : ℕ) (maps : List Groups) (xs ys : List PlacedSample)
-    → timed keys dts (with_groups maps (xs ++ ys)) ≡ timed keys dts (with_groups maps xs) ++ timed keys (dts + duration_of xs) (with_groups (drop (length xs) maps) ys)
-parts_joined keys dts maps xs ys =
-    ap (timed keys dts) (grouped-append maps xs ys) ∙ timed-append keys dts (with_groups maps xs) (with_groups (drop (length xs) maps) ys)
-    ∙ ap (λ n. timed keys dts (with_groups maps xs) ++ timed keys (dts + n) (with_groups (drop (length xs) maps) ys)) (duration_grouped maps xs)
+pub parts_joined : (keys : List GroupKey) (number dts : ℕ) (maps : List Groups) (xs ys : List PlacedSample)
+    → timed keys number dts (with_groups maps (xs ++ ys)) ≡ timed keys number dts (with_groups maps xs) ++ timed keys (number + length xs) (dts + duration_of xs) (with_groups (drop (length xs) maps) ys)
+parts_joined keys number dts maps xs ys =
+    ap (timed keys number dts) (grouped-append maps xs ys) ∙ timed-append keys number dts (with_groups maps xs) (with_groups (drop (length xs) maps) ys)
+    ∙ (λ i. timed keys number dts (with_groups maps xs) ++ timed keys (number + grouped_length maps xs i) (dts + duration_grouped maps xs i) (with_groups (drop (length xs) maps) ys))
 
 -- ---- the runs among boxes
 
@@ -167,27 +175,28 @@ AreWithin L traf trex base at runs = AllByRecursion (λ samples. IsTrue (is_with
 -- what is so of boxes that hold these runs
 abbrev Tied : List GroupKey → ℕ → TrackFragment → Trex → ℤ → List Box → List Box → Type 0
 Tied keys L traf trex base boxes runs =
-    (dts : ℕ) (kept at : ℤ) (lists : List (List ℕ)) (maps : List Groups) → IsHeldFor kept at → AllByRecursion (λ (b : Box). IsSound trun b.payload) runs → AreShown keys lists maps → AreWithin L traf trex base at runs
-    → dts + duration_of (samples_of_runs traf trex base at runs) < 2 ^ 64
-    → runs_coming (stand traf trex dts kept base lists) boxes ≡ timed keys dts (with_groups maps (samples_of_runs traf trex base at runs))
+    (number dts : ℕ) (kept at : ℤ) (lists : List (List ℕ)) (maps : List Groups) → IsHeldFor kept at → AllByRecursion (λ (b : Box). IsSound trun b.payload) runs → AreShown keys lists maps → AreWithin L traf trex base at runs
+    → number + length (samples_of_runs traf trex base at runs) < 2 ^ 32 → dts + duration_of (samples_of_runs traf trex base at runs) < 2 ^ 64
+    → runs_coming (stand traf trex number dts kept base lists) boxes ≡ timed keys number dts (with_groups maps (samples_of_runs traf trex base at runs))
 
 none_more : (keys : List GroupKey) (L : ℕ) (traf : TrackFragment) (trex : Trex) (base : ℤ) → Tied keys L traf trex base [] []
-none_more keys L traf trex base dts kept at lists [] held_at sound shown within fits = refl
-none_more keys L traf trex base dts kept at lists (m ∷ maps) held_at sound shown within fits = refl
+none_more keys L traf trex base number dts kept at lists [] held_at sound shown within room fits = refl
+none_more keys L traf trex base number dts kept at lists (m ∷ maps) held_at sound shown within room fits = refl
 
 one_more : (keys : List GroupKey) (L : ℕ) (traf : TrackFragment) (trex : Trex) (base : ℤ) (b : Box) (boxes runs : List Box) (v : Bool) → L < 2 ^ 64 → bytes_eq (codes "trun") b.kind ≡ v
     → Tied keys L traf trex base boxes runs → Tied keys L traf trex base (b ∷ boxes) (cond v (b ∷ runs) runs)
-one_more keys L traf trex base b boxes runs false short e others dts kept at lists maps held_at sound shown within fits = rw e (others dts kept at lists maps held_at sound shown within fits)
-one_more keys L traf trex base b boxes runs true short e others dts kept at lists maps held_at sound shown within fits =
+one_more keys L traf trex base b boxes runs false short e others number dts kept at lists maps held_at sound shown within room fits = rw e (others number dts kept at lists maps held_at sound shown within room fits)
+one_more keys L traf trex base b boxes runs true short e others number dts kept at lists maps held_at sound shown within room fits =
     let xs = samples_of_run traf trex base at b.payload in
     let end = end_of_data (start_of_run base at b.payload) xs in
     let ys = samples_of_runs traf trex base end runs in
     let n = length xs in
+    let many = length-append xs ys in
     let sum = duration-append xs ys in
     let inside : is_within L xs ≡ true = search (rules, within.0) in
-    let first = run_tied keys L traf trex dts kept at base lists b.payload maps (λ t. runs_coming t boxes) short held_at sound.0 shown inside (omega (arith, fits, sum)) in
-    let behind = others (dts + duration_of xs) first.0 end (map (drop n) lists) (drop n maps) first.1 sound.1 (shown_later keys n lists maps shown) within.1 (omega (arith, fits, sum)) in
-    rw e (first.2 ∙ ap (λ (ss : List SampleAt). timed keys dts (with_groups maps xs) ++ ss) behind ∙ sym (parts_joined keys dts maps xs ys))
+    let first = run_tied keys L traf trex number dts kept at base lists b.payload maps (λ t. runs_coming t boxes) short held_at sound.0 shown inside (omega (arith, room, many)) (omega (arith, fits, sum)) in
+    let behind = others (number + n) (dts + duration_of xs) first.0 end (map (drop n) lists) (drop n maps) first.1 sound.1 (shown_later keys n lists maps shown) within.1 (omega (arith, room, many)) (omega (arith, fits, sum)) in
+    rw e (first.2 ∙ ap (λ (ss : List SampleAt). timed keys number dts (with_groups maps xs) ++ ss) behind ∙ sym (parts_joined keys number dts maps xs ys))
 
 -- the samples of the runs of a `traf`
 pub runs_tied : (keys : List GroupKey) (L : ℕ) (traf : TrackFragment) (trex : Trex) (base : ℤ) (boxes : List Box) → L < 2 ^ 64 → Tied keys L traf trex base boxes (of_kind (codes "trun") boxes)

@@ -13,7 +13,7 @@ use Rattle.mp4_frag.specs.words.RunsJudged.{children_of}
 use Rattle.mp4_frag.specs.format.FragmentRows.{fragment_length, moof_says}
 use Rattle.mp4_frag.specs.declared.trex.Trex.{Trex}
 use Rattle.mp4_frag.proofs.HeadsFound.{holds_children}
-use Rattle.mp4_frag.proofs.TrafsTied.{grouped_length}
+use Rattle.mp4_frag.proofs.RunsTied.{grouped_length}
 
 rows_said : (trex : Trex) (traf : TrackFragment) (first : Option ℕ) (at : ℤ) (rows : List RunRow) → length (run_samples trex traf first at rows) ≡ length rows
 rows_said trex traf first at [] = refl

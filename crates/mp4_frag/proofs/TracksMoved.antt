@@ -24,7 +24,7 @@ use Rattle.mp4_frag.specs.declared.trex.Trex.{Trex}
 use Rattle.mp4_frag.proofs.LeavesRead.{head_is, got}
 use Rattle.mp4_frag.proofs.RunsTied.{duration_grouped, bytes_grouped}
 use Rattle.mp4_frag.proofs.TrafPassed.{runs_count, runs_last, runs_fill, rules_kept, payload_is, payload_there}
-use Rattle.mp4_frag.proofs.TrafsTied.{grouped_length}
+use Rattle.mp4_frag.proofs.RunsTied.{grouped_length}
 
 -- ---- descriptions
 

@@ -28,7 +28,7 @@ use Rattle.mp4_frag.specs.declared.heads.Head.{Head}
 use Rattle.mp4_frag.specs.declared.heads.Inherited.{Inherited}
 use Rattle.mp4_frag.specs.declared.state.TrackState.{TrackState}
 use Rattle.mp4_frag.proofs.LeavesRead.{head_is, got}
-use Rattle.mp4_frag.proofs.TrafsTied.{grouped_length}
+use Rattle.mp4_frag.proofs.RunsTied.{grouped_length}
 use Rattle.mp4_frag.proofs.RunsTied.{run_in, duration-append, bytes-append}
 use Rattle.mp4_frag.proofs.SamplesOfRows.{within_is, lasting_is, end_is, filling_is}
 

@@ -1,5 +1,5 @@
 -- The samples of the `traf`s of a `moof` as a walk hands them out are those of the definition.
-use Rattle.std.proofs.Common.{◌≡◌, ℕ, suc, ◌+◌, ◌^◌, ◌<◌, ◌≤◌, ◌==◌, Bool, true, false, cond, List, [], ◌∷◌, length, map, Option, Some, None, IsTrue, refl, sym, ap, ◌∙◌, rules, arith}
+use Rattle.std.proofs.Common.{◌≡◌, ℕ, ◌+◌, ◌^◌, ◌<◌, ◌≤◌, ◌==◌, Bool, true, false, cond, List, [], ◌∷◌, length, map, Option, Some, None, IsTrue, refl, sym, ap, ◌∙◌, rules, arith}
 use Rattle.std.specs.Prelude.{slice_index, ℤ, codes, unwrap_or, option_map, is_some, find}
 use Rattle.std.specs.List.{AllByRecursion}
 use Rattle.std.proofs.lemmas.Bool.Decides.{nat_tests}
@@ -10,7 +10,7 @@ use Rattle.mp4_boxes.specs.format.Places.{ruled, AreSound}
 use Rattle.mp4_boxes.specs.declared.rule.Rule.TheVariants as rule_names
 use Rattle.mp4_boxes.proofs.Each.{each_weaker}
 use Rattle.mp4_boxes.proofs.Sound.{sound_one, sound_each}
-use Rattle.mp4_tables.specs.format.Groups.{GroupKey, Groups, maps_of}
+use Rattle.mp4_tables.specs.format.Groups.{GroupKey, maps_of}
 use Rattle.mp4_tables.specs.format.PlainSamples.{PlacedSample, with_groups}
 use Rattle.mp4_tables.specs.words.Timed.{timed}
 use Rattle.mp4_tables.specs.words.Accepted.{AreDistinct}
@@ -77,28 +77,22 @@ unfolding boxes_of
 inside_is b boxes h = boxes_are b boxes h.tiles
 
 -- its samples, from a base and a decode time on
-pub traf_tied : (keys : List GroupKey) (L id n dts : ℕ) (base : ℤ) (b : Box) (boxes : List Box) (trex : Trex) → L < 2 ^ 64 → length keys ≤ 4 → AreDistinct keys
+pub traf_tied : (keys : List GroupKey) (L id n number dts : ℕ) (base : ℤ) (b : Box) (boxes : List Box) (trex : Trex) → L < 2 ^ 64 → length keys ≤ 4 → AreDistinct keys
     → Holds rule_names.TrackFragment (box_container b) boxes → AreSound (ruled rule_names.TrackFragment) boxes → (track_fragment_of boxes).id ≡ id
     → AllByRecursion (λ samples. IsTrue (is_within L samples)) (runs_samples trex (track_fragment_of boxes) base base (track_fragment_of boxes).runs) → KeepRules n (track_fragment_of boxes).groups
-    → dts + duration_of (samples_inside (track_fragment_of boxes) trex base boxes) < 2 ^ 64
-    → samples_in b.payload base id trex dts keys ≡ timed keys dts (with_groups (maps_of n (track_fragment_of boxes).groups) (samples_inside (track_fragment_of boxes) trex base boxes))
-traf_tied keys L id n dts base b boxes trex short few distinct holds sound same within kept fits =
+    → number + length (samples_inside (track_fragment_of boxes) trex base boxes) < 2 ^ 32 → dts + duration_of (samples_inside (track_fragment_of boxes) trex base boxes) < 2 ^ 64
+    → samples_in b.payload base id trex number dts keys ≡ timed keys number dts (with_groups (maps_of n (track_fragment_of boxes).groups) (samples_inside (track_fragment_of boxes) trex base boxes))
+traf_tied keys L id n number dts base b boxes trex short few distinct holds sound same within kept room fits =
     let traf = track_fragment_of boxes in
     let good = good_traf b boxes holds sound in
     let lists = groups_taken keys no_indexes (of_kind (codes "sbgp") boxes) in
     let taken_is = groups_are keys no_indexes (of_kind (codes "sbgp") boxes) good.groups (rules_small n traf.groups kept) in
     let shown : AreShown keys lists (maps_of n traf.groups) = λ i. ap (λ (ls : List (List ℕ)). map (λ l. slice_index l i) ls) taken_is ∙ groups_shown keys n traf.groups few distinct (rules_differ n traf.groups kept) (rules_few n traf.groups kept) i in
     let own : are_named id false boxes ≡ true = named_tied id boxes good.one_head good.head ∙ search (rules, same) in
-    let leaves = leaves_tied trex keys base dts boxes good.one_head good.head in
-    let runs = runs_tied keys L traf trex base boxes short dts base base lists (maps_of n traf.groups) (λ k e small. e) good.runs shown within fits in
-    traf_moved base id trex dts keys 0 (b.offset + b.header) b.payload
-    ∙ ap (boxes_coming base id trex dts keys) (inside_is b boxes holds)
-    ∙ ap (λ v. cond v (runs_coming (with_leaves trex keys (at_first base dts) boxes) boxes) []) own
+    let leaves = leaves_tied trex keys base number dts boxes good.one_head good.head in
+    let runs = runs_tied keys L traf trex base boxes short number dts base base lists (maps_of n traf.groups) (λ k e small. e) good.runs shown within room fits in
+    traf_moved base id trex number dts keys 0 (b.offset + b.header) b.payload
+    ∙ ap (boxes_coming base id trex number dts keys) (inside_is b boxes holds)
+    ∙ ap (λ v. cond v (runs_coming (with_leaves trex keys (at_first base number dts) boxes) boxes) []) own
     ∙ ap (λ (s : Reached). runs_coming s boxes) leaves
     ∙ runs
-
-pub grouped_length : (maps : List Groups) (xs : List PlacedSample) → length (with_groups maps xs) ≡ length xs
-grouped_length [] [] = refl
-grouped_length [] (x ∷ xs) = refl
-grouped_length (m ∷ maps) [] = refl
-grouped_length (m ∷ maps) (x ∷ xs) = ap suc (grouped_length maps xs)

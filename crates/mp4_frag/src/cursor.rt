@@ -50,22 +50,24 @@ impl<'a> FragCursor<'a> {
         base: i128,
         id: u32,
         trex: Trex,
+        number: u32,
         dts: u64,
         keys: Keys,
     ) -> FragCursor<'a>
         ensures payload { result.payload ≡ payload.now }
         ensures time { result.place.dts ≡ dts }
         ensures samples { samples_coming result
-            ≡ samples_in payload.now base id trex dts (keys_seen keys) }
+            ≡ samples_in payload.now base id trex number dts (keys_seen keys) }
         ensures definition { (file_length : ℕ) (trexes : List Trex) (tracks : List TrackState)
             (t : FragmentTree) (p : PlacedTraf) → Contains (own_in trexes id t) p
             → p.traf.payload ≡ payload.now → p.base ≡ base
             → IsSoundMoof file_length trexes tracks t → AreTrexesOf trexes tracks
             → trex_for trexes id ≡ Some trex → AreDistinct (keys_seen keys)
+            → number + length (part_samples p.part) < 2 ^ 32
             → dts + duration_of (part_samples p.part) < 2 ^ 64
-            → samples_coming result ≡ timed (keys_seen keys) dts (part_samples p.part) }
+            → samples_coming result ≡ timed (keys_seen keys) number dts (part_samples p.part) }
     {
-        let place = begin_traf(payload, base, id, trex, dts, keys);
+        let place = begin_traf(payload, base, id, trex, number, dts, keys);
         FragCursor::at(payload, place)
     }
 

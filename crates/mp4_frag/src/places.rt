@@ -18,7 +18,9 @@ pub(crate) struct RowPlace {
 /// A place in a `traf`: which samples come next.
 #[derive(Clone, Copy)]
 pub struct FragPlace {
-    /// The decode time of the next sample, and where its data begins.
+    /// How many samples of the track come before the next one, its decode time, and where its data
+    /// begins.
+    pub(crate) number: u32,
     pub(crate) dts: u64,
     pub(crate) at: i128,
     /// Where the next box begins in the payload of the `traf`.

@@ -63,11 +63,12 @@ pub(crate) fn sample_here(payload: &[u8], place: &FragPlace) -> SampleAt
         at: file_place(place.at),
         size: said.size,
         groups: place.indexes.here(),
+        number: place.number,
     }
 }
 
 // Passes the next sample, which has the duration and the size of this one and may be the last of
-// its run: those behind it are to come, at their times.
+// its run: those behind it are to come, with their numbers and times.
 #[inline(always)]
 fn pass_row(payload: &[u8], place: &mut FragPlace, sample: &SampleAt)
     requires some { 0 < place.old.run.left }
@@ -78,6 +79,7 @@ fn pass_row(payload: &[u8], place: &mut FragPlace, sample: &SampleAt)
     ensures time { time_behind payload.now place.new ≡ time_behind payload.now place.old }
     ensures coming { coming payload.now place.new ≡ drop 1 (coming payload.now place.old) }
 {
+    place.number = place.number.saturating_add(1);
     place.dts = place.dts.saturating_add(u64::from(sample.duration));
     place.at = place.at.saturating_add(i128::from(sample.size));
     place.run = next_row(place.run);
@@ -119,6 +121,7 @@ fn pass_rows(payload: &[u8], place: &mut FragPlace, description: u32, most: u32)
         return 0;
     }
     let mut run = place.run;
+    let mut number = place.number;
     let mut dts = place.dts;
     let mut at = place.at;
     let mut count = 0;
@@ -128,12 +131,14 @@ fn pass_rows(payload: &[u8], place: &mut FragPlace, description: u32, most: u32)
         if flags / 0x1_0000 % 2 == 0 {
             break;
         }
+        number = number.saturating_add(1);
         dts = dts.saturating_add(u64::from(row.duration.unwrap_or(inherited.duration)));
         at = at.saturating_add(i128::from(row.size.unwrap_or(inherited.size)));
         run = next_row(run);
         count += 1;
     }
     place.run = run;
+    place.number = number;
     place.dts = dts;
     place.at = at;
     place.passed = place.passed.saturating_add(u64::from(count));
@@ -141,7 +146,7 @@ fn pass_rows(payload: &[u8], place: &mut FragPlace, description: u32, most: u32)
 }
 
 /// Passes samples that are no sync samples and have this description, at most so many, and says how
-/// many these are: those behind it are to come, at their times.
+/// many these are: those behind it are to come, with their numbers and times.
 pub(crate) fn pass_non_sync(
     payload: &[u8],
     place: &mut FragPlace,
@@ -164,17 +169,18 @@ pub(crate) fn pass_non_sync(
 }
 
 // Before the boxes of a `traf` whose runs are counted from this base. It is a step itself.
-fn first_place(base: i128, dts: u64) -> FragPlace
+fn first_place(base: i128, number: u32, dts: u64) -> FragPlace
     ensures first { (result.next ≡ 0) × (result.run.left ≡ 0) × (result.run.row ≡ 0)
         × (result.passed ≡ 1) }
     ensures width { result.run.width ≡ row_room result.run.bits }
     ensures indexes { (payload : List ℕ)
         → AreIndexPlaces payload result.index_rows result.indexes }
     ensures time { result.dts ≡ dts }
-    ensures reached { (payload : List ℕ) → reached payload result ≡ at_first base dts }
+    ensures reached { (payload : List ℕ) → reached payload result ≡ at_first base number dts }
 {
     let (index_rows, indexes) = no_indexes();
     FragPlace {
+        number,
         dts,
         at: base,
         next: 0,
@@ -200,6 +206,7 @@ pub(crate) fn begin_traf(
     base: i128,
     id: u32,
     trex: Trex,
+    number: u32,
     dts: u64,
     keys: Keys,
 ) -> FragPlace
@@ -207,9 +214,9 @@ pub(crate) fn begin_traf(
     ensures place { IsPlaceIn payload.now result }
     ensures time { result.dts ≡ dts }
     ensures coming { coming payload.now result
-        ≡ samples_in payload.now base id trex dts (keys_seen keys) }
+        ≡ samples_in payload.now base id trex number dts (keys_seen keys) }
 {
-    let mut place = first_place(base, dts);
+    let mut place = first_place(base, number, dts);
     if open_traf(payload, id, trex, keys, &mut place) {
         settle(payload, &mut place);
     } else {

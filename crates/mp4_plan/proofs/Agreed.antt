@@ -1,10 +1,12 @@
 -- What is left of two presentations is the same exactly where they agree.
-use Rattle.std.proofs.Common.{◌≡◌, ℕ, ◌*◌, ◌/◌, ◌%◌, ◌^◌, Bool, true, false, if◌then◌else◌, List, [], ◌∷◌, refl, ap, arith}
-use Rattle.std.specs.Prelude.{map, filter}
+use Rattle.std.proofs.Common.{◌≡◌, ℕ, ◌*◌, ◌/◌, ◌%◌, ◌^◌, Bool, true, false, if◌then◌else◌, List, [], ◌∷◌, refl, sym, ap, ◌∙◌, arith}
+use Rattle.std.specs.Prelude.{map, filter, codes, bytes_eq}
 use Rattle.std.specs.List.{AllZip}
-use Rattle.mp4_head.specs.format.Head.{Kept, Media, TrackHead, MovieHead}
+use Rattle.mp4_head.specs.format.Head.{Kept, Media, TrackHead, MovieHead, handler_type}
 use Rattle.mp4_present.specs.format.Presentation.{Sample, Track, Presentation}
-use Rattle.mp4_present.specs.format.Reduced.{sync_flag, plain_handler, plain_descriptions, reduce_sample, reduce_media, reduce_track_head, reduce_movie_head, reduce_track, reduce}
+use Rattle.mp4_plan.proofs.Plain.{plain_turned, reduce_by, type_same}
+use Rattle.mp4_present.specs.format.BitRates.{unrated_descriptions, unrated_payload}
+use Rattle.mp4_present.specs.format.Reduced.{sync_flag, plain_handler, plain_picture, plain_descriptions, reduce_sample, reduce_media, reduce_track_head, reduce_movie_head, reduce_track, reduce}
 use Rattle.mp4_present.specs.declared.without.Without.{Without}
 use Rattle.mp4_plan.specs.format.Agreeing.{is_other, SamplesAgree, MediaAgree, TrackHeadsAgree, MovieHeadsAgree, TracksAgree, Agree, ReduceIsExact}
 
@@ -22,18 +24,46 @@ same_less : {A : Type 0} (b : Bool) (g : A → A) (x y : A) → (b ≡ false →
 same_less true g x y e h = h
 same_less false g x y e h = e refl
 
--- of sample descriptions, which are plain by the handlers
-described_stay : (v : Bool) (h k : List ℕ) (x y : List Kept) → (if v then plain_descriptions h x else x) ≡ (if v then plain_descriptions k y else y) → v ≡ false → x ≡ y
-described_stay true h k x y e f = absurd cc
-described_stay false h k x y e f = e
+-- of sample descriptions, of which less is left by the types of the handlers
+module _ (h k : List ℕ) (x y : List Kept) where
+  pub type_of_left : (a : Bool) → (if a then plain_handler h else h) ≡ (if a then plain_handler k else k) → handler_type h ≡ handler_type k
+  type_of_left true e = sym (type_same h) ∙ ap handler_type e ∙ type_same k
+  type_of_left false e = ap handler_type e
 
-described : (v : Bool) (h k : List ℕ) (x y : List Kept) → (if v then plain_handler h else h) ≡ (if v then plain_handler k else k) → (if v then plain_descriptions h x else x) ≡ (if v then plain_descriptions k y else y) → plain_descriptions h x ≡ plain_descriptions k y
-described true h k x y e f = f
-described false h k x y e f = λ i. plain_descriptions (e i) (f i)
+  module _ (kind : handler_type h ≡ handler_type k) where
+    pub plain_of : (u v : List Kept) → u ≡ v → plain_descriptions h u ≡ plain_descriptions k v
+    plain_of u v e = λ i. if bytes_eq (kind i) (codes "vide") then map plain_picture (e i) else e i
 
-same_described : (v : Bool) (h k : List ℕ) (x y : List Kept) → (v ≡ false → x ≡ y) → plain_descriptions h x ≡ plain_descriptions k y → (if v then plain_descriptions h x else x) ≡ (if v then plain_descriptions k y else y)
-same_described true h k x y e f = f
-same_described false h k x y e f = e refl
+    pub unrated_of : (u v : List Kept) → u ≡ v → unrated_descriptions h u ≡ unrated_descriptions k v
+    unrated_of u v e = λ i. map (λ (d : Kept). record d { payload = unrated_payload (kind i) d.payload }) (e i)
+
+    plain_from : (a b : Bool) → reduce_by a b h x ≡ reduce_by a b k y → b ≡ false → plain_descriptions h x ≡ plain_descriptions k y
+    plain_from a true e none = absurd cc
+    plain_from true false e none = e
+    plain_from false false e none = plain_of x y e
+
+    unrated_from : (a b : Bool) → reduce_by a b h x ≡ reduce_by a b k y → a ≡ false → unrated_descriptions h x ≡ unrated_descriptions k y
+    unrated_from true b e none = absurd cc
+    unrated_from false true e none = e
+    unrated_from false false e none = unrated_of x y e
+
+    left_from : (a b : Bool) → reduce_by a b h x ≡ reduce_by a b k y → plain_descriptions h (unrated_descriptions h x) ≡ plain_descriptions k (unrated_descriptions k y)
+    left_from true true e = e
+    left_from true false e = plain_turned h x ∙ unrated_of (plain_descriptions h x) (plain_descriptions k y) e ∙ sym (plain_turned k y)
+    left_from false true e = plain_of (unrated_descriptions h x) (unrated_descriptions k y) e
+    left_from false false e = plain_of (unrated_descriptions h x) (unrated_descriptions k y) (unrated_of x y e)
+
+  stay_from : (a b : Bool) → reduce_by a b h x ≡ reduce_by a b k y → a ≡ false → b ≡ false → x ≡ y
+  stay_from true b e named rated = absurd cc
+  stay_from false true e named rated = absurd cc
+  stay_from false false e named rated = e
+
+  same_left : (a b : Bool) → (a ≡ false → b ≡ false → x ≡ y) → (b ≡ false → plain_descriptions h x ≡ plain_descriptions k y) → (a ≡ false → unrated_descriptions h x ≡ unrated_descriptions k y)
+      → plain_descriptions h (unrated_descriptions h x) ≡ plain_descriptions k (unrated_descriptions k y) → reduce_by a b h x ≡ reduce_by a b k y
+  same_left true true all plain rates both = both
+  same_left true false all plain rates both = plain refl
+  same_left false true all plain rates both = rates refl
+  same_left false false all plain rates both = all refl refl
 
 first_same : {A : Type 0} (x y : A) (xs ys : List A) → x ∷ xs ≡ y ∷ ys → x ≡ y
 first_same x y xs ys e = cc
@@ -81,6 +111,9 @@ module _ (l : Without) where
     groups = same_less l.groups (λ xs. []) a.groups b.groups h.groups refl i;
   }
 
+  same_type : (a b : Media) → reduce_media l a ≡ reduce_media l b → handler_type a.handler ≡ handler_type b.handler
+  same_type a b e = type_of_left a.handler b.handler a.descriptions b.descriptions l.labels (ap (λ (x : Media). x.handler) e)
+
   media_to : (a b : Media) → reduce_media l a ≡ reduce_media l b → MediaAgree l a b
   media_to a b e = record {
     timescale = ap (λ (x : Media). x.timescale) e;
@@ -91,8 +124,10 @@ module _ (l : Without) where
     modification = stays l.times (λ n. 0) a.modification b.modification (ap (λ (x : Media). x.modification) e);
     handler = stays l.labels plain_handler a.handler b.handler (ap (λ (x : Media). x.handler) e);
     left_handler = less l.labels plain_handler a.handler b.handler (ap (λ (x : Media). x.handler) e);
-    descriptions = described_stay l.labels a.handler b.handler a.descriptions b.descriptions (ap (λ (x : Media). x.descriptions) e);
-    left_descriptions = described l.labels a.handler b.handler a.descriptions b.descriptions (ap (λ (x : Media). x.handler) e) (ap (λ (x : Media). x.descriptions) e);
+    descriptions = stay_from a.handler b.handler a.descriptions b.descriptions l.labels l.bitrates (ap (λ (x : Media). x.descriptions) e);
+    plain = plain_from a.handler b.handler a.descriptions b.descriptions (same_type a b e) l.labels l.bitrates (ap (λ (x : Media). x.descriptions) e);
+    unrated = unrated_from a.handler b.handler a.descriptions b.descriptions (same_type a b e) l.labels l.bitrates (ap (λ (x : Media). x.descriptions) e);
+    left_descriptions = left_from a.handler b.handler a.descriptions b.descriptions (same_type a b e) l.labels l.bitrates (ap (λ (x : Media). x.descriptions) e);
   }
 
   media_from : (a b : Media) → MediaAgree l a b → reduce_media l a ≡ reduce_media l b
@@ -104,7 +139,7 @@ module _ (l : Without) where
     creation = same_less l.times (λ n. 0) a.creation b.creation h.creation refl i;
     modification = same_less l.times (λ n. 0) a.modification b.modification h.modification refl i;
     handler = same_less l.labels plain_handler a.handler b.handler h.handler h.left_handler i;
-    descriptions = same_described l.labels a.handler b.handler a.descriptions b.descriptions h.descriptions h.left_descriptions i;
+    descriptions = same_left a.handler b.handler a.descriptions b.descriptions l.labels l.bitrates h.descriptions h.plain h.unrated h.left_descriptions i;
   }
 
   track_head_to : (a b : TrackHead) → reduce_track_head l a ≡ reduce_track_head l b → TrackHeadsAgree l a b

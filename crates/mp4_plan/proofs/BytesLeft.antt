@@ -74,7 +74,7 @@ kept_bytes leaving file tree (t ∷ trees) (info ∷ infos) z =
     let more = kept_bytes leaving file tree trees infos z.1 in
     let own = z.0.bytes in
     let less = less_sizes leaving (track_samples tree t) in
-    let same = timed_bytes (track_keys tree t) (start_of (plain_of t) (parts_of_track (file_parts tree) t)) (placed_of (file_parts tree) t) in
+    let same = timed_bytes (track_keys tree t) 0 (start_of (plain_of t) (parts_of_track (file_parts tree) t)) (placed_of (file_parts tree) t) in
     omega (arith, kept, left, more, own, less, same)
 
 pub all_bytes : (leaving : Without) (file : List ℕ) (m : MovieSeen) (tree : FileTree) → IsOpenedAs file m tree → left_bytes (map (left_samples leaving tree) tree.movie.tracks) ≡ sum_by (λ (i : TrackInfo). i.bytes) m.tracks

@@ -68,7 +68,7 @@ module _ (leaving : Without) where
       start : ℕ
       start = start_of (plain_of t) (parts_of_track (file_parts tree) t)
 
-      by : (placed : List PlacedSample) → placed_of (file_parts tree) t ≡ placed → first_dts (map (reduce_at leaving) (timed (track_keys tree t) start placed)) ≡ start
+      by : (placed : List PlacedSample) → placed_of (file_parts tree) t ≡ placed → first_dts (map (reduce_at leaving) (timed (track_keys tree t) 0 start placed)) ≡ start
       by [] e = sym (starts_at_0 file (plain_of t) (parts_of_track (file_parts tree) t) (ap (map (sample_of file)) e))
       by (s ∷ placed) e = refl
 

@@ -19,7 +19,7 @@ use Rattle.mp4_present.specs.words.OpenedMovie.{IsOpenedAs}
 use Rattle.mp4_present.specs.format.Presentation.{heads as heads_of}
 use Rattle.mp4_present.specs.format.Presentation.{Track, Presentation, movie_length, track_length, normal_moov_length}
 use Rattle.mp4_present.specs.format.Reduced.{metadata_kinds, reduce, reduce_track, reduce_track_head, reduce_movie_head}
-use Rattle.mp4_present.specs.words.PayloadsLeft.{keeping_labels, without_labels}
+use Rattle.mp4_present.specs.words.PayloadsLeft.{keeping_payloads, track_payloads_left}
 use Rattle.mp4_present.specs.declared.without.Without.{Without}
 use Rattle.mp4_head.specs.words.Parts.{capped}
 use Rattle.mp4_plan.specs.format.Normal.{normal, pieces_bytes}
@@ -120,6 +120,6 @@ less_long p head mehd len n short total h is count cut sum =
 
 -- ---- payloads first, and then all else
 
-pub both_left : (l : Without) (tracks : List heads.TrackHead) → map (reduce_track_head (keeping_labels l)) (map (without_labels l) tracks) ≡ map (reduce_track_head l) tracks
+pub both_left : (l : Without) (tracks : List heads.TrackHead) → map (reduce_track_head (keeping_payloads l)) (map (track_payloads_left l) tracks) ≡ map (reduce_track_head l) tracks
 both_left l [] = refl
 both_left l (t ∷ tracks) = λ i. reduce_track_head l t ∷ both_left l tracks i

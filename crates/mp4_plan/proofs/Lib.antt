@@ -98,5 +98,9 @@ mod WritingSteps
 mod PiecesPut
 mod WriterMade
 mod BytesLeft
+pub mod ZeroedAgain
+pub mod RatesKept
+pub mod BoxesAgain
+pub mod Unrated
 pub mod Plain
 pub mod Judged

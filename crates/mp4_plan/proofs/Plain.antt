@@ -1,6 +1,6 @@
 -- What is left of payloads without labels: once more it is the same, no longer, and well formed.
-use Rattle.std.proofs.Common.{◌≡◌, ℕ, zero, suc, ◌<◌, ◌≤◌, Bool, true, false, if◌then◌else◌, List, [], ◌∷◌, length, take, refl, sym, ap, ◌∙◌, arith, length-append}
-use Rattle.std.specs.Prelude.{◌||◌, nat_le, map, codes, bytes_eq, slice_index}
+use Rattle.std.proofs.Common.{◌≡◌, ℕ, zero, suc, ◌≤◌, Bool, true, false, if◌then◌else◌, List, [], ◌∷◌, length, take, refl, sym, ap, ◌∙◌, arith, length-append}
+use Rattle.std.specs.Prelude.{◌||◌, nat_le, map, codes, bytes_eq}
 use Rattle.std.specs.List.{AllByRecursion, flat_map}
 use Rattle.std.proofs.lemmas.List.{length-take-le}
 use Rattle.mp4_boxes.specs.format.Bytes.{AreBytes, field}
@@ -9,45 +9,14 @@ use Rattle.mp4_boxes.proofs.OfBytes.{bytes_taken}
 use Rattle.mp4_head.specs.format.Head.{Kept, IsDescription, handler_type}
 use Rattle.mp4_head.specs.format.Writing.{kept_bytes}
 use Rattle.mp4_head.proofs.HeadLengths.{length_any}
-use Rattle.mp4_present.specs.format.Reduced.{zeroed, plain_handler, plain_picture, plain_descriptions, is_picture}
-use Rattle.mp4_present.proofs.Zeroed.{zero_none, zeroed_length}
-
--- ---- zeros
-
-zeroed_taken : (n from count : ℕ) (bytes : List ℕ) → take n (zeroed from count bytes) ≡ zeroed from count (take n bytes)
-zeroed_taken n from count [] = none n
-  where
-    none : (n : ℕ) → take n (zeroed from count []) ≡ zeroed from count (take n [])
-    none zero = refl
-    none (suc n) = refl
-zeroed_taken zero from count (b ∷ bytes) = refl
-zeroed_taken (suc n) zero zero (b ∷ bytes) = refl
-zeroed_taken (suc n) zero (suc count) (b ∷ bytes) = ap (λ bs. 0 ∷ bs) (zeroed_taken n zero count bytes)
-zeroed_taken (suc n) (suc from) count (b ∷ bytes) = ap (λ bs. b ∷ bs) (zeroed_taken n from count bytes)
-
-zeroed_twice : (from count : ℕ) (bytes : List ℕ) → zeroed from count (zeroed from count bytes) ≡ zeroed from count bytes
-zeroed_twice from count [] = refl
-zeroed_twice zero zero (b ∷ bytes) = refl
-zeroed_twice zero (suc count) (b ∷ bytes) = ap (λ bs. 0 ∷ bs) (zeroed_twice zero count bytes)
-zeroed_twice (suc from) count (b ∷ bytes) = ap (λ bs. b ∷ bs) (zeroed_twice from count bytes)
-
-zeroed_turned : (from count at many : ℕ) (bytes : List ℕ) → zeroed from count (zeroed at many bytes) ≡ zeroed at many (zeroed from count bytes)
-zeroed_turned from count at many [] = refl
-zeroed_turned zero zero at many (b ∷ bytes) = zero_none 0 (zeroed at many (b ∷ bytes))
-zeroed_turned zero (suc count) zero zero (b ∷ bytes) = sym (zero_none 0 (zeroed 0 (suc count) (b ∷ bytes)))
-zeroed_turned zero (suc count) zero (suc many) (b ∷ bytes) = ap (λ bs. 0 ∷ bs) (zeroed_turned zero count zero many bytes)
-zeroed_turned zero (suc count) (suc at) many (b ∷ bytes) = ap (λ bs. 0 ∷ bs) (zeroed_turned zero count at many bytes)
-zeroed_turned (suc from) count zero zero (b ∷ bytes) = sym (zero_none 0 (zeroed (suc from) count (b ∷ bytes)))
-zeroed_turned (suc from) count zero (suc many) (b ∷ bytes) = ap (λ bs. 0 ∷ bs) (zeroed_turned from count zero many bytes)
-zeroed_turned (suc from) count (suc at) many (b ∷ bytes) = ap (λ bs. b ∷ bs) (zeroed_turned from count at many bytes)
-
-zeroed_byte : (from count : ℕ) (bytes : List ℕ) → AreBytes bytes → (i : ℕ) → slice_index (zeroed from count bytes) i < 256
-zeroed_byte from count [] h i = h i
-zeroed_byte zero zero (b ∷ bytes) h i = h i
-zeroed_byte zero (suc count) (b ∷ bytes) h zero = omega arith
-zeroed_byte zero (suc count) (b ∷ bytes) h (suc i) = zeroed_byte zero count bytes (λ j. h (suc j)) i
-zeroed_byte (suc from) count (b ∷ bytes) h zero = h 0
-zeroed_byte (suc from) count (b ∷ bytes) h (suc i) = zeroed_byte from count bytes (λ j. h (suc j)) i
+use Rattle.mp4_present.specs.declared.without.Without.{Without}
+use Rattle.mp4_present.specs.format.BitRates.{unrated, unrated_descriptions, unrated_payload}
+use Rattle.mp4_present.specs.format.Reduced.{reduce_descriptions, plain_handler, plain_picture, plain_descriptions, is_picture}
+use Rattle.mp4_present.specs.format.Zeros.{zeroed}
+use Rattle.mp4_present.proofs.Zeroed.{zeroed_length}
+use Rattle.mp4_plan.specs.format.ReducedLaws.{both}
+use Rattle.mp4_plan.proofs.Unrated.{names_and_rates, unrated_good, unrated_short, unrated_twice}
+use Rattle.mp4_plan.proofs.ZeroedAgain.{zeroed_taken, zeroed_twice, zeroed_turned, zeroed_byte}
 
 -- ---- `hdlr`
 
@@ -104,6 +73,10 @@ handler_bytes h are = zeroed_byte 4 4 (zeroed 12 12 (take 24 h)) (zeroed_byte 12
 
 -- ---- sample descriptions
 
+-- what is left by two words
+abbrev pub reduce_by : Bool → Bool → List ℕ → List Kept → List Kept
+reduce_by labels rates h ds = if labels then plain_descriptions h (if rates then unrated_descriptions h ds else ds) else (if rates then unrated_descriptions h ds else ds)
+
 abbrev plain : Bool → List ℕ → List ℕ
 plain whole payload = if whole then zeroed 42 32 payload else payload
 
@@ -129,42 +102,124 @@ by_kind_twice : (v : Bool) (ds : List Kept) → (if v then map plain_picture (if
 by_kind_twice true ds = map_twice plain_picture picture_twice ds
 by_kind_twice false ds = refl
 
+-- descriptions of a track with this handler
+module _ (h : List ℕ) where
+  plain_again : (ds : List Kept) → plain_descriptions h (plain_descriptions h ds) ≡ plain_descriptions h ds
+  plain_again ds = by_kind_twice (is_picture h) ds
+
+  unrated_again : (ds : List Kept) → unrated_descriptions h (unrated_descriptions h ds) ≡ unrated_descriptions h ds
+  unrated_again ds = map_twice (unrated h) (unrated_twice h) ds
+
+  turned_each : is_picture h ≡ true → (ds : List Kept) → map plain_picture (map (unrated h) ds) ≡ map (unrated h) (map plain_picture ds)
+  turned_each e [] = refl
+  turned_each e (d ∷ ds) = λ i. names_and_rates h d e i ∷ turned_each e ds i
+
+  -- in any order
+  pub plain_turned : (ds : List Kept) → plain_descriptions h (unrated_descriptions h ds) ≡ unrated_descriptions h (plain_descriptions h ds)
+  plain_turned ds = by (is_picture h) refl
+    where
+      by : (v : Bool) → is_picture h ≡ v → (if v then map plain_picture (map (unrated h) ds) else map (unrated h) ds) ≡ map (unrated h) (if v then map plain_picture ds else ds)
+      by true e = turned_each e ds
+      by false e = refl
+
+  abbrev left_by : Bool → Bool → List Kept → List Kept
+  left_by labels rates ds = reduce_by labels rates h ds
+
+  abbrev plain_if : Bool → List Kept → List Kept
+  plain_if v ds = if v then plain_descriptions h ds else ds
+
+  abbrev unrated_if : Bool → List Kept → List Kept
+  unrated_if v ds = if v then unrated_descriptions h ds else ds
+
+  turned_if : (b c : Bool) (ds : List Kept) → unrated_if b (plain_if c ds) ≡ plain_if c (unrated_if b ds)
+  turned_if true true ds = sym (plain_turned ds)
+  turned_if true false ds = refl
+  turned_if false c ds = refl
+
+  plain_or : (a c : Bool) (ds : List Kept) → plain_if a (plain_if c ds) ≡ plain_if (a || c) ds
+  plain_or true true ds = plain_again ds
+  plain_or true false ds = refl
+  plain_or false c ds = refl
+
+  unrated_or : (b d : Bool) (ds : List Kept) → unrated_if b (unrated_if d ds) ≡ unrated_if (b || d) ds
+  unrated_or true true ds = unrated_again ds
+  unrated_or true false ds = refl
+  unrated_or false d ds = refl
+
+  left_twice : (a b c d : Bool) (ds : List Kept) → left_by a b (left_by c d ds) ≡ left_by (a || c) (b || d) ds
+  left_twice a b c d ds = ap (plain_if a) (turned_if b c (unrated_if d ds)) ∙ plain_or a c (unrated_if b (unrated_if d ds)) ∙ ap (plain_if (a || c)) (unrated_or b d ds)
+
+  -- a plain handler names the same type
+  left_same : (a b : Bool) (ds : List Kept) → reduce_by a b (plain_handler h) ds ≡ left_by a b ds
+  left_same a b ds =
+      let rates : (b : Bool) → (if b then unrated_descriptions (plain_handler h) ds else ds) ≡ unrated_if b ds = λ b. ap (λ (kind : List ℕ). if b then map (λ (k : Kept). record k { payload = unrated_payload kind k.payload }) ds else ds) (type_same h) in
+      λ i. if a then (if picture_same h i then map plain_picture (rates b i) else rates b i) else rates b i
+
 -- left out by one of two words, or by both
-pub descriptions_twice : (a b : Bool) (h : List ℕ) (ds : List Kept) → (if a then plain_descriptions (if b then plain_handler h else h) (if b then plain_descriptions h ds else ds) else (if b then plain_descriptions h ds else ds)) ≡ (if a || b then plain_descriptions h ds else ds)
-descriptions_twice true true h ds = ap (λ v. if v then map plain_picture (plain_descriptions h ds) else plain_descriptions h ds) (picture_same h) ∙ by_kind_twice (is_picture h) ds
-descriptions_twice true false h ds = refl
-descriptions_twice false b h ds = refl
+pub descriptions_twice : (l m : Without) (h : List ℕ) (ds : List Kept) → reduce_descriptions l (if m.labels then plain_handler h else h) (reduce_descriptions m h ds) ≡ reduce_descriptions (both l m) h ds
+descriptions_twice l m h ds = by m.labels ∙ left_twice h l.labels l.bitrates m.labels m.bitrates ds
+  where
+    by : (v : Bool) → reduce_by l.labels l.bitrates (if v then plain_handler h else h) (reduce_descriptions m h ds) ≡ left_by h l.labels l.bitrates (reduce_descriptions m h ds)
+    by true = left_same h l.labels l.bitrates (reduce_descriptions m h ds)
+    by false = refl
 
--- as many, as long
-mapped_many : (v : Bool) (ds : List Kept) → length (if v then map plain_picture ds else ds) ≡ length ds
-mapped_many false ds = refl
-mapped_many true [] = refl
-mapped_many true (d ∷ ds) = let more = mapped_many true ds in omega (arith, more)
+-- as many, no longer
+map_many : {A B : Type 0} (f : A → B) (xs : List A) → length (map f xs) ≡ length xs
+map_many f [] = refl
+map_many f (x ∷ xs) = let more = map_many f xs in omega (arith, more)
 
-pub descriptions_many : (a : Bool) (h : List ℕ) (ds : List Kept) → length (if a then plain_descriptions h ds else ds) ≡ length ds
-descriptions_many true h ds = mapped_many (is_picture h) ds
-descriptions_many false h ds = refl
+plain_many : (h : List ℕ) (ds : List Kept) → length (plain_descriptions h ds) ≡ length ds
+plain_many h ds = by (is_picture h)
+  where
+    by : (v : Bool) → length (if v then map plain_picture ds else ds) ≡ length ds
+    by true = map_many plain_picture ds
+    by false = refl
 
-picture_long : (k : Kept) → length (kept_bytes (plain_picture k)) ≡ length (kept_bytes k)
-picture_long k =
-    let same = plain_length (nat_le 78 (length k.payload)) k.payload in
-    let now = length_any k.kind (plain_picture k).payload in
+pub descriptions_many : (l : Without) (h : List ℕ) (ds : List Kept) → length (reduce_descriptions l h ds) ≡ length ds
+descriptions_many l h ds = by l.labels l.bitrates
+  where
+    by : (a b : Bool) → length (reduce_by a b h ds) ≡ length ds
+    by true true = plain_many h (unrated_descriptions h ds) ∙ map_many (unrated h) ds
+    by true false = plain_many h ds
+    by false true = map_many (unrated h) ds
+    by false false = refl
+
+box_less : (k : Kept) (payload : List ℕ) → length payload ≤ length k.payload → length (kept_bytes (record k { payload = payload })) ≤ length (kept_bytes k)
+box_less k payload few =
+    let now = length_any k.kind payload in
     let was = length_any k.kind k.payload in
-    omega (arith, same, now, was)
+    omega (arith, few, now, was)
 
-mapped_long : (v : Bool) (ds : List Kept) → length (flat_map kept_bytes (if v then map plain_picture ds else ds)) ≡ length (flat_map kept_bytes ds)
-mapped_long false ds = refl
-mapped_long true [] = refl
-mapped_long true (d ∷ ds) =
-    let one = picture_long d in
-    let more = mapped_long true ds in
-    let now = length-append (kept_bytes (plain_picture d)) (flat_map kept_bytes (map plain_picture ds)) in
+picture_less : (k : Kept) → length (kept_bytes (plain_picture k)) ≤ length (kept_bytes k)
+picture_less k = let same = plain_length (nat_le 78 (length k.payload)) k.payload in box_less k (plain_picture k).payload (omega (arith, same))
+
+unrated_less : (h : List ℕ) (k : Kept) → length (kept_bytes (unrated h k)) ≤ length (kept_bytes k)
+unrated_less h k = box_less k (unrated h k).payload (unrated_short (handler_type h) k.payload)
+
+map_less : (f : Kept → Kept) → ((k : Kept) → length (kept_bytes (f k)) ≤ length (kept_bytes k)) → (ds : List Kept) → length (flat_map kept_bytes (map f ds)) ≤ length (flat_map kept_bytes ds)
+map_less f less [] = omega arith
+map_less f less (d ∷ ds) =
+    let one = less d in
+    let more = map_less f less ds in
+    let now = length-append (kept_bytes (f d)) (flat_map kept_bytes (map f ds)) in
     let was = length-append (kept_bytes d) (flat_map kept_bytes ds) in
     omega (arith, one, more, now, was)
 
-pub descriptions_long : (a : Bool) (h : List ℕ) (ds : List Kept) → length (flat_map kept_bytes (if a then plain_descriptions h ds else ds)) ≡ length (flat_map kept_bytes ds)
-descriptions_long true h ds = mapped_long (is_picture h) ds
-descriptions_long false h ds = refl
+plain_less : (h : List ℕ) (ds : List Kept) → length (flat_map kept_bytes (plain_descriptions h ds)) ≤ length (flat_map kept_bytes ds)
+plain_less h ds = by (is_picture h)
+  where
+    by : (v : Bool) → length (flat_map kept_bytes (if v then map plain_picture ds else ds)) ≤ length (flat_map kept_bytes ds)
+    by true = map_less plain_picture picture_less ds
+    by false = omega arith
+
+pub descriptions_less : (l : Without) (h : List ℕ) (ds : List Kept) → length (flat_map kept_bytes (reduce_descriptions l h ds)) ≤ length (flat_map kept_bytes ds)
+descriptions_less l h ds = by l.labels l.bitrates
+  where
+    by : (a b : Bool) → length (flat_map kept_bytes (reduce_by a b h ds)) ≤ length (flat_map kept_bytes ds)
+    by true true = let one = plain_less h (unrated_descriptions h ds) in let two = map_less (unrated h) (unrated_less h) ds in omega (arith, one, two)
+    by true false = plain_less h ds
+    by false true = map_less (unrated h) (unrated_less h) ds
+    by false false = omega arith
 
 -- well formed
 reference_same : (v : Bool) (payload : List ℕ) → 8 ≤ length payload → field (plain v payload) 6 2 ≡ field payload 6 2
@@ -200,6 +255,14 @@ mapped_good : (v : Bool) (ds : List Kept) → AllByRecursion IsDescription ds �
 mapped_good true ds h = each_value IsDescription IsDescription plain_picture picture_good ds h
 mapped_good false ds h = h
 
-pub descriptions_good : (a : Bool) (h : List ℕ) (ds : List Kept) → AllByRecursion IsDescription ds → AllByRecursion IsDescription (if a then plain_descriptions h ds else ds)
-descriptions_good true h ds all = mapped_good (is_picture h) ds all
-descriptions_good false h ds all = all
+pub descriptions_good : (l : Without) (h : List ℕ) (ds : List Kept) → AllByRecursion IsDescription ds → AllByRecursion IsDescription (reduce_descriptions l h ds)
+descriptions_good l h ds all = by l.labels l.bitrates
+  where
+    rates : AllByRecursion IsDescription (unrated_descriptions h ds)
+    rates = each_value IsDescription IsDescription (unrated h) (unrated_good h) ds all
+
+    by : (a b : Bool) → AllByRecursion IsDescription (reduce_by a b h ds)
+    by true true = mapped_good (is_picture h) (unrated_descriptions h ds) rates
+    by true false = mapped_good (is_picture h) ds all
+    by false true = rates
+    by false false = all

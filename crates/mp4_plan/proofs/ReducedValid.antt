@@ -12,7 +12,7 @@ use Rattle.mp4_head.specs.format.Head.{Kept, Edit, Media, TrackHead, MovieHead, 
 use Rattle.mp4_head.specs.format.Tree.{are_distinct}
 use Rattle.mp4_head.specs.format.Writing.{kept_bytes, edts_bytes, trak_bytes, trex_bytes, moov_bytes, head_bytes, ftyp_bytes}
 use Rattle.mp4_head.proofs.HeadLengths.{length_any, length_head, length_track}
-use Rattle.mp4_plan.proofs.Plain.{handler_shorter, handler_room, handler_bytes, descriptions_many, descriptions_long, descriptions_good}
+use Rattle.mp4_plan.proofs.Plain.{handler_shorter, handler_room, handler_bytes, descriptions_many, descriptions_less, descriptions_good}
 use Rattle.mp4_present.specs.format.Presentation.{Sample, Track, Presentation, IsGroup, IsSample, IsTrack, Valid, IsInTime, heads, keys_of, total_duration, movie_length, says_all, track_length, normal_moov_length, max_time}
 use Rattle.mp4_present.specs.format.Reduced.{metadata_kinds, sync_flag, plain_handler, reduce_kept, reduce_sample, reduce_media, reduce_track_head, reduce_movie_head, reduce_track, reduce, ReducesInTime}
 use Rattle.mp4_present.specs.declared.without.Without.{Without}
@@ -81,7 +81,7 @@ module _ (l : Without) where
       let e = edits_shorter t.edits in
       let g = groups_shorter t.group_descriptions in
       let h = handler_less t.media.handler in
-      let d = descriptions_long l.labels t.media.handler t.media.descriptions in
+      let d = descriptions_less l t.media.handler t.media.descriptions in
       omega (arith, a, b, k, e, g, h, d)
 
   tracks_shorter : (tracks : List Track) → AllByRecursion (λ (t : Track). length t.head.matrix ≡ 9) tracks → sum_of both_lengths (map (λ (t : Track). t.head) (map (reduce_track l) tracks)) ≤ sum_of both_lengths (map (λ (t : Track). t.head) tracks)
@@ -142,7 +142,7 @@ module _ (l : Without) where
     extended_languages = h.extended_languages;
     header = h.header;
     header_bytes = h.header_bytes;
-    descriptions = descriptions_good l.labels m.handler m.descriptions h.descriptions;
+    descriptions = descriptions_good l m.handler m.descriptions h.descriptions;
   }
 
   track_head_good : (t : TrackHead) → IsTrackHead t → IsTrackHead (reduce_track_head l t)
@@ -199,7 +199,7 @@ module _ (l : Without) where
   track_good : (t : Track) → IsTrack t → IsTrack (reduce_track l t)
   track_good t h = record {
     head = track_head_good t.head h.head;
-    samples = subst (λ n. AllByRecursion (IsSample n) (map (reduce_sample l) t.samples)) (sym (descriptions_many l.labels t.head.media.handler t.head.media.descriptions))
+    samples = subst (λ n. AllByRecursion (IsSample n) (map (reduce_sample l) t.samples)) (sym (descriptions_many l t.head.media.handler t.head.media.descriptions))
         (each_value (IsSample (length t.head.media.descriptions)) (IsSample (length t.head.media.descriptions)) (reduce_sample l) (sample_good (length t.head.media.descriptions)) t.samples h.samples);
     keys = keys_good t.samples h.keys;
     empty = λ e. h.empty (none_left (reduce_sample l) t.samples e);

@@ -64,7 +64,7 @@ module _ (l m : Without) where
     creation = time_twice x.creation i;
     modification = time_twice x.modification i;
     handler = less_twice l.labels m.labels plain_handler handler_twice x.handler i;
-    descriptions = descriptions_twice l.labels m.labels x.handler x.descriptions i;
+    descriptions = descriptions_twice l m x.handler x.descriptions i;
   }
 
   track_head_twice : (t : TrackHead) → reduce_track_head l (reduce_track_head m t) ≡ reduce_track_head (both l m) t
@@ -95,13 +95,14 @@ or_turned true false = refl
 or_turned false true = refl
 or_turned false false = refl
 
-both_turned : (l m : Without) → both l m ≡ both m l
+pub both_turned : (l m : Without) → both l m ≡ both m l
 both_turned l m = λ i. record l {
   times = or_turned l.times m.times i;
   edits = or_turned l.edits m.edits i;
   flags = or_turned l.flags m.flags i;
   groups = or_turned l.groups m.groups i;
   metadata = or_turned l.metadata m.metadata i;
+  bitrates = or_turned l.bitrates m.bitrates i;
   labels = or_turned l.labels m.labels i;
 }
 
@@ -114,7 +115,7 @@ or_same true = refl
 or_same false = refl
 
 both_same : (l : Without) → both l l ≡ l
-both_same l = λ i. record l { times = or_same l.times i; edits = or_same l.edits i; flags = or_same l.flags i; groups = or_same l.groups i; metadata = or_same l.metadata i; labels = or_same l.labels i }
+both_same l = λ i. record l { times = or_same l.times i; edits = or_same l.edits i; flags = or_same l.flags i; groups = or_same l.groups i; metadata = or_same l.metadata i; bitrates = or_same l.bitrates i; labels = or_same l.labels i }
 
 pub reduce_is_fixed : ReduceIsFixed
 reduce_is_fixed l p = reduces_once l l p ∙ ap (λ (words : Without). reduce words p) (both_same l)

@@ -14,6 +14,7 @@ use Rattle.mp4_tables.specs.words.Keys.{keys_seen}
 use Rattle.mp4_tables.specs.format.PlainSamples.{PlacedSample}
 use Rattle.mp4_tables.specs.format.TableRules.{lies_within}
 use Rattle.mp4_tables.specs.words.Timed.{timed, sample_at, place_of}
+use Rattle.mp4_tables.proofs.SampleLists.{timed_length}
 use Rattle.mp4_tables.specs.declared.sample.SampleAt.{SampleAt}
 use Rattle.mp4_tables.proofs.Placed.{IsKey, IsIndex}
 use Rattle.mp4_head.specs.format.Tree.{TrackTree}
@@ -26,7 +27,7 @@ use Rattle.mp4_present.specs.format.Presentation.{Track, IsGroup}
 use Rattle.mp4_present.specs.declared.track_info.TrackInfo.{TrackInfo}
 use Rattle.mp4_present.proofs.TrafTaken.{zipped_at}
 use Rattle.mp4_present.proofs.PlacedTracks.{IsTrackPlaced, track_placed}
-use Rattle.mp4_present.proofs.SamplesLie.{IsInFile, placed_lie, bytes_whole, timed_lie, timed_length}
+use Rattle.mp4_present.proofs.SamplesLie.{IsInFile, placed_lie, bytes_whole, timed_lie}
 use Rattle.mp4_present.proofs.ValidSamples.{IsOfTrack, is_parameter, is_group}
 use Rattle.mp4_plan.specs.words.PiecesComing.{coming_of}
 use Rattle.mp4_plan.specs.format.Pieces.{timed_from}
@@ -45,9 +46,9 @@ is_named : (key : GroupKey) → IsKey key → IsNamed key
 is_named key h = record { kind_length = h.kind_length; kind = h.kind; parameter = is_parameter key.parameter h.parameter }
 
 -- a sample that lies in the file, with its decode time, is that of the presentation
-is_taken : (file : List ℕ) (descriptions : ℕ) (keys : List GroupKey) (number dts : ℕ) (s : PlacedSample) → IsInFile (length file) s → IsOfTrack descriptions keys s
-    → IsTaken file keys (sample_at keys dts s) (record { sample = sample_of file s; number = number; time = dts })
-is_taken file descriptions keys number dts s h k = record {
+is_taken : (file : List ℕ) (descriptions : ℕ) (keys : List GroupKey) (before number dts : ℕ) (s : PlacedSample) → IsInFile (length file) s → IsOfTrack descriptions keys s
+    → IsTaken file keys (sample_at keys before dts s) (record { sample = sample_of file s; number = number; time = dts })
+is_taken file descriptions keys before number dts s h k = record {
   time = refl;
   duration = refl;
   offset = refl;
@@ -61,10 +62,10 @@ is_taken file descriptions keys number dts s h k = record {
 }
 
 -- so are samples one after the other
-are_taken : (file : List ℕ) (descriptions : ℕ) (keys : List GroupKey) (number dts : ℕ) (placed : List PlacedSample) → AllByRecursion (IsInFile (length file)) placed → AllByRecursion (IsOfTrack descriptions keys) placed
-    → AreTaken file keys (timed keys dts placed) (timed_from number dts (map (sample_of file) placed))
-are_taken file descriptions keys number dts [] h k = tt
-are_taken file descriptions keys number dts (s ∷ placed) h k = (is_taken file descriptions keys number dts s h.0 k.0, are_taken file descriptions keys (number + 1) (dts + s.duration) placed h.1 k.1)
+are_taken : (file : List ℕ) (descriptions : ℕ) (keys : List GroupKey) (before number dts : ℕ) (placed : List PlacedSample) → AllByRecursion (IsInFile (length file)) placed → AllByRecursion (IsOfTrack descriptions keys) placed
+    → AreTaken file keys (timed keys before dts placed) (timed_from number dts (map (sample_of file) placed))
+are_taken file descriptions keys before number dts [] h k = tt
+are_taken file descriptions keys before number dts (s ∷ placed) h k = (is_taken file descriptions keys before number dts s h.0 k.0, are_taken file descriptions keys (before + 1) (number + 1) (dts + s.duration) placed h.1 k.1)
 
 -- ---- keys
 
@@ -91,13 +92,13 @@ facts_of file tree t info h p i =
     let placed = placed_of (file_parts tree) t in
     let u : Track = track_of file (file_parts tree) t in
     let keys = sym i.keys in
-    let taken = are_taken file (length t.descriptions) (track_keys tree t) 1 u.start placed h p.placed in
+    let taken = are_taken file (length t.descriptions) (track_keys tree t) 0 1 u.start placed h p.placed in
     record {
       left = record { id = sym i.id; timescale = sym i.timescale; taken = subst (λ ks. AreTaken file ks (track_samples tree t) (coming_of u).samples) keys taken };
       apart = subst AreApart keys (are_apart (track_keys tree t) p.distinct);
       named = subst (λ ks. AllByRecursion IsNamed ks) keys (each_weaker IsKey IsNamed is_named (track_keys tree t) p.keys);
       few_keys = subst (λ (ks : List GroupKey). length ks ≤ 4) keys p.few;
-      lies = timed_lie (length file) (track_keys tree t) u.start placed h;
+      lies = timed_lie (length file) (track_keys tree t) 0 u.start placed h;
     }
 
 -- each of the first list with its partner in the second, where it is so of all that go with it
@@ -149,7 +150,7 @@ has_track file m tree k info o e =
 pub as_many : (file : List ℕ) (tree : FileTree) (t : TrackTree) → length (track_samples tree t) ≡ length (track_of file (file_parts tree) t).samples
 as_many file tree t =
     let placed = placed_of (file_parts tree) t in
-    timed_length (track_keys tree t) (track_of file (file_parts tree) t).start placed ∙ sym (length-map placed (sample_of file))
+    timed_length (track_keys tree t) 0 (track_of file (file_parts tree) t).start placed ∙ sym (length-map placed (sample_of file))
 
 -- as many as the presentation has
 left_total : (file : List ℕ) (tree : FileTree) (trees : List TrackTree) → left_count (map (track_samples tree) trees) ≡ sum_of (λ (u : Track). length u.samples) (map (track_of file (file_parts tree)) trees)

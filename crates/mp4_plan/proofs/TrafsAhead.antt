@@ -2,9 +2,8 @@
 use Rattle.std.proofs.Common.{◌≡◌, ◌⊎◌, inl, inr, ℕ, zero, suc, ◌+◌, ◌<◌, ◌≤◌, List, [], ◌∷◌, ◌++◌, length, drop, Some, None, refl, sym, ap, subst, ◌∙◌, arith, length-append}
 use Rattle.std.specs.Prelude.{Option, slice_get}
 use Rattle.std.proofs.lemmas.List.{length-drop}
-use Rattle.mp4_tables.specs.format.Groups.{GroupKey}
 use Rattle.mp4_tables.specs.format.PlainSamples.{PlacedSample}
-use Rattle.mp4_tables.specs.words.Timed.{timed}
+use Rattle.mp4_tables.proofs.SampleLists.{timed_length}
 use Rattle.mp4_tables.specs.declared.sample.SampleAt.{SampleAt}
 use Rattle.mp4_frag.specs.words.OwnTrafs.{PlacedTraf, placed_samples, traf_steps}
 use Rattle.mp4_frag.specs.words.Walks.{samples_coming}
@@ -14,7 +13,7 @@ use Rattle.mp4_present.specs.words.GoingBack.{HoldsSome}
 use Rattle.mp4_present.specs.words.Loaded.{left_in_hand}
 use Rattle.mp4_present.specs.words.Movies.{MovieSeen, IsWalkOf, IsRest, HandAt, HasSome, all_in_traf, traf_box}
 use Rattle.mp4_present.specs.words.OpenedMovie.{IsOpenedAs}
-use Rattle.mp4_present.specs.words.SamplesComing.{Comes, HoldsLast, StandsBefore, due_behind, samples_behind, track_keys}
+use Rattle.mp4_present.specs.words.SamplesComing.{Comes, HoldsLast, StandsBefore, count_behind, due_behind, samples_behind, track_keys}
 use Rattle.mp4_present.specs.words.WalkSteps.{trafs_steps, way_through}
 use Rattle.mp4_present.specs.declared.walking.loaded.Loaded.{Loaded}
 use Rattle.mp4_present.specs.declared.walking.loaded.Loaded.TheVariants as hands
@@ -51,10 +50,6 @@ cut_same (x ∷ xs) bs (y ∷ ys) cs e n =
     let rest : xs ++ bs ≡ ys ++ cs = cc in
     let r = cut_same xs bs ys cs rest (omega (arith, n)) in
     ((λ i. same i ∷ r.0 i), r.1)
-
-timed_length : (keys : List GroupKey) (dts : ℕ) (samples : List PlacedSample) → length (timed keys dts samples) ≡ length samples
-timed_length keys dts [] = refl
-timed_length keys dts (s ∷ samples) = ap suc (timed_length keys (dts + s.duration) samples)
 
 lt_or_le : (n k : ℕ) → (n < k) ⊎ (k ≤ n)
 lt_or_le n zero = inr (omega arith)
@@ -136,21 +131,21 @@ module _ (file : List ℕ) (m : MovieSeen) (tree : FileTree) (o : IsOpenedAs fil
       by (Some c) (Fragment p) r e = refl
 
   -- of the `traf` that is in hand no more samples are left than it has
-  hand_few : (w : Walk) (d : Due) (info : TrackInfo) → slice_get m.tracks w.track ≡ Some info → (b : Option Due) (q : Place) (hand : Loaded) → b ≡ Some d → IsRest m w b q → HandAt m w q hand → length (left_in_hand hand) ≤ length (all_in_traf m w info d.time)
+  hand_few : (w : Walk) (d : Due) (info : TrackInfo) → slice_get m.tracks w.track ≡ Some info → (b : Option Due) (q : Place) (hand : Loaded) → b ≡ Some d → IsRest m w b q → HandAt m w q hand → length (left_in_hand hand) ≤ length (all_in_traf m w info d)
   hand_few w d info at None q hand is r h = absurd cc
   hand_few w d info at (Some c) (Tables p) hand is r h = absurd r
   hand_few w d info at (Some c) (Fragment p) (hands.Tables v) is r h = absurd h
   hand_few w d info at (Some c) (Fragment p) (hands.Fragment v) is r h =
       let same : c ≡ d = cc in
       let few = r info at in
-      let left : left_in_hand (hands.Fragment v) ≡ drop few.0 (all_in_traf m w info c.time) = ap samples_coming h ∙ few.1 in
-      let long = ap (λ (ss : List SampleAt). length ss) left ∙ length-drop few.0 (all_in_traf m w info c.time) in
-      let time = ap (λ (x : Due). length (all_in_traf m w info x.time)) same in
+      let left : left_in_hand (hands.Fragment v) ≡ drop few.0 (all_in_traf m w info c) = ap samples_coming h ∙ few.1 in
+      let long = ap (λ (ss : List SampleAt). length ss) left ∙ length-drop few.0 (all_in_traf m w info c) in
+      let time = ap (λ (x : Due). length (all_in_traf m w info x)) same in
       omega (arith, long, time)
 
   -- how many samples there are in some `traf`s
   behind_long : (t : TrackTree) (earlier later : List PlacedTraf) → length (samples_behind tree t earlier later) ≡ length (placed_samples later)
-  behind_long t earlier later = timed_length (track_keys tree t) (due_behind tree t earlier) (placed_samples later)
+  behind_long t earlier later = timed_length (track_keys tree t) (count_behind t earlier) (due_behind tree t earlier) (placed_samples later)
 
   last_same : (front : List PlacedTraf) (last : PlacedTraf) (other : List PlacedTraf) (next : PlacedTraf) → front ++ last ∷ [] ≡ other ++ next ∷ [] → next ≡ last
   last_same [] last [] next e = cc

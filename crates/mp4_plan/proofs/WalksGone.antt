@@ -35,8 +35,8 @@ stays_holding m w now s h =
       some = omega (arith, some, left);
       all = λ info at.
           let all = h.all info (ap (slice_get m.tracks) (sym s.track) ∙ at) in
-          let same : length (all_in_traf m now info h.before.time) ≡ length (all_in_traf m w info h.before.time) =
-          λ i. length (samples_in (s.bytes i) (s.traf i).base info.id (trex_at m (s.track i)) h.before.time (keys_seen info.keys)) in
+          let same : length (all_in_traf m now info h.before) ≡ length (all_in_traf m w info h.before) =
+          λ i. length (samples_in (s.bytes i) (s.traf i).base info.id (trex_at m (s.track i)) (info.samples - h.before.left) h.before.time (keys_seen info.keys)) in
           omega (arith, all, same, left);
     }
 

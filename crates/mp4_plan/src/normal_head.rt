@@ -4,7 +4,7 @@ ghost use Rattle.mp4_boxes.specs.declared.refusal.Refusal.TheVariants as refusal
 ghost use Rattle.mp4_head.specs.words.Seen.{movie_seen, tracks_seen};
 ghost use Rattle.mp4_present.specs.format.Presentation.{movie_length};
 ghost use Rattle.mp4_present.specs.format.Reduced.{ReducesInTime, reduce, reduce_movie_head, reduce_track_head};
-ghost use Rattle.mp4_present.specs.words.PayloadsLeft.{AreMediaLeft};
+ghost use Rattle.mp4_present.specs.words.PayloadsLeft.{AreMediaLeft, leaves_payloads};
 ghost use Rattle.mp4_present.specs.declared.without.Without.{Without};
 ghost use Rattle.mp4_plan.specs.words.LeftTimes.{NamesLong, RefusesLeft};
 ghost use Rattle.mp4_present.specs.format.Denotes.{FileTree, presentation_of};
@@ -37,7 +37,8 @@ fn head_left<'a>(
     leaving: Without,
     lefts: &'a Vec<MediaLeft>,
 ) -> Result<MovieHead<'a>, Memory>
-    requires { leaving.labels ≡ true → AreMediaLeft leaving head.tracks.items lefts.now.items }
+    requires { leaves_payloads leaving ≡ true
+        → AreMediaLeft leaving head.tracks.items lefts.now.items }
     ensures movie { IfOk result
         (λ left. movie_seen left ≡ reduce_movie_head leaving (movie_seen head.entry)) }
     ensures tracks { IfOk result

@@ -2,7 +2,7 @@
 ghost use Rattle.std.specs.Prelude.{◌≡◌, map};
 ghost use Rattle.mp4_boxes.specs.format.Children.{is_among};
 ghost use Rattle.mp4_head.specs.words.Seen.{kept_seen, media_seen, movie_seen, track_seen, tracks_seen};
-ghost use Rattle.mp4_present.specs.words.PayloadsLeft.{keeping_labels};
+ghost use Rattle.mp4_present.specs.words.PayloadsLeft.{keeping_payloads};
 ghost use Rattle.mp4_present.specs.format.Reduced.{metadata_kinds, reduce_kept, reduce_media, reduce_movie_head, reduce_track_head};
 
 use mp4_boxes::FourCc;
@@ -25,10 +25,10 @@ fn reduce_kept(kept: &mut Vec<Kept>, leaving: Without)
     }
 }
 
-// Media without their times, where these are left out; labels stay.
+// Media without their times, where these are left out; payloads stay.
 fn reduce_media(media: &mut Media, leaving: Without)
     ensures { media_seen media.new
-        ≡ reduce_media (keeping_labels leaving) (media_seen media.old) }
+        ≡ reduce_media (keeping_payloads leaving) (media_seen media.old) }
 {
     if leaving.times {
         media.creation = 0;
@@ -36,10 +36,10 @@ fn reduce_media(media: &mut Media, leaving: Without)
     }
 }
 
-// What is left of the head of a track, but for labels, which stay.
+// What is left of the head of a track, but for payloads of media, which stay.
 fn reduce_track(track: &mut TrackHead, leaving: Without)
     ensures { track_seen track.new
-        ≡ reduce_track_head (keeping_labels leaving) (track_seen track.old) }
+        ≡ reduce_track_head (keeping_payloads leaving) (track_seen track.old) }
 {
     if leaving.times {
         track.creation = 0;
@@ -55,21 +55,21 @@ fn reduce_track(track: &mut TrackHead, leaving: Without)
     reduce_media(&mut track.media, leaving);
 }
 
-// What is left of the heads of tracks, but for labels, which stay.
+// What is left of the heads of tracks, but for payloads of media, which stay.
 fn reduce_tracks(tracks: &mut Vec<TrackHead>, leaving: Without)
     ensures { map track_seen tracks.new.items
-        ≡ map (reduce_track_head (keeping_labels leaving)) (map track_seen tracks.old.items) }
+        ≡ map (reduce_track_head (keeping_payloads leaving)) (map track_seen tracks.old.items) }
 {
     for k in 0..tracks.len() {
         reduce_track(&mut tracks[k], leaving);
     }
 }
 
-/// What is left of the head of a movie, but for labels, which stay; it takes no memory.
+/// What is left of the head of a movie, but for payloads of media, which stay; it takes no memory.
 pub(crate) fn reduce_head(head: &mut MovieHead, leaving: Without)
     ensures movie { movie_seen head.new ≡ reduce_movie_head leaving (movie_seen head.old) }
     ensures tracks { tracks_seen head.new
-        ≡ map (reduce_track_head (keeping_labels leaving)) (tracks_seen head.old) }
+        ≡ map (reduce_track_head (keeping_payloads leaving)) (tracks_seen head.old) }
 {
     if leaving.times {
         head.creation = 0;

@@ -209,27 +209,27 @@ module _ (file : List ℕ) (m : MovieSeen) (tree : FileTree) (t : TrackTree) (be
     begun_before : begun.before ≡ Some d
     begun_before = sym before_is ∙ b
 
-    begun_rest : (c : Option Due) (q : Place) (hand : Loaded) (info : TrackInfo) → c ≡ Some d → IsRest m begun c q → HandAt m begun q hand → slice_get m.tracks begun.track ≡ Some info → AreLast (all_in_traf m begun info d.time) (left_in_hand hand)
+    begun_rest : (c : Option Due) (q : Place) (hand : Loaded) (info : TrackInfo) → c ≡ Some d → IsRest m begun c q → HandAt m begun q hand → slice_get m.tracks begun.track ≡ Some info → AreLast (all_in_traf m begun info d) (left_in_hand hand)
     begun_rest None q hand info e r h at = absurd (none_is d e)
     begun_rest (Some c) (Tables p) hand info e r h at = absurd r
     begun_rest (Some c) (Fragment p) (hands.Tables v) info e r h at = absurd h
     begun_rest (Some c) (Fragment p) (hands.Fragment v) info e r h at =
-        subst (λ (time : ℕ). AreLast (all_in_traf m begun info time) (samples_coming v)) (time_is c d e) (subst (λ (v : TrafView). AreLast (all_in_traf m begun info c.time) (samples_coming v)) (sym h) (r info at))
+        subst (λ (x : Due). AreLast (all_in_traf m begun info x) (samples_coming v)) (same_is c d e) (subst (λ (v : TrafView). AreLast (all_in_traf m begun info c) (samples_coming v)) (sym h) (r info at))
       where
-        time_is : (c d : Due) → ◌≡◌ {A = Option Due} (Some c) (Some d) → c.time ≡ d.time
-        time_is c d e = cc
+        same_is : (c d : Due) → ◌≡◌ {A = Option Due} (Some c) (Some d) → c ≡ d
+        same_is c d e = cc
 
     module _ (samples : List SampleAt) (k : Comes file tree t m begun samples) (front : List PlacedTraf) (last : PlacedTraf) (is_last : k.0 ≡ front ++ last ∷ []) (first : Walk) (stands : StandsBefore file tree t (front ++ last ∷ []) k.1 first)
         (traf : first.traf ≡ begun.traf) (bytes : traf_bytes first ≡ traf_bytes begun) (track : first.track ≡ w.track)
-        (info : TrackInfo) (at : slice_get m.tracks w.track ≡ Some info) (all : Loaded) (is_all : InHandOf m first all) (whole : left_in_hand all ≡ all_in_traf m first info d.time)
+        (info : TrackInfo) (at : slice_get m.tracks w.track ≡ Some info) (all : Loaded) (is_all : InHandOf m first all) (whole : left_in_hand all ≡ all_in_traf m first info d)
         (own : left_in_hand all ≡ samples_behind tree t front (last ∷ [])) (had : d.left ≡ length (samples_behind tree t front (last ∷ k.1))) where
       xs : List SampleAt
-      xs = all_in_traf m begun info d.time
+      xs = all_in_traf m begun info d
 
-      all_is : left_in_hand all ≡ all_in_traf m begun info d.time
-      all_is = whole ∙ (λ j. samples_in (bytes j) (traf j).base info.id (trex_at m ((track ∙ track_is) j)) d.time (keys_seen info.keys))
+      all_is : left_in_hand all ≡ all_in_traf m begun info d
+      all_is = whole ∙ (λ j. samples_in (bytes j) (traf j).base info.id (trex_at m ((track ∙ track_is) j)) (info.samples - d.left) d.time (keys_seen info.keys))
 
-      rest_is : AreLast (all_in_traf m begun info d.time) (left_in_hand k.2)
+      rest_is : AreLast (all_in_traf m begun info d) (left_in_hand k.2)
       rest_is = begun_rest begun.before begun.place k.2 info begun_before g.is_walk.rest k.3.1 (subst (λ (j : ℕ). slice_get m.tracks j ≡ Some info) track_is at)
 
       behind_is : samples_behind tree t k.0 k.1 ≡ samples_behind tree t (front ++ last ∷ []) k.1
@@ -242,7 +242,7 @@ module _ (file : List ℕ) (m : MovieSeen) (tree : FileTree) (t : TrackTree) (be
       both = ap (λ (ss : List SampleAt). length ss) k.3.2 ∙ length-append (left_in_hand k.2) (samples_behind tree t k.0 k.1)
 
       rest_long : length (left_in_hand k.2) ≡ length (left_in_hand all) - rest_is.0
-      rest_long = ap (λ (ss : List SampleAt). length ss) rest_is.1 ∙ length-drop rest_is.0 (all_in_traf m begun info d.time) ∙ ap (λ (ss : List SampleAt). length ss - rest_is.0) (sym all_is)
+      rest_long = ap (λ (ss : List SampleAt). length ss) rest_is.1 ∙ length-drop rest_is.0 (all_in_traf m begun info d) ∙ ap (λ (ss : List SampleAt). length ss - rest_is.0) (sym all_is)
 
       sum : d.left ≡ length (left_in_hand all) + first.left
       sum =

@@ -100,12 +100,12 @@ indexes_more : (keys : List GroupKey) (key : GroupKey) (groups : Groups) → ind
 indexes_more keys key groups e =
     ap (padded 4) (map-append (λ k. index_at k groups) keys (key ∷ []) ∙ ap (λ n. map (λ k. index_at k groups) keys ++ n ∷ []) e) ∙ padded_more 4 (map (λ k. index_at k groups) keys)
 
-timed_one : (keys : List GroupKey) (key : GroupKey) (dts : ℕ) (samples : List PlacedSample) → AllByRecursion (λ (s : PlacedSample). index_at key s.groups ≡ 0) samples
-    → timed (keys ++ key ∷ []) dts samples ≡ timed keys dts samples
-timed_one keys key dts [] h = refl
-timed_one keys key dts (s ∷ samples) h =
-    let first : sample_at (keys ++ key ∷ []) dts s ≡ sample_at keys dts s = λ i. record (sample_at keys dts s) { groups = indexes_more keys key s.groups h.0 i } in
-    let more = timed_one keys key (dts + s.duration) samples h.1 in
+timed_one : (keys : List GroupKey) (key : GroupKey) (number dts : ℕ) (samples : List PlacedSample) → AllByRecursion (λ (s : PlacedSample). index_at key s.groups ≡ 0) samples
+    → timed (keys ++ key ∷ []) number dts samples ≡ timed keys number dts samples
+timed_one keys key number dts [] h = refl
+timed_one keys key number dts (s ∷ samples) h =
+    let first : sample_at (keys ++ key ∷ []) number dts s ≡ sample_at keys number dts s = λ i. record (sample_at keys number dts s) { groups = indexes_more keys key s.groups h.0 i } in
+    let more = timed_one keys key (number + 1) (dts + s.duration) samples h.1 in
     λ i. first i ∷ more i
 
 none_choice : (other key k : GroupKey) (ks : List GroupKey) (v : Bool) → same_key other k ≡ v → (list_any (same_key other) (ks ++ key ∷ []) ≡ false → list_any (same_key other) ks ≡ false)
@@ -120,13 +120,13 @@ none_among other key (k ∷ ks) f = none_choice other key k ks (same_key other k
 within_more : (keys : List GroupKey) (key : GroupKey) (samples : List PlacedSample) → AreWithin keys samples → AreWithin (keys ++ key ∷ []) samples
 within_more keys key samples h other e = h other (none_among other key keys e)
 
-choose : (keys more : List GroupKey) (key : GroupKey) (dts : ℕ) (samples : List PlacedSample) (v : Bool) → list_any (same_key key) keys ≡ v → AreWithin keys samples
-    → ((ks : List GroupKey) → AreWithin ks samples → timed (keys_with ks more) dts samples ≡ timed ks dts samples)
-    → timed (keys_with (cond v keys (keys ++ key ∷ [])) more) dts samples ≡ timed keys dts samples
-choose keys more key dts samples true e h next = next keys h
-choose keys more key dts samples false e h next = next (keys ++ key ∷ []) (within_more keys key samples h) ∙ timed_one keys key dts samples (h key e)
+choose : (keys more : List GroupKey) (key : GroupKey) (number dts : ℕ) (samples : List PlacedSample) (v : Bool) → list_any (same_key key) keys ≡ v → AreWithin keys samples
+    → ((ks : List GroupKey) → AreWithin ks samples → timed (keys_with ks more) number dts samples ≡ timed ks number dts samples)
+    → timed (keys_with (cond v keys (keys ++ key ∷ [])) more) number dts samples ≡ timed keys number dts samples
+choose keys more key number dts samples true e h next = next keys h
+choose keys more key number dts samples false e h next = next (keys ++ key ∷ []) (within_more keys key samples h) ∙ timed_one keys key number dts samples (h key e)
 
 -- samples that have no index at new keys are the same with these
-pub timed_with : (keys more : List GroupKey) (dts : ℕ) (samples : List PlacedSample) → AreWithin keys samples → timed (keys_with keys more) dts samples ≡ timed keys dts samples
-timed_with keys [] dts samples h = refl
-timed_with keys (key ∷ more) dts samples h = choose keys more key dts samples (list_any (same_key key) keys) refl h (λ ks w. timed_with ks more dts samples w)
+pub timed_with : (keys more : List GroupKey) (number dts : ℕ) (samples : List PlacedSample) → AreWithin keys samples → timed (keys_with keys more) number dts samples ≡ timed keys number dts samples
+timed_with keys [] number dts samples h = refl
+timed_with keys (key ∷ more) number dts samples h = choose keys more key number dts samples (list_any (same_key key) keys) refl h (λ ks w. timed_with ks more number dts samples w)

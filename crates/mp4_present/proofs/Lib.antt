@@ -58,6 +58,7 @@ pub mod DueBehind
 pub mod KeysExtended
 pub mod MoofSound
 pub mod TrafTaken
+pub mod TrackNumbers
 pub mod SampleTotals
 pub mod Assembled
 pub mod DenotedOpens
@@ -113,3 +114,7 @@ pub mod JudgedTrees
 pub mod RunsFail
 pub mod TrafFails
 pub mod JudgedRefused
+pub mod FirstBoxes
+pub mod RatesPlaces
+pub mod RatesAtEnd
+pub mod RatesShort

@@ -1,16 +1,13 @@
 -- What is left of payloads of heads, in memory of its own: one entry after the other.
 use Rattle.std.proofs.Common.{◌≡◌, ℕ, zero, suc, ◌+◌, ◌<◌, ◌≤◌, Bool, true, false, if◌then◌else◌, List, [], ◌∷◌, ◌++◌, length, take, map, Some, refl, sym, ap, subst, ◌∙◌, arith, slice_set}
-use Rattle.std.specs.Prelude.{⊤, ◌&&◌, slice_get, slice_index_or}
+use Rattle.std.specs.Prelude.{⊤, ◌&&◌, ◌||◌, slice_get, slice_index_or}
 use Rattle.std.specs.List.{AllZip}
 use Rattle.std.proofs.lemmas.List.{map-append, take_all}
 use Rattle.mp4_head.specs.format.Head.{Kept, TrackHead}
-use Rattle.mp4_present.specs.format.Reduced.{plain_picture}
-use Rattle.mp4_present.specs.words.PayloadsLeft.{without_labels}
+use Rattle.mp4_present.specs.format.BitRates.{unrated}
+use Rattle.mp4_present.specs.format.Reduced.{is_picture, plain_picture, reduce_descriptions}
+use Rattle.mp4_present.specs.words.PayloadsLeft.{description_left, leaves_payloads, track_payloads_left}
 use Rattle.mp4_present.specs.declared.without.Without.{Without}
-
--- what is left of an entry
-abbrev pub entry_left : Bool → Kept → Kept
-entry_left plain k = if plain then plain_picture k else k
 
 next_taken : {A : Type 0} (xs : List A) (k : ℕ) (x : A) → slice_get xs k ≡ Some x → take (suc k) xs ≡ take k xs ++ x ∷ []
 next_taken [] k x e = absurd cc
@@ -45,11 +42,22 @@ map_same : {A : Type 0} (f : A → A) → ((x : A) → f x ≡ x) → (xs : List
 map_same f same [] = refl
 map_same f same (x ∷ xs) = λ i. same x i ∷ map_same f same xs i
 
+map_both : {A : Type 0} (f g : A → A) (xs : List A) → map (λ x. f (g x)) xs ≡ map f (map g xs)
+map_both f g [] = refl
+map_both f g (x ∷ xs) = ap (λ ys. f (g x) ∷ ys) (map_both f g xs)
+
 -- all of them
-pub entries_left : (labels picture : Bool) (entries : List Kept) → map (entry_left (labels && picture)) entries ≡ (if labels then (if picture then map plain_picture entries else entries) else entries)
-entries_left true true entries = refl
-entries_left true false entries = map_same (entry_left false) (λ k. refl) entries
-entries_left false picture entries = map_same (entry_left false) (λ k. refl) entries
+left_by : (labels picture rates : Bool) (f g : Kept → Kept) (entries : List Kept) → map (λ k. if labels && picture then f (if rates then g k else k) else (if rates then g k else k)) entries
+    ≡ (if labels then (if picture then map f (if rates then map g entries else entries) else (if rates then map g entries else entries)) else (if rates then map g entries else entries))
+left_by true true true f g entries = map_both f g entries
+left_by true true false f g entries = refl
+left_by true false true f g entries = refl
+left_by true false false f g entries = map_same (λ k. k) (λ k. refl) entries
+left_by false picture true f g entries = refl
+left_by false picture false f g entries = map_same (λ k. k) (λ k. refl) entries
+
+pub entries_left : (l : Without) (handler : List ℕ) (entries : List Kept) → map (description_left l handler) entries ≡ reduce_descriptions l handler entries
+entries_left l handler entries = left_by l.labels (is_picture handler) l.bitrates plain_picture (unrated handler) entries
 
 -- ---- two lists, one entry after the other
 
@@ -124,6 +132,14 @@ module _ {A B : Type 0} (seen : A → B) (f : B → B) where
 pub changed_to_same : {A B : Type 0} (seen : A → B) (f : B → B) → ((y : B) → f y ≡ y) → (xs : List A) → map seen xs ≡ map f (map seen xs)
 changed_to_same seen f same xs = sym (map_same f same (map seen xs))
 
--- where labels stay, all does
-pub labels_stay : (l : Without) → l.labels ≡ false → (t : TrackHead) → without_labels l t ≡ t
-labels_stay l e t = rw e refl
+none_of_both : (a b : Bool) → (a || b) ≡ false → (a ≡ false) × (b ≡ false)
+none_of_both true b e = absurd cc
+none_of_both false b e = (refl, e)
+
+-- where payloads stay, all does
+pub payloads_stay : (l : Without) → leaves_payloads l ≡ false → (t : TrackHead) → track_payloads_left l t ≡ t
+payloads_stay l e t = let h = none_of_both l.labels l.bitrates e in rw (h.0, h.1) refl
+
+-- where descriptions stay
+pub descriptions_stay : (l : Without) → leaves_payloads l ≡ false → (handler : List ℕ) (ds : List Kept) → reduce_descriptions l handler ds ≡ ds
+descriptions_stay l e handler ds = let h = none_of_both l.labels l.bitrates e in rw (h.0, h.1) refl

@@ -192,26 +192,26 @@ abbrev IsSampleOf : List ℕ → List GroupKey → PlacedSample → Type 0
 IsSampleOf file keys s = AreKeysOf keys s.groups × IsInFile (length file) s
 
 module _ (l : Without) (track : ℕ) (keys : List KeyNamed) (lk rk : Keys) (left right : List GroupKey) (file other : List ℕ) (el : keys_seen lk ≡ left) (er : keys_seen rk ≡ right) (joined : map key_seen keys ≡ (if l.groups then [] else fold with_key [] (left ++ right))) where
-  two_samples : (n dts later : ℕ) (s t : PlacedSample) → IsSampleOf file left s → IsSampleOf other right t
-      → pair_differences l track keys lk file rk other n (sample_at left dts s) (sample_at right later t) ≡ sample_differences track n (reduce_sample l (sample_of file s)) (reduce_sample l (sample_of other t))
-  two_samples n dts later s t hs ht =
+  two_samples : (n a b dts later : ℕ) (s t : PlacedSample) → IsSampleOf file left s → IsSampleOf other right t
+      → pair_differences l track keys lk file rk other n (sample_at left a dts s) (sample_at right b later t) ≡ sample_differences track n (reduce_sample l (sample_of file s)) (reduce_sample l (sample_of other t))
+  two_samples n a b dts later s t hs ht =
       let of = subjects.Sample track n in
       let values = λ (g : List Difference). numbers_differ of fields.Duration s.duration t.duration ++ signed of fields.Offset s.offset t.offset ++ numbers_differ of fields.Flags (flags_left l s.flags) (flags_left l t.flags) ++ numbers_differ of fields.Description s.description t.description ++ g in
-      let groups = groups_differ l.groups of keys lk rk left right s.groups t.groups (sample_at left dts s) (sample_at right later t) el er refl refl hs.0 ht.0 joined in
+      let groups = groups_differ l.groups of keys lk rk left right s.groups t.groups (sample_at left a dts s) (sample_at right b later t) el er refl refl hs.0 ht.0 joined in
       let bytes = bytes_are of file other s t hs.1 ht.1 in
       let first = size_is of file other s t hs.1 ht.1 in
       let second = other_is of file other s t hs.1 ht.1 in
-      append_assoc (values (group_differences of keys lk (sample_at left dts s) rk (sample_at right later t))) (numbers_differ of fields.Size s.size t.size)
+      append_assoc (values (group_differences of keys lk (sample_at left a dts s) rk (sample_at right b later t))) (numbers_differ of fields.Size s.size t.size)
       (bytes_differ of (λ (k : ℕ). fields.Byte k s.size) s.size t.size (range file (place_of s.at) s.size) (range other (place_of t.at) s.size))
       ∙ (λ j. values (groups j) ++ (numbers_differ of fields.Size (first j) (second j) ++ bytes j))
 
-  all_samples : (n dts later : ℕ) (xs ys : List PlacedSample) → AllByRecursion (IsSampleOf file left) xs → AllByRecursion (IsSampleOf other right) ys
-      → each_differ (pair_differences l track keys lk file rk other) n (timed left dts xs) (timed right later ys) ≡ each_differ (sample_differences track) n (map (reduce_sample l) (map (sample_of file) xs)) (map (reduce_sample l) (map (sample_of other) ys))
-  all_samples n dts later [] ys hs ht = refl
-  all_samples n dts later (x ∷ xs) [] hs ht = refl
-  all_samples n dts later (x ∷ xs) (y ∷ ys) hs ht =
-      let one = two_samples n dts later x y hs.0 ht.0 in
-      let more = all_samples (suc n) (dts + x.duration) (later + y.duration) xs ys hs.1 ht.1 in
+  all_samples : (n a b dts later : ℕ) (xs ys : List PlacedSample) → AllByRecursion (IsSampleOf file left) xs → AllByRecursion (IsSampleOf other right) ys
+      → each_differ (pair_differences l track keys lk file rk other) n (timed left a dts xs) (timed right b later ys) ≡ each_differ (sample_differences track) n (map (reduce_sample l) (map (sample_of file) xs)) (map (reduce_sample l) (map (sample_of other) ys))
+  all_samples n a b dts later [] ys hs ht = refl
+  all_samples n a b dts later (x ∷ xs) [] hs ht = refl
+  all_samples n a b dts later (x ∷ xs) (y ∷ ys) hs ht =
+      let one = two_samples n a b dts later x y hs.0 ht.0 in
+      let more = all_samples (suc n) (a + 1) (b + 1) (dts + x.duration) (later + y.duration) xs ys hs.1 ht.1 in
       λ i. one i ++ more i
 
 -- ---- two tracks
@@ -241,5 +241,5 @@ tracks_differ l track k keys file other m n tree other_tree t u info other_info 
     let er = own_keys other n other_tree u k other_info p bt jt in
     let joined : map key_seen keys ≡ (if l.groups then [] else fold with_key [] (track_keys tree t ++ track_keys other_tree u)) =
     e ∙ (λ i. if l.groups then [] else fold with_key [] (el i ++ er i)) in
-    all_samples l track keys info.keys other_info.keys (track_keys tree t) (track_keys other_tree u) file other el er joined 1 _ _ (placed_of (file_parts tree) t) (placed_of (file_parts other_tree) u)
+    all_samples l track keys info.keys other_info.keys (track_keys tree t) (track_keys other_tree u) file other el er joined 1 0 0 _ _ (placed_of (file_parts tree) t) (placed_of (file_parts other_tree) u)
     (opened_samples file m tree t k o at) (opened_samples other n other_tree u k p bt)

@@ -1,5 +1,5 @@
 -- The samples of a file that is consistent lie in it.
-use Rattle.std.proofs.Common.{◌≡◌, ℕ, ◌+◌, ◌≤◌, List, [], ◌∷◌, ◌++◌, suc, true, length, drop, refl, ap, ◌∙◌, arith, length-take, length-drop, length-append}
+use Rattle.std.proofs.Common.{◌≡◌, ℕ, ◌+◌, ◌≤◌, List, [], ◌∷◌, ◌++◌, true, length, drop, refl, ap, ◌∙◌, arith, length-take, length-drop, length-append}
 use Rattle.std.specs.Prelude.{IsTrue, ℤ, pos, negsuc, map, flat_map, ◌==◌}
 use Rattle.std.specs.List.{AllByRecursion}
 use Rattle.std.proofs.lemmas.Bool.{leb-true}
@@ -82,11 +82,11 @@ there file (pos at) size h = refl
 there file (negsuc below) size h = absurd cc
 
 -- the samples that are handed out have the bytes of the presentation's
-pub timed_data : (file : List ℕ) (keys : List GroupKey) (dts : ℕ) (placed : List PlacedSample) → AllByRecursion (IsInFile (length file)) placed
-    → sample_bytes file (timed keys dts placed) ≡ flat_map (λ (s : Sample). s.bytes) (map (sample_of file) placed)
-timed_data file keys dts [] h = refl
-timed_data file keys dts (s ∷ placed) h =
-    ap (λ (bs : List ℕ). bs ++ sample_bytes file (timed keys (dts + s.duration) placed)) (there file s.at s.size h.0) ∙ ap (λ (bs : List ℕ). bytes_at file s.at s.size ++ bs) (timed_data file keys (dts + s.duration) placed h.1)
+pub timed_data : (file : List ℕ) (keys : List GroupKey) (number dts : ℕ) (placed : List PlacedSample) → AllByRecursion (IsInFile (length file)) placed
+    → sample_bytes file (timed keys number dts placed) ≡ flat_map (λ (s : Sample). s.bytes) (map (sample_of file) placed)
+timed_data file keys number dts [] h = refl
+timed_data file keys number dts (s ∷ placed) h =
+    ap (λ (bs : List ℕ). bs ++ sample_bytes file (timed keys (number + 1) (dts + s.duration) placed)) (there file s.at s.size h.0) ∙ ap (λ (bs : List ℕ). bytes_at file s.at s.size ++ bs) (timed_data file keys (number + 1) (dts + s.duration) placed h.1)
 
 -- as many as their sizes say
 pub data_length : (file : List ℕ) (placed : List PlacedSample) → AllByRecursion (IsInFile (length file)) placed → length (flat_map (λ (s : Sample). s.bytes) (map (sample_of file) placed)) ≡ sum_of (λ (s : PlacedSample). s.size) placed
@@ -102,10 +102,6 @@ place_within : (n : ℕ) (at : ℤ) (size : ℕ) → IsTrue (lies_within n at si
 place_within n (pos at) size h = leb-true (at + size) n h
 place_within n (negsuc below) size h = absurd cc
 
-pub timed_lie : (n : ℕ) (keys : List GroupKey) (dts : ℕ) (placed : List PlacedSample) → AllByRecursion (IsInFile n) placed → AllByRecursion (λ (s : SampleAt). s.at + s.size ≤ n) (timed keys dts placed)
-timed_lie n keys dts [] h = tt
-timed_lie n keys dts (s ∷ placed) h = (place_within n s.at s.size h.0, timed_lie n keys (dts + s.duration) placed h.1)
-
-pub timed_length : (keys : List GroupKey) (dts : ℕ) (placed : List PlacedSample) → length (timed keys dts placed) ≡ length placed
-timed_length keys dts [] = refl
-timed_length keys dts (s ∷ placed) = ap suc (timed_length keys (dts + s.duration) placed)
+pub timed_lie : (n : ℕ) (keys : List GroupKey) (number dts : ℕ) (placed : List PlacedSample) → AllByRecursion (IsInFile n) placed → AllByRecursion (λ (s : SampleAt). s.at + s.size ≤ n) (timed keys number dts placed)
+timed_lie n keys number dts [] h = tt
+timed_lie n keys number dts (s ∷ placed) h = (place_within n s.at s.size h.0, timed_lie n keys (number + 1) (dts + s.duration) placed h.1)

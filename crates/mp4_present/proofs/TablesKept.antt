@@ -176,8 +176,8 @@ module _ (file_length n room count lasts bytes : ℕ) (moov : Box) (h : TrackHea
   keys_are : keys_seen keys ≡ plain_keys t
   keys_are = r.named ∙ ap (λ (b : Box). keys_after [] (tables_in b).groups) stbl_is ∙ ap (λ (bs : List Box). keys_after [] (tables_of bs).groups) boxes_same
 
-  coming : samples_of (tables_seen v) ≡ timed (plain_keys t) 0 (plain_of t)
-  coming = timed_first (tables_seen v) ∙ ap (λ (x : Tables). timed (keys_after [] x.groups) 0 (plain_samples x)) seen_same
+  coming : samples_of (tables_seen v) ≡ timed (plain_keys t) 0 0 (plain_of t)
+  coming = timed_first (tables_seen v) ∙ ap (λ (x : Tables). timed (keys_after [] x.groups) 0 0 (plain_samples x)) seen_same
 
   pub count_are : count ≡ length (plain_of t)
   count_are = r.count_is ∙ ap (λ (x : Tables). length x.sizes) seen_same ∙ sym (plain_length (surroundings_in file_length t) (tables_of t.table) fit_is)
@@ -197,12 +197,12 @@ module _ (file_length n room count lasts bytes : ℕ) (moov : Box) (h : TrackHea
 
   pub lasts_are : room ≤ 2 ^ 24 → lasts ≡ duration_of (plain_of t)
   lasts_are k =
-      let same : sum_of (λ (s : SampleAt). s.duration) (samples_of (tables_seen v)) ≡ duration_of (plain_of t) = ap (λ (ss : List SampleAt). sum_of (λ (s : SampleAt). s.duration) ss) coming ∙ timed_lasts (plain_keys t) 0 (plain_of t) in
+      let same : sum_of (λ (s : SampleAt). s.duration) (samples_of (tables_seen v)) ≡ duration_of (plain_of t) = ap (λ (ss : List SampleAt). sum_of (λ (s : SampleAt). s.duration) ss) coming ∙ timed_lasts (plain_keys t) 0 0 (plain_of t) in
       uncapped lasts _ (duration_of (plain_of t)) (length (plain_of t)) r.duration same (short_sum (λ (s : PlacedSample). s.duration) (plain_of t) short) (omega (arith, few, k))
 
   pub bytes_come : room ≤ 2 ^ 24 → bytes ≡ bytes_of (plain_of t)
   bytes_come k =
-      let same : sum_of (λ (s : SampleAt). s.size) (samples_of (tables_seen v)) ≡ bytes_of (plain_of t) = ap (λ (ss : List SampleAt). sum_of (λ (s : SampleAt). s.size) ss) coming ∙ timed_bytes (plain_keys t) 0 (plain_of t) in
+      let same : sum_of (λ (s : SampleAt). s.size) (samples_of (tables_seen v)) ≡ bytes_of (plain_of t) = ap (λ (ss : List SampleAt). sum_of (λ (s : SampleAt). s.size) ss) coming ∙ timed_bytes (plain_keys t) 0 0 (plain_of t) in
       uncapped bytes _ (bytes_of (plain_of t)) (length (plain_of t)) r.size same (short_sum (λ (s : PlacedSample). s.size) (plain_of t) small_sizes) (omega (arith, few, k))
 
   -- 32 bits hold the size of each

@@ -4,6 +4,7 @@ use Rattle.std.specs.List.{slice_get}
 use Rattle.std.proofs.lemmas.List.{append-nil, length-map, length-drop, take-append-drop, drop-drop}
 use Rattle.mp4_boxes.proofs.Each.{each_dropped}
 use Rattle.mp4_tables.specs.declared.sample.SampleAt.{SampleAt}
+use Rattle.mp4_tables.proofs.SampleLists.{timed_length}
 use Rattle.mp4_head.specs.format.Tree.{TrackTree}
 use Rattle.mp4_present.specs.format.Differences.{each_differ}
 use Rattle.mp4_present.specs.format.Denotes.{FileTree, file_parts, placed_of, sample_of}
@@ -27,7 +28,6 @@ use Rattle.mp4_present.proofs.Differing.{none_behind, each_ends, one_ends}
 use Rattle.mp4_present.proofs.PairsPassed.{same_skipped}
 use Rattle.mp4_present.proofs.TrafTaken.{zipped_at}
 use Rattle.mp4_present.proofs.SamplesDiffer.{tracks_differ}
-use Rattle.mp4_present.proofs.SamplesLie.{timed_length}
 use Rattle.mp4_present.proofs.WalkCopied.{track_lies}
 
 -- ---- a list of which the first entries were taken
@@ -87,7 +87,7 @@ each_over one k xs ys le = elim (one_ends (length xs) (length ys) k le) [
 -- as many samples come as were counted
 pub count_is : (file : List ℕ) (m : MovieSeen) (tree : FileTree) (t : TrackTree) (k : ℕ) (info : TrackInfo) → IsOpenedAs file m tree → slice_get tree.movie.tracks k ≡ Some t → slice_get m.tracks k ≡ Some info → info.samples ≡ length (track_samples tree t)
 count_is file m tree t k info o at there =
-    (zipped_at (IsInfoOf file tree) tree.movie.tracks m.tracks k t info o.tracks at there).samples ∙ length-map (placed_of (file_parts tree) t) (sample_of file) ∙ sym (timed_length _ _ (placed_of (file_parts tree) t))
+    (zipped_at (IsInfoOf file tree) tree.movie.tracks m.tracks k t info o.tracks at there).samples ∙ length-map (placed_of (file_parts tree) t) (sample_of file) ∙ sym (timed_length _ _ _ (placed_of (file_parts tree) t))
 
 -- those from a place on lie in the file
 pub rest_lies : (file : List ℕ) (m : MovieSeen) (tree : FileTree) (t : TrackTree) (k place : ℕ) (info : TrackInfo) → IsOpenedAs file m tree → slice_get tree.movie.tracks k ≡ Some t → slice_get m.tracks k ≡ Some info → place < info.samples → LieIn file (drop place (track_samples tree t))

@@ -1,6 +1,7 @@
 -- The next `traf` of a walk, read to its room.
 use Rattle.std.proofs.Common.{◌≡◌, ℕ, ◌+◌, ◌≤◌, List, [], ◌∷◌, ◌++◌, Some, None, length, take, map, ⊎_elim, refl, sym, ap, subst, ◌∙◌, arith, slice_get}
 use Rattle.std.specs.Prelude.{Bool, Option}
+use Rattle.std.proofs.lemmas.List.{length-append}
 use Rattle.mp4_store.specs.words.Device.{range}
 use Rattle.mp4_boxes.specs.declared.refusal.Refusal.{Refusal}
 use Rattle.mp4_boxes.specs.declared.refusal.Refusal.TheVariants as refusals
@@ -18,7 +19,7 @@ use Rattle.mp4_present.specs.words.Loaded.{left_in_hand}
 use Rattle.mp4_present.specs.words.Movies.{MovieSeen, InHandOf}
 use Rattle.mp4_present.specs.declared.walking.loaded.Loaded.{Loaded}
 use Rattle.mp4_present.specs.words.Reading.{RefusesRange}
-use Rattle.mp4_present.specs.words.SamplesComing.{track_keys, due_behind, samples_behind, own_trafs, StandsBefore, Comes, HoldsNext, Takes}
+use Rattle.mp4_present.specs.words.SamplesComing.{track_keys, count_behind, due_behind, samples_behind, own_trafs, StandsBefore, Comes, HoldsNext, Takes}
 use Rattle.mp4_present.specs.declared.walking.Walk.{Walk}
 use Rattle.mp4_present.proofs.OwnPlaced.{Follows, found_behind, none_behind, zip_got, placed_append, among_longest, lies_there}
 
@@ -32,13 +33,18 @@ due_more tree t earlier next =
     moved : (a b c : ℕ) → a + (b + c) ≡ a + b + c
     moved a b c = omega arith
 
+pub count_more : (t : TrackTree) (earlier : List PlacedTraf) (next : PlacedTraf) → count_behind t (earlier ++ next ∷ []) ≡ count_behind t earlier + length (placed_samples (next ∷ []))
+count_more t earlier next =
+    let all = ap length (placed_append earlier (next ∷ [])) ∙ length-append (placed_samples earlier) (placed_samples (next ∷ [])) in
+    omega (arith, all)
+
 pub behind_split : (tree : FileTree) (t : TrackTree) (earlier : List PlacedTraf) (next : PlacedTraf) (later : List PlacedTraf)
     → samples_behind tree t earlier (next ∷ later) ≡ samples_behind tree t earlier (next ∷ []) ++ samples_behind tree t (earlier ++ next ∷ []) later
 behind_split tree t earlier next later =
     let first = placed_samples (next ∷ []) in
     let more = placed_samples later in
-    ap (timed (track_keys tree t) (due_behind tree t earlier)) (placed_append (next ∷ []) later) ∙ timed-append (track_keys tree t) (due_behind tree t earlier) first more
-    ∙ ap (λ n. timed (track_keys tree t) (due_behind tree t earlier) first ++ timed (track_keys tree t) n more) (sym (due_more tree t earlier next))
+    ap (timed (track_keys tree t) (count_behind t earlier) (due_behind tree t earlier)) (placed_append (next ∷ []) later) ∙ timed-append (track_keys tree t) (count_behind t earlier) (due_behind tree t earlier) first more
+    ∙ (λ i. timed (track_keys tree t) (count_behind t earlier) (due_behind tree t earlier) first ++ timed (track_keys tree t) (sym (count_more t earlier next) i) (sym (due_more tree t earlier next) i) more)
 
 -- ---- what is noted
 

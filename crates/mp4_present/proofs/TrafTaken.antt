@@ -3,6 +3,7 @@ use Rattle.std.proofs.Common.{rules, ◌≡◌, ℕ, zero, suc, ◌+◌, ◌-◌
 use Rattle.std.specs.Prelude.{Contains, IsTrue, flat_map, option_map, unwrap_or}
 use Rattle.std.specs.List.{AllByRecursion, AllZip}
 use Rattle.std.proofs.lemmas.Bool.{and_parts, eqb-true}
+use Rattle.std.proofs.lemmas.List.{length-map}
 use Rattle.std.proofs.lemmas.Option.{slice_get-map}
 use Rattle.mp4_boxes.specs.format.Bytes.{sum_of}
 use Rattle.mp4_tables.specs.words.Accepted.{AreDistinct}
@@ -12,6 +13,7 @@ use Rattle.mp4_tables.specs.format.PlainSamples.{PlacedSample}
 use Rattle.mp4_tables.specs.format.Tables.{tables_of}
 use Rattle.mp4_tables.specs.words.Timed.{timed}
 use Rattle.mp4_tables.specs.declared.sample.SampleAt.{SampleAt}
+use Rattle.mp4_tables.proofs.SampleLists.{timed_length}
 use Rattle.mp4_tables.proofs.Sums.{timed_lasts}
 use Rattle.mp4_frag.specs.format.Fragments.{FragmentTree}
 use Rattle.mp4_frag.specs.format.FragmentSamples.{Part, start_of, duration_of, fragment_samples, has_samples, no_trex, part_samples, trex_for}
@@ -25,12 +27,12 @@ use Rattle.mp4_frag.proofs.OwnParts.{placed_parts}
 use Rattle.mp4_frag.proofs.RunsTied.{duration-append}
 use Rattle.mp4_frag.proofs.TrafsTied.{some_known, trex_found}
 use Rattle.mp4_head.specs.format.Tree.{TrackTree, track_head_of, trexes_of}
-use Rattle.mp4_present.specs.format.Presentation.{IsInTime, total_duration, max_time}
+use Rattle.mp4_present.specs.format.Presentation.{IsInTime, Track, total_duration, max_samples, max_time}
 use Rattle.mp4_present.specs.format.Denotes.{FileTree, plain_of, file_parts, first_due, parts_of_track, placed_of, sample_of, track_of, presentation_of}
 use Rattle.mp4_present.specs.words.OpenedMovie.{IsOpenedAs, IsInfoOf, plain_seen}
 use Rattle.mp4_present.specs.words.Movies.{MovieSeen, all_in_traf, traf_bytes, trex_at, trex_in}
 use Rattle.mp4_present.specs.words.GoingBack.{StandsBehind}
-use Rattle.mp4_present.specs.words.SamplesComing.{track_keys, due_behind, samples_behind, own_trafs, StandsBefore, HoldsNext, HoldsLast}
+use Rattle.mp4_present.specs.words.SamplesComing.{track_keys, count_behind, due_behind, samples_behind, own_trafs, StandsBefore, HoldsNext, HoldsLast}
 use Rattle.mp4_present.specs.declared.track_info.TrackInfo.{TrackInfo}
 use Rattle.mp4_present.specs.declared.walking.Due.{Due}
 use Rattle.mp4_present.specs.declared.walking.Walk.{Walk}
@@ -56,6 +58,12 @@ zipped_at R [] ys k x y h a b = absurd (cc)
 zipped_at R (v ∷ xs) [] k x y h a b = absurd h
 zipped_at R (v ∷ xs) (w ∷ ys) zero x y h a b = subst (λ c. R c y) (some_is v x a) (subst (R v) (some_is w y b) h.0)
 zipped_at R (v ∷ xs) (w ∷ ys) (suc k) x y h a b = zipped_at R xs ys k x y h.1 a b
+
+-- one of some numbers is no more than all of them together
+one_of_sum : {A : Type 0} (f : A → ℕ) (xs : List A) (k : ℕ) (x : A) → slice_get xs k ≡ Some x → f x ≤ sum_of f xs
+one_of_sum f [] k x e = absurd (cc)
+one_of_sum f (y ∷ xs) zero x e = let same = ap f (some_is y x e) in omega (arith, same)
+one_of_sum f (y ∷ xs) (suc k) x e = let more = one_of_sum f xs k x e in omega (arith, more)
 
 -- ---- times
 
@@ -160,7 +168,7 @@ module _ (file : List ℕ) (m : MovieSeen) (tree : FileTree) (t : TrackTree) (ea
   few = let left = h.left in let all = both in omega (arith, left, all)
 
   lasts : sum_of (λ (s : SampleAt). s.duration) (samples_behind tree t earlier (next ∷ [])) ≡ duration_of mine
-  lasts = timed_lasts (track_keys tree t) (due_behind tree t earlier) mine
+  lasts = timed_lasts (track_keys tree t) (count_behind t earlier) (due_behind tree t earlier) mine
 
   -- a walk that has taken it stands behind it
   pub stands_again : (now : Walk) → now.track ≡ w.track → now.next ≡ w.next → length now.bytes.items ≡ length w.bytes.items → StandsBehind tree t earlier next later now.due now.left → HoldSame w now → now.before ≡ Some (record { time = w.due; left = w.left })
@@ -206,29 +214,58 @@ module _ (file : List ℕ) (m : MovieSeen) (tree : FileTree) (t : TrackTree) (ea
         let one = ap duration_of (one_placed next) in
         omega (arith, due, ends, one)
 
+    -- those left are behind those before it
+    count_all : info.samples ≡ count_behind t earlier + w.left
+    count_all =
+        let samples = info_is.samples ∙ length-map (placed_of (file_parts tree) t) (sample_of file) ∙ length-append (plain_of t) (fragment_samples (track_head_of t).id (file_parts tree)) in
+        let own = ap length (sym (all_placed tree.movie (track_head_of t).id tree.fragments o.is_tree.fragments) ∙ ap placed_samples h.split ∙ placed_append earlier (next ∷ later)) ∙ length-append (placed_samples earlier) (placed_samples (next ∷ later)) in
+        let left = h.left ∙ timed_length (track_keys tree t) (count_behind t earlier) (due_behind tree t earlier) (placed_samples (next ∷ later)) in
+        omega (arith, samples, own, left)
+
+    -- 32 bits hold their numbers
+    few_samples : info.samples ≤ max_samples
+    few_samples =
+        let p = presentation_of file tree in
+        let most = o.limits.samples in
+        let one = one_of_sum (λ (u : Track). length u.samples) p.tracks w.track (track_of file (file_parts tree) t) (slice_get-map (track_of file (file_parts tree)) tree.movie.tracks w.track ∙ ap (option_map (track_of file (file_parts tree))) h.is_track) in
+        let is = info_is.samples in
+        omega (arith, most, one, is)
+
+    numbers_small : count_behind t earlier + length (part_samples next.part) < 2 ^ 32
+    numbers_small =
+        let small = few_samples in
+        let all = count_all in
+        let least = few in
+        let long = timed_length (track_keys tree t) (count_behind t earlier) (due_behind tree t earlier) mine in
+        let one = ap length (one_placed next) in
+        omega (arith, small, all, least, long, one)
+
+    number_is : (number : ℕ) → number ≡ info.samples - w.left → number ≡ count_behind t earlier
+    number_is number e = let all = count_all in omega (arith, e, all)
+
     -- the samples that the cursor hands out are those that are due
-    pub taken : m.file_len < 2 ^ 64 → (bytes : List ℕ) → bytes ≡ traf_bytes w → (trex : Trex) → trex ≡ trex_at m w.track → (coming : List SampleAt)
+    pub taken : m.file_len < 2 ^ 64 → (number : ℕ) → number ≡ info.samples - w.left → (bytes : List ℕ) → bytes ≡ traf_bytes w → (trex : Trex) → trex ≡ trex_at m w.track → (coming : List SampleAt)
         → ((L : ℕ) (ts : List Trex) (states : List TrackState) (f : FragmentTree) (p : PlacedTraf) → Contains (own_in ts info.id f) p → p.traf.payload ≡ bytes → p.base ≡ w.traf.base
-        → IsSoundMoof L ts states f → AreTrexesOf ts states → trex_for ts info.id ≡ Some trex → AreDistinct (keys_seen info.keys) → w.due + duration_of (part_samples p.part) < 2 ^ 64
-        → coming ≡ timed (keys_seen info.keys) w.due (part_samples p.part))
+        → IsSoundMoof L ts states f → AreTrexesOf ts states → trex_for ts info.id ≡ Some trex → AreDistinct (keys_seen info.keys) → number + length (part_samples p.part) < 2 ^ 32 → w.due + duration_of (part_samples p.part) < 2 ^ 64
+        → coming ≡ timed (keys_seen info.keys) number w.due (part_samples p.part))
         → coming ≡ samples_behind tree t earlier (next ∷ [])
-    taken short bytes seen trex is coming by =
+    taken short number count bytes seen trex is coming by =
         let trexes = trexes_of tree.movie in
         let i = its_moof file m tree t earlier next later o h.split in
         let distinct : AreDistinct (keys_seen info.keys) = subst AreDistinct (sym info_is.keys) (distinct_keys (tables_of t.table).groups (flat_map (λ (part : Part). part.groups) (parts_of_track (file_parts tree) t))) in
         let among : Contains (own_in trexes info.id i.x) next = subst (λ n. Contains (own_in trexes n i.x) next) (sym info_is.id) (contains_in (own_in trexes (track_head_of t).id i.x) next i.own) in
         let defaults : trex_for trexes info.id ≡ Some trex = ap (trex_for trexes) info_is.id ∙ trex_there file m tree t earlier next later o h.split w.track h.is_track short ∙ ap (λ v. Some v) (sym is) in
         by m.file_len trexes m.states i.x next among (sym h.bytes ∙ sym seen) (ap (λ (n : OwnTraf). n.base) (sym h.traf))
-        (moof_sound file m tree i.among.front i.x i.among.back o i.among.are short) (kept_trexes trexes m.states tree.movie.tracks o.states) defaults distinct ends_small
-        ∙ ap (λ ss. timed (keys_seen info.keys) w.due ss) (sym (one_placed next)) ∙ ap (λ ks. timed ks w.due mine) info_is.keys ∙ ap (λ n. timed (track_keys tree t) n mine) h.due
+        (moof_sound file m tree i.among.front i.x i.among.back o i.among.are short) (kept_trexes trexes m.states tree.movie.tracks o.states) defaults distinct (subst (λ n. n + length (part_samples next.part) < 2 ^ 32) (sym (number_is number count)) numbers_small) ends_small
+        ∙ ap (λ ss. timed (keys_seen info.keys) number w.due ss) (sym (one_placed next)) ∙ ap (λ ks. timed ks number w.due mine) info_is.keys ∙ (λ i. timed (track_keys tree t) (number_is number count i) (h.due i) mine)
 
   -- it has some
   pub gives_some : samples_behind tree t earlier (next ∷ []) ≡ [] → ⊥
-  gives_some none = some (part_samples next.part) (next_has file m tree t earlier next later o h.split) (nothing_timed (track_keys tree t) (due_behind tree t earlier) mine none) (one_placed next)
+  gives_some none = some (part_samples next.part) (next_has file m tree t earlier next later o h.split) (nothing_timed (track_keys tree t) (count_behind t earlier) (due_behind tree t earlier) mine none) (one_placed next)
     where
-      nothing_timed : (keys : List GroupKey) (n : ℕ) (ss : List PlacedSample) → timed keys n ss ≡ [] → ss ≡ []
-      nothing_timed keys n [] e = refl
-      nothing_timed keys n (s ∷ ss) e = absurd cc
+      nothing_timed : (keys : List GroupKey) (k n : ℕ) (ss : List PlacedSample) → timed keys k n ss ≡ [] → ss ≡ []
+      nothing_timed keys k n [] e = refl
+      nothing_timed keys k n (s ∷ ss) e = absurd cc
 
       some : (ss : List PlacedSample) → nat_lt 0 (length ss) ≡ true → mine ≡ [] → mine ≡ ss → ⊥
       some [] e none same = absurd cc
@@ -250,11 +287,11 @@ some_counted n k some e = let lt : 0 < n = search rules in omega (arith, lt, e)
 -- ---- all that is in hand
 
 -- from its beginning on it has all samples of the `traf`
-pub all_taken : (m : MovieSeen) (w : Walk) (k due : ℕ) (found info : TrackInfo) (bytes : List ℕ) (trex : Trex) (coming : List SampleAt) → slice_get m.tracks k ≡ Some found → slice_get m.tracks k ≡ Some info → bytes ≡ traf_bytes w → trex ≡ trex_at m w.track
-    → coming ≡ samples_in bytes w.traf.base found.id trex due (keys_seen found.keys) → coming ≡ all_in_traf m w info due
-all_taken m w k due found info bytes trex coming at there is same e =
+pub all_taken : (m : MovieSeen) (w : Walk) (k number : ℕ) (before : Due) (found info : TrackInfo) (bytes : List ℕ) (trex : Trex) (coming : List SampleAt) → slice_get m.tracks k ≡ Some found → slice_get m.tracks k ≡ Some info → bytes ≡ traf_bytes w → trex ≡ trex_at m w.track
+    → number ≡ found.samples - before.left → coming ≡ samples_in bytes w.traf.base found.id trex number before.time (keys_seen found.keys) → coming ≡ all_in_traf m w info before
+all_taken m w k number before found info bytes trex coming at there is same count e =
     let one : found ≡ info = some_is found info (sym at ∙ there) in
-    e ∙ (λ i. samples_in (is i) w.traf.base (one i).id (same i) due (keys_seen (one i).keys))
+    e ∙ (λ i. samples_in (is i) w.traf.base found.id trex (count i) before.time (keys_seen found.keys)) ∙ (λ i. samples_in (traf_bytes w) w.traf.base (one i).id (same i) ((one i).samples - before.left) before.time (keys_seen (one i).keys))
 
 pub counted_left : (left few now many : ℕ) → now ≡ left - few → few ≤ left → few ≡ many → left ≡ many + now
 counted_left left few now many e f h = omega (arith, e, f, h)

@@ -8,6 +8,7 @@ use Rattle.mp4_tables.specs.format.PlainSamples.{PlacedSample, Spot, joined}
 use Rattle.mp4_tables.specs.format.Tables.{tables_of}
 use Rattle.mp4_tables.specs.words.Timed.{timed, samples_of}
 use Rattle.mp4_tables.specs.words.Accepted.{tables_at}
+use Rattle.mp4_tables.proofs.SampleLists.{timed_length}
 use Rattle.mp4_tables.specs.words.TablesSeen.{TablesSeen, CursorSeen, samples_from}
 use Rattle.mp4_tables.specs.words.TablesSeen as views
 use Rattle.mp4_frag.specs.format.Fragments.{IsFragmentTree}
@@ -21,7 +22,7 @@ use Rattle.mp4_present.specs.format.Denotes.{FileTree, plain_of, plain_keys, fil
 use Rattle.mp4_present.specs.words.OpenedMovie.{IsOpenedAs, IsInfoOf, AreTablesOf, plain_seen}
 use Rattle.mp4_present.specs.words.Movies.{MovieSeen, own_room, table_bytes, tables_seen}
 use Rattle.mp4_present.specs.words.Passing.{parts_behind}
-use Rattle.mp4_present.specs.words.SamplesComing.{track_keys, track_samples, due_behind, samples_behind, own_trafs, StandsBefore, HoldsLast}
+use Rattle.mp4_present.specs.words.SamplesComing.{track_keys, track_samples, count_behind, due_behind, samples_behind, own_trafs, StandsBefore, HoldsLast}
 use Rattle.mp4_present.specs.declared.track_info.TrackInfo.{TrackInfo}
 use Rattle.mp4_present.specs.declared.movie.TrackTables.{TrackTables}
 use Rattle.mp4_present.specs.declared.walking.Due.{Due}
@@ -29,7 +30,6 @@ use Rattle.mp4_present.specs.declared.walking.Walk.{Walk}
 use Rattle.mp4_present.proofs.OwnPlaced.{all_placed}
 use Rattle.mp4_present.proofs.KeysExtended.{HaveNone, grouped_within, timed_with}
 use Rattle.mp4_present.proofs.TrafTaken.{zipped_at, seen_at, tables_in_time}
-use Rattle.mp4_present.proofs.SamplesLie.{timed_length}
 use Rattle.mp4_present.proofs.WalkRooms.{room_opened}
 
 -- ---- the samples of the tables
@@ -41,7 +41,7 @@ joined_none (d ∷ ds) (o ∷ os) [] ss = tt
 joined_none (d ∷ ds) (o ∷ os) (f ∷ fs) [] = tt
 joined_none (d ∷ ds) (o ∷ os) (f ∷ fs) (s ∷ ss) = (refl, joined_none ds os fs ss)
 
-from_start : (keys : List GroupKey) (ss : List PlacedSample) (parts : List Part) → timed keys 0 ss ≡ timed keys (start_of ss parts) ss
+from_start : (keys : List GroupKey) (ss : List PlacedSample) (parts : List Part) → timed keys 0 0 ss ≡ timed keys 0 (start_of ss parts) ss
 from_start keys [] parts = refl
 from_start keys (s ∷ ss) parts = refl
 
@@ -49,8 +49,8 @@ from_start keys (s ∷ ss) parts = refl
 pub plain_first : (tree : FileTree) (t : TrackTree) → AllByRecursion IsFragmentTree tree.fragments → samples_of (tables_of t.table) ++ samples_behind tree t [] (own_trafs tree t) ≡ track_samples tree t
 unfolding samples_of
 plain_first tree t trees =
-    ap (λ ss. samples_of (tables_of t.table) ++ timed keys (start + duration_of plain + 0) ss) (all_placed tree.movie (track_head_of t).id tree.fragments trees)
-    ∙ ap (λ ss. ss ++ timed keys (start + duration_of plain + 0) more) first ∙ ap (λ n. timed keys start plain ++ timed keys n more) (no_more (start + duration_of plain)) ∙ sym (timed-append keys start plain more)
+    ap (λ ss. samples_of (tables_of t.table) ++ timed keys (length plain + 0) (start + duration_of plain + 0) ss) (all_placed tree.movie (track_head_of t).id tree.fragments trees)
+    ∙ ap (λ ss. ss ++ timed keys (length plain + 0) (start + duration_of plain + 0) more) first ∙ (λ i. timed keys 0 start plain ++ timed keys (from_none (length plain) i) (no_more (start + duration_of plain) i) more) ∙ sym (timed-append keys 0 start plain more)
   where
     keys : List GroupKey
     keys = track_keys tree t
@@ -67,9 +67,12 @@ plain_first tree t trees =
     no_more : (n : ℕ) → n + 0 ≡ n
     no_more n = omega arith
 
-    first : timed (plain_keys t) 0 (plain_of t) ≡ timed (track_keys tree t) (start_of (plain_of t) (parts_of_track (file_parts tree) t)) (plain_of t)
+    from_none : (n : ℕ) → n + 0 ≡ 0 + n
+    from_none n = omega arith
+
+    first : timed (plain_keys t) 0 0 (plain_of t) ≡ timed (track_keys tree t) 0 (start_of (plain_of t) (parts_of_track (file_parts tree) t)) (plain_of t)
     first =
-        sym (timed_with (plain_keys t) (map (λ (g : Grouping). g.key) (flat_map (λ (part : Part). part.groups) (parts_of_track (file_parts tree) t))) 0 (plain_of t)
+        sym (timed_with (plain_keys t) (map (λ (g : Grouping). g.key) (flat_map (λ (part : Part). part.groups) (parts_of_track (file_parts tree) t))) 0 0 (plain_of t)
         (grouped_within (length (tables_of t.table).sizes) (tables_of t.table).groups _ (joined_none _ _ _ _)))
         ∙ from_start (track_keys tree t) (plain_of t) (parts_of_track (file_parts tree) t)
 
@@ -104,7 +107,7 @@ module _ (file : List ℕ) (m : MovieSeen) (tree : FileTree) (t : TrackTree) (o 
   left_is =
       let all = info_is.samples ∙ length-map (placed_of (file_parts tree) t) (sample_of file) ∙ length-append (plain_of t) (fragment_samples (track_head_of t).id (file_parts tree)) in
       let plain = ap (λ (s : TrackSeen). s.count) state_is in
-      let own = timed_length (track_keys tree t) (due_behind tree t []) (placed_samples (own_trafs tree t)) ∙ ap length (all_placed tree.movie (track_head_of t).id tree.fragments o.is_tree.fragments) in
+      let own = timed_length (track_keys tree t) (count_behind t []) (due_behind tree t []) (placed_samples (own_trafs tree t)) ∙ ap length (all_placed tree.movie (track_head_of t).id tree.fragments o.is_tree.fragments) in
       omega (arith, all, plain, own)
 
 module _ (file : List ℕ) (m : MovieSeen) (tree : FileTree) (t : TrackTree) (o : IsOpenedAs file m tree) (w : Walk) (at : slice_get tree.movie.tracks w.track ≡ Some t) (bytes : length w.bytes.items ≡ own_room m w.track) (due : w.due ≡ due_behind tree t [])

@@ -99,7 +99,7 @@ track_next file tree t m {takes = takes} joins a b c held_b held_c w later_w all
 
 -- the samples of a track have as many bytes as opening counted
 pub track_sizes : (file : List ℕ) (m : MovieSeen) (tree : FileTree) (t : TrackTree) (k : ℕ) (info : TrackInfo) → IsOpenedAs file m tree → slice_get tree.movie.tracks k ≡ Some t → slice_get m.tracks k ≡ Some info → info.bytes ≡ sizes_of (track_samples tree t)
-track_sizes file m tree t k info o at there = (zipped_at (IsInfoOf file tree) tree.movie.tracks m.tracks k t info o.tracks at there).bytes ∙ sym (timed_bytes _ _ (placed_of (file_parts tree) t))
+track_sizes file m tree t k info o at there = (zipped_at (IsInfoOf file tree) tree.movie.tracks m.tracks k t info o.tracks at there).bytes ∙ sym (timed_bytes _ _ _ (placed_of (file_parts tree) t))
 
 -- none is left where no sample is to come
 pub none_left : (left : ℕ) (to_come : List SampleAt) → left ≡ sizes_of to_come → to_come ≡ [] → left ≡ 0
@@ -143,7 +143,7 @@ track_not_put file {takes = takes} joins a b c held_b all to_come h none p =
 pub track_lies : (file : List ℕ) (m : MovieSeen) (tree : FileTree) (t : TrackTree) (k : ℕ) → IsOpenedAs file m tree → slice_get tree.movie.tracks k ≡ Some t → AllByRecursion (IsBelow (length file)) (track_samples tree t)
 track_lies file m tree t k o is =
     let Lie : TrackTree → Type 0 = λ u. AllByRecursion (IsInFile (length file)) (placed_of (file_parts tree) u) in
-    timed_lie (length file) _ _ (placed_of (file_parts tree) t) (of_got Lie tree.movie.tracks k t is (each_member Lie tree.movie.tracks (λ u i. placed_lie file tree u o.is_consistent i)))
+    timed_lie (length file) _ _ _ (placed_of (file_parts tree) t) (of_got Lie tree.movie.tracks k t is (each_member Lie tree.movie.tracks (λ u i. placed_lie file tree u o.is_consistent i)))
 
 -- what follows where those in hand do, and have no more bytes than are left
 pub in_hand_lies : (file : List ℕ) (tree : FileTree) (t : TrackTree) (m : MovieSeen) (Took : List ℕ → Type 0) (held_b : List ℕ) (w : Walk) (all to_come : List SampleAt) (n left : ℕ) (X : Type 0) → HandGoesOn file Took [] held_b all to_come → Comes file tree t m w to_come

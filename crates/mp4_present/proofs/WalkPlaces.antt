@@ -145,7 +145,7 @@ rest_on m w (Some d) (Fragment q) (hands.Fragment a) (hands.Fragment b) (Fragmen
     let view : b ≡ traf_hand w p = λ j. record { payload = (f.0 ∙ ap (λ (c : TrafView). c.payload) h) j; place = sym i.0 j } in
     let later : AreLast (samples_coming (traf_hand w q)) (samples_coming (traf_hand w p)) =
     subst (λ (c : TrafView). AreLast (samples_coming c) (samples_coming (traf_hand w p))) h (subst (λ (c : TrafView). AreLast (samples_coming a) (samples_coming c)) view f.3) in
-    last_of_last (all_in_traf m w info d.time) (samples_coming (traf_hand w q)) (samples_coming (traf_hand w p)) (r info at) later
+    last_of_last (all_in_traf m w info d) (samples_coming (traf_hand w q)) (samples_coming (traf_hand w p)) (r info at) later
 rest_on m w None (Fragment q) a b p r h f i = absurd r
 rest_on m w (Some d) (Tables q) a b p r h f i = absurd r
 rest_on m w None (Tables q) (hands.Fragment a) b p r h f i = absurd h

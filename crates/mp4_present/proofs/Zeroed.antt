@@ -1,6 +1,6 @@
 -- Zeros in the place of bytes.
 use Rattle.std.proofs.Common.{◌≡◌, ℕ, zero, suc, ◌+◌, ◌<◌, ◌≤◌, List, [], ◌∷◌, length, refl, sym, ap, ◌∙◌, arith, slice_set}
-use Rattle.mp4_present.specs.format.Reduced.{zeroed}
+use Rattle.mp4_present.specs.format.Zeros.{zeroed}
 
 -- in the place of none
 pub zero_none : (from : ℕ) (bytes : List ℕ) → zeroed from 0 bytes ≡ bytes

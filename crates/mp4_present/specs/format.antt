@@ -2,6 +2,8 @@ pub mod Presentation
 pub mod Denotes
 pub mod ByBytes
 pub mod Stands
+pub mod Zeros
+pub mod BitRates
 pub mod Reduced
 pub mod Differences
 pub mod Comparison

@@ -17,6 +17,7 @@ pub mod Passing
 pub mod SamplesComing
 pub mod PassedMoofs
 pub mod WalkSteps
+pub mod WalkLaws
 pub mod GoingBack
 pub mod Differing
 pub mod Windows

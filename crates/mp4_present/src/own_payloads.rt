@@ -1,9 +1,13 @@
 //! What is left of payloads of heads, in memory of its own.
 ghost use Rattle.std.specs.Prelude.{◌≡◌, ◌+◌, ◌<◌, ◌^◌, if◌then◌else◌, true, map, IfOk, OnOk};
+ghost use Rattle.mp4_head.specs.format.Head.{handler_type};
 ghost use Rattle.mp4_head.specs.words.Seen.{kept_seen, media_seen, movie_seen, track_seen, tracks_seen};
-ghost use Rattle.mp4_present.specs.format.Reduced.{is_picture, plain_handler, plain_picture, reduce_media, zeroed};
-ghost use Rattle.mp4_present.specs.words.PayloadsLeft.{AreMediaLeft, IsMediaLeft, box_left_seen, without_labels};
+ghost use Rattle.mp4_present.specs.format.BitRates.{unrated_payload};
+ghost use Rattle.mp4_present.specs.format.Reduced.{is_picture, plain_handler, plain_picture, reduce_media};
+ghost use Rattle.mp4_present.specs.format.Zeros.{zeroed};
+ghost use Rattle.mp4_present.specs.words.PayloadsLeft.{AreMediaLeft, IsMediaLeft, box_left_seen, description_left, leaves_payloads, track_payloads_left};
 
+use crate::bit_rates::{is_type, unrated};
 use crate::without::Without;
 use mp4_boxes::{FourCc, Memory};
 use mp4_head::{Kept, Media, MovieHead, TrackHead};
@@ -25,8 +29,8 @@ pub struct MediaLeft {
     pub descriptions: Vec<BoxLeft>,
 }
 
-// Puts zeros in the place of so many bytes, from a place on, as far as there are some.
-fn put_zeros(bytes: &mut [u8], from: usize, count: usize)
+/// Puts zeros in the place of so many bytes, from a place on, as far as there are some.
+pub(crate) fn put_zeros(bytes: &mut [u8], from: usize, count: usize)
     requires { from + count < 2 ^ 32 }
     ensures { bytes.new ≡ zeroed from count bytes.old }
 {
@@ -37,8 +41,8 @@ fn put_zeros(bytes: &mut [u8], from: usize, count: usize)
     }
 }
 
-// A copy of some bytes.
-fn copied(alloc: Global, bytes: &[u8]) -> Result<Vec<u8>, Memory>
+/// A copy of some bytes.
+pub(crate) fn copied(alloc: Global, bytes: &[u8]) -> Result<Vec<u8>, Memory>
     ensures { IfOk result (λ copy. copy.items ≡ bytes.now) }
 {
     let mut copy = Vec::new(alloc);
@@ -76,39 +80,56 @@ pub(crate) fn handler_left(
 fn is_picture(handler: &[u8]) -> bool
     ensures { result ≡ is_picture handler.now }
 {
-    handler.len() >= 12 && &handler[8..12] == b"vide".as_slice()
+    is_type(handler, b"vide")
 }
 
-// A copy of a sample description.
-fn copied_box(alloc: Global, kept: &Kept) -> Result<BoxLeft, Memory>
-    ensures { IfOk result (λ copy. box_left_seen copy ≡ kept_seen kept.now) }
+// What is left of the payload of a sample description without bit rates, where these are left out.
+fn rates_left(
+    alloc: Global,
+    leaving: Without,
+    handler: &[u8],
+    payload: &[u8],
+) -> Result<Vec<u8>, Memory>
+    ensures { IfOk result (λ left. left.items ≡ (if leaving.bitrates
+        then unrated_payload (handler_type handler.now) payload.now else payload.now)) }
 {
-    Ok(BoxLeft {
-        kind: kept.kind,
-        payload: copied(alloc, kept.payload)?,
-    })
+    if leaving.bitrates {
+        unrated(alloc, handler, payload)
+    } else {
+        copied(alloc, payload)
+    }
 }
 
-// A copy of a sample description of pictures without the name of a compressor.
-fn plain_picture(alloc: Global, kept: &Kept) -> Result<BoxLeft, Memory>
-    ensures { IfOk result (λ plain. box_left_seen plain ≡ plain_picture (kept_seen kept.now)) }
+// A sample description of pictures without the name of a compressor.
+fn plain_picture(left: BoxLeft) -> BoxLeft
+    ensures { box_left_seen result ≡ plain_picture (box_left_seen left) }
 {
-    let mut plain = copied_box(alloc, kept)?;
+    let mut plain = left;
     if plain.payload.len() >= 78 {
         put_zeros(plain.payload.as_mut_slice(), 42, 32);
     }
-    Ok(plain)
+    plain
 }
 
-// What is left of a sample description, which is to be plain or is not.
-fn description_left(alloc: Global, is_plain: bool, kept: &Kept) -> Result<BoxLeft, Memory>
+// What is left of a sample description of a track with this handler.
+fn description_left(
+    alloc: Global,
+    leaving: Without,
+    handler: &[u8],
+    kept: &Kept,
+) -> Result<BoxLeft, Memory>
     ensures { IfOk result (λ left. box_left_seen left
-        ≡ (if is_plain then plain_picture (kept_seen kept.now) else kept_seen kept.now)) }
+        ≡ description_left leaving handler.now (kept_seen kept.now)) }
 {
-    if is_plain {
-        plain_picture(alloc, kept)
+    let payload = rates_left(alloc, leaving, handler, kept.payload)?;
+    let left = BoxLeft {
+        kind: kept.kind,
+        payload,
+    };
+    if leaving.labels && is_picture(handler) {
+        Ok(plain_picture(left))
     } else {
-        copied_box(alloc, kept)
+        Ok(left)
     }
 }
 
@@ -121,10 +142,9 @@ pub(crate) fn descriptions_left(
     ensures { IfOk result (λ left. map box_left_seen left.items
         ≡ (reduce_media leaving (media_seen media.now)).descriptions) }
 {
-    let is_plain = leaving.labels && is_picture(media.handler);
     let mut left = Vec::new(alloc);
     for k in 0..media.descriptions.len() {
-        let one = description_left(alloc, is_plain, &media.descriptions[k])?;
+        let one = description_left(alloc, leaving, media.handler, &media.descriptions[k])?;
         left.push(one).map_err(|_| Memory)?;
     }
     Ok(left)
@@ -146,11 +166,11 @@ pub fn payloads_left(
     leaving: Without,
     tracks: &[TrackHead],
 ) -> Result<Vec<MediaLeft>, Memory>
-    ensures { IfOk result (λ lefts. leaving.labels ≡ true
+    ensures { IfOk result (λ lefts. leaves_payloads leaving ≡ true
         → AreMediaLeft leaving tracks.now lefts.items) }
 {
     let mut lefts = Vec::new(alloc);
-    if leaving.labels {
+    if leaving.leaves_payloads() {
         for k in 0..tracks.len() {
             let left = media_left(alloc, leaving, &tracks[k].media)?;
             lefts.push(left).map_err(|_| Memory)?;
@@ -188,7 +208,7 @@ fn put_media_left<'a>(
     left: &'a MediaLeft,
 ) -> Result<(), Memory>
     ensures { (l : Without) → IsMediaLeft l (media_seen track.old.media) left.now
-        → OnOk result (track_seen track.new ≡ without_labels l (track_seen track.old)) }
+        → OnOk result (track_seen track.new ≡ track_payloads_left l (track_seen track.old)) }
 {
     track.media.handler = left.handler.as_slice();
     track.media.descriptions = boxes_left(alloc, &left.descriptions)?;
@@ -204,7 +224,7 @@ fn put_tracks_left<'a>(
 ) -> Result<(), Memory>
     requires { AreMediaLeft leaving tracks.old.items lefts.now }
     ensures { OnOk result (map track_seen tracks.new.items
-        ≡ map (without_labels leaving) (map track_seen tracks.old.items)) }
+        ≡ map (track_payloads_left leaving) (map track_seen tracks.old.items)) }
 {
     for k in 0..tracks.len().min(lefts.len()) {
         put_media_left(alloc, &mut tracks[k], &lefts[k])?;
@@ -219,12 +239,13 @@ pub fn put_payloads_left<'a>(
     leaving: Without,
     lefts: &'a Vec<MediaLeft>,
 ) -> Result<(), Memory>
-    requires { leaving.labels ≡ true → AreMediaLeft leaving head.old.tracks.items lefts.now.items }
+    requires { leaves_payloads leaving ≡ true
+        → AreMediaLeft leaving head.old.tracks.items lefts.now.items }
     ensures movie { OnOk result (movie_seen head.new ≡ movie_seen head.old) }
     ensures tracks { OnOk result (tracks_seen head.new
-        ≡ map (without_labels leaving) (tracks_seen head.old)) }
+        ≡ map (track_payloads_left leaving) (tracks_seen head.old)) }
 {
-    if leaving.labels {
+    if leaving.leaves_payloads() {
         put_tracks_left(alloc, &mut head.tracks, leaving, lefts.as_slice())?;
     }
     Ok(())

@@ -14,12 +14,16 @@ pub struct Without {
     pub groups: bool,
     /// Kept boxes `udta`, `meta` and `iods` of the movie and its tracks.
     pub metadata: bool,
+    /// Bit rates and sizes of buffers in sample descriptions: `btrt` (8.5.2.2), and the fields of
+    /// `esds` that say them (ISO/IEC 14496-1, 7.2.6.6).
+    pub bitrates: bool,
     /// Names for people: those of handlers (8.4.3), and of compressors (12.1.3).
     pub labels: bool,
 }
 
 impl Without {
     ghost use Rattle.std.specs.Prelude.{◌≡◌, if◌then◌else◌};
+    ghost use Rattle.mp4_present.specs.words.PayloadsLeft.{leaves_payloads};
 
     /// Nothing is left out.
     pub const NOTHING: Without = Without {
@@ -28,6 +32,7 @@ impl Without {
         flags: false,
         groups: false,
         metadata: false,
+        bitrates: false,
         labels: false,
     };
 
@@ -36,5 +41,12 @@ impl Without {
         ensures { result ≡ (if self.times then 0 else time) }
     {
         if self.times { 0 } else { time }
+    }
+
+    // Whether payloads of media are left out, or parts of them.
+    pub(crate) fn leaves_payloads(self) -> bool
+        ensures { result ≡ leaves_payloads self }
+    {
+        self.labels || self.bitrates
     }
 }

@@ -16,6 +16,7 @@ pub mod LeafLists
 pub mod PlaceLists
 pub mod IndexLists
 pub mod SampleLists
+pub mod SampleNumbers
 pub mod GroupLists
 pub mod KeyLists
 pub mod SyncLists

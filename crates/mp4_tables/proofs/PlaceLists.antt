@@ -203,7 +203,7 @@ keys_here payload at = keys_after [] (groupings_at payload at.groups)
 -- the sample, with its time
 pub sample_is : (payload : List ℕ) (at : TablesAt) (p : TablePlace) (cto : ℤ) (flags size : ℕ) (groups : List ℕ) → IsAccepted payload at → IsPlace payload at p → p.number < at.sizes.rows.count
     → cto ≡ twos_complement 4 p.offset.value → flags ≡ flags_here payload at p → size ≡ slice_index (sizes_at payload at.sizes) p.number → groups ≡ indexes_here payload at.groups p.number
-    → drop p.number (samples_of (tables_at payload at)) ≡ record { dts = p.dts; duration = p.duration.value; cto = cto; flags = flags; description = p.chunk.row.description; at = p.chunk.at; size = size; groups = groups } ∷ drop (p.number + 1) (samples_of (tables_at payload at))
+    → drop p.number (samples_of (tables_at payload at)) ≡ record { dts = p.dts; duration = p.duration.value; cto = cto; flags = flags; description = p.chunk.row.description; at = p.chunk.at; size = size; groups = groups; number = p.number } ∷ drop (p.number + 1) (samples_of (tables_at payload at))
 sample_is payload at p cto flags size groups ok is h is_cto is_flags is_size is_groups =
     let t = tables_at payload at in
     let keys = keys_here payload at in
@@ -218,15 +218,15 @@ sample_is payload at p cto flags size groups ok is h is_cto is_flags is_size is_
     let g : indexes keys (map_here payload at p) ≡ groups =
     indexes_are at.sizes.rows.count k (keys_seen at.groups.keys) (group_rows payload at.groups) h ok.have.groups.distinct ok.have.groups.used (length-map at.groups.rows.by_key (runs_at payload) ∙ ok.have.groups.four) ∙ sym is_groups in
     let f = sym is_flags in
-    first ∙ (λ i. record { dts = p.dts; duration = p.duration.value; cto = o i; flags = f i; description = p.chunk.row.description; at = p.chunk.at; size = size; groups = g i } ∷ sym behind i)
+    first ∙ (λ i. record { dts = p.dts; duration = p.duration.value; cto = o i; flags = f i; description = p.chunk.row.description; at = p.chunk.at; size = size; groups = g i; number = p.number } ∷ sym behind i)
 
 -- time goes on by the sample's duration
 pub time_passed : (payload : List ℕ) (at : TablesAt) (p : TablePlace) (size : ℕ) → IsAccepted payload at → IsPlace payload at p → p.number < at.sizes.rows.count → size ≡ slice_index (sizes_at payload at.sizes) p.number
-    → drop (p.number + 1) (samples_of (tables_at payload at)) ≡ timed (keys_after [] (groupings_at payload at.groups)) (p.dts + p.duration.value) (drop (p.number + 1) (plain_samples (tables_at payload at)))
+    → drop (p.number + 1) (samples_of (tables_at payload at)) ≡ timed (keys_after [] (groupings_at payload at.groups)) (p.number + 1) (p.dts + p.duration.value) (drop (p.number + 1) (plain_samples (tables_at payload at)))
 time_passed payload at p size ok is h e =
     timed_next (tables_at payload at) (keys_here payload at) p.number p.dts (placed_here payload at p size) is.time (plain_here payload at p size ok is h e)
 
-pub time_first : (payload : List ℕ) (at : TablesAt) → drop 0 (samples_of (tables_at payload at)) ≡ timed (keys_after [] (groupings_at payload at.groups)) 0 (drop 0 (plain_samples (tables_at payload at)))
+pub time_first : (payload : List ℕ) (at : TablesAt) → drop 0 (samples_of (tables_at payload at)) ≡ timed (keys_after [] (groupings_at payload at.groups)) 0 0 (drop 0 (plain_samples (tables_at payload at)))
 unfolding tables_at
 time_first payload at = timed_first (tables_at payload at)
 

@@ -72,26 +72,27 @@ plain_more t k duration offset flags spot ds fs os ss h e1 e2 e3 e4 =
 -- ---- time
 
 -- the samples to come, where the next one is known
-pub timed_more : (t : Tables) (keys : List GroupKey) (k dts : ℕ) (s : PlacedSample) → drop k (samples_of t) ≡ timed keys dts (drop k (plain_samples t)) → drop k (plain_samples t) ≡ s ∷ drop (k + 1) (plain_samples t)
-    → drop k (samples_of t) ≡ sample_at keys dts s ∷ timed keys (dts + s.duration) (drop (k + 1) (plain_samples t))
-timed_more t keys k dts s e f = e ∙ ap (timed keys dts) f
+pub timed_more : (t : Tables) (keys : List GroupKey) (k dts : ℕ) (s : PlacedSample) → drop k (samples_of t) ≡ timed keys k dts (drop k (plain_samples t)) → drop k (plain_samples t) ≡ s ∷ drop (k + 1) (plain_samples t)
+    → drop k (samples_of t) ≡ sample_at keys k dts s ∷ timed keys (k + 1) (dts + s.duration) (drop (k + 1) (plain_samples t))
+timed_more t keys k dts s e f = e ∙ ap (timed keys k dts) f
 
-pub timed_next : (t : Tables) (keys : List GroupKey) (k dts : ℕ) (s : PlacedSample) → drop k (samples_of t) ≡ timed keys dts (drop k (plain_samples t)) → drop k (plain_samples t) ≡ s ∷ drop (k + 1) (plain_samples t)
-    → drop (k + 1) (samples_of t) ≡ timed keys (dts + s.duration) (drop (k + 1) (plain_samples t))
-timed_next t keys k dts s e f = drop_next (samples_of t) (timed keys (dts + s.duration) (drop (k + 1) (plain_samples t))) k (sample_at keys dts s) (timed_more t keys k dts s e f)
+pub timed_next : (t : Tables) (keys : List GroupKey) (k dts : ℕ) (s : PlacedSample) → drop k (samples_of t) ≡ timed keys k dts (drop k (plain_samples t)) → drop k (plain_samples t) ≡ s ∷ drop (k + 1) (plain_samples t)
+    → drop (k + 1) (samples_of t) ≡ timed keys (k + 1) (dts + s.duration) (drop (k + 1) (plain_samples t))
+timed_next t keys k dts s e f = drop_next (samples_of t) (timed keys (k + 1) (dts + s.duration) (drop (k + 1) (plain_samples t))) k (sample_at keys k dts s) (timed_more t keys k dts s e f)
 
-pub timed_first : (t : Tables) → drop 0 (samples_of t) ≡ timed (keys_after [] t.groups) 0 (drop 0 (plain_samples t))
+pub timed_first : (t : Tables) → drop 0 (samples_of t) ≡ timed (keys_after [] t.groups) 0 0 (drop 0 (plain_samples t))
 unfolding samples_of
 timed_first t = refl
 
-timed_length : (keys : List GroupKey) (dts : ℕ) (samples : List PlacedSample) → length (timed keys dts samples) ≡ length samples
-timed_length keys dts [] = refl
-timed_length keys dts (s ∷ samples) = ap suc (timed_length keys (dts + s.duration) samples)
+-- there are as many with times as without
+pub timed_length : (keys : List GroupKey) (number dts : ℕ) (samples : List PlacedSample) → length (timed keys number dts samples) ≡ length samples
+timed_length keys number dts [] = refl
+timed_length keys number dts (s ∷ samples) = ap suc (timed_length keys (number + 1) (dts + s.duration) samples)
 
 -- as many samples are handed out as there are
 pub samples_length : (t : Tables) → length (samples_of t) ≡ length (plain_samples t)
 unfolding samples_of
-samples_length t = timed_length (keys_after [] t.groups) 0 (plain_samples t)
+samples_length t = timed_length (keys_after [] t.groups) 0 0 (plain_samples t)
 
 -- ---- keys and indexes
 

@@ -151,21 +151,21 @@ plain_sizes s t fit =
     ∙ chunk_sizes t.chunk_rows 1 t.chunk_offsets t.sizes a.chunks
 
 -- samples that are handed out one after the other last as long, and have as many bytes
-pub timed_lasts : (keys : List GroupKey) (dts : ℕ) (samples : List PlacedSample) → sum_of (λ (s : SampleAt). s.duration) (timed keys dts samples) ≡ sum_of (λ (s : PlacedSample). s.duration) samples
-timed_lasts keys dts [] = refl
-timed_lasts keys dts (s ∷ samples) = ap (λ (n : ℕ). s.duration + n) (timed_lasts keys (dts + s.duration) samples)
+pub timed_lasts : (keys : List GroupKey) (number dts : ℕ) (samples : List PlacedSample) → sum_of (λ (s : SampleAt). s.duration) (timed keys number dts samples) ≡ sum_of (λ (s : PlacedSample). s.duration) samples
+timed_lasts keys number dts [] = refl
+timed_lasts keys number dts (s ∷ samples) = ap (λ (n : ℕ). s.duration + n) (timed_lasts keys (number + 1) (dts + s.duration) samples)
 
-pub timed_bytes : (keys : List GroupKey) (dts : ℕ) (samples : List PlacedSample) → sum_of (λ (s : SampleAt). s.size) (timed keys dts samples) ≡ sum_of (λ (s : PlacedSample). s.size) samples
-timed_bytes keys dts [] = refl
-timed_bytes keys dts (s ∷ samples) = ap (λ (n : ℕ). s.size + n) (timed_bytes keys (dts + s.duration) samples)
+pub timed_bytes : (keys : List GroupKey) (number dts : ℕ) (samples : List PlacedSample) → sum_of (λ (s : SampleAt). s.size) (timed keys number dts samples) ≡ sum_of (λ (s : PlacedSample). s.size) samples
+timed_bytes keys number dts [] = refl
+timed_bytes keys number dts (s ∷ samples) = ap (λ (n : ℕ). s.size + n) (timed_bytes keys (number + 1) (dts + s.duration) samples)
 
 pub samples_last : (s : Surroundings) (t : Tables) → Fit s t → sum_of (λ (s : SampleAt). s.duration) (samples_of t) ≡ sum_of (λ (x : ℕ). x) (repeated t.durations)
 unfolding samples_of
-samples_last s t fit = timed_lasts (keys_after [] t.groups) 0 (plain_samples t) ∙ plain_durations s t fit
+samples_last s t fit = timed_lasts (keys_after [] t.groups) 0 0 (plain_samples t) ∙ plain_durations s t fit
 
 pub samples_have : (s : Surroundings) (t : Tables) → Fit s t → sum_of (λ (s : SampleAt). s.size) (samples_of t) ≡ sum_of (λ (x : ℕ). x) t.sizes
 unfolding samples_of
-samples_have s t fit = timed_bytes (keys_after [] t.groups) 0 (plain_samples t) ∙ plain_sizes s t fit
+samples_have s t fit = timed_bytes (keys_after [] t.groups) 0 0 (plain_samples t) ∙ plain_sizes s t fit
 
 -- the sums over the rows of tables that were accepted are those over their samples
 pub durations_are : (payload : List ℕ) (at : TablesAt) (sum : ℕ) → IsAccepted payload at → sum ≡ min (sum_of (λ (x : ℕ). x) (repeated (runs_at payload at.durations))) (2 ^ 64 - 1)

@@ -19,6 +19,8 @@ pub struct SampleAt {
     pub size: u32,
     /// The group description index at each key of its track, 0 for none.
     pub groups: [u16; 4],
+    /// How many samples of its track come before it.
+    pub number: u32,
 }
 
 /// Samples that are handed out one by one.

@@ -101,6 +101,7 @@ pub(crate) fn sample_here(payload: &[u8], at: &TablesAt, place: &TablePlace) -> 
         at: place.chunk.at,
         size: size_at(Ticket::of_place(), payload, at.sizes, place.number),
         groups: place.groups.here(),
+        number: place.number,
     }
 }
 

@@ -1,6 +1,7 @@
 -- Two files compared: what is listed, and what there is to say of it.
 use Rattle.std.proofs.Common.{◌≡◌, ◌⊎◌, inl, inr, ℕ, zero, suc, ◌+◌, ◌*◌, ◌<◌, ◌≤◌, List, [], ◌∷◌, ◌++◌, length, take, nat_eq, Bool, true, false, refl, sym, ap, subst, ◌∙◌, arith, Ok}
 use Rattle.std.specs.Prelude.{◌↔◌, Option, None, Some, slice_get, IsTrue}
+use Rattle.std.proofs.Math.Nat.{mul-le-mul_right}
 use Rattle.std.proofs.lemmas.Bool.{ne_eqb}
 use Rattle.mp4_boxes.specs.declared.refusal.Refusal.{Refusal}
 use Rattle.mp4_boxes.specs.declared.refusal.Refusal.TheVariants as refusals
@@ -18,14 +19,13 @@ use Rattle.mp4_present.specs.declared.comparing.differences.Difference.{Differen
 use Rattle.mp4_present.specs.declared.without.Without.{Without}
 use Rattle.mp4_present.proofs.ComparisonWhole.{no_difference_is_same}
 use Rattle.mp4_present.proofs.DenotedValid.{denoted_is_valid}
-use Rattle.mp4norm.specs.format.CompareHeadline.{IsVerdict, ComparesWithin, most_counted}
-use Rattle.mp4norm.specs.format.Steps.{WorksWithin, most_steps, row_total}
+use Rattle.mp4norm.specs.format.CompareHeadline.{IsVerdict, ComparedWithin, ComparesWithin, most_counted, most_walks}
+use Rattle.mp4norm.specs.format.Steps.{WalksWithin, row_total}
 use Rattle.mp4_present.specs.words.Compared.{files_differ}
 use Rattle.mp4_plan.proofs.Judged.{denoted_judged}
-use Rattle.mp4norm.specs.words.Compares.{side_of, says_nothing, IsSaid, ListsFront, WalksThrice, RefusesBoth, RefusesCompare}
+use Rattle.mp4norm.specs.words.Compares.{side_of, says_nothing, IsSaid, ListsFront, WalksTimes, RefusesBoth, RefusesCompare}
 use Rattle.mp4norm.specs.declared.commands.compare.Failure.{Failure}
-use Rattle.mp4norm.proofs.StepSums.{two_walks}
-use Rattle.mp4norm.proofs.StepsTaken.{opened_within, written_within}
+use Rattle.mp4norm.proofs.StepsTaken.{looked_within, often_walked}
 
 pub listed_front : (old new : List Difference) (whole : Bool) (ds : List Difference) → old ≡ [] → (whole ≡ true → new ≡ old ++ ds) → TakesFront old new ds → (whole ≡ true) ⊎ (most_counted < length new) → ListsFront new ds
 listed_front old new whole ds none all front (inl e) = inl (all e ∙ ap (λ (xs : List Difference). xs ++ ds) none)
@@ -61,17 +61,35 @@ pub first_said : (first : Option Difference) (ds : List Difference) → first �
 first_said first [] e = subst (λ (f : Option Difference). IsSaid f []) (sym e) refl
 first_said first (d ∷ ds) e = subst (λ (f : Option Difference). IsSaid f (d ∷ ds)) (sym e) (λ none. cc)
 
-pub once_of_two : (old new a b : ℕ) → new ≤ old + (a + b) → new ≤ old + 2 * (a + b)
-once_of_two old new a b h = omega (arith, h)
+walks_joined : (old mid new a b times : ℕ) → mid ≤ old + (a + b) → new ≤ mid + times * (a + b) → new ≤ old + suc times * (a + b)
+walks_joined old mid new a b times g h = omega (arith, g, h)
 
-pub once_of_three : (old new a b : ℕ) → new ≤ old + (a + b) → new ≤ old + 3 * (a + b)
-once_of_three old new a b h = omega (arith, h)
+pub one_of_times : (old new a b times : ℕ) → 0 < times → new ≤ old + (a + b) → new ≤ old + times * (a + b)
+one_of_times old new a b times some h = let most = mul-le-mul_right (a + b) some in omega (arith, h, most)
 
-pub both_of_two : (old mid new a b : ℕ) → mid ≤ old + (a + b) → new ≤ mid + (a + b) → new ≤ old + 2 * (a + b)
-both_of_two old mid new a b g h = omega (arith, g, h)
+-- one walk, of as many as there are words to be tried
+pub one_of_more : (old new a b : ℕ) (first : Without) (more tries : List Without) → tries ≡ first ∷ more → new ≤ old + (a + b) → new ≤ old + length tries * (a + b)
+one_of_more old new a b first more tries e h =
+    let long : length tries ≡ suc (length more) = ap (λ (xs : List Without). length xs) e in
+    one_of_times old new a b (length tries) (omega (arith, long)) h
 
-pub both_of_three : (old mid new a b : ℕ) → mid ≤ old + (a + b) → new ≤ mid + 2 * (a + b) → new ≤ old + 3 * (a + b)
-both_of_three old mid new a b g h = omega (arith, g, h)
+-- one walk, and as many as there are others
+pub one_more_time : (old mid new a b : ℕ) (first : Without) (more tries : List Without) → tries ≡ first ∷ more → mid ≤ old + (a + b) → new ≤ mid + length more * (a + b) → new ≤ old + length tries * (a + b)
+one_more_time old mid new a b first more tries e g h =
+    let long : length tries ≡ suc (length more) = ap (λ (xs : List Without). length xs) e in
+    subst (λ n. new ≤ old + n * (a + b)) (sym long) (let sum = walks_joined old mid new a b (length more) g h in sum)
+
+-- some walks, and one more
+pub one_time_more : (old mid new a b times : ℕ) → mid ≤ old + times * (a + b) → new ≤ mid + 1 * (a + b) → new ≤ old + (times + 1) * (a + b)
+one_time_more old mid new a b times g h = omega (arith, g, h)
+
+-- one walk to list, as many as are tried, and one more
+pub listing_walks : (old mid new a b tried : ℕ) → tried ≤ 3 → mid ≤ old + (a + b) → new ≤ mid + (tried + 1) * (a + b) → new ≤ old + 5 * (a + b)
+listing_walks old mid new a b tried few g h = let most = mul-le-mul_right (a + b) few in omega (arith, g, h, most)
+
+-- fewer are as many at most
+pub few_times_of : (old new a b few times : ℕ) → few ≤ times → new ≤ old + few * (a + b) → new ≤ old + times * (a + b)
+few_times_of old new a b few times le h = let most = mul-le-mul_right (a + b) le in omega (arith, h, most)
 
 -- ---- the answer
 
@@ -111,32 +129,38 @@ together First Second honest honest_right l m r s Took nothing puts refusals.NoS
 
 -- ---- steps
 
-none_taken : (file : List ℕ) (n : ℕ) → WorksWithin file n n
+-- a file that is looked at, and no more
+pub looked_alone : (file : List ℕ) (old new : ℕ) → WalksWithin file old new → ComparedWithin file old new
+looked_alone file old new h = record {
+  denoted = λ p d. let own = h.denoted p d in omega (arith, own);
+  refused = h.refused;
+}
+
+none_taken : (file : List ℕ) (n : ℕ) → ComparedWithin file n n
 none_taken file n = record {
-  denoted = λ p d. let rest = most_steps (length p.tracks) (sample_total p) (row_total d.tree) in omega arith;
-  few = λ p d. let rest = sample_total p + row_total d.tree in omega arith;
+  denoted = λ p d. let rest = sample_total p + row_total d.tree in omega arith;
   refused = λ nothing. inl refl;
 }
 
 -- the second file was not looked at
-pub first_alone : (file other : List ℕ) (old new : ℕ) → WorksWithin file old new → ComparesWithin file other old new
-first_alone file other old new first = record { between = new; first = first; second = none_taken other new }
+pub first_alone : (file other : List ℕ) (old new : ℕ) → WalksWithin file old new → ComparesWithin file other old new
+first_alone file other old new first = record { between = new; first = looked_alone file old new first; second = none_taken other new }
 
 -- the first file was opened, and so were the second or not
-pub both_looked : (file other : List ℕ) (m : MovieSeen) (old mid new : ℕ) → ((tree : FileTree) × IsOpenedAs file m tree) → ((tree : FileTree) → IsFileTree file tree → mid ≤ old + opening_steps tree) → WorksWithin other mid new → ComparesWithin file other old new
+pub both_looked : (file other : List ℕ) (m : MovieSeen) (old mid new : ℕ) → ((tree : FileTree) × IsOpenedAs file m tree) → ((tree : FileTree) → IsFileTree file tree → mid ≤ old + opening_steps tree) → WalksWithin other mid new → ComparesWithin file other old new
 both_looked file other m old mid new a opening second = record {
   between = mid;
-  first = written_within file m old mid mid a opening (λ tree o. omega arith);
-  second = second;
+  first = looked_alone file old mid (looked_within file old mid m a.0 a.1 (opening a.0 a.1.is_tree));
+  second = looked_alone other mid new second;
 }
 
--- both were opened, and walked over at most three times
+-- both were opened, and walked over as many times as may be
 pub both_walked : (file other : List ℕ) (m n : MovieSeen) (old mid behind new : ℕ) → ((tree : FileTree) × IsOpenedAs file m tree) → ((tree : FileTree) × IsOpenedAs other n tree) → ((tree : FileTree) → IsFileTree file tree → mid ≤ old + opening_steps tree)
-    → ((tree : FileTree) → IsFileTree other tree → behind ≤ mid + opening_steps tree) → ((tree next : FileTree) → IsOpenedAs file m tree → IsOpenedAs other n next → WalksThrice tree next behind new) → ComparesWithin file other old new
+    → ((tree : FileTree) → IsFileTree other tree → behind ≤ mid + opening_steps tree) → ((tree next : FileTree) → IsOpenedAs file m tree → IsOpenedAs other n next → WalksTimes most_walks tree next behind new) → ComparesWithin file other old new
 both_walked file other m n old mid behind new a b opening next walks =
     record {
-      between = mid + 3 * walks_steps a.0;
-      first = opened_within file old (mid + 3 * walks_steps a.0) m a.0 mid a.1 (opening a.0 a.1.is_tree) (omega (arith, two_walks a.0));
-      second = opened_within other (mid + 3 * walks_steps a.0) new n b.0 (mid + 3 * walks_steps a.0 + opening_steps b.0) b.1 (omega arith)
-          (let more = walks a.0 b.0 a.1 b.1 in let opened = next b.0 b.1.is_tree in omega (arith, more, opened, two_walks b.0));
+      between = mid + 5 * walks_steps a.0;
+      first = often_walked file old (mid + 5 * walks_steps a.0) m a.0 a.1 (let opened = opening a.0 a.1.is_tree in omega (arith, opened));
+      second = often_walked other (mid + 5 * walks_steps a.0) new n b.0 b.1
+          (let more = walks a.0 b.0 a.1 b.1 in let opened = next b.0 b.1.is_tree in omega (arith, more, opened));
     }

@@ -1,17 +1,18 @@
 -- Words with which two presentations are the same: which are needed, and that these are enough.
-use Rattle.std.proofs.Common.{◌≡◌, ℕ, zero, suc, ◌+◌, ◌*◌, ◌^◌, Bool, true, false, ◌||◌, ◌&&◌, if◌then◌else◌, List, [], ◌∷◌, length, take, Option, None, Some, ℤ, pos, refl, sym, ap, subst, ◌∙◌, arith}
-use Rattle.std.specs.Prelude.{◌==◌, nat_le, not, map, slice_get, option_map, option_and_then}
+use Rattle.std.proofs.Common.{◌≡◌, ◌⊎◌, inl, inr, ◌++◌, ℕ, zero, suc, ◌+◌, ◌*◌, ◌^◌, ◌≤◌, Bool, true, false, ◌||◌, ◌&&◌, if◌then◌else◌, List, [], ◌∷◌, length, take, Option, None, Some, ℤ, pos, refl, sym, ap, subst, ◌∙◌, arith}
+use Rattle.std.specs.Prelude.{◌==◌, not, map, slice_get, option_map, option_and_then}
 use Rattle.std.specs.List.{AllByRecursion, AllZip, Any, list_any}
 use Rattle.std.proofs.lemmas.Bool.{eqb-true, eq-eqb, lt-ltb}
+use Rattle.std.proofs.lemmas.List.{take_all}
 use Rattle.std.proofs.lemmas.List.Sums.{sum_by-cons}
 use Rattle.std.proofs.lemmas.Slice.Zip.{AllZip-long}
 use Rattle.mp4_boxes.proofs.Among.{true_false}
-use Rattle.mp4_tables.specs.format.Groups.{Groups, index_at}
-use Rattle.mp4_head.specs.format.Head.{Kept, Edit}
+use Rattle.mp4_tables.specs.format.Groups.{index_at}
+use Rattle.mp4_head.specs.format.Head.{Kept, Edit, Media, handler_type}
 use Rattle.mp4_present.specs.format.Presentation.{Sample, Track, Presentation, Valid}
-use Rattle.mp4_present.specs.format.Reduced.{sync_flag, zeroed, is_picture, plain_picture, plain_descriptions, reduce}
-use Rattle.mp4_present.proofs.Zeroed.{zeroed_length}
-use Rattle.mp4_plan.proofs.Plain.{descriptions_many}
+use Rattle.mp4_present.specs.format.BitRates.{unrated, unrated_descriptions}
+use Rattle.mp4_present.specs.format.Reduced.{sync_flag, is_picture, plain_picture, plain_descriptions, reduce_track, reduce}
+use Rattle.mp4_plan.proofs.Plain.{descriptions_many, reduce_by}
 use Rattle.mp4_present.specs.format.Differences.{same_value}
 use Rattle.mp4_present.specs.format.Comparison.{differences}
 use Rattle.mp4_present.specs.format.ComparisonLaws.{member, byte_value, payload_value, box_value, edit_value, movie_value, count_value, entry_value, track_value, sample_value, value_at, IsOneDifference, IsTheirs}
@@ -34,14 +35,14 @@ use Rattle.mp4_present.proofs.ComparisonPlaces.{differences_are_theirs}
 use Rattle.mp4_present.proofs.ComparisonWhole.{HasMap, IsPlain, IsAllPlain, all_plain, each_difference_is_one}
 use Rattle.mp4_plan.specs.format.CoveringLaws.{Covers}
 use Rattle.mp4_plan.specs.format.ReducedLaws.{both}
-use Rattle.mp4_plan.proofs.Agreed.{reduce_is_exact}
+use Rattle.mp4_plan.proofs.Agreed.{plain_of, reduce_is_exact, type_of_left, unrated_of}
 use Rattle.mp4_plan.proofs.Covering.{reduced_more}
 use Rattle.mp4_plan.specs.format.Agreeing.{SamplesAgree, MediaAgree, TrackHeadsAgree, MovieHeadsAgree, TracksAgree, Agree}
 use Rattle.mp4_present.proofs.ComparisonValues.{same_value_is_equal}
 use Rattle.mp4norm.specs.declared.commands.tally.Kind.TheVariants as kinds
 use Rattle.mp4norm.specs.declared.commands.tally.Kind.{Kind as KindOf}
 use Rattle.mp4norm.specs.format.LastLine.{kind_of_difference, kind_of_field, kind_of_entries, kind_place, count_of_kind}
-use Rattle.mp4norm.specs.words.Suggested.{differ_in_sync, is_in_sync, is_label_entry, is_label_field, is_label, is_fixed, differ_in_all, has, suggested}
+use Rattle.mp4norm.specs.words.Suggested.{differ_in_sync, is_in_sync, is_label_field, is_label, is_detail_entry, is_detail_field, is_detail, is_fixed, differ_in_all, has, needed, with_details, candidates}
 
 -- ---- words that cover others
 
@@ -60,18 +61,8 @@ covers_more l m i = record {
   flags = or_twice l.flags m.flags i;
   groups = or_twice l.groups m.groups i;
   metadata = or_twice l.metadata m.metadata i;
+  bitrates = or_twice l.bitrates m.bitrates i;
   labels = or_twice l.labels m.labels i;
-}
-
--- words for all kinds of these
-abbrev pub words_for : List Difference → Without
-words_for ds = record {
-  times = has kinds.Times ds;
-  edits = has kinds.Edits ds;
-  flags = has kinds.Flags ds;
-  groups = has kinds.Groups ds;
-  metadata = has kinds.Kept ds;
-  labels = list_any is_label ds;
 }
 
 -- ---- which word leaves out a difference
@@ -85,9 +76,9 @@ left_out k kinds.Groups = k.groups
 left_out k kinds.Kept = k.metadata
 left_out k _ = false
 
--- the word that leaves out a difference at a place is
+-- the word that leaves out a difference at a place is; or the place is a detail
 abbrev left_at : Without → Subject → Field → Bool
-left_at k of field = if is_label_field field then k.labels else left_out k (kind_of_field of field)
+left_at k of field = if is_label_field field then k.labels else (if is_detail_field field then true else left_out k (kind_of_field of field))
 
 -- a value that both say is the same
 no_two : {A : Type 0} (a b : A) (x y : Value) (f : A → Option Value) → a ≡ b → f a ≡ Some x → f b ≡ Some y → same_value x y ≡ false → ⊥
@@ -110,37 +101,39 @@ of_signed n = Some (Signed n)
 abbrev of_count : {A : Type 0} → List A → Option Value
 of_count xs = Some (Number (length xs))
 
--- sample descriptions are as many without labels, and each says the same of all but its bytes
-many_same : (h i : List ℕ) (xs ys : List Kept) → plain_descriptions h xs ≡ plain_descriptions i ys → length xs ≡ length ys
-many_same h i xs ys e = sym (descriptions_many true h xs) ∙ ap (λ (ks : List Kept). length ks) e ∙ descriptions_many true i ys
+-- sample descriptions are as many without details, and their types are the same
+abbrev all_details : Without
+all_details = record { times = false; edits = false; flags = false; groups = false; metadata = false; bitrates = true; labels = true }
 
-picture_length : (k : Kept) → length (plain_picture k).payload ≡ length k.payload
-picture_length k = by (nat_le 78 (length k.payload))
-  where
-    by : (v : Bool) → length (if v then zeroed 42 32 k.payload else k.payload) ≡ length k.payload
-    by true = zeroed_length 42 32 k.payload
-    by false = refl
+abbrev less_details : List ℕ → List Kept → List Kept
+less_details h xs = plain_descriptions h (unrated_descriptions h xs)
 
-part_stays : (part : Part) (k : Kept) → is_label_entry entries.Descriptions part ≡ false → box_value part (plain_picture k) ≡ box_value part k
-part_stays parts.Kind k e = refl
-part_stays parts.Length k e = ap (λ (n : ℕ). Some (Number n)) (picture_length k)
-part_stays (parts.Byte j c) k e = absurd cc
-part_stays parts.SegmentDuration k e = refl
-part_stays parts.MediaTime k e = refl
-part_stays parts.RateInteger k e = refl
-part_stays parts.RateFraction k e = refl
+many_same : (h i : List ℕ) (xs ys : List Kept) → less_details h xs ≡ less_details i ys → length xs ≡ length ys
+many_same h i xs ys e = sym (descriptions_many all_details h xs) ∙ ap (λ (ks : List Kept). length ks) e ∙ descriptions_many all_details i ys
 
-get_stays : (part : Part) → is_label_entry entries.Descriptions part ≡ false → (v : Bool) (xs : List Kept) (n : ℕ) → option_and_then (box_value part) (slice_get (if v then map plain_picture xs else xs) n) ≡ option_and_then (box_value part) (slice_get xs n)
-get_stays part e false xs n = refl
-get_stays part e true [] n = refl
-get_stays part e true (x ∷ xs) zero = part_stays part x e
-get_stays part e true (x ∷ xs) (suc n) = get_stays part e true xs n
+part_stays : (f : Kept → Kept) → ((k : Kept) → (f k).kind ≡ k.kind) → (part : Part) (k : Kept) → is_detail_entry entries.Descriptions part ≡ false → box_value part (f k) ≡ box_value part k
+part_stays f same parts.Kind k e = ap (λ (kind : List ℕ). Some (Kind (record { 0 = kind }))) (same k)
+part_stays f same parts.Length k e = absurd cc
+part_stays f same (parts.Byte j c) k e = absurd cc
+part_stays f same parts.SegmentDuration k e = refl
+part_stays f same parts.MediaTime k e = refl
+part_stays f same parts.RateInteger k e = refl
+part_stays f same parts.RateFraction k e = refl
 
-entry_stays : (part : Part) → is_label_entry entries.Descriptions part ≡ false → (h : List ℕ) (xs : List Kept) (n : ℕ) → option_and_then (box_value part) (member (plain_descriptions h xs) n) ≡ option_and_then (box_value part) (member xs n)
+get_stays : (f : Kept → Kept) → ((k : Kept) → (f k).kind ≡ k.kind) → (part : Part) → is_detail_entry entries.Descriptions part ≡ false → (xs : List Kept) (n : ℕ) → option_and_then (box_value part) (slice_get (map f xs) n) ≡ option_and_then (box_value part) (slice_get xs n)
+get_stays f same part e [] n = refl
+get_stays f same part e (x ∷ xs) zero = part_stays f same part x e
+get_stays f same part e (x ∷ xs) (suc n) = get_stays f same part e xs n
+
+plain_stays : (part : Part) → is_detail_entry entries.Descriptions part ≡ false → (v : Bool) (xs : List Kept) (n : ℕ) → option_and_then (box_value part) (slice_get (if v then map plain_picture xs else xs) n) ≡ option_and_then (box_value part) (slice_get xs n)
+plain_stays part e true xs n = get_stays plain_picture (λ k. refl) part e xs n
+plain_stays part e false xs n = refl
+
+entry_stays : (part : Part) → is_detail_entry entries.Descriptions part ≡ false → (h : List ℕ) (xs : List Kept) (n : ℕ) → option_and_then (box_value part) (member (less_details h xs) n) ≡ option_and_then (box_value part) (member xs n)
 entry_stays part e h xs zero = refl
-entry_stays part e h xs (suc n) = get_stays part e (is_picture h) xs n
+entry_stays part e h xs (suc n) = plain_stays part e (is_picture h) (unrated_descriptions h xs) n ∙ get_stays (unrated h) (λ k. refl) part e xs n
 
-parts_same : (part : Part) → is_label_entry entries.Descriptions part ≡ false → (h i : List ℕ) (xs ys : List Kept) (n : ℕ) → plain_descriptions h xs ≡ plain_descriptions i ys
+parts_same : (part : Part) → is_detail_entry entries.Descriptions part ≡ false → (h i : List ℕ) (xs ys : List Kept) (n : ℕ) → less_details h xs ≡ less_details i ys
     → option_and_then (box_value part) (member xs n) ≡ option_and_then (box_value part) (member ys n)
 parts_same part e h i xs ys n same = sym (entry_stays part e h xs n) ∙ ap (λ (ks : List Kept). option_and_then (box_value part) (member ks n)) same ∙ entry_stays part e i ys n
 
@@ -168,7 +161,7 @@ module _ (k : Without) where
         (many_same s.head.media.handler t.head.media.handler s.head.media.descriptions t.head.media.descriptions h.head.media.left_descriptions) u v ne)
     count_left entries.GroupDescriptions x y u v ne = unless k.groups s.head.group_descriptions t.head.group_descriptions x y of_count h.head.group_descriptions u v ne
 
-    entry_same : (n : ℕ) (part : Part) → is_label_entry entries.Descriptions part ≡ false → (x y : Value) → option_and_then (box_value part) (member s.head.media.descriptions n) ≡ Some x → option_and_then (box_value part) (member t.head.media.descriptions n) ≡ Some y → same_value x y ≡ false → ⊥
+    entry_same : (n : ℕ) (part : Part) → is_detail_entry entries.Descriptions part ≡ false → (x y : Value) → option_and_then (box_value part) (member s.head.media.descriptions n) ≡ Some x → option_and_then (box_value part) (member t.head.media.descriptions n) ≡ Some y → same_value x y ≡ false → ⊥
     entry_same n part e x y u v ne = no_two (option_and_then (box_value part) (member s.head.media.descriptions n)) (option_and_then (box_value part) (member t.head.media.descriptions n)) x y (λ o. o)
         (parts_same part e s.head.media.handler t.head.media.handler s.head.media.descriptions t.head.media.descriptions n h.head.media.left_descriptions) u v ne
 
@@ -178,9 +171,9 @@ module _ (k : Without) where
     entry_left entries.Handler n part x y u v ne = unless k.labels s.head.media.handler t.head.media.handler x y (λ a. option_and_then (payload_value part) (member (a ∷ []) n)) h.head.media.handler u v ne
     entry_left entries.ExtendedLanguages n part x y u v ne = absurd (no_two s.head.media.extended_languages t.head.media.extended_languages x y (λ xs. option_and_then (payload_value part) (member xs n)) h.head.media.extended_languages u v ne)
     entry_left entries.MediaHeader n part x y u v ne = absurd (no_two s.head.media.header t.head.media.header x y (λ a. option_and_then (box_value part) (member (a ∷ []) n)) h.head.media.header u v ne)
-    entry_left entries.Descriptions n (parts.Byte j c) x y u v ne = unless k.labels s.head.media.descriptions t.head.media.descriptions x y (λ xs. option_and_then (box_value (parts.Byte j c)) (member xs n)) h.head.media.descriptions u v ne
+    entry_left entries.Descriptions n (parts.Byte j c) x y u v ne = refl
     entry_left entries.Descriptions n parts.Kind x y u v ne = absurd (entry_same n parts.Kind refl x y u v ne)
-    entry_left entries.Descriptions n parts.Length x y u v ne = absurd (entry_same n parts.Length refl x y u v ne)
+    entry_left entries.Descriptions n parts.Length x y u v ne = refl
     entry_left entries.Descriptions n parts.SegmentDuration x y u v ne = absurd (entry_same n parts.SegmentDuration refl x y u v ne)
     entry_left entries.Descriptions n parts.MediaTime x y u v ne = absurd (entry_same n parts.MediaTime refl x y u v ne)
     entry_left entries.Descriptions n parts.RateInteger x y u v ne = absurd (entry_same n parts.RateInteger refl x y u v ne)
@@ -321,10 +314,10 @@ counted_yes kind d ds e = sum_by-cons (one_if kind) d ds ∙ ap (λ (b : Bool). 
 counted_no : (kind : KindOf) (d : Difference) (ds : List Difference) → (kind_place (kind_of_difference d) == kind_place kind) ≡ false → count_of_kind kind (d ∷ ds) ≡ count_of_kind kind ds
 counted_no kind d ds e = sum_by-cons (one_if kind) d ds ∙ ap (λ (b : Bool). (if b then 1 else 0) + count_of_kind kind ds) e ∙ add_none (count_of_kind kind ds)
 
--- names for people are of heads
+-- handlers and descriptions are of heads
 label_heads : (of : Subject) (field : Field) → is_label_field field ≡ true → kind_of_field of field ≡ kinds.Heads
 label_heads of (fields.Entry entries.Handler n part) e = refl
-label_heads of (fields.Entry entries.Descriptions n part) e = refl
+label_heads of (fields.Entry entries.Descriptions n part) e = absurd cc
 label_heads of (fields.Entry entries.Edits n part) e = absurd cc
 label_heads of (fields.Entry entries.Kept n part) e = absurd cc
 label_heads of (fields.Entry entries.ExtendedLanguages n part) e = absurd cc
@@ -332,13 +325,27 @@ label_heads of (fields.Entry entries.MediaHeader n part) e = absurd cc
 label_heads of (fields.Entry entries.GroupDescriptions n part) e = absurd cc
 label_heads of _ e = absurd cc
 
+detail_heads : (of : Subject) (field : Field) → is_detail_field field ≡ true → kind_of_field of field ≡ kinds.Heads
+detail_heads of (fields.Entry entries.Descriptions n part) e = refl
+detail_heads of (fields.Entry entries.Handler n part) e = absurd cc
+detail_heads of (fields.Entry entries.Edits n part) e = absurd cc
+detail_heads of (fields.Entry entries.Kept n part) e = absurd cc
+detail_heads of (fields.Entry entries.ExtendedLanguages n part) e = absurd cc
+detail_heads of (fields.Entry entries.MediaHeader n part) e = absurd cc
+detail_heads of (fields.Entry entries.GroupDescriptions n part) e = absurd cc
+detail_heads of _ e = absurd cc
+
+-- a difference of neither is left out by the word for its kind
+by_kind : (k : Without) (d : Difference) → left_at k d.subject d.field ≡ true → is_label d ≡ false → is_detail d ≡ false → left_out k (kind_of_difference d) ≡ true
+by_kind k d h e f = sym (ap (λ (b : Bool). if b then true else left_out k (kind_of_difference d)) f) ∙ sym (ap (λ (b : Bool). if b then k.labels else (if is_detail d then true else left_out k (kind_of_difference d))) e) ∙ h
+
 -- the word for a kind that isn't that of heads
 left_kind : (k : Without) (d : Difference) → left_at k d.subject d.field ≡ true → (kind_place (kind_of_difference d) == kind_place kinds.Heads) ≡ false → left_out k (kind_of_difference d) ≡ true
-left_kind k d h other = by (is_label d) refl
+left_kind k d h other = by_kind k d h (no_head (is_label d) (label_heads d.subject d.field)) (no_head (is_detail d) (detail_heads d.subject d.field))
   where
-    by : (b : Bool) → is_label d ≡ b → left_out k (kind_of_difference d) ≡ true
-    by true e = absurd (true_false (kind_place (kind_of_difference d) == kind_place kinds.Heads) (ap (λ (kind : KindOf). kind_place kind == kind_place kinds.Heads) (label_heads d.subject d.field e)) other)
-    by false e = sym (ap (λ (b : Bool). if b then k.labels else left_out k (kind_of_difference d)) e) ∙ h
+    no_head : (b : Bool) → (b ≡ true → kind_of_difference d ≡ kinds.Heads) → b ≡ false
+    no_head true f = absurd (true_false (kind_place (kind_of_difference d) == kind_place kinds.Heads) (ap (λ (kind : KindOf). kind_place kind == kind_place kinds.Heads) (f refl)) other)
+    no_head false f = refl
 
 -- where all are left out there is none of such a kind that isn't
 none_counted : (k : Without) (kind : KindOf) (ds : List Difference) → left_out k kind ≡ false → (kind_place kind == kind_place kinds.Heads) ≡ false → AllByRecursion (IsLeft k) ds → count_of_kind kind ds ≡ 0
@@ -355,25 +362,25 @@ none_counted k kind (d ∷ ds) e o h = by (kind_place (kind_of_difference d) == 
 none_had : (k : Without) (kind : KindOf) (ds : List Difference) → left_out k kind ≡ false → (kind_place kind == kind_place kinds.Heads) ≡ false → AllByRecursion (IsLeft k) ds → has kind ds ≡ false
 none_had k kind ds e o h = rw (none_counted k kind ds e o h) refl
 
--- none is of a head but of names for people
+-- none is of a head but of handlers and details
 none_fixed : (k : Without) (ds : List Difference) → AllByRecursion (IsLeft k) ds → list_any is_fixed ds ≡ false
 none_fixed k [] h = refl
-none_fixed k (d ∷ ds) h = rw (one (is_label d) refl, none_fixed k ds h.1) refl
+none_fixed k (d ∷ ds) h = rw (all_three (kind_place (kind_of_difference d) == kind_place kinds.Heads) (is_label d) (is_detail d) out, none_fixed k ds h.1) refl
   where
-    out : is_label d ≡ false → (b : Bool) → (kind_place (kind_of_difference d) == kind_place kinds.Heads) ≡ b → b ≡ false
-    out e true f =
+    all_three : (a b c : Bool) → (b ≡ false → c ≡ false → a ≡ false) → (a && not b && not c) ≡ false
+    all_three true true c f = refl
+    all_three true false true f = refl
+    all_three true false false f = absurd (true_false true refl (f refl refl))
+    all_three false b c f = refl
+
+    no_heads : (b : Bool) → (kind_place (kind_of_difference d) == kind_place kinds.Heads) ≡ b → left_out k (kind_of_difference d) ≡ true → b ≡ false
+    no_heads true f left =
         let place : kind_place (kind_of_difference d) ≡ kind_place kinds.Heads = eqb-true (kind_place (kind_of_difference d)) (kind_place kinds.Heads) f in
-        let left : left_out k (kind_of_difference d) ≡ true = sym (ap (λ (b : Bool). if b then k.labels else left_out k (kind_of_difference d)) e) ∙ h.0.0 in
         absurd (true_false (left_out k kinds.Heads) (left_placed k kinds.Heads ∙ ap (left_place k) (sym place) ∙ sym (left_placed k (kind_of_difference d)) ∙ left) refl)
-    out e false f = refl
+    no_heads false f left = refl
 
-    none_and : (b : Bool) → (b && false) ≡ false
-    none_and true = refl
-    none_and false = refl
-
-    one : (b : Bool) → is_label d ≡ b → is_fixed d ≡ false
-    one true e = ap (λ (v : Bool). (kind_place (kind_of_difference d) == kind_place kinds.Heads) && not v) e ∙ none_and (kind_place (kind_of_difference d) == kind_place kinds.Heads)
-    one false e = ap (λ (v : Bool). v && not (is_label d)) (out e (kind_place (kind_of_difference d) == kind_place kinds.Heads) refl)
+    out : is_label d ≡ false → is_detail d ≡ false → (kind_place (kind_of_difference d) == kind_place kinds.Heads) ≡ false
+    out e f = no_heads (kind_place (kind_of_difference d) == kind_place kinds.Heads) refl (by_kind k d h.0.0 e f)
 
 -- and none of these where they stay
 none_label : (k : Without) (ds : List Difference) → k.labels ≡ false → AllByRecursion (IsLeft k) ds → list_any is_label ds ≡ false
@@ -381,7 +388,7 @@ none_label k [] e h = refl
 none_label k (d ∷ ds) e h = rw (one (is_label d) refl, none_label k ds e h.1) refl
   where
     one : (b : Bool) → is_label d ≡ b → is_label d ≡ false
-    one true f = absurd (true_false k.labels (sym (ap (λ (b : Bool). if b then k.labels else left_out k (kind_of_difference d)) f) ∙ h.0.0) e)
+    one true f = absurd (true_false k.labels (sym (ap (λ (b : Bool). if b then k.labels else (if is_detail d then true else left_out k (kind_of_difference d))) f) ∙ h.0.0) e)
     one false f = f
 
 none_in_sync : (k : Without) (ds : List Difference) → AllByRecursion (IsLeft k) ds → list_any is_in_sync ds ≡ false
@@ -415,21 +422,36 @@ any_counted P kind (d ∷ ds) f (suc i, x, within, is, p) e = any_counted P kind
     by true match e = absurd (let one = counted_yes kind d ds match in omega (arith, one, e))
     by false other e = sym (counted_no kind d ds other) ∙ e
 
--- a difference at a place may be of a name where the place may
-byte_label : (list : Entries) (j m i n : ℕ) → is_label_entry list (parts.Byte j m) ≡ is_label_entry list (parts.Byte i n)
-byte_label entries.Handler j m i n = refl
-byte_label entries.Descriptions j m i n = refl
-byte_label entries.Edits j m i n = refl
-byte_label entries.Kept j m i n = refl
-byte_label entries.ExtendedLanguages j m i n = refl
-byte_label entries.MediaHeader j m i n = refl
-byte_label entries.GroupDescriptions j m i n = refl
+-- a difference at a place is of a handler, or of a detail, where the place is
+byte_label : (list : Entries) (n j m i c : ℕ) → is_label_field (fields.Entry list n (parts.Byte j m)) ≡ is_label_field (fields.Entry list n (parts.Byte i c))
+byte_label entries.Handler n j m i c = refl
+byte_label entries.Descriptions n j m i c = refl
+byte_label entries.Edits n j m i c = refl
+byte_label entries.Kept n j m i c = refl
+byte_label entries.ExtendedLanguages n j m i c = refl
+byte_label entries.MediaHeader n j m i c = refl
+byte_label entries.GroupDescriptions n j m i c = refl
+
+byte_detail : (list : Entries) (n j m i c : ℕ) → is_detail_field (fields.Entry list n (parts.Byte j m)) ≡ is_detail_field (fields.Entry list n (parts.Byte i c))
+byte_detail entries.Handler n j m i c = refl
+byte_detail entries.Descriptions n j m i c = refl
+byte_detail entries.Edits n j m i c = refl
+byte_detail entries.Kept n j m i c = refl
+byte_detail entries.ExtendedLanguages n j m i c = refl
+byte_detail entries.MediaHeader n j m i c = refl
+byte_detail entries.GroupDescriptions n j m i c = refl
 
 label_same : (f g : Field) → IsSameBut f g → is_label_field f ≡ is_label_field g
 label_same f g (same_field e) = ap is_label_field e
 label_same f g (sample_byte j m k n e i) = ap is_label_field e ∙ ap is_label_field (sym i)
-label_same f g (entry_byte list n j m k c e i) = ap is_label_field e ∙ byte_label list j m k c ∙ ap is_label_field (sym i)
+label_same f g (entry_byte list n j m k c e i) = ap is_label_field e ∙ byte_label list n j m k c ∙ ap is_label_field (sym i)
 label_same f g (same_index a b r e i) = ap is_label_field e ∙ ap is_label_field (sym i)
+
+detail_same : (f g : Field) → IsSameBut f g → is_detail_field f ≡ is_detail_field g
+detail_same f g (same_field e) = ap is_detail_field e
+detail_same f g (sample_byte j m k n e i) = ap is_detail_field e ∙ ap is_detail_field (sym i)
+detail_same f g (entry_byte list n j m k c e i) = ap is_detail_field e ∙ byte_detail list n j m k c ∙ ap is_detail_field (sym i)
+detail_same f g (same_index a b r e i) = ap is_detail_field e ∙ ap is_detail_field (sym i)
 
 none_first : (a b : Bool) → (a || b) ≡ false → a ≡ false
 none_first true b e = absurd cc
@@ -439,10 +461,10 @@ none_behind : (a b : Bool) → (a || b) ≡ false → b ≡ false
 none_behind true b e = absurd cc
 none_behind false b e = e
 
-any_label : (P : Difference → Type 0) (ds : List Difference) → ((d : Difference) → P d → is_label d ≡ true) → Any P ds → list_any is_label ds ≡ false → ⊥
-any_label P [] f h e = let within = h.2 in omega (arith, within)
-any_label P (d ∷ ds) f (zero, x, within, is, p) e = true_false (is_label d) (ap is_label is ∙ f x p) (none_first (is_label d) (list_any is_label ds) e)
-any_label P (d ∷ ds) f (suc i, x, within, is, p) e = any_label P ds f (i, x, omega (arith, within), is, p) (none_behind (is_label d) (list_any is_label ds) e)
+any_such : (P : Difference → Type 0) (such : Difference → Bool) (ds : List Difference) → ((d : Difference) → P d → such d ≡ true) → Any P ds → list_any such ds ≡ false → ⊥
+any_such P such [] f h e = let within = h.2 in omega (arith, within)
+any_such P such (d ∷ ds) f (zero, x, within, is, p) e = true_false (such d) (ap such is ∙ f x p) (none_first (such d) (list_any such ds) e)
+any_such P such (d ∷ ds) f (suc i, x, within, is, p) e = any_such P such ds f (i, x, omega (arith, within), is, p) (none_behind (such d) (list_any such ds) e)
 
 none_of : (kind : KindOf) (ds : List Difference) → has kind ds ≡ false → count_of_kind kind ds ≡ 0
 none_of kind ds e = by (count_of_kind kind ds) refl
@@ -462,13 +484,13 @@ module _ (p q : Presentation) where
           (λ d h. ap (λ s. kind_of_field s d.field) h.0 ∙ kind_same of d.field field h.1)
           (differences_are_all p q of field x y u v e) (none_of (kind_of_field of field) (differences p q) none))
 
-  -- the same of names for people
-  label_at : (of : Subject) (field : Field) (x y : Value) → value_at p of field ≡ Some x → value_at q of field ≡ Some y → is_label_field field ≡ true → list_any is_label (differences p q) ≡ false → x ≡ y
-  label_at of field x y u v label none = by (same_value x y) refl
+  -- the same of handlers and details
+  such_at : (such : Field → Bool) → ((f g : Field) → IsSameBut f g → such f ≡ such g) → (of : Subject) (field : Field) (x y : Value) → value_at p of field ≡ Some x → value_at q of field ≡ Some y → such field ≡ true → list_any (λ (d : Difference). such d.field) (differences p q) ≡ false → x ≡ y
+  such_at such same of field x y u v is none = by (same_value x y) refl
     where
       by : (b : Bool) → same_value x y ≡ b → x ≡ y
       by true e = (same_value_is_equal x y).0 e
-      by false e = absurd (any_label (λ (d : Difference). (d.subject ≡ of) × IsSameBut d.field field) (differences p q) (λ d h. label_same d.field field h.1 ∙ label) (differences_are_all p q of field x y u v e) none)
+      by false e = absurd (any_such (λ (d : Difference). (d.subject ≡ of) × IsSameBut d.field field) (λ (d : Difference). such d.field) (differences p q) (λ d h. same d.field field h.1 ∙ is) (differences_are_all p q of field x y u v e) none)
 
 abbrev number_of : Value → ℕ
 number_of (Number n) = n
@@ -539,9 +561,20 @@ zip_better R S [] (y ∷ ys) z f = absurd z
 zip_better R S (x ∷ xs) [] z f = absurd z
 zip_better R S (x ∷ xs) (y ∷ ys) z f = (f 0 x y refl refl z.0, zip_better R S xs ys z.1 (λ k a b e g r. f (suc k) a b e g r))
 
--- Two presentations agree without some words if they agree without others, and no difference is listed that the first don't leave out.
-module _ (s k : Without) (p q : Presentation) (h : Agree k p q) (plain : IsAllPlain p) (other : IsAllPlain q) (none : (kind : KindOf) → left_out s kind ≡ false → (kind_place kind == kind_place kinds.Heads) ≡ false → has kind (differences p q) ≡ false) (no_label : s.labels ≡ false
-    → list_any is_label (differences p q) ≡ false) where
+-- The payloads of two media agree, but for what is left of them without all details.
+record PayloadsAgree (s : Without) (a b : Media) : Type 0 where
+  handler : s.labels ≡ false → a.handler ≡ b.handler
+  descriptions : s.labels ≡ false → s.bitrates ≡ false → a.descriptions ≡ b.descriptions
+  plain : s.bitrates ≡ false → plain_descriptions a.handler a.descriptions ≡ plain_descriptions b.handler b.descriptions
+  unrated : s.labels ≡ false → unrated_descriptions a.handler a.descriptions ≡ unrated_descriptions b.handler b.descriptions
+
+-- those of each two tracks
+abbrev EachPayloadsAgree : Without → Without → Presentation → Presentation → Type 0
+EachPayloadsAgree s k p q = (n : ℕ) (a b : Track) → member p.tracks n ≡ Some a → member q.tracks n ≡ Some b → TracksAgree k a b → PayloadsAgree s a.head.media b.head.media
+
+-- Two presentations agree without some words if they agree without others, no difference is listed that the first don't leave out, and the payloads of their media agree.
+module _ (s k : Without) (p q : Presentation) (h : Agree k p q) (plain : IsAllPlain p) (other : IsAllPlain q) (none : (kind : KindOf) → left_out s kind ≡ false → (kind_place kind == kind_place kinds.Heads) ≡ false → has kind (differences p q) ≡ false)
+    (payloads : EachPayloadsAgree s k p q) where
   at : (of : Subject) (field : Field) (x y : Value) → value_at p of field ≡ Some x → value_at q of field ≡ Some y → (kind_place (kind_of_field of field) == kind_place kinds.Heads) ≡ false → left_out s (kind_of_field of field) ≡ false → x ≡ y
   at of field x y u v o e = place_same p q of field x y u v (none (kind_of_field of field) e o)
 
@@ -565,28 +598,19 @@ module _ (s k : Without) (p q : Presentation) (h : Agree k p q) (plain : IsAllPl
     number_in : (field : Field) (m i : ℕ) → track_value a field ≡ Some (Number m) → track_value b field ≡ Some (Number i) → (kind_place (kind_of_field (subjects.Track n) field) == kind_place kinds.Heads) ≡ false → left_out s (kind_of_field (subjects.Track n) field) ≡ false → m ≡ i
     number_in field m i u v o out = ap number_of (in_track field (Number m) (Number i) u v o out)
 
-    in_label : (field : Field) (x y : Value) → track_value a field ≡ Some x → track_value b field ≡ Some y → is_label_field field ≡ true → s.labels ≡ false → x ≡ y
-    in_label field x y u v label out = label_at p q (subjects.Track n) field x y (ap (option_and_then (λ (t : Track). track_value t field)) e ∙ u) (ap (option_and_then (λ (t : Track). track_value t field)) f ∙ v) label (no_label out)
-
-    in_description : (i : ℕ) (part : Part) (x y : Value) → option_and_then (box_value part) (member a.head.media.descriptions i) ≡ Some x → option_and_then (box_value part) (member b.head.media.descriptions i) ≡ Some y → (w : Bool) → is_label_entry entries.Descriptions part ≡ w → s.labels ≡ false
-        → x ≡ y
-    in_description i part x y u v true label out = in_label (fields.Entry entries.Descriptions i part) x y u v label out
-    in_description i part x y u v false stays out =
-        let whole : Some x ≡ Some y = sym u ∙ parts_same part stays a.head.media.handler b.head.media.handler a.head.media.descriptions b.head.media.descriptions i r.head.media.left_descriptions ∙ v in
-        cc
-
     media_agree : MediaAgree s a.head.media b.head.media
-    media_agree = record {
+    media_agree = let these = payloads n a b e f r in record {
       timescale = r.head.media.timescale;
       language = r.head.media.language;
       extended_languages = r.head.media.extended_languages;
       header = r.head.media.header;
       creation = number_in fields.MediaCreation a.head.media.creation b.head.media.creation refl refl refl;
       modification = number_in fields.MediaModification a.head.media.modification b.head.media.modification refl refl refl;
-      handler = λ out. payload_same a.head.media.handler b.head.media.handler (λ part x y u v. in_label (fields.Entry entries.Handler 1 part) x y u v refl out);
+      handler = these.handler;
       left_handler = r.head.media.left_handler;
-      descriptions = λ out. boxes_same a.head.media.descriptions b.head.media.descriptions (many_same a.head.media.handler b.head.media.handler a.head.media.descriptions b.head.media.descriptions r.head.media.left_descriptions)
-          (λ i part x y u v. in_description i part x y u v (is_label_entry entries.Descriptions part) refl out);
+      descriptions = these.descriptions;
+      plain = these.plain;
+      unrated = these.unrated;
       left_descriptions = r.head.media.left_descriptions;
     }
 
@@ -647,7 +671,217 @@ module _ (s k : Without) (p q : Presentation) (h : Agree k p q) (plain : IsAllPl
         (λ i a b e f r. track_agrees (suc i) a b e f r (all_get IsPlain p.tracks i a plain.tracks e) (all_get IsPlain q.tracks i b other.tracks f));
   }
 
--- ---- the words that are suggested
+-- ---- payloads that agree
+
+-- where no more of them stays
+payloads_stay : (s k : Without) (p q : Presentation) → (s.labels ≡ false → k.labels ≡ false) → (s.bitrates ≡ false → k.bitrates ≡ false) → EachPayloadsAgree s k p q
+payloads_stay s k p q labels rates n a b e f r = record {
+  handler = λ out. r.head.media.handler (labels out);
+  descriptions = λ out stay. r.head.media.descriptions (labels out) (rates stay);
+  plain = λ stay. r.head.media.plain (rates stay);
+  unrated = λ out. r.head.media.unrated (labels out);
+}
+
+-- where none of their differences is listed
+payloads_same_in : (s k : Without) (p q : Presentation) → (s.labels ≡ false → list_any is_label (differences p q) ≡ false) → list_any is_detail (differences p q) ≡ false → EachPayloadsAgree s k p q
+payloads_same_in s k p q no_label no_detail n a b e f r =
+    let in_track : (field : Field) (x : Value) → track_value a field ≡ Some x → value_at p (subjects.Track n) field ≡ Some x = λ field x u. ap (option_and_then (λ (t : Track). track_value t field)) e ∙ u in
+    let in_other : (field : Field) (y : Value) → track_value b field ≡ Some y → value_at q (subjects.Track n) field ≡ Some y = λ field y v. ap (option_and_then (λ (t : Track). track_value t field)) f ∙ v in
+    let part_same : (i : ℕ) (part : Part) (x y : Value) → option_and_then (box_value part) (member a.head.media.descriptions i) ≡ Some x → option_and_then (box_value part) (member b.head.media.descriptions i) ≡ Some y → (w : Bool) → is_detail_entry entries.Descriptions part ≡ w → x ≡ y =
+    λ i part x y u v w. detail_or_not part w (λ is. such_at p q is_detail_field detail_same (subjects.Track n) (fields.Entry entries.Descriptions i part) x y (in_track (fields.Entry entries.Descriptions i part) x u) (in_other (fields.Entry entries.Descriptions i part) y v) is no_detail)
+    (λ stays. some_same x y (sym u ∙ parts_same part stays a.head.media.handler b.head.media.handler a.head.media.descriptions b.head.media.descriptions i r.head.media.left_descriptions ∙ v)) in
+    let same : a.head.media.descriptions ≡ b.head.media.descriptions =
+    boxes_same a.head.media.descriptions b.head.media.descriptions (many_same a.head.media.handler b.head.media.handler a.head.media.descriptions b.head.media.descriptions r.head.media.left_descriptions)
+    (λ i part x y u v. part_same i part x y u v (is_detail_entry entries.Descriptions part) refl) in
+    let kind : handler_type a.head.media.handler ≡ handler_type b.head.media.handler = type_of_left a.head.media.handler b.head.media.handler a.head.media.descriptions b.head.media.descriptions true r.head.media.left_handler in
+    record {
+      handler = λ out. payload_same a.head.media.handler b.head.media.handler (λ part x y u v. such_at p q is_label_field label_same (subjects.Track n) (fields.Entry entries.Handler 1 part) x y
+          (in_track (fields.Entry entries.Handler 1 part) x u) (in_other (fields.Entry entries.Handler 1 part) y v) refl (no_label out));
+      descriptions = λ out stay. same;
+      plain = λ stay. plain_of a.head.media.handler b.head.media.handler a.head.media.descriptions b.head.media.descriptions kind a.head.media.descriptions b.head.media.descriptions same;
+      unrated = λ out. unrated_of a.head.media.handler b.head.media.handler a.head.media.descriptions b.head.media.descriptions kind a.head.media.descriptions b.head.media.descriptions same;
+    }
+  where
+    some_same : (x y : Value) → Some x ≡ Some y → x ≡ y
+    some_same x y e = cc
+
+    detail_or_not : {A : Type 0} (part : Part) (w : Bool) → (is_detail_entry entries.Descriptions part ≡ true → A) → (is_detail_entry entries.Descriptions part ≡ false → A) → is_detail_entry entries.Descriptions part ≡ w → A
+    detail_or_not part true f g e = f e
+    detail_or_not part false f g e = g e
+
+-- ---- details that are the same
+
+abbrev descriptions_in : Presentation → List (List Kept)
+descriptions_in p = map (λ (t : Track). t.head.media.descriptions) p.tracks
+
+-- by the words that leave them out alone
+same_by_words : (l k : Without) → l.labels ≡ k.labels → l.bitrates ≡ k.bitrates → (tracks : List Track) → map (λ (t : Track). t.head.media.descriptions) (map (reduce_track l) tracks) ≡ map (λ (t : Track). t.head.media.descriptions) (map (reduce_track k) tracks)
+same_by_words l k e f [] = refl
+same_by_words l k e f (t ∷ tracks) = λ i. reduce_by (e i) (f i) t.head.media.handler t.head.media.descriptions ∷ same_by_words l k e f tracks i
+
+get_mapped_by : (g : Track → List Kept) (f : List Kept → Option Value) (xs : List Track) (n : ℕ) → option_and_then (λ (t : Track). f (g t)) (slice_get xs n) ≡ option_and_then f (slice_get (map g xs) n)
+get_mapped_by g f [] n = refl
+get_mapped_by g f (x ∷ xs) zero = refl
+get_mapped_by g f (x ∷ xs) (suc n) = get_mapped_by g f xs n
+
+member_mapped : (g : Track → List Kept) (f : List Kept → Option Value) (xs : List Track) (n : ℕ) → option_and_then (λ (t : Track). f (g t)) (member xs n) ≡ option_and_then f (member (map g xs) n)
+member_mapped g f xs zero = refl
+member_mapped g f xs (suc n) = get_mapped_by g f xs n
+
+module _ (p q : Presentation) (e : descriptions_in p ≡ descriptions_in q) where
+  entry_at : (n i : ℕ) (part : Part) (x y : Value) → value_at p (subjects.Track n) (fields.Entry entries.Descriptions i part) ≡ Some x → value_at q (subjects.Track n) (fields.Entry entries.Descriptions i part) ≡ Some y → x ≡ y
+  entry_at n i part x y u v =
+      let f = λ (ks : List Kept). option_and_then (box_value part) (member ks i) in
+      let one = member_mapped (λ (t : Track). t.head.media.descriptions) f p.tracks n in
+      let other = member_mapped (λ (t : Track). t.head.media.descriptions) f q.tracks n in
+      let same : Some x ≡ Some y = sym u ∙ one ∙ ap (λ (kss : List (List Kept)). option_and_then f (member kss n)) e ∙ sym other ∙ v in
+      cc
+
+  sample_none : (n j : ℕ) (field : Field) (x : Value) → ((s : Sample) → sample_value s field ≡ None) → value_at p (subjects.Sample n j) field ≡ Some x → ⊥
+  sample_none n j field x none u =
+      let a = then_some (λ (t : Track). option_and_then (λ (s : Sample). sample_value s field) (member t.samples j)) (member p.tracks n) x u in
+      let c = then_some (λ (s : Sample). sample_value s field) (member a.0.samples j) x a.2 in
+      let no : Some x ≡ None = sym c.2 ∙ none c.0 in
+      absurd cc
+
+  entry_same_in : (of : Subject) (i : ℕ) (part : Part) (x y : Value) → value_at p of (fields.Entry entries.Descriptions i part) ≡ Some x → value_at q of (fields.Entry entries.Descriptions i part) ≡ Some y → x ≡ y
+  entry_same_in subjects.Movie i part x y u v = absurd cc
+  entry_same_in (subjects.Track n) i part x y u v = entry_at n i part x y u v
+  entry_same_in (subjects.Sample n j) i part x y u v = absurd (sample_none n j (fields.Entry entries.Descriptions i part) x (λ s. refl) u)
+
+  detail_at : (of : Subject) (field : Field) (x y : Value) → is_detail_field field ≡ true → value_at p of field ≡ Some x → value_at q of field ≡ Some y → x ≡ y
+  detail_at of (fields.Entry entries.Descriptions i part) x y is u v = entry_same_in of i part x y u v
+  detail_at of (fields.Entry entries.Handler i part) x y is u v = absurd cc
+  detail_at of (fields.Entry entries.Edits i part) x y is u v = absurd cc
+  detail_at of (fields.Entry entries.Kept i part) x y is u v = absurd cc
+  detail_at of (fields.Entry entries.ExtendedLanguages i part) x y is u v = absurd cc
+  detail_at of (fields.Entry entries.MediaHeader i part) x y is u v = absurd cc
+  detail_at of (fields.Entry entries.GroupDescriptions i part) x y is u v = absurd cc
+  detail_at of _ x y is u v = absurd cc
+
+  no_details : (ds : List Difference) → AllByRecursion IsOneDifference ds → AllByRecursion (IsTheirs p q) ds → list_any is_detail ds ≡ false
+  no_details [] one theirs = refl
+  no_details (d ∷ ds) one theirs = rw (no_detail (is_detail d) refl, no_details ds one.1 theirs.1) refl
+    where
+      no_detail : (b : Bool) → is_detail d ≡ b → is_detail d ≡ false
+      no_detail true is = absurd (true_false (same_value d.left d.right) ((same_value_is_equal d.left d.right).1 (detail_at d.subject d.field d.left d.right is theirs.0.0 theirs.0.1)) one.0)
+      no_detail false is = is
+
+-- ---- words that are tried
+
+-- one of these
+abbrev pub IsIn : Without → List Without → Type 0
+IsIn s [] = ⊥
+IsIn s (x ∷ xs) = (s ≡ x) ⊎ IsIn s xs
+
+-- what is within something else stands before it
+abbrev pub IsOrdered : List Without → Type 0
+IsOrdered [] = Unit {0}
+IsOrdered (x ∷ xs) = AllByRecursion (λ (y : Without). Covers y x → y ≡ x) xs × IsOrdered xs
+
+or_false : (a : Bool) → (a || false) ≡ a
+or_false true = refl
+or_false false = refl
+
+-- words that may leave out details: by those that are left out already, by the first words, and by how these are joined
+abbrev tries : Bool → Bool → Bool → (Bool → Bool → Without) → List Without
+tries labels rates named f = (if labels then [] else f true rates ∷ []) ++ (if rates then [] else f named true ∷ []) ++ (if labels || rates then [] else f true true ∷ [])
+
+among : (labels rates more_labels more_rates found : Bool) (f : Bool → Bool → Without) → (labels || more_labels) ≡ more_labels → (rates || more_rates) ≡ more_rates → (labels ≡ more_labels → rates ≡ more_rates → ⊥)
+    → IsIn (f ((labels || found) || more_labels) (rates || more_rates)) (tries labels rates (labels || found) f)
+among true rates false more_rates found f e g never = absurd cc
+among true true true false found f e g never = absurd cc
+among true true true true found f e g never = absurd (never refl refl)
+among true false true false found f e g never = absurd (never refl refl)
+among true false true true found f e g never = inl refl
+among false true more_labels false found f e g never = absurd cc
+among false true false true found f e g never = absurd (never refl refl)
+among false true true true found f e g never = inl (ap (λ a. f a true) (or_true found))
+among false false false false found f e g never = absurd (never refl refl)
+among false false true false found f e g never = inl (ap (λ a. f a false) (or_true found))
+among false false false true found f e g never = inr (inl (ap (λ a. f a true) (or_false found)))
+among false false true true found f e g never = inr (inr (inl (ap (λ a. f a true) (or_true found))))
+
+ordered : (labels rates named : Bool) (f : Bool → Bool → Without) → ((a b : Bool) → (f a b).labels ≡ a) → ((a b : Bool) → (f a b).bitrates ≡ b) → IsOrdered (tries labels rates named f)
+ordered true true named f x y = tt
+ordered true false named f x y = (tt, tt)
+ordered false true named f x y = (tt, tt)
+ordered false false named f x y = ((λ c. absurd (no_rates named c), (λ c. absurd (no_rates true c), tt)), ((λ c. ap (λ a. f a true) (sym (named_so c)), tt), (tt, tt)))
+  where
+    no_rates : (a : Bool) → Covers (f a true) (f true false) → ⊥
+    no_rates a c =
+        let e : ((f a true).bitrates || (f true false).bitrates) ≡ (f true false).bitrates = ap (λ (w : Without). w.bitrates) c in
+        let g : (true || false) ≡ false = (λ i. sym (y a true) i || sym (y true false) i) ∙ e ∙ y true false in
+        absurd cc
+
+    named_so : Covers (f true true) (f named true) → named ≡ true
+    named_so c =
+        let e : ((f true true).labels || (f named true).labels) ≡ (f named true).labels = ap (λ (w : Without). w.labels) c in
+        let g : (true || named) ≡ named = (λ i. sym (x true true) i || sym (x named true) i) ∙ e ∙ x named true in
+        sym g
+
+-- with the words for all but details, these two as they are given
+abbrev with_two : Without → List Difference → Bool → Bool → Without
+with_two l ds labels rates = record (needed l ds) { bitrates = rates; labels = labels }
+
+-- each leaves out what was left out already
+or_twice_same : (a : Bool) → (a || a) ≡ a
+or_twice_same true = refl
+or_twice_same false = refl
+
+covers_two : (l : Without) (ds : List Difference) (labels rates : Bool) → (l.labels || labels) ≡ labels → (l.bitrates || rates) ≡ rates → Covers l (with_two l ds labels rates)
+covers_two l ds labels rates e f i = record {
+  times = or_twice l.times (has kinds.Times ds) i;
+  edits = or_twice l.edits (has kinds.Edits ds) i;
+  flags = or_twice l.flags (has kinds.Flags ds) i;
+  groups = or_twice l.groups (has kinds.Groups ds) i;
+  metadata = or_twice l.metadata (has kinds.Kept ds) i;
+  bitrates = f i;
+  labels = e i;
+}
+
+each_covers : (l : Without) (ds : List Difference) (labels rates : Bool)
+    → AllByRecursion (Covers l) ((if labels then [] else with_two l ds true l.bitrates ∷ []) ++ (if rates then [] else with_two l ds (l.labels || list_any is_label ds) true ∷ []) ++ (if labels || rates then [] else with_two l ds true true ∷ []))
+each_covers l ds labels rates = by labels rates
+  where
+    first : Covers l (with_two l ds true l.bitrates)
+    first = covers_two l ds true l.bitrates (or_true l.labels) (or_twice_same l.bitrates)
+
+    second : Covers l (with_two l ds (l.labels || list_any is_label ds) true)
+    second = covers_two l ds (l.labels || list_any is_label ds) true (or_twice l.labels (list_any is_label ds)) (or_true l.bitrates)
+
+    third : Covers l (with_two l ds true true)
+    third = covers_two l ds true true (or_true l.labels) (or_true l.bitrates)
+
+    by : (labels rates : Bool) → AllByRecursion (Covers l) ((if labels then [] else with_two l ds true l.bitrates ∷ []) ++ (if rates then [] else with_two l ds (l.labels || list_any is_label ds) true ∷ []) ++ (if labels || rates then [] else with_two l ds true true ∷ []))
+    by true true = tt
+    by true false = (second, tt)
+    by false true = (first, tt)
+    by false false = (first, (second, (third, tt)))
+
+candidates_so : (P : List Without → Type 0) (l : Without) (ds : List Difference) → P [] → P (with_details l (needed l ds)) → P (needed l ds ∷ []) → P (candidates l ds)
+candidates_so P l ds none details one = by (differ_in_all ds) (list_any is_detail ds)
+  where
+    by : (a b : Bool) → P (if a then [] else if b then with_details l (needed l ds) else needed l ds ∷ [])
+    by true b = none
+    by false true = details
+    by false false = one
+
+pub candidates_cover : (l : Without) (ds : List Difference) → AllByRecursion (Covers l) (candidates l ds)
+candidates_cover l ds = candidates_so (AllByRecursion (Covers l)) l ds tt (each_covers l ds l.labels l.bitrates)
+    (covers_two l ds (l.labels || list_any is_label ds) l.bitrates (or_twice l.labels (list_any is_label ds)) (or_twice_same l.bitrates), tt)
+
+pub candidates_few : (l : Without) (ds : List Difference) → length (candidates l ds) ≤ 3
+candidates_few l ds = candidates_so (λ (xs : List Without). length xs ≤ 3) l ds (omega arith) (by l.labels l.bitrates) (omega arith)
+  where
+    by : (labels rates : Bool) → length (tries labels rates (l.labels || list_any is_label ds) (with_two l ds)) ≤ 3
+    by true true = omega arith
+    by true false = omega arith
+    by false true = omega arith
+    by false false = omega arith
+
+pub candidates_ordered : (l : Without) (ds : List Difference) → IsOrdered (candidates l ds)
+candidates_ordered l ds = candidates_so IsOrdered l ds tt (ordered l.labels l.bitrates (l.labels || list_any is_label ds) (with_two l ds) (λ a b. refl) (λ a b. refl)) (tt, tt)
 
 covered : (a h k : Bool) → (a || k) ≡ k → (k ≡ false → h ≡ false) → ((a || h) || k) ≡ k
 covered a h true e f = or_true (a || h)
@@ -658,51 +892,130 @@ none_right : (a b : Bool) → (a || b) ≡ false → b ≡ false
 none_right true b e = absurd cc
 none_right false b e = e
 
--- Where the same is left of both with more words than were given, words are suggested, each of which is among these, and the same is left of both with them.
-pub words_suggested : (l k : Without) (p q : Presentation) → Valid p → Valid q → Covers l k → reduce k p ≡ reduce k q
-    → (s : Without) × (suggested l (differences (reduce l p) (reduce l q)) ≡ Some s) × Covers s k × (reduce s p ≡ reduce s q)
-words_suggested l k p q v w c e =
-    let ds = differences (reduce l p) (reduce l q) in
-    let same : reduce k (reduce l p) ≡ reduce k (reduce l q) = sym (reduced_more l k p c) ∙ e ∙ reduced_more l k q c in
-    let h = (reduce_is_exact k (reduce l p) (reduce l q)).0 same in
-    let left = each_left k (reduce l p) (reduce l q) h ds (each_difference_is_one (reduce l p) (reduce l q)) (differences_are_theirs (reduce l p) (reduce l q)) in
-    let s = both l (words_for ds) in
-    let agree = all_agree s k (reduce l p) (reduce l q) h (all_plain l p v) (all_plain l q w) (not_had k l ds left) (λ out. none_right l.labels (list_any is_label ds) out) in
-    let more = covers_more l (words_for ds) in (
-      s,
-      rw (all_left k ds left) refl,
-      λ i. record {
-        times = covered l.times (has kinds.Times ds) k.times (ap (λ (x : Without). x.times) c) (λ out. none_had k kinds.Times ds out refl left) i;
-        edits = covered l.edits (has kinds.Edits ds) k.edits (ap (λ (x : Without). x.edits) c) (λ out. none_had k kinds.Edits ds out refl left) i;
-        flags = covered l.flags (has kinds.Flags ds) k.flags (ap (λ (x : Without). x.flags) c) (λ out. none_had k kinds.Flags ds out refl left) i;
-        groups = covered l.groups (has kinds.Groups ds) k.groups (ap (λ (x : Without). x.groups) c) (λ out. none_had k kinds.Groups ds out refl left) i;
-        metadata = covered l.metadata (has kinds.Kept ds) k.metadata (ap (λ (x : Without). x.metadata) c) (λ out. none_had k kinds.Kept ds out refl left) i;
-        labels = covered l.labels (list_any is_label ds) k.labels (ap (λ (x : Without). x.labels) c) (λ out. none_label k ds out left) i;
-      },
-      reduced_more l s p more ∙ (reduce_is_exact s (reduce l p) (reduce l q)).1 agree ∙ sym (reduced_more l s q more),
-    )
-  where
-    not_had : (k l : Without) (ds : List Difference) → AllByRecursion (IsLeft k) ds → (kind : KindOf) → left_out (both l (words_for ds)) kind ≡ false → (kind_place kind == kind_place kinds.Heads) ≡ false → has kind ds ≡ false
-    not_had k l ds left kinds.Times e o = none_right l.times (has kinds.Times ds) e
-    not_had k l ds left kinds.Edits e o = none_right l.edits (has kinds.Edits ds) e
-    not_had k l ds left kinds.Flags e o = none_right l.flags (has kinds.Flags ds) e
-    not_had k l ds left kinds.Groups e o = none_right l.groups (has kinds.Groups ds) e
-    not_had k l ds left kinds.Kept e o = none_right l.metadata (has kinds.Kept ds) e
-    not_had k l ds left kinds.Heads e o = absurd cc
-    not_had k l ds left kinds.Samples e o = none_had k kinds.Samples ds refl refl left
-    not_had k l ds left kinds.Bytes e o = none_had k kinds.Bytes ds refl refl left
+-- a word that both have, or the second
+joined : (a h k : Bool) → (a || k) ≡ k → (k ≡ false → h ≡ false) → (((a || h) || k) || k) ≡ k
+joined a h k e f = ap (λ b. b || k) (covered a h k e f) ∙ or_twice_same k
 
 each_taken : (P : Difference → Type 0) (n : ℕ) (ds : List Difference) → AllByRecursion P ds → AllByRecursion P (take n ds)
 each_taken P zero ds h = tt
 each_taken P (suc n) [] h = tt
 each_taken P (suc n) (d ∷ ds) h = (h.0, each_taken P n ds h.1)
 
--- and some words are suggested by any first of the differences
-pub some_suggested : (l k : Without) (p q : Presentation) (n : ℕ) → Valid p → Valid q → Covers l k → reduce k p ≡ reduce k q
-    → (s : Without) × (suggested l (take n (differences (reduce l p) (reduce l q))) ≡ Some s)
-some_suggested l k p q n v w c e =
-    let ds = differences (reduce l p) (reduce l q) in
-    let same : reduce k (reduce l p) ≡ reduce k (reduce l q) = sym (reduced_more l k p c) ∙ e ∙ reduced_more l k q c in
-    let h = (reduce_is_exact k (reduce l p) (reduce l q)).0 same in
-    let left = each_left k (reduce l p) (reduce l q) h ds (each_difference_is_one (reduce l p) (reduce l q)) (differences_are_theirs (reduce l p) (reduce l q)) in
-    (both l (words_for (take n ds)), rw (all_left k (take n ds) (each_taken (IsLeft k) n ds left)) refl)
+-- Where the same is left of both with more words than were given.
+module _ (l k : Without) (p q : Presentation) (v : Valid p) (w : Valid q) (c : Covers l k) (e : reduce k p ≡ reduce k q) where
+  abbrev left_p : Presentation
+  left_p = reduce l p
+
+  abbrev left_q : Presentation
+  left_q = reduce l q
+
+  same_more : reduce k left_p ≡ reduce k left_q
+  same_more = sym (reduced_more l k p c) ∙ e ∙ reduced_more l k q c
+
+  agree_more : Agree k left_p left_q
+  agree_more = (reduce_is_exact k left_p left_q).0 same_more
+
+  all_are_left : AllByRecursion (IsLeft k) (differences left_p left_q)
+  all_are_left = each_left k left_p left_q agree_more (differences left_p left_q) (each_difference_is_one left_p left_q) (differences_are_theirs left_p left_q)
+
+  -- details differ only if a word for them is one more
+  details_more : (n : ℕ) → list_any is_detail (take n (differences left_p left_q)) ≡ true → l.labels ≡ k.labels → l.bitrates ≡ k.bitrates → ⊥
+  details_more n some labels rates =
+      let descriptions : descriptions_in left_p ≡ descriptions_in left_q = same_by_words l k labels rates p.tracks ∙ ap descriptions_in e ∙ sym (same_by_words l k labels rates q.tracks) in
+      true_false (list_any is_detail (take n (differences left_p left_q))) some (no_details left_p left_q descriptions (take n (differences left_p left_q))
+      (each_taken IsOneDifference n (differences left_p left_q) (each_difference_is_one left_p left_q)) (each_taken (IsTheirs left_p left_q) n (differences left_p left_q) (differences_are_theirs left_p left_q)))
+
+  labels_more : (l.labels || k.labels) ≡ k.labels
+  labels_more = ap (λ (x : Without). x.labels) c
+
+  rates_more : (l.bitrates || k.bitrates) ≡ k.bitrates
+  rates_more = ap (λ (x : Without). x.bitrates) c
+
+  abbrev some_first : ℕ → List Difference
+  some_first n = take n (differences left_p left_q)
+
+  not_none : (xs : List Without) (s : Without) → IsIn s xs → xs ≡ [] → ⊥
+  not_none [] s is e = is
+  not_none (x ∷ xs) s is e = absurd cc
+
+  -- by any first of the differences some words are tried
+  pub some_tried : (n : ℕ) → candidates l (some_first n) ≡ [] → ⊥
+  some_tried n none = by (list_any is_detail (some_first n)) refl
+    where
+      calm : differ_in_all (some_first n) ≡ false
+      calm = all_left k (some_first n) (each_taken (IsLeft k) n (differences left_p left_q) all_are_left)
+
+      by : (b : Bool) → list_any is_detail (some_first n) ≡ b → ⊥
+      by true some =
+          let list : candidates l (some_first n) ≡ with_details l (needed l (some_first n)) = rw (calm, some) refl in
+          let is = among l.labels l.bitrates k.labels k.bitrates (list_any is_label (some_first n)) (with_two l (some_first n)) labels_more rates_more (details_more n some) in
+          not_none (with_details l (needed l (some_first n))) (with_two l (some_first n) ((l.labels || list_any is_label (some_first n)) || k.labels) (l.bitrates || k.bitrates)) is (sym list ∙ none)
+      by false some =
+          let list : candidates l (some_first n) ≡ needed l (some_first n) ∷ [] = rw (calm, some) refl in
+          not_none (needed l (some_first n) ∷ []) (needed l (some_first n)) (inl refl) (sym list ∙ none)
+
+  abbrev all : List Difference
+  all = differences left_p left_q
+
+  not_had : (labels rates : Bool) (kind : KindOf) → left_out (with_two l all labels rates) kind ≡ false → (kind_place kind == kind_place kinds.Heads) ≡ false → has kind all ≡ false
+  not_had labels rates kinds.Times e o = none_right l.times (has kinds.Times all) e
+  not_had labels rates kinds.Edits e o = none_right l.edits (has kinds.Edits all) e
+  not_had labels rates kinds.Flags e o = none_right l.flags (has kinds.Flags all) e
+  not_had labels rates kinds.Groups e o = none_right l.groups (has kinds.Groups all) e
+  not_had labels rates kinds.Kept e o = none_right l.metadata (has kinds.Kept all) e
+  not_had labels rates kinds.Heads e o = absurd cc
+  not_had labels rates kinds.Samples e o = none_had k kinds.Samples all refl refl all_are_left
+  not_had labels rates kinds.Bytes e o = none_had k kinds.Bytes all refl refl all_are_left
+
+  same_with : (labels rates : Bool) → Covers l (with_two l all labels rates) → EachPayloadsAgree (with_two l all labels rates) k left_p left_q → reduce (with_two l all labels rates) p ≡ reduce (with_two l all labels rates) q
+  same_with labels rates more payloads =
+      let s = with_two l all labels rates in
+      let agree = all_agree s k left_p left_q agree_more (all_plain l p v) (all_plain l q w) (not_had labels rates) payloads in
+      reduced_more l s p more ∙ (reduce_is_exact s left_p left_q).1 agree ∙ sym (reduced_more l s q more)
+
+  within : (labels rates : Bool) → (labels || k.labels) ≡ k.labels → (rates || k.bitrates) ≡ k.bitrates → Covers (with_two l all labels rates) k
+  within labels rates a b i = record {
+    times = covered l.times (has kinds.Times all) k.times (ap (λ (x : Without). x.times) c) (λ out. none_had k kinds.Times all out refl all_are_left) i;
+    edits = covered l.edits (has kinds.Edits all) k.edits (ap (λ (x : Without). x.edits) c) (λ out. none_had k kinds.Edits all out refl all_are_left) i;
+    flags = covered l.flags (has kinds.Flags all) k.flags (ap (λ (x : Without). x.flags) c) (λ out. none_had k kinds.Flags all out refl all_are_left) i;
+    groups = covered l.groups (has kinds.Groups all) k.groups (ap (λ (x : Without). x.groups) c) (λ out. none_had k kinds.Groups all out refl all_are_left) i;
+    metadata = covered l.metadata (has kinds.Kept all) k.metadata (ap (λ (x : Without). x.metadata) c) (λ out. none_had k kinds.Kept all out refl all_are_left) i;
+    bitrates = b i;
+    labels = a i;
+  }
+
+  label_none : k.labels ≡ false → list_any is_label all ≡ false
+  label_none out = none_label k all out all_are_left
+
+  -- Words are tried, each of which is among these, and the same is left of both with them.
+  pub words_tried : (s : Without) × IsIn s (candidates l all) × Covers s k × (reduce s p ≡ reduce s q)
+  words_tried = by (list_any is_detail all) refl
+    where
+      calm : differ_in_all all ≡ false
+      calm = all_left k all all_are_left
+
+      by : (b : Bool) → list_any is_detail all ≡ b → (s : Without) × IsIn s (candidates l all) × Covers s k × (reduce s p ≡ reduce s q)
+      by true some =
+          let labels = (l.labels || list_any is_label all) || k.labels in
+          let rates = l.bitrates || k.bitrates in
+          let list : candidates l all ≡ with_details l (needed l all) = rw (calm, some) refl in
+          let no_two : l.labels ≡ k.labels → l.bitrates ≡ k.bitrates → ⊥ = λ a b. details_more (length all) (ap (list_any is_detail) (take_all (length all) all (omega arith)) ∙ some) a b in
+          let is = among l.labels l.bitrates k.labels k.bitrates (list_any is_label all) (with_two l all) labels_more rates_more no_two in
+          let a = covered l.labels (list_any is_label all) k.labels labels_more label_none in
+          let b = rates_more in (
+            with_two l all labels rates,
+            subst (IsIn (with_two l all labels rates)) (sym list) is,
+            within labels rates (joined l.labels (list_any is_label all) k.labels labels_more label_none) (ap (λ x. x || k.bitrates) b ∙ or_twice_same k.bitrates),
+            same_with labels rates (covers_two l all labels rates (ap (λ x. l.labels || x) a ∙ labels_more ∙ sym a) (ap (λ x. l.bitrates || x) b ∙ rates_more ∙ sym b))
+                (payloads_stay (with_two l all labels rates) k left_p left_q (λ out. sym a ∙ out) (λ out. sym b ∙ out)),
+          )
+      by false some =
+          let labels = l.labels || list_any is_label all in
+          let list : candidates l all ≡ needed l all ∷ [] = rw (calm, some) refl in
+          let is : IsIn (needed l all) (needed l all ∷ []) = inl refl in (
+            needed l all,
+            subst (IsIn (needed l all)) (sym list) is,
+            within labels l.bitrates (covered l.labels (list_any is_label all) k.labels labels_more label_none) rates_more,
+            same_with labels l.bitrates (covers_two l all labels l.bitrates (or_twice l.labels (list_any is_label all)) (or_twice_same l.bitrates))
+                (payloads_same_in (with_two l all labels l.bitrates) k left_p left_q (λ out. none_right l.labels (list_any is_label all) out) some),
+          )

@@ -15,7 +15,7 @@ use Rattle.mp4_present.specs.format.Presentation.{Track}
 use Rattle.mp4_present.specs.format.Reduced.{reduce_track, reduce_track_head}
 use Rattle.mp4_present.specs.words.Carried.{BytesGoOn}
 use Rattle.mp4_present.specs.words.Movies.{MovieSeen}
-use Rattle.mp4_present.specs.words.PayloadsLeft.{keeping_labels, without_labels}
+use Rattle.mp4_present.specs.words.PayloadsLeft.{keeping_payloads, track_payloads_left}
 use Rattle.mp4_present.specs.words.OpenedMovie.{IsOpenedAs, IsInfoOf}
 use Rattle.mp4_present.specs.words.SamplesComing.{track_samples}
 use Rattle.mp4_present.specs.words.WalkSteps.{walk_steps, walks_steps}
@@ -100,7 +100,7 @@ first_of_two R (v ∷ xs) (w ∷ ys) (suc k) y z e = first_of_two R xs ys k y z.
 
 -- what it says before its samples
 abbrev pub front_of : Without → heads.TrackHead → ℕ → List ℕ
-front_of l h start = head_lines (reduce_track_head (keeping_labels l) h) ++ number_line (codes "start") start ++ samples_heading h.id
+front_of l h start = head_lines (reduce_track_head (keeping_payloads l) h) ++ number_line (codes "start") start ++ samples_heading h.id
 
 -- the tracks that are left
 abbrev pub tracks_left : Without → List ℕ → FileTree → List Track
@@ -133,26 +133,26 @@ tracks_most l file tree k Took held held_b old new h = let steps = h.steps in om
 infos_all : (file : List ℕ) (m : MovieSeen) (tree : FileTree) → IsOpenedAs file m tree → length m.tracks ≡ length tree.movie.tracks
 infos_all file m tree o = sym (zip_length (IsInfoOf file tree) tree.movie.tracks m.tracks o.tracks)
 
-heads_all : (l : Without) (tree : FileTree) (known : List TrackHead) → map track_seen known ≡ map (without_labels l) (map track_head_of tree.movie.tracks) → length known ≡ length tree.movie.tracks
-heads_all l tree known e = sym (length-map known track_seen) ∙ ap length e ∙ length-map (map track_head_of tree.movie.tracks) (without_labels l) ∙ length-map tree.movie.tracks track_head_of
+heads_all : (l : Without) (tree : FileTree) (known : List TrackHead) → map track_seen known ≡ map (track_payloads_left l) (map track_head_of tree.movie.tracks) → length known ≡ length tree.movie.tracks
+heads_all l tree known e = sym (length-map known track_seen) ∙ ap length e ∙ length-map (map track_head_of tree.movie.tracks) (track_payloads_left l) ∙ length-map tree.movie.tracks track_head_of
 
 -- no track is left
-pub tracks_end : (l : Without) (file : List ℕ) (m : MovieSeen) (tree : FileTree) (known : List TrackHead) (k : ℕ) (Took : List ℕ → Type 0) (held held_b : List ℕ) (old new : ℕ) → IsOpenedAs file m tree → map track_seen known ≡ map (without_labels l) (map track_head_of tree.movie.tracks)
+pub tracks_end : (l : Without) (file : List ℕ) (m : MovieSeen) (tree : FileTree) (known : List TrackHead) (k : ℕ) (Took : List ℕ → Type 0) (held held_b : List ℕ) (old new : ℕ) → IsOpenedAs file m tree → map track_seen known ≡ map (track_payloads_left l) (map track_head_of tree.movie.tracks)
     → (length m.tracks ≡ length tree.movie.tracks → length known ≡ length tree.movie.tracks → length tree.movie.tracks ≤ k) → TracksTold l file tree k Took held held_b old new → BytesGoOn Took held held_b (text_from l file tree 0)
 tracks_end l file m tree known k Took held held_b old new o e over h =
     let many = tracks_many l file tree in
     let end = over (infos_all file m tree o) (heads_all l tree known e) in
     texts_all Took held held_b (text_from l file tree k) (text_from l file tree 0) h.goes (ap (flat_map track_text) (none_behind (tracks_left l file tree) k (omega (arith, many, end))))
 
-module _ (l : Without) (file : List ℕ) (m : MovieSeen) (tree : FileTree) (known : List TrackHead) (k : ℕ) (o : IsOpenedAs file m tree) (same : map track_seen known ≡ map (without_labels l) (map track_head_of tree.movie.tracks)) (head : TrackHead) (info : TrackInfo)
+module _ (l : Without) (file : List ℕ) (m : MovieSeen) (tree : FileTree) (known : List TrackHead) (k : ℕ) (o : IsOpenedAs file m tree) (same : map track_seen known ≡ map (track_payloads_left l) (map track_head_of tree.movie.tracks)) (head : TrackHead) (info : TrackInfo)
     (h_at : slice_get known k ≡ Some head) (i_at : slice_get m.tracks k ≡ Some info) where
   -- the track of the file
   pub track_there : (t : TrackTree) × (slice_get tree.movie.tracks k ≡ Some t)
   track_there = first_of_two (IsInfoOf file tree) tree.movie.tracks m.tracks k info o.tracks i_at
 
-  head_is : track_seen head ≡ without_labels l (track_head_of track_there.0)
-  head_is = some_same (track_seen head) (without_labels l (track_head_of track_there.0)) (sym (get_mapped track_seen known k head h_at) ∙ ap (λ (hs : List heads.TrackHead). slice_get hs k) same
-      ∙ get_mapped (without_labels l) (map track_head_of tree.movie.tracks) k (track_head_of track_there.0) (get_mapped track_head_of tree.movie.tracks k track_there.0 track_there.1))
+  head_is : track_seen head ≡ track_payloads_left l (track_head_of track_there.0)
+  head_is = some_same (track_seen head) (track_payloads_left l (track_head_of track_there.0)) (sym (get_mapped track_seen known k head h_at) ∙ ap (λ (hs : List heads.TrackHead). slice_get hs k) same
+      ∙ get_mapped (track_payloads_left l) (map track_head_of tree.movie.tracks) k (track_head_of track_there.0) (get_mapped track_head_of tree.movie.tracks k track_there.0 track_there.1))
 
   abbrev pub front : List ℕ
   front = front_of l (track_seen head) info.start
@@ -166,7 +166,7 @@ module _ (l : Without) (file : List ℕ) (m : MovieSeen) (tree : FileTree) (know
         let t = track_there.0 in
         let start = (zipped_at (IsInfoOf file tree) tree.movie.tracks m.tracks k t info o.tracks track_there.1 i_at).start in
         let told = track_told l style file m tree t k info o track_there.1 i_at is in
-        λ i. head_lines (reduce_track_head (keeping_labels l) (head_is i)) ++ number_line (codes "start") (start i) ++ samples_heading (head_is i).id ++ told i
+        λ i. head_lines (reduce_track_head (keeping_payloads l) (head_is i)) ++ number_line (codes "start") (start i) ++ samples_heading (head_is i).id ++ told i
 
     -- first what the track says before its samples, then their lines
     two_parts : text_from l file tree k ≡ front ++ (lines ++ text_from l file tree (k + 1))

@@ -16,9 +16,9 @@ lines-append form i j (s ∷ samples) more e =
     ap (λ (text : List ℕ). sample_at_line form i s ++ text) (lines-append form (i + 1) j samples more (omega arith)) ∙ sym (append_assoc (sample_at_line form i s) (sample_at_lines form (i + 1) samples) (sample_at_lines form j more))
 
 -- samples that lie in the file have the lines of the presentation's
-pub lines_of_placed : (form : Form) (file : List ℕ) (keys : List GroupKey) (i dts : ℕ) (placed : List PlacedSample) → AllByRecursion (λ (s : PlacedSample). length (bytes_at file s.at s.size) ≡ s.size) placed
-    → sample_at_lines form i (timed keys dts placed) ≡ sample_lines_from form i dts (map (sample_of file) placed)
-lines_of_placed form file keys i dts [] whole = refl
-lines_of_placed form file keys i dts (s ∷ placed) whole =
-    ap (λ n. form_line form i dts s.offset s.duration s.flags s.description n ++ sample_at_lines form (i + 1) (timed keys (dts + s.duration) placed)) (sym whole.0)
-    ∙ ap (λ (text : List ℕ). form_line form i dts s.offset s.duration s.flags s.description (length (bytes_at file s.at s.size)) ++ text) (lines_of_placed form file keys (i + 1) (dts + s.duration) placed whole.1)
+pub lines_of_placed : (form : Form) (file : List ℕ) (keys : List GroupKey) (i number dts : ℕ) (placed : List PlacedSample) → AllByRecursion (λ (s : PlacedSample). length (bytes_at file s.at s.size) ≡ s.size) placed
+    → sample_at_lines form i (timed keys number dts placed) ≡ sample_lines_from form i dts (map (sample_of file) placed)
+lines_of_placed form file keys i number dts [] whole = refl
+lines_of_placed form file keys i number dts (s ∷ placed) whole =
+    ap (λ n. form_line form i dts s.offset s.duration s.flags s.description n ++ sample_at_lines form (i + 1) (timed keys (number + 1) (dts + s.duration) placed)) (sym whole.0)
+    ∙ ap (λ (text : List ℕ). form_line form i dts s.offset s.duration s.flags s.description (length (bytes_at file s.at s.size)) ++ text) (lines_of_placed form file keys (i + 1) (number + 1) (dts + s.duration) placed whole.1)

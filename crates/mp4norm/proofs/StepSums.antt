@@ -79,10 +79,6 @@ moofs_sum trexes (f ∷ fragments) h =
     let samples = parts_said trexes (fragment_of f) in
     omega (arith, own, others, split, samples)
 
--- writing is two walks over each track at least
-pub two_walks : (tree : FileTree) → 2 * walks_steps tree ≤ writing_steps tree
-two_walks tree = let sum = writes_sum tree tree.movie.tracks in omega (arith, sum)
-
 -- ---- the bound
 
 -- of tracks with so many samples and rows in tables, where each `moof`'s steps are within the other samples and rows, and those of the tracks' own `traf`s within the `moof`s'
@@ -181,6 +177,27 @@ tree_walks file tree h s c =
 
 pub walks_looks : (file : List ℕ) (p : Presentation) (d : Denotes file p) → opening_steps d.tree + walks_steps d.tree ≤ 8 * (sample_total p + row_total d.tree)
 walks_looks file p d = subst (λ (q : Presentation). opening_steps d.tree + walks_steps d.tree ≤ 8 * (sample_total q + row_total d.tree)) (sym d.says) (tree_walks file d.tree d.is_tree d.is_sound d.is_consistent)
+
+-- opening a file and five walks over each of its tracks
+often_walked : (m o s f r more checks ways : ℕ) → o ≤ m → m ≤ f + more → checks ≡ 7 * r + 3 * s → ways ≡ r + 3 * s + 2 * o → (checks + m) + 5 * ways ≤ 18 * ((s + f) + (r + more))
+often_walked m o s f r more checks ways own le c w = omega (arith, own, le, c, w)
+
+tree_often : (file : List ℕ) (tree : FileTree) → IsFileTree file tree → IsSoundFile tree → IsConsistent file tree → opening_steps tree + 5 * walks_steps tree ≤ 18 * (sample_total (presentation_of file tree) + row_total tree)
+tree_often file tree h s c =
+    let tracks = tree.movie.tracks in
+    let fragments = tree.fragments in
+    let parts = file_parts tree in
+    let total : sample_total (presentation_of file tree) ≡ plain_total tracks + fragments_total parts tracks =
+    total_is file parts tracks h.movie.tracks c.tables ∙ ap (λ n. n + fragments_total parts tracks) (sym (plain_counted file tracks h.movie.tracks c.tables)) in
+    let moofs = moofs_sum (trexes_of tree.movie) fragments h.fragments in
+    let known = all_belong tree.movie parts c.known in
+    let few : moofs_steps fragments ≤ fragments_total parts tracks + fragment_rows_of fragments = omega (arith, moofs, known) in
+    let all = often_walked (moofs_steps fragments) (owns_total tree tracks) (plain_total tracks) (fragments_total parts tracks) (rows_of tracks) (fragment_rows_of fragments) (sum_of table_steps tracks) (walks_steps tree)
+    (owns_few file tree h s.movie) few (checks_sum tracks) (ways_sum tree tracks) in
+    subst (λ n. opening_steps tree + 5 * walks_steps tree ≤ 18 * (n + row_total tree)) (sym total) all
+
+pub often_looks : (file : List ℕ) (p : Presentation) (d : Denotes file p) → opening_steps d.tree + 5 * walks_steps d.tree ≤ 18 * (sample_total p + row_total d.tree)
+often_looks file p d = subst (λ (q : Presentation). opening_steps d.tree + 5 * walks_steps d.tree ≤ 18 * (sample_total q + row_total d.tree)) (sym d.says) (tree_often file d.tree d.is_tree d.is_sound d.is_consistent)
 
 -- opening a file takes at least a step for each sample and row
 least_of : (m s f r more leasts few : ℕ) → f ≤ few → m ≡ more + few → leasts ≡ r + 3 * s → (s + f) + (r + more) ≤ leasts + m

@@ -13,10 +13,11 @@ use Rattle.mp4_present.specs.format.ByBytes.{OpensWithin}
 use Rattle.mp4_present.specs.words.WalkSteps.{IfNoFault, opening_steps, walk_steps, walks_steps}
 use Rattle.mp4_present.proofs.One.{file_tree_one}
 use Rattle.mp4norm.specs.format.Steps.{WorksWithin, WalksWithin, row_total}
+use Rattle.mp4norm.specs.format.CompareHeadline.{ComparedWithin}
 use Rattle.mp4norm.proofs.RunParts.{denotes_nothing}
 use Rattle.mp4norm.proofs.ShownLines.{denoted}
 use Rattle.mp4_plan.specs.words.WriterSteps.{writing_steps}
-use Rattle.mp4norm.proofs.StepSums.{all_within, opened_looks, walked_looks, walks_looks}
+use Rattle.mp4norm.proofs.StepSums.{all_within, often_looks, opened_looks, walked_looks, walks_looks}
 
 few_times : (k n : ℕ) → 8 * n ≤ 8 * ((k + 1) * n)
 few_times k n = let small : n ≤ (k + 1) * n = omega arith in omega (arith, small)
@@ -53,7 +54,7 @@ module _ (file : List ℕ) (old new : ℕ) where
         refused = l.refused;
       }
 
-  -- a file that is opened, planned and written, or walked over at most three times
+  -- a file that is opened, planned and written
   pub opened_within : (m : MovieSeen) (tree : FileTree) (behind : ℕ) → IsOpenedAs file m tree → behind ≤ old + opening_steps tree → new ≤ behind + (walks_steps tree + writing_steps tree) → WorksWithin file old new
   opened_within m tree behind o opening walks = record {
     denoted = λ p d.
@@ -98,6 +99,17 @@ module _ (file : List ℕ) (old new : ℕ) where
         let same = file_tree_one file tree d.tree o.is_tree d.is_tree in
         let own = subst (λ (u : FileTree). new ≤ old + (opening_steps u + walks_steps u)) same (omega (arith, opening, walks)) in
         let all = walks_looks file p d in
+        omega (arith, own, all);
+    refused = λ nothing. absurd (nothing (presentation_of file tree) (denoted file m tree o));
+  }
+
+  -- a file that is opened, and of which each track is walked over at most five times
+  pub often_walked : (m : MovieSeen) (tree : FileTree) → IsOpenedAs file m tree → new ≤ old + (opening_steps tree + 5 * walks_steps tree) → ComparedWithin file old new
+  often_walked m tree o walks = record {
+    denoted = λ p d.
+        let same = file_tree_one file tree d.tree o.is_tree d.is_tree in
+        let own = subst (λ (u : FileTree). new ≤ old + (opening_steps u + 5 * walks_steps u)) same walks in
+        let all = often_looks file p d in
         omega (arith, own, all);
     refused = λ nothing. absurd (nothing (presentation_of file tree) (denoted file m tree o));
   }

@@ -1,5 +1,5 @@
 -- Texts tell what they are of: heads, samples, tracks, and the whole.
-use Rattle.std.proofs.Common.{◌≡◌, ◌⊎◌, inl, inr, ℕ, zero, suc, ◌+◌, ◌^◌, ◌<◌, ◌≤◌, leb, ltb, Bool, true, false, List, [], ◌∷◌, ◌++◌, length, take, refl, sym, ap, subst, ◌∙◌, arith, append_assoc, codes, decimal}
+use Rattle.std.proofs.Common.{◌≡◌, ◌⊎◌, inl, inr, ℕ, zero, suc, ◌^◌, ◌<◌, ◌≤◌, ltb, Bool, true, false, List, [], ◌∷◌, ◌++◌, length, take, refl, sym, ap, subst, ◌∙◌, arith, append_assoc, codes, decimal}
 use Rattle.std.specs.Prelude.{Contains, ◌&&◌, map, flat_map, filter, not, if◌then◌else◌, slice_index, ℤ, pos, negsuc, FitsSigned}
 use Rattle.std.specs.Fmt.{signed_decimal}
 use Rattle.std.specs.Int.{w16, w32, w64}
@@ -20,7 +20,9 @@ use Rattle.mp4_boxes.proofs.WrittenBoxes.{among_has}
 use Rattle.mp4_tables.specs.format.Groups.{Groups}
 use Rattle.mp4_head.specs.format.Head.{Edit, Kept, Media, TrackHead, MovieHead, IsDescription, IsEdit, IsGroupDescription, IsKept, IsMedia, IsMovieHead, IsTrackHead}
 use Rattle.mp4_present.specs.format.Presentation.{Sample, Track, Presentation, IsGroup, IsInTime, IsSample, IsTrack, Valid}
-use Rattle.mp4_present.specs.format.Reduced.{is_picture, metadata_kinds, plain_descriptions, plain_handler, plain_picture, reduce, reduce_kept, reduce_media, reduce_movie_head, reduce_sample, reduce_track, reduce_track_head, sync_flag, zeroed}
+use Rattle.mp4_present.specs.format.Reduced.{metadata_kinds, plain_handler, reduce, reduce_descriptions, reduce_kept, reduce_media, reduce_movie_head, reduce_sample, reduce_track, reduce_track_head, sync_flag}
+use Rattle.mp4_present.specs.format.Zeros.{zeroed}
+use Rattle.mp4_plan.proofs.Plain.{descriptions_good}
 use Rattle.mp4_present.specs.declared.without.Without.{Without}
 use Rattle.mp4_plan.proofs.GoodPieces.{CanWrite, valid_tracks}
 use Rattle.mp4norm.specs.format.Text.{edit_line, edit_words, front_lines, group_text, head_lines, kept_lines, media_lines, movie_lines, named_line, number_line, payload_lines, sample_text, samples_heading, text_of, track_lines, track_text}
@@ -646,21 +648,6 @@ told_handler : (v : Bool) (payload : List ℕ) → EachByte payload → EachByte
 told_handler true payload h = zeroed_each 4 4 (zeroed 12 12 (take 24 payload)) (zeroed_each 12 12 (take 24 payload) (each_taken (λ (b : ℕ). b < 256) 24 payload h))
 told_handler false payload h = h
 
-told_picture : (k : Kept) → IsToldBox k → IsToldBox (plain_picture k)
-told_picture k h = (h.0, by (leb 78 (length k.payload)))
-  where
-    by : (v : Bool) → EachByte (if v then zeroed 42 32 k.payload else k.payload)
-    by true = zeroed_each 42 32 k.payload h.1
-    by false = h.1
-
-told_pictures : (v : Bool) (descriptions : List Kept) → AllByRecursion IsToldBox descriptions → AllByRecursion IsToldBox (if v then map plain_picture descriptions else descriptions)
-told_pictures true descriptions h = each_value IsToldBox IsToldBox plain_picture told_picture descriptions h
-told_pictures false descriptions h = h
-
-told_descriptions : (v : Bool) (handler : List ℕ) (descriptions : List Kept) → AllByRecursion IsToldBox descriptions → AllByRecursion IsToldBox (if v then plain_descriptions handler descriptions else descriptions)
-told_descriptions true handler descriptions h = told_pictures (is_picture handler) descriptions h
-told_descriptions false handler descriptions h = h
-
 told_media : (l : Without) (m : Media) → IsMedia m → IsToldMedia (reduce_media l m)
 told_media l m h = record {
   creation = below_if l.times 0 m.creation (2 ^ 64) (omega arith) h.creation;
@@ -670,7 +657,7 @@ told_media l m h = record {
   handler = told_handler l.labels m.handler (each_byte m.handler h.handler);
   languages = each_weaker AreBytes EachByte each_byte m.extended_languages h.extended_languages;
   header = (among_has IsType media_headers m.header.kind header_kinds h.header, each_byte m.header.payload h.header_bytes);
-  descriptions = told_descriptions l.labels m.handler m.descriptions (each_weaker IsDescription IsToldBox told_description m.descriptions h.descriptions);
+  descriptions = each_weaker IsDescription IsToldBox told_description (reduce_descriptions l m.handler m.descriptions) (descriptions_good l m.handler m.descriptions h.descriptions);
 }
 
 told_head : (l : Without) (t : TrackHead) → IsTrackHead t → IsToldHead (reduce_track_head l t)

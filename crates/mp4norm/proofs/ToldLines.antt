@@ -154,22 +154,23 @@ module _ (l : Without) (keys : Keys) (style : SampleStyle) (is : IsStyle l keys 
   order_is : keys_seen style.order ≡ (if l.groups then [] else in_key_order own)
   order_is = is.order ∙ ap (λ (ks : List GroupKey). if l.groups then [] else in_key_order ks) e
 
-  one_told : (dts : ℕ) (s : PlacedSample) → IsSampleOf file own s → told_sample style file (sample_at own dts s) ≡ sample_text (reduce_sample l (sample_of file s))
-  one_told dts s h =
+  one_told : (number dts : ℕ) (s : PlacedSample) → IsSampleOf file own s → told_sample style file (sample_at own number dts s) ≡ sample_text (reduce_sample l (sample_of file s))
+  one_told number dts s h =
       let bytes = bytes_at file s.at s.size in
       let size : s.size ≡ length bytes = sym (bytes_whole file s.at s.size h.1) in
       let digest : sha256 (range file (place_of s.at) s.size) ≡ sha256 bytes = ap sha256 (there file s.at s.size h.1) in
       let flags : flags_left style.leaving s.flags ≡ flags_left l s.flags = ap (λ (x : Without). flags_left x s.flags) is.leaving in
-      let groups : told_indexes style.keys (sample_at own dts s) (keys_seen style.order) ≡ flat_map group_text (if l.groups then [] else s.groups) =
-      groups_told l.groups style.keys own (keys_seen style.order) s.groups (sample_at own dts s) (ap keys_seen is.keys_are ∙ e) order_is refl h.0 in
-      line_is space (decimal s.duration) (signed_decimal s.offset) (hex_digits 8 (flags_left style.leaving s.flags)) (decimal s.description) (decimal s.size) (hex_text (sha256 (range file (place_of s.at) s.size))) (told_indexes style.keys (sample_at own dts s) (keys_seen style.order)) line_feed
+      let groups : told_indexes style.keys (sample_at own number dts s) (keys_seen style.order) ≡ flat_map group_text (if l.groups then [] else s.groups) =
+      groups_told l.groups style.keys own (keys_seen style.order) s.groups (sample_at own number dts s) (ap keys_seen is.keys_are ∙ e) order_is refl h.0 in
+      line_is space (decimal s.duration) (signed_decimal s.offset) (hex_digits 8 (flags_left style.leaving s.flags)) (decimal s.description) (decimal s.size) (hex_text (sha256 (range file (place_of s.at) s.size)))
+      (told_indexes style.keys (sample_at own number dts s) (keys_seen style.order)) line_feed
       ∙ (λ i. space ++ decimal s.duration ++ space ++ signed_decimal s.offset ++ space ++ hex_digits 8 (flags i) ++ space ++ decimal s.description ++ space ++ decimal (size i) ++ space ++ hex_text (digest i) ++ groups i ++ line_feed)
 
-  all_told : (dts : ℕ) (samples : List PlacedSample) → AllByRecursion (IsSampleOf file own) samples → flat_map (told_sample style file) (timed own dts samples) ≡ flat_map sample_text (map (reduce_sample l) (map (sample_of file) samples))
-  all_told dts [] h = refl
-  all_told dts (s ∷ samples) h =
-      let one = one_told dts s h.0 in
-      let more = all_told (dts + s.duration) samples h.1 in
+  all_told : (number dts : ℕ) (samples : List PlacedSample) → AllByRecursion (IsSampleOf file own) samples → flat_map (told_sample style file) (timed own number dts samples) ≡ flat_map sample_text (map (reduce_sample l) (map (sample_of file) samples))
+  all_told number dts [] h = refl
+  all_told number dts (s ∷ samples) h =
+      let one = one_told number dts s h.0 in
+      let more = all_told (number + 1) (dts + s.duration) samples h.1 in
       λ i. one i ++ more i
 
 -- ---- a track
@@ -186,4 +187,4 @@ pub track_told : (l : Without) (style : SampleStyle) (file : List ℕ) (m : Movi
     → flat_map (told_sample style file) (track_samples tree t) ≡ flat_map sample_text (reduce_track l (track_of file (file_parts tree) t)).samples
 track_told l style file m tree t k info o at there is =
     let own = (zipped_at (IsInfoOf file tree) tree.movie.tracks m.tracks k t info o.tracks at there).keys in
-    all_told l info.keys style is file (track_keys tree t) own _ (placed_of (file_parts tree) t) (opened_samples file m tree t k o at)
+    all_told l info.keys style is file (track_keys tree t) own _ _ (placed_of (file_parts tree) t) (opened_samples file m tree t k o at)

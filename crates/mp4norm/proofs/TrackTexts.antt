@@ -13,7 +13,8 @@ use Rattle.mp4_present.specs.words.Movies.{MovieSeen}
 use Rattle.mp4_present.specs.words.OpenedMovie.{IsInfoOf, IsOpenedAs}
 use Rattle.mp4_present.specs.format.Presentation.{Track}
 use Rattle.mp4_present.specs.declared.track_info.TrackInfo.{TrackInfo}
-use Rattle.mp4_present.proofs.SamplesLie.{all_whole, timed_data, timed_length}
+use Rattle.mp4_tables.proofs.SampleLists.{timed_length}
+use Rattle.mp4_present.proofs.SamplesLie.{all_whole, timed_data}
 use Rattle.mp4_present.proofs.WalkPlaces.{of_got}
 use Rattle.mp4_plan.proofs.TakenFrom.{got_map}
 use Rattle.mp4norm.specs.format.FileTexts.{AreOthers, LacksTrack, IsTrackWith, ListsSamples, HasData}
@@ -55,7 +56,7 @@ track_found file m tree k id o lt e =
       is_there = r.1;
       with_id = record { p = presentation_of file tree; judged = judged file m tree o; place = k; is_there = there; id_is = r.2 };
       lies = of_got (LieInFile file tree) tree.movie.tracks k r.0 r.1 (each_lies file m tree o);
-      few = below _ _ _ _ (few_at (presentation_of file tree).tracks k (track_of file (file_parts tree) r.0) there) o.limits.samples (length-map (placed_of (file_parts tree) r.0) (sample_of file)) (timed_length _ _ (placed_of (file_parts tree) r.0));
+      few = below _ _ _ _ (few_at (presentation_of file tree).tracks k (track_of file (file_parts tree) r.0) there) o.limits.samples (length-map (placed_of (file_parts tree) r.0) (sample_of file)) (timed_length _ _ _ (placed_of (file_parts tree) r.0));
     }
   where
     below : (samples all placed n : ℕ) → samples ≤ all → all ≤ 2 ^ 24 → samples ≡ placed → n ≡ placed → n < 2 ^ 32
@@ -76,7 +77,7 @@ lacks file m tree id o h = (presentation_of file tree, judged file m tree o, sub
 -- ---- its texts
 
 pub lists : (form : Form) (file : List ℕ) (tree : FileTree) (k id : ℕ) → (f : IsFound file tree k id) → ListsSamples file id form (listing_head form ++ sample_at_lines form 1 (track_samples tree f.t))
-lists form file tree k id f = (track_of file (file_parts tree) f.t, f.with_id, ap (λ (text : List ℕ). listing_head form ++ text) (lines_of_placed form file _ 1 _ (placed_of (file_parts tree) f.t) (all_whole file (placed_of (file_parts tree) f.t) f.lies)))
+lists form file tree k id f = (track_of file (file_parts tree) f.t, f.with_id, ap (λ (text : List ℕ). listing_head form ++ text) (lines_of_placed form file _ 1 _ _ (placed_of (file_parts tree) f.t) (all_whole file (placed_of (file_parts tree) f.t) f.lies)))
 
 pub has_data : (file : List ℕ) (tree : FileTree) (k id : ℕ) → (f : IsFound file tree k id) → HasData file id (sample_bytes file (track_samples tree f.t))
-has_data file tree k id f = (track_of file (file_parts tree) f.t, f.with_id, timed_data file _ _ (placed_of (file_parts tree) f.t) f.lies)
+has_data file tree k id f = (track_of file (file_parts tree) f.t, f.with_id, timed_data file _ _ _ (placed_of (file_parts tree) f.t) f.lies)

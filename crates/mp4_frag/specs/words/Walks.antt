@@ -25,9 +25,11 @@ use Rattle.mp4_frag.specs.declared.run_rows.Row.{Row}
 use Rattle.mp4_frag.specs.declared.state.TrackState.{TrackState}
 use Rattle.mp4_frag.specs.declared.trex.Trex.{Trex}
 
--- how far it has come: the decode time of the next sample, where data goes on, where runs are
--- counted from, what they inherit, and the indexes to come at each key
+-- how far it has come: how many samples of the track come before the next one, its decode time,
+-- where data goes on, where runs are counted from, what they inherit, and the indexes to come at
+-- each key
 pub record Reached : Type 0 where
+  pub number : ℕ
   pub dts : ℕ
   pub at : ℤ
   pub base : ℤ
@@ -39,6 +41,10 @@ pub record Reached : Type 0 where
 -- a time that goes no further than 64 bits hold
 abbrev pub capped : ℕ → ℕ
 capped time = min time (2 ^ 64 - 1)
+
+-- the next number, which goes no further than 32 bits hold
+abbrev pub next_number : ℕ → ℕ
+next_number number = min (number + 1) (2 ^ 32 - 1)
 
 -- a place that goes no further than 128 bits hold
 abbrev pub held : ℤ → ℤ
@@ -60,11 +66,13 @@ sample_of s first row = record {
   at = first_byte s.at;
   size = unwrap_or row.size s.inherited.size;
   groups = map (λ indexes. slice_index indexes 0) s.indexes;
+  number = s.number;
 }
 
 -- behind it
 abbrev pub behind_row : Reached → RunRow → Reached
 behind_row s row = record s {
+  number = next_number s.number;
   dts = capped (s.dts + unwrap_or row.duration s.inherited.duration);
   at = held (s.at +ℤ pos (unwrap_or row.size s.inherited.size));
   indexes = map (drop 1) s.indexes;
@@ -192,8 +200,9 @@ abbrev pub no_indexes : List (List ℕ)
 no_indexes = [] ∷ [] ∷ [] ∷ [] ∷ []
 
 -- before what the boxes of a `traf` say whose runs are counted from this base
-abbrev pub at_first : ℤ → ℕ → Reached
-at_first base dts = record {
+abbrev pub at_first : ℤ → ℕ → ℕ → Reached
+at_first base number dts = record {
+  number = number;
   dts = dts;
   at = base;
   base = base;
@@ -208,9 +217,9 @@ runs_coming s (b ∷ boxes) = cond (bytes_eq (codes "trun") b.kind)
     (run_coming s b.payload (λ t. runs_coming t boxes)) (runs_coming s boxes)
 
 -- the samples of the boxes of a `traf`: none, where it does not name the track with this ID
-abbrev pub boxes_coming : ℤ → ℕ → Trex → ℕ → List GroupKey → List Box → List SampleAt
-boxes_coming base id trex dts keys boxes = cond (are_named id false boxes)
-    (runs_coming (with_leaves trex keys (at_first base dts) boxes) boxes) []
+abbrev pub boxes_coming : ℤ → ℕ → Trex → ℕ → ℕ → List GroupKey → List Box → List SampleAt
+boxes_coming base id trex number dts keys boxes = cond (are_named id false boxes)
+    (runs_coming (with_leaves trex keys (at_first base number dts) boxes) boxes) []
 
 -- ---- places
 
@@ -230,6 +239,7 @@ rows_here payload p = run_rows p.left 1 p.bits (drop p.row payload)
 -- what goes for the next sample at a place
 abbrev pub reached : List ℕ → FragPlace → Reached
 reached payload p = record {
+  number = p.number;
   dts = p.dts;
   at = p.at;
   base = p.base;
@@ -251,7 +261,7 @@ abbrev pub samples_coming : CursorSeen → List SampleAt
 samples_coming v = coming v.payload v.place
 
 -- the samples of the track with this ID in a `traf` of this payload, whose runs are counted from
--- this base, from a decode time on
-abbrev pub samples_in : List ℕ → ℤ → ℕ → Trex → ℕ → List GroupKey → List SampleAt
-samples_in payload base id trex dts keys =
-    boxes_coming base id trex dts keys (boxes_in 0 payload)
+-- this base, the first of them behind so many and at a decode time
+abbrev pub samples_in : List ℕ → ℤ → ℕ → Trex → ℕ → ℕ → List GroupKey → List SampleAt
+samples_in payload base id trex number dts keys =
+    boxes_coming base id trex number dts keys (boxes_in 0 payload)

@@ -4,6 +4,7 @@ use Rattle.std.specs.Prelude.{◌≡◌, ◌↔◌, ◌/◌, ◌%◌, ◌^◌, B
 use Rattle.std.specs.List.{AllZip}
 use Rattle.mp4_boxes.specs.format.Children.{is_among}
 use Rattle.mp4_head.specs.format.Head.{Kept, Media, TrackHead, MovieHead}
+use Rattle.mp4_present.specs.format.BitRates.{unrated_descriptions}
 use Rattle.mp4_present.specs.format.Presentation.{Sample, Track, Presentation}
 use Rattle.mp4_present.specs.format.Reduced.{metadata_kinds, plain_handler, plain_descriptions, reduce}
 use Rattle.mp4_present.specs.declared.without.Without.{Without}
@@ -30,9 +31,14 @@ pub record MediaAgree (l : Without) (a b : Media) : Type 0 where
   pub modification : l.times ≡ false → a.modification ≡ b.modification
   pub handler : l.labels ≡ false → a.handler ≡ b.handler
   pub left_handler : plain_handler a.handler ≡ plain_handler b.handler
-  pub descriptions : l.labels ≡ false → a.descriptions ≡ b.descriptions
-  pub left_descriptions : plain_descriptions a.handler a.descriptions
+  pub descriptions : l.labels ≡ false → l.bitrates ≡ false → a.descriptions ≡ b.descriptions
+  pub plain : l.bitrates ≡ false → plain_descriptions a.handler a.descriptions
       ≡ plain_descriptions b.handler b.descriptions
+  pub unrated : l.labels ≡ false → unrated_descriptions a.handler a.descriptions
+      ≡ unrated_descriptions b.handler b.descriptions
+  pub left_descriptions :
+      plain_descriptions a.handler (unrated_descriptions a.handler a.descriptions)
+      ≡ plain_descriptions b.handler (unrated_descriptions b.handler b.descriptions)
 
 pub record TrackHeadsAgree (l : Without) (a b : TrackHead) : Type 0 where
   pub flags : a.flags ≡ b.flags

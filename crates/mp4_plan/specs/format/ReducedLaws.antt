@@ -16,6 +16,7 @@ nothing = record {
   flags = false;
   groups = false;
   metadata = false;
+  bitrates = false;
   labels = false;
 }
 
@@ -27,6 +28,7 @@ both l m = record {
   flags = l.flags || m.flags;
   groups = l.groups || m.groups;
   metadata = l.metadata || m.metadata;
+  bitrates = l.bitrates || m.bitrates;
   labels = l.labels || m.labels;
 }
 

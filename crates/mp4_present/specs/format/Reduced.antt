@@ -1,10 +1,12 @@
 -- What is left of a presentation where some of what it says doesn't count, as in comparing,
 -- archiving and caching files by the rest.
-use Rattle.std.specs.Prelude.{ℕ, zero, suc, ◌*◌, ◌/◌, ◌%◌, ◌^◌, nat_le, not, Bool, if◌then◌else◌, List, [], ◌∷◌, length, take, map, filter, codes, bytes_eq}
+use Rattle.std.specs.Prelude.{ℕ, ◌*◌, ◌/◌, ◌%◌, ◌^◌, nat_le, not, Bool, if◌then◌else◌, List, [], ◌∷◌, length, take, map, filter, codes, bytes_eq}
 use Rattle.std.specs.List.{AllByRecursion}
 use Rattle.mp4_boxes.specs.format.Children.{is_among}
 use Rattle.mp4_head.specs.format.Head.{Kept, Media, TrackHead, MovieHead, handler_type}
+use Rattle.mp4_present.specs.format.BitRates.{unrated_descriptions}
 use Rattle.mp4_present.specs.format.Presentation.{Sample, Track, Presentation, IsInTime}
+use Rattle.mp4_present.specs.format.Zeros.{zeroed}
 use Rattle.mp4_present.specs.declared.without.Without.{Without}
 
 -- kept boxes that are metadata: `tref` names other tracks and `elng` refines the language, so they
@@ -28,13 +30,6 @@ reduce_sample l s = record s {
 
 -- ---- names for people
 
--- zeros in the place of so many bytes, from a place on
-abbrev pub zeroed : ℕ → ℕ → List ℕ → List ℕ
-zeroed from count [] = []
-zeroed zero zero (b ∷ bytes) = b ∷ bytes
-zeroed zero (suc count) (b ∷ bytes) = 0 ∷ zeroed zero count bytes
-zeroed (suc from) count (b ∷ bytes) = b ∷ zeroed from count bytes
-
 -- `hdlr` without its name, and with zeros in pre_defined and reserved (8.4.3)
 abbrev pub plain_handler : List ℕ → List ℕ
 plain_handler payload = zeroed 4 4 (zeroed 12 12 (take 24 payload))
@@ -53,6 +48,16 @@ abbrev pub plain_descriptions : List ℕ → List Kept → List Kept
 plain_descriptions handler descriptions =
     if is_picture handler then map plain_picture descriptions else descriptions
 
+-- what is left of sample descriptions of a track with this handler
+abbrev pub rates_left : Without → List ℕ → List Kept → List Kept
+rates_left l handler descriptions =
+    if l.bitrates then unrated_descriptions handler descriptions else descriptions
+
+abbrev pub reduce_descriptions : Without → List ℕ → List Kept → List Kept
+reduce_descriptions l handler descriptions =
+    if l.labels then plain_descriptions handler (rates_left l handler descriptions)
+    else rates_left l handler descriptions
+
 -- ---- heads
 
 abbrev pub reduce_media : Without → Media → Media
@@ -60,8 +65,7 @@ reduce_media l m = record m {
   creation = if l.times then 0 else m.creation;
   modification = if l.times then 0 else m.modification;
   handler = if l.labels then plain_handler m.handler else m.handler;
-  descriptions = if l.labels then plain_descriptions m.handler m.descriptions
-      else m.descriptions;
+  descriptions = reduce_descriptions l m.handler m.descriptions;
 }
 
 abbrev pub reduce_track_head : Without → TrackHead → TrackHead

@@ -88,4 +88,4 @@ pub record HoldsSome (m : MovieSeen) (w : Walk) : Type 0 where
   pub is_before : w.before ≡ Some before
   pub some : w.left < before.left
   pub all : (info : TrackInfo) → slice_get m.tracks w.track ≡ Some info
-      → length (all_in_traf m w info before.time) + w.left ≡ before.left
+      → length (all_in_traf m w info before) + w.left ≡ before.left

@@ -1,5 +1,5 @@
 -- A file that was opened, and a walk over the samples of one of its tracks.
-use Rattle.std.specs.Prelude.{◌≡◌, ℕ, ◌+◌, ◌^◌, ◌<◌, ◌≤◌, ⊤, min, List, length, take, drop, Option, None, Some, slice_get, unwrap_or, codes}
+use Rattle.std.specs.Prelude.{◌≡◌, ℕ, ◌+◌, ◌-◌, ◌^◌, ◌<◌, ◌≤◌, ⊤, min, List, length, take, drop, Option, None, Some, slice_get, unwrap_or, codes}
 use Rattle.std.specs.List.{AllByRecursion}
 use Rattle.mp4_boxes.specs.format.Box.{Box}
 use Rattle.mp4_tables.specs.words.Accepted.{IsAccepted, IsPlace}
@@ -126,11 +126,10 @@ pub record GoesOn (m : MovieSeen) (w : Walk) : Type 0 where
   pub movie : IsMovie m
   pub track : w.track < length m.tracks
 
--- the samples of the `traf` in hand: all, of which the first is due at this time, and those from a
--- place on
-abbrev pub all_in_traf : MovieSeen → Walk → TrackInfo → ℕ → List SampleAt
-all_in_traf m w info due = samples_in (traf_bytes w) w.traf.base info.id (trex_at m w.track) due
-    (keys_seen info.keys)
+-- the samples of the `traf` in hand: all, before which this was due, and those from a place on
+abbrev pub all_in_traf : MovieSeen → Walk → TrackInfo → Due → List SampleAt
+all_in_traf m w info before = samples_in (traf_bytes w) w.traf.base info.id (trex_at m w.track)
+    (info.samples - before.left) before.time (keys_seen info.keys)
 
 abbrev pub traf_hand : Walk → FragPlace → CursorSeen
 traf_hand w p = record { payload = traf_bytes w; place = p }
@@ -140,7 +139,7 @@ traf_hand w p = record { payload = traf_bytes w; place = p }
 abbrev pub IsRest : MovieSeen → Walk → Option Due → Place → Type 0
 IsRest m w None (Tables p) = ⊤
 IsRest m w (Some before) (Fragment p) = (info : TrackInfo) → slice_get m.tracks w.track ≡ Some info
-    → AreLast (all_in_traf m w info before.time) (samples_coming (traf_hand w p))
+    → AreLast (all_in_traf m w info before) (samples_coming (traf_hand w p))
 IsRest m w _ _ = ⊥
 
 -- the mark of where a walk stands, before so many samples

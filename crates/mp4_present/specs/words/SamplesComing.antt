@@ -20,15 +20,19 @@ use Rattle.mp4_present.specs.declared.walking.Walk.{Walk}
 abbrev pub track_keys : FileTree → TrackTree → List GroupKey
 track_keys tree t = keys_behind (plain_keys t) (parts_of_track (file_parts tree) t)
 
--- all samples of a track: with decode times, and an index at each of its keys
+-- all samples of a track: with numbers from 0 on, decode times, and an index at each of its keys
 abbrev pub track_samples : FileTree → TrackTree → List SampleAt
 track_samples tree t =
-    timed (track_keys tree t) (start_of (plain_of t) (parts_of_track (file_parts tree) t))
+    timed (track_keys tree t) 0 (start_of (plain_of t) (parts_of_track (file_parts tree) t))
     (placed_of (file_parts tree) t)
 
 -- the `traf`s that have samples of a track, in file order
 abbrev pub own_trafs : FileTree → TrackTree → List PlacedTraf
 own_trafs tree t = own_of tree.movie (track_head_of t).id tree.fragments
+
+-- how many samples of a track come before those behind these of its `traf`s
+abbrev pub count_behind : TrackTree → List PlacedTraf → ℕ
+count_behind t earlier = length (plain_of t) + length (placed_samples earlier)
 
 -- when the first sample of a track behind these of its `traf`s is due
 abbrev pub due_behind : FileTree → TrackTree → List PlacedTraf → ℕ
@@ -37,8 +41,8 @@ due_behind tree t earlier = first_due (file_parts tree) t + duration_of (placed_
 -- the samples of some of a track's `traf`s that stand behind others
 abbrev pub samples_behind : FileTree → TrackTree → List PlacedTraf → List PlacedTraf
     → List SampleAt
-samples_behind tree t earlier later = timed (track_keys tree t) (due_behind tree t earlier)
-    (placed_samples later)
+samples_behind tree t earlier later = timed (track_keys tree t) (count_behind t earlier)
+    (due_behind tree t earlier) (placed_samples later)
 
 -- the room of a walk over the track: for the longest of its `traf`s
 abbrev pub walk_room : FileTree → TrackTree → ℕ

@@ -76,13 +76,13 @@ pub record IsLoaded (m : MovieSeen) (w w_after : Walk) (more : Bool) : Type 0 wh
 pub record HasTraf (w : Walk) : Type 0 where
   pub used : w.used ≤ length w.bytes.items
 
--- all of its samples of the track are in hand, of which the first is due at this time
+-- all of its samples of the track are in hand, before which this was due
 pub record HasInHand (m : MovieSeen) (w w_after : Walk) (before : Due) : Type 0 where
   pub place : StandsAt m w_after w_after.place
   pub rest : IsRest m w_after (Some before) w_after.place
   pub all : (info : TrackInfo) → slice_get m.tracks w.track ≡ Some info
       → (hand : Loaded) × InHandOf m w_after hand
-      × (left_in_hand hand ≡ all_in_traf m w info before.time)
+      × (left_in_hand hand ≡ all_in_traf m w info before)
   pub way : steps_to w_after.place ≤ traf_steps (traf_box w)
   pub through : (t : TrackTree) → way_through t w_after w_after.place
       ≡ traf_steps (traf_box w_after)
@@ -100,7 +100,8 @@ pub record CountsOff (m : MovieSeen) (w w_after : Walk) : Type 0 where
   pub traf : w_after.traf ≡ w.traf
   pub bytes : traf_bytes w_after ≡ traf_bytes w
   pub counted : (info : TrackInfo) → slice_get m.tracks w.track ≡ Some info
-      → w.left ≡ length (all_in_traf m w info w.due) + w_after.left
+      → w.left ≡ length (all_in_traf m w info (record { time = w.due; left = w.left }))
+      + w_after.left
 
 -- ---- going back to a mark
 
@@ -140,7 +141,7 @@ pub record IsReadAgain (m : MovieSeen) (w w_after : Walk) (before : Due) : Type 
   pub left : w_after.left ≡ w.mark.left
   pub all : (info : TrackInfo) → slice_get m.tracks w.track ≡ Some info
       → (hand : Loaded) × InHandOf m w_after hand
-      × (left_in_hand hand ≡ all_in_traf m w_after info before.time)
+      × (left_in_hand hand ≡ all_in_traf m w_after info before)
   pub through : (t : TrackTree) → way_through t w_after w_after.place
       ≡ traf_steps (traf_box w_after)
 

@@ -177,7 +177,7 @@ fn compare_descriptions(
         ++ descriptions_differ leaving of left.now right.now) }
 {
     let list = Entries::Descriptions;
-    if !leaving.labels {
+    if !leaving.leaves_payloads() {
         return compare_lists(of, list, &left.descriptions, &right.descriptions, found);
     }
     let own = descriptions_left(alloc, leaving, left)?;

@@ -150,6 +150,6 @@ pub(crate) fn outside_in_fragment(
 {
     let track = track_in(child_of(traf, TFHD)?.payload())?;
     let trex = state_with(states, track)?.trex?;
-    let mut cursor = FragCursor::start(traf.payload(), base, track, trex, 0, Keys::new());
+    let mut cursor = FragCursor::start(traf.payload(), base, track, trex, 0, 0, Keys::new());
     first_outside(&mut cursor, file_len)
 }

@@ -108,7 +108,8 @@ impl Walk {
         let info = movie.tracks()[self.track];
         let (base, trex) = (self.traf.base, movie.trex_of(self.track));
         let bytes = &self.bytes[..self.used];
-        let cursor = FragCursor::start(bytes, base, info.id, trex, before.time, info.keys);
+        let number = info.samples.saturating_sub(before.left);
+        let cursor = FragCursor::start(bytes, base, info.id, trex, number, before.time, info.keys);
         self.place = Place::Fragment(cursor.place());
         self.before = Some(before);
         steps.add(self.place.passed());

@@ -192,7 +192,8 @@ impl Walk {
         let info = movie.tracks()[self.track];
         let (base, trex) = (self.traf.base, movie.trex_of(self.track));
         let bytes = &self.bytes[..self.used];
-        let cursor = FragCursor::start(bytes, base, info.id, trex, self.due, info.keys);
+        let number = info.samples.saturating_sub(self.left);
+        let cursor = FragCursor::start(bytes, base, info.id, trex, number, self.due, info.keys);
         let Some(counts) = cursor.counts(self.left) else {
             return Err(Refusal::StoreChanged);
         };

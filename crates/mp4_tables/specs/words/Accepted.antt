@@ -166,7 +166,7 @@ pub record AreGroupPlaces (payload : List ℕ) (at : GroupsAt) (p : IndexPlaces)
 pub record IsPlace (payload : List ℕ) (at : TablesAt) (p : TablePlace) : Type 0 where
   pub within : p.number ≤ at.sizes.rows.count
   pub time : drop p.number (samples_of (tables_at payload at))
-      ≡ timed (keys_after [] (groupings_at payload at.groups)) p.dts
+      ≡ timed (keys_after [] (groupings_at payload at.groups)) p.number p.dts
       (drop p.number (plain_samples (tables_at payload at)))
   pub early : p.dts ≤ p.number * (2 ^ 32 - 1)
   pub duration : IsRunPlaceAt (runs_at payload at.durations) p.duration p.number

@@ -1,4 +1,5 @@
--- Samples as they are handed out: with decode times, and with an index at each key of the track.
+-- Samples as they are handed out: with numbers and decode times, and with an index at each key of
+-- the track.
 use Rattle.std.specs.Prelude.{ℕ, zero, suc, ◌+◌, List, [], ◌∷◌, map, ℤ, pos, negsuc}
 use Rattle.mp4_tables.specs.format.Groups.{GroupKey, Groups, index_at, keys_after}
 use Rattle.mp4_tables.specs.format.Tables.{Tables}
@@ -20,9 +21,9 @@ abbrev pub place_of : ℤ → ℕ
 place_of (pos n) = n
 place_of (negsuc n) = 0
 
--- a sample with its decode time
-abbrev pub sample_at : List GroupKey → ℕ → PlacedSample → SampleAt
-sample_at keys dts s = record {
+-- a sample with how many come before it, and with its decode time
+abbrev pub sample_at : List GroupKey → ℕ → ℕ → PlacedSample → SampleAt
+sample_at keys number dts s = record {
   dts = dts;
   duration = s.duration;
   cto = s.offset;
@@ -31,13 +32,15 @@ sample_at keys dts s = record {
   at = place_of s.at;
   size = s.size;
   groups = indexes keys s.groups;
+  number = number;
 }
 
--- samples one after the other, from a decode time on
-abbrev pub timed : List GroupKey → ℕ → List PlacedSample → List SampleAt
-timed keys dts [] = []
-timed keys dts (s ∷ samples) = sample_at keys dts s ∷ timed keys (dts + s.duration) samples
+-- samples one after the other, the first of them behind so many and at a decode time
+abbrev pub timed : List GroupKey → ℕ → ℕ → List PlacedSample → List SampleAt
+timed keys number dts [] = []
+timed keys number dts (s ∷ samples) = sample_at keys number dts s
+    ∷ timed keys (number + 1) (dts + s.duration) samples
 
 -- the samples of tables, from decode time 0 on
 unfoldable pub samples_of : Tables → List SampleAt
-samples_of t = timed (keys_after [] t.groups) 0 (plain_samples t)
+samples_of t = timed (keys_after [] t.groups) 0 0 (plain_samples t)

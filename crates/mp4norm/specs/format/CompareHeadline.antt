@@ -1,7 +1,9 @@
 -- What comparing two files answers.
-use Rattle.std.specs.Prelude.{◌≡◌, ◌↔◌, ◌≤◌, ℕ, nat_le, List, ◌++◌, length, take, flat_map, slice_get, Bool, true, Option, Some, None, Ok}
+use Rattle.std.specs.Prelude.{◌≡◌, ◌↔◌, ◌≤◌, ℕ, ◌+◌, ◌*◌, nat_le, List, ◌++◌, length, take, flat_map, slice_get, Bool, true, Option, Some, None, Ok}
 use Rattle.mp4_boxes.specs.format.Bytes.{AreBytes}
-use Rattle.mp4_present.specs.format.Presentation.{Presentation}
+use Rattle.mp4_present.specs.format.ByBytes.{OpensWithin}
+use Rattle.mp4_present.specs.format.Denotes.{Denotes}
+use Rattle.mp4_present.specs.format.Presentation.{Presentation, sample_total}
 use Rattle.mp4_present.specs.format.Judge.{judge}
 use Rattle.mp4_present.specs.format.Reduced.{reduce}
 use Rattle.mp4_present.specs.format.Comparison.{differences}
@@ -14,8 +16,9 @@ use Rattle.mp4norm.specs.declared.shell.action.Syntax.{Syntax}
 use Rattle.mp4norm.specs.declared.shell.action.Syntax.TheVariants as syntaxes
 use Rattle.mp4norm.specs.format.DifferenceLine.{difference_line}
 use Rattle.mp4norm.specs.format.DifferenceObject.{difference_object, last_object}
+use Rattle.mp4norm.specs.format.Headline.{DenotesNothing}
 use Rattle.mp4norm.specs.format.LastLine.{last_line}
-use Rattle.mp4norm.specs.format.Steps.{WorksWithin, FindsWithin}
+use Rattle.mp4norm.specs.format.Steps.{FindsWithin, row_total}
 
 -- Both files are judged to be a presentation, and the answer is whether the same is left of both.
 pub record IsVerdict (l : Without) (file other : List ℕ) (same : Bool) : Type 0 where
@@ -32,12 +35,13 @@ abbrev pub most_counted : ℕ
 most_counted = 1048576
 
 -- Words are named that leave out what was asked for, and with which the same is left of both;
--- where all differences are counted no fewer do. Or none are named, and there are none.
+-- where all differences are counted none of them can be taken away. Or none are named, and there
+-- are none.
 abbrev pub AreEnough : Without → Presentation → Presentation → Option Without → Type 0
 AreEnough l p q None = (m : Without) → reduce m p ≡ reduce m q → ⊥
 AreEnough l p q (Some m) = Covers l m × (reduce m p ≡ reduce m q)
     × (length (differences (reduce l p) (reduce l q)) ≤ most_counted
-    → (k : Without) → Covers l k → reduce k p ≡ reduce k q → Covers m k)
+    → (k : Without) → Covers l k → Covers k m → reduce k p ≡ reduce k q → k ≡ m)
 
 -- a difference as a line or as an object
 abbrev pub difference_in : Syntax → Difference → List ℕ
@@ -79,11 +83,24 @@ PutsSuch Took IsText = (text : List ℕ) × IsText text × Took text
 
 -- ---- its steps
 
--- The steps of comparing two files: those that a whole run over each may take.
+-- A file is walked over at most so many times: to list what differs, for each of three tries to
+-- find words that make the two the same, and for all words.
+abbrev pub most_walks : ℕ
+most_walks = 5
+
+-- The steps over one of two files that are compared: those of opening it, and of so many walks over
+-- each of its tracks. Where it denotes a presentation: 18 for each sample and each row, however
+-- many tracks there are. Where it denotes nothing: by its bytes.
+pub record ComparedWithin (file : List ℕ) (old new : ℕ) : Type 0 where
+  pub denoted : (p : Presentation) → (d : Denotes file p)
+      → new ≤ old + 3 * (most_walks + 1) * (sample_total p + row_total d.tree)
+  pub refused : DenotesNothing file → OpensWithin file old new
+
+-- the steps of comparing two files
 pub record ComparesWithin (file other : List ℕ) (old new : ℕ) : Type 0 where
   pub between : ℕ
-  pub first : WorksWithin file old between
-  pub second : WorksWithin other between new
+  pub first : ComparedWithin file old between
+  pub second : ComparedWithin other between new
 
 -- Their looks: those that opening each may take.
 pub record FindsBothWithin (file other : List ℕ) (old new : ℕ) : Type 0 where

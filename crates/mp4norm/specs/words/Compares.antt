@@ -1,6 +1,6 @@
 -- What there is to say of two files that are compared, and why they are not. `Took` says of bytes
 -- that they were put, the numbers are counts of failed reads and of failed puts.
-use Rattle.std.specs.Prelude.{◌≡◌, ◌⊎◌, ◌+◌, ◌*◌, ◌<◌, ◌≤◌, ℕ, nat_le, List, [], ◌++◌, length, take, flat_map, slice_get, Option, None, Some, Bool, true, false, IsTrue}
+use Rattle.std.specs.Prelude.{◌≡◌, ◌⊎◌, ◌+◌, ◌*◌, ◌<◌, ◌≤◌, ℕ, nat_le, List, [], ◌∷◌, ◌++◌, length, take, flat_map, slice_get, Option, None, Some, Bool, true, false, IsTrue}
 use Rattle.mp4_store.specs.words.Device.{HasRisen, TakesPrefix}
 use Rattle.mp4_boxes.specs.declared.refusal.Refusal.{Refusal}
 use Rattle.mp4_boxes.specs.declared.refusal.Refusal.TheVariants as refusals
@@ -11,7 +11,7 @@ use Rattle.mp4_present.specs.declared.comparing.differences.Difference.{Differen
 use Rattle.mp4_present.specs.declared.without.Without.{Without}
 use Rattle.mp4norm.specs.format.CompareHeadline.{difference_in, last_in, listing_text, most_counted}
 use Rattle.mp4norm.specs.format.DifferenceObject.{last_object}
-use Rattle.mp4norm.specs.words.Suggested.{suggested}
+use Rattle.mp4norm.specs.words.Suggested.{candidates}
 use Rattle.mp4norm.specs.declared.commands.compare.Listing.{Listing}
 use Rattle.mp4norm.specs.declared.commands.compare.Listing.TheVariants as listings
 use Rattle.mp4norm.specs.declared.commands.compare.Side.{Side}
@@ -53,26 +53,32 @@ everything = record {
   flags = true;
   groups = true;
   metadata = true;
+  bitrates = true;
   labels = true;
 }
 
--- Whether nothing differs without what is tried. The differences are given for whatever is left
--- out.
-abbrev pub IsEnoughOf : Option Without → (Without → List Difference) → Option Without → Type 0
-IsEnoughOf more differ None = (m : Without) → more ≡ Some m → differ m ≡ [] → ⊥
-IsEnoughOf more differ (Some m) = (more ≡ Some m) × (differ m ≡ [])
+-- The differences are given for whatever is left out. Whether there are none without this.
+abbrev pub IsSameWith : Without → (Without → List Difference) → Bool → Type 0
+IsSameWith l differ true = differ l ≡ []
+IsSameWith l differ false = differ l ≡ [] → ⊥
 
--- The same, where of a list that was cut all is tried too.
-abbrev pub IsEnoughFor : Option Without → Bool → (Without → List Difference) → Option Without
+-- the first of what is tried without which nothing differs
+abbrev pub IsFirstEnough : List Without → (Without → List Difference) → Option Without → Type 0
+IsFirstEnough [] differ enough = enough ≡ None
+IsFirstEnough (m ∷ more) differ enough = ((differ m ≡ []) × (enough ≡ Some m))
+    ⊎ ((differ m ≡ [] → ⊥) × IsFirstEnough more differ enough)
+
+-- The same, where of a list that was cut all is tried too, unless nothing else was to be tried.
+abbrev pub IsEnoughFor : List Without → Bool → (Without → List Difference) → Option Without
     → Type 0
-IsEnoughFor more whole differ None = (m : Without) → more ≡ Some m → (differ m ≡ [] → ⊥)
-    × (whole ≡ false → differ everything ≡ [] → ⊥)
-IsEnoughFor more whole differ (Some m) =
-    ((more ≡ Some m) ⊎ ((whole ≡ false) × (m ≡ everything))) × (differ m ≡ [])
+IsEnoughFor tries whole differ None = IsFirstEnough tries differ None
+    × (whole ≡ false → (tries ≡ [] → ⊥) → differ everything ≡ [] → ⊥)
+IsEnoughFor tries whole differ (Some m) = IsFirstEnough tries differ (Some m)
+    ⊎ ((whole ≡ false) × (m ≡ everything) × (differ m ≡ []))
 
 -- The same of what the counted differences ask for.
 abbrev pub IsEnough : Without → (Without → List Difference) → Option Without → Type 0
-IsEnough l differ enough = IsEnoughFor (suggested l (take most_counted (differ l)))
+IsEnough l differ enough = IsEnoughFor (candidates l (take most_counted (differ l)))
     (nat_le (length (differ l)) most_counted) differ enough
 
 -- what is said where something differs
@@ -92,13 +98,9 @@ abbrev pub says_nothing : {A : Type 0} → Option A → Bool
 says_nothing None = true
 says_nothing (Some text) = false
 
--- the steps of at most two walks over all tracks of both
-abbrev pub WalksTwice : FileTree → FileTree → ℕ → ℕ → Type 0
-WalksTwice tree other old new = new ≤ old + 2 * (walks_steps tree + walks_steps other)
-
--- and of at most three
-abbrev pub WalksThrice : FileTree → FileTree → ℕ → ℕ → Type 0
-WalksThrice tree other old new = new ≤ old + 3 * (walks_steps tree + walks_steps other)
+-- the steps of at most so many walks over all tracks of both
+abbrev pub WalksTimes : ℕ → FileTree → FileTree → ℕ → ℕ → Type 0
+WalksTimes times tree other old new = new ≤ old + times * (walks_steps tree + walks_steps other)
 
 -- Nothing is said of files that are the same, but where all differences are listed as JSON.
 abbrev pub is_text : Syntax → Bool

@@ -14,7 +14,7 @@ use Rattle.mp4_present.specs.format.Reduced.{reduce}
 use Rattle.mp4_present.specs.words.Joined.{IsBelow}
 use Rattle.mp4_present.specs.words.Loaded.{left_in_hand}
 use Rattle.mp4_present.specs.words.HandCarried.{OfHand}
-use Rattle.mp4_present.specs.words.PayloadsLeft.{without_labels}
+use Rattle.mp4_present.specs.words.PayloadsLeft.{track_payloads_left}
 use Rattle.mp4_present.specs.words.Movies.{MovieSeen, IsWalkOf}
 use Rattle.mp4_present.specs.words.OpenedMovie.{IsOpenedAs}
 use Rattle.mp4_present.specs.words.SamplesComing.{Comes, track_samples}
@@ -89,5 +89,5 @@ abbrev pub WhereHeads : {X : Type 0} → Store X → X → MovieSeen → Without
     → (List ℕ → FileTree → Type 0) → Type 0
 WhereHeads S store m l heads P = IsTrue (S.is_honest store) → (tree : FileTree)
     → IsOpenedAs (S.file store) m tree
-    → map track_seen heads ≡ map (without_labels l) (map track_head_of tree.movie.tracks)
+    → map track_seen heads ≡ map (track_payloads_left l) (map track_head_of tree.movie.tracks)
     → P (S.file store) tree

@@ -1,15 +1,15 @@
 //! Two files, compared by what they say.
-ghost use Rattle.std.specs.Prelude.{◌≡◌, ◌<◌, [], ◌∷◌, length, take, Some, true, false, IfOk, IfErr, IfSome, OnOk};
+ghost use Rattle.std.specs.Prelude.{◌≡◌, ◌+◌, ◌<◌, [], ◌∷◌, length, take, Some, true, false, IfOk, IfErr, IfSome, OnOk};
 ghost use Rattle.mp4norm.specs.declared.commands.compare.Listing.TheVariants.{All};
-ghost use Rattle.mp4norm.specs.format.CompareHeadline.{IsVerdict, IsTold, difference_in, PutsSuch, ComparesWithin, FindsBothWithin};
+ghost use Rattle.mp4norm.specs.format.CompareHeadline.{IsVerdict, IsTold, difference_in, PutsSuch, ComparesWithin, FindsBothWithin, most_walks};
 ghost use Rattle.mp4norm.specs.format.DifferenceObject.{last_object};
-ghost use Rattle.mp4norm.specs.words.Compares.{side_of, says_nothing, is_silent, AddsLines, AddsLast, IsCounted, IsEnoughOf, IsEnoughFor, IsFoundOf, IsSaid, ListsFront, PutsAnswer, PutsFound, PutsSame, WalksTwice, WalksThrice, RefusesAnswer};
+ghost use Rattle.mp4norm.specs.words.Compares.{side_of, says_nothing, is_silent, AddsLines, AddsLast, IsCounted, IsEnoughFor, IsFirstEnough, IsSameWith, IsFoundOf, IsSaid, ListsFront, PutsAnswer, PutsFound, PutsSame, WalksTimes, RefusesAnswer};
 ghost use Rattle.mp4_present.specs.words.StoresRead.{IsUnchanged, WhereBothHonest};
 ghost use Rattle.mp4norm.specs.words.StoreAndSink.{NoPutFails};
 ghost use Rattle.mp4_present.specs.words.Compared.{OfFiles, WhereOpenedBoth};
 ghost use Rattle.mp4norm.specs.words.TwoFiles.{ComparesBoth, OfBoth, ReadsBoth, WalksOnce};
 
-use crate::commands::tally::{say_last, suggested};
+use crate::commands::tally::{candidates, say_last};
 use crate::shell::action::Syntax;
 use crate::shell::without_words::EVERYTHING;
 use crate::text::difference_json::{say_difference_object, say_last_object};
@@ -254,55 +254,79 @@ fn all_of<S: Store, T: Store, L: Ledger>(
     Ok(listed)
 }
 
-// What is left out more, if two opened files are the same without it.
-fn enough_of<S: Store, T: Store, L: Ledger>(
+// Whether two opened files are the same without this.
+fn is_enough<S: Store, T: Store, L: Ledger>(
     alloc: Global,
     movies: &Movies,
     a: &mut S,
     b: &mut T,
-    more: Option<Without>,
+    leaving: Without,
+    steps: &mut Steps<L>,
+) -> Result<bool, Refusal>
+    ensures stores { ReadsBoth S.Store a.old a.new T.Store b.old b.new result }
+    ensures enough { IfOk result
+        (λ same. OfBoth S.Store a.old movies.now.left T.Store b.old movies.now.right
+        (λ differ. IsSameWith leaving differ same)) }
+    ensures opened { WhereOpenedBoth S.Store a.old movies.now.left T.Store b.old movies.now.right
+        (λ tree other. IsUnchanged result × WalksOnce tree other steps.old steps.new) }
+{
+    let (left, right) = (&movies.left, &movies.right);
+    match compare(alloc, left, a, right, b, leaving, steps)? {
+        None => Ok(true),
+        Some(_) => Ok(false),
+    }
+}
+
+// The first of some words without which two opened files are the same.
+fn first_enough<S: Store, T: Store, L: Ledger>(
+    alloc: Global,
+    movies: &Movies,
+    a: &mut S,
+    b: &mut T,
+    tries: &[Without],
     steps: &mut Steps<L>,
 ) -> Result<Option<Without>, Refusal>
     ensures stores { ReadsBoth S.Store a.old a.new T.Store b.old b.new result }
     ensures enough { IfOk result
         (λ enough. OfBoth S.Store a.old movies.now.left T.Store b.old movies.now.right
-        (λ differ. IsEnoughOf more differ enough)) }
+        (λ differ. IsFirstEnough tries.now differ enough)) }
     ensures opened { WhereOpenedBoth S.Store a.old movies.now.left T.Store b.old movies.now.right
-        (λ tree other. IsUnchanged result × WalksOnce tree other steps.old steps.new) }
+        (λ tree other. IsUnchanged result
+        × WalksTimes (length tries.now) tree other steps.old steps.new) }
 {
-    let Some(more) = more else {
+    let Some((first, more)) = tries.split_first() else {
         return Ok(None);
     };
-    let (left, right) = (&movies.left, &movies.right);
-    match compare(alloc, left, a, right, b, more, steps)? {
-        None => Ok(Some(more)),
-        Some(_) => Ok(None),
+    if is_enough(alloc, movies, a, b, *first, steps)? {
+        return Ok(Some(*first));
     }
+    first_enough(alloc, movies, a, b, more, steps)
 }
 
-// The words without which two opened files are the same: those that the differences ask for that
+// The words without which two opened files are the same: of those that the differences ask for that
 // are held. Of a list that was cut the rest isn't known: where these aren't enough, all are tried.
 fn enough_for<S: Store, T: Store, L: Ledger>(
     alloc: Global,
     movies: &Movies,
     a: &mut S,
     b: &mut T,
-    more: Option<Without>,
+    tries: &[Without],
     is_whole: bool,
     steps: &mut Steps<L>,
 ) -> Result<Option<Without>, Refusal>
     ensures stores { ReadsBoth S.Store a.old a.new T.Store b.old b.new result }
     ensures enough { IfOk result
         (λ enough. OfBoth S.Store a.old movies.now.left T.Store b.old movies.now.right
-        (λ differ. IsEnoughFor more is_whole differ enough)) }
+        (λ differ. IsEnoughFor tries.now is_whole differ enough)) }
     ensures opened { WhereOpenedBoth S.Store a.old movies.now.left T.Store b.old movies.now.right
-        (λ tree other. IsUnchanged result × WalksTwice tree other steps.old steps.new) }
+        (λ tree other. IsUnchanged result
+        × WalksTimes (length tries.now + 1) tree other steps.old steps.new) }
 {
-    let enough = enough_of(alloc, movies, a, b, more, steps)?;
-    if enough.is_some() || more.is_none() || is_whole {
+    let enough = first_enough(alloc, movies, a, b, tries, steps)?;
+    if enough.is_some() || tries.is_empty() || is_whole {
         return Ok(enough);
     }
-    enough_of(alloc, movies, a, b, Some(EVERYTHING), steps)
+    first_enough(alloc, movies, a, b, &[EVERYTHING], steps)
 }
 
 // Compares two opened files, and gives the text of all differences; none where there are none.
@@ -324,7 +348,7 @@ fn all_text<S: Store, T: Store, L: Ledger>(
         (λ text. OfBoth S.Store a.old movies.now.left T.Store b.old movies.now.right
         (λ differ. IsFoundOf (λ bytes. bytes.items) (All lines) leaving differ text)) }
     ensures opened { WhereOpenedBoth S.Store a.old movies.now.left T.Store b.old movies.now.right
-        (λ tree other. IsUnchanged result × WalksThrice tree other steps.old steps.new) }
+        (λ tree other. IsUnchanged result × WalksTimes most_walks tree other steps.old steps.new) }
 {
     let listed = all_of(alloc, movies, a, b, leaving, steps)?;
     if listed.is_empty() {
@@ -332,8 +356,8 @@ fn all_text<S: Store, T: Store, L: Ledger>(
     }
     let is_whole = listed.all.len() <= MOST;
     let all = first_of(listed.all.as_slice(), MOST);
-    let more = suggested(leaving, all);
-    let enough = enough_for(alloc, movies, a, b, more, is_whole, steps)?;
+    let tries = candidates(alloc, leaving, all)?;
+    let enough = enough_for(alloc, movies, a, b, &tries, is_whole, steps)?;
     Ok(Some(listed_text(alloc, all, lines, is_whole, enough)?))
 }
 
@@ -356,7 +380,7 @@ fn text_of<S: Store, T: Store, L: Ledger>(
         (λ text. OfBoth S.Store a.old movies.now.left T.Store b.old movies.now.right
         (λ differ. IsFoundOf (λ bytes. bytes.items) listing leaving differ text)) }
     ensures opened { WhereOpenedBoth S.Store a.old movies.now.left T.Store b.old movies.now.right
-        (λ tree other. IsUnchanged result × WalksThrice tree other steps.old steps.new) }
+        (λ tree other. IsUnchanged result × WalksTimes most_walks tree other steps.old steps.new) }
 {
     let (left, right) = (&movies.left, &movies.right);
     match listing {

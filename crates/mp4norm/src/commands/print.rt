@@ -11,7 +11,7 @@ ghost use Rattle.mp4_present.specs.words.OutBuffers.{OnlyCopies};
 ghost use Rattle.mp4_present.specs.words.StoresRead.{IsUnchanged, OnlyReads, Refused, WhereHonest};
 ghost use Rattle.mp4_present.specs.words.TrackWalks.{WhereMayTake};
 ghost use Rattle.mp4_present.specs.format.Reduced.{reduce_track_head};
-ghost use Rattle.mp4_present.specs.words.PayloadsLeft.{keeping_labels};
+ghost use Rattle.mp4_present.specs.words.PayloadsLeft.{keeping_payloads};
 ghost use Rattle.mp4norm.specs.format.Answers.{Printed};
 ghost use Rattle.mp4norm.specs.format.Run.{KeepsFile, run_of};
 ghost use Rattle.mp4norm.specs.format.Steps.{FindsWithin, TakesEach, WalksWithin};
@@ -198,7 +198,7 @@ fn put_front<K: Sink>(
     sink: &mut K,
 ) -> Result<(), Refusal>
     ensures { Tells K.Sink sink.old sink.new text.old text.new
-        (head_lines (reduce_track_head (keeping_labels leaving) (track_seen head.now))
+        (head_lines (reduce_track_head (keeping_payloads leaving) (track_seen head.now))
         ++ number_line (codes "start") start ++ samples_heading head.now.id) result }
 {
     put_head(leaving, head, text, sink)?;

@@ -3,11 +3,11 @@ ghost use Rattle.std.specs.Prelude.{◌≡◌, [], ◌∷◌, ◌++◌, ◌&&◌
 ghost use Rattle.std.specs.List.{list_any};
 ghost use Rattle.mp4_present.specs.format.Reduced.{sync_flag};
 ghost use Rattle.mp4norm.specs.format.LastLine.{all_kinds, count_of_kind, count_text, counts_text, enough_text, kind_name, kind_of_difference, kind_of_entries, last_line, leaving_text, total_end, total_front, words_text};
-ghost use Rattle.mp4norm.specs.words.Suggested.{differ_in_all, has, is_fixed, is_in_sync, is_label, is_label_field, suggested};
+ghost use Rattle.mp4norm.specs.words.Suggested.{candidates, differ_in_all, has, is_detail, is_fixed, is_in_sync, is_label, needed, with_details};
 
 use crate::text::difference_lines::{end_line, say, say_counted};
 use mp4_present::{Difference, Entries, Field, Part, Subject, Value, Without};
-use std::alloc::AllocError;
+use std::alloc::{AllocError, Global};
 
 /// What a difference is of, in the order in which the kinds are told of.
 #[derive(Clone, Copy)]
@@ -117,22 +117,11 @@ fn any_in_sync(all: &[Difference]) -> bool
     all.iter().any(|difference| is_in_sync(difference))
 }
 
-// Whether a field may be a name for people, or a part of one.
-fn is_label_field(field: Field) -> bool
-    ensures { result ≡ is_label_field field }
-{
-    match field {
-        Field::Entry(Entries::Handler, _, _) => true,
-        Field::Entry(Entries::Descriptions, _, Part::Byte(_, _)) => true,
-        _ => false,
-    }
-}
-
-// Whether a difference may be of a name for people.
+// Whether a difference is of a handler, which may be of its name.
 fn is_label(difference: &Difference) -> bool
     ensures { result ≡ is_label difference.now }
 {
-    is_label_field(difference.field)
+    matches!(difference.field, Field::Entry(Entries::Handler, _, _))
 }
 
 // Whether such a difference is among these.
@@ -142,11 +131,31 @@ fn any_label(all: &[Difference]) -> bool
     all.iter().any(|difference| is_label(difference))
 }
 
-// Whether a difference is of a head, and of no name for people.
+// Whether a difference is of the bytes of a sample description, or of how many they are.
+fn is_detail(difference: &Difference) -> bool
+    ensures { result ≡ is_detail difference.now }
+{
+    match difference.field {
+        Field::Entry(Entries::Descriptions, _, Part::Byte(_, _)) => true,
+        Field::Entry(Entries::Descriptions, _, Part::Length) => true,
+        _ => false,
+    }
+}
+
+// Whether such a difference is among these.
+fn any_detail(all: &[Difference]) -> bool
+    ensures { result ≡ list_any is_detail all.now }
+{
+    all.iter().any(|difference| is_detail(difference))
+}
+
+// Whether a difference is of a head, and no word leaves it out.
 fn is_fixed(difference: &Difference) -> bool
     ensures { result ≡ is_fixed difference.now }
 {
-    kind_of_difference(difference) as u8 == Kind::Heads as u8 && !is_label(difference)
+    kind_of_difference(difference) as u8 == Kind::Heads as u8
+        && !is_label(difference)
+        && !is_detail(difference)
 }
 
 // Whether such a difference is among these.
@@ -171,23 +180,71 @@ fn differ_in_all(all: &[Difference]) -> bool
     or_has(differ, Kind::Bytes, all) || any_in_sync(all)
 }
 
-/// What has to be left out, beside what is left out already, for none of these differences to be
-/// left; none where some would be. Of kept boxes not all are metadata, and of handlers and sample
-/// descriptions not all bytes are names, so it may not be enough.
-pub(crate) fn suggested(leaving: Without, all: &[Difference]) -> Option<Without>
-    ensures { result ≡ suggested leaving all.now }
+// What has to be left out, beside what is left out already, for none of these differences to be
+// left but those of bytes of sample descriptions.
+fn needed(leaving: Without, all: &[Difference]) -> Without
+    ensures { result ≡ needed leaving all.now }
 {
-    if differ_in_all(all) {
-        return None;
-    }
-    Some(Without {
+    Without {
         times: or_has(leaving.times, Kind::Times, all),
         edits: or_has(leaving.edits, Kind::Edits, all),
         flags: or_has(leaving.flags, Kind::Flags, all),
         groups: or_has(leaving.groups, Kind::Groups, all),
         metadata: or_has(leaving.metadata, Kind::Kept, all),
+        bitrates: leaving.bitrates,
         labels: leaving.labels || any_label(all),
-    })
+    }
+}
+
+// Adds what may leave out bytes of sample descriptions, where the first words leave some.
+fn put_details(found: &mut Vec<Without>, leaving: Without, least: Without) -> Result<(), AllocError>
+    ensures { OnOk result (found.new.items ≡ found.old.items ++ with_details leaving least) }
+{
+    let labelled = Without {
+        labels: true,
+        ..least
+    };
+    let rated = Without {
+        bitrates: true,
+        ..least
+    };
+    if !leaving.labels {
+        found.push(labelled)?;
+    }
+    if !leaving.bitrates {
+        found.push(rated)?;
+    }
+    if !leaving.labels && !leaving.bitrates {
+        found.push(Without {
+            labels: true,
+            ..rated
+        })?;
+    }
+    Ok(())
+}
+
+/// What may be left out for none of these differences to be left: of what is tried in this order,
+/// the first that is enough has no word that can be taken away. None where some differences would
+/// be left. Of kept boxes not all are metadata, and of handlers and sample descriptions not all
+/// bytes are names or rates, so all may be too little.
+pub(crate) fn candidates(
+    alloc: Global,
+    leaving: Without,
+    all: &[Difference],
+) -> Result<Vec<Without>, AllocError>
+    ensures { IfOk result (λ found. found.items ≡ candidates leaving all.now) }
+{
+    let mut found = Vec::new(alloc);
+    if differ_in_all(all) {
+        return Ok(found);
+    }
+    let least = needed(leaving, all);
+    if any_detail(all) {
+        put_details(&mut found, leaving, least)?;
+    } else {
+        found.push(least)?;
+    }
+    Ok(found)
 }
 
 // Adds a count of a kind, where it isn't 0, and says whether none is added yet.
@@ -255,6 +312,7 @@ pub(crate) fn say_words(text: &mut Vec<u8>, leaving: Without) -> Result<(), Allo
     let is_first = say_word(text, "flags", leaving.flags, is_first)?;
     let is_first = say_word(text, "groups", leaving.groups, is_first)?;
     let is_first = say_word(text, "metadata", leaving.metadata, is_first)?;
+    let is_first = say_word(text, "bitrates", leaving.bitrates, is_first)?;
     let _ = say_word(text, "labels", leaving.labels, is_first)?;
     Ok(())
 }

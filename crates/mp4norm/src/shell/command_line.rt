@@ -44,7 +44,8 @@ const DROP_RULE: &str = "\
 each type is four printable characters or eight hexadecimal digits, and not free, or uuid: and a \
 UUID; before a slash only a container whose boxes are listed may stand";
 
-const WITHOUT_RULE: &str = "each word is times, edits, flags, groups, metadata or labels";
+const WITHOUT_RULE: &str = "\
+each word is times, edits, flags, groups, metadata, bitrates or labels";
 
 /// How many differences are listed where no number is given.
 const LIMIT: u32 = 100;

@@ -9,6 +9,7 @@ pub(crate) const EVERYTHING: Without = Without {
     flags: true,
     groups: true,
     metadata: true,
+    bitrates: true,
     labels: true,
 };
 
@@ -20,6 +21,7 @@ fn leave_out(leaving: &mut Without, word: &[u8]) -> bool {
         b"flags" => leaving.flags = true,
         b"groups" => leaving.groups = true,
         b"metadata" => leaving.metadata = true,
+        b"bitrates" => leaving.bitrates = true,
         b"labels" => leaving.labels = true,
         _ => return false,
     }

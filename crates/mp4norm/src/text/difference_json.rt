@@ -252,7 +252,8 @@ fn say_left_out(
 fn say_words(text: &mut Vec<u8>, leaving: Without) -> Result<(), AllocError>
     ensures { OnOk result (text.new.items ≡ text.old.items ++ leaving_list leaving) }
 {
-    let is_first = say_left_out(text, "edits", leaving.edits, true)?;
+    let is_first = say_left_out(text, "bitrates", leaving.bitrates, true)?;
+    let is_first = say_left_out(text, "edits", leaving.edits, is_first)?;
     let is_first = say_left_out(text, "flags", leaving.flags, is_first)?;
     let is_first = say_left_out(text, "groups", leaving.groups, is_first)?;
     let is_first = say_left_out(text, "labels", leaving.labels, is_first)?;

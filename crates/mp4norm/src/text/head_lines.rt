@@ -2,7 +2,7 @@
 ghost use Rattle.std.specs.Prelude.{◌≡◌, ◌++◌, if◌then◌else◌, [], map, decimal};
 ghost use Rattle.mp4_head.specs.words.Seen.{media_seen, movie_seen, track_seen};
 ghost use Rattle.mp4_present.specs.format.Reduced.{reduce_media, reduce_movie_head, reduce_track_head};
-ghost use Rattle.mp4_present.specs.words.PayloadsLeft.{keeping_labels};
+ghost use Rattle.mp4_present.specs.words.PayloadsLeft.{keeping_payloads};
 ghost use Rattle.mp4norm.specs.format.Text.{head_lines, media_lines, movie_lines, track_lines};
 ghost use Rattle.mp4norm.specs.words.Telling.{Tells, said_line, media_front, movie_front, track_front};
 
@@ -73,7 +73,7 @@ pub(crate) fn put_heading<K: Sink>(
 // The values of a track.
 fn track_values(leaving: Without, head: &TrackHead) -> [Named; 9]
     ensures { map said_line result
-        ≡ track_front (reduce_track_head (keeping_labels leaving) (track_seen head.now)) }
+        ≡ track_front (reduce_track_head (keeping_payloads leaving) (track_seen head.now)) }
 {
     [
         saying(b"flags", Said::Flags(head.flags)),
@@ -95,7 +95,7 @@ fn edits_left<'a>(leaving: Without, edits: &'a [Edit]) -> &'a [Edit]
     if leaving.edits { &edits[..0] } else { edits }
 }
 
-// Puts what is left of the head of a track, but its media and group descriptions; labels stay.
+// Puts what is left of the head of a track, but its media and group descriptions; payloads stay.
 fn put_track<K: Sink>(
     leaving: Without,
     head: &TrackHead,
@@ -103,7 +103,7 @@ fn put_track<K: Sink>(
     sink: &mut K,
 ) -> Result<(), Refusal>
     ensures { Tells K.Sink sink.old sink.new carrier.old carrier.new
-        (track_lines (reduce_track_head (keeping_labels leaving) (track_seen head.now))) result }
+        (track_lines (reduce_track_head (keeping_payloads leaving) (track_seen head.now))) result }
 {
     put_heading(b"track ", head.id, LINE_FEED, carrier, sink)?;
     put_all_named(&track_values(leaving, head), carrier, sink)?;
@@ -114,7 +114,7 @@ fn put_track<K: Sink>(
 // The values of media.
 fn media_values(leaving: Without, media: &Media) -> [Named; 4]
     ensures { map said_line result
-        ≡ media_front (reduce_media (keeping_labels leaving) (media_seen media.now)) }
+        ≡ media_front (reduce_media (keeping_payloads leaving) (media_seen media.now)) }
 {
     [
         number(b"media creation", time_left(leaving, media.creation)),
@@ -127,7 +127,7 @@ fn media_values(leaving: Without, media: &Media) -> [Named; 4]
     ]
 }
 
-// Puts what is left of media, but for labels, which stay.
+// Puts what is left of media, but for payloads of media, which stay.
 fn put_media<K: Sink>(
     leaving: Without,
     media: &Media,
@@ -135,7 +135,7 @@ fn put_media<K: Sink>(
     sink: &mut K,
 ) -> Result<(), Refusal>
     ensures { Tells K.Sink sink.old sink.new carrier.old carrier.new
-        (media_lines (reduce_media (keeping_labels leaving) (media_seen media.now))) result }
+        (media_lines (reduce_media (keeping_payloads leaving) (media_seen media.now))) result }
 {
     put_all_named(&media_values(leaving, media), carrier, sink)?;
     put_payload(b"handler", b"", media.handler, carrier, sink)?;
@@ -156,7 +156,7 @@ fn groups_left<'a>(leaving: Without, payloads: &'a [&'a [u8]]) -> &'a [&'a [u8]]
     }
 }
 
-/// Puts what is left of the head of a track, but for labels, which stay.
+/// Puts what is left of the head of a track, but for payloads of media, which stay.
 pub(crate) fn put_head<K: Sink>(
     leaving: Without,
     head: &TrackHead,
@@ -164,7 +164,7 @@ pub(crate) fn put_head<K: Sink>(
     sink: &mut K,
 ) -> Result<(), Refusal>
     ensures { Tells K.Sink sink.old sink.new carrier.old carrier.new
-        (head_lines (reduce_track_head (keeping_labels leaving) (track_seen head.now))) result }
+        (head_lines (reduce_track_head (keeping_payloads leaving) (track_seen head.now))) result }
 {
     put_track(leaving, head, carrier, sink)?;
     put_media(leaving, &head.media, carrier, sink)?;

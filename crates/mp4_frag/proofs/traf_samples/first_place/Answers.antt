@@ -7,4 +7,4 @@ returns-clause-reached c payload =
     let base : to_z w128 (of_z w128 c.args.base) ≡ c.args.base = search rules in
     let inherited = c.nothing_inherited.ensures in
     let indexes = c.no_indexes.ensures.none payload in
-    λ i. record { dts = c.args.dts; at = base i; base = base i; inherited = inherited i; indexes = indexes i }
+    λ i. record { number = c.args.number; dts = c.args.dts; at = base i; base = base i; inherited = inherited i; indexes = indexes i }

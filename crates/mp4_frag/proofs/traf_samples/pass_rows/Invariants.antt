@@ -10,7 +10,7 @@ use Rattle.mp4_frag.proofs.traf_samples.pass_rows.Given as goal
 -- so many rows were passed
 abbrev pub invariant-loop-count : goal.invariant-loop-count
 invariant-loop-count l =
-    let here : FragPlace = record l.place { run = l.run; dts = l.dts; at = l.at } in
+    let here : FragPlace = record l.place { run = l.run; number = l.number; dts = l.dts; at = l.at } in
     record {
       rows : IsRowPlace l.payload l.run;
       width : l.run.width ≡ row_room l.run.bits;

@@ -22,4 +22,4 @@ returns c =
     let size = said.size in
     let groups = c.here.ensures payload place.index_rows c.requires.place.indexes in
     sample_first payload place (row_signed row) _ _ (row_in_hand payload place.run row c.requires.some said.is)
-    (λ i. record { dts = place.dts; duration = duration i; cto = cto i; flags = flags i; description = place.inherited.description; at = there i; size = size i; groups = groups i })
+    (λ i. record { dts = place.dts; duration = duration i; cto = cto i; flags = flags i; description = place.inherited.description; at = there i; size = size i; groups = groups i; number = place.number })

@@ -1,16 +1,16 @@
 use Rattle.std.proofs.Common.{rules, ◌<◌, length, refl}
-use Rattle.mp4_present.specs.words.PayloadsLeft.{keeping_labels}
+use Rattle.mp4_present.specs.words.PayloadsLeft.{keeping_payloads}
 use Rattle.mp4_plan.proofs.HeadLess.{reduced_none, reduced_one, reduced_all}
 use Rattle.mp4_plan.proofs.reduced_head.reduce_tracks.Goals as goal
 
 pub loop-k-init : goal.loop-k-init
-loop-k-init c = (refl, reduced_none (keeping_labels c.args.leaving) _ _ refl)
+loop-k-init c = (refl, reduced_none (keeping_payloads c.args.leaving) _ _ refl)
 
 pub loop-k-preserved : goal.loop-k-preserved
 loop-k-preserved c =
     let i = c.loop-k.invariant in
     let lt : c.loop-k.k < length c.loop-k.tracks.items = search rules in
-    (search rules, reduced_one (keeping_labels c.args.leaving) _ c.loop-k.tracks.items c.loop-k.k c.index_mut.result.now c.reduce_track.new.track _ i.1 lt c.index_mut.ensures.value c.reduce_track.ensures)
+    (search rules, reduced_one (keeping_payloads c.args.leaving) _ c.loop-k.tracks.items c.loop-k.k c.index_mut.result.now c.reduce_track.new.track _ i.1 lt c.index_mut.ensures.value c.reduce_track.ensures)
 
 pub returns : goal.returns
-returns c = reduced_all (keeping_labels c.args.leaving) _ c.loop-k.tracks.items c.loop-k.k c.loop-k.invariant.1 (search rules)
+returns c = reduced_all (keeping_payloads c.args.leaving) _ c.loop-k.tracks.items c.loop-k.k c.loop-k.invariant.1 (search rules)

@@ -2,12 +2,12 @@ use Rattle.std.proofs.Common.{rules, ◌≡◌, ◌<◌, ◌≤◌, length, refl
 use Rattle.std.specs.Prelude.{slice_get}
 use Rattle.mp4_head.specs.words.Seen.{media_seen, track_seen}
 use Rattle.mp4_head.specs.declared.heads.TrackHead.{TrackHead}
-use Rattle.mp4_present.specs.words.PayloadsLeft.{IsMediaLeft, without_labels}
+use Rattle.mp4_present.specs.words.PayloadsLeft.{IsMediaLeft, track_payloads_left}
 use Rattle.mp4_present.proofs.OwnPayloads.{there_is, zip_at, zip_many, changed_none, unchanged_next, changed_one, changed_all}
 use Rattle.mp4_present.proofs.own_payloads.put_tracks_left.Goals as goal
 
 pub loop-k-init : goal.loop-k-init
-loop-k-init c = (refl, changed_none track_seen (without_labels c.args.leaving) _ _ refl)
+loop-k-init c = (refl, changed_none track_seen (track_payloads_left c.args.leaving) _ _ refl)
 
 pub loop-k-preserved : goal.loop-k-preserved
 loop-k-preserved c =
@@ -22,8 +22,8 @@ loop-k-preserved c =
     let lt_left : k < length lefts = search rules in
     let at : slice_get now k ≡ Some track = there_is now k _ track lt c.index_mut.ensures.value in
     let left_at : slice_get lefts k ≡ Some left = there_is lefts k _ left lt_left c.index-lefts-k.is in
-    let is = zip_at (λ (t : TrackHead). IsMediaLeft c.args.leaving (media_seen t.media)) old lefts k track left c.requires (unchanged_next track_seen (without_labels c.args.leaving) old now k track i.1 at) left_at in
-    (length-set now k c.put_media_left.new.track ∙ i.0, changed_one track_seen (without_labels c.args.leaving) old now k track c.put_media_left.new.track i.1 at (c.in_ok-put_media_left.ensures c.args.leaving is))
+    let is = zip_at (λ (t : TrackHead). IsMediaLeft c.args.leaving (media_seen t.media)) old lefts k track left c.requires (unchanged_next track_seen (track_payloads_left c.args.leaving) old now k track i.1 at) left_at in
+    (length-set now k c.put_media_left.new.track ∙ i.0, changed_one track_seen (track_payloads_left c.args.leaving) old now k track c.put_media_left.new.track i.1 at (c.in_ok-put_media_left.ensures c.args.leaving is))
 
 pub returns : goal.returns
 returns c =
@@ -32,4 +32,4 @@ returns c =
     let over : c.min-k-end.result ≤ c.loop-k.k = search rules in
     let least = c.min-k-end.ensures in
     let all : c.len.result ≡ length old = search rules in
-    changed_all track_seen (without_labels c.args.leaving) old c.loop-k.tracks.items c.loop-k.k c.loop-k.invariant.1 (omega (arith, many, over, least, all))
+    changed_all track_seen (track_payloads_left c.args.leaving) old c.loop-k.tracks.items c.loop-k.k c.loop-k.invariant.1 (omega (arith, many, over, least, all))

@@ -1,5 +1,5 @@
 use Rattle.std.proofs.Common.{rules, ◌≡◌, ◌+◌, ◌≤◌, length, arith, ap, sym, subst, ◌∙◌, slice_set}
-use Rattle.mp4_present.specs.format.Reduced.{zeroed}
+use Rattle.mp4_present.specs.format.Zeros.{zeroed}
 use Rattle.mp4_present.proofs.Zeroed.{zero_none, zero_more, zero_enough}
 use Rattle.mp4_present.proofs.own_payloads.put_zeros.Goals as goal
 

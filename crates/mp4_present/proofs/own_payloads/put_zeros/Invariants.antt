@@ -1,5 +1,5 @@
 use Rattle.std.proofs.Common.{◌≡◌, ◌≤◌, ◌-◌}
-use Rattle.mp4_present.specs.format.Reduced.{zeroed}
+use Rattle.mp4_present.specs.format.Zeros.{zeroed}
 use Rattle.mp4_present.proofs.own_payloads.put_zeros.Given as goal
 
 -- the first of them are zeros

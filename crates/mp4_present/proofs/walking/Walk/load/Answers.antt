@@ -1,4 +1,4 @@
-use Rattle.std.proofs.Common.{rules, arith, ℕ, ◌≡◌, ◌+◌, ◌<◌, List, length, slice_get, refl, sym, ap, subst, ◌∙◌}
+use Rattle.std.proofs.Common.{rules, arith, ℕ, ◌≡◌, ◌+◌, ◌-◌, ◌<◌, List, length, slice_get, refl, sym, ap, subst, ◌∙◌}
 use Rattle.std.proofs.lemmas.Result.{err_from_is_err_and}
 use Rattle.std.proofs.lemmas.List.{with_items_is}
 use Rattle.mp4_tables.specs.declared.sample.SampleAt.{SampleAt}
@@ -134,7 +134,7 @@ returns-then-branch-clause-answer g c =
         some = omega (arith, one, long, some, sum);
         all = λ info at.
             let sum = e.counts.counted info (ap (slice_get m.tracks) (sym e.keeps.track) ∙ at) in
-            same_count _ _ _ sum _ (λ i. length (samples_in (e.counts.bytes i) (e.counts.traf i).base info.id (trex_at m (e.keeps.track i)) w.due (keys_seen info.keys)));
+            same_count _ _ _ sum _ (λ i. length (samples_in (e.counts.bytes i) (e.counts.traf i).base info.id (trex_at m (e.keeps.track i)) (info.samples - w.left) w.due (keys_seen info.keys)));
       };
       next = λ _. omega (arith, next);
       fewer = λ _. omega (arith, one, long, some, sum);

@@ -60,8 +60,8 @@ returns-clause-again g c =
         left = search rules;
         all = λ info at.
             let x = e.hand.all info at in
-            let same = ap (λ (v : Walk). all_in_traf m v info c.args.before.time) (sym e.same) in
-            subst (λ (w : Walk). (hand : Loaded) × InHandOf m w hand × (left_in_hand hand ≡ all_in_traf m w info c.args.before.time)) (sym c.mark.ensures.mark)
+            let same = ap (λ (v : Walk). all_in_traf m v info c.args.before) (sym e.same) in
+            subst (λ (w : Walk). (hand : Loaded) × InHandOf m w hand × (left_in_hand hand ≡ all_in_traf m w info c.args.before)) (sym c.mark.ensures.mark)
             (x.0, hand_of_marked m now (mark_of now c.args.self.now.mark.to_come) x.0 x.1, x.2 ∙ same);
         through = λ t.
             subst (λ (w : Walk). way_through t w w.place ≡ traf_steps (traf_box w)) (sym c.mark.ensures.mark) (way_marked t now (mark_of now c.args.self.now.mark.to_come) now.place ∙ e.hand.through t);

@@ -17,7 +17,8 @@ returns-clause-taken g c file tree t earlier later next o h =
     let payload : c.start-cursor.result.payload ≡ traf_bytes w = rw c.deref.ensures.value at c.start-cursor.ensures.payload in
     let again : to_z w128 (of_z w128 w.traf.base) ≡ w.traf.base = to_z-of_z w128 w.traf.base (search rules) in
     let info_at = at_place m.tracks w.track c.index-tracks-self.result c.requires.movie.track (rw c.tracks.ensures at c.index-tracks-self.is) in
-    let list = taken file m tree t earlier next later w o h c.index-tracks-self.result info_at c.trex_of-trex.ensures.is_movie.short (traf_bytes w) refl c.trex_of-trex.result c.trex_of-trex.ensures.trex (samples_coming c.start-cursor.result)
+    let list = taken file m tree t earlier next later w o h c.index-tracks-self.result info_at c.trex_of-trex.ensures.is_movie.short c.saturating_sub-number.result c.saturating_sub-number.ensures
+    (traf_bytes w) refl c.trex_of-trex.result c.trex_of-trex.ensures.trex (samples_coming c.start-cursor.result)
     (rw (c.deref.ensures.value, again) at c.start-cursor.ensures.definition) in
     let counted = c.in-Some.ensures.samples ∙ ap (λ (ss : List SampleAt). length ss) list in
     let lasting = c.in-Some.ensures.duration ∙ ap (λ (ss : List SampleAt). min (sum_of (λ (s : SampleAt). s.duration) ss) (2 ^ 64 - 1)) list in
@@ -38,7 +39,8 @@ returns-in_default-clause-taken g c file tree t earlier later next o h =
     let payload : c.start-cursor.result.payload ≡ traf_bytes w = rw c.deref.ensures.value at c.start-cursor.ensures.payload in
     let again : to_z w128 (of_z w128 w.traf.base) ≡ w.traf.base = to_z-of_z w128 w.traf.base (search rules) in
     let info_at = at_place m.tracks w.track c.index-tracks-self.result c.requires.movie.track (rw c.tracks.ensures at c.index-tracks-self.is) in
-    let list = taken file m tree t earlier next later w o h c.index-tracks-self.result info_at c.trex_of-trex.ensures.is_movie.short (traf_bytes w) refl c.trex_of-trex.result c.trex_of-trex.ensures.trex (samples_coming c.start-cursor.result)
+    let list = taken file m tree t earlier next later w o h c.index-tracks-self.result info_at c.trex_of-trex.ensures.is_movie.short c.saturating_sub-number.result c.saturating_sub-number.ensures
+    (traf_bytes w) refl c.trex_of-trex.result c.trex_of-trex.ensures.trex (samples_coming c.start-cursor.result)
     (rw (c.deref.ensures.value, again) at c.start-cursor.ensures.definition) in
     let long = c.counts.ensures.many c.in_default.is in
     let all = ap (λ (ss : List SampleAt). length ss) list in
@@ -74,8 +76,17 @@ returns-clause-hand g c =
     let hand : c.start-cursor.result ≡ traf_hand w c.place.result = λ i. record { payload = payload i; place = sym c.place.ensures.is i } in
     record {
       place = search rules;
-      rest = λ info at. (0, sym (ap samples_coming hand) ∙ all_taken m w w.track w.due c.index-tracks-self.result info (traf_bytes w) _ _ info_at at refl c.trex_of-trex.ensures.trex (rw (c.deref.ensures.value, again) at c.start-cursor.ensures.samples));
-      all = λ info at. (hands.Fragment c.start-cursor.result, hand, all_taken m w w.track w.due c.index-tracks-self.result info (traf_bytes w) _ _ info_at at refl c.trex_of-trex.ensures.trex (rw (c.deref.ensures.value, again) at c.start-cursor.ensures.samples));
+      rest = λ info at. (
+        0,
+        sym (ap samples_coming hand) ∙ all_taken m w w.track c.saturating_sub-number.result (record { time = w.due; left = w.left }) c.index-tracks-self.result info (traf_bytes w) _ _ info_at at refl c.trex_of-trex.ensures.trex c.saturating_sub-number.ensures
+            (rw (c.deref.ensures.value, again) at c.start-cursor.ensures.samples),
+      );
+      all = λ info at. (
+        hands.Fragment c.start-cursor.result,
+        hand,
+        all_taken m w w.track c.saturating_sub-number.result (record { time = w.due; left = w.left }) c.index-tracks-self.result info (traf_bytes w) _ _ info_at at refl c.trex_of-trex.ensures.trex c.saturating_sub-number.ensures
+            (rw (c.deref.ensures.value, again) at c.start-cursor.ensures.samples),
+      );
       way = place_within (traf_box w) _ _ payload c.place.ensures.said;
       through = λ t. refl;
     }
@@ -92,6 +103,7 @@ returns-clause-counts g c =
       traf = refl;
       bytes = refl;
       counted = λ info at.
-          let all = all_taken m w w.track w.due c.index-tracks-self.result info (traf_bytes w) _ _ info_at at refl c.trex_of-trex.ensures.trex (rw (c.deref.ensures.value, again) at c.start-cursor.ensures.samples) in
+          let all = all_taken m w w.track c.saturating_sub-number.result (record { time = w.due; left = w.left }) c.index-tracks-self.result info (traf_bytes w) _ _ info_at at refl c.trex_of-trex.ensures.trex c.saturating_sub-number.ensures
+          (rw (c.deref.ensures.value, again) at c.start-cursor.ensures.samples) in
           counted_left w.left c.in-Some.counts.samples _ _ refl c.in-Some.ensures.few (c.in-Some.ensures.samples ∙ ap (λ (ss : List SampleAt). length ss) all);
     }

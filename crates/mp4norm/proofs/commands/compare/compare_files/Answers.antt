@@ -2,20 +2,20 @@ use Rattle.std.proofs.Common.{◌∙◌}
 use Rattle.mp4_present.specs.words.Opening.{RefusesOpen}
 use Rattle.mp4norm.proofs.ComparedFiles.{both_looked, both_walked, first_alone, together, verdict}
 use Rattle.mp4norm.proofs.ComparedTexts.{told_of}
-use Rattle.mp4norm.proofs.StepsTaken.{not_opened}
+use Rattle.mp4norm.proofs.StepsTaken.{not_looked}
 use Rattle.mp4norm.proofs.LooksTaken.{not_found, finds_taken, finds_first, finds_both}
 use Rattle.mp4norm.proofs.commands.compare.compare_files.Goals as goal
 
 pub returns-in-Err-clause-work : goal.returns-in-Err-clause-work
 returns-in-Err-clause-work g c = λ told right.
     let is = c.in-Err in
-    first_alone _ _ _ _ (not_opened _ _ _ _ _ _ is.refusal told is.ensures.refusal (is.ensures.work told) (is.ensures.within told))
+    first_alone _ _ _ _ (not_looked _ _ _ _ _ _ is.refusal told is.ensures.refusal (is.ensures.work told) (is.ensures.within told))
 
 pub returns-in-Err-open_movie-clause-work : goal.returns-in-Err-open_movie-clause-work
 returns-in-Err-open_movie-clause-work g c = λ told right.
     let is = c.in-Err-open_movie in
     both_looked _ _ c.in-Ok.left _ _ _ (c.in-Ok.ensures.movie told) (c.in-Ok.ensures.work told)
-    (not_opened _ _ _ _ _ _ is.refusal right is.ensures.refusal (is.ensures.work right) (is.ensures.within right))
+    (not_looked _ _ _ _ _ _ is.refusal right is.ensures.refusal (is.ensures.work right) (is.ensures.within right))
 
 pub returns-in-Err-text_of-clause-answer : goal.returns-in-Err-text_of-clause-answer
 returns-in-Err-text_of-clause-answer g c =

@@ -4,7 +4,7 @@ use Rattle.mp4_head.specs.format.Tree.{track_head_of}
 use Rattle.mp4_head.specs.words.Seen.{track_seen}
 use Rattle.mp4_present.specs.format.Denotes.{FileTree}
 use Rattle.mp4_present.specs.words.Carried.{waiting}
-use Rattle.mp4_present.specs.words.PayloadsLeft.{without_labels}
+use Rattle.mp4_present.specs.words.PayloadsLeft.{track_payloads_left}
 use Rattle.mp4_present.specs.words.OpenedMovie.{IsOpenedAs}
 use Rattle.mp4norm.specs.words.PrintedTracks.{AreWalks}
 use Rattle.mp4norm.proofs.PrintedTracks.{TracksTold}
@@ -21,6 +21,6 @@ invariant-loop-track g l =
       file : g.S.Store.file l.store ≡ g.S.Store.file l.fn.store;
       reads : g.S.Store.read_failures l.store ≡ g.S.Store.read_failures l.fn.store;
       puts : g.K.Sink.put_failures l.sink ≡ g.K.Sink.put_failures l.fn.sink;
-      told : IsTrue (g.S.Store.is_honest l.fn.store) → (tree : FileTree) → IsOpenedAs (g.S.Store.file l.fn.store) l.movie tree → map track_seen l.heads ≡ map (without_labels l.leaving) (map track_head_of tree.movie.tracks)
+      told : IsTrue (g.S.Store.is_honest l.fn.store) → (tree : FileTree) → IsOpenedAs (g.S.Store.file l.fn.store) l.movie tree → map track_seen l.heads ≡ map (track_payloads_left l.leaving) (map track_head_of tree.movie.tracks)
           → TracksTold l.leaving (g.S.Store.file l.fn.store) tree l.track (g.K.Sink.takes l.fn.sink l.sink) (waiting l.fn.desk.text) (waiting l.desk.text) l.fn.steps l.steps;
     }

@@ -3,7 +3,7 @@ use Rattle.std.specs.Prelude.{flat_map}
 use Rattle.std.proofs.lemmas.Result.{err_from_is_err_and}
 use Rattle.mp4_head.specs.words.Seen.{track_seen}
 use Rattle.mp4_present.specs.format.Reduced.{reduce_track_head}
-use Rattle.mp4_present.specs.words.PayloadsLeft.{keeping_labels}
+use Rattle.mp4_present.specs.words.PayloadsLeft.{keeping_payloads}
 use Rattle.mp4norm.specs.format.Text.{head_lines, media_lines, payload_lines, track_lines}
 use Rattle.mp4norm.proofs.HeadTexts.{chain3, map_unless}
 use Rattle.mp4norm.proofs.Told.{told_last, told_more, told_none, told_stops}
@@ -12,7 +12,7 @@ use Rattle.mp4norm.proofs.text.head_lines.put_head.Goals as goal
 pub returns-in_err-put_track : goal.returns-in_err-put_track
 returns-in_err-put_track g c =
     let p = err_from_is_err_and c.from_residual.result c.from_residual.ensures.1 in
-    let t = reduce_track_head (keeping_labels c.args.leaving) (track_seen c.args.head.now) in
+    let t = reduce_track_head (keeping_payloads c.args.leaving) (track_seen c.args.head.now) in
     let whole = head_lines t in
     let track = track_lines t in
     let media = media_lines t.media in
@@ -24,7 +24,7 @@ returns-in_err-put_track g c =
 pub returns-in_err-put_media : goal.returns-in_err-put_media
 returns-in_err-put_media g c =
     let p = err_from_is_err_and c.from_residual-in_err-put_media.result c.from_residual-in_err-put_media.ensures.1 in
-    let t = reduce_track_head (keeping_labels c.args.leaving) (track_seen c.args.head.now) in
+    let t = reduce_track_head (keeping_payloads c.args.leaving) (track_seen c.args.head.now) in
     let whole = head_lines t in
     let track = track_lines t in
     let media = media_lines t.media in
@@ -37,7 +37,7 @@ returns-in_err-put_media g c =
 
 pub returns : goal.returns
 returns g c =
-    let t = reduce_track_head (keeping_labels c.args.leaving) (track_seen c.args.head.now) in
+    let t = reduce_track_head (keeping_payloads c.args.leaving) (track_seen c.args.head.now) in
     let whole = head_lines t in
     let track = track_lines t in
     let media = media_lines t.media in

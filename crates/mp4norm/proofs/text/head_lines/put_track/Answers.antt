@@ -3,7 +3,7 @@ use Rattle.std.specs.Prelude.{flat_map}
 use Rattle.std.proofs.lemmas.Result.{err_from_is_err_and}
 use Rattle.mp4_head.specs.words.Seen.{edit_seen, track_seen}
 use Rattle.mp4_present.specs.format.Reduced.{reduce_track_head}
-use Rattle.mp4_present.specs.words.PayloadsLeft.{keeping_labels}
+use Rattle.mp4_present.specs.words.PayloadsLeft.{keeping_payloads}
 use Rattle.mp4norm.specs.format.Text.{edit_line, kept_lines, track_lines}
 use Rattle.mp4norm.specs.format.Texts.{line_feed}
 use Rattle.mp4norm.specs.words.Telling.{said_line, track_front}
@@ -14,7 +14,7 @@ use Rattle.mp4norm.proofs.text.head_lines.put_track.Goals as goal
 pub returns-in_err-put_heading : goal.returns-in_err-put_heading
 returns-in_err-put_heading g c =
     let p = err_from_is_err_and c.from_residual.result c.from_residual.ensures.1 in
-    let t = reduce_track_head (keeping_labels c.args.leaving) (track_seen c.args.head.now) in
+    let t = reduce_track_head (keeping_payloads c.args.leaving) (track_seen c.args.head.now) in
     let whole = track_lines t in
     let h : List ℕ = codes "track " ++ decimal t.id ++ line_feed in
     let edits = flat_map edit_line t.edits in
@@ -28,7 +28,7 @@ returns-in_err-put_heading g c =
 pub returns-in_err-put_all_named : goal.returns-in_err-put_all_named
 returns-in_err-put_all_named g c =
     let p = err_from_is_err_and c.from_residual-in_err-put_all_named.result c.from_residual-in_err-put_all_named.ensures.1 in
-    let t = reduce_track_head (keeping_labels c.args.leaving) (track_seen c.args.head.now) in
+    let t = reduce_track_head (keeping_payloads c.args.leaving) (track_seen c.args.head.now) in
     let whole = track_lines t in
     let h : List ℕ = codes "track " ++ decimal t.id ++ line_feed in
     let edits = flat_map edit_line t.edits in
@@ -44,7 +44,7 @@ returns-in_err-put_all_named g c =
 pub returns-in_err-put_edits : goal.returns-in_err-put_edits
 returns-in_err-put_edits g c =
     let p = err_from_is_err_and c.from_residual-in_err-put_edits.result c.from_residual-in_err-put_edits.ensures.1 in
-    let t = reduce_track_head (keeping_labels c.args.leaving) (track_seen c.args.head.now) in
+    let t = reduce_track_head (keeping_payloads c.args.leaving) (track_seen c.args.head.now) in
     let whole = track_lines t in
     let h : List ℕ = codes "track " ++ decimal t.id ++ line_feed in
     let edits = flat_map edit_line t.edits in
@@ -60,7 +60,7 @@ returns-in_err-put_edits g c =
 
 pub returns : goal.returns
 returns g c =
-    let t = reduce_track_head (keeping_labels c.args.leaving) (track_seen c.args.head.now) in
+    let t = reduce_track_head (keeping_payloads c.args.leaving) (track_seen c.args.head.now) in
     let whole = track_lines t in
     let h : List ℕ = codes "track " ++ decimal t.id ++ line_feed in
     let edits = flat_map edit_line t.edits in
