@@ -19,7 +19,7 @@ use Rattle.mp4_present.specs.declared.comparing.differences.Difference.{Differen
 use Rattle.mp4_present.specs.declared.without.Without.{Without}
 use Rattle.mp4_present.proofs.ComparisonWhole.{no_difference_is_same}
 use Rattle.mp4_present.proofs.DenotedValid.{denoted_is_valid}
-use Rattle.mp4norm.specs.format.CompareHeadline.{IsVerdict, ComparedWithin, ComparesWithin, most_counted, most_walks}
+use Rattle.mp4norm.specs.format.CompareHeadline.{IsVerdict, ComparedWithin, ComparesWithin, most_counted, most_walks, word_count}
 use Rattle.mp4norm.specs.format.Steps.{WalksWithin, row_total}
 use Rattle.mp4_present.specs.words.Compared.{files_differ}
 use Rattle.mp4_plan.proofs.Judged.{denoted_judged}
@@ -61,8 +61,12 @@ pub first_said : (first : Option Difference) (ds : List Difference) → first �
 first_said first [] e = subst (λ (f : Option Difference). IsSaid f []) (sym e) refl
 first_said first (d ∷ ds) e = subst (λ (f : Option Difference). IsSaid f (d ∷ ds)) (sym e) (λ none. cc)
 
-walks_joined : (old mid new a b times : ℕ) → mid ≤ old + (a + b) → new ≤ mid + times * (a + b) → new ≤ old + suc times * (a + b)
-walks_joined old mid new a b times g h = omega (arith, g, h)
+-- some walks, and more
+pub walks_joined : (old mid new a b times more : ℕ) → mid ≤ old + times * (a + b) → new ≤ mid + more * (a + b) → new ≤ old + (times + more) * (a + b)
+walks_joined old mid new a b times more g h = omega (arith, g, h)
+
+one_walk_more : (old mid new a b times : ℕ) → mid ≤ old + (a + b) → new ≤ mid + times * (a + b) → new ≤ old + suc times * (a + b)
+one_walk_more old mid new a b times g h = omega (arith, g, h)
 
 pub one_of_times : (old new a b times : ℕ) → 0 < times → new ≤ old + (a + b) → new ≤ old + times * (a + b)
 one_of_times old new a b times some h = let most = mul-le-mul_right (a + b) some in omega (arith, h, most)
@@ -77,15 +81,14 @@ one_of_more old new a b first more tries e h =
 pub one_more_time : (old mid new a b : ℕ) (first : Without) (more tries : List Without) → tries ≡ first ∷ more → mid ≤ old + (a + b) → new ≤ mid + length more * (a + b) → new ≤ old + length tries * (a + b)
 one_more_time old mid new a b first more tries e g h =
     let long : length tries ≡ suc (length more) = ap (λ (xs : List Without). length xs) e in
-    subst (λ n. new ≤ old + n * (a + b)) (sym long) (let sum = walks_joined old mid new a b (length more) g h in sum)
+    subst (λ n. new ≤ old + n * (a + b)) (sym long) (one_walk_more old mid new a b (length more) g h)
 
--- some walks, and one more
-pub one_time_more : (old mid new a b times : ℕ) → mid ≤ old + times * (a + b) → new ≤ mid + 1 * (a + b) → new ≤ old + (times + 1) * (a + b)
-one_time_more old mid new a b times g h = omega (arith, g, h)
+pub two_walks : (old mid new a b : ℕ) → mid ≤ old + (a + b) → new ≤ mid + (a + b) → new ≤ old + 2 * (a + b)
+two_walks old mid new a b g h = omega (arith, g, h)
 
--- one walk to list, as many as are tried, and one more
-pub listing_walks : (old mid new a b tried : ℕ) → tried ≤ 3 → mid ≤ old + (a + b) → new ≤ mid + (tried + 1) * (a + b) → new ≤ old + 5 * (a + b)
-listing_walks old mid new a b tried few g h = let most = mul-le-mul_right (a + b) few in omega (arith, g, h, most)
+-- one walk to list, and those that find words
+pub listing_walks : (old mid new a b : ℕ) → mid ≤ old + (a + b) → new ≤ mid + (2 + word_count) * (a + b) → new ≤ old + most_walks * (a + b)
+listing_walks old mid new a b g h = omega (arith, g, h)
 
 -- fewer are as many at most
 pub few_times_of : (old new a b few times : ℕ) → few ≤ times → new ≤ old + few * (a + b) → new ≤ old + times * (a + b)
@@ -159,8 +162,8 @@ pub both_walked : (file other : List ℕ) (m n : MovieSeen) (old mid behind new 
     → ((tree : FileTree) → IsFileTree other tree → behind ≤ mid + opening_steps tree) → ((tree next : FileTree) → IsOpenedAs file m tree → IsOpenedAs other n next → WalksTimes most_walks tree next behind new) → ComparesWithin file other old new
 both_walked file other m n old mid behind new a b opening next walks =
     record {
-      between = mid + 5 * walks_steps a.0;
-      first = often_walked file old (mid + 5 * walks_steps a.0) m a.0 a.1 (let opened = opening a.0 a.1.is_tree in omega (arith, opened));
-      second = often_walked other (mid + 5 * walks_steps a.0) new n b.0 b.1
+      between = mid + most_walks * walks_steps a.0;
+      first = often_walked file old (mid + most_walks * walks_steps a.0) m a.0 a.1 (let opened = opening a.0 a.1.is_tree in omega (arith, opened));
+      second = often_walked other (mid + most_walks * walks_steps a.0) new n b.0 b.1
           (let more = walks a.0 b.0 a.1 b.1 in let opened = next b.0 b.1.is_tree in omega (arith, more, opened));
     }

@@ -29,7 +29,8 @@ pub mod HeadersUnder
 pub mod BoxSpans
 pub mod ReducedNormalised
 pub mod ComparedFiles
-pub mod EnoughWords
+mod WordSets
+mod LeastWords
 pub mod ComparedTexts
 pub mod SameAnswers
 pub mod Fronts

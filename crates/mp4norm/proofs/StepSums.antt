@@ -24,6 +24,7 @@ use Rattle.mp4_present.proofs.OwnSums.{owns_few}
 use Rattle.mp4_present.proofs.PartsOnce.{parts_once}
 use Rattle.mp4_plan.specs.words.WriterSteps.{track_writes, writing_steps}
 use Rattle.mp4_present.proofs.Counts.{parts_total, sum-append, sizes_few, fragments_total, total_is, all_belong}
+use Rattle.mp4norm.specs.format.CompareHeadline.{most_walks}
 use Rattle.mp4norm.specs.format.Steps.{row_total, most_steps}
 
 -- ---- sums over tracks
@@ -178,11 +179,11 @@ tree_walks file tree h s c =
 pub walks_looks : (file : List ℕ) (p : Presentation) (d : Denotes file p) → opening_steps d.tree + walks_steps d.tree ≤ 8 * (sample_total p + row_total d.tree)
 walks_looks file p d = subst (λ (q : Presentation). opening_steps d.tree + walks_steps d.tree ≤ 8 * (sample_total q + row_total d.tree)) (sym d.says) (tree_walks file d.tree d.is_tree d.is_sound d.is_consistent)
 
--- opening a file and five walks over each of its tracks
-often_walked : (m o s f r more checks ways : ℕ) → o ≤ m → m ≤ f + more → checks ≡ 7 * r + 3 * s → ways ≡ r + 3 * s + 2 * o → (checks + m) + 5 * ways ≤ 18 * ((s + f) + (r + more))
+-- opening a file and as many walks over each of its tracks as may be
+often_walked : (m o s f r more checks ways : ℕ) → o ≤ m → m ≤ f + more → checks ≡ 7 * r + 3 * s → ways ≡ r + 3 * s + 2 * o → (checks + m) + most_walks * ways ≤ 3 * (most_walks + 1) * ((s + f) + (r + more))
 often_walked m o s f r more checks ways own le c w = omega (arith, own, le, c, w)
 
-tree_often : (file : List ℕ) (tree : FileTree) → IsFileTree file tree → IsSoundFile tree → IsConsistent file tree → opening_steps tree + 5 * walks_steps tree ≤ 18 * (sample_total (presentation_of file tree) + row_total tree)
+tree_often : (file : List ℕ) (tree : FileTree) → IsFileTree file tree → IsSoundFile tree → IsConsistent file tree → opening_steps tree + most_walks * walks_steps tree ≤ 3 * (most_walks + 1) * (sample_total (presentation_of file tree) + row_total tree)
 tree_often file tree h s c =
     let tracks = tree.movie.tracks in
     let fragments = tree.fragments in
@@ -194,10 +195,10 @@ tree_often file tree h s c =
     let few : moofs_steps fragments ≤ fragments_total parts tracks + fragment_rows_of fragments = omega (arith, moofs, known) in
     let all = often_walked (moofs_steps fragments) (owns_total tree tracks) (plain_total tracks) (fragments_total parts tracks) (rows_of tracks) (fragment_rows_of fragments) (sum_of table_steps tracks) (walks_steps tree)
     (owns_few file tree h s.movie) few (checks_sum tracks) (ways_sum tree tracks) in
-    subst (λ n. opening_steps tree + 5 * walks_steps tree ≤ 18 * (n + row_total tree)) (sym total) all
+    subst (λ n. opening_steps tree + most_walks * walks_steps tree ≤ 3 * (most_walks + 1) * (n + row_total tree)) (sym total) all
 
-pub often_looks : (file : List ℕ) (p : Presentation) (d : Denotes file p) → opening_steps d.tree + 5 * walks_steps d.tree ≤ 18 * (sample_total p + row_total d.tree)
-often_looks file p d = subst (λ (q : Presentation). opening_steps d.tree + 5 * walks_steps d.tree ≤ 18 * (sample_total q + row_total d.tree)) (sym d.says) (tree_often file d.tree d.is_tree d.is_sound d.is_consistent)
+pub often_looks : (file : List ℕ) (p : Presentation) (d : Denotes file p) → opening_steps d.tree + most_walks * walks_steps d.tree ≤ 3 * (most_walks + 1) * (sample_total p + row_total d.tree)
+often_looks file p d = subst (λ (q : Presentation). opening_steps d.tree + most_walks * walks_steps d.tree ≤ 3 * (most_walks + 1) * (sample_total q + row_total d.tree)) (sym d.says) (tree_often file d.tree d.is_tree d.is_sound d.is_consistent)
 
 -- opening a file takes at least a step for each sample and row
 least_of : (m s f r more leasts few : ℕ) → f ≤ few → m ≡ more + few → leasts ≡ r + 3 * s → (s + f) + (r + more) ≤ leasts + m

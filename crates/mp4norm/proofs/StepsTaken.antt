@@ -13,7 +13,7 @@ use Rattle.mp4_present.specs.format.ByBytes.{OpensWithin}
 use Rattle.mp4_present.specs.words.WalkSteps.{IfNoFault, opening_steps, walk_steps, walks_steps}
 use Rattle.mp4_present.proofs.One.{file_tree_one}
 use Rattle.mp4norm.specs.format.Steps.{WorksWithin, WalksWithin, row_total}
-use Rattle.mp4norm.specs.format.CompareHeadline.{ComparedWithin}
+use Rattle.mp4norm.specs.format.CompareHeadline.{ComparedWithin, most_walks}
 use Rattle.mp4norm.proofs.RunParts.{denotes_nothing}
 use Rattle.mp4norm.proofs.ShownLines.{denoted}
 use Rattle.mp4_plan.specs.words.WriterSteps.{writing_steps}
@@ -103,12 +103,12 @@ module _ (file : List ℕ) (old new : ℕ) where
     refused = λ nothing. absurd (nothing (presentation_of file tree) (denoted file m tree o));
   }
 
-  -- a file that is opened, and of which each track is walked over at most five times
-  pub often_walked : (m : MovieSeen) (tree : FileTree) → IsOpenedAs file m tree → new ≤ old + (opening_steps tree + 5 * walks_steps tree) → ComparedWithin file old new
+  -- a file that is opened, and of which each track is walked over at most as many times as may be
+  pub often_walked : (m : MovieSeen) (tree : FileTree) → IsOpenedAs file m tree → new ≤ old + (opening_steps tree + most_walks * walks_steps tree) → ComparedWithin file old new
   often_walked m tree o walks = record {
     denoted = λ p d.
         let same = file_tree_one file tree d.tree o.is_tree d.is_tree in
-        let own = subst (λ (u : FileTree). new ≤ old + (opening_steps u + 5 * walks_steps u)) same walks in
+        let own = subst (λ (u : FileTree). new ≤ old + (opening_steps u + most_walks * walks_steps u)) same walks in
         let all = often_looks file p d in
         omega (arith, own, all);
     refused = λ nothing. absurd (nothing (presentation_of file tree) (denoted file m tree o));

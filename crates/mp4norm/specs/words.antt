@@ -4,7 +4,7 @@ pub mod ShowValue
 pub mod Sources
 pub mod Jobs
 pub mod Compares
-pub mod Suggested
+pub mod SingleWords
 pub mod Telling
 pub mod ToldSamples
 pub mod PrintedTracks

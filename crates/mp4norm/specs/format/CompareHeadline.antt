@@ -1,9 +1,10 @@
 -- What comparing two files answers.
-use Rattle.std.specs.Prelude.{◌≡◌, ◌↔◌, ◌≤◌, ℕ, ◌+◌, ◌*◌, nat_le, List, ◌++◌, length, take, flat_map, slice_get, Bool, true, Option, Some, None, Ok}
+use Rattle.std.specs.Prelude.{◌≡◌, ◌↔◌, ◌≤◌, ℕ, ◌+◌, ◌*◌, nat_le, List, ◌++◌, length, take, map, flat_map, slice_get, Bool, true, Option, Some, None, Ok}
 use Rattle.mp4_boxes.specs.format.Bytes.{AreBytes}
 use Rattle.mp4_present.specs.format.ByBytes.{OpensWithin}
 use Rattle.mp4_present.specs.format.Denotes.{Denotes}
-use Rattle.mp4_present.specs.format.Presentation.{Presentation, sample_total}
+use Rattle.mp4_head.specs.format.Head.{Kept}
+use Rattle.mp4_present.specs.format.Presentation.{Track, Presentation, sample_total}
 use Rattle.mp4_present.specs.format.Judge.{judge}
 use Rattle.mp4_present.specs.format.Reduced.{reduce}
 use Rattle.mp4_present.specs.format.Comparison.{differences}
@@ -34,14 +35,19 @@ pub record IsVerdict (l : Without) (file other : List ℕ) (same : Bool) : Type 
 abbrev pub most_counted : ℕ
 most_counted = 1048576
 
--- Words are named that leave out what was asked for, and with which the same is left of both;
--- where all differences are counted none of them can be taken away. Or none are named, and there
--- are none.
+-- the sample descriptions of all tracks
+abbrev pub descriptions_in : Presentation → List (List Kept)
+descriptions_in p = map (λ (t : Track). t.head.media.descriptions) p.tracks
+
+-- Words are named that leave out what was asked for, and with which the same is left of both. None
+-- of them can be taken away; where the sample descriptions are the same, they are among any others
+-- that do it too. Or none are named, and there are none.
 abbrev pub AreEnough : Without → Presentation → Presentation → Option Without → Type 0
 AreEnough l p q None = (m : Without) → reduce m p ≡ reduce m q → ⊥
 AreEnough l p q (Some m) = Covers l m × (reduce m p ≡ reduce m q)
-    × (length (differences (reduce l p) (reduce l q)) ≤ most_counted
-    → (k : Without) → Covers l k → Covers k m → reduce k p ≡ reduce k q → k ≡ m)
+    × ((k : Without) → Covers l k → Covers k m → reduce k p ≡ reduce k q → k ≡ m)
+    × (descriptions_in p ≡ descriptions_in q
+    → (k : Without) → Covers l k → reduce k p ≡ reduce k q → Covers m k)
 
 -- a difference as a line or as an object
 abbrev pub difference_in : Syntax → Difference → List ℕ
@@ -83,14 +89,18 @@ PutsSuch Took IsText = (text : List ℕ) × IsText text × Took text
 
 -- ---- its steps
 
--- A file is walked over at most so many times: to list what differs, for each of three tries to
--- find words that make the two the same, and for all words.
+-- how many words there are behind `--without`
+abbrev pub word_count : ℕ
+word_count = 7
+
+-- A file is walked over at most so many times: to list what differs; to find words that make the
+-- two the same, those that the differences ask for and then all; and without each of these words.
 abbrev pub most_walks : ℕ
-most_walks = 5
+most_walks = 3 + word_count
 
 -- The steps over one of two files that are compared: those of opening it, and of so many walks over
--- each of its tracks. Where it denotes a presentation: 18 for each sample and each row, however
--- many tracks there are. Where it denotes nothing: by its bytes.
+-- each of its tracks. Where it denotes a presentation: 3 for opening it and 3 for each walk, times
+-- the samples and rows, however many tracks there are. Where it denotes nothing: by its bytes.
 pub record ComparedWithin (file : List ℕ) (old new : ℕ) : Type 0 where
   pub denoted : (p : Presentation) → (d : Denotes file p)
       → new ≤ old + 3 * (most_walks + 1) * (sample_total p + row_total d.tree)

@@ -1,6 +1,6 @@
 -- What there is to say of two files that are compared, and why they are not. `Took` says of bytes
 -- that they were put, the numbers are counts of failed reads and of failed puts.
-use Rattle.std.specs.Prelude.{◌≡◌, ◌⊎◌, ◌+◌, ◌*◌, ◌<◌, ◌≤◌, ℕ, nat_le, List, [], ◌∷◌, ◌++◌, length, take, flat_map, slice_get, Option, None, Some, Bool, true, false, IsTrue}
+use Rattle.std.specs.Prelude.{◌≡◌, ◌⊎◌, ◌+◌, ◌*◌, ◌<◌, ◌≤◌, ℕ, List, [], ◌∷◌, ◌++◌, length, take, flat_map, slice_get, Option, None, Some, Bool, true, false, IsTrue}
 use Rattle.mp4_store.specs.words.Device.{HasRisen, TakesPrefix}
 use Rattle.mp4_boxes.specs.declared.refusal.Refusal.{Refusal}
 use Rattle.mp4_boxes.specs.declared.refusal.Refusal.TheVariants as refusals
@@ -9,9 +9,10 @@ use Rattle.mp4_present.specs.format.Denotes.{FileTree}
 use Rattle.mp4_present.specs.words.WalkSteps.{walks_steps}
 use Rattle.mp4_present.specs.declared.comparing.differences.Difference.{Difference}
 use Rattle.mp4_present.specs.declared.without.Without.{Without}
+use Rattle.mp4_plan.specs.format.CoveringLaws.{Covers}
 use Rattle.mp4norm.specs.format.CompareHeadline.{difference_in, last_in, listing_text, most_counted}
 use Rattle.mp4norm.specs.format.DifferenceObject.{last_object}
-use Rattle.mp4norm.specs.words.Suggested.{candidates}
+use Rattle.mp4norm.specs.words.SingleWords.{everything, less_word, single_words}
 use Rattle.mp4norm.specs.declared.commands.compare.Listing.{Listing}
 use Rattle.mp4norm.specs.declared.commands.compare.Listing.TheVariants as listings
 use Rattle.mp4norm.specs.declared.commands.compare.Side.{Side}
@@ -45,41 +46,34 @@ abbrev pub IsCounted : Syntax → ℕ → List Difference → Bool → Option Wi
 IsCounted syntax limit ds whole enough text = text
     ≡ flat_map (difference_in syntax) (take limit ds) ++ last_in syntax whole ds enough
 
--- all that can be left out
-abbrev pub everything : Without
-everything = record {
-  times = true;
-  edits = true;
-  flags = true;
-  groups = true;
-  metadata = true;
-  bitrates = true;
-  labels = true;
-}
-
 -- The differences are given for whatever is left out. Whether there are none without this.
 abbrev pub IsSameWith : Without → (Without → List Difference) → Bool → Type 0
 IsSameWith l differ true = differ l ≡ []
 IsSameWith l differ false = differ l ≡ [] → ⊥
 
--- the first of what is tried without which nothing differs
-abbrev pub IsFirstEnough : List Without → (Without → List Difference) → Option Without → Type 0
-IsFirstEnough [] differ enough = enough ≡ None
-IsFirstEnough (m ∷ more) differ enough = ((differ m ≡ []) × (enough ≡ Some m))
-    ⊎ ((differ m ≡ [] → ⊥) × IsFirstEnough more differ enough)
+-- some words, those that were given among them, without which nothing differs; or none do
+abbrev pub AreSome : Without → (Without → List Difference) → Option Without → Type 0
+AreSome given differ None = differ everything ≡ [] → ⊥
+AreSome given differ (Some l) = Covers given l × (differ l ≡ [])
 
--- The same, where of a list that was cut all is tried too, unless nothing else was to be tried.
-abbrev pub IsEnoughFor : List Without → Bool → (Without → List Difference) → Option Without
+-- One of the words was taken away, where nothing differs without the others; else it was not.
+abbrev pub IsTried : Without → Without → (Without → List Difference) → Without → Without → Type 0
+IsTried word given differ l next =
+    ((next ≡ less_word given l word) × (differ l ≡ [] → differ next ≡ []))
+    ⊎ ((next ≡ l) × (differ (less_word given l word) ≡ [] → ⊥))
+
+-- the same of several, one after the other
+unfoldable pub IsShrunk : List Without → Without → (Without → List Difference) → Without → Without
     → Type 0
-IsEnoughFor tries whole differ None = IsFirstEnough tries differ None
-    × (whole ≡ false → (tries ≡ [] → ⊥) → differ everything ≡ [] → ⊥)
-IsEnoughFor tries whole differ (Some m) = IsFirstEnough tries differ (Some m)
-    ⊎ ((whole ≡ false) × (m ≡ everything) × (differ m ≡ []))
+IsShrunk [] given differ l least = least ≡ l
+IsShrunk (word ∷ words) given differ l least = (next : Without)
+    × IsTried word given differ l next × IsShrunk words given differ next least
 
--- The same of what the counted differences ask for.
+-- what is left of some words that are enough; or none are
 abbrev pub IsEnough : Without → (Without → List Difference) → Option Without → Type 0
-IsEnough l differ enough = IsEnoughFor (candidates l (take most_counted (differ l)))
-    (nat_le (length (differ l)) most_counted) differ enough
+IsEnough given differ None = AreSome given differ None
+IsEnough given differ (Some least) = (l : Without) × AreSome given differ (Some l)
+    × IsShrunk single_words given differ l least
 
 -- what is said where something differs
 abbrev pub IsSaidOf : Listing → Without → (Without → List Difference) → List ℕ → Type 0

@@ -1,17 +1,17 @@
 //! Two files, compared by what they say.
 ghost use Rattle.std.specs.Prelude.{◌≡◌, ◌+◌, ◌<◌, [], ◌∷◌, length, take, Some, true, false, IfOk, IfErr, IfSome, OnOk};
 ghost use Rattle.mp4norm.specs.declared.commands.compare.Listing.TheVariants.{All};
-ghost use Rattle.mp4norm.specs.format.CompareHeadline.{IsVerdict, IsTold, difference_in, PutsSuch, ComparesWithin, FindsBothWithin, most_walks};
+ghost use Rattle.mp4norm.specs.format.CompareHeadline.{IsVerdict, IsTold, difference_in, PutsSuch, ComparesWithin, FindsBothWithin, most_walks, word_count};
 ghost use Rattle.mp4norm.specs.format.DifferenceObject.{last_object};
-ghost use Rattle.mp4norm.specs.words.Compares.{side_of, says_nothing, is_silent, AddsLines, AddsLast, IsCounted, IsEnoughFor, IsFirstEnough, IsSameWith, IsFoundOf, IsSaid, ListsFront, PutsAnswer, PutsFound, PutsSame, WalksTimes, RefusesAnswer};
+ghost use Rattle.mp4norm.specs.words.Compares.{side_of, says_nothing, is_silent, AddsLines, AddsLast, IsCounted, AreSome, IsEnough, IsTried, IsShrunk, IsSameWith, IsFoundOf, IsSaid, ListsFront, PutsAnswer, PutsFound, PutsSame, WalksTimes, RefusesAnswer};
 ghost use Rattle.mp4_present.specs.words.StoresRead.{IsUnchanged, WhereBothHonest};
 ghost use Rattle.mp4norm.specs.words.StoreAndSink.{NoPutFails};
 ghost use Rattle.mp4_present.specs.words.Compared.{OfFiles, WhereOpenedBoth};
 ghost use Rattle.mp4norm.specs.words.TwoFiles.{ComparesBoth, OfBoth, ReadsBoth, WalksOnce};
 
-use crate::commands::tally::{candidates, say_last};
+use crate::commands::tally::{guess, say_last};
 use crate::shell::action::Syntax;
-use crate::shell::without_words::EVERYTHING;
+use crate::shell::without_words::{EVERYTHING, WORDS, less_word};
 use crate::text::difference_json::{say_difference_object, say_last_object};
 use crate::text::difference_lines::say_difference;
 use mp4_boxes::{Refusal, Steps};
@@ -277,56 +277,113 @@ fn is_enough<S: Store, T: Store, L: Ledger>(
     }
 }
 
-// The first of some words without which two opened files are the same.
+// Some words without which two opened files are the same, those that were given among them: those
+// that the differences ask for, or all.
 fn first_enough<S: Store, T: Store, L: Ledger>(
     alloc: Global,
     movies: &Movies,
     a: &mut S,
     b: &mut T,
-    tries: &[Without],
+    given: Without,
+    all: &[Difference],
     steps: &mut Steps<L>,
 ) -> Result<Option<Without>, Refusal>
     ensures stores { ReadsBoth S.Store a.old a.new T.Store b.old b.new result }
     ensures enough { IfOk result
-        (λ enough. OfBoth S.Store a.old movies.now.left T.Store b.old movies.now.right
-        (λ differ. IsFirstEnough tries.now differ enough)) }
+        (λ first. OfBoth S.Store a.old movies.now.left T.Store b.old movies.now.right
+        (λ differ. AreSome given differ first)) }
     ensures opened { WhereOpenedBoth S.Store a.old movies.now.left T.Store b.old movies.now.right
-        (λ tree other. IsUnchanged result
-        × WalksTimes (length tries.now) tree other steps.old steps.new) }
+        (λ tree other. IsUnchanged result × WalksTimes 2 tree other steps.old steps.new) }
 {
-    let Some((first, more)) = tries.split_first() else {
-        return Ok(None);
-    };
-    if is_enough(alloc, movies, a, b, *first, steps)? {
-        return Ok(Some(*first));
+    let guessed = guess(given, all);
+    if is_enough(alloc, movies, a, b, guessed, steps)? {
+        return Ok(Some(guessed));
     }
-    first_enough(alloc, movies, a, b, more, steps)
+    if is_enough(alloc, movies, a, b, EVERYTHING, steps)? {
+        return Ok(Some(EVERYTHING));
+    }
+    Ok(None)
 }
 
-// The words without which two opened files are the same: of those that the differences ask for that
-// are held. Of a list that was cut the rest isn't known: where these aren't enough, all are tried.
+// Takes a word away from those without which two opened files are the same, if it was not given and
+// the files are the same without the others too.
+fn take_word<S: Store, T: Store, L: Ledger>(
+    alloc: Global,
+    movies: &Movies,
+    a: &mut S,
+    b: &mut T,
+    given: Without,
+    leaving: Without,
+    word: Without,
+    steps: &mut Steps<L>,
+) -> Result<Without, Refusal>
+    ensures stores { ReadsBoth S.Store a.old a.new T.Store b.old b.new result }
+    ensures tried { IfOk result
+        (λ next. OfBoth S.Store a.old movies.now.left T.Store b.old movies.now.right
+        (λ differ. IsTried word given differ leaving next)) }
+    ensures opened { WhereOpenedBoth S.Store a.old movies.now.left T.Store b.old movies.now.right
+        (λ tree other. IsUnchanged result × WalksOnce tree other steps.old steps.new) }
+{
+    let less = less_word(given, leaving, word);
+    if less == leaving {
+        return Ok(leaving);
+    }
+    if is_enough(alloc, movies, a, b, less, steps)? {
+        return Ok(less);
+    }
+    Ok(leaving)
+}
+
+// Takes away one after the other all of these words that can be.
+fn shrink<S: Store, T: Store, L: Ledger>(
+    alloc: Global,
+    movies: &Movies,
+    a: &mut S,
+    b: &mut T,
+    given: Without,
+    leaving: Without,
+    words: &[Without],
+    steps: &mut Steps<L>,
+) -> Result<Without, Refusal>
+    ensures stores { ReadsBoth S.Store a.old a.new T.Store b.old b.new result }
+    ensures shrunk { IfOk result
+        (λ least. OfBoth S.Store a.old movies.now.left T.Store b.old movies.now.right
+        (λ differ. IsShrunk words.now given differ leaving least)) }
+    ensures opened { WhereOpenedBoth S.Store a.old movies.now.left T.Store b.old movies.now.right
+        (λ tree other. IsUnchanged result
+        × WalksTimes (length words.now) tree other steps.old steps.new) }
+{
+    let Some((word, more)) = words.split_first() else {
+        return Ok(leaving);
+    };
+    let next = take_word(alloc, movies, a, b, given, leaving, *word, steps)?;
+    shrink(alloc, movies, a, b, given, next, more, steps)
+}
+
+// The words without which two opened files are the same, those that were given among them, and none
+// that can be taken away. No words where the files differ even without everything.
 fn enough_for<S: Store, T: Store, L: Ledger>(
     alloc: Global,
     movies: &Movies,
     a: &mut S,
     b: &mut T,
-    tries: &[Without],
-    is_whole: bool,
+    given: Without,
+    all: &[Difference],
     steps: &mut Steps<L>,
 ) -> Result<Option<Without>, Refusal>
     ensures stores { ReadsBoth S.Store a.old a.new T.Store b.old b.new result }
     ensures enough { IfOk result
         (λ enough. OfBoth S.Store a.old movies.now.left T.Store b.old movies.now.right
-        (λ differ. IsEnoughFor tries.now is_whole differ enough)) }
+        (λ differ. IsEnough given differ enough)) }
     ensures opened { WhereOpenedBoth S.Store a.old movies.now.left T.Store b.old movies.now.right
         (λ tree other. IsUnchanged result
-        × WalksTimes (length tries.now + 1) tree other steps.old steps.new) }
+        × WalksTimes (2 + word_count) tree other steps.old steps.new) }
 {
-    let enough = first_enough(alloc, movies, a, b, tries, steps)?;
-    if enough.is_some() || tries.is_empty() || is_whole {
-        return Ok(enough);
-    }
-    first_enough(alloc, movies, a, b, &[EVERYTHING], steps)
+    let Some(first) = first_enough(alloc, movies, a, b, given, all, steps)? else {
+        return Ok(None);
+    };
+    let least = shrink(alloc, movies, a, b, given, first, WORDS, steps)?;
+    Ok(Some(least))
 }
 
 // Compares two opened files, and gives the text of all differences; none where there are none.
@@ -356,8 +413,7 @@ fn all_text<S: Store, T: Store, L: Ledger>(
     }
     let is_whole = listed.all.len() <= MOST;
     let all = first_of(listed.all.as_slice(), MOST);
-    let tries = candidates(alloc, leaving, all)?;
-    let enough = enough_for(alloc, movies, a, b, &tries, is_whole, steps)?;
+    let enough = enough_for(alloc, movies, a, b, leaving, all, steps)?;
     Ok(Some(listed_text(alloc, all, lines, is_whole, enough)?))
 }
 

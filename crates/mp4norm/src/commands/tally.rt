@@ -1,13 +1,11 @@
-//! How many differences of which kind there are, and which words leave them all out.
+//! How many differences of which kind there are, and which words may leave them all out.
 ghost use Rattle.std.specs.Prelude.{◌≡◌, [], ◌∷◌, ◌++◌, ◌&&◌, ◌==◌, not, ◌||◌, true, IfOk, OnOk};
-ghost use Rattle.std.specs.List.{list_any};
-ghost use Rattle.mp4_present.specs.format.Reduced.{sync_flag};
+ghost use Rattle.mp4_plan.specs.format.CoveringLaws.{Covers};
 ghost use Rattle.mp4norm.specs.format.LastLine.{all_kinds, count_of_kind, count_text, counts_text, enough_text, kind_name, kind_of_difference, kind_of_entries, last_line, leaving_text, total_end, total_front, words_text};
-ghost use Rattle.mp4norm.specs.words.Suggested.{candidates, differ_in_all, has, is_detail, is_fixed, is_in_sync, is_label, needed, with_details};
 
 use crate::text::difference_lines::{end_line, say, say_counted};
-use mp4_present::{Difference, Entries, Field, Part, Subject, Value, Without};
-use std::alloc::{AllocError, Global};
+use mp4_present::{Difference, Entries, Field, Part, Subject, Without};
+use std::alloc::AllocError;
 
 /// What a difference is of, in the order in which the kinds are told of.
 #[derive(Clone, Copy)]
@@ -81,60 +79,18 @@ pub(crate) fn count_of_kind(kind: Kind, all: &[Difference]) -> u64
 }
 
 // Whether there is a difference of a kind.
-fn has(kind: Kind, all: &[Difference]) -> bool
-    ensures { result ≡ has kind all.now }
-{
+fn has(kind: Kind, all: &[Difference]) -> bool {
     count_of_kind(kind, all) > 0
 }
 
-// sample_is_non_sync_sample alone of the flags of a sample (ISO/IEC 14496-12, 8.8.3.1).
-fn sync_flag(flags: u64) -> u64
-    ensures { result ≡ sync_flag flags }
-{
-    flags / 0x1_0000 % 2 * 0x1_0000
-}
-
-// Whether a difference of flags is left where flags are left out.
-fn is_in_sync(difference: &Difference) -> bool
-    ensures { result ≡ is_in_sync difference.now }
-{
-    match (
-        kind_of_difference(difference),
-        difference.left,
-        difference.right,
-    ) {
-        (Kind::Flags, Value::Number(left), Value::Number(right)) => {
-            sync_flag(left) != sync_flag(right)
-        }
-        _ => false,
-    }
-}
-
-// Whether such a difference is among these.
-fn any_in_sync(all: &[Difference]) -> bool
-    ensures { result ≡ list_any is_in_sync all.now }
-{
-    all.iter().any(|difference| is_in_sync(difference))
-}
-
 // Whether a difference is of a handler, which may be of its name.
-fn is_label(difference: &Difference) -> bool
-    ensures { result ≡ is_label difference.now }
-{
+fn is_label(difference: &Difference) -> bool {
     matches!(difference.field, Field::Entry(Entries::Handler, _, _))
 }
 
-// Whether such a difference is among these.
-fn any_label(all: &[Difference]) -> bool
-    ensures { result ≡ list_any is_label all.now }
-{
-    all.iter().any(|difference| is_label(difference))
-}
-
-// Whether a difference is of the bytes of a sample description, or of how many they are.
-fn is_detail(difference: &Difference) -> bool
-    ensures { result ≡ is_detail difference.now }
-{
+// Whether a difference is of the bytes of a sample description, or of how many they are: of names,
+// of bit rates, or of neither.
+fn is_detail(difference: &Difference) -> bool {
     match difference.field {
         Field::Entry(Entries::Descriptions, _, Part::Byte(_, _)) => true,
         Field::Entry(Entries::Descriptions, _, Part::Length) => true,
@@ -142,109 +98,29 @@ fn is_detail(difference: &Difference) -> bool
     }
 }
 
-// Whether such a difference is among these.
-fn any_detail(all: &[Difference]) -> bool
-    ensures { result ≡ list_any is_detail all.now }
+// Whether something is left out, which was given or may be needed.
+fn is_left_out(was_given: bool, may_be_needed: bool) -> bool
+    ensures { (was_given || result) ≡ result }
 {
-    all.iter().any(|difference| is_detail(difference))
+    was_given || may_be_needed
 }
 
-// Whether a difference is of a head, and no word leaves it out.
-fn is_fixed(difference: &Difference) -> bool
-    ensures { result ≡ is_fixed difference.now }
+/// A guess what has to be left out, beside what is left out already, for none of these differences
+/// to be left. It may be too much or too little: whether it is enough is for the caller to try.
+pub(crate) fn guess(leaving: Without, all: &[Difference]) -> Without
+    ensures { Covers leaving result }
 {
-    kind_of_difference(difference) as u8 == Kind::Heads as u8
-        && !is_label(difference)
-        && !is_detail(difference)
-}
-
-// Whether such a difference is among these.
-fn any_fixed(all: &[Difference]) -> bool
-    ensures { result ≡ list_any is_fixed all.now }
-{
-    all.iter().any(|difference| is_fixed(difference))
-}
-
-// Whether there is a difference of a kind, or something else is so.
-fn or_has(is_so: bool, kind: Kind, all: &[Difference]) -> bool
-    ensures { result ≡ is_so || has kind all.now }
-{
-    is_so || has(kind, all)
-}
-
-// Whether some of these differences are left whatever is left out.
-fn differ_in_all(all: &[Difference]) -> bool
-    ensures { result ≡ differ_in_all all.now }
-{
-    let differ = or_has(any_fixed(all), Kind::Samples, all);
-    or_has(differ, Kind::Bytes, all) || any_in_sync(all)
-}
-
-// What has to be left out, beside what is left out already, for none of these differences to be
-// left but those of bytes of sample descriptions.
-fn needed(leaving: Without, all: &[Difference]) -> Without
-    ensures { result ≡ needed leaving all.now }
-{
+    let has_detail = all.iter().any(|difference| is_detail(difference));
+    let has_label = all.iter().any(|difference| is_label(difference));
     Without {
-        times: or_has(leaving.times, Kind::Times, all),
-        edits: or_has(leaving.edits, Kind::Edits, all),
-        flags: or_has(leaving.flags, Kind::Flags, all),
-        groups: or_has(leaving.groups, Kind::Groups, all),
-        metadata: or_has(leaving.metadata, Kind::Kept, all),
-        bitrates: leaving.bitrates,
-        labels: leaving.labels || any_label(all),
+        times: is_left_out(leaving.times, has(Kind::Times, all)),
+        edits: is_left_out(leaving.edits, has(Kind::Edits, all)),
+        flags: is_left_out(leaving.flags, has(Kind::Flags, all)),
+        groups: is_left_out(leaving.groups, has(Kind::Groups, all)),
+        metadata: is_left_out(leaving.metadata, has(Kind::Kept, all)),
+        bitrates: is_left_out(leaving.bitrates, has_detail),
+        labels: is_left_out(leaving.labels, has_detail || has_label),
     }
-}
-
-// Adds what may leave out bytes of sample descriptions, where the first words leave some.
-fn put_details(found: &mut Vec<Without>, leaving: Without, least: Without) -> Result<(), AllocError>
-    ensures { OnOk result (found.new.items ≡ found.old.items ++ with_details leaving least) }
-{
-    let labelled = Without {
-        labels: true,
-        ..least
-    };
-    let rated = Without {
-        bitrates: true,
-        ..least
-    };
-    if !leaving.labels {
-        found.push(labelled)?;
-    }
-    if !leaving.bitrates {
-        found.push(rated)?;
-    }
-    if !leaving.labels && !leaving.bitrates {
-        found.push(Without {
-            labels: true,
-            ..rated
-        })?;
-    }
-    Ok(())
-}
-
-/// What may be left out for none of these differences to be left: of what is tried in this order,
-/// the first that is enough has no word that can be taken away. None where some differences would
-/// be left. Of kept boxes not all are metadata, and of handlers and sample descriptions not all
-/// bytes are names or rates, so all may be too little.
-pub(crate) fn candidates(
-    alloc: Global,
-    leaving: Without,
-    all: &[Difference],
-) -> Result<Vec<Without>, AllocError>
-    ensures { IfOk result (λ found. found.items ≡ candidates leaving all.now) }
-{
-    let mut found = Vec::new(alloc);
-    if differ_in_all(all) {
-        return Ok(found);
-    }
-    let least = needed(leaving, all);
-    if any_detail(all) {
-        put_details(&mut found, leaving, least)?;
-    } else {
-        found.push(least)?;
-    }
-    Ok(found)
 }
 
 // Adds a count of a kind, where it isn't 0, and says whether none is added yet.

@@ -4,7 +4,7 @@ use Rattle.mp4_present.specs.words.WalkSteps.{walks_steps}
 use Rattle.mp4_present.specs.words.Compared.{files_differ}
 use Rattle.mp4norm.proofs.ComparedFiles.{empty_listed, listing_walks, one_of_times, some_listed}
 use Rattle.mp4norm.specs.format.CompareHeadline.{most_counted, most_walks}
-use Rattle.mp4norm.proofs.ComparedTexts.{counted_listed, enough_of_all, few_tried}
+use Rattle.mp4norm.proofs.ComparedTexts.{counted_listed}
 use Rattle.mp4norm.proofs.commands.compare.all_text.Goals as goal
 
 pub returns-then-is_empty-clause-said : goal.returns-then-is_empty-clause-said
@@ -23,7 +23,7 @@ returns-in_err-enough-clause-opened g c =
     let more = rw (is.stores.left.honesty, is.stores.left.file, is.stores.right.honesty, is.stores.right.file) at c.in_err-enough.ensures.opened in
     rw (p.1, p.2) (λ told right tree other o u.
     let e = more told right tree other o u in
-    (e.0, listing_walks _ _ _ (walks_steps tree) (walks_steps other) _ (few_tried c.args.leaving c.first_of-all.result.now c.deref.result.now (c.deref.ensures.value ∙ c.in_ok-tries.ensures)) (is.opened told right tree other o u).1 e.1))
+    (e.0, listing_walks _ _ _ (walks_steps tree) (walks_steps other) (is.opened told right tree other o u).1 e.1))
 
 pub returns-in_err-listed-clause-opened : goal.returns-in_err-listed-clause-opened
 returns-in_err-listed-clause-opened g c =
@@ -37,8 +37,7 @@ returns-in_err-listed_text-clause-opened g c =
     let p = err_from_is_err_and c.from_residual-in_err-listed_text.result c.from_residual-in_err-listed_text.ensures.1 in
     let is = c.in_ok-listed.ensures in
     let more = rw (is.stores.left.honesty, is.stores.left.file, is.stores.right.honesty, is.stores.right.file) at c.in_ok-enough.ensures.opened in
-    let few = few_tried c.args.leaving c.first_of-all.result.now c.deref.result.now (c.deref.ensures.value ∙ c.in_ok-tries.ensures) in
-    rw (p.1, p.2) (λ told right tree other o u. (λ e. cc, listing_walks _ _ _ (walks_steps tree) (walks_steps other) _ few (is.opened told right tree other o u).1 (more told right tree other o u).1))
+    rw (p.1, p.2) (λ told right tree other o u. (λ e. cc, listing_walks _ _ _ (walks_steps tree) (walks_steps other) (is.opened told right tree other o u).1 (more told right tree other o u).1))
 
 pub returns-clause-said : goal.returns-clause-said
 returns-clause-said g c = λ told right tree other o u.
@@ -49,7 +48,7 @@ pub returns-clause-opened : goal.returns-clause-opened
 returns-clause-opened g c = λ told right tree other o u.
     let is = c.in_ok-listed.ensures in
     let more = rw (is.stores.left.honesty, is.stores.left.file, is.stores.right.honesty, is.stores.right.file) at c.in_ok-enough.ensures.opened in
-    (tt, listing_walks _ _ _ (walks_steps tree) (walks_steps other) _ (few_tried c.args.leaving c.first_of-all.result.now c.deref.result.now (c.deref.ensures.value ∙ c.in_ok-tries.ensures)) (is.opened told right tree other o u).1 (more told right tree other o u).1)
+    (tt, listing_walks _ _ _ (walks_steps tree) (walks_steps other) (is.opened told right tree other o u).1 (more told right tree other o u).1)
 
 -- ---- what is said
 
@@ -63,12 +62,6 @@ returns-clause-told g c = λ told right tree other o u.
     let taken = c.first_of-all.ensures ∙ ap (take most_counted) c.as_slice.ensures.value in
     let whole = ap (λ (n : ℕ). nat_le n most_counted) long in (
       c.in_ok-enough.enough,
-      enough_of_all most_counted c.args.leaving c.in_ok-listed.listed.all.items ds c.first_of-all.result.now c.deref.result.now _ (λ l. files_differ l (g.S.Store.file c.args.a.now) tree (g.T.Store.file c.args.b.now) other)
-          c.in_ok-enough.enough front (c.deref.ensures.value ∙ c.in_ok-tries.ensures) taken whole (named told right tree other o u),
+      named told right tree other o u,
       counted_listed c.args.lines.syntax c.args.lines.limit c.in_ok-listed.listed.all.items ds c.first_of-all.result.now _ c.in_ok-enough.enough c.in_ok-listed_text.field-0.items front taken whole c.in_ok-listed_text.ensures.list,
     )
-
-pub returns-in_err-tries-clause-opened : goal.returns-in_err-tries-clause-opened
-returns-in_err-tries-clause-opened g c =
-    let p = err_from_is_err_and c.from_residual-in_err-tries.result c.from_residual-in_err-tries.ensures.1 in
-    rw (p.1, p.2) (λ told right tree other o u. (λ e. cc, one_of_times _ _ (walks_steps tree) (walks_steps other) most_walks (omega arith) (c.in_ok-listed.ensures.opened told right tree other o u).1))

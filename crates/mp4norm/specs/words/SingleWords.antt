@@ -1,0 +1,35 @@
+-- Words of `--without`, one by one.
+use Rattle.std.specs.Prelude.{◌&&◌, ◌||◌, not, true, List, [], ◌∷◌}
+use Rattle.mp4_plan.specs.format.ReducedLaws.{nothing}
+use Rattle.mp4_present.specs.declared.without.Without.{Without}
+
+-- all that can be left out
+abbrev pub everything : Without
+everything = record {
+  times = true;
+  edits = true;
+  flags = true;
+  groups = true;
+  metadata = true;
+  bitrates = true;
+  labels = true;
+}
+
+-- what each word leaves out, by itself
+abbrev pub single_words : List Without
+single_words = record nothing { times = true } ∷ record nothing { edits = true }
+    ∷ record nothing { flags = true } ∷ record nothing { groups = true }
+    ∷ record nothing { metadata = true } ∷ record nothing { bitrates = true }
+    ∷ record nothing { labels = true } ∷ []
+
+-- what is left out without one of the words, unless that one was given
+abbrev pub less_word : Without → Without → Without → Without
+less_word given l word = record {
+  times = l.times && (given.times || not word.times);
+  edits = l.edits && (given.edits || not word.edits);
+  flags = l.flags && (given.flags || not word.flags);
+  groups = l.groups && (given.groups || not word.groups);
+  metadata = l.metadata && (given.metadata || not word.metadata);
+  bitrates = l.bitrates && (given.bitrates || not word.bitrates);
+  labels = l.labels && (given.labels || not word.labels);
+}
