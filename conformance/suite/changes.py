@@ -218,7 +218,7 @@ def tables_alone(file):
     del file.children[file.children.index(file.at('moof')):]
 
 
-# Changes by the word that hides them: a row of the table of docs/COMPARING.md each. The words are
+# Changes by the words that hide them: a row of the table of docs/COMPARING.md each. The words are
 # left out one after the other, the first five at once; what some of them hide, more hide too.
 HIDDEN = [
     ('frames dropped', short_of_a_fragment, None),
@@ -234,10 +234,10 @@ HIDDEN = [
     ('a btrt of other numbers', put(STBL + '/stsd/mp4v', 86, u32(7)), 'bitrates'),
     ('no btrt', other_fields(STBL + '/stsd/mp4v', entries.pictures()), 'bitrates'),
     ('an esds of other rates', put(SECOND + '/stsd/mp4a', 49, entries.OTHERS), 'bitrates'),
-    ('the last frame twice as long', LAST_LONGER, 'ends'),
-    ('the first frame a second longer', durations((1, 26112), (1, 512), (1, 500)), 'ends'),
-    ('sound a second later by tfdt', put('moof/traf[1]/tfdt', 4, u64(27124)), 'origins'),
-    ('all offsets moved', MOVED, 'origins'),
+    ('the last frame twice as long', LAST_LONGER, 'ends timing'),
+    ('the first frame a second longer', durations((1, 26112), (1, 512), (1, 500)), 'ends timing'),
+    ('sound a second later by tfdt', put('moof/traf[1]/tfdt', 4, u64(27124)), 'origins timing'),
+    ('all offsets moved', MOVED, 'origins timing'),
     ('another name of a handler', longer(MDIA + '/hdlr'), 'labels'),
     ('another name of a compressor', put(STBL + '/stsd/mp4v', 50, b'x'), 'labels'),
     ('all durations doubled', all_of(durations((2, 1024), (1, 1000)),

@@ -11,7 +11,7 @@ WORDS = ('times', 'edits', 'flags', 'groups', 'metadata', 'bitrates', 'ends', 'o
          'timing')
 SETS = {'packaging-1': WORDS[:8], 'media-1': WORDS}
 # Those that the program doesn't know yet.
-UNKNOWN = ('ends', 'origins', 'timing')
+UNKNOWN = ('ends', 'origins')
 KNOWN = tuple(word for word in WORDS if word not in UNKNOWN)
 KNOWN_SETS = tuple(name for name, words in SETS.items() if set(words) <= set(KNOWN))
 

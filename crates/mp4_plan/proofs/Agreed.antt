@@ -1,6 +1,6 @@
 -- What is left of two presentations is the same exactly where they agree.
 use Rattle.std.proofs.Common.{◌≡◌, ℕ, ◌*◌, ◌/◌, ◌%◌, ◌^◌, Bool, true, false, if◌then◌else◌, List, [], ◌∷◌, refl, sym, ap, ◌∙◌, arith}
-use Rattle.std.specs.Prelude.{map, filter, codes, bytes_eq}
+use Rattle.std.specs.Prelude.{map, filter, codes, bytes_eq, pos}
 use Rattle.std.specs.List.{AllZip}
 use Rattle.mp4_head.specs.format.Head.{Kept, Media, TrackHead, MovieHead, handler_type}
 use Rattle.mp4_present.specs.format.Presentation.{Sample, Track, Presentation}
@@ -92,8 +92,8 @@ sync_from m n e = ap (λ k. k * 2 ^ 16) e
 module _ (l : Without) where
   sample_to : (a b : Sample) → reduce_sample l a ≡ reduce_sample l b → SamplesAgree l a b
   sample_to a b e = record {
-    duration = ap (λ (x : Sample). x.duration) e;
-    offset = ap (λ (x : Sample). x.offset) e;
+    duration = stays l.timing (λ n. 1) a.duration b.duration (ap (λ (x : Sample). x.duration) e);
+    offset = stays l.timing (λ n. pos 0) a.offset b.offset (ap (λ (x : Sample). x.offset) e);
     description = ap (λ (x : Sample). x.description) e;
     bytes = ap (λ (x : Sample). x.bytes) e;
     sync = sync_to a.flags b.flags (less l.flags sync_flag a.flags b.flags (ap (λ (x : Sample). x.flags) e));
@@ -103,8 +103,8 @@ module _ (l : Without) where
 
   sample_from : (a b : Sample) → SamplesAgree l a b → reduce_sample l a ≡ reduce_sample l b
   sample_from a b h = λ i. record {
-    duration = h.duration i;
-    offset = h.offset i;
+    duration = same_less l.timing (λ n. 1) a.duration b.duration h.duration refl i;
+    offset = same_less l.timing (λ n. pos 0) a.offset b.offset h.offset refl i;
     description = h.description i;
     bytes = h.bytes i;
     flags = same_less l.flags sync_flag a.flags b.flags h.flags (sync_from a.flags b.flags h.sync) i;
@@ -116,7 +116,7 @@ module _ (l : Without) where
 
   media_to : (a b : Media) → reduce_media l a ≡ reduce_media l b → MediaAgree l a b
   media_to a b e = record {
-    timescale = ap (λ (x : Media). x.timescale) e;
+    timescale = stays l.timing (λ n. 1000) a.timescale b.timescale (ap (λ (x : Media). x.timescale) e);
     language = ap (λ (x : Media). x.language) e;
     extended_languages = ap (λ (x : Media). x.extended_languages) e;
     header = ap (λ (x : Media). x.header) e;
@@ -132,7 +132,7 @@ module _ (l : Without) where
 
   media_from : (a b : Media) → MediaAgree l a b → reduce_media l a ≡ reduce_media l b
   media_from a b h = λ i. record {
-    timescale = h.timescale i;
+    timescale = same_less l.timing (λ n. 1000) a.timescale b.timescale h.timescale refl i;
     language = h.language i;
     extended_languages = h.extended_languages i;
     header = h.header i;
@@ -181,7 +181,7 @@ module _ (l : Without) where
 
   movie_head_to : (a b : MovieHead) → reduce_movie_head l a ≡ reduce_movie_head l b → MovieHeadsAgree l a b
   movie_head_to a b e = record {
-    timescale = ap (λ (x : MovieHead). x.timescale) e;
+    timescale = stays l.timing (λ n. 1000) a.timescale b.timescale (ap (λ (x : MovieHead). x.timescale) e);
     rate = ap (λ (x : MovieHead). x.rate) e;
     volume = ap (λ (x : MovieHead). x.volume) e;
     matrix = ap (λ (x : MovieHead). x.matrix) e;
@@ -193,7 +193,7 @@ module _ (l : Without) where
 
   movie_head_from : (a b : MovieHead) → MovieHeadsAgree l a b → reduce_movie_head l a ≡ reduce_movie_head l b
   movie_head_from a b h = λ i. record {
-    timescale = h.timescale i;
+    timescale = same_less l.timing (λ n. 1000) a.timescale b.timescale h.timescale refl i;
     rate = h.rate i;
     volume = h.volume i;
     matrix = h.matrix i;
@@ -204,14 +204,14 @@ module _ (l : Without) where
 
   track_to : (a b : Track) → reduce_track l a ≡ reduce_track l b → TracksAgree l a b
   track_to a b e = record {
-    start = ap (λ (x : Track). x.start) e;
+    start = stays l.timing (λ n. 0) a.start b.start (ap (λ (x : Track). x.start) e);
     head = track_head_to a.head b.head (ap (λ (x : Track). x.head) e);
     samples = zip_to (SamplesAgree l) (reduce_sample l) sample_to a.samples b.samples (ap (λ (x : Track). x.samples) e);
   }
 
   track_from : (a b : Track) → TracksAgree l a b → reduce_track l a ≡ reduce_track l b
   track_from a b h = λ i. record {
-    start = h.start i;
+    start = same_less l.timing (λ n. 0) a.start b.start h.start refl i;
     head = track_head_from a.head b.head h.head i;
     samples = zip_from (SamplesAgree l) (reduce_sample l) sample_from a.samples b.samples h.samples i;
   }

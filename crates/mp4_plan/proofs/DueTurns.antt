@@ -201,7 +201,7 @@ turn_keeps d s taken later end n x e skips =
 
 -- ---- the leaves behind a turn
 
-there_before : {A : Type 0} (xs : List A) (k : ℕ) (x : A) → slice_get xs k ≡ Some x → k < length xs
+pub there_before : {A : Type 0} (xs : List A) (k : ℕ) (x : A) → slice_get xs k ≡ Some x → k < length xs
 there_before [] k x e = absurd cc
 there_before (y ∷ xs) zero x e = omega arith
 there_before (y ∷ xs) (suc k) x e = let a = there_before xs k x e in omega (arith, a)

@@ -1,11 +1,13 @@
 -- The first turn over the tracks of an opened file of which something may be left out: all of their samples are left, and so are all pieces.
-use Rattle.std.proofs.Common.{◌≡◌, ℕ, suc, ◌<◌, false, List, [], ◌∷◌, length, None, refl, sym, ap, subst, ◌∙◌, arith}
+use Rattle.std.proofs.Common.{◌≡◌, ℕ, suc, ◌<◌, List, [], ◌∷◌, length, None, refl, sym, ap, subst, ◌∙◌, arith}
 use Rattle.mp4_present.specs.declared.without.Without.{Without}
 use Rattle.mp4_plan.specs.words.ComingLess.{reduce_at, left_samples}
-use Rattle.mp4_present.specs.format.Reduced.{reduce_track, reduce_movie_head, reduce}
+use Rattle.mp4_present.specs.format.Reduced.{reduce_track, reduce_movie_head, reduce, start_left, timescale_left}
 use Rattle.mp4_head.proofs.Distinct.{map_twice}
-use Rattle.mp4_plan.proofs.ReducedTaken.{reduced_are_taken}
-use Rattle.std.specs.Prelude.{map, unwrap_or, option_map}
+use Rattle.mp4_plan.proofs.ReducedTaken.{reduced_are_taken, timed_numbered}
+use Rattle.mp4_plan.proofs.InfosLeft.{as_many_left}
+use Rattle.mp4_plan.proofs.ReducedValid.{scale_some}
+use Rattle.std.specs.Prelude.{Bool, true, false, if◌then◌else◌, map, unwrap_or, option_map}
 use Rattle.std.specs.List.{AllByRecursion, AllZip, slice_get}
 use Rattle.mp4_boxes.proofs.Each.{each_from}
 use Rattle.mp4_tables.specs.format.Groups.{GroupKey}
@@ -28,7 +30,7 @@ use Rattle.mp4_plan.specs.words.PiecesComing.{coming_of, stops, all_left}
 use Rattle.mp4_plan.specs.format.Pieces.{TimedSample, pieces}
 use Rattle.mp4_plan.specs.words.Taken.{AreTaken}
 use Rattle.mp4_plan.specs.words.TurnLaws.{HavePassed}
-use Rattle.mp4_plan.specs.words.Turns.{first_scale}
+use Rattle.mp4_plan.specs.words.Turns.{first_scale, info_left, infos_left}
 use Rattle.mp4_plan.specs.declared.ends.End.TheVariants.{Sync}
 use Rattle.mp4_plan.specs.declared.schedule.Schedule.{Schedule}
 use Rattle.mp4_plan.proofs.FragmentsLeft.{not_itself, turns_begin_with_all}
@@ -68,8 +70,12 @@ module _ (leaving : Without) where
       start : ℕ
       start = start_of (plain_of t) (parts_of_track (file_parts tree) t)
 
-      by : (placed : List PlacedSample) → placed_of (file_parts tree) t ≡ placed → first_dts (map (reduce_at leaving) (timed (track_keys tree t) 0 start placed)) ≡ start
-      by [] e = sym (starts_at_0 file (plain_of t) (parts_of_track (file_parts tree) t) (ap (map (sample_of file)) e))
+      at_0 : (b : Bool) (n : ℕ) → n ≡ 0 → 0 ≡ (if b then 0 else n)
+      at_0 true n e = refl
+      at_0 false n e = sym e
+
+      by : (placed : List PlacedSample) → placed_of (file_parts tree) t ≡ placed → first_dts (map (reduce_at leaving) (timed (track_keys tree t) 0 start placed)) ≡ start_left leaving start
+      by [] e = at_0 leaving.timing start (starts_at_0 file (plain_of t) (parts_of_track (file_parts tree) t) (ap (map (sample_of file)) e))
       by (s ∷ placed) e = refl
 
   -- the first sample does not end the piece that begins with it
@@ -80,11 +86,12 @@ module _ (leaving : Without) where
 
   -- ---- all tracks
 
-  less_left : (file : List ℕ) (tree : FileTree) (info : TrackInfo) (t : TrackTree) → TrackFacts file tree info t → IsLeft file info (left_samples leaving tree t) (coming_of (left_track leaving file tree t))
-  less_left file tree info t h = record { id = h.left.id; timescale = h.left.timescale; taken = reduced_are_taken leaving file (keys_seen info.keys) (track_samples tree t) (track_of file (file_parts tree) t) h.left.taken }
+  less_left : (file : List ℕ) (tree : FileTree) (info : TrackInfo) (t : TrackTree) → TrackFacts file tree info t → IsLeft file (info_left leaving info) (left_samples leaving tree t) (coming_of (left_track leaving file tree t))
+  less_left file tree info t h = record { id = h.left.id; timescale = ap (timescale_left leaving) h.left.timescale;
+      taken = reduced_are_taken leaving file (keys_seen info.keys) (track_samples tree t) (track_of file (file_parts tree) t) (timed_numbered (track_keys tree t) 0 (start_of (plain_of t) (parts_of_track (file_parts tree) t)) (placed_of (file_parts tree) t)) h.left.taken }
 
   -- all samples of all tracks are left
-  lefts_of : (file : List ℕ) (tree : FileTree) (infos : List TrackInfo) (trees : List TrackTree) → AllZip (TrackFacts file tree) infos trees → AreLeft file infos (map (left_samples leaving tree) trees) (map coming_of (map (left_track leaving file tree) trees))
+  lefts_of : (file : List ℕ) (tree : FileTree) (infos : List TrackInfo) (trees : List TrackTree) → AllZip (TrackFacts file tree) infos trees → AreLeft file (infos_left leaving infos) (map (left_samples leaving tree) trees) (map coming_of (map (left_track leaving file tree) trees))
   lefts_of file tree [] [] z = tt
   lefts_of file tree [] (t ∷ trees) z = absurd z
   lefts_of file tree (info ∷ infos) [] z = absurd z
@@ -96,30 +103,32 @@ module _ (leaving : Without) where
   as_many file tree (info ∷ infos) [] z = absurd z
   as_many file tree (info ∷ infos) (t ∷ trees) z = ap suc (as_many file tree infos trees z.1)
 
-  stands : (file : List ℕ) (tree : FileTree) (infos : List TrackInfo) (trees : List TrackTree) (s : Schedule) → AllZip (TrackFacts file tree) infos trees → AllByRecursion (λ (t : TrackTree). 0 < (track_head_of t).media.timescale) trees → IsFirst infos (map (left_samples leaving tree) trees) s
+  stands : (file : List ℕ) (tree : FileTree) (infos : List TrackInfo) (trees : List TrackTree) (s : Schedule) → AllZip (TrackFacts file tree) infos trees → AllByRecursion (λ (t : TrackTree). 0 < (track_head_of t).media.timescale) trees
+      → IsFirst (infos_left leaving infos) (map (left_samples leaving tree) trees) s
       → StandsAmong s (map coming_of (map (left_track leaving file tree) trees))
   stands file tree [] [] s z lt h = h.tracks
   stands file tree [] (t ∷ trees) s z lt h = absurd z
   stands file tree (info ∷ infos) [] s z lt h = absurd z
   stands file tree (info ∷ infos) (t ∷ trees) s z lt h =
-      let scale = (track_head_of t).media.timescale in
+      let scale = timescale_left leaving (track_head_of t).media.timescale in
+      let some = scale_some leaving (track_head_of t).media.timescale lt.0 in
       let others = map coming_of (map (left_track leaving file tree) trees) in
       let track = h.track in
       record {
         among = record {
-          tracks = h.tracks ∙ ap suc (as_many file tree infos trees z.1);
+          tracks = h.tracks ∙ ap suc (as_many_left leaving infos ∙ as_many file tree infos trees z.1);
           track = omega (arith, track);
-          timescale = lt.0;
+          timescale = some;
           passed = subst (λ n. HavePassed s.next scale n others) (sym track) tt;
           over = λ e. h.next;
         };
-        scale = h.first ∙ sym z.0.left.timescale;
-        fresh = λ e. fresh file (keys_seen info.keys) s.from scale (left_samples leaving tree t) (coming_of (left_track leaving file tree t)).samples (less_left file tree info t z.0).taken lt.0 h.from;
-        next = λ some. absurd (omega (arith, track, some));
+        scale = h.first ∙ sym (ap (timescale_left leaving) z.0.left.timescale);
+        fresh = λ e. fresh file (keys_seen info.keys) s.from scale (left_samples leaving tree t) (coming_of (left_track leaving file tree t)).samples (less_left file tree info t z.0).taken some h.from;
+        next = λ behind. absurd (omega (arith, track, behind));
       }
 
   -- the pieces that are left are all
-  all_pieces : (file : List ℕ) (tree : FileTree) (infos : List TrackInfo) (movie : MovieHead) (trees : List TrackTree) (s : Schedule) → AllByRecursion (λ (t : TrackTree). 0 < (track_head_of t).media.timescale) trees → IsFirst infos (map (left_samples leaving tree) trees) s
+  all_pieces : (file : List ℕ) (tree : FileTree) (infos : List TrackInfo) (movie : MovieHead) (trees : List TrackTree) (s : Schedule) → AllByRecursion (λ (t : TrackTree). 0 < (track_head_of t).media.timescale) trees → IsFirst (infos_left leaving infos) (map (left_samples leaving tree) trees) s
       → pieces_from s (map coming_of (map (left_track leaving file tree) trees)) ≡ pieces (record { movie = movie; tracks = map (left_track leaving file tree) trees })
   all_pieces file tree infos movie [] s lt h = sym (turns_begin_with_all (record { movie = movie; tracks = [] }))
   all_pieces file tree infos movie (t ∷ trees) s lt h =
@@ -127,16 +136,17 @@ module _ (leaving : Without) where
       let others = map (left_track leaving file tree) trees in
       at_first s (coming_of first) (map coming_of others) h.track
       ∙ ap (λ n. all_left n (coming_of first) (map coming_of others)) (h.from ∙ begins file tree t)
-      ∙ sym (turns_begin_with_all (record { movie = movie; tracks = first ∷ others }) lt.0)
+      ∙ sym (turns_begin_with_all (record { movie = movie; tracks = first ∷ others }) (scale_some leaving (track_head_of t).media.timescale lt.0))
 
   -- At the first turn all samples and all pieces of the presentation are left.
-  pub first_turn : (file : List ℕ) (m : MovieSeen) (tree : FileTree) (s : Schedule) → IsOpenedAs file m tree → IsFirst m.tracks (map (left_samples leaving tree) tree.movie.tracks) s
-      → IsTurn file m.tracks s (map (left_samples leaving tree) tree.movie.tracks) (map coming_of (reduce leaving (presentation_of file tree)).tracks) × (pieces_from s (map coming_of (reduce leaving (presentation_of file tree)).tracks) ≡ pieces (reduce leaving (presentation_of file tree)))
+  pub first_turn : (file : List ℕ) (m : MovieSeen) (tree : FileTree) (s : Schedule) → IsOpenedAs file m tree → IsFirst (infos_left leaving m.tracks) (map (left_samples leaving tree) tree.movie.tracks) s
+      → IsTurn file (infos_left leaving m.tracks) s (map (left_samples leaving tree) tree.movie.tracks) (map coming_of (reduce leaving (presentation_of file tree)).tracks)
+      × (pieces_from s (map coming_of (reduce leaving (presentation_of file tree)).tracks) ≡ pieces (reduce leaving (presentation_of file tree)))
   first_turn file m tree s o h =
       let facts = track_facts file m tree o in
       let scales = each_from IsTrackTree IsSoundTrack (λ (t : TrackTree). 0 < (track_head_of t).media.timescale) timescale_there tree.movie.tracks o.is_tree.movie.tracks o.is_sound.movie.tracks in
       let same = map_twice (track_of file (file_parts tree)) (reduce_track leaving) tree.movie.tracks in
-      subst (λ (tracks : List Track). IsTurn file m.tracks s (map (left_samples leaving tree) tree.movie.tracks) (map coming_of tracks) × (pieces_from s (map coming_of tracks) ≡ pieces (record { movie = reduce_movie_head leaving (movie_head_of tree.movie); tracks = tracks })))
+      subst (λ (tracks : List Track). IsTurn file (infos_left leaving m.tracks) s (map (left_samples leaving tree) tree.movie.tracks) (map coming_of tracks) × (pieces_from s (map coming_of tracks) ≡ pieces (record { movie = reduce_movie_head leaving (movie_head_of tree.movie); tracks = tracks })))
       (sym same) (
         record { each = lefts_of file tree m.tracks tree.movie.tracks facts; among = stands file tree m.tracks tree.movie.tracks s facts scales h; left = h.left },
         all_pieces file tree m.tracks (reduce_movie_head leaving (movie_head_of tree.movie)) tree.movie.tracks s scales h,

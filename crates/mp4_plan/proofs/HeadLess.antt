@@ -18,7 +18,7 @@ use Rattle.mp4_present.specs.words.Movies.{MovieSeen, moov_box}
 use Rattle.mp4_present.specs.words.OpenedMovie.{IsOpenedAs}
 use Rattle.mp4_present.specs.format.Presentation.{heads as heads_of}
 use Rattle.mp4_present.specs.format.Presentation.{Track, Presentation, movie_length, track_length, normal_moov_length}
-use Rattle.mp4_present.specs.format.Reduced.{metadata_kinds, reduce, reduce_track, reduce_track_head, reduce_movie_head}
+use Rattle.mp4_present.specs.format.Reduced.{metadata_kinds, reduce, reduce_track, reduce_track_head, reduce_movie_head, timescale_left}
 use Rattle.mp4_present.specs.words.PayloadsLeft.{keeping_payloads, track_payloads_left}
 use Rattle.mp4_present.specs.declared.without.Without.{Without}
 use Rattle.mp4_head.specs.words.Parts.{capped}
@@ -41,11 +41,11 @@ kept_less (k ∷ kept) = one_less k kept (not (is_among metadata_kinds k.kind.0)
 
 -- ---- how long the movie is where edits stay
 
-module _ (l : Without) (stay : l.edits ≡ false) where
-  longest_same : (timescale most : ℕ) (tracks : List Track) → fold (λ n (t : Track). max n (track_length timescale t)) most (map (reduce_track l) tracks) ≡ fold (λ n (t : Track). max n (track_length timescale t)) most tracks
+module _ (l : Without) (stay : l.edits ≡ false) (counts : l.timing ≡ false) where
+  longest_same : (timescale most : ℕ) (tracks : List Track) → fold (λ n (t : Track). max n (track_length (timescale_left l timescale) t)) most (map (reduce_track l) tracks) ≡ fold (λ n (t : Track). max n (track_length timescale t)) most tracks
   longest_same timescale most [] = refl
   longest_same timescale most (t ∷ tracks) =
-      ap (λ n. fold (λ n (t : Track). max n (track_length timescale t)) (max most n) (map (reduce_track l) tracks)) (same_track_length l timescale t stay)
+      ap (λ n. fold (λ n (t : Track). max n (track_length (timescale_left l timescale) t)) (max most n) (map (reduce_track l) tracks)) (same_track_length l timescale t stay counts)
       ∙ longest_same timescale (max most (track_length timescale t)) tracks
 
   pub same_length : (p : Presentation) → movie_length (reduce l p) ≡ movie_length p

@@ -83,6 +83,7 @@ pub mod HeadLess
 pub mod LeftTimes
 pub mod LeftRefused
 pub mod ReducedFaults
+pub mod InfosLeft
 pub mod FirstTurn
 pub mod NextSamples
 pub mod Planning

@@ -15,18 +15,18 @@ use Rattle.mp4_plan.specs.declared.ends.End.TheVariants.{Sync}
 
 -- ---- the next one
 
--- what is left of a sample has its duration and its size
-pub next_reduced : (l : Without) (s : SampleAt) (samples : List SampleAt) → IsNext s (less l samples) → IsNext s samples
-next_reduced l s [] h = absurd (none h.first)
+-- what is left of a sample has its duration, where timing counts, and its size
+pub next_reduced : (l : Without) (s : SampleAt) (samples : List SampleAt) → l.timing ≡ false → IsNext s (less l samples) → IsNext s samples
+next_reduced l s [] counts h = absurd (none h.first)
   where
     none : {x : SampleAt} → slice_get (less l []) 0 ≡ Some x → ⊥
     none e = cc
-next_reduced l s (x ∷ samples) h =
+next_reduced l s (x ∷ samples) counts h =
     let same : reduce_at l x ≡ h.next = is (reduce_at l x) h.next h.first in
     record {
       next = x;
       first = refl;
-      duration = ap (λ (y : SampleAt). y.duration) same ∙ h.duration;
+      duration = sym (ap (λ (b : Bool). if b then 1 else x.duration) counts) ∙ ap (λ (y : SampleAt). y.duration) same ∙ h.duration;
       size = ap (λ (y : SampleAt). y.size) same ∙ h.size;
     }
   where

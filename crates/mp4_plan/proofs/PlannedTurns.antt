@@ -2,7 +2,7 @@
 use Rattle.std.proofs.Common.{◌≡◌, ℕ, zero, suc, ◌+◌, ◌-◌, ◌*◌, ◌^◌, ◌<◌, ◌≤◌, nat_lt, Bool, true, false, cond, List, [], ◌∷◌, ◌++◌, length, take, map, Option, Some, None, refl, sym, ap, subst, ◌∙◌, arith, length-append, append-nil}
 use Rattle.mp4_present.specs.declared.without.Without.{Without}
 use Rattle.mp4_plan.specs.words.ComingLess.{ComesLess, left_samples}
-use Rattle.mp4_present.specs.format.Reduced.{reduce}
+use Rattle.mp4_present.specs.format.Reduced.{reduce, timescale_left}
 use Rattle.mp4_plan.proofs.ReducedTaken.{less_counted}
 use Rattle.std.specs.Prelude.{slice_get, slice_set, slice_index_or, min, max, fold}
 use Rattle.std.specs.List.{sum_by}
@@ -24,7 +24,7 @@ use Rattle.mp4_plan.specs.format.Pieces.{TimedSample, Piece, pieces}
 use Rattle.mp4_plan.specs.words.Sizes.{moof_sizes}
 use Rattle.mp4_plan.specs.words.Taken.{AreTaken}
 use Rattle.mp4_plan.specs.words.TurnLaws.{piece_if}
-use Rattle.mp4_plan.specs.words.Turns.{first_scale, turn_end, turned, Sticks}
+use Rattle.mp4_plan.specs.words.Turns.{first_scale, info_left, infos_left, turn_end, turned, Sticks}
 use Rattle.mp4_plan.specs.words.DueTracks.{FindsMore, IsDueAt, Skips}
 use Rattle.mp4_plan.specs.words.Writers.{AllCome, AllBegin, ArePiecesLong, firsts, longest_piece, planned_length}
 use Rattle.mp4_plan.specs.words.Writers as writers
@@ -33,13 +33,14 @@ use Rattle.mp4_plan.specs.declared.ends.End.{End}
 use Rattle.mp4_plan.specs.declared.planner.Planned.{Planned}
 use Rattle.mp4_plan.specs.declared.schedule.Schedule.{Schedule}
 use Rattle.mp4_plan.proofs.ComeAt.{come_with}
+use Rattle.mp4_plan.proofs.InfosLeft.{as_many_left, info_at, left_scales}
 use Rattle.mp4_plan.proofs.FirstTurn.{begins_at, first_turn}
 use Rattle.mp4_plan.proofs.Lefts.{left_count, pieces_from, IsTurn}
 use Rattle.mp4_plan.proofs.NextSamples.{first_at, firsts_set}
 use Rattle.mp4_plan.proofs.PieceWritten.{AreKeys, IsFew, bytes_of_two}
 use Rattle.mp4_plan.proofs.Planning.{comes_there}
 use Rattle.mp4_plan.proofs.SizesSmall.{moof_small}
-use Rattle.mp4_plan.proofs.SkippedTurns.{due_here, finds_none, opened_scales, turns_skipped}
+use Rattle.mp4_plan.proofs.SkippedTurns.{due_here, finds_none, turns_skipped}
 use Rattle.mp4_plan.proofs.SpelledPiece.{piece_length, taken_count}
 use Rattle.mp4_plan.proofs.TakenFrom.{track_facts_at, all_counted}
 use Rattle.mp4_plan.proofs.TakenFrom as taken_from
@@ -134,7 +135,7 @@ added keys p len next long left adds four small none some le fits = by p.count r
 pub record StandsAt (leaving : Without) (file : List ℕ) (tree : FileTree) (m : MovieSeen) (s : Schedule) (walks : List Walk) (nexts : List (Option SampleAt)) (lefts : List (List SampleAt)) (comings : List Coming) : Type 0 where
   pub come : AllCome leaving file tree m tree.movie.tracks walks lefts
   pub shown : nexts ≡ firsts lefts
-  pub turn : IsTurn file m.tracks s lefts comings
+  pub turn : IsTurn file (infos_left leaving m.tracks) s lefts comings
   pub few : left_count lefts ≤ 2 ^ 24
 
 -- The most samples of a piece before it.
@@ -160,7 +161,7 @@ begins_same ((s ∷ samples) ∷ lefts) = refl
 
 module _ (leaving : Without) (file : List ℕ) (tree : FileTree) (m : MovieSeen) (s : Schedule) (walks : List Walk) (nexts : List (Option SampleAt)) (from : ℕ) (o : IsOpenedAs file m tree) (come : AllBegin leaving file tree m walks)
     (shown : nexts ≡ firsts (map (left_samples leaving tree) tree.movie.tracks)) (time : from ≡ writers.first_dts (map (left_samples leaving tree) tree.movie.tracks))
-    (tracks : s.tracks ≡ length m.tracks) (first : s.first ≡ first_scale m.tracks) (left : s.left ≡ sum_by (λ (i : TrackInfo). i.samples) m.tracks) (starts : (s.track ≡ 0) × (s.from ≡ from) × (s.next ≡ None)) where
+    (tracks : s.tracks ≡ length m.tracks) (first : s.first ≡ first_scale (infos_left leaving m.tracks)) (left : s.left ≡ sum_by (λ (i : TrackInfo). i.samples) m.tracks) (starts : (s.track ≡ 0) × (s.from ≡ from) × (s.next ≡ None)) where
   abbrev all_lefts : List (List SampleAt)
   all_lefts = map (left_samples leaving tree) tree.movie.tracks
 
@@ -170,10 +171,10 @@ module _ (leaving : Without) (file : List ℕ) (tree : FileTree) (m : MovieSeen)
   few_first : left_count all_lefts ≤ 2 ^ 24
   few_first = subst (λ n. n ≤ 2 ^ 24) (sym (less_counted leaving tree tree.movie.tracks)) (taken_from.few_left file m tree o)
 
-  begins : IsTurn file m.tracks s all_lefts all_comings × (pieces_from s all_comings ≡ pieces (reduce leaving (presentation_of file tree)))
+  begins : IsTurn file (infos_left leaving m.tracks) s all_lefts all_comings × (pieces_from s all_comings ≡ pieces (reduce leaving (presentation_of file tree)))
   begins =
       let count = all_counted file m tree s.left o left ∙ sym (less_counted leaving tree tree.movie.tracks) in
-      first_turn leaving file m tree s o (record { tracks = tracks; first = first; track = starts.0; from = starts.1 ∙ time ∙ begins_same all_lefts; next = starts.2; left = count })
+      first_turn leaving file m tree s o (record { tracks = tracks ∙ sym (as_many_left leaving m.tracks); first = first; track = starts.0; from = starts.1 ∙ time ∙ begins_same all_lefts; next = starts.2; left = count })
 
   -- Before the first turn all pieces are left.
   pub stands_first : StandsAt leaving file tree m s walks nexts all_lefts all_comings
@@ -203,13 +204,13 @@ module _ (leaving : Without) (file : List ℕ) (tree : FileTree) (m : MovieSeen)
   -- Behind the last turn all were passed.
   pub longest_end : (most : ℕ) → IsLongest leaving file tree m s walks nexts most → s.tracks ≤ s.track → most ≡ longest_piece (pieces (reduce leaving (presentation_of file tree)))
   longest_end most h le =
-      let none = turns_end file m.tracks s h.lefts h.comings h.at.turn le in
+      let none = turns_end file (infos_left leaving m.tracks) s h.lefts h.comings h.at.turn le in
       let longest = subst (λ ps. max most (longest_piece ps) ≡ longest_piece (pieces (reduce leaving (presentation_of file tree)))) none h.longest in
       (let n : most ≡ max most 0 = omega arith in n) ∙ longest
 
   pub length_end : (total : ℕ) → IsLength leaving file tree m s walks nexts total → s.tracks ≤ s.track → ArePiecesLong (reduce leaving (presentation_of file tree)) total
   length_end total h le =
-      let none = turns_end file m.tracks s h.lefts h.comings h.at.turn le in
+      let none = turns_end file (infos_left leaving m.tracks) s h.lefts h.comings h.at.turn le in
       let len = subst (λ ps. total + length (pieces_bytes h.number ps) ≡ length (pieces_bytes 1 (pieces (reduce leaving (presentation_of file tree))))) none h.len in
       let fits = h.fits in
       record { len = (let n : total ≡ total + 0 = omega arith in n) ∙ len; within = omega (arith, fits) }
@@ -223,18 +224,18 @@ pub record HasTurn (leaving : Without) (file : List ℕ) (tree : FileTree) (m : 
   pub is_tree : slice_get tree.movie.tracks s.track ≡ Some t
   pub is_left : slice_get lefts s.track ≡ Some left
   pub place : k ≡ s.track
-  pub end_is : end ≡ turn_end s info.timescale
+  pub end_is : end ≡ turn_end s (timescale_left leaving info.timescale)
   pub comes : ComesLess leaving file tree t m walk left
   pub few : length left ≤ 2 ^ 24
   pub shown : slice_get nexts s.track ≡ Some (slice_get left 0)
 
 module _ (leaving : Without) (file : List ℕ) (tree : FileTree) (m : MovieSeen) (s : Schedule) (walks : List Walk) (nexts : List (Option SampleAt)) (lefts : List (List SampleAt)) (comings : List Coming) (o : IsOpenedAs file m tree)
     (h : StandsAt leaving file tree m s walks nexts lefts comings) where
-  pub has_turn : (k : ℕ) (walk : Walk) (end : End) → (k ≡ s.track) × (s.track < s.tracks) → walk ≡ slice_index_or walks k walk → length walks ≡ length m.tracks → ((info : TrackInfo) → slice_get m.tracks s.track ≡ Some info → end ≡ turn_end s info.timescale)
+  pub has_turn : (k : ℕ) (walk : Walk) (end : End) → (k ≡ s.track) × (s.track < s.tracks) → walk ≡ slice_index_or walks k walk → length walks ≡ length m.tracks → ((info : TrackInfo) → slice_get m.tracks s.track ≡ Some info → end ≡ turn_end s (timescale_left leaving info.timescale))
       → HasTurn leaving file tree m s nexts lefts k walk end
   has_turn k walk end at is_walk many is_end =
       let lt = at.1 in
-      let tracks = turn_tracks file m.tracks s lefts comings h.turn in
+      let tracks = turn_tracks file (infos_left leaving m.tracks) s lefts comings h.turn ∙ as_many_left leaving m.tracks in
       let info = there_is m.tracks s.track (omega (arith, lt, tracks)) in
       let r = comes_there leaving file tree m walks lefts s.track walk h.come (omega (arith, lt, tracks, many)) in
       let fits = few_left lefts s.track (length r.left) r.left r.is_left (omega arith) in
@@ -254,8 +255,9 @@ module _ (leaving : Without) (file : List ℕ) (tree : FileTree) (m : MovieSeen)
       }
 
   module _ (k : ℕ) (walk : Walk) (end : End) (t : HasTurn leaving file tree m s nexts lefts k walk end) (lt : s.track < s.tracks) where
-    pub taken : TurnTakes file m.tracks s lefts comings t.info t.left end
-    taken = subst (λ e. TurnTakes file m.tracks s lefts comings t.info t.left e) (sym t.end_is) (turn_taken file m.tracks s lefts comings t.info t.left h.turn lt t.is_info t.is_left)
+    pub taken : TurnTakes file (infos_left leaving m.tracks) s lefts comings (info_left leaving t.info) t.left end
+    taken = subst (λ e. TurnTakes file (infos_left leaving m.tracks) s lefts comings (info_left leaving t.info) t.left e) (sym t.end_is)
+        (turn_taken file (infos_left leaving m.tracks) s lefts comings (info_left leaving t.info) t.left h.turn lt (info_at leaving m.tracks s.track t.info t.is_info) t.is_left)
 
     abbrev pub piece_size : ℕ
     piece_size = more_of (piece_from end) t.left
@@ -264,10 +266,11 @@ module _ (leaving : Without) (file : List ℕ) (tree : FileTree) (m : MovieSeen)
     left_behind_it = samples_after (piece_from end) t.left
 
     -- the turn leads on, where a track behind the first has a sample that goes into a piece
-    pub turn_leads : (n : ℕ) (next : Option SampleAt) (d : DueTracks) → n ≡ piece_size → next ≡ slice_get left_behind_it 0 → IsDueAt m.tracks nexts s d → ¬ Sticks s n next
+    pub turn_leads : (n : ℕ) (next : Option SampleAt) (d : DueTracks) → n ≡ piece_size → next ≡ slice_get left_behind_it 0 → IsDueAt (infos_left leaving m.tracks) nexts s d → ¬ Sticks s n next
     turn_leads n next d is after due =
-        let goes = due_here m.tracks nexts s d t.info (slice_get t.left 0) due (opened_scales file m tree o) lt t.is_info t.shown in
-        let at_end = subst (λ e. ¬ Sticks s (more_of (piece_from e) t.left) (slice_get (samples_after (piece_from e) t.left) 0)) (sym t.end_is) (turn_moves file m.tracks s lefts comings t.info t.left (turn_taken file m.tracks s lefts comings t.info t.left h.turn lt t.is_info t.is_left) goes) in
+        let goes = due_here (infos_left leaving m.tracks) nexts s d (info_left leaving t.info) (slice_get t.left 0) due (left_scales leaving file m tree o) lt (info_at leaving m.tracks s.track t.info t.is_info) t.shown in
+        let at_end = subst (λ e. ¬ Sticks s (more_of (piece_from e) t.left) (slice_get (samples_after (piece_from e) t.left) 0)) (sym t.end_is)
+            (turn_moves file (infos_left leaving m.tracks) s lefts comings (info_left leaving t.info) t.left (turn_taken file (infos_left leaving m.tracks) s lefts comings (info_left leaving t.info) t.left h.turn lt (info_at leaving m.tracks s.track t.info t.is_info) t.is_left) goes) in
         subst (λ i. ¬ Sticks s i next) (sym is) (subst (λ x. ¬ Sticks s piece_size x) (sym after) at_end)
 
     within_left : piece_size ≤ length t.left
@@ -295,9 +298,10 @@ module _ (leaving : Without) (file : List ℕ) (tree : FileTree) (m : MovieSeen)
       }
 
       -- where no sample is left, no track is due behind it
-      pub no_more : (d : DueTracks) (later : Schedule) → FindsMore m.tracks (slice_set nexts s.track next) on later d → ⊥
-      no_more d later f = finds_none file m.tracks on later (slice_set lefts s.track left_behind_it) taken.later (slice_set nexts s.track next) d (subst (λ (r : Schedule). IsTurn file m.tracks r (slice_set lefts s.track left_behind_it) taken.later) (sym turned_is) stands_next.turn) stands_next.shown
-          (opened_scales file m tree o) f
+      pub no_more : (d : DueTracks) (later : Schedule) → FindsMore (infos_left leaving m.tracks) (slice_set nexts s.track next) on later d → ⊥
+      no_more d later f = finds_none file (infos_left leaving m.tracks) on later (slice_set lefts s.track left_behind_it) taken.later (slice_set nexts s.track next) d
+          (subst (λ (r : Schedule). IsTurn file (infos_left leaving m.tracks) r (slice_set lefts s.track left_behind_it) taken.later) (sym turned_is) stands_next.turn) stands_next.shown
+          (left_scales leaving file m tree o) f
 
       -- Behind it one more piece is looked at, if it took samples.
       pub longest_next : (most later : ℕ) → max most (longest_piece (pieces_from s comings)) ≡ longest_piece (pieces (reduce leaving (presentation_of file tree))) → later ≡ max most n → IsLongest leaving file tree m on (slice_set walks k now) (slice_set nexts k next) later
@@ -355,10 +359,10 @@ module _ (leaving : Without) (file : List ℕ) (tree : FileTree) (m : MovieSeen)
 
 -- ---- where tracks are skipped
 
-module _ (leaving : Without) (file : List ℕ) (tree : FileTree) (m : MovieSeen) (s later : Schedule) (walks : List Walk) (nexts : List (Option SampleAt)) (d : DueTracks) (o : IsOpenedAs file m tree) (skips : Skips d s later) (due : IsDueAt m.tracks nexts later d) where
+module _ (leaving : Without) (file : List ℕ) (tree : FileTree) (m : MovieSeen) (s later : Schedule) (walks : List Walk) (nexts : List (Option SampleAt)) (d : DueTracks) (o : IsOpenedAs file m tree) (skips : Skips d s later) (due : IsDueAt (infos_left leaving m.tracks) nexts later d) where
   stands_skipped : (lefts : List (List SampleAt)) (comings : List Coming) → StandsAt leaving file tree m s walks nexts lefts comings → StandsAt leaving file tree m later walks nexts lefts comings × (pieces_from s comings ≡ pieces_from later comings)
   stands_skipped lefts comings h =
-      let r = turns_skipped file m.tracks d s later nexts lefts comings skips h.turn h.shown due (opened_scales file m tree o) in
+      let r = turns_skipped file (infos_left leaving m.tracks) d s later nexts lefts comings skips h.turn h.shown due (left_scales leaving file m tree o) in
       (record { come = h.come; shown = h.shown; turn = r.0; few = h.few }, r.1)
 
   -- The longest piece is one of the same pieces.

@@ -9,7 +9,7 @@ use Rattle.mp4_boxes.specs.declared.fault.Kind.TheVariants.{TimeTooLarge}
 use Rattle.mp4_head.specs.format.Tree.{TrackTree, first_of}
 use Rattle.mp4_present.specs.format.Presentation.{Track, IsInTime, end_time, max_time, track_length}
 use Rattle.mp4_present.specs.format.Denotes.{FileTree, file_parts, movie_timescale, track_of, presentation_of}
-use Rattle.mp4_present.specs.format.Reduced.{ReducesInTime, reduce_track}
+use Rattle.mp4_present.specs.format.Reduced.{ReducesInTime, reduce_track, timescale_left}
 use Rattle.mp4_present.specs.words.Movies.{MovieSeen}
 use Rattle.mp4_present.specs.words.OpenedMovie.{IsOpenedAs}
 use Rattle.mp4_present.specs.declared.without.Without.{Without}
@@ -61,7 +61,7 @@ same_first P [] (y ∷ ys) more rest t u e hx hy first second = absurd (first (s
 same_first P (x ∷ xs) [] more rest t u e hx hy first second = absurd (second (subst P (head_same x u (xs ++ t ∷ more) rest e) hx.0))
 same_first P (x ∷ xs) (y ∷ ys) more rest t u e hx hy first second = same_first P xs ys more rest t u (tail_same x y (xs ++ t ∷ more) (ys ++ u ∷ rest) e) hx.1 hy.1 first second
 
-all_mapped : (l : Without) (file : List ℕ) (tree : FileTree) (trees : List TrackTree) → AllByRecursion (LeftInTime l file tree) trees → AllByRecursion (λ (t : Track). IsInTime (movie_timescale file tree) (reduce_track l t)) (map (track_of file (file_parts tree)) trees)
+all_mapped : (l : Without) (file : List ℕ) (tree : FileTree) (trees : List TrackTree) → AllByRecursion (LeftInTime l file tree) trees → AllByRecursion (λ (t : Track). IsInTime (timescale_left l (movie_timescale file tree)) (reduce_track l t)) (map (track_of file (file_parts tree)) trees)
 all_mapped l file tree [] h = tt
 all_mapped l file tree (t ∷ trees) h = (h.0, all_mapped l file tree trees h.1)
 
@@ -69,7 +69,7 @@ all_mapped l file tree (t ∷ trees) h = (h.0, all_mapped l file tree trees h.1)
 
 there_is : (l : Without) (file : List ℕ) (tree : FileTree) → (ReducesInTime l (presentation_of file tree) → ⊥) → (f : Fault) × ReducedTimePasses l file tree f
 there_is l file tree long =
-    let or : (t : TrackTree) → LeftInTime l file tree t ⊎ (LeftInTime l file tree t → ⊥) = λ t. in_time_or (movie_timescale file tree) (reduce_track l (track_of file (file_parts tree) t)) in
+    let or : (t : TrackTree) → LeftInTime l file tree t ⊎ (LeftInTime l file tree t → ⊥) = λ t. in_time_or (timescale_left l (movie_timescale file tree)) (reduce_track l (track_of file (file_parts tree) t)) in
     let r = found_first (LeftInTime l file tree) or tree.movie.tracks (λ all. long (all_mapped l file tree tree.movie.tracks all)) in
     (fault_of TimeTooLarge (first_of (codes "tkhd") r.t.track), record { before = r.before; t = r.t; after = r.after; tracks = r.split; in_time = r.each; passes = r.fails; named = refl })
 

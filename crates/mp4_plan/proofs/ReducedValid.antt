@@ -1,8 +1,8 @@
 -- What is left of what is valid is valid, where its tracks are not too long.
-use Rattle.std.proofs.Common.{◌≡◌, ℕ, ◌+◌, ◌*◌, ◌<◌, ◌≤◌, ◌^◌, Bool, true, false, if◌then◌else◌, List, [], ◌∷◌, ◌++◌, length, refl, sym, ap, subst, ◌∙◌, arith, length-append}
-use Rattle.std.specs.Prelude.{not, map, filter, codes}
+use Rattle.std.proofs.Common.{◌≡◌, ℕ, ◌+◌, ◌*◌, ◌<◌, ◌≤◌, ◌^◌, Bool, true, false, if◌then◌else◌, List, [], ◌∷◌, ◌++◌, length, refl, sym, ap, subst, ◌∙◌, arith, length-append, ◌⊎◌, inl, inr}
+use Rattle.std.specs.Prelude.{not, map, filter, codes, ℤ, pos, FitsSigned}
 use Rattle.std.specs.List.{AllByRecursion, flat_map}
-use Rattle.std.specs.Int.{div_ceil}
+use Rattle.std.specs.Int.{div_ceil, w32}
 use Rattle.mp4_boxes.specs.format.Bytes.{AreBytes, sum_of}
 use Rattle.mp4_boxes.specs.format.Children.{is_among}
 use Rattle.mp4_boxes.specs.format.Written.{box_bytes}
@@ -13,8 +13,8 @@ use Rattle.mp4_head.specs.format.Tree.{are_distinct}
 use Rattle.mp4_head.specs.format.Writing.{kept_bytes, edts_bytes, trak_bytes, trex_bytes, moov_bytes, head_bytes, ftyp_bytes}
 use Rattle.mp4_head.proofs.HeadLengths.{length_any, length_head, length_track}
 use Rattle.mp4_plan.proofs.Plain.{handler_shorter, handler_room, handler_bytes, descriptions_many, descriptions_less, descriptions_good}
-use Rattle.mp4_present.specs.format.Presentation.{Sample, Track, Presentation, IsGroup, IsSample, IsTrack, Valid, IsInTime, heads, keys_of, total_duration, movie_length, says_all, track_length, normal_moov_length, max_time}
-use Rattle.mp4_present.specs.format.Reduced.{metadata_kinds, sync_flag, plain_handler, reduce_kept, reduce_sample, reduce_media, reduce_track_head, reduce_movie_head, reduce_track, reduce, ReducesInTime}
+use Rattle.mp4_present.specs.format.Presentation.{Sample, Track, Presentation, IsGroup, IsSample, IsTrack, Valid, IsInTime, heads, keys_of, end_time, total_duration, movie_length, says_all, track_length, normal_moov_length, sample_total, max_samples, max_time}
+use Rattle.mp4_present.specs.format.Reduced.{metadata_kinds, sync_flag, plain_handler, reduce_kept, reduce_sample, reduce_media, reduce_track_head, reduce_movie_head, reduce_track, reduce, duration_left, start_left, timescale_left, ReducesInTime}
 use Rattle.mp4_present.specs.declared.without.Without.{Without}
 use Rattle.mp4_plan.specs.format.ReducedLaws.{ReducedIsValid, ReducedStaysValid}
 
@@ -117,10 +117,19 @@ module _ (l : Without) where
   sync_good : (flags : ℕ) → sync_flag flags < 2 ^ 28
   sync_good flags = omega arith
 
+  fits_0 : FitsSigned w32 (pos 0)
+  fits_0 = omega arith
+
+  scale_good : (n : ℕ) → n < 2 ^ 32 → timescale_left l n < 2 ^ 32
+  scale_good n h = by_case (λ k. k < 2 ^ 32) l.timing 1000 n (omega arith) h
+
+  pub scale_some : (n : ℕ) → 0 < n → 0 < timescale_left l n
+  scale_some n h = by_case (λ k. 0 < k) l.timing 1000 n (omega arith) h
+
   sample_good : (descriptions : ℕ) (s : Sample) → IsSample descriptions s → IsSample descriptions (reduce_sample l s)
   sample_good descriptions s h = record {
-    duration = h.duration;
-    offset = h.offset;
+    duration = by_case (λ n. n < 2 ^ 32) l.timing 1 s.duration (omega arith) h.duration;
+    offset = by_case (λ (n : ℤ). FitsSigned w32 n) l.timing (pos 0) s.offset fits_0 h.offset;
     flags = by_case (λ n. n < 2 ^ 28) l.flags (sync_flag s.flags) s.flags (sync_good s.flags) h.flags;
     description_from_1 = h.description_from_1;
     description = h.description;
@@ -134,8 +143,8 @@ module _ (l : Without) where
   media_good m h = record {
     creation = time_good m.creation h.creation;
     modification = time_good m.modification h.modification;
-    timescale = h.timescale;
-    timescale_not_0 = h.timescale_not_0;
+    timescale = scale_good m.timescale h.timescale;
+    timescale_not_0 = scale_some m.timescale h.timescale_not_0;
     language = h.language;
     handler = by_case AreBytes l.labels (plain_handler m.handler) m.handler (handler_bytes m.handler h.handler) h.handler;
     handler_room = by_case (λ (x : List ℕ). 24 ≤ length x) l.labels (plain_handler m.handler) m.handler (handler_room m.handler h.handler_room) h.handler_room;
@@ -168,8 +177,8 @@ module _ (l : Without) where
   movie_head_good m h = record {
     creation = time_good m.creation h.creation;
     modification = time_good m.modification h.modification;
-    timescale = h.timescale;
-    timescale_not_0 = h.timescale_not_0;
+    timescale = scale_good m.timescale h.timescale;
+    timescale_not_0 = scale_some m.timescale h.timescale_not_0;
     rate = h.rate;
     volume = h.volume;
     matrix = h.matrix;
@@ -202,7 +211,7 @@ module _ (l : Without) where
     samples = subst (λ n. AllByRecursion (IsSample n) (map (reduce_sample l) t.samples)) (sym (descriptions_many l t.head.media.handler t.head.media.descriptions))
         (each_value (IsSample (length t.head.media.descriptions)) (IsSample (length t.head.media.descriptions)) (reduce_sample l) (sample_good (length t.head.media.descriptions)) t.samples h.samples);
     keys = keys_good t.samples h.keys;
-    empty = λ e. h.empty (none_left (reduce_sample l) t.samples e);
+    empty = λ e. by_case (λ n. n ≡ 0) l.timing 0 t.start refl (h.empty (none_left (reduce_sample l) t.samples e));
   }
 
   -- ---- the whole
@@ -229,37 +238,109 @@ module _ (l : Without) where
     ids = ap are_distinct (ids_same p.tracks) ∙ v.ids;
     limits = record {
       samples = let same = totals_same p.tracks in let few = v.limits.samples in omega (arith, same, few);
-      times = each_value (λ (t : Track). IsInTime p.movie.timescale (reduce_track l t)) (IsInTime p.movie.timescale) (reduce_track l) (λ t h. h) p.tracks in_time;
+      times = each_value (λ (t : Track). IsInTime (timescale_left l p.movie.timescale) (reduce_track l t)) (IsInTime (timescale_left l p.movie.timescale)) (reduce_track l) (λ t h. h) p.tracks in_time;
       moov = let less = moov_shorter p v in let few = v.limits.moov in omega (arith, less, few);
     };
   }
 
   pub valid_to : (p : Presentation) → Valid (reduce l p) → ReducesInTime l p
-  valid_to p v = all_from (IsInTime p.movie.timescale) p.tracks v.limits.times
+  valid_to p v = all_from (IsInTime (timescale_left l p.movie.timescale)) p.tracks v.limits.times
 
   -- ---- where edits stay
 
-  pub durations_same : (samples : List Sample) → total_duration (map (reduce_sample l) samples) ≡ total_duration samples
-  durations_same [] = refl
-  durations_same (s ∷ samples) = ap (λ n. s.duration + n) (durations_same samples)
+  durations_by : (b : Bool) → b ≡ false → (samples : List Sample) → sum_of (λ (s : Sample). if b then 1 else s.duration) samples ≡ total_duration samples
+  durations_by true e samples = absurd cc
+  durations_by false e samples = refl
 
-  pub same_track_length : (timescale : ℕ) (t : Track) → l.edits ≡ false → track_length timescale (reduce_track l t) ≡ track_length timescale t
-  same_track_length timescale t stay =
-      let same : (if l.edits then [] else t.head.edits) ≡ t.head.edits = ap (λ (b : Bool). if b then [] else t.head.edits) stay in
-      let n = durations_same t.samples in
-      λ i. length_by timescale t.head.media.timescale (same i) (n i)
+  durations_mapped : (samples : List Sample) → total_duration (map (reduce_sample l) samples) ≡ sum_of (λ (s : Sample). duration_left l s.duration) samples
+  durations_mapped [] = refl
+  durations_mapped (s ∷ samples) = ap (λ n. duration_left l s.duration + n) (durations_mapped samples)
 
-  pub in_time_stays : (timescale : ℕ) (t : Track) → l.edits ≡ false → IsInTime timescale t → IsInTime timescale (reduce_track l t)
-  in_time_stays timescale t stay h =
+  pub durations_same : l.timing ≡ false → (samples : List Sample) → total_duration (map (reduce_sample l) samples) ≡ total_duration samples
+  durations_same e samples = durations_mapped samples ∙ durations_by l.timing e samples
+
+  pub scale_stays : l.timing ≡ false → (timescale : ℕ) → timescale_left l timescale ≡ timescale
+  scale_stays e timescale = ap (λ (b : Bool). if b then 1000 else timescale) e
+
+  pub start_stays : l.timing ≡ false → (start : ℕ) → start_left l start ≡ start
+  start_stays e start = ap (λ (b : Bool). if b then 0 else start) e
+
+  pub same_track_length : (timescale : ℕ) (t : Track) → l.edits ≡ false → l.timing ≡ false → track_length (timescale_left l timescale) (reduce_track l t) ≡ track_length timescale t
+  same_track_length timescale t stay counts =
       let same : (if l.edits then [] else t.head.edits) ≡ t.head.edits = ap (λ (b : Bool). if b then [] else t.head.edits) stay in
-      let n = durations_same t.samples in
-      subst (λ (total : ℕ). (t.start + total ≤ max_time) × (length_by timescale t.head.media.timescale (if l.edits then [] else t.head.edits) total ≤ max_time)) (sym n)
-      (h.0, subst (λ (edits : List Edit). length_by timescale t.head.media.timescale edits (total_duration t.samples) ≤ max_time) (sym same) h.1)
+      let n = durations_same counts t.samples in
+      λ i. length_by (scale_stays counts timescale i) (scale_stays counts t.head.media.timescale i) (same i) (n i)
+
+  pub in_time_stays : (timescale : ℕ) (t : Track) → l.edits ≡ false → l.timing ≡ false → IsInTime timescale t → IsInTime (timescale_left l timescale) (reduce_track l t)
+  in_time_stays timescale t stay counts h =
+      let ends : end_time (reduce_track l t) ≡ end_time t = λ i. start_stays counts t.start i + durations_same counts t.samples i in
+      (subst (λ n. n ≤ max_time) (sym ends) h.0, subst (λ n. n ≤ max_time) (sym (same_track_length timescale t stay counts)) h.1)
+
+  -- ---- where timing doesn't count
+
+  durations_counted : (samples : List Sample) → l.timing ≡ true → total_duration (map (reduce_sample l) samples) ≡ length samples
+  durations_counted [] e = refl
+  durations_counted (s ∷ samples) e =
+      let one : duration_left l s.duration ≡ 1 = ap (λ (b : Bool). if b then 1 else s.duration) e in
+      let rest = durations_counted samples e in
+      omega (arith, one, rest)
+
+  -- a track is as long as its edits say, where they stay and say it; else by the number of its samples
+  abbrev pub counted_length : List Edit → ℕ → ℕ
+  counted_length edits samples = if says_all (if l.edits then [] else edits) then sum_of (λ (e : Edit). e.segment_duration) (if l.edits then [] else edits) else samples
+
+  each_a_thousandth : (n : ℕ) → div_ceil (n * 1000) 1000 ≡ n
+  each_a_thousandth n = omega arith
+
+  pub counted_track_length : (timescale : ℕ) (t : Track) → l.timing ≡ true → track_length (timescale_left l timescale) (reduce_track l t) ≡ counted_length t.head.edits (length t.samples)
+  counted_track_length timescale t e =
+      let edits = if l.edits then [] else t.head.edits in
+      let scale : (n : ℕ) → timescale_left l n ≡ 1000 = λ n. ap (λ (b : Bool). if b then 1000 else n) e in
+      (λ i. length_by (scale timescale i) (scale t.head.media.timescale i) edits (durations_counted t.samples e i))
+      ∙ ap (λ n. if says_all edits then sum_of (λ (e : Edit). e.segment_duration) edits else n) (each_a_thousandth (length t.samples))
+
+  short_by : (all : Bool) (edits samples most : ℕ) → (all ≡ true → edits ≤ most) → samples ≤ most → (if all then edits else samples) ≤ most
+  short_by true edits samples most h k = h refl
+  short_by false edits samples most h k = k
+
+  by_edits : (all : Bool) (edits samples most : ℕ) → (if all then edits else samples) ≤ most → all ≡ true → edits ≤ most
+  by_edits true edits samples most h e = h
+  by_edits false edits samples most h e = absurd cc
+
+  counted_short : (b : Bool) (edits : List Edit) (timescale media total samples : ℕ) → length_by timescale media edits total ≤ max_time → samples ≤ max_time
+      → (let es = if b then [] else edits in (if says_all es then sum_of (λ (e : Edit). e.segment_duration) es else samples) ≤ max_time)
+  counted_short true edits timescale media total samples h few = few
+  counted_short false edits timescale media total samples h few = short_by (says_all edits) (sum_of (λ (e : Edit). e.segment_duration) edits) samples max_time (by_edits (says_all edits) (sum_of (λ (e : Edit). e.segment_duration) edits) (div_ceil (total * timescale) media) max_time h) few
+
+  pub in_time_counted : (timescale : ℕ) (t : Track) → l.timing ≡ true → length t.samples ≤ 2 ^ 24 → IsInTime timescale t → IsInTime (timescale_left l timescale) (reduce_track l t)
+  in_time_counted timescale t e few h =
+      let start : start_left l t.start ≡ 0 = ap (λ (b : Bool). if b then 0 else t.start) e in
+      let n = durations_counted t.samples e in (
+        omega (arith, start, n, few),
+        subst (λ n. n ≤ max_time) (sym (counted_track_length timescale t e)) (counted_short l.edits t.head.edits timescale t.head.media.timescale (total_duration t.samples) (length t.samples) h.1 (omega (arith, few))),
+      )
+
+  -- each track has no more samples than all
+  pub each_few : (tracks : List Track) (most : ℕ) → sum_of (λ (t : Track). length t.samples) tracks ≤ most → AllByRecursion (λ (t : Track). length t.samples ≤ most) tracks
+  each_few [] most h = tt
+  each_few (t ∷ tracks) most h = (omega (arith, h), each_few tracks most (omega (arith, h)))
+
+  all_both : (P Q R : Track → Type 0) → ((t : Track) → P t → Q t → R t) → (tracks : List Track) → AllByRecursion P tracks → AllByRecursion Q tracks → AllByRecursion R tracks
+  all_both P Q R f [] p q = tt
+  all_both P Q R f (t ∷ tracks) p q = (f t p.0 q.0, all_both P Q R f tracks p.1 q.1)
+
+  pub all_counted : (p : Presentation) → l.timing ≡ true → sample_total p ≤ max_samples → AllByRecursion (IsInTime p.movie.timescale) p.tracks → ReducesInTime l p
+  all_counted p e few times =
+      all_both (λ (t : Track). length t.samples ≤ max_samples) (IsInTime p.movie.timescale) (λ (t : Track). IsInTime (timescale_left l p.movie.timescale) (reduce_track l t))
+      (λ t less h. in_time_counted p.movie.timescale t e less h) p.tracks (each_few p.tracks max_samples few) times
 
 pub reduced_is_valid : ReducedIsValid
 reduced_is_valid l p v = (valid_to l p, valid_from l p v)
 
 pub reduced_stays_valid : ReducedStaysValid
-reduced_stays_valid l p v stay =
-    let short = each_weaker (IsInTime p.movie.timescale) (λ (t : Track). IsInTime p.movie.timescale (reduce_track l t)) (λ t h. in_time_stays l p.movie.timescale t stay h) p.tracks v.limits.times in
-    (short, valid_from l p v short)
+reduced_stays_valid l p v stay = let short = by l.timing refl stay in (short, valid_from l p v short)
+  where
+    by : (b : Bool) → l.timing ≡ b → (l.edits ≡ false) ⊎ (l.timing ≡ true) → ReducesInTime l p
+    by true e either = all_counted l p e v.limits.samples v.limits.times
+    by false e (inl same) = each_weaker (IsInTime p.movie.timescale) (λ (t : Track). IsInTime (timescale_left l p.movie.timescale) (reduce_track l t)) (λ t h. in_time_stays l p.movie.timescale t same e h) p.tracks v.limits.times
+    by false e (inr none) = absurd cc

@@ -1,10 +1,10 @@
 -- To reduce by nothing changes nothing, and to reduce twice is to reduce once by the words of both.
 use Rattle.std.proofs.Common.{◌≡◌, ℕ, Bool, true, false, if◌then◌else◌, List, [], ◌∷◌, refl, sym, ap, ◌∙◌, arith}
-use Rattle.std.specs.Prelude.{◌||◌, not, map, filter}
+use Rattle.std.specs.Prelude.{◌||◌, not, map, filter, pos}
 use Rattle.mp4_boxes.specs.format.Children.{is_among}
 use Rattle.mp4_head.specs.format.Head.{Kept, Media, TrackHead, MovieHead}
 use Rattle.mp4_present.specs.format.Presentation.{Sample, Track, Presentation}
-use Rattle.mp4_present.specs.format.Reduced.{metadata_kinds, sync_flag, plain_handler, reduce_kept, reduce_sample, reduce_media, reduce_track_head, reduce_movie_head, reduce_track, reduce}
+use Rattle.mp4_present.specs.format.Reduced.{metadata_kinds, sync_flag, plain_handler, reduce_kept, reduce_sample, reduce_media, reduce_track_head, reduce_movie_head, reduce_track, reduce, timescale_left}
 use Rattle.mp4_present.specs.declared.without.Without.{Without}
 use Rattle.mp4_plan.proofs.Plain.{handler_twice, descriptions_twice}
 use Rattle.mp4_plan.specs.format.ReducedLaws.{nothing, both, NothingReduces, ReducesOnce, ReducesInAnyOrder, ReduceIsFixed}
@@ -49,6 +49,8 @@ sync_twice flags = omega arith
 module _ (l m : Without) where
   sample_twice : (s : Sample) → reduce_sample l (reduce_sample m s) ≡ reduce_sample (both l m) s
   sample_twice s = λ i. record s {
+    duration = less_twice l.timing m.timing (λ n. 1) (λ n. refl) s.duration i;
+    offset = less_twice l.timing m.timing (λ n. pos 0) (λ n. refl) s.offset i;
     flags = less_twice l.flags m.flags sync_flag sync_twice s.flags i;
     groups = less_twice l.groups m.groups (λ groups. []) (λ groups. refl) s.groups i;
   }
@@ -59,10 +61,14 @@ module _ (l m : Without) where
   time_twice : (time : ℕ) → (if l.times then 0 else (if m.times then 0 else time)) ≡ (if l.times || m.times then 0 else time)
   time_twice time = less_twice l.times m.times (λ n. 0) (λ n. refl) time
 
+  scale_twice : (timescale : ℕ) → timescale_left l (timescale_left m timescale) ≡ timescale_left (both l m) timescale
+  scale_twice timescale = less_twice l.timing m.timing (λ n. 1000) (λ n. refl) timescale
+
   media_twice : (x : Media) → reduce_media l (reduce_media m x) ≡ reduce_media (both l m) x
   media_twice x = λ i. record x {
     creation = time_twice x.creation i;
     modification = time_twice x.modification i;
+    timescale = scale_twice x.timescale i;
     handler = less_twice l.labels m.labels plain_handler handler_twice x.handler i;
     descriptions = descriptions_twice l m x.handler x.descriptions i;
   }
@@ -78,10 +84,10 @@ module _ (l m : Without) where
   }
 
   movie_head_twice : (x : MovieHead) → reduce_movie_head l (reduce_movie_head m x) ≡ reduce_movie_head (both l m) x
-  movie_head_twice x = λ i. record x { creation = time_twice x.creation i; modification = time_twice x.modification i; kept = kept_twice x.kept i }
+  movie_head_twice x = λ i. record x { creation = time_twice x.creation i; modification = time_twice x.modification i; timescale = scale_twice x.timescale i; kept = kept_twice x.kept i }
 
   track_twice : (t : Track) → reduce_track l (reduce_track m t) ≡ reduce_track (both l m) t
-  track_twice t = λ i. record t { head = track_head_twice t.head i; samples = map_twice (reduce_sample l) (reduce_sample m) (reduce_sample (both l m)) sample_twice t.samples i }
+  track_twice t = λ i. record t { head = track_head_twice t.head i; start = less_twice l.timing m.timing (λ n. 0) (λ n. refl) t.start i; samples = map_twice (reduce_sample l) (reduce_sample m) (reduce_sample (both l m)) sample_twice t.samples i }
 
   twice : (p : Presentation) → reduce l (reduce m p) ≡ reduce (both l m) p
   twice p = λ i. record p { movie = movie_head_twice p.movie i; tracks = map_twice (reduce_track l) (reduce_track m) (reduce_track (both l m)) track_twice p.tracks i }
@@ -104,6 +110,7 @@ both_turned l m = λ i. record l {
   metadata = or_turned l.metadata m.metadata i;
   bitrates = or_turned l.bitrates m.bitrates i;
   labels = or_turned l.labels m.labels i;
+  timing = or_turned l.timing m.timing i;
 }
 
 pub reduces_in_any_order : ReducesInAnyOrder
@@ -115,7 +122,7 @@ or_same true = refl
 or_same false = refl
 
 both_same : (l : Without) → both l l ≡ l
-both_same l = λ i. record l { times = or_same l.times i; edits = or_same l.edits i; flags = or_same l.flags i; groups = or_same l.groups i; metadata = or_same l.metadata i; bitrates = or_same l.bitrates i; labels = or_same l.labels i }
+both_same l = λ i. record l { times = or_same l.times i; edits = or_same l.edits i; flags = or_same l.flags i; groups = or_same l.groups i; metadata = or_same l.metadata i; bitrates = or_same l.bitrates i; labels = or_same l.labels i; timing = or_same l.timing i }
 
 pub reduce_is_fixed : ReduceIsFixed
 reduce_is_fixed l p = reduces_once l l p ∙ ap (λ (words : Without). reduce words p) (both_same l)

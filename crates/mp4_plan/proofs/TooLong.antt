@@ -1,12 +1,12 @@
 -- A presentation that is valid, and too long without its edits.
-use Rattle.std.proofs.Common.{◌≡◌, ℕ, zero, suc, ◌-◌, ◌*◌, ◌<◌, ◌≤◌, ◌^◌, Bool, true, if◌then◌else◌, List, [], ◌∷◌, replicate, refl, subst, arith}
+use Rattle.std.proofs.Common.{◌≡◌, ℕ, zero, suc, ◌-◌, ◌*◌, ◌<◌, ◌≤◌, ◌^◌, Bool, true, false, if◌then◌else◌, List, [], ◌∷◌, replicate, refl, subst, arith}
 use Rattle.std.specs.Prelude.{ℤ, pos, FitsSigned, codes}
 use Rattle.std.specs.Int.{w16, w32, div_ceil}
 use Rattle.std.specs.List.{AllByRecursion}
 use Rattle.mp4_boxes.specs.format.Bytes.{AreBytes, sum_of}
 use Rattle.mp4_boxes.proofs.Each.{each_again}
 use Rattle.mp4_head.specs.format.Head.{Edit, Media, TrackHead, MovieHead, IsMatrix, IsMedia, IsTrackHead, IsMovieHead}
-use Rattle.mp4_present.specs.format.Presentation.{Sample, Track, Presentation, IsTrack, Valid, says_all, max_time}
+use Rattle.mp4_present.specs.format.Presentation.{Sample, Track, Presentation, IsTrack, Valid, says_all, total_duration, max_time}
 use Rattle.mp4_present.specs.format.Reduced.{reduce}
 use Rattle.mp4_present.specs.declared.without.Without.{Without}
 use Rattle.mp4_plan.specs.format.ReducedLaws.{EditsMayHoldTime}
@@ -124,14 +124,17 @@ movie_good = record { creation = omega arith; modification = omega arith; timesc
 long_good : Valid long
 long_good = record { movie = movie_good; tracks = (track_good, tt); ids = refl; limits = record { samples = omega arith; times = ((omega arith, omega arith), tt); moov = omega arith } }
 
-too_long : (l : Without) → l.edits ≡ true → Valid (reduce l long) → ⊥
-too_long l e v = over (subst (λ (b : Bool). length_by (if b then [] else edit ∷ []) ≤ max_time) e (valid_to l long v).0.1)
+too_long : (l : Without) → l.edits ≡ true → l.timing ≡ false → Valid (reduce l long) → ⊥
+too_long l e counts v = over (subst (λ (b : Bool). length_by true b ≤ max_time) counts (subst (λ (b : Bool). length_by b l.timing ≤ max_time) e (valid_to l long v).0.1))
   where
-    length_by : List Edit → ℕ
-    length_by edits = if says_all edits then sum_of (λ (x : Edit). x.segment_duration) edits else div_ceil ((2 ^ 32 - 1) * (2 ^ 32 - 1)) 1
+    length_by : Bool → Bool → ℕ
+    length_by none timing =
+        let edits : List Edit = if none then [] else edit ∷ [] in
+        let samples : List Sample = record sample { duration = if timing then 1 else (2 ^ 32 - 1) } ∷ [] in
+        if says_all edits then sum_of (λ (x : Edit). x.segment_duration) edits else div_ceil (total_duration samples * (if timing then 1000 else (2 ^ 32 - 1))) (if timing then 1000 else 1)
 
-    over : length_by [] ≤ max_time → ⊥
+    over : length_by true false ≤ max_time → ⊥
     over h = omega (arith, h)
 
 pub edits_may_hold_time : EditsMayHoldTime
-edits_may_hold_time l e = (long, long_good, too_long l e)
+edits_may_hold_time l e counts = (long, long_good, too_long l e counts)

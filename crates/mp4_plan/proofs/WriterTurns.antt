@@ -2,7 +2,7 @@
 use Rattle.std.proofs.Common.{◌≡◌, ℕ, ◌+◌, ◌<◌, ◌≤◌, List, ◌++◌, length, take, drop, Some, sym, ap, subst, ◌∙◌, slice_set}
 use Rattle.mp4_present.specs.declared.without.Without.{Without}
 use Rattle.mp4_plan.specs.words.ComingLess.{ComesLess}
-use Rattle.mp4_present.specs.format.Reduced.{reduce}
+use Rattle.mp4_present.specs.format.Reduced.{reduce, timescale_left}
 use Rattle.std.specs.Prelude.{Option, slice_get}
 use Rattle.mp4_boxes.specs.format.Bytes.{sum_of}
 use Rattle.mp4_head.specs.format.Tree.{TrackTree}
@@ -21,7 +21,7 @@ use Rattle.mp4_plan.specs.words.GoneOn.{ComesMarked}
 use Rattle.mp4_plan.specs.words.Gathering.{piece_from, piece_fed, samples_after, more_of, planned_of}
 use Rattle.mp4_plan.specs.format.Normal.{normal}
 use Rattle.mp4_plan.specs.words.CarriedSamples.{AreThere}
-use Rattle.mp4_plan.specs.words.Turns.{turn_end, turned, Sticks}
+use Rattle.mp4_plan.specs.words.Turns.{info_left, infos_left, turn_end, turned, Sticks}
 use Rattle.mp4_plan.specs.words.UsedKeys.{AreApart}
 use Rattle.mp4_plan.specs.words.Writers.{IsWriterOf, HasNoted, IsNoted, HaveCopied, turn_head, sequence_behind, turn_bytes}
 use Rattle.mp4_plan.specs.words.DueTracks.{AreTimes, IsDueAt}
@@ -36,17 +36,18 @@ use Rattle.mp4_plan.specs.declared.writer.Writer.{Writer}
 use Rattle.mp4_plan.proofs.ComeAt.{set_there, set_twice}
 use Rattle.mp4_plan.proofs.PieceCounts.{piece_counts, piece_bytes, piece_within}
 use Rattle.mp4_plan.proofs.PieceWritten.{IsFew}
-use Rattle.mp4_plan.proofs.SkippedTurns.{due_here, opened_scales}
+use Rattle.mp4_plan.proofs.InfosLeft.{info_at, left_scales}
+use Rattle.mp4_plan.proofs.SkippedTurns.{due_here}
 use Rattle.mp4_plan.proofs.TurnTaken.{turn_moves}
 use Rattle.mp4_plan.proofs.WritesOn.{WritesOn, AtTurn, at_turn, turn_stops, turn_over}
 
 module _ (leaving : Without) (file : List ℕ) (tree : FileTree) (m : MovieSeen) (o : IsOpenedAs file m tree) (s : Schedule) (sequence sent : ℕ) (w : Writer) {Y : Type 0} {takes : Y → Y → List ℕ → Type 0} (joins : IsJoining takes) (before after : Y)
     (h : WritesOn leaving file tree m s sequence sent w.walks.items w.nexts.items (length w.rows.items) (takes before after) (waiting w.carrier)) (turn : Turn) (here : (turn.track ≡ s.track) × (s.track < s.tracks))
-    (ends : (info : TrackInfo) → slice_get m.tracks s.track ≡ Some info → turn.end ≡ turn_end s info.timescale) (tracks : s.tracks ≡ length m.tracks) (goes : IsWriterOf m w) (same_leaving : w.leaving ≡ leaving) where
+    (ends : (info : TrackInfo) → slice_get m.tracks s.track ≡ Some info → turn.end ≡ turn_end s (timescale_left leaving info.timescale)) (tracks : s.tracks ≡ length m.tracks) (goes : IsWriterOf m w) (same_leaving : w.leaving ≡ leaving) where
   at : AtTurn leaving file tree m s w.walks.items w.nexts.items (length w.rows.items) h.lefts h.comings
   at = at_turn leaving file tree m s sequence sent w.walks.items w.nexts.items (length w.rows.items) (takes before after) (waiting w.carrier) o h here.1 tracks goes.walks.count
 
-  end_is : turn.end ≡ turn_end s at.info.timescale
+  end_is : turn.end ≡ turn_end s (timescale_left leaving at.info.timescale)
   end_is = ends at.info at.is_info
 
   walk_there : slice_get w.walks.items turn.track ≡ Some at.walk
@@ -71,7 +72,7 @@ module _ (leaving : Without) (file : List ℕ) (tree : FileTree) (m : MovieSeen)
     it = noted at.t at.walk at.left walk_there comes_there at.is_marked next_there
 
     abbrev end : End
-    end = turn_end s at.info.timescale
+    end = turn_end s (timescale_left leaving at.info.timescale)
 
     planned_is : n.planned ≡ planned_of (piece_fed (piece_from end) at.left).gathered
     planned_is = subst (λ (e : End). n.planned ≡ planned_of (piece_fed (piece_from e) at.left).gathered) end_is it.planned
@@ -133,20 +134,20 @@ module _ (leaving : Without) (file : List ℕ) (tree : FileTree) (m : MovieSeen)
           ∙ set_there w.nexts.items turn.track (slice_get at.left 0) (slice_get (drop n.planned.count at.left) 0) next_there) ∙ ap (λ (ss : List SampleAt). slice_get ss 0) rest_is
 
       -- the schedule goes on
-      pub pass_lacks : IsDueAt m.tracks w.nexts.items s w.due → Sticks s n.planned.count next → ⊥
+      pub pass_lacks : IsDueAt (infos_left leaving m.tracks) w.nexts.items s w.due → Sticks s n.planned.count next → ⊥
       pass_lacks due k =
           let count = subst (λ c. Sticks s c next) counted k in
-          let goes_in = due_here m.tracks w.nexts.items s w.due at.info (slice_get at.left 0) due (opened_scales file m tree o) here.1 at.is_info at.shown in
-          turn_moves file m.tracks s h.lefts h.comings at.info at.left at.taken goes_in (subst (λ (x : Option SampleAt). Sticks s (more_of (piece_from end) at.left) x) next_is count)
+          let goes_in = due_here (infos_left leaving m.tracks) w.nexts.items s w.due (info_left leaving at.info) (slice_get at.left 0) due (left_scales leaving file m tree o) here.1 (info_at leaving m.tracks s.track at.info at.is_info) at.shown in
+          turn_moves file (infos_left leaving m.tracks) s h.lefts h.comings (info_left leaving at.info) at.left at.taken goes_in (subst (λ (x : Option SampleAt). Sticks s (more_of (piece_from end) at.left) x) next_is count)
 
       -- the next samples are the same but for one
       nexts_are : w2.nexts.items ≡ slice_set w.nexts.items s.track next
       nexts_are = done.2 ∙ (λ i. slice_set (keeps.3 i).items (here.0 i) ((ap (λ (ss : List SampleAt). slice_get ss 0) rest_is ∙ sym next_is) i))
 
       -- what is so of them, by what the leaves say
-      pub with_times : (P : List (Option SampleAt) → Type 0) → IsDueAt m.tracks w.nexts.items s w.due → w2.due ≡ w1.due → ((nexts : List (Option SampleAt)) → AreTimes m.tracks nexts s.first w2.due → P (slice_set nexts s.track next)) → P w2.nexts.items
+      pub with_times : (P : List (Option SampleAt) → Type 0) → IsDueAt (infos_left leaving m.tracks) w.nexts.items s w.due → w2.due ≡ w1.due → ((nexts : List (Option SampleAt)) → AreTimes (infos_left leaving m.tracks) nexts s.first w2.due → P (slice_set nexts s.track next)) → P w2.nexts.items
       with_times P due same f =
-          let times = subst (λ (e : DueTracks). AreTimes m.tracks w.nexts.items s.first e) (sym (same ∙ keeps.4)) due.times in
+          let times = subst (λ (e : DueTracks). AreTimes (infos_left leaving m.tracks) w.nexts.items s.first e) (sym (same ∙ keeps.4)) due.times in
           subst P (sym nexts_are) (f w.nexts.items times)
 
       -- the turn behind it

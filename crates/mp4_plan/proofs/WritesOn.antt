@@ -2,7 +2,7 @@
 use Rattle.std.proofs.Common.{◌≡◌, ℕ, zero, suc, ◌+◌, ◌-◌, ◌^◌, ◌<◌, ◌≤◌, max, ◌==◌, Bool, true, false, List, [], ◌∷◌, ◌++◌, length, take, Some, None, refl, sym, ap, subst, ◌∙◌, append_assoc, append-nil, arith, slice_set}
 use Rattle.mp4_present.specs.declared.without.Without.{Without}
 use Rattle.mp4_plan.specs.words.ComingLess.{ComesLess, left_samples}
-use Rattle.mp4_present.specs.format.Reduced.{reduce}
+use Rattle.mp4_present.specs.format.Reduced.{reduce, timescale_left}
 use Rattle.mp4_plan.proofs.ReducedTaken.{less_counted, less_below}
 use Rattle.std.specs.Prelude.{Option, option_map, if◌then◌else◌, map, slice_get, fold}
 use Rattle.std.specs.List.{AllByRecursion, AllZip, sum_by}
@@ -29,7 +29,7 @@ use Rattle.mp4_plan.specs.format.Normal.{normal, pieces_bytes}
 use Rattle.mp4_plan.specs.format.Pieces.{TimedSample, Piece, pieces}
 use Rattle.mp4_plan.specs.words.Taken.{AreTaken}
 use Rattle.mp4_plan.specs.words.TurnLaws.{piece_if}
-use Rattle.mp4_plan.specs.words.Turns.{first_scale, turn_end, turned, track_passed, wrapped, is_over}
+use Rattle.mp4_plan.specs.words.Turns.{first_scale, info_left, infos_left, turn_end, turned, track_passed, wrapped, is_over}
 use Rattle.mp4_plan.specs.words.Writers.{AllCome, AllBegin, AreMarked, IsReady, firsts, first_dts, longest_piece, head_of_normal, turn_head, sequence_behind, turn_bytes}
 use Rattle.mp4_plan.specs.words.DueTracks.{FindsMore, IsDueAt, Skips}
 use Rattle.mp4_plan.specs.declared.due_tracks.DueTracks.{DueTracks}
@@ -47,7 +47,8 @@ use Rattle.mp4_plan.proofs.NextSamples.{first_at, firsts_set}
 use Rattle.mp4_plan.proofs.Lefts.{left_count, pieces_from, IsTurn}
 use Rattle.mp4_plan.proofs.PieceCounts.{piece_bytes, piece_counts, piece_within, piece_gathers}
 use Rattle.mp4_plan.proofs.PieceWritten.{AreKeys, IsFew, turn_written, head_counts, bytes_of_two}
-use Rattle.mp4_plan.proofs.SkippedTurns.{finds_none, opened_scales, turns_skipped}
+use Rattle.mp4_plan.proofs.InfosLeft.{as_many_left, info_at, left_scales}
+use Rattle.mp4_plan.proofs.SkippedTurns.{finds_none, turns_skipped}
 use Rattle.mp4_plan.proofs.TakenFrom.{TrackFacts, track_facts, has_track, few_left, all_counted}
 use Rattle.mp4_plan.proofs.TurnTaken.{TurnTaken, turn_taken, turn_fits, there_is}
 
@@ -141,7 +142,7 @@ module _ (leaving : Without) (file : List ℕ) (tree : FileTree) (m : MovieSeen)
     pub come : AllCome leaving file tree m tree.movie.tracks walks lefts
     pub marked : AreMarked walks lefts
     pub shown : nexts ≡ firsts lefts
-    pub turn : IsTurn file m.tracks s lefts comings
+    pub turn : IsTurn file (infos_left leaving m.tracks) s lefts comings
     pub lie : AllByRecursion (λ (left : List SampleAt). AllByRecursion (IsBelow (length file)) left) lefts
     pub fits : AllByRecursion (λ (p : Piece). length p.samples ≤ rows) (pieces_from s comings)
     pub small : sequence + left_count lefts ≤ 2 ^ 24 + 1
@@ -163,9 +164,9 @@ module _ (leaving : Without) (file : List ℕ) (tree : FileTree) (m : MovieSeen)
     pub comes : ComesLess leaving file tree t m walk left
     pub is_marked : walk.mark ≡ mark_of walk (length left)
     pub keys : AreKeys (keys_seen info.keys)
-    pub taken : TurnTaken file m.tracks s lefts comings info left
+    pub taken : TurnTaken file (infos_left leaving m.tracks) s lefts comings (info_left leaving info) left
     pub below : AllByRecursion (IsBelow (length file)) left
-    pub fits : more_of (piece_from (turn_end s info.timescale)) left ≤ rows
+    pub fits : more_of (piece_from (turn_end s (timescale_left leaving info.timescale))) left ≤ rows
     pub shown : slice_get nexts s.track ≡ Some (slice_get left 0)
 
   pub at_turn : (s : Schedule) (sequence sent : ℕ) (walks : List Walk) (nexts : List (Option SampleAt)) (rows : ℕ) (Took : List ℕ → Type 0) (held : List ℕ) → IsOpenedAs file m tree → (h : WritesOn s sequence sent walks nexts rows Took held)
@@ -174,7 +175,7 @@ module _ (leaving : Without) (file : List ℕ) (tree : FileTree) (m : MovieSeen)
       let a = come_at leaving file tree m tree.movie.tracks walks h.lefts s.track h.come (omega (arith, lt, tracks, each)) in
       let i = there_is m.tracks s.track (omega (arith, lt, tracks)) in
       let f = (has_track file m tree s.track i.0 o i.1).facts in
-      let taken = turn_taken file m.tracks s h.lefts h.comings i.0 a.left h.turn lt i.1 a.is_left in
+      let taken = turn_taken file (infos_left leaving m.tracks) s h.lefts h.comings (info_left leaving i.0) a.left h.turn lt (info_at leaving m.tracks s.track i.0 i.1) a.is_left in
       record {
         t = a.t;
         walk = a.walk;
@@ -189,7 +190,7 @@ module _ (leaving : Without) (file : List ℕ) (tree : FileTree) (m : MovieSeen)
         keys = record { apart = f.apart; named = f.named; few = f.few_keys };
         taken = taken;
         below = member_at (λ (left : List SampleAt). AllByRecursion (IsBelow (length file)) left) h.lefts s.track a.left a.is_left h.lie;
-        fits = (turn_fits rows file m.tracks s h.lefts h.comings i.0 a.left taken h.fits).0;
+        fits = (turn_fits rows file (infos_left leaving m.tracks) s h.lefts h.comings (info_left leaving i.0) a.left taken h.fits).0;
         shown = ap (λ xs. slice_get xs s.track) h.shown ∙ first_at h.lefts s.track a.left a.is_left;
       }
 
@@ -212,11 +213,11 @@ module _ (leaving : Without) (file : List ℕ) (tree : FileTree) (m : MovieSeen)
 
     -- behind the last turn all samples were taken, and all their bytes
     pub all_taken : s.tracks ≤ s.track → (s.left ≡ 0) × (sent ≡ sum_by (λ (i : TrackInfo). i.bytes) m.tracks)
-    all_taken last = let none = none_behind file m.tracks s h.lefts h.comings h.turn last in let no_bytes = none.0 in let sizes = h.sizes in (none.1, omega (arith, no_bytes, sizes))
+    all_taken last = let none = none_behind file (infos_left leaving m.tracks) s h.lefts h.comings h.turn last in let no_bytes = none.0 in let sizes = h.sizes in (none.1, omega (arith, no_bytes, sizes))
 
-    module _ (a : AtTurn s walks nexts rows h.lefts h.comings) (p : Planned) (is : p ≡ planned_of (piece_fed (piece_from (turn_end s a.info.timescale)) a.left).gathered) (few : IsFew p) where
+    module _ (a : AtTurn s walks nexts rows h.lefts h.comings) (p : Planned) (is : p ≡ planned_of (piece_fed (piece_from (turn_end s (timescale_left leaving a.info.timescale))) a.left).gathered) (few : IsFew p) where
       abbrev end : End
-      end = turn_end s a.info.timescale
+      end = turn_end s (timescale_left leaving a.info.timescale)
 
       abbrev count : ℕ
       count = more_of (piece_from end) a.left
@@ -291,7 +292,7 @@ module _ (leaving : Without) (file : List ℕ) (tree : FileTree) (m : MovieSeen)
             shown = ap (λ xs. slice_set xs s.track (slice_get rest 0)) h.shown ∙ sym (firsts_set h.lefts s.track rest);
             turn = a.taken.on;
             lie = holds_with (λ (l : List SampleAt). AllByRecursion (IsBelow (length file)) l) h.lefts s.track rest (each_dropped (IsBelow (length file)) count a.left a.below) h.lie;
-            fits = (turn_fits rows file m.tracks s h.lefts h.comings a.info a.left a.taken h.fits).1;
+            fits = (turn_fits rows file (infos_left leaving m.tracks) s h.lefts h.comings (info_left leaving a.info) a.left a.taken h.fits).1;
             small = omega (arith, small, few_pieces, n, left, later_left, by, numbers);
             sizes = bytes_behind h.lefts s.track count sent p.bytes _ a.left a.is_left (ap (λ (q : Planned). q.bytes) is ∙ piece_bytes end a.left) h.sizes;
             done = h.done ++ pieces_bytes sequence piece;
@@ -307,7 +308,7 @@ module _ (leaving : Without) (file : List ℕ) (tree : FileTree) (m : MovieSeen)
 
   -- the first turn
   pub begins : (s : Schedule) (w : Writer) (walks : List Walk) (nexts : List (Option SampleAt)) (Took : List ℕ → Type 0) (held : List ℕ) → IsOpenedAs file m tree → IsReady file tree m w → w.leaving ≡ leaving
-      → IsFirst m.tracks (map (left_samples leaving tree) tree.movie.tracks) s
+      → IsFirst (infos_left leaving m.tracks) (map (left_samples leaving tree) tree.movie.tracks) s
       → AllBegin leaving file tree m walks → AreMarked walks (map (left_samples leaving tree) tree.movie.tracks) → nexts ≡ firsts (map (left_samples leaving tree) tree.movie.tracks) → BytesGoOn Took (waiting w.carrier) held w.head.items
       → WritesOn s 1 0 walks nexts (length w.rows.items) Took held
   begins s w walks nexts Took held o r same first come marked shown goes =
@@ -348,10 +349,10 @@ module _ (leaving : Without) (file : List ℕ) (tree : FileTree) (m : MovieSeen)
       stopped_behind Took [] held (waiting w.carrier ++ bytes) (pieces_bytes 1 (pieces p)) (normal p) q (ap (λ (bs : List ℕ). bs ++ pieces_bytes 1 (pieces p)) (sym whole))
 
   -- a new schedule stands at the first turn
-  pub is_first : (s : Schedule) (from : ℕ) → IsOpenedAs file m tree → s.tracks ≡ length m.tracks → s.first ≡ first_scale m.tracks → (s.track ≡ 0) × (s.from ≡ from) × (s.next ≡ None) → s.left ≡ sum_by (λ (i : TrackInfo). i.samples) m.tracks
-      → from ≡ first_dts (map (left_samples leaving tree) tree.movie.tracks) → IsFirst m.tracks (map (left_samples leaving tree) tree.movie.tracks) s
+  pub is_first : (s : Schedule) (from : ℕ) → IsOpenedAs file m tree → s.tracks ≡ length m.tracks → s.first ≡ first_scale (infos_left leaving m.tracks) → (s.track ≡ 0) × (s.from ≡ from) × (s.next ≡ None) → s.left ≡ sum_by (λ (i : TrackInfo). i.samples) m.tracks
+      → from ≡ first_dts (map (left_samples leaving tree) tree.movie.tracks) → IsFirst (infos_left leaving m.tracks) (map (left_samples leaving tree) tree.movie.tracks) s
   is_first s from o tracks first starts left time = record {
-    tracks = tracks;
+    tracks = tracks ∙ sym (as_many_left leaving m.tracks);
     first = first;
     track = starts.0;
     from = starts.1 ∙ time ∙ same_dts (map (left_samples leaving tree) tree.movie.tracks);
@@ -366,9 +367,9 @@ module _ (leaving : Without) (file : List ℕ) (tree : FileTree) (m : MovieSeen)
 
   -- Where tracks are skipped, the same pieces are left to be written.
   pub writes_skips : (s later : Schedule) (sequence sent : ℕ) (walks : List Walk) (nexts : List (Option SampleAt)) (rows : ℕ) (Took : List ℕ → Type 0) (held : List ℕ) (d : DueTracks) → IsOpenedAs file m tree → WritesOn s sequence sent walks nexts rows Took held
-      → Skips d s later → IsDueAt m.tracks nexts later d → WritesOn later sequence sent walks nexts rows Took held
+      → Skips d s later → IsDueAt (infos_left leaving m.tracks) nexts later d → WritesOn later sequence sent walks nexts rows Took held
   writes_skips s later sequence sent walks nexts rows Took held d o h skips due =
-      let r = turns_skipped file m.tracks d s later nexts h.lefts h.comings skips h.turn h.shown due (opened_scales file m tree o) in
+      let r = turns_skipped file (infos_left leaving m.tracks) d s later nexts h.lefts h.comings skips h.turn h.shown due (left_scales leaving file m tree o) in
       record {
         lefts = h.lefts;
         comings = h.comings;
@@ -387,5 +388,5 @@ module _ (leaving : Without) (file : List ℕ) (tree : FileTree) (m : MovieSeen)
 
   -- Where no sample is left, no track is due.
   pub writes_no_more : (s later : Schedule) (sequence sent : ℕ) (walks : List Walk) (nexts : List (Option SampleAt)) (rows : ℕ) (Took : List ℕ → Type 0) (held : List ℕ) (d : DueTracks) → IsOpenedAs file m tree → WritesOn s sequence sent walks nexts rows Took held
-      → FindsMore m.tracks nexts s later d → ⊥
-  writes_no_more s later sequence sent walks nexts rows Took held d o h f = finds_none file m.tracks s later h.lefts h.comings nexts d h.turn h.shown (opened_scales file m tree o) f
+      → FindsMore (infos_left leaving m.tracks) nexts s later d → ⊥
+  writes_no_more s later sequence sent walks nexts rows Took held d o h f = finds_none file (infos_left leaving m.tracks) s later h.lefts h.comings nexts d h.turn h.shown (left_scales leaving file m tree o) f

@@ -1,8 +1,10 @@
 //! How many samples the next piece of a walk has.
 ghost use Rattle.std.specs.Prelude.{◌≡◌, ◌+◌, ◌<◌, ◌≤◌, length, slice_get, IfOk, OnOk};
+ghost use Rattle.mp4_present.specs.words.Loaded.{AreLast};
 ghost use Rattle.mp4_present.specs.words.Movies.{IsWalkOf, RefusesLoad};
 ghost use Rattle.mp4_present.specs.words.StoresRead.{IsUnchanged, OnlyReads, Refused};
 ghost use Rattle.mp4_present.specs.words.TrackWalks.{TakesSteps};
+ghost use Rattle.mp4_plan.specs.words.ComingLess.{less};
 ghost use Rattle.mp4_plan.specs.words.Counting.{CountsFirst, HandCounted, HasCounted, PieceCounted, StopsAt};
 ghost use Rattle.mp4_plan.specs.words.Ends.{goes_in};
 ghost use Rattle.mp4_plan.specs.words.HandsFed.{KeepsOn};
@@ -85,6 +87,27 @@ fn count_in<S: Samples>(samples: &mut S, end: &End, description: u32, most: u32)
     count
 }
 
+// Counts what is left of samples, as `count_in` does. Samples that stay as they are have a loop of
+// their own, which asks of none what is left of it.
+#[inline(always)]
+fn count_left<C: Samples>(samples: &mut Reduced<C>, end: &End, description: u32, most: u32) -> u32
+    ensures counts { CountsFirst (goes_in end.now description) result
+        (less samples.old.leaving (C.rest samples.old.inner))
+        (less samples.new.leaving (C.rest samples.new.inner)) }
+    ensures few { result ≤ most }
+    ensures stops { StopsAt (goes_in end.now description) most result
+        (slice_get (less samples.new.leaving (C.rest samples.new.inner)) 0) }
+    ensures later { C.follows samples.old.inner samples.new.inner
+        × (samples.new.leaving ≡ samples.old.leaving)
+        × AreLast (C.rest samples.old.inner) (C.rest samples.new.inner) }
+{
+    if samples.leaving.keeps_samples() {
+        count_in(&mut samples.inner, end, description, most)
+    } else {
+        count_in(samples, end, description, most)
+    }
+}
+
 // Counts the samples in hand that go into a piece with this end and description, at most so many.
 // Its loop stays apart from that of its one caller, which would make it slower (`bench/samples`).
 #[inline(never)]
@@ -105,7 +128,7 @@ fn count_hand(
     match walk.in_hand(movie) {
         Loaded::Tables(inner) => {
             let mut hand = Reduced { inner, leaving };
-            let count = count_in(&mut hand, end, description, most);
+            let count = count_left(&mut hand, end, description, most);
             CountedHand {
                 count,
                 next: hand.peek(),
@@ -114,7 +137,7 @@ fn count_hand(
         }
         Loaded::Fragment(inner) => {
             let mut hand = Reduced { inner, leaving };
-            let count = count_in(&mut hand, end, description, most);
+            let count = count_left(&mut hand, end, description, most);
             CountedHand {
                 count,
                 next: hand.peek(),

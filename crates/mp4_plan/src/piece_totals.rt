@@ -71,16 +71,16 @@ pub(crate) fn longest_piece<S: Store, L: Ledger, M: Ledger>(
     let mut due = DueTracks::new(alloc, tracks.len())?;
     let all = walks.as_mut_slice();
     peek_each(all, nexts.as_mut_slice(), leaving, movie, store, steps)?;
-    let mut schedule = Schedule::new(tracks, first_time(nexts.as_slice()));
-    schedule.begin(tracks, nexts.as_slice(), &mut due);
+    let mut schedule = Schedule::new(leaving, tracks, first_time(nexts.as_slice()));
+    schedule.begin(leaving, tracks, nexts.as_slice(), &mut due);
     let mut longest: u32 = 0;
-    while let Some(turn) = schedule.turn(tracks, looks) {
+    while let Some(turn) = schedule.turn(leaving, tracks, looks) {
         let walk = &mut walks[turn.track];
         let next = &mut nexts[turn.track];
         let count = count_turn(walk, leaving, next, &turn.end, movie, store, steps)?;
         let sample = *next;
         longest = longest.max(count);
-        schedule.pass(&turn, count, sample, tracks, &mut due)?;
+        schedule.pass(leaving, &turn, count, sample, tracks, &mut due)?;
     }
     Ok(longest)
 }
@@ -110,16 +110,16 @@ pub(crate) fn pieces_len<S: Store, L: Ledger, M: Ledger>(
     let mut due = DueTracks::new(alloc, tracks.len())?;
     let all = walks.as_mut_slice();
     peek_each(all, nexts.as_mut_slice(), leaving, movie, store, steps)?;
-    let mut schedule = Schedule::new(tracks, first_time(nexts.as_slice()));
-    schedule.begin(tracks, nexts.as_slice(), &mut due);
+    let mut schedule = Schedule::new(leaving, tracks, first_time(nexts.as_slice()));
+    schedule.begin(leaving, tracks, nexts.as_slice(), &mut due);
     let mut len = 0;
-    while let Some(turn) = schedule.turn(tracks, looks) {
+    while let Some(turn) = schedule.turn(leaving, tracks, looks) {
         let walk = &mut walks[turn.track];
         let next = &mut nexts[turn.track];
         let planned = plan_turn(walk, leaving, next, turn.end, movie, store, steps)?;
         let sample = *next;
         len = len_with(len, &planned, &tracks[turn.track].keys);
-        schedule.pass(&turn, planned.count, sample, tracks, &mut due)?;
+        schedule.pass(leaving, &turn, planned.count, sample, tracks, &mut due)?;
     }
     Ok(len)
 }

@@ -6,7 +6,8 @@ use mp4_present::Without;
 use mp4_tables::{SampleAt, Samples};
 
 /// What is left of a sample: of its flags the bit sample_is_non_sync_sample (8.8.3.1) where flags
-/// are left out, and index 0 at each key where groups are.
+/// are left out, index 0 at each key where groups are, and where timing is its number, 1 and 0 for
+/// its times.
 #[inline(always)]
 pub(crate) fn reduced_sample(leaving: Without, sample: SampleAt) -> SampleAt
     ensures { result ≡ reduce_at leaving sample }
@@ -17,6 +18,11 @@ pub(crate) fn reduced_sample(leaving: Without, sample: SampleAt) -> SampleAt
     }
     if leaving.groups {
         left.groups = [0; 4];
+    }
+    if leaving.timing {
+        left.dts = u64::from(sample.number);
+        left.duration = 1;
+        left.cto = 0;
     }
     left
 }
@@ -53,7 +59,12 @@ impl<C: Samples> Samples for Reduced<C> {
 
     #[inline(always)]
     fn pass(&mut self, sample: &SampleAt) {
-        self.inner.pass(sample);
+        if self.leaving.timing {
+            // What is left of the sample doesn't say how long it lasts.
+            let _ = self.inner.next();
+        } else {
+            self.inner.pass(sample);
+        }
     }
 
     #[inline(always)]

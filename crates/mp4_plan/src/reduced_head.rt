@@ -25,7 +25,7 @@ fn reduce_kept(kept: &mut Vec<Kept>, leaving: Without)
     }
 }
 
-// Media without their times, where these are left out; payloads stay.
+// Media without their times and timescale, where these are left out; payloads stay.
 fn reduce_media(media: &mut Media, leaving: Without)
     ensures { media_seen media.new
         ≡ reduce_media (keeping_payloads leaving) (media_seen media.old) }
@@ -34,6 +34,7 @@ fn reduce_media(media: &mut Media, leaving: Without)
         media.creation = 0;
         media.modification = 0;
     }
+    media.timescale = leaving.timescale(media.timescale);
 }
 
 // What is left of the head of a track, but for payloads of media, which stay.
@@ -75,6 +76,7 @@ pub(crate) fn reduce_head(head: &mut MovieHead, leaving: Without)
         head.creation = 0;
         head.modification = 0;
     }
+    head.timescale = leaving.timescale(head.timescale);
     reduce_kept(&mut head.kept, leaving);
     reduce_tracks(&mut head.tracks, leaving);
 }

@@ -5,7 +5,7 @@ ghost use Rattle.mp4_plan.specs.words.DueTracks.{cut_at};
 use crate::due_tracks::{DueTracks, NEVER, due_at};
 use crate::ends::{End, has_ended};
 use mp4_boxes::{Refusal, Steps};
-use mp4_present::TrackInfo;
+use mp4_present::{TrackInfo, Without};
 use mp4_tables::SampleAt;
 use std::sync::ledger::Ledger;
 
@@ -60,16 +60,17 @@ fn cut_at(next: Option<u64>) -> u128
 impl Schedule {
     ghost use Rattle.std.specs.Prelude.{◌≡◌, ◌+◌, ◌-◌, ◌*◌, ◌^◌, ◌<◌, ◌≤◌, ◌⊎◌, List, length, option_map, Option, slice_get, slice_set, Some, None, IfSome, MatchOption, IfErr, OnOk};
     ghost use Rattle.std.specs.List.{sum_by};
+    ghost use Rattle.mp4_present.specs.format.Reduced.{timescale_left};
     ghost use Rattle.mp4_present.specs.declared.track_info.TrackInfo.{TrackInfo};
-    ghost use Rattle.mp4_plan.specs.words.Turns.{turns_left, track_passed, first_scale, turn_end, turned, IsSomeLeft, Sticks};
+    ghost use Rattle.mp4_plan.specs.words.Turns.{turns_left, track_passed, first_scale, infos_left, turn_end, turned, IsSomeLeft, Sticks};
     ghost use Rattle.mp4_plan.specs.words.DueTracks.{AreTimes, FindsMore, IsDueAt, IsDueHere, IsDueTree, Skips};
     ghost use Rattle.mp4_boxes.specs.declared.refusal.Refusal.TheVariants as refusals;
     ghost use Rattle.mp4_tables.specs.declared.sample.SampleAt.{SampleAt};
 
-    /// The pieces of these tracks, of which the first begins at this time.
-    pub(crate) fn new(tracks: &[TrackInfo], from: u64) -> Schedule
+    /// The pieces of what is left of these tracks, of which the first begins at this time.
+    pub(crate) fn new(leaving: Without, tracks: &[TrackInfo], from: u64) -> Schedule
         ensures tracks { result.tracks ≡ length tracks.now }
-        ensures first { result.first ≡ first_scale tracks.now }
+        ensures first { result.first ≡ first_scale (infos_left leaving tracks.now) }
         ensures left { result.left ≡ sum_by (λ (i : TrackInfo). i.samples) tracks.now }
         ensures few { result.left ≤ 2 ^ 64 * 4294967295 }
         ensures starts { (result.track ≡ 0) × (result.from ≡ from) × (result.next ≡ None) }
@@ -79,7 +80,7 @@ impl Schedule {
             left += u128::from(track.samples);
         }
         let first = match tracks.first() {
-            Some(track) => track.timescale,
+            Some(track) => leaving.timescale(track.timescale),
             None => 0,
         };
         Schedule {
@@ -93,13 +94,18 @@ impl Schedule {
     }
 
     /// Whose turn it is. Each turn is a look, which is counted.
-    pub(crate) fn turn<M: Ledger>(&self, tracks: &[TrackInfo], looks: &mut Steps<M>) -> Option<Turn>
+    pub(crate) fn turn<M: Ledger>(
+        &self,
+        leaving: Without,
+        tracks: &[TrackInfo],
+        looks: &mut Steps<M>,
+    ) -> Option<Turn>
         requires { self.now.tracks ≡ length tracks.now }
         ensures track { IfSome result (λ t. (t.track ≡ self.now.track)
             × (self.now.track < self.now.tracks)) }
         ensures end { IfSome result (λ t. (info : TrackInfo)
             → slice_get tracks.now self.now.track ≡ Some info
-            → t.end ≡ turn_end self.now info.timescale) }
+            → t.end ≡ turn_end self.now (timescale_left leaving info.timescale)) }
         ensures none { result ≡ None → self.now.tracks ≤ self.now.track }
         ensures looks { MatchOption result (looks.new ≡ looks.old)
             (λ t. looks.new ≡ looks.old + 1) }
@@ -108,7 +114,7 @@ impl Schedule {
             return None;
         }
         looks.tick();
-        let scale = tracks[self.track].timescale;
+        let scale = leaving.timescale(tracks[self.track].timescale);
         let end = if self.track == 0 {
             End::Sync {
                 from: self.from,
@@ -207,6 +213,7 @@ impl Schedule {
     /// Before the first turn, of tracks of which these samples are the next.
     pub(crate) fn begin(
         &self,
+        leaving: Without,
         tracks: &[TrackInfo],
         nexts: &[Option<SampleAt>],
         due: &mut DueTracks,
@@ -216,10 +223,11 @@ impl Schedule {
         requires infos { self.now.tracks ≡ length tracks.now }
         requires nexts { length nexts.now ≡ length tracks.now }
         requires first { self.now.track ≡ 0 }
-        ensures { IsDueAt tracks.now nexts.now self.now due.new }
+        ensures { IsDueAt (infos_left leaving tracks.now) nexts.now self.now due.new }
     {
         for k in 1..tracks.len() {
-            due.set(k, due_at(&nexts[k], tracks[k].timescale, self.first));
+            let scale = leaving.timescale(tracks[k].timescale);
+            due.set(k, due_at(&nexts[k], scale, self.first));
         }
     }
 
@@ -229,6 +237,7 @@ impl Schedule {
     /// of the first track, and samples that nobody counted, are of a file that has changed.
     pub(crate) fn pass(
         &mut self,
+        leaving: Without,
         turn: &Turn,
         count: u32,
         sample: Option<SampleAt>,
@@ -248,19 +257,21 @@ impl Schedule {
         ensures some { OnOk result (IsSomeLeft self.new) }
         ensures tree { OnOk result (IsDueTree due.new × (due.new.leaves ≡ self.old.tracks)) }
         ensures due { (nexts : List (Option SampleAt))
-            → AreTimes tracks.now nexts self.old.first due.old → OnOk result
-            (IsDueAt tracks.now (slice_set nexts self.old.track sample) self.new due.new) }
+            → AreTimes (infos_left leaving tracks.now) nexts self.old.first due.old → OnOk result
+            (IsDueAt (infos_left leaving tracks.now) (slice_set nexts self.old.track sample)
+                self.new due.new) }
         ensures refusal { IfErr result (λ r. r ≡ refusals.StoreChanged) }
         ensures sticks { (nexts : List (Option SampleAt))
-            → AreTimes tracks.now nexts self.old.first due.old → IfErr result
+            → AreTimes (infos_left leaving tracks.now) nexts self.old.first due.old → IfErr result
             (λ r. Sticks self.old count sample
-            ⊎ FindsMore tracks.now (slice_set nexts self.old.track sample)
+            ⊎ FindsMore (infos_left leaving tracks.now) (slice_set nexts self.old.track sample)
             (turned self.old turn.now.end count sample) self.new due.new) }
     {
         let track = self.track;
         self.take(turn, count, sample)?;
         if track > 0 {
-            due.set(track, due_at(&sample, tracks[track].timescale, self.first));
+            let scale = leaving.timescale(tracks[track].timescale);
+            due.set(track, due_at(&sample, scale, self.first));
         }
         self.skip(due);
         if self.finds_more() {

@@ -1,5 +1,6 @@
 //! Samples of a track, taken piece by piece.
-ghost use Rattle.std.specs.Prelude.{◌≡◌, ◌+◌, ◌-◌, ◌*◌, ◌^◌, ◌<◌, ◌≤◌, List, length, None, slice_get, IfOk, OnOk, MatchResult};
+ghost use Rattle.std.specs.Prelude.{◌≡◌, ◌+◌, ◌-◌, ◌*◌, ◌^◌, ◌<◌, ◌≤◌, List, length, take, None, slice_get, IfOk, OnOk, MatchResult};
+ghost use Rattle.mp4_present.specs.words.Loaded.{AreLast};
 ghost use Rattle.mp4_present.specs.words.SamplesComing.{Comes};
 ghost use Rattle.mp4_present.specs.words.Movies.{IsWalkOf, HasSome, RefusesLoad, mark_of};
 ghost use Rattle.mp4_present.specs.words.StoresRead.{IsUnchanged, OnlyReads, Refused};
@@ -7,8 +8,9 @@ ghost use Rattle.mp4_present.specs.words.TrackWalks.{TakesSteps, WhereComes};
 ghost use Rattle.mp4_plan.specs.words.Gathering.{count_of, more_of, planned_of, piece_from, piece_fed, samples_after};
 ghost use Rattle.mp4_plan.specs.words.GoneOn.{ComesMarked, WentOn};
 ghost use Rattle.mp4_plan.specs.words.WriterSteps.{FinishesOn, WritesOn};
-ghost use Rattle.mp4_plan.specs.words.HandsFed.{stop_of, HandFed, HandNoted, KeepsOn};
+ghost use Rattle.mp4_plan.specs.words.HandsFed.{stop_of, HandFed, HandNoted, KeepsOn, Notes};
 ghost use Rattle.mp4_plan.specs.words.ComingLess.{ComesLess, less};
+ghost use Rattle.mp4_plan.specs.words.Stretches.{JoinsOn};
 ghost use Rattle.mp4_plan.specs.words.ReducedWalks.{HasBounds, HasRows, KeepsWalk, MayNote, WhereLess, WhereMayWrite};
 ghost use Rattle.mp4_tables.specs.declared.sample.SampleAt.{SampleAt};
 
@@ -181,6 +183,34 @@ fn feed_hand(planner: &mut Planner, walk: &Walk, leaving: Without, movie: &Movie
     }
 }
 
+// Notes what is left of samples, as `Planner::note` does. Samples that stay as they are have a loop
+// of their own, which asks of none what is left of it.
+#[inline(always)]
+fn note_left<C: Samples>(
+    planner: &mut Planner,
+    samples: &mut Reduced<C>,
+    rows: &mut [Row],
+    stretches: &mut Stretches,
+)
+    requires { count_of planner.old.gathered + length rows.old < 2 ^ 32 }
+    ensures noted { Notes planner.old planner.new
+        (less samples.old.leaving (C.rest samples.old.inner))
+        (less samples.new.leaving (C.rest samples.new.inner)) rows.old rows.new }
+    ensures joined { JoinsOn stretches.old stretches.new
+        (take (count_of planner.new.gathered - count_of planner.old.gathered)
+        (less samples.old.leaving (C.rest samples.old.inner))) }
+    ensures few { count_of planner.new.gathered ≤ count_of planner.old.gathered + length rows.old }
+    ensures later { C.follows samples.old.inner samples.new.inner
+        × (samples.new.leaving ≡ samples.old.leaving)
+        × AreLast (C.rest samples.old.inner) (C.rest samples.new.inner) }
+{
+    if samples.leaving.keeps_samples() {
+        planner.note(&mut samples.inner, rows, stretches);
+    } else {
+        planner.note(samples, rows, stretches);
+    }
+}
+
 // Feeds the samples in hand to a planner and notes them, at most as many as there are rows. Its
 // loop stays apart, too.
 #[inline(never)]
@@ -203,7 +233,7 @@ fn note_hand(
     match walk.in_hand(movie) {
         Loaded::Tables(inner) => {
             let mut hand = Reduced { inner, leaving };
-            planner.note(&mut hand, rows, stretches);
+            note_left(planner, &mut hand, rows, stretches);
             FedHand {
                 stop: stop_at(planner, hand.peek()),
                 place: Place::Tables(hand.inner.place()),
@@ -211,7 +241,7 @@ fn note_hand(
         }
         Loaded::Fragment(inner) => {
             let mut hand = Reduced { inner, leaving };
-            planner.note(&mut hand, rows, stretches);
+            note_left(planner, &mut hand, rows, stretches);
             FedHand {
                 stop: stop_at(planner, hand.peek()),
                 place: Place::Fragment(hand.inner.place()),

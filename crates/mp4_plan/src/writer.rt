@@ -389,17 +389,18 @@ impl Writer {
         let walks = self.walks.as_mut_slice();
         let nexts = self.nexts.as_mut_slice();
         peek_each(walks, nexts, leaving, movie, store, steps)?;
-        let mut schedule = Schedule::new(tracks, first_time(self.nexts.as_slice()));
-        schedule.begin(tracks, self.nexts.as_slice(), &mut self.due);
+        let mut schedule = Schedule::new(leaving, tracks, first_time(self.nexts.as_slice()));
+        schedule.begin(leaving, tracks, self.nexts.as_slice(), &mut self.due);
         let mut sequence: u32 = 1;
         let mut bytes: u128 = 0;
-        while let Some(turn) = schedule.turn(tracks, looks) {
+        while let Some(turn) = schedule.turn(leaving, tracks, looks) {
             let track = turn.track;
             let noted = self.note_turn(&turn, sequence, tracks[track].id, movie, store, steps)?;
             sequence = sequence_behind(sequence, &noted.head);
             let planned = &noted.planned;
             self.carry_turn(track, noted.head, planned, movie, store, sink, steps)?;
             schedule.pass(
+                leaving,
                 &turn,
                 planned.count,
                 self.nexts[track],

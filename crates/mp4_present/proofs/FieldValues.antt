@@ -4,6 +4,7 @@ use Rattle.std.specs.Prelude.{map}
 use Rattle.std.proofs.lemmas.List.{append-nil, length-map}
 use Rattle.mp4_head.specs.format.Head.{Edit, Media, TrackHead, MovieHead}
 use Rattle.mp4_present.specs.format.Differences.{numbers_differ, signed, each_differ, list_differences, box_differences, payload_differences, edit_differences, matrix_differences, kept_differences, movie_differences, media_fields, media_lists, head_differences}
+use Rattle.mp4_present.specs.format.Reduced.{duration_left, offset_left}
 use Rattle.mp4_present.specs.words.Differing.{values_differ, movie_values, track_values, size_values, media_values, edit_values, sample_values, flags_left}
 use Rattle.mp4_present.specs.declared.comparing.differences.Difference.{Difference}
 use Rattle.mp4_present.specs.declared.comparing.differences.Subject.{Subject}
@@ -117,9 +118,9 @@ sample_parts a b c d g s = simp (append_assoc, append-nil)
 
 pub samples_grown : (l : Without) (of : Subject) (a b : SampleAt) (f0 f1 f2 f3 g s : List Difference)
     → f1 ≡ f0 ++ values_differ of (sample_values l a) (sample_values l b) → f2 ≡ f1 ++ g → f3 ≡ f2 ++ s
-    → f3 ≡ f0 ++ (numbers_differ of fields.Duration a.duration b.duration ++ signed of fields.Offset a.cto b.cto
+    → f3 ≡ f0 ++ (numbers_differ of fields.Duration (duration_left l a.duration) (duration_left l b.duration) ++ signed of fields.Offset (offset_left l a.cto) (offset_left l b.cto)
     ++ numbers_differ of fields.Flags (flags_left l a.flags) (flags_left l b.flags) ++ numbers_differ of fields.Description a.description b.description ++ g ++ s)
 samples_grown l of a b f0 f1 f2 f3 g s e1 e2 e3 =
     and_then f0 f2 f3 _ _ (and_then f0 f1 f2 _ _ e1 e2) e3
-    ∙ ap (λ (ds : List Difference). f0 ++ ds) (sample_parts (numbers_differ of fields.Duration a.duration b.duration) (signed of fields.Offset a.cto b.cto)
+    ∙ ap (λ (ds : List Difference). f0 ++ ds) (sample_parts (numbers_differ of fields.Duration (duration_left l a.duration) (duration_left l b.duration)) (signed of fields.Offset (offset_left l a.cto) (offset_left l b.cto))
     (numbers_differ of fields.Flags (flags_left l a.flags) (flags_left l b.flags)) (numbers_differ of fields.Description a.description b.description) g s)

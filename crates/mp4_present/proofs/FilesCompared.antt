@@ -15,7 +15,7 @@ use Rattle.mp4_present.specs.format.Comparison as whole
 use Rattle.mp4_present.specs.format.Differences.{numbers_differ, each_differ, head_differences, movie_differences}
 use Rattle.mp4_present.specs.format.Denotes.{FileTree, file_parts, track_of}
 use Rattle.mp4_present.specs.format.Presentation.{Track}
-use Rattle.mp4_present.specs.format.Reduced.{reduce_sample, reduce_track, reduce_track_head, reduce_movie_head}
+use Rattle.mp4_present.specs.format.Reduced.{start_left, reduce_sample, reduce_track, reduce_track_head, reduce_movie_head}
 use Rattle.mp4_present.specs.words.Compared.{TakesFront, samples_differ, tracks_differ, files_differ}
 use Rattle.mp4_present.specs.words.Differing.{as_list, is_none_yet}
 use Rattle.mp4_present.specs.words.Movies.{MovieSeen, moov_box}
@@ -40,7 +40,7 @@ if_ok P Q (Err e) f h = tt
 -- what was found of them is what differs between the tracks apart from their samples
 heads_differ : (l : Without) (number k : ℕ) (file other : List ℕ) (m n : MovieSeen) (tree other_tree : FileTree) (t u : TrackTree) (info other_info : TrackInfo) (head other_head : TrackHead) → IsOpenedAs file m tree → IsOpenedAs other n other_tree
     → slice_get tree.movie.tracks k ≡ Some t → slice_get other_tree.movie.tracks k ≡ Some u → slice_get m.tracks k ≡ Some info → slice_get n.tracks k ≡ Some other_info → track_seen head ≡ track_head_of t → track_seen other_head ≡ track_head_of u
-    → (head_differences (subjects.Track number) (reduce_track_head l (track_seen head)) (reduce_track_head l (track_seen other_head)) ++ numbers_differ (subjects.Track number) fields.Start info.start other_info.start
+    → (head_differences (subjects.Track number) (reduce_track_head l (track_seen head)) (reduce_track_head l (track_seen other_head)) ++ numbers_differ (subjects.Track number) fields.Start (start_left l info.start) (start_left l other_info.start)
     ++ numbers_differ (subjects.Track number) fields.Samples info.samples other_info.samples)
     ++ samples_differ l number file tree t other other_tree u ≡ tracks_differ l number file tree t other other_tree u
 heads_differ l number k file other m n tree other_tree t u info other_info head other_head o p at bt it jt e f =
@@ -49,12 +49,12 @@ heads_differ l number k file other m n tree other_tree t u info other_info head 
     let y = zipped_at (IsInfoOf other other_tree) other_tree.movie.tracks n.tracks k u other_info p.tracks bt jt in
     let count = x.samples ∙ sym (length-map (track_of file (file_parts tree) t).samples (reduce_sample l)) in
     let other_count = y.samples ∙ sym (length-map (track_of other (file_parts other_tree) u).samples (reduce_sample l)) in
-    λ i. (head_differences of (reduce_track_head l (e i)) (reduce_track_head l (f i)) ++ numbers_differ of fields.Start (x.start i) (y.start i) ++ numbers_differ of fields.Samples (count i) (other_count i)) ++ samples_differ l number file tree t other other_tree u
+    λ i. (head_differences of (reduce_track_head l (e i)) (reduce_track_head l (f i)) ++ numbers_differ of fields.Start (start_left l (x.start i)) (start_left l (y.start i)) ++ numbers_differ of fields.Samples (count i) (other_count i)) ++ samples_differ l number file tree t other other_tree u
 
 -- Two tracks whose heads were compared: their samples are left.
 pub track_begun : (l : Without) (number k : ℕ) (file other : List ℕ) (m n : MovieSeen) (tree other_tree : FileTree) (t u : TrackTree) (info other_info : TrackInfo) (head other_head : TrackHead) → IsOpenedAs file m tree → IsOpenedAs other n other_tree
     → slice_get tree.movie.tracks k ≡ Some t → slice_get other_tree.movie.tracks k ≡ Some u → slice_get m.tracks k ≡ Some info → slice_get n.tracks k ≡ Some other_info → track_seen head ≡ track_head_of t → track_seen other_head ≡ track_head_of u
-    → (found : List Difference) → found ≡ head_differences (subjects.Track number) (reduce_track_head l (track_seen head)) (reduce_track_head l (track_seen other_head)) ++ numbers_differ (subjects.Track number) fields.Start info.start other_info.start
+    → (found : List Difference) → found ≡ head_differences (subjects.Track number) (reduce_track_head l (track_seen head)) (reduce_track_head l (track_seen other_head)) ++ numbers_differ (subjects.Track number) fields.Start (start_left l info.start) (start_left l other_info.start)
     ++ numbers_differ (subjects.Track number) fields.Samples info.samples other_info.samples
     → tracks_differ l number file tree t other other_tree u ≡ found ++ samples_differ l number file tree t other other_tree u
 track_begun l number k file other m n tree other_tree t u info other_info head other_head o p at bt it jt e f found is =

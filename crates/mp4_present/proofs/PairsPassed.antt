@@ -12,6 +12,7 @@ use Rattle.mp4_tables.specs.declared.sample.SampleAt.{SampleAt}
 use Rattle.mp4_head.specs.format.Tree.{TrackTree}
 use Rattle.mp4_present.specs.format.Denotes.{FileTree}
 use Rattle.mp4_present.specs.format.Differences.{same_signed, differ, numbers_differ, signed, first_unequal, byte_at, each_differ}
+use Rattle.mp4_present.specs.format.Reduced.{duration_left, offset_left}
 use Rattle.mp4_present.specs.words.Differing.{flags_left, index_in, group_differences, differences_at, pair_differences}
 use Rattle.mp4_present.specs.words.Loaded.{left_in_hand, Follows, IsPlaceOf}
 use Rattle.mp4_present.specs.words.Movies.{MovieSeen, InHandOf}
@@ -54,7 +55,7 @@ none_of_signed of field a b e = subst (λ (c : ℤ). signed of field a c ≡ [])
 nothing_joined : (a b c d g s : List Difference) → a ≡ [] → b ≡ [] → c ≡ [] → d ≡ [] → g ≡ [] → s ≡ [] → a ++ b ++ c ++ d ++ g ++ s ≡ []
 nothing_joined a b c d g s ea eb ec ed eg es = λ i. ea i ++ eb i ++ ec i ++ ed i ++ eg i ++ es i
 
-pub none_said : (l : Without) (of : Subject) (keys : List GroupKey) (lk rk : Keys) (x y : SampleAt) → x.duration ≡ y.duration → x.cto ≡ y.cto → flags_left l x.flags ≡ flags_left l y.flags → x.description ≡ y.description
+pub none_said : (l : Without) (of : Subject) (keys : List GroupKey) (lk rk : Keys) (x y : SampleAt) → duration_left l x.duration ≡ duration_left l y.duration → offset_left l x.cto ≡ offset_left l y.cto → flags_left l x.flags ≡ flags_left l y.flags → x.description ≡ y.description
     → group_differences of keys lk x rk y ≡ [] → x.size ≡ y.size → differences_at l of keys lk x rk y ≡ []
 none_said l of keys lk rk x y ed eo ef ei eg es =
     nothing_joined _ _ _ _ _ _ (none_of_numbers of _ _ _ ed) (none_of_signed of _ _ _ eo) (none_of_numbers of _ _ _ ef) (none_of_numbers of _ _ _ ei) eg (none_of_numbers of _ _ _ es)

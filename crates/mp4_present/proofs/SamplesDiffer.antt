@@ -20,7 +20,7 @@ use Rattle.mp4_tables.proofs.Placed.{IsKey, IsIndex}
 use Rattle.mp4_tables.specs.format.TableRules.{lies_within}
 use Rattle.mp4_head.specs.format.Tree.{TrackTree}
 use Rattle.mp4_present.specs.format.Denotes.{FileTree, bytes_at, sample_of, file_parts, placed_of, track_of}
-use Rattle.mp4_present.specs.format.Reduced.{reduce_sample}
+use Rattle.mp4_present.specs.format.Reduced.{duration_left, offset_left, reduce_sample}
 use Rattle.mp4_present.specs.format.Differences.{differ, numbers_differ, signed, first_unequal, byte_at, bytes_differ, each_differ}
 use Rattle.mp4_present.specs.format.Comparison.{with_key, keys_of_both, index_differences, sample_differences}
 use Rattle.mp4_present.specs.words.Differing.{index_in, index_of, flags_left, group_differences, pair_differences}
@@ -196,7 +196,8 @@ module _ (l : Without) (track : ℕ) (keys : List KeyNamed) (lk rk : Keys) (left
       → pair_differences l track keys lk file rk other n (sample_at left a dts s) (sample_at right b later t) ≡ sample_differences track n (reduce_sample l (sample_of file s)) (reduce_sample l (sample_of other t))
   two_samples n a b dts later s t hs ht =
       let of = subjects.Sample track n in
-      let values = λ (g : List Difference). numbers_differ of fields.Duration s.duration t.duration ++ signed of fields.Offset s.offset t.offset ++ numbers_differ of fields.Flags (flags_left l s.flags) (flags_left l t.flags) ++ numbers_differ of fields.Description s.description t.description ++ g in
+      let values = λ (g : List Difference). numbers_differ of fields.Duration (duration_left l s.duration) (duration_left l t.duration) ++ signed of fields.Offset (offset_left l s.offset) (offset_left l t.offset) ++ numbers_differ of fields.Flags (flags_left l s.flags) (flags_left l t.flags)
+          ++ numbers_differ of fields.Description s.description t.description ++ g in
       let groups = groups_differ l.groups of keys lk rk left right s.groups t.groups (sample_at left a dts s) (sample_at right b later t) el er refl refl hs.0 ht.0 joined in
       let bytes = bytes_are of file other s t hs.1 ht.1 in
       let first = size_is of file other s t hs.1 ht.1 in

@@ -32,8 +32,8 @@ rest_same x y xs ys e = cc
 module _ (k m : Without) where
   samples_agree : (a b : Sample) → SamplesAgree k a b → SamplesAgree m a b → SamplesAgree (common k m) a b
   samples_agree a b g h = record {
-    duration = g.duration;
-    offset = g.offset;
+    duration = either k.timing m.timing g.duration h.duration;
+    offset = either k.timing m.timing g.offset h.offset;
     description = g.description;
     bytes = g.bytes;
     sync = g.sync;
@@ -45,7 +45,7 @@ module _ (k m : Without) where
   media_agree a b same g h =
       let kind = type_of_left a.handler b.handler a.descriptions b.descriptions true g.left_handler in
       record {
-        timescale = g.timescale;
+        timescale = either k.timing m.timing g.timescale h.timescale;
         language = g.language;
         extended_languages = g.extended_languages;
         header = g.header;
@@ -80,7 +80,7 @@ module _ (k m : Without) where
 
   movie_heads_agree : (a b : MovieHead) → MovieHeadsAgree k a b → MovieHeadsAgree m a b → MovieHeadsAgree (common k m) a b
   movie_heads_agree a b g h = record {
-    timescale = g.timescale;
+    timescale = either k.timing m.timing g.timescale h.timescale;
     rate = g.rate;
     volume = g.volume;
     matrix = g.matrix;
@@ -92,7 +92,7 @@ module _ (k m : Without) where
 
   tracks_agree : (a b : Track) → a.head.media.descriptions ≡ b.head.media.descriptions → TracksAgree k a b → TracksAgree m a b → TracksAgree (common k m) a b
   tracks_agree a b same g h = record {
-    start = g.start;
+    start = either k.timing m.timing g.start h.start;
     head = track_heads_agree a.head b.head same g.head h.head;
     samples = zip_both (SamplesAgree k) (SamplesAgree m) (SamplesAgree (common k m)) samples_agree a.samples b.samples g.samples h.samples;
   }

@@ -12,7 +12,7 @@ use Rattle.mp4_head.specs.words.Seen.{track_seen}
 use Rattle.mp4_head.specs.declared.heads.TrackHead.{TrackHead}
 use Rattle.mp4_present.specs.format.Denotes.{FileTree, file_parts, track_of}
 use Rattle.mp4_present.specs.format.Presentation.{Track}
-use Rattle.mp4_present.specs.format.Reduced.{reduce_track, reduce_track_head}
+use Rattle.mp4_present.specs.format.Reduced.{reduce_track, reduce_track_head, start_left}
 use Rattle.mp4_present.specs.words.Carried.{BytesGoOn}
 use Rattle.mp4_present.specs.words.Movies.{MovieSeen}
 use Rattle.mp4_present.specs.words.PayloadsLeft.{keeping_payloads, track_payloads_left}
@@ -155,7 +155,7 @@ module _ (l : Without) (file : List ℕ) (m : MovieSeen) (tree : FileTree) (know
       ∙ get_mapped (track_payloads_left l) (map track_head_of tree.movie.tracks) k (track_head_of track_there.0) (get_mapped track_head_of tree.movie.tracks k track_there.0 track_there.1))
 
   abbrev pub front : List ℕ
-  front = front_of l (track_seen head) info.start
+  front = front_of l (track_seen head) (start_left l info.start)
 
   module _ (style : SampleStyle) (is : IsStyle l info.keys style) where
     abbrev pub lines : List ℕ
@@ -166,7 +166,7 @@ module _ (l : Without) (file : List ℕ) (m : MovieSeen) (tree : FileTree) (know
         let t = track_there.0 in
         let start = (zipped_at (IsInfoOf file tree) tree.movie.tracks m.tracks k t info o.tracks track_there.1 i_at).start in
         let told = track_told l style file m tree t k info o track_there.1 i_at is in
-        λ i. head_lines (reduce_track_head (keeping_payloads l) (head_is i)) ++ number_line (codes "start") (start i) ++ samples_heading (head_is i).id ++ told i
+        λ i. head_lines (reduce_track_head (keeping_payloads l) (head_is i)) ++ number_line (codes "start") (start_left l (start i)) ++ samples_heading (head_is i).id ++ told i
 
     -- first what the track says before its samples, then their lines
     two_parts : text_from l file tree k ≡ front ++ (lines ++ text_from l file tree (k + 1))

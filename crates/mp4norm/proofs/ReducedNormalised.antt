@@ -7,7 +7,7 @@ use Rattle.mp4_boxes.specs.declared.refusal.Refusal.TheVariants as refusals
 use Rattle.mp4_present.specs.format.Denotes.{FileTree, presentation_of}
 use Rattle.std.specs.List.{AllByRecursion}
 use Rattle.mp4_present.specs.format.Presentation.{Presentation, Track, IsInTime}
-use Rattle.mp4_present.specs.format.Reduced.{ReducesInTime, reduce, reduce_track}
+use Rattle.mp4_present.specs.format.Reduced.{ReducesInTime, reduce, reduce_track, timescale_left}
 use Rattle.mp4_present.specs.words.Movies.{MovieSeen}
 use Rattle.mp4_present.specs.words.OpenedMovie.{IsOpenedAs}
 use Rattle.mp4_present.specs.declared.without.Without.{Without}
@@ -39,7 +39,7 @@ times_or l timescale (t ∷ tracks) = elim (in_time_or timescale (reduce_track l
 ]
 
 reduces_or : (l : Without) (p : Presentation) → ReducesInTime l p ⊎ (ReducesInTime l p → ⊥)
-reduces_or l p = times_or l p.movie.timescale p.tracks
+reduces_or l p = times_or l (timescale_left l p.movie.timescale) p.tracks
 
 -- ---- why it is not put
 

@@ -20,7 +20,7 @@ use Rattle.mp4_boxes.proofs.WrittenBoxes.{among_has}
 use Rattle.mp4_tables.specs.format.Groups.{Groups}
 use Rattle.mp4_head.specs.format.Head.{Edit, Kept, Media, TrackHead, MovieHead, IsDescription, IsEdit, IsGroupDescription, IsKept, IsMedia, IsMovieHead, IsTrackHead}
 use Rattle.mp4_present.specs.format.Presentation.{Sample, Track, Presentation, IsGroup, IsInTime, IsSample, IsTrack, Valid}
-use Rattle.mp4_present.specs.format.Reduced.{metadata_kinds, plain_handler, reduce, reduce_descriptions, reduce_kept, reduce_media, reduce_movie_head, reduce_sample, reduce_track, reduce_track_head, sync_flag}
+use Rattle.mp4_present.specs.format.Reduced.{metadata_kinds, offset_left, plain_handler, reduce, reduce_descriptions, reduce_kept, reduce_media, reduce_movie_head, reduce_sample, reduce_track, reduce_track_head, sync_flag}
 use Rattle.mp4_present.specs.format.Zeros.{zeroed}
 use Rattle.mp4_plan.proofs.Plain.{descriptions_good}
 use Rattle.mp4_present.specs.declared.without.Without.{Without}
@@ -631,7 +631,7 @@ told_movie : (l : Without) (m : MovieHead) → IsMovieHead m → IsToldMovie (re
 told_movie l m h = record {
   creation = below_if l.times 0 m.creation (2 ^ 64) (omega arith) h.creation;
   modification = below_if l.times 0 m.modification (2 ^ 64) (omega arith) h.modification;
-  timescale = let t = h.timescale in omega (arith, t);
+  timescale = let t = h.timescale in below_if l.timing 1000 m.timescale (2 ^ 64) (omega arith) (omega (arith, t));
   rate = small_32 m.rate h.rate;
   volume = small_16 m.volume h.volume;
   matrix = h.matrix.fits;
@@ -652,7 +652,7 @@ told_media : (l : Without) (m : Media) → IsMedia m → IsToldMedia (reduce_med
 told_media l m h = record {
   creation = below_if l.times 0 m.creation (2 ^ 64) (omega arith) h.creation;
   modification = below_if l.times 0 m.modification (2 ^ 64) (omega arith) h.modification;
-  timescale = let t = h.timescale in omega (arith, t);
+  timescale = let t = h.timescale in below_if l.timing 1000 m.timescale (2 ^ 64) (omega arith) (omega (arith, t));
   language = h.language;
   handler = told_handler l.labels m.handler (each_byte m.handler h.handler);
   languages = each_weaker AreBytes EachByte each_byte m.extended_languages h.extended_languages;
@@ -678,13 +678,17 @@ told_head l t h = record {
   group_descriptions = each_if EachByte l.groups t.group_descriptions (each_weaker IsGroupDescription EachByte (λ b g. each_byte b g.bytes) t.group_descriptions h.group_descriptions);
 }
 
+offset_fits : (v : Bool) (n : ℤ) → FitsSigned w32 n → FitsSigned w32 (if v then pos 0 else n)
+offset_fits true n h = omega arith
+offset_fits false n h = h
+
 sync_small : (n : ℕ) → sync_flag n < 2 ^ 32
 sync_small n = omega arith
 
 told_sample : (l : Without) (descriptions : ℕ) (s : Sample) → descriptions ≤ 2 ^ 30 → IsSample descriptions s → IsToldSample (reduce_sample l s)
 told_sample l descriptions s few h = record {
-  duration = let n = h.duration in omega (arith, n);
-  offset = small_32 s.offset h.offset;
+  duration = let n = h.duration in below_if l.timing 1 s.duration (2 ^ 64) (omega arith) (omega (arith, n));
+  offset = small_32 (offset_left l s.offset) (offset_fits l.timing s.offset h.offset);
   flags = let n = h.flags in below_if l.flags (sync_flag s.flags) s.flags (2 ^ 32) (sync_small s.flags) (omega (arith, n));
   description = let n = h.description in omega (arith, n, few);
   groups = each_if IsGroup l.groups s.groups h.groups;
@@ -693,7 +697,7 @@ told_sample l descriptions s few h = record {
 told_track : (l : Without) (timescale : ℕ) (t : Track) → IsTrack t → length t.head.media.descriptions ≤ 2 ^ 30 → IsInTime timescale t → IsToldTrack (reduce_track l t)
 told_track l timescale t h few in_time = record {
   head = told_head l t.head h.head;
-  start = let n = in_time.0 in omega (arith, n);
+  start = let n = in_time.0 in below_if l.timing 0 t.start (2 ^ 64) (omega arith) (omega (arith, n));
   samples = each_value (IsSample (length t.head.media.descriptions)) IsToldSample (reduce_sample l) (λ s i. told_sample l (length t.head.media.descriptions) s few i) t.samples h.samples;
 }
 

@@ -21,7 +21,7 @@ use Rattle.mp4_tables.proofs.Placed as placed
 use Rattle.mp4_head.specs.format.Tree.{TrackTree}
 use Rattle.mp4_present.specs.format.Denotes.{FileTree, bytes_at, sample_of, file_parts, placed_of, track_of}
 use Rattle.mp4_present.specs.format.Presentation.{IsGroup}
-use Rattle.mp4_present.specs.format.Reduced.{reduce_sample, reduce_track}
+use Rattle.mp4_present.specs.format.Reduced.{duration_left, offset_left, reduce_sample, reduce_track}
 use Rattle.mp4_present.specs.words.Differing.{index_in, flags_left}
 use Rattle.mp4_present.specs.words.Movies.{MovieSeen}
 use Rattle.mp4_present.specs.words.OpenedMovie.{IsOpenedAs, IsInfoOf}
@@ -162,9 +162,11 @@ module _ (l : Without) (keys : Keys) (style : SampleStyle) (is : IsStyle l keys 
       let flags : flags_left style.leaving s.flags ≡ flags_left l s.flags = ap (λ (x : Without). flags_left x s.flags) is.leaving in
       let groups : told_indexes style.keys (sample_at own number dts s) (keys_seen style.order) ≡ flat_map group_text (if l.groups then [] else s.groups) =
       groups_told l.groups style.keys own (keys_seen style.order) s.groups (sample_at own number dts s) (ap keys_seen is.keys_are ∙ e) order_is refl h.0 in
-      line_is space (decimal s.duration) (signed_decimal s.offset) (hex_digits 8 (flags_left style.leaving s.flags)) (decimal s.description) (decimal s.size) (hex_text (sha256 (range file (place_of s.at) s.size)))
+      let duration : duration_left style.leaving s.duration ≡ duration_left l s.duration = ap (λ (x : Without). duration_left x s.duration) is.leaving in
+      let offset : offset_left style.leaving s.offset ≡ offset_left l s.offset = ap (λ (x : Without). offset_left x s.offset) is.leaving in
+      line_is space (decimal (duration_left style.leaving s.duration)) (signed_decimal (offset_left style.leaving s.offset)) (hex_digits 8 (flags_left style.leaving s.flags)) (decimal s.description) (decimal s.size) (hex_text (sha256 (range file (place_of s.at) s.size)))
       (told_indexes style.keys (sample_at own number dts s) (keys_seen style.order)) line_feed
-      ∙ (λ i. space ++ decimal s.duration ++ space ++ signed_decimal s.offset ++ space ++ hex_digits 8 (flags i) ++ space ++ decimal s.description ++ space ++ decimal (size i) ++ space ++ hex_text (digest i) ++ groups i ++ line_feed)
+      ∙ (λ i. space ++ decimal (duration i) ++ space ++ signed_decimal (offset i) ++ space ++ hex_digits 8 (flags i) ++ space ++ decimal s.description ++ space ++ decimal (size i) ++ space ++ hex_text (digest i) ++ groups i ++ line_feed)
 
   all_told : (number dts : ℕ) (samples : List PlacedSample) → AllByRecursion (IsSampleOf file own) samples → flat_map (told_sample style file) (timed own number dts samples) ≡ flat_map sample_text (map (reduce_sample l) (map (sample_of file) samples))
   all_told number dts [] h = refl

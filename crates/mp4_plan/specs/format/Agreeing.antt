@@ -14,8 +14,8 @@ abbrev pub is_other : Kept → Bool
 is_other k = not (is_among metadata_kinds k.kind)
 
 pub record SamplesAgree (l : Without) (a b : Sample) : Type 0 where
-  pub duration : a.duration ≡ b.duration
-  pub offset : a.offset ≡ b.offset
+  pub duration : l.timing ≡ false → a.duration ≡ b.duration
+  pub offset : l.timing ≡ false → a.offset ≡ b.offset
   pub description : a.description ≡ b.description
   pub bytes : a.bytes ≡ b.bytes
   pub sync : a.flags / 2 ^ 16 % 2 ≡ b.flags / 2 ^ 16 % 2
@@ -23,7 +23,7 @@ pub record SamplesAgree (l : Without) (a b : Sample) : Type 0 where
   pub groups : l.groups ≡ false → a.groups ≡ b.groups
 
 pub record MediaAgree (l : Without) (a b : Media) : Type 0 where
-  pub timescale : a.timescale ≡ b.timescale
+  pub timescale : l.timing ≡ false → a.timescale ≡ b.timescale
   pub language : a.language ≡ b.language
   pub extended_languages : a.extended_languages ≡ b.extended_languages
   pub header : a.header ≡ b.header
@@ -58,7 +58,7 @@ pub record TrackHeadsAgree (l : Without) (a b : TrackHead) : Type 0 where
   pub group_descriptions : l.groups ≡ false → a.group_descriptions ≡ b.group_descriptions
 
 pub record MovieHeadsAgree (l : Without) (a b : MovieHead) : Type 0 where
-  pub timescale : a.timescale ≡ b.timescale
+  pub timescale : l.timing ≡ false → a.timescale ≡ b.timescale
   pub rate : a.rate ≡ b.rate
   pub volume : a.volume ≡ b.volume
   pub matrix : a.matrix ≡ b.matrix
@@ -68,7 +68,7 @@ pub record MovieHeadsAgree (l : Without) (a b : MovieHead) : Type 0 where
   pub other_kept : filter is_other a.kept ≡ filter is_other b.kept
 
 pub record TracksAgree (l : Without) (a b : Track) : Type 0 where
-  pub start : a.start ≡ b.start
+  pub start : l.timing ≡ false → a.start ≡ b.start
   pub head : TrackHeadsAgree l a.head b.head
   pub samples : AllZip (SamplesAgree l) a.samples b.samples
 

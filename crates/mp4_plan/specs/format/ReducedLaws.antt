@@ -1,5 +1,5 @@
 -- Laws of what is left of presentations (`reduce`), and of its normal form.
-use Rattle.std.specs.Prelude.{◌≡◌, ◌↔◌, ℕ, ◌||◌, List, true, false}
+use Rattle.std.specs.Prelude.{◌≡◌, ◌↔◌, ◌⊎◌, ℕ, ◌||◌, List, true, false}
 use Rattle.mp4_boxes.specs.declared.fault.Fault.{Fault}
 use Rattle.mp4_present.specs.format.Presentation.{Presentation, Valid}
 use Rattle.mp4_present.specs.format.Denotes.{Denotes}
@@ -18,6 +18,7 @@ nothing = record {
   metadata = false;
   bitrates = false;
   labels = false;
+  timing = false;
 }
 
 -- what one of the two leaves out
@@ -30,6 +31,7 @@ both l m = record {
   metadata = l.metadata || m.metadata;
   bitrates = l.bitrates || m.bitrates;
   labels = l.labels || m.labels;
+  timing = l.timing || m.timing;
 }
 
 -- Where nothing is left out, all stays.
@@ -53,14 +55,14 @@ ReduceIsFixed = (l : Without) (p : Presentation) → reduce l (reduce l p) ≡ r
 abbrev pub ReducedIsValid : Type 0
 ReducedIsValid = (l : Without) (p : Presentation) → Valid p → Valid (reduce l p) ↔ ReducesInTime l p
 
--- Where edits stay they are not.
+-- Where edits stay they are not, nor where timing doesn't count.
 abbrev pub ReducedStaysValid : Type 0
-ReducedStaysValid = (l : Without) (p : Presentation) → Valid p → l.edits ≡ false
-    → ReducesInTime l p × Valid (reduce l p)
+ReducedStaysValid = (l : Without) (p : Presentation) → Valid p
+    → (l.edits ≡ false) ⊎ (l.timing ≡ true) → ReducesInTime l p × Valid (reduce l p)
 
--- Without its edits what is valid may be too long, whatever else is left out.
+-- Without its edits what is valid may be too long where timing counts, whatever else is left out.
 abbrev pub EditsMayHoldTime : Type 0
-EditsMayHoldTime = (l : Without) → l.edits ≡ true
+EditsMayHoldTime = (l : Without) → l.edits ≡ true → l.timing ≡ false
     → (p : Presentation) × Valid p × (Valid (reduce l p) → ⊥)
 
 -- The normal form of what is left denotes it.

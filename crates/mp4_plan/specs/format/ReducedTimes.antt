@@ -7,12 +7,12 @@ use Rattle.mp4_boxes.specs.declared.fault.Kind.TheVariants.{TimeTooLarge}
 use Rattle.mp4_head.specs.format.Tree.{TrackTree, first_of}
 use Rattle.mp4_present.specs.format.Presentation.{Presentation, IsInTime}
 use Rattle.mp4_present.specs.format.Denotes.{Denotes, FileTree, file_parts, movie_timescale, track_of}
-use Rattle.mp4_present.specs.format.Reduced.{reduce_track}
+use Rattle.mp4_present.specs.format.Reduced.{reduce_track, timescale_left}
 use Rattle.mp4_present.specs.declared.without.Without.{Without}
 
 -- what is left of a track of the file is not too long
 abbrev pub LeftInTime : Without → List ℕ → FileTree → TrackTree → Type 0
-LeftInTime l file tree t = IsInTime (movie_timescale file tree)
+LeftInTime l file tree t = IsInTime (timescale_left l (movie_timescale file tree))
     (reduce_track l (track_of file (file_parts tree) t))
 
 -- What is left of a track is too long: the first such track of the file.

@@ -3,15 +3,19 @@ use Rattle.std.specs.Prelude.{◌≡◌, ℕ, if◌then◌else◌, List, [], ◌
 use Rattle.mp4_head.specs.format.Tree.{TrackTree}
 use Rattle.mp4_tables.specs.declared.sample.SampleAt.{SampleAt}
 use Rattle.mp4_present.specs.format.Denotes.{FileTree}
-use Rattle.mp4_present.specs.format.Reduced.{sync_flag}
+use Rattle.mp4_present.specs.format.Reduced.{duration_left, offset_left, sync_flag}
 use Rattle.mp4_present.specs.words.Movies.{MovieSeen}
 use Rattle.mp4_present.specs.words.SamplesComing.{Comes, track_samples}
 use Rattle.mp4_present.specs.declared.without.Without.{Without}
 use Rattle.mp4_present.specs.declared.walking.Walk.{Walk}
 
--- what is left of a sample as it is handed out: it is in no group where each index is 0
+-- what is left of a sample as it is handed out: it is in no group where each index is 0, and where
+-- timing doesn't count its decode time is how many come before it
 abbrev pub reduce_at : Without → SampleAt → SampleAt
 reduce_at l s = record s {
+  dts = if l.timing then s.number else s.dts;
+  duration = duration_left l s.duration;
+  cto = offset_left l s.cto;
   flags = if l.flags then sync_flag s.flags else s.flags;
   groups = if l.groups then 0 ∷ 0 ∷ 0 ∷ 0 ∷ [] else s.groups;
 }

@@ -1,13 +1,16 @@
 -- How long tracks are by their samples alone, and why nothing is written where one is too long.
-use Rattle.std.specs.Prelude.{◌≡◌, ℕ, ◌*◌, ◌<◌, ◌≤◌, max, List, [], take, fold, Some, slice_get, codes, true}
+use Rattle.std.specs.Prelude.{◌≡◌, ℕ, ◌-◌, ◌*◌, ◌^◌, ◌<◌, ◌≤◌, max, min, if◌then◌else◌, List, [], ◌∷◌, take, fold, Some, slice_get, codes, true, false}
 use Rattle.std.specs.Int.{div_ceil}
 use Rattle.std.specs.List.{AllByRecursion}
+use Rattle.mp4_boxes.specs.format.Bytes.{sum_of}
 use Rattle.mp4_boxes.specs.declared.fault.Fault.{Fault}
 use Rattle.mp4_boxes.specs.declared.fault.Kind.TheVariants.{TimeTooLarge}
 use Rattle.mp4_boxes.specs.declared.refusal.Refusal.{Refusal}
 use Rattle.mp4_boxes.specs.declared.refusal.Refusal.TheVariants as refusals
+use Rattle.mp4_head.specs.format.Head.{Edit}
+use Rattle.mp4_head.specs.words.Seen.{track_seen}
 use Rattle.mp4_head.specs.declared.heads.TrackHead.{TrackHead}
-use Rattle.mp4_present.specs.format.Presentation.{max_time}
+use Rattle.mp4_present.specs.format.Presentation.{max_time, says_all}
 use Rattle.mp4_present.specs.format.Denotes.{FileTree, presentation_of}
 use Rattle.mp4_present.specs.format.Reduced.{ReducesInTime}
 use Rattle.mp4_present.specs.words.Carried.{RefusesCopy}
@@ -48,11 +51,29 @@ pub record FirstLong (timescale : ℕ) (heads : List TrackHead) (tracks : List T
   pub is_head : slice_get heads k ≡ Some head
   pub named : f ≡ time_fault head.offset
 
+-- ---- where timing doesn't count
+
+-- A track whose samples each last a thousandth is as long as its edits, where these stay and each
+-- says how long it is, as far as 64 bits go; else it has as many thousandths as samples.
+abbrev pub count_by : List Edit → ℕ → ℕ
+count_by edits samples = if says_all edits
+    then min (sum_of (λ (e : Edit). e.segment_duration) edits) (2 ^ 64 - 1) else samples
+
+abbrev pub count_length : Without → List Edit → ℕ → ℕ
+count_length l edits samples = count_by (if l.edits then [] else edits) samples
+
+-- the longest of some tracks and of one that is so long
+abbrev pub longest_count : Without → ℕ → List TrackHead → List TrackInfo → ℕ
+longest_count l longest (h ∷ heads) (info ∷ tracks) = longest_count l
+    (max longest (count_length l (track_seen h).edits info.samples)) heads tracks
+longest_count l longest _ _ = longest
+
 -- ---- refusals
 
--- Where edits are left out, some track may be too long.
+-- Where edits are left out and timing counts, some track may be too long.
 abbrev pub MayBeLong : Without → Fault → Type 0
-MayBeLong l f = (l.edits ≡ true) × (f.kind ≡ TimeTooLarge) × (f.box_type ≡ codes "tkhd")
+MayBeLong l f = (l.edits ≡ true) × (l.timing ≡ false) × (f.kind ≡ TimeTooLarge)
+    × (f.box_type ≡ codes "tkhd")
 
 -- Why the length of what is left is not answered.
 abbrev pub RefusesLength : Without → Refusal → Type 0

@@ -1,6 +1,6 @@
 -- What is left of a presentation where some of what it says doesn't count, as in comparing,
 -- archiving and caching files by the rest.
-use Rattle.std.specs.Prelude.{ℕ, ◌*◌, ◌/◌, ◌%◌, ◌^◌, nat_le, not, Bool, if◌then◌else◌, List, [], ◌∷◌, length, take, map, filter, codes, bytes_eq}
+use Rattle.std.specs.Prelude.{ℕ, ◌*◌, ◌/◌, ◌%◌, ◌^◌, nat_le, not, ◌&&◌, Bool, if◌then◌else◌, List, [], ◌∷◌, length, take, map, filter, codes, bytes_eq, ℤ, pos}
 use Rattle.std.specs.List.{AllByRecursion}
 use Rattle.mp4_boxes.specs.format.Children.{is_among}
 use Rattle.mp4_head.specs.format.Head.{Kept, Media, TrackHead, MovieHead, handler_type}
@@ -22,11 +22,33 @@ reduce_kept l kept = if l.metadata
 abbrev pub sync_flag : ℕ → ℕ
 sync_flag flags = flags / 2 ^ 16 % 2 * 2 ^ 16
 
+-- ---- times
+
+-- When samples are decoded and shown doesn't count: timescales are 1,000, a track begins at 0, and
+-- samples last 1 and have offset 0. A duration of 0 would leave all samples in one fragment.
+abbrev pub timescale_left : Without → ℕ → ℕ
+timescale_left l timescale = if l.timing then 1000 else timescale
+
+abbrev pub start_left : Without → ℕ → ℕ
+start_left l start = if l.timing then 0 else start
+
+abbrev pub duration_left : Without → ℕ → ℕ
+duration_left l duration = if l.timing then 1 else duration
+
+abbrev pub offset_left : Without → ℤ → ℤ
+offset_left l offset = if l.timing then pos 0 else offset
+
 abbrev pub reduce_sample : Without → Sample → Sample
 reduce_sample l s = record s {
+  duration = duration_left l s.duration;
+  offset = offset_left l s.offset;
   flags = if l.flags then sync_flag s.flags else s.flags;
   groups = if l.groups then [] else s.groups;
 }
+
+-- samples stay as they are
+abbrev pub keeps_samples : Without → Bool
+keeps_samples l = not l.flags && not l.groups && not l.timing
 
 -- ---- names for people
 
@@ -64,6 +86,7 @@ abbrev pub reduce_media : Without → Media → Media
 reduce_media l m = record m {
   creation = if l.times then 0 else m.creation;
   modification = if l.times then 0 else m.modification;
+  timescale = timescale_left l m.timescale;
   handler = if l.labels then plain_handler m.handler else m.handler;
   descriptions = reduce_descriptions l m.handler m.descriptions;
 }
@@ -82,12 +105,14 @@ abbrev pub reduce_movie_head : Without → MovieHead → MovieHead
 reduce_movie_head l m = record m {
   creation = if l.times then 0 else m.creation;
   modification = if l.times then 0 else m.modification;
+  timescale = timescale_left l m.timescale;
   kept = reduce_kept l m.kept;
 }
 
 abbrev pub reduce_track : Without → Track → Track
 reduce_track l t = record t {
   head = reduce_track_head l t.head;
+  start = start_left l t.start;
   samples = map (reduce_sample l) t.samples;
 }
 
@@ -101,4 +126,4 @@ reduce l p = record {
 -- Its tracks are not too long: without its edits a track is as long as its samples are.
 abbrev pub ReducesInTime : Without → Presentation → Type 0
 ReducesInTime l p = AllByRecursion
-    (λ (t : Track). IsInTime p.movie.timescale (reduce_track l t)) p.tracks
+    (λ (t : Track). IsInTime (timescale_left l p.movie.timescale) (reduce_track l t)) p.tracks

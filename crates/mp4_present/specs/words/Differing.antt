@@ -7,7 +7,7 @@ use Rattle.mp4_tables.specs.declared.keys.GroupKey.{GroupKey}
 use Rattle.mp4_tables.specs.declared.keys.Keys.{Keys}
 use Rattle.mp4_tables.specs.declared.sample.SampleAt.{SampleAt}
 use Rattle.mp4_present.specs.format.Differences.{differ, numbers_differ, signed, bytes_differ, each_differ}
-use Rattle.mp4_present.specs.format.Reduced.{sync_flag}
+use Rattle.mp4_present.specs.format.Reduced.{duration_left, offset_left, sync_flag}
 use Rattle.mp4_present.specs.declared.without.Without.{Without}
 use Rattle.mp4_head.specs.format.Head.{Edit, Media, TrackHead, MovieHead}
 use Rattle.mp4_present.specs.declared.comparing.entries.Spot.{Spot}
@@ -114,7 +114,8 @@ flags_left l flags = if l.flags then sync_flag flags else flags
 
 -- what a sample says before its indexes
 abbrev pub sample_values : Without → SampleAt → List (Field × Value)
-sample_values l s = (fields.Duration, Number s.duration) ∷ (fields.Offset, Signed s.cto)
+sample_values l s = (fields.Duration, Number (duration_left l s.duration))
+    ∷ (fields.Offset, Signed (offset_left l s.cto))
     ∷ (fields.Flags, Number (flags_left l s.flags))
     ∷ (fields.Description, Number s.description) ∷ []
 
@@ -129,8 +130,8 @@ group_differences of keys left_keys a right_keys b = flat_map (λ (key : GroupKe
 abbrev pub differences_at : Without → Subject → List GroupKey → Keys → SampleAt → Keys → SampleAt
     → List Difference
 differences_at l of keys left_keys a right_keys b =
-    numbers_differ of fields.Duration a.duration b.duration
-    ++ signed of fields.Offset a.cto b.cto
+    numbers_differ of fields.Duration (duration_left l a.duration) (duration_left l b.duration)
+    ++ signed of fields.Offset (offset_left l a.cto) (offset_left l b.cto)
     ++ numbers_differ of fields.Flags (flags_left l a.flags) (flags_left l b.flags)
     ++ numbers_differ of fields.Description a.description b.description
     ++ group_differences of keys left_keys a right_keys b

@@ -6,7 +6,7 @@ use Rattle.mp4_head.specs.declared.heads.MovieHead.{MovieHead}
 use Rattle.mp4_head.specs.declared.heads.TrackHead.{TrackHead}
 use Rattle.mp4_head.specs.declared.kept_boxes.Kept.{Kept}
 use Rattle.mp4_present.specs.format.Differences.{numbers_differ, movie_differences, payload_differences, box_differences, kept_differences, media_fields, media_lists, head_differences, list_differences}
-use Rattle.mp4_present.specs.format.Reduced.{plain_handler, reduce_kept, reduce_media, reduce_track_head, reduce_movie_head}
+use Rattle.mp4_present.specs.format.Reduced.{plain_handler, start_left, reduce_kept, reduce_media, reduce_track_head, reduce_movie_head}
 use Rattle.mp4_present.specs.words.Differing.{at_number}
 use Rattle.mp4_present.specs.declared.comparing.entries.Spot.{Spot}
 use Rattle.mp4_present.specs.declared.comparing.differences.Difference.{Difference}
@@ -54,7 +54,7 @@ heads_differ l of a b =
 abbrev pub begun_differ : Without → Subject → TrackHead → TrackInfo → TrackHead → TrackInfo
     → List Difference
 begun_differ l of a info b other = heads_differ l of a b
-    ++ numbers_differ of fields.Start info.start other.start
+    ++ numbers_differ of fields.Start (start_left l info.start) (start_left l other.start)
     ++ numbers_differ of fields.Samples info.samples other.samples
 
 -- the number of entries, and the entries of one number

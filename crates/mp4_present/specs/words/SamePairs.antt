@@ -7,6 +7,7 @@ use Rattle.mp4_tables.specs.declared.sample.SampleAt.{SampleAt}
 use Rattle.mp4_head.specs.format.Tree.{TrackTree}
 use Rattle.mp4_present.specs.format.Denotes.{FileTree}
 use Rattle.mp4_present.specs.format.Differences.{numbers_differ}
+use Rattle.mp4_present.specs.format.Reduced.{duration_left, offset_left}
 use Rattle.mp4_present.specs.words.Compared.{BothTakeOn}
 use Rattle.mp4_present.specs.words.Differing.{index_in, differences_at, pair_differences}
 use Rattle.mp4_present.specs.words.Movies.{MovieSeen, IsWalkOf}
@@ -19,6 +20,7 @@ use Rattle.mp4_present.specs.declared.comparing.samples.Side.{Side}
 use Rattle.mp4_present.specs.declared.comparing.differences.Difference.{Difference}
 use Rattle.mp4_present.specs.declared.comparing.differences.Field.TheVariants as fields
 use Rattle.mp4_present.specs.declared.comparing.differences.Subject.{Subject}
+use Rattle.mp4_present.specs.declared.without.Without.{Without}
 use Rattle.mp4_present.specs.declared.file_window.FileWindow.{FileWindow}
 
 -- what differs at these keys between samples that have these indexes
@@ -28,6 +30,11 @@ indexes_differ of keys left_keys a right_keys b = flat_map (λ (key : GroupKey).
     numbers_differ of (fields.Group key)
     (index_in (key_place (key_seen key) (keys_seen left_keys)) a)
     (index_in (key_place (key_seen key) (keys_seen right_keys)) b)) keys
+
+-- the same is left of their durations and of their composition offsets
+pub record SayTimes (l : Without) (x y : SampleAt) : Type 0 where
+  pub duration : duration_left l x.duration ≡ duration_left l y.duration
+  pub offset : offset_left l x.cto ≡ offset_left l y.cto
 
 -- two samples differ in nothing but their bytes, whatever their number
 pub record SaySame (by : Pairing) (x y : SampleAt) : Type 0 where

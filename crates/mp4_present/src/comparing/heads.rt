@@ -79,7 +79,10 @@ fn movie_values(leaving: Without, head: &MovieHead) -> [(Field, Value); 5]
     [
         number(Field::Creation, leaving.time(head.creation)),
         number(Field::Modification, leaving.time(head.modification)),
-        number(Field::Timescale, u64::from(head.timescale)),
+        number(
+            Field::Timescale,
+            u64::from(leaving.timescale(head.timescale)),
+        ),
         signed(Field::Rate, i64::from(head.rate)),
         signed(Field::Volume, i64::from(head.volume)),
     ]
@@ -117,7 +120,10 @@ fn media_values(leaving: Without, media: &Media) -> [(Field, Value); 4]
     [
         number(Field::MediaCreation, leaving.time(media.creation)),
         number(Field::MediaModification, leaving.time(media.modification)),
-        number(Field::MediaTimescale, u64::from(media.timescale)),
+        number(
+            Field::MediaTimescale,
+            u64::from(leaving.timescale(media.timescale)),
+        ),
         number(Field::Language, u64::from(media.language)),
     ]
 }

@@ -128,7 +128,14 @@ fn compare_track_heads(
         ≡ begun_differ leaving of left.now info.now right.now other.now) }
 {
     let mut found = track_differences(alloc, leaving, of, left, right)?;
-    compare_numbers(of, Field::Start, info.start, other.start, &mut found)?;
+    let start = leaving.start(info.start);
+    compare_numbers(
+        of,
+        Field::Start,
+        start,
+        leaving.start(other.start),
+        &mut found,
+    )?;
     let samples = u64::from(info.samples);
     let others = u64::from(other.samples);
     compare_numbers(of, Field::Samples, samples, others, &mut found)?;

@@ -3,13 +3,14 @@
 ghost use Rattle.std.specs.Prelude.{◌≡◌, ◌<◌, ◌≤◌, [], drop, IsTrue};
 ghost use Rattle.mp4_present.specs.words.Loaded.{left_in_hand, Follows};
 ghost use Rattle.mp4_present.specs.words.Movies.{IsWalkOf};
-ghost use Rattle.mp4_present.specs.words.SamePairs.{indexes_differ, BeginSame, IsSamePair, PassesSame, SaySame};
+ghost use Rattle.mp4_present.specs.words.SamePairs.{indexes_differ, BeginSame, IsSamePair, PassesSame, SaySame, SayTimes};
 ghost use Rattle.mp4_present.specs.declared.comparing.differences.Subject.{Subject};
 
 use crate::comparing::samples::{Pairing, Side, flags_left, index_at};
 use crate::file_window::FileWindow;
 use crate::movie::Movie;
 use crate::walking::loaded::Loaded;
+use crate::without::Without;
 use mp4_boxes::Steps;
 use mp4_tables::{SampleAt, Samples};
 use std::sync::ledger::Ledger;
@@ -29,15 +30,23 @@ fn have_same_indexes(by: &Pairing, left: [u16; 4], right: [u16; 4]) -> bool
     true
 }
 
+// Whether two samples have the same duration and the same composition offset, or these don't count.
+#[inline(always)]
+fn have_same_times(leaving: Without, left: &SampleAt, right: &SampleAt) -> bool
+    ensures { IsTrue result → SayTimes leaving left.now right.now }
+{
+    if left.duration == right.duration && left.cto == right.cto {
+        return true;
+    }
+    leaving.timing
+}
+
 // Whether two samples say the same, apart from their bytes.
 #[inline(always)]
 fn say_the_same(by: &Pairing, left: &SampleAt, right: &SampleAt) -> bool
     ensures { IsTrue result → SaySame by.now left.now right.now }
 {
-    if left.duration != right.duration {
-        return false;
-    }
-    if left.cto != right.cto {
+    if !have_same_times(by.leaving, left, right) {
         return false;
     }
     if flags_left(by.leaving, left.flags) != flags_left(by.leaving, right.flags) {

@@ -1,5 +1,5 @@
 //! Samples of two tracks, compared one by one.
-ghost use Rattle.std.specs.Prelude.{◌≡◌, ◌++◌, [], length, map, fold, if◌then◌else◌, IfOk, OnOk};
+ghost use Rattle.std.specs.Prelude.{◌≡◌, ◌<◌, ◌++◌, [], length, map, fold, if◌then◌else◌, IfOk, OnOk};
 ghost use Rattle.mp4_tables.specs.words.Keys.{key_place, key_seen, keys_seen};
 ghost use Rattle.mp4_present.specs.format.Comparison.{with_key};
 ghost use Rattle.mp4_present.specs.words.Compared.{BothCome, BothWork, PairFound, WhereBothLie};
@@ -39,8 +39,11 @@ fn sample_values(leaving: Without, sample: &SampleAt) -> [(Field, Value); 4]
     ensures { result ≡ sample_values leaving sample.now }
 {
     [
-        number(Field::Duration, u64::from(sample.duration)),
-        signed(Field::Offset, i64::from(sample.cto)),
+        number(
+            Field::Duration,
+            u64::from(leaving.duration(sample.duration)),
+        ),
+        signed(Field::Offset, i64::from(leaving.offset(sample.cto))),
         number(Field::Flags, u64::from(flags_left(leaving, sample.flags))),
         number(Field::Description, u64::from(sample.description)),
     ]
@@ -221,8 +224,16 @@ fn compare_bytes<S: Store, T: Store>(
     Ok(())
 }
 
-// How many bytes of a file are read at once.
-const WINDOW: usize = 65_536;
+// How many bytes of a file are read at once, at most.
+const WINDOW: u64 = 65_536;
+
+// How long a window on the samples of a track is that has so many bytes: a longer one would be
+// cleared for nothing.
+fn window_len(bytes: u64) -> usize
+    ensures { 0 < result }
+{
+    bytes.min(WINDOW).max(1) as usize
+}
 
 // A track whose samples are compared with those of another: a walk over them, and a window on
 // their bytes.
@@ -242,7 +253,8 @@ impl Side {
         ensures { IfOk result (Begins movie.now track) }
     {
         let walk = movie.walk(alloc, track)?;
-        let window = FileWindow::new(alloc, WINDOW).map_err(|_| Memory)?;
+        let len = window_len(movie.tracks()[track].bytes);
+        let window = FileWindow::new(alloc, len).map_err(|_| Memory)?;
         Ok(Side { walk, window })
     }
 }

@@ -24,8 +24,8 @@ const MOST_MOOV: u128 = 1 << 30;
 
 const FILE_TYPE: u128 = 24;
 
-// The length of a track by its edits, where there are some and each says how long it is.
-fn length_of_edits(edits: &[Edit]) -> Option<u128>
+/// The length of a track by its edits, where there are some and each says how long it is.
+pub fn length_of_edits(edits: &[Edit]) -> Option<u128>
     ensures { result ≡ (if says_all (map edit_seen edits.now)
         then Some (sum_of (λ (e : heads.Edit). e.segment_duration) (map edit_seen edits.now))
         else None) }

@@ -91,7 +91,7 @@ PutsSuch Took IsText = (text : List ℕ) × IsText text × Took text
 
 -- how many words there are behind `--without`
 abbrev pub word_count : ℕ
-word_count = 7
+word_count = 8
 
 -- A file is walked over at most so many times: to list what differs; to find words that make the
 -- two the same, those that the differences ask for and then all; and without each of these words.

@@ -13,6 +13,7 @@ everything = record {
   metadata = true;
   bitrates = true;
   labels = true;
+  timing = true;
 }
 
 -- what each word leaves out, by itself
@@ -20,7 +21,7 @@ abbrev pub single_words : List Without
 single_words = record nothing { times = true } ∷ record nothing { edits = true }
     ∷ record nothing { flags = true } ∷ record nothing { groups = true }
     ∷ record nothing { metadata = true } ∷ record nothing { bitrates = true }
-    ∷ record nothing { labels = true } ∷ []
+    ∷ record nothing { labels = true } ∷ record nothing { timing = true } ∷ []
 
 -- what is left out without one of the words, unless that one was given
 abbrev pub less_word : Without → Without → Without → Without
@@ -32,4 +33,5 @@ less_word given l word = record {
   metadata = l.metadata && (given.metadata || not word.metadata);
   bitrates = l.bitrates && (given.bitrates || not word.bitrates);
   labels = l.labels && (given.labels || not word.labels);
+  timing = l.timing && (given.timing || not word.timing);
 }

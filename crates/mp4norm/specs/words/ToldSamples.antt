@@ -9,6 +9,7 @@ use Rattle.mp4_tables.specs.format.Groups.{GroupKey}
 use Rattle.mp4_tables.specs.words.Keys.{key_place, keys_seen}
 use Rattle.mp4_tables.specs.declared.keys.Keys.{Keys}
 use Rattle.mp4_tables.specs.declared.sample.SampleAt.{SampleAt}
+use Rattle.mp4_present.specs.format.Reduced.{duration_left, offset_left}
 use Rattle.mp4_present.specs.words.Differing.{flags_left, index_in}
 use Rattle.mp4_present.specs.declared.without.Without.{Without}
 use Rattle.mp4_plan.specs.format.Normal.{in_key_order}
@@ -46,7 +47,8 @@ told_flags style digest s = space ++ hex_digits 8 (flags_left style.leaving s.fl
 
 -- the line of a sample whose bytes have this digest
 abbrev pub told_line : SampleStyle → List ℕ → SampleAt → List ℕ
-told_line style digest s = space ++ decimal s.duration ++ space ++ signed_decimal s.cto
+told_line style digest s = space ++ decimal (duration_left style.leaving s.duration) ++ space
+    ++ signed_decimal (offset_left style.leaving s.cto)
     ++ told_flags style digest s
 
 -- the line of a sample of a file

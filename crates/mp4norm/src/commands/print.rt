@@ -250,7 +250,13 @@ fn put_tracks<S: Store, K: Sink, L: Ledger>(
         let head = &heads[track];
         let info = movie.tracks()[track];
         let style = SampleStyle::new(leaving, info.keys);
-        put_front(leaving, head, info.start, &mut desk.text, sink)?;
+        put_front(
+            leaving,
+            head,
+            leaving.start(info.start),
+            &mut desk.text,
+            sink,
+        )?;
         put_walk(&style, movie, &mut walk, desk, store, sink, steps)?;
     }
     Ok(())

@@ -98,6 +98,15 @@ fn is_detail(difference: &Difference) -> bool {
     }
 }
 
+// Whether a difference is of when samples are decoded and shown.
+fn is_time(difference: &Difference) -> bool {
+    match difference.field {
+        Field::Timescale | Field::MediaTimescale | Field::Start => true,
+        Field::Duration | Field::Offset => true,
+        _ => false,
+    }
+}
+
 // Whether something is left out, which was given or may be needed.
 fn is_left_out(was_given: bool, may_be_needed: bool) -> bool
     ensures { (was_given || result) ≡ result }
@@ -112,6 +121,7 @@ pub(crate) fn guess(leaving: Without, all: &[Difference]) -> Without
 {
     let has_detail = all.iter().any(|difference| is_detail(difference));
     let has_label = all.iter().any(|difference| is_label(difference));
+    let has_time = all.iter().any(|difference| is_time(difference));
     Without {
         times: is_left_out(leaving.times, has(Kind::Times, all)),
         edits: is_left_out(leaving.edits, has(Kind::Edits, all)),
@@ -120,6 +130,7 @@ pub(crate) fn guess(leaving: Without, all: &[Difference]) -> Without
         metadata: is_left_out(leaving.metadata, has(Kind::Kept, all)),
         bitrates: is_left_out(leaving.bitrates, has_detail),
         labels: is_left_out(leaving.labels, has_detail || has_label),
+        timing: is_left_out(leaving.timing, has_time),
     }
 }
 
@@ -189,7 +200,8 @@ pub(crate) fn say_words(text: &mut Vec<u8>, leaving: Without) -> Result<(), Allo
     let is_first = say_word(text, "groups", leaving.groups, is_first)?;
     let is_first = say_word(text, "metadata", leaving.metadata, is_first)?;
     let is_first = say_word(text, "bitrates", leaving.bitrates, is_first)?;
-    let _ = say_word(text, "labels", leaving.labels, is_first)?;
+    let is_first = say_word(text, "labels", leaving.labels, is_first)?;
+    let _ = say_word(text, "timing", leaving.timing, is_first)?;
     Ok(())
 }
 

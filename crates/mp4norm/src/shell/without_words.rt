@@ -14,6 +14,7 @@ pub(crate) const EVERYTHING: Without = Without {
     metadata: true,
     bitrates: true,
     labels: true,
+    timing: true,
 };
 
 /// What each word leaves out, by itself.
@@ -46,6 +47,10 @@ pub(crate) const WORDS: &[Without] = &[
         labels: true,
         ..Without::NOTHING
     },
+    Without {
+        timing: true,
+        ..Without::NOTHING
+    },
 ];
 
 // Whether a word stays among others when one is taken away: if it is not that one, or was given.
@@ -67,6 +72,7 @@ pub(crate) fn less_word(given: Without, leaving: Without, word: Without) -> With
         metadata: stays(leaving.metadata, given.metadata, word.metadata),
         bitrates: stays(leaving.bitrates, given.bitrates, word.bitrates),
         labels: stays(leaving.labels, given.labels, word.labels),
+        timing: stays(leaving.timing, given.timing, word.timing),
     }
 }
 
@@ -80,6 +86,7 @@ fn leave_out(leaving: &mut Without, word: &[u8]) -> bool {
         b"metadata" => leaving.metadata = true,
         b"bitrates" => leaving.bitrates = true,
         b"labels" => leaving.labels = true,
+        b"timing" => leaving.timing = true,
         _ => return false,
     }
     true

@@ -258,7 +258,8 @@ fn say_words(text: &mut Vec<u8>, leaving: Without) -> Result<(), AllocError>
     let is_first = say_left_out(text, "groups", leaving.groups, is_first)?;
     let is_first = say_left_out(text, "labels", leaving.labels, is_first)?;
     let is_first = say_left_out(text, "metadata", leaving.metadata, is_first)?;
-    let _ = say_left_out(text, "times", leaving.times, is_first)?;
+    let is_first = say_left_out(text, "times", leaving.times, is_first)?;
+    let _ = say_left_out(text, "timing", leaving.timing, is_first)?;
     Ok(())
 }
 

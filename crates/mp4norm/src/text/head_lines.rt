@@ -30,7 +30,7 @@ fn movie_values(leaving: Without, head: &MovieHead) -> [Named; 6]
     [
         number(b"creation", time_left(leaving, head.creation)),
         number(b"modification", time_left(leaving, head.modification)),
-        number(b"timescale", u64::from(head.timescale)),
+        number(b"timescale", u64::from(leaving.timescale(head.timescale))),
         signed(b"rate", i64::from(head.rate)),
         signed(b"volume", i64::from(head.volume)),
         saying(b"matrix", Said::Matrix(head.matrix)),
@@ -122,7 +122,10 @@ fn media_values(leaving: Without, media: &Media) -> [Named; 4]
             b"media modification",
             time_left(leaving, media.modification),
         ),
-        number(b"media timescale", u64::from(media.timescale)),
+        number(
+            b"media timescale",
+            u64::from(leaving.timescale(media.timescale)),
+        ),
         saying(b"language", Said::Language(media.language)),
     ]
 }

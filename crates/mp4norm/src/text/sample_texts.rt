@@ -227,8 +227,8 @@ pub(crate) fn write_sample(
         ≡ told_line style.now digest.now sample.now ++ drop end text.old }
 {
     let mut start = write_flags(text, end, style, sample, digest);
-    start = write_signed(text, start, i64::from(sample.cto));
+    start = write_signed(text, start, i64::from(style.leaving.offset(sample.cto)));
     start = write_byte(text, start, b' ');
-    start = write_short_digits(text, start, sample.duration);
+    start = write_short_digits(text, start, style.leaving.duration(sample.duration));
     write_byte(text, start, b' ')
 }

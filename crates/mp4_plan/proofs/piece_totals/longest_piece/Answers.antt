@@ -9,7 +9,7 @@ use Rattle.mp4_plan.proofs.CarriedParts.{read_at}
 use Rattle.mp4_plan.proofs.HandsCounted.{piece_size_is}
 use Rattle.mp4_plan.proofs.Planning.{walks_set}
 use Rattle.mp4_plan.proofs.PlannedTurns.{has_turn, no_more, turn_leads, longest_first, longest_end, longest_next, longest_skips}
-use Rattle.mp4_plan.specs.words.Turns.{movie_turns, turned}
+use Rattle.mp4_plan.specs.words.Turns.{infos_left, movie_turns, turned}
 use Rattle.mp4_plan.specs.words.DueTracks.{IsDueAt}
 use Rattle.mp4_tables.specs.declared.sample.SampleAt.{SampleAt}
 use Rattle.mp4_plan.proofs.LooksOn.{begins_within, looks_on, looks_within}
@@ -47,7 +47,7 @@ loop-turn-init g c =
           all_within (g.S.Store.file c.args.store.now) tree c.peek_each.new.walks begin.0 (walks_steps tree) _ _ begin.2 (e.work told tree o begin.0 (rw c.as_mut_slice-all.ensures.value begin.1)),
       search rules,
       begins_within m.tracks c.new-schedule.result c.args.looks.now (rw c.tracks-tracks.ensures at c.new-schedule.ensures.tracks) (rw c.tracks-tracks.ensures at c.new-schedule.ensures.left) c.new-schedule.ensures.starts.0,
-      subst (λ (xs : List (Option SampleAt)). IsDueAt m.tracks xs c.new-schedule.result c.begin.new.due) (c.as_slice-2.ensures.value ∙ noted) (rw c.tracks-tracks.ensures at c.begin.ensures),
+      subst (λ (xs : List (Option SampleAt)). IsDueAt (infos_left c.args.leaving m.tracks) xs c.new-schedule.result c.begin.new.due) (c.as_slice-2.ensures.value ∙ noted) (rw c.tracks-tracks.ensures at c.begin.ensures),
       search rules,
       e.grows,
     )
@@ -90,7 +90,7 @@ loop-turn-preserved g c =
     let p = c.in_ok-count.ensures in
     let few = p.few in
     let due_at = (rw c.tracks-tracks.ensures at c.in_ok-pass.ensures.due) nexts i.10.times in
-    let due_next = subst (λ k. IsDueAt m.tracks (slice_set nexts k c.count_turn.new.next) c.pass.new.self c.pass.new.due) (sym c.in-Some.ensures.track.0) due_at in (
+    let due_next = subst (λ k. IsDueAt (infos_left c.args.leaving m.tracks) (slice_set nexts k c.count_turn.new.next) c.pass.new.self c.pass.new.due) (sym c.in-Some.ensures.track.0) due_at in (
       walks_set m walks c.in-Some.turn.track c.count_turn.new.walk i.0 p.walk.walk,
       c.in_ok-pass.ensures.tracks ∙ i.1,
       p.store.file ∙ i.2,

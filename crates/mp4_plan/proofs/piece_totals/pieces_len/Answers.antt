@@ -12,7 +12,7 @@ use Rattle.mp4_plan.proofs.CarriedParts.{read_at}
 use Rattle.mp4_plan.proofs.PieceCounts.{piece_counts}
 use Rattle.mp4_plan.proofs.Planning.{walks_set}
 use Rattle.mp4_plan.proofs.PlannedTurns.{Adds, kept_there, has_turn, no_more, turn_leads, length_first, length_end, length_next, length_skips}
-use Rattle.mp4_plan.specs.words.Turns.{movie_turns, turned}
+use Rattle.mp4_plan.specs.words.Turns.{infos_left, movie_turns, turned}
 use Rattle.mp4_plan.specs.words.DueTracks.{IsDueAt}
 use Rattle.mp4_tables.specs.declared.sample.SampleAt.{SampleAt}
 use Rattle.mp4_plan.proofs.LooksOn.{begins_within, looks_on, looks_within}
@@ -49,7 +49,7 @@ loop-turn-init g c =
           all_within (g.S.Store.file c.args.store.now) tree c.peek_each.new.walks begin.0 (walks_steps tree) _ _ begin.2 (e.work told tree o begin.0 (rw c.as_mut_slice-all.ensures.value begin.1)),
       search rules,
       begins_within m.tracks c.new-schedule.result c.args.looks.now (rw c.tracks-tracks.ensures at c.new-schedule.ensures.tracks) (rw c.tracks-tracks.ensures at c.new-schedule.ensures.left) c.new-schedule.ensures.starts.0,
-      subst (λ (xs : List (Option SampleAt)). IsDueAt m.tracks xs c.new-schedule.result c.begin.new.due) (c.as_slice-2.ensures.value ∙ noted) (rw c.tracks-tracks.ensures at c.begin.ensures),
+      subst (λ (xs : List (Option SampleAt)). IsDueAt (infos_left c.args.leaving m.tracks) xs c.new-schedule.result c.begin.new.due) (c.as_slice-2.ensures.value ∙ noted) (rw c.tracks-tracks.ensures at c.begin.ensures),
       search rules,
       e.grows,
     )
@@ -92,7 +92,7 @@ loop-turn-preserved g c =
     let p = c.in_ok-planned.ensures in
     let bounds = p.bounds in
     let due_at = (rw c.tracks-tracks.ensures at c.in_ok-pass.ensures.due) nexts i.9.times in
-    let due_next = subst (λ k. IsDueAt m.tracks (slice_set nexts k c.plan_turn.new.next) c.pass.new.self c.pass.new.due) (sym c.in-Some.ensures.track.0) due_at in (
+    let due_next = subst (λ k. IsDueAt (infos_left c.args.leaving m.tracks) (slice_set nexts k c.plan_turn.new.next) c.pass.new.self c.pass.new.due) (sym c.in-Some.ensures.track.0) due_at in (
       walks_set m walks c.in-Some.turn.track c.plan_turn.new.walk i.0 p.walk.walk,
       c.in_ok-pass.ensures.tracks ∙ i.1,
       p.store.file ∙ i.2,

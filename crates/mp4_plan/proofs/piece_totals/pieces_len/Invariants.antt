@@ -2,7 +2,7 @@ use Rattle.std.specs.Prelude.{IsTrue}
 use Rattle.std.proofs.Common.{◌≡◌, ◌+◌, ◌≤◌, length}
 use Rattle.mp4_present.specs.format.Denotes.{FileTree}
 use Rattle.mp4_present.specs.words.OpenedMovie.{IsOpenedAs}
-use Rattle.mp4_plan.specs.words.Turns.{movie_turns, turns_left, IsSomeLeft}
+use Rattle.mp4_plan.specs.words.Turns.{IsSomeLeft, infos_left, movie_turns, turns_left}
 use Rattle.mp4_plan.specs.words.DueTracks.{IsDueAt}
 use Rattle.mp4_plan.specs.words.Writers.{AreWalksOf}
 use Rattle.mp4_plan.proofs.PlannedTurns.{IsLength}
@@ -21,7 +21,7 @@ invariant-loop-turn g l =
     × (IsTrue (g.S.Store.is_honest l.fn.store) → (tree : FileTree) → IsOpenedAs (g.S.Store.file l.fn.store) l.movie tree → IsLength l.leaving (g.S.Store.file l.fn.store) tree l.movie l.schedule l.walks.items l.nexts.items l.len)
     × (IsTrue (g.S.Store.is_honest l.fn.store) → (tree : FileTree) → IsOpenedAs (g.S.Store.file l.fn.store) l.movie tree → AllTakeOn (g.S.Store.file l.fn.store) tree (walks_steps tree) l.walks.items l.fn.steps l.steps)
     × (length l.nexts.items ≡ length l.movie.tracks) × (l.looks + turns_left l.schedule ≤ l.fn.looks + movie_turns l.movie)
-    × IsDueAt l.movie.tracks l.nexts.items l.schedule l.due × IsSomeLeft l.schedule × (l.fn.steps ≤ l.steps)
+    × IsDueAt (infos_left l.leaving l.movie.tracks) l.nexts.items l.schedule l.due × IsSomeLeft l.schedule × (l.fn.steps ≤ l.steps)
 
 abbrev pub decreases-loop-turn : goal.decreases-loop-turn
 decreases-loop-turn g l = turns_left l.schedule

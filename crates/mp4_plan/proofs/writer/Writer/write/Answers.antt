@@ -12,7 +12,7 @@ use Rattle.mp4_present.specs.declared.out_buffer.OutBuffer.{OutBuffer}
 use Rattle.mp4_present.specs.declared.track_info.TrackInfo.{TrackInfo}
 use Rattle.mp4_present.proofs.WalkCopied.{put_unchanged, on_ok, on_err, if_err}
 use Rattle.std.specs.Prelude.{Option, Some, slice_get}
-use Rattle.mp4_plan.specs.words.Turns.{movie_turns, turn_end, turned, Sticks}
+use Rattle.mp4_plan.specs.words.Turns.{Sticks, infos_left, movie_turns, turn_end, turned}
 use Rattle.mp4_plan.specs.format.Held.{rooms}
 use Rattle.mp4_plan.proofs.CarriedParts.{read_at}
 use Rattle.mp4_plan.proofs.PieceWritten.{IsFew}
@@ -23,6 +23,7 @@ use Rattle.mp4_plan.proofs.WriterTurns.{note_lacks, carry_stops, carry_lacks, pa
 use Rattle.mp4_plan.proofs.LooksOn.{begins_within, looks_on, looks_within}
 use Rattle.mp4_plan.proofs.SkippedTurns.{either}
 use Rattle.mp4_plan.proofs.StepsOn.{all_written, write_then_stop, turn_then, turn_then_stop}
+use Rattle.mp4_present.specs.format.Reduced.{timescale_left}
 use Rattle.mp4_plan.proofs.writer.Writer.write.Goals as goal
 
 pub returns-in_err-carry-clause-prefix : goal.returns-in_err-carry-clause-prefix
@@ -87,7 +88,7 @@ loop-turn-init g c =
       within = λ told tree o n may. rw walks (e.writes told tree o n (rw c.as_mut_slice-walks.ensures.value may));
       some = search rules;
       looks = begins_within c.args.movie.now.tracks c.new-schedule.result c.args.looks.now (rw c.tracks-tracks.ensures at c.new-schedule.ensures.tracks) (rw c.tracks-tracks.ensures at c.new-schedule.ensures.left) c.new-schedule.ensures.starts.0;
-      due = λ told tree o ready. subst (λ (xs : List (Option SampleAt)). IsDueAt c.args.movie.now.tracks xs c.new-schedule.result c.begin.new.due) c.as_slice-3.ensures.value (rw c.tracks-tracks.ensures at c.begin.ensures);
+      due = λ told tree o ready. subst (λ (xs : List (Option SampleAt)). IsDueAt (infos_left c.args.self.now.leaving c.args.movie.now.tracks) xs c.new-schedule.result c.begin.new.due) c.as_slice-3.ensures.value (rw c.tracks-tracks.ensures at c.begin.ensures);
       grows = e.grows;
     }
 
@@ -116,7 +117,7 @@ returns-in_err-noted-clause-unchanged g c told tree o ready =
     let before = c.args.sink.now in
     let after = c.loop-turn.sink in
     let here = c.in-Some.ensures.track in
-    let ends : (info : TrackInfo) → slice_get m.tracks s.track ≡ Some info → c.in-Some.turn.end ≡ turn_end s info.timescale = λ info is. c.in-Some.ensures.end info (rw c.tracks-tracks.ensures is) in
+    let ends : (info : TrackInfo) → slice_get m.tracks s.track ≡ Some info → c.in-Some.turn.end ≡ turn_end s (timescale_left c.args.self.now.leaving info.timescale) = λ info is. c.in-Some.ensures.end info (rw c.tracks-tracks.ensures is) in
     rw (e.1, e.2) (note_lacks c.args.self.now.leaving file tree m o s c.loop-turn.sequence c.loop-turn.bytes w g.met.K.Sink.takes_on before after h c.in-Some.turn here ends i.tracks i.writer i.leaving _ ((rw (i.honesty, i.file) at c.in_err-noted.ensures.unchanged) told tree o))
 
 pub returns-in_err-carry_turn-clause-prefix : goal.returns-in_err-carry_turn-clause-prefix
@@ -131,7 +132,7 @@ returns-in_err-carry_turn-clause-prefix g c told tree o ready =
     let before = c.args.sink.now in
     let after = c.loop-turn.sink in
     let here = c.in-Some.ensures.track in
-    let ends : (info : TrackInfo) → slice_get m.tracks s.track ≡ Some info → c.in-Some.turn.end ≡ turn_end s info.timescale = λ info is. c.in-Some.ensures.end info (rw c.tracks-tracks.ensures is) in
+    let ends : (info : TrackInfo) → slice_get m.tracks s.track ≡ Some info → c.in-Some.turn.end ≡ turn_end s (timescale_left c.args.self.now.leaving info.timescale) = λ info is. c.in-Some.ensures.end info (rw c.tracks-tracks.ensures is) in
     let noted = (rw (i.honesty, i.file) at c.in_ok-noted.ensures.noted) told tree o in
     let few : IsFew c.in_ok-noted.noted.planned = record { count = no_more _ _ _ c.in_ok-noted.ensures.planned.bounds.few i.writer.few; rows = c.in_ok-noted.ensures.planned.bounds.rows } in
     let is_id : (info : TrackInfo) → slice_get m.tracks s.track ≡ Some info
@@ -153,7 +154,7 @@ returns-in_err-carry_turn-clause-unchanged g c told tree o ready =
     let before = c.args.sink.now in
     let after = c.loop-turn.sink in
     let here = c.in-Some.ensures.track in
-    let ends : (info : TrackInfo) → slice_get m.tracks s.track ≡ Some info → c.in-Some.turn.end ≡ turn_end s info.timescale = λ info is. c.in-Some.ensures.end info (rw c.tracks-tracks.ensures is) in
+    let ends : (info : TrackInfo) → slice_get m.tracks s.track ≡ Some info → c.in-Some.turn.end ≡ turn_end s (timescale_left c.args.self.now.leaving info.timescale) = λ info is. c.in-Some.ensures.end info (rw c.tracks-tracks.ensures is) in
     let noted = (rw (i.honesty, i.file) at c.in_ok-noted.ensures.noted) told tree o in
     let few : IsFew c.in_ok-noted.noted.planned = record { count = no_more _ _ _ c.in_ok-noted.ensures.planned.bounds.few i.writer.few; rows = c.in_ok-noted.ensures.planned.bounds.rows } in
     let is_id : (info : TrackInfo) → slice_get m.tracks s.track ≡ Some info
@@ -176,7 +177,7 @@ returns-in_err-pass-clause-prefix g c told tree o ready =
     let before = c.args.sink.now in
     let after = c.loop-turn.sink in
     let here = c.in-Some.ensures.track in
-    let ends : (info : TrackInfo) → slice_get m.tracks s.track ≡ Some info → c.in-Some.turn.end ≡ turn_end s info.timescale = λ info is. c.in-Some.ensures.end info (rw c.tracks-tracks.ensures is) in
+    let ends : (info : TrackInfo) → slice_get m.tracks s.track ≡ Some info → c.in-Some.turn.end ≡ turn_end s (timescale_left c.args.self.now.leaving info.timescale) = λ info is. c.in-Some.ensures.end info (rw c.tracks-tracks.ensures is) in
     let noted = (rw (i.honesty, i.file) at c.in_ok-noted.ensures.noted) told tree o in
     let few : IsFew c.in_ok-noted.noted.planned = record { count = no_more _ _ _ c.in_ok-noted.ensures.planned.bounds.few i.writer.few; rows = c.in_ok-noted.ensures.planned.bounds.rows } in
     let is_id : (info : TrackInfo) → slice_get m.tracks s.track ≡ Some info
@@ -201,7 +202,7 @@ returns-in_err-pass-clause-unchanged g c told tree o ready =
     let before = c.args.sink.now in
     let after = c.loop-turn.sink in
     let here = c.in-Some.ensures.track in
-    let ends : (info : TrackInfo) → slice_get m.tracks s.track ≡ Some info → c.in-Some.turn.end ≡ turn_end s info.timescale = λ info is. c.in-Some.ensures.end info (rw c.tracks-tracks.ensures is) in
+    let ends : (info : TrackInfo) → slice_get m.tracks s.track ≡ Some info → c.in-Some.turn.end ≡ turn_end s (timescale_left c.args.self.now.leaving info.timescale) = λ info is. c.in-Some.ensures.end info (rw c.tracks-tracks.ensures is) in
     let noted = (rw (i.honesty, i.file) at c.in_ok-noted.ensures.noted) told tree o in
     let few : IsFew c.in_ok-noted.noted.planned = record { count = no_more _ _ _ c.in_ok-noted.ensures.planned.bounds.few i.writer.few; rows = c.in_ok-noted.ensures.planned.bounds.rows } in
     let is_id : (info : TrackInfo) → slice_get m.tracks s.track ≡ Some info
@@ -217,7 +218,8 @@ returns-in_err-pass-clause-unchanged g c told tree o ready =
     c.index.result.now copied read c.carry_turn.new.sink next put c.in_ok-carry_turn.ensures.writer.keeps refl in
     let stuck = with_times c.args.self.now.leaving file tree m o s c.loop-turn.sequence c.loop-turn.bytes w g.met.K.Sink.takes_on before after h c.in-Some.turn here ends i.tracks i.writer i.leaving c.note_turn.new.self c.in_ok-noted.noted there noted c.in_ok-noted.ensures.writer.keeps few is_id
     c.carry_turn.new.self c.index.result.now copied
-    read (λ (xs : List (Option SampleAt)). Sticks s c.in_ok-noted.noted.planned.count c.index.result.now ⊎ FindsMore m.tracks xs next c.pass.new.self c.pass.new.due) (i.due told tree o ready) c.in_ok-carry_turn.ensures.writer.keeps.2 (rw c.tracks-tracks.ensures at c.in_err-pass.ensures.sticks) in
+    read (λ (xs : List (Option SampleAt)). Sticks s c.in_ok-noted.noted.planned.count c.index.result.now ⊎ FindsMore (infos_left c.args.self.now.leaving m.tracks) xs next c.pass.new.self c.pass.new.due) (i.due told tree o ready) c.in_ok-carry_turn.ensures.writer.keeps.2
+        (rw c.tracks-tracks.ensures at c.in_err-pass.ensures.sticks) in
     rw (e.1, e.2)
     (λ r. either stuck
     (pass_lacks c.args.self.now.leaving file tree m o s c.loop-turn.sequence c.loop-turn.bytes w g.met.K.Sink.takes_on before after h c.in-Some.turn here ends i.tracks i.writer i.leaving c.note_turn.new.self c.in_ok-noted.noted there noted c.in_ok-noted.ensures.writer.keeps few is_id
@@ -261,7 +263,7 @@ loop-turn-preserved g c =
           let before = c.args.sink.now in
           let after = c.loop-turn.sink in
           let here = c.in-Some.ensures.track in
-          let ends : (info : TrackInfo) → slice_get m.tracks s.track ≡ Some info → c.in-Some.turn.end ≡ turn_end s info.timescale = λ info is. c.in-Some.ensures.end info (rw c.tracks-tracks.ensures is) in
+          let ends : (info : TrackInfo) → slice_get m.tracks s.track ≡ Some info → c.in-Some.turn.end ≡ turn_end s (timescale_left c.args.self.now.leaving info.timescale) = λ info is. c.in-Some.ensures.end info (rw c.tracks-tracks.ensures is) in
           let noted = (rw (i.honesty, i.file) at c.in_ok-noted.ensures.noted) told tree o in
           let few : IsFew c.in_ok-noted.noted.planned = record { count = no_more _ _ _ c.in_ok-noted.ensures.planned.bounds.few i.writer.few; rows = c.in_ok-noted.ensures.planned.bounds.rows } in
           let is_id : (info : TrackInfo) → slice_get m.tracks s.track ≡ Some info
@@ -275,7 +277,7 @@ loop-turn-preserved g c =
           let due_next =
           with_times c.args.self.now.leaving file tree m o s c.loop-turn.sequence c.loop-turn.bytes w
           g.met.K.Sink.takes_on before after h c.in-Some.turn here ends i.tracks i.writer i.leaving c.note_turn.new.self c.in_ok-noted.noted there noted c.in_ok-noted.ensures.writer.keeps few is_id c.carry_turn.new.self
-          c.index.result.now copied read (λ (xs : List (Option SampleAt)). IsDueAt m.tracks xs c.pass.new.self c.pass.new.due) (i.due told tree o ready) c.in_ok-carry_turn.ensures.writer.keeps.2 (rw c.tracks-tracks.ensures at c.in_ok-pass.ensures.due) in
+          c.index.result.now copied read (λ (xs : List (Option SampleAt)). IsDueAt (infos_left c.args.self.now.leaving m.tracks) xs c.pass.new.self c.pass.new.due) (i.due told tree o ready) c.in_ok-carry_turn.ensures.writer.keeps.2 (rw c.tracks-tracks.ensures at c.in_ok-pass.ensures.due) in
           rw (c.sequence_behind-sequence.ensures, c.from-bytes.ensures)
           (writes_skips c.args.self.now.leaving file tree m next c.pass.new.self _ _ _ _ _ _ _ c.pass.new.due o
           (turn_goes c.args.self.now.leaving file tree m o s c.loop-turn.sequence c.loop-turn.bytes w
@@ -291,7 +293,7 @@ loop-turn-preserved g c =
           let before = c.args.sink.now in
           let after = c.loop-turn.sink in
           let here = c.in-Some.ensures.track in
-          let ends : (info : TrackInfo) → slice_get m.tracks s.track ≡ Some info → c.in-Some.turn.end ≡ turn_end s info.timescale = λ info is. c.in-Some.ensures.end info (rw c.tracks-tracks.ensures is) in
+          let ends : (info : TrackInfo) → slice_get m.tracks s.track ≡ Some info → c.in-Some.turn.end ≡ turn_end s (timescale_left c.args.self.now.leaving info.timescale) = λ info is. c.in-Some.ensures.end info (rw c.tracks-tracks.ensures is) in
           let noted = (rw (i.honesty, i.file) at c.in_ok-noted.ensures.noted) told tree o in
           let few : IsFew c.in_ok-noted.noted.planned = record { count = no_more _ _ _ c.in_ok-noted.ensures.planned.bounds.few i.writer.few; rows = c.in_ok-noted.ensures.planned.bounds.rows } in
           let is_id : (info : TrackInfo) → slice_get m.tracks s.track ≡ Some info
@@ -302,7 +304,7 @@ loop-turn-preserved g c =
           let read : (x : Option SampleAt) → slice_get c.carry_turn.new.self.nexts.items c.in-Some.turn.track ≡ Some x → c.index.result.now ≡ x = λ x is. read_at c.carry_turn.new.self.nexts.items c.in-Some.turn.track x _ is c.index.ensures in
           with_times c.args.self.now.leaving file tree m o s c.loop-turn.sequence c.loop-turn.bytes w g.met.K.Sink.takes_on before after h c.in-Some.turn here ends i.tracks i.writer i.leaving c.note_turn.new.self c.in_ok-noted.noted there noted c.in_ok-noted.ensures.writer.keeps few is_id
           c.carry_turn.new.self c.index.result.now copied
-          read (λ (xs : List (Option SampleAt)). IsDueAt m.tracks xs c.pass.new.self c.pass.new.due) (i.due told tree o ready) c.in_ok-carry_turn.ensures.writer.keeps.2 (rw c.tracks-tracks.ensures at c.in_ok-pass.ensures.due);
+          read (λ (xs : List (Option SampleAt)). IsDueAt (infos_left c.args.self.now.leaving m.tracks) xs c.pass.new.self c.pass.new.due) (i.due told tree o ready) c.in_ok-carry_turn.ensures.writer.keeps.2 (rw c.tracks-tracks.ensures at c.in_ok-pass.ensures.due);
       within = λ told tree o n may.
           let w = c.loop-turn.self in
           let keep = c.in_ok-noted.ensures.writer.keeps.0 in
@@ -324,7 +326,7 @@ returns-clause-bytes g c told tree o ready =
     let h = i.on told tree o ready in
     let before = c.args.sink.now in
     let after = c.loop-turn.sink in
-    let none = turns_end file m.tracks s h.lefts h.comings h.turn (c.in_default.ensures.none refl) in
+    let none = turns_end file (infos_left c.args.self.now.leaving m.tracks) s h.lefts h.comings h.turn (c.in_default.ensures.none refl) in
     on_ok _ _ c.flush.result (λ x. all_put c.args.self.now.leaving file tree m s c.loop-turn.sequence c.loop-turn.bytes w.walks.items w.nexts.items (length w.rows.items) g.met.K.Sink.takes_on before after (waiting w.carrier) h _ none x) c.flush.ensures.bytes
 
 pub returns-clause-prefix : goal.returns-clause-prefix
@@ -337,7 +339,7 @@ returns-clause-prefix g c told tree o ready =
     let h = i.on told tree o ready in
     let before = c.args.sink.now in
     let after = c.loop-turn.sink in
-    let none = turns_end file m.tracks s h.lefts h.comings h.turn (c.in_default.ensures.none refl) in
+    let none = turns_end file (infos_left c.args.self.now.leaving m.tracks) s h.lefts h.comings h.turn (c.in_default.ensures.none refl) in
     on_err _ _ c.flush.result (λ x. not_all_put c.args.self.now.leaving file tree m s c.loop-turn.sequence c.loop-turn.bytes w.walks.items w.nexts.items (length w.rows.items) g.met.K.Sink.takes_on before after (waiting w.carrier) h _ none x) c.flush.ensures.prefix
 
 pub returns-clause-unchanged : goal.returns-clause-unchanged

@@ -3,7 +3,7 @@ use Rattle.std.specs.List.{sum_by}
 use Rattle.mp4_present.specs.words.Carried.{waiting}
 use Rattle.mp4_present.specs.declared.track_info.TrackInfo.{TrackInfo}
 use Rattle.mp4_plan.specs.words.PutPieces.{PiecesFollow}
-use Rattle.mp4_plan.specs.words.Turns.{movie_turns, turns_left, IsSomeLeft}
+use Rattle.mp4_plan.specs.words.Turns.{IsSomeLeft, infos_left, movie_turns, turns_left}
 use Rattle.mp4_plan.specs.words.DueTracks.{IsDueAt}
 use Rattle.mp4_plan.specs.words.MadeWriters.{OverOpened}
 use Rattle.mp4_plan.specs.words.Writers.{IsWriterOf, IsReady}
@@ -33,7 +33,7 @@ invariant-loop-turn g l = record {
       → WritesOn l.fn.self.leaving file tree l.movie l.schedule l.sequence l.bytes l.self.walks.items l.self.nexts.items (length l.self.rows.items) (g.K.Sink.takes l.fn.sink l.sink) (waiting l.self.carrier));
   within : OverOpened g.S.Store l.fn.store l.movie
       (λ file tree. (n : ℕ) → MayAllWrite file tree l.movie l.fn.self.walks.items n → AllWriteOn file tree l.movie n l.self.walks.items l.fn.steps l.steps);
-  due : OverOpened g.S.Store l.fn.store l.movie (λ file tree. IsReady file tree l.movie l.fn.self → IsDueAt l.movie.tracks l.self.nexts.items l.schedule l.self.due);
+  due : OverOpened g.S.Store l.fn.store l.movie (λ file tree. IsReady file tree l.movie l.fn.self → IsDueAt (infos_left l.fn.self.leaving l.movie.tracks) l.self.nexts.items l.schedule l.self.due);
   some : IsSomeLeft l.schedule;
   looks : l.looks + turns_left l.schedule ≤ l.fn.looks + movie_turns l.movie;
   grows : l.fn.steps ≤ l.steps;

@@ -10,10 +10,11 @@ returns-then-len-eq0 c same =
     let by = c.args.by.now in
     let x = c.args.left.now in
     let y = c.args.right.now in
+    let times = c.have_same_times.ensures (search rules) in
     let few : length by.keys.items ≤ 0 = search rules in
     let empty : by.keys.items ≡ [] = none_behind by.keys.items 0 few in
     record {
-      none = λ of. none_said by.leaving of by.keys.items by.left by.right x y (search rules) (search rules) (search rules) (search rules) (ap (λ (keys : List GroupKey). indexes_differ of keys by.left x.groups by.right y.groups) empty) (search rules);
+      none = λ of. none_said by.leaving of by.keys.items by.left by.right x y times.duration times.offset (search rules) (search rules) (ap (λ (keys : List GroupKey). indexes_differ of keys by.left x.groups by.right y.groups) empty) (search rules);
       size = search rules;
     }
 
@@ -22,7 +23,8 @@ returns c same =
     let by = c.args.by.now in
     let x = c.args.left.now in
     let y = c.args.right.now in
+    let times = c.have_same_times.ensures (search rules) in
     record {
-      none = λ of. none_said by.leaving of by.keys.items by.left by.right x y (search rules) (search rules) (search rules) (search rules) (c.have_same_indexes.ensures same of) (search rules);
+      none = λ of. none_said by.leaving of by.keys.items by.left by.right x y times.duration times.offset (search rules) (search rules) (c.have_same_indexes.ensures same of) (search rules);
       size = search rules;
     }

@@ -62,7 +62,7 @@ loop-track-preserved g c =
           let few = may.2 in
           let walk = (rw (i.honesty, i.file) at e.work) told tree t.0 may.0 o may.1 in
           track_next l file m tree known k o same head info h_at i_at style c.new-style.ensures joins sink c.loop-track.sink c.put_front.new.sink c.put_walk.new.sink held (waiting c.loop-track.desk.text) (waiting c.put_front.new.text) c.args.steps.now c.loop-track.steps (i.told told tree o same)
-          c.in_ok-put_front.ensures.all (waiting c.put_walk.new.desk.text) c.put_walk.new.steps lines.text.all (omega (arith, few, walk));
+          (rw c.start.ensures at c.in_ok-put_front.ensures.all) (waiting c.put_walk.new.desk.text) c.put_walk.new.steps lines.text.all (omega (arith, few, walk));
     }
 
 pub returns-in_err-put_front-clause-told : goal.returns-in_err-put_front-clause-told
@@ -93,7 +93,7 @@ returns-in_err-put_front-clause-told g c =
       lines = record {
         text = record {
           all = tt;
-          front = front_fails l file m tree known k o same head info h_at i_at style c.new-style.ensures joins sink c.loop-track.sink c.put_front.new.sink c.put_front.new.sink held (waiting c.loop-track.desk.text) held c.args.steps.now c.loop-track.steps h e.front;
+          front = front_fails l file m tree known k o same head info h_at i_at style c.new-style.ensures joins sink c.loop-track.sink c.put_front.new.sink c.put_front.new.sink held (waiting c.loop-track.desk.text) held c.args.steps.now c.loop-track.steps h (rw c.start.ensures at e.front);
         };
         unchanged = put_unchanged _ _ c.in_err-put_front.field-0.0 e.refusal;
       };
@@ -135,7 +135,7 @@ returns-in_err-put_walk-clause-told g c =
         text = record {
           all = tt;
           front = lines_fail l file m tree known k o same head info h_at i_at style c.new-style.ensures joins sink c.loop-track.sink c.put_front.new.sink c.put_walk.new.sink held (waiting c.loop-track.desk.text) (waiting c.put_front.new.text) c.args.steps.now c.loop-track.steps h
-              c.in_ok-put_front.ensures.all lines.text.front;
+              (rw c.start.ensures at c.in_ok-put_front.ensures.all) lines.text.front;
         };
         unchanged = lines.unchanged;
       };
