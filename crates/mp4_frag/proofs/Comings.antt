@@ -1,5 +1,5 @@
 -- The samples to come, from one place of a walk to the next.
-use Rattle.std.proofs.Common.{◌≡◌, ℕ, ◌-◌, ◌&&◌, Bool, true, false, cond, List, [], ◌∷◌, length, drop, nat_eq, refl, sym, ap, ◌∙◌, arith, Some, None}
+use Rattle.std.proofs.Common.{◌≡◌, ℕ, ◌+◌, ◌-◌, ◌&&◌, Bool, true, false, cond, List, [], ◌∷◌, length, drop, nat_eq, refl, sym, ap, ◌∙◌, arith, Some, None}
 use Rattle.std.specs.Prelude.{ℤ, codes, bytes_eq}
 use Rattle.std.specs.List.{slice_get}
 use Rattle.std.proofs.lemmas.Bool.Decides.{nat_tests}
@@ -7,8 +7,9 @@ use Rattle.mp4_boxes.specs.format.Box.{Box}
 use Rattle.mp4_tables.specs.format.Groups.{GroupKey}
 use Rattle.mp4_tables.specs.declared.sample.SampleAt.{SampleAt}
 use Rattle.mp4_frag.specs.format.Fragments.{RunRow}
-use Rattle.mp4_frag.specs.words.Walks.{Reached, at_first, part_of, boxes_from, boxes_coming, reached, rows_here, rows_coming, run_coming, runs_coming, names, are_named, with_head, with_leaves, with_group, coming, sample_of, behind_row, samples_in}
+use Rattle.mp4_frag.specs.words.Walks.{Reached, at_first, capped, part_of, boxes_from, boxes_coming, reached, rows_here, rows_coming, run_coming, runs_coming, names, are_named, with_head, with_leaves, with_group, coming, sample_of, behind_row, samples_in}
 use Rattle.mp4_frag.specs.declared.places.FragPlace.{FragPlace}
+use Rattle.mp4_frag.specs.declared.places.RowPlace.{RowPlace}
 use Rattle.mp4_frag.specs.declared.trex.Trex.{Trex}
 use Rattle.mp4_frag.proofs.BoxPlaces.{box_end, all_boxes}
 use Rattle.mp4_frag.proofs.RowsLeft.{no_rows, first_row, row_behind_first}
@@ -129,6 +130,11 @@ row_passed payload p q row e none on next =
 pub steps_apart : (payload : List ℕ) (p : FragPlace) (n : ℕ) → coming payload (record p { passed = n }) ≡ coming payload p
 unfolding coming
 steps_apart payload p n = refl
+
+-- nor does it matter how the time and the place were summed up
+pub sums_taken : (payload : List ℕ) (p : FragPlace) (run : RowPlace) (lasts bytes dts at : ℕ) → dts ≡ capped (p.dts + lasts) → at ≡ capped (p.at + bytes)
+    → coming payload (record p { run = run; dts = dts; at = at }) ≡ coming payload (record p { run = run; dts = capped (p.dts + lasts); at = capped (p.at + bytes) })
+sums_taken payload p run lasts bytes dts at d a = λ i. coming payload (record p { run = run; dts = d i; at = a i })
 
 -- a sample is to come, so a row is left
 pub some_left : (payload : List ℕ) (p : FragPlace) (s : SampleAt) → (p.run.left ≡ 0 → p.next ≡ length payload) → slice_get (coming payload p) 0 ≡ Some s → 0 < p.run.left

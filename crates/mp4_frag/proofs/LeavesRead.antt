@@ -1,6 +1,5 @@
 -- What a walk takes from the leaves of a `traf`.
 use Rattle.std.proofs.Common.{◌≡◌, ℕ, zero, suc, ◌+◌, ◌*◌, ◌<◌, ◌≤◌, drop, slice_index_or, slice_set, min, ◌&&◌, ◌==◌, Bool, true, false, List, [], ◌∷◌, length, map, Option, Some, None, nat_le, refl, sym, ap, ◌∙◌, rules, arith}
-use Rattle.std.specs.Prelude.{ℤ}
 use Rattle.std.specs.List.{slice_get}
 use Rattle.mp4_boxes.specs.format.Layout.{Leaf, tfhd, trun, sbgp, knows_version, knows_flags, needed, IsReadable}
 use Rattle.mp4_tables.specs.format.Groups.{GroupKey, key_of}
@@ -141,13 +140,13 @@ rows_taken payload inside end run width first h k r =
     ∙ (λ i. run_rows (count i) 1 (bits i) (drop (rows i) (part_of payload inside end)))
 
 -- its samples
-pub run_own : (s : Reached) (part : List ℕ) (run : Run) (at : ℤ) (rows : List RunRow) (more : Reached → List SampleAt) → IsRun part run → at ≡ begin s.base s.at run.data_offset → rows ≡ rows_of part
-    → rows_coming (record s { at = at }) run.first_flags rows more ≡ run_coming s part more
-run_own s part run at rows more r ea er =
+pub run_own : (s : Reached) (part : List ℕ) (run : Run) (number at : ℕ) (rows : List RunRow) (more : Reached → List SampleAt) → IsRun part run → number ≡ s.number → at ≡ begin s.base s.at run.data_offset → rows ≡ rows_of part
+    → rows_coming (record s { number = number; at = at }) run.first_flags rows more ≡ run_coming s part more
+run_own s part run number at rows more r en ea er =
     let there = read trun part r.readable in
     let from : at ≡ begin s.base s.at (sample_run_of part).data_offset = ea ∙ ap (begin s.base s.at) r.data_offset in
     let first = r.first_flags in
-    rw there (λ i. rows_coming (record s { at = from i }) (first i) (er i) more)
+    rw there (λ i. rows_coming (record s { number = en i; at = from i }) (first i) (er i) more)
 
 -- there is room for them
 pub run_room : (payload : List ℕ) (inside end : ℕ) (run : Run) → inside ≤ end → end ≤ length payload → IsRun (part_of payload inside end) run → inside + run.rows + run.count * row_room run.bits ≤ length payload

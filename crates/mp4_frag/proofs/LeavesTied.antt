@@ -13,7 +13,7 @@ use Rattle.mp4_tables.specs.format.Repeated.{repeated}
 use Rattle.mp4_tables.specs.words.Rows.{runs_at}
 use Rattle.mp4_tables.specs.words.Indexes.{low_half}
 use Rattle.mp4_frag.specs.format.Fragments.{track_fragment_of}
-use Rattle.mp4_frag.specs.words.Walks.{Reached, at_first, no_indexes, indexes_of, with_key, with_group, with_head, with_leaves, head_of, names, are_named}
+use Rattle.mp4_frag.specs.words.Walks.{Reached, at_first, first_byte, no_indexes, indexes_of, with_key, with_group, with_head, with_leaves, head_of, names, are_named}
 use Rattle.mp4_frag.specs.declared.trex.Trex.{Trex}
 use Rattle.mp4_frag.proofs.LeavesRead.{read}
 use Rattle.mp4_frag.proofs.RowsTied.{stand}
@@ -92,14 +92,14 @@ with_one_head trex keys s t (b ∷ boxes) lists n h =
     choice false false e f m k later = later lists (omega (arith, m)) k
 
 -- what the one `tfhd` says
-head_says : (trex : Trex) (base : ℤ) (number dts : ℕ) (payload : List ℕ) (lists : List (List ℕ)) → IsReadable tfhd payload → with_head trex (record (at_first base number dts) { indexes = lists }) payload ≡ stand (head_of payload) trex number dts base base lists
+head_says : (trex : Trex) (base : ℤ) (number dts : ℕ) (payload : List ℕ) (lists : List (List ℕ)) → IsReadable tfhd payload → with_head trex (record (at_first base number dts) { indexes = lists }) payload ≡ stand (head_of payload) trex number dts (first_byte base) base lists
 head_says trex base number dts payload lists r = let there = read tfhd payload r in rw there refl
 
 -- what goes for the samples of a `traf` with one `tfhd`
 pub leaves_tied : (trex : Trex) (keys : List GroupKey) (base : ℤ) (number dts : ℕ) (boxes : List Box) → count_among (codes "tfhd" ∷ []) boxes ≡ 1 → IsReadable tfhd (payload_of (codes "tfhd") boxes)
-    → with_leaves trex keys (at_first base number dts) boxes ≡ stand (track_fragment_of boxes) trex number dts base base (groups_taken keys no_indexes (of_kind (codes "sbgp") boxes))
+    → with_leaves trex keys (at_first base number dts) boxes ≡ stand (track_fragment_of boxes) trex number dts (first_byte base) base (groups_taken keys no_indexes (of_kind (codes "sbgp") boxes))
 leaves_tied trex keys base number dts boxes n r =
-    with_one_head trex keys (at_first base number dts) (stand (track_fragment_of boxes) trex number dts base base []) boxes no_indexes n (λ ls. head_says trex base number dts (payload_of (codes "tfhd") boxes) ls r)
+    with_one_head trex keys (at_first base number dts) (stand (track_fragment_of boxes) trex number dts (first_byte base) base []) boxes no_indexes n (λ ls. head_says trex base number dts (payload_of (codes "tfhd") boxes) ls r)
 
 -- ---- whose the `traf` is
 

@@ -1,6 +1,6 @@
 -- The samples of a run as a walk hands them out are those of the definition, with times and groups.
-use Rattle.std.proofs.Common.{◌≡◌, ℕ, zero, suc, ◌+◌, ◌-◌, ◌^◌, ◌<◌, ◌≤◌, ◌&&◌, ◌%◌, Bool, true, false, leb, List, [], ◌∷◌, ◌++◌, length, drop, map, Option, Some, None, get_or, refl, sym, ap, ◌∙◌, rules, arith}
-use Rattle.std.specs.Prelude.{ℤ, pos, negsuc, ◌+ℤ◌, unwrap_or, option_map, IfSome, slice_index}
+use Rattle.std.proofs.Common.{◌≡◌, ℕ, zero, suc, ◌+◌, ◌^◌, ◌<◌, ◌≤◌, ◌&&◌, ◌%◌, Bool, true, false, leb, List, [], ◌∷◌, ◌++◌, length, drop, map, Option, Some, None, get_or, refl, sym, ap, ◌∙◌, rules, arith}
+use Rattle.std.specs.Prelude.{ℤ, pos, ◌+ℤ◌, unwrap_or, option_map, IfSome, slice_index}
 use Rattle.std.proofs.lemmas.Bool.{leb-false, or_parts}
 use Rattle.std.proofs.lemmas.List.{get_or-drop, drop-drop}
 use Rattle.mp4_boxes.specs.format.Bytes.{width_of}
@@ -9,13 +9,13 @@ use Rattle.mp4_tables.specs.format.Groups.{GroupKey, Groups}
 use Rattle.mp4_tables.specs.format.PlainSamples.{PlacedSample, with_groups}
 use Rattle.mp4_tables.specs.format.TableRules.{lies_within}
 use Rattle.mp4_tables.specs.format.Tables.{composition_offset}
-use Rattle.mp4_tables.specs.words.Timed.{indexes, place_of, sample_at, timed}
+use Rattle.mp4_tables.specs.words.Timed.{indexes, sample_at, timed}
 use Rattle.mp4_tables.specs.declared.sample.SampleAt.{SampleAt}
 use Rattle.mp4_frag.specs.format.Fragments.{RunRow, TrackFragment, column, run_rows}
 use Rattle.mp4_frag.specs.format.FragmentSamples.{inherited, flags_of, run_samples}
 use Rattle.mp4_frag.specs.words.Passing.{within_from, end_from, lasting}
 use Rattle.mp4_frag.specs.words.Reading.{inheritance}
-use Rattle.mp4_frag.specs.words.Walks.{Reached, capped, held, first_byte, sample_of, next_number, rows_coming}
+use Rattle.mp4_frag.specs.words.Walks.{Reached, capped, sample_of, next_number, rows_coming}
 use Rattle.mp4_frag.specs.declared.trex.Trex.{Trex}
 use Rattle.mp4_frag.proofs.SamplesOfRows.{inherited_is}
 
@@ -47,14 +47,12 @@ pub both : (a b : Bool) → (a && b) ≡ true → (a ≡ true) × (b ≡ true)
 both true b e = (refl, e)
 both false b e = absurd cc
 
--- a sample in the file
-pub in_file : (L size : ℕ) (at : ℤ) → L < 2 ^ 64 → lies_within L at size ≡ true → (held (at +ℤ pos size) ≡ at +ℤ pos size) × (first_byte at ≡ place_of at)
-in_file L size (pos n) short lies =
+-- a sample in the file ends at a place of 64 bits
+in_file : (L size n : ℕ) → L < 2 ^ 64 → lies_within L (pos n) size ≡ true → capped (n + size) ≡ n + size
+in_file L size n short lies =
     let le : n + size ≤ L = search rules in
-    let low : n + size ≤ 2 ^ 127 - 1 = omega arith in
-    let small : n < 2 ^ 64 = omega arith in
-    (search rules, search rules)
-in_file L size (negsuc n) short lies = absurd cc
+    let low : n + size < 2 ^ 64 = omega arith in
+    search rules
 
 -- a time in 64 bits
 pub in_time : (time : ℕ) → time < 2 ^ 64 → capped time ≡ time
@@ -85,7 +83,7 @@ first_grouped (m ∷ maps) s samples e = refl
 -- ---- rows
 
 -- what goes for the samples of a `traf`
-abbrev pub stand : TrackFragment → Trex → ℕ → ℕ → ℤ → ℤ → List (List ℕ) → Reached
+abbrev pub stand : TrackFragment → Trex → ℕ → ℕ → ℕ → ℤ → List (List ℕ) → Reached
 stand traf trex number dts at base lists = record { number = number; dts = dts; at = at; base = base; inherited = inheritance traf trex; indexes = lists }
 
 abbrev pub size_of : TrackFragment → Trex → ℕ
@@ -93,6 +91,15 @@ size_of traf trex = unwrap_or traf.size trex.size
 
 abbrev pub lasts_of : TrackFragment → Trex → ℕ
 lasts_of traf trex = unwrap_or traf.duration trex.duration
+
+-- where data goes on behind rows whose data begins at a place
+abbrev pub end_at : ℕ → ℕ → List RunRow → ℕ
+end_at size n [] = n
+end_at size n (row ∷ rows) = end_at size (n + unwrap_or row.size size) rows
+
+pub end_at_is : (size n : ℕ) (rows : List RunRow) → end_from size (pos n) rows ≡ pos (end_at size n rows)
+end_at_is size n [] = refl
+end_at_is size n (row ∷ rows) = end_at_is size (n + unwrap_or row.size size) rows
 
 flags_alike : (first own head : Option ℕ) (last : ℕ) → flags_of first own None (unwrap_or head last) ≡ flags_of first own head last
 flags_alike (Some flags) own head last = refl
@@ -107,31 +114,30 @@ lists_passed k [] = refl
 lists_passed k (l ∷ lists) = let next : 1 + k ≡ suc k = omega arith in let one : drop k (drop 1 l) ≡ drop (suc k) l = drop-drop k 1 l ∙ ap (λ n. drop n l) next in let more = lists_passed k lists in λ i. one i ∷ more i
 
 -- the sample of a row
-sample_tied : (keys : List GroupKey) (L : ℕ) (traf : TrackFragment) (trex : Trex) (number dts : ℕ) (at : ℤ) (base : ℤ) (lists : List (List ℕ)) (first : Option ℕ) (row : RunRow) (maps : List Groups)
-    → L < 2 ^ 64 → AreShown keys lists maps → lies_within L at (unwrap_or row.size (size_of traf trex)) ≡ true
+sample_tied : (keys : List GroupKey) (traf : TrackFragment) (trex : Trex) (number dts at : ℕ) (base : ℤ) (lists : List (List ℕ)) (first : Option ℕ) (row : RunRow) (maps : List Groups)
+    → AreShown keys lists maps
     → sample_of (stand traf trex number dts at base lists) first row
     ≡ sample_at keys number dts (record {
       duration = inherited row.duration traf.duration trex.duration;
       offset = unwrap_or row.offset (pos 0);
       flags = flags_of first row.flags traf.flags trex.flags;
       description = unwrap_or traf.description trex.description;
-      at = at;
+      at = pos at;
       size = inherited row.size traf.size trex.size;
       groups = get_or maps 0 [];
     })
-sample_tied keys L traf trex number dts at base lists first row maps short shown lies =
+sample_tied keys traf trex number dts at base lists first row maps shown =
     let duration = sym (inherited_is row.duration traf.duration trex.duration) in
     let size = sym (inherited_is row.size traf.size trex.size) in
     let flags = flags_alike first row.flags traf.flags trex.flags in
-    let there = (in_file L (unwrap_or row.size (size_of traf trex)) at short lies).1 in
     let groups = shown 0 in
-    λ i. record { dts = dts; duration = duration i; cto = unwrap_or row.offset (pos 0); flags = flags i; description = unwrap_or traf.description trex.description; at = there i; size = size i; groups = groups i; number = number }
+    λ i. record { dts = dts; duration = duration i; cto = unwrap_or row.offset (pos 0); flags = flags i; description = unwrap_or traf.description trex.description; at = at; size = size i; groups = groups i; number = number }
 
 -- the samples of rows, and what comes behind them
-pub rows_tied : (keys : List GroupKey) (L : ℕ) (traf : TrackFragment) (trex : Trex) (number dts : ℕ) (at : ℤ) (base : ℤ) (lists : List (List ℕ)) (first : Option ℕ) (rows : List RunRow) (maps : List Groups) (more : Reached → List SampleAt)
-    → L < 2 ^ 64 → AreShown keys lists maps → within_from L (size_of traf trex) at rows ≡ true → number + length rows < 2 ^ 32 → dts + lasting (lasts_of traf trex) rows < 2 ^ 64
+pub rows_tied : (keys : List GroupKey) (L : ℕ) (traf : TrackFragment) (trex : Trex) (number dts at : ℕ) (base : ℤ) (lists : List (List ℕ)) (first : Option ℕ) (rows : List RunRow) (maps : List Groups) (more : Reached → List SampleAt)
+    → L < 2 ^ 64 → AreShown keys lists maps → within_from L (size_of traf trex) (pos at) rows ≡ true → number + length rows < 2 ^ 32 → dts + lasting (lasts_of traf trex) rows < 2 ^ 64
     → rows_coming (stand traf trex number dts at base lists) first rows more
-    ≡ timed keys number dts (with_groups maps (run_samples trex traf first at rows)) ++ more (stand traf trex (number + length rows) (dts + lasting (lasts_of traf trex) rows) (end_from (size_of traf trex) at rows) base (map (drop (length rows)) lists))
+    ≡ timed keys number dts (with_groups maps (run_samples trex traf first (pos at) rows)) ++ more (stand traf trex (number + length rows) (dts + lasting (lasts_of traf trex) rows) (end_at (size_of traf trex) at rows) base (map (drop (length rows)) lists))
 rows_tied keys L traf trex number dts at base lists first [] maps more short shown within room fits =
     let none : with_groups maps [] ≡ [] = no_samples maps in
     let next : number ≡ number + 0 = omega arith in
@@ -145,28 +151,28 @@ rows_tied keys L traf trex number dts at base lists first [] maps more short sho
 rows_tied keys L traf trex number dts at base lists first (row ∷ rows) maps more short shown within room fits =
     let size = unwrap_or row.size (size_of traf trex) in
     let lasts = unwrap_or row.duration (lasts_of traf trex) in
-    let parts = both (lies_within L at size) (within_from L (size_of traf trex) (at +ℤ pos size) rows) within in
-    let one = sample_tied keys L traf trex number dts at base lists first row maps short shown parts.0 in
+    let parts = both (lies_within L (pos at) size) (within_from L (size_of traf trex) (pos (at + size)) rows) within in
+    let one = sample_tied keys traf trex number dts at base lists first row maps shown in
     let next : next_number number ≡ number + 1 = omega (arith, room) in
     let last : number + 1 + length rows ≡ number + suc (length rows) = omega arith in
     let time : capped (dts + lasts) ≡ dts + lasts = in_time (dts + lasts) (omega arith) in
-    let place = (in_file L size at short parts.0).0 in
+    let place = in_file L size at short parts.0 in
     let whole : dts + lasts + lasting (lasts_of traf trex) rows ≡ dts + (lasts + lasting (lasts_of traf trex) rows) = omega arith in
     let passed = lists_passed (length rows) lists in
     let duration = inherited_is row.duration traf.duration trex.duration in
     let width = inherited_is row.size traf.size trex.size in
-    let others = rows_tied keys L traf trex (number + 1) (dts + lasts) (at +ℤ pos size) base (map (drop 1) lists) None rows (drop 1 maps) more short (shown_later keys 1 lists maps shown) parts.1 (omega (arith, room)) (omega arith) in
+    let others = rows_tied keys L traf trex (number + 1) (dts + lasts) (at + size) base (map (drop 1) lists) None rows (drop 1 maps) more short (shown_later keys 1 lists maps shown) parts.1 (omega (arith, room)) (omega arith) in
     let grouped = first_grouped maps (record {
       duration = inherited row.duration traf.duration trex.duration;
       offset = unwrap_or row.offset (pos 0);
       flags = flags_of first row.flags traf.flags trex.flags;
       description = unwrap_or traf.description trex.description;
-      at = at;
+      at = pos at;
       size = inherited row.size traf.size trex.size;
       groups = [];
     })
-    (run_samples trex traf None (at +ℤ pos (inherited row.size traf.size trex.size)) rows) refl in
+    (run_samples trex traf None (pos at +ℤ pos (inherited row.size traf.size trex.size)) rows) refl in
     (λ i. one i ∷ rows_coming (stand traf trex (next i) (time i) (place i) base (map (drop 1) lists)) None rows more)
     ∙ (λ i. one 1 ∷ others i)
-    ∙ (λ i. one 1 ∷ (timed keys (number + 1) (dts + sym duration i) (with_groups (drop 1 maps) (run_samples trex traf None (at +ℤ pos (sym width i)) rows)) ++ more (stand traf trex (last i) (whole i) (end_from (size_of traf trex) (at +ℤ pos size) rows) base (passed i))))
-    ∙ ap (λ (ss : List PlacedSample). timed keys number dts ss ++ more (stand traf trex (number + suc (length rows)) (dts + (lasts + lasting (lasts_of traf trex) rows)) (end_from (size_of traf trex) (at +ℤ pos size) rows) base (map (drop (suc (length rows))) lists))) (sym grouped)
+    ∙ (λ i. one 1 ∷ (timed keys (number + 1) (dts + sym duration i) (with_groups (drop 1 maps) (run_samples trex traf None (pos at +ℤ pos (sym width i)) rows)) ++ more (stand traf trex (last i) (whole i) (end_at (size_of traf trex) (at + size) rows) base (passed i))))
+    ∙ ap (λ (ss : List PlacedSample). timed keys number dts ss ++ more (stand traf trex (number + suc (length rows)) (dts + (lasts + lasting (lasts_of traf trex) rows)) (end_at (size_of traf trex) (at + size) rows) base (map (drop (suc (length rows))) lists))) (sym grouped)

@@ -1,16 +1,18 @@
 -- The rows of a run from one to the next.
-use Rattle.std.proofs.Common.{◌≡◌, ℕ, suc, ◌+◌, ◌-◌, ◌*◌, ◌<◌, ◌≤◌, List, [], ◌∷◌, drop, Bool, true, false, ◌||◌, ◌^◌, nat_le, Option, Some, None, refl, sym, ap, ◌∙◌, to_z, of_z, rules, arith}
-use Rattle.std.specs.Prelude.{unwrap_or, ℤ, pos, negsuc, ◌+ℤ◌}
+use Rattle.std.proofs.Common.{◌≡◌, ℕ, zero, suc, ◌==◌, ◌+◌, ◌-◌, ◌*◌, ◌<◌, ◌≤◌, List, [], ◌∷◌, drop, Bool, true, false, ◌||◌, ◌^◌, nat_le, Option, Some, None, refl, sym, ap, ◌∙◌, to_z, of_z, rules, arith}
+use Rattle.std.specs.Prelude.{unwrap_or, ℤ, pos, ◌+ℤ◌}
 use Rattle.mp4_tables.specs.format.TableRules.{lies_within}
 use Rattle.std.specs.Int.{w128}
 use Rattle.std.proofs.lemmas.Int.{to_z-of_z}
 use Rattle.std.proofs.lemmas.List.{drop-drop}
 use Rattle.mp4_boxes.specs.format.Layout.{column_values, sample_columns, too_large}
 use Rattle.mp4_frag.specs.words.ColumnsRead.{row_room}
-use Rattle.mp4_frag.specs.format.Fragments.{RunRow}
+use Rattle.mp4_frag.specs.format.Fragments.{RunRow, run_rows}
 use Rattle.mp4_frag.specs.words.Reading.{row_values}
-use Rattle.mp4_frag.specs.words.Passing.{rows_left, offsets_left, bytes_left, row_seen, IsNear, IsNearer, within_from, end_from, lasting, filling}
+use Rattle.mp4_frag.specs.words.Passing.{AreSamplesOf, rows_left, offsets_left, bytes_left, row_seen, run_version, IsNear, IsNearer, within_from, end_from, lasting, filling}
 use Rattle.mp4_frag.specs.declared.run_rows.Row.{Row}
+use Rattle.mp4_frag.specs.declared.sample_runs.Judged.{Judged}
+use Rattle.mp4_frag.specs.declared.sample_runs.Samples.{Samples}
 use Rattle.mp4_frag.specs.declared.trun.Run.{Run}
 
 -- one less is left behind a row
@@ -80,13 +82,40 @@ pub or_before : (a b c all : Bool) → all ≡ (a || (b || c)) → all ≡ ((a |
 or_before true b c all e = e
 or_before false b c all e = e
 
--- data that lies in a file ends at a place that is near
-pub near_within : (length size : ℕ) (at : ℤ) → length < 2 ^ 64 → lies_within length at size ≡ true → IsNear (at +ℤ pos size)
-near_within length size (pos n) short lies =
-    let le : n + size ≤ length = search rules in
-    let low : n + size ≤ 2 ^ 100 = omega arith in
-    (search rules, search rules)
-near_within length size (negsuc n) short lies = absurd cc
+-- a sample lies in a file that has as many bytes left behind its place
+pub fits_left : (length left size : ℕ) → size ≤ left → left ≤ length → lies_within length (pos (length - left)) size ≡ true
+fits_left length left size fits within = let le : length - left + size ≤ length = omega arith in search rules
+
+pub left_behind : (length left size less : ℕ) → size ≤ left → left ≤ length → less ≡ left - size → pos (length - less) ≡ pos (length - left) +ℤ pos size
+left_behind length left size less fits within e = ap pos (omega arith)
+
+-- no sample lies in a file that ends before its place
+none_in : (length size : ℕ) (at : ℤ) (n v bits : ℕ) (bytes : List ℕ) → ((long : ℕ) → lies_within length at long ≡ false) → within_from length size at (run_rows n v bits bytes) ≡ (n == 0)
+none_in length size at zero v bits bytes out = refl
+none_in length size at (suc n) v bits bytes out = let some : (suc n == 0) ≡ false = search rules in rw (out _, some) refl
+
+pub none_within : (length size : ℕ) (at : ℤ) (payload : List ℕ) (run : Run) → ((long : ℕ) → lies_within length at long ≡ false) → within_from length size at (rows_left payload run 0) ≡ (run.count == 0)
+unfolding rows_left
+none_within length size at payload run out =
+    let all : run.count - 0 ≡ run.count = omega arith in
+    none_in length size at (run.count - 0) (run_version run) run.bits (bytes_left payload run 0) out ∙ ap (λ n. n == 0) all
+
+-- so where no row is there nothing was passed
+pub none_taken : (judged : Judged) (at : ℤ) (payload : List ℕ) (run : Run) (s : Samples) → s ≡ record { end = at; duration = 0; bytes = 0; are_within = run.count == 0; are_large = false } → s.are_within ≡ true → AreSamplesOf judged at payload run s
+none_taken judged at payload run s e within =
+    let no : (run.count == 0) ≡ true = sym (ap (λ (s : Samples). s.are_within) e) ∙ within in
+    let count : run.count ≤ 0 = search (rules, no) in
+    let rows = rows_none payload run 0 count in
+    let offsets = offsets_none payload run 0 count in
+    record {
+      end = ap (λ (s : Samples). s.end) e ∙ sym (ap (end_from judged.inherited.size at) rows);
+      duration = ap (λ (s : Samples). s.duration) e ∙ sym (ap (lasting judged.inherited.duration) rows);
+      bytes = ap (λ (s : Samples). s.bytes) e ∙ sym (ap (filling judged.inherited.size) rows);
+      large = ap (λ (s : Samples). s.are_large) e ∙ sym (ap too_large offsets);
+    }
+
+pub fills_on : (a l d b u e f : ℕ) → a + l ≡ d + b → b ≡ u + e → f ≡ u → u ≤ l → a + (l - f) ≡ d + e
+fills_on a l d b u e f x y z le = omega arith
 
 pub lasts_on : (a d b u e f : ℕ) → a ≡ d + b → b ≡ u + e → f ≡ u → a ≡ d + f + e
 lasts_on a d b u e f x y z = omega arith

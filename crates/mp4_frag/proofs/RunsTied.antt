@@ -9,18 +9,18 @@ use Rattle.mp4_boxes.specs.format.Layout.{trun, version, flags, row_count, run_o
 use Rattle.mp4_tables.specs.format.Groups.{GroupKey, Groups}
 use Rattle.mp4_tables.specs.format.PlainSamples.{PlacedSample, with_groups}
 use Rattle.mp4_tables.specs.format.TableRules.{lies_within}
-use Rattle.mp4_tables.specs.words.Timed.{timed, sample_at}
+use Rattle.mp4_tables.specs.words.Timed.{place_of, timed, sample_at}
 use Rattle.mp4_tables.specs.declared.sample.SampleAt.{SampleAt}
 use Rattle.mp4_frag.specs.words.ColumnsRead.{rows_from}
 use Rattle.mp4_frag.specs.format.Fragments.{RunRow, SampleRun, TrackFragment, sample_run_of, run_rows}
 use Rattle.mp4_frag.specs.format.FragmentSamples.{run_samples, run_start, runs_samples, end_of_data, duration_of, bytes_of}
 use Rattle.mp4_frag.specs.format.FragmentRules.{is_within}
 use Rattle.mp4_frag.specs.words.Passing.{lasting, within_from, end_from}
-use Rattle.mp4_frag.specs.words.Walks.{Reached, begin, held, rows_of, rows_coming, run_coming, runs_coming}
+use Rattle.mp4_frag.specs.words.Walks.{Reached, begin, first_byte, held, rows_of, rows_coming, run_coming, runs_coming}
 use Rattle.mp4_frag.specs.declared.trex.Trex.{Trex}
 use Rattle.mp4_frag.proofs.LeavesRead.{read}
 use Rattle.mp4_frag.proofs.SamplesOfRows.{within_is, lasting_is, end_is}
-use Rattle.mp4_frag.proofs.RowsTied.{both, rows_alike, rows_tied, AreShown, shown_later, stand, size_of, lasts_of}
+use Rattle.mp4_frag.proofs.RowsTied.{both, rows_alike, rows_tied, AreShown, shown_later, stand, size_of, lasts_of, end_at, end_at_is}
 
 -- ---- one run
 
@@ -35,16 +35,23 @@ unfolding rows_of
 same_rows payload s = rows_of_two (version payload) (row_count trun payload) (flags payload) (drop (rows_from (flags payload)) payload) s.readable.version s.offsets
 
 -- a place that is held where the definition has another: the same, if that one can be one in a file
-abbrev pub IsHeldFor : ℤ → ℤ → Type 0
-IsHeldFor kept at = (n : ℕ) → at ≡ pos n → n < 2 ^ 64 → kept ≡ pos n
+abbrev pub IsHeldFor : ℕ → ℤ → Type 0
+IsHeldFor kept at = (n : ℕ) → at ≡ pos n → n < 2 ^ 64 → kept ≡ n
 
 held_small : (n : ℕ) → n < 2 ^ 64 → held (pos n) ≡ pos n
 held_small n h = let low : n ≤ 2 ^ 127 - 1 = omega arith in search rules
 
+first_small : (n : ℕ) → n < 2 ^ 64 → first_byte (pos n) ≡ n
+first_small n h = search rules
+
+-- so is the base of runs
+pub base_held : (base : ℤ) → IsHeldFor (first_byte base) base
+base_held base n e small = ap first_byte e ∙ first_small n small
+
 -- where a run begins
-begin_held : (base kept before : ℤ) (offset : Option ℤ) → IsHeldFor kept before → IsHeldFor (begin base kept offset) (run_start base before offset)
+begin_held : (base : ℤ) (kept : ℕ) (before : ℤ) (offset : Option ℤ) → IsHeldFor kept before → IsHeldFor (begin base kept offset) (run_start base before offset)
 begin_held base kept before None h n e small = h n e small
-begin_held base kept before (Some offset) h n e small = ap held e ∙ held_small n small
+begin_held base kept before (Some offset) h n e small = ap (λ z. first_byte (held z)) e ∙ ap first_byte (held_small n small) ∙ first_small n small
 
 -- a sample in the file begins at such a place
 begins_in : (L size : ℕ) (at : ℤ) → L < 2 ^ 64 → lies_within L at size ≡ true → (n : ℕ) × (at ≡ pos n) × (n < 2 ^ 64)
@@ -64,25 +71,30 @@ abbrev pub samples_of_run : TrackFragment → Trex → ℤ → ℤ → List ℕ 
 samples_of_run traf trex base before payload = run_samples trex traf (sample_run_of payload).first_sample_flags (start_of_run base before payload) (sample_run_of payload).rows
 
 -- the samples of rows from such a place on, and what comes behind them, from another
-rows_held : (keys : List GroupKey) (L : ℕ) (traf : TrackFragment) (trex : Trex) (number dts : ℕ) (kept at base : ℤ) (lists : List (List ℕ)) (first : Option ℕ) (rows : List RunRow) (maps : List Groups) (more : Reached → List SampleAt)
+rows_held : (keys : List GroupKey) (L : ℕ) (traf : TrackFragment) (trex : Trex) (number dts kept : ℕ) (at base : ℤ) (lists : List (List ℕ)) (first : Option ℕ) (rows : List RunRow) (maps : List Groups) (more : Reached → List SampleAt)
     → L < 2 ^ 64 → IsHeldFor kept at → AreShown keys lists maps → within_from L (size_of traf trex) at rows ≡ true → number + length rows < 2 ^ 32 → dts + lasting (lasts_of traf trex) rows < 2 ^ 64
-    → (to : ℤ) × (IsHeldFor to (end_from (size_of traf trex) at rows))
+    → (to : ℕ) × (IsHeldFor to (end_from (size_of traf trex) at rows))
     × (rows_coming (stand traf trex number dts kept base lists) first rows more
     ≡ timed keys number dts (with_groups maps (run_samples trex traf first at rows)) ++ more (stand traf trex (number + length rows) (dts + lasting (lasts_of traf trex) rows) to base (map (drop (length rows)) lists)))
 rows_held keys L traf trex number dts kept at base lists first [] maps more short held_at shown within room fits = (kept, held_at, rows_tied keys L traf trex number dts kept base lists first [] maps more short shown refl room fits)
 rows_held keys L traf trex number dts kept at base lists first (row ∷ rows) maps more short held_at shown within room fits =
     let size = unwrap_or row.size (size_of traf trex) in
     let there = begins_in L size at short (both (lies_within L at size) (within_from L (size_of traf trex) (at +ℤ pos size) rows) within).0 in
-    let same : kept ≡ at = held_at there.0 there.1 there.2 ∙ sym there.1 in (
-      end_from (size_of traf trex) at (row ∷ rows),
-      (λ n e small. e),
-      ap (λ (z : ℤ). rows_coming (stand traf trex number dts z base lists) first (row ∷ rows) more) same ∙ rows_tied keys L traf trex number dts at base lists first (row ∷ rows) maps more short shown within room fits,
+    let n = there.0 in
+    let same : kept ≡ n = held_at n there.1 there.2 in
+    let end = end_at (size_of traf trex) n (row ∷ rows) in
+    let ends : end_from (size_of traf trex) at (row ∷ rows) ≡ pos end = ap (λ z. end_from (size_of traf trex) z (row ∷ rows)) there.1 ∙ end_at_is (size_of traf trex) n (row ∷ rows) in
+    let inside : within_from L (size_of traf trex) (pos n) (row ∷ rows) ≡ true = ap (λ z. within_from L (size_of traf trex) z (row ∷ rows)) (sym there.1) ∙ within in (
+      end,
+      (λ m e small. ap place_of (sym ends ∙ e)),
+      ap (λ z. rows_coming (stand traf trex number dts z base lists) first (row ∷ rows) more) same ∙ rows_tied keys L traf trex number dts n base lists first (row ∷ rows) maps more short shown inside room fits
+          ∙ ap (λ z. timed keys number dts (with_groups maps (run_samples trex traf first z (row ∷ rows))) ++ more (stand traf trex (number + length (row ∷ rows)) (dts + lasting (lasts_of traf trex) (row ∷ rows)) end base (map (drop (length (row ∷ rows))) lists))) (sym there.1),
     )
 
 -- the samples of a run, and what comes behind them
-run_tied : (keys : List GroupKey) (L : ℕ) (traf : TrackFragment) (trex : Trex) (number dts : ℕ) (kept at base : ℤ) (lists : List (List ℕ)) (payload : List ℕ) (maps : List Groups) (more : Reached → List SampleAt)
+run_tied : (keys : List GroupKey) (L : ℕ) (traf : TrackFragment) (trex : Trex) (number dts kept : ℕ) (at base : ℤ) (lists : List (List ℕ)) (payload : List ℕ) (maps : List Groups) (more : Reached → List SampleAt)
     → L < 2 ^ 64 → IsHeldFor kept at → IsSound trun payload → AreShown keys lists maps → is_within L (samples_of_run traf trex base at payload) ≡ true → number + length (samples_of_run traf trex base at payload) < 2 ^ 32 → dts + duration_of (samples_of_run traf trex base at payload) < 2 ^ 64
-    → (to : ℤ) × (IsHeldFor to (end_of_data (start_of_run base at payload) (samples_of_run traf trex base at payload)))
+    → (to : ℕ) × (IsHeldFor to (end_of_data (start_of_run base at payload) (samples_of_run traf trex base at payload)))
     × (run_coming (stand traf trex number dts kept base lists) payload more
     ≡ timed keys number dts (with_groups maps (samples_of_run traf trex base at payload))
     ++ more (stand traf trex (number + length (samples_of_run traf trex base at payload)) (dts + duration_of (samples_of_run traf trex base at payload)) to base (map (drop (length (samples_of_run traf trex base at payload))) lists)))
@@ -175,7 +187,7 @@ AreWithin L traf trex base at runs = AllByRecursion (λ samples. IsTrue (is_with
 -- what is so of boxes that hold these runs
 abbrev Tied : List GroupKey → ℕ → TrackFragment → Trex → ℤ → List Box → List Box → Type 0
 Tied keys L traf trex base boxes runs =
-    (number dts : ℕ) (kept at : ℤ) (lists : List (List ℕ)) (maps : List Groups) → IsHeldFor kept at → AllByRecursion (λ (b : Box). IsSound trun b.payload) runs → AreShown keys lists maps → AreWithin L traf trex base at runs
+    (number dts kept : ℕ) (at : ℤ) (lists : List (List ℕ)) (maps : List Groups) → IsHeldFor kept at → AllByRecursion (λ (b : Box). IsSound trun b.payload) runs → AreShown keys lists maps → AreWithin L traf trex base at runs
     → number + length (samples_of_runs traf trex base at runs) < 2 ^ 32 → dts + duration_of (samples_of_runs traf trex base at runs) < 2 ^ 64
     → runs_coming (stand traf trex number dts kept base lists) boxes ≡ timed keys number dts (with_groups maps (samples_of_runs traf trex base at runs))
 

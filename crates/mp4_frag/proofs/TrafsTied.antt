@@ -20,14 +20,14 @@ use Rattle.mp4_frag.specs.format.Fragments.{TrackFragment, track_fragment_of}
 use Rattle.mp4_frag.specs.format.FragmentSamples.{trex_for, runs_samples, duration_of}
 use Rattle.mp4_frag.specs.format.FragmentRules.{is_within}
 use Rattle.mp4_frag.specs.words.Judged.{AreTrexesOf}
-use Rattle.mp4_frag.specs.words.Walks.{Reached, at_first, boxes_in, no_indexes, are_named, with_leaves, runs_coming, boxes_coming, samples_in, trex_among}
+use Rattle.mp4_frag.specs.words.Walks.{Reached, at_first, first_byte, boxes_in, no_indexes, are_named, with_leaves, runs_coming, boxes_coming, samples_in, trex_among}
 use Rattle.mp4_frag.specs.declared.state.TrackState.{TrackState}
 use Rattle.mp4_frag.specs.declared.trex.Trex.{Trex}
 use Rattle.mp4_frag.proofs.BoxesMoved.{traf_moved}
 use Rattle.mp4_frag.proofs.GroupsTied.{KeepRules, groups_shown, rules_differ, rules_few, rules_small}
 use Rattle.mp4_frag.proofs.LeavesTied.{groups_taken, groups_are, leaves_tied, named_tied}
 use Rattle.mp4_frag.proofs.RowsTied.{AreShown}
-use Rattle.mp4_frag.proofs.RunsTied.{samples_of_runs, runs_tied}
+use Rattle.mp4_frag.proofs.RunsTied.{base_held, samples_of_runs, runs_tied}
 
 -- ---- the defaults of a track
 
@@ -90,7 +90,7 @@ traf_tied keys L id n number dts base b boxes trex short few distinct holds soun
     let shown : AreShown keys lists (maps_of n traf.groups) = λ i. ap (λ (ls : List (List ℕ)). map (λ l. slice_index l i) ls) taken_is ∙ groups_shown keys n traf.groups few distinct (rules_differ n traf.groups kept) (rules_few n traf.groups kept) i in
     let own : are_named id false boxes ≡ true = named_tied id boxes good.one_head good.head ∙ search (rules, same) in
     let leaves = leaves_tied trex keys base number dts boxes good.one_head good.head in
-    let runs = runs_tied keys L traf trex base boxes short number dts base base lists (maps_of n traf.groups) (λ k e small. e) good.runs shown within room fits in
+    let runs = runs_tied keys L traf trex base boxes short number dts (first_byte base) base lists (maps_of n traf.groups) (base_held base) good.runs shown within room fits in
     traf_moved base id trex number dts keys 0 (b.offset + b.header) b.payload
     ∙ ap (boxes_coming base id trex number dts keys) (inside_is b boxes holds)
     ∙ ap (λ v. cond v (runs_coming (with_leaves trex keys (at_first base number dts) boxes) boxes) []) own

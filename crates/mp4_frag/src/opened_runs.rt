@@ -5,7 +5,7 @@ ghost use Rattle.mp4_boxes.specs.format.Layout.{column_values, sample_columns};
 ghost use Rattle.mp4_frag.specs.words.ColumnsRead.{row_room};
 ghost use Rattle.mp4_frag.specs.words.Reading.{SaysRow};
 ghost use Rattle.mp4_frag.specs.words.PlacesIn.{row_behind, IsBoxIn, bytes_inside, left_coming, LiesIn, IsPlaceIn, IsRowPlace, SameToCome, run_work, work_behind, traf_work};
-ghost use Rattle.mp4_frag.specs.words.Walks.{Reached, rows_here, row_signed, run_coming, reached, begin as begin_by};
+ghost use Rattle.mp4_frag.specs.words.Walks.{Reached, first_byte, rows_here, row_signed, run_coming, reached, begin as begin_by};
 
 use crate::box_places::{Lying, box_at};
 use crate::check::TRUN;
@@ -53,12 +53,19 @@ pub(crate) fn next_row(run: RowPlace) -> RowPlace
     }
 }
 
+/// A place in a file, the last one where 64 bits have none for it.
+pub(crate) fn file_place(at: i128) -> u64
+    ensures { result ≡ first_byte at }
+{
+    u64::try_from(at).unwrap_or(u64::MAX)
+}
+
 // Where a run begins: at its offset from the base, else where the data before it ends.
-fn begin(base: i128, before: i128, data_offset: Option<i32>) -> i128
+fn begin(base: i128, before: u64, data_offset: Option<i32>) -> u64
     ensures { result ≡ begin_by base before data_offset }
 {
     match data_offset {
-        Some(offset) => base.saturating_add(i128::from(offset)),
+        Some(offset) => file_place(base.saturating_add(i128::from(offset))),
         None => before,
     }
 }
@@ -83,6 +90,7 @@ fn open_run(payload: &[u8], lying: Lying, place: &mut FragPlace)
     let Ok(run) = read_run(&payload[lying.inside..lying.end]) else {
         return;
     };
+    place.number = place.number.saturating_add(u64::from(run.count));
     place.at = begin(place.base, place.at, run.data_offset);
     place.run = RowPlace {
         row: lying.inside + run.rows,

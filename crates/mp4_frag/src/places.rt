@@ -18,11 +18,12 @@ pub(crate) struct RowPlace {
 /// A place in a `traf`: which samples come next.
 #[derive(Clone, Copy)]
 pub struct FragPlace {
-    /// How many samples of the track come before the next one, its decode time, and where its data
-    /// begins.
-    pub(crate) number: u32,
+    /// How many samples of the track come before those behind the run: so the rows left say the
+    /// number of the next one.
+    pub(crate) number: u64,
+    /// The decode time of the next sample, and where its data begins.
     pub(crate) dts: u64,
-    pub(crate) at: i128,
+    pub(crate) at: u64,
     /// Where the next box begins in the payload of the `traf`.
     pub(crate) next: usize,
     /// Where the runs are counted from, and what they inherit.

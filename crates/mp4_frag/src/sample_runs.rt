@@ -1,5 +1,5 @@
 //! The samples of a run, passed one by one to judge them.
-ghost use Rattle.std.specs.Prelude.{ℕ, ◌≡◌, ◌+◌, ◌*◌, ◌^◌, ◌<◌, ◌≤◌, ◌∷◌, [], ◌||◌, ◌+ℤ◌, pos, true, IfOk, IfErr, ◌-◌, not, ◌&&◌};
+ghost use Rattle.std.specs.Prelude.{ℕ, ◌≡◌, ◌+◌, ◌*◌, ◌^◌, ◌<◌, ◌≤◌, ◌∷◌, [], ◌||◌, pos, true, IfOk, IfErr, ◌-◌, not, ◌&&◌, None, IfSome, false};
 ghost use Rattle.mp4_boxes.specs.format.Layout.{too_large};
 ghost use Rattle.mp4_tables.specs.format.TableRules.{lies_within as lies_in};
 ghost use Rattle.mp4_frag.specs.format.FragmentSamples.{run_start as run_start_by};
@@ -57,22 +57,34 @@ pub(crate) fn run_start(base: i128, before: i128, data_offset: Option<i32>) -> i
     }
 }
 
-// Whether so many bytes from a place on lie in a file of this length.
-#[inline]
-fn lies_within(file_len: u64, at: i128, size: u32) -> bool
-    requires { IsNear at }
-    ensures { result ≡ lies_in file_len at size }
+// How many bytes of a file of this length stand behind a place, if that is in it.
+fn bytes_behind(file_len: u64, at: i128) -> Option<u64>
+    ensures some { IfSome result (λ n. (n ≤ file_len) × (at ≡ pos (file_len - n))) }
+    ensures none { result ≡ None → (size : ℕ) → lies_in file_len at size ≡ false }
 {
-    0 <= at && at + i128::from(size) <= i128::from(file_len)
+    let Ok(place) = u64::try_from(at) else {
+        return None;
+    };
+    file_len.checked_sub(place)
 }
 
-// Where data ends that begins at a place.
-#[inline]
-fn data_end(at: i128, size: u32) -> i128
-    requires { IsNear at }
-    ensures { result ≡ at +ℤ pos size }
+// What no samples come to: none is there, or one does not lie in the file.
+fn none_passed(end: i128, are_within: bool) -> Samples
+    ensures { result ≡ record {
+      end = end;
+      duration = 0;
+      bytes = 0;
+      are_within = are_within;
+      are_large = false;
+    } }
 {
-    at + i128::from(size)
+    Samples {
+        end,
+        duration: 0,
+        bytes: 0,
+        are_within,
+        are_large: false,
+    }
 }
 
 // Whether the offset of the row has no place in 32 bits with a sign, or one before has none.
@@ -101,6 +113,48 @@ fn row_of(ticket: Ticket, payload: &[u8], run: Run, k: u32) -> Row
     )
 }
 
+// The samples of a run that begins where so many bytes of the file are left: whether all lie in it,
+// and what they come to where they do.
+fn take_samples<L: Ledger>(
+    payload: &[u8],
+    run: Run,
+    behind: u64,
+    judged: Judged,
+    steps: &mut Steps<L>,
+) -> Samples
+    requires rows { HasRows payload.now run }
+    requires within { behind ≤ judged.file_len }
+    ensures within { result.are_within ≡ within_from judged.file_len judged.inherited.size
+        (pos (judged.file_len - behind)) (rows_left payload.now run 0) }
+    ensures samples { result.are_within ≡ true
+        → AreSamplesOf judged (pos (judged.file_len - behind)) payload.now run result }
+    ensures sums { AreBounded run.count result.duration result.bytes }
+    ensures near { IsNear result.end }
+    ensures cost { steps.new ≤ steps.old + run.count }
+    ensures counted { result.are_within ≡ true → steps.new ≡ steps.old + run.count }
+{
+    let mut left = behind;
+    let mut duration = 0;
+    let mut are_large = false;
+    for k in 0..run.count {
+        let row = row_of(steps.tick(), payload, run, k);
+        let size = u64::from(row.size.unwrap_or(judged.inherited.size));
+        if size > left {
+            return none_passed(0, false);
+        }
+        left -= size;
+        duration += u64::from(row.duration.unwrap_or(judged.inherited.duration));
+        are_large = is_too_large(are_large, row);
+    }
+    Samples {
+        end: i128::from(judged.file_len - left),
+        duration,
+        bytes: behind - left,
+        are_within: true,
+        are_large,
+    }
+}
+
 // The samples of a run that begins at a place: whether all lie in the file, and what they come to
 // where they do.
 fn pass_samples<L: Ledger>(
@@ -120,32 +174,10 @@ fn pass_samples<L: Ledger>(
     ensures cost { steps.new ≤ steps.old + run.count }
     ensures counted { result.are_within ≡ true → steps.new ≡ steps.old + run.count }
 {
-    let mut samples = Samples {
-        end: at,
-        duration: 0,
-        bytes: 0,
-        are_within: true,
-        are_large: false,
-    };
-    for k in 0..run.count {
-        let row = row_of(steps.tick(), payload, run, k);
-        let size = row.size.unwrap_or(judged.inherited.size);
-        if !lies_within(judged.file_len, samples.end, size) {
-            return Samples {
-                are_within: false,
-                ..samples
-            };
-        }
-        let duration = row.duration.unwrap_or(judged.inherited.duration);
-        samples = Samples {
-            end: data_end(samples.end, size),
-            duration: samples.duration + u64::from(duration),
-            bytes: samples.bytes + u64::from(size),
-            are_within: true,
-            are_large: is_too_large(samples.are_large, row),
-        };
+    match bytes_behind(judged.file_len, at) {
+        Some(behind) => take_samples(payload, run, behind, judged, steps),
+        None => none_passed(at, run.count == 0),
     }
-    samples
 }
 
 // Whether an offset is unsigned and has no place in 32 bits with a sign.

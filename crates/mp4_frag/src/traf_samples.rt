@@ -9,10 +9,10 @@ ghost use Rattle.mp4_frag.specs.words.ColumnsRead.{row_room};
 ghost use Rattle.mp4_frag.specs.format.FragmentSamples.{flags_of as flags_by};
 ghost use Rattle.mp4_frag.specs.words.PlacesIn.{LiesIn, IsPlaceIn};
 ghost use Rattle.mp4_frag.specs.words.Times.{time_behind};
-ghost use Rattle.mp4_frag.specs.words.Walks.{at_first, first_byte, reached, coming, samples_in};
+ghost use Rattle.mp4_frag.specs.words.Walks.{at_first, number_here as number_by, reached, coming, samples_in};
 
 use crate::heads::nothing_inherited;
-use crate::opened_runs::{next_row, row_here, said_here, settle};
+use crate::opened_runs::{file_place, next_row, row_here, said_here, settle};
 use crate::opened_trafs::open_traf;
 use crate::places::{FragPlace, RowPlace};
 use crate::trex::Trex;
@@ -38,12 +38,13 @@ fn signed(value: u32) -> i32
     value.cast_signed()
 }
 
-// A place in a file, 0 where 64 bits have none for it.
+// The number of the next sample: so many come before those behind the run, which has so many left.
 #[inline]
-fn file_place(at: i128) -> u64
-    ensures { result ≡ first_byte at }
+fn number_here(behind: u64, left: u32) -> u32
+    requires { left ≤ behind }
+    ensures { result ≡ number_by behind left }
 {
-    u64::try_from(at).unwrap_or(0)
+    u32::try_from(behind - u64::from(left)).unwrap_or(u32::MAX)
 }
 
 /// The sample before which the place lies.
@@ -60,10 +61,10 @@ pub(crate) fn sample_here(payload: &[u8], place: &FragPlace) -> SampleAt
         cto: signed(said.offset),
         flags: flags_of(place.run.first_flags, None, said.flags),
         description: place.inherited.description,
-        at: file_place(place.at),
+        at: place.at,
         size: said.size,
         groups: place.indexes.here(),
-        number: place.number,
+        number: number_here(place.number, place.run.left),
     }
 }
 
@@ -79,9 +80,8 @@ fn pass_row(payload: &[u8], place: &mut FragPlace, sample: &SampleAt)
     ensures time { time_behind payload.now place.new ≡ time_behind payload.now place.old }
     ensures coming { coming payload.now place.new ≡ drop 1 (coming payload.now place.old) }
 {
-    place.number = place.number.saturating_add(1);
     place.dts = place.dts.saturating_add(u64::from(sample.duration));
-    place.at = place.at.saturating_add(i128::from(sample.size));
+    place.at = place.at.saturating_add(u64::from(sample.size));
     place.run = next_row(place.run);
     place.passed = place.passed.saturating_add(1);
     place.indexes.pass(payload, &place.index_rows);
@@ -106,7 +106,7 @@ pub(crate) fn pass_sample(payload: &[u8], place: &mut FragPlace, sample: &Sample
 }
 
 // Passes samples of the run in hand that are no sync samples and have this description, at most so
-// many, where no index is left.
+// many, where no index is left. How long they last and how many bytes they take is summed up first.
 fn pass_rows(payload: &[u8], place: &mut FragPlace, description: u32, most: u32) -> u32
     requires { LiesIn payload.now place.old }
     ensures place { LiesIn payload.now place.new }
@@ -121,9 +121,8 @@ fn pass_rows(payload: &[u8], place: &mut FragPlace, description: u32, most: u32)
         return 0;
     }
     let mut run = place.run;
-    let mut number = place.number;
-    let mut dts = place.dts;
-    let mut at = place.at;
+    let mut lasts: u64 = 0;
+    let mut bytes: u64 = 0;
     let mut count = 0;
     while count < most && run.left > 0 {
         let row = row_here(payload, run);
@@ -131,16 +130,14 @@ fn pass_rows(payload: &[u8], place: &mut FragPlace, description: u32, most: u32)
         if flags / 0x1_0000 % 2 == 0 {
             break;
         }
-        number = number.saturating_add(1);
-        dts = dts.saturating_add(u64::from(row.duration.unwrap_or(inherited.duration)));
-        at = at.saturating_add(i128::from(row.size.unwrap_or(inherited.size)));
+        lasts += u64::from(row.duration.unwrap_or(inherited.duration));
+        bytes += u64::from(row.size.unwrap_or(inherited.size));
         run = next_row(run);
         count += 1;
     }
     place.run = run;
-    place.number = number;
-    place.dts = dts;
-    place.at = at;
+    place.dts = place.dts.saturating_add(lasts);
+    place.at = place.at.saturating_add(bytes);
     place.passed = place.passed.saturating_add(u64::from(count));
     count
 }
@@ -180,9 +177,9 @@ fn first_place(base: i128, number: u32, dts: u64) -> FragPlace
 {
     let (index_rows, indexes) = no_indexes();
     FragPlace {
-        number,
+        number: u64::from(number),
         dts,
-        at: base,
+        at: file_place(base),
         next: 0,
         base,
         inherited: nothing_inherited(),

@@ -72,6 +72,8 @@ pub record LiesIn (payload : List ℕ) (place : FragPlace) : Type 0 where
   pub rows : IsRowPlace payload place.run
   pub width : place.run.width ≡ row_room place.run.bits
   pub indexes : AreIndexPlaces payload place.index_rows place.indexes
+  -- the samples left of the run come before those behind it
+  pub number : place.run.left ≤ place.number
   -- what was passed and what is left cost no more than all
   pub work : place.passed + place.run.left + work_behind payload place.next ≤ traf_work payload
 

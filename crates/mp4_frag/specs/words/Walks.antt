@@ -31,14 +31,14 @@ use Rattle.mp4_frag.specs.declared.trex.Trex.{Trex}
 pub record Reached : Type 0 where
   pub number : ℕ
   pub dts : ℕ
-  pub at : ℤ
+  pub at : ℕ
   pub base : ℤ
   pub inherited : Inherited
   pub indexes : List (List ℕ)
 
 -- ---- samples
 
--- a time that goes no further than 64 bits hold
+-- a time or a place that goes no further than 64 bits hold
 abbrev pub capped : ℕ → ℕ
 capped time = min time (2 ^ 64 - 1)
 
@@ -46,14 +46,14 @@ capped time = min time (2 ^ 64 - 1)
 abbrev pub next_number : ℕ → ℕ
 next_number number = min (number + 1) (2 ^ 32 - 1)
 
--- a place that goes no further than 128 bits hold
+-- a start that goes no further than 128 bits hold
 abbrev pub held : ℤ → ℤ
 held at = saturate_signed w128 at
 
--- the place of a first byte, 0 where 64 bits have none for it
+-- the place of a first byte, the last one where 64 bits have none for it
 abbrev pub first_byte : ℤ → ℕ
-first_byte (pos n) = if nat_lt n (2 ^ 64) then n else 0
-first_byte (negsuc n) = 0
+first_byte (pos n) = if nat_lt n (2 ^ 64) then n else 2 ^ 64 - 1
+first_byte (negsuc n) = 2 ^ 64 - 1
 
 -- the sample of a row
 abbrev pub sample_of : Reached → Option ℕ → RunRow → SampleAt
@@ -63,7 +63,7 @@ sample_of s first row = record {
   cto = unwrap_or row.offset (pos 0);
   flags = flags_of first row.flags None s.inherited.flags;
   description = s.inherited.description;
-  at = first_byte s.at;
+  at = s.at;
   size = unwrap_or row.size s.inherited.size;
   groups = map (λ indexes. slice_index indexes 0) s.indexes;
   number = s.number;
@@ -74,7 +74,7 @@ abbrev pub behind_row : Reached → RunRow → Reached
 behind_row s row = record s {
   number = next_number s.number;
   dts = capped (s.dts + unwrap_or row.duration s.inherited.duration);
-  at = held (s.at +ℤ pos (unwrap_or row.size s.inherited.size));
+  at = capped (s.at + unwrap_or row.size s.inherited.size);
   indexes = map (drop 1) s.indexes;
 }
 
@@ -98,9 +98,9 @@ rows_of payload = run_rows (row_count trun payload) 1 (flags payload)
     (drop (rows_from (flags payload)) payload)
 
 -- where a run begins
-abbrev pub begin : ℤ → ℤ → Option ℤ → ℤ
+abbrev pub begin : ℤ → ℕ → Option ℤ → ℕ
 begin base before None = before
-begin base before (Some offset) = held (base +ℤ offset)
+begin base before (Some offset) = first_byte (held (base +ℤ offset))
 
 -- before the first row of a `trun`
 abbrev pub before_run : Reached → List ℕ → Reached
@@ -204,7 +204,7 @@ abbrev pub at_first : ℤ → ℕ → ℕ → Reached
 at_first base number dts = record {
   number = number;
   dts = dts;
-  at = base;
+  at = first_byte base;
   base = base;
   inherited = record { description = 0; duration = 0; size = 0; flags = 0 };
   indexes = no_indexes;
@@ -236,10 +236,15 @@ row_signed row = record {
 unfoldable pub rows_here : List ℕ → RowPlace → List RunRow
 rows_here payload p = run_rows p.left 1 p.bits (drop p.row payload)
 
+-- the number of the next sample, where so many come before those behind the run, which has so many
+-- left
+abbrev pub number_here : ℕ → ℕ → ℕ
+number_here behind left = min (behind - left) (2 ^ 32 - 1)
+
 -- what goes for the next sample at a place
 abbrev pub reached : List ℕ → FragPlace → Reached
 reached payload p = record {
-  number = p.number;
+  number = number_here p.number p.run.left;
   dts = p.dts;
   at = p.at;
   base = p.base;

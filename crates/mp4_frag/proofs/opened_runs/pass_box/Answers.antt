@@ -6,7 +6,7 @@ use Rattle.mp4_frag.proofs.opened_runs.pass_box.Goals as goal
 pub returns-in_default-clause-place : goal.returns-in_default-clause-place
 returns-in_default-clause-place c =
     let p = c.requires.place in
-    record { next = search rules; rows = p.rows; width = p.width; indexes = p.indexes; work = omega (arith, p.work, work_ended c.args.payload.now c.args.place.now.next) }
+    record { next = search rules; rows = p.rows; width = p.width; indexes = p.indexes; number = p.number; work = omega (arith, p.work, work_ended c.args.payload.now c.args.place.now.next) }
 
 pub returns-in_default-clause-coming : goal.returns-in_default-clause-coming
 returns-in_default-clause-coming c = none_left c.args.payload.now c.args.place.now _ (c.in_default.ensures.none refl) c.requires.none refl
@@ -29,6 +29,7 @@ returns-else-eq-clause-place c =
       rows = p.rows;
       width = p.width;
       indexes = p.indexes;
+      number = p.number;
       work = omega (arith, p.work, work_leaf c.args.payload.now c.args.place.now.next child.inside child.end child.kind.0 c.in-Some.ensures.some);
     }
 

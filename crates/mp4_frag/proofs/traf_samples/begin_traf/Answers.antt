@@ -22,6 +22,7 @@ settle-requires c =
       rows = none_fit c.args.payload.now p.run row left;
       width = subst (λ (r : RowPlace). r.width ≡ row_room r.bits) (sym o.same.1) c.first_place-place.ensures.width;
       indexes = o.indexes;
+      number = omega (arith, left);
       work = rw (left, next) (work_opened c.args.payload.now _ p.passed first.3 o.work);
     }
 
@@ -47,6 +48,7 @@ returns-else-open_traf-clause-place c =
         rows = none_fit c.args.payload.now p.run row left;
         width = subst (λ (r : RowPlace). r.width ≡ row_room r.bits) (sym o.same.1) c.first_place-place.ensures.width;
         indexes = o.indexes;
+        number = omega (arith, left);
         work = rw left (work_none c.args.payload.now _ p.passed _ first.3 o.work refl);
       };
       settled = λ _. refl;
