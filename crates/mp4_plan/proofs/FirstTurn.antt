@@ -87,8 +87,11 @@ module _ (leaving : Without) where
   -- ---- all tracks
 
   less_left : (file : List ℕ) (tree : FileTree) (info : TrackInfo) (t : TrackTree) → TrackFacts file tree info t → IsLeft file (info_left leaving info) (left_samples leaving tree t) (coming_of (left_track leaving file tree t))
-  less_left file tree info t h = record { id = h.left.id; timescale = ap (timescale_left leaving) h.left.timescale;
-      taken = reduced_are_taken leaving file (keys_seen info.keys) (track_samples tree t) (track_of file (file_parts tree) t) (timed_numbered (track_keys tree t) 0 (start_of (plain_of t) (parts_of_track (file_parts tree) t)) (placed_of (file_parts tree) t)) h.left.taken }
+  less_left file tree info t h = record {
+    id = h.left.id;
+    timescale = ap (timescale_left leaving) h.left.timescale;
+    taken = reduced_are_taken leaving file (keys_seen info.keys) (track_samples tree t) (track_of file (file_parts tree) t) (timed_numbered (track_keys tree t) 0 (start_of (plain_of t) (parts_of_track (file_parts tree) t)) (placed_of (file_parts tree) t)) h.left.taken;
+  }
 
   -- all samples of all tracks are left
   lefts_of : (file : List ℕ) (tree : FileTree) (infos : List TrackInfo) (trees : List TrackTree) → AllZip (TrackFacts file tree) infos trees → AreLeft file (infos_left leaving infos) (map (left_samples leaving tree) trees) (map coming_of (map (left_track leaving file tree) trees))

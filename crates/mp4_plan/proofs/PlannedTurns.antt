@@ -270,7 +270,7 @@ module _ (leaving : Without) (file : List ℕ) (tree : FileTree) (m : MovieSeen)
     turn_leads n next d is after due =
         let goes = due_here (infos_left leaving m.tracks) nexts s d (info_left leaving t.info) (slice_get t.left 0) due (left_scales leaving file m tree o) lt (info_at leaving m.tracks s.track t.info t.is_info) t.shown in
         let at_end = subst (λ e. ¬ Sticks s (more_of (piece_from e) t.left) (slice_get (samples_after (piece_from e) t.left) 0)) (sym t.end_is)
-            (turn_moves file (infos_left leaving m.tracks) s lefts comings (info_left leaving t.info) t.left (turn_taken file (infos_left leaving m.tracks) s lefts comings (info_left leaving t.info) t.left h.turn lt (info_at leaving m.tracks s.track t.info t.is_info) t.is_left) goes) in
+        (turn_moves file (infos_left leaving m.tracks) s lefts comings (info_left leaving t.info) t.left (turn_taken file (infos_left leaving m.tracks) s lefts comings (info_left leaving t.info) t.left h.turn lt (info_at leaving m.tracks s.track t.info t.is_info) t.is_left) goes) in
         subst (λ i. ¬ Sticks s i next) (sym is) (subst (λ x. ¬ Sticks s piece_size x) (sym after) at_end)
 
     within_left : piece_size ≤ length t.left

@@ -259,7 +259,7 @@ impl Schedule {
         ensures due { (nexts : List (Option SampleAt))
             → AreTimes (infos_left leaving tracks.now) nexts self.old.first due.old → OnOk result
             (IsDueAt (infos_left leaving tracks.now) (slice_set nexts self.old.track sample)
-                self.new due.new) }
+            self.new due.new) }
         ensures refusal { IfErr result (λ r. r ≡ refusals.StoreChanged) }
         ensures sticks { (nexts : List (Option SampleAt))
             → AreTimes (infos_left leaving tracks.now) nexts self.old.first due.old → IfErr result

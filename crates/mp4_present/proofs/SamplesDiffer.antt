@@ -197,7 +197,7 @@ module _ (l : Without) (track : ℕ) (keys : List KeyNamed) (lk rk : Keys) (left
   two_samples n a b dts later s t hs ht =
       let of = subjects.Sample track n in
       let values = λ (g : List Difference). numbers_differ of fields.Duration (duration_left l s.duration) (duration_left l t.duration) ++ signed of fields.Offset (offset_left l s.offset) (offset_left l t.offset) ++ numbers_differ of fields.Flags (flags_left l s.flags) (flags_left l t.flags)
-          ++ numbers_differ of fields.Description s.description t.description ++ g in
+      ++ numbers_differ of fields.Description s.description t.description ++ g in
       let groups = groups_differ l.groups of keys lk rk left right s.groups t.groups (sample_at left a dts s) (sample_at right b later t) el er refl refl hs.0 ht.0 joined in
       let bytes = bytes_are of file other s t hs.1 ht.1 in
       let first = size_is of file other s t hs.1 ht.1 in

@@ -39,7 +39,7 @@ returns-clause-due c nexts times =
         | then-track-gt0 w ↦ subst (λ (d : DueTracks). AreTimes (infos_left l c.args.tracks.now) (slice_set nexts s.track c.args.sample) s.first d) (sym w.due-is)
             (times_set (infos_left l c.args.tracks.now) nexts s.first c.args.due.now w.set.new.self s.track c.args.sample w.due_at.result times (many ∙ infos ∙ sym (as_many_left l c.args.tracks.now)) w.set.ensures.others w.set.ensures.time
             (λ x at. let of = info_of l c.args.tracks.now s.track x at in
-                subst (λ (i : TrackInfo). IsDue s.first i.timescale c.args.sample w.due_at.result) (ap (info_left l) (sym w.index-tracks-track.is ∙ read_at c.args.tracks.now s.track of.0 w.index-tracks-track.result of.1 w.index-tracks-track.is) ∙ sym of.2)
+            subst (λ (i : TrackInfo). IsDue s.first i.timescale c.args.sample w.due_at.result) (ap (info_left l) (sym w.index-tracks-track.is ∙ read_at c.args.tracks.now s.track of.0 w.index-tracks-track.result of.1 w.index-tracks-track.is) ∙ sym of.2)
             (subst (λ n. IsDue n (timescale_left l (get_or c.args.tracks.now s.track w.index-tracks-track.result).timescale) c.args.sample w.due_at.result) first (rw w.timescale-scale.ensures at w.due_at.ensures))))
         | else-track-gt0 w ↦ subst (λ (d : DueTracks). AreTimes (infos_left l c.args.tracks.now) (slice_set nexts s.track c.args.sample) s.first d) (sym w.due-is) (times_first (infos_left l c.args.tracks.now) nexts s.first c.args.due.now s.track c.args.sample times (search rules))
       ]);
@@ -67,7 +67,7 @@ returns-then-finds_more-clause-sticks c nexts times =
           | then-track-gt0 w ↦ subst (λ (d : DueTracks). AreTimes (infos_left l c.args.tracks.now) (slice_set nexts s.track c.args.sample) s.first d) (sym w.due-is)
               (times_set (infos_left l c.args.tracks.now) nexts s.first c.args.due.now w.set.new.self s.track c.args.sample w.due_at.result times (many ∙ infos ∙ sym (as_many_left l c.args.tracks.now)) w.set.ensures.others w.set.ensures.time
               (λ x at. let of = info_of l c.args.tracks.now s.track x at in
-                  subst (λ (i : TrackInfo). IsDue s.first i.timescale c.args.sample w.due_at.result) (ap (info_left l) (sym w.index-tracks-track.is ∙ read_at c.args.tracks.now s.track of.0 w.index-tracks-track.result of.1 w.index-tracks-track.is) ∙ sym of.2)
+              subst (λ (i : TrackInfo). IsDue s.first i.timescale c.args.sample w.due_at.result) (ap (info_left l) (sym w.index-tracks-track.is ∙ read_at c.args.tracks.now s.track of.0 w.index-tracks-track.result of.1 w.index-tracks-track.is) ∙ sym of.2)
               (subst (λ n. IsDue n (timescale_left l (get_or c.args.tracks.now s.track w.index-tracks-track.result).timescale) c.args.sample w.due_at.result) first (rw w.timescale-scale.ensures at w.due_at.ensures))))
           | else-track-gt0 w ↦ subst (λ (d : DueTracks). AreTimes (infos_left l c.args.tracks.now) (slice_set nexts s.track c.args.sample) s.first d) (sym w.due-is) (times_first (infos_left l c.args.tracks.now) nexts s.first c.args.due.now s.track c.args.sample times (search rules))
         ]);

@@ -219,7 +219,7 @@ returns-in_err-pass-clause-unchanged g c told tree o ready =
     let stuck = with_times c.args.self.now.leaving file tree m o s c.loop-turn.sequence c.loop-turn.bytes w g.met.K.Sink.takes_on before after h c.in-Some.turn here ends i.tracks i.writer i.leaving c.note_turn.new.self c.in_ok-noted.noted there noted c.in_ok-noted.ensures.writer.keeps few is_id
     c.carry_turn.new.self c.index.result.now copied
     read (λ (xs : List (Option SampleAt)). Sticks s c.in_ok-noted.noted.planned.count c.index.result.now ⊎ FindsMore (infos_left c.args.self.now.leaving m.tracks) xs next c.pass.new.self c.pass.new.due) (i.due told tree o ready) c.in_ok-carry_turn.ensures.writer.keeps.2
-        (rw c.tracks-tracks.ensures at c.in_err-pass.ensures.sticks) in
+    (rw c.tracks-tracks.ensures at c.in_err-pass.ensures.sticks) in
     rw (e.1, e.2)
     (λ r. either stuck
     (pass_lacks c.args.self.now.leaving file tree m o s c.loop-turn.sequence c.loop-turn.bytes w g.met.K.Sink.takes_on before after h c.in-Some.turn here ends i.tracks i.writer i.leaving c.note_turn.new.self c.in_ok-noted.noted there noted c.in_ok-noted.ensures.writer.keeps few is_id
