@@ -1,14 +1,15 @@
 -- What is gathered of samples is what they have.
 use Rattle.std.proofs.Common.{◌≡◌, ℕ, zero, suc, ◌+◌, ◌<◌, List, [], ◌∷◌, ◌++◌, length, Bool, true, false, cond, if◌then◌else◌, refl, ap, sym, subst, ◌∙◌, arith, append_assoc, length-append}
-use Rattle.std.specs.Prelude.{Option, Some, None, map, not, ◌||◌, ◌&&◌, ◌==◌, nat_eq}
+use Rattle.std.specs.Prelude.{slice_index, slice_index_or, Option, Some, None, map, not, ◌||◌, ◌&&◌, ◌==◌, nat_eq}
 use Rattle.std.specs.List.{list_all}
+use Rattle.std.proofs.lemmas.Bool.{eq-eqb}
 use Rattle.std.proofs.lemmas.List.{append-nil}
 use Rattle.mp4_boxes.specs.format.Bytes.{sum_of, unsigned}
 use Rattle.mp4_tables.specs.declared.sample.SampleAt.{SampleAt}
 use Rattle.mp4_plan.specs.format.Normal.{common, longest_runs, put_run}
 use Rattle.mp4_plan.specs.declared.gathered.Gathered.{Gathered}
 use Rattle.mp4_plan.specs.declared.gathered.GroupRuns.{GroupRuns}
-use Rattle.mp4_plan.specs.words.Gathering.{common_more, runs_first, runs_more, gathered_first, gathered_more, gather_all, runs_at, index_of}
+use Rattle.mp4_plan.specs.words.Gathering.{common_more, runs_first, runs_more, gathered_first, gathered_more, gather_all, no_runs, runs_at, index_of, with_indexes, HaveLast, IsUsed}
 use Rattle.mp4_plan.specs.words.PlannerLaws.{SumsUp, indexes}
 
 -- ---- one more number
@@ -187,3 +188,38 @@ gather_keeps s ss g (t ∷ more) k =
 -- What is gathered of samples is what they have.
 pub gathering_sums_up : (s : SampleAt) (samples : List SampleAt) → (g : Gathered) × (gather_all None (s ∷ samples) ≡ Some g) × SumsUp (s ∷ samples) g
 gathering_sums_up s samples = let r = gather_keeps s [] (gathered_first s) samples (kept_first s) in (r.0, r.1, r.2.sums)
+
+-- ---- the indexes of the last sample once more
+
+-- a list of four is its members
+four_of : {A : Type 0} (d : A) (xs : List A) → length xs ≡ 4 → xs ≡ slice_index_or xs 0 d ∷ slice_index_or xs 1 d ∷ slice_index_or xs 2 d ∷ slice_index_or xs 3 d ∷ []
+four_of d [] e = absurd (omega (arith, e))
+four_of d (a ∷ []) e = absurd (omega (arith, e))
+four_of d (a ∷ b ∷ []) e = absurd (omega (arith, e))
+four_of d (a ∷ b ∷ c ∷ []) e = absurd (omega (arith, e))
+four_of d (a ∷ b ∷ c ∷ x ∷ []) e = refl
+four_of d (a ∷ b ∷ c ∷ x ∷ y ∷ xs) e = absurd (omega (arith, e))
+
+-- one more sample with the index of the last one changes nothing
+same_index : (runs : GroupRuns) (index : ℕ) → IsUsed runs → runs.last ≡ index → runs_more runs index ≡ runs
+same_index runs index used e = λ i. record runs { last = sym e i; rows = rows (runs.last == index) (eq-eqb runs.last index e) i; is_used = some runs.is_used refl i }
+  where
+    rows : (v : Bool) → v ≡ true → (if v then runs.rows else runs.rows + 1) ≡ runs.rows
+    rows true h = refl
+    rows false h = absurd cc
+
+    some : (v : Bool) → runs.is_used ≡ v → (v || not (index == 0)) ≡ v
+    some true h = refl
+    some false h = ap (λ (b : Bool). not b) (eq-eqb index 0 (sym e ∙ used h))
+
+pub same_indexes : (g : Gathered) (next : List ℕ) → HaveLast g.groups g.indexes → length g.groups ≡ 4 → length g.indexes ≡ 4 → length next ≡ 4 → slice_index next 0 ≡ slice_index g.indexes 0 → slice_index next 1 ≡ slice_index g.indexes 1 → slice_index next 2 ≡ slice_index g.indexes 2
+    → slice_index next 3 ≡ slice_index g.indexes 3
+    → g ≡ with_indexes g next
+same_indexes g next h four last_four next_four a b c d =
+    let r0 = same_index (runs_at g 0) (slice_index next 0) (h.used 0) (h.first ∙ sym a) in
+    let r1 = same_index (runs_at g 1) (slice_index next 1) (h.used 1) (h.second ∙ sym b) in
+    let r2 = same_index (runs_at g 2) (slice_index next 2) (h.used 2) (h.third ∙ sym c) in
+    let r3 = same_index (runs_at g 3) (slice_index next 3) (h.used 3) (h.fourth ∙ sym d) in
+    let groups : g.groups ≡ (with_indexes g next).groups = four_of no_runs g.groups four ∙ (λ i. sym r0 i ∷ sym r1 i ∷ sym r2 i ∷ sym r3 i ∷ []) in
+    let same : g.indexes ≡ next = four_of 0 g.indexes last_four ∙ (λ i. sym a i ∷ sym b i ∷ sym c i ∷ sym d i ∷ []) ∙ sym (four_of 0 next next_four) in
+    λ i. record g { indexes = same i; groups = groups i }

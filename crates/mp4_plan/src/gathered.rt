@@ -1,6 +1,6 @@
 //! What is known of the samples of a piece, gathered one sample at a time.
-ghost use Rattle.std.specs.Prelude.{◌≡◌, ◌+◌, ◌^◌, ◌<◌};
-ghost use Rattle.mp4_plan.specs.words.Gathering.{common_more, runs_first, runs_more, gathered_first, gathered_more, IsBounded, IsUsed};
+ghost use Rattle.std.specs.Prelude.{◌≡◌, ℕ, ◌+◌, ◌^◌, ◌<◌};
+ghost use Rattle.mp4_plan.specs.words.Gathering.{common_more, runs_first, runs_more, gathered_first, gathered_more, runs_at, with_indexes, HaveLast, IsBounded, IsUsed};
 
 use mp4_tables::SampleAt;
 
@@ -31,7 +31,8 @@ pub struct Gathered {
     pub flags: Option<u32>,
     /// Whether some composition offset is not 0.
     pub has_offsets: bool,
-    /// At each key of the track.
+    /// At each key of the track: the index of the last sample, and the runs.
+    pub indexes: [u16; 4],
     pub groups: [GroupRuns; 4],
 }
 
@@ -84,6 +85,29 @@ fn add_index(runs: &mut GroupRuns, index: u16)
     }
 }
 
+// The indexes of one more sample. Where they are those of the last sample there is nothing new.
+#[inline(always)]
+fn add_indexes(gathered: &mut Gathered, sample: &SampleAt)
+    requires indexes { HaveLast gathered.old.groups gathered.old.indexes }
+    requires room { (j : ℕ) → (runs_at gathered.old j).rows + 1 < 2 ^ 32 }
+    ensures { gathered.new ≡ with_indexes gathered.old sample.now.groups }
+{
+    let indexes = sample.groups;
+    let last = gathered.indexes;
+    if indexes[0] == last[0]
+        && indexes[1] == last[1]
+        && indexes[2] == last[2]
+        && indexes[3] == last[3]
+    {
+        return;
+    }
+    gathered.indexes = indexes;
+    add_index(&mut gathered.groups[0], sample.groups[0]);
+    add_index(&mut gathered.groups[1], sample.groups[1]);
+    add_index(&mut gathered.groups[2], sample.groups[2]);
+    add_index(&mut gathered.groups[3], sample.groups[3]);
+}
+
 /// What is known of one sample.
 pub(crate) fn gathered_first(sample: &SampleAt) -> Gathered
     ensures { result ≡ gathered_first sample.now }
@@ -96,6 +120,7 @@ pub(crate) fn gathered_first(sample: &SampleAt) -> Gathered
         size: Some(sample.size),
         flags: Some(sample.flags),
         has_offsets: sample.cto.cast_unsigned() != 0,
+        indexes: sample.groups,
         groups: [
             runs_first(sample.groups[0]),
             runs_first(sample.groups[1]),
@@ -120,8 +145,5 @@ pub(crate) fn gather_more(gathered: &mut Gathered, sample: &SampleAt)
     if sample.cto.cast_unsigned() != 0 {
         gathered.has_offsets = true;
     }
-    add_index(&mut gathered.groups[0], sample.groups[0]);
-    add_index(&mut gathered.groups[1], sample.groups[1]);
-    add_index(&mut gathered.groups[2], sample.groups[2]);
-    add_index(&mut gathered.groups[3], sample.groups[3]);
+    add_indexes(gathered, sample);
 }

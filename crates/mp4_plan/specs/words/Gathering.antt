@@ -45,6 +45,7 @@ gathered_first s = record {
   size = Some s.size;
   flags = Some s.flags;
   has_offsets = has_offset s;
+  indexes = s.groups;
   groups = runs_first (index_of s 0) ∷ runs_first (index_of s 1) ∷ runs_first (index_of s 2)
       ∷ runs_first (index_of s 3) ∷ [];
 }
@@ -52,8 +53,21 @@ gathered_first s = record {
 abbrev pub no_runs : GroupRuns
 no_runs = record { last = 0; rows = 0; is_used = false }
 
+abbrev pub runs_in : List GroupRuns → ℕ → GroupRuns
+runs_in groups j = slice_index_or groups j no_runs
+
 abbrev pub runs_at : Gathered → ℕ → GroupRuns
-runs_at g j = slice_index_or g.groups j no_runs
+runs_at g j = runs_in g.groups j
+
+-- with the indexes of one more sample
+abbrev pub with_indexes : Gathered → List ℕ → Gathered
+with_indexes g indexes = record g {
+  indexes = indexes;
+  groups = runs_more (runs_at g 0) (slice_index indexes 0)
+      ∷ runs_more (runs_at g 1) (slice_index indexes 1)
+      ∷ runs_more (runs_at g 2) (slice_index indexes 2)
+      ∷ runs_more (runs_at g 3) (slice_index indexes 3) ∷ [];
+}
 
 abbrev pub gathered_more : Gathered → SampleAt → Gathered
 gathered_more g s = record {
@@ -64,6 +78,7 @@ gathered_more g s = record {
   size = common_more g.size s.size;
   flags = common_more g.flags s.flags;
   has_offsets = g.has_offsets || has_offset s;
+  indexes = s.groups;
   groups = runs_more (runs_at g 0) (index_of s 0) ∷ runs_more (runs_at g 1) (index_of s 1)
       ∷ runs_more (runs_at g 2) (index_of s 2) ∷ runs_more (runs_at g 3) (index_of s 3) ∷ [];
 }
@@ -123,12 +138,20 @@ count_of (Some g) = g.count
 abbrev pub IsUsed : GroupRuns → Type 0
 IsUsed runs = runs.is_used ≡ false → runs.last ≡ 0
 
+-- the last index at each key is that of the last sample
+pub record HaveLast (groups : List GroupRuns) (indexes : List ℕ) : Type 0 where
+  pub used : (j : ℕ) → IsUsed (runs_in groups j)
+  pub first : (runs_in groups 0).last ≡ slice_index indexes 0
+  pub second : (runs_in groups 1).last ≡ slice_index indexes 1
+  pub third : (runs_in groups 2).last ≡ slice_index indexes 2
+  pub fourth : (runs_in groups 3).last ≡ slice_index indexes 3
+
 -- a sum of sizes fits its type, no key has more rows than there are samples, and where its last
 -- index is not 0 it has some
 pub record IsBounded (g : Gathered) : Type 0 where
   pub bytes : g.bytes ≤ g.count * 4294967295
   pub rows : (j : ℕ) → (runs_at g j).rows ≤ g.count
-  pub used : (j : ℕ) → IsUsed (runs_at g j)
+  pub indexes : HaveLast g.groups g.indexes
 
 abbrev pub AreBounded : Option Gathered → Type 0
 AreBounded None = Unit {0}
