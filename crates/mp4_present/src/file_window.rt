@@ -6,14 +6,33 @@ use mp4_boxes::Refusal;
 use mp4_store::Store;
 use std::alloc::{AllocError, Global};
 
-// A buffer that shows some bytes of a file: so many, from a place on.
+// A buffer that shows some bytes of a file: so many, from a place on. It reads twice as many at
+// once as before where it goes on, and half as many where it goes elsewhere.
 #[derive(Drop)]
 pub(crate) struct FileWindow {
     buffer: Vec<u8>,
     at: u64,
     used: usize,
-    ghost some: { 0 < vec_len buffer },
+    ahead: usize,
     ghost within: { used ≤ vec_len buffer },
+    ghost some: { 0 < ahead },
+    ghost fits: { ahead ≤ vec_len buffer },
+}
+
+// The fewest bytes that are read at once.
+const FEWEST: usize = 4096;
+
+// How many bytes are read at once, by how many were, at most so many.
+fn next_ahead(ahead: usize, goes_on: bool, most: usize) -> usize
+    requires { 0 < most }
+    ensures some { 0 < ahead → 0 < result }
+    ensures fits { result ≤ most }
+{
+    if goes_on {
+        ahead.saturating_mul(2).min(most)
+    } else {
+        (ahead / 2).max(FEWEST).min(most)
+    }
 }
 
 impl FileWindow {
@@ -33,6 +52,7 @@ impl FileWindow {
             buffer,
             at: 0,
             used: 0,
+            ahead: len,
         })
     }
 
@@ -65,8 +85,10 @@ impl FileWindow {
         if shown > 0 {
             return Ok(shown);
         }
+        let goes_on = at == self.at.saturating_add(self.used as u64);
+        self.ahead = next_ahead(self.ahead, goes_on, self.buffer.len());
         let left = store.len() - at;
-        let room = self.buffer.len();
+        let room = self.ahead;
         let len = if left < room as u64 {
             left as usize
         } else {
