@@ -27,7 +27,7 @@ complete -c mp4norm -n '__fish_seen_subcommand_from strip' -l drop -x -d 'Types 
 complete -c mp4norm -n '__fish_seen_subcommand_from check sum' -l names-from -rF -d 'A file of further names'
 complete -c mp4norm -n '__fish_seen_subcommand_from normalise show samples extract boxes strip compare check sum print' -l explain -d 'Say of a fault where it is and what it means'
 complete -c mp4norm -n '__fish_seen_subcommand_from normalise show samples extract boxes strip compare check sum print' -l brief -d 'Say one line of a failure'
-complete -c mp4norm -n '__fish_seen_subcommand_from normalise compare sum print' -l without -x -a 'times edits flags groups metadata bitrates labels timing' -d 'What to leave out'
+complete -c mp4norm -n '__fish_seen_subcommand_from normalise compare sum print' -l without -x -a 'times edits flags groups metadata bitrates ends origins labels timing packaging-1 media-1' -d 'What to leave out'
 complete -c mp4norm -n '__fish_seen_subcommand_from compare' -l all -d 'List all differences'
 complete -c mp4norm -n '__fish_seen_subcommand_from compare' -l limit -x -d 'How many differences to list'
 complete -c mp4norm -n '__fish_seen_subcommand_from check sum' -l zero -d 'End lines with a zero byte'

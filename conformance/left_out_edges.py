@@ -6,11 +6,12 @@ Edits that share a build (`joins`) touch different commands or different runs.
 """
 from left_out_checks import Edit
 from suite.clauses import CLAUSES
-from suite.differ import KNOWN
+from suite.differ import WORDS
 
 CHECKING = 'mp4norm/src/shell/check_files.rt'
 COMMANDS = 'mp4norm/src/shell/command_table.rt'
 COMPARING = 'mp4norm/src/commands/compare.rt'
+GUESSES = 'mp4norm/src/commands/guesses.rt'
 COMPARES = 'mp4norm/src/shell/run_compare.rt'
 DESCRIPTORS = 'mp4norm/src/shell/descriptors.rt'
 DIFFERENCE_JSON = 'mp4norm/src/text/difference_json.rt'
@@ -267,11 +268,17 @@ def of_comparisons(joins='comparisons'):
              'of a list that was cut, all words are named where fewer do', run='limits differences',
              fails='a list of one more, of another group',
              joins='all words of a cut list', optimised=True),
+        Edit(GUESSES, 'let timing = asked.timing ||',
+             'let (ends, origins) = (false, false);\n'
+             '    let timing = asked.timing || asked.ends || asked.origins ||',
+             'the hint names timing where ends or origins would do', run='compares hidden',
+             fails=r'compare --all whole other \(\) of the last frame twice as long',
+             joins='words of times', optimised=True),
         *(Edit(COMPARING, ALL_OF,
                ALL_OF.replace('leaving,', f'Without {{ {word}: false, ..leaving }},'),
                f'--all ignores {word} among the words of --without', run='compares',
                fails=rf"compare --all .*\('{word}',\)", joins=f'without {word}', optimised=True)
-          for word in KNOWN),
+          for word in WORDS),
     ]
 
 

@@ -278,7 +278,7 @@ class OfTheSuite(Case):
     def test_differences(self):
         files = [file for file in accepted() if len(file[1]) < 20000]
         for (left, one, _), (right, other, _) in zip(files, files[1:]):
-            for words in ((), differ.KNOWN):
+            for words in ((), differ.WORDS):
                 with self.subTest(f'{left}, {right}, {words}'):
                     movies = [reader.Movie(data).leave_out(words) for data in (one, other)]
                     due = differ.differences(*movies)

@@ -10,10 +10,6 @@ from .normal import descriptions, handler, kept_in, key_order
 WORDS = ('times', 'edits', 'flags', 'groups', 'metadata', 'bitrates', 'ends', 'origins', 'labels',
          'timing')
 SETS = {'packaging-1': WORDS[:8], 'media-1': WORDS}
-# Those that the program doesn't know yet.
-UNKNOWN = ('ends', 'origins')
-KNOWN = tuple(word for word in WORDS if word not in UNKNOWN)
-KNOWN_SETS = tuple(name for name, words in SETS.items() if set(words) <= set(KNOWN))
 
 
 def meant(names):

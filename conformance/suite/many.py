@@ -9,15 +9,17 @@ MOST = 2**20
 LEFT, RIGHT = b'\x10', b'\x20'
 
 
-def with_flags(count, mark, time=11, last=b'a', group=0):
+def with_flags(count, mark, time=11, last=b'a', group=0, lasts=512):
     """A track of so many samples of one byte, whose flags are all marked alike. The movie's
-    creation time, the byte of the last sample and its group may be others."""
+    creation time, the byte of the last sample, its group and how long it lasts may be others."""
     rows = [u32(count - 1) + u32(1), u32(1) + u32(group)]
     file = long.with_one_track(
         count, 1, Box('sdtp', full(0) + mark * count),
         Box('sgpd', full(1) + b'roll' + u32(2) + u32(1) + b'\xff\xff'),
         Box('sbgp', full(0) + b'roll' + u32(2) + b''.join(rows)))
     file.at('moov/mvhd').patches.append((4, u64(time)))
+    rows = [u32(count - 1) + u32(512), u32(1) + u32(lasts)]
+    file.at('moov/trak/mdia/minf/stbl/stts').fields = table('stts', rows).fields
     data = file.at('mdat')
     data.fields = data.fields[:-1] + last
     return file.spelled()

@@ -1,14 +1,15 @@
 -- What is left of two presentations is the same exactly where they agree.
-use Rattle.std.proofs.Common.{◌≡◌, ℕ, ◌*◌, ◌/◌, ◌%◌, ◌^◌, Bool, true, false, if◌then◌else◌, List, [], ◌∷◌, refl, sym, ap, ◌∙◌, arith}
-use Rattle.std.specs.Prelude.{map, filter, codes, bytes_eq, pos}
+use Rattle.std.proofs.Common.{◌≡◌, ℕ, suc, ◌*◌, ◌/◌, ◌%◌, ◌^◌, Bool, true, false, if◌then◌else◌, List, [], ◌∷◌, length, refl, sym, ap, ◌∙◌, arith}
+use Rattle.std.specs.Prelude.{◌&&◌, map, filter, codes, bytes_eq, ℤ, pos, ◌-ℤ◌}
 use Rattle.std.specs.List.{AllZip}
 use Rattle.mp4_head.specs.format.Head.{Kept, Media, TrackHead, MovieHead, handler_type}
 use Rattle.mp4_present.specs.format.Presentation.{Sample, Track, Presentation}
 use Rattle.mp4_plan.proofs.Plain.{plain_turned, reduce_by, type_same}
+use Rattle.mp4_plan.proofs.ReducedSamples.{left_many}
 use Rattle.mp4_present.specs.format.BitRates.{unrated_descriptions, unrated_payload}
-use Rattle.mp4_present.specs.format.Reduced.{sync_flag, plain_handler, plain_picture, plain_descriptions, reduce_sample, reduce_media, reduce_track_head, reduce_movie_head, reduce_track, reduce}
+use Rattle.mp4_present.specs.format.Reduced.{sync_flag, plain_handler, plain_picture, plain_descriptions, is_at_end, first_offset, reduce_sample, reduce_from, reduce_samples, reduce_media, reduce_track_head, reduce_movie_head, reduce_track, reduce}
 use Rattle.mp4_present.specs.declared.without.Without.{Without}
-use Rattle.mp4_plan.specs.format.Agreeing.{is_other, SamplesAgree, MediaAgree, TrackHeadsAgree, MovieHeadsAgree, TracksAgree, Agree, ReduceIsExact}
+use Rattle.mp4_plan.specs.format.Agreeing.{is_other, SamplesAgree, AllAgree, MediaAgree, TrackHeadsAgree, MovieHeadsAgree, TracksAgree, Agree, ReduceIsExact}
 
 -- what stays is the same, where it stays
 stays : {A : Type 0} (b : Bool) (g : A → A) (x y : A) → (if b then g x else x) ≡ (if b then g y else y) → b ≡ false → x ≡ y
@@ -23,6 +24,32 @@ less false g x y e = ap g e
 same_less : {A : Type 0} (b : Bool) (g : A → A) (x y : A) → (b ≡ false → x ≡ y) → g x ≡ g y → (if b then g x else x) ≡ (if b then g y else y)
 same_less true g x y e h = h
 same_less false g x y e h = e refl
+
+-- of what is one value by a first word, and by a second is made of it
+module _ {A : Type 0} (b c : Bool) (u p q x y : A) where
+  last_stays : (if b then u else if c then p else x) ≡ (if b then u else if c then q else y) → b ≡ false → c ≡ false → x ≡ y
+  last_stays e f g = by b c e f g
+    where
+      by : (b c : Bool) → (if b then u else if c then p else x) ≡ (if b then u else if c then q else y) → b ≡ false → c ≡ false → x ≡ y
+      by true c e f g = absurd cc
+      by false true e f g = absurd cc
+      by false false e f g = e
+
+  made_stays : (if b then u else if c then p else x) ≡ (if b then u else if c then q else y) → b ≡ false → c ≡ true → p ≡ q
+  made_stays e f g = by b c e f g
+    where
+      by : (b c : Bool) → (if b then u else if c then p else x) ≡ (if b then u else if c then q else y) → b ≡ false → c ≡ true → p ≡ q
+      by true c e f g = absurd cc
+      by false true e f g = e
+      by false false e f g = absurd cc
+
+  same_both : (b ≡ false → c ≡ false → x ≡ y) → (b ≡ false → c ≡ true → p ≡ q) → (if b then u else if c then p else x) ≡ (if b then u else if c then q else y)
+  same_both = by b c
+    where
+      by : (b c : Bool) → (b ≡ false → c ≡ false → x ≡ y) → (b ≡ false → c ≡ true → p ≡ q) → (if b then u else if c then p else x) ≡ (if b then u else if c then q else y)
+      by true c h k = refl
+      by false true h k = k refl refl
+      by false false h k = h refl refl
 
 -- of sample descriptions, of which less is left by the types of the handlers
 module _ (h k : List ℕ) (x y : List Kept) where
@@ -90,26 +117,61 @@ sync_from : (m n : ℕ) → m / 2 ^ 16 % 2 ≡ n / 2 ^ 16 % 2 → sync_flag m �
 sync_from m n e = ap (λ k. k * 2 ^ 16) e
 
 module _ (l : Without) where
-  sample_to : (a b : Sample) → reduce_sample l a ≡ reduce_sample l b → SamplesAgree l a b
-  sample_to a b e = record {
-    duration = stays l.timing (λ n. 1) a.duration b.duration (ap (λ (x : Sample). x.duration) e);
-    offset = stays l.timing (λ n. pos 0) a.offset b.offset (ap (λ (x : Sample). x.offset) e);
-    description = ap (λ (x : Sample). x.description) e;
-    bytes = ap (λ (x : Sample). x.bytes) e;
-    sync = sync_to a.flags b.flags (less l.flags sync_flag a.flags b.flags (ap (λ (x : Sample). x.flags) e));
-    flags = stays l.flags (sync_flag) a.flags b.flags (ap (λ (x : Sample). x.flags) e);
-    groups = stays l.groups (λ xs. []) a.groups b.groups (ap (λ (x : Sample). x.groups) e);
-  }
+  module _ (count : ℕ) (first other : ℤ) where
+    sample_to : (n : ℕ) (a b : Sample) → reduce_sample l count first n a ≡ reduce_sample l count other n b → SamplesAgree l count first other n a b
+    sample_to n a b e = record {
+      duration = last_stays l.timing (l.ends && is_at_end count n) 1 1 1 a.duration b.duration (ap (λ (x : Sample). x.duration) e);
+      offset = last_stays l.timing l.origins (pos 0) (a.offset -ℤ first) (b.offset -ℤ other) a.offset b.offset (ap (λ (x : Sample). x.offset) e);
+      moved = made_stays l.timing l.origins (pos 0) (a.offset -ℤ first) (b.offset -ℤ other) a.offset b.offset (ap (λ (x : Sample). x.offset) e);
+      description = ap (λ (x : Sample). x.description) e;
+      bytes = ap (λ (x : Sample). x.bytes) e;
+      sync = sync_to a.flags b.flags (less l.flags sync_flag a.flags b.flags (ap (λ (x : Sample). x.flags) e));
+      flags = stays l.flags (sync_flag) a.flags b.flags (ap (λ (x : Sample). x.flags) e);
+      groups = stays l.groups (λ xs. []) a.groups b.groups (ap (λ (x : Sample). x.groups) e);
+    }
 
-  sample_from : (a b : Sample) → SamplesAgree l a b → reduce_sample l a ≡ reduce_sample l b
-  sample_from a b h = λ i. record {
-    duration = same_less l.timing (λ n. 1) a.duration b.duration h.duration refl i;
-    offset = same_less l.timing (λ n. pos 0) a.offset b.offset h.offset refl i;
-    description = h.description i;
-    bytes = h.bytes i;
-    flags = same_less l.flags sync_flag a.flags b.flags h.flags (sync_from a.flags b.flags h.sync) i;
-    groups = same_less l.groups (λ xs. []) a.groups b.groups h.groups refl i;
-  }
+    sample_from : (n : ℕ) (a b : Sample) → SamplesAgree l count first other n a b → reduce_sample l count first n a ≡ reduce_sample l count other n b
+    sample_from n a b h = λ i. record {
+      duration = same_both l.timing (l.ends && is_at_end count n) 1 1 1 a.duration b.duration h.duration (λ e f. refl) i;
+      offset = same_both l.timing l.origins (pos 0) (a.offset -ℤ first) (b.offset -ℤ other) a.offset b.offset h.offset h.moved i;
+      description = h.description i;
+      bytes = h.bytes i;
+      flags = same_less l.flags sync_flag a.flags b.flags h.flags (sync_from a.flags b.flags h.sync) i;
+      groups = same_less l.groups (λ xs. []) a.groups b.groups h.groups refl i;
+    }
+
+    from_to : (n : ℕ) (xs ys : List Sample) → reduce_from l count first n xs ≡ reduce_from l count other n ys → AllAgree l count first other n xs ys
+    from_to n [] [] e = tt
+    from_to n [] (y ∷ ys) e = absurd cc
+    from_to n (x ∷ xs) [] e = absurd cc
+    from_to n (x ∷ xs) (y ∷ ys) e =
+        let a = reduce_sample l count first n x in
+        let b = reduce_sample l count other n y in
+        let more = reduce_from l count first (suc n) xs in
+        let rest = reduce_from l count other (suc n) ys in
+        (sample_to n x y (first_same a b more rest e), from_to (suc n) xs ys (rest_same a b more rest e))
+
+    from_from : (n : ℕ) (xs ys : List Sample) → AllAgree l count first other n xs ys → reduce_from l count first n xs ≡ reduce_from l count other n ys
+    from_from n [] [] h = refl
+    from_from n [] (y ∷ ys) h = absurd h
+    from_from n (x ∷ xs) [] h = absurd h
+    from_from n (x ∷ xs) (y ∷ ys) h = λ i. sample_from n x y h.0 i ∷ from_from (suc n) xs ys h.1 i
+
+    agree_many : (n : ℕ) (xs ys : List Sample) → AllAgree l count first other n xs ys → length xs ≡ length ys
+    agree_many n [] [] h = refl
+    agree_many n [] (y ∷ ys) h = absurd h
+    agree_many n (x ∷ xs) [] h = absurd h
+    agree_many n (x ∷ xs) (y ∷ ys) h = let rest = agree_many (suc n) xs ys h.1 in omega (arith, rest)
+
+  samples_to : (xs ys : List Sample) → reduce_samples l xs ≡ reduce_samples l ys → AllAgree l (length xs) (first_offset xs) (first_offset ys) 0 xs ys
+  samples_to xs ys e =
+      let many : length xs ≡ length ys = sym (left_many l (length xs) (first_offset xs) 0 xs) ∙ ap length e ∙ left_many l (length ys) (first_offset ys) 0 ys in
+      from_to (length xs) (first_offset xs) (first_offset ys) 0 xs ys (e ∙ ap (λ count. reduce_from l count (first_offset ys) 0 ys) (sym many))
+
+  samples_from : (xs ys : List Sample) → AllAgree l (length xs) (first_offset xs) (first_offset ys) 0 xs ys → reduce_samples l xs ≡ reduce_samples l ys
+  samples_from xs ys h =
+      from_from (length xs) (first_offset xs) (first_offset ys) 0 xs ys h
+      ∙ ap (λ count. reduce_from l count (first_offset ys) 0 ys) (agree_many (length xs) (first_offset xs) (first_offset ys) 0 xs ys h)
 
   same_type : (a b : Media) → reduce_media l a ≡ reduce_media l b → handler_type a.handler ≡ handler_type b.handler
   same_type a b e = type_of_left a.handler b.handler a.descriptions b.descriptions l.labels (ap (λ (x : Media). x.handler) e)
@@ -204,16 +266,16 @@ module _ (l : Without) where
 
   track_to : (a b : Track) → reduce_track l a ≡ reduce_track l b → TracksAgree l a b
   track_to a b e = record {
-    start = stays l.timing (λ n. 0) a.start b.start (ap (λ (x : Track). x.start) e);
+    start = last_stays l.timing l.origins 0 0 0 a.start b.start (ap (λ (x : Track). x.start) e);
     head = track_head_to a.head b.head (ap (λ (x : Track). x.head) e);
-    samples = zip_to (SamplesAgree l) (reduce_sample l) sample_to a.samples b.samples (ap (λ (x : Track). x.samples) e);
+    samples = samples_to a.samples b.samples (ap (λ (x : Track). x.samples) e);
   }
 
   track_from : (a b : Track) → TracksAgree l a b → reduce_track l a ≡ reduce_track l b
   track_from a b h = λ i. record {
-    start = same_less l.timing (λ n. 0) a.start b.start h.start refl i;
+    start = same_both l.timing l.origins 0 0 0 a.start b.start h.start (λ e f. refl) i;
     head = track_head_from a.head b.head h.head i;
-    samples = zip_from (SamplesAgree l) (reduce_sample l) sample_from a.samples b.samples h.samples i;
+    samples = samples_from a.samples b.samples h.samples i;
   }
 
   all_to : (a b : Presentation) → reduce l a ≡ reduce l b → Agree l a b

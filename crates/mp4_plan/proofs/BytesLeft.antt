@@ -17,7 +17,7 @@ use Rattle.mp4_present.specs.declared.without.Without.{Without}
 use Rattle.mp4_present.specs.declared.track_info.TrackInfo.{TrackInfo}
 use Rattle.mp4_present.proofs.Counts.{sum-append}
 use Rattle.mp4_plan.specs.format.Pieces.{TimedSample}
-use Rattle.mp4_plan.specs.words.ComingLess.{left_samples}
+use Rattle.mp4_plan.specs.words.ComingLess.{left_samples, track_reduction}
 use Rattle.mp4_plan.specs.words.HandsFed.{sizes_of}
 use Rattle.mp4_plan.specs.words.PiecesComing.{Coming, stops, rest, end_of_other}
 use Rattle.mp4_plan.specs.words.Taken.{AreTaken}
@@ -73,7 +73,7 @@ kept_bytes leaving file tree (t ∷ trees) (info ∷ infos) z =
     let left = bytes_cons (left_samples leaving tree t) (map (left_samples leaving tree) trees) in
     let more = kept_bytes leaving file tree trees infos z.1 in
     let own = z.0.bytes in
-    let less = less_sizes leaving (track_samples tree t) in
+    let less = less_sizes (track_reduction leaving tree t) (track_samples tree t) in
     let same = timed_bytes (track_keys tree t) 0 (start_of (plain_of t) (parts_of_track (file_parts tree) t)) (placed_of (file_parts tree) t) in
     omega (arith, kept, left, more, own, less, same)
 

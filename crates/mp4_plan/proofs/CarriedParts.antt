@@ -33,6 +33,6 @@ read_at (z ∷ xs) (suc k) x y is e = read_at xs k x y is e
 
 -- what was noted doesn't depend on what waits to be put
 unfoldable pub noted_with : (file : List ℕ) (tree : FileTree) (m : MovieSeen) (track count : ℕ) (samples : List SampleAt) (w : Writer) (c : OutBuffer) → IsNoted file tree m track count samples w → IsNoted file tree m track count samples (record w { carrier = c })
-noted_with file tree m track count samples w c h = record { t = h.t; walk = h.walk; is_walk = h.is_walk; comes = h.comes; none = h.none; next = h.next; rows = h.rows; stretches = h.stretches }
+noted_with file tree m track count samples w c h = record { t = h.t; walk = h.walk; is_walk = h.is_walk; reduction = h.reduction; comes = h.comes; none = h.none; next = h.next; rows = h.rows; stretches = h.stretches }
 
 -- ---- the bytes of a piece

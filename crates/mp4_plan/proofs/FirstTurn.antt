@@ -1,28 +1,28 @@
 -- The first turn over the tracks of an opened file of which something may be left out: all of their samples are left, and so are all pieces.
-use Rattle.std.proofs.Common.{◌≡◌, ℕ, suc, ◌<◌, List, [], ◌∷◌, length, None, refl, sym, ap, subst, ◌∙◌, arith}
+use Rattle.std.proofs.Common.{◌≡◌, ℕ, suc, ◌+◌, ◌-◌, ◌^◌, ◌<◌, ◌≤◌, min, List, [], ◌∷◌, length, Some, None, refl, sym, ap, subst, ◌∙◌, arith}
 use Rattle.mp4_present.specs.declared.without.Without.{Without}
-use Rattle.mp4_plan.specs.words.ComingLess.{reduce_at, left_samples}
-use Rattle.mp4_present.specs.format.Reduced.{reduce_track, reduce_movie_head, reduce, start_left, timescale_left}
+use Rattle.mp4_plan.specs.words.ComingLess.{asks_first, left_samples, plain_reduction, reduce_at, reduction_by, reduction_of}
+use Rattle.mp4_present.specs.format.Reduced.{HasNearOffsets, ReducesInRange, reduce_track, reduce_movie_head, reduce, start_left, timescale_left}
 use Rattle.mp4_head.proofs.Distinct.{map_twice}
 use Rattle.mp4_plan.proofs.ReducedTaken.{reduced_are_taken, timed_numbered}
 use Rattle.mp4_plan.proofs.InfosLeft.{as_many_left}
 use Rattle.mp4_plan.proofs.ReducedValid.{scale_some}
-use Rattle.std.specs.Prelude.{Bool, true, false, if◌then◌else◌, map, unwrap_or, option_map}
+use Rattle.std.specs.Prelude.{Bool, true, false, not, ◌&&◌, ◌||◌, ◌==◌, if◌then◌else◌, map, unwrap_or, option_map}
 use Rattle.std.specs.List.{AllByRecursion, AllZip, slice_get}
 use Rattle.mp4_boxes.proofs.Each.{each_from}
 use Rattle.mp4_tables.specs.format.Groups.{GroupKey}
 use Rattle.mp4_tables.specs.words.Keys.{keys_seen}
 use Rattle.mp4_tables.specs.format.PlainSamples.{PlacedSample}
-use Rattle.mp4_tables.specs.words.Timed.{timed}
+use Rattle.mp4_tables.specs.words.Timed.{sample_at, timed}
 use Rattle.mp4_tables.specs.declared.sample.SampleAt.{SampleAt}
 use Rattle.mp4_frag.specs.format.FragmentSamples.{start_of}
 use Rattle.mp4_head.specs.format.Tree.{TrackTree, IsTrackTree, IsSoundTrack, track_head_of, movie_head_of}
 use Rattle.mp4_head.specs.format.Head.{MovieHead}
 use Rattle.mp4_present.specs.words.SamplesComing.{track_keys, track_samples}
-use Rattle.mp4_present.specs.format.Denotes.{FileTree, plain_of, file_parts, parts_of_track, placed_of, sample_of, track_of, presentation_of}
+use Rattle.mp4_present.specs.format.Denotes.{FileTree, movie_timescale, plain_of, file_parts, parts_of_track, placed_of, sample_of, track_of, presentation_of}
 use Rattle.mp4_present.specs.words.Movies.{MovieSeen}
 use Rattle.mp4_present.specs.words.OpenedMovie.{IsOpenedAs}
-use Rattle.mp4_present.specs.format.Presentation.{Track}
+use Rattle.mp4_present.specs.format.Presentation.{IsInTime, Track, end_time, max_time}
 use Rattle.mp4_present.specs.declared.track_info.TrackInfo.{TrackInfo}
 use Rattle.mp4_present.proofs.Assembled.{timescale_there}
 use Rattle.mp4_present.proofs.ValidSamples.{starts_at_0}
@@ -63,6 +63,20 @@ left_track leaving file tree t = reduce_track leaving (track_of file (file_parts
 module _ (leaving : Without) where
   -- ---- the first track
 
+  -- where the first sample is due is where the track begins
+  first_due : (v t e o : Bool) (start duration : ℕ) → ((e || o) && not t) ≡ v
+      → (if t then 0 else (let began = if v then start else 0 in let own = if v then duration else 0 in if e && not (0 == 0) then min ((if o then start - began else start) - own + 1) (2 ^ 64 - 1) else (if o then start - began else start))) ≡ (if t then 0 else if o then 0 else start)
+  first_due v true e o start duration h = refl
+  first_due true false e true start duration h = by e
+    where
+      by : (b : Bool) → (if b && not (0 == 0) then min (start - start - duration + 1) (2 ^ 64 - 1) else (start - start)) ≡ 0
+      by true = omega arith
+      by false = omega arith
+  first_due false false true true start duration h = absurd cc
+  first_due false false false true start duration h = absurd cc
+  first_due v false true false start duration h = refl
+  first_due v false false false start duration h = refl
+
   -- a track begins with its first sample; one without samples at 0
   begins : (file : List ℕ) (tree : FileTree) (t : TrackTree) → first_dts (left_samples leaving tree t) ≡ (left_track leaving file tree t).start
   begins file tree t = by (placed_of (file_parts tree) t) refl
@@ -70,13 +84,22 @@ module _ (leaving : Without) where
       start : ℕ
       start = start_of (plain_of t) (parts_of_track (file_parts tree) t)
 
-      at_0 : (b : Bool) (n : ℕ) → n ≡ 0 → 0 ≡ (if b then 0 else n)
-      at_0 true n e = refl
-      at_0 false n e = sym e
+      samples : List PlacedSample → List SampleAt
+      samples placed = timed (track_keys tree t) 0 start placed
 
-      by : (placed : List PlacedSample) → placed_of (file_parts tree) t ≡ placed → first_dts (map (reduce_at leaving) (timed (track_keys tree t) 0 start placed)) ≡ start_left leaving start
-      by [] e = at_0 leaving.timing start (starts_at_0 file (plain_of t) (parts_of_track (file_parts tree) t) (ap (map (sample_of file)) e))
-      by (s ∷ placed) e = refl
+      at_0 : (a b : Bool) (n : ℕ) → n ≡ 0 → 0 ≡ (if a then 0 else if b then 0 else n)
+      at_0 true b n e = refl
+      at_0 false true n e = refl
+      at_0 false false n e = sym e
+
+      due : (s : PlacedSample) (placed : List PlacedSample) (v : Bool) → asks_first leaving ≡ v → (reduce_at (if v then reduction_by leaving (length (samples (s ∷ placed))) (Some (sample_at (track_keys tree t) 0 start s)) else plain_reduction leaving) (sample_at (track_keys tree t) 0 start s)).dts
+          ≡ start_left leaving start
+      due s placed true e = first_due true leaving.timing leaving.ends leaving.origins start s.duration e
+      due s placed false e = first_due false leaving.timing leaving.ends leaving.origins start s.duration e
+
+      by : (placed : List PlacedSample) → placed_of (file_parts tree) t ≡ placed → first_dts (map (reduce_at (reduction_of leaving (samples placed))) (samples placed)) ≡ start_left leaving start
+      by [] e = at_0 leaving.timing leaving.origins start (starts_at_0 file (plain_of t) (parts_of_track (file_parts tree) t) (ap (map (sample_of file)) e))
+      by (s ∷ placed) e = due s placed (asks_first leaving) refl
 
   -- the first sample does not end the piece that begins with it
   fresh : (file : List ℕ) (keys : List GroupKey) (from scale : ℕ) (left : List SampleAt) (samples : List TimedSample) → AreTaken file keys left samples → 0 < scale → from ≡ first_dts left → IsFresh (Sync from scale) samples
@@ -86,19 +109,29 @@ module _ (leaving : Without) where
 
   -- ---- all tracks
 
-  less_left : (file : List ℕ) (tree : FileTree) (info : TrackInfo) (t : TrackTree) → TrackFacts file tree info t → IsLeft file (info_left leaving info) (left_samples leaving tree t) (coming_of (left_track leaving file tree t))
-  less_left file tree info t h = record {
+  -- a track of the file is not too long, and what is left of its offsets fits
+  abbrev IsGood : List ℕ → FileTree → TrackTree → Type 0
+  IsGood file tree t = (end_time (track_of file (file_parts tree) t) ≤ max_time) × HasNearOffsets (left_track leaving file tree t)
+
+  all_good : (file : List ℕ) (tree : FileTree) (timescale : ℕ) (trees : List TrackTree) → AllByRecursion (IsInTime timescale) (map (track_of file (file_parts tree)) trees) → AllByRecursion (λ (t : Track). HasNearOffsets (reduce_track leaving t)) (map (track_of file (file_parts tree)) trees)
+      → AllByRecursion (IsGood file tree) trees
+  all_good file tree timescale [] h n = tt
+  all_good file tree timescale (t ∷ trees) h n = ((h.0.0, n.0), all_good file tree timescale trees h.1 n.1)
+
+  less_left : (file : List ℕ) (tree : FileTree) (info : TrackInfo) (t : TrackTree) → TrackFacts file tree info t → IsGood file tree t → IsLeft file (info_left leaving info) (left_samples leaving tree t) (coming_of (left_track leaving file tree t))
+  less_left file tree info t h good = record {
     id = h.left.id;
     timescale = ap (timescale_left leaving) h.left.timescale;
-    taken = reduced_are_taken leaving file (keys_seen info.keys) (track_samples tree t) (track_of file (file_parts tree) t) (timed_numbered (track_keys tree t) 0 (start_of (plain_of t) (parts_of_track (file_parts tree) t)) (placed_of (file_parts tree) t)) h.left.taken;
+    taken = reduced_are_taken leaving file (keys_seen info.keys) (track_samples tree t) (track_of file (file_parts tree) t) (timed_numbered (track_keys tree t) 0 (start_of (plain_of t) (parts_of_track (file_parts tree) t)) (placed_of (file_parts tree) t)) good.0 good.1 h.left.taken;
   }
 
   -- all samples of all tracks are left
-  lefts_of : (file : List ℕ) (tree : FileTree) (infos : List TrackInfo) (trees : List TrackTree) → AllZip (TrackFacts file tree) infos trees → AreLeft file (infos_left leaving infos) (map (left_samples leaving tree) trees) (map coming_of (map (left_track leaving file tree) trees))
-  lefts_of file tree [] [] z = tt
-  lefts_of file tree [] (t ∷ trees) z = absurd z
-  lefts_of file tree (info ∷ infos) [] z = absurd z
-  lefts_of file tree (info ∷ infos) (t ∷ trees) z = (less_left file tree info t z.0, lefts_of file tree infos trees z.1)
+  lefts_of : (file : List ℕ) (tree : FileTree) (infos : List TrackInfo) (trees : List TrackTree) → AllZip (TrackFacts file tree) infos trees → AllByRecursion (IsGood file tree) trees
+      → AreLeft file (infos_left leaving infos) (map (left_samples leaving tree) trees) (map coming_of (map (left_track leaving file tree) trees))
+  lefts_of file tree [] [] z g = tt
+  lefts_of file tree [] (t ∷ trees) z g = absurd z
+  lefts_of file tree (info ∷ infos) [] z g = absurd z
+  lefts_of file tree (info ∷ infos) (t ∷ trees) z g = (less_left file tree info t z.0 g.0, lefts_of file tree infos trees z.1 g.1)
 
   as_many : (file : List ℕ) (tree : FileTree) (infos : List TrackInfo) (trees : List TrackTree) → AllZip (TrackFacts file tree) infos trees → length infos ≡ length (map coming_of (map (left_track leaving file tree) trees))
   as_many file tree [] [] z = refl
@@ -106,13 +139,13 @@ module _ (leaving : Without) where
   as_many file tree (info ∷ infos) [] z = absurd z
   as_many file tree (info ∷ infos) (t ∷ trees) z = ap suc (as_many file tree infos trees z.1)
 
-  stands : (file : List ℕ) (tree : FileTree) (infos : List TrackInfo) (trees : List TrackTree) (s : Schedule) → AllZip (TrackFacts file tree) infos trees → AllByRecursion (λ (t : TrackTree). 0 < (track_head_of t).media.timescale) trees
+  stands : (file : List ℕ) (tree : FileTree) (infos : List TrackInfo) (trees : List TrackTree) (s : Schedule) → AllZip (TrackFacts file tree) infos trees → AllByRecursion (λ (t : TrackTree). 0 < (track_head_of t).media.timescale) trees → AllByRecursion (IsGood file tree) trees
       → IsFirst (infos_left leaving infos) (map (left_samples leaving tree) trees) s
       → StandsAmong s (map coming_of (map (left_track leaving file tree) trees))
-  stands file tree [] [] s z lt h = h.tracks
-  stands file tree [] (t ∷ trees) s z lt h = absurd z
-  stands file tree (info ∷ infos) [] s z lt h = absurd z
-  stands file tree (info ∷ infos) (t ∷ trees) s z lt h =
+  stands file tree [] [] s z lt g h = h.tracks
+  stands file tree [] (t ∷ trees) s z lt g h = absurd z
+  stands file tree (info ∷ infos) [] s z lt g h = absurd z
+  stands file tree (info ∷ infos) (t ∷ trees) s z lt g h =
       let scale = timescale_left leaving (track_head_of t).media.timescale in
       let some = scale_some leaving (track_head_of t).media.timescale lt.0 in
       let others = map coming_of (map (left_track leaving file tree) trees) in
@@ -126,7 +159,7 @@ module _ (leaving : Without) where
           over = λ e. h.next;
         };
         scale = h.first ∙ sym (ap (timescale_left leaving) z.0.left.timescale);
-        fresh = λ e. fresh file (keys_seen info.keys) s.from scale (left_samples leaving tree t) (coming_of (left_track leaving file tree t)).samples (less_left file tree info t z.0).taken some h.from;
+        fresh = λ e. fresh file (keys_seen info.keys) s.from scale (left_samples leaving tree t) (coming_of (left_track leaving file tree t)).samples (less_left file tree info t z.0 g.0).taken some h.from;
         next = λ behind. absurd (omega (arith, track, behind));
       }
 
@@ -142,15 +175,16 @@ module _ (leaving : Without) where
       ∙ sym (turns_begin_with_all (record { movie = movie; tracks = first ∷ others }) (scale_some leaving (track_head_of t).media.timescale lt.0))
 
   -- At the first turn all samples and all pieces of the presentation are left.
-  pub first_turn : (file : List ℕ) (m : MovieSeen) (tree : FileTree) (s : Schedule) → IsOpenedAs file m tree → IsFirst (infos_left leaving m.tracks) (map (left_samples leaving tree) tree.movie.tracks) s
+  pub first_turn : (file : List ℕ) (m : MovieSeen) (tree : FileTree) (s : Schedule) → IsOpenedAs file m tree → ReducesInRange leaving (presentation_of file tree) → IsFirst (infos_left leaving m.tracks) (map (left_samples leaving tree) tree.movie.tracks) s
       → IsTurn file (infos_left leaving m.tracks) s (map (left_samples leaving tree) tree.movie.tracks) (map coming_of (reduce leaving (presentation_of file tree)).tracks)
       × (pieces_from s (map coming_of (reduce leaving (presentation_of file tree)).tracks) ≡ pieces (reduce leaving (presentation_of file tree)))
-  first_turn file m tree s o h =
+  first_turn file m tree s o near h =
+      let good = all_good file tree (movie_timescale file tree) tree.movie.tracks o.limits.times near in
       let facts = track_facts file m tree o in
       let scales = each_from IsTrackTree IsSoundTrack (λ (t : TrackTree). 0 < (track_head_of t).media.timescale) timescale_there tree.movie.tracks o.is_tree.movie.tracks o.is_sound.movie.tracks in
       let same = map_twice (track_of file (file_parts tree)) (reduce_track leaving) tree.movie.tracks in
       subst (λ (tracks : List Track). IsTurn file (infos_left leaving m.tracks) s (map (left_samples leaving tree) tree.movie.tracks) (map coming_of tracks) × (pieces_from s (map coming_of tracks) ≡ pieces (record { movie = reduce_movie_head leaving (movie_head_of tree.movie); tracks = tracks })))
       (sym same) (
-        record { each = lefts_of file tree m.tracks tree.movie.tracks facts; among = stands file tree m.tracks tree.movie.tracks s facts scales h; left = h.left },
+        record { each = lefts_of file tree m.tracks tree.movie.tracks facts good; among = stands file tree m.tracks tree.movie.tracks s facts scales good h; left = h.left },
         all_pieces file tree m.tracks (reduce_movie_head leaving (movie_head_of tree.movie)) tree.movie.tracks s scales h,
       )

@@ -12,7 +12,7 @@ use Rattle.mp4_present.specs.words.OpenedMovie.{IsOpenedAs}
 use Rattle.mp4_present.specs.words.SamplesComing.{samples_behind}
 use Rattle.mp4_present.specs.declared.walking.loaded.Loaded.{Loaded}
 use Rattle.mp4_present.specs.declared.walking.loaded.Place.{Place}
-use Rattle.mp4_present.specs.declared.without.Without.{Without}
+use Rattle.mp4_plan.specs.declared.reduced.Reduction.{Reduction}
 use Rattle.mp4_present.specs.declared.walking.Walk.{Walk}
 use Rattle.mp4_plan.specs.words.ComingLess.{ComesLess, less}
 use Rattle.mp4_plan.specs.words.Counting.{CountsFirst, HandCounted, HasCounted, PieceCounted}
@@ -93,18 +93,18 @@ module _ (test : SampleAt → Bool) where
 -- ---- over a walk
 
 -- So many samples of those that were to come pass and are counted, and the others still come.
-pub record Counts (leaving : Without) (file : List ℕ) (tree : FileTree) (t : TrackTree) (m : MovieSeen) (w : Walk) (test : SampleAt → Bool) (n : ℕ) (samples : List SampleAt) : Type 0 where
+pub record Counts (leaving : Reduction) (file : List ℕ) (tree : FileTree) (t : TrackTree) (m : MovieSeen) (w : Walk) (test : SampleAt → Bool) (n : ℕ) (samples : List SampleAt) : Type 0 where
   pub left : List SampleAt
   pub first : CountsFirst test n samples left
   pub comes : ComesLess leaving file tree t m w left
 
-abbrev pub CountsOn : Without → List ℕ → MovieSeen → Walk → Walk → (SampleAt → Bool) → ℕ → Type 0
+abbrev pub CountsOn : Reduction → List ℕ → MovieSeen → Walk → Walk → (SampleAt → Bool) → ℕ → Type 0
 CountsOn leaving file m begun w test n = (tree : FileTree) (t : TrackTree) (samples : List SampleAt) → IsOpenedAs file m tree → ComesLess leaving file tree t m begun samples → Counts leaving file tree t m w test n samples
 
-pub counts_new : (leaving : Without) (file : List ℕ) (m : MovieSeen) (w : Walk) (test : SampleAt → Bool) → CountsOn leaving file m w w test 0
+pub counts_new : (leaving : Reduction) (file : List ℕ) (m : MovieSeen) (w : Walk) (test : SampleAt → Bool) → CountsOn leaving file m w w test 0
 counts_new leaving file m w test tree t samples o c = record { left = samples; first = counts_none test samples; comes = c }
 
-module _ (leaving : Without) (file : List ℕ) (m : MovieSeen) (begun w now : Walk) (test : SampleAt
+module _ (leaving : Reduction) (file : List ℕ) (m : MovieSeen) (begun w now : Walk) (test : SampleAt
     → Bool) (most n more : ℕ) (next : Option SampleAt) (place : Place) (on : CountsOn leaving file m begun w test n) (h : HandCounted leaving m w test most more next place) (is : now ≡ record w { place = place }) where
   -- those in hand were counted
   pub hand_counted : CountsOn leaving file m begun now test (n + more)
@@ -163,7 +163,7 @@ module _ (leaving : Without) (file : List ℕ) (m : MovieSeen) (begun w now : Wa
   pub count_empty : next ≡ None → less leaving (left_in_hand h.later) ≡ []
   count_empty e = none_is (less leaving (left_in_hand h.later)) (sym e ∙ h.shown)
 
-module _ (leaving : Without) (file : List ℕ) (m : MovieSeen) (begun w next : Walk) (test : SampleAt → Bool) (n : ℕ) (hand : Loaded) (more : Bool) (on : CountsOn leaving file m begun w test n) (is_hand : InHandOf m w hand) (none : less leaving (left_in_hand hand) ≡ [])
+module _ (leaving : Reduction) (file : List ℕ) (m : MovieSeen) (begun w next : Walk) (test : SampleAt → Bool) (n : ℕ) (hand : Loaded) (more : Bool) (on : CountsOn leaving file m begun w test n) (is_hand : InHandOf m w hand) (none : less leaving (left_in_hand hand) ≡ [])
     (loads : LoadsFor file m w next more) where
   -- more was loaded
   pub next_counted : more ≡ true → CountsOn leaving file m begun next test n
@@ -199,7 +199,7 @@ begun_by : (end : End) (s : SampleAt) (samples : List SampleAt) → Some s ≡ s
 unfolding more_of
 begun_by end s samples first = ap (more_of (piece_from end)) (first_is samples s first) ∙ sym (ap (prefix_len (goes_in end s.description)) (first_is samples s first))
 
-pub turn_counted : (leaving : Without) (file : List ℕ) (tree : FileTree) (t : TrackTree) (m : MovieSeen) (w : Walk) (end : End) (s : SampleAt) (samples : List SampleAt) (n : ℕ) (next : Option SampleAt) → Some s ≡ slice_get samples 0
+pub turn_counted : (leaving : Reduction) (file : List ℕ) (tree : FileTree) (t : TrackTree) (m : MovieSeen) (w : Walk) (end : End) (s : SampleAt) (samples : List SampleAt) (n : ℕ) (next : Option SampleAt) → Some s ≡ slice_get samples 0
     → HasCounted leaving file tree t m w (goes_in end s.description) samples n next → PieceCounted leaving file tree t m w end samples n next
 turn_counted leaving file tree t m w end s samples n next first h =
     let is = begun_by end s samples first in
@@ -212,7 +212,7 @@ turn_counted leaving file tree t m w end s samples n next first h =
     }
 
 -- a turn in which none goes into a piece
-pub turn_empty : (leaving : Without) (file : List ℕ) (tree : FileTree) (t : TrackTree) (m : MovieSeen) (w : Walk) (end : End) (samples : List SampleAt) (next : Option SampleAt) → next ≡ slice_get samples 0 → more_of (piece_from end) samples ≡ 0 → ComesLess leaving file tree t m w samples
+pub turn_empty : (leaving : Reduction) (file : List ℕ) (tree : FileTree) (t : TrackTree) (m : MovieSeen) (w : Walk) (end : End) (samples : List SampleAt) (next : Option SampleAt) → next ≡ slice_get samples 0 → more_of (piece_from end) samples ≡ 0 → ComesLess leaving file tree t m w samples
     → PieceCounted leaving file tree t m w end samples 0 next
 turn_empty leaving file tree t m w end samples next first none comes =
     let all = counted_fed (piece_from end) samples in

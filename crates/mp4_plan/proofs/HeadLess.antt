@@ -41,11 +41,11 @@ kept_less (k ∷ kept) = one_less k kept (not (is_among metadata_kinds k.kind.0)
 
 -- ---- how long the movie is where edits stay
 
-module _ (l : Without) (stay : l.edits ≡ false) (counts : l.timing ≡ false) where
+module _ (l : Without) (stay : l.edits ≡ false) (counts : l.timing ≡ false) (lasts : l.ends ≡ false) where
   longest_same : (timescale most : ℕ) (tracks : List Track) → fold (λ n (t : Track). max n (track_length (timescale_left l timescale) t)) most (map (reduce_track l) tracks) ≡ fold (λ n (t : Track). max n (track_length timescale t)) most tracks
   longest_same timescale most [] = refl
   longest_same timescale most (t ∷ tracks) =
-      ap (λ n. fold (λ n (t : Track). max n (track_length (timescale_left l timescale) t)) (max most n) (map (reduce_track l) tracks)) (same_track_length l timescale t stay counts)
+      ap (λ n. fold (λ n (t : Track). max n (track_length (timescale_left l timescale) t)) (max most n) (map (reduce_track l) tracks)) (same_track_length l timescale t stay counts lasts)
       ∙ longest_same timescale (max most (track_length timescale t)) tracks
 
   pub same_length : (p : Presentation) → movie_length (reduce l p) ≡ movie_length p

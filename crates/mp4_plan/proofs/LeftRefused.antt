@@ -7,7 +7,7 @@ use Rattle.mp4_present.specs.format.Denotes.{FileTree}
 use Rattle.mp4_present.specs.words.Carried.{RefusesCarry, RefusesCopy}
 use Rattle.mp4_present.specs.declared.without.Without.{Without}
 use Rattle.mp4_plan.specs.words.Writers.{RefusesPlan}
-use Rattle.mp4_plan.specs.words.LeftTimes.{NamesLong, RefusesLeft, RefusesLeftCopy}
+use Rattle.mp4_plan.specs.words.LeftTimes.{NamesLong, RefusesLeft, RefusesLeftCopy, moves_limits}
 
 -- what holds anyway holds of each answer
 pub so_if_ok : {T : Type 0} (answer : Result T Refusal) (P : Type 0) → P → OnOk answer P
@@ -53,9 +53,9 @@ pub carried_names : (l : Without) (file : List ℕ) (tree : FileTree) {T : Type 
 carried_names l file tree (Ok x) reads reads_after puts puts_after w = tt
 carried_names l file tree (Err r) reads reads_after puts puts_after w = carry_names l file tree reads reads_after puts puts_after r w
 
--- ---- where edits stay no track is too long
+-- ---- where edits, ends and origins stay no track is too long
 
-plan_left : (l : Without) (reads reads_after : ℕ) (r : Refusal) → l.edits ≡ false → RefusesLeft l reads reads_after r → RefusesPlan reads reads_after r
+plan_left : (l : Without) (reads reads_after : ℕ) (r : Refusal) → moves_limits l ≡ false → RefusesLeft l reads reads_after r → RefusesPlan reads reads_after r
 plan_left l reads reads_after (refusals.Fault f) e w = let out = w.0 in absurd cc
 plan_left l reads reads_after refusals.Memory e w = w
 plan_left l reads reads_after refusals.StoreFailed e w = w
@@ -63,11 +63,11 @@ plan_left l reads reads_after refusals.StoreChanged e w = w
 plan_left l reads reads_after refusals.WriteFailed e w = w
 plan_left l reads reads_after refusals.NoSuchTrack e w = w
 
-pub planned_left : (l : Without) {T : Type 0} (answer : Result T Refusal) (reads reads_after : ℕ) → l.edits ≡ false → IfErr answer (RefusesLeft l reads reads_after) → IfErr answer (RefusesPlan reads reads_after)
+pub planned_left : (l : Without) {T : Type 0} (answer : Result T Refusal) (reads reads_after : ℕ) → moves_limits l ≡ false → IfErr answer (RefusesLeft l reads reads_after) → IfErr answer (RefusesPlan reads reads_after)
 planned_left l (Ok x) reads reads_after e w = tt
 planned_left l (Err r) reads reads_after e w = plan_left l reads reads_after r e w
 
-copy_left : (l : Without) (Took : List ℕ → Type 0) (reads reads_after puts puts_after : ℕ) (r : Refusal) → l.edits ≡ false → RefusesLeftCopy l Took reads reads_after puts puts_after r → RefusesCopy Took reads reads_after puts puts_after r
+copy_left : (l : Without) (Took : List ℕ → Type 0) (reads reads_after puts puts_after : ℕ) (r : Refusal) → moves_limits l ≡ false → RefusesLeftCopy l Took reads reads_after puts puts_after r → RefusesCopy Took reads reads_after puts puts_after r
 copy_left l Took reads reads_after puts puts_after (refusals.Fault f) e w = let out = w.0.0 in absurd cc
 copy_left l Took reads reads_after puts puts_after refusals.Memory e w = w
 copy_left l Took reads reads_after puts puts_after refusals.StoreFailed e w = w
@@ -75,7 +75,7 @@ copy_left l Took reads reads_after puts puts_after refusals.StoreChanged e w = w
 copy_left l Took reads reads_after puts puts_after refusals.WriteFailed e w = w
 copy_left l Took reads reads_after puts puts_after refusals.NoSuchTrack e w = w
 
-pub copied_left : (l : Without) {T : Type 0} (answer : Result T Refusal) (Took : List ℕ → Type 0) (reads reads_after puts puts_after : ℕ) → l.edits ≡ false
+pub copied_left : (l : Without) {T : Type 0} (answer : Result T Refusal) (Took : List ℕ → Type 0) (reads reads_after puts puts_after : ℕ) → moves_limits l ≡ false
     → IfErr answer (RefusesLeftCopy l Took reads reads_after puts puts_after) → IfErr answer (RefusesCopy Took reads reads_after puts puts_after)
 copied_left l (Ok x) Took reads reads_after puts puts_after e w = tt
 copied_left l (Err r) Took reads reads_after puts puts_after e w = copy_left l Took reads reads_after puts puts_after r e w

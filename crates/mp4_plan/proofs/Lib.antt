@@ -37,6 +37,7 @@ pub mod NormalGroups
 pub mod NormalDenotes
 pub mod TurnOrder
 mod LooksOn
+pub mod ReducedSamples
 pub mod Reducing
 pub mod Covering
 pub mod ReducedValid
@@ -78,9 +79,14 @@ pub mod WriterTurns
 pub mod TurnTaken
 pub mod TakenFrom
 pub mod ReducedTaken
+pub mod Measured
 pub mod CarriedLess
 pub mod HeadLess
+pub mod CheckedTracks
+pub mod MayPass
+pub mod MeasuredTracks
 pub mod LeftTimes
+pub mod LeftChecked
 pub mod LeftRefused
 pub mod ReducedFaults
 pub mod InfosLeft

@@ -1,6 +1,6 @@
 -- A piece that is fed over the `moof`s that its samples are in.
 use Rattle.std.proofs.Common.{◌≡◌, ℕ, ◌+◌, ◌<◌, ◌≤◌, Bool, true, false, List, [], ◌∷◌, ◌++◌, length, take, drop, refl, sym, ap, subst, ◌∙◌, append_assoc, length-append, arith}
-use Rattle.mp4_present.specs.declared.without.Without.{Without}
+use Rattle.mp4_plan.specs.declared.reduced.Reduction.{Reduction}
 use Rattle.mp4_plan.specs.words.ComingLess.{ComesLess, less}
 use Rattle.mp4_plan.proofs.ReducedTaken.{less_append}
 use Rattle.std.specs.Prelude.{map}
@@ -79,20 +79,20 @@ fed_stopped p (x ∷ xs) ys lt = by (goes_in p.end (description_in p.gathered (x
 -- ---- over a walk
 
 -- A piece has as many of the first samples that were to come as it counts, and the others still come. What goes into it of all is what goes into it further of those.
-pub record Feeds (leaving : Without) (file : List ℕ) (tree : FileTree) (t : TrackTree) (m : MovieSeen) (w : Walk) (start p : Planning) (samples : List SampleAt) : Type 0 where
+pub record Feeds (leaving : Reduction) (file : List ℕ) (tree : FileTree) (t : TrackTree) (m : MovieSeen) (w : Walk) (start p : Planning) (samples : List SampleAt) : Type 0 where
   pub few : count_of p.gathered ≤ length samples
   pub comes : ComesLess leaving file tree t m w (drop (count_of p.gathered) samples)
   pub same : SameFeed start samples p (drop (count_of p.gathered) samples)
 
-abbrev pub FeedsOn : Without → List ℕ → MovieSeen → Walk → Walk → Planning → Planning → Type 0
+abbrev pub FeedsOn : Reduction → List ℕ → MovieSeen → Walk → Walk → Planning → Planning → Type 0
 FeedsOn leaving file m begun w start p = (tree : FileTree) (t : TrackTree) (samples : List SampleAt) → IsOpenedAs file m tree → ComesLess leaving file tree t m begun samples → Feeds leaving file tree t m w start p samples
 
 -- The piece has all that go into it of the samples that were to come, and the others still come.
-abbrev pub HasFed : Without → List ℕ → FileTree → TrackTree → MovieSeen → Walk → Planning → Planning → List SampleAt → Type 0
+abbrev pub HasFed : Reduction → List ℕ → FileTree → TrackTree → MovieSeen → Walk → Planning → Planning → List SampleAt → Type 0
 HasFed leaving file tree t m w start p samples = (p ≡ piece_fed start samples) × ComesLess leaving file tree t m w (samples_after start samples)
 
 -- a piece without samples
-pub feeds_new : (leaving : Without) (file : List ℕ) (m : MovieSeen) (w : Walk) (end : End) (p : Planning) → p ≡ piece_from end → FeedsOn leaving file m w w (piece_from end) p
+pub feeds_new : (leaving : Reduction) (file : List ℕ) (m : MovieSeen) (w : Walk) (end : End) (p : Planning) → p ≡ piece_from end → FeedsOn leaving file m w w (piece_from end) p
 feeds_new leaving file m w end p is tree t samples o c =
     subst (λ (q : Planning). Feeds leaving file tree t m w (piece_from end) q samples) (sym is) (record { few = omega arith; comes = c; same = (refl, refl) })
 
@@ -102,7 +102,7 @@ pub raw_coming : (file : List ℕ) (m : MovieSeen) (tree : FileTree) (t : TrackT
 raw_coming file m tree t w now place rest k later is_later is =
     subst (λ (w' : Walk). Comes file tree t m w' (left_in_hand later ++ samples_behind tree t k.0 k.1)) (sym is) (k.0, k.1, later, (kept_before file tree t k.0 k.1 w place k.3.0, is_later, refl))
 
-pub fed_coming : (leaving : Without) (file : List ℕ) (m : MovieSeen) (tree : FileTree) (t : TrackTree) (w now : Walk) (place : Place) (rest : List SampleAt) (k : ComesLess leaving file tree t m w rest) (later : Loaded) → InHandOf m (record w { place = place }) later
+pub fed_coming : (leaving : Reduction) (file : List ℕ) (m : MovieSeen) (tree : FileTree) (t : TrackTree) (w now : Walk) (place : Place) (rest : List SampleAt) (k : ComesLess leaving file tree t m w rest) (later : Loaded) → InHandOf m (record w { place = place }) later
     → now ≡ record w { place = place }
     → ComesLess leaving file tree t m now (less leaving (left_in_hand later) ++ less leaving (samples_behind tree t k.comes.0 k.comes.1))
 fed_coming leaving file m tree t w now place rest k later is_later is = record {
@@ -112,12 +112,12 @@ fed_coming leaving file m tree t w now place rest k later is_later is = record {
 }
 
 -- what is left of those in hand, and of those behind them
-pub hand_less : (leaving : Without) (file : List ℕ) (m : MovieSeen) (tree : FileTree) (t : TrackTree) (w : Walk) (rest : List SampleAt) (k : ComesLess leaving file tree t m w rest) (hand : Loaded) → InHandOf m w hand
+pub hand_less : (leaving : Reduction) (file : List ℕ) (m : MovieSeen) (tree : FileTree) (t : TrackTree) (w : Walk) (rest : List SampleAt) (k : ComesLess leaving file tree t m w rest) (hand : Loaded) → InHandOf m w hand
     → rest ≡ less leaving (left_in_hand hand) ++ less leaving (samples_behind tree t k.comes.0 k.comes.1)
 hand_less leaving file m tree t w rest k hand is_hand =
     k.is_left ∙ ap (less leaving) (hand_first file m tree t w k.samples k.comes hand is_hand) ∙ less_append leaving (left_in_hand hand) (samples_behind tree t k.comes.0 k.comes.1)
 
-pub nothing_left : (leaving : Without) (samples : List SampleAt) → less leaving samples ≡ [] → samples ≡ []
+pub nothing_left : (leaving : Reduction) (samples : List SampleAt) → less leaving samples ≡ [] → samples ≡ []
 nothing_left leaving [] e = refl
 nothing_left leaving (s ∷ samples) e = absurd cc
 
@@ -135,7 +135,8 @@ few_first n n' samples xs done ys behind few first whole count =
     omega (arith, few, count, a, b, d, length-append xs behind, length-append done ys)
 
 -- the hand was fed, and is empty
-pub hand_fed : (leaving : Without) (file : List ℕ) (m : MovieSeen) (begun w now : Walk) (room : ℕ) (start p q : Planning) (place : Place) → FeedsOn leaving file m begun w start p → HandFed leaving m w room p q Empty place → now ≡ record w { place = place } → FeedsOn leaving file m begun now start q
+pub hand_fed : (leaving : Reduction) (file : List ℕ) (m : MovieSeen) (begun w now : Walk) (room : ℕ) (start p q : Planning) (place : Place) → FeedsOn leaving file m begun w start p → HandFed leaving m w room p q Empty place → now ≡ record w { place = place }
+    → FeedsOn leaving file m begun now start q
 hand_fed leaving file m begun w now room start p q place on h is tree t samples o c =
     let u = on tree t samples o c in
     let k = u.comes in
@@ -156,7 +157,7 @@ hand_fed leaving file m begun w now room start p q place on h is tree t samples 
     }
 
 -- the piece has ended within the hand
-pub hand_ended : (leaving : Without) (file : List ℕ) (m : MovieSeen) (begun w now : Walk) (room : ℕ) (start p q : Planning) (place : Place) → FeedsOn leaving file m begun w start p → HandFed leaving m w room p q Ended place → now ≡ record w { place = place }
+pub hand_ended : (leaving : Reduction) (file : List ℕ) (m : MovieSeen) (begun w now : Walk) (room : ℕ) (start p q : Planning) (place : Place) → FeedsOn leaving file m begun w start p → HandFed leaving m w room p q Ended place → now ≡ record w { place = place }
     → (tree : FileTree) (t : TrackTree) (samples : List SampleAt) → IsOpenedAs file m tree → ComesLess leaving file tree t m begun samples → HasFed leaving file tree t m now start q samples
 hand_ended leaving file m begun w now room start p q place on h is tree t samples o c =
     let u = on tree t samples o c in
@@ -169,7 +170,7 @@ hand_ended leaving file m begun w now room start p q place on h is tree t sample
     (h.taken.0 ∙ sym f.0 ∙ ap (λ (l : List SampleAt). piece_fed p l) (sym whole) ∙ sym u.same.0, subst (λ (l : List SampleAt). ComesLess leaving file tree t m now l) left (fed_coming leaving file m tree t w now place rest k h.later h.is_later is))
 
 -- there was less room than the piece has samples
-pub hand_full : (leaving : Without) (file : List ℕ) (m : MovieSeen) (begun w : Walk) (room : ℕ) (start p q : Planning) (place : Place) → FeedsOn leaving file m begun w start p → HandFed leaving m w room p q Full place
+pub hand_full : (leaving : Reduction) (file : List ℕ) (m : MovieSeen) (begun w : Walk) (room : ℕ) (start p q : Planning) (place : Place) → FeedsOn leaving file m begun w start p → HandFed leaving m w room p q Full place
     → (tree : FileTree) (t : TrackTree) (samples : List SampleAt) → IsOpenedAs file m tree → ComesLess leaving file tree t m begun samples → count_of p.gathered + room < count_of start.gathered + more_of start samples
 hand_full leaving file m begun w room start p q place on h tree t samples o c =
     let u = on tree t samples o c in
@@ -183,7 +184,7 @@ hand_full leaving file m begun w room start p q place on h tree t samples o c =
     omega (arith, counts, whole, more_with p xs behind, full)
 
 -- more was loaded
-pub next_fed : (leaving : Without) (file : List ℕ) (m : MovieSeen) (begun w next : Walk) (start p : Planning) (hand : Loaded) (more : Bool) → FeedsOn leaving file m begun w start p → InHandOf m w hand → less leaving (left_in_hand hand) ≡ [] → LoadsFor file m w next more → more ≡ true
+pub next_fed : (leaving : Reduction) (file : List ℕ) (m : MovieSeen) (begun w next : Walk) (start p : Planning) (hand : Loaded) (more : Bool) → FeedsOn leaving file m begun w start p → InHandOf m w hand → less leaving (left_in_hand hand) ≡ [] → LoadsFor file m w next more → more ≡ true
     → FeedsOn leaving file m begun next start p
 next_fed leaving file m begun w next start p hand more on is_hand none loads e tree t samples o c =
     let u = on tree t samples o c in
@@ -191,7 +192,7 @@ next_fed leaving file m begun w next start p hand more on is_hand none loads e t
     record { few = u.few; comes = record { samples = k.samples; comes = loads_on file m tree t w next k.samples k.comes hand is_hand (nothing_left leaving (left_in_hand hand) none) more e (loads tree t k.comes.0 k.comes.1 o k.comes.3.0); is_left = k.is_left }; same = u.same }
 
 -- nothing was loaded
-pub none_fed : (leaving : Without) (file : List ℕ) (m : MovieSeen) (begun w next : Walk) (start p : Planning) (hand : Loaded) (more : Bool) → FeedsOn leaving file m begun w start p → InHandOf m w hand → less leaving (left_in_hand hand) ≡ [] → LoadsFor file m w next more → more ≡ false
+pub none_fed : (leaving : Reduction) (file : List ℕ) (m : MovieSeen) (begun w next : Walk) (start p : Planning) (hand : Loaded) (more : Bool) → FeedsOn leaving file m begun w start p → InHandOf m w hand → less leaving (left_in_hand hand) ≡ [] → LoadsFor file m w next more → more ≡ false
     → EndsFor file m w next more → (tree : FileTree) (t : TrackTree) (samples : List SampleAt) → IsOpenedAs file m tree → ComesLess leaving file tree t m begun samples → HasFed leaving file tree t m next start p samples
 none_fed leaving file m begun w next start p hand more on is_hand none loads e ends tree t samples o c =
     let u = on tree t samples o c in
@@ -207,16 +208,16 @@ none_fed leaving file m begun w next start p hand more on is_hand none loads e e
 -- ---- rows
 
 -- Those that a piece has of the samples that were to come are noted in the first rows.
-abbrev pub NotesOn : Without → List ℕ → MovieSeen → Walk → Planning → List Row → Type 0
+abbrev pub NotesOn : Reduction → List ℕ → MovieSeen → Walk → Planning → List Row → Type 0
 NotesOn leaving file m begun p rows =
     (tree : FileTree) (t : TrackTree) (samples : List SampleAt) → IsOpenedAs file m tree → ComesLess leaving file tree t m begun samples → take (count_of p.gathered) rows ≡ map row_seen (take (count_of p.gathered) samples)
 
 -- nothing is noted yet
-pub notes_new : (leaving : Without) (file : List ℕ) (m : MovieSeen) (w : Walk) (end : End) (p : Planning) (rows : List Row) → p ≡ piece_from end → NotesOn leaving file m w p rows
+pub notes_new : (leaving : Reduction) (file : List ℕ) (m : MovieSeen) (w : Walk) (end : End) (p : Planning) (rows : List Row) → p ≡ piece_from end → NotesOn leaving file m w p rows
 notes_new leaving file m w end p rows is tree t samples o c = let none = ap (λ (q : Planning). count_of q.gathered) is in ap (λ n. take n rows) none ∙ sym (ap (λ n. map row_seen (take n samples)) none)
 
 -- those in hand that were taken are noted behind the others, in a part of the rows
-pub hand_noted : (leaving : Without) (file : List ℕ) (m : MovieSeen) (begun w : Walk) (room n : ℕ) (start p q : Planning) (stop : Stop) (place : Place) (rows part behind_it : List Row) (told told_after : Stretches) → FeedsOn leaving file m begun w start p → NotesOn leaving file m begun p rows
+pub hand_noted : (leaving : Reduction) (file : List ℕ) (m : MovieSeen) (begun w : Walk) (room n : ℕ) (start p q : Planning) (stop : Stop) (place : Place) (rows part behind_it : List Row) (told told_after : Stretches) → FeedsOn leaving file m begun w start p → NotesOn leaving file m begun p rows
     → HandNoted leaving m w room p q stop place part told told_after → n ≡ count_of p.gathered → n ≤ length rows → NotesOn leaving file m begun q (take n rows ++ (part ++ behind_it))
 hand_noted leaving file m begun w room n start p q stop place rows part behind_it told told_after on noted h is few tree t samples o c =
     let u = on tree t samples o c in
@@ -238,18 +239,18 @@ hand_noted leaving file m begun w room n start p q stop place rows part behind_i
 -- ---- where their bytes lie
 
 -- Those that a piece has of the samples that were to come were added to what is kept.
-abbrev pub JoinsFor : Without → List ℕ → MovieSeen → Walk → Planning → Stretches → Stretches → Type 0
+abbrev pub JoinsFor : Reduction → List ℕ → MovieSeen → Walk → Planning → Stretches → Stretches → Type 0
 JoinsFor leaving file m begun p told now =
     (tree : FileTree) (t : TrackTree) (samples : List SampleAt) → IsOpenedAs file m tree → ComesLess leaving file tree t m begun samples → JoinsOn told now (take (count_of p.gathered) samples)
 
 -- none yet
-pub joins_new : (leaving : Without) (file : List ℕ) (m : MovieSeen) (w : Walk) (end : End) (p : Planning) (told : Stretches) → p ≡ piece_from end → JoinsFor leaving file m w p told told
+pub joins_new : (leaving : Reduction) (file : List ℕ) (m : MovieSeen) (w : Walk) (end : End) (p : Planning) (told : Stretches) → p ≡ piece_from end → JoinsFor leaving file m w p told told
 joins_new leaving file m w end p told is tree t samples o c =
     let none : take (count_of p.gathered) samples ≡ [] = ap (λ (q : Planning). take (count_of q.gathered) samples) is in
     subst (λ (l : List SampleAt). JoinsOn told told l) (sym none) (joins_none told)
 
 -- those in hand that were taken were added behind the others
-pub hand_joined : (leaving : Without) (file : List ℕ) (m : MovieSeen) (begun w : Walk) (room : ℕ) (start p q : Planning) (stop : Stop) (place : Place) (rows : List Row) (told now later : Stretches) → FeedsOn leaving file m begun w start p → JoinsFor leaving file m begun p told now
+pub hand_joined : (leaving : Reduction) (file : List ℕ) (m : MovieSeen) (begun w : Walk) (room : ℕ) (start p q : Planning) (stop : Stop) (place : Place) (rows : List Row) (told now later : Stretches) → FeedsOn leaving file m begun w start p → JoinsFor leaving file m begun p told now
     → HandNoted leaving m w room p q stop place rows now later → JoinsFor leaving file m begun q told later
 hand_joined leaving file m begun w room start p q stop place rows told now later on joined h tree t samples o c =
     let u = on tree t samples o c in

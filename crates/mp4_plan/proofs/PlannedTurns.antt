@@ -1,8 +1,8 @@
 -- What is planned of the pieces of an opened file, turn by turn.
 use Rattle.std.proofs.Common.{◌≡◌, ℕ, zero, suc, ◌+◌, ◌-◌, ◌*◌, ◌^◌, ◌<◌, ◌≤◌, nat_lt, Bool, true, false, cond, List, [], ◌∷◌, ◌++◌, length, take, map, Option, Some, None, refl, sym, ap, subst, ◌∙◌, arith, length-append, append-nil}
 use Rattle.mp4_present.specs.declared.without.Without.{Without}
-use Rattle.mp4_plan.specs.words.ComingLess.{ComesLess, left_samples}
-use Rattle.mp4_present.specs.format.Reduced.{reduce, timescale_left}
+use Rattle.mp4_plan.specs.words.ComingLess.{ComesLess, left_samples, track_reduction}
+use Rattle.mp4_present.specs.format.Reduced.{ReducesInRange, reduce, timescale_left}
 use Rattle.mp4_plan.proofs.ReducedTaken.{less_counted}
 use Rattle.std.specs.Prelude.{slice_get, slice_set, slice_index_or, min, max, fold}
 use Rattle.std.specs.List.{sum_by}
@@ -159,7 +159,7 @@ begins_same [] = refl
 begins_same ([] ∷ lefts) = refl
 begins_same ((s ∷ samples) ∷ lefts) = refl
 
-module _ (leaving : Without) (file : List ℕ) (tree : FileTree) (m : MovieSeen) (s : Schedule) (walks : List Walk) (nexts : List (Option SampleAt)) (from : ℕ) (o : IsOpenedAs file m tree) (come : AllBegin leaving file tree m walks)
+module _ (leaving : Without) (file : List ℕ) (tree : FileTree) (m : MovieSeen) (s : Schedule) (walks : List Walk) (nexts : List (Option SampleAt)) (from : ℕ) (o : IsOpenedAs file m tree) (near : ReducesInRange leaving (presentation_of file tree)) (come : AllBegin leaving file tree m walks)
     (shown : nexts ≡ firsts (map (left_samples leaving tree) tree.movie.tracks)) (time : from ≡ writers.first_dts (map (left_samples leaving tree) tree.movie.tracks))
     (tracks : s.tracks ≡ length m.tracks) (first : s.first ≡ first_scale (infos_left leaving m.tracks)) (left : s.left ≡ sum_by (λ (i : TrackInfo). i.samples) m.tracks) (starts : (s.track ≡ 0) × (s.from ≡ from) × (s.next ≡ None)) where
   abbrev all_lefts : List (List SampleAt)
@@ -174,7 +174,7 @@ module _ (leaving : Without) (file : List ℕ) (tree : FileTree) (m : MovieSeen)
   begins : IsTurn file (infos_left leaving m.tracks) s all_lefts all_comings × (pieces_from s all_comings ≡ pieces (reduce leaving (presentation_of file tree)))
   begins =
       let count = all_counted file m tree s.left o left ∙ sym (less_counted leaving tree tree.movie.tracks) in
-      first_turn leaving file m tree s o (record { tracks = tracks ∙ sym (as_many_left leaving m.tracks); first = first; track = starts.0; from = starts.1 ∙ time ∙ begins_same all_lefts; next = starts.2; left = count })
+      first_turn leaving file m tree s o near (record { tracks = tracks ∙ sym (as_many_left leaving m.tracks); first = first; track = starts.0; from = starts.1 ∙ time ∙ begins_same all_lefts; next = starts.2; left = count })
 
   -- Before the first turn all pieces are left.
   pub stands_first : StandsAt leaving file tree m s walks nexts all_lefts all_comings
@@ -225,7 +225,7 @@ pub record HasTurn (leaving : Without) (file : List ℕ) (tree : FileTree) (m : 
   pub is_left : slice_get lefts s.track ≡ Some left
   pub place : k ≡ s.track
   pub end_is : end ≡ turn_end s (timescale_left leaving info.timescale)
-  pub comes : ComesLess leaving file tree t m walk left
+  pub comes : ComesLess (track_reduction leaving tree t) file tree t m walk left
   pub few : length left ≤ 2 ^ 24
   pub shown : slice_get nexts s.track ≡ Some (slice_get left 0)
 
@@ -249,7 +249,7 @@ module _ (leaving : Without) (file : List ℕ) (tree : FileTree) (m : MovieSeen)
         is_left = r.is_left;
         place = at.0;
         end_is = is_end info.0 info.1;
-        comes = subst (λ w. ComesLess leaving file tree r.t m w r.left) (sym is_walk) (subst (λ j. ComesLess leaving file tree r.t m (slice_index_or walks j walk) r.left) (sym at.0) r.comes);
+        comes = subst (λ w. ComesLess (track_reduction leaving tree r.t) file tree r.t m w r.left) (sym is_walk) (subst (λ j. ComesLess (track_reduction leaving tree r.t) file tree r.t m (slice_index_or walks j walk) r.left) (sym at.0) r.comes);
         few = omega (arith, fits, all);
         shown = ap (λ xs. slice_get xs s.track) h.shown ∙ first_at lefts s.track r.left r.is_left;
       }
@@ -285,7 +285,7 @@ module _ (leaving : Without) (file : List ℕ) (tree : FileTree) (m : MovieSeen)
     many_taken : length taken.samples ≡ piece_size
     many_taken = sym (taken_count file (keys_seen t.info.keys) (take piece_size t.left) taken.samples taken.taken) ∙ length-take-le piece_size t.left within_left
 
-    module _ (now : Walk) (n : ℕ) (next : Option SampleAt) (on : Schedule) (is : n ≡ piece_size) (comes : ComesLess leaving file tree t.t m now left_behind_it) (after : next ≡ slice_get left_behind_it 0) (goes : on ≡ turned s end n next) where
+    module _ (now : Walk) (n : ℕ) (next : Option SampleAt) (on : Schedule) (is : n ≡ piece_size) (comes : ComesLess (track_reduction leaving tree t.t) file tree t.t m now left_behind_it) (after : next ≡ slice_get left_behind_it 0) (goes : on ≡ turned s end n next) where
       turned_is : on ≡ turned s end piece_size (slice_get left_behind_it 0)
       turned_is = goes ∙ (λ i. turned s end (is i) (after i))
 

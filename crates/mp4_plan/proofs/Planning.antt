@@ -1,7 +1,9 @@
 -- Walks over the tracks of an opened file, and what is planned of the pieces that come in them.
-use Rattle.std.proofs.Common.{◌≡◌, ℕ, zero, suc, ◌+◌, ◌*◌, ◌<◌, ◌≤◌, List, [], ◌∷◌, ◌++◌, length, take, map, Some, refl, sym, ap, subst, ◌∙◌, arith, length-set}
+use Rattle.std.proofs.Common.{get_or, ◌≡◌, ℕ, zero, suc, ◌+◌, ◌*◌, ◌<◌, ◌≤◌, List, [], ◌∷◌, ◌++◌, length, take, map, Some, refl, sym, ap, subst, ◌∙◌, arith, length-set}
 use Rattle.mp4_present.specs.declared.without.Without.{Without}
-use Rattle.mp4_plan.specs.words.ComingLess.{ComesLess, left_samples}
+use Rattle.mp4_plan.specs.words.ComingLess.{ComesLess, left_samples, plain_reduction, track_reduction}
+use Rattle.mp4_plan.specs.format.ReducedLaws.{nothing}
+use Rattle.mp4_plan.specs.declared.reduced.Reduction.{Reduction}
 use Rattle.std.specs.Prelude.{slice_get, slice_set, slice_index_or}
 use Rattle.std.specs.List.{AllByRecursion}
 use Rattle.std.proofs.lemmas.List.{take_all, map-append}
@@ -20,7 +22,7 @@ use Rattle.mp4_present.proofs.OwnSums.{rooms_within}
 use Rattle.mp4_present.proofs.WalkRooms.{room_opened}
 use Rattle.mp4_present.proofs.TrafTaken.{zipped_at}
 use Rattle.mp4_present.proofs.TracksPassed.{zip_length}
-use Rattle.mp4_plan.specs.words.Writers.{AreWalksOf, AreMarked, AllCome, AllBegin}
+use Rattle.mp4_plan.specs.words.Writers.{AreWalksOf, AreMarked, AllCome, AllBegin, reductions_of}
 use Rattle.mp4_plan.specs.format.Held.{rooms}
 use Rattle.mp4_plan.specs.words.OwnRooms.{own_rooms}
 use Rattle.mp4_plan.proofs.ComeAt.{come_at, come_with, come_more, set_same}
@@ -80,7 +82,7 @@ marked_behind [] (l ∷ lefts) w left h is = absurd h
 marked_behind (v ∷ walks) [] w left h is = absurd h
 marked_behind (v ∷ walks) (l ∷ lefts) w left h is = (h.0, marked_behind walks lefts w left h.1 is)
 
-taken_next : {A : Type 0} (xs : List A) (k : ℕ) (x : A) → slice_get xs k ≡ Some x → take (k + 1) xs ≡ take k xs ++ x ∷ []
+pub taken_next : {A : Type 0} (xs : List A) (k : ℕ) (x : A) → slice_get xs k ≡ Some x → take (k + 1) xs ≡ take k xs ++ x ∷ []
 taken_next {A} xs k x is = let one : k + 1 ≡ suc k = omega arith in ap (λ n. take n xs) one ∙ by xs k is
   where
     by : (ys : List A) (k : ℕ) → slice_get ys k ≡ Some x → take (suc k) ys ≡ take k ys ++ x ∷ []
@@ -94,7 +96,7 @@ one_marked m k walks walk h lt mark file tree o leaving =
     let t = there_is tree.movie.tracks k (omega (arith, lt, many)) in
     let info = there_is m.tracks k lt in
     let is = zipped_at (IsInfoOf file tree) tree.movie.tracks m.tracks k t.0 info.0 o.tracks t.1 info.1 in
-    let long = is.samples ∙ sym (less_length leaving (track_samples tree t.0) ∙ as_many file tree t.0) in
+    let long = is.samples ∙ sym (less_length (track_reduction leaving tree t.0) (track_samples tree t.0) ∙ as_many file tree t.0) in
     let all : map (left_samples leaving tree) (take (k + 1) tree.movie.tracks) ≡ map (left_samples leaving tree) (take k tree.movie.tracks) ++ left_samples leaving tree t.0 ∷ [] =
     ap (map (left_samples leaving tree)) (taken_next tree.movie.tracks k t.0 t.1) ∙ map-append (left_samples leaving tree) (take k tree.movie.tracks) (t.0 ∷ []) in
     subst (λ (ls : List (List SampleAt)). AreMarked (walks ++ walk ∷ []) ls) (sym all) (marked_behind walks (map (left_samples leaving tree) (take k tree.movie.tracks)) walk (left_samples leaving tree t.0) (h file tree o leaving) (mark info.0 info.1 ∙ ap (mark_of walk) long))
@@ -123,7 +125,7 @@ pub record ComesThere (leaving : Without) (file : List ℕ) (tree : FileTree) (m
   pub left : List SampleAt
   pub is_tree : slice_get tree.movie.tracks k ≡ Some t
   pub is_left : slice_get lefts k ≡ Some left
-  pub comes : ComesLess leaving file tree t m walk left
+  pub comes : ComesLess (track_reduction leaving tree t) file tree t m walk left
 
 some_is : {A : Type 0} (x y : A) → Some x ≡ Some y → x ≡ y
 some_is x y e = cc
@@ -138,11 +140,23 @@ pub comes_there : (leaving : Without) (file : List ℕ) (tree : FileTree) (m : M
 comes_there leaving file tree m walks lefts k d h lt =
     let r = come_at leaving file tree m tree.movie.tracks walks lefts k h lt in
     let same = some_is r.walk (slice_index_or walks k d) (sym r.is_walk ∙ got_there walks k d lt) in
-    record { t = r.t; left = r.left; is_tree = r.is_tree; is_left = r.is_left; comes = subst (λ (w : Walk). ComesLess leaving file tree r.t m w r.left) same r.comes }
+    record { t = r.t; left = r.left; is_tree = r.is_tree; is_left = r.is_left; comes = subst (λ (w : Walk). ComesLess (track_reduction leaving tree r.t) file tree r.t m w r.left) same r.comes }
+
+-- what is left of its samples, by what is said of that track
+pub reduced_there : (leaving : Without) (tree : FileTree) (by : List Reduction) (k : ℕ) (t : TrackTree) → by ≡ reductions_of leaving tree → slice_get tree.movie.tracks k ≡ Some t → slice_get by k ≡ Some (track_reduction leaving tree t)
+reduced_there leaving tree by k t e is = ap (λ (rs : List Reduction). slice_get rs k) e ∙ at tree.movie.tracks k is
+  where
+    at : (trees : List TrackTree) (k : ℕ) → slice_get trees k ≡ Some t → slice_get (map (track_reduction leaving tree) trees) k ≡ Some (track_reduction leaving tree t)
+    at [] k is = absurd cc
+    at (u ∷ trees) zero is = let same : u ≡ t = cc in ap (λ (v : TrackTree). Some (track_reduction leaving tree v)) same
+    at (u ∷ trees) (suc k) is = at trees k is
+
+pub reduced_is : (leaving : Without) (tree : FileTree) (by : List Reduction) (k : ℕ) (t : TrackTree) → by ≡ reductions_of leaving tree → slice_get tree.movie.tracks k ≡ Some t → k < length by → get_or by k (plain_reduction nothing) ≡ track_reduction leaving tree t
+reduced_is leaving tree by k t e is lt = some_is (get_or by k (plain_reduction nothing)) (track_reduction leaving tree t) (sym (got_there by k (plain_reduction nothing) lt) ∙ reduced_there leaving tree by k t e is)
 
 -- another walk at its place, in which the same samples come
 pub same_come : (leaving : Without) (file : List ℕ) (tree : FileTree) (m : MovieSeen) (walks : List Walk) (lefts : List (List SampleAt)) (k : ℕ) (walk next : Walk) → AllCome leaving file tree m tree.movie.tracks walks lefts → (r : ComesThere leaving file tree m lefts k walk)
-    → ComesLess leaving file tree r.t m next r.left → AllCome leaving file tree m tree.movie.tracks (slice_set walks k next) lefts
+    → ComesLess (track_reduction leaving tree r.t) file tree r.t m next r.left → AllCome leaving file tree m tree.movie.tracks (slice_set walks k next) lefts
 same_come leaving file tree m walks lefts k walk next h r c =
     subst (λ (ls : List (List SampleAt)). AllCome leaving file tree m tree.movie.tracks (slice_set walks k next) ls) (set_same lefts k r.left r.is_left) (come_with leaving file tree m tree.movie.tracks walks lefts k r.t next r.left h r.is_tree c)
 

@@ -10,11 +10,11 @@ use Rattle.mp4_plan.proofs.Reducing.{reduce_is_fixed}
 use Rattle.mp4_plan.proofs.ReducedValid.{reduced_is_valid}
 
 pub reduced_normal_denotes : ReducedNormalDenotes
-reduced_normal_denotes l p v in_time = normal_denotes (reduce l p) ((reduced_is_valid l p v).1 in_time)
+reduced_normal_denotes l p v limits = normal_denotes (reduce l p) ((reduced_is_valid l p v).1 limits)
 
 pub reduced_normal_is_fixed : ReducedNormalIsFixed
-reduced_normal_is_fixed l p q v in_time d =
-    let same = denotes_one (normal (reduce l p)) q (reduce l p) d (reduced_normal_denotes l p v in_time) in
+reduced_normal_is_fixed l p q v limits d =
+    let same = denotes_one (normal (reduce l p)) q (reduce l p) d (reduced_normal_denotes l p v limits) in
     (ap (λ r. normal (reduce l r)) same ∙ ap normal (reduce_is_fixed l p), ap normal same)
 
 pub reduced_normal_is_exact : ReducedNormalIsExact

@@ -1,34 +1,28 @@
--- What is left of what is valid is valid, where its tracks are not too long.
-use Rattle.std.proofs.Common.{◌≡◌, ℕ, ◌+◌, ◌*◌, ◌<◌, ◌≤◌, ◌^◌, Bool, true, false, if◌then◌else◌, List, [], ◌∷◌, ◌++◌, length, refl, sym, ap, subst, ◌∙◌, arith, length-append, ◌⊎◌, inl, inr}
-use Rattle.std.specs.Prelude.{not, map, filter, codes, ℤ, pos, FitsSigned}
+-- What is left of what is valid is valid, where its tracks are not too long and their offsets fit.
+use Rattle.std.proofs.Common.{◌≡◌, ℕ, suc, ◌+◌, ◌*◌, ◌<◌, ◌≤◌, ◌^◌, Bool, true, false, if◌then◌else◌, List, [], ◌∷◌, ◌++◌, length, refl, sym, ap, subst, ◌∙◌, arith, length-append, ◌⊎◌, inl, inr}
+use Rattle.std.specs.Prelude.{◌&&◌, not, map, filter, codes, ℤ, pos, ◌-ℤ◌, FitsSigned}
 use Rattle.std.specs.List.{AllByRecursion, flat_map}
 use Rattle.std.specs.Int.{div_ceil, w32}
 use Rattle.mp4_boxes.specs.format.Bytes.{AreBytes, sum_of}
 use Rattle.mp4_boxes.specs.format.Children.{is_among}
 use Rattle.mp4_boxes.specs.format.Written.{box_bytes}
-use Rattle.mp4_boxes.proofs.Each.{each_value, each_weaker, each_kept}
+use Rattle.mp4_boxes.proofs.Each.{each_from, each_value, each_weaker, each_kept}
 use Rattle.mp4_tables.specs.format.Groups.{GroupKey, Groups, keys_with, is_in_order, max_keys}
 use Rattle.mp4_head.specs.format.Head.{Kept, Edit, Media, TrackHead, MovieHead, IsMedia, IsTrackHead, IsMovieHead, IsEdit, IsGroupDescription}
 use Rattle.mp4_head.specs.format.Tree.{are_distinct}
 use Rattle.mp4_head.specs.format.Writing.{kept_bytes, edts_bytes, trak_bytes, trex_bytes, moov_bytes, head_bytes, ftyp_bytes}
 use Rattle.mp4_head.proofs.HeadLengths.{length_any, length_head, length_track}
 use Rattle.mp4_plan.proofs.Plain.{handler_shorter, handler_room, handler_bytes, descriptions_many, descriptions_less, descriptions_good}
-use Rattle.mp4_present.specs.format.Presentation.{Sample, Track, Presentation, IsGroup, IsSample, IsTrack, Valid, IsInTime, heads, keys_of, end_time, total_duration, movie_length, says_all, track_length, normal_moov_length, sample_total, max_samples, max_time}
-use Rattle.mp4_present.specs.format.Reduced.{metadata_kinds, sync_flag, plain_handler, reduce_kept, reduce_sample, reduce_media, reduce_track_head, reduce_movie_head, reduce_track, reduce, duration_left, start_left, timescale_left, ReducesInTime}
+use Rattle.mp4_present.specs.format.Presentation.{Sample, Track, Presentation, IsGroup, IsSample, IsTrack, Valid, IsInTime, heads, keys_of, total_duration, movie_length, says_all, track_length, normal_moov_length, sample_total, max_samples, max_time}
+use Rattle.mp4_present.specs.format.Reduced.{metadata_kinds, sync_flag, plain_handler, reduce_kept, is_at_end, first_offset, reduce_sample, reduce_from, reduce_samples, reduce_media, reduce_track_head, reduce_movie_head, reduce_track, reduce, duration_left, offset_left, start_left, timescale_left, HasNearOffsets, ReducesInRange, ReducesInTime}
 use Rattle.mp4_present.specs.declared.without.Without.{Without}
-use Rattle.mp4_plan.specs.format.ReducedLaws.{ReducedIsValid, ReducedStaysValid}
+use Rattle.mp4_plan.specs.format.ReducedLaws.{KeepsLimits, ReducedIsValid, ReducedStaysValid}
+use Rattle.mp4_plan.specs.format.ReducedTimes.{ReducesInLimits}
+use Rattle.mp4_plan.proofs.ReducedSamples.{left_many, left_none, each_left, durations_stay, durations_count}
 
 by_case : {A : Type 0} (P : A → Type 0) (b : Bool) (x y : A) → P x → P y → P (if b then x else y)
 by_case P true x y h k = h
 by_case P false x y h k = k
-
-length_mapped : {A B : Type 0} (f : A → B) (xs : List A) → length (map f xs) ≡ length xs
-length_mapped f [] = refl
-length_mapped f (x ∷ xs) = let rest = length_mapped f xs in omega (arith, rest)
-
-none_left : {A B : Type 0} (f : A → B) (xs : List A) → map f xs ≡ [] → xs ≡ []
-none_left f [] e = refl
-none_left f (x ∷ xs) e = absurd cc
 
 -- ---- how long the `moov` is
 
@@ -126,10 +120,18 @@ module _ (l : Without) where
   pub scale_some : (n : ℕ) → 0 < n → 0 < timescale_left l n
   scale_some n h = by_case (λ k. 0 < k) l.timing 1000 n (omega arith) h
 
-  sample_good : (descriptions : ℕ) (s : Sample) → IsSample descriptions s → IsSample descriptions (reduce_sample l s)
-  sample_good descriptions s h = record {
-    duration = by_case (λ n. n < 2 ^ 32) l.timing 1 s.duration (omega arith) h.duration;
-    offset = by_case (λ (n : ℤ). FitsSigned w32 n) l.timing (pos 0) s.offset fits_0 h.offset;
+  one_small : 1 < 2 ^ 32
+  one_small = omega arith
+
+  duration_good : (count n duration : ℕ) → duration < 2 ^ 32 → duration_left l count n duration < 2 ^ 32
+  duration_good count n duration h =
+      let ends = l.ends && is_at_end count n in
+      by_case (λ k. k < 2 ^ 32) l.timing 1 (if ends then 1 else duration) one_small (by_case (λ k. k < 2 ^ 32) ends 1 duration one_small h)
+
+  sample_good : (descriptions count : ℕ) (first : ℤ) (n : ℕ) (s : Sample) → IsSample descriptions s → FitsSigned w32 (offset_left l first s.offset) → IsSample descriptions (reduce_sample l count first n s)
+  sample_good descriptions count first n s h near = record {
+    duration = duration_good count n s.duration h.duration;
+    offset = near;
     flags = by_case (λ n. n < 2 ^ 28) l.flags (sync_flag s.flags) s.flags (sync_good s.flags) h.flags;
     description_from_1 = h.description_from_1;
     description = h.description;
@@ -138,6 +140,11 @@ module _ (l : Without) where
     groups = by_case (AllByRecursion IsGroup) l.groups [] s.groups tt h.groups;
     groups_in_order = by_case (λ (g : Groups). is_in_order g ≡ true) l.groups [] s.groups refl h.groups_in_order;
   }
+
+  samples_good : (descriptions count : ℕ) (first : ℤ) (n : ℕ) (samples : List Sample) → AllByRecursion (IsSample descriptions) samples
+      → AllByRecursion (λ (s : Sample). FitsSigned w32 s.offset) (reduce_from l count first n samples) → AllByRecursion (IsSample descriptions) (reduce_from l count first n samples)
+  samples_good descriptions count first n [] h near = tt
+  samples_good descriptions count first n (s ∷ samples) h near = (sample_good descriptions count first n s h.0 near.0, samples_good descriptions count first (suc n) samples h.1 near.1)
 
   media_good : (m : Media) → IsMedia m → IsMedia (reduce_media l m)
   media_good m h = record {
@@ -190,9 +197,9 @@ module _ (l : Without) where
   abbrev keys_named : Bool → List Sample → List GroupKey
   keys_named b samples = flat_map (λ (s : Sample). map (λ (group : GroupKey × ℕ). group.0) (if b then [] else s.groups)) samples
 
-  named_same : (samples : List Sample) → flat_map (λ (s : Sample). map (λ (group : GroupKey × ℕ). group.0) s.groups) (map (reduce_sample l) samples) ≡ keys_named l.groups samples
-  named_same [] = refl
-  named_same (s ∷ samples) = ap (λ keys. map (λ (group : GroupKey × ℕ). group.0) (if l.groups then [] else s.groups) ++ keys) (named_same samples)
+  named_same : (count : ℕ) (first : ℤ) (n : ℕ) (samples : List Sample) → flat_map (λ (s : Sample). map (λ (group : GroupKey × ℕ). group.0) s.groups) (reduce_from l count first n samples) ≡ keys_named l.groups samples
+  named_same count first n [] = refl
+  named_same count first n (s ∷ samples) = ap (λ keys. map (λ (group : GroupKey × ℕ). group.0) (if l.groups then [] else s.groups) ++ keys) (named_same count first (suc n) samples)
 
   none_named : (samples : List Sample) → keys_named true samples ≡ []
   none_named [] = refl
@@ -202,17 +209,24 @@ module _ (l : Without) where
   few_named true samples h = subst (λ (keys : List GroupKey). length (keys_with [] keys) ≤ max_keys) (sym (none_named samples)) (omega arith)
   few_named false samples h = h
 
-  keys_good : (samples : List Sample) → length (keys_of samples) ≤ max_keys → length (keys_of (map (reduce_sample l) samples)) ≤ max_keys
-  keys_good samples h = subst (λ (keys : List GroupKey). length (keys_with [] keys) ≤ max_keys) (sym (named_same samples)) (few_named l.groups samples h)
+  keys_good : (samples : List Sample) → length (keys_of samples) ≤ max_keys → length (keys_of (reduce_samples l samples)) ≤ max_keys
+  keys_good samples h = subst (λ (keys : List GroupKey). length (keys_with [] keys) ≤ max_keys) (sym (named_same (length samples) (first_offset samples) 0 samples)) (few_named l.groups samples h)
 
-  track_good : (t : Track) → IsTrack t → IsTrack (reduce_track l t)
-  track_good t h = record {
+  start_none : (start : ℕ) → start ≡ 0 → start_left l start ≡ 0
+  start_none start e = by_case (λ n. n ≡ 0) l.timing 0 (if l.origins then 0 else start) refl (by_case (λ n. n ≡ 0) l.origins 0 start refl e)
+
+  track_good : (t : Track) → IsTrack t → HasNearOffsets (reduce_track l t) → IsTrack (reduce_track l t)
+  track_good t h near = record {
     head = track_head_good t.head h.head;
-    samples = subst (λ n. AllByRecursion (IsSample n) (map (reduce_sample l) t.samples)) (sym (descriptions_many l t.head.media.handler t.head.media.descriptions))
-        (each_value (IsSample (length t.head.media.descriptions)) (IsSample (length t.head.media.descriptions)) (reduce_sample l) (sample_good (length t.head.media.descriptions)) t.samples h.samples);
+    samples = subst (λ n. AllByRecursion (IsSample n) (reduce_samples l t.samples)) (sym (descriptions_many l t.head.media.handler t.head.media.descriptions))
+        (samples_good (length t.head.media.descriptions) (length t.samples) (first_offset t.samples) 0 t.samples h.samples near);
     keys = keys_good t.samples h.keys;
-    empty = λ e. by_case (λ n. n ≡ 0) l.timing 0 t.start refl (h.empty (none_left (reduce_sample l) t.samples e));
+    empty = λ e. start_none t.start (h.empty (left_none l (length t.samples) (first_offset t.samples) 0 t.samples e));
   }
+
+  tracks_good : (tracks : List Track) → AllByRecursion IsTrack tracks → AllByRecursion (λ (t : Track). HasNearOffsets (reduce_track l t)) tracks → AllByRecursion IsTrack (map (reduce_track l) tracks)
+  tracks_good [] h near = tt
+  tracks_good (t ∷ tracks) h near = (track_good t h.0 near.0, tracks_good tracks h.1 near.1)
 
   -- ---- the whole
 
@@ -223,7 +237,7 @@ module _ (l : Without) where
   totals_same : (tracks : List Track) → sum_of (λ (t : Track). length t.samples) (map (reduce_track l) tracks) ≡ sum_of (λ (t : Track). length t.samples) tracks
   totals_same [] = refl
   totals_same (t ∷ tracks) =
-      let one = length_mapped (reduce_sample l) t.samples in
+      let one = left_many l (length t.samples) (first_offset t.samples) 0 t.samples in
       let rest = totals_same tracks in
       omega (arith, one, rest)
 
@@ -231,59 +245,83 @@ module _ (l : Without) where
   all_from P [] h = tt
   all_from P (t ∷ tracks) h = (h.0, all_from P tracks h.1)
 
-  valid_from : (p : Presentation) → Valid p → ReducesInTime l p → Valid (reduce l p)
-  valid_from p v in_time = record {
+  valid_from : (p : Presentation) → Valid p → ReducesInLimits l p → Valid (reduce l p)
+  valid_from p v limits = record {
     movie = movie_head_good p.movie v.movie;
-    tracks = each_value IsTrack IsTrack (reduce_track l) track_good p.tracks v.tracks;
+    tracks = tracks_good p.tracks v.tracks limits.in_range;
     ids = ap are_distinct (ids_same p.tracks) ∙ v.ids;
     limits = record {
       samples = let same = totals_same p.tracks in let few = v.limits.samples in omega (arith, same, few);
-      times = each_value (λ (t : Track). IsInTime (timescale_left l p.movie.timescale) (reduce_track l t)) (IsInTime (timescale_left l p.movie.timescale)) (reduce_track l) (λ t h. h) p.tracks in_time;
+      times = each_value (λ (t : Track). IsInTime (timescale_left l p.movie.timescale) (reduce_track l t)) (IsInTime (timescale_left l p.movie.timescale)) (reduce_track l) (λ t h. h) p.tracks limits.in_time;
       moov = let less = moov_shorter p v in let few = v.limits.moov in omega (arith, less, few);
     };
   }
 
-  pub valid_to : (p : Presentation) → Valid (reduce l p) → ReducesInTime l p
-  valid_to p v = all_from (IsInTime (timescale_left l p.movie.timescale)) p.tracks v.limits.times
+  -- the offsets of a valid track fit
+  pub near_of : (t : Track) → IsTrack t → HasNearOffsets t
+  near_of t h = each_weaker (IsSample (length t.head.media.descriptions)) (λ (s : Sample). FitsSigned w32 s.offset) (λ s g. g.offset) t.samples h.samples
 
-  -- ---- where edits stay
+  pub valid_to : (p : Presentation) → Valid (reduce l p) → ReducesInLimits l p
+  valid_to p v = record {
+    in_time = all_from (IsInTime (timescale_left l p.movie.timescale)) p.tracks v.limits.times;
+    in_range = each_weaker (λ (t : Track). IsTrack (reduce_track l t)) (λ (t : Track). HasNearOffsets (reduce_track l t)) (λ t h. near_of (reduce_track l t) h) p.tracks (all_from IsTrack p.tracks v.tracks);
+  }
 
-  durations_by : (b : Bool) → b ≡ false → (samples : List Sample) → sum_of (λ (s : Sample). if b then 1 else s.duration) samples ≡ total_duration samples
-  durations_by true e samples = absurd cc
-  durations_by false e samples = refl
+  -- ---- where origins stay, or timing doesn't count
 
-  durations_mapped : (samples : List Sample) → total_duration (map (reduce_sample l) samples) ≡ sum_of (λ (s : Sample). duration_left l s.duration) samples
-  durations_mapped [] = refl
-  durations_mapped (s ∷ samples) = ap (λ n. duration_left l s.duration + n) (durations_mapped samples)
+  offset_near : (l.origins ≡ false) ⊎ (l.timing ≡ true) → (first offset : ℤ) → FitsSigned w32 offset → FitsSigned w32 (offset_left l first offset)
+  offset_near either first offset h = by l.timing l.origins either
+    where
+      by : (a b : Bool) → (b ≡ false) ⊎ (a ≡ true) → FitsSigned w32 (if a then pos 0 else if b then offset -ℤ first else offset)
+      by true b e = fits_0
+      by false true (inl e) = absurd cc
+      by false true (inr e) = absurd cc
+      by false false e = h
 
-  pub durations_same : l.timing ≡ false → (samples : List Sample) → total_duration (map (reduce_sample l) samples) ≡ total_duration samples
-  durations_same e samples = durations_mapped samples ∙ durations_by l.timing e samples
+  -- offsets that fit stay so
+  pub near_left : (l.origins ≡ false) ⊎ (l.timing ≡ true) → (t : Track) → HasNearOffsets t → HasNearOffsets (reduce_track l t)
+  near_left either t h =
+      each_left l (length t.samples) (first_offset t.samples) (λ (s : Sample). FitsSigned w32 s.offset) (λ (s : Sample). FitsSigned w32 s.offset) (λ n s g. offset_near either (first_offset t.samples) s.offset g) 0 t.samples h
+
+  pub near_stays : (l.origins ≡ false) ⊎ (l.timing ≡ true) → (t : Track) → IsTrack t → HasNearOffsets (reduce_track l t)
+  near_stays either t h = near_left either t (near_of t h)
+
+  pub all_near : (p : Presentation) → (l.origins ≡ false) ⊎ (l.timing ≡ true) → AllByRecursion IsTrack p.tracks → ReducesInRange l p
+  all_near p either tracks = each_weaker IsTrack (λ (t : Track). HasNearOffsets (reduce_track l t)) (near_stays either) p.tracks tracks
+
+  -- ---- where edits and ends stay
+
+  pub durations_same : l.timing ≡ false → l.ends ≡ false → (samples : List Sample) → total_duration (reduce_samples l samples) ≡ total_duration samples
+  durations_same counts ends samples = durations_stay l (length samples) (first_offset samples) counts ends 0 samples
 
   pub scale_stays : l.timing ≡ false → (timescale : ℕ) → timescale_left l timescale ≡ timescale
   scale_stays e timescale = ap (λ (b : Bool). if b then 1000 else timescale) e
 
-  pub start_stays : l.timing ≡ false → (start : ℕ) → start_left l start ≡ start
-  start_stays e start = ap (λ (b : Bool). if b then 0 else start) e
+  pub start_stays : l.timing ≡ false → l.origins ≡ false → (start : ℕ) → start_left l start ≡ start
+  start_stays e f start = (λ i. if e i then 0 else if l.origins then 0 else start) ∙ ap (λ (b : Bool). if b then 0 else start) f
 
-  pub same_track_length : (timescale : ℕ) (t : Track) → l.edits ≡ false → l.timing ≡ false → track_length (timescale_left l timescale) (reduce_track l t) ≡ track_length timescale t
-  same_track_length timescale t stay counts =
+  -- it is no larger
+  pub start_less : (start : ℕ) → start_left l start ≤ start
+  start_less start = by_case (λ n. n ≤ start) l.timing 0 (if l.origins then 0 else start) (some_length start) (by_case (λ n. n ≤ start) l.origins 0 start (some_length start) (no_longer start))
+
+  pub same_track_length : (timescale : ℕ) (t : Track) → l.edits ≡ false → l.timing ≡ false → l.ends ≡ false → track_length (timescale_left l timescale) (reduce_track l t) ≡ track_length timescale t
+  same_track_length timescale t stay counts ends =
       let same : (if l.edits then [] else t.head.edits) ≡ t.head.edits = ap (λ (b : Bool). if b then [] else t.head.edits) stay in
-      let n = durations_same counts t.samples in
+      let n = durations_same counts ends t.samples in
       λ i. length_by (scale_stays counts timescale i) (scale_stays counts t.head.media.timescale i) (same i) (n i)
 
-  pub in_time_stays : (timescale : ℕ) (t : Track) → l.edits ≡ false → l.timing ≡ false → IsInTime timescale t → IsInTime (timescale_left l timescale) (reduce_track l t)
-  in_time_stays timescale t stay counts h =
-      let ends : end_time (reduce_track l t) ≡ end_time t = λ i. start_stays counts t.start i + durations_same counts t.samples i in
-      (subst (λ n. n ≤ max_time) (sym ends) h.0, subst (λ n. n ≤ max_time) (sym (same_track_length timescale t stay counts)) h.1)
+  -- a track that begins earlier ends earlier
+  pub in_time_stays : (timescale : ℕ) (t : Track) → l.edits ≡ false → l.timing ≡ false → l.ends ≡ false → IsInTime timescale t → IsInTime (timescale_left l timescale) (reduce_track l t)
+  in_time_stays timescale t stay counts ends h =
+      let n = durations_same counts ends t.samples in
+      let start = start_less t.start in
+      let within = h.0 in
+      (omega (arith, n, start, within), subst (λ n. n ≤ max_time) (sym (same_track_length timescale t stay counts ends)) h.1)
 
   -- ---- where timing doesn't count
 
-  durations_counted : (samples : List Sample) → l.timing ≡ true → total_duration (map (reduce_sample l) samples) ≡ length samples
-  durations_counted [] e = refl
-  durations_counted (s ∷ samples) e =
-      let one : duration_left l s.duration ≡ 1 = ap (λ (b : Bool). if b then 1 else s.duration) e in
-      let rest = durations_counted samples e in
-      omega (arith, one, rest)
+  durations_counted : (samples : List Sample) → l.timing ≡ true → total_duration (reduce_samples l samples) ≡ length samples
+  durations_counted samples e = durations_count l (length samples) (first_offset samples) e 0 samples
 
   -- a track is as long as its edits say, where they stay and say it; else by the number of its samples
   abbrev pub counted_length : List Edit → ℕ → ℕ
@@ -314,7 +352,7 @@ module _ (l : Without) where
 
   pub in_time_counted : (timescale : ℕ) (t : Track) → l.timing ≡ true → length t.samples ≤ 2 ^ 24 → IsInTime timescale t → IsInTime (timescale_left l timescale) (reduce_track l t)
   in_time_counted timescale t e few h =
-      let start : start_left l t.start ≡ 0 = ap (λ (b : Bool). if b then 0 else t.start) e in
+      let start : start_left l t.start ≡ 0 = ap (λ (b : Bool). if b then 0 else if l.origins then 0 else t.start) e in
       let n = durations_counted t.samples e in (
         omega (arith, start, n, few),
         subst (λ n. n ≤ max_time) (sym (counted_track_length timescale t e)) (counted_short l.edits t.head.edits timescale t.head.media.timescale (total_duration t.samples) (length t.samples) h.1 (omega (arith, few))),
@@ -325,22 +363,21 @@ module _ (l : Without) where
   each_few [] most h = tt
   each_few (t ∷ tracks) most h = (omega (arith, h), each_few tracks most (omega (arith, h)))
 
-  all_both : (P Q R : Track → Type 0) → ((t : Track) → P t → Q t → R t) → (tracks : List Track) → AllByRecursion P tracks → AllByRecursion Q tracks → AllByRecursion R tracks
-  all_both P Q R f [] p q = tt
-  all_both P Q R f (t ∷ tracks) p q = (f t p.0 q.0, all_both P Q R f tracks p.1 q.1)
-
   pub all_counted : (p : Presentation) → l.timing ≡ true → sample_total p ≤ max_samples → AllByRecursion (IsInTime p.movie.timescale) p.tracks → ReducesInTime l p
   all_counted p e few times =
-      all_both (λ (t : Track). length t.samples ≤ max_samples) (IsInTime p.movie.timescale) (λ (t : Track). IsInTime (timescale_left l p.movie.timescale) (reduce_track l t))
+      each_from (λ (t : Track). length t.samples ≤ max_samples) (IsInTime p.movie.timescale) (λ (t : Track). IsInTime (timescale_left l p.movie.timescale) (reduce_track l t))
       (λ t less h. in_time_counted p.movie.timescale t e less h) p.tracks (each_few p.tracks max_samples few) times
 
 pub reduced_is_valid : ReducedIsValid
 reduced_is_valid l p v = (valid_to l p, valid_from l p v)
 
 pub reduced_stays_valid : ReducedStaysValid
-reduced_stays_valid l p v stay = let short = by l.timing refl stay in (short, valid_from l p v short)
+reduced_stays_valid l p v stay = let within : ReducesInLimits l p = by l.timing refl stay in (within, valid_from l p v within)
   where
-    by : (b : Bool) → l.timing ≡ b → (l.edits ≡ false) ⊎ (l.timing ≡ true) → ReducesInTime l p
-    by true e either = all_counted l p e v.limits.samples v.limits.times
-    by false e (inl same) = each_weaker (IsInTime p.movie.timescale) (λ (t : Track). IsInTime (timescale_left l p.movie.timescale) (reduce_track l t)) (λ t h. in_time_stays l p.movie.timescale t same e h) p.tracks v.limits.times
+    by : (b : Bool) → l.timing ≡ b → KeepsLimits l ⊎ (l.timing ≡ true) → ReducesInLimits l p
+    by true e either = record { in_time = all_counted l p e v.limits.samples v.limits.times; in_range = all_near l p (inr e) v.tracks }
+    by false e (inl keeps) = record {
+      in_time = each_weaker (IsInTime p.movie.timescale) (λ (t : Track). IsInTime (timescale_left l p.movie.timescale) (reduce_track l t)) (λ t h. in_time_stays l p.movie.timescale t keeps.0 e keeps.1 h) p.tracks v.limits.times;
+      in_range = all_near l p (inl keeps.2) v.tracks;
+    }
     by false e (inr none) = absurd cc

@@ -1,12 +1,14 @@
 -- To reduce by nothing changes nothing, and to reduce twice is to reduce once by the words of both.
-use Rattle.std.proofs.Common.{◌≡◌, ℕ, Bool, true, false, if◌then◌else◌, List, [], ◌∷◌, refl, sym, ap, ◌∙◌, arith}
-use Rattle.std.specs.Prelude.{◌||◌, not, map, filter, pos}
+use Rattle.std.proofs.Common.{◌≡◌, ℕ, suc, Bool, true, false, if◌then◌else◌, List, [], ◌∷◌, length, refl, sym, ap, ◌∙◌, arith}
+use Rattle.std.specs.Prelude.{◌&&◌, ◌||◌, not, map, filter, ℤ, pos, ◌-ℤ◌}
+use Rattle.std.proofs.lemmas.Int.{ints}
 use Rattle.mp4_boxes.specs.format.Children.{is_among}
 use Rattle.mp4_head.specs.format.Head.{Kept, Media, TrackHead, MovieHead}
 use Rattle.mp4_present.specs.format.Presentation.{Sample, Track, Presentation}
-use Rattle.mp4_present.specs.format.Reduced.{metadata_kinds, sync_flag, plain_handler, reduce_kept, reduce_sample, reduce_media, reduce_track_head, reduce_movie_head, reduce_track, reduce, timescale_left}
+use Rattle.mp4_present.specs.format.Reduced.{metadata_kinds, sync_flag, plain_handler, is_at_end, duration_left, offset_left, start_left, timescale_left, reduce_kept, reduce_sample, reduce_from, reduce_samples, reduce_media, reduce_track_head, reduce_movie_head, reduce_track, reduce}
 use Rattle.mp4_present.specs.declared.without.Without.{Without}
 use Rattle.mp4_plan.proofs.Plain.{handler_twice, descriptions_twice}
+use Rattle.mp4_plan.proofs.ReducedSamples.{left_many}
 use Rattle.mp4_plan.specs.format.ReducedLaws.{nothing, both, NothingReduces, ReducesOnce, ReducesInAnyOrder, ReduceIsFixed}
 
 -- ---- lists
@@ -29,8 +31,16 @@ filter_twice test (x ∷ xs) = twice_at test x xs (test x) refl (filter_twice te
 
 -- ---- nothing
 
+from_same : (count : ℕ) (first : ℤ) (n : ℕ) (samples : List Sample) → reduce_from nothing count first n samples ≡ samples
+from_same count first n [] = refl
+from_same count first n (s ∷ samples) = λ i. s ∷ from_same count first (suc n) samples i
+
+samples_same : (samples : List Sample) → reduce_samples nothing samples ≡ samples
+samples_same [] = refl
+samples_same (s ∷ samples) = from_same (length (s ∷ samples)) s.offset 0 (s ∷ samples)
+
 track_same : (t : Track) → reduce_track nothing t ≡ t
-track_same t = λ i. record t { samples = map_same (reduce_sample nothing) (λ s. refl) t.samples i }
+track_same t = λ i. record t { samples = samples_same t.samples i }
 
 pub nothing_reduces : NothingReduces
 nothing_reduces p = λ i. record p { tracks = map_same (reduce_track nothing) track_same p.tracks i }
@@ -47,13 +57,61 @@ sync_twice : (flags : ℕ) → sync_flag (sync_flag flags) ≡ sync_flag flags
 sync_twice flags = omega arith
 
 module _ (l m : Without) where
-  sample_twice : (s : Sample) → reduce_sample l (reduce_sample m s) ≡ reduce_sample (both l m) s
-  sample_twice s = λ i. record s {
-    duration = less_twice l.timing m.timing (λ n. 1) (λ n. refl) s.duration i;
-    offset = less_twice l.timing m.timing (λ n. pos 0) (λ n. refl) s.offset i;
+  duration_twice : (count n duration : ℕ) → duration_left l count n (duration_left m count n duration) ≡ duration_left (both l m) count n duration
+  duration_twice count n duration = by l.timing m.timing l.ends m.ends (is_at_end count n)
+    where
+      by : (a b c d at : Bool) → (if a then 1 else if c && at then 1 else if b then 1 else if d && at then 1 else duration) ≡ (if a || b then 1 else if (c || d) && at then 1 else duration)
+      by true b c d at = refl
+      by false true true d true = refl
+      by false true true d false = refl
+      by false true false d at = refl
+      by false false true d true = refl
+      by false false true true false = refl
+      by false false true false false = refl
+      by false false false d at = refl
+
+  -- the first offset that is left is 0 where that is so of all
+  offset_twice : (first offset : ℤ) → offset_left l (offset_left m first first) (offset_left m first offset) ≡ offset_left (both l m) first offset
+  offset_twice first offset = by l.timing m.timing l.origins m.origins
+    where
+      by : (a b c d : Bool)
+          → (if a then pos 0 else if c then (if b then pos 0 else if d then offset -ℤ first else offset) -ℤ (if b then pos 0 else if d then first -ℤ first else first) else if b then pos 0 else if d then offset -ℤ first else offset)
+          ≡ (if a || b then pos 0 else if c || d then offset -ℤ first else offset)
+      by true b c d = refl
+      by false true true d = refl
+      by false true false d = refl
+      by false false true true = omega (arith, ints)
+      by false false true false = refl
+      by false false false d = refl
+
+  start_twice : (start : ℕ) → start_left l (start_left m start) ≡ start_left (both l m) start
+  start_twice start = by l.timing m.timing l.origins m.origins
+    where
+      by : (a b c d : Bool) → (if a then 0 else if c then 0 else if b then 0 else if d then 0 else start) ≡ (if a || b then 0 else if c || d then 0 else start)
+      by true b c d = refl
+      by false true true d = refl
+      by false true false d = refl
+      by false false true d = refl
+      by false false false d = refl
+
+  sample_twice : (count : ℕ) (first : ℤ) (n : ℕ) (s : Sample) → reduce_sample l count (offset_left m first first) n (reduce_sample m count first n s) ≡ reduce_sample (both l m) count first n s
+  sample_twice count first n s = λ i. record s {
+    duration = duration_twice count n s.duration i;
+    offset = offset_twice first s.offset i;
     flags = less_twice l.flags m.flags sync_flag sync_twice s.flags i;
     groups = less_twice l.groups m.groups (λ groups. []) (λ groups. refl) s.groups i;
   }
+
+  from_twice : (count : ℕ) (first : ℤ) (n : ℕ) (samples : List Sample) → reduce_from l count (offset_left m first first) n (reduce_from m count first n samples) ≡ reduce_from (both l m) count first n samples
+  from_twice count first n [] = refl
+  from_twice count first n (s ∷ samples) = λ i. sample_twice count first n s i ∷ from_twice count first (suc n) samples i
+
+  -- as many are left, and the first of them has what is left of the first offset
+  samples_twice : (samples : List Sample) → reduce_samples l (reduce_samples m samples) ≡ reduce_samples (both l m) samples
+  samples_twice [] = refl
+  samples_twice (s ∷ samples) =
+      ap (λ count. reduce_from l count (offset_left m s.offset s.offset) 0 (reduce_samples m (s ∷ samples))) (left_many m (length (s ∷ samples)) s.offset 0 (s ∷ samples))
+      ∙ from_twice (length (s ∷ samples)) s.offset 0 (s ∷ samples)
 
   kept_twice : (kept : List Kept) → reduce_kept l (reduce_kept m kept) ≡ reduce_kept (both l m) kept
   kept_twice kept = less_twice l.metadata m.metadata (filter (λ (k : Kept). not (is_among metadata_kinds k.kind))) (filter_twice (λ (k : Kept). not (is_among metadata_kinds k.kind))) kept
@@ -87,7 +145,7 @@ module _ (l m : Without) where
   movie_head_twice x = λ i. record x { creation = time_twice x.creation i; modification = time_twice x.modification i; timescale = scale_twice x.timescale i; kept = kept_twice x.kept i }
 
   track_twice : (t : Track) → reduce_track l (reduce_track m t) ≡ reduce_track (both l m) t
-  track_twice t = λ i. record t { head = track_head_twice t.head i; start = less_twice l.timing m.timing (λ n. 0) (λ n. refl) t.start i; samples = map_twice (reduce_sample l) (reduce_sample m) (reduce_sample (both l m)) sample_twice t.samples i }
+  track_twice t = λ i. record t { head = track_head_twice t.head i; start = start_twice t.start i; samples = samples_twice t.samples i }
 
   twice : (p : Presentation) → reduce l (reduce m p) ≡ reduce (both l m) p
   twice p = λ i. record p { movie = movie_head_twice p.movie i; tracks = map_twice (reduce_track l) (reduce_track m) (reduce_track (both l m)) track_twice p.tracks i }
@@ -109,6 +167,8 @@ both_turned l m = λ i. record l {
   groups = or_turned l.groups m.groups i;
   metadata = or_turned l.metadata m.metadata i;
   bitrates = or_turned l.bitrates m.bitrates i;
+  ends = or_turned l.ends m.ends i;
+  origins = or_turned l.origins m.origins i;
   labels = or_turned l.labels m.labels i;
   timing = or_turned l.timing m.timing i;
 }
@@ -122,7 +182,18 @@ or_same true = refl
 or_same false = refl
 
 both_same : (l : Without) → both l l ≡ l
-both_same l = λ i. record l { times = or_same l.times i; edits = or_same l.edits i; flags = or_same l.flags i; groups = or_same l.groups i; metadata = or_same l.metadata i; bitrates = or_same l.bitrates i; labels = or_same l.labels i; timing = or_same l.timing i }
+both_same l = λ i. record l {
+  times = or_same l.times i;
+  edits = or_same l.edits i;
+  flags = or_same l.flags i;
+  groups = or_same l.groups i;
+  metadata = or_same l.metadata i;
+  bitrates = or_same l.bitrates i;
+  ends = or_same l.ends i;
+  origins = or_same l.origins i;
+  labels = or_same l.labels i;
+  timing = or_same l.timing i;
+}
 
 pub reduce_is_fixed : ReduceIsFixed
 reduce_is_fixed l p = reduces_once l l p ∙ ap (λ (words : Without). reduce words p) (both_same l)

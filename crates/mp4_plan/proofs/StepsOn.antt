@@ -4,8 +4,8 @@ use Rattle.mp4_head.specs.format.Tree.{TrackTree}
 use Rattle.mp4_present.specs.format.Denotes.{FileTree}
 use Rattle.mp4_present.specs.words.Movies.{MovieSeen}
 use Rattle.mp4_present.specs.words.WalkSteps.{MayTake, TakesOn}
-use Rattle.mp4_present.specs.declared.without.Without.{Without}
 use Rattle.mp4_present.specs.declared.walking.Walk.{Walk}
+use Rattle.mp4_plan.specs.declared.reduced.Reduction.{Reduction}
 use Rattle.mp4_plan.specs.words.WriterSteps.{MayAllTake, AllTakeOn, MayAllWrite, AllWriteOn, MayAllFinish, AllFinishOn}
 
 -- ---- one walk, call after call
@@ -78,8 +78,8 @@ module _ (file : List ℕ) (tree : FileTree) (m : MovieSeen) where
       omega (arith, first, second)
 
   -- a piece was noted, and is carried
-  module _ (l : Without) (walks noted : List Walk) (track count n old before mid : ℕ) (h : AllWriteOn file tree m n walks old before) (note : (rest : ℕ) → MayAllWrite file tree m walks rest → AllFinishOn l file tree m track count rest noted before mid) where
-    pub turn_then : (later : List Walk) (after : ℕ) → ((rest : ℕ) → MayAllFinish l file tree m track count noted rest → AllWriteOn file tree m rest later mid after) → AllWriteOn file tree m n later old after
+  module _ (by : List Reduction) (walks noted : List Walk) (track count n old before mid : ℕ) (h : AllWriteOn file tree m n walks old before) (note : (rest : ℕ) → MayAllWrite file tree m walks rest → AllFinishOn by file tree m track count rest noted before mid) where
+    pub turn_then : (later : List Walk) (after : ℕ) → ((rest : ℕ) → MayAllFinish by file tree m track count noted rest → AllWriteOn file tree m rest later mid after) → AllWriteOn file tree m n later old after
     turn_then later after carry =
         let one = note h.0 h.1 in
         let two = carry one.0 one.1 in
@@ -88,7 +88,7 @@ module _ (file : List ℕ) (tree : FileTree) (m : MovieSeen) where
         let third = two.2 in
         (two.0, two.1, omega (arith, first, second, third))
 
-    pub turn_then_stop : (after : ℕ) → ((rest : ℕ) → MayAllFinish l file tree m track count noted rest → after ≤ mid + rest) → after ≤ old + n
+    pub turn_then_stop : (after : ℕ) → ((rest : ℕ) → MayAllFinish by file tree m track count noted rest → after ≤ mid + rest) → after ≤ old + n
     turn_then_stop after stops =
         let one = note h.0 h.1 in
         let most = stops one.0 one.1 in

@@ -10,7 +10,7 @@ use Rattle.mp4_present.specs.words.GoingBack.{HoldsSome}
 use Rattle.mp4_present.specs.words.Movies.{MovieSeen, HasSome, IsWalkOf, mark_of, all_in_traf, trex_at}
 use Rattle.mp4_present.specs.words.WalkSteps.{steps_to}
 use Rattle.mp4_present.specs.declared.walking.loaded.Place.{Place}
-use Rattle.mp4_present.specs.declared.without.Without.{Without}
+use Rattle.mp4_plan.specs.declared.reduced.Reduction.{Reduction}
 use Rattle.mp4_present.specs.declared.walking.Mark.{Mark}
 use Rattle.mp4_present.specs.declared.walking.Walk.{Walk}
 use Rattle.mp4_present.proofs.GoneBack.{hand_of_marked}
@@ -108,11 +108,11 @@ pub to_come_is : (w : Walk) (n : ℕ) → w.mark ≡ mark_of w n → w.mark.to_c
 to_come_is w n e = ap (λ (k : Mark). k.to_come) e
 
 -- what comes is as much, of which as much is left
-pub as_many_left : (l : Without) (xs ys : List SampleAt) → less l xs ≡ less l ys → length xs ≡ length ys
+pub as_many_left : (l : Reduction) (xs ys : List SampleAt) → less l xs ≡ less l ys → length xs ≡ length ys
 as_many_left l xs ys e = sym (less_length l xs) ∙ ap (λ (ss : List SampleAt). length ss) e ∙ less_length l ys
 
 -- the next one is there, or nothing is left
-pub some_or_none : (l : Without) (m : MovieSeen) (w : Walk) (next : Option SampleAt) (left samples : List SampleAt) → left ≡ less l samples → next ≡ slice_get left 0 → ((next ≡ None → ⊥) → HasSome m w) → HasSome m w ⊎ (samples ≡ [])
+pub some_or_none : (l : Reduction) (m : MovieSeen) (w : Walk) (next : Option SampleAt) (left samples : List SampleAt) → left ≡ less l samples → next ≡ slice_get left 0 → ((next ≡ None → ⊥) → HasSome m w) → HasSome m w ⊎ (samples ≡ [])
 some_or_none l m w next left [] is e has = inr refl
 some_or_none l m w next left (x ∷ xs) is e has = inl (has (λ none. absurd (none_some (sym none ∙ e ∙ ap (λ (ss : List SampleAt). slice_get ss 0) is))))
   where
@@ -121,7 +121,7 @@ some_or_none l m w next left (x ∷ xs) is e has = inl (has (λ none. absurd (no
 
 -- ---- a walk that has noted a piece since its mark
 
-pub comes_marked : (l : Without) (file : List ℕ) (tree : FileTree) (t : TrackTree) (m : MovieSeen) (w now : Walk) (count : ℕ) (left : List SampleAt) → IsWalkOf m w → (h : ComesLess l file tree t m w left) → w.mark ≡ mark_of w (length left) → (old new : ℕ) → WentOn m w now old new
+pub comes_marked : (l : Reduction) (file : List ℕ) (tree : FileTree) (t : TrackTree) (m : MovieSeen) (w now : Walk) (count : ℕ) (left : List SampleAt) → IsWalkOf m w → (h : ComesLess l file tree t m w left) → w.mark ≡ mark_of w (length left) → (old new : ℕ) → WentOn m w now old new
     → ComesLess l file tree t m now (drop count left) → (k : ComesMarked l file tree t m now count left) × (k.begun ≡ w)
 comes_marked l file tree t m w now count left i h marked old new went comes =
     let long = ap (λ (ss : List SampleAt). length ss) h.is_left ∙ less_length l h.samples in (
@@ -137,6 +137,6 @@ comes_marked l file tree t m w now count left i h marked old new went comes =
     )
 
 -- nothing was noted since
-pub still_marked : (l : Without) (file : List ℕ) (tree : FileTree) (t : TrackTree) (m : MovieSeen) (w : Walk) (count : ℕ) (left : List SampleAt) → IsWalkOf m w → ComesLess l file tree t m w left
+pub still_marked : (l : Reduction) (file : List ℕ) (tree : FileTree) (t : TrackTree) (m : MovieSeen) (w : Walk) (count : ℕ) (left : List SampleAt) → IsWalkOf m w → ComesLess l file tree t m w left
     → w.mark ≡ mark_of w (length left) → count ≡ 0 → (k : ComesMarked l file tree t m w count left) × (k.begun ≡ w)
 still_marked l file tree t m w count left i h marked none = comes_marked l file tree t m w w count left i h marked 0 0 (went_none m w 0) (subst (λ n. ComesLess l file tree t m w (drop n left)) (sym none) h)

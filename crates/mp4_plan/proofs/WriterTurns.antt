@@ -1,7 +1,7 @@
 -- One turn of the writer, by what its steps promise.
 use Rattle.std.proofs.Common.{◌≡◌, ℕ, ◌+◌, ◌<◌, ◌≤◌, List, ◌++◌, length, take, drop, Some, sym, ap, subst, ◌∙◌, slice_set}
 use Rattle.mp4_present.specs.declared.without.Without.{Without}
-use Rattle.mp4_plan.specs.words.ComingLess.{ComesLess}
+use Rattle.mp4_plan.specs.words.ComingLess.{ComesLess, track_reduction}
 use Rattle.mp4_present.specs.format.Reduced.{reduce, timescale_left}
 use Rattle.std.specs.Prelude.{Option, slice_get}
 use Rattle.mp4_boxes.specs.format.Bytes.{sum_of}
@@ -23,7 +23,7 @@ use Rattle.mp4_plan.specs.format.Normal.{normal}
 use Rattle.mp4_plan.specs.words.CarriedSamples.{AreThere}
 use Rattle.mp4_plan.specs.words.Turns.{info_left, infos_left, turn_end, turned, Sticks}
 use Rattle.mp4_plan.specs.words.UsedKeys.{AreApart}
-use Rattle.mp4_plan.specs.words.Writers.{IsWriterOf, HasNoted, IsNoted, HaveCopied, turn_head, sequence_behind, turn_bytes}
+use Rattle.mp4_plan.specs.words.Writers.{IsWriterOf, HasNoted, IsNoted, HaveCopied, reductions_of, turn_head, sequence_behind, turn_bytes}
 use Rattle.mp4_plan.specs.words.DueTracks.{AreTimes, IsDueAt}
 use Rattle.mp4_plan.specs.declared.due_tracks.DueTracks.{DueTracks}
 use Rattle.mp4_plan.specs.declared.ends.End.{End}
@@ -37,140 +37,149 @@ use Rattle.mp4_plan.proofs.ComeAt.{set_there, set_twice}
 use Rattle.mp4_plan.proofs.PieceCounts.{piece_counts, piece_bytes, piece_within}
 use Rattle.mp4_plan.proofs.PieceWritten.{IsFew}
 use Rattle.mp4_plan.proofs.InfosLeft.{info_at, left_scales}
+use Rattle.mp4_plan.proofs.Planning.{reduced_there}
 use Rattle.mp4_plan.proofs.SkippedTurns.{due_here}
 use Rattle.mp4_plan.proofs.TurnTaken.{turn_moves}
 use Rattle.mp4_plan.proofs.WritesOn.{WritesOn, AtTurn, at_turn, turn_stops, turn_over}
 
 module _ (leaving : Without) (file : List ℕ) (tree : FileTree) (m : MovieSeen) (o : IsOpenedAs file m tree) (s : Schedule) (sequence sent : ℕ) (w : Writer) {Y : Type 0} {takes : Y → Y → List ℕ → Type 0} (joins : IsJoining takes) (before after : Y)
     (h : WritesOn leaving file tree m s sequence sent w.walks.items w.nexts.items (length w.rows.items) (takes before after) (waiting w.carrier)) (turn : Turn) (here : (turn.track ≡ s.track) × (s.track < s.tracks))
-    (ends : (info : TrackInfo) → slice_get m.tracks s.track ≡ Some info → turn.end ≡ turn_end s (timescale_left leaving info.timescale)) (tracks : s.tracks ≡ length m.tracks) (goes : IsWriterOf m w) (same_leaving : w.leaving ≡ leaving) where
-  at : AtTurn leaving file tree m s w.walks.items w.nexts.items (length w.rows.items) h.lefts h.comings
-  at = at_turn leaving file tree m s sequence sent w.walks.items w.nexts.items (length w.rows.items) (takes before after) (waiting w.carrier) o h here.1 tracks goes.walks.count
+    (ends : (info : TrackInfo) → slice_get m.tracks s.track ≡ Some info → turn.end ≡ turn_end s (timescale_left leaving info.timescale)) (tracks : s.tracks ≡ length m.tracks) (goes : IsWriterOf m w) (same_leaving : w.leaving ≡ leaving) (reduced : w.reductions.items ≡ reductions_of leaving tree)
+  where
+    at : AtTurn leaving file tree m s w.walks.items w.nexts.items (length w.rows.items) h.lefts h.comings
+    at = at_turn leaving file tree m s sequence sent w.walks.items w.nexts.items (length w.rows.items) (takes before after) (waiting w.carrier) o h here.1 tracks goes.walks.count
 
-  end_is : turn.end ≡ turn_end s (timescale_left leaving at.info.timescale)
-  end_is = ends at.info at.is_info
+    end_is : turn.end ≡ turn_end s (timescale_left leaving at.info.timescale)
+    end_is = ends at.info at.is_info
 
-  walk_there : slice_get w.walks.items turn.track ≡ Some at.walk
-  walk_there = ap (λ k. slice_get w.walks.items k) here.0 ∙ at.is_walk
+    walk_there : slice_get w.walks.items turn.track ≡ Some at.walk
+    walk_there = ap (λ k. slice_get w.walks.items k) here.0 ∙ at.is_walk
 
-  next_there : slice_get w.nexts.items turn.track ≡ Some (slice_get at.left 0)
-  next_there = ap (λ k. slice_get w.nexts.items k) here.0 ∙ at.shown
+    next_there : slice_get w.nexts.items turn.track ≡ Some (slice_get at.left 0)
+    next_there = ap (λ k. slice_get w.nexts.items k) here.0 ∙ at.shown
 
-  comes_there : ComesLess w.leaving file tree at.t m at.walk at.left
-  comes_there = subst (λ (l : Without). ComesLess l file tree at.t m at.walk at.left) (sym same_leaving) at.comes
+    comes_there : ComesLess (track_reduction w.leaving tree at.t) file tree at.t m at.walk at.left
+    comes_there = subst (λ (l : Without). ComesLess (track_reduction l tree at.t) file tree at.t m at.walk at.left) (sym same_leaving) at.comes
 
-  -- there is room for the rows
-  pub note_lacks : (X : Type 0) → ((t : TrackTree) (walk : Walk) (left : List SampleAt) → slice_get w.walks.items turn.track ≡ Some walk → ComesLess w.leaving file tree t m walk left → walk.mark ≡ mark_of walk (length left)
-      → slice_get w.nexts.items turn.track ≡ Some (slice_get left 0) → more_of (piece_from turn.end) left ≤ length w.rows.items → X) → X
-  note_lacks X f = f at.t at.walk at.left walk_there comes_there at.is_marked next_there (subst (λ (e : End). more_of (piece_from e) at.left ≤ length w.rows.items) (sym end_is) at.fits)
+    by_there : slice_get w.reductions.items turn.track ≡ Some (track_reduction w.leaving tree at.t)
+    by_there = ap (λ k. slice_get w.reductions.items k) here.0 ∙ reduced_there w.leaving tree w.reductions.items s.track at.t (reduced ∙ ap (λ (l : Without). reductions_of l tree) (sym same_leaving)) at.is_tree
 
-  module _ (w1 : Writer) (n : Noted) (id : ℕ) (noted : (t : TrackTree) (walk : Walk) (left : List SampleAt) → slice_get w.walks.items turn.track ≡ Some walk → ComesLess w.leaving file tree t m walk left → walk.mark ≡ mark_of walk (length left)
-      → slice_get w.nexts.items turn.track ≡ Some (slice_get left 0)
-      → HasNoted file tree t m turn sequence id left w w1 n)
-      (keeps : (w1.leaving ≡ w.leaving) × (w1.carrier ≡ w.carrier) × (length w1.rows.items ≡ length w.rows.items) × (w1.nexts ≡ w.nexts) × (w1.due ≡ w.due)) (few : IsFew n.planned) (is_id : (info : TrackInfo) → slice_get m.tracks s.track ≡ Some info → id ≡ info.id) where
-    it : HasNoted file tree at.t m turn sequence id at.left w w1 n
-    it = noted at.t at.walk at.left walk_there comes_there at.is_marked next_there
+    -- there is room for the rows
+    pub note_lacks : (X : Type 0) → ((t : TrackTree) (walk : Walk) (left : List SampleAt) → slice_get w.walks.items turn.track ≡ Some walk → slice_get w.reductions.items turn.track ≡ Some (track_reduction w.leaving tree t) → ComesLess (track_reduction w.leaving tree t) file tree t m walk left
+        → walk.mark ≡ mark_of walk (length left)
+        → slice_get w.nexts.items turn.track ≡ Some (slice_get left 0) → more_of (piece_from turn.end) left ≤ length w.rows.items → X) → X
+    note_lacks X f = f at.t at.walk at.left walk_there by_there comes_there at.is_marked next_there (subst (λ (e : End). more_of (piece_from e) at.left ≤ length w.rows.items) (sym end_is) at.fits)
 
-    abbrev end : End
-    end = turn_end s (timescale_left leaving at.info.timescale)
+    module _ (w1 : Writer) (n : Noted) (id : ℕ) (noted : (t : TrackTree) (walk : Walk) (left : List SampleAt) → slice_get w.walks.items turn.track ≡ Some walk → slice_get w.reductions.items turn.track ≡ Some (track_reduction w.leaving tree t)
+        → ComesLess (track_reduction w.leaving tree t) file tree t m walk left → walk.mark ≡ mark_of walk (length left)
+        → slice_get w.nexts.items turn.track ≡ Some (slice_get left 0)
+        → HasNoted file tree t m turn sequence id left w w1 n)
+        (by_same : w1.reductions ≡ w.reductions) (keeps : (w1.leaving ≡ w.leaving) × (w1.carrier ≡ w.carrier) × (length w1.rows.items ≡ length w.rows.items) × (w1.nexts ≡ w.nexts) × (w1.due ≡ w.due)) (few : IsFew n.planned) (is_id : (info : TrackInfo) → slice_get m.tracks s.track ≡ Some info
+        → id ≡ info.id) where
+      it : HasNoted file tree at.t m turn sequence id at.left w w1 n
+      it = noted at.t at.walk at.left walk_there by_there comes_there at.is_marked next_there
 
-    planned_is : n.planned ≡ planned_of (piece_fed (piece_from end) at.left).gathered
-    planned_is = subst (λ (e : End). n.planned ≡ planned_of (piece_fed (piece_from e) at.left).gathered) end_is it.planned
+      abbrev end : End
+      end = turn_end s (timescale_left leaving at.info.timescale)
 
-    counted : n.planned.count ≡ more_of (piece_from end) at.left
-    counted = ap (λ (q : Planned). q.count) planned_is ∙ piece_counts end at.left
+      planned_is : n.planned ≡ planned_of (piece_fed (piece_from end) at.left).gathered
+      planned_is = subst (λ (e : End). n.planned ≡ planned_of (piece_fed (piece_from e) at.left).gathered) end_is it.planned
 
-    head_is : n.head ≡ turn_head sequence at.info.id n.planned.count (slice_get at.left 0)
-    head_is = it.head ∙ ap (λ k. turn_head sequence k n.planned.count (slice_get at.left 0)) (is_id at.info at.is_info)
+      counted : n.planned.count ≡ more_of (piece_from end) at.left
+      counted = ap (λ (q : Planned). q.count) planned_is ∙ piece_counts end at.left
 
-    rest_is : drop n.planned.count at.left ≡ samples_after (piece_from end) at.left
-    rest_is = ap (λ k. drop k at.left) counted
+      head_is : n.head ≡ turn_head sequence at.info.id n.planned.count (slice_get at.left 0)
+      head_is = it.head ∙ ap (λ k. turn_head sequence k n.planned.count (slice_get at.left 0)) (is_id at.info at.is_info)
 
-    there_now : slice_get w1.walks.items turn.track ≡ Some it.walk
-    there_now = ap (λ (ws : List Walk). slice_get ws turn.track) it.walks ∙ set_there w.walks.items turn.track at.walk it.walk walk_there
+      rest_is : drop n.planned.count at.left ≡ samples_after (piece_from end) at.left
+      rest_is = ap (λ k. drop k at.left) counted
 
-    info_there : slice_get m.tracks turn.track ≡ Some at.info
-    info_there = ap (λ k. slice_get m.tracks k) here.0 ∙ at.is_info
+      there_now : slice_get w1.walks.items turn.track ≡ Some it.walk
+      there_now = ap (λ (ws : List Walk). slice_get ws turn.track) it.walks ∙ set_there w.walks.items turn.track at.walk it.walk walk_there
 
-    is_noted : IsNoted file tree m turn.track n.planned.count at.left w1
-    is_noted = record {
-      t = at.t;
-      walk = it.walk;
-      is_walk = there_now;
-      comes = subst (λ (l : Without). ComesMarked l file tree at.t m it.walk n.planned.count at.left) (sym keeps.0) it.comes;
-      none = it.none;
-      next = ap (λ v. slice_get v.items turn.track) keeps.3 ∙ next_there;
-      rows = it.rows;
-      stretches = it.stretches;
-    }
+      info_there : slice_get m.tracks turn.track ≡ Some at.info
+      info_there = ap (λ k. slice_get m.tracks k) here.0 ∙ at.is_info
 
-    -- it is not taken along whole
-    pub carry_stops : (last : Y) → ((samples : List SampleAt) → IsNoted file tree m turn.track n.planned.count samples w1 → (info : TrackInfo) → slice_get m.tracks turn.track ≡ Some info → AreApart (keys_seen info.keys)
-        → TakesPrefix (takes after last) (waiting w1.carrier ++ turn_bytes file n.head n.planned (keys_seen info.keys) (take n.planned.count samples))) → TakesPrefix (takes before last) (normal (reduce leaving (presentation_of file tree)))
-    carry_stops last f =
-        let q = f at.left is_noted at.info info_there at.keys.apart in
-        let own = subst (λ (hd : Option PieceHead). TakesPrefix (takes after last) (waiting w1.carrier ++ turn_bytes file hd n.planned (keys_seen at.info.keys) (take n.planned.count at.left))) head_is q in
-        let same = subst (λ (c : OutBuffer). TakesPrefix (takes after last) (waiting c ++ turn_bytes file (turn_head sequence at.info.id n.planned.count (slice_get at.left 0)) n.planned (keys_seen at.info.keys) (take n.planned.count at.left))) keeps.1 own in
-        turn_stops leaving file tree m s sequence sent w.walks.items w.nexts.items (length w.rows.items) joins before after (waiting w.carrier) h at n.planned planned_is few last same
+      is_noted : IsNoted file tree m turn.track n.planned.count at.left w1
+      is_noted = record {
+        t = at.t;
+        walk = it.walk;
+        is_walk = there_now;
+        reduction = (λ i. slice_get (by_same i).items turn.track) ∙ by_there ∙ ap (λ (l : Without). Some (track_reduction l tree at.t)) (sym keeps.0);
+        comes = subst (λ (l : Without). ComesMarked (track_reduction l tree at.t) file tree at.t m it.walk n.planned.count at.left) (sym keeps.0) it.comes;
+        none = it.none;
+        next = ap (λ v. slice_get v.items turn.track) keeps.3 ∙ next_there;
+        rows = it.rows;
+        stretches = it.stretches;
+      }
 
-    -- its samples lie in the file, with as many bytes as were planned
-    pub carry_lacks : (X : Type 0) → ((samples : List SampleAt) → IsNoted file tree m turn.track n.planned.count samples w1 → AreThere file n.planned.count n.planned.bytes samples → X) → X
-    carry_lacks X f =
-        f at.left is_noted
-        (record {
-          many = subst (λ k. k ≤ length at.left) (sym counted) (piece_within end at.left);
-          sizes = ap (λ (q : Planned). q.bytes) planned_is ∙ piece_bytes end at.left ∙ ap (λ k. sum_of (λ (x : SampleAt). x.size) (take k at.left)) (sym counted);
-          below = at.below;
-        })
+      -- it is not taken along whole
+      pub carry_stops : (last : Y) → ((samples : List SampleAt) → IsNoted file tree m turn.track n.planned.count samples w1 → (info : TrackInfo) → slice_get m.tracks turn.track ≡ Some info → AreApart (keys_seen info.keys)
+          → TakesPrefix (takes after last) (waiting w1.carrier ++ turn_bytes file n.head n.planned (keys_seen info.keys) (take n.planned.count samples))) → TakesPrefix (takes before last) (normal (reduce leaving (presentation_of file tree)))
+      carry_stops last f =
+          let q = f at.left is_noted at.info info_there at.keys.apart in
+          let own = subst (λ (hd : Option PieceHead). TakesPrefix (takes after last) (waiting w1.carrier ++ turn_bytes file hd n.planned (keys_seen at.info.keys) (take n.planned.count at.left))) head_is q in
+          let same = subst (λ (c : OutBuffer). TakesPrefix (takes after last) (waiting c ++ turn_bytes file (turn_head sequence at.info.id n.planned.count (slice_get at.left 0)) n.planned (keys_seen at.info.keys) (take n.planned.count at.left))) keeps.1 own in
+          turn_stops leaving file tree m s sequence sent w.walks.items w.nexts.items (length w.rows.items) joins before after (waiting w.carrier) h at n.planned planned_is few last same
 
-    module _ (w2 : Writer) (next : Option SampleAt) (copied : (samples : List SampleAt) → (k : IsNoted file tree m turn.track n.planned.count samples w1) → HaveCopied file tree m k.t turn.track n.planned.count samples w1 w2)
-        (read : (x : Option SampleAt) → slice_get w2.nexts.items turn.track ≡ Some x → next ≡ x) where
-      done : HaveCopied file tree m at.t turn.track n.planned.count at.left w1 w2
-      unfolding at is_noted
-      done = copied at.left is_noted
+      -- its samples lie in the file, with as many bytes as were planned
+      pub carry_lacks : (X : Type 0) → ((samples : List SampleAt) → IsNoted file tree m turn.track n.planned.count samples w1 → AreThere file n.planned.count n.planned.bytes samples → X) → X
+      carry_lacks X f =
+          f at.left is_noted
+          (record {
+            many = subst (λ k. k ≤ length at.left) (sym counted) (piece_within end at.left);
+            sizes = ap (λ (q : Planned). q.bytes) planned_is ∙ piece_bytes end at.left ∙ ap (λ k. sum_of (λ (x : SampleAt). x.size) (take k at.left)) (sym counted);
+            below = at.below;
+          })
 
-      next_is : next ≡ slice_get (samples_after (piece_from end) at.left) 0
-      next_is = read (slice_get (drop n.planned.count at.left) 0) (ap (λ (xs : List (Option SampleAt)). slice_get xs turn.track) (done.2 ∙ ap (λ v. slice_set v.items turn.track (slice_get (drop n.planned.count at.left) 0)) keeps.3)
-          ∙ set_there w.nexts.items turn.track (slice_get at.left 0) (slice_get (drop n.planned.count at.left) 0) next_there) ∙ ap (λ (ss : List SampleAt). slice_get ss 0) rest_is
+      module _ (w2 : Writer) (next : Option SampleAt) (copied : (samples : List SampleAt) → (k : IsNoted file tree m turn.track n.planned.count samples w1) → HaveCopied file tree m k.t turn.track n.planned.count samples w1 w2)
+          (read : (x : Option SampleAt) → slice_get w2.nexts.items turn.track ≡ Some x → next ≡ x) where
+        done : HaveCopied file tree m at.t turn.track n.planned.count at.left w1 w2
+        unfolding at is_noted
+        done = copied at.left is_noted
 
-      -- the schedule goes on
-      pub pass_lacks : IsDueAt (infos_left leaving m.tracks) w.nexts.items s w.due → Sticks s n.planned.count next → ⊥
-      pass_lacks due k =
-          let count = subst (λ c. Sticks s c next) counted k in
-          let goes_in = due_here (infos_left leaving m.tracks) w.nexts.items s w.due (info_left leaving at.info) (slice_get at.left 0) due (left_scales leaving file m tree o) here.1 (info_at leaving m.tracks s.track at.info at.is_info) at.shown in
-          turn_moves file (infos_left leaving m.tracks) s h.lefts h.comings (info_left leaving at.info) at.left at.taken goes_in (subst (λ (x : Option SampleAt). Sticks s (more_of (piece_from end) at.left) x) next_is count)
+        next_is : next ≡ slice_get (samples_after (piece_from end) at.left) 0
+        next_is = read (slice_get (drop n.planned.count at.left) 0) (ap (λ (xs : List (Option SampleAt)). slice_get xs turn.track) (done.2 ∙ ap (λ v. slice_set v.items turn.track (slice_get (drop n.planned.count at.left) 0)) keeps.3)
+            ∙ set_there w.nexts.items turn.track (slice_get at.left 0) (slice_get (drop n.planned.count at.left) 0) next_there) ∙ ap (λ (ss : List SampleAt). slice_get ss 0) rest_is
 
-      -- the next samples are the same but for one
-      nexts_are : w2.nexts.items ≡ slice_set w.nexts.items s.track next
-      nexts_are = done.2 ∙ (λ i. slice_set (keeps.3 i).items (here.0 i) ((ap (λ (ss : List SampleAt). slice_get ss 0) rest_is ∙ sym next_is) i))
+        -- the schedule goes on
+        pub pass_lacks : IsDueAt (infos_left leaving m.tracks) w.nexts.items s w.due → Sticks s n.planned.count next → ⊥
+        pass_lacks due k =
+            let count = subst (λ c. Sticks s c next) counted k in
+            let goes_in = due_here (infos_left leaving m.tracks) w.nexts.items s w.due (info_left leaving at.info) (slice_get at.left 0) due (left_scales leaving file m tree o) here.1 (info_at leaving m.tracks s.track at.info at.is_info) at.shown in
+            turn_moves file (infos_left leaving m.tracks) s h.lefts h.comings (info_left leaving at.info) at.left at.taken goes_in (subst (λ (x : Option SampleAt). Sticks s (more_of (piece_from end) at.left) x) next_is count)
 
-      -- what is so of them, by what the leaves say
-      pub with_times : (P : List (Option SampleAt) → Type 0) → IsDueAt (infos_left leaving m.tracks) w.nexts.items s w.due → w2.due ≡ w1.due → ((nexts : List (Option SampleAt)) → AreTimes (infos_left leaving m.tracks) nexts s.first w2.due → P (slice_set nexts s.track next)) → P w2.nexts.items
-      with_times P due same f =
-          let times = subst (λ (e : DueTracks). AreTimes (infos_left leaving m.tracks) w.nexts.items s.first e) (sym (same ∙ keeps.4)) due.times in
-          subst P (sym nexts_are) (f w.nexts.items times)
+        -- the next samples are the same but for one
+        nexts_are : w2.nexts.items ≡ slice_set w.nexts.items s.track next
+        nexts_are = done.2 ∙ (λ i. slice_set (keeps.3 i).items (here.0 i) ((ap (λ (ss : List SampleAt). slice_get ss 0) rest_is ∙ sym next_is) i))
 
-      -- the turn behind it
-      pub turn_goes : (last : Y) (later : Schedule) → ((samples : List SampleAt) → IsNoted file tree m turn.track n.planned.count samples w1 → (info : TrackInfo) → slice_get m.tracks turn.track ≡ Some info → AreApart (keys_seen info.keys)
-          → BytesGoOn (takes after last) (waiting w1.carrier) (waiting w2.carrier) (turn_bytes file n.head n.planned (keys_seen info.keys) (take n.planned.count samples)))
-          → (w2.leaving ≡ w1.leaving) × (w2.rows ≡ w1.rows) × (w2.due ≡ w1.due)
-          → later ≡ turned s turn.end n.planned.count next → WritesOn leaving file tree m later (sequence_behind sequence n.head) (sent + n.planned.bytes) w2.walks.items w2.nexts.items (length w2.rows.items) (takes before last) (waiting w2.carrier)
-      turn_goes last later put kept is =
-          let q = put at.left is_noted at.info info_there at.keys.apart in
-          let own = subst (λ (hd : Option PieceHead). BytesGoOn (takes after last) (waiting w1.carrier) (waiting w2.carrier) (turn_bytes file hd n.planned (keys_seen at.info.keys) (take n.planned.count at.left))) head_is q in
-          let same = subst (λ (c : OutBuffer). BytesGoOn (takes after last) (waiting c) (waiting w2.carrier) (turn_bytes file (turn_head sequence at.info.id n.planned.count (slice_get at.left 0)) n.planned (keys_seen at.info.keys) (take n.planned.count at.left))) keeps.1 own in
-          let comes = subst (λ (l : Without). ComesLess l file tree at.t m done.0 (drop n.planned.count at.left)) (keeps.0 ∙ same_leaving) done.3 in
-          let comes_rest = subst (λ (ss : List SampleAt). ComesLess leaving file tree at.t m done.0 ss) rest_is comes in
-          let marked = subst (λ (ss : List SampleAt). done.0.mark ≡ mark_of done.0 (length ss)) rest_is done.4 in
-          let on = turn_over leaving file tree m s sequence sent w.walks.items w.nexts.items (length w.rows.items) joins before after (waiting w.carrier) h at n.planned planned_is few done.0 last (waiting w2.carrier) comes_rest marked same in
-          let walks : slice_set w.walks.items s.track done.0 ≡ w2.walks.items = sym (done.1 ∙ ap (λ (ws : List Walk). slice_set ws turn.track done.0) it.walks ∙ set_twice w.walks.items turn.track it.walk done.0 ∙ ap (λ k. slice_set w.walks.items k done.0) here.0) in
-          let rows : length w.rows.items ≡ length w2.rows.items = sym (ap (λ v. length v.items) kept.1 ∙ keeps.2) in
-          let number : sequence_behind sequence (turn_head sequence at.info.id n.planned.count (slice_get at.left 0)) ≡ sequence_behind sequence n.head = ap (sequence_behind sequence) (sym head_is) in
-          let schedule : turned s end n.planned.count (slice_get (samples_after (piece_from end) at.left) 0) ≡ later = (λ i. turned s (sym end_is i) n.planned.count (sym next_is i)) ∙ sym is in
-          let nexts : slice_set w.nexts.items s.track (slice_get (samples_after (piece_from end) at.left) 0) ≡ w2.nexts.items = sym (done.2 ∙ (λ i. slice_set (keeps.3 i).items (here.0 i) (slice_get (rest_is i) 0))) in
-          subst (λ (k : ℕ). WritesOn leaving file tree m later (sequence_behind sequence n.head) (sent + n.planned.bytes) w2.walks.items w2.nexts.items k (takes before last) (waiting w2.carrier)) rows
-          (subst (λ (xs : List (Option SampleAt)). WritesOn leaving file tree m later (sequence_behind sequence n.head) (sent + n.planned.bytes) w2.walks.items xs (length w.rows.items) (takes before last) (waiting w2.carrier)) nexts
-          (subst (λ (ws : List Walk). WritesOn leaving file tree m later (sequence_behind sequence n.head) (sent + n.planned.bytes) ws (slice_set w.nexts.items s.track (slice_get (samples_after (piece_from end) at.left) 0)) (length w.rows.items) (takes before last) (waiting w2.carrier)) walks
-          (subst (λ (k : ℕ). WritesOn leaving file tree m later k (sent + n.planned.bytes) (slice_set w.walks.items s.track done.0) (slice_set w.nexts.items s.track (slice_get (samples_after (piece_from end) at.left) 0)) (length w.rows.items) (takes before last) (waiting w2.carrier)) number
-          (subst (λ (r : Schedule). WritesOn leaving file tree m r (sequence_behind sequence (turn_head sequence at.info.id n.planned.count (slice_get at.left 0))) (sent + n.planned.bytes)
-          (slice_set w.walks.items s.track done.0) (slice_set w.nexts.items s.track (slice_get (samples_after (piece_from end) at.left) 0)) (length w.rows.items) (takes before last) (waiting w2.carrier)) schedule on))))
+        -- what is so of them, by what the leaves say
+        pub with_times : (P : List (Option SampleAt) → Type 0) → IsDueAt (infos_left leaving m.tracks) w.nexts.items s w.due → w2.due ≡ w1.due → ((nexts : List (Option SampleAt)) → AreTimes (infos_left leaving m.tracks) nexts s.first w2.due → P (slice_set nexts s.track next)) → P w2.nexts.items
+        with_times P due same f =
+            let times = subst (λ (e : DueTracks). AreTimes (infos_left leaving m.tracks) w.nexts.items s.first e) (sym (same ∙ keeps.4)) due.times in
+            subst P (sym nexts_are) (f w.nexts.items times)
+
+        -- the turn behind it
+        pub turn_goes : (last : Y) (later : Schedule) → ((samples : List SampleAt) → IsNoted file tree m turn.track n.planned.count samples w1 → (info : TrackInfo) → slice_get m.tracks turn.track ≡ Some info → AreApart (keys_seen info.keys)
+            → BytesGoOn (takes after last) (waiting w1.carrier) (waiting w2.carrier) (turn_bytes file n.head n.planned (keys_seen info.keys) (take n.planned.count samples)))
+            → (w2.leaving ≡ w1.leaving) × (w2.rows ≡ w1.rows) × (w2.due ≡ w1.due)
+            → later ≡ turned s turn.end n.planned.count next → WritesOn leaving file tree m later (sequence_behind sequence n.head) (sent + n.planned.bytes) w2.walks.items w2.nexts.items (length w2.rows.items) (takes before last) (waiting w2.carrier)
+        turn_goes last later put kept is =
+            let q = put at.left is_noted at.info info_there at.keys.apart in
+            let own = subst (λ (hd : Option PieceHead). BytesGoOn (takes after last) (waiting w1.carrier) (waiting w2.carrier) (turn_bytes file hd n.planned (keys_seen at.info.keys) (take n.planned.count at.left))) head_is q in
+            let same = subst (λ (c : OutBuffer). BytesGoOn (takes after last) (waiting c) (waiting w2.carrier) (turn_bytes file (turn_head sequence at.info.id n.planned.count (slice_get at.left 0)) n.planned (keys_seen at.info.keys) (take n.planned.count at.left))) keeps.1 own in
+            let comes = subst (λ (l : Without). ComesLess (track_reduction l tree at.t) file tree at.t m done.0 (drop n.planned.count at.left)) (keeps.0 ∙ same_leaving) done.3 in
+            let comes_rest = subst (λ (ss : List SampleAt). ComesLess (track_reduction leaving tree at.t) file tree at.t m done.0 ss) rest_is comes in
+            let marked = subst (λ (ss : List SampleAt). done.0.mark ≡ mark_of done.0 (length ss)) rest_is done.4 in
+            let on = turn_over leaving file tree m s sequence sent w.walks.items w.nexts.items (length w.rows.items) joins before after (waiting w.carrier) h at n.planned planned_is few done.0 last (waiting w2.carrier) comes_rest marked same in
+            let walks : slice_set w.walks.items s.track done.0 ≡ w2.walks.items = sym (done.1 ∙ ap (λ (ws : List Walk). slice_set ws turn.track done.0) it.walks ∙ set_twice w.walks.items turn.track it.walk done.0 ∙ ap (λ k. slice_set w.walks.items k done.0) here.0) in
+            let rows : length w.rows.items ≡ length w2.rows.items = sym (ap (λ v. length v.items) kept.1 ∙ keeps.2) in
+            let number : sequence_behind sequence (turn_head sequence at.info.id n.planned.count (slice_get at.left 0)) ≡ sequence_behind sequence n.head = ap (sequence_behind sequence) (sym head_is) in
+            let schedule : turned s end n.planned.count (slice_get (samples_after (piece_from end) at.left) 0) ≡ later = (λ i. turned s (sym end_is i) n.planned.count (sym next_is i)) ∙ sym is in
+            let nexts : slice_set w.nexts.items s.track (slice_get (samples_after (piece_from end) at.left) 0) ≡ w2.nexts.items = sym (done.2 ∙ (λ i. slice_set (keeps.3 i).items (here.0 i) (slice_get (rest_is i) 0))) in
+            subst (λ (k : ℕ). WritesOn leaving file tree m later (sequence_behind sequence n.head) (sent + n.planned.bytes) w2.walks.items w2.nexts.items k (takes before last) (waiting w2.carrier)) rows
+            (subst (λ (xs : List (Option SampleAt)). WritesOn leaving file tree m later (sequence_behind sequence n.head) (sent + n.planned.bytes) w2.walks.items xs (length w.rows.items) (takes before last) (waiting w2.carrier)) nexts
+            (subst (λ (ws : List Walk). WritesOn leaving file tree m later (sequence_behind sequence n.head) (sent + n.planned.bytes) ws (slice_set w.nexts.items s.track (slice_get (samples_after (piece_from end) at.left) 0)) (length w.rows.items) (takes before last) (waiting w2.carrier)) walks
+            (subst (λ (k : ℕ). WritesOn leaving file tree m later k (sent + n.planned.bytes) (slice_set w.walks.items s.track done.0) (slice_set w.nexts.items s.track (slice_get (samples_after (piece_from end) at.left) 0)) (length w.rows.items) (takes before last) (waiting w2.carrier)) number
+            (subst (λ (r : Schedule). WritesOn leaving file tree m r (sequence_behind sequence (turn_head sequence at.info.id n.planned.count (slice_get at.left 0))) (sent + n.planned.bytes)
+            (slice_set w.walks.items s.track done.0) (slice_set w.nexts.items s.track (slice_get (samples_after (piece_from end) at.left) 0)) (length w.rows.items) (takes before last) (waiting w2.carrier)) schedule on))))

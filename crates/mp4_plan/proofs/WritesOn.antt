@@ -1,8 +1,8 @@
 -- The writer from turn to turn: what was put and what waits are the head and the pieces so far, and the walks stand before the samples that are left.
 use Rattle.std.proofs.Common.{◌≡◌, ℕ, zero, suc, ◌+◌, ◌-◌, ◌^◌, ◌<◌, ◌≤◌, max, ◌==◌, Bool, true, false, List, [], ◌∷◌, ◌++◌, length, take, Some, None, refl, sym, ap, subst, ◌∙◌, append_assoc, append-nil, arith, slice_set}
 use Rattle.mp4_present.specs.declared.without.Without.{Without}
-use Rattle.mp4_plan.specs.words.ComingLess.{ComesLess, left_samples}
-use Rattle.mp4_present.specs.format.Reduced.{reduce, timescale_left}
+use Rattle.mp4_plan.specs.words.ComingLess.{ComesLess, left_samples, track_reduction}
+use Rattle.mp4_present.specs.format.Reduced.{ReducesInRange, reduce, timescale_left}
 use Rattle.mp4_plan.proofs.ReducedTaken.{less_counted, less_below}
 use Rattle.std.specs.Prelude.{Option, option_map, if◌then◌else◌, map, slice_get, fold}
 use Rattle.std.specs.List.{AllByRecursion, AllZip, sum_by}
@@ -161,7 +161,7 @@ module _ (leaving : Without) (file : List ℕ) (tree : FileTree) (m : MovieSeen)
     pub is_walk : slice_get walks s.track ≡ Some walk
     pub is_info : slice_get m.tracks s.track ≡ Some info
     pub is_left : slice_get lefts s.track ≡ Some left
-    pub comes : ComesLess leaving file tree t m walk left
+    pub comes : ComesLess (track_reduction leaving tree t) file tree t m walk left
     pub is_marked : walk.mark ≡ mark_of walk (length left)
     pub keys : AreKeys (keys_seen info.keys)
     pub taken : TurnTaken file (infos_left leaving m.tracks) s lefts comings (info_left leaving info) left
@@ -272,7 +272,7 @@ module _ (leaving : Without) (file : List ℕ) (tree : FileTree) (m : MovieSeen)
           (ap (λ (bs : List ℕ). h.done ++ bs) (sym written)) rest_is
 
       -- it is taken along
-      pub turn_over : (later : Walk) (last : Y) (held_later : List ℕ) → ComesLess leaving file tree a.t m later rest → later.mark ≡ mark_of later (length rest) → BytesGoOn (takes after last) held held_later (turn_bytes file head p keys (take p.count a.left))
+      pub turn_over : (later : Walk) (last : Y) (held_later : List ℕ) → ComesLess (track_reduction leaving tree a.t) file tree a.t m later rest → later.mark ≡ mark_of later (length rest) → BytesGoOn (takes after last) held held_later (turn_bytes file head p keys (take p.count a.left))
           → WritesOn (turned s end p.count (slice_get rest 0)) (sequence_behind sequence head) (sent + p.bytes) (slice_set walks s.track later) (slice_set nexts s.track (slice_get rest 0)) rows (takes before last) held_later
       turn_over later last held_later comes marked bytes =
           let come = come_with leaving file tree m tree.movie.tracks walks h.lefts s.track a.t later rest h.come a.is_tree comes in
@@ -304,7 +304,7 @@ module _ (leaving : Without) (file : List ℕ) (tree : FileTree) (m : MovieSeen)
   all_lie [] [] z = tt
   all_lie [] (t ∷ trees) z = absurd z
   all_lie (i ∷ infos) [] z = absurd z
-  all_lie (i ∷ infos) (t ∷ trees) z = (less_below leaving (length file) (track_samples tree t) z.0.lies, all_lie infos trees z.1)
+  all_lie (i ∷ infos) (t ∷ trees) z = (less_below (track_reduction leaving tree t) (length file) (track_samples tree t) z.0.lies, all_lie infos trees z.1)
 
   -- the first turn
   pub begins : (s : Schedule) (w : Writer) (walks : List Walk) (nexts : List (Option SampleAt)) (Took : List ℕ → Type 0) (held : List ℕ) → IsOpenedAs file m tree → IsReady file tree m w → w.leaving ≡ leaving
@@ -312,7 +312,8 @@ module _ (leaving : Without) (file : List ℕ) (tree : FileTree) (m : MovieSeen)
       → AllBegin leaving file tree m walks → AreMarked walks (map (left_samples leaving tree) tree.movie.tracks) → nexts ≡ firsts (map (left_samples leaving tree) tree.movie.tracks) → BytesGoOn Took (waiting w.carrier) held w.head.items
       → WritesOn s 1 0 walks nexts (length w.rows.items) Took held
   begins s w walks nexts Took held o r same first come marked shown goes =
-      let all = first_turn leaving file m tree s o first in
+      let range = subst (λ (k : Without). ReducesInRange k (presentation_of file tree)) same r.range in
+      let all = first_turn leaving file m tree s o range first in
       let p = reduce leaving (presentation_of file tree) in
       let few = subst (λ n. n ≤ 2 ^ 24) (sym (less_counted leaving tree tree.movie.tracks)) (few_left file m tree o) in
       record {

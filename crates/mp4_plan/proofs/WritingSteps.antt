@@ -14,7 +14,7 @@ use Rattle.mp4_frag.specs.words.OwnTrafs.{PlacedTraf, traf_steps}
 use Rattle.mp4_present.proofs.WayThrough.{same_steps}
 use Rattle.mp4_present.specs.declared.walking.loaded.Place.{Place}
 use Rattle.mp4_present.specs.declared.walking.loaded.Place.TheVariants.{Tables, Fragment}
-use Rattle.mp4_present.specs.declared.without.Without.{Without}
+use Rattle.mp4_plan.specs.declared.reduced.Reduction.{Reduction}
 use Rattle.mp4_present.specs.declared.walking.Due.{Due}
 use Rattle.mp4_present.specs.declared.walking.Mark.{Mark}
 use Rattle.mp4_present.specs.declared.walking.Walk.{Walk}
@@ -86,7 +86,7 @@ module _ (file : List ℕ) (m : MovieSeen) (tree : FileTree) (o : IsOpenedAs fil
 
   -- ---- a piece is noted
 
-  pub finishes_noted : (l : Without) (count : ℕ) (w now : Walk) (n old new : ℕ) (left : List SampleAt) (h : MayWrite file tree m t w n) (k : ComesMarked l file tree t m now count left)
+  pub finishes_noted : (l : Reduction) (count : ℕ) (w now : Walk) (n old new : ℕ) (left : List SampleAt) (h : MayWrite file tree m t w n) (k : ComesMarked l file tree t m now count left)
       → k.begun ≡ w → WentOn m w now old new → TakesOn file tree t h.own now old new → (count ≡ 0 → now.mark ≡ mark_of now (length left)) → FinishesOn l file tree m count t n now old new
   finishes_noted l count w now n old new left h k same went takes none =
       let few = rest_few w now h.own old new went.grows takes in
@@ -112,7 +112,7 @@ module _ (file : List ℕ) (m : MovieSeen) (tree : FileTree) (o : IsOpenedAs fil
       )
 
   -- nothing was noted
-  pub finishes_none : (l : Without) (w : Walk) (n old : ℕ) (left : List SampleAt) (h : MayWrite file tree m t w n) (k : ComesMarked l file tree t m w 0 left) → k.begun ≡ w → w.mark ≡ mark_of w (length left) → FinishesOn l file tree m 0 t n w old old
+  pub finishes_none : (l : Reduction) (w : Walk) (n old : ℕ) (left : List SampleAt) (h : MayWrite file tree m t w n) (k : ComesMarked l file tree t m w 0 left) → k.begun ≡ w → w.mark ≡ mark_of w (length left) → FinishesOn l file tree m 0 t n w old old
   finishes_none l w n old left h k same none =
       let sum = h.sum in
       let began = subst (λ (b : Walk). MayTake file tree t b h.own) (sym same) h.may in
@@ -137,7 +137,7 @@ module _ (file : List ℕ) (m : MovieSeen) (tree : FileTree) (o : IsOpenedAs fil
 
   -- ---- it is carried, and the next sample is looked for
 
-  module _ (l : Without) (count : ℕ) (w : Walk) (n : ℕ) (h : MayFinish l file tree m count t w n) (i : IsWalkOf m w) where
+  module _ (l : Reduction) (count : ℕ) (w : Walk) (n : ℕ) (h : MayFinish l file tree m count t w n) (i : IsWalkOf m w) where
     mark_next : w.mark.next ≡ h.marked.begun.next
     mark_next = ap (λ (k : Mark). k.next) h.marked.back.mark
 
@@ -327,8 +327,8 @@ module _ (file : List ℕ) (m : MovieSeen) (tree : FileTree) (o : IsOpenedAs fil
 
 -- ---- all walks, of which one has noted a piece
 
-module _ (l : Without) (file : List ℕ) (m : MovieSeen) (tree : FileTree) (o : IsOpenedAs file m tree) (walks : List Walk) (k count : ℕ) (w : Walk) (n : ℕ) (h : MayAllWrite file tree m walks n) (is : slice_get walks k ≡ Some w) where
-  pub all_noted : (now : Walk) (old new : ℕ) → ((t : TrackTree) (own : ℕ) → MayWrite file tree m t w own → FinishesOn l file tree m count t own now old new) → AllFinishOn l file tree m k count n (slice_set walks k now) old new
+module _ (by : List Reduction) (l : Reduction) (file : List ℕ) (m : MovieSeen) (tree : FileTree) (o : IsOpenedAs file m tree) (walks : List Walk) (k count : ℕ) (w : Walk) (n : ℕ) (h : MayAllWrite file tree m walks n) (is : slice_get walks k ≡ Some w) (is_by : slice_get by k ≡ Some l) where
+  pub all_noted : (now : Walk) (old new : ℕ) → ((t : TrackTree) (own : ℕ) → MayWrite file tree m t w own → FinishesOn l file tree m count t own now old new) → AllFinishOn by file tree m k count n (slice_set walks k now) old new
   all_noted now old new notes =
       let r = may_at (MayWrite file tree m) tree.movie.tracks walks k w n h is in
       let on = notes r.t r.own r.may in
@@ -336,6 +336,8 @@ module _ (l : Without) (file : List ℕ) (m : MovieSeen) (tree : FileTree) (o : 
       let within = on.2 in (
         on.0 + r.others,
         record {
+          by = l;
+          is_by = is_by;
           t = r.t;
           walk = now;
           is_walk = set_there walks k w now is;
@@ -349,7 +351,7 @@ module _ (l : Without) (file : List ℕ) (m : MovieSeen) (tree : FileTree) (o : 
       )
 
   -- nothing was noted
-  pub none_noted : (old : ℕ) → IsWalkOf m w → count ≡ 0 → AllFinishOn l file tree m k count n walks old old
+  pub none_noted : (old : ℕ) → IsWalkOf m w → count ≡ 0 → AllFinishOn by file tree m k count n walks old old
   none_noted old i none =
       let r = may_at (MayWrite file tree m) tree.movie.tracks walks k w n h is in
       let left = less l r.may.samples in
@@ -362,6 +364,8 @@ module _ (l : Without) (file : List ℕ) (m : MovieSeen) (tree : FileTree) (o : 
       let within = on.2 in (
         on.0 + r.others,
         record {
+          by = l;
+          is_by = is_by;
           t = r.t;
           walk = w;
           is_walk = is;
@@ -375,15 +379,15 @@ module _ (l : Without) (file : List ℕ) (m : MovieSeen) (tree : FileTree) (o : 
       )
 
 -- the piece that was noted is carried
-module _ (l : Without) (file : List ℕ) (m : MovieSeen) (tree : FileTree) (o : IsOpenedAs file m tree) (walks : List Walk) (k count n : ℕ) (h : MayAllFinish l file tree m k count walks n) where
-  pub all_carried : (now : Walk) (old new : ℕ) → ((t : TrackTree) (own : ℕ) → MayFinish l file tree m count t h.walk own → WritesOn file tree m t own now old new) → AllWriteOn file tree m n (slice_set walks k now) old new
+module _ (by : List Reduction) (file : List ℕ) (m : MovieSeen) (tree : FileTree) (o : IsOpenedAs file m tree) (walks : List Walk) (k count n : ℕ) (h : MayAllFinish by file tree m k count walks n) where
+  pub all_carried : (now : Walk) (old new : ℕ) → ((t : TrackTree) (own : ℕ) → MayFinish h.by file tree m count t h.walk own → WritesOn file tree m t own now old new) → AllWriteOn file tree m n (slice_set walks k now) old new
   all_carried now old new carries =
       let on = carries h.t h.own h.may in
       let all = h.sum in
       let within = on.2 in
       (on.0 + h.others, h.moved now on.0 on.1, omega (arith, all, within))
 
-  pub all_carried_most : (old new : ℕ) → ((t : TrackTree) (own : ℕ) → MayFinish l file tree m count t h.walk own → new ≤ old + own) → new ≤ old + n
+  pub all_carried_most : (old new : ℕ) → ((t : TrackTree) (own : ℕ) → MayFinish h.by file tree m count t h.walk own → new ≤ old + own) → new ≤ old + n
   all_carried_most old new most =
       let within = most h.t h.own h.may in
       let all = h.sum in
@@ -392,8 +396,8 @@ module _ (l : Without) (file : List ℕ) (m : MovieSeen) (tree : FileTree) (o : 
   -- it has no samples
   pub none_carried : (old : ℕ) → IsWalkOf m h.walk → count ≡ 0 → AllWriteOn file tree m n walks old old
   none_carried old i none =
-      let on = writes_none file m tree o h.t l count h.walk h.own h.may i none in
-      let within = none_within file m tree o h.t l count h.walk h.own h.may i old in
+      let on = writes_none file m tree o h.t h.by count h.walk h.own h.may i none in
+      let within = none_within file m tree o h.t h.by count h.walk h.own h.may i old in
       let all = h.sum in
       let rest : ℕ = 2 * h.may.now + again_steps h.may.may.earlier h.may.may.later in
       (rest + h.others, subst (λ (ws : List Walk). MayAllWrite file tree m ws (rest + h.others)) (set_same walks k h.walk h.is_walk) (h.moved h.walk rest on), omega (arith, all, within))

@@ -15,6 +15,7 @@ pub mod Stretches
 pub mod HandsFed
 pub mod WriterSteps
 pub mod LeftTimes
+pub mod Measuring
 pub mod GoneOn
 pub mod PutPieces
 pub mod Counting

@@ -2,7 +2,7 @@
 ghost use Rattle.std.specs.Prelude.{◌≡◌, ◌+◌, ◌-◌, ◌<◌, ◌≤◌, [], length, take, drop, vec_len, IfOk, MatchResult, OnOk};
 ghost use Rattle.std.specs.List.{AllByRecursion};
 ghost use Rattle.mp4_present.specs.words.Carried.{GoOnBy, RefusesCarry, waiting};
-ghost use Rattle.mp4_present.specs.declared.without.Without.{Without};
+ghost use Rattle.mp4_plan.specs.declared.reduced.Reduction.{Reduction};
 ghost use Rattle.mp4_present.specs.words.HandCarried.{RefusedByBoth};
 ghost use Rattle.mp4_present.specs.words.SamplesComing.{Comes};
 ghost use Rattle.mp4_present.specs.words.Loaded.{Follows, left_in_hand};
@@ -19,9 +19,10 @@ ghost use Rattle.mp4_plan.specs.words.ReducedWalks.{KeepsWalk};
 ghost use Rattle.mp4_plan.specs.words.WriterSteps.{WritesOn};
 
 use crate::joined::Stretches;
+use crate::reduced::Reduction;
 use crate::track_pieces::next_sample;
 use mp4_boxes::{Refusal, Steps};
-use mp4_present::{Loaded, Movie, OutBuffer, Walk, Without, next_stretch};
+use mp4_present::{Loaded, Movie, OutBuffer, Walk, next_stretch};
 use mp4_store::{Sink, Store};
 use mp4_tables::SampleAt;
 use std::sync::ledger::Ledger;
@@ -131,14 +132,14 @@ fn carry_in_hand<S: Store, K: Sink, L: Ledger>(
 ) -> Result<(), Refusal>
     requires { HasMarkInHand movie.now walk.old }
     ensures walk { KeepsWalk movie.now walk.old walk.new result }
-    ensures put { (l : Without) → WhereMarkedLess S.Store store.old movie.now l walk.old
+    ensures put { (l : Reduction) → WhereMarkedLess S.Store store.old movie.now l walk.old
         load.samples (λ file tree t samples.
         Carries K.Sink sink.old sink.new carrier.old carrier.new result
         (sample_bytes file (take load.samples samples))) }
-    ensures comes { (l : Without) → WhereMarkedLess S.Store store.old movie.now l walk.old
+    ensures comes { (l : Reduction) → WhereMarkedLess S.Store store.old movie.now l walk.old
         load.samples (λ file tree t samples. OnOk result
         (ComesLess l file tree t movie.now walk.new (drop load.samples samples))) }
-    ensures unchanged { (l : Without) → WhereMarkedLess S.Store store.old movie.now l walk.old
+    ensures unchanged { (l : Reduction) → WhereMarkedLess S.Store store.old movie.now l walk.old
         load.samples (λ file tree t samples. AreThere file load.samples load.bytes samples
         → IsUnchanged result) }
     ensures along { TakesAlong K.Sink sink.old sink.new carrier.old carrier.new result load.bytes }
@@ -169,14 +170,14 @@ fn carry_again<S: Store, K: Sink, L: Ledger>(
 ) -> Result<(), Refusal>
     requires { IsWalkOf movie.now walk.old }
     ensures walk { KeepsWalk movie.now walk.old walk.new result }
-    ensures put { (l : Without) → WhereMarkedLess S.Store store.old movie.now l walk.old
+    ensures put { (l : Reduction) → WhereMarkedLess S.Store store.old movie.now l walk.old
         load.samples (λ file tree t samples.
         Carries K.Sink sink.old sink.new carrier.old carrier.new result
         (sample_bytes file (take load.samples samples))) }
-    ensures comes { (l : Without) → WhereMarkedLess S.Store store.old movie.now l walk.old
+    ensures comes { (l : Reduction) → WhereMarkedLess S.Store store.old movie.now l walk.old
         load.samples (λ file tree t samples. OnOk result
         (ComesLess l file tree t movie.now walk.new (drop load.samples samples))) }
-    ensures unchanged { (l : Without) → WhereMarkedLess S.Store store.old movie.now l walk.old
+    ensures unchanged { (l : Reduction) → WhereMarkedLess S.Store store.old movie.now l walk.old
         load.samples (λ file tree t samples. AreThere file load.samples load.bytes samples
         → IsUnchanged result) }
     ensures along { TakesAlong K.Sink sink.old sink.new carrier.old carrier.new result load.bytes }
@@ -206,14 +207,15 @@ fn carry_marked<S: Store, K: Sink, L: Ledger>(
 ) -> Result<(), Refusal>
     requires { IsWalkOf movie.now walk.old }
     ensures walk { KeepsWalk movie.now walk.old walk.new result }
-    ensures put { (l : Without) → WhereToldLess S.Store store.old movie.now l walk.old load.samples
+    ensures put { (l : Reduction)
+        → WhereToldLess S.Store store.old movie.now l walk.old load.samples
         stretches.now (λ file tree t samples.
         Carries K.Sink sink.old sink.new carrier.old carrier.new result
         (sample_bytes file (take load.samples samples))) }
-    ensures comes { (l : Without) → WhereMarkedLess S.Store store.old movie.now l walk.old
+    ensures comes { (l : Reduction) → WhereMarkedLess S.Store store.old movie.now l walk.old
         load.samples (λ file tree t samples. OnOk result
         (ComesLess l file tree t movie.now walk.new (drop load.samples samples))) }
-    ensures unchanged { (l : Without) → WhereToldLess S.Store store.old movie.now l walk.old
+    ensures unchanged { (l : Reduction) → WhereToldLess S.Store store.old movie.now l walk.old
         load.samples stretches.now (λ file tree t samples.
         AreThere file load.samples load.bytes samples → IsUnchanged result) }
     ensures along { TakesAlong K.Sink sink.old sink.new carrier.old carrier.new result load.bytes }
@@ -238,7 +240,7 @@ fn carry_marked<S: Store, K: Sink, L: Ledger>(
 /// these are all. Then it looks for the next sample, gives what is left of it, and marks its place.
 pub(crate) fn carry_noted<S: Store, K: Sink, L: Ledger>(
     walk: &mut Walk,
-    leaving: Without,
+    reduction: Reduction,
     stretches: &Stretches,
     load: Load,
     carrier: &mut OutBuffer,
@@ -249,20 +251,20 @@ pub(crate) fn carry_noted<S: Store, K: Sink, L: Ledger>(
 ) -> Result<Option<SampleAt>, Refusal>
     requires { IsWalkOf movie.now walk.old }
     ensures walk { KeepsWalk movie.now walk.old walk.new result }
-    ensures put { WhereToldLess S.Store store.old movie.now leaving walk.old load.samples
+    ensures put { WhereToldLess S.Store store.old movie.now reduction walk.old load.samples
         stretches.now (λ file tree t samples.
         Carries K.Sink sink.old sink.new carrier.old carrier.new result
         (sample_bytes file (take load.samples samples))) }
-    ensures next { WhereToldLess S.Store store.old movie.now leaving walk.old load.samples
+    ensures next { WhereToldLess S.Store store.old movie.now reduction walk.old load.samples
         stretches.now (λ file tree t samples. IfOk result
-        (MarksNext leaving file tree t movie.now walk.new (drop load.samples samples))) }
-    ensures unchanged { WhereToldLess S.Store store.old movie.now leaving walk.old load.samples
+        (MarksNext reduction file tree t movie.now walk.new (drop load.samples samples))) }
+    ensures unchanged { WhereToldLess S.Store store.old movie.now reduction walk.old load.samples
         stretches.now (λ file tree t samples. AreThere file load.samples load.bytes samples
         → IsUnchanged result) }
     ensures along { TakesAlong K.Sink sink.old sink.new carrier.old carrier.new result load.bytes }
     ensures devices { OnlyCopies S.Store store.old store.new K.Sink sink.old sink.new result }
     ensures grows { OnOk result (steps.old ≤ steps.new) }
-    ensures work { WhereMayFinish S.Store store.old movie.now leaving walk.old load.samples
+    ensures work { WhereMayFinish S.Store store.old movie.now reduction walk.old load.samples
         (λ file tree t n. MatchResult result
         (λ _. WritesOn file tree movie.now t n walk.new steps.old steps.new)
         (λ _. steps.new ≤ steps.old + n)) }
@@ -271,7 +273,7 @@ pub(crate) fn carry_noted<S: Store, K: Sink, L: Ledger>(
 {
     let left = walk.to_come().saturating_sub(load.samples);
     carry_marked(walk, stretches, load, carrier, movie, store, sink, steps)?;
-    let next = next_sample(walk, leaving, movie, store, steps)?;
+    let next = next_sample(walk, reduction, movie, store, steps)?;
     walk.mark(left);
     Ok(next)
 }

@@ -11,10 +11,10 @@ ghost use Rattle.mp4_plan.specs.words.HandsFed.{KeepsOn};
 ghost use Rattle.mp4_plan.specs.words.ReducedWalks.{KeepsWalk, WhereLess};
 
 use crate::ends::{End, goes_in, has_ended};
-use crate::reduced::Reduced;
+use crate::reduced::{Reduced, Reduction};
 use crate::track_pieces::MOST_SAMPLES;
 use mp4_boxes::{Refusal, Steps};
-use mp4_present::{Loaded, Movie, Place, Walk, Without};
+use mp4_present::{Loaded, Movie, Place, Walk};
 use mp4_store::Store;
 use mp4_tables::{SampleAt, Samples};
 use std::sync::ledger::Ledger;
@@ -92,16 +92,16 @@ fn count_in<S: Samples>(samples: &mut S, end: &End, description: u32, most: u32)
 #[inline(always)]
 fn count_left<C: Samples>(samples: &mut Reduced<C>, end: &End, description: u32, most: u32) -> u32
     ensures counts { CountsFirst (goes_in end.now description) result
-        (less samples.old.leaving (C.rest samples.old.inner))
-        (less samples.new.leaving (C.rest samples.new.inner)) }
+        (less samples.old.reduction (C.rest samples.old.inner))
+        (less samples.new.reduction (C.rest samples.new.inner)) }
     ensures few { result ≤ most }
     ensures stops { StopsAt (goes_in end.now description) most result
-        (slice_get (less samples.new.leaving (C.rest samples.new.inner)) 0) }
+        (slice_get (less samples.new.reduction (C.rest samples.new.inner)) 0) }
     ensures later { C.follows samples.old.inner samples.new.inner
-        × (samples.new.leaving ≡ samples.old.leaving)
+        × (samples.new.reduction ≡ samples.old.reduction)
         × AreLast (C.rest samples.old.inner) (C.rest samples.new.inner) }
 {
-    if samples.leaving.keeps_samples() {
+    if samples.reduction.leaving.keeps_samples() {
         count_in(&mut samples.inner, end, description, most)
     } else {
         count_in(samples, end, description, most)
@@ -113,21 +113,21 @@ fn count_left<C: Samples>(samples: &mut Reduced<C>, end: &End, description: u32,
 #[inline(never)]
 fn count_hand(
     walk: &Walk,
-    leaving: Without,
+    reduction: Reduction,
     movie: &Movie,
     end: &End,
     description: u32,
     most: u32,
 ) -> CountedHand
     requires { IsWalkOf movie.now walk.now }
-    ensures counted { HandCounted leaving movie.now walk.now (goes_in end.now description) most
+    ensures counted { HandCounted reduction movie.now walk.now (goes_in end.now description) most
         result.count result.next result.place }
     ensures place { IsWalkOf movie.now (record walk.now { place = result.place }) }
     ensures keeps { KeepsOn movie.now walk.now result.place }
 {
     match walk.in_hand(movie) {
         Loaded::Tables(inner) => {
-            let mut hand = Reduced { inner, leaving };
+            let mut hand = Reduced { inner, reduction };
             let count = count_left(&mut hand, end, description, most);
             CountedHand {
                 count,
@@ -136,7 +136,7 @@ fn count_hand(
             }
         }
         Loaded::Fragment(inner) => {
-            let mut hand = Reduced { inner, leaving };
+            let mut hand = Reduced { inner, reduction };
             let count = count_left(&mut hand, end, description, most);
             CountedHand {
                 count,
@@ -151,7 +151,7 @@ fn count_hand(
 // Where they are more than 2^24, the store has changed.
 fn count_piece<S: Store, L: Ledger>(
     walk: &mut Walk,
-    leaving: Without,
+    reduction: Reduction,
     end: &End,
     description: u32,
     movie: &Movie,
@@ -161,10 +161,11 @@ fn count_piece<S: Store, L: Ledger>(
     requires { IsWalkOf movie.now walk.old }
     ensures walk { KeepsWalk movie.now walk.old walk.new result }
     ensures store { OnlyReads S.Store store.old store.new result }
-    ensures counted { WhereLess S.Store store.old movie.now leaving walk.old
-        (λ file tree t samples. IfOk result (λ c. HasCounted leaving file tree t movie.now walk.new
+    ensures counted { WhereLess S.Store store.old movie.now reduction walk.old
+        (λ file tree t samples.
+        IfOk result (λ c. HasCounted reduction file tree t movie.now walk.new
         (goes_in end.now description) samples c.count c.next)) }
-    ensures unchanged { WhereLess S.Store store.old movie.now leaving walk.old
+    ensures unchanged { WhereLess S.Store store.old movie.now reduction walk.old
         (λ file tree t samples. length samples ≤ MOST_SAMPLES → IsUnchanged result) }
     ensures few { IfOk result (λ c. c.count ≤ MOST_SAMPLES) }
     ensures grows { OnOk result (steps.old ≤ steps.new) }
@@ -174,7 +175,14 @@ fn count_piece<S: Store, L: Ledger>(
 {
     let mut count = 0;
     loop {
-        let hand = count_hand(walk, leaving, movie, end, description, MOST_SAMPLES - count);
+        let hand = count_hand(
+            walk,
+            reduction,
+            movie,
+            end,
+            description,
+            MOST_SAMPLES - count,
+        );
         walk.keep(hand.place, steps);
         count += hand.count;
         if let Some(sample) = hand.next {
@@ -196,7 +204,7 @@ fn count_piece<S: Store, L: Ledger>(
 /// is the next. Where they are more than 2^24, the store has changed.
 pub(crate) fn count_turn<S: Store, L: Ledger>(
     walk: &mut Walk,
-    leaving: Without,
+    reduction: Reduction,
     next: &mut Option<SampleAt>,
     end: &End,
     movie: &Movie,
@@ -206,11 +214,11 @@ pub(crate) fn count_turn<S: Store, L: Ledger>(
     requires { IsWalkOf movie.now walk.old }
     ensures walk { KeepsWalk movie.now walk.old walk.new result }
     ensures store { OnlyReads S.Store store.old store.new result }
-    ensures counted { WhereLess S.Store store.old movie.now leaving walk.old
+    ensures counted { WhereLess S.Store store.old movie.now reduction walk.old
         (λ file tree t samples. next.old ≡ slice_get samples 0
-        → IfOk result (λ n. PieceCounted leaving file tree t movie.now walk.new end.now samples n
+        → IfOk result (λ n. PieceCounted reduction file tree t movie.now walk.new end.now samples n
         next.new)) }
-    ensures unchanged { WhereLess S.Store store.old movie.now leaving walk.old
+    ensures unchanged { WhereLess S.Store store.old movie.now reduction walk.old
         (λ file tree t samples. length samples ≤ MOST_SAMPLES → IsUnchanged result) }
     ensures few { IfOk result (λ n. n ≤ MOST_SAMPLES) }
     ensures grows { OnOk result (steps.old ≤ steps.new) }
@@ -224,7 +232,7 @@ pub(crate) fn count_turn<S: Store, L: Ledger>(
     if has_ended(end, &first) {
         return Ok(0);
     }
-    let piece = count_piece(walk, leaving, end, first.description, movie, store, steps)?;
+    let piece = count_piece(walk, reduction, end, first.description, movie, store, steps)?;
     *next = piece.next;
     Ok(piece.count)
 }

@@ -3,7 +3,9 @@ ghost use Rattle.std.specs.Prelude.{◌≡◌, ℕ, ◌+◌, ◌-◌, ◌<◌, �
 ghost use Rattle.mp4_boxes.specs.declared.refusal.Refusal.TheVariants as refusals;
 ghost use Rattle.mp4_head.specs.words.Seen.{movie_seen, tracks_seen};
 ghost use Rattle.mp4_present.specs.format.Presentation.{movie_length};
-ghost use Rattle.mp4_present.specs.format.Reduced.{ReducesInTime, reduce, reduce_movie_head, reduce_track_head};
+ghost use Rattle.mp4_present.specs.format.Reduced.{reduce, reduce_movie_head, reduce_track_head};
+ghost use Rattle.mp4_plan.specs.format.ReducedTimes.{ReducesInLimits};
+ghost use Rattle.mp4_plan.specs.words.Measuring.{measuring_steps};
 ghost use Rattle.mp4_present.specs.words.PayloadsLeft.{AreMediaLeft, leaves_payloads};
 ghost use Rattle.mp4_present.specs.declared.without.Without.{Without};
 ghost use Rattle.mp4_plan.specs.words.LeftTimes.{NamesLong, RefusesLeft};
@@ -17,6 +19,7 @@ ghost use Rattle.mp4_plan.specs.words.Turns.{movie_turns};
 ghost use Rattle.mp4_plan.specs.words.Writers.{RefusesMemory, RefusesPlan, head_of_normal};
 ghost use Rattle.mp4_plan.specs.words.PutPieces.{IsHeadLeft};
 
+use crate::measures::measure;
 use crate::piece_totals::pieces_len;
 use crate::reduced_head::reduce_head;
 use crate::reduced_lengths::length_left;
@@ -76,7 +79,7 @@ pub(crate) fn head_of(
 }
 
 /// The length of the normal form of what is left of a movie; a fault where a track is too long
-/// without its edits.
+/// then, or has an offset that doesn't fit.
 pub fn reduced_len<S: Store, L: Ledger, M: Ledger>(
     alloc: Global,
     movie: &Movie,
@@ -88,19 +91,21 @@ pub fn reduced_len<S: Store, L: Ledger, M: Ledger>(
     ensures store { OnlyReads S.Store store.old store.new result }
     ensures length { OverOpened S.Store store.old movie.now (λ file tree.
         IfOk result (λ len. len ≡ length (normal (reduce leaving (presentation_of file tree))))) }
-    ensures in_time { OverOpened S.Store store.old movie.now
-        (λ file tree. OnOk result (ReducesInTime leaving (presentation_of file tree))) }
+    ensures in_limits { OverOpened S.Store store.old movie.now
+        (λ file tree. OnOk result (ReducesInLimits leaving (presentation_of file tree))) }
     ensures fault { OverOpened S.Store store.old movie.now
         (λ file tree. IfErr result (NamesLong leaving file tree)) }
     ensures unchanged { OverOpened S.Store store.old movie.now (λ file tree. IsUnchanged result) }
     ensures refusal { Refused S.Store store.old store.new result (RefusesLeft leaving) }
     ensures grows { OnOk result (steps.old ≤ steps.new) }
     ensures work { OverOpened S.Store store.old movie.now
-        (λ file tree. steps.new ≤ steps.old + walks_steps tree) }
+        (λ file tree. steps.new ≤ steps.old + (measuring_steps leaving tree + walks_steps tree)) }
     ensures turns { looks.new ≤ looks.old + movie_turns movie.now }
 {
-    length_left(alloc, movie, leaving)?;
-    let len = pieces_len(alloc, movie, store, leaving, steps, looks)?;
+    let measures = measure(alloc, movie, store, leaving, steps)?;
+    length_left(alloc, movie, leaving, measures.totals.as_slice())?;
+    let reductions = measures.reductions.as_slice();
+    let len = pieces_len(alloc, movie, store, leaving, reductions, steps, looks)?;
     let read = movie.head(alloc)?;
     let lefts = payloads_left(alloc, leaving, read.tracks.as_slice())?;
     let head = head_left(alloc, read, leaving, &lefts)?;

@@ -8,6 +8,7 @@ ghost use Rattle.mp4_present.specs.words.StoresRead.{IsUnchanged, OnlyReads, Ref
 ghost use Rattle.mp4_present.specs.words.WalkSteps.{walks_steps};
 ghost use Rattle.mp4_plan.specs.format.Pieces.{pieces};
 ghost use Rattle.mp4_plan.specs.words.MadeWriters.{OverOpened};
+ghost use Rattle.mp4_plan.specs.words.Measuring.{OverReduced};
 ghost use Rattle.mp4_plan.specs.words.Turns.{movie_turns};
 ghost use Rattle.mp4_plan.specs.words.Writers.{RefusesPlan, ArePiecesLong, longest_piece, planned_length};
 
@@ -16,6 +17,7 @@ use crate::due_tracks::DueTracks;
 use crate::first_samples::{first_time, peek_each, walks_of};
 use crate::moof_sizes::sizes_of;
 use crate::planner::Planned;
+use crate::reduced::Reduction;
 use crate::schedule::Schedule;
 use crate::track_pieces::plan_turn;
 use mp4_boxes::{Refusal, Steps};
@@ -51,14 +53,18 @@ pub(crate) fn longest_piece<S: Store, L: Ledger, M: Ledger>(
     movie: &Movie,
     store: &mut S,
     leaving: Without,
+    reductions: &[Reduction],
     steps: &mut Steps<L>,
     looks: &mut Steps<M>,
 ) -> Result<u32, Refusal>
+    requires reductions { length reductions.now ≡ length movie.now.tracks }
     ensures store { OnlyReads S.Store store.old store.new result }
     ensures few { IfOk result (λ longest. longest ≤ 2 ^ 24) }
-    ensures longest { OverOpened S.Store store.old movie.now (λ file tree. IfOk result (λ longest.
-        longest ≡ longest_piece (pieces (reduce leaving (presentation_of file tree))))) }
-    ensures unchanged { OverOpened S.Store store.old movie.now (λ file tree. IsUnchanged result) }
+    ensures longest { OverReduced S.Store store.old movie.now leaving reductions.now
+        (λ file tree. IfOk result (λ longest. longest
+        ≡ longest_piece (pieces (reduce leaving (presentation_of file tree))))) }
+    ensures unchanged { OverReduced S.Store store.old movie.now leaving reductions.now
+        (λ file tree. IsUnchanged result) }
     ensures refusal { Refused S.Store store.old store.new result RefusesPlan }
     ensures grows { OnOk result (steps.old ≤ steps.new) }
     ensures work { OverOpened S.Store store.old movie.now
@@ -70,14 +76,15 @@ pub(crate) fn longest_piece<S: Store, L: Ledger, M: Ledger>(
     let mut nexts = vec![in alloc; None; tracks.len()]?;
     let mut due = DueTracks::new(alloc, tracks.len())?;
     let all = walks.as_mut_slice();
-    peek_each(all, nexts.as_mut_slice(), leaving, movie, store, steps)?;
+    peek_each(all, nexts.as_mut_slice(), reductions, movie, store, steps)?;
     let mut schedule = Schedule::new(leaving, tracks, first_time(nexts.as_slice()));
     schedule.begin(leaving, tracks, nexts.as_slice(), &mut due);
     let mut longest: u32 = 0;
     while let Some(turn) = schedule.turn(leaving, tracks, looks) {
         let walk = &mut walks[turn.track];
         let next = &mut nexts[turn.track];
-        let count = count_turn(walk, leaving, next, &turn.end, movie, store, steps)?;
+        let reduction = reductions[turn.track];
+        let count = count_turn(walk, reduction, next, &turn.end, movie, store, steps)?;
         let sample = *next;
         longest = longest.max(count);
         schedule.pass(leaving, &turn, count, sample, tracks, &mut due)?;
@@ -91,13 +98,17 @@ pub(crate) fn pieces_len<S: Store, L: Ledger, M: Ledger>(
     movie: &Movie,
     store: &mut S,
     leaving: Without,
+    reductions: &[Reduction],
     steps: &mut Steps<L>,
     looks: &mut Steps<M>,
 ) -> Result<u64, Refusal>
+    requires reductions { length reductions.now ≡ length movie.now.tracks }
     ensures store { OnlyReads S.Store store.old store.new result }
-    ensures length { OverOpened S.Store store.old movie.now (λ file tree.
-        IfOk result (ArePiecesLong (reduce leaving (presentation_of file tree)))) }
-    ensures unchanged { OverOpened S.Store store.old movie.now (λ file tree. IsUnchanged result) }
+    ensures length { OverReduced S.Store store.old movie.now leaving reductions.now
+        (λ file tree. IfOk result
+        (ArePiecesLong (reduce leaving (presentation_of file tree)))) }
+    ensures unchanged { OverReduced S.Store store.old movie.now leaving reductions.now
+        (λ file tree. IsUnchanged result) }
     ensures refusal { Refused S.Store store.old store.new result RefusesPlan }
     ensures grows { OnOk result (steps.old ≤ steps.new) }
     ensures work { OverOpened S.Store store.old movie.now
@@ -109,14 +120,15 @@ pub(crate) fn pieces_len<S: Store, L: Ledger, M: Ledger>(
     let mut nexts = vec![in alloc; None; tracks.len()]?;
     let mut due = DueTracks::new(alloc, tracks.len())?;
     let all = walks.as_mut_slice();
-    peek_each(all, nexts.as_mut_slice(), leaving, movie, store, steps)?;
+    peek_each(all, nexts.as_mut_slice(), reductions, movie, store, steps)?;
     let mut schedule = Schedule::new(leaving, tracks, first_time(nexts.as_slice()));
     schedule.begin(leaving, tracks, nexts.as_slice(), &mut due);
     let mut len = 0;
     while let Some(turn) = schedule.turn(leaving, tracks, looks) {
         let walk = &mut walks[turn.track];
         let next = &mut nexts[turn.track];
-        let planned = plan_turn(walk, leaving, next, turn.end, movie, store, steps)?;
+        let reduction = reductions[turn.track];
+        let planned = plan_turn(walk, reduction, next, turn.end, movie, store, steps)?;
         let sample = *next;
         len = len_with(len, &planned, &tracks[turn.track].keys);
         schedule.pass(leaving, &turn, planned.count, sample, tracks, &mut due)?;

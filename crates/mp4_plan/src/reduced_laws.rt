@@ -1,7 +1,7 @@
 //! Laws of what is left of presentations, and of its normal form.
 
 ghost use Rattle.mp4_plan.specs.format.Agreeing.{ReduceIsExact};
-ghost use Rattle.mp4_plan.specs.format.ReducedLaws.{EditsMayHoldTime, NothingReduces, ReduceIsFixed, ReducedFaultIsOne, ReducedFaultRefuses, ReducedIsValid, ReducedNormalDenotes, ReducedNormalIsExact, ReducedNormalIsFixed, ReducedStaysValid, ReducesInAnyOrder, ReducesOnce};
+ghost use Rattle.mp4_plan.specs.format.ReducedLaws.{EditsMayHoldTime, EndsMayHoldTime, NothingReduces, OriginsMayHoldOffsets, ReduceIsFixed, ReducedFaultIsOne, ReducedFaultRefuses, ReducedIsValid, ReducedNormalDenotes, ReducedNormalIsExact, ReducedNormalIsFixed, ReducedStaysValid, ReducesInAnyOrder, ReducesOnce};
 
 /// Leaving out nothing changes nothing.
 pub fn nothing_reduces()
@@ -28,12 +28,14 @@ pub fn reduce_is_exact()
     ensures { ReduceIsExact }
 {}
 
-/// What is left of what is valid is valid exactly if its tracks are not too long.
+/// What is left of what is valid is valid exactly if its tracks are not too long and their
+/// composition offsets fit.
 pub fn reduced_is_valid()
     ensures { ReducedIsValid }
 {}
 
-/// What is left of what is valid is valid, and not too long, where edits stay.
+/// What is left of what is valid is valid where edits, ends and origins stay, or timing doesn't
+/// count.
 pub fn reduced_stays_valid()
     ensures { ReducedStaysValid }
 {}
@@ -43,17 +45,28 @@ pub fn edits_may_hold_time()
     ensures { EditsMayHoldTime }
 {}
 
-/// Where a fault names a track that is too long without its edits, what is left is too long.
+/// Without their ends tracks may last longer, and what is valid may be too long then.
+pub fn ends_may_hold_time()
+    ensures { EndsMayHoldTime }
+{}
+
+/// Without the origins of its tracks the offsets of what is valid may not fit.
+pub fn origins_may_hold_offsets()
+    ensures { OriginsMayHoldOffsets }
+{}
+
+/// Where a fault names a track that is too long, or whose offsets don't fit, what is left has no
+/// normal form.
 pub fn reduced_fault_refuses()
     ensures { ReducedFaultRefuses }
 {}
 
-/// Where what is left is too long, exactly one such fault stands: of the first such track.
+/// Where what is left has no normal form, exactly one such fault stands: of the first such track.
 pub fn reduced_fault_is_one()
     ensures { ReducedFaultIsOne }
 {}
 
-/// The normal form of what is left denotes it, where its tracks are not too long.
+/// The normal form of what is left denotes it, where it is in the limits.
 pub fn reduced_normal_denotes()
     ensures { ReducedNormalDenotes }
 {}

@@ -1,45 +1,74 @@
 //! How long what is left of a movie is.
-ghost use Rattle.std.specs.Prelude.{◌≡◌, ℕ, ◌<◌, ◌≤◌, List, length, map, IfOk, IfErr};
+ghost use Rattle.std.specs.Prelude.{◌≡◌, ℕ, ◌<◌, List, length, map, IfOk, IfErr};
 ghost use Rattle.mp4_present.specs.declared.without.Without.{Without};
 ghost use Rattle.mp4_head.specs.words.Seen.{edit_seen};
 ghost use Rattle.mp4_present.specs.format.Denotes.{FileTree, presentation_of};
-ghost use Rattle.mp4_present.specs.format.Presentation.{max_time, movie_length};
-ghost use Rattle.mp4_present.specs.format.Reduced.{ReducesInTime, reduce};
+ghost use Rattle.mp4_present.specs.format.Presentation.{movie_length};
+ghost use Rattle.mp4_present.specs.format.Reduced.{reduce};
 ghost use Rattle.mp4_present.specs.words.OpenedMovie.{IsOpenedAs};
-ghost use Rattle.mp4_plan.specs.words.LeftTimes.{AreShort, FirstLong, NamesLong, RefusesLength, count_length, longest_count, samples_length, time_fault};
+ghost use Rattle.mp4_plan.specs.format.ReducedTimes.{ReducesInLimits};
+ghost use Rattle.mp4_plan.specs.words.LeftTimes.{NamesLong, RefusesLength, check_track, check_tracks, count_length, left_length, longest_count};
+ghost use Rattle.mp4_plan.specs.words.Measuring.{AreTotals};
 
+use crate::measures::Total;
 use mp4_boxes::{Fault, FourCc, Kind, Refusal};
 use mp4_head::{Edit, TrackHead};
 use mp4_present::{MOST_TIME, Movie, TrackInfo, Without, length_of_edits, length_of_samples};
 use std::alloc::Global;
 
-// How long a track's samples take, if that is within the limit. Its `tkhd` stands at this place.
-fn checked_length(timescale: u32, track: &TrackInfo, offset: u64) -> Result<u64, Fault>
-    ensures within { IfOk result (λ n. (n ≤ max_time) × (n ≡ samples_length timescale track.now)) }
-    ensures passes { IfErr result (λ f. max_time < samples_length timescale track.now) }
-    ensures named { IfErr result (λ f. f ≡ time_fault offset) }
+// How long what is left of a track is, whose samples last so long together: by its edits, where
+// they stay and each says how long it is; else by its samples.
+fn length_left_of(leaving: Without, edits: &[Edit], timescale: u32, own: u32, duration: u64) -> u128
+    ensures { result ≡ left_length leaving (map edit_seen edits.now) timescale own duration }
 {
-    let length = length_of_samples(track.duration, track.timescale, timescale);
-    if length > MOST_TIME {
-        return Err(Fault::new(Kind::TimeTooLarge, FourCc(*b"tkhd"), offset));
+    let by_edits = if leaving.edits {
+        None
+    } else {
+        length_of_edits(edits)
+    };
+    match by_edits {
+        Some(length) => length,
+        None => length_of_samples(duration, own, timescale),
+    }
+}
+
+// How long what is left of a track is, if it is within the limits, and its offsets fit.
+fn checked_length(
+    leaving: Without,
+    timescale: u32,
+    head: &TrackHead,
+    info: &TrackInfo,
+    total: Total,
+) -> Result<u64, Fault>
+    ensures { result ≡ check_track leaving timescale head.now info.now total }
+{
+    let end = u128::from(leaving.start(info.start)) + u128::from(total.duration);
+    let edits = head.edits.as_slice();
+    let length = length_left_of(leaving, edits, timescale, info.timescale, total.duration);
+    if end > MOST_TIME || length > MOST_TIME {
+        return Err(Fault::new(Kind::TimeTooLarge, FourCc(*b"tkhd"), head.offset));
+    }
+    if leaving.origins && !total.is_near {
+        return Err(Fault::new(Kind::OffsetTooLarge, FourCc(*b"tkhd"), head.offset));
     }
     Ok(length as u64)
 }
 
-// How long the longest track is by its samples, if all are within the limit; a track without a head
-// is passed over.
-fn longest_by_samples(
+// How long the longest track of what is left is, if all are within the limits; a track without a
+// head is passed over.
+fn longest_left(
+    leaving: Without,
     timescale: u32,
     heads: &[TrackHead],
     tracks: &[TrackInfo],
+    totals: &[Total],
 ) -> Result<u64, Fault>
-    ensures within { length tracks.now ≤ length heads.now
-        → IfOk result (AreShort timescale tracks.now) }
-    ensures fault { IfErr result (FirstLong timescale heads.now tracks.now) }
+    ensures { result ≡ check_tracks leaving timescale 0 heads.now tracks.now totals.now }
 {
     let mut longest = 0;
-    for k in 0..tracks.len().min(heads.len()) {
-        longest = checked_length(timescale, &tracks[k], heads[k].offset)?.max(longest);
+    for k in 0..tracks.len().min(heads.len()).min(totals.len()) {
+        let length = checked_length(leaving, timescale, &heads[k], &tracks[k], totals[k])?;
+        longest = length.max(longest);
     }
     Ok(longest)
 }
@@ -73,12 +102,20 @@ fn longest_by_count(leaving: Without, heads: &[TrackHead], tracks: &[TrackInfo])
     longest
 }
 
-/// How long the longest track is of what is left of a movie, if each is within the limit.
-pub(crate) fn length_left(alloc: Global, movie: &Movie, leaving: Without) -> Result<u64, Refusal>
+/// How long the longest track is of what is left of a movie, of which this was measured, if each is
+/// within the limits, and its offsets fit.
+pub(crate) fn length_left(
+    alloc: Global,
+    movie: &Movie,
+    leaving: Without,
+    totals: &[Total],
+) -> Result<u64, Refusal>
     ensures left { (file : List ℕ) (tree : FileTree) → IsOpenedAs file movie.now tree
-        → IfOk result (λ n. ReducesInTime leaving (presentation_of file tree)
+        → AreTotals leaving tree tree.movie.tracks movie.now.tracks totals.now
+        → IfOk result (λ n. ReducesInLimits leaving (presentation_of file tree)
         × (n ≡ movie_length (reduce leaving (presentation_of file tree)))) }
     ensures fault { (file : List ℕ) (tree : FileTree) → IsOpenedAs file movie.now tree
+        → AreTotals leaving tree tree.movie.tracks movie.now.tracks totals.now
         → IfErr result (NamesLong leaving file tree) }
     ensures refusal { IfErr result (RefusesLength leaving) }
 {
@@ -86,9 +123,11 @@ pub(crate) fn length_left(alloc: Global, movie: &Movie, leaving: Without) -> Res
         let head = movie.head(alloc)?;
         return Ok(longest_by_count(leaving, head.tracks.as_slice(), movie.tracks()));
     }
-    if leaving.edits {
+    if leaving.edits || leaving.ends || leaving.origins {
         let head = movie.head(alloc)?;
-        return Ok(longest_by_samples(head.timescale, head.tracks.as_slice(), movie.tracks())?);
+        let heads = head.tracks.as_slice();
+        let tracks = movie.tracks();
+        return Ok(longest_left(leaving, head.timescale, heads, tracks, totals)?);
     }
     Ok(movie.mehd())
 }

@@ -19,9 +19,9 @@ use crate::ends::{End, first_goes};
 use crate::joined::Stretches;
 use crate::noted_rows::Row;
 use crate::planner::{Planned, Planner};
-use crate::reduced::{Reduced, reduced_sample};
+use crate::reduced::{Reduced, Reduction, reduced_sample};
 use mp4_boxes::{Refusal, Steps};
-use mp4_present::{Loaded, Movie, Place, Walk, Without};
+use mp4_present::{Loaded, Movie, Place, Walk};
 use mp4_store::Store;
 use mp4_tables::{SampleAt, Samples};
 use std::sync::ledger::Ledger;
@@ -30,7 +30,7 @@ use std::sync::ledger::Ledger;
 pub(crate) const MOST_SAMPLES: u32 = 1 << 24;
 
 /// The next sample of a walk, which stays the next.
-fn peek_sample<S: Store, L: Ledger>(
+pub(crate) fn peek_sample<S: Store, L: Ledger>(
     walk: &mut Walk,
     movie: &Movie,
     store: &mut S,
@@ -58,13 +58,13 @@ fn peek_sample<S: Store, L: Ledger>(
 }
 
 // What is left of a sample, where there is one.
-fn reduced_next(leaving: Without, next: Option<SampleAt>) -> Option<SampleAt>
+fn reduced_next(reduction: Reduction, next: Option<SampleAt>) -> Option<SampleAt>
     ensures is { (samples : List SampleAt) → next ≡ slice_get samples 0
-        → result ≡ slice_get (less leaving samples) 0 }
+        → result ≡ slice_get (less reduction samples) 0 }
     ensures none { next ≡ None → result ≡ None }
 {
     match next {
-        Some(sample) => Some(reduced_sample(leaving, sample)),
+        Some(sample) => Some(reduced_sample(reduction, sample)),
         None => None,
     }
 }
@@ -72,7 +72,7 @@ fn reduced_next(leaving: Without, next: Option<SampleAt>) -> Option<SampleAt>
 /// What is left of the next sample of a walk, which stays the next.
 pub(crate) fn next_sample<S: Store, L: Ledger>(
     walk: &mut Walk,
-    leaving: Without,
+    reduction: Reduction,
     movie: &Movie,
     store: &mut S,
     steps: &mut Steps<L>,
@@ -81,26 +81,26 @@ pub(crate) fn next_sample<S: Store, L: Ledger>(
     ensures walk { KeepsWalk movie.now walk.old walk.new result }
     ensures went { OnOk result (WentOn movie.now walk.old walk.new steps.old steps.new) }
     ensures store { OnlyReads S.Store store.old store.new result }
-    ensures coming { WhereLess S.Store store.old movie.now leaving walk.old
+    ensures coming { WhereLess S.Store store.old movie.now reduction walk.old
         (λ file tree t samples. IfOk result (λ next.
-        ComesLess leaving file tree t movie.now walk.new samples
+        ComesLess reduction file tree t movie.now walk.new samples
         × (next ≡ slice_get samples 0))) }
     ensures some { IfOk result (λ next. (next ≡ None → ⊥) → HasSome movie.now walk.new) }
-    ensures unchanged { WhereLess S.Store store.old movie.now leaving walk.old
+    ensures unchanged { WhereLess S.Store store.old movie.now reduction walk.old
         (λ file tree t samples. IsUnchanged result) }
     ensures work { TakesSteps S.Store store.old movie.now walk.old walk.new result steps.old
         steps.new }
     ensures refusal { Refused S.Store store.old store.new result RefusesLoad }
 {
     let next = peek_sample(walk, movie, store, steps)?;
-    Ok(reduced_next(leaving, next))
+    Ok(reduced_next(reduction, next))
 }
 
 /// What is left of the next sample of a walk, which stays the next, and is marked. As many samples
 /// are to come as at its mark before.
 pub(crate) fn next_marked<S: Store, L: Ledger>(
     walk: &mut Walk,
-    leaving: Without,
+    reduction: Reduction,
     movie: &Movie,
     store: &mut S,
     steps: &mut Steps<L>,
@@ -109,11 +109,11 @@ pub(crate) fn next_marked<S: Store, L: Ledger>(
     ensures walk { KeepsWalk movie.now walk.old walk.new result }
     ensures marked { OnOk result (walk.new.mark ≡ mark_of walk.new walk.old.mark.to_come) }
     ensures store { OnlyReads S.Store store.old store.new result }
-    ensures coming { WhereLess S.Store store.old movie.now leaving walk.old
+    ensures coming { WhereLess S.Store store.old movie.now reduction walk.old
         (λ file tree t samples. IfOk result (λ next.
-        ComesLess leaving file tree t movie.now walk.new samples
+        ComesLess reduction file tree t movie.now walk.new samples
         × (next ≡ slice_get samples 0))) }
-    ensures unchanged { WhereLess S.Store store.old movie.now leaving walk.old
+    ensures unchanged { WhereLess S.Store store.old movie.now reduction walk.old
         (λ file tree t samples. IsUnchanged result) }
     ensures grows { OnOk result (steps.old ≤ steps.new) }
     ensures work { TakesSteps S.Store store.old movie.now walk.old walk.new result steps.old
@@ -123,7 +123,7 @@ pub(crate) fn next_marked<S: Store, L: Ledger>(
     ensures refusal { Refused S.Store store.old store.new result RefusesLoad }
 {
     let left = walk.to_come();
-    let next = next_sample(walk, leaving, movie, store, steps)?;
+    let next = next_sample(walk, reduction, movie, store, steps)?;
     walk.mark(left);
     Ok(next)
 }
@@ -160,10 +160,11 @@ fn stop_at(planner: &Planner, next: Option<SampleAt>) -> Stop
 // Feeds the samples in hand to a planner, at most 2^24 for a piece. Its loop stays apart from that
 // of its one caller, as that of `count_hand` does.
 #[inline(never)]
-fn feed_hand(planner: &mut Planner, walk: &Walk, leaving: Without, movie: &Movie) -> FedHand
+fn feed_hand(planner: &mut Planner, walk: &Walk, reduction: Reduction, movie: &Movie) -> FedHand
     requires walk { IsWalkOf movie.now walk.now }
     requires few { count_of planner.old.gathered ≤ MOST_SAMPLES }
-    ensures fed { HandFed leaving movie.now walk.now (MOST_SAMPLES - count_of planner.old.gathered)
+    ensures fed { HandFed reduction movie.now walk.now
+        (MOST_SAMPLES - count_of planner.old.gathered)
         planner.old planner.new result.stop result.place }
     ensures few { count_of planner.new.gathered ≤ MOST_SAMPLES }
     ensures place { IsWalkOf movie.now (record walk.now { place = result.place }) }
@@ -172,7 +173,7 @@ fn feed_hand(planner: &mut Planner, walk: &Walk, leaving: Without, movie: &Movie
     let mut hand = Limited {
         inner: Reduced {
             inner: walk.in_hand(movie),
-            leaving,
+            reduction,
         },
         left: MOST_SAMPLES - planner.piece().count,
     };
@@ -194,17 +195,17 @@ fn note_left<C: Samples>(
 )
     requires { count_of planner.old.gathered + length rows.old < 2 ^ 32 }
     ensures noted { Notes planner.old planner.new
-        (less samples.old.leaving (C.rest samples.old.inner))
-        (less samples.new.leaving (C.rest samples.new.inner)) rows.old rows.new }
+        (less samples.old.reduction (C.rest samples.old.inner))
+        (less samples.new.reduction (C.rest samples.new.inner)) rows.old rows.new }
     ensures joined { JoinsOn stretches.old stretches.new
         (take (count_of planner.new.gathered - count_of planner.old.gathered)
-        (less samples.old.leaving (C.rest samples.old.inner))) }
+        (less samples.old.reduction (C.rest samples.old.inner))) }
     ensures few { count_of planner.new.gathered ≤ count_of planner.old.gathered + length rows.old }
     ensures later { C.follows samples.old.inner samples.new.inner
-        × (samples.new.leaving ≡ samples.old.leaving)
+        × (samples.new.reduction ≡ samples.old.reduction)
         × AreLast (C.rest samples.old.inner) (C.rest samples.new.inner) }
 {
-    if samples.leaving.keeps_samples() {
+    if samples.reduction.leaving.keeps_samples() {
         planner.note(&mut samples.inner, rows, stretches);
     } else {
         planner.note(samples, rows, stretches);
@@ -217,14 +218,14 @@ fn note_left<C: Samples>(
 fn note_hand(
     planner: &mut Planner,
     walk: &Walk,
-    leaving: Without,
+    reduction: Reduction,
     movie: &Movie,
     rows: &mut [Row],
     stretches: &mut Stretches,
 ) -> FedHand
     requires walk { IsWalkOf movie.now walk.now }
     requires few { count_of planner.old.gathered + length rows.old < 2 ^ 32 }
-    ensures fed { HandNoted leaving movie.now walk.now (length rows.old)
+    ensures fed { HandNoted reduction movie.now walk.now (length rows.old)
         planner.old planner.new result.stop result.place rows.new stretches.old stretches.new }
     ensures few { count_of planner.new.gathered ≤ count_of planner.old.gathered + length rows.old }
     ensures place { IsWalkOf movie.now (record walk.now { place = result.place }) }
@@ -232,7 +233,7 @@ fn note_hand(
 {
     match walk.in_hand(movie) {
         Loaded::Tables(inner) => {
-            let mut hand = Reduced { inner, leaving };
+            let mut hand = Reduced { inner, reduction };
             note_left(planner, &mut hand, rows, stretches);
             FedHand {
                 stop: stop_at(planner, hand.peek()),
@@ -240,7 +241,7 @@ fn note_hand(
             }
         }
         Loaded::Fragment(inner) => {
-            let mut hand = Reduced { inner, leaving };
+            let mut hand = Reduced { inner, reduction };
             note_left(planner, &mut hand, rows, stretches);
             FedHand {
                 stop: stop_at(planner, hand.peek()),
@@ -253,7 +254,7 @@ fn note_hand(
 /// Plans the next piece of a walk with this end.
 pub(crate) fn plan_piece<S: Store, L: Ledger>(
     walk: &mut Walk,
-    leaving: Without,
+    reduction: Reduction,
     end: End,
     movie: &Movie,
     store: &mut S,
@@ -262,12 +263,12 @@ pub(crate) fn plan_piece<S: Store, L: Ledger>(
     requires { IsWalkOf movie.now walk.old }
     ensures walk { KeepsWalk movie.now walk.old walk.new result }
     ensures store { OnlyReads S.Store store.old store.new result }
-    ensures planned { WhereLess S.Store store.old movie.now leaving walk.old
+    ensures planned { WhereLess S.Store store.old movie.now reduction walk.old
         (λ file tree t samples. IfOk result (λ p.
         (p ≡ planned_of (piece_fed (piece_from end) samples).gathered)
-        × ComesLess leaving file tree t movie.now walk.new
+        × ComesLess reduction file tree t movie.now walk.new
         (samples_after (piece_from end) samples))) }
-    ensures unchanged { WhereLess S.Store store.old movie.now leaving walk.old
+    ensures unchanged { WhereLess S.Store store.old movie.now reduction walk.old
         (λ file tree t samples. length samples ≤ MOST_SAMPLES → IsUnchanged result) }
     ensures bounds { IfOk result (HasBounds MOST_SAMPLES) }
     ensures grows { OnOk result (steps.old ≤ steps.new) }
@@ -277,7 +278,7 @@ pub(crate) fn plan_piece<S: Store, L: Ledger>(
 {
     let mut planner = Planner::new(end);
     loop {
-        let hand = feed_hand(&mut planner, walk, leaving, movie);
+        let hand = feed_hand(&mut planner, walk, reduction, movie);
         walk.keep(hand.place, steps);
         match hand.stop {
             Stop::Full => return Err(Refusal::StoreChanged),
@@ -295,7 +296,7 @@ pub(crate) fn plan_piece<S: Store, L: Ledger>(
 /// next.
 pub(crate) fn plan_turn<S: Store, L: Ledger>(
     walk: &mut Walk,
-    leaving: Without,
+    reduction: Reduction,
     next: &mut Option<SampleAt>,
     end: End,
     movie: &Movie,
@@ -305,13 +306,13 @@ pub(crate) fn plan_turn<S: Store, L: Ledger>(
     requires { IsWalkOf movie.now walk.old }
     ensures walk { KeepsWalk movie.now walk.old walk.new result }
     ensures store { OnlyReads S.Store store.old store.new result }
-    ensures planned { WhereLess S.Store store.old movie.now leaving walk.old
+    ensures planned { WhereLess S.Store store.old movie.now reduction walk.old
         (λ file tree t samples. next.old ≡ slice_get samples 0
         → IfOk result (λ p. (p ≡ planned_of (piece_fed (piece_from end) samples).gathered)
-        × ComesLess leaving file tree t movie.now walk.new
+        × ComesLess reduction file tree t movie.now walk.new
         (samples_after (piece_from end) samples)
         × (next.new ≡ slice_get (samples_after (piece_from end) samples) 0))) }
-    ensures unchanged { WhereLess S.Store store.old movie.now leaving walk.old
+    ensures unchanged { WhereLess S.Store store.old movie.now reduction walk.old
         (λ file tree t samples. length samples ≤ MOST_SAMPLES → IsUnchanged result) }
     ensures bounds { IfOk result (HasBounds MOST_SAMPLES) }
     ensures grows { OnOk result (steps.old ≤ steps.new) }
@@ -322,8 +323,8 @@ pub(crate) fn plan_turn<S: Store, L: Ledger>(
     if !first_goes(&end, next) {
         return Ok(Planner::new(end).piece());
     }
-    let planned = plan_piece(walk, leaving, end, movie, store, steps)?;
-    *next = next_sample(walk, leaving, movie, store, steps)?;
+    let planned = plan_piece(walk, reduction, end, movie, store, steps)?;
+    *next = next_sample(walk, reduction, movie, store, steps)?;
     Ok(planned)
 }
 
@@ -331,7 +332,7 @@ pub(crate) fn plan_turn<S: Store, L: Ledger>(
 // bytes lie. Where there is no room for the rows, the store has changed.
 fn note_piece<S: Store, L: Ledger>(
     walk: &mut Walk,
-    leaving: Without,
+    reduction: Reduction,
     end: End,
     rows: &mut [Row],
     stretches: &mut Stretches,
@@ -343,15 +344,15 @@ fn note_piece<S: Store, L: Ledger>(
     ensures walk { KeepsWalk movie.now walk.old walk.new result }
     ensures went { OnOk result (WentOn movie.now walk.old walk.new steps.old steps.new) }
     ensures store { OnlyReads S.Store store.old store.new result }
-    ensures planned { WhereLess S.Store store.old movie.now leaving walk.old
+    ensures planned { WhereLess S.Store store.old movie.now reduction walk.old
         (λ file tree t samples. IfOk result (λ p.
         (p ≡ planned_of (piece_fed (piece_from end) samples).gathered)
-        × ComesLess leaving file tree t movie.now walk.new
+        × ComesLess reduction file tree t movie.now walk.new
         (samples_after (piece_from end) samples))) }
-    ensures noted { WhereLess S.Store store.old movie.now leaving walk.old
+    ensures noted { WhereLess S.Store store.old movie.now reduction walk.old
         (λ file tree t samples. IfOk result
         (λ p. HasRows p.count samples rows.new stretches.old stretches.new)) }
-    ensures unchanged { WhereLess S.Store store.old movie.now leaving walk.old
+    ensures unchanged { WhereLess S.Store store.old movie.now reduction walk.old
         (λ file tree t samples. more_of (piece_from end) samples ≤ length rows.old
         → IsUnchanged result) }
     ensures bounds { IfOk result (HasBounds (length rows.old)) }
@@ -363,7 +364,7 @@ fn note_piece<S: Store, L: Ledger>(
     loop {
         let noted = planner.piece().count as usize;
         let rows = &mut rows[noted..];
-        let hand = note_hand(&mut planner, walk, leaving, movie, rows, stretches);
+        let hand = note_hand(&mut planner, walk, reduction, movie, rows, stretches);
         walk.keep(hand.place, steps);
         match hand.stop {
             Stop::Full => return Err(Refusal::StoreChanged),
@@ -382,7 +383,7 @@ fn note_piece<S: Store, L: Ledger>(
 /// the rows, the store has changed.
 pub(crate) fn note_marked<S: Store, L: Ledger>(
     walk: &mut Walk,
-    leaving: Without,
+    reduction: Reduction,
     end: End,
     rows: &mut [Row],
     stretches: &mut Stretches,
@@ -393,15 +394,15 @@ pub(crate) fn note_marked<S: Store, L: Ledger>(
     requires { MayNote movie.now walk.old rows.old }
     ensures walk { KeepsWalk movie.now walk.old walk.new result }
     ensures store { OnlyReads S.Store store.old store.new result }
-    ensures planned { WhereLess S.Store store.old movie.now leaving walk.old
+    ensures planned { WhereLess S.Store store.old movie.now reduction walk.old
         (λ file tree t samples. IfOk result (λ p.
         (p ≡ planned_of (piece_fed (piece_from end) samples).gathered)
         × (walk.old.mark ≡ mark_of walk.old (length samples)
-        → ComesMarked leaving file tree t movie.now walk.new p.count samples))) }
-    ensures noted { WhereLess S.Store store.old movie.now leaving walk.old
+        → ComesMarked reduction file tree t movie.now walk.new p.count samples))) }
+    ensures noted { WhereLess S.Store store.old movie.now reduction walk.old
         (λ file tree t samples. IfOk result
         (λ p. HasRows p.count samples rows.new stretches.old stretches.new)) }
-    ensures unchanged { WhereLess S.Store store.old movie.now leaving walk.old
+    ensures unchanged { WhereLess S.Store store.old movie.now reduction walk.old
         (λ file tree t samples. walk.old.mark ≡ mark_of walk.old (length samples)
         → 0 < more_of (piece_from end) samples
         → more_of (piece_from end) samples ≤ length rows.old
@@ -410,12 +411,12 @@ pub(crate) fn note_marked<S: Store, L: Ledger>(
     ensures bounds { IfOk result (HasBounds (length rows.old)) }
     ensures grows { OnOk result (steps.old ≤ steps.new) }
     ensures work { WhereMayWrite S.Store store.old movie.now walk.old (λ file tree t n.
-        MatchResult result (λ p. FinishesOn leaving file tree movie.now p.count t n walk.new
+        MatchResult result (λ p. FinishesOn reduction file tree movie.now p.count t n walk.new
         steps.old steps.new) (λ r. steps.new ≤ steps.old + n)) }
     ensures refusal { Refused S.Store store.old store.new result RefusesLoad }
 {
     let left = walk.to_come();
-    let planned = note_piece(walk, leaving, end, rows, stretches, movie, store, steps)?;
+    let planned = note_piece(walk, reduction, end, rows, stretches, movie, store, steps)?;
     if planned.count == 0 || planned.count > left {
         return Err(Refusal::StoreChanged);
     }

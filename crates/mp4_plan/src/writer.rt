@@ -5,7 +5,9 @@ ghost use Rattle.mp4_store.specs.words.Device.{TakesPrefix};
 ghost use Rattle.mp4_tables.specs.declared.sample.SampleAt.{SampleAt};
 ghost use Rattle.mp4_present.specs.declared.track_info.TrackInfo.{TrackInfo};
 ghost use Rattle.mp4_present.specs.words.Carried.{GoOnBy, waiting};
-ghost use Rattle.mp4_present.specs.format.Reduced.{ReducesInTime, reduce};
+ghost use Rattle.mp4_present.specs.format.Reduced.{reduce};
+ghost use Rattle.mp4_plan.specs.format.ReducedTimes.{ReducesInLimits};
+ghost use Rattle.mp4_plan.specs.words.Measuring.{measuring_steps};
 ghost use Rattle.mp4_present.specs.declared.without.Without.{Without};
 ghost use Rattle.mp4_plan.specs.words.LeftTimes.{NamesLong, RefusesLeft, RefusesLeftCopy};
 ghost use Rattle.mp4_present.specs.format.Denotes.{presentation_of};
@@ -33,6 +35,7 @@ use crate::due_tracks::DueTracks;
 use crate::ends::first_goes;
 use crate::first_samples::{first_time, peek_each, walks_of};
 use crate::joined::Stretches;
+use crate::measures::measure;
 use crate::moof_front::{PieceHead, moof_front};
 use crate::moof_rows::{carry_groups, carry_run};
 use crate::moof_sizes::sizes_of;
@@ -40,6 +43,7 @@ use crate::normal_head::head_of;
 use crate::noted_rows::{NO_ROW, Row};
 use crate::piece_totals::longest_piece;
 use crate::planner::{Planned, Planner};
+use crate::reduced::Reduction;
 use crate::reduced_lengths::length_left;
 use crate::schedule::{Schedule, Turn};
 use crate::track_pieces::note_marked;
@@ -67,8 +71,9 @@ struct Noted {
 /// Writes the normal form of a movie. All memory that it takes is taken when it is made.
 #[derive(Drop)]
 pub struct Writer {
-    /// What is left out.
+    /// What is left out, and for each track what its samples are left by.
     leaving: Without,
+    reductions: Vec<Reduction>,
     /// What waits to be put.
     carrier: OutBuffer,
     /// The bytes of `ftyp` and `moov`.
@@ -135,7 +140,7 @@ fn sequence_behind(sequence: u32, head: &Option<PieceHead>) -> u32
 
 impl Writer {
     /// Plans all of what is left of a movie, and then takes all memory that writing it needs. A
-    /// track that is too long without its edits is a fault.
+    /// track that is too long then, or has an offset that doesn't fit, is a fault.
     pub fn reduced<S: Store, L: Ledger, M: Ledger>(
         alloc: Global,
         movie: &Movie,
@@ -150,23 +155,28 @@ impl Writer {
             (λ file tree. IfOk result (IsReadyWithin file tree movie.now)) }
         ensures unchanged { OverOpened S.Store store.old movie.now
             (λ file tree. IsUnchanged result) }
-        ensures in_time { OverOpened S.Store store.old movie.now
-            (λ file tree. OnOk result (ReducesInTime leaving (presentation_of file tree))) }
+        ensures in_limits { OverOpened S.Store store.old movie.now
+            (λ file tree. OnOk result (ReducesInLimits leaving (presentation_of file tree))) }
         ensures fault { OverOpened S.Store store.old movie.now
             (λ file tree. IfErr result (NamesLong leaving file tree)) }
         ensures refusal { Refused S.Store store.old store.new result (RefusesLeft leaving) }
         ensures grows { OnOk result (steps.old ≤ steps.new) }
         ensures work { OverOpened S.Store store.old movie.now
-            (λ file tree. steps.new ≤ steps.old + walks_steps tree) }
+            (λ file tree. steps.new ≤ steps.old
+            + (measuring_steps leaving tree + walks_steps tree)) }
         ensures may { OverOpened S.Store store.old movie.now (λ file tree.
             IfOk result (λ w. WriteAllBegin file tree movie.now w.walks.items)) }
         ensures turns { looks.new ≤ looks.old + movie_turns movie.now }
     {
-        let mehd = length_left(alloc, movie, leaving)?;
-        let longest = longest_piece(alloc, movie, store, leaving, steps, looks)?;
+        let measures = measure(alloc, movie, store, leaving, steps)?;
+        let mehd = length_left(alloc, movie, leaving, measures.totals.as_slice())?;
+        let reductions = measures.reductions;
+        let by = reductions.as_slice();
+        let longest = longest_piece(alloc, movie, store, leaving, by, steps, looks)?;
         let due = DueTracks::new(alloc, movie.tracks().len())?;
         Ok(Writer {
             leaving,
+            reductions,
             carrier: OutBuffer::new(alloc, PIECE)?,
             head: head_of(alloc, movie, leaving, mehd)?,
             rows: vec![in alloc; NO_ROW; longest as usize]?,
@@ -237,11 +247,11 @@ impl Writer {
                 head: None,
             });
         }
-        let leaving = self.leaving;
+        let reduction = self.reductions[turn.track];
         let walk = &mut self.walks[turn.track];
         let rows = self.rows.as_mut_slice();
         let told = &mut self.stretches;
-        let planned = note_marked(walk, leaving, turn.end, rows, told, movie, store, steps)?;
+        let planned = note_marked(walk, reduction, turn.end, rows, told, movie, store, steps)?;
         Ok(Noted {
             planned,
             head: turn_head(sequence, id, planned.count, &first),
@@ -287,7 +297,7 @@ impl Writer {
         };
         self.nexts[track] = carry_noted(
             &mut self.walks[track],
-            self.leaving,
+            self.reductions[track],
             &self.stretches,
             load,
             &mut self.carrier,
@@ -388,7 +398,8 @@ impl Writer {
         self.carrier.carry(self.head.as_slice(), sink)?;
         let walks = self.walks.as_mut_slice();
         let nexts = self.nexts.as_mut_slice();
-        peek_each(walks, nexts, leaving, movie, store, steps)?;
+        let reductions = self.reductions.as_slice();
+        peek_each(walks, nexts, reductions, movie, store, steps)?;
         let mut schedule = Schedule::new(leaving, tracks, first_time(self.nexts.as_slice()));
         schedule.begin(leaving, tracks, self.nexts.as_slice(), &mut self.due);
         let mut sequence: u32 = 1;
@@ -418,7 +429,7 @@ impl Writer {
 
 /// Puts the normal form of what is left of a movie: it is planned, all memory that writing it needs
 /// is taken, and then it is written. Want of memory, and the fault of a track that is too long
-/// without its edits, come before the first byte.
+/// then, or has an offset that doesn't fit, come before the first byte.
 pub fn write_reduced<S: Store, K: Sink, L: Ledger, M: Ledger>(
     alloc: Global,
     movie: &Movie,
@@ -444,7 +455,8 @@ pub fn write_reduced<S: Store, K: Sink, L: Ledger, M: Ledger>(
         (RefusesLeftCopy leaving (K.takes sink.old sink.new)) }
     ensures grows { OnOk result (steps.old ≤ steps.new) }
     ensures work { OverOpened S.Store store.old movie.now
-        (λ file tree. steps.new ≤ steps.old + (walks_steps tree + writing_steps tree)) }
+        (λ file tree. steps.new
+        ≤ steps.old + (measuring_steps leaving tree + walks_steps tree + writing_steps tree)) }
     ensures turns { looks.new ≤ looks.old + 2 * movie_turns movie.now }
 {
     let mut writer = Writer::reduced(alloc, movie, store, leaving, steps, looks)?;

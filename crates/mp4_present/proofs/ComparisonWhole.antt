@@ -1,10 +1,10 @@
 -- What the differences between two presentations tell: where there is none, what is left of them is the same.
-use Rattle.std.proofs.Common.{◌≡◌, ℕ, Bool, true, false, if◌then◌else◌, List, [], length, refl, sym, ap, ◌∙◌}
+use Rattle.std.proofs.Common.{◌≡◌, ℕ, Bool, true, false, if◌then◌else◌, List, [], length, ℤ, refl, sym, ap, ◌∙◌}
 use Rattle.std.specs.List.{AllByRecursion}
 use Rattle.mp4_boxes.proofs.Each.{each_value}
 use Rattle.mp4_tables.specs.format.Groups.{Groups}
 use Rattle.mp4_present.specs.format.Presentation.{Sample, Track, Presentation, IsSample, IsTrack, Valid}
-use Rattle.mp4_present.specs.format.Reduced.{reduce_sample, reduce_track, reduce}
+use Rattle.mp4_present.specs.format.Reduced.{reduce_sample, first_offset, reduce_track, reduce}
 use Rattle.mp4_present.specs.declared.without.Without.{Without}
 use Rattle.mp4_present.specs.format.Comparison.{byte_differences, sample_differences, track_differences, differences}
 use Rattle.mp4_present.specs.format.Differences.{each_differ}
@@ -12,6 +12,7 @@ use Rattle.mp4_present.specs.format.ComparisonLaws.{EachDifferenceIsOne, NoDiffe
 use Rattle.mp4_present.specs.declared.comparing.differences.Subject.{Subject}
 use Rattle.mp4_present.specs.declared.comparing.differences.Subject.TheVariants as subjects
 use Rattle.mp4_present.specs.declared.comparing.differences.Field.TheVariants as fields
+use Rattle.mp4_present.proofs.SamplesReduced.{reduced_each}
 use Rattle.mp4_present.proofs.ComparisonValues.{Tells, both, weaker, number_tells, signed_tells, bytes_tell, each_tells, differ_self, bytes_self, each_self}
 use Rattle.mp4_present.proofs.ComparisonHeads.{head_tells, movie_tells, head_self, movie_self}
 use Rattle.mp4_present.proofs.ComparisonGroups.{IsMap, index_tells, index_self}
@@ -95,13 +96,16 @@ map_left true groups h = record { each = tt; order = refl }
 map_left false groups h = h
 
 module _ (l : Without) where
-  sample_plain : (descriptions : ℕ) (s : Sample) → IsSample descriptions s → HasMap (reduce_sample l s)
-  sample_plain descriptions s h = map_left l.groups s.groups (record { each = h.groups; order = h.groups_in_order })
+  sample_plain : (descriptions count : ℕ) (first : ℤ) (n : ℕ) (s : Sample) → IsSample descriptions s → HasMap (reduce_sample l count first n s)
+  sample_plain descriptions count first n s h = map_left l.groups s.groups (record { each = h.groups; order = h.groups_in_order })
 
   track_plain : (t : Track) → IsTrack t → IsPlain (reduce_track l t)
   track_plain t h = record {
     nine = h.head.matrix.nine;
-    maps = each_value (IsSample (length t.head.media.descriptions)) HasMap (reduce_sample l) (sample_plain (length t.head.media.descriptions)) t.samples h.samples;
+    maps =
+        let many = length t.head.media.descriptions in
+        let first = first_offset t.samples in
+        reduced_each (IsSample many) HasMap l (length t.samples) first (sample_plain many (length t.samples) first) 0 t.samples h.samples;
   }
 
   pub all_plain : (p : Presentation) → Valid p → IsAllPlain (reduce l p)

@@ -14,8 +14,8 @@ use Rattle.mp4_head.proofs.ReadAgain.{said_of}
 use Rattle.mp4_present.specs.format.Comparison as whole
 use Rattle.mp4_present.specs.format.Differences.{numbers_differ, each_differ, head_differences, movie_differences}
 use Rattle.mp4_present.specs.format.Denotes.{FileTree, file_parts, track_of}
-use Rattle.mp4_present.specs.format.Presentation.{Track}
-use Rattle.mp4_present.specs.format.Reduced.{start_left, reduce_sample, reduce_track, reduce_track_head, reduce_movie_head}
+use Rattle.mp4_present.specs.format.Presentation.{Sample, Track}
+use Rattle.mp4_present.specs.format.Reduced.{start_left, first_offset, reduce_track, reduce_track_head, reduce_movie_head}
 use Rattle.mp4_present.specs.words.Compared.{TakesFront, samples_differ, tracks_differ, files_differ}
 use Rattle.mp4_present.specs.words.Differing.{as_list, is_none_yet}
 use Rattle.mp4_present.specs.words.Movies.{MovieSeen, moov_box}
@@ -26,6 +26,7 @@ use Rattle.mp4_present.specs.declared.comparing.differences.Subject.TheVariants 
 use Rattle.mp4_present.specs.declared.comparing.differences.Field.TheVariants as fields
 use Rattle.mp4_present.specs.declared.without.Without.{Without}
 use Rattle.mp4_present.specs.declared.track_info.TrackInfo.{TrackInfo}
+use Rattle.mp4_present.proofs.SamplesReduced.{reduced_length}
 use Rattle.mp4_present.proofs.TrafTaken.{zipped_at}
 use Rattle.mp4_present.proofs.TracksPassed.{zip_length}
 use Rattle.mp4_present.proofs.TracksCompared.{GrowsTo, grows_none, grows_more, grows_front, grows_part, grows_all, each_next, each_over}
@@ -45,10 +46,11 @@ heads_differ : (l : Without) (number k : ℕ) (file other : List ℕ) (m n : Mov
     ++ samples_differ l number file tree t other other_tree u ≡ tracks_differ l number file tree t other other_tree u
 heads_differ l number k file other m n tree other_tree t u info other_info head other_head o p at bt it jt e f =
     let of = subjects.Track number in
+    let left_many = λ (samples : List Sample). reduced_length l (length samples) (first_offset samples) 0 samples in
     let x = zipped_at (IsInfoOf file tree) tree.movie.tracks m.tracks k t info o.tracks at it in
     let y = zipped_at (IsInfoOf other other_tree) other_tree.movie.tracks n.tracks k u other_info p.tracks bt jt in
-    let count = x.samples ∙ sym (length-map (track_of file (file_parts tree) t).samples (reduce_sample l)) in
-    let other_count = y.samples ∙ sym (length-map (track_of other (file_parts other_tree) u).samples (reduce_sample l)) in
+    let count = x.samples ∙ sym (left_many (track_of file (file_parts tree) t).samples) in
+    let other_count = y.samples ∙ sym (left_many (track_of other (file_parts other_tree) u).samples) in
     λ i. (head_differences of (reduce_track_head l (e i)) (reduce_track_head l (f i)) ++ numbers_differ of fields.Start (start_left l (x.start i)) (start_left l (y.start i)) ++ numbers_differ of fields.Samples (count i) (other_count i)) ++ samples_differ l number file tree t other other_tree u
 
 -- Two tracks whose heads were compared: their samples are left.

@@ -79,6 +79,8 @@ pub mod OpenedDenotes
 pub mod PassedOn
 pub mod GoneBack
 pub mod Differing
+pub mod SamplesReduced
+pub mod TrackEdges
 pub mod FieldValues
 pub mod ComparisonValues
 pub mod ComparisonHeads

@@ -41,3 +41,14 @@ module _ (file : List ℕ) (tree : FileTree) (t : TrackTree) (w : Walk) (other :
   -- no more than all were taken
   pub both_most : (n old new : ℕ) → BothTakeOn file tree t w other other_tree u v n old new → new ≤ old + n
   both_most n old new h = let all = h.4 in omega (arith, all)
+
+  -- all that may be taken are within more
+  pub both_within : (n most old new : ℕ) → n ≤ most → BothTakeOn file tree t w other other_tree u v n old new → BothTakeOn file tree t w other other_tree u v most old new
+  both_within n most old new le h = let all = h.4 in (h.0, h.1, h.2, h.3, omega (arith, le, all))
+
+-- no more than both may take
+pub most_of_both : (n m most others : ℕ) → n ≤ most → m ≤ others → n + m ≤ most + others
+most_of_both n m most others first second = omega (arith, first, second)
+
+pub most_within : (n most old new : ℕ) → n ≤ most → new ≤ old + n → new ≤ old + most
+most_within n most old new le h = omega (arith, le, h)

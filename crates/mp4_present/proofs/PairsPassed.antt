@@ -12,19 +12,19 @@ use Rattle.mp4_tables.specs.declared.sample.SampleAt.{SampleAt}
 use Rattle.mp4_head.specs.format.Tree.{TrackTree}
 use Rattle.mp4_present.specs.format.Denotes.{FileTree}
 use Rattle.mp4_present.specs.format.Differences.{same_signed, differ, numbers_differ, signed, first_unequal, byte_at, each_differ}
-use Rattle.mp4_present.specs.format.Reduced.{duration_left, offset_left}
-use Rattle.mp4_present.specs.words.Differing.{flags_left, index_in, group_differences, differences_at, pair_differences}
+use Rattle.mp4_present.specs.words.Differing.{flags_left, lasts_left, cto_left, index_in, group_differences, differences_at, pair_differences}
 use Rattle.mp4_present.specs.words.Loaded.{left_in_hand, Follows, IsPlaceOf}
 use Rattle.mp4_present.specs.words.Movies.{MovieSeen, InHandOf}
 use Rattle.mp4_present.specs.words.SamePairs.{indexes_differ, IsSamePair, BeginSame, SaySame}
 use Rattle.mp4_present.specs.words.SamplesComing.{Comes, samples_behind}
 use Rattle.mp4_present.specs.words.Windows.{Shows}
-use Rattle.mp4_present.specs.declared.comparing.samples.Pairing.{Pairing}
+use Rattle.mp4_present.specs.declared.comparing.pairing.Pairing.{Pairing}
 use Rattle.mp4_present.specs.declared.comparing.differences.Difference.{Difference}
 use Rattle.mp4_present.specs.declared.comparing.differences.Field.{Field}
 use Rattle.mp4_present.specs.declared.comparing.differences.Field.TheVariants as fields
 use Rattle.mp4_present.specs.declared.comparing.differences.Subject.{Subject}
 use Rattle.mp4_present.specs.declared.comparing.differences.Subject.TheVariants as subjects
+use Rattle.mp4_present.specs.declared.edges.Edges.{Edges}
 use Rattle.mp4_present.specs.declared.file_window.FileWindow.{FileWindow}
 use Rattle.mp4_present.specs.declared.walking.loaded.Loaded.{Loaded}
 use Rattle.mp4_present.specs.declared.walking.loaded.Place.{Place}
@@ -55,9 +55,9 @@ none_of_signed of field a b e = subst (λ (c : ℤ). signed of field a c ≡ [])
 nothing_joined : (a b c d g s : List Difference) → a ≡ [] → b ≡ [] → c ≡ [] → d ≡ [] → g ≡ [] → s ≡ [] → a ++ b ++ c ++ d ++ g ++ s ≡ []
 nothing_joined a b c d g s ea eb ec ed eg es = λ i. ea i ++ eb i ++ ec i ++ ed i ++ eg i ++ es i
 
-pub none_said : (l : Without) (of : Subject) (keys : List GroupKey) (lk rk : Keys) (x y : SampleAt) → duration_left l x.duration ≡ duration_left l y.duration → offset_left l x.cto ≡ offset_left l y.cto → flags_left l x.flags ≡ flags_left l y.flags → x.description ≡ y.description
-    → group_differences of keys lk x rk y ≡ [] → x.size ≡ y.size → differences_at l of keys lk x rk y ≡ []
-none_said l of keys lk rk x y ed eo ef ei eg es =
+pub none_said : (l : Without) (of : Subject) (keys : List GroupKey) (lk rk : Keys) (le re : Edges) (x y : SampleAt) → lasts_left l le x ≡ lasts_left l re y → cto_left l le x ≡ cto_left l re y → flags_left l x.flags ≡ flags_left l y.flags → x.description ≡ y.description
+    → group_differences of keys lk x rk y ≡ [] → x.size ≡ y.size → differences_at l of keys lk le x rk re y ≡ []
+none_said l of keys lk rk le re x y ed eo ef ei eg es =
     nothing_joined _ _ _ _ _ _ (none_of_numbers of _ _ _ ed) (none_of_signed of _ _ _ eo) (none_of_numbers of _ _ _ ef) (none_of_numbers of _ _ _ ei) eg (none_of_numbers of _ _ _ es)
 
 no_byte : (of : Subject) (f : ℕ → Field) (v : Bool) (xs ys : List ℕ) → xs ≡ ys → (if v then byte_at of f (first_unequal 0 xs ys) else []) ≡ []
@@ -118,7 +118,7 @@ module _ (by : Pairing) (w v : FileWindow) where
 
   module _ (file other : List ℕ) (p : Shows file w) (q : Shows other v) where
     abbrev one : ℕ → SampleAt → SampleAt → List Difference
-    one = pair_differences by.leaving by.track by.keys.items by.left file by.right other
+    one = pair_differences by.leaving by.track by.keys.items by.left by.left_edges file by.right by.right_edges other
 
     -- what differs between two lists differs behind the pairs that are the same
     pub same_skipped : (n number : ℕ) (xs ys : List SampleAt) → BeginSame by w v n xs ys → each_differ one number xs ys ≡ each_differ one (number + n) (drop n xs) (drop n ys)

@@ -1,24 +1,25 @@
 -- Tracks that are compared sample by sample.
 use Rattle.std.proofs.Common.{◌≡◌, ℕ, suc, ◌+◌, ◌<◌, ◌≤◌, min, List, [], ◌∷◌, ◌++◌, length, take, drop, Some, refl, sym, ap, subst, ◌∙◌, arith, append_assoc, inl, inr}
 use Rattle.std.specs.List.{slice_get}
-use Rattle.std.proofs.lemmas.List.{append-nil, length-map, length-drop, take-append-drop, drop-drop}
+use Rattle.std.proofs.lemmas.List.{append-nil, length-drop, take-append-drop, drop-drop}
 use Rattle.mp4_boxes.proofs.Each.{each_dropped}
 use Rattle.mp4_tables.specs.declared.sample.SampleAt.{SampleAt}
-use Rattle.mp4_tables.proofs.SampleLists.{timed_length}
 use Rattle.mp4_head.specs.format.Tree.{TrackTree}
 use Rattle.mp4_present.specs.format.Differences.{each_differ}
-use Rattle.mp4_present.specs.format.Denotes.{FileTree, file_parts, placed_of, sample_of}
+use Rattle.mp4_present.specs.format.Denotes.{FileTree}
 use Rattle.mp4_present.specs.words.Compared.{IsPairingOf, BothTakeOn, LieIn, TakesFront, samples_differ}
 use Rattle.mp4_present.specs.words.Differing.{pair_differences}
 use Rattle.mp4_present.specs.words.Joined.{IsBelow}
 use Rattle.mp4_present.specs.words.Movies.{MovieSeen}
 use Rattle.mp4_present.specs.words.NextSample.{TakesFirst}
-use Rattle.mp4_present.specs.words.OpenedMovie.{IsOpenedAs, IsInfoOf}
+use Rattle.mp4_present.specs.words.OpenedMovie.{IsOpenedAs}
 use Rattle.mp4_present.specs.words.SamePairs.{PassesSame}
 use Rattle.mp4_present.specs.words.SamplesComing.{Comes, track_samples}
+use Rattle.mp4_present.specs.words.TwoStores.{HaveBegun}
 use Rattle.mp4_present.specs.words.WalkSteps.{MayTake, walk_steps}
+use Rattle.mp4_present.specs.words.TrackEdges.{edges_left}
 use Rattle.mp4_present.specs.words.Windows.{Shows}
-use Rattle.mp4_present.specs.declared.comparing.samples.Pairing.{Pairing}
+use Rattle.mp4_present.specs.declared.comparing.pairing.Pairing.{Pairing}
 use Rattle.mp4_present.specs.declared.comparing.samples.Side.{Side}
 use Rattle.mp4_present.specs.declared.comparing.differences.Difference.{Difference}
 use Rattle.mp4_present.specs.declared.without.Without.{Without}
@@ -26,7 +27,7 @@ use Rattle.mp4_present.specs.declared.track_info.TrackInfo.{TrackInfo}
 use Rattle.mp4_present.specs.declared.walking.Walk.{Walk}
 use Rattle.mp4_present.proofs.Differing.{none_behind, each_ends, one_ends}
 use Rattle.mp4_present.proofs.PairsPassed.{same_skipped}
-use Rattle.mp4_present.proofs.TrafTaken.{zipped_at}
+use Rattle.mp4_present.proofs.TrackEdges.{count_is}
 use Rattle.mp4_present.proofs.SamplesDiffer.{tracks_differ}
 use Rattle.mp4_present.proofs.WalkCopied.{track_lies}
 
@@ -84,11 +85,6 @@ each_over one k xs ys le = elim (one_ends (length xs) (length ys) k le) [
   | inr n ↦ ap (λ zs. each_differ one (k + 1) (drop k xs) zs) (none_behind ys k n) ∙ each_ends one (k + 1) (drop k xs)
 ]
 
--- as many samples come as were counted
-pub count_is : (file : List ℕ) (m : MovieSeen) (tree : FileTree) (t : TrackTree) (k : ℕ) (info : TrackInfo) → IsOpenedAs file m tree → slice_get tree.movie.tracks k ≡ Some t → slice_get m.tracks k ≡ Some info → info.samples ≡ length (track_samples tree t)
-count_is file m tree t k info o at there =
-    (zipped_at (IsInfoOf file tree) tree.movie.tracks m.tracks k t info o.tracks at there).samples ∙ length-map (placed_of (file_parts tree) t) (sample_of file) ∙ sym (timed_length _ _ _ (placed_of (file_parts tree) t))
-
 -- those from a place on lie in the file
 pub rest_lies : (file : List ℕ) (m : MovieSeen) (tree : FileTree) (t : TrackTree) (k place : ℕ) (info : TrackInfo) → IsOpenedAs file m tree → slice_get tree.movie.tracks k ≡ Some t → slice_get m.tracks k ≡ Some info → place < info.samples → LieIn file (drop place (track_samples tree t))
 rest_lies file m tree t k place info o at there lt =
@@ -100,24 +96,20 @@ rest_lies file m tree t k place info o at there lt =
 pub record PairsGo (by : Pairing) (file : List ℕ) (tree : FileTree) (t : TrackTree) (m : MovieSeen) (other : List ℕ) (other_tree : FileTree) (u : TrackTree) (n : MovieSeen) (k : ℕ) (w v : Walk) (before now : List Difference) (old new : ℕ) : Type 0 where
   pub comes : Comes file tree t m w (drop k (track_samples tree t))
   pub comes_right : Comes other other_tree u n v (drop k (track_samples other_tree u))
-  pub grows : GrowsTo before now (each_differ (pair_differences by.leaving by.track by.keys.items by.left file by.right other) 1 (track_samples tree t) (track_samples other_tree u))
-      (each_differ (pair_differences by.leaving by.track by.keys.items by.left file by.right other) (k + 1) (drop k (track_samples tree t)) (drop k (track_samples other_tree u)))
+  pub grows : GrowsTo before now (each_differ (pair_differences by.leaving by.track by.keys.items by.left by.left_edges file by.right by.right_edges other) 1 (track_samples tree t) (track_samples other_tree u))
+      (each_differ (pair_differences by.leaving by.track by.keys.items by.left by.left_edges file by.right by.right_edges other) (k + 1) (drop k (track_samples tree t)) (drop k (track_samples other_tree u)))
   pub takes : BothTakeOn file tree t w other other_tree u v (walk_steps tree t + walk_steps other_tree u) old new
 
 module _ (by : Pairing) (file : List ℕ) (tree : FileTree) (t : TrackTree) (m : MovieSeen) (other : List ℕ) (other_tree : FileTree) (u : TrackTree) (n : MovieSeen) (before : List Difference) (old : ℕ) where
   abbrev one : ℕ → SampleAt → SampleAt → List Difference
-  one = pair_differences by.leaving by.track by.keys.items by.left file by.right other
+  one = pair_differences by.leaving by.track by.keys.items by.left by.left_edges file by.right by.right_edges other
 
   abbrev GoOn : ℕ → Walk → Walk → List Difference → ℕ → Type 0
   GoOn k w v now new = PairsGo by file tree t m other other_tree u n k w v before now old new
 
   -- before the first
-  pub pairs_first : (w v : Walk) → Comes file tree t m w (track_samples tree t) → Comes other other_tree u n v (track_samples other_tree u) → ((p : ℕ) × MayTake file tree t w p × (p ≤ walk_steps tree t)) → ((q : ℕ) × MayTake other other_tree u v q × (q ≤ walk_steps other_tree u))
-      → GoOn 0 w v before old
-  pairs_first w v hw hv p q =
-      let first = p.2 in
-      let second = q.2 in
-      record { comes = hw; comes_right = hv; grows = grows_none before _; takes = (p.0, q.0, p.1, q.1, omega (arith, first, second)) }
+  pub pairs_first : (l : Without) (w v : Walk) (new : ℕ) → HaveBegun l by file tree t m w other other_tree u n v old new → GoOn 0 w v before new
+  pairs_first l w v new h = record { comes = h.comes; comes_right = h.comes_right; grows = grows_none before _; takes = h.takes }
 
   -- one pair more
   pub pairs_next : (k : ℕ) (w v w2 v2 : Walk) (now next found : List Difference) (mid new : ℕ) → GoOn k w v now mid
@@ -203,10 +195,11 @@ module _ (by : Pairing) (file : List ℕ) (tree : FileTree) (t : TrackTree) (m :
 -- what differs between the samples is what differs between those of the presentations
 pub pairs_are : (l : Without) (k : ℕ) (by : Pairing) (file other : List ℕ) (m n : MovieSeen) (tree other_tree : FileTree) (t u : TrackTree) (info other_info : TrackInfo) → IsPairingOf l k info other_info by → IsOpenedAs file m tree → IsOpenedAs other n other_tree
     → slice_get tree.movie.tracks k ≡ Some t → slice_get other_tree.movie.tracks k ≡ Some u → slice_get m.tracks k ≡ Some info → slice_get n.tracks k ≡ Some other_info
-    → each_differ (pair_differences by.leaving by.track by.keys.items by.left file by.right other) 1 (track_samples tree t) (track_samples other_tree u) ≡ samples_differ l (k + 1) file tree t other other_tree u
-pairs_are l k by file other m n tree other_tree t u info other_info h o p at bt it jt =
-    (λ i. each_differ (pair_differences (h.left_out i) (h.number i) by.keys.items (h.left_keys i) file (h.right_keys i) other) 1 (track_samples tree t) (track_samples other_tree u))
-    ∙ tracks_differ l (k + 1) k by.keys.items file other m n tree other_tree t u info other_info h.all_keys o p at bt it jt
+    → by.left_edges ≡ edges_left l (track_samples tree t) → by.right_edges ≡ edges_left l (track_samples other_tree u)
+    → each_differ (pair_differences by.leaving by.track by.keys.items by.left by.left_edges file by.right by.right_edges other) 1 (track_samples tree t) (track_samples other_tree u) ≡ samples_differ l (k + 1) file tree t other other_tree u
+pairs_are l k by file other m n tree other_tree t u info other_info h o p at bt it jt first second =
+    (λ i. each_differ (pair_differences (h.left_out i) (h.number i) by.keys.items (h.left_keys i) by.left_edges file (h.right_keys i) by.right_edges other) 1 (track_samples tree t) (track_samples other_tree u))
+    ∙ tracks_differ l (k + 1) k by.keys.items by.left_edges by.right_edges file other m n tree other_tree t u info other_info h.all_keys o p at bt it jt first second
 
 -- a bound of two numbers
 pub min_over : (m n a b k : ℕ) → m ≡ a → n ≡ b → min m n ≤ k → min a b ≤ k

@@ -19,6 +19,7 @@ pub mod PassedMoofs
 pub mod WalkSteps
 pub mod WalkLaws
 pub mod GoingBack
+pub mod TrackEdges
 pub mod Differing
 pub mod Windows
 pub mod NextSample

@@ -125,7 +125,7 @@ module _ (l : Without) (p q : Presentation) (v : Valid p) (w : Valid q) where
       let r = shrunk l differ more_same single_words first m some.0 some.1 h in
       let least : (k : Without) → Covers l k → Covers k m → reduce k p ≡ reduce k q → k ≡ m
       = λ k c d e. none_to_take l differ more_same first m k some.0 some.1 h c d (none_of k e) in
-      (r.0, same_of m r.1, least, λ same k c e. among_others k m p q same e (same_of m r.1) l c r.0 least)
+      (r.0, same_of m r.1, least, λ same k c timed e. among_others k m timed p q same e (same_of m r.1) l c r.0 least)
 
 tells_of : (listing : Listing) (l : Without) (p q : Presentation) (text : List ℕ) → Valid p → Valid q → IsSaidOf listing l (λ m. differences (reduce m p) (reduce m q)) text → TellsOf listing l p q text
 tells_of (listings.First syntax) l p q text v w h = h

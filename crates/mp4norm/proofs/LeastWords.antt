@@ -1,13 +1,13 @@
--- The least words with which two presentations are the same, where their sample descriptions are: what is the same without some things, and without others, is the same without those that are among both.
-use Rattle.std.proofs.Common.{◌≡◌, Bool, true, false, ◌&&◌, List, [], ◌∷◌, refl, subst}
-use Rattle.std.specs.Prelude.{map}
+-- The least words with which two presentations are the same, where their sample descriptions are: what is the same without some things, and without others, is the same without those that are among both, if timing is among both or neither.
+use Rattle.std.proofs.Common.{◌≡◌, ℕ, suc, Bool, true, false, ◌&&◌, List, [], ◌∷◌, length, refl, sym, subst, ◌∙◌}
+use Rattle.std.specs.Prelude.{map, ℤ}
 use Rattle.std.specs.List.{AllZip}
 use Rattle.mp4_head.specs.format.Head.{Kept, Media, TrackHead, MovieHead}
 use Rattle.mp4_present.specs.format.Presentation.{Sample, Track, Presentation}
-use Rattle.mp4_present.specs.format.Reduced.{reduce}
+use Rattle.mp4_present.specs.format.Reduced.{first_offset, is_at_end, reduce}
 use Rattle.mp4_present.specs.declared.without.Without.{Without}
 use Rattle.mp4_plan.specs.format.CoveringLaws.{Covers}
-use Rattle.mp4_plan.specs.format.Agreeing.{SamplesAgree, MediaAgree, TrackHeadsAgree, MovieHeadsAgree, TracksAgree}
+use Rattle.mp4_plan.specs.format.Agreeing.{AllAgree, SamplesAgree, MediaAgree, TrackHeadsAgree, MovieHeadsAgree, TracksAgree}
 use Rattle.mp4_plan.proofs.Agreed.{plain_of, reduce_is_exact, type_of_left, unrated_of}
 use Rattle.mp4norm.specs.format.CompareHeadline.{descriptions_in}
 use Rattle.mp4norm.proofs.WordSets.{common, common_first, common_second, covers_common}
@@ -17,11 +17,18 @@ either : {P : Type 0} (a b : Bool) → (a ≡ false → P) → (b ≡ false → 
 either true b f g e = g e
 either false b f g e = f refl
 
-zip_both : {A : Type 0} (R S T : A → A → Type 0) → ((x y : A) → R x y → S x y → T x y) → (xs ys : List A) → AllZip R xs ys → AllZip S xs ys → AllZip T xs ys
-zip_both R S T f [] [] g h = tt
-zip_both R S T f [] (y ∷ ys) g h = absurd g
-zip_both R S T f (x ∷ xs) [] g h = absurd g
-zip_both R S T f (x ∷ xs) (y ∷ ys) g h = (f x y g.0 h.0, zip_both R S T f xs ys g.1 h.1)
+either_at : {P : Type 0} (a b c : Bool) → ((a && c) ≡ false → P) → ((b && c) ≡ false → P) → ((a && b) && c) ≡ false → P
+either_at true b c f g e = g e
+either_at false b c f g e = f refl
+
+-- what is among both is among each, and what is not is among neither where each has what the other has
+true_in_both : (a b : Bool) → (a && b) ≡ true → (a ≡ true) × (b ≡ true)
+true_in_both true b e = (refl, e)
+true_in_both false b e = absurd cc
+
+false_in_both : (a b : Bool) → a ≡ b → (a && b) ≡ false → (a ≡ false) × (b ≡ false)
+false_in_both true b same e = (same ∙ e, e)
+false_in_both false b same e = (refl, sym same)
 
 first_same : {A : Type 0} (x y : A) (xs ys : List A) → x ∷ xs ≡ y ∷ ys → x ≡ y
 first_same x y xs ys e = cc
@@ -29,17 +36,27 @@ first_same x y xs ys e = cc
 rest_same : {A : Type 0} (x y : A) (xs ys : List A) → x ∷ xs ≡ y ∷ ys → xs ≡ ys
 rest_same x y xs ys e = cc
 
-module _ (k m : Without) where
-  samples_agree : (a b : Sample) → SamplesAgree k a b → SamplesAgree m a b → SamplesAgree (common k m) a b
-  samples_agree a b g h = record {
-    duration = either k.timing m.timing g.duration h.duration;
-    offset = either k.timing m.timing g.offset h.offset;
+module _ (k m : Without) (timed : k.timing ≡ m.timing) where
+  off : (k.timing && m.timing) ≡ false → (k.timing ≡ false) × (m.timing ≡ false)
+  off = false_in_both k.timing m.timing timed
+
+  samples_agree : (count : ℕ) (first other : ℤ) (n : ℕ) (a b : Sample) → SamplesAgree k count first other n a b → SamplesAgree m count first other n a b → SamplesAgree (common k m) count first other n a b
+  samples_agree count first other n a b g h = record {
+    duration = λ t. either_at k.ends m.ends (is_at_end count n) (g.duration (off t).0) (h.duration (off t).1);
+    offset = λ t. either k.origins m.origins (g.offset (off t).0) (h.offset (off t).1);
+    moved = λ t o. g.moved (off t).0 (true_in_both k.origins m.origins o).0;
     description = g.description;
     bytes = g.bytes;
     sync = g.sync;
     flags = either k.flags m.flags g.flags h.flags;
     groups = either k.groups m.groups g.groups h.groups;
   }
+
+  all_samples_agree : (count : ℕ) (first other : ℤ) (n : ℕ) (xs ys : List Sample) → AllAgree k count first other n xs ys → AllAgree m count first other n xs ys → AllAgree (common k m) count first other n xs ys
+  all_samples_agree count first other n [] [] g h = tt
+  all_samples_agree count first other n [] (y ∷ ys) g h = absurd g
+  all_samples_agree count first other n (x ∷ xs) [] g h = absurd g
+  all_samples_agree count first other n (x ∷ xs) (y ∷ ys) g h = (samples_agree count first other n x y g.0 h.0, all_samples_agree count first other (suc n) xs ys g.1 h.1)
 
   media_agree : (a b : Media) → a.descriptions ≡ b.descriptions → MediaAgree k a b → MediaAgree m a b → MediaAgree (common k m) a b
   media_agree a b same g h =
@@ -92,9 +109,9 @@ module _ (k m : Without) where
 
   tracks_agree : (a b : Track) → a.head.media.descriptions ≡ b.head.media.descriptions → TracksAgree k a b → TracksAgree m a b → TracksAgree (common k m) a b
   tracks_agree a b same g h = record {
-    start = either k.timing m.timing g.start h.start;
+    start = λ t. either k.origins m.origins (g.start (off t).0) (h.start (off t).1);
     head = track_heads_agree a.head b.head same g.head h.head;
-    samples = zip_both (SamplesAgree k) (SamplesAgree m) (SamplesAgree (common k m)) samples_agree a.samples b.samples g.samples h.samples;
+    samples = all_samples_agree (length a.samples) (first_offset a.samples) (first_offset b.samples) 0 a.samples b.samples g.samples h.samples;
   }
 
   abbrev descriptions_of : List Track → List (List Kept)

@@ -17,20 +17,16 @@ use Rattle.mp4_present.specs.words.Carried.{BytesGoOn}
 use Rattle.mp4_present.specs.words.Movies.{MovieSeen}
 use Rattle.mp4_present.specs.words.PayloadsLeft.{keeping_payloads, track_payloads_left}
 use Rattle.mp4_present.specs.words.OpenedMovie.{IsOpenedAs, IsInfoOf}
-use Rattle.mp4_present.specs.words.SamplesComing.{track_samples}
 use Rattle.mp4_present.specs.words.WalkSteps.{walk_steps, walks_steps}
 use Rattle.mp4_present.specs.declared.track_info.TrackInfo.{TrackInfo}
 use Rattle.mp4_present.specs.declared.walking.Walk.{Walk}
 use Rattle.mp4_present.specs.declared.without.Without.{Without}
 use Rattle.mp4_present.proofs.TrafTaken.{zipped_at}
 use Rattle.mp4_present.proofs.TracksPassed.{zip_length}
-use Rattle.mp4norm.specs.format.Text.{head_lines, number_line, samples_heading, track_text}
+use Rattle.mp4norm.specs.format.Text.{head_lines, number_line, sample_text, samples_heading, track_text}
 use Rattle.mp4norm.specs.words.PrintedTracks.{IsBegun, AreBegun, AreWalks}
-use Rattle.mp4norm.specs.words.ToldSamples.{IsStyle, told_sample}
-use Rattle.mp4norm.specs.declared.text.sample_texts.SampleStyle.{SampleStyle}
 use Rattle.mp4norm.proofs.Going.{Going, going_none}
 use Rattle.mp4norm.proofs.TextsGoOn.{text_next, text_fails, texts_all}
-use Rattle.mp4norm.proofs.ToldLines.{track_told}
 
 -- ---- walks, the last track's first
 
@@ -157,49 +153,48 @@ module _ (l : Without) (file : List ℕ) (m : MovieSeen) (tree : FileTree) (know
   abbrev pub front : List ℕ
   front = front_of l (track_seen head) (start_left l info.start)
 
-  module _ (style : SampleStyle) (is : IsStyle l info.keys style) where
-    abbrev pub lines : List ℕ
-    lines = flat_map (told_sample style file) (track_samples tree track_there.0)
+  -- the lines of its samples
+  abbrev pub lines : List ℕ
+  lines = flat_map sample_text (reduce_track l (track_of file (file_parts tree) track_there.0)).samples
 
-    track_is : front ++ lines ≡ track_text (reduce_track l (track_of file (file_parts tree) track_there.0))
-    track_is =
-        let t = track_there.0 in
-        let start = (zipped_at (IsInfoOf file tree) tree.movie.tracks m.tracks k t info o.tracks track_there.1 i_at).start in
-        let told = track_told l style file m tree t k info o track_there.1 i_at is in
-        λ i. head_lines (reduce_track_head (keeping_payloads l) (head_is i)) ++ number_line (codes "start") (start_left l (start i)) ++ samples_heading (head_is i).id ++ told i
+  track_is : front ++ lines ≡ track_text (reduce_track l (track_of file (file_parts tree) track_there.0))
+  track_is =
+      let t = track_there.0 in
+      let start = (zipped_at (IsInfoOf file tree) tree.movie.tracks m.tracks k t info o.tracks track_there.1 i_at).start in
+      λ i. head_lines (reduce_track_head (keeping_payloads l) (head_is i)) ++ number_line (codes "start") (start_left l (start i)) ++ samples_heading (head_is i).id ++ lines
 
-    -- first what the track says before its samples, then their lines
-    two_parts : text_from l file tree k ≡ front ++ (lines ++ text_from l file tree (k + 1))
-    two_parts =
-        let t = track_there.0 in
-        let at = get_mapped (reduce_track l) (map (track_of file (file_parts tree)) tree.movie.tracks) k (track_of file (file_parts tree) t) (get_mapped (track_of file (file_parts tree)) tree.movie.tracks k t track_there.1) in
-        ap (flat_map track_text) (behind_got (tracks_left l file tree) k (reduce_track l (track_of file (file_parts tree) t)) at) ∙ ap (λ (bs : List ℕ). bs ++ text_from l file tree (k + 1)) (sym track_is) ∙ append_assoc front lines (text_from l file tree (k + 1))
+  -- first what the track says before its samples, then their lines
+  two_parts : text_from l file tree k ≡ front ++ (lines ++ text_from l file tree (k + 1))
+  two_parts =
+      let t = track_there.0 in
+      let at = get_mapped (reduce_track l) (map (track_of file (file_parts tree)) tree.movie.tracks) k (track_of file (file_parts tree) t) (get_mapped (track_of file (file_parts tree)) tree.movie.tracks k t track_there.1) in
+      ap (flat_map track_text) (behind_got (tracks_left l file tree) k (reduce_track l (track_of file (file_parts tree) t)) at) ∙ ap (λ (bs : List ℕ). bs ++ text_from l file tree (k + 1)) (sym track_is) ∙ append_assoc front lines (text_from l file tree (k + 1))
 
-    steps_next : steps_from tree k ≡ walk_steps tree track_there.0 + steps_from tree (k + 1)
-    steps_next = ap (sum_of (walk_steps tree)) (behind_got tree.movie.tracks k track_there.0 track_there.1)
+  steps_next : steps_from tree k ≡ walk_steps tree track_there.0 + steps_from tree (k + 1)
+  steps_next = ap (sum_of (walk_steps tree)) (behind_got tree.movie.tracks k track_there.0 track_there.1)
 
-    module _ {Y : Type 0} {takes : Y → Y → List ℕ → Type 0} (joins : IsJoining takes) (a b c d : Y) (held held_b held_c : List ℕ) (old mid : ℕ) (h : TracksTold l file tree k (takes a b) held held_b old mid) where
-      -- what it says before its samples isn't taken along whole
-      pub front_fails : TakesPrefix (takes b c) (held_b ++ front) → TakesPrefix (takes a c) (held ++ text_from l file tree 0)
-      front_fails p = text_fails joins a b c held held_b (text_from l file tree k) (text_from l file tree 0) h.goes front (lines ++ text_from l file tree (k + 1)) two_parts p
+  module _ {Y : Type 0} {takes : Y → Y → List ℕ → Type 0} (joins : IsJoining takes) (a b c d : Y) (held held_b held_c : List ℕ) (old mid : ℕ) (h : TracksTold l file tree k (takes a b) held held_b old mid) where
+    -- what it says before its samples isn't taken along whole
+    pub front_fails : TakesPrefix (takes b c) (held_b ++ front) → TakesPrefix (takes a c) (held ++ text_from l file tree 0)
+    front_fails p = text_fails joins a b c held held_b (text_from l file tree k) (text_from l file tree 0) h.goes front (lines ++ text_from l file tree (k + 1)) two_parts p
 
-      module _ (p : BytesGoOn (takes b c) held_b held_c front) where
-        between : Going (takes a c) held held_c (lines ++ text_from l file tree (k + 1)) (text_from l file tree 0)
-        between = text_next joins a b c held held_b (text_from l file tree k) (text_from l file tree 0) h.goes held_c front (lines ++ text_from l file tree (k + 1)) two_parts p
+    module _ (p : BytesGoOn (takes b c) held_b held_c front) where
+      between : Going (takes a c) held held_c (lines ++ text_from l file tree (k + 1)) (text_from l file tree 0)
+      between = text_next joins a b c held held_b (text_from l file tree k) (text_from l file tree 0) h.goes held_c front (lines ++ text_from l file tree (k + 1)) two_parts p
 
-        -- nor are the lines
-        pub lines_fail : TakesPrefix (takes c d) (held_c ++ lines) → TakesPrefix (takes a d) (held ++ text_from l file tree 0)
-        lines_fail q = text_fails joins a c d held held_c (lines ++ text_from l file tree (k + 1)) (text_from l file tree 0) between lines (text_from l file tree (k + 1)) refl q
+      -- nor are the lines
+      pub lines_fail : TakesPrefix (takes c d) (held_c ++ lines) → TakesPrefix (takes a d) (held ++ text_from l file tree 0)
+      lines_fail q = text_fails joins a c d held held_c (lines ++ text_from l file tree (k + 1)) (text_from l file tree 0) between lines (text_from l file tree (k + 1)) refl q
 
-        -- one track more
-        pub track_next : (held_d : List ℕ) (new : ℕ) → BytesGoOn (takes c d) held_c held_d lines → new ≤ mid + walk_steps tree track_there.0 → TracksTold l file tree (k + 1) (takes a d) held held_d old new
-        track_next held_d new q work =
-            let before = h.steps in
-            record {
-              goes = text_next joins a c d held held_c (lines ++ text_from l file tree (k + 1)) (text_from l file tree 0) between held_d lines (text_from l file tree (k + 1)) refl q;
-              steps = omega (arith, before, steps_next, work);
-            }
+      -- one track more
+      pub track_next : (held_d : List ℕ) (new : ℕ) → BytesGoOn (takes c d) held_c held_d lines → new ≤ mid + walk_steps tree track_there.0 → TracksTold l file tree (k + 1) (takes a d) held held_d old new
+      track_next held_d new q work =
+          let before = h.steps in
+          record {
+            goes = text_next joins a c d held held_c (lines ++ text_from l file tree (k + 1)) (text_from l file tree 0) between held_d lines (text_from l file tree (k + 1)) refl q;
+            steps = omega (arith, before, steps_next, work);
+          }
 
-    -- steps of a walk over it
-    pub track_most : (Took : List ℕ → Type 0) (held held_b : List ℕ) (old mid new : ℕ) → TracksTold l file tree k Took held held_b old mid → new ≤ mid + walk_steps tree track_there.0 → new ≤ old + walks_steps tree
-    track_most Took held held_b old mid new h work = let before = h.steps in omega (arith, before, steps_next, work)
+  -- steps of a walk over it
+  pub track_most : (Took : List ℕ → Type 0) (held held_b : List ℕ) (old mid new : ℕ) → TracksTold l file tree k Took held held_b old mid → new ≤ mid + walk_steps tree track_there.0 → new ≤ old + walks_steps tree
+  track_most Took held held_b old mid new h work = let before = h.steps in omega (arith, before, steps_next, work)

@@ -7,39 +7,47 @@ use Rattle.mp4_boxes.specs.declared.refusal.Refusal.TheVariants as refusals
 use Rattle.mp4_present.specs.format.Denotes.{FileTree, presentation_of}
 use Rattle.std.specs.List.{AllByRecursion}
 use Rattle.mp4_present.specs.format.Presentation.{Presentation, Track, IsInTime}
-use Rattle.mp4_present.specs.format.Reduced.{ReducesInTime, reduce, reduce_track, timescale_left}
+use Rattle.mp4_present.specs.format.Reduced.{HasNearOffsets, reduce, reduce_track, timescale_left}
 use Rattle.mp4_present.specs.words.Movies.{MovieSeen}
 use Rattle.mp4_present.specs.words.OpenedMovie.{IsOpenedAs}
 use Rattle.mp4_present.specs.declared.without.Without.{Without}
 use Rattle.mp4_present.proofs.WalkCopied.{on_err}
 use Rattle.mp4_plan.specs.format.Normal.{normal}
-use Rattle.mp4_plan.specs.format.ReducedTimes.{ReducedFaultStands}
+use Rattle.mp4_plan.specs.format.ReducedTimes.{ReducedFaultStands, ReducesInLimits}
 use Rattle.mp4_plan.specs.words.LeftTimes.{NamesLong, RefusesLeftCopy}
 use Rattle.mp4_plan.specs.words.MadeWriters.{TellsLong}
 use Rattle.mp4_plan.proofs.Judged.{judged_one}
-use Rattle.mp4_plan.proofs.ReducedFaults.{in_time_or, opened_stands}
+use Rattle.mp4_plan.proofs.ReducedFaults.{in_time_or, near_offsets_or, opened_stands}
 use Rattle.mp4norm.specs.format.Answers.{IsFaultOf}
-use Rattle.mp4norm.specs.format.ReducedHeadline.{HasReducedForm, IsTooLong}
+use Rattle.mp4norm.specs.format.ReducedHeadline.{HasReducedForm, PassesLimits}
 use Rattle.mp4norm.specs.format.Run.{Run, Honest, PutsNothing, PutsAll, PutsFront, PutsSomeOf, Answered}
 use Rattle.mp4norm.proofs.ShownLines.{judged}
 
 -- the normal form of what is left of what was opened is one of its file
-reduced_form : (l : Without) (file : List ℕ) (m : MovieSeen) (tree : FileTree) → IsOpenedAs file m tree → ReducesInTime l (presentation_of file tree) → HasReducedForm l file (normal (reduce l (presentation_of file tree)))
+reduced_form : (l : Without) (file : List ℕ) (m : MovieSeen) (tree : FileTree) → IsOpenedAs file m tree → ReducesInLimits l (presentation_of file tree) → HasReducedForm l file (normal (reduce l (presentation_of file tree)))
 reduced_form l file m tree o in_time = (presentation_of file tree, judged file m tree o, in_time, refl)
 
--- what is left is too long, or it is not
-times_or : (l : Without) (timescale : ℕ) (tracks : List Track) → AllByRecursion (λ (t : Track). IsInTime timescale (reduce_track l t)) tracks ⊎ (AllByRecursion (λ (t : Track). IsInTime timescale (reduce_track l t)) tracks → ⊥)
-times_or l timescale [] = inl tt
-times_or l timescale (t ∷ tracks) = elim (in_time_or timescale (reduce_track l t)) [
-  | inl here ↦ elim (times_or l timescale tracks) [
+-- what is left is within the limits, or it is not
+each_or : (P : Track → Type 0) → ((t : Track) → P t ⊎ (P t → ⊥)) → (tracks : List Track) → AllByRecursion P tracks ⊎ (AllByRecursion P tracks → ⊥)
+each_or P or [] = inl tt
+each_or P or (t ∷ tracks) = elim (or t) [
+  | inl here ↦ elim (each_or P or tracks) [
     | inl all ↦ inl (here, all)
     | inr some ↦ inr (λ h. some h.1)
   ]
-  | inr long ↦ inr (λ h. long h.0)
+  | inr fails ↦ inr (λ h. fails h.0)
 ]
 
-reduces_or : (l : Without) (p : Presentation) → ReducesInTime l p ⊎ (ReducesInTime l p → ⊥)
-reduces_or l p = times_or l (timescale_left l p.movie.timescale) p.tracks
+reduces_or : (l : Without) (p : Presentation) → ReducesInLimits l p ⊎ (ReducesInLimits l p → ⊥)
+reduces_or l p =
+    let timescale = timescale_left l p.movie.timescale in
+    elim (each_or (λ (t : Track). IsInTime timescale (reduce_track l t)) (λ t. in_time_or timescale (reduce_track l t)) p.tracks) [
+      | inr long ↦ inr (λ h. long h.in_time)
+      | inl short ↦ elim (each_or (λ (t : Track). HasNearOffsets (reduce_track l t)) (λ t. near_offsets_or (reduce_track l t)) p.tracks) [
+        | inl near ↦ inl (record { in_time = short; in_range = near })
+        | inr far ↦ inr (λ h. far h.in_range)
+      ]
+    ]
 
 -- ---- why it is not put
 
@@ -103,11 +111,11 @@ module _ (l : Without) (r : Run) (honest_then : Bool) (file_then : List ℕ) (m 
       → OnOk answer (Honest r → PutsAll r (HasReducedForm l r.file))
   reduced_written (Ok x) put long = λ told.
       let tells = so (λ f t. TellsLong l f t (Ok x) (PutsNothing r)) long told in
-      (left r.file (opened told).0, reduced_form l r.file m (opened told).0 (opened told).1 tells.in_time, so (λ f t. r.took (left f t)) put told)
+      (left r.file (opened told).0, reduced_form l r.file m (opened told).0 (opened told).1 tells.in_limits, so (λ f t. r.took (left f t)) put told)
   reduced_written (Err e) put long = tt
 
   -- a front of it was put, where it is not too long
-  front_in_time : (told : Honest r) → ReducesInTime l (presentation_of r.file (opened told).0) → PutsSomeOf r (left r.file (opened told).0) → PutsFront r (HasReducedForm l r.file)
+  front_in_time : (told : Honest r) → ReducesInLimits l (presentation_of r.file (opened told).0) → PutsSomeOf r (left r.file (opened told).0) → PutsFront r (HasReducedForm l r.file)
   front_in_time told in_time put = (left r.file (opened told).0, reduced_form l r.file m (opened told).0 (opened told).1 in_time, put)
 
   pub reduced_front : {T : Type 0} (answer : Result T Refusal) → Then honest_then file_then (λ f t. OnErr answer (PutsSomeOf r (left f t))) → Then honest_then file_then (λ f t. TellsLong l f t answer (PutsNothing r))
@@ -122,7 +130,7 @@ module _ (l : Without) (r : Run) (honest_then : Bool) (file_then : List ℕ) (m 
       (so (λ f t. OnErr answer (PutsSomeOf r (left f t))) put told)
 
   begun_in_time : {T : Type 0} (answer : Result T Refusal) → Then honest_then file_then (λ f t. TellsLong l f t answer (PutsNothing r)) → (told : Honest r)
-      → IfErr answer (λ e. e ≡ refusals.WriteFailed → ReducesInTime l (presentation_of r.file (opened told).0))
+      → IfErr answer (λ e. e ≡ refusals.WriteFailed → ReducesInLimits l (presentation_of r.file (opened told).0))
   begun_in_time answer long told = (so (λ f t. TellsLong l f t answer (PutsNothing r)) long told).begun
 
   pub reduced_begun : {T : Type 0} (answer : Result T Refusal) → Then honest_then file_then (λ f t. OnErr answer (PutsSomeOf r (left f t))) → Then honest_then file_then (λ f t. TellsLong l f t answer (PutsNothing r))
@@ -131,11 +139,11 @@ module _ (l : Without) (r : Run) (honest_then : Bool) (file_then : List ℕ) (m 
   reduced_begun (Err e) put long told = λ failed. front_in_time told (begun_in_time (Err e) long told failed) (so (λ f t. PutsSomeOf r (left f t)) put told)
 
   -- nothing was put of what is too long
-  pub none_too_long : {T : Type 0} (answer : Result T Refusal) → Then honest_then file_then (λ f t. TellsLong l f t answer (PutsNothing r)) → Honest r → IsTooLong l r.file → PutsNothing r
+  pub none_too_long : {T : Type 0} (answer : Result T Refusal) → Then honest_then file_then (λ f t. TellsLong l f t answer (PutsNothing r)) → Honest r → PassesLimits l r.file → PutsNothing r
   none_too_long answer long told late =
       let tells = so (λ f t. TellsLong l f t answer (PutsNothing r)) long told in
       let same : presentation_of r.file (opened told).0 ≡ late.0 = judged_one r.file (presentation_of r.file (opened told).0) late.0 (judged r.file m (opened told).0 (opened told).1) late.1 in
-      tells.nothing (λ in_time. late.2 (subst (ReducesInTime l) same in_time))
+      tells.nothing (λ in_time. late.2 (subst (ReducesInLimits l) same in_time))
 
   pub reduced_unchanged : {T : Type 0} (answer : Result T Refusal) → Then honest_then file_then (λ f t. IfErr answer (λ e. e ≡ refusals.StoreChanged → ⊥)) → Honest r → IfErr answer (λ e. e ≡ refusals.StoreChanged → ⊥)
   reduced_unchanged answer put told = so (λ f t. IfErr answer (λ e. e ≡ refusals.StoreChanged → ⊥)) put told

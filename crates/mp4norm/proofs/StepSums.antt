@@ -1,5 +1,5 @@
 -- The steps of opening a file, of planning and of writing are within the bound.
-use Rattle.std.proofs.Common.{◌≡◌, ℕ, zero, suc, ◌+◌, ◌*◌, ◌≤◌, List, [], ◌∷◌, Some, length, map, refl, sym, ap, subst, ◌∙◌, arith}
+use Rattle.std.proofs.Common.{◌≡◌, ℕ, zero, suc, ◌+◌, ◌*◌, ◌≤◌, Bool, true, false, if◌then◌else◌, List, [], ◌∷◌, Some, length, map, refl, sym, ap, subst, ◌∙◌, arith}
 use Rattle.std.proofs.Math.Nat.{mul-le-mul_right}
 use Rattle.std.proofs.lemmas.List.{length-map}
 use Rattle.std.specs.List.{AllByRecursion, slice_get}
@@ -83,14 +83,22 @@ moofs_sum trexes (f ∷ fragments) h =
 -- ---- the bound
 
 -- of tracks with so many samples and rows in tables, where each `moof`'s steps are within the other samples and rows, and those of the tracks' own `traf`s within the `moof`s'
-few_steps : (m o s f r more checks ways writes : ℕ) → o ≤ m → m ≤ f + more → checks ≡ 7 * r + 3 * s → ways ≡ r + 3 * s + 2 * o → writes ≡ 2 * ways + 2 * o → (checks + m) + (ways + writes) ≤ 12 * ((s + f) + (r + more))
-few_steps m o s f r more checks ways writes own le c w x = omega (arith, own, le, c, w, x)
+-- Where this is so each track is walked over once more.
+few_steps : (v : Bool) (m o s f r more checks ways writes : ℕ) → o ≤ m → m ≤ f + more → checks ≡ 7 * r + 3 * s → ways ≡ r + 3 * s + 2 * o → writes ≡ 2 * ways + 2 * o
+    → (checks + m) + ((if v then ways else 0) + ways + writes) ≤ (if v then 15 else 12) * ((s + f) + (r + more))
+few_steps true m o s f r more checks ways writes own le c w x = omega (arith, own, le, c, w, x)
+few_steps false m o s f r more checks ways writes own le c w x = omega (arith, own, le, c, w, x)
 
-bounded : (k m o s f r more checks ways writes : ℕ) → (k ≡ 0 → r + s ≡ 0) → (k ≡ 0 → o ≡ 0) → o ≤ m → m ≤ f + more → checks ≡ 7 * r + 3 * s → ways ≡ r + 3 * s + 2 * o → writes ≡ 2 * ways + 2 * o
-    → (checks + m) + (ways + writes) ≤ 8 * ((k + 1) * ((s + f) + (r + more)))
-bounded zero m o s f r more checks ways writes none idle own le c w x = let n = none refl in let i = idle refl in omega (arith, n, i, le, c, w, x)
-bounded (suc k) m o s f r more checks ways writes none idle own le c w x =
-    let few = few_steps m o s f r more checks ways writes own le c w x in
+bounded : (v : Bool) (k m o s f r more checks ways writes : ℕ) → (k ≡ 0 → r + s ≡ 0) → (k ≡ 0 → o ≡ 0) → o ≤ m → m ≤ f + more → checks ≡ 7 * r + 3 * s → ways ≡ r + 3 * s + 2 * o → writes ≡ 2 * ways + 2 * o
+    → (checks + m) + ((if v then ways else 0) + ways + writes) ≤ 8 * ((k + 1) * ((s + f) + (r + more)))
+bounded true zero m o s f r more checks ways writes none idle own le c w x = let n = none refl in let i = idle refl in omega (arith, n, i, le, c, w, x)
+bounded false zero m o s f r more checks ways writes none idle own le c w x = let n = none refl in let i = idle refl in omega (arith, n, i, le, c, w, x)
+bounded true (suc k) m o s f r more checks ways writes none idle own le c w x =
+    let few = few_steps true m o s f r more checks ways writes own le c w x in
+    let two : 2 * ((s + f) + (r + more)) ≤ (suc k + 1) * ((s + f) + (r + more)) = mul-le-mul_right ((s + f) + (r + more)) (omega arith) in
+    omega (arith, few, two)
+bounded false (suc k) m o s f r more checks ways writes none idle own le c w x =
+    let few = few_steps false m o s f r more checks ways writes own le c w x in
     let two : 2 * ((s + f) + (r + more)) ≤ (suc k + 1) * ((s + f) + (r + more)) = mul-le-mul_right ((s + f) + (r + more)) (omega arith) in
     omega (arith, few, two)
 
@@ -103,12 +111,12 @@ idle_of tree [] e = refl
 idle_of tree (t ∷ tracks) e = absurd (omega (arith, e))
 
 -- the steps of opening, planning and writing are within both bounds
-abbrev pub WithinBoth : FileTree → ℕ → ℕ → Type 0
-WithinBoth tree tracks samples = (opening_steps tree + (walks_steps tree + writing_steps tree) ≤ most_steps tracks samples (row_total tree))
-    × (opening_steps tree + (walks_steps tree + writing_steps tree) ≤ 12 * (samples + row_total tree))
+abbrev pub WithinBoth : Bool → FileTree → ℕ → ℕ → Type 0
+WithinBoth v tree tracks samples = (opening_steps tree + ((if v then walks_steps tree else 0) + walks_steps tree + writing_steps tree) ≤ most_steps tracks samples (row_total tree))
+    × (opening_steps tree + ((if v then walks_steps tree else 0) + walks_steps tree + writing_steps tree) ≤ (if v then 15 else 12) * (samples + row_total tree))
 
-tree_within : (file : List ℕ) (tree : FileTree) → IsFileTree file tree → IsSoundFile tree → IsConsistent file tree → WithinBoth tree (length (presentation_of file tree).tracks) (sample_total (presentation_of file tree))
-tree_within file tree h s c =
+tree_within : (v : Bool) (file : List ℕ) (tree : FileTree) → IsFileTree file tree → IsSoundFile tree → IsConsistent file tree → WithinBoth v tree (length (presentation_of file tree).tracks) (sample_total (presentation_of file tree))
+tree_within v file tree h s c =
     let tracks = tree.movie.tracks in
     let fragments = tree.fragments in
     let parts = file_parts tree in
@@ -121,14 +129,14 @@ tree_within file tree h s c =
     let own = owns_few file tree h s.movie in
     let m = moofs_steps fragments in
     let o = owns_total tree tracks in
-    let all = bounded (length tracks) m o (plain_total tracks) (fragments_total parts tracks) (rows_of tracks) (fragment_rows_of fragments) (sum_of table_steps tracks) (walks_steps tree) (writing_steps tree)
+    let all = bounded v (length tracks) m o (plain_total tracks) (fragments_total parts tracks) (rows_of tracks) (fragment_rows_of fragments) (sum_of table_steps tracks) (walks_steps tree) (writing_steps tree)
     (none_of tracks) (idle_of tree tracks) own few (checks_sum tracks) (ways_sum tree tracks) (writes_sum tree tracks) in
-    let short = few_steps m o (plain_total tracks) (fragments_total parts tracks) (rows_of tracks) (fragment_rows_of fragments) (sum_of table_steps tracks) (walks_steps tree) (writing_steps tree) own few (checks_sum tracks) (ways_sum tree tracks) (writes_sum tree tracks) in
-    subst (λ n. WithinBoth tree n (sample_total (presentation_of file tree))) (sym count) (subst (λ n. WithinBoth tree (length tracks) n) (sym total) (all, short))
+    let short = few_steps v m o (plain_total tracks) (fragments_total parts tracks) (rows_of tracks) (fragment_rows_of fragments) (sum_of table_steps tracks) (walks_steps tree) (writing_steps tree) own few (checks_sum tracks) (ways_sum tree tracks) (writes_sum tree tracks) in
+    subst (λ n. WithinBoth v tree n (sample_total (presentation_of file tree))) (sym count) (subst (λ n. WithinBoth v tree (length tracks) n) (sym total) (all, short))
 
 -- opening a file, planning and writing
-pub all_within : (file : List ℕ) (p : Presentation) (d : Denotes file p) → WithinBoth d.tree (length p.tracks) (sample_total p)
-all_within file p d = subst (λ (q : Presentation). WithinBoth d.tree (length q.tracks) (sample_total q)) (sym d.says) (tree_within file d.tree d.is_tree d.is_sound d.is_consistent)
+pub all_within : (v : Bool) (file : List ℕ) (p : Presentation) (d : Denotes file p) → WithinBoth v d.tree (length p.tracks) (sample_total p)
+all_within v file p d = subst (λ (q : Presentation). WithinBoth v d.tree (length q.tracks) (sample_total q)) (sym d.says) (tree_within v file d.tree d.is_tree d.is_sound d.is_consistent)
 
 -- ---- a look, and a way over one track
 

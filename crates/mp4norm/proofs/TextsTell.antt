@@ -1,6 +1,6 @@
 -- Texts tell what they are of: heads, samples, tracks, and the whole.
-use Rattle.std.proofs.Common.{◌≡◌, ◌⊎◌, inl, inr, ℕ, zero, suc, ◌^◌, ◌<◌, ◌≤◌, ltb, Bool, true, false, List, [], ◌∷◌, ◌++◌, length, take, refl, sym, ap, subst, ◌∙◌, arith, append_assoc, codes, decimal}
-use Rattle.std.specs.Prelude.{Contains, ◌&&◌, map, flat_map, filter, not, if◌then◌else◌, slice_index, ℤ, pos, negsuc, FitsSigned}
+use Rattle.std.proofs.Common.{◌≡◌, ◌⊎◌, inl, inr, ℕ, zero, suc, ◌^◌, ◌<◌, ◌≤◌, ◌-◌, ltb, cond, Bool, true, false, List, [], ◌∷◌, ◌++◌, length, take, refl, sym, ap, subst, ◌∙◌, arith, append_assoc, codes, decimal}
+use Rattle.std.specs.Prelude.{Contains, ◌&&◌, map, flat_map, filter, not, if◌then◌else◌, slice_index, ℤ, pos, negsuc, ◌-ℤ◌, FitsSigned}
 use Rattle.std.specs.Fmt.{signed_decimal}
 use Rattle.std.specs.Int.{w16, w32, w64}
 use Rattle.std.specs.List.{AllByRecursion}
@@ -20,8 +20,9 @@ use Rattle.mp4_boxes.proofs.WrittenBoxes.{among_has}
 use Rattle.mp4_tables.specs.format.Groups.{Groups}
 use Rattle.mp4_head.specs.format.Head.{Edit, Kept, Media, TrackHead, MovieHead, IsDescription, IsEdit, IsGroupDescription, IsKept, IsMedia, IsMovieHead, IsTrackHead}
 use Rattle.mp4_present.specs.format.Presentation.{Sample, Track, Presentation, IsGroup, IsInTime, IsSample, IsTrack, Valid}
-use Rattle.mp4_present.specs.format.Reduced.{metadata_kinds, offset_left, plain_handler, reduce, reduce_descriptions, reduce_kept, reduce_media, reduce_movie_head, reduce_sample, reduce_track, reduce_track_head, sync_flag}
+use Rattle.mp4_present.specs.format.Reduced.{first_offset, is_at_end, metadata_kinds, plain_handler, reduce, reduce_descriptions, reduce_kept, reduce_media, reduce_movie_head, reduce_sample, reduce_track, reduce_track_head, sync_flag}
 use Rattle.mp4_present.specs.format.Zeros.{zeroed}
+use Rattle.mp4_present.proofs.SamplesReduced.{reduced_each}
 use Rattle.mp4_plan.proofs.Plain.{descriptions_good}
 use Rattle.mp4_present.specs.declared.without.Without.{Without}
 use Rattle.mp4_plan.proofs.GoodPieces.{CanWrite, valid_tracks}
@@ -89,6 +90,19 @@ small_16 (negsuc n) h = omega (arith, h.sfits)
 small_32 : (z : ℤ) → FitsSigned w32 z → IsSmall z
 small_32 (pos n) h = omega (arith, h.sfits)
 small_32 (negsuc n) h = omega (arith, h.sfits)
+
+small_cond : (v : Bool) (a b : ℕ) → a < 2 ^ 64 → b < 2 ^ 64 → IsSmall (cond v (negsuc (b - suc a)) (pos (a - b)))
+small_cond true a b h k = omega (arith, k)
+small_cond false a b h k = omega (arith, h)
+
+-- a difference has a bit more
+small_moved : (y z : ℤ) → FitsSigned w32 y → FitsSigned w32 z → IsSmall (y -ℤ z)
+small_moved (pos m) (pos zero) h k = omega (arith, h.sfits)
+small_moved (pos m) (pos (suc n)) h k = small_cond (ltb m (suc n)) m (suc n) (omega (arith, h.sfits)) (omega (arith, k.sfits))
+small_moved (pos m) (negsuc n) h k = omega (arith, h.sfits, k.sfits)
+small_moved (negsuc m) (pos zero) h k = small_cond (ltb 0 (suc m)) 0 (suc m) (omega arith) (omega (arith, h.sfits))
+small_moved (negsuc m) (pos (suc n)) h k = omega (arith, h.sfits, k.sfits)
+small_moved (negsuc m) (negsuc n) h k = small_cond (ltb (suc n) (suc m)) (suc n) (suc m) (omega (arith, k.sfits)) (omega (arith, h.sfits))
 
 small_64 : (z : ℤ) → FitsSigned w64 z → IsSmall z
 small_64 (pos n) h = omega (arith, h.sfits)
@@ -678,28 +692,38 @@ told_head l t h = record {
   group_descriptions = each_if EachByte l.groups t.group_descriptions (each_weaker IsGroupDescription EachByte (λ b g. each_byte b g.bytes) t.group_descriptions h.group_descriptions);
 }
 
-offset_fits : (v : Bool) (n : ℤ) → FitsSigned w32 n → FitsSigned w32 (if v then pos 0 else n)
-offset_fits true n h = omega arith
-offset_fits false n h = h
+offset_small : (v w : Bool) (first n : ℤ) → FitsSigned w32 first → FitsSigned w32 n → IsSmall (if v then pos 0 else if w then n -ℤ first else n)
+offset_small true w first n f h = omega arith
+offset_small false true first n f h = small_moved n first h f
+offset_small false false first n f h = small_32 n h
 
 sync_small : (n : ℕ) → sync_flag n < 2 ^ 32
 sync_small n = omega arith
 
-told_sample : (l : Without) (descriptions : ℕ) (s : Sample) → descriptions ≤ 2 ^ 30 → IsSample descriptions s → IsToldSample (reduce_sample l s)
-told_sample l descriptions s few h = record {
-  duration = let n = h.duration in below_if l.timing 1 s.duration (2 ^ 64) (omega arith) (omega (arith, n));
-  offset = small_32 (offset_left l s.offset) (offset_fits l.timing s.offset h.offset);
-  flags = let n = h.flags in below_if l.flags (sync_flag s.flags) s.flags (2 ^ 32) (sync_small s.flags) (omega (arith, n));
-  description = let n = h.description in omega (arith, n, few);
+told_sample : (l : Without) (descriptions count : ℕ) (first : ℤ) (n : ℕ) (s : Sample) → descriptions ≤ 2 ^ 30 → FitsSigned w32 first → IsSample descriptions s → IsToldSample (reduce_sample l count first n s)
+told_sample l descriptions count first n s few f h = record {
+  duration = let d = h.duration in below_if l.timing 1 (if l.ends && is_at_end count n then 1 else s.duration) (2 ^ 64) (omega arith) (below_if (l.ends && is_at_end count n) 1 s.duration (2 ^ 64) (omega arith) (omega (arith, d)));
+  offset = offset_small l.timing l.origins first s.offset f h.offset;
+  flags = let m = h.flags in below_if l.flags (sync_flag s.flags) s.flags (2 ^ 32) (sync_small s.flags) (omega (arith, m));
+  description = let m = h.description in omega (arith, m, few);
   groups = each_if IsGroup l.groups s.groups h.groups;
 }
 
+first_fits : (descriptions : ℕ) (samples : List Sample) → AllByRecursion (IsSample descriptions) samples → FitsSigned w32 (first_offset samples)
+first_fits descriptions [] h = omega arith
+first_fits descriptions (s ∷ samples) h = h.0.offset
+
 told_track : (l : Without) (timescale : ℕ) (t : Track) → IsTrack t → length t.head.media.descriptions ≤ 2 ^ 30 → IsInTime timescale t → IsToldTrack (reduce_track l t)
-told_track l timescale t h few in_time = record {
-  head = told_head l t.head h.head;
-  start = let n = in_time.0 in below_if l.timing 0 t.start (2 ^ 64) (omega arith) (omega (arith, n));
-  samples = each_value (IsSample (length t.head.media.descriptions)) IsToldSample (reduce_sample l) (λ s i. told_sample l (length t.head.media.descriptions) s few i) t.samples h.samples;
-}
+told_track l timescale t h few in_time =
+    let many = length t.head.media.descriptions in
+    let count = length t.samples in
+    let first = first_offset t.samples in
+    let fits = first_fits many t.samples h.samples in
+    record {
+      head = told_head l t.head h.head;
+      start = let n = in_time.0 in below_if l.timing 0 (if l.origins then 0 else t.start) (2 ^ 64) (omega arith) (below_if l.origins 0 t.start (2 ^ 64) (omega arith) (omega (arith, n)));
+      samples = reduced_each (IsSample many) IsToldSample l count first (λ n s i. told_sample l many count first n s few fits i) 0 t.samples h.samples;
+    }
 
 told_tracks : (l : Without) (p : Presentation) → Valid p → AllByRecursion IsToldTrack (reduce l p).tracks
 told_tracks l p v =

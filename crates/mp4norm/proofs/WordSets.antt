@@ -13,7 +13,7 @@ use Rattle.mp4norm.specs.words.SingleWords.{everything, less_word, single_words}
 -- ---- the words, one by one: all that follows is said of each of these
 
 data Word : Type 0 where
-  times edits flags groups metadata bitrates labels timing : Word
+  times edits flags groups metadata bitrates ends origins labels timing : Word
 
 abbrev has : Word → Without → Bool
 has times l = l.times
@@ -22,6 +22,8 @@ has flags l = l.flags
 has groups l = l.groups
 has metadata l = l.metadata
 has bitrates l = l.bitrates
+has ends l = l.ends
+has origins l = l.origins
 has labels l = l.labels
 has timing l = l.timing
 
@@ -32,6 +34,8 @@ alone flags = record nothing { flags = true }
 alone groups = record nothing { groups = true }
 alone metadata = record nothing { metadata = true }
 alone bitrates = record nothing { bitrates = true }
+alone ends = record nothing { ends = true }
+alone origins = record nothing { origins = true }
 alone labels = record nothing { labels = true }
 alone timing = record nothing { timing = true }
 
@@ -44,23 +48,27 @@ common l m = record {
   groups = l.groups && m.groups;
   metadata = l.metadata && m.metadata;
   bitrates = l.bitrates && m.bitrates;
+  ends = l.ends && m.ends;
+  origins = l.origins && m.origins;
   labels = l.labels && m.labels;
   timing = l.timing && m.timing;
 }
 
-by_words : (P : Word → Type 0) → P times → P edits → P flags → P groups → P metadata → P bitrates → P labels → P timing → (w : Word) → P w
-by_words P a b c d e f g h times = a
-by_words P a b c d e f g h edits = b
-by_words P a b c d e f g h flags = c
-by_words P a b c d e f g h groups = d
-by_words P a b c d e f g h metadata = e
-by_words P a b c d e f g h bitrates = f
-by_words P a b c d e f g h labels = g
-by_words P a b c d e f g h timing = h
+by_words : (P : Word → Type 0) → P times → P edits → P flags → P groups → P metadata → P bitrates → P ends → P origins → P labels → P timing → (w : Word) → P w
+by_words P a b c d e f g h i j times = a
+by_words P a b c d e f g h i j edits = b
+by_words P a b c d e f g h i j flags = c
+by_words P a b c d e f g h i j groups = d
+by_words P a b c d e f g h i j metadata = e
+by_words P a b c d e f g h i j bitrates = f
+by_words P a b c d e f g h i j ends = g
+by_words P a b c d e f g h i j origins = h
+by_words P a b c d e f g h i j labels = i
+by_words P a b c d e f g h i j timing = j
 
 -- what leaves out the same words is the same
 same_words : (l m : Without) → ((w : Word) → has w l ≡ has w m) → l ≡ m
-same_words l m h = λ i. record { times = h times i; edits = h edits i; flags = h flags i; groups = h groups i; metadata = h metadata i; bitrates = h bitrates i; labels = h labels i; timing = h timing i }
+same_words l m h = λ i. record { times = h times i; edits = h edits i; flags = h flags i; groups = h groups i; metadata = h metadata i; bitrates = h bitrates i; ends = h ends i; origins = h origins i; labels = h labels i; timing = h timing i }
 
 -- a word that is not among others has nothing in common with them
 apart : (v : Word) (k : Without) → has v k ≡ false → common (alone v) k ≡ nothing
@@ -70,26 +78,28 @@ apart flags k e = ap (λ b. record nothing { flags = b }) e
 apart groups k e = ap (λ b. record nothing { groups = b }) e
 apart metadata k e = ap (λ b. record nothing { metadata = b }) e
 apart bitrates k e = ap (λ b. record nothing { bitrates = b }) e
+apart ends k e = ap (λ b. record nothing { ends = b }) e
+apart origins k e = ap (λ b. record nothing { origins = b }) e
 apart labels k e = ap (λ b. record nothing { labels = b }) e
 apart timing k e = ap (λ b. record nothing { timing = b }) e
 
 each_single : (P : Without → Type 0) → AllByRecursion P single_words → (w : Word) → P (alone w)
-each_single P h = by_words (λ w. P (alone w)) h.0 h.1.0 h.1.1.0 h.1.1.1.0 h.1.1.1.1.0 h.1.1.1.1.1.0 h.1.1.1.1.1.1.0 h.1.1.1.1.1.1.1.0
+each_single P h = by_words (λ w. P (alone w)) h.0 h.1.0 h.1.1.0 h.1.1.1.0 h.1.1.1.1.0 h.1.1.1.1.1.0 h.1.1.1.1.1.1.1.1.0 h.1.1.1.1.1.1.1.1.1.0 h.1.1.1.1.1.1.0 h.1.1.1.1.1.1.1.0
 
 has_both : (l m : Without) (w : Word) → has w (both l m) ≡ (has w l || has w m)
-has_both l m = by_words (λ w. has w (both l m) ≡ (has w l || has w m)) refl refl refl refl refl refl refl refl
+has_both l m = by_words (λ w. has w (both l m) ≡ (has w l || has w m)) refl refl refl refl refl refl refl refl refl refl
 
 has_common : (l m : Without) (w : Word) → has w (common l m) ≡ (has w l && has w m)
-has_common l m = by_words (λ w. has w (common l m) ≡ (has w l && has w m)) refl refl refl refl refl refl refl refl
+has_common l m = by_words (λ w. has w (common l m) ≡ (has w l && has w m)) refl refl refl refl refl refl refl refl refl refl
 
 has_all : (w : Word) → has w everything ≡ true
-has_all = by_words (λ w. has w everything ≡ true) refl refl refl refl refl refl refl refl
+has_all = by_words (λ w. has w everything ≡ true) refl refl refl refl refl refl refl refl refl refl
 
 has_none : (w : Word) → has w nothing ≡ false
-has_none = by_words (λ w. has w nothing ≡ false) refl refl refl refl refl refl refl refl
+has_none = by_words (λ w. has w nothing ≡ false) refl refl refl refl refl refl refl refl refl refl
 
 has_alone : (w : Word) → has w (alone w) ≡ true
-has_alone = by_words (λ w. has w (alone w) ≡ true) refl refl refl refl refl refl refl refl
+has_alone = by_words (λ w. has w (alone w) ≡ true) refl refl refl refl refl refl refl refl refl refl
 
 -- what is found to be equal is the same
 equal_first : (a b : Bool) {rest : Bool} → (beq a b && rest) ≡ true → (a ≡ b) × (rest ≡ true)
@@ -104,7 +114,8 @@ equal_last true false e = absurd cc
 equal_last false true e = absurd cc
 equal_last false false e = refl
 
-pub equal_words : (l m : Without) → (beq l.times m.times && (beq l.edits m.edits && (beq l.flags m.flags && (beq l.groups m.groups && (beq l.metadata m.metadata && (beq l.bitrates m.bitrates && (beq l.labels m.labels && beq l.timing m.timing))))))) ≡ true → l ≡ m
+pub equal_words : (l m : Without) → (beq l.times m.times && (beq l.edits m.edits && (beq l.flags m.flags && (beq l.groups m.groups && (beq l.metadata m.metadata && (beq l.bitrates m.bitrates && (beq l.ends m.ends && (beq l.origins m.origins && (beq l.labels m.labels && beq l.timing m.timing)))))))))
+    ≡ true → l ≡ m
 equal_words l m e =
     let a = equal_first l.times m.times e in
     let b = equal_first l.edits m.edits a.1 in
@@ -112,15 +123,17 @@ equal_words l m e =
     let d = equal_first l.groups m.groups c.1 in
     let f = equal_first l.metadata m.metadata d.1 in
     let g = equal_first l.bitrates m.bitrates f.1 in
-    let h = equal_first l.labels m.labels g.1 in
-    same_words l m (by_words (λ w. has w l ≡ has w m) a.0 b.0 c.0 d.0 f.0 g.0 h.0 (equal_last l.timing m.timing h.1))
+    let h = equal_first l.ends m.ends g.1 in
+    let i = equal_first l.origins m.origins h.1 in
+    let j = equal_first l.labels m.labels i.1 in
+    same_words l m (by_words (λ w. has w l ≡ has w m) a.0 b.0 c.0 d.0 f.0 g.0 h.0 i.0 j.0 (equal_last l.timing m.timing j.1))
 
 -- it stays if it isn't taken away, or was given
 abbrev stays : Bool → Bool → Bool → Bool
 stays given l taken = l && (given || not taken)
 
 has_less : (given l s : Without) (w : Word) → has w (less_word given l s) ≡ stays (has w given) (has w l) (has w s)
-has_less given l s = by_words (λ w. has w (less_word given l s) ≡ stays (has w given) (has w l) (has w s)) refl refl refl refl refl refl refl refl
+has_less given l s = by_words (λ w. has w (less_word given l s) ≡ stays (has w given) (has w l) (has w s)) refl refl refl refl refl refl refl refl refl refl
 
 -- ---- one word of several sets
 

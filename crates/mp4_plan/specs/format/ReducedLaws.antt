@@ -3,10 +3,10 @@ use Rattle.std.specs.Prelude.{◌≡◌, ◌↔◌, ◌⊎◌, ℕ, ◌||◌, Li
 use Rattle.mp4_boxes.specs.declared.fault.Fault.{Fault}
 use Rattle.mp4_present.specs.format.Presentation.{Presentation, Valid}
 use Rattle.mp4_present.specs.format.Denotes.{Denotes}
-use Rattle.mp4_present.specs.format.Reduced.{reduce, ReducesInTime}
+use Rattle.mp4_present.specs.format.Reduced.{reduce}
 use Rattle.mp4_present.specs.declared.without.Without.{Without}
 use Rattle.mp4_plan.specs.format.Normal.{normal}
-use Rattle.mp4_plan.specs.format.ReducedTimes.{ReducedFaultStands}
+use Rattle.mp4_plan.specs.format.ReducedTimes.{ReducedFaultStands, ReducesInLimits}
 
 -- nothing is left out
 abbrev pub nothing : Without
@@ -17,6 +17,8 @@ nothing = record {
   groups = false;
   metadata = false;
   bitrates = false;
+  ends = false;
+  origins = false;
   labels = false;
   timing = false;
 }
@@ -30,6 +32,8 @@ both l m = record {
   groups = l.groups || m.groups;
   metadata = l.metadata || m.metadata;
   bitrates = l.bitrates || m.bitrates;
+  ends = l.ends || m.ends;
+  origins = l.origins || m.origins;
   labels = l.labels || m.labels;
   timing = l.timing || m.timing;
 }
@@ -51,44 +55,60 @@ ReducesInAnyOrder = (l m : Without) (p : Presentation)
 abbrev pub ReduceIsFixed : Type 0
 ReduceIsFixed = (l : Without) (p : Presentation) → reduce l (reduce l p) ≡ reduce l p
 
--- What is left of what is valid is valid exactly if its tracks are not too long.
+-- What is left of what is valid is valid exactly if its tracks are not too long and their offsets
+-- fit.
 abbrev pub ReducedIsValid : Type 0
-ReducedIsValid = (l : Without) (p : Presentation) → Valid p → Valid (reduce l p) ↔ ReducesInTime l p
+ReducedIsValid = (l : Without) (p : Presentation) → Valid p
+    → Valid (reduce l p) ↔ ReducesInLimits l p
 
--- Where edits stay they are not, nor where timing doesn't count.
+-- edits, ends and origins stay
+abbrev pub KeepsLimits : Without → Type 0
+KeepsLimits l = (l.edits ≡ false) × (l.ends ≡ false) × (l.origins ≡ false)
+
+-- Where these stay it is so, and where timing doesn't count.
 abbrev pub ReducedStaysValid : Type 0
 ReducedStaysValid = (l : Without) (p : Presentation) → Valid p
-    → (l.edits ≡ false) ⊎ (l.timing ≡ true) → ReducesInTime l p × Valid (reduce l p)
+    → KeepsLimits l ⊎ (l.timing ≡ true) → ReducesInLimits l p × Valid (reduce l p)
 
 -- Without its edits what is valid may be too long where timing counts, whatever else is left out.
 abbrev pub EditsMayHoldTime : Type 0
 EditsMayHoldTime = (l : Without) → l.edits ≡ true → l.timing ≡ false
     → (p : Presentation) × Valid p × (Valid (reduce l p) → ⊥)
 
+-- Without their ends tracks may last longer, and what is valid may be too long then.
+abbrev pub EndsMayHoldTime : Type 0
+EndsMayHoldTime = (l : Without) → l.ends ≡ true → l.timing ≡ false
+    → (p : Presentation) × Valid p × (Valid (reduce l p) → ⊥)
+
+-- Without the origins of its tracks the offsets of what is valid may not fit, where timing counts.
+abbrev pub OriginsMayHoldOffsets : Type 0
+OriginsMayHoldOffsets = (l : Without) → l.origins ≡ true → l.timing ≡ false
+    → (p : Presentation) × Valid p × (Valid (reduce l p) → ⊥)
+
 -- The normal form of what is left denotes it.
 abbrev pub ReducedNormalDenotes : Type 0
-ReducedNormalDenotes = (l : Without) (p : Presentation) → Valid p → ReducesInTime l p
+ReducedNormalDenotes = (l : Without) (p : Presentation) → Valid p → ReducesInLimits l p
     → Denotes (normal (reduce l p)) (reduce l p)
 
 -- To normalise it once more gives the same bytes, by the same words or by none.
 abbrev pub ReducedNormalIsFixed : Type 0
-ReducedNormalIsFixed = (l : Without) (p q : Presentation) → Valid p → ReducesInTime l p
+ReducedNormalIsFixed = (l : Without) (p q : Presentation) → Valid p → ReducesInLimits l p
     → Denotes (normal (reduce l p)) q
     → (normal (reduce l q) ≡ normal (reduce l p)) × (normal q ≡ normal (reduce l p))
 
 -- Such normal forms are equal exactly if what is left is.
 abbrev pub ReducedNormalIsExact : Type 0
-ReducedNormalIsExact = (l : Without) (p q : Presentation) → Valid p → ReducesInTime l p
-    → Valid q → ReducesInTime l q
+ReducedNormalIsExact = (l : Without) (p q : Presentation) → Valid p → ReducesInLimits l p
+    → Valid q → ReducesInLimits l q
     → (normal (reduce l p) ≡ normal (reduce l q)) ↔ (reduce l p ≡ reduce l q)
 
--- Where a track is named that is too long without its edits, what is left of the presentation is.
+-- Where a track is named, what is left of the presentation has no normal form.
 abbrev pub ReducedFaultRefuses : Type 0
 ReducedFaultRefuses = (l : Without) (file : List ℕ) (f : Fault) (p : Presentation)
-    → ReducedFaultStands l file f → Denotes file p → ReducesInTime l p → ⊥
+    → ReducedFaultStands l file f → Denotes file p → ReducesInLimits l p → ⊥
 
--- Where what is left is too long, one such fault stands, and no other.
+-- Where it has none, one such fault stands, and no other.
 abbrev pub ReducedFaultIsOne : Type 0
 ReducedFaultIsOne = (l : Without) (file : List ℕ) (p : Presentation) → Denotes file p
-    → (ReducesInTime l p → ⊥) → (f : Fault) × ReducedFaultStands l file f
+    → (ReducesInLimits l p → ⊥) → (f : Fault) × ReducedFaultStands l file f
     × ((g : Fault) → ReducedFaultStands l file g → g ≡ f)

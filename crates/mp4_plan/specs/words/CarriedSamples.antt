@@ -16,7 +16,7 @@ use Rattle.mp4_present.specs.words.OpenedMovie.{IsOpenedAs}
 use Rattle.mp4_present.specs.words.TrackWalks.{WhereMarkMayTake}
 use Rattle.mp4_present.specs.words.WalkSteps.{MayTake, TakesOn}
 use Rattle.mp4_present.specs.declared.out_buffer.OutBuffer.{OutBuffer}
-use Rattle.mp4_present.specs.declared.without.Without.{Without}
+use Rattle.mp4_plan.specs.declared.reduced.Reduction.{Reduction}
 use Rattle.mp4_present.specs.declared.walking.Walk.{Walk}
 use Rattle.mp4_plan.specs.words.ComingLess.{ComesLess}
 use Rattle.mp4_plan.specs.words.GoneOn.{ComesMarked}
@@ -51,21 +51,21 @@ pub record HasMarkInHand (m : MovieSeen) (w : Walk) : Type 0 where
 
 -- over an honest store that has the file from which the movie was opened: it is so of what is left
 -- of the samples that came where the walk has made its mark, of which it has passed so many
-abbrev pub WhereMarkedLess : {X : Type 0} → Store X → X → MovieSeen → Without → Walk → ℕ
+abbrev pub WhereMarkedLess : {X : Type 0} → Store X → X → MovieSeen → Reduction → Walk → ℕ
     → (List ℕ → FileTree → TrackTree → List SampleAt → Type 0) → Type 0
 WhereMarkedLess S store m l w count P = IsTrue (S.is_honest store) → (tree : FileTree)
     (t : TrackTree) (samples : List SampleAt) → IsOpenedAs (S.file store) m tree
     → ComesMarked l (S.file store) tree t m w count samples → P (S.file store) tree t samples
 
 -- the same where stretches tell the bytes of those that it has passed
-abbrev pub WhereToldLess : {X : Type 0} → Store X → X → MovieSeen → Without → Walk → ℕ → Stretches
+abbrev pub WhereToldLess : {X : Type 0} → Store X → X → MovieSeen → Reduction → Walk → ℕ → Stretches
     → (List ℕ → FileTree → TrackTree → List SampleAt → Type 0) → Type 0
 WhereToldLess S store m l w count s P = WhereMarkedLess S store m l w count
     (λ file tree t samples. Tells s (take count samples) → P file tree t samples)
 
 -- the walk has these samples still to come, has marked its place before them, and the first of them
 -- is the next
-abbrev pub MarksNext : Without → List ℕ → FileTree → TrackTree → MovieSeen → Walk → List SampleAt
+abbrev pub MarksNext : Reduction → List ℕ → FileTree → TrackTree → MovieSeen → Walk → List SampleAt
     → Option SampleAt → Type 0
 MarksNext l file tree t m w samples next = ComesLess l file tree t m w samples
     × (w.mark ≡ mark_of w (length samples)) × (next ≡ slice_get samples 0)
@@ -101,7 +101,7 @@ StepsMarked S store m w w_after result old new =
 
 -- over an honest store that has the file from which the movie was opened: it is so of the steps
 -- that a walk may take to copy what it has noted, and to go on
-abbrev pub WhereMayFinish : {X : Type 0} → Store X → X → MovieSeen → Without → Walk → ℕ
+abbrev pub WhereMayFinish : {X : Type 0} → Store X → X → MovieSeen → Reduction → Walk → ℕ
     → (List ℕ → FileTree → TrackTree → ℕ → Type 0) → Type 0
 WhereMayFinish S store m l w count P = IsTrue (S.is_honest store) → (tree : FileTree)
     (t : TrackTree) (n : ℕ) → IsOpenedAs (S.file store) m tree

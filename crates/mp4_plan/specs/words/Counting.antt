@@ -8,7 +8,7 @@ use Rattle.mp4_present.specs.words.Loaded.{left_in_hand}
 use Rattle.mp4_present.specs.words.Movies.{MovieSeen, InHandOf}
 use Rattle.mp4_present.specs.declared.walking.loaded.Loaded.{Loaded}
 use Rattle.mp4_present.specs.declared.walking.loaded.Place.{Place}
-use Rattle.mp4_present.specs.declared.without.Without.{Without}
+use Rattle.mp4_plan.specs.declared.reduced.Reduction.{Reduction}
 use Rattle.mp4_present.specs.declared.walking.Walk.{Walk}
 use Rattle.mp4_plan.specs.words.ComingLess.{ComesLess, less}
 use Rattle.mp4_plan.specs.words.Gathering.{count_of, piece_fed, piece_from, samples_after}
@@ -26,7 +26,7 @@ StopsAt test most n next = (s : SampleAt) → next ≡ Some s → test s ≡ tru
 
 -- So many were counted of what is left of the samples in hand of a walk, before this one, and the
 -- walk goes on from a place.
-pub record HandCounted (l : Without) (m : MovieSeen) (w : Walk) (test : SampleAt → Bool)
+pub record HandCounted (l : Reduction) (m : MovieSeen) (w : Walk) (test : SampleAt → Bool)
     (most n : ℕ) (next : Option SampleAt) (place : Place) : Type 0 where
   pub hand : Loaded
   pub is_hand : InHandOf m w hand
@@ -38,7 +38,7 @@ pub record HandCounted (l : Without) (m : MovieSeen) (w : Walk) (test : SampleAt
   pub stops : StopsAt test most n next
 
 -- All were counted that pass, of the samples that came; the others still come, before this one.
-pub record HasCounted (l : Without) (file : List ℕ) (tree : FileTree) (t : TrackTree)
+pub record HasCounted (l : Reduction) (file : List ℕ) (tree : FileTree) (t : TrackTree)
     (m : MovieSeen) (w : Walk) (test : SampleAt → Bool) (samples : List SampleAt) (n : ℕ)
     (next : Option SampleAt) : Type 0 where
   pub counts : n ≡ prefix_len test samples
@@ -46,7 +46,7 @@ pub record HasCounted (l : Without) (file : List ℕ) (tree : FileTree) (t : Tra
   pub shown : next ≡ slice_get (drop n samples) 0
 
 -- So many samples go into the piece with this end; the others still come, before this one.
-pub record PieceCounted (l : Without) (file : List ℕ) (tree : FileTree) (t : TrackTree)
+pub record PieceCounted (l : Reduction) (file : List ℕ) (tree : FileTree) (t : TrackTree)
     (m : MovieSeen) (w : Walk) (end : End) (samples : List SampleAt) (n : ℕ)
     (next : Option SampleAt) : Type 0 where
   pub counts : n ≡ count_of (piece_fed (piece_from end) samples).gathered

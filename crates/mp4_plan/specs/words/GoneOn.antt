@@ -6,7 +6,7 @@ use Rattle.mp4_present.specs.format.Denotes.{FileTree}
 use Rattle.mp4_present.specs.words.GoingBack.{GoesBackTo, HoldsSome}
 use Rattle.mp4_present.specs.words.Movies.{MovieSeen, traf_bytes}
 use Rattle.mp4_present.specs.words.SamplesComing.{Comes}
-use Rattle.mp4_present.specs.declared.without.Without.{Without}
+use Rattle.mp4_plan.specs.declared.reduced.Reduction.{Reduction}
 use Rattle.mp4_present.specs.declared.walking.Walk.{Walk}
 use Rattle.mp4_plan.specs.words.ComingLess.{ComesLess, less}
 
@@ -35,7 +35,7 @@ GoesPast m next after = (after.next ≡ next) ⊎ ((next < after.next) × HoldsS
 
 -- The walk has marked where some samples came, of which these are left, and has passed so many of
 -- them since.
-pub record ComesMarked (l : Without) (file : List ℕ) (tree : FileTree) (t : TrackTree)
+pub record ComesMarked (l : Reduction) (file : List ℕ) (tree : FileTree) (t : TrackTree)
     (m : MovieSeen) (walk : Walk) (count : ℕ) (left : List SampleAt) : Type 0 where
   pub begun : Walk
   pub samples : List SampleAt

@@ -13,7 +13,7 @@ use Rattle.mp4_present.specs.words.Movies.{MovieSeen, InHandOf}
 use Rattle.mp4_present.specs.words.OpenedMovie.{IsOpenedAs}
 use Rattle.mp4_present.specs.words.WalkSteps.{steps_to, MayTake, TakesOn}
 use Rattle.mp4_present.specs.declared.walking.loaded.Loaded.{Loaded}
-use Rattle.mp4_present.specs.declared.without.Without.{Without}
+use Rattle.mp4_plan.specs.declared.reduced.Reduction.{Reduction}
 use Rattle.mp4_present.specs.declared.walking.loaded.Place.{Place}
 use Rattle.mp4_present.specs.declared.walking.Walk.{Walk}
 use Rattle.mp4_plan.specs.words.ComingLess.{less}
@@ -90,7 +90,7 @@ HasTaken room Empty before after all left = (after ≡ piece_fed before all)
 
 -- What is left of the samples in hand of a walk was fed to a piece with room for so many, and the
 -- walk goes on from a place.
-pub record HandFed (l : Without) (m : MovieSeen) (w : Walk) (room : ℕ) (before after : Planning)
+pub record HandFed (l : Reduction) (m : MovieSeen) (w : Walk) (room : ℕ) (before after : Planning)
     (stop : Stop) (place : Place) : Type 0 where
   pub hand : Loaded
   pub is_hand : InHandOf m w hand
@@ -104,7 +104,7 @@ pub record HandFed (l : Without) (m : MovieSeen) (w : Walk) (room : ℕ) (before
       (less l (left_in_hand later))
 
 -- They were noted in the first rows, too, and where their bytes lie.
-abbrev pub HandNoted : Without → MovieSeen → Walk → ℕ → Planning → Planning → Stop → Place
+abbrev pub HandNoted : Reduction → MovieSeen → Walk → ℕ → Planning → Planning → Stop → Place
     → List Row → Stretches → Stretches → Type 0
 HandNoted l m w room before after stop place rows told told_after =
     (fed : HandFed l m w room before after stop place)

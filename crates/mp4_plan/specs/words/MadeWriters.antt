@@ -5,13 +5,13 @@ use Rattle.mp4_boxes.specs.declared.refusal.Refusal.{Refusal}
 use Rattle.mp4_boxes.specs.declared.refusal.Refusal.TheVariants as refusals
 use Rattle.mp4_store.specs.declared.store.Store.{Ghosts as Store}
 use Rattle.mp4_present.specs.format.Denotes.{FileTree, presentation_of}
-use Rattle.mp4_present.specs.format.Reduced.{ReducesInTime}
 use Rattle.mp4_present.specs.words.Carried.{waiting}
 use Rattle.mp4_present.specs.words.Movies.{MovieSeen}
 use Rattle.mp4_present.specs.words.OpenedMovie.{IsOpenedAs}
 use Rattle.mp4_present.specs.declared.without.Without.{Without}
 use Rattle.mp4_present.specs.declared.walking.Walk.{Walk}
 use Rattle.mp4_plan.specs.format.Held as memory
+use Rattle.mp4_plan.specs.format.ReducedTimes.{ReducesInLimits}
 use Rattle.mp4_plan.specs.words.LeftTimes.{NamesLong}
 use Rattle.mp4_plan.specs.words.OwnRooms.{own_rooms}
 use Rattle.mp4_plan.specs.words.PutPieces.{IsHeadLeft}
@@ -25,15 +25,15 @@ abbrev pub OverOpened : {X : Type 0} → Store X → X → MovieSeen → (List �
 OverOpened S store m P = IsTrue (S.is_honest store) → (tree : FileTree)
     → IsOpenedAs (S.file store) m tree → P (S.file store) tree
 
--- at Ok, and where a put failed, no track is too long without its edits; a fault is that of the
--- first that is, and then nothing was put
+-- at Ok, and where a put failed, what is left has a normal form; a fault is that of the first track
+-- for which it has none, and then nothing was put
 pub record TellsLong {T : Type 0} (l : Without) (file : List ℕ) (tree : FileTree)
     (result : Result T Refusal) (IsSame : Type 0) : Type 0 where
-  pub in_time : OnOk result (ReducesInTime l (presentation_of file tree))
+  pub in_limits : OnOk result (ReducesInLimits l (presentation_of file tree))
   pub fault : IfErr result (NamesLong l file tree)
-  pub nothing : (ReducesInTime l (presentation_of file tree) → ⊥) → IsSame
+  pub nothing : (ReducesInLimits l (presentation_of file tree) → ⊥) → IsSame
   pub begun : IfErr result
-      (λ r. r ≡ refusals.WriteFailed → ReducesInTime l (presentation_of file tree))
+      (λ r. r ≡ refusals.WriteFailed → ReducesInLimits l (presentation_of file tree))
 
 -- these stay a walk for each track, with their rooms
 pub record AreWalksStill {T E : Type 0} (m : MovieSeen) (before after : List Walk)

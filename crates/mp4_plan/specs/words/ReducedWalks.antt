@@ -7,7 +7,7 @@ use Rattle.mp4_head.specs.format.Tree.{TrackTree}
 use Rattle.mp4_present.specs.format.Denotes.{FileTree}
 use Rattle.mp4_present.specs.words.Movies.{MovieSeen, IsWalkOf}
 use Rattle.mp4_present.specs.words.OpenedMovie.{IsOpenedAs}
-use Rattle.mp4_present.specs.declared.without.Without.{Without}
+use Rattle.mp4_plan.specs.declared.reduced.Reduction.{Reduction}
 use Rattle.mp4_present.specs.declared.walking.Walk.{Walk}
 use Rattle.mp4_plan.specs.words.ComingLess.{ComesLess}
 use Rattle.mp4_plan.specs.words.Stretches.{JoinsOn}
@@ -25,7 +25,7 @@ pub record KeepsWalk {T E : Type 0} (m : MovieSeen) (w w_after : Walk) (result :
 
 -- over an honest store that has the file from which the movie was opened: it is so of what is left
 -- of the samples that the walk has still to come
-abbrev pub WhereLess : {X : Type 0} → Store X → X → MovieSeen → Without → Walk
+abbrev pub WhereLess : {X : Type 0} → Store X → X → MovieSeen → Reduction → Walk
     → (List ℕ → FileTree → TrackTree → List SampleAt → Type 0) → Type 0
 WhereLess S store m l w P = IsTrue (S.is_honest store) → (tree : FileTree) (t : TrackTree)
     (samples : List SampleAt) → IsOpenedAs (S.file store) m tree

@@ -9,7 +9,7 @@ use Rattle.mp4_present.specs.words.GoingBack.{IsMarkInHand, back_steps}
 use Rattle.mp4_present.specs.words.Movies.{MovieSeen, mark_of}
 use Rattle.mp4_present.specs.words.SamplesComing.{Comes, own_trafs}
 use Rattle.mp4_present.specs.words.WalkSteps.{MayTake, trafs_steps, walk_steps, walks_steps}
-use Rattle.mp4_present.specs.declared.without.Without.{Without}
+use Rattle.mp4_plan.specs.declared.reduced.Reduction.{Reduction}
 use Rattle.mp4_present.specs.declared.walking.Walk.{Walk}
 use Rattle.mp4_plan.specs.words.GoneOn.{ComesMarked, HasLoaded, Stays, GoesPast}
 
@@ -63,10 +63,10 @@ WritesOn file tree m t n w old new = (rest : ℕ) × MayWrite file tree m t w re
 
 -- The walk has noted a piece of so many samples since its mark, and may take so many steps: to copy
 -- the piece, and to go on.
-pub record MayFinish (l : Without) (file : List ℕ) (tree : FileTree) (m : MovieSeen) (count : ℕ)
+pub record MayFinish (by : Reduction) (file : List ℕ) (tree : FileTree) (m : MovieSeen) (count : ℕ)
     (t : TrackTree) (w : Walk) (n : ℕ) : Type 0 where
   pub left : List SampleAt
-  pub marked : ComesMarked l file tree t m w count left
+  pub marked : ComesMarked by file tree t m w count left
   pub own : ℕ
   pub began : MayTake file tree t marked.begun own
   pub now : ℕ
@@ -76,9 +76,10 @@ pub record MayFinish (l : Without) (file : List ℕ) (tree : FileTree) (m : Movi
   pub none : count ≡ 0 → w.mark ≡ mark_of w (length left)
   pub sum : n ≡ own + now + again_steps began.earlier began.later
 
-abbrev pub FinishesOn : Without → List ℕ → FileTree → MovieSeen → ℕ → TrackTree → ℕ → Walk → ℕ → ℕ
+abbrev pub FinishesOn : Reduction → List ℕ → FileTree → MovieSeen → ℕ → TrackTree → ℕ → Walk → ℕ → ℕ
     → Type 0
-FinishesOn l file tree m count t n w old new = (rest : ℕ) × MayFinish l file tree m count t w rest
+FinishesOn by file tree m count t n w old new = (rest : ℕ)
+    × MayFinish by file tree m count t w rest
     × (new + rest ≤ old + n)
 
 -- A walk that may take so many steps was set back to where it might take more, took them again, and
@@ -124,19 +125,21 @@ WriteAllBegin file tree m walks = (n : ℕ) × MayAllWrite file tree m walks n
     × (n ≤ writing_steps tree)
 
 -- one of them has noted a piece
-pub record MayAllFinish (l : Without) (file : List ℕ) (tree : FileTree) (m : MovieSeen)
-    (track count : ℕ) (walks : List Walk) (n : ℕ) : Type 0 where
+pub record MayAllFinish (reductions : List Reduction) (file : List ℕ) (tree : FileTree)
+    (m : MovieSeen) (track count : ℕ) (walks : List Walk) (n : ℕ) : Type 0 where
+  pub by : Reduction
+  pub is_by : slice_get reductions track ≡ Some by
   pub t : TrackTree
   pub walk : Walk
   pub is_walk : slice_get walks track ≡ Some walk
   pub own : ℕ
   pub others : ℕ
-  pub may : MayFinish l file tree m count t walk own
+  pub may : MayFinish by file tree m count t walk own
   pub sum : n ≡ own + others
   pub moved : (now : Walk) (rest : ℕ) → MayWrite file tree m t now rest
       → MayAllWrite file tree m (slice_set walks track now) (rest + others)
 
-abbrev pub AllFinishOn : Without → List ℕ → FileTree → MovieSeen → ℕ → ℕ → ℕ → List Walk → ℕ → ℕ
-    → Type 0
-AllFinishOn l file tree m track count n walks old new = (rest : ℕ)
-    × MayAllFinish l file tree m track count walks rest × (new + rest ≤ old + n)
+abbrev pub AllFinishOn : List Reduction → List ℕ → FileTree → MovieSeen → ℕ → ℕ → ℕ → List Walk → ℕ
+    → ℕ → Type 0
+AllFinishOn reductions file tree m track count n walks old new = (rest : ℕ)
+    × MayAllFinish reductions file tree m track count walks rest × (new + rest ≤ old + n)

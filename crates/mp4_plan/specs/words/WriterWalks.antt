@@ -13,14 +13,15 @@ use Rattle.mp4_present.specs.declared.without.Without.{Without}
 use Rattle.mp4_present.specs.declared.track_info.TrackInfo.{TrackInfo}
 use Rattle.mp4_present.specs.declared.walking.Walk.{Walk}
 use Rattle.mp4_plan.specs.format.Held as memory
-use Rattle.mp4_plan.specs.words.ComingLess.{ComesLess, left_samples}
+use Rattle.mp4_plan.specs.words.ComingLess.{ComesLess, left_samples, track_reduction}
 use Rattle.mp4_plan.specs.words.MadeWriters.{OverOpened}
 use Rattle.mp4_plan.specs.words.ReducedWalks.{HasBounds}
 use Rattle.mp4_plan.specs.words.OwnRooms.{own_rooms}
 use Rattle.mp4_plan.specs.words.UsedKeys.{AreApart}
 use Rattle.mp4_plan.specs.words.WriterSteps.{AllFinishOn, AllTakeOn, AllWriteOn, MayAllBegin, MayAllFinish, MayAllTake, MayAllWrite, WriteAllBegin}
-use Rattle.mp4_plan.specs.words.Writers.{AllBegin, AllCome, AreMarked, AreWalksOf, IsNoted, IsWriterOf}
+use Rattle.mp4_plan.specs.words.Writers.{AllBegin, AllCome, AreMarked, AreWalksOf, IsNoted, IsWriterOf, reductions_of}
 use Rattle.mp4_plan.specs.declared.planner.Planned.{Planned}
+use Rattle.mp4_plan.specs.declared.reduced.Reduction.{Reduction}
 use Rattle.mp4_plan.specs.declared.schedule.Turn.{Turn}
 use Rattle.mp4_plan.specs.declared.writer.Noted.{Noted}
 use Rattle.mp4_plan.specs.declared.writer.Writer.{Writer}
@@ -47,13 +48,14 @@ pub record AllStart (m : MovieSeen) (walks : List Walk) : Type 0 where
   pub writes : (file : List ℕ) (tree : FileTree) → IsOpenedAs file m tree
       → WriteAllBegin file tree m walks
 
--- over an honest store that has the file from which the movie was opened: it is so of what is left
--- of the samples that each of these walks has to come
-abbrev pub WhereAllCome : {X : Type 0} → Store X → X → MovieSeen → Without → List Walk
-    → (List ℕ → FileTree → List (List SampleAt) → Type 0) → Type 0
-WhereAllCome S store m l walks P = OverOpened S store m (λ file tree.
-    (lefts : List (List SampleAt)) → AllCome l file tree m tree.movie.tracks walks lefts
-    → P file tree lefts)
+-- over an honest store that has the file from which the movie was opened, where the samples of its
+-- tracks are left by these: it is so of what is left of the samples that each of these walks has to
+-- come
+abbrev pub WhereAllCome : {X : Type 0} → Store X → X → MovieSeen → Without → List Reduction
+    → List Walk → (List ℕ → FileTree → List (List SampleAt) → Type 0) → Type 0
+WhereAllCome S store m l reductions walks P = OverOpened S store m (λ file tree.
+    (lefts : List (List SampleAt)) → reductions ≡ reductions_of l tree
+    → AllCome l file tree m tree.movie.tracks walks lefts → P file tree lefts)
 
 -- of the steps that these walks may take together, they take some: at Ok the others are left to
 -- them, and at Err they took no more than all
@@ -79,7 +81,9 @@ abbrev pub OnTurn : {X : Type 0} → Store X → X → MovieSeen → Turn → Wr
     → (List ℕ → FileTree → TrackTree → List SampleAt → Type 0) → Type 0
 OnTurn S store m turn w P = OverOpened S store m (λ file tree. (t : TrackTree) (walk : Walk)
     (left : List SampleAt) → slice_get w.walks.items turn.track ≡ Some walk
-    → ComesLess w.leaving file tree t m walk left → walk.mark ≡ mark_of walk (length left)
+    → slice_get w.reductions.items turn.track ≡ Some (track_reduction w.leaving tree t)
+    → ComesLess (track_reduction w.leaving tree t) file tree t m walk left
+    → walk.mark ≡ mark_of walk (length left)
     → slice_get w.nexts.items turn.track ≡ Some (slice_get left 0) → P file tree t left)
 
 -- it stays a writer of this movie, holds as much, and keeps all but what it notes
@@ -87,6 +91,7 @@ pub record OnlyNotes {T E : Type 0} (m : MovieSeen) (w w_after : Writer) (result
     : Type 0 where
   pub writer : OnOk result (IsWriterOf m w_after)
   pub held : memory.held w_after ≡ memory.held w
+  pub reductions : w_after.reductions ≡ w.reductions
   pub keeps : (w_after.leaving ≡ w.leaving) × (w_after.carrier ≡ w.carrier)
       × (length w_after.rows.items ≡ length w.rows.items) × (w_after.nexts ≡ w.nexts)
       × (w_after.due ≡ w.due)
@@ -103,8 +108,8 @@ abbrev pub StepsToNote : {X E : Type 0} → Store X → X → MovieSeen → ℕ 
     → Result Noted E → ℕ → ℕ → Type 0
 StepsToNote S store m track w w_after result old new = OverOpened S store m (λ file tree. (n : ℕ)
     → MayAllWrite file tree m w.walks.items n → MatchResult result
-    (λ noted. AllFinishOn w.leaving file tree m track noted.planned.count n w_after.walks.items old
-    new) (λ _. new ≤ old + n))
+    (λ noted. AllFinishOn w.reductions.items file tree m track noted.planned.count n
+    w_after.walks.items old new) (λ _. new ≤ old + n))
 
 -- ---- a piece that was noted
 
@@ -134,6 +139,7 @@ pub record OnlyCarries {T E : Type 0} (m : MovieSeen) (w w_after : Writer) (resu
     : Type 0 where
   pub writer : OnOk result (IsWriterOf m w_after)
   pub held : memory.held w_after ≡ memory.held w
+  pub reductions : OnOk result (w_after.reductions ≡ w.reductions)
   pub keeps : OnOk result ((w_after.leaving ≡ w.leaving) × (w_after.rows ≡ w.rows)
       × (w_after.due ≡ w.due))
 
@@ -142,5 +148,6 @@ pub record OnlyCarries {T E : Type 0} (m : MovieSeen) (w w_after : Writer) (resu
 abbrev pub StepsToCarry : {X T E : Type 0} → Store X → X → MovieSeen → ℕ → ℕ → Writer → Writer
     → Result T E → ℕ → ℕ → Type 0
 StepsToCarry S store m track count w w_after result old new = OverOpened S store m (λ file tree.
-    (n : ℕ) → MayAllFinish w.leaving file tree m track count w.walks.items n → MatchResult result
+    (n : ℕ) → MayAllFinish w.reductions.items file tree m track count w.walks.items n
+    → MatchResult result
     (λ _. AllWriteOn file tree m n w_after.walks.items old new) (λ _. new ≤ old + n))

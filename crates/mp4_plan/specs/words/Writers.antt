@@ -9,7 +9,7 @@ use Rattle.mp4_head.specs.format.Tree.{TrackTree}
 use Rattle.mp4_head.specs.format.Writing as written
 use Rattle.mp4_tables.specs.format.Groups.{GroupKey}
 use Rattle.mp4_present.specs.words.Carried.{waiting}
-use Rattle.mp4_present.specs.format.Reduced.{reduce}
+use Rattle.mp4_present.specs.format.Reduced.{ReducesInRange, reduce}
 use Rattle.mp4_present.specs.declared.without.Without.{Without}
 use Rattle.mp4_present.specs.format.Denotes.{FileTree, presentation_of}
 use Rattle.mp4_present.specs.words.Joined.{sample_bytes}
@@ -18,7 +18,7 @@ use Rattle.mp4_present.specs.words.Movies.{MovieSeen, IsWalkOf, mark_of}
 use Rattle.mp4_present.specs.format.Presentation.{Presentation, heads, movie_length}
 use Rattle.mp4_present.specs.declared.walking.Walk.{Walk}
 use Rattle.mp4_tables.specs.declared.sample.SampleAt.{SampleAt}
-use Rattle.mp4_plan.specs.words.ComingLess.{ComesLess, left_samples}
+use Rattle.mp4_plan.specs.words.ComingLess.{ComesLess, left_samples, track_reduction}
 use Rattle.mp4_plan.specs.words.DueTracks.{IsDueTree}
 use Rattle.mp4_plan.specs.words.GoneOn.{ComesMarked}
 use Rattle.mp4_plan.specs.words.OwnRooms.{own_rooms}
@@ -31,6 +31,7 @@ use Rattle.mp4_plan.specs.words.Taken.{piece_front, row_seen}
 use Rattle.mp4_plan.specs.declared.moof_front.PieceHead.{PieceHead}
 use Rattle.mp4_plan.specs.declared.planner.Planned.{Planned}
 use Rattle.mp4_plan.specs.words.Gathering.{planned_of, piece_fed, piece_from}
+use Rattle.mp4_plan.specs.declared.reduced.Reduction.{Reduction}
 use Rattle.mp4_plan.specs.declared.schedule.Turn.{Turn}
 use Rattle.mp4_plan.specs.declared.writer.Noted.{Noted}
 use Rattle.mp4_plan.specs.declared.writer.Writer.{Writer}
@@ -46,6 +47,7 @@ pub record IsWriterOf (m : MovieSeen) (w : Writer) : Type 0 where
   pub walks : AreWalksOf m w.walks.items
   pub few : length w.rows.items ≤ 2 ^ 24
   pub nexts : length w.nexts.items ≡ length m.tracks
+  pub reductions : length w.reductions.items ≡ length m.tracks
   pub due : IsDueTree w.due
   pub many : w.due.leaves ≡ length m.tracks
 
@@ -81,8 +83,13 @@ abbrev pub AllCome : Without → List ℕ → FileTree → MovieSeen → List Tr
     → List (List SampleAt) → Type 0
 AllCome l file tree m [] [] [] = Unit {0}
 AllCome l file tree m (t ∷ trees) (w ∷ walks) (samples ∷ more) =
-    ComesLess l file tree t m w samples × AllCome l file tree m trees walks more
+    ComesLess (track_reduction l tree t) file tree t m w samples
+    × AllCome l file tree m trees walks more
 AllCome l file tree m _ _ _ = ⊥
+
+-- by what the samples of each track are left
+abbrev pub reductions_of : Without → FileTree → List Reduction
+reductions_of l tree = map (track_reduction l tree) tree.movie.tracks
 
 -- for each track a walk from its first sample on
 abbrev pub AllBegin : Without → List ℕ → FileTree → MovieSeen → List Walk → Type 0
@@ -117,6 +124,8 @@ pub record IsReady (file : List ℕ) (tree : FileTree) (m : MovieSeen) (w : Writ
       ≡ head_of_normal (reduce w.leaving (presentation_of file tree))
   pub rows : length w.rows.items
       ≡ longest_piece (pieces (reduce w.leaving (presentation_of file tree)))
+  pub range : ReducesInRange w.leaving (presentation_of file tree)
+  pub reductions : w.reductions.items ≡ reductions_of w.leaving tree
   pub walks : AllBegin w.leaving file tree m w.walks.items
   pub marked : AreMarked w.walks.items (map (left_samples w.leaving tree) tree.movie.tracks)
 
@@ -137,7 +146,8 @@ pub record HasNoted (file : List ℕ) (tree : FileTree) (t : TrackTree) (m : Mov
   pub rows : take n.planned.count after.rows.items ≡ map row_seen (take n.planned.count left)
   pub walk : Walk
   pub walks : after.walks.items ≡ slice_set before.walks.items turn.track walk
-  pub comes : ComesMarked before.leaving file tree t m walk n.planned.count left
+  pub comes : ComesMarked (track_reduction before.leaving tree t) file tree t m walk n.planned.count
+      left
   pub none : n.planned.count ≡ 0 → walk.mark ≡ mark_of walk (length left)
   pub stretches : Tells after.stretches (take n.planned.count left)
 
@@ -158,7 +168,8 @@ pub record IsNoted (file : List ℕ) (tree : FileTree) (m : MovieSeen) (track co
   pub t : TrackTree
   pub walk : Walk
   pub is_walk : slice_get w.walks.items track ≡ Some walk
-  pub comes : ComesMarked w.leaving file tree t m walk count samples
+  pub reduction : slice_get w.reductions.items track ≡ Some (track_reduction w.leaving tree t)
+  pub comes : ComesMarked (track_reduction w.leaving tree t) file tree t m walk count samples
   pub none : count ≡ 0 → walk.mark ≡ mark_of walk (length samples)
   pub next : slice_get w.nexts.items track ≡ Some (slice_get samples 0)
   pub rows : take count w.rows.items ≡ map row_seen (take count samples)
@@ -170,7 +181,7 @@ abbrev pub HaveCopied : List ℕ → FileTree → MovieSeen → TrackTree → �
 HaveCopied file tree m t track count samples before after =
     (next : Walk) × (after.walks.items ≡ slice_set before.walks.items track next)
     × (after.nexts.items ≡ slice_set before.nexts.items track (slice_get (drop count samples) 0))
-    × ComesLess before.leaving file tree t m next (drop count samples)
+    × ComesLess (track_reduction before.leaving tree t) file tree t m next (drop count samples)
     × (next.mark ≡ mark_of next (length (drop count samples)))
 
 -- the next sample of each track

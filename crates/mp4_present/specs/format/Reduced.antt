@@ -1,6 +1,7 @@
 -- What is left of a presentation where some of what it says doesn't count, as in comparing,
 -- archiving and caching files by the rest.
-use Rattle.std.specs.Prelude.{ℕ, ◌*◌, ◌/◌, ◌%◌, ◌^◌, nat_le, not, ◌&&◌, Bool, if◌then◌else◌, List, [], ◌∷◌, length, take, map, filter, codes, bytes_eq, ℤ, pos}
+use Rattle.std.specs.Prelude.{ℕ, suc, ◌*◌, ◌/◌, ◌%◌, ◌^◌, ◌==◌, nat_le, not, ◌&&◌, ◌||◌, Bool, if◌then◌else◌, List, [], ◌∷◌, length, take, map, filter, codes, bytes_eq, ℤ, pos, ◌-ℤ◌, FitsSigned}
+use Rattle.std.specs.Int.{w32}
 use Rattle.std.specs.List.{AllByRecursion}
 use Rattle.mp4_boxes.specs.format.Children.{is_among}
 use Rattle.mp4_head.specs.format.Head.{Kept, Media, TrackHead, MovieHead, handler_type}
@@ -24,31 +25,60 @@ sync_flag flags = flags / 2 ^ 16 % 2 * 2 ^ 16
 
 -- ---- times
 
--- When samples are decoded and shown doesn't count: timescales are 1,000, a track begins at 0, and
--- samples last 1 and have offset 0. A duration of 0 would leave all samples in one fragment.
+-- Timescales are 1,000 where timing doesn't count (8.2.2, 8.4.2).
 abbrev pub timescale_left : Without → ℕ → ℕ
 timescale_left l timescale = if l.timing then 1000 else timescale
 
+-- When a track begins: at 0 where timing doesn't count, or where it begins (8.8.12).
 abbrev pub start_left : Without → ℕ → ℕ
-start_left l start = if l.timing then 0 else start
+start_left l start = if l.timing then 0 else if l.origins then 0 else start
 
-abbrev pub duration_left : Without → ℕ → ℕ
-duration_left l duration = if l.timing then 1 else duration
+-- the sample of this number, from 0, is the first or the last of so many
+abbrev pub is_at_end : ℕ → ℕ → Bool
+is_at_end count n = (n == 0) || (suc n == count)
 
-abbrev pub offset_left : Without → ℤ → ℤ
-offset_left l offset = if l.timing then pos 0 else offset
+-- How long the sample of this number lasts, one of so many (8.6.1.2, 8.8.8): 1 where timing doesn't
+-- count, or where it is the first or the last and these don't. A duration of 0 would leave all
+-- samples in one fragment.
+abbrev pub duration_left : Without → ℕ → ℕ → ℕ → ℕ
+duration_left l count n duration =
+    if l.timing then 1 else if l.ends && is_at_end count n then 1 else duration
 
-abbrev pub reduce_sample : Without → Sample → Sample
-reduce_sample l s = record s {
-  duration = duration_left l s.duration;
-  offset = offset_left l s.offset;
+-- A composition offset, where the first of the track is this one (8.6.1.3, 8.8.8): 0 where timing
+-- doesn't count; less the first where it doesn't count where the track begins.
+abbrev pub offset_left : Without → ℤ → ℤ → ℤ
+offset_left l first offset =
+    if l.timing then pos 0 else if l.origins then offset -ℤ first else offset
+
+-- ---- samples
+
+-- what is left of the sample of this number, of so many of which the first has this offset
+abbrev pub reduce_sample : Without → ℕ → ℤ → ℕ → Sample → Sample
+reduce_sample l count first n s = record s {
+  duration = duration_left l count n s.duration;
+  offset = offset_left l first s.offset;
   flags = if l.flags then sync_flag s.flags else s.flags;
   groups = if l.groups then [] else s.groups;
 }
 
+-- the same of samples of which the first has this number
+abbrev pub reduce_from : Without → ℕ → ℤ → ℕ → List Sample → List Sample
+reduce_from l count first n [] = []
+reduce_from l count first n (s ∷ samples) =
+    reduce_sample l count first n s ∷ reduce_from l count first (suc n) samples
+
+-- the composition offset of the first sample
+abbrev pub first_offset : List Sample → ℤ
+first_offset [] = pos 0
+first_offset (s ∷ samples) = s.offset
+
+-- what is left of all samples of a track
+abbrev pub reduce_samples : Without → List Sample → List Sample
+reduce_samples l samples = reduce_from l (length samples) (first_offset samples) 0 samples
+
 -- samples stay as they are
 abbrev pub keeps_samples : Without → Bool
-keeps_samples l = not l.flags && not l.groups && not l.timing
+keeps_samples l = not l.flags && not l.groups && not l.ends && not l.origins && not l.timing
 
 -- ---- names for people
 
@@ -113,7 +143,7 @@ abbrev pub reduce_track : Without → Track → Track
 reduce_track l t = record t {
   head = reduce_track_head l t.head;
   start = start_left l t.start;
-  samples = map (reduce_sample l) t.samples;
+  samples = reduce_samples l t.samples;
 }
 
 -- what is left of a presentation
@@ -123,7 +153,15 @@ reduce l p = record {
   tracks = map (reduce_track l) p.tracks;
 }
 
--- Its tracks are not too long: without its edits a track is as long as its samples are.
+-- Its tracks are not too long: without its edits a track is as long as its samples are, and without
+-- its ends it may last a little longer.
 abbrev pub ReducesInTime : Without → Presentation → Type 0
 ReducesInTime l p = AllByRecursion
     (λ (t : Track). IsInTime (timescale_left l p.movie.timescale) (reduce_track l t)) p.tracks
+
+-- Each composition offset that is left fits its field.
+abbrev pub HasNearOffsets : Track → Type 0
+HasNearOffsets t = AllByRecursion (λ (s : Sample). FitsSigned w32 s.offset) t.samples
+
+abbrev pub ReducesInRange : Without → Presentation → Type 0
+ReducesInRange l p = AllByRecursion (λ (t : Track). HasNearOffsets (reduce_track l t)) p.tracks

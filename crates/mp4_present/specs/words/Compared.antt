@@ -9,7 +9,7 @@ use Rattle.mp4_head.specs.declared.heads.TrackHead.{TrackHead}
 use Rattle.mp4_present.specs.format.Comparison.{with_key, sample_differences, track_differences, differences}
 use Rattle.mp4_present.specs.format.Denotes.{FileTree, file_parts, track_of, presentation_of}
 use Rattle.mp4_present.specs.format.Differences.{each_differ}
-use Rattle.mp4_present.specs.format.Reduced.{reduce_sample, reduce_track, reduce}
+use Rattle.mp4_present.specs.format.Reduced.{reduce_samples, reduce_track, reduce}
 use Rattle.mp4_present.specs.words.Differing.{pair_differences}
 use Rattle.mp4_present.specs.words.Joined.{IsBelow}
 use Rattle.mp4_present.specs.words.Movies.{MovieSeen, IsWalkOf}
@@ -19,9 +19,10 @@ use Rattle.mp4_present.specs.words.SamplesComing.{Comes}
 use Rattle.mp4_present.specs.words.WalkSteps.{MayTake, walk_steps}
 use Rattle.mp4_present.specs.words.Windows.{Shows}
 use Rattle.mp4_store.specs.declared.store.Store.{Ghosts as Store}
-use Rattle.mp4_present.specs.declared.comparing.samples.Pairing.{Pairing}
+use Rattle.mp4_present.specs.declared.comparing.pairing.Pairing.{Pairing}
 use Rattle.mp4_present.specs.declared.comparing.samples.Side.{Side}
 use Rattle.mp4_present.specs.declared.comparing.differences.Difference.{Difference}
+use Rattle.mp4_present.specs.declared.edges.Edges.{Edges}
 use Rattle.mp4_present.specs.declared.without.Without.{Without}
 use Rattle.mp4_present.specs.declared.track_info.TrackInfo.{TrackInfo}
 use Rattle.mp4_present.specs.declared.walking.Walk.{Walk}
@@ -49,6 +50,11 @@ abbrev pub IsPairingAt : Without → ℕ → MovieSeen → MovieSeen → Pairing
 IsPairingAt leaving track m n by = (info other : TrackInfo) → slice_get m.tracks track ≡ Some info
     → slice_get n.tracks track ≡ Some other → IsPairingOf leaving track info other by
 
+-- the two tracks have these edges
+pub record HasEdges (edges others : Edges) (by : Pairing) : Type 0 where
+  pub left : by.left_edges ≡ edges
+  pub right : by.right_edges ≡ others
+
 -- there is a sample, and all of them lie in the file
 abbrev pub LieIn : List ℕ → List SampleAt → Type 0
 LieIn file samples = (0 < length samples) × AllByRecursion (IsBelow (length file)) samples
@@ -68,8 +74,8 @@ AtTracks track tree other P = (t u : TrackTree) → slice_get tree.movie.tracks 
 abbrev pub samples_differ : Without → ℕ → List ℕ → FileTree → TrackTree → List ℕ → FileTree
     → TrackTree → List Difference
 samples_differ l number file tree t file_right other u = each_differ (sample_differences number) 1
-    (map (reduce_sample l) (track_of file (file_parts tree) t).samples)
-    (map (reduce_sample l) (track_of file_right (file_parts other) u).samples)
+    (reduce_samples l (track_of file (file_parts tree) t).samples)
+    (reduce_samples l (track_of file_right (file_parts other) u).samples)
 
 -- some of these were taken, from the first on
 abbrev pub TakesFront : List Difference → List Difference → List Difference → Type 0
@@ -167,8 +173,8 @@ abbrev pub PairTaken : Pairing → ℕ → List ℕ → FileTree → TrackTree �
     → List Difference → Type 0
 PairTaken by number file tree t m left xs file_right other u n right ys found = (x y : SampleAt)
     × TakesFirst file tree t m left.walk xs x × TakesFirst file_right other u n right.walk ys y
-    × (found ≡ pair_differences by.leaving by.track by.keys.items by.left file by.right file_right
-    number x y)
+    × (found ≡ pair_differences by.leaving by.track by.keys.items by.left by.left_edges file
+    by.right by.right_edges file_right number x y)
 
 -- At Ok the first samples of both were taken, and what is answered are their differences.
 abbrev pub PairFound : {X Y V E : Type 0} → Pairing → ℕ → Store X → X → MovieSeen → Side → Side

@@ -1,5 +1,5 @@
 -- What two presentations don't have in common.
-use Rattle.std.specs.Prelude.{◌⊎◌, ℕ, Bool, true, false, if◌then◌else◌, List, [], ◌∷◌, ◌++◌, flat_map, slice_index, Option, None, Some, Result, IfErr}
+use Rattle.std.specs.Prelude.{◌⊎◌, ℕ, Bool, true, false, if◌then◌else◌, List, [], ◌∷◌, ◌++◌, flat_map, slice_index, Option, None, Some, ℤ, Result, IfErr}
 use Rattle.mp4_boxes.specs.declared.refusal.Refusal.{Refusal}
 use Rattle.mp4_boxes.specs.declared.refusal.Refusal.TheVariants as refusals
 use Rattle.mp4_tables.specs.words.Keys.{key_seen, keys_seen, key_place}
@@ -8,6 +8,7 @@ use Rattle.mp4_tables.specs.declared.keys.Keys.{Keys}
 use Rattle.mp4_tables.specs.declared.sample.SampleAt.{SampleAt}
 use Rattle.mp4_present.specs.format.Differences.{differ, numbers_differ, signed, bytes_differ, each_differ}
 use Rattle.mp4_present.specs.format.Reduced.{duration_left, offset_left, sync_flag}
+use Rattle.mp4_present.specs.declared.edges.Edges.{Edges}
 use Rattle.mp4_present.specs.declared.without.Without.{Without}
 use Rattle.mp4_head.specs.format.Head.{Edit, Media, TrackHead, MovieHead}
 use Rattle.mp4_present.specs.declared.comparing.entries.Spot.{Spot}
@@ -112,10 +113,18 @@ index_of keys s key = index_in (key_place (key_seen key) (keys_seen keys)) s.gro
 abbrev pub flags_left : Without → ℕ → ℕ
 flags_left l flags = if l.flags then sync_flag flags else flags
 
--- what a sample says before its indexes
-abbrev pub sample_values : Without → SampleAt → List (Field × Value)
-sample_values l s = (fields.Duration, Number (duration_left l s.duration))
-    ∷ (fields.Offset, Signed (offset_left l s.cto))
+-- what is left of how long a sample lasts, of a track with these edges
+abbrev pub lasts_left : Without → Edges → SampleAt → ℕ
+lasts_left l edges s = duration_left l edges.samples s.number s.duration
+
+-- and of its composition offset
+abbrev pub cto_left : Without → Edges → SampleAt → ℤ
+cto_left l edges s = offset_left l edges.first_offset s.cto
+
+-- what a sample of a track with these edges says before its indexes
+abbrev pub sample_values : Without → Edges → SampleAt → List (Field × Value)
+sample_values l edges s = (fields.Duration, Number (lasts_left l edges s))
+    ∷ (fields.Offset, Signed (cto_left l edges s))
     ∷ (fields.Flags, Number (flags_left l s.flags))
     ∷ (fields.Description, Number s.description) ∷ []
 
@@ -126,12 +135,13 @@ group_differences of keys left_keys a right_keys b = flat_map (λ (key : GroupKe
     numbers_differ of (fields.Group key) (index_of left_keys a key) (index_of right_keys b key))
     keys
 
--- what differs between two samples apart from their bytes, at these keys
-abbrev pub differences_at : Without → Subject → List GroupKey → Keys → SampleAt → Keys → SampleAt
-    → List Difference
-differences_at l of keys left_keys a right_keys b =
-    numbers_differ of fields.Duration (duration_left l a.duration) (duration_left l b.duration)
-    ++ signed of fields.Offset (offset_left l a.cto) (offset_left l b.cto)
+-- what differs between two samples apart from their bytes, at these keys; each is of a track with
+-- the keys and the edges before it
+abbrev pub differences_at : Without → Subject → List GroupKey → Keys → Edges → SampleAt → Keys
+    → Edges → SampleAt → List Difference
+differences_at l of keys left_keys left_edges a right_keys right_edges b =
+    numbers_differ of fields.Duration (lasts_left l left_edges a) (lasts_left l right_edges b)
+    ++ signed of fields.Offset (cto_left l left_edges a) (cto_left l right_edges b)
     ++ numbers_differ of fields.Flags (flags_left l a.flags) (flags_left l b.flags)
     ++ numbers_differ of fields.Description a.description b.description
     ++ group_differences of keys left_keys a right_keys b
@@ -143,9 +153,9 @@ sample_bytes_differ of file a other b = bytes_differ of (λ (k : ℕ). fields.By
     b.size (range file a.at a.size) (range other b.at a.size)
 
 -- what differs between two samples of two files, which have these numbers: also the first byte
-abbrev pub pair_differences : Without → ℕ → List GroupKey → Keys → List ℕ → Keys → List ℕ → ℕ
-    → SampleAt → SampleAt → List Difference
-pair_differences l track keys left_keys file right_keys other n a b =
-    differences_at l (subjects.Sample track n) keys left_keys a right_keys b
+abbrev pub pair_differences : Without → ℕ → List GroupKey → Keys → Edges → List ℕ → Keys → Edges
+    → List ℕ → ℕ → SampleAt → SampleAt → List Difference
+pair_differences l track keys left_keys left_edges file right_keys right_edges other n a b =
+    differences_at l (subjects.Sample track n) keys left_keys left_edges a right_keys right_edges b
     ++ bytes_differ (subjects.Sample track n) (λ (k : ℕ). fields.Byte k a.size) a.size b.size
     (range file a.at a.size) (range other b.at a.size)

@@ -7,20 +7,18 @@ use Rattle.mp4_tables.specs.declared.sample.SampleAt.{SampleAt}
 use Rattle.mp4_head.specs.format.Tree.{TrackTree}
 use Rattle.mp4_present.specs.format.Denotes.{FileTree}
 use Rattle.mp4_present.specs.format.Differences.{numbers_differ}
-use Rattle.mp4_present.specs.format.Reduced.{duration_left, offset_left}
 use Rattle.mp4_present.specs.words.Compared.{BothTakeOn}
-use Rattle.mp4_present.specs.words.Differing.{index_in, differences_at, pair_differences}
+use Rattle.mp4_present.specs.words.Differing.{index_in, lasts_left, cto_left, differences_at, pair_differences}
 use Rattle.mp4_present.specs.words.Movies.{MovieSeen, IsWalkOf}
 use Rattle.mp4_present.specs.words.OpenedMovie.{IsOpenedAs}
 use Rattle.mp4_present.specs.words.SamplesComing.{Comes}
 use Rattle.mp4_present.specs.words.WalkSteps.{MayTake}
 use Rattle.mp4_present.specs.words.Windows.{Shows}
-use Rattle.mp4_present.specs.declared.comparing.samples.Pairing.{Pairing}
+use Rattle.mp4_present.specs.declared.comparing.pairing.Pairing.{Pairing}
 use Rattle.mp4_present.specs.declared.comparing.samples.Side.{Side}
 use Rattle.mp4_present.specs.declared.comparing.differences.Difference.{Difference}
 use Rattle.mp4_present.specs.declared.comparing.differences.Field.TheVariants as fields
 use Rattle.mp4_present.specs.declared.comparing.differences.Subject.{Subject}
-use Rattle.mp4_present.specs.declared.without.Without.{Without}
 use Rattle.mp4_present.specs.declared.file_window.FileWindow.{FileWindow}
 
 -- what differs at these keys between samples that have these indexes
@@ -32,21 +30,22 @@ indexes_differ of keys left_keys a right_keys b = flat_map (λ (key : GroupKey).
     (index_in (key_place (key_seen key) (keys_seen right_keys)) b)) keys
 
 -- the same is left of their durations and of their composition offsets
-pub record SayTimes (l : Without) (x y : SampleAt) : Type 0 where
-  pub duration : duration_left l x.duration ≡ duration_left l y.duration
-  pub offset : offset_left l x.cto ≡ offset_left l y.cto
+pub record SayTimes (by : Pairing) (x y : SampleAt) : Type 0 where
+  pub duration : lasts_left by.leaving by.left_edges x ≡ lasts_left by.leaving by.right_edges y
+  pub offset : cto_left by.leaving by.left_edges x ≡ cto_left by.leaving by.right_edges y
 
 -- two samples differ in nothing but their bytes, whatever their number
 pub record SaySame (by : Pairing) (x y : SampleAt) : Type 0 where
   pub none : (of : Subject)
-      → differences_at by.leaving of by.keys.items by.left x by.right y ≡ []
+      → differences_at by.leaving of by.keys.items by.left by.left_edges x by.right by.right_edges y
+      ≡ []
   pub size : x.size ≡ y.size
 
 -- nothing differs between two samples of files that these windows show, whatever their number
 abbrev pub IsSamePair : Pairing → FileWindow → FileWindow → SampleAt → SampleAt → Type 0
 IsSamePair by w v x y = (file other : List ℕ) (number : ℕ) → Shows file w → Shows other v
-    → pair_differences by.leaving by.track by.keys.items by.left file by.right other number x y
-    ≡ []
+    → pair_differences by.leaving by.track by.keys.items by.left by.left_edges file by.right
+    by.right_edges other number x y ≡ []
 
 -- both lists have so many samples in front, and pair by pair nothing differs between these
 abbrev pub BeginSame : Pairing → FileWindow → FileWindow → ℕ → List SampleAt → List SampleAt

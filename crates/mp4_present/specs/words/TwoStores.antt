@@ -1,13 +1,19 @@
 -- Two files that are compared: what is left of their stores, and which differences are handed over.
 -- `S`, `T` and `D` are what bounds say of the types of the stores and of who takes differences.
-use Rattle.std.specs.Prelude.{◌≡◌, ℕ, ◌≤◌, List, ◌++◌, Bool, true, Result, IfOk}
+use Rattle.std.specs.Prelude.{◌≡◌, ℕ, ◌+◌, ◌≤◌, List, ◌++◌, Bool, true, Result, IfOk}
 use Rattle.mp4_store.specs.declared.store.Store.{Ghosts as Store}
-use Rattle.mp4_present.specs.words.Compared.{StandsIn, TakesFront, WhereTrackOf}
+use Rattle.mp4_head.specs.format.Tree.{TrackTree}
+use Rattle.mp4_present.specs.format.Denotes.{FileTree}
+use Rattle.mp4_present.specs.words.Compared.{BothTakeOn, HasEdges, StandsIn, TakesFront, WhereTrackOf}
 use Rattle.mp4_present.specs.words.Movies.{MovieSeen, IsWalkOf}
 use Rattle.mp4_present.specs.words.StoresRead.{OnlyReads}
 use Rattle.mp4_present.specs.words.SamplesComing.{Comes, track_samples}
 use Rattle.mp4_present.specs.words.WalkSteps.{MayTake, walk_steps}
+use Rattle.mp4_present.specs.words.TrackEdges.{edges_left}
 use Rattle.mp4_present.specs.words.Windows.{Shows}
+use Rattle.mp4_present.specs.declared.comparing.pairing.Pairing.{Pairing}
+use Rattle.mp4_present.specs.declared.walking.Walk.{Walk}
+use Rattle.mp4_present.specs.declared.without.Without.{Without}
 use Rattle.mp4_present.specs.declared.comparing.samples.Side.{Side}
 use Rattle.mp4_present.specs.declared.comparing.differences.Difference.{Difference}
 use Rattle.mp4_present.specs.declared.comparing.differences.Differences.{Ghosts as Differences}
@@ -33,6 +39,18 @@ pub record Begins (m : MovieSeen) (track : ℕ) (side : Side) : Type 0 where
   pub may : WhereTrackOf m track (λ file tree t.
       (n : ℕ) × MayTake file tree t side.walk n × (n ≤ walk_steps tree t))
   pub shows : (file : List ℕ) → Shows file side.window
+
+-- Two tracks are compared by what is left of their edges, both walks stand before the first
+-- samples, and some of the steps that they may take were taken.
+pub record HaveBegun (l : Without) (by : Pairing) (file : List ℕ) (tree : FileTree) (t : TrackTree)
+    (m : MovieSeen) (w : Walk) (file_right : List ℕ) (other : FileTree) (u : TrackTree)
+    (n : MovieSeen) (v : Walk) (old new : ℕ) : Type 0 where
+  pub edges : HasEdges (edges_left l (track_samples tree t)) (edges_left l (track_samples other u))
+      by
+  pub comes : Comes file tree t m w (track_samples tree t)
+  pub comes_right : Comes file_right other u n v (track_samples other u)
+  pub takes : BothTakeOn file tree t w file_right other u v (walk_steps tree t + walk_steps other u)
+      old new
 
 -- A front of the differences was taken; where the answer is true, all of them; and the answer says
 -- whether a further one is taken. `Of` says of which lists something is true.

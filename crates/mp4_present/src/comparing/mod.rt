@@ -12,6 +12,7 @@ pub mod differences;
 pub mod entries;
 pub mod fields;
 pub mod heads;
+pub mod pairing;
 pub mod same_pairs;
 pub mod samples;
 
@@ -19,7 +20,7 @@ use crate::comparing::differences::{Difference, Differences, Field, Subject};
 use crate::comparing::fields::compare_numbers;
 use crate::comparing::heads::{movie_differences, track_differences};
 use crate::comparing::same_pairs::{Pause, pass_same};
-use crate::comparing::samples::{Pairing, Side, compare_pair, refill_both};
+use crate::comparing::samples::{begin_pairs, compare_pair, refill_both};
 use crate::movie::Movie;
 use crate::track_info::TrackInfo;
 use crate::without::Without;
@@ -69,9 +70,9 @@ fn compare_track_samples<S: Store, T: Store, D: Differences, L: Ledger>(
         steps.old steps.new }
     ensures refusal { RefusedBoth S.Store a.old a.new T.Store b.old b.new result RefusesSample }
 {
-    let by = Pairing::new(alloc, leaving, left, right, track)?;
-    let mut left_side = Side::new(alloc, left, track)?;
-    let mut right_side = Side::new(alloc, right, track)?;
+    let (by, mut left_side, mut right_side) = begin_pairs(
+        alloc, leaving, track, left, a, right, b, steps,
+    )?;
     let samples = left.tracks()[track].samples;
     let count = samples.min(right.tracks()[track].samples);
     let mut pause = Pause::new();

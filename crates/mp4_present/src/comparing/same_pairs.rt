@@ -1,16 +1,17 @@
 //! Pairs of samples that are the same, passed where both are in hand and the windows show their
 //! bytes.
 ghost use Rattle.std.specs.Prelude.{◌≡◌, ◌<◌, ◌≤◌, [], drop, IsTrue};
+ghost use Rattle.mp4_present.specs.format.Reduced.{duration_left, offset_left};
 ghost use Rattle.mp4_present.specs.words.Loaded.{left_in_hand, Follows};
 ghost use Rattle.mp4_present.specs.words.Movies.{IsWalkOf};
 ghost use Rattle.mp4_present.specs.words.SamePairs.{indexes_differ, BeginSame, IsSamePair, PassesSame, SaySame, SayTimes};
 ghost use Rattle.mp4_present.specs.declared.comparing.differences.Subject.{Subject};
 
-use crate::comparing::samples::{Pairing, Side, flags_left, index_at};
+use crate::comparing::pairing::Pairing;
+use crate::comparing::samples::{Side, flags_left, index_at};
 use crate::file_window::FileWindow;
 use crate::movie::Movie;
 use crate::walking::loaded::Loaded;
-use crate::without::Without;
 use mp4_boxes::Steps;
 use mp4_tables::{SampleAt, Samples};
 use std::sync::ledger::Ledger;
@@ -30,15 +31,55 @@ fn have_same_indexes(by: &Pairing, left: [u16; 4], right: [u16; 4]) -> bool
     true
 }
 
-// Whether two samples have the same duration and the same composition offset, or these don't count.
-#[inline(always)]
-fn have_same_times(leaving: Without, left: &SampleAt, right: &SampleAt) -> bool
-    ensures { IsTrue result → SayTimes leaving left.now right.now }
+// Whether the same is left of the durations of samples with these numbers, and of their composition
+// offsets. Never inlined, and of plain numbers: most samples have the same ones, and don't have to
+// lie in memory for it.
+#[inline(never)]
+fn have_same_times_left(
+    by: &Pairing,
+    number: u32,
+    duration: u32,
+    cto: i32,
+    other: u32,
+    other_duration: u32,
+    other_cto: i32,
+) -> bool
+    ensures duration { IsTrue result
+        → duration_left by.now.leaving by.now.left_edges.samples number duration
+        ≡ duration_left by.now.leaving by.now.right_edges.samples other other_duration }
+    ensures offset { IsTrue result → offset_left by.now.leaving by.now.left_edges.first_offset cto
+        ≡ offset_left by.now.leaving by.now.right_edges.first_offset other_cto }
 {
-    if left.duration == right.duration && left.cto == right.cto {
+    let leaving = by.leaving;
+    let lasts = leaving.duration(by.left_edges.samples, number, duration);
+    if lasts != leaving.duration(by.right_edges.samples, other, other_duration) {
+        return false;
+    }
+    let offset = leaving.offset(by.left_edges.first_offset, cto);
+    offset == leaving.offset(by.right_edges.first_offset, other_cto)
+}
+
+// Whether two samples have the same duration and the same composition offset, or these don't count,
+// or the same is left of them.
+#[inline(always)]
+fn have_same_times(by: &Pairing, left: &SampleAt, right: &SampleAt) -> bool
+    ensures { IsTrue result → SayTimes by.now left.now right.now }
+{
+    if by.is_plain && left.duration == right.duration && left.cto == right.cto {
         return true;
     }
-    leaving.timing
+    if by.leaving.timing {
+        return true;
+    }
+    have_same_times_left(
+        by,
+        left.number,
+        left.duration,
+        left.cto,
+        right.number,
+        right.duration,
+        right.cto,
+    )
 }
 
 // Whether two samples say the same, apart from their bytes.
@@ -46,7 +87,7 @@ fn have_same_times(leaving: Without, left: &SampleAt, right: &SampleAt) -> bool
 fn say_the_same(by: &Pairing, left: &SampleAt, right: &SampleAt) -> bool
     ensures { IsTrue result → SaySame by.now left.now right.now }
 {
-    if !have_same_times(by.leaving, left, right) {
+    if !have_same_times(by, left, right) {
         return false;
     }
     if flags_left(by.leaving, left.flags) != flags_left(by.leaving, right.flags) {

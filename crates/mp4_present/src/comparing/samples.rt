@@ -1,11 +1,10 @@
 //! Samples of two tracks, compared one by one.
-ghost use Rattle.std.specs.Prelude.{◌≡◌, ◌<◌, ◌++◌, [], length, map, fold, if◌then◌else◌, IfOk, OnOk};
+ghost use Rattle.std.specs.Prelude.{◌≡◌, ◌<◌, ◌++◌, length, IfOk, OnOk};
 ghost use Rattle.mp4_tables.specs.words.Keys.{key_place, key_seen, keys_seen};
-ghost use Rattle.mp4_present.specs.format.Comparison.{with_key};
-ghost use Rattle.mp4_present.specs.words.Compared.{BothCome, BothWork, PairFound, WhereBothLie};
-ghost use Rattle.mp4_present.specs.words.Differing.{flags_left, sample_values, index_in, group_differences, differences_at, sample_bytes_differ, RefusedBoth, RefusesSample};
+ghost use Rattle.mp4_present.specs.words.Compared.{BothCome, BothWork, HaveTracks, IsPairingAt, PairFound, TracksWork, WhereBothLie, WhereTracks};
+ghost use Rattle.mp4_present.specs.words.Differing.{flags_left, lasts_left, cto_left, sample_values, index_in, group_differences, differences_at, sample_bytes_differ, RefusedBoth, RefusesSample};
 ghost use Rattle.mp4_present.specs.words.Joined.{IsBelow};
-ghost use Rattle.mp4_present.specs.words.TwoStores.{BothStand, OnlyReadsBoth};
+ghost use Rattle.mp4_present.specs.words.TwoStores.{BothStand, HaveBegun, OnlyReadsBoth};
 ghost use Rattle.mp4_present.specs.words.StoresRead.{WhereBothHonest, IsUnchanged};
 ghost use Rattle.mp4_present.specs.words.SamplesComing.{Comes};
 ghost use Rattle.mp4_present.specs.words.Windows.{BothShow};
@@ -13,6 +12,8 @@ ghost use Rattle.mp4_present.specs.words.Windows.{BothShow};
 use crate::comparing::bytes::first_difference;
 use crate::comparing::differences::{Difference, Field, Subject, Value};
 use crate::comparing::fields::{compare_numbers, compare_value, compare_values, number, signed};
+use crate::comparing::pairing::Pairing;
+use crate::edges::Edges;
 use crate::file_window::FileWindow;
 use crate::movie::Movie;
 use crate::walking::Walk;
@@ -34,16 +35,28 @@ pub(crate) fn flags_left(leaving: Without, flags: u32) -> u32
     }
 }
 
-// What a sample says before its indexes.
-fn sample_values(leaving: Without, sample: &SampleAt) -> [(Field, Value); 4]
-    ensures { result ≡ sample_values leaving sample.now }
+// What is left of how long a sample lasts, of a track with these edges.
+fn lasts_left(leaving: Without, edges: &Edges, sample: &SampleAt) -> u32
+    ensures { result ≡ lasts_left leaving edges.now sample.now }
 {
+    leaving.duration(edges.samples, sample.number, sample.duration)
+}
+
+// What is left of its composition offset.
+fn cto_left(leaving: Without, edges: &Edges, sample: &SampleAt) -> i64
+    ensures { result ≡ cto_left leaving edges.now sample.now }
+{
+    leaving.offset(edges.first_offset, sample.cto)
+}
+
+// What a sample of a track with these edges says before its indexes.
+fn sample_values(leaving: Without, edges: &Edges, sample: &SampleAt) -> [(Field, Value); 4]
+    ensures { result ≡ sample_values leaving edges.now sample.now }
+{
+    let duration = lasts_left(leaving, edges, sample);
     [
-        number(
-            Field::Duration,
-            u64::from(leaving.duration(sample.duration)),
-        ),
-        signed(Field::Offset, i64::from(leaving.offset(sample.cto))),
+        number(Field::Duration, u64::from(duration)),
+        signed(Field::Offset, cto_left(leaving, edges, sample)),
         number(Field::Flags, u64::from(flags_left(leaving, sample.flags))),
         number(Field::Description, u64::from(sample.description)),
     ]
@@ -56,94 +69,6 @@ pub(crate) fn index_at(keys: &Keys, groups: [u16; 4], key: GroupKey) -> u16
     match keys.place(key) {
         Some(place) if place < 4 => groups[place as usize],
         _ => 0,
-    }
-}
-
-// Puts a key among keys in their order, where it isn't there yet.
-fn put_key(keys: &mut Vec<GroupKey>, key: GroupKey) -> Result<(), Memory>
-    ensures { OnOk result (map key_seen keys.new.items
-        ≡ with_key (map key_seen keys.old.items) (key_seen key)) }
-{
-    let rank = key.rank();
-    for k in 0..keys.len() {
-        let other = keys[k].rank();
-        if rank < other {
-            keys.insert(k, key).map_err(|_| Memory)?;
-            return Ok(());
-        }
-        if rank == other {
-            return Ok(());
-        }
-    }
-    keys.push(key).map_err(|_| Memory)?;
-    Ok(())
-}
-
-// Puts the keys of a track among keys in their order.
-fn put_keys(keys: &mut Vec<GroupKey>, more: &Keys) -> Result<(), Memory>
-    ensures { OnOk result (map key_seen keys.new.items
-        ≡ fold with_key (map key_seen keys.old.items) (keys_seen more.now)) }
-{
-    for j in 0..more.count() {
-        put_key(keys, more.key_at(j))?;
-    }
-    Ok(())
-}
-
-// The keys of two tracks in their order, each once; none where groups are left out.
-fn joint_keys(
-    alloc: Global,
-    leaving: Without,
-    left: &Keys,
-    right: &Keys,
-) -> Result<Vec<GroupKey>, Memory>
-    ensures { IfOk result (λ keys. map key_seen keys.items ≡ (if leaving.groups then []
-        else fold with_key [] (keys_seen left.now ++ keys_seen right.now))) }
-{
-    let mut keys = Vec::new(alloc);
-    if !leaving.groups {
-        put_keys(&mut keys, left)?;
-        put_keys(&mut keys, right)?;
-    }
-    Ok(keys)
-}
-
-// What samples of two tracks are compared by: what is left out, the number of the tracks, the keys
-// of each, and those of both in their order.
-#[derive(Drop)]
-pub(crate) struct Pairing {
-    pub(crate) leaving: Without,
-    track: u64,
-    pub(crate) left: Keys,
-    pub(crate) right: Keys,
-    pub(crate) keys: Vec<GroupKey>,
-}
-
-impl Pairing {
-    ghost use Rattle.std.specs.Prelude.{◌≡◌, Some, IfOk};
-    ghost use Rattle.mp4_present.specs.words.Compared.{HaveTracks, IsPairingAt};
-
-    // Of the tracks at this place in both movies.
-    pub(crate) fn new(
-        alloc: Global,
-        leaving: Without,
-        left: &Movie,
-        right: &Movie,
-        track: usize,
-    ) -> Result<Pairing, Memory>
-        requires { HaveTracks track left.now right.now }
-        ensures { IfOk result (IsPairingAt leaving track left.now right.now) }
-    {
-        let info = left.tracks()[track];
-        let other = right.tracks()[track];
-        let keys = joint_keys(alloc, leaving, &info.keys, &other.keys)?;
-        Ok(Pairing {
-            leaving,
-            track: track as u64 + 1,
-            left: info.keys,
-            right: other.keys,
-            keys,
-        })
     }
 }
 
@@ -176,10 +101,12 @@ fn compare_samples(
     found: &mut Vec<Difference>,
 ) -> Result<(), Memory>
     ensures { OnOk result (found.new.items ≡ found.old.items ++ differences_at by.now.leaving of
-        by.now.keys.items by.now.left left.now by.now.right right.now) }
+        by.now.keys.items by.now.left by.now.left_edges left.now by.now.right by.now.right_edges
+        right.now) }
 {
-    let values = sample_values(by.leaving, left);
-    compare_values(of, &values, &sample_values(by.leaving, right), found)?;
+    let values = sample_values(by.leaving, &by.left_edges, left);
+    let others = sample_values(by.leaving, &by.right_edges, right);
+    compare_values(of, &values, &others, found)?;
     compare_groups(of, by, left, right, found)?;
     let size = u64::from(left.size);
     compare_numbers(of, Field::Size, size, u64::from(right.size), found)
@@ -324,4 +251,38 @@ pub(crate) fn refill_both<S: Store, T: Store, L: Ledger>(
     left_side.walk.refill(left, a, steps)?;
     right_side.walk.refill(right, b, steps)?;
     Ok(())
+}
+
+// The tracks at this place in both movies, before the first samples: what these are compared by,
+// and both sides.
+pub(crate) fn begin_pairs<S: Store, T: Store, L: Ledger>(
+    alloc: Global,
+    leaving: Without,
+    track: usize,
+    left: &Movie,
+    a: &mut S,
+    right: &Movie,
+    b: &mut T,
+    steps: &mut Steps<L>,
+) -> Result<(Pairing, Side, Side), Refusal>
+    requires { HaveTracks track left.now right.now }
+    ensures stores { OnlyReadsBoth S.Store a.old a.new T.Store b.old b.new result }
+    ensures pairing { IfOk result (λ begun. IsPairingAt leaving track left.now right.now begun.0) }
+    ensures sides { IfOk result (λ begun. BothStand S.Store a.old left.now begun.1 T.Store b.old
+        right.now begun.2) }
+    ensures begun { WhereTracks S.Store a.old left.now T.Store b.old right.now track
+        (λ tree t other u. IfOk result (λ begun. HaveBegun leaving begun.0 (S.file a.old) tree t
+        left.now begun.1.walk (T.file b.old) other u right.now begun.2.walk steps.old steps.new)) }
+    ensures unchanged { WhereTracks S.Store a.old left.now T.Store b.old right.now track
+        (λ tree t other u. IsUnchanged result) }
+    ensures work { TracksWork S.Store a.old left.now T.Store b.old right.now track
+        steps.old steps.new }
+    ensures refusal { RefusedBoth S.Store a.old a.new T.Store b.old b.new result RefusesSample }
+{
+    let mut left_side = Side::new(alloc, left, track)?;
+    let mut right_side = Side::new(alloc, right, track)?;
+    let edges = left_side.walk.edges(leaving, left, a, steps)?;
+    let others = right_side.walk.edges(leaving, right, b, steps)?;
+    let by = Pairing::new(alloc, leaving, track, left, edges, right, others)?;
+    Ok((by, left_side, right_side))
 }

@@ -1,8 +1,8 @@
 //! What a walk has in hand, filled again before a sample is taken.
-ghost use Rattle.std.specs.Prelude.{◌≡◌, [], OnOk};
-ghost use Rattle.mp4_present.specs.words.Movies.{IsWalkOf, RefusesLoad};
+ghost use Rattle.std.specs.Prelude.{◌≡◌, ◌≤◌, [], OnOk};
+ghost use Rattle.mp4_present.specs.words.Movies.{HasSome, IsWalkOf, RefusesLoad};
 ghost use Rattle.mp4_present.specs.words.StoresRead.{IsUnchanged, OnlyReads, Refused};
-ghost use Rattle.mp4_present.specs.words.TrackWalks.{TakesSteps, WhereComes};
+ghost use Rattle.mp4_present.specs.words.TrackWalks.{IsWalkStill, TakesSteps, WhereComes};
 ghost use Rattle.mp4_present.specs.words.SamplesComing.{Comes};
 
 use crate::movie::Movie;
@@ -22,12 +22,14 @@ impl Walk {
         steps: &mut Steps<L>,
     ) -> Result<(), Refusal>
         requires { IsWalkOf movie.now self.old }
-        ensures walk { OnOk result (IsWalkOf movie.now self.new) }
+        ensures walk { IsWalkStill movie.now self.old self.new result }
+        ensures some { OnOk result (HasSome movie.now self.new) }
         ensures store { OnlyReads S.Store store.old store.new result }
         ensures coming { WhereComes S.Store store.old movie.now self.old (λ file tree t samples.
             OnOk result (Comes file tree t movie.now self.new samples)) }
         ensures unchanged { WhereComes S.Store store.old movie.now self.old (λ file tree t samples.
             (samples ≡ [] → ⊥) → IsUnchanged result) }
+        ensures grows { steps.old ≤ steps.new }
         ensures work { TakesSteps S.Store store.old movie.now self.old self.new result steps.old
             steps.new }
         ensures refusal { Refused S.Store store.old store.new result RefusesLoad }

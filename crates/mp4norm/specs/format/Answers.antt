@@ -9,7 +9,7 @@ use Rattle.mp4_present.specs.declared.without.Without.{Without}
 use Rattle.mp4_plan.specs.format.ReducedTimes.{ReducedFaultStands}
 use Rattle.mp4norm.specs.format.Run.{Run, Honest, Answered, NeverChanged, PutsAtOnce, PutsNothing}
 use Rattle.mp4norm.specs.format.Headline.{HasNormalForm}
-use Rattle.mp4norm.specs.format.ReducedHeadline.{HasReducedForm, IsTooLong}
+use Rattle.mp4norm.specs.format.ReducedHeadline.{HasReducedForm, PassesLimits}
 use Rattle.mp4norm.specs.format.FileTexts.{ShowsLine, ListsSamples, HasData, LacksTrack, PrintsText}
 use Rattle.mp4norm.specs.format.BoxWalk.{under, FaultSeen}
 use Rattle.mp4norm.specs.format.Strips.{IsStripped, Halts}
@@ -33,11 +33,11 @@ abbrev pub Judged : {A : Type 0} → Run → Result A Refusal → Type 0
 Judged r result = Answered r (λ text. (text ≡ []) × (form : List ℕ) × HasNormalForm r.file form)
     (IsFaultOf r.file) ⊥ result
 
--- `normalise --without`: the normal form of what is left; nothing, where that is too long
+-- `normalise --without`: the normal form of what is left; nothing, where that has none
 abbrev pub ReducedTo : {A : Type 0} → Without → Run → Result A Refusal → Type 0
 ReducedTo l r result = Answered r (HasReducedForm l r.file)
     (λ f. IsFaultOf r.file f ⊎ ReducedFaultStands l r.file f) ⊥ result
-    × (Honest r → IsTooLong l r.file → PutsNothing r)
+    × (Honest r → PassesLimits l r.file → PutsNothing r)
 
 -- `show`: one line
 abbrev pub Shown : {A : Type 0} → Run → Result A Refusal → Type 0

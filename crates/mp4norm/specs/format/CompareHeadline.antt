@@ -41,13 +41,15 @@ descriptions_in p = map (λ (t : Track). t.head.media.descriptions) p.tracks
 
 -- Words are named that leave out what was asked for, and with which the same is left of both. None
 -- of them can be taken away; where the sample descriptions are the same, they are among any others
--- that do it too. Or none are named, and there are none.
+-- that do it too, and have `timing` if these have it and only then: what `ends` and `origins` hide
+-- `timing` hides too, so there may be such words with it and others without. Or none are named, and
+-- there are none.
 abbrev pub AreEnough : Without → Presentation → Presentation → Option Without → Type 0
 AreEnough l p q None = (m : Without) → reduce m p ≡ reduce m q → ⊥
 AreEnough l p q (Some m) = Covers l m × (reduce m p ≡ reduce m q)
     × ((k : Without) → Covers l k → Covers k m → reduce k p ≡ reduce k q → k ≡ m)
     × (descriptions_in p ≡ descriptions_in q
-    → (k : Without) → Covers l k → reduce k p ≡ reduce k q → Covers m k)
+    → (k : Without) → Covers l k → k.timing ≡ m.timing → reduce k p ≡ reduce k q → Covers m k)
 
 -- a difference as a line or as an object
 abbrev pub difference_in : Syntax → Difference → List ℕ
@@ -91,7 +93,7 @@ PutsSuch Took IsText = (text : List ℕ) × IsText text × Took text
 
 -- how many words there are behind `--without`
 abbrev pub word_count : ℕ
-word_count = 8
+word_count = 10
 
 -- A file is walked over at most so many times: to list what differs; to find words that make the
 -- two the same, those that the differences ask for and then all; and without each of these words.

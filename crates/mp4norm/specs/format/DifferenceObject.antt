@@ -130,8 +130,9 @@ word_list first (word ∷ words) =
 
 abbrev pub leaving_list : Without → List ℕ
 leaving_list l = word_list true ((codes "bitrates", l.bitrates) ∷ (codes "edits", l.edits)
-    ∷ (codes "flags", l.flags) ∷ (codes "groups", l.groups) ∷ (codes "labels", l.labels)
-    ∷ (codes "metadata", l.metadata) ∷ (codes "times", l.times) ∷ (codes "timing", l.timing) ∷ [])
+    ∷ (codes "ends", l.ends) ∷ (codes "flags", l.flags) ∷ (codes "groups", l.groups)
+    ∷ (codes "labels", l.labels) ∷ (codes "metadata", l.metadata) ∷ (codes "origins", l.origins)
+    ∷ (codes "times", l.times) ∷ (codes "timing", l.timing) ∷ [])
 
 abbrev pub enough_value : Option Without → List ℕ
 enough_value (Some l) = codes "[" ++ leaving_list l ++ codes "]"

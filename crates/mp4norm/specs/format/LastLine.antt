@@ -107,8 +107,8 @@ words_text first (word ∷ words) =
 abbrev pub leaving_text : Without → List ℕ
 leaving_text l = words_text true ((codes "times", l.times) ∷ (codes "edits", l.edits)
     ∷ (codes "flags", l.flags) ∷ (codes "groups", l.groups) ∷ (codes "metadata", l.metadata)
-    ∷ (codes "bitrates", l.bitrates) ∷ (codes "labels", l.labels)
-    ∷ (codes "timing", l.timing) ∷ [])
+    ∷ (codes "bitrates", l.bitrates) ∷ (codes "ends", l.ends) ∷ (codes "origins", l.origins)
+    ∷ (codes "labels", l.labels) ∷ (codes "timing", l.timing) ∷ [])
 
 -- with which words the files are the same, or that there are none
 abbrev pub enough_text : Option Without → List ℕ

@@ -1,5 +1,6 @@
 -- How many steps and looks a job may take.
 use Rattle.std.specs.Prelude.{ℕ, List}
+use Rattle.mp4_plan.specs.format.ReducedLaws.{nothing}
 use Rattle.mp4norm.specs.format.Steps.{WorksWithin, WalksWithin, FindsWithin, TurnsWithin}
 use Rattle.mp4norm.specs.declared.shell.action.Job.{Job}
 use Rattle.mp4norm.specs.declared.shell.action.Job.TheVariants as jobs
@@ -10,9 +11,9 @@ JobWorksWithin (jobs.Boxes syntax) file old new = Unit {0}
 JobWorksWithin jobs.Show file old new = WalksWithin file old new
 JobWorksWithin (jobs.Samples track form) file old new = WalksWithin file old new
 JobWorksWithin (jobs.Extract track) file old new = WalksWithin file old new
-JobWorksWithin jobs.Normalise file old new = WorksWithin file old new
+JobWorksWithin jobs.Normalise file old new = WorksWithin nothing file old new
 JobWorksWithin (jobs.Print l) file old new = WalksWithin file old new
-JobWorksWithin (jobs.Reduce l) file old new = WorksWithin file old new
+JobWorksWithin (jobs.Reduce l) file old new = WorksWithin l file old new
 JobWorksWithin (jobs.Strip names) file old new = Unit {0}
 
 -- the looks, where these are counted

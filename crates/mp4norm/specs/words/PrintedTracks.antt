@@ -5,12 +5,13 @@ use Rattle.std.specs.List.{AllByRecursion}
 use Rattle.mp4_boxes.specs.declared.refusal.Refusal.{Refusal}
 use Rattle.mp4_store.specs.declared.store.Store.{Ghosts as Store}
 use Rattle.mp4_store.specs.declared.sink.Sink.{Ghosts as Sink}
+use Rattle.mp4_tables.specs.declared.keys.Keys.{Keys}
 use Rattle.mp4_tables.specs.declared.sample.SampleAt.{SampleAt}
 use Rattle.mp4_head.specs.format.Tree.{TrackTree, track_head_of}
 use Rattle.mp4_head.specs.words.Seen.{track_seen}
 use Rattle.mp4_head.specs.declared.heads.TrackHead.{TrackHead}
-use Rattle.mp4_present.specs.format.Denotes.{FileTree, presentation_of}
-use Rattle.mp4_present.specs.format.Reduced.{reduce}
+use Rattle.mp4_present.specs.format.Denotes.{FileTree, file_parts, presentation_of, track_of}
+use Rattle.mp4_present.specs.format.Reduced.{reduce, reduce_track}
 use Rattle.mp4_present.specs.words.Joined.{IsBelow}
 use Rattle.mp4_present.specs.words.Loaded.{left_in_hand}
 use Rattle.mp4_present.specs.words.HandCarried.{OfHand}
@@ -22,9 +23,10 @@ use Rattle.mp4_present.specs.words.StoresRead.{IsUnchanged, WhereHonest}
 use Rattle.mp4_present.specs.words.TrackWalks.{WhereComes}
 use Rattle.mp4_present.specs.words.WalkSteps.{MayTake, walk_steps, walks_steps}
 use Rattle.mp4_present.specs.declared.out_buffer.OutBuffer.{OutBuffer}
+use Rattle.mp4_present.specs.declared.track_info.TrackInfo.{TrackInfo}
 use Rattle.mp4_present.specs.declared.walking.Walk.{Walk}
 use Rattle.mp4_present.specs.declared.without.Without.{Without}
-use Rattle.mp4norm.specs.format.Text.{track_text}
+use Rattle.mp4norm.specs.format.Text.{sample_text, track_text}
 use Rattle.mp4norm.specs.words.Telling.{TellsText}
 use Rattle.mp4norm.specs.words.ToldSamples.{told_sample}
 use Rattle.mp4norm.specs.declared.text.sample_texts.SampleStyle.{SampleStyle}
@@ -53,6 +55,16 @@ abbrev pub OfWalkLines : {X : Type 0} → Store X → X → MovieSeen → Walk �
     → (List ℕ → Type 0) → Type 0
 OfWalkLines S store m w style P = WhereComes S store m w (λ file tree t samples.
     LieBelow (length file) samples → P (flat_map (told_sample style file) samples))
+
+-- where a walk has all samples of a track to come, and they are grouped by these keys: it is so of
+-- the lines of what is left of them
+abbrev pub OfTrackLines : {X : Type 0} → Store X → X → MovieSeen → Walk → Without → Keys
+    → (List ℕ → Type 0) → Type 0
+OfTrackLines S store m w l keys P = WhereComes S store m w (λ file tree t samples.
+    samples ≡ track_samples tree t → LieBelow (length file) samples
+    → (k : ℕ) (info : TrackInfo) → slice_get tree.movie.tracks k ≡ Some t
+    → slice_get m.tracks k ≡ Some info → keys ≡ info.keys
+    → P (flat_map sample_text (reduce_track l (track_of file (file_parts tree) t)).samples))
 
 -- ---- tracks
 

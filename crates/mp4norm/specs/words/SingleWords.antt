@@ -1,5 +1,5 @@
 -- Words of `--without`, one by one.
-use Rattle.std.specs.Prelude.{◌&&◌, ◌||◌, not, true, List, [], ◌∷◌}
+use Rattle.std.specs.Prelude.{◌&&◌, ◌||◌, not, false, true, List, [], ◌∷◌}
 use Rattle.mp4_plan.specs.format.ReducedLaws.{nothing}
 use Rattle.mp4_present.specs.declared.without.Without.{Without}
 
@@ -12,16 +12,24 @@ everything = record {
   groups = true;
   metadata = true;
   bitrates = true;
+  ends = true;
+  origins = true;
   labels = true;
   timing = true;
 }
 
--- what each word leaves out, by itself
+-- what the set `packaging-1` leaves out
+abbrev pub packaging : Without
+packaging = record everything { labels = false; timing = false }
+
+-- what each word leaves out, by itself, in the order in which words are taken away: `timing` before
+-- `ends` and `origins`, which leave out less
 abbrev pub single_words : List Without
 single_words = record nothing { times = true } ∷ record nothing { edits = true }
     ∷ record nothing { flags = true } ∷ record nothing { groups = true }
     ∷ record nothing { metadata = true } ∷ record nothing { bitrates = true }
-    ∷ record nothing { labels = true } ∷ record nothing { timing = true } ∷ []
+    ∷ record nothing { labels = true } ∷ record nothing { timing = true }
+    ∷ record nothing { ends = true } ∷ record nothing { origins = true } ∷ []
 
 -- what is left out without one of the words, unless that one was given
 abbrev pub less_word : Without → Without → Without → Without
@@ -32,6 +40,8 @@ less_word given l word = record {
   groups = l.groups && (given.groups || not word.groups);
   metadata = l.metadata && (given.metadata || not word.metadata);
   bitrates = l.bitrates && (given.bitrates || not word.bitrates);
+  ends = l.ends && (given.ends || not word.ends);
+  origins = l.origins && (given.origins || not word.origins);
   labels = l.labels && (given.labels || not word.labels);
   timing = l.timing && (given.timing || not word.timing);
 }

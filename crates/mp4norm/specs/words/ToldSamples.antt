@@ -9,17 +9,18 @@ use Rattle.mp4_tables.specs.format.Groups.{GroupKey}
 use Rattle.mp4_tables.specs.words.Keys.{key_place, keys_seen}
 use Rattle.mp4_tables.specs.declared.keys.Keys.{Keys}
 use Rattle.mp4_tables.specs.declared.sample.SampleAt.{SampleAt}
-use Rattle.mp4_present.specs.format.Reduced.{duration_left, offset_left}
-use Rattle.mp4_present.specs.words.Differing.{flags_left, index_in}
+use Rattle.mp4_present.specs.words.Differing.{cto_left, flags_left, index_in, lasts_left}
+use Rattle.mp4_present.specs.declared.edges.Edges.{Edges}
 use Rattle.mp4_present.specs.declared.without.Without.{Without}
 use Rattle.mp4_plan.specs.format.Normal.{in_key_order}
 use Rattle.mp4norm.specs.format.Text.{group_text}
 use Rattle.mp4norm.specs.format.Texts.{hex_digits, hex_text, space, line_feed}
 use Rattle.mp4norm.specs.declared.text.sample_texts.SampleStyle.{SampleStyle}
 
--- it tells of the samples of a track with these keys, in the order of keys
-pub record IsStyle (l : Without) (keys : Keys) (style : SampleStyle) : Type 0 where
+-- it tells of the samples of a track with these keys and edges, in the order of keys
+pub record IsStyle (l : Without) (keys : Keys) (edges : Edges) (style : SampleStyle) : Type 0 where
   pub leaving : style.leaving ≡ l
+  pub edges_are : style.edges ≡ edges
   pub keys_are : style.keys ≡ keys
   pub order : keys_seen style.order ≡ (if l.groups then [] else in_key_order (keys_seen keys))
 
@@ -47,9 +48,8 @@ told_flags style digest s = space ++ hex_digits 8 (flags_left style.leaving s.fl
 
 -- the line of a sample whose bytes have this digest
 abbrev pub told_line : SampleStyle → List ℕ → SampleAt → List ℕ
-told_line style digest s = space ++ decimal (duration_left style.leaving s.duration) ++ space
-    ++ signed_decimal (offset_left style.leaving s.cto)
-    ++ told_flags style digest s
+told_line style digest s = space ++ decimal (lasts_left style.leaving style.edges s) ++ space
+    ++ signed_decimal (cto_left style.leaving style.edges s) ++ told_flags style digest s
 
 -- the line of a sample of a file
 abbrev pub told_sample : SampleStyle → List ℕ → SampleAt → List ℕ

@@ -9,7 +9,8 @@ ghost use Rattle.mp4norm.specs.words.StoreAndSink.{NoPutFails};
 ghost use Rattle.mp4_present.specs.words.Compared.{OfFiles, WhereOpenedBoth};
 ghost use Rattle.mp4norm.specs.words.TwoFiles.{ComparesBoth, OfBoth, ReadsBoth, WalksOnce};
 
-use crate::commands::tally::{guess, say_last};
+use crate::commands::guesses::guess;
+use crate::commands::tally::say_last;
 use crate::shell::action::Syntax;
 use crate::shell::without_words::{EVERYTHING, WORDS, less_word};
 use crate::text::difference_json::{say_difference_object, say_last_object};
@@ -295,7 +296,7 @@ fn first_enough<S: Store, T: Store, L: Ledger>(
     ensures opened { WhereOpenedBoth S.Store a.old movies.now.left T.Store b.old movies.now.right
         (λ tree other. IsUnchanged result × WalksTimes 2 tree other steps.old steps.new) }
 {
-    let guessed = guess(given, all);
+    let guessed = guess(given, all, movies.left.tracks());
     if is_enough(alloc, movies, a, b, guessed, steps)? {
         return Ok(Some(guessed));
     }

@@ -10,6 +10,7 @@ pub mod compare;
 pub mod extract;
 pub mod forms;
 pub mod freed_boxes;
+pub mod guesses;
 pub mod hash_sink;
 pub mod normalise;
 pub mod normalise_reduced;

@@ -30,7 +30,8 @@ pub fn normalise_counted<S: Store, K: Sink, L: Ledger, M: Ledger>(
     ensures answer { Normalised (run_of S.Store store.old store.new K.Sink sink.old sink.new)
         result }
     ensures whole { OnOk result (PutsWhole nothing (K.takes sink.old sink.new)) }
-    ensures work { WhereHonest S.Store store.old (λ file. WorksWithin file steps.old steps.new) }
+    ensures work { WhereHonest S.Store store.old (λ file.
+        WorksWithin nothing file steps.old steps.new) }
     ensures least { OnOk result (WhereHonest S.Store store.old (λ file.
         TakesEach file steps.old steps.new)) }
     ensures looks { WhereHonest S.Store store.old (λ file. TurnsWithin file looks.old looks.new) }

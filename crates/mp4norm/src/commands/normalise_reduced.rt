@@ -13,10 +13,9 @@ use mp4_store::{Sink, Store};
 use std::alloc::Global;
 use std::sync::ledger::Ledger;
 
-/// As `normalise_counted`, of what is left of the file where creation and modification times, edit
-/// lists, flags of samples, sample groups or metadata are left out. Without its edits a track may
-/// be too long: then the fault is TimeTooLarge at the `tkhd` of the first such track, and nothing
-/// is put.
+/// As `normalise_counted`, of what is left of the file. That may have no normal form: then the
+/// fault is TimeTooLarge or OffsetTooLarge at the `tkhd` of the first track that is too long, or of
+/// which an offset doesn't fit, and nothing is put.
 pub fn normalise_reduced<S: Store, K: Sink, L: Ledger, M: Ledger>(
     alloc: Global,
     store: &mut S,
@@ -29,7 +28,8 @@ pub fn normalise_reduced<S: Store, K: Sink, L: Ledger, M: Ledger>(
     ensures answer { ReducedTo leaving (run_of S.Store store.old store.new K.Sink sink.old sink.new)
         result }
     ensures whole { OnOk result (PutsWhole leaving (K.takes sink.old sink.new)) }
-    ensures work { WhereHonest S.Store store.old (λ file. WorksWithin file steps.old steps.new) }
+    ensures work { WhereHonest S.Store store.old (λ file.
+        WorksWithin leaving file steps.old steps.new) }
     ensures least { OnOk result (WhereHonest S.Store store.old (λ file.
         TakesEach file steps.old steps.new)) }
     ensures looks { WhereHonest S.Store store.old (λ file. TurnsWithin file looks.old looks.new) }

@@ -16,7 +16,7 @@ ghost use Rattle.mp4norm.specs.format.Answers.{Printed};
 ghost use Rattle.mp4norm.specs.format.Run.{KeepsFile, run_of};
 ghost use Rattle.mp4norm.specs.format.Steps.{FindsWithin, TakesEach, WalksWithin};
 ghost use Rattle.mp4norm.specs.format.Text.{front_lines, head_lines, number_line, samples_heading};
-ghost use Rattle.mp4norm.specs.words.PrintedTracks.{AreWalks, OfHandLines, OfWalkLines, TellsOn, TellsTracks, WhereHeads};
+ghost use Rattle.mp4norm.specs.words.PrintedTracks.{AreWalks, OfHandLines, OfTrackLines, OfWalkLines, TellsOn, TellsTracks, WhereHeads};
 ghost use Rattle.mp4norm.specs.words.Telling.{Tells, TellsText};
 ghost use Rattle.mp4norm.specs.words.ToldSamples.{RefusesDigest, told_sample};
 
@@ -31,7 +31,7 @@ use mp4_present::{
     Movie, OutBuffer, Stretch, Walk, Without, open_movie, payloads_left, put_payloads_left,
 };
 use mp4_store::{Sink, Store};
-use mp4_tables::{SampleAt, Samples};
+use mp4_tables::{Keys, SampleAt, Samples};
 use std::alloc::{AllocError, Global};
 use std::sync::ledger::Ledger;
 
@@ -189,6 +189,35 @@ fn put_walk<S: Store, K: Sink, L: Ledger>(
     Ok(())
 }
 
+// Puts the lines of all samples of a track whose samples are grouped by these keys, of a walk that
+// stands before the first.
+fn put_samples<S: Store, K: Sink, L: Ledger>(
+    leaving: Without,
+    keys: Keys,
+    movie: &Movie,
+    walk: &mut Walk,
+    desk: &mut Desk,
+    store: &mut S,
+    sink: &mut K,
+    steps: &mut Steps<L>,
+) -> Result<(), Refusal>
+    requires walk { IsWalkOf movie.now walk.old }
+    requires empty { waiting desk.old.window ≡ [] }
+    ensures empty { OnOk result (waiting desk.new.window ≡ []) }
+    ensures store { OnlyCopies S.Store store.old store.new K.Sink sink.old sink.new result }
+    ensures told { OfTrackLines S.Store store.old movie.now walk.old leaving keys (λ lines.
+        TellsOn K.Sink sink.old sink.new desk.old.text desk.new.text lines result) }
+    ensures grows { steps.old ≤ steps.new }
+    ensures work { WhereMayTake S.Store store.old movie.now walk.old
+        (λ file tree t n. steps.new ≤ steps.old + n) }
+    ensures refusal { RefusedByBoth S.Store store.old store.new K.Sink sink.old sink.new result
+        RefusesCarry }
+{
+    let edges = walk.edges(leaving, movie, store, steps)?;
+    let style = SampleStyle::new(leaving, keys, edges);
+    put_walk(&style, movie, walk, desk, store, sink, steps)
+}
+
 // Puts what a track says before its samples.
 fn put_front<K: Sink>(
     leaving: Without,
@@ -249,7 +278,6 @@ fn put_tracks<S: Store, K: Sink, L: Ledger>(
         };
         let head = &heads[track];
         let info = movie.tracks()[track];
-        let style = SampleStyle::new(leaving, info.keys);
         put_front(
             leaving,
             head,
@@ -257,7 +285,9 @@ fn put_tracks<S: Store, K: Sink, L: Ledger>(
             &mut desk.text,
             sink,
         )?;
-        put_walk(&style, movie, &mut walk, desk, store, sink, steps)?;
+        put_samples(
+            leaving, info.keys, movie, &mut walk, desk, store, sink, steps,
+        )?;
     }
     Ok(())
 }

@@ -24,7 +24,8 @@ pub fn sum_file<S: Store, L: Ledger, M: Ledger>(
 ) -> Result<[u8; DIGEST], Refusal>
     ensures store { KeepsFile S.Store store.old store.new }
     ensures answer { Summed leaving (look_of S.Store store.old store.new) result }
-    ensures work { WhereHonest S.Store store.old (λ file. WorksWithin file steps.old steps.new) }
+    ensures work { WhereHonest S.Store store.old (λ file.
+        WorksWithin leaving file steps.old steps.new) }
     ensures least { OnOk result (WhereHonest S.Store store.old (λ file.
         TakesEach file steps.old steps.new)) }
     ensures looks { WhereHonest S.Store store.old (λ file. TurnsWithin file looks.old looks.new) }

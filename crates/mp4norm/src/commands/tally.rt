@@ -1,10 +1,9 @@
-//! How many differences of which kind there are, and which words may leave them all out.
-ghost use Rattle.std.specs.Prelude.{◌≡◌, [], ◌∷◌, ◌++◌, ◌&&◌, ◌==◌, not, ◌||◌, true, IfOk, OnOk};
-ghost use Rattle.mp4_plan.specs.format.CoveringLaws.{Covers};
+//! How many differences of which kind there are.
+ghost use Rattle.std.specs.Prelude.{◌≡◌, [], ◌∷◌, ◌++◌, ◌&&◌, ◌==◌, not, true, IfOk, OnOk};
 ghost use Rattle.mp4norm.specs.format.LastLine.{all_kinds, count_of_kind, count_text, counts_text, enough_text, kind_name, kind_of_difference, kind_of_entries, last_line, leaving_text, total_end, total_front, words_text};
 
 use crate::text::difference_lines::{end_line, say, say_counted};
-use mp4_present::{Difference, Entries, Field, Part, Subject, Without};
+use mp4_present::{Difference, Entries, Field, Subject, Without};
 use std::alloc::AllocError;
 
 /// What a difference is of, in the order in which the kinds are told of.
@@ -78,62 +77,6 @@ pub(crate) fn count_of_kind(kind: Kind, all: &[Difference]) -> u64
     count
 }
 
-// Whether there is a difference of a kind.
-fn has(kind: Kind, all: &[Difference]) -> bool {
-    count_of_kind(kind, all) > 0
-}
-
-// Whether a difference is of a handler, which may be of its name.
-fn is_label(difference: &Difference) -> bool {
-    matches!(difference.field, Field::Entry(Entries::Handler, _, _))
-}
-
-// Whether a difference is of the bytes of a sample description, or of how many they are: of names,
-// of bit rates, or of neither.
-fn is_detail(difference: &Difference) -> bool {
-    match difference.field {
-        Field::Entry(Entries::Descriptions, _, Part::Byte(_, _)) => true,
-        Field::Entry(Entries::Descriptions, _, Part::Length) => true,
-        _ => false,
-    }
-}
-
-// Whether a difference is of when samples are decoded and shown.
-fn is_time(difference: &Difference) -> bool {
-    match difference.field {
-        Field::Timescale | Field::MediaTimescale | Field::Start => true,
-        Field::Duration | Field::Offset => true,
-        _ => false,
-    }
-}
-
-// Whether something is left out, which was given or may be needed.
-fn is_left_out(was_given: bool, may_be_needed: bool) -> bool
-    ensures { (was_given || result) ≡ result }
-{
-    was_given || may_be_needed
-}
-
-/// A guess what has to be left out, beside what is left out already, for none of these differences
-/// to be left. It may be too much or too little: whether it is enough is for the caller to try.
-pub(crate) fn guess(leaving: Without, all: &[Difference]) -> Without
-    ensures { Covers leaving result }
-{
-    let has_detail = all.iter().any(|difference| is_detail(difference));
-    let has_label = all.iter().any(|difference| is_label(difference));
-    let has_time = all.iter().any(|difference| is_time(difference));
-    Without {
-        times: is_left_out(leaving.times, has(Kind::Times, all)),
-        edits: is_left_out(leaving.edits, has(Kind::Edits, all)),
-        flags: is_left_out(leaving.flags, has(Kind::Flags, all)),
-        groups: is_left_out(leaving.groups, has(Kind::Groups, all)),
-        metadata: is_left_out(leaving.metadata, has(Kind::Kept, all)),
-        bitrates: is_left_out(leaving.bitrates, has_detail),
-        labels: is_left_out(leaving.labels, has_detail || has_label),
-        timing: is_left_out(leaving.timing, has_time),
-    }
-}
-
 // Adds a count of a kind, where it isn't 0, and says whether none is added yet.
 #[tactic(auto, unfolding(crate::specs::format::LastLine::count_text))]
 fn say_count(
@@ -200,6 +143,8 @@ pub(crate) fn say_words(text: &mut Vec<u8>, leaving: Without) -> Result<(), Allo
     let is_first = say_word(text, "groups", leaving.groups, is_first)?;
     let is_first = say_word(text, "metadata", leaving.metadata, is_first)?;
     let is_first = say_word(text, "bitrates", leaving.bitrates, is_first)?;
+    let is_first = say_word(text, "ends", leaving.ends, is_first)?;
+    let is_first = say_word(text, "origins", leaving.origins, is_first)?;
     let is_first = say_word(text, "labels", leaving.labels, is_first)?;
     let _ = say_word(text, "timing", leaving.timing, is_first)?;
     Ok(())

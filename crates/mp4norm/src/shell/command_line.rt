@@ -45,7 +45,8 @@ each type is four printable characters or eight hexadecimal digits, and not free
 UUID; before a slash only a container whose boxes are listed may stand";
 
 const WITHOUT_RULE: &str = "\
-each word is times, edits, flags, groups, metadata, bitrates, labels or timing";
+each word is times, edits, flags, groups, metadata, bitrates, ends, origins, labels or timing, or \
+packaging-1 for the first eight, or media-1 for all";
 
 /// How many differences are listed where no number is given.
 const LIMIT: u32 = 100;

@@ -75,9 +75,9 @@ fn clause_of(kind: FourCc) -> &'static str {
     }
 }
 
-// What a kind of fault means.
-fn meaning_of(kind: Kind) -> &'static str {
-    match kind {
+// What a fault means.
+fn meaning_of(fault: &Fault) -> &'static str {
+    match fault.kind {
         Kind::ShortHeader => "a box is due, and its header is cut short",
         Kind::BadSize => "the size is smaller than the header, or is 0 inside a container",
         Kind::Overrun => "the box ends behind its container",
@@ -95,6 +95,8 @@ fn meaning_of(kind: Kind) -> &'static str {
         Kind::SampleOutsideFile => "a sample does not lie in the file",
         Kind::UnknownTrack => "the fragment is of a track that the movie does not have",
         Kind::Gap => "the fragment begins at another time than is due",
+        Kind::OffsetTooLarge if fault.box_type == *b"tkhd" =>
+            "without the origin of the track an offset does not fit 32 bits",
         Kind::OffsetTooLarge => "a table of version 0 has an offset of 2^31 or more",
         Kind::ItemLocation =>
             "a kept box holds the letters iloc, and so may name places in the file",
@@ -212,7 +214,7 @@ fn explanation(
         b"clause: ISO/IEC 14496-12, ",
         clause_of(FourCc(fault.box_type)).as_bytes(),
     )?;
-    push_line(&mut text, b"meaning: ", meaning_of(fault.kind).as_bytes())?;
+    push_line(&mut text, b"meaning: ", meaning_of(fault).as_bytes())?;
     if let Some(numbers) = numbers {
         say_told(&mut text, numbers)?;
     }

@@ -1,6 +1,7 @@
 //! What the words behind `--without` leave out.
 ghost use Rattle.std.specs.Prelude.{◌≡◌, ◌&&◌, ◌||◌, not};
-ghost use Rattle.mp4norm.specs.words.SingleWords.{less_word};
+ghost use Rattle.mp4_plan.specs.format.ReducedLaws.{both};
+ghost use Rattle.mp4norm.specs.words.SingleWords.{everything, less_word, packaging};
 
 use crate::shell::drop_lists::cut;
 use mp4_present::Without;
@@ -13,11 +14,14 @@ pub(crate) const EVERYTHING: Without = Without {
     groups: true,
     metadata: true,
     bitrates: true,
+    ends: true,
+    origins: true,
     labels: true,
     timing: true,
 };
 
-/// What each word leaves out, by itself.
+/// What each word leaves out, by itself, in the order in which words are taken away that aren't
+/// needed: `timing` before `ends` and `origins`, which leave out less.
 pub(crate) const WORDS: &[Without] = &[
     Without {
         times: true,
@@ -51,6 +55,14 @@ pub(crate) const WORDS: &[Without] = &[
         timing: true,
         ..Without::NOTHING
     },
+    Without {
+        ends: true,
+        ..Without::NOTHING
+    },
+    Without {
+        origins: true,
+        ..Without::NOTHING
+    },
 ];
 
 // Whether a word stays among others when one is taken away: if it is not that one, or was given.
@@ -71,12 +83,38 @@ pub(crate) fn less_word(given: Without, leaving: Without, word: Without) -> With
         groups: stays(leaving.groups, given.groups, word.groups),
         metadata: stays(leaving.metadata, given.metadata, word.metadata),
         bitrates: stays(leaving.bitrates, given.bitrates, word.bitrates),
+        ends: stays(leaving.ends, given.ends, word.ends),
+        origins: stays(leaving.origins, given.origins, word.origins),
         labels: stays(leaving.labels, given.labels, word.labels),
         timing: stays(leaving.timing, given.timing, word.timing),
     }
 }
 
-// Leaves out what a word says; false where it says nothing.
+// Leaves out what changes when a file is packed another way. The set never changes, so that sums
+// which were made with it stay right: other words would be `packaging-2`.
+fn leave_out_packaging(leaving: &mut Without)
+    ensures { leaving.new ≡ both packaging leaving.old }
+{
+    leaving.times = true;
+    leaving.edits = true;
+    leaving.flags = true;
+    leaving.groups = true;
+    leaving.metadata = true;
+    leaving.bitrates = true;
+    leaving.ends = true;
+    leaving.origins = true;
+}
+
+// Leaves out all that can be. This set never changes either, should there be more words.
+fn leave_out_media(leaving: &mut Without)
+    ensures { leaving.new ≡ both everything leaving.old }
+{
+    leave_out_packaging(leaving);
+    leaving.labels = true;
+    leaving.timing = true;
+}
+
+// Leaves out what a word says, or the words of a named set; false where it is neither.
 fn leave_out(leaving: &mut Without, word: &[u8]) -> bool {
     match word {
         b"times" => leaving.times = true,
@@ -85,14 +123,19 @@ fn leave_out(leaving: &mut Without, word: &[u8]) -> bool {
         b"groups" => leaving.groups = true,
         b"metadata" => leaving.metadata = true,
         b"bitrates" => leaving.bitrates = true,
+        b"ends" => leaving.ends = true,
+        b"origins" => leaving.origins = true,
         b"labels" => leaving.labels = true,
         b"timing" => leaving.timing = true,
+        b"packaging-1" => leave_out_packaging(leaving),
+        b"media-1" => leave_out_media(leaving),
         _ => return false,
     }
     true
 }
 
-/// What a list of words that are apart by commas leaves out; none where a word is not known.
+/// What a list of words and named sets that are apart by commas leaves out; none where one is not
+/// known.
 pub(crate) fn leaving_of(list: &str) -> Option<Without> {
     let mut leaving = Without::NOTHING;
     let mut left = list.as_bytes();

@@ -254,10 +254,12 @@ fn say_words(text: &mut Vec<u8>, leaving: Without) -> Result<(), AllocError>
 {
     let is_first = say_left_out(text, "bitrates", leaving.bitrates, true)?;
     let is_first = say_left_out(text, "edits", leaving.edits, is_first)?;
+    let is_first = say_left_out(text, "ends", leaving.ends, is_first)?;
     let is_first = say_left_out(text, "flags", leaving.flags, is_first)?;
     let is_first = say_left_out(text, "groups", leaving.groups, is_first)?;
     let is_first = say_left_out(text, "labels", leaving.labels, is_first)?;
     let is_first = say_left_out(text, "metadata", leaving.metadata, is_first)?;
+    let is_first = say_left_out(text, "origins", leaving.origins, is_first)?;
     let is_first = say_left_out(text, "times", leaving.times, is_first)?;
     let _ = say_left_out(text, "timing", leaving.timing, is_first)?;
     Ok(())

@@ -1,7 +1,7 @@
 //! The line of a sample in the text of a presentation.
 ghost use Rattle.std.specs.Prelude.{◌≡◌, ◌+◌, ◌<◌, ◌≤◌, ◌++◌, length, take, drop};
 ghost use Rattle.mp4_tables.specs.words.Keys.{key_place, key_seen, keys_seen};
-ghost use Rattle.mp4_present.specs.words.Differing.{flags_left, index_in};
+ghost use Rattle.mp4_present.specs.words.Differing.{cto_left, flags_left, index_in, lasts_left};
 ghost use Rattle.mp4_plan.specs.format.Normal.{in_key_order, put_key};
 ghost use Rattle.mp4norm.specs.format.Text.{group_text};
 ghost use Rattle.mp4norm.specs.words.ToldSamples.{told_end, told_flags, told_indexes, told_line};
@@ -10,19 +10,20 @@ use crate::commands::hash_sink::DIGEST;
 use crate::text::digits::{write_byte, write_hex, write_short_digits};
 use crate::text::named_lines::write_signed;
 use crate::text::payload_lines::{write_bytes_in_hex, write_type};
-use mp4_present::Without;
+use mp4_present::{Edges, Without};
 use mp4_tables::{GroupKey, Keys, SampleAt};
 
 /// At least as many bytes as a line has.
 pub(crate) const LONGEST: usize = 320;
 
-/// What of a track's samples is told: all but what is left out, and their groups in the order of
-/// these keys.
+/// What of a track's samples is told: all but what is left out, as where the track begins and ends,
+/// and their groups in the order of these keys.
 #[derive(Clone, Copy)]
 pub(crate) struct SampleStyle {
     leaving: Without,
     keys: Keys,
     order: Keys,
+    edges: Edges,
 }
 
 // Keys in their order, each once, and one more.
@@ -66,12 +67,12 @@ fn in_order(keys: &Keys) -> Keys
 impl SampleStyle {
     ghost use Rattle.std.specs.Prelude.{◌≡◌};
     ghost use Rattle.mp4_tables.specs.words.Keys.{key_place, key_seen, keys_seen};
-    ghost use Rattle.mp4_present.specs.words.Differing.{flags_left, index_in};
+    ghost use Rattle.mp4_present.specs.words.Differing.{cto_left, flags_left, index_in, lasts_left};
     ghost use Rattle.mp4norm.specs.words.ToldSamples.{IsStyle};
 
-    /// For a track whose samples are grouped by these keys.
-    pub(crate) fn new(leaving: Without, keys: Keys) -> SampleStyle
-        ensures { IsStyle leaving keys result }
+    /// For a track with these edges whose samples are grouped by these keys.
+    pub(crate) fn new(leaving: Without, keys: Keys, edges: Edges) -> SampleStyle
+        ensures { IsStyle leaving keys edges result }
     {
         let order = if leaving.groups {
             Keys::new()
@@ -82,6 +83,7 @@ impl SampleStyle {
             leaving,
             keys,
             order,
+            edges,
         }
     }
 
@@ -94,6 +96,21 @@ impl SampleStyle {
         } else {
             flags
         }
+    }
+
+    // How long a sample lasts.
+    fn duration(&self, sample: &SampleAt) -> u32
+        ensures { result ≡ lasts_left self.now.leaving self.now.edges sample.now }
+    {
+        self.leaving
+            .duration(self.edges.samples, sample.number, sample.duration)
+    }
+
+    // Its composition offset.
+    fn offset(&self, sample: &SampleAt) -> i64
+        ensures { result ≡ cto_left self.now.leaving self.now.edges sample.now }
+    {
+        self.leaving.offset(self.edges.first_offset, sample.cto)
     }
 
     // The index of a sample at a key, 0 for none.
@@ -227,8 +244,8 @@ pub(crate) fn write_sample(
         ≡ told_line style.now digest.now sample.now ++ drop end text.old }
 {
     let mut start = write_flags(text, end, style, sample, digest);
-    start = write_signed(text, start, i64::from(style.leaving.offset(sample.cto)));
+    start = write_signed(text, start, style.offset(sample));
     start = write_byte(text, start, b' ');
-    start = write_short_digits(text, start, style.leaving.duration(sample.duration));
+    start = write_short_digits(text, start, style.duration(sample));
     write_byte(text, start, b' ')
 }

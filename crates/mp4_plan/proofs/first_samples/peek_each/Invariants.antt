@@ -2,7 +2,8 @@ use Rattle.std.proofs.Common.{◌≡◌, ◌≤◌, ℕ, List, length, take}
 use Rattle.mp4_tables.specs.declared.sample.SampleAt.{SampleAt}
 use Rattle.mp4_plan.specs.words.WriterSteps.{MayAllTake, AllTakeOn, MayAllWrite, AllWriteOn}
 use Rattle.mp4_plan.specs.words.MadeWriters.{OverOpened}
-use Rattle.mp4_plan.specs.words.Writers.{AreMarked, AreWalksOf, AllCome, firsts}
+use Rattle.mp4_plan.specs.words.Writers.{AreMarked, AreWalksOf, AllCome, firsts, reductions_of}
+use Rattle.mp4_present.specs.declared.without.Without.{Without}
 use Rattle.mp4_plan.specs.format.Held.{rooms}
 use Rattle.mp4_plan.proofs.first_samples.peek_each.Given as goal
 
@@ -16,8 +17,8 @@ invariant-loop-k g l = record {
   honesty : g.S.Store.is_honest l.store ≡ g.S.Store.is_honest l.fn.store;
   file : g.S.Store.file l.store ≡ g.S.Store.file l.fn.store;
   reads : g.S.Store.read_failures l.store ≡ g.S.Store.read_failures l.fn.store;
-  shown : OverOpened g.S.Store l.fn.store l.movie (λ file tree. (lefts : List (List SampleAt)) → AllCome l.leaving file tree l.movie tree.movie.tracks l.fn.walks lefts
-      → AllCome l.leaving file tree l.movie tree.movie.tracks l.walks lefts × (take l.k l.nexts ≡ firsts (take l.k lefts)));
+  shown : (leaving : Without) → OverOpened g.S.Store l.fn.store l.movie (λ file tree. (lefts : List (List SampleAt)) → l.reductions ≡ reductions_of leaving tree → AllCome leaving file tree l.movie tree.movie.tracks l.fn.walks lefts
+      → AllCome leaving file tree l.movie tree.movie.tracks l.walks lefts × (take l.k l.nexts ≡ firsts (take l.k lefts)));
   takes : OverOpened g.S.Store l.fn.store l.movie (λ file tree. (n : ℕ) → MayAllTake file tree tree.movie.tracks l.fn.walks n → AllTakeOn file tree n l.walks l.fn.steps l.steps);
   marked : (lefts : List (List SampleAt)) → AreMarked l.fn.walks lefts → AreMarked l.walks lefts;
   writes : OverOpened g.S.Store l.fn.store l.movie (λ file tree. (n : ℕ) → MayAllWrite file tree l.movie l.fn.walks n → AllWriteOn file tree l.movie n l.walks l.fn.steps l.steps);

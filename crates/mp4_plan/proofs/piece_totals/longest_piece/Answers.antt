@@ -7,7 +7,7 @@ use Rattle.mp4_plan.specs.words.ComingLess.{left_samples}
 use Rattle.mp4_plan.proofs.AllTake.{one_takes, one_stops}
 use Rattle.mp4_plan.proofs.CarriedParts.{read_at}
 use Rattle.mp4_plan.proofs.HandsCounted.{piece_size_is}
-use Rattle.mp4_plan.proofs.Planning.{walks_set}
+use Rattle.mp4_plan.proofs.Planning.{reduced_is, walks_set}
 use Rattle.mp4_plan.proofs.PlannedTurns.{has_turn, no_more, turn_leads, longest_first, longest_end, longest_next, longest_skips}
 use Rattle.mp4_plan.specs.words.Turns.{infos_left, movie_turns, turned}
 use Rattle.mp4_plan.specs.words.DueTracks.{IsDueAt}
@@ -35,13 +35,13 @@ loop-turn-init g c =
       e.store.reads,
       omega arith,
       e.store.honesty,
-      λ told tree o.
+      λ told tree o by near.
           let file = g.S.Store.file c.args.store.now in
           let begin = c.in_ok-walks.ensures.start.begin file tree o c.args.leaving in
-          let shown = e.shown told tree o (map (left_samples c.args.leaving tree) tree.movie.tracks) (rw c.as_mut_slice-all.ensures.value begin) in
+          let shown = e.shown c.args.leaving told tree o (map (left_samples c.args.leaving tree) tree.movie.tracks) by (rw c.as_mut_slice-all.ensures.value begin) in
           let time = c.first_time.ensures (map (left_samples c.args.leaving tree) tree.movie.tracks) (c.as_slice.ensures.value ∙ noted ∙ shown.0) in
           let s = rw c.tracks-tracks.ensures at c.new-schedule.ensures in
-          longest_first c.args.leaving file tree m c.new-schedule.result c.peek_each.new.walks c.peek_each.new.nexts c.first_time.result o shown.1 shown.0 time s.tracks s.first s.left s.starts,
+          longest_first c.args.leaving file tree m c.new-schedule.result c.peek_each.new.walks c.peek_each.new.nexts c.first_time.result o near shown.1 shown.0 time s.tracks s.first s.left s.starts,
       λ told tree o.
           let begin = c.in_ok-walks.ensures.start.may (g.S.Store.file c.args.store.now) tree o in
           all_within (g.S.Store.file c.args.store.now) tree c.peek_each.new.walks begin.0 (walks_steps tree) _ _ begin.2 (e.work told tree o begin.0 (rw c.as_mut_slice-all.ensures.value begin.1)),
@@ -53,10 +53,10 @@ loop-turn-init g c =
     )
 
 pub returns-in_err-peek_each-clause-unchanged : goal.returns-in_err-peek_each-clause-unchanged
-returns-in_err-peek_each-clause-unchanged g c told tree o =
+returns-in_err-peek_each-clause-unchanged g c told tree o by near =
     let p = err_from_is_err_and c.from_residual-in_err-peek_each.result c.from_residual-in_err-peek_each.ensures.1 in
     let begin = c.in_ok-walks.ensures.start.begin (g.S.Store.file c.args.store.now) tree o c.args.leaving in
-    rw (p.1, p.2) (c.in_err-peek_each.ensures.unchanged told tree o (map (left_samples c.args.leaving tree) tree.movie.tracks) (rw c.as_mut_slice-all.ensures.value begin))
+    rw (p.1, p.2) (c.in_err-peek_each.ensures.unchanged c.args.leaving told tree o (map (left_samples c.args.leaving tree) tree.movie.tracks) by (rw c.as_mut_slice-all.ensures.value begin))
 
 pub returns-in_err-peek_each-clause-work : goal.returns-in_err-peek_each-clause-work
 returns-in_err-peek_each-clause-work g c told tree o =
@@ -66,7 +66,7 @@ returns-in_err-peek_each-clause-work g c told tree o =
     omega (arith, most, few)
 
 pub returns-in_err-count-clause-unchanged : goal.returns-in_err-count-clause-unchanged
-returns-in_err-count-clause-unchanged g c told tree o =
+returns-in_err-count-clause-unchanged g c told tree o by near =
     let e = err_from_is_err_and c.from_residual-in_err-count.result c.from_residual-in_err-count.ensures.1 in
     let file = g.S.Store.file c.args.store.now in
     let m = c.args.movie.now in
@@ -74,10 +74,15 @@ returns-in_err-count-clause-unchanged g c told tree o =
     let s = c.loop-turn.schedule in
     let turn = c.in-Some.turn in
     let at = c.in-Some.ensures.track in
-    let h = i.6 told tree o in
+    let h = i.6 told tree o by near in
     let t = has_turn c.args.leaving file tree m s c.loop-turn.walks.items c.loop-turn.nexts.items h.lefts h.comings o h.at turn.track c.index_mut-walk.result.now turn.end at c.index_mut-walk.ensures.value i.0.count
     (λ info is. c.in-Some.ensures.end info (ap (λ ts. slice_get ts s.track) c.tracks-tracks.ensures ∙ is)) in
-    rw (e.1, e.2) ((rw (i.5, i.2) at c.in_err-count.ensures.unchanged) told tree t.t t.left o t.comes t.few)
+    let own_by = c.requires.reductions in
+    let tracks_by = i.1 in
+    let first_by = c.in-Some.ensures.track.0 in
+    let lt_by = c.in-Some.ensures.track.1 in
+    let own = reduced_is c.args.leaving tree c.args.reductions.now c.in-Some.turn.track t.t by (ap (λ k. slice_get tree.movie.tracks k) t.place ∙ t.is_tree) (omega (arith, own_by, tracks_by, first_by, lt_by)) in
+    rw (e.1, e.2) ((rw (i.5, i.2, own) at c.in_err-count.ensures.unchanged) told tree t.t t.left o t.comes t.few)
 
 pub loop-turn-preserved : goal.loop-turn-preserved
 loop-turn-preserved g c =
@@ -97,13 +102,18 @@ loop-turn-preserved g c =
       p.store.reads ∙ i.3,
       search rules,
       p.store.honesty ∙ i.5,
-      λ told tree o.
+      λ told tree o by near.
           let turn = c.in-Some.turn in
           let at = c.in-Some.ensures.track in
-          let h = i.6 told tree o in
+          let h = i.6 told tree o by near in
           let t = has_turn c.args.leaving file tree m s walks nexts h.lefts h.comings o h.at turn.track c.index_mut-walk.result.now turn.end at c.index_mut-walk.ensures.value i.0.count (λ info is. c.in-Some.ensures.end info (ap (λ ts. slice_get ts s.track) c.tracks-tracks.ensures ∙ is)) in
           let first = read_at nexts turn.track (slice_get t.left 0) c.index_mut-next.result.now (ap (λ k. slice_get nexts k) t.place ∙ t.shown) c.index_mut-next.ensures.value in
-          let counted = (rw (i.5, i.2) at p.counted) told tree t.t t.left o t.comes first in
+          let own_by = c.requires.reductions in
+          let tracks_by = i.1 in
+          let first_by = c.in-Some.ensures.track.0 in
+          let lt_by = c.in-Some.ensures.track.1 in
+          let own = reduced_is c.args.leaving tree c.args.reductions.now c.in-Some.turn.track t.t by (ap (λ k. slice_get tree.movie.tracks k) t.place ∙ t.is_tree) (omega (arith, own_by, tracks_by, first_by, lt_by)) in
+          let counted = (rw (i.5, i.2, own) at p.counted) told tree t.t t.left o t.comes first in
           longest_skips c.args.leaving file tree m (turned s turn.end c.in_ok-count.count c.count_turn.new.next) c.pass.new.self (slice_set walks turn.track c.count_turn.new.walk) (slice_set nexts turn.track c.count_turn.new.next)
           c.pass.new.due o c.in_ok-pass.ensures.turned due_next c.max-longest.result
           (longest_next c.args.leaving file tree m s walks nexts h.lefts h.comings o h.at turn.track c.index_mut-walk.result.now turn.end t at.1 c.count_turn.new.walk c.in_ok-count.count c.count_turn.new.next (turned s turn.end c.in_ok-count.count c.count_turn.new.next)
@@ -123,7 +133,7 @@ loop-turn-preserved g c =
     )
 
 pub returns-in_err-pass-clause-unchanged : goal.returns-in_err-pass-clause-unchanged
-returns-in_err-pass-clause-unchanged g c told tree o =
+returns-in_err-pass-clause-unchanged g c told tree o by near =
     let file = g.S.Store.file c.args.store.now in
     let m = c.args.movie.now in
     let i = c.loop-turn.invariant in
@@ -133,10 +143,15 @@ returns-in_err-pass-clause-unchanged g c told tree o =
     let p = c.in_ok-count.ensures in
     let turn = c.in-Some.turn in
     let at = c.in-Some.ensures.track in
-    let h = i.6 told tree o in
+    let h = i.6 told tree o by near in
     let t = has_turn c.args.leaving file tree m s walks nexts h.lefts h.comings o h.at turn.track c.index_mut-walk.result.now turn.end at c.index_mut-walk.ensures.value i.0.count (λ info is. c.in-Some.ensures.end info (ap (λ ts. slice_get ts s.track) c.tracks-tracks.ensures ∙ is)) in
     let first = read_at nexts turn.track (slice_get t.left 0) c.index_mut-next.result.now (ap (λ k. slice_get nexts k) t.place ∙ t.shown) c.index_mut-next.ensures.value in
-    let counted = (rw (i.5, i.2) at p.counted) told tree t.t t.left o t.comes first in
+    let own_by = c.requires.reductions in
+    let tracks_by = i.1 in
+    let first_by = c.in-Some.ensures.track.0 in
+    let lt_by = c.in-Some.ensures.track.1 in
+    let own = reduced_is c.args.leaving tree c.args.reductions.now c.in-Some.turn.track t.t by (ap (λ k. slice_get tree.movie.tracks k) t.place ∙ t.is_tree) (omega (arith, own_by, tracks_by, first_by, lt_by)) in
+    let counted = (rw (i.5, i.2, own) at p.counted) told tree t.t t.left o t.comes first in
     let is = piece_size_is turn.end t.left c.in_ok-count.count counted.counts in
     absurd (either ((rw c.tracks-tracks.ensures at c.in_err-pass.ensures.sticks) nexts i.10.times)
     (turn_leads c.args.leaving file tree m s walks nexts h.lefts h.comings o h.at turn.track c.index_mut-walk.result.now turn.end t at.1 c.in_ok-count.count c.count_turn.new.next c.loop-turn.due is counted.shown i.10)
@@ -144,9 +159,9 @@ returns-in_err-pass-clause-unchanged g c told tree o =
     is counted.comes counted.shown refl c.pass.new.due c.pass.new.self))
 
 pub returns-clause-longest : goal.returns-clause-longest
-returns-clause-longest g c told tree o =
+returns-clause-longest g c told tree o by near =
     let i = c.loop-turn.invariant in
-    longest_end c.args.leaving (g.S.Store.file c.args.store.now) tree c.args.movie.now c.loop-turn.schedule c.loop-turn.walks.items c.loop-turn.nexts.items c.loop-turn.longest (i.6 told tree o) (c.in_default.ensures.none refl)
+    longest_end c.args.leaving (g.S.Store.file c.args.store.now) tree c.args.movie.now c.loop-turn.schedule c.loop-turn.walks.items c.loop-turn.nexts.items c.loop-turn.longest (i.6 told tree o by near) (c.in_default.ensures.none refl)
 
 pub returns-in_err-count-clause-work : goal.returns-in_err-count-clause-work
 returns-in_err-count-clause-work g c told tree o =

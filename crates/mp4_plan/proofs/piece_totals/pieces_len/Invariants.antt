@@ -1,10 +1,11 @@
 use Rattle.std.specs.Prelude.{IsTrue}
 use Rattle.std.proofs.Common.{◌≡◌, ◌+◌, ◌≤◌, length}
-use Rattle.mp4_present.specs.format.Denotes.{FileTree}
+use Rattle.mp4_present.specs.format.Denotes.{FileTree, presentation_of}
 use Rattle.mp4_present.specs.words.OpenedMovie.{IsOpenedAs}
 use Rattle.mp4_plan.specs.words.Turns.{IsSomeLeft, infos_left, movie_turns, turns_left}
 use Rattle.mp4_plan.specs.words.DueTracks.{IsDueAt}
-use Rattle.mp4_plan.specs.words.Writers.{AreWalksOf}
+use Rattle.mp4_plan.specs.words.Writers.{AreWalksOf, reductions_of}
+use Rattle.mp4_present.specs.format.Reduced.{ReducesInRange}
 use Rattle.mp4_plan.proofs.PlannedTurns.{IsLength}
 use Rattle.mp4_present.specs.words.WalkSteps.{walks_steps}
 use Rattle.mp4_plan.specs.words.WriterSteps.{AllTakeOn}
@@ -18,7 +19,8 @@ invariant-loop-turn g l =
     × (g.S.Store.file l.store ≡ g.S.Store.file l.fn.store)
     × (g.S.Store.read_failures l.store ≡ g.S.Store.read_failures l.fn.store)
     × (g.S.Store.is_honest l.store ≡ g.S.Store.is_honest l.fn.store)
-    × (IsTrue (g.S.Store.is_honest l.fn.store) → (tree : FileTree) → IsOpenedAs (g.S.Store.file l.fn.store) l.movie tree → IsLength l.leaving (g.S.Store.file l.fn.store) tree l.movie l.schedule l.walks.items l.nexts.items l.len)
+    × (IsTrue (g.S.Store.is_honest l.fn.store) → (tree : FileTree) → IsOpenedAs (g.S.Store.file l.fn.store) l.movie tree → l.reductions ≡ reductions_of l.leaving tree → ReducesInRange l.leaving (presentation_of (g.S.Store.file l.fn.store) tree)
+    → IsLength l.leaving (g.S.Store.file l.fn.store) tree l.movie l.schedule l.walks.items l.nexts.items l.len)
     × (IsTrue (g.S.Store.is_honest l.fn.store) → (tree : FileTree) → IsOpenedAs (g.S.Store.file l.fn.store) l.movie tree → AllTakeOn (g.S.Store.file l.fn.store) tree (walks_steps tree) l.walks.items l.fn.steps l.steps)
     × (length l.nexts.items ≡ length l.movie.tracks) × (l.looks + turns_left l.schedule ≤ l.fn.looks + movie_turns l.movie)
     × IsDueAt (infos_left l.leaving l.movie.tracks) l.nexts.items l.schedule l.due × IsSomeLeft l.schedule × (l.fn.steps ≤ l.steps)

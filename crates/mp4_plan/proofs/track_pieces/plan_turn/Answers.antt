@@ -17,7 +17,7 @@ returns-then-not-first_goes-clause-planned g c told tree t samples o h first =
     let fed = fed_none (piece_from c.args.end) samples none in
     let after = after_none (piece_from c.args.end) samples none in (
       c.piece.ensures.is ∙ ap (λ (p : Planning). planned_of p.gathered) (c.new.ensures ∙ sym fed),
-      subst (λ (ss : List SampleAt). ComesLess c.args.leaving file tree t c.args.movie.now c.args.walk.now ss) (sym after) h,
+      subst (λ (ss : List SampleAt). ComesLess c.args.reduction file tree t c.args.movie.now c.args.walk.now ss) (sym after) h,
       first ∙ ap (λ (ss : List SampleAt). slice_get ss 0) (sym after),
     )
 

@@ -5,7 +5,8 @@ use Rattle.mp4_store.specs.words.Device.{TakesPrefix}
 use Rattle.mp4_store.proofs.Known.{TakesPrefix-nothing}
 use Rattle.mp4_present.specs.format.Denotes.{presentation_of}
 use Rattle.mp4_present.specs.declared.without.Without.{Without}
-use Rattle.mp4_present.specs.format.Reduced.{ReducesInTime, reduce}
+use Rattle.mp4_present.specs.format.Reduced.{reduce}
+use Rattle.mp4_plan.specs.format.ReducedTimes.{ReducesInLimits}
 use Rattle.mp4_present.proofs.WalkCopied.{on_ok}
 use Rattle.mp4_plan.specs.format.Normal.{normal}
 use Rattle.mp4_plan.specs.words.Writers.{IsReady}
@@ -58,17 +59,17 @@ returns-clause-work g c = λ told tree o.
 pub returns-in_err-writer-clause-long : goal.returns-in_err-writer-clause-long
 returns-in_err-writer-clause-long g c = λ told tree o.
     let p = err_from_is_err_and c.from_residual.result c.from_residual.ensures.1 in
-    rw (p.1, p.2) (record { in_time = tt; fault = c.in_err-writer.ensures.fault told tree o; nothing = λ long. g.met.K.Sink.takes_nothing c.args.sink.now; begun = plan_puts_nothing c.args.leaving _ _ c.in_err-writer.field-0.0 _ c.in_err-writer.ensures.refusal })
+    rw (p.1, p.2) (record { in_limits = tt; fault = c.in_err-writer.ensures.fault told tree o; nothing = λ long. g.met.K.Sink.takes_nothing c.args.sink.now; begun = plan_puts_nothing c.args.leaving _ _ c.in_err-writer.field-0.0 _ c.in_err-writer.ensures.refusal })
 
 pub returns-clause-long : goal.returns-clause-long
 returns-clause-long g c = λ told tree o.
     let file = g.S.Store.file c.args.store.now in
-    let in_time = c.in_ok-writer.ensures.in_time told tree o in
+    let in_limits = c.in_ok-writer.ensures.in_limits told tree o in
     record {
-      in_time = so_if_ok c.write.result (ReducesInTime c.args.leaving (presentation_of file tree)) in_time;
+      in_limits = so_if_ok c.write.result (ReducesInLimits c.args.leaving (presentation_of file tree)) in_limits;
       fault = carried_names c.args.leaving file tree c.write.result _ _ _ _ c.write.ensures.refusal;
-      nothing = λ long. absurd (long in_time);
-      begun = so_if_err c.write.result _ in_time;
+      nothing = λ long. absurd (long in_limits);
+      begun = so_if_err c.write.result _ in_limits;
     }
 
 pub returns-clause-refusal : goal.returns-clause-refusal

@@ -6,7 +6,8 @@ use Rattle.mp4_present.specs.declared.comparing.differences.Difference.{Differen
 use Rattle.mp4_present.specs.declared.file_window.FileWindow.{FileWindow}
 use Rattle.mp4_present.proofs.TrafTaken.{at_place}
 use Rattle.mp4_present.proofs.PairsCompared.{both_most}
-use Rattle.mp4_present.proofs.TracksCompared.{takes_nothing, grows_front, count_is, rest_lies, pairs_first, pairs_pass, pairs_moved, pairs_next, pairs_stop, pairs_most, pairs_work, pairs_all, pairs_are, min_over}
+use Rattle.mp4_present.proofs.TrackEdges.{count_is}
+use Rattle.mp4_present.proofs.TracksCompared.{takes_nothing, grows_front, rest_lies, pairs_first, pairs_pass, pairs_moved, pairs_next, pairs_stop, pairs_most, pairs_work, pairs_all, pairs_are, min_over}
 use Rattle.mp4_present.proofs.comparing.compare_track_samples.Goals as goal
 
 pub returns-in_err-by-clause-handed : goal.returns-in_err-by-clause-handed
@@ -17,44 +18,26 @@ returns-in_err-by-clause-handed g c =
       front = λ told told_right tree other o p t u at bt. takes_nothing (g.D.Differences.taken c.args.seen.now) _;
     }
 
-pub returns-in_err-left_side-clause-handed : goal.returns-in_err-left_side-clause-handed
-returns-in_err-left_side-clause-handed g c =
-    record {
-      goes = search rules;
-      all = search rules;
-      front = λ told told_right tree other o p t u at bt. takes_nothing (g.D.Differences.taken c.args.seen.now) _;
-    }
-
-pub returns-in_err-right_side-clause-handed : goal.returns-in_err-right_side-clause-handed
-returns-in_err-right_side-clause-handed g c =
-    record {
-      goes = search rules;
-      all = search rules;
-      front = λ told told_right tree other o p t u at bt. takes_nothing (g.D.Differences.taken c.args.seen.now) _;
-    }
-
 pub loop-number-init : goal.loop-number-init
-loop-number-init g c = record {
-  within = omega arith;
-  honesty = refl;
-  file = refl;
-  reads = refl;
-  honesty_right = refl;
-  file_right = refl;
-  reads_right = refl;
-  goes = c.requires.goes;
-  walk = c.in_ok-left_side.ensures.walk;
-  walk_right = c.in_ok-right_side.ensures.walk;
-  shows = λ told. c.in_ok-left_side.ensures.shows (g.S.Store.file c.args.a.now);
-  shows_right = λ told. c.in_ok-right_side.ensures.shows (g.T.Store.file c.args.b.now);
-  going = λ told told_right tree other o p t u at bt.
-      let file = g.S.Store.file c.args.a.now in
-      let right_file = g.T.Store.file c.args.b.now in
-      let first = c.in_ok-left_side.ensures in
-      let second = c.in_ok-right_side.ensures in
-      pairs_first c.in_ok-by.by file tree t c.args.left.now right_file other u c.args.right.now (g.D.Differences.taken c.args.seen.now) c.args.steps.now c.in_ok-left_side.left_side.walk c.in_ok-right_side.right_side.walk
-      (first.coming file tree t o at) (second.coming right_file other u p bt) (first.may file tree t o at) (second.may right_file other u p bt);
-}
+loop-number-init g c =
+    let e = c.in_ok-by.ensures in
+    record {
+      within = omega arith;
+      honesty = e.stores.left.honesty;
+      file = e.stores.left.file;
+      reads = e.stores.left.reads;
+      honesty_right = e.stores.right.honesty;
+      file_right = e.stores.right.file;
+      reads_right = e.stores.right.reads;
+      goes = c.requires.goes;
+      walk = e.sides.left.walk;
+      walk_right = e.sides.right.walk;
+      shows = e.sides.left.shows;
+      shows_right = e.sides.right.shows;
+      going = λ told told_right tree other o p t u at bt.
+          pairs_first c.in_ok-by.by (g.S.Store.file c.args.a.now) tree t c.args.left.now (g.T.Store.file c.args.b.now) other u c.args.right.now (g.D.Differences.taken c.args.seen.now) c.args.steps.now c.args.leaving
+          c.in_ok-by.left_side.walk c.in_ok-by.right_side.walk c.begin_pairs.new.steps (e.begun told told_right tree other o p t u at bt);
+    }
 
 pub loop-number-preserved-then-passed : goal.loop-number-preserved-then-passed
 loop-number-preserved-then-passed g c = record {
@@ -114,7 +97,8 @@ returns-in_err-_same-clause-handed g c =
           let is_right : other_info ≡ slice_index_or right.tracks c.args.track other_info = search rules in
           let there = at_place left.tracks c.args.track info c.requires.tracks.left is in
           let there_right = at_place right.tracks c.args.track other_info c.requires.tracks.right is_right in
-          let are = pairs_are c.args.leaving c.args.track by file right_file left right tree other t u info other_info (c.in_ok-by.ensures info other_info there there_right) o p at bt there there_right in
+          let begun = (c.in_ok-by.ensures.begun told told_right tree other o p t u at bt).edges in
+          let are = pairs_are c.args.leaving c.args.track by file right_file left right tree other t u info other_info (c.in_ok-by.ensures.pairing info other_info there there_right) o p at bt there there_right begun.left begun.right in
           subst (TakesFront before now) are (grows_front _ _ _ _ h.grows);
     }
 
@@ -248,7 +232,8 @@ returns-in_err-found-clause-handed g c =
           let is_right : other_info ≡ slice_index_or right.tracks c.args.track other_info = search rules in
           let there = at_place left.tracks c.args.track info c.requires.tracks.left is in
           let there_right = at_place right.tracks c.args.track other_info c.requires.tracks.right is_right in
-          let are = pairs_are c.args.leaving c.args.track by file right_file left right tree other t u info other_info (c.in_ok-by.ensures info other_info there there_right) o p at bt there there_right in
+          let begun = (c.in_ok-by.ensures.begun told told_right tree other o p t u at bt).edges in
+          let are = pairs_are c.args.leaving c.args.track by file right_file left right tree other t u info other_info (c.in_ok-by.ensures.pairing info other_info there there_right) o p at bt there there_right begun.left begun.right in
           subst (TakesFront before now) are (grows_front _ _ _ _ h.grows);
     }
 
@@ -324,7 +309,8 @@ returns-then-not-hand_over-clause-handed g c =
           let is_right : other_info ≡ slice_index_or right.tracks c.args.track other_info = search rules in
           let there = at_place left.tracks c.args.track info c.requires.tracks.left is in
           let there_right = at_place right.tracks c.args.track other_info c.requires.tracks.right is_right in
-          let are = pairs_are c.args.leaving c.args.track by file right_file left right tree other t u info other_info (c.in_ok-by.ensures info other_info there there_right) o p at bt there there_right in
+          let begun = (c.in_ok-by.ensures.begun told told_right tree other o p t u at bt).edges in
+          let are = pairs_are c.args.leaving c.args.track by file right_file left right tree other t u info other_info (c.in_ok-by.ensures.pairing info other_info there there_right) o p at bt there there_right begun.left begun.right in
           subst (TakesFront before (g.D.Differences.taken c.hand_over.new.seen)) are
           (pairs_stop by file tree t left right_file other u right before c.args.steps.now number w v c.compare_pair.new.left_side.walk c.compare_pair.new.right_side.walk now
           (g.D.Differences.taken c.hand_over.new.seen) c.in_ok-found.found.items passed.new.steps h
@@ -373,7 +359,8 @@ returns-clause-handed g c =
           let is_right : other_info ≡ slice_index_or right.tracks c.args.track other_info = search rules in
           let there = at_place left.tracks c.args.track info c.requires.tracks.left is in
           let there_right = at_place right.tracks c.args.track other_info c.requires.tracks.right is_right in
-          let are = pairs_are c.args.leaving c.args.track by file right_file left right tree other t u info other_info (c.in_ok-by.ensures info other_info there there_right) o p at bt there there_right in
+          let begun = (c.in_ok-by.ensures.begun told told_right tree other o p t u at bt).edges in
+          let are = pairs_are c.args.leaving c.args.track by file right_file left right tree other t u info other_info (c.in_ok-by.ensures.pairing info other_info there there_right) o p at bt there there_right begun.left begun.right in
           let le : min info.samples other_info.samples ≤ c.loop-number.number = search rules in
           pairs_all by file tree t left right_file other u right before c.args.steps.now c.loop-number.number w v now c.loop-number.steps h
           (min_over info.samples other_info.samples _ _ c.loop-number.number (count_is file left tree t c.args.track info o at there) (count_is right_file right other u c.args.track other_info p bt there_right) le)
@@ -394,7 +381,8 @@ returns-clause-handed g c =
           let is_right : other_info ≡ slice_index_or right.tracks c.args.track other_info = search rules in
           let there = at_place left.tracks c.args.track info c.requires.tracks.left is in
           let there_right = at_place right.tracks c.args.track other_info c.requires.tracks.right is_right in
-          let are = pairs_are c.args.leaving c.args.track by file right_file left right tree other t u info other_info (c.in_ok-by.ensures info other_info there there_right) o p at bt there there_right in
+          let begun = (c.in_ok-by.ensures.begun told told_right tree other o p t u at bt).edges in
+          let are = pairs_are c.args.leaving c.args.track by file right_file left right tree other t u info other_info (c.in_ok-by.ensures.pairing info other_info there there_right) o p at bt there there_right begun.left begun.right in
           subst (TakesFront before now) are (grows_front _ _ _ _ h.grows);
     }
 

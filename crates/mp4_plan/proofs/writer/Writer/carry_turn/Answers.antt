@@ -199,7 +199,7 @@ pub returns-in_default-clause-work : goal.returns-in_default-clause-work
 returns-in_default-clause-work g c told tree o n h =
     let w = c.args.self.now in
     let m = c.args.movie.now in
-    none_carried w.leaving (g.S.Store.file c.args.store.now) m tree o w.walks.items c.args.track c.args.planned.now.count n h _ (of_got (IsWalkOf m) w.walks.items c.args.track h.walk h.is_walk c.requires.may.writer.walks.each) (c.requires.none c.in_default.is)
+    none_carried w.reductions.items (g.S.Store.file c.args.store.now) m tree o w.walks.items c.args.track c.args.planned.now.count n h _ (of_got (IsWalkOf m) w.walks.items c.args.track h.walk h.is_walk c.requires.may.writer.walks.each) (c.requires.none c.in_default.is)
 
 pub returns-in_default-clause-many : goal.returns-in_default-clause-many
 returns-in_default-clause-many g c = none_follow _ (g.met.K.Sink.takes_nothing c.args.sink.now) (waiting c.args.self.now.carrier) c.args.planned.now.count c.args.planned.now.bytes (c.requires.none c.in_default.is) c.requires.may.bounds.bytes

@@ -8,10 +8,16 @@ use Rattle.mp4_plan.proofs.writer.Writer.reduced.Goals as goal
 pub returns-clause-ready : goal.returns-clause-ready
 returns-clause-ready g c told tree o =
     let file = g.S.Store.file c.args.store.now in
+    let measured = c.in_ok-measures.ensures.measured told tree o in
+    let left = c.in_ok-mehd.ensures.left file tree o (rw c.as_slice.ensures.value measured.totals) in
+    let same = c.in_ok-measures.ensures.store in
+    let longest = (rw (same.honesty, same.file) at c.in_ok-longest.ensures.longest) told tree o (c.as_slice-by.ensures.value ∙ measured.reductions) left.0.in_range in
     record {
       ready = record {
-        head = (λ i. c.in_ok-new.ensures.empty i ++ c.in_ok-head_of.field-0.items) ∙ c.in_ok-head_of.ensures.head file tree o (c.in_ok-mehd.ensures.left file tree o).1;
-        rows = sym c.in_ok-vec.field-0.ok.0 ∙ c.in_ok-vec.ensures.len ∙ c.in_ok-longest.ensures.longest told tree o;
+        head = (λ i. c.in_ok-new.ensures.empty i ++ c.in_ok-head_of.field-0.items) ∙ c.in_ok-head_of.ensures.head file tree o left.1;
+        rows = sym c.in_ok-vec.field-0.ok.0 ∙ c.in_ok-vec.ensures.len ∙ longest;
+        range = left.0.in_range;
+        reductions = measured.reductions;
         walks = c.in_ok-walks_of.ensures.start.begin file tree o c.args.leaving;
         marked = c.in_ok-walks_of.ensures.start.marked file tree o c.args.leaving;
       };
@@ -22,8 +28,8 @@ returns-clause-ready g c told tree o =
 pub returns-clause-may : goal.returns-clause-may
 returns-clause-may g c told tree o = c.in_ok-walks_of.ensures.start.writes (g.S.Store.file c.args.store.now) tree o
 
-pub returns-clause-in_time : goal.returns-clause-in_time
-returns-clause-in_time g c told tree o = (c.in_ok-mehd.ensures.left (g.S.Store.file c.args.store.now) tree o).0
+pub returns-clause-in_limits : goal.returns-clause-in_limits
+returns-clause-in_limits g c told tree o = (c.in_ok-mehd.ensures.left (g.S.Store.file c.args.store.now) tree o (rw c.as_slice.ensures.value (c.in_ok-measures.ensures.measured told tree o).totals)).0
 
 -- ---- where there is no memory
 
@@ -56,18 +62,55 @@ pub returns-in_err-walks_of-clause-store : goal.returns-in_err-walks_of-clause-s
 returns-in_err-walks_of-clause-store g c =
     let p = err_from_is_err_and c.from_residual-in_err-walks_of.result c.from_residual-in_err-walks_of.ensures.1 in
     let s = c.in_ok-longest.ensures.store in
-    record { honesty = s.honesty; file = s.file; reads = rw p.1 tt }
+    let before = c.in_ok-measures.ensures.store in
+    record { honesty = s.honesty ∙ before.honesty; file = s.file ∙ before.file; reads = rw p.1 tt }
 
 pub returns-in_err-vec-2-clause-store : goal.returns-in_err-vec-2-clause-store
 returns-in_err-vec-2-clause-store g c =
     let p = err_from_is_err_and c.from_residual-in_err-vec-2.result c.from_residual-in_err-vec-2.ensures.1 in
     let s = c.in_ok-longest.ensures.store in
-    record { honesty = s.honesty; file = s.file; reads = rw p.1 tt }
+    let before = c.in_ok-measures.ensures.store in
+    record { honesty = s.honesty ∙ before.honesty; file = s.file ∙ before.file; reads = rw p.1 tt }
 
 pub returns-in_err-vec-2-clause-unchanged : goal.returns-in_err-vec-2-clause-unchanged
 returns-in_err-vec-2-clause-unchanged g c told tree o =
     let p = err_from_is_err_and c.from_residual-in_err-vec-2.result c.from_residual-in_err-vec-2.ensures.1 in
     rw (p.1, p.2) (λ e. absurd cc)
+
+pub returns-in_err-vec-clause-store : goal.returns-in_err-vec-clause-store
+returns-in_err-vec-clause-store g c =
+    let p = err_from_is_err_and c.from_residual-in_err-vec.result c.from_residual-in_err-vec.ensures.1 in
+    let s = c.in_ok-longest.ensures.store in
+    let before = c.in_ok-measures.ensures.store in
+    record { honesty = s.honesty ∙ before.honesty; file = s.file ∙ before.file; reads = rw p.1 tt }
+
+pub returns-in_err-vec-clause-work : goal.returns-in_err-vec-clause-work
+returns-in_err-vec-clause-work g c told tree o =
+    let same = c.in_ok-measures.ensures.store in
+    let first = c.in_ok-measures.ensures.work told tree o in
+    let then = (rw (same.honesty, same.file) at c.in_ok-longest.ensures.work) told tree o in
+    omega (arith, first, then)
+
+pub returns-in_err-vec-2-clause-work : goal.returns-in_err-vec-2-clause-work
+returns-in_err-vec-2-clause-work g c told tree o =
+    let same = c.in_ok-measures.ensures.store in
+    let first = c.in_ok-measures.ensures.work told tree o in
+    let then = (rw (same.honesty, same.file) at c.in_ok-longest.ensures.work) told tree o in
+    omega (arith, first, then)
+
+pub returns-in_err-walks_of-clause-work : goal.returns-in_err-walks_of-clause-work
+returns-in_err-walks_of-clause-work g c told tree o =
+    let same = c.in_ok-measures.ensures.store in
+    let first = c.in_ok-measures.ensures.work told tree o in
+    let then = (rw (same.honesty, same.file) at c.in_ok-longest.ensures.work) told tree o in
+    omega (arith, first, then)
+
+pub returns-clause-work : goal.returns-clause-work
+returns-clause-work g c told tree o =
+    let same = c.in_ok-measures.ensures.store in
+    let first = c.in_ok-measures.ensures.work told tree o in
+    let then = (rw (same.honesty, same.file) at c.in_ok-longest.ensures.work) told tree o in
+    omega (arith, first, then)
 
 -- ---- what is made
 
@@ -77,5 +120,5 @@ returns-clause-made g c =
     let nexts = c.in_ok-vec-2.field-0 in
     let long = sym rows.ok.0 ∙ c.in_ok-vec.ensures.len in
     let few = c.in_ok-longest.ensures.few in
-    writer_made c.args.movie.now c.args.leaving _ c.in_ok-walks_of.ensures.walks (omega (arith, long, few)) (sym nexts.ok.0 ∙ c.in_ok-vec-2.ensures.len ∙ search rules) c.in_ok-due.ensures.tree (c.in_ok-due.ensures.tracks ∙ search rules)
+    writer_made c.args.movie.now c.args.leaving _ c.in_ok-walks_of.ensures.walks (omega (arith, long, few)) (sym nexts.ok.0 ∙ c.in_ok-vec-2.ensures.len ∙ search rules) c.in_ok-measures.ensures.many c.in_ok-due.ensures.tree (c.in_ok-due.ensures.tracks ∙ search rules)
     (sym c.in_ok-new.field-0.buffer.ok.0 ∙ c.in_ok-new.ensures.room) c.in_ok-new.ensures.empty refl c.in_ok-head_of.ensures.named

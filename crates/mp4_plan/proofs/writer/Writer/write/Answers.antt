@@ -39,7 +39,7 @@ returns-in_err-peek_each-clause-prefix g c told tree o ready =
 pub returns-in_err-peek_each-clause-unchanged : goal.returns-in_err-peek_each-clause-unchanged
 returns-in_err-peek_each-clause-unchanged g c told tree o ready =
     let e = err_from_is_err_and c.from_residual-in_err-peek_each.result c.from_residual-in_err-peek_each.ensures.1 in
-    rw (e.1, e.2) (c.in_err-peek_each.ensures.unchanged told tree o (map (left_samples c.args.self.now.leaving tree) tree.movie.tracks) (rw c.as_mut_slice-walks.ensures.value ready.walks))
+    rw (e.1, e.2) (c.in_err-peek_each.ensures.unchanged c.args.self.now.leaving told tree o (map (left_samples c.args.self.now.leaving tree) tree.movie.tracks) (rw c.as_slice-reductions.ensures.value ready.reductions) (rw c.as_mut_slice-walks.ensures.value ready.walks))
 
 pub loop-turn-init : goal.loop-turn-init
 loop-turn-init g c =
@@ -56,7 +56,7 @@ loop-turn-init g c =
     let next_len = w.nexts.ok.0 in
     let next_many = ap length nexts in
     record {
-      writer = record { walks = rw walks e.walks.walks; few = c.requires.few; nexts = omega (arith, each, next_count, next_len, next_many); due = c.begin.ensures.tree; many = c.begin.ensures.many ∙ rw c.tracks-tracks.ensures at c.new-schedule.ensures.tracks };
+      writer = record { walks = rw walks e.walks.walks; few = c.requires.few; nexts = omega (arith, each, next_count, next_len, next_many); reductions = c.requires.reductions; due = c.begin.ensures.tree; many = c.begin.ensures.many ∙ rw c.tracks-tracks.ensures at c.new-schedule.ensures.tracks };
       held =
           let room = c.in_ok-carry.ensures.room in
           let old = w.carrier.buffer.ok.0 in
@@ -65,6 +65,7 @@ loop-turn-init g c =
           let own = ap rooms walks ∙ rooms_are ∙ ap rooms c.as_mut_slice-walks.ensures.value in
           omega (arith, room, old, new, own);
       leaving = refl;
+      reductions = refl;
       tracks = rw c.tracks-tracks.ensures at c.new-schedule.ensures.tracks;
       honesty = e.store.honesty;
       file = e.store.file;
@@ -77,7 +78,7 @@ loop-turn-init g c =
           let file = g.S.Store.file c.args.store.now in
           let m = c.args.movie.now in
           let lefts = map (left_samples c.args.self.now.leaving tree) tree.movie.tracks in
-          let shown = e.shown told tree o lefts (rw c.as_mut_slice-walks.ensures.value ready.walks) in
+          let shown = e.shown c.args.self.now.leaving told tree o lefts (rw c.as_slice-reductions.ensures.value ready.reductions) (rw c.as_mut_slice-walks.ensures.value ready.walks) in
           let marked = e.marked lefts (rw c.as_mut_slice-walks.ensures.value ready.marked) in
           let time = c.first_time.ensures lefts (c.as_slice-2.ensures.value ∙ nexts ∙ shown.0) in
           let tracks = c.tracks-tracks.ensures in
@@ -118,7 +119,8 @@ returns-in_err-noted-clause-unchanged g c told tree o ready =
     let after = c.loop-turn.sink in
     let here = c.in-Some.ensures.track in
     let ends : (info : TrackInfo) → slice_get m.tracks s.track ≡ Some info → c.in-Some.turn.end ≡ turn_end s (timescale_left c.args.self.now.leaving info.timescale) = λ info is. c.in-Some.ensures.end info (rw c.tracks-tracks.ensures is) in
-    rw (e.1, e.2) (note_lacks c.args.self.now.leaving file tree m o s c.loop-turn.sequence c.loop-turn.bytes w g.met.K.Sink.takes_on before after h c.in-Some.turn here ends i.tracks i.writer i.leaving _ ((rw (i.honesty, i.file) at c.in_err-noted.ensures.unchanged) told tree o))
+    rw (e.1, e.2) (note_lacks c.args.self.now.leaving file tree m o s c.loop-turn.sequence c.loop-turn.bytes w g.met.K.Sink.takes_on before after h c.in-Some.turn here ends i.tracks i.writer i.leaving (ap (λ v. v.items) i.reductions
+    ∙ ready.reductions) _ ((rw (i.honesty, i.file) at c.in_err-noted.ensures.unchanged) told tree o))
 
 pub returns-in_err-carry_turn-clause-prefix : goal.returns-in_err-carry_turn-clause-prefix
 returns-in_err-carry_turn-clause-prefix g c told tree o ready =
@@ -138,8 +140,8 @@ returns-in_err-carry_turn-clause-prefix g c told tree o ready =
     let is_id : (info : TrackInfo) → slice_get m.tracks s.track ≡ Some info
     → (get_or c.tracks-tracks.result.now c.in-Some.turn.track c.index-tracks-track.result).id
     ≡ info.id = λ info is. ap (λ (x : TrackInfo). x.id) (sym c.index-tracks-track.is ∙ read_at m.tracks s.track info c.index-tracks-track.result is (rw (here.0, c.tracks-tracks.ensures) at c.index-tracks-track.is)) in
-    rw e.1 (carry_stops c.args.self.now.leaving file tree m o s c.loop-turn.sequence c.loop-turn.bytes w g.met.K.Sink.takes_on before after h c.in-Some.turn here ends i.tracks i.writer i.leaving c.note_turn.new.self c.in_ok-noted.noted
-    (get_or c.tracks-tracks.result.now c.in-Some.turn.track c.index-tracks-track.result).id noted c.in_ok-noted.ensures.writer.keeps few is_id
+    rw e.1 (carry_stops c.args.self.now.leaving file tree m o s c.loop-turn.sequence c.loop-turn.bytes w g.met.K.Sink.takes_on before after h c.in-Some.turn here ends i.tracks i.writer i.leaving (ap (λ v. v.items) i.reductions ∙ ready.reductions) c.note_turn.new.self c.in_ok-noted.noted
+    (get_or c.tracks-tracks.result.now c.in-Some.turn.track c.index-tracks-track.result).id noted c.in_ok-noted.ensures.writer.reductions c.in_ok-noted.ensures.writer.keeps few is_id
     c.carry_turn.new.sink ((rw (c.in_ok-noted.ensures.store.honesty, c.in_ok-noted.ensures.store.file, i.honesty, i.file) at c.in_err-carry_turn.ensures.put) told tree o))
 
 pub returns-in_err-carry_turn-clause-unchanged : goal.returns-in_err-carry_turn-clause-unchanged
@@ -161,8 +163,8 @@ returns-in_err-carry_turn-clause-unchanged g c told tree o ready =
     → (get_or c.tracks-tracks.result.now c.in-Some.turn.track c.index-tracks-track.result).id
     ≡ info.id = λ info is. ap (λ (x : TrackInfo). x.id) (sym c.index-tracks-track.is ∙ read_at m.tracks s.track info c.index-tracks-track.result is (rw (here.0, c.tracks-tracks.ensures) at c.index-tracks-track.is)) in
     rw (e.1, e.2)
-    (carry_lacks c.args.self.now.leaving file tree m o s c.loop-turn.sequence c.loop-turn.bytes w g.met.K.Sink.takes_on before after h c.in-Some.turn here ends i.tracks i.writer i.leaving c.note_turn.new.self c.in_ok-noted.noted
-    (get_or c.tracks-tracks.result.now c.in-Some.turn.track c.index-tracks-track.result).id noted c.in_ok-noted.ensures.writer.keeps few is_id _
+    (carry_lacks c.args.self.now.leaving file tree m o s c.loop-turn.sequence c.loop-turn.bytes w g.met.K.Sink.takes_on before after h c.in-Some.turn here ends i.tracks i.writer i.leaving (ap (λ v. v.items) i.reductions ∙ ready.reductions) c.note_turn.new.self c.in_ok-noted.noted
+    (get_or c.tracks-tracks.result.now c.in-Some.turn.track c.index-tracks-track.result).id noted c.in_ok-noted.ensures.writer.reductions c.in_ok-noted.ensures.writer.keeps few is_id _
     ((rw (c.in_ok-noted.ensures.store.honesty, c.in_ok-noted.ensures.store.file, i.honesty, i.file) at c.in_err-carry_turn.ensures.unchanged) told tree o))
 
 pub returns-in_err-pass-clause-prefix : goal.returns-in_err-pass-clause-prefix
@@ -185,8 +187,8 @@ returns-in_err-pass-clause-prefix g c told tree o ready =
     ≡ info.id = λ info is. ap (λ (x : TrackInfo). x.id) (sym c.index-tracks-track.is ∙ read_at m.tracks s.track info c.index-tracks-track.result is (rw (here.0, c.tracks-tracks.ensures) at c.index-tracks-track.is)) in
     let put = (rw (c.in_ok-noted.ensures.store.honesty, c.in_ok-noted.ensures.store.file, i.honesty, i.file) at c.in_ok-carry_turn.ensures.put) told tree o in
     let copied = (rw (c.in_ok-noted.ensures.store.honesty, c.in_ok-noted.ensures.store.file, i.honesty, i.file) at c.in_ok-carry_turn.ensures.copied) told tree o in
-    let on = turn_goes c.args.self.now.leaving file tree m o s c.loop-turn.sequence c.loop-turn.bytes w g.met.K.Sink.takes_on before after h c.in-Some.turn here ends i.tracks i.writer i.leaving c.note_turn.new.self c.in_ok-noted.noted
-    (get_or c.tracks-tracks.result.now c.in-Some.turn.track c.index-tracks-track.result).id noted c.in_ok-noted.ensures.writer.keeps few is_id c.carry_turn.new.self _ copied
+    let on = turn_goes c.args.self.now.leaving file tree m o s c.loop-turn.sequence c.loop-turn.bytes w g.met.K.Sink.takes_on before after h c.in-Some.turn here ends i.tracks i.writer i.leaving (ap (λ v. v.items) i.reductions ∙ ready.reductions) c.note_turn.new.self c.in_ok-noted.noted
+    (get_or c.tracks-tracks.result.now c.in-Some.turn.track c.index-tracks-track.result).id noted c.in_ok-noted.ensures.writer.reductions c.in_ok-noted.ensures.writer.keeps few is_id c.carry_turn.new.self _ copied
     (λ x is. read_at c.carry_turn.new.self.nexts.items c.in-Some.turn.track x _ is c.index.ensures) c.carry_turn.new.sink _ put c.in_ok-carry_turn.ensures.writer.keeps refl in
     rw e.1 (stopped c.args.self.now.leaving file tree m _ _ _ _ _ _ g.met.K.Sink.takes_on _ _ _ on)
 
@@ -214,15 +216,18 @@ returns-in_err-pass-clause-unchanged g c told tree o ready =
     let there = (get_or c.tracks-tracks.result.now c.in-Some.turn.track c.index-tracks-track.result).id in
     let read : (x : Option SampleAt) → slice_get c.carry_turn.new.self.nexts.items c.in-Some.turn.track ≡ Some x → c.index.result.now ≡ x = λ x is. read_at c.carry_turn.new.self.nexts.items c.in-Some.turn.track x _ is c.index.ensures in
     let on = turn_goes c.args.self.now.leaving file tree m o s c.loop-turn.sequence c.loop-turn.bytes w
-    g.met.K.Sink.takes_on before after h c.in-Some.turn here ends i.tracks i.writer i.leaving c.note_turn.new.self c.in_ok-noted.noted there noted c.in_ok-noted.ensures.writer.keeps few is_id c.carry_turn.new.self
+    g.met.K.Sink.takes_on before after h c.in-Some.turn here ends i.tracks i.writer i.leaving (ap (λ v. v.items) i.reductions
+    ∙ ready.reductions) c.note_turn.new.self c.in_ok-noted.noted there noted c.in_ok-noted.ensures.writer.reductions c.in_ok-noted.ensures.writer.keeps few is_id c.carry_turn.new.self
     c.index.result.now copied read c.carry_turn.new.sink next put c.in_ok-carry_turn.ensures.writer.keeps refl in
-    let stuck = with_times c.args.self.now.leaving file tree m o s c.loop-turn.sequence c.loop-turn.bytes w g.met.K.Sink.takes_on before after h c.in-Some.turn here ends i.tracks i.writer i.leaving c.note_turn.new.self c.in_ok-noted.noted there noted c.in_ok-noted.ensures.writer.keeps few is_id
+    let stuck = with_times c.args.self.now.leaving file tree m o s c.loop-turn.sequence c.loop-turn.bytes w g.met.K.Sink.takes_on before after h c.in-Some.turn here ends i.tracks i.writer i.leaving (ap (λ v. v.items) i.reductions
+    ∙ ready.reductions) c.note_turn.new.self c.in_ok-noted.noted there noted c.in_ok-noted.ensures.writer.reductions c.in_ok-noted.ensures.writer.keeps few is_id
     c.carry_turn.new.self c.index.result.now copied
     read (λ (xs : List (Option SampleAt)). Sticks s c.in_ok-noted.noted.planned.count c.index.result.now ⊎ FindsMore (infos_left c.args.self.now.leaving m.tracks) xs next c.pass.new.self c.pass.new.due) (i.due told tree o ready) c.in_ok-carry_turn.ensures.writer.keeps.2
     (rw c.tracks-tracks.ensures at c.in_err-pass.ensures.sticks) in
     rw (e.1, e.2)
     (λ r. either stuck
-    (pass_lacks c.args.self.now.leaving file tree m o s c.loop-turn.sequence c.loop-turn.bytes w g.met.K.Sink.takes_on before after h c.in-Some.turn here ends i.tracks i.writer i.leaving c.note_turn.new.self c.in_ok-noted.noted there noted c.in_ok-noted.ensures.writer.keeps few is_id
+    (pass_lacks c.args.self.now.leaving file tree m o s c.loop-turn.sequence c.loop-turn.bytes w g.met.K.Sink.takes_on before after h c.in-Some.turn here ends i.tracks i.writer i.leaving (ap (λ v. v.items) i.reductions
+    ∙ ready.reductions) c.note_turn.new.self c.in_ok-noted.noted there noted c.in_ok-noted.ensures.writer.reductions c.in_ok-noted.ensures.writer.keeps few is_id
     c.carry_turn.new.self c.index.result.now copied read (i.due told tree o ready))
     (writes_no_more c.args.self.now.leaving file tree m next c.pass.new.self _ _ _ _ _ _ _ c.pass.new.due o on))
 
@@ -232,13 +237,14 @@ loop-turn-preserved g c =
     record {
       writer =
           let goes = c.in_ok-carry_turn.ensures.writer.writer in
-          record { walks = goes.walks; few = goes.few; nexts = goes.nexts; due = c.in_ok-pass.ensures.tree.0; many = c.in_ok-pass.ensures.tree.1 ∙ i.tracks };
+          record { walks = goes.walks; few = goes.few; nexts = goes.nexts; reductions = goes.reductions; due = c.in_ok-pass.ensures.tree.0; many = c.in_ok-pass.ensures.tree.1 ∙ i.tracks };
       held = c.in_ok-carry_turn.ensures.writer.held ∙ c.in_ok-noted.ensures.writer.held ∙ i.held;
       tracks = c.in_ok-pass.ensures.tracks ∙ i.tracks;
       honesty = c.in_ok-carry_turn.ensures.devices.honesty ∙ c.in_ok-noted.ensures.store.honesty ∙ i.honesty;
       file = c.in_ok-carry_turn.ensures.devices.file ∙ c.in_ok-noted.ensures.store.file ∙ i.file;
       reads = c.in_ok-carry_turn.ensures.devices.reads ∙ c.in_ok-noted.ensures.store.reads ∙ i.reads;
       puts = c.in_ok-carry_turn.ensures.devices.puts ∙ i.puts;
+      reductions = c.in_ok-carry_turn.ensures.writer.reductions ∙ c.in_ok-noted.ensures.writer.reductions ∙ i.reductions;
       leaving = c.in_ok-carry_turn.ensures.writer.keeps.0 ∙ c.in_ok-noted.ensures.writer.keeps.0 ∙ i.leaving;
       rows = ap (λ v. length v.items) c.in_ok-carry_turn.ensures.writer.keeps.1 ∙ c.in_ok-noted.ensures.writer.keeps.2 ∙ i.rows;
       few = (let left = c.in_ok-pass.ensures.left in
@@ -276,12 +282,14 @@ loop-turn-preserved g c =
           let read : (x : Option SampleAt) → slice_get c.carry_turn.new.self.nexts.items c.in-Some.turn.track ≡ Some x → c.index.result.now ≡ x = λ x is. read_at c.carry_turn.new.self.nexts.items c.in-Some.turn.track x _ is c.index.ensures in
           let due_next =
           with_times c.args.self.now.leaving file tree m o s c.loop-turn.sequence c.loop-turn.bytes w
-          g.met.K.Sink.takes_on before after h c.in-Some.turn here ends i.tracks i.writer i.leaving c.note_turn.new.self c.in_ok-noted.noted there noted c.in_ok-noted.ensures.writer.keeps few is_id c.carry_turn.new.self
+          g.met.K.Sink.takes_on before after h c.in-Some.turn here ends i.tracks i.writer i.leaving (ap (λ v. v.items) i.reductions
+          ∙ ready.reductions) c.note_turn.new.self c.in_ok-noted.noted there noted c.in_ok-noted.ensures.writer.reductions c.in_ok-noted.ensures.writer.keeps few is_id c.carry_turn.new.self
           c.index.result.now copied read (λ (xs : List (Option SampleAt)). IsDueAt (infos_left c.args.self.now.leaving m.tracks) xs c.pass.new.self c.pass.new.due) (i.due told tree o ready) c.in_ok-carry_turn.ensures.writer.keeps.2 (rw c.tracks-tracks.ensures at c.in_ok-pass.ensures.due) in
           rw (c.sequence_behind-sequence.ensures, c.from-bytes.ensures)
           (writes_skips c.args.self.now.leaving file tree m next c.pass.new.self _ _ _ _ _ _ _ c.pass.new.due o
           (turn_goes c.args.self.now.leaving file tree m o s c.loop-turn.sequence c.loop-turn.bytes w
-          g.met.K.Sink.takes_on before after h c.in-Some.turn here ends i.tracks i.writer i.leaving c.note_turn.new.self c.in_ok-noted.noted there noted c.in_ok-noted.ensures.writer.keeps few is_id c.carry_turn.new.self
+          g.met.K.Sink.takes_on before after h c.in-Some.turn here ends i.tracks i.writer i.leaving (ap (λ v. v.items) i.reductions
+          ∙ ready.reductions) c.note_turn.new.self c.in_ok-noted.noted there noted c.in_ok-noted.ensures.writer.reductions c.in_ok-noted.ensures.writer.keeps few is_id c.carry_turn.new.self
           c.index.result.now copied read c.carry_turn.new.sink next put c.in_ok-carry_turn.ensures.writer.keeps refl)
           c.in_ok-pass.ensures.turned due_next);
       due = λ told tree o ready.
@@ -302,15 +310,15 @@ loop-turn-preserved g c =
           let copied = (rw (c.in_ok-noted.ensures.store.honesty, c.in_ok-noted.ensures.store.file, i.honesty, i.file) at c.in_ok-carry_turn.ensures.copied) told tree o in
           let there = (get_or c.tracks-tracks.result.now c.in-Some.turn.track c.index-tracks-track.result).id in
           let read : (x : Option SampleAt) → slice_get c.carry_turn.new.self.nexts.items c.in-Some.turn.track ≡ Some x → c.index.result.now ≡ x = λ x is. read_at c.carry_turn.new.self.nexts.items c.in-Some.turn.track x _ is c.index.ensures in
-          with_times c.args.self.now.leaving file tree m o s c.loop-turn.sequence c.loop-turn.bytes w g.met.K.Sink.takes_on before after h c.in-Some.turn here ends i.tracks i.writer i.leaving c.note_turn.new.self c.in_ok-noted.noted there noted c.in_ok-noted.ensures.writer.keeps few is_id
+          with_times c.args.self.now.leaving file tree m o s c.loop-turn.sequence c.loop-turn.bytes w g.met.K.Sink.takes_on before after h c.in-Some.turn here ends i.tracks i.writer i.leaving (ap (λ v. v.items) i.reductions
+          ∙ ready.reductions) c.note_turn.new.self c.in_ok-noted.noted there noted c.in_ok-noted.ensures.writer.reductions c.in_ok-noted.ensures.writer.keeps few is_id
           c.carry_turn.new.self c.index.result.now copied
           read (λ (xs : List (Option SampleAt)). IsDueAt (infos_left c.args.self.now.leaving m.tracks) xs c.pass.new.self c.pass.new.due) (i.due told tree o ready) c.in_ok-carry_turn.ensures.writer.keeps.2 (rw c.tracks-tracks.ensures at c.in_ok-pass.ensures.due);
       within = λ told tree o n may.
           let w = c.loop-turn.self in
-          let keep = c.in_ok-noted.ensures.writer.keeps.0 in
-          turn_then (g.S.Store.file c.args.store.now) tree c.args.movie.now w.leaving w.walks.items c.note_turn.new.self.walks.items c.in-Some.turn.track c.in_ok-noted.noted.planned.count n _ _ _ (i.within told tree o n may)
+          turn_then (g.S.Store.file c.args.store.now) tree c.args.movie.now w.reductions.items w.walks.items c.note_turn.new.self.walks.items c.in-Some.turn.track c.in_ok-noted.noted.planned.count n _ _ _ (i.within told tree o n may)
           ((rw (i.honesty, i.file) at c.in_ok-noted.ensures.work) told tree o) c.carry_turn.new.self.walks.items _
-          (rw keep at ((rw (c.in_ok-noted.ensures.store.honesty, c.in_ok-noted.ensures.store.file, i.honesty, i.file) at c.in_ok-carry_turn.ensures.work) told tree o));
+          (rw c.in_ok-noted.ensures.writer.reductions at ((rw (c.in_ok-noted.ensures.store.honesty, c.in_ok-noted.ensures.store.file, i.honesty, i.file) at c.in_ok-carry_turn.ensures.work) told tree o));
       some = c.in_ok-pass.ensures.some;
       looks = looks_on c.loop-turn.schedule c.pass.new.self c.args.looks.now _ _ (movie_turns c.args.movie.now) i.looks c.in-Some.ensures.looks c.in_ok-pass.ensures.less;
       grows = (let noted = c.in_ok-noted.ensures.grows in let carried = c.in_ok-carry_turn.ensures.grows in let so = i.grows in omega (arith, noted, carried, so));
@@ -358,21 +366,19 @@ pub returns-in_err-carry_turn-clause-work : goal.returns-in_err-carry_turn-claus
 returns-in_err-carry_turn-clause-work g c told tree o n may =
     let i = c.loop-turn.invariant in
     let w = c.loop-turn.self in
-    let keep = c.in_ok-noted.ensures.writer.keeps.0 in
-    turn_then_stop (g.S.Store.file c.args.store.now) tree c.args.movie.now w.leaving w.walks.items c.note_turn.new.self.walks.items c.in-Some.turn.track c.in_ok-noted.noted.planned.count n _ _ _ (i.within told tree o n may)
+    turn_then_stop (g.S.Store.file c.args.store.now) tree c.args.movie.now w.reductions.items w.walks.items c.note_turn.new.self.walks.items c.in-Some.turn.track c.in_ok-noted.noted.planned.count n _ _ _ (i.within told tree o n may)
     ((rw (i.honesty, i.file) at c.in_ok-noted.ensures.work) told tree o) _
-    (rw keep at ((rw (c.in_ok-noted.ensures.store.honesty, c.in_ok-noted.ensures.store.file, i.honesty, i.file) at c.in_err-carry_turn.ensures.work) told tree o))
+    (rw c.in_ok-noted.ensures.writer.reductions at ((rw (c.in_ok-noted.ensures.store.honesty, c.in_ok-noted.ensures.store.file, i.honesty, i.file) at c.in_err-carry_turn.ensures.work) told tree o))
 
 pub returns-in_err-pass-clause-work : goal.returns-in_err-pass-clause-work
 returns-in_err-pass-clause-work g c told tree o n may =
     let i = c.loop-turn.invariant in
     let file = g.S.Store.file c.args.store.now in
     let w = c.loop-turn.self in
-    let keep = c.in_ok-noted.ensures.writer.keeps.0 in
     all_written file tree c.args.movie.now c.carry_turn.new.self.walks.items n _ _
-    (turn_then file tree c.args.movie.now w.leaving w.walks.items c.note_turn.new.self.walks.items c.in-Some.turn.track c.in_ok-noted.noted.planned.count n _ _ _ (i.within told tree o n may)
+    (turn_then file tree c.args.movie.now w.reductions.items w.walks.items c.note_turn.new.self.walks.items c.in-Some.turn.track c.in_ok-noted.noted.planned.count n _ _ _ (i.within told tree o n may)
     ((rw (i.honesty, i.file) at c.in_ok-noted.ensures.work) told tree o) c.carry_turn.new.self.walks.items _
-    (rw keep at ((rw (c.in_ok-noted.ensures.store.honesty, c.in_ok-noted.ensures.store.file, i.honesty, i.file) at c.in_ok-carry_turn.ensures.work) told tree o)))
+    (rw c.in_ok-noted.ensures.writer.reductions at ((rw (c.in_ok-noted.ensures.store.honesty, c.in_ok-noted.ensures.store.file, i.honesty, i.file) at c.in_ok-carry_turn.ensures.work) told tree o)))
 
 pub returns-clause-work : goal.returns-clause-work
 returns-clause-work g c told tree o n may = all_written (g.S.Store.file c.args.store.now) tree c.args.movie.now c.loop-turn.self.walks.items n _ _ (c.loop-turn.invariant.within told tree o n may)

@@ -19,6 +19,7 @@ invariant-loop-turn g l = record {
   writer : IsWriterOf l.movie l.self;
   held : held l.self ≡ held l.fn.self;
   leaving : l.self.leaving ≡ l.fn.self.leaving;
+  reductions : l.self.reductions ≡ l.fn.self.reductions;
   tracks : l.schedule.tracks ≡ length l.movie.tracks;
   honesty : g.S.Store.is_honest l.store ≡ g.S.Store.is_honest l.fn.store;
   file : g.S.Store.file l.store ≡ g.S.Store.file l.fn.store;

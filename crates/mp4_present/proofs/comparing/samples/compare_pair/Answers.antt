@@ -56,7 +56,7 @@ returns-in_err-compare_bytes-clause-work g c told told_right tree other o p t u 
 pub returns-clause-found : goal.returns-clause-found
 returns-clause-found g c told told_right tree other o p t u xs ys hx hy =
     let by = c.args.by.now in
-    let samples : c.compare_samples.new.found.items ≡ differences_at by.leaving (subjects.Sample by.track c.args.number) by.keys.items by.left c.in_ok-x.x by.right c.in_ok-y.y =
+    let samples : c.compare_samples.new.found.items ≡ differences_at by.leaving (subjects.Sample by.track c.args.number) by.keys.items by.left by.left_edges c.in_ok-x.x by.right by.right_edges c.in_ok-y.y =
     rw c.new-found.ensures.items at c.in_ok-compare_samples.ensures in
     let bytes = (rw (c.in_ok-x.ensures.store.honesty, c.in_ok-x.ensures.store.file, c.in_ok-y.ensures.store.honesty, c.in_ok-y.ensures.store.file) at c.in_ok-compare_bytes.ensures.bytes) told told_right in
     (c.in_ok-x.x, c.in_ok-y.y, c.in_ok-x.ensures.next told tree t xs o hx, c.in_ok-y.ensures.next told_right other u ys p hy, found_then _ _ _ _ samples bytes)

@@ -1,5 +1,6 @@
 use Rattle.std.proofs.Common.{◌∙◌, arith}
 use Rattle.std.proofs.lemmas.Result.{err_from_is_err_and, on_ok_weaker}
+use Rattle.mp4_plan.specs.format.ReducedLaws.{nothing}
 use Rattle.mp4norm.proofs.StepSums.{opened_least}
 use Rattle.mp4norm.proofs.StepsTaken.{not_opened, written_within}
 use Rattle.mp4norm.proofs.LooksTaken.{not_found, not_turned, turns_taken}
@@ -36,12 +37,12 @@ returns-clause-store g c =
 
 pub returns-in_err-movie-clause-work : goal.returns-in_err-movie-clause-work
 returns-in_err-movie-clause-work g c = λ told.
-    not_opened _ _ _ _ _ _ c.in_err-movie.field-0.0 told c.in_err-movie.ensures.refusal (c.in_err-movie.ensures.work told) (c.in_err-movie.ensures.within told)
+    not_opened _ _ _ nothing _ _ _ c.in_err-movie.field-0.0 told c.in_err-movie.ensures.refusal (c.in_err-movie.ensures.work told) (c.in_err-movie.ensures.within told)
 
 pub returns-clause-work : goal.returns-clause-work
 returns-clause-work g c = λ told.
     let write = rw (c.in_ok-movie.ensures.store.honesty, c.in_ok-movie.ensures.store.file) at c.write_normal.ensures.work in
-    written_within _ _ _ _ _ (c.in_ok-movie.ensures.movie told) (c.in_ok-movie.ensures.work told) (write told)
+    written_within nothing _ _ _ _ _ (c.in_ok-movie.ensures.movie told) (c.in_ok-movie.ensures.work told) (λ tree o. let w = write told tree o in omega (arith, w))
 
 pub returns-in_err-movie-clause-looks : goal.returns-in_err-movie-clause-looks
 returns-in_err-movie-clause-looks g c = λ told.

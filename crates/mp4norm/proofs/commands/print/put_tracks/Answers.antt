@@ -7,8 +7,8 @@ use Rattle.mp4_present.proofs.WalkCopied.{put_unchanged, track_lies}
 use Rattle.mp4norm.proofs.PrintedTracks.{front_fails, lines_fail, track_most, track_next, track_there, tracks_begin, tracks_end, tracks_most, walk_popped}
 use Rattle.mp4norm.proofs.commands.print.put_tracks.Goals as goal
 
-pub put_walk-requires-clause-walk : goal.put_walk-requires-clause-walk
-put_walk-requires-clause-walk g c = (walk_popped c.args.movie.now c.loop-track.track _ c.pop.new.self.items _ c.in-Some.ensures.items c.loop-track.invariant.walks).0.walk
+pub put_samples-requires-clause-walk : goal.put_samples-requires-clause-walk
+put_samples-requires-clause-walk g c = (walk_popped c.args.movie.now c.loop-track.track _ c.pop.new.self.items _ c.in-Some.ensures.items c.loop-track.invariant.walks).0.walk
 
 pub loop-track-init : goal.loop-track-init
 loop-track-init g c = record {
@@ -38,11 +38,10 @@ loop-track-preserved g c =
     let i_is : info ≡ slice_index_or m.tracks k info = search rules in
     let h_at = at_place known k head h_lt h_is in
     let i_at = at_place m.tracks k info i_lt i_is in
-    let style = c.new-style.result in
     let joins = g.met.K.Sink.takes_on in
     let sink = c.args.sink.now in
     let held = waiting c.args.desk.now.text in
-    let e = c.in_ok-put_walk.ensures in
+    let e = c.in_ok-put_samples.ensures in
     let popped = walk_popped m k _ c.pop.new.self.items _ c.in-Some.ensures.items i.walks in
     record {
       walks = popped.1;
@@ -57,12 +56,12 @@ loop-track-preserved g c =
       puts = e.store.puts ∙ c.in_ok-put_front.ensures.puts ∙ i.puts;
       told = λ told tree o same.
           let t = track_there l file m tree known k o same head info h_at i_at in
-          let lines = (rw (i.honesty, i.file) at e.told) told tree t.0 (track_samples tree t.0) o (popped.0.coming file tree t.0 o t.1) (track_lies file m tree t.0 k o t.1) in
+          let lines = (rw (i.honesty, i.file) at e.told) told tree t.0 (track_samples tree t.0) o (popped.0.coming file tree t.0 o t.1) refl (track_lies file m tree t.0 k o t.1) k info t.1 i_at refl in
           let may = popped.0.may file tree t.0 o t.1 in
           let few = may.2 in
           let walk = (rw (i.honesty, i.file) at e.work) told tree t.0 may.0 o may.1 in
-          track_next l file m tree known k o same head info h_at i_at style c.new-style.ensures joins sink c.loop-track.sink c.put_front.new.sink c.put_walk.new.sink held (waiting c.loop-track.desk.text) (waiting c.put_front.new.text) c.args.steps.now c.loop-track.steps (i.told told tree o same)
-          (rw c.start.ensures at c.in_ok-put_front.ensures.all) (waiting c.put_walk.new.desk.text) c.put_walk.new.steps lines.text.all (omega (arith, few, walk));
+          track_next l file m tree known k o same head info h_at i_at joins sink c.loop-track.sink c.put_front.new.sink c.put_samples.new.sink held (waiting c.loop-track.desk.text) (waiting c.put_front.new.text) c.args.steps.now c.loop-track.steps (i.told told tree o same)
+          (rw c.start.ensures at c.in_ok-put_front.ensures.all) (waiting c.put_samples.new.desk.text) c.put_samples.new.steps lines.text.all (omega (arith, few, walk));
     }
 
 pub returns-in_err-put_front-clause-told : goal.returns-in_err-put_front-clause-told
@@ -82,7 +81,6 @@ returns-in_err-put_front-clause-told g c =
     let i_is : info ≡ slice_index_or m.tracks k info = search rules in
     let h_at = at_place known k head h_lt h_is in
     let i_at = at_place m.tracks k info i_lt i_is in
-    let style = c.new-style.result in
     let joins = g.met.K.Sink.takes_on in
     let sink = c.args.sink.now in
     let held = waiting c.args.desk.now.text in
@@ -93,16 +91,16 @@ returns-in_err-put_front-clause-told g c =
       lines = record {
         text = record {
           all = tt;
-          front = front_fails l file m tree known k o same head info h_at i_at style c.new-style.ensures joins sink c.loop-track.sink c.put_front.new.sink c.put_front.new.sink held (waiting c.loop-track.desk.text) held c.args.steps.now c.loop-track.steps h (rw c.start.ensures at e.front);
+          front = front_fails l file m tree known k o same head info h_at i_at joins sink c.loop-track.sink c.put_front.new.sink c.put_front.new.sink held (waiting c.loop-track.desk.text) held c.args.steps.now c.loop-track.steps h (rw c.start.ensures at e.front);
         };
         unchanged = put_unchanged _ _ c.in_err-put_front.field-0.0 e.refusal;
       };
       steps = tracks_most l file tree k _ _ _ c.args.steps.now c.loop-track.steps h;
     })
 
-pub returns-in_err-put_walk-clause-told : goal.returns-in_err-put_walk-clause-told
-returns-in_err-put_walk-clause-told g c =
-    let p = err_from_is_err_and c.from_residual-in_err-put_walk.result c.from_residual-in_err-put_walk.ensures.1 in
+pub returns-in_err-put_samples-clause-told : goal.returns-in_err-put_samples-clause-told
+returns-in_err-put_samples-clause-told g c =
+    let p = err_from_is_err_and c.from_residual-in_err-put_samples.result c.from_residual-in_err-put_samples.ensures.1 in
     let i = c.loop-track.invariant in
     let file = g.S.Store.file c.args.store.now in
     let l = c.args.leaving in
@@ -117,16 +115,15 @@ returns-in_err-put_walk-clause-told g c =
     let i_is : info ≡ slice_index_or m.tracks k info = search rules in
     let h_at = at_place known k head h_lt h_is in
     let i_at = at_place m.tracks k info i_lt i_is in
-    let style = c.new-style.result in
     let joins = g.met.K.Sink.takes_on in
     let sink = c.args.sink.now in
     let held = waiting c.args.desk.now.text in
-    let e = c.in_err-put_walk.ensures in
+    let e = c.in_err-put_samples.ensures in
     let begun = (walk_popped m k _ c.pop.new.self.items _ c.in-Some.ensures.items i.walks).0 in
     rw (p.1, p.2) (λ told tree o same.
     let h = i.told told tree o same in
     let t = track_there l file m tree known k o same head info h_at i_at in
-    let lines = (rw (i.honesty, i.file) at e.told) told tree t.0 (track_samples tree t.0) o (begun.coming file tree t.0 o t.1) (track_lies file m tree t.0 k o t.1) in
+    let lines = (rw (i.honesty, i.file) at e.told) told tree t.0 (track_samples tree t.0) o (begun.coming file tree t.0 o t.1) refl (track_lies file m tree t.0 k o t.1) k info t.1 i_at refl in
     let may = begun.may file tree t.0 o t.1 in
     let few = may.2 in
     let walk = (rw (i.honesty, i.file) at e.work) told tree t.0 may.0 o may.1 in
@@ -134,12 +131,12 @@ returns-in_err-put_walk-clause-told g c =
       lines = record {
         text = record {
           all = tt;
-          front = lines_fail l file m tree known k o same head info h_at i_at style c.new-style.ensures joins sink c.loop-track.sink c.put_front.new.sink c.put_walk.new.sink held (waiting c.loop-track.desk.text) (waiting c.put_front.new.text) c.args.steps.now c.loop-track.steps h
+          front = lines_fail l file m tree known k o same head info h_at i_at joins sink c.loop-track.sink c.put_front.new.sink c.put_samples.new.sink held (waiting c.loop-track.desk.text) (waiting c.put_front.new.text) c.args.steps.now c.loop-track.steps h
               (rw c.start.ensures at c.in_ok-put_front.ensures.all) lines.text.front;
         };
         unchanged = lines.unchanged;
       };
-      steps = track_most l file m tree known k o same head info h_at i_at style c.new-style.ensures (g.K.Sink.takes sink c.loop-track.sink) held (waiting c.loop-track.desk.text) c.args.steps.now c.loop-track.steps c.put_walk.new.steps h (omega (arith, few, walk));
+      steps = track_most l file m tree known k o same head info h_at i_at (g.K.Sink.takes sink c.loop-track.sink) held (waiting c.loop-track.desk.text) c.args.steps.now c.loop-track.steps c.put_samples.new.steps h (omega (arith, few, walk));
     })
 
 pub returns-clause-told : goal.returns-clause-told

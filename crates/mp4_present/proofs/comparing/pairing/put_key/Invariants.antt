@@ -2,7 +2,7 @@ use Rattle.std.proofs.Common.{◌≡◌, ◌++◌, take, drop}
 use Rattle.std.specs.Prelude.{map}
 use Rattle.mp4_tables.specs.words.Keys.{key_seen}
 use Rattle.mp4_present.specs.format.Comparison.{with_key}
-use Rattle.mp4_present.proofs.comparing.samples.put_key.Given as goal
+use Rattle.mp4_present.proofs.comparing.pairing.put_key.Given as goal
 
 -- the key stands behind those before this place
 abbrev pub invariant-loop-k : goal.invariant-loop-k

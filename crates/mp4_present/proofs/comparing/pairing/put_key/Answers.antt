@@ -2,7 +2,7 @@ use Rattle.std.proofs.Common.{rules, ◌≡◌, ◌<◌, ◌≤◌, ◌∷◌, �
 use Rattle.mp4_tables.specs.format.Groups.{key_rank}
 use Rattle.mp4_tables.specs.words.Keys.{key_seen}
 use Rattle.mp4_present.proofs.KeysOfBoth.{at_place, key_before, key_there, key_behind, key_last}
-use Rattle.mp4_present.proofs.comparing.samples.put_key.Goals as goal
+use Rattle.mp4_present.proofs.comparing.pairing.put_key.Goals as goal
 
 pub returns-then-rank-other : goal.returns-then-rank-other
 returns-then-rank-other c =

@@ -2,7 +2,7 @@ use Rattle.std.proofs.Common.{◌≡◌, drop}
 use Rattle.std.specs.Prelude.{map, fold}
 use Rattle.mp4_tables.specs.words.Keys.{key_seen, keys_seen}
 use Rattle.mp4_present.specs.format.Comparison.{with_key}
-use Rattle.mp4_present.proofs.comparing.samples.put_keys.Given as goal
+use Rattle.mp4_present.proofs.comparing.pairing.put_keys.Given as goal
 
 -- those before this place are put
 abbrev pub invariant-loop-j : goal.invariant-loop-j
