@@ -1,8 +1,6 @@
 #!/usr/bin/env python3
 """Makes the files that `bench/run` measures.
 
-usage: make_inputs.py FOLDER [--files NAME,..]
-
   large      a plain file of 2 GB: one track, 250 samples of 8,000,000 bytes
   small      a plain file of 5,000,000 samples of 20 to 200 bytes, with a row of stts and ctts for each sample
   fragments  20,000 movie fragments of one track, 30 samples of 500 bytes each
@@ -215,7 +213,7 @@ def make(folder, name):
 
 def main():
     names = ','.join(MAKERS)
-    args = options(__doc__, 'folder', counts=False,
+    args = options(__doc__, 'folder', epilog=None,
                    files={'default': names, 'help': f'some of {names}'})
     for name in args.files.split(','):
         if name not in MAKERS:

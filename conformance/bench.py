@@ -1,15 +1,22 @@
 """What the scripts beside this module have in common: a folder in which the program runs, what is
-due of the suite's files, and how both are compared."""
+due of the suite's files, and how both are compared.
+
+A script's parts are its functions that take a `bench` alone; each begins with a folder that has
+plain.mp4 and cut.mp4 in it. Words of a run are a list, or a line that is split at its spaces.
+"""
 import contextlib
+import inspect
 import os
 import re
 import subprocess
+import sys
 import tempfile
+from dataclasses import dataclass
 
 import trials
-from suite import built, normal, printer, reader, strips
-from suite.stored import (BOXES, COLUMNS, CUT, CUT_LINE, DATA, DIFFERENCE, NORMAL, OTHER, PLAIN,
-                          SAMPLES, SHOWN, bytes_of, cases, objects)
+from suite import answers, built, strips
+from suite.stored import (BOXES, COLUMNS, CUT, DATA, NORMAL, PLAIN, SAMPLES, SHOWN, bytes_of, cases,
+                          lengths_of, objects)
 from trials import LIMIT, Room, Tally, other, printed
 
 HERE = os.path.dirname(os.path.abspath(__file__))
@@ -17,11 +24,11 @@ HERE = os.path.dirname(os.path.abspath(__file__))
 AT_ONCE = 5
 # A name as users have them.
 ODD_NAME = 'a file of two\nlines'
-STATUS_OF = {'refused': 1, 'failed': 3}
 # The name of a new file beside NEW, in a folder.
 PART = re.compile(r'\.part')
-# What NEW may be before a run.
+# What NEW may be before a run, and further words with which it may be that.
 OLD = b'as it was'
+OVER = (([], None), (['--replace'], OLD))
 STORE, WRITE, CHANGED = b'failed: store\n', b'failed: write\n', b'failed: store changed\n'
 # The verdict on what can't be opened.
 NOT_THERE = b'failed: store'
@@ -36,8 +43,20 @@ WANTED = {
     ('samples', '--json', '--track', '1'): objects(),
     ('extract', '--track', '1', '--out', '-'): DATA,
     ('normalise', '--out', '-'): NORMAL,
-    ('print',): printer.text(reader.Movie(PLAIN)),
+    ('print',): answers.text(PLAIN),
 }
+# A word that stands for itself in the name of a run.
+PLAINLY = re.compile('[!-~]+')
+
+
+def words_of(words):
+    return words.split() if isinstance(words, str) else list(words)
+
+
+def spelled(words):
+    """A run's words, as it is named for them."""
+    return ' '.join(word if isinstance(word, str) and PLAINLY.fullmatch(word) else repr(word)
+                    for word in words_of(words)) or 'no words'
 
 
 def shown(answer):
@@ -49,9 +68,21 @@ def line(text):
     return text + b'\n'
 
 
-def reduced(data, words):
-    """The normal form of a file without some words."""
-    return normal.normal_form(reader.Movie(data).leave_out(words))
+def like(text):
+    """A pattern of what is said."""
+    return re.compile(text, re.DOTALL)
+
+
+def caused(name, words, end=b''):
+    """The pattern of what --explain says of a failure: the file, words of the cause, the end."""
+    cause = b'[^\n]*%s[^\n]*' % re.escape(words.encode()) if words else b'[^\n]+'
+    return like(b'file: %s\ncause: %s\n%s' % (re.escape(os.fsencode(name)), cause, end))
+
+
+def in_parts(parts):
+    """Files by name: parts, and a list of them."""
+    files = {f'part{number}.m4s': part for number, part in enumerate(parts)}
+    return {'list': '\n'.join(files).encode(), **files}
 
 
 def stripped():
@@ -66,42 +97,25 @@ def gone_process():
     return gone.pid
 
 
-def characters(name):
-    """The characters of a name, each as its bytes; a byte that is no part of one stands alone, and
-    is given behind a False."""
-    at = 0
-    while at < len(name):
-        for length in (1, 2, 3, 4):
-            try:
-                name[at:at + length].decode()
-            except UnicodeDecodeError:
-                continue
-            break
-        else:
-            length = 0
-        yield name[at:at + max(length, 1)], length > 0
-        at += max(length, 1)
-
-
 def escaped(name):
-    """A name as it stands in a line for people: backslashes, control characters, and bytes that
-    are no UTF-8 are spelled."""
-    made = b''
-    for part, is_text in characters(name):
-        is_control = part[0] < 32 or part[0] == 127 or b'\xc2\x80' <= part <= b'\xc2\x9f'
-        if part == b'\\':
-            made += b'\\\\'
-        elif is_control or not is_text:
-            made += b''.join(b'\\x%02x' % byte for byte in part)
-        else:
-            made += part
-    return made
+    """A name in a line for people: backslashes, controls and what is no UTF-8 are spelled."""
+    made = ''
+    for one in os.fsdecode(name):
+        is_control = one < ' ' or '\x7f' <= one < '\xa0' or '\ud800' <= one < '\ue000'
+        spelled_one = ''.join(f'\\x{byte:02x}' for byte in os.fsencode(one)) if is_control else one
+        made += '\\\\' if one == '\\' else spelled_one
+    return os.fsencode(made)
 
 
 def verdict(name, said, end=b'\n'):
     """A line of `check`; only where a zero byte ends it, the name stands there as it is."""
-    name = os.fsencode(name)
-    return (escaped(name) if end == b'\n' else name) + b': ' + (said or b'accepted') + end
+    name = escaped(name) if end == b'\n' else os.fsencode(name)
+    return name + b': ' + (said or b'accepted') + end
+
+
+def status_of(said):
+    """The status of a verdict."""
+    return 3 if said.startswith(b'failed') else 1 if said else 0
 
 
 def refusal_of(asked):
@@ -115,12 +129,26 @@ def cases_of_the_suite():
     for number, case in enumerate(cases()):
         if case['command'] == 'normalise' and 'length' not in case:
             whole = bytes_of('files', case['file'] + '.mp4')
-            low, high = case.get('first_bytes', [len(whole), len(whole)])
-            for length in range(low, high + 1, 7):
+            for length in lengths_of(case, whole, 7):
                 yield f'case-{number}-{length}.mp4', whole[:length], case.get('error')
     for file in built.single_faults():
         data, asked = file.asked()
         yield f'{file.name}.mp4', data, refusal_of(asked)
+
+
+@dataclass
+class Line:
+    """A line of words, and what is due of it: `said` is a pattern, of `put` None is any text, and
+    `made` is what NEW is. `given` is standard input, where it is read."""
+    line: str
+    status: int = 0
+    said: bytes = b''
+    put: bytes = b''
+    made: bytes = None
+    given: bytes = None
+
+    def has(self, word):
+        return word in self.line.split()
 
 
 class Bench(Room, Tally):
@@ -130,12 +158,21 @@ class Bench(Room, Tally):
         Room.__init__(self, folder)
         Tally.__init__(self)
         self.program, self.made_library = program, None
+        os.mkdir(folder)
+
+    def begin(self):
+        """The folder as a part of a script begins with it."""
+        self.remove(*os.listdir(self.folder))
         self.write('plain.mp4', PLAIN)
         self.write('cut.mp4', CUT)
 
     def beside(self, name):
         """A path outside of the folder."""
         return os.path.join(os.path.dirname(self.folder), name)
+
+    def write_all(self, files, folder='.'):
+        for name, data in files.items():
+            self.write(os.path.join(folder, name), data)
 
     def make_no_files(self):
         """A FIFO that nobody writes to, and a folder."""
@@ -158,31 +195,33 @@ class Bench(Room, Tally):
 
     # ---- runs
 
-    def run(self, *words, **how):
+    def run(self, words, **how):
         """Status, standard error, standard output."""
-        return trials.run(self.program, *words, cwd=self.folder, **how)
+        return trials.run(self.program, *words_of(words), cwd=self.folder, **how)
 
-    def run_in_shell(self, *words, before='', behind='', environment=(), **how):
+    def run_in_shell(self, words, before='', behind='', environment=(), **how):
         """The same of a shell that runs the program; what is set for the program alone."""
-        setting = ''.join(f"export {name}='{value}'; " for name, value in dict(environment).items())
+        setting = ''.join(f"export {name}='{it}'; " for name, it in dict(environment).items())
         script = f'{before}{setting}exec "$0" "$@" {behind}'
-        return trials.run('sh', '-c', script, self.program, *words, cwd=self.folder, **how)
+        return trials.run('sh', '-c', script, self.program, *words_of(words), cwd=self.folder,
+                          **how)
 
-    def run_to_full(self, *words):
+    def run_to_full(self, words):
         """The same where standard output has no room."""
         with open('/dev/full', 'wb') as full:
-            return self.run(*words, stdout=full, limit=AT_ONCE)
+            return self.run(words, stdout=full, limit=AT_ONCE)
 
-    def run_piped(self, name, *words, limit=LIMIT):
+    def run_piped(self, name, words, limit=LIMIT):
         """The same with a file in a pipe as standard input."""
         with subprocess.Popen(['cat', self.path(name)], stdout=subprocess.PIPE) as cat:
-            got = self.run(*words, stdin=cat.stdout, limit=limit)
+            got = self.run(words, stdin=cat.stdout, limit=limit)
             cat.stdout.close()
         return got
 
-    def started(self, *words, **how):
+    def started(self, words, **how):
         """A run that goes on, whose standard output is read meanwhile."""
-        return subprocess.Popen([self.program, *words], stdin=subprocess.DEVNULL, cwd=self.folder,
+        return subprocess.Popen([self.program, *words_of(words)], stdin=subprocess.DEVNULL,
+                                cwd=self.folder,
                                 **{'stdout': subprocess.PIPE, 'stderr': subprocess.PIPE, **how})
 
     def library(self):
@@ -193,54 +232,53 @@ class Bench(Room, Tally):
                     os.path.join(HERE, 'failures.c'))
         return self.made_library
 
-    def run_with(self, failing, *words, **how):
+    def run_with(self, failing, words, **how):
         """A run with the library, and these words for it."""
         environment = {**os.environ, 'LD_PRELOAD': self.library(), **failing}
-        return self.run(*words, env=environment, **how)
+        return self.run(words, env=environment, **how)
 
     def before_call(self, script, call, file, at=1):
-        """The words for the library by which the shell runs a script before a call of a kind about
-        a file."""
+        """The words by which the library runs a script before a call of a kind about a file."""
         return {'LD_PRELOAD': self.library(), 'MEANWHILE': script, 'MEANWHILE_CALL': call,
                 'MEANWHILE_FILE': file, 'MEANWHILE_AT': str(at)}
 
-    def meanwhile(self, script, call, file, at, *words, **how):
+    def meanwhile(self, script, call, file, words, **how):
         """A run in which the shell runs a script before a call."""
-        return self.run_with(self.before_call(script, call, file, at), *words, **how)
+        return self.run_with(self.before_call(script, call, file), words, **how)
 
     # ---- what is due
 
-    def wants(self, name, got, status, error=b'', output=b''):
-        """Compares an answer."""
-        due = (status, error, output)
-        self.note(name, '' if got == due else f'{shown(got)}, not {shown(due)}')
+    def right(self, name, got, is_due, *wrong):
+        """Counts an answer that may be due, or not."""
+        self.note(name, '' if is_due else shown(got), *wrong)
 
-    def matches(self, name, got, status, error=b'', output=b'', *wrong):
-        """Compares an answer; what is due on standard error is a pattern."""
-        is_due = (got[0] == status and re.fullmatch(error, got[1], re.DOTALL) and got[2] == output)
-        due = status, error, output
+    def wants(self, name, got, status, error=b'', output=b'', *wrong):
+        """Compares an answer; what is due on standard error may be a pattern."""
+        is_said = error.fullmatch(got[1]) if isinstance(error, re.Pattern) else error == got[1]
+        due = status, getattr(error, 'pattern', error), output
+        is_due = is_said and (got[0], got[2]) == (status, output)
         self.note(name, '' if is_due else f'{shown(got)}, not {shown(due)}', *wrong)
 
-    def asks(self, name, words, status, error=b'', output=b'', **how):
-        """Runs words, and compares the answer."""
-        self.wants(name, self.run(*words, **how), status, error, output)
+    def asks(self, words, status, error=b'', output=b'', of='', **how):
+        """Runs words, and compares the answer; the words name the check, and what it is of."""
+        self.wants(f'{spelled(words)}{of and ": "}{of}', self.run(words, **how), status, error,
+                   output)
 
-    def makes(self, name, words, there, made, status, error=b'', **how):
-        """Runs words that make NEW, of which it is said what is there before, and behind the run."""
+    def makes(self, words, there, made, status, error=b'', of='', **how):
+        """Runs words that make NEW, of which is said what it is before, and behind the run."""
         self.new(there)
-        self.asks(name, words, status, error, **how)
-        self.has_made(name, made)
+        self.asks(words, status, error, of=of, **how)
+        self.has_made(f'{spelled(words)}{of and ": "}{of}', made)
 
     def has_made(self, name, made):
         """Compares NEW; no file may lie beside it."""
         self.note(f'{name}: files', self.is_as('new', made), self.has_no_part())
 
-    def refuses_words(self, *words, of=None, unmade='new'):
+    def refuses_words(self, words, unmade='new'):
         """Words that are wrong: that is said, and nothing is put or made."""
-        got = self.run(*words)
+        got = self.run(words)
         is_due = got[0] == 64 and got[1].startswith(b'error: ') and not got[2]
-        self.note(of or f'wrong words: {words}', '' if is_due else shown(got),
-                  self.is_as(unmade, None))
+        self.right(f'wrong words: {spelled(words)}', got, is_due, self.is_as(unmade, None))
 
     def is_as(self, name, data):
         """What is wrong with a file that has to have these bytes, or, of None, not to be there."""
@@ -261,16 +299,21 @@ def benched(text):
     only = {'default': '', 'metavar': 'WORD', 'help': 'only parts with this in their name'}
     args = trials.options(text, 'program', only=only)
     with tempfile.TemporaryDirectory() as folder:
-        room = os.path.join(folder, 'room')
-        os.mkdir(room)
-        bench = Bench(args.program, room)
+        bench = Bench(args.program, os.path.join(folder, 'room'))
         yield bench, args.only
     bench.end()
 
 
-def run_parts(text, parts):
-    """Runs the parts of a script."""
-    with benched(text) as (bench, only):
-        for part in parts:
+def is_part(it):
+    return inspect.isfunction(it) and it.__module__ == '__main__' and list(
+        inspect.signature(it).parameters) == ['bench']
+
+
+def run_parts():
+    """Runs the parts of the script that was called."""
+    script = sys.modules['__main__']
+    with benched(script.__doc__) as (bench, only):
+        for part in [it for it in vars(script).values() if is_part(it)]:
             if only in part.__name__:
+                bench.begin()
                 part(bench)

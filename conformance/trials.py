@@ -95,13 +95,13 @@ def printed(*words, **how):
     return output.decode()
 
 
-def options(help_text, *names, counts=True, **others):
+def options(help_text, *names, epilog=COUNTS, **others):
     """The words that a script is given, of which `program` has to be one that can be run.
 
-    `names` are those that are due, `others` what argparse has to know of each option. `counts` says
-    whether the script ends with counts.
+    `names` are those that are due, `others` what argparse has to know of each option; the epilog
+    stands at the end of the help.
     """
-    parser = argparse.ArgumentParser(description=help_text, epilog=COUNTS if counts else None,
+    parser = argparse.ArgumentParser(description=help_text, epilog=epilog,
                                      formatter_class=argparse.RawDescriptionHelpFormatter)
     for name in names:
         parser.add_argument(name)

@@ -14,7 +14,6 @@ import dataclasses
 import errno
 import hashlib
 import io
-import itertools
 import json
 import os
 import pathlib
@@ -33,14 +32,15 @@ HERE = os.path.dirname(os.path.realpath(__file__))
 sys.path[:0] = [HERE, os.path.join(os.path.dirname(HERE), 'conformance')]
 import mp4norm
 import trials
-from bench import refusal_of
 from mp4norm import Box, Failed, Movie, Refused, Sample, Track
-from suite import built, differ, lister, normal, reader
+from suite import answers, built, differ, lister, reader
 from suite.stored import CUT, NORMAL, OTHER, PLAIN, bytes_of
 
 COUNTS = collections.Counter()
 # The creation time of the movie, 4 bytes from 44 on, is another one.
 LATER = PLAIN[:44] + b'\0\0\0\x0b' + PLAIN[48:]
+# The fault of cut.mp4.
+FAULT = ('cut.mp4', 'Overrun', 'mdat', 541)
 LINE = re.compile(r'refused: (\w+) in (.{4}|[0-9a-f]{8}) at (\d+)')
 # What pytest shows of a text without more words: so many characters, the middle of it cut out.
 SHORT = 240
@@ -89,26 +89,36 @@ class Case(unittest.TestCase):
         self.assertEqual((caught.exception.file, caught.exception.what), (file, what))
         return caught.exception
 
+    def is_told(self, error, *due):
+        """Looks at an error among verdicts or sums: its file, and what is said of that."""
+        self.assertIsInstance(error, Refused if len(due) > 2 else Failed)
+        told = (error.kind, error.box, error.offset) if len(due) > 2 else (error.what,)
+        self.assertEqual((error.file, *told), due)
+
+    def compares(self, check, due, name, *more):
+        """A comparison with this file on either side ends so."""
+        check(due, *more, mp4norm.compare, 'plain.mp4', name)
+        check(due, *more, mp4norm.compare, name, 'plain.mp4')
+
 
 def accepted():
-    """The name, the bytes and what a reader of the suite reads of each accepted file that it
-    builds."""
+    """The name, the bytes and the reading of each accepted file that the suite builds."""
     for extra in built.all_extras():
         if extra.kind is None:
-            file, _ = extra.build()
-            file.settle()
-            data = file.spelled()
-            if isinstance(data, bytes):
-                yield extra.name, data, reader.Movie(data)
+            data = extra.make()[0].spelled()
+            yield extra.name, data, reader.Movie(data)
+
+
+def fault_of(line):
+    kind, box, place = LINE.fullmatch(line).groups()
+    return kind, box, int(place)
 
 
 def refused():
     """The name, the bytes and the fault of files that have one fault."""
-    for file in built.single_faults():
-        data, asked = file.asked()
-        kind, box, place = LINE.fullmatch(refusal_of(asked)).groups()
-        if isinstance(data, bytes):
-            yield file.name, data, (kind, box, int(place))
+    for one in built.single_faults():
+        file, line = one.make()
+        yield one.name, file.spelled(), fault_of(line)
 
 
 class Answers(Case):
@@ -121,13 +131,11 @@ class Answers(Case):
             self.assertEqual(mp4norm.show(file), Movie(timescale=1000, mehd=120, tracks=[track]))
 
     def test_samples(self):
+        rows = ((0, 0, 512, 0, 1, 5), (512, 512, 512, 0x10000, 1, 0),
+                (1024, 1024, 512, 0x10000, 1, 7))
+        names = 'decode_time composition_time duration flags description size'.split()
         self.assertEqual(mp4norm.samples('plain.mp4', 1), [
-            Sample(1, decode_time=0, composition_time=0, duration=512, flags=0, description=1,
-                   size=5),
-            Sample(2, decode_time=512, composition_time=512, duration=512, flags=0x10000,
-                   description=1, size=0),
-            Sample(3, decode_time=1024, composition_time=1024, duration=512, flags=0x10000,
-                   description=1, size=7)])
+            Sample(number, **dict(zip(names, row))) for number, row in enumerate(rows, 1)])
         self.assertEqual([it.sync for it in mp4norm.samples(PLAIN, track=1)], [True, False, False])
 
     def test_boxes(self):
@@ -203,12 +211,8 @@ class Answers(Case):
         found = mp4norm.check('plain.mp4', pathlib.Path('cut.mp4'), 'none.mp4')
         self.assertEqual(list(found), ['plain.mp4', 'cut.mp4', 'none.mp4'])
         self.assertIsNone(found['plain.mp4'])
-        fault = found['cut.mp4']
-        self.assertIsInstance(fault, Refused)
-        self.assertEqual((fault.file, fault.kind, fault.box, fault.offset),
-                         ('cut.mp4', 'Overrun', 'mdat', 541))
-        self.assertIsInstance(found['none.mp4'], Failed)
-        self.assertEqual((found['none.mp4'].file, found['none.mp4'].what), ('none.mp4', 'store'))
+        self.is_told(found['cut.mp4'], *FAULT)
+        self.is_told(found['none.mp4'], 'none.mp4', 'store')
         self.assertEqual(mp4norm.check(), {})
         self.assertRaises(ValueError, mp4norm.check, 'plain.mp4\0cut.mp4')
 
@@ -216,8 +220,8 @@ class Answers(Case):
         digits = hashlib.sha256(NORMAL).hexdigest()
         found = mp4norm.sum('plain.mp4', pathlib.Path('cut.mp4'), 'none.mp4')
         self.assertEqual(found['plain.mp4'], digits)
-        self.assertEqual((found['cut.mp4'].kind, found['cut.mp4'].offset), ('Overrun', 541))
-        self.assertEqual((found['none.mp4'].file, found['none.mp4'].what), ('none.mp4', 'store'))
+        self.is_told(found['cut.mp4'], *FAULT)
+        self.is_told(found['none.mp4'], 'none.mp4', 'store')
         left = hashlib.sha256(mp4norm.normalise('plain.mp4', without=['flags'])).hexdigest()
         self.assertEqual(mp4norm.sum('plain.mp4', without=['flags']), {'plain.mp4': left})
         self.assertEqual(mp4norm.sum(), {})
@@ -235,8 +239,8 @@ class OfTheSuite(Case):
     """The files of the suite, as its own readers read them."""
 
     def test_show_and_samples(self):
-        count = 0
-        for name, data, movie in accepted():
+        files = list(accepted())
+        for name, data, movie in files:
             with self.subTest(name):
                 shown = dataclasses.asdict(mp4norm.show(data))
                 for track in shown['tracks']:
@@ -247,29 +251,26 @@ class OfTheSuite(Case):
                              f'{it.flags:08x} {it.description} {it.size}\n'
                              for it in mp4norm.samples(data, track.id)]
                     self.assertEqual(''.join(lines), reader.lines_of(track))
-                count += 1
-        self.assertGreater(count, 40)
+        self.assertGreater(len(files), 40)
 
     def test_boxes(self):
-        count = 0
-        for name, data, *_ in itertools.chain(accepted(), refused()):
+        files = [*accepted(), *refused()]
+        for name, data, _ in files:
             with self.subTest(name):
                 text, line = lister.listed(data)
                 if line:
-                    kind, box, place = LINE.fullmatch(line).groups()
-                    self.refuses(('-', kind, box, int(place)), mp4norm.boxes, data)
+                    self.refuses(('-', *fault_of(line)), mp4norm.boxes, data)
                 else:
                     lines = [f'{"  " * it.depth}{it.type} {it.offset} {it.size}\n'
                              for it in mp4norm.boxes(data)]
                     self.assertEqual(''.join(lines), text)
-                count += 1
-        self.assertGreater(count, 300)
+        self.assertGreater(len(files), 300)
 
     def test_verdicts(self):
         due = {}
-        for name, data, *fault in itertools.chain(accepted(), refused()):
+        for name, data, fault in (*accepted(), *refused()):
             self.write(f'{name}.mp4', data)
-            due[f'{name}.mp4'] = fault[0] if isinstance(fault[0], tuple) else None
+            due[f'{name}.mp4'] = fault if isinstance(fault, tuple) else None
         found = mp4norm.check(*due)
         self.assertEqual({name: it and (it.kind, it.box, it.offset) for name, it in found.items()},
                          due)
@@ -280,8 +281,7 @@ class OfTheSuite(Case):
         for (left, one, _), (right, other, _) in zip(files, files[1:]):
             for words in ((), differ.WORDS):
                 with self.subTest(f'{left}, {right}, {words}'):
-                    movies = [reader.Movie(data).leave_out(words) for data in (one, other)]
-                    due = differ.differences(*movies)
+                    due = differ.differences(answers.movie(one, words), answers.movie(other, words))
                     self.write('one.mp4', one)
                     found = mp4norm.compare('one.mp4', other, without=words, limit=20)
                     self.assertEqual([(it.kind, it.line) for it in found.differences], due[:20])
@@ -292,24 +292,20 @@ class OfTheSuite(Case):
     def test_normal_forms(self):
         for name, data, _ in accepted():
             with self.subTest(name):
-                movie = reader.Movie(data).leave_out(['edits', 'metadata'])
                 self.assertEqual(mp4norm.normalise(data, without='edits,metadata'),
-                                 normal.normal_form(movie))
+                                 answers.form(data, ['edits', 'metadata']))
 
 
 class Errors(Case):
     """What goes wrong, and of which file it is said."""
 
     def test_refused(self):
-        fault = ('Overrun', 'mdat', 541)
-        for file, name in (('cut.mp4', 'cut.mp4'), (pathlib.Path('cut.mp4'), 'cut.mp4'),
-                           (CUT, '-')):
-            self.refuses((name, *fault), mp4norm.show, file)
-            self.refuses((name, *fault), mp4norm.samples, file, 1)
-            self.refuses((name, *fault), mp4norm.boxes, file)
-            self.refuses((name, *fault), mp4norm.normalise, file)
-            self.refuses((name, *fault), mp4norm.compare, 'plain.mp4', file)
-            self.refuses((name, *fault), mp4norm.compare, file, 'plain.mp4')
+        for file, fault in (('cut.mp4', FAULT), (pathlib.Path('cut.mp4'), FAULT),
+                            (CUT, ('-', *FAULT[1:]))):
+            self.refuses(fault, mp4norm.samples, file, 1)
+            for call in (mp4norm.show, mp4norm.boxes, mp4norm.normalise):
+                self.refuses(fault, call, file)
+            self.compares(self.refuses, fault, file)
 
     def test_no_bytes(self):
         """What stands on standard input is never read for them."""
@@ -331,8 +327,7 @@ class Errors(Case):
             error = self.fails('none.mp4', 'store', call, 'none.mp4')
             self.assertIn('no such file', error.cause)
             self.assertEqual(str(error), f'none.mp4: store: {error.cause}')
-        self.fails('none.mp4', 'store', mp4norm.compare, 'plain.mp4', 'none.mp4')
-        self.fails('none.mp4', 'store', mp4norm.compare, 'none.mp4', 'plain.mp4')
+        self.compares(self.fails, 'none.mp4', 'none.mp4', 'store')
         self.fails('none.mp4', 'store', mp4norm.compare, PLAIN, 'none.mp4')
         self.fails('plain.mp4', 'no such track', mp4norm.samples, 'plain.mp4', 7)
 
@@ -367,9 +362,8 @@ class Names(Case):
         for name in self.ODD:
             with self.subTest(name):
                 self.write(name, PLAIN)
-                self.assertEqual(mp4norm.show(name), mp4norm.show(PLAIN))
-                self.assertEqual(mp4norm.samples(name, 1), mp4norm.samples(PLAIN, 1))
-                self.assertEqual(mp4norm.boxes(name), mp4norm.boxes(PLAIN))
+                for call, *more in ((mp4norm.show,), (mp4norm.samples, 1), (mp4norm.boxes,)):
+                    self.assertEqual(call(name, *more), call(PLAIN, *more))
                 self.assertTrue(mp4norm.compare(name, PLAIN))
                 self.assertTrue(mp4norm.compare('plain.mp4', name))
                 mp4norm.normalise(name, name, replace=True)
@@ -379,12 +373,12 @@ class Names(Case):
         for name in self.ODD:
             with self.subTest(name):
                 self.fails(name, 'store', mp4norm.show, name)
-                self.fails(name, 'store', mp4norm.compare, 'plain.mp4', name)
-                self.fails(name, 'store', mp4norm.compare, name, 'plain.mp4')
+                self.compares(self.fails, name, name, 'store')
                 self.write(name, CUT)
-                self.refuses((name, 'Overrun', 'mdat', 541), mp4norm.boxes, name)
-                self.refuses((name, 'Overrun', 'mdat', 541), mp4norm.compare, name, PLAIN)
-                self.refuses((name, 'Overrun', 'mdat', 541), mp4norm.compare, 'plain.mp4', name)
+                fault = (name, *FAULT[1:])
+                self.refuses(fault, mp4norm.boxes, name)
+                self.refuses(fault, mp4norm.compare, name, PLAIN)
+                self.refuses(fault, mp4norm.compare, 'plain.mp4', name)
                 self.fails(name, 'write', mp4norm.normalise, 'plain.mp4', name)
 
     def test_verdicts(self):
@@ -403,8 +397,7 @@ class Names(Case):
         for name in names:
             self.write(name, PLAIN)
             self.fails(name, 'store', mp4norm.show, name)
-            self.fails(name, 'store', mp4norm.compare, 'plain.mp4', name)
-            self.fails(name, 'store', mp4norm.compare, name, 'plain.mp4')
+            self.compares(self.fails, name, name, 'store')
         found = mp4norm.check(*names, 'plain.mp4')
         self.assertEqual(list(found), [*names, 'plain.mp4'])
         self.assertEqual([it.file for it in found.values() if it], names)

@@ -23,8 +23,7 @@ def found(pattern):
 
 
 def sources(*rooms):
-    """The path and the text of each file of code, specifications and proofs in some rooms of the
-    crates, or in all."""
+    """The path and the text of each source file in some rooms of the crates, or in all."""
     for room in rooms or ROOMS:
         for path in found(f'crates/*/{room}/**'):
             if path.endswith(('.rt', '.antt')):

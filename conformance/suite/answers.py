@@ -1,11 +1,48 @@
 """What is wanted of each command on a file."""
-from . import lister, normal, objects, reader
+from . import lister, normal, objects, printer, reader
 
 # A track that no file of this suite has.
 NO_TRACK = 987654321
 # Commands that write to a new file.
 TO_FILES = ('extract', 'normalise')
 
+
+# ---- what commands put of a file that is accepted
+
+def movie(data, words=()):
+    """What a file denotes without some words."""
+    return reader.Movie(data).leave_out(words)
+
+
+def form(data, words=()):
+    """The normal form of what is left of a file."""
+    return normal.normal_form(movie(data, words))
+
+
+def text(data, words=()):
+    """What `print` puts."""
+    return printer.text(movie(data, words))
+
+
+def boxes(data):
+    return lister.listed(data)[0].encode()
+
+
+def shown(data):
+    return reader.shown(movie(data)).encode()
+
+
+def lines(data, track=1):
+    """What `samples` puts."""
+    return reader.lines_of(movie(data).track(track)).encode()
+
+
+def extracted(data, track=1):
+    found = movie(data)
+    return reader.extracted(found, found.track(track))
+
+
+# ---- answers
 
 class Answer:
     """Exit status, the line on standard error (none: nothing), and the bytes that are written."""
@@ -34,14 +71,19 @@ class Asked:
         return [self.command, path, *track, *(['--out', out] if self.command in TO_FILES else [])]
 
 
+def done(command, written, track=None):
+    return Asked(command, track, Answer(0, None, written))
+
+
 def of_boxes(data):
     """The answers of the commands that list boxes: of standard input, of a file, as JSON."""
-    text, line = lister.listed(data)
-    answer = Answer(1, line) if line else Answer(0, None, text.encode())
-    found, line = objects.listed(data)
-    as_json = Answer(1, line) if line else Answer(0, None, found.encode())
-    return [Asked('boxes-input', None, answer), Asked('boxes', None, answer),
-            Asked('boxes-json', None, as_json)]
+    asked = []
+    for found, commands in ((lister.listed(data), ('boxes-input', 'boxes')),
+                            (objects.listed(data), ('boxes-json',))):
+        text_of, line = found
+        answer = Answer(1, line) if line else Answer(0, None, text_of.encode())
+        asked += [Asked(command, None, answer) for command in commands]
+    return asked
 
 
 def of_refused(line):
@@ -53,14 +95,13 @@ def of_refused(line):
 
 def of_accepted(data):
     """The answers of four commands, by a reader of this suite's own."""
-    movie = reader.Movie(data)
-    if reader.is_misread(movie):
+    found = movie(data)
+    if reader.is_misread(found):
         return of_refused('refused by a misreading')
-    asked = [Asked('show', None, Answer(0, None, reader.shown(movie).encode())),
-             Asked('normalise', None, Answer(0, None, normal.normal_form(movie)))]
-    for track in movie.tracks:
-        lines, content = reader.lines_of(track).encode(), reader.extracted(movie, track)
-        asked += [Asked('samples', track.id, Answer(0, None, lines)),
-                  Asked('extract', track.id, Answer(0, None, content))]
+    asked = [done('show', reader.shown(found).encode()),
+             done('normalise', normal.normal_form(found))]
+    for track in found.tracks:
+        asked += [done('samples', reader.lines_of(track).encode(), track.id),
+                  done('extract', reader.extracted(found, track), track.id)]
     missing = Answer(4, 'failed: no such track')
     return asked + [Asked('samples', NO_TRACK, missing), Asked('extract', NO_TRACK, missing)]

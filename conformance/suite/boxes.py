@@ -43,6 +43,11 @@ def full(version, flags=0):
     return u32(version << 24 | flags)
 
 
+def numbers(*row):
+    """Numbers of four bytes."""
+    return b''.join(map(i32, row))
+
+
 class Box:
     """A box: its type, the bytes of its fields, and the boxes behind these.
 
@@ -92,7 +97,10 @@ class Box:
         return u32(size) + self.kind.encode('latin-1')
 
     def spelled(self):
-        return self.header() + self.field_bytes() + b''.join(map(Box.spelled, self.children))
+        return self.header() + self.payload()
+
+    def payload(self):
+        return self.field_bytes() + b''.join(map(Box.spelled, self.children))
 
     def copied(self):
         """Another box like this one."""
@@ -174,3 +182,36 @@ class File:
             same = [child for child in found.children if child.kind == kind]
             found = same[int(number.rstrip(']') or 0)]
         return found
+
+
+# ---- boxes that count their rows
+
+def table(kind, rows, version=0):
+    """A full box that counts its rows, each given as numbers of four bytes, or as it is spelled."""
+    spelled = [row if isinstance(row, bytes) else numbers(*row) for row in rows]
+    return Box(kind, full(version) + u32(len(rows)) + b''.join(spelled))
+
+
+def sbgp(kind, rows, parameter=None):
+    """Groups of this type, with a parameter in version 1."""
+    start = full(parameter is not None) + kind + (b'' if parameter is None else u32(parameter))
+    return Box('sbgp', start + table('sbgp', rows).fields[4:])
+
+
+def stsz(sizes):
+    return Box('stsz', full(0) + u32(0) + u32(len(sizes)) + numbers(*sizes))
+
+
+def one_size(size, count):
+    """The sizes of so many samples of one size."""
+    return Box('stsz', full(0) + u32(size) + u32(count))
+
+
+def stz2(bits, count, sizes):
+    return Box('stz2', full(0) + u32(bits) + u32(count) + sizes)
+
+
+def no_samples():
+    """Tables without samples."""
+    return [Box('stts', bytes(8)), Box('stsc', bytes(8)), Box('stsz', bytes(12)),
+            Box('stco', bytes(8))]

@@ -1,68 +1,23 @@
 """Changes of one value of the wide file, and the line of `compare` that tells of each, written by
 hand."""
 from . import entries
-from .boxes import Box, full, i32, u16, u32, u64
-from .movies import pairs, table, wide
+from .boxes import Box, full, i32, numbers, u16, u32, u64
+from .edits import all_of, exchanged, fields, gone, longer, put, removed, renamed, rows
+from .movies import whole as made
 
 MDIA = 'moov/trak/mdia'
 STBL = MDIA + '/minf/stbl'
 SECOND = 'moov/trak[1]/mdia/minf/stbl'
 
 
-def whole():
-    """The wide file, in which each word of `--without` leaves something out."""
-    file = wide()
+def whole(*changes):
+    """The wide file, in which each word of `--without` leaves something out, with changes."""
+    file = made(True)
     file.at(STBL + '/stsd/mp4v').fields = entries.pictures(entries.btrt())
     file.at(SECOND + '/stsd/mp4a').fields = entries.sound(0, entries.esds(entries.RATES))
-    file.at(SECOND + '/ctts').patches.append((12, i32(100)))
+    all_of(put(SECOND + '/ctts', 12, i32(100)), *changes)(file)
+    file.settle()
     return file
-
-
-def put(path, at, new):
-    """Other bytes in a box."""
-    def change(file):
-        file.at(path).patches.append((at, new))
-    return change
-
-
-def gone(path):
-    """A box less."""
-    def change(file):
-        container, _, step = path.rpartition('/')
-        file.at(container).children.remove(file.at(path))
-    return change
-
-
-def longer(path):
-    """A byte more in a box."""
-    def change(file):
-        box = file.at(path)
-        fields = box.fields
-        box.fields = fields + b'x'
-    return change
-
-
-def other_type(path, kind):
-    def change(file):
-        file.at(path).kind = kind
-    return change
-
-
-def exchanged(path, first, second):
-    """Two neighbours in the other order."""
-    def change(file):
-        children = file.at(path).children
-        mine, theirs = file.at(f'{path}/{first}'), file.at(f'{path}/{second}')
-        at, to = children.index(mine), children.index(theirs)
-        children[at], children[to] = theirs, mine
-    return change
-
-
-def all_of(*changes):
-    def change(file):
-        for one in changes:
-            one(file)
-    return change
 
 
 def second_description(file):
@@ -75,31 +30,20 @@ def short_of_a_fragment(file):
     del file.children[-2:]
 
 
-def other_fields(path, new):
-    """Other fields of a box."""
-    def change(file):
-        box = file.at(path)
-        box.fields, box.patches = new, []
-    return change
-
-
-def durations(*rows):
+def durations(*found):
     """Other durations in the tables of the second track, and the decode time behind them."""
-    end = sum(count * duration for count, duration in rows)
-    return all_of(other_fields(SECOND + '/stts', table('stts', pairs(*rows)).fields),
-                  put('moof/traf[1]/tfdt', 4, u64(end)))
+    end = sum(count * duration for count, duration in found)
+    return all_of(rows(SECOND + '/stts', *found), put('moof/traf[1]/tfdt', 4, u64(end)))
 
 
-def offsets(*numbers, stbl=STBL):
+def offsets(*found, stbl=STBL):
     """Other composition offsets in tables."""
-    rows = [u32(1) + i32(number) for number in numbers]
-    return other_fields(stbl + '/ctts', table('ctts', rows, 1).fields)
+    return rows(stbl + '/ctts', *((1, offset) for offset in found), version=1)
 
 
-def last_run(flags, *numbers, moof='moof[1]'):
+def last_run(flags, *columns, moof='moof[1]'):
     """The last run of the first track in a fragment, with these columns too."""
-    return other_fields(moof + '/traf/trun[1]', full(1, 0x204 | flags) + u32(1)
-                        + u32(0x02000000) + b''.join(map(i32, numbers)))
+    return fields(moof + '/traf/trun[1]', full(1, 0x204 | flags) + numbers(1, 0x02000000, *columns))
 
 
 def moved_in(moof):
@@ -113,8 +57,7 @@ MOVED = all_of(offsets(1000, 1256, 1256), moved_in('moof'), moved_in('moof[1]'))
 
 
 def one(change, line, words='', **others):
-    """A change, its line, the words of `--without` of which each leaves it out, and other lines
-    with some words."""
+    """A change, its line, the words that leave it out, and other lines with some words."""
     return change, line, words.split(), others
 
 
@@ -155,8 +98,7 @@ CHANGES = [
     one(put('moov/trak/edts/elst', 24, u16(2)), 'track 1: edit 1: rate integer 1 | 2', 'edits'),
     one(put('moov/trak/edts/elst', 26, b'\xff\xff'), 'track 1: edit 1: rate fraction 0 | -1',
         'edits'),
-    one(gone('moov/trak/tref'), 'track 1: kept boxes 3 | 2',
-        metadata='track 1: kept boxes 1 | 0'),
+    one(gone('moov/trak/tref'), 'track 1: kept boxes 3 | 2', metadata='track 1: kept boxes 1 | 0'),
     one(put('moov/trak/meta', 5, b'x'), 'track 1: kept box 3: byte 6 of 10: 74 | 78', 'metadata'),
     one(put(MDIA + '/mdhd', 4, u64(25)), 'track 1: media creation time 15 | 25', 'times'),
     one(put(MDIA + '/mdhd', 12, u64(26)), 'track 1: media modification time 16 | 26', 'times'),
@@ -167,10 +109,10 @@ CHANGES = [
     one(longer(MDIA + '/hdlr'), 'track 1: handler: bytes 25 | 26', 'labels'),
     one(gone(MDIA + '/elng'), 'track 1: extended languages 1 | 0'),
     one(put(MDIA + '/elng', 4, b'f'), 'track 1: extended language 1: byte 5 of 7: 65 | 66'),
-    one(other_type(MDIA + '/minf/vmhd', 'nmhd'), 'track 1: media header: type vmhd | nmhd'),
+    one(renamed(MDIA + '/minf/vmhd', 'nmhd'), 'track 1: media header: type vmhd | nmhd'),
     one(put(MDIA + '/minf/vmhd', 11, b'\1'), 'track 1: media header: byte 12 of 12: 00 | 01'),
     one(second_description, 'track 1: descriptions 1 | 2'),
-    one(other_type(STBL + '/stsd/mp4v', 'avc1'), 'track 1: description 1: type mp4v | avc1'),
+    one(renamed(STBL + '/stsd/mp4v', 'avc1'), 'track 1: description 1: type mp4v | avc1'),
     one(put(STBL + '/stsd/mp4v', 8, b'x'), 'track 1: description 1: byte 9 of 98: 00 | 78',
         bitrates='track 1: description 1: byte 9 of 78: 00 | 78'),
     one(longer(STBL + '/stsd/mp4v'), 'track 1: description 1: bytes 98 | 99',
@@ -207,10 +149,9 @@ CHANGES = [
 def fragments_alone(file):
     """The samples of the second track are those of fragments alone."""
     for kind in ('stts', 'ctts', 'stss', 'stsc', 'co64'):
-        other_fields(f'{SECOND}/{kind}', bytes(8))(file)
-    other_fields(SECOND + '/stz2', bytes(7) + b'\x08' + bytes(4))(file)
-    other_fields(SECOND + '/sdtp', bytes(4))(file)
-    file.at(SECOND).children = [box for box in file.at(SECOND).children if box.kind != 'sbgp']
+        fields(f'{SECOND}/{kind}', bytes(8))(file)
+    all_of(fields(SECOND + '/stz2', bytes(7) + b'\x08' + bytes(4)),
+           fields(SECOND + '/sdtp', bytes(4)), removed(SECOND, 'sbgp'))(file)
 
 
 def tables_alone(file):
@@ -232,7 +173,7 @@ HIDDEN = [
     ('another byte of a sample description', put(STBL + '/stsd/mp4v', 8, b'x'), None),
     ('sound later by an empty edit', put('moov/trak[1]/edts/elst', 8, u64(1040)), 'edits'),
     ('a btrt of other numbers', put(STBL + '/stsd/mp4v', 86, u32(7)), 'bitrates'),
-    ('no btrt', other_fields(STBL + '/stsd/mp4v', entries.pictures()), 'bitrates'),
+    ('no btrt', fields(STBL + '/stsd/mp4v', entries.pictures()), 'bitrates'),
     ('an esds of other rates', put(SECOND + '/stsd/mp4a', 49, entries.OTHERS), 'bitrates'),
     ('the last frame twice as long', LAST_LONGER, 'ends timing'),
     ('the first frame a second longer', durations((1, 26112), (1, 512), (1, 500)), 'ends timing'),

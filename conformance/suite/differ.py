@@ -10,6 +10,8 @@ from .normal import descriptions, handler, kept_in, key_order
 WORDS = ('times', 'edits', 'flags', 'groups', 'metadata', 'bitrates', 'ends', 'origins', 'labels',
          'timing')
 SETS = {'packaging-1': WORDS[:8], 'media-1': WORDS}
+# What is left out: nothing, each word, all of them, each named set.
+WORD_SETS = [(), *((word,) for word in WORDS), WORDS, *((name,) for name in SETS)]
 
 
 def meant(names):
@@ -22,14 +24,9 @@ def in_order(names):
     return tuple(word for word in WORDS if word in meant(names))
 
 
-class Number:
-    """A value that is written in decimals, or with so many hexadecimal digits."""
-
-    def __init__(self, number, digits=0):
-        self.number, self.digits = number, digits
-
-    def text(self):
-        return f'{self.number:0{self.digits}x}' if self.digits else str(self.number)
+def without(words):
+    """How words are asked for."""
+    return ['--without', ','.join(words)] if words else []
 
 
 def printed(kind):
@@ -49,7 +46,15 @@ class Pair:
 
     def number(self, kind, way, left, right, digits=0):
         if left != right:
-            self.note(kind, way, Number(left, digits).text(), Number(right, digits).text())
+            self.note(kind, way, spelled(left, digits), spelled(right, digits))
+
+    def values(self, way, of, left, right):
+        for (kind, name, mine, digits), (_, _, theirs, _) in zip(of(left), of(right)):
+            if name == 'matrix':
+                for number, both in enumerate(zip(mine, theirs), 1):
+                    self.number(kind, f'{way}: matrix entry {number}', *both)
+            else:
+                self.number(kind, f'{way}: {name}', mine, theirs, digits)
 
     def bytes(self, kind, way, counted, left, right):
         """The length, or else the first byte that differs."""
@@ -88,44 +93,15 @@ class Pair:
 
     def movie(self):
         mine, theirs = self.left, self.right
-        self.times('movie: ', mine.header, theirs.header, mine.left)
-        self.number('heads', 'movie: timescale', mine.timescale, theirs.timescale)
-        left, right = behind_times(mine.header, 8, 12), behind_times(theirs.header, 8, 12)
-        self.number('heads', 'movie: rate', left.signed(0, 4), right.signed(0, 4))
-        self.number('heads', 'movie: volume', left.signed(4, 2), right.signed(4, 2))
-        self.matrix('movie', left, right, 16)
+        self.values('movie', of_movie, mine, theirs)
         self.kept('movie', mine.moov, theirs.moov, 'moov', mine.left)
-
-    def times(self, way, left, right, words):
-        if 'times' in words:
-            return
-        for number, name in enumerate(('creation time', 'modification time')):
-            mine, theirs = (box.number(4 + number * width(box), width(box))
-                            for box in (left, right))
-            self.number('times', way + name, mine, theirs)
-
-    def matrix(self, way, left, right, at):
-        for number in range(9):
-            self.number('heads', f'{way}: matrix entry {number + 1}', left.signed(at, 4),
-                        right.signed(at, 4))
-            at += 4
 
     def kept(self, way, left, right, place, words):
         self.boxes('kept', way, 'kept box', 'kept boxes', kept_in(left, place, words),
                    kept_in(right, place, words))
 
     def track(self, way, mine, theirs):
-        left, right = mine.header, theirs.header
-        self.number('heads', f'{way}: flags', left.flags(), right.flags(), 6)
-        self.times(f'{way}: ', left, right, mine.left)
-        self.number('heads', f'{way}: id', mine.id, theirs.id)
-        left, right = behind_times(left, 12, 16), behind_times(right, 12, 16)
-        self.number('heads', f'{way}: layer', left.signed(8, 2), right.signed(8, 2))
-        self.number('heads', f'{way}: alternate group', left.signed(10, 2), right.signed(10, 2))
-        self.number('heads', f'{way}: volume', left.signed(12, 2), right.signed(12, 2))
-        self.matrix(way, left, right, 16)
-        self.number('heads', f'{way}: width', left.number(52, 4), right.number(52, 4))
-        self.number('heads', f'{way}: height', left.number(56, 4), right.number(56, 4))
+        self.values(way, of_track, mine, theirs)
         self.edits(way, mine.edits, theirs.edits)
         self.kept(way, mine.trak, theirs.trak, 'moov/trak', mine.left)
         self.media(way, mine, theirs)
@@ -138,11 +114,7 @@ class Pair:
                 self.number('edits', f'{way}: edit {number}: {name}', first, second)
 
     def media(self, way, mine, theirs):
-        left, right = mine.media.one('mdhd'), theirs.media.one('mdhd')
-        self.times(f'{way}: media ', left, right, mine.left)
-        self.number('heads', f'{way}: timescale', mine.timescale, theirs.timescale)
-        left, right = behind_times(left, 8, 12), behind_times(right, 8, 12)
-        self.number('heads', f'{way}: language', left.number(0, 2), right.number(0, 2), 4)
+        self.values(way, of_media, mine, theirs)
         self.bytes('heads', f'{way}: handler', 'bytes', handler(mine), handler(theirs))
         self.boxes('heads', way, 'extended language', 'extended languages',
                    mine.media.all('elng'), theirs.media.all('elng'))
@@ -170,21 +142,7 @@ class Pair:
         if left.size != right.size:
             self.number('samples', f'{way}: size', left.size, right.size)
         else:
-            self.bytes('bytes', way, 'size', self.left.bytes_of(left),
-                       self.right.bytes_of(right))
-
-
-class Behind:
-    """The fields of a box behind its times."""
-
-    def __init__(self, box, at):
-        self.box, self.at = box, at
-
-    def number(self, at, length):
-        return self.box.number(self.at + at, length)
-
-    def signed(self, at, length):
-        return self.box.number(self.at + at, length, signed=True)
+            self.bytes('bytes', way, 'size', self.left.bytes_of(left), self.right.bytes_of(right))
 
 
 def width(box):
@@ -193,8 +151,58 @@ def width(box):
 
 def behind_times(box, narrow, wide):
     """What stands behind creation and modification, and behind so many bytes more in version 0 or
-    1, with which a duration ends."""
-    return Behind(box, 4 + 2 * width(box) + (wide if box.version() else narrow))
+    1, with which a duration ends: a function of a place there, a length, and of a sign."""
+    start = 4 + 2 * width(box) + (wide if box.version() else narrow)
+    return lambda at, length, signed=True: box.number(start + at, length, signed)
+
+
+# ---- the numbers of heads: the kind of a difference, the name, the number, hexadecimal digits
+
+def spelled(number, digits=0):
+    """A number in decimals, or with so many hexadecimal digits."""
+    return f'{number:0{digits}x}' if digits else f'{number}'
+
+
+def times(box, words, front=''):
+    for at, name in enumerate(('creation time', 'modification time')):
+        time = 0 if 'times' in words else box.number(4 + at * width(box), width(box))
+        yield 'times', front + name, time, 0
+
+
+def signed(fields, length, **places):
+    for name, at in places.items():
+        yield 'heads', name.replace('_', ' '), fields(at, length), 0
+
+
+def matrix(fields):
+    yield 'heads', 'matrix', [fields(16 + 4 * number, 4) for number in range(9)], 0
+
+
+def of_movie(movie):
+    fields = behind_times(movie.header, 8, 12)
+    yield from times(movie.header, movie.left)
+    yield 'heads', 'timescale', movie.timescale, 0
+    yield from signed(fields, 4, rate=0)
+    yield from signed(fields, 2, volume=4)
+    yield from matrix(fields)
+
+
+def of_track(track):
+    fields = behind_times(track.header, 12, 16)
+    yield 'heads', 'flags', track.header.flags(), 6
+    yield from times(track.header, track.left)
+    yield 'heads', 'id', track.id, 0
+    yield from signed(fields, 2, layer=8, alternate_group=10, volume=12)
+    yield from matrix(fields)
+    yield 'heads', 'width', fields(52, 4, False), 0
+    yield 'heads', 'height', fields(56, 4, False), 0
+
+
+def of_media(track):
+    header = track.media.one('mdhd')
+    yield from times(header, track.left, 'media ')
+    yield 'heads', 'timescale', track.timescale, 0
+    yield 'heads', 'language', behind_times(header, 8, 12)(0, 2, False), 4
 
 
 def media_header(track):

@@ -16,8 +16,7 @@ def pictures(*parts):
 
 
 def sound(version, *parts):
-    """A description of sound of one of QuickTime's versions; of another one the fields of
-    version 0."""
+    """A description of sound of a version of QuickTime; of others the fields of version 0."""
     length = {1: 44, 2: 64}.get(version, 28)
     return FRONT + u16(version) + bytes(length - 10) + b''.join(parts)
 

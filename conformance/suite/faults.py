@@ -4,6 +4,8 @@ Each makes a file with this fault alone. Two neighbours in the order, in one fil
 first is named.
 """
 from .boxes import KEPT, Box, Raw, i32, u8, u16, u32, u64
+from .edits import (added, added_bytes, added_copy, cut, cut_by_one, naming, name_of, put, removed,
+                    renamed, said)
 from .movies import time
 
 LARGE = 0x7fffffff
@@ -34,91 +36,6 @@ class Fault:
         return (path + '/').startswith(self.gone + '/')
 
 
-def name_of(path):
-    """The type in a path's last step; `file` for the file itself."""
-    return path.split('/')[-1].partition('[')[0] or 'file'
-
-
-def changed(path, change):
-    """A box that is changed where it stands; it is the one that is named."""
-    def breaks(file):
-        box = file.at(path)
-        change(box)
-        return box.kind, box
-    return breaks
-
-
-def put_over(path, at, new):
-    """Other bytes in the fields of a box."""
-    return changed(path, lambda box: box.patches.append((at, new)))
-
-
-def cut(path, length):
-    """Fields cut short; nothing behind them."""
-    def change(box):
-        box.kept, box.children = length, []
-    return changed(path, change)
-
-
-def cut_by_one(path):
-    """A leaf that ends one byte early."""
-    def change(box):
-        box.kept = len(box.field_bytes()) - 1
-    return changed(path, change)
-
-
-def added(path, box, said=None):
-    """A box more at the end of a container."""
-    def breaks(file):
-        more = box.copied()
-        more.said = said
-        file.at(path).children.append(more)
-        return more.kind, more
-    return breaks
-
-
-def added_copy(path, kind, new_kind=None):
-    """A box of a container for a second time, perhaps as another type."""
-    def breaks(file):
-        container = file.at(path)
-        more = [child for child in container.children if child.kind == kind][0].copied()
-        more.kind = new_kind or kind
-        container.children.append(more)
-        return more.kind, more
-    return breaks
-
-
-def added_bytes(path, content):
-    """Bytes at the end of a container that are no whole header."""
-    def breaks(file):
-        more = Raw(content)
-        file.at(path).children.append(more)
-        return name_of(path), more
-    return breaks
-
-
-def removed(path, kind):
-    """A container without a box."""
-    def breaks(file):
-        container = file.at(path)
-        container.children = [child for child in container.children if child.kind != kind]
-        return name_of(path), container
-    return breaks
-
-
-def said(path, size):
-    """A box whose header says another size."""
-    def change(box):
-        box.said = size
-    return changed(path, change)
-
-
-def before_the_movie(file):
-    more = Box('moof')
-    file.children.insert(1, more)
-    return 'moof', more
-
-
 def headers_in(path, unknown, singles, needed=(), others=()):
     """Faults of a container: of headers, of types, of numbers of boxes.
 
@@ -133,19 +50,14 @@ def headers_in(path, unknown, singles, needed=(), others=()):
         Fault(f'unknown-box-in-{label}', 'BoxNotInProfile', path + '/' + unknown,
               added(path, Box(unknown, bytes(4)))),
     ]
-    for kind in singles:
-        found.append(Fault(f'second-{kind}-in-{label}', 'DuplicateBox', f'{path}/{kind}[1]',
-                           added_copy(path, kind)))
-    for kind, other in others:
-        found.append(Fault(f'{other}-beside-{kind}-in-{label}', 'DuplicateBox',
-                           f'{path}/{other}[1]',
-                           added_copy(path, kind, other)))
+    found += [Fault(f'second-{kind}-in-{label}', 'DuplicateBox', f'{path}/{kind}[1]',
+                    added_copy(path, kind)) for kind in singles]
+    found += [Fault(f'{other}-beside-{kind}-in-{label}', 'DuplicateBox', f'{path}/{other}[1]',
+                    added_copy(path, kind, other)) for kind, other in others]
     found.append(Fault(f'bytes-behind-the-boxes-of-{label}', 'ShortHeader', path + '/none',
                        added_bytes(path, b'\0\0\0')))
-    for kind in needed:
-        found.append(Fault(f'no-{kind}-in-{label}', 'MissingBox', path, removed(path, kind),
-                           gone=f'{path}/{kind}'))
-    return found
+    return found + [Fault(f'no-{kind}-in-{label}', 'MissingBox', path, removed(path, kind),
+                          f'{path}/{kind}') for kind in needed]
 
 
 def leaf(path, label, last_version, fields, rows=True):
@@ -153,7 +65,7 @@ def leaf(path, label, last_version, fields, rows=True):
     found = [
         Fault(f'{label}-of-three-bytes', 'ShortBox', path, cut(path, 3), path + '/'),
         Fault(f'{label}-of-version-{last_version + 1}', 'BadVersion', path,
-              put_over(path, 0, u8(last_version + 1))),
+              put(path, 0, u8(last_version + 1))),
         Fault(f'{label}-with-short-fields', 'ShortBox', path, cut(path, fields - 1), path + '/'),
     ]
     if rows:
@@ -163,14 +75,7 @@ def leaf(path, label, last_version, fields, rows=True):
 
 
 def value(path, name, kind, at, new, gone=None):
-    return Fault(name, kind, path, put_over(path, at, new), gone)
-
-
-def of_file():
-    return [
-        Fault('fragment-before-the-moov', 'FragmentBeforeMovie', 'moof-before', before_the_movie),
-        *headers_in('', 'uuid', ['moov']),
-    ]
+    return Fault(name, kind, path, put(path, at, new), gone)
 
 
 def of_movie(is_wide):
@@ -250,12 +155,6 @@ def few_bytes(path):
     return breaks
 
 
-def renamed(path, kind):
-    def change(box):
-        box.kind = kind
-    return changed(path, change)
-
-
 def one_more_counted(path):
     """One box more is counted, and no bytes are left for it."""
     def breaks(file):
@@ -299,9 +198,14 @@ def of_second_track(is_wide):
 
 
 def of_tables(is_wide):
-    path = 'moov/trak/mdia/minf/stbl'
+    path, second = (f'moov/{trak}/mdia/minf/stbl' for trak in ('trak', 'trak[1]'))
+    sizes = path + ('/stz2' if is_wide else '/stsz')
+    five_bits = value(sizes, 'field-size-of-five-bits', 'BadValue', 7, u8(5), sizes + '/rows')
+    too_many = value(sizes, 'too-many-samples-in-stsz', 'TooManySamples', 4,
+                     u32(1) + u32(2**32 - 1), sizes + '/rows')
     return [
-        *(of_compact_sizes if is_wide else of_sizes)(path),
+        *leaf(sizes, name_of(sizes), 0, 12),
+        five_bits if is_wide else too_many,
         *leaf(path + '/stts', 'stts', 0, 8),
         value(path + '/stts', 'durations-count-too-many', 'CountMismatch', 8, u32(3)),
         *leaf(path + '/ctts', 'ctts', 1, 8),
@@ -314,23 +218,10 @@ def of_tables(is_wide):
         *leaf(path + '/sdtp', 'sdtp', 0, 7, rows=False),
         *leaf(path + '/sgpd', 'sgpd', 1, 8, rows=False),
         *of_groupings(is_wide, path, ''),
-        *of_second_tables(is_wide, 'moov/trak[1]/mdia/minf/stbl'),
-    ]
-
-
-def of_sizes(path):
-    return [
-        *leaf(path + '/stsz', 'stsz', 0, 12),
-        value(path + '/stsz', 'too-many-samples-in-stsz', 'TooManySamples', 4,
-              u32(1) + u32(2**32 - 1), gone=path + '/stsz/rows'),
-    ]
-
-
-def of_compact_sizes(path):
-    return [
-        *leaf(path + '/stz2', 'stz2', 0, 12),
-        value(path + '/stz2', 'field-size-of-five-bits', 'BadValue', 7, u8(5),
-              gone=path + '/stz2/rows'),
+        value(second + '/stts', 'second-durations-count-too-many', 'CountMismatch', 8, u32(3)),
+        value(second + '/stsc', 'description-zero-in-second-stsc', 'BadDescriptionIndex', 16,
+              u32(0)),
+        value(second + '/stss', 'sync-samples-that-fall', 'BadOrder', 12, u32(1)),
     ]
 
 
@@ -356,46 +247,29 @@ def of_groupings(is_wide, path, label):
         *leaf(path + '/sbgp', own, 1, rows),
         value(path + '/sbgp', f'group-index-65536-in-{own}', 'BadValue', rows + 4, u32(65536)),
         value(path + '/sbgp', f'groups-count-too-many-in-{own}', 'CountMismatch', rows, u32(4)),
-        Fault(f'two-{own}-of-one-key', 'DuplicateBox', path + '/sbgp[1]',
-              added_copy(path, 'sbgp')),
-    ]
-
-
-def of_second_tables(is_wide, path):
-    return [
-        value(path + '/stts', 'second-durations-count-too-many', 'CountMismatch', 8, u32(3)),
-        value(path + '/stsc', 'description-zero-in-second-stsc', 'BadDescriptionIndex', 16,
-              u32(0)),
-        value(path + '/stss', 'sync-samples-that-fall', 'BadOrder', 12, u32(1)),
+        Fault(f'two-{own}-of-one-key', 'DuplicateBox', path + '/sbgp[1]', added_copy(path, 'sbgp')),
     ]
 
 
 def of_fragments(is_wide):
-    path = 'moof/traf'
+    path, head = 'moof/traf', 'moof/traf/tfhd'
+    front, version, short = leaf(head, 'tfhd', 0, 24 if is_wide else 28, rows=False)
     return [
         *headers_in('moof', 'mvhd', ['mfhd'], ['mfhd']),
         *headers_in(path, 'sgpd', ['tfhd', 'tfdt'], ['tfhd']),
-        *of_fragment_head(is_wide, path + '/tfhd'),
+        front,
+        version,
+        value(head, 'tfhd-with-an-unknown-flag', 'BadFlags', 1, u8(4)),
+        short,
+        value(head, 'tfhd-of-no-track', 'UnknownTrack', 4, u32(3)),
         *leaf(path + '/tfdt', 'tfdt', 1, 12 if is_wide else 8, rows=False),
         *of_run(is_wide, path + '/trun'),
         value(path + '/trun[1]', 'second-trun-of-version-2', 'BadVersion', 0, u8(2)),
-        value(path + '/tfhd', 'description-two-in-tfhd', 'BadDescriptionIndex',
+        value(head, 'description-two-in-tfhd', 'BadDescriptionIndex',
               8 if is_wide else 16, u32(2)),
         *of_groupings(is_wide, path, 'fragment-'),
         value(path + '/tfdt', 'gap', 'Gap', 4, time(is_wide, 1525)),
         *of_later_fragments(is_wide),
-    ]
-
-
-def of_fragment_head(is_wide, path):
-    fields = 24 if is_wide else 28
-    front, version, short = leaf(path, 'tfhd', 0, fields, rows=False)
-    return [
-        front,
-        version,
-        value(path, 'tfhd-with-an-unknown-flag', 'BadFlags', 1, u8(4)),
-        short,
-        value(path, 'tfhd-of-no-track', 'UnknownTrack', 4, u32(3)),
     ]
 
 
@@ -422,34 +296,27 @@ def of_later_fragments(is_wide):
         value('moof/traf[1]/tfdt', 'gap-in-the-second-track', 'Gap', 4, time(is_wide, 1523)),
         Fault('second-mfhd-in-second-moof', 'DuplicateBox', 'moof[1]/mfhd[1]',
               added_copy('moof[1]', 'mfhd')),
-        value('moof[1]/traf/tfhd', 'tfhd-of-a-later-fragment-of-version-1', 'BadVersion', 0,
-              u8(1)),
+        value('moof[1]/traf/tfhd', 'tfhd-of-a-later-fragment-of-version-1', 'BadVersion', 0, u8(1)),
         value('moof[1]/traf/tfdt', 'gap-in-a-later-fragment', 'Gap', 4, time(is_wide, 3059)),
     ]
 
 
-def of_limits(is_wide):
-    """An edit of 2^63 units; version 0 has no room for it."""
-    if not is_wide:
-        return []
-    return [
-        Fault('track-too-long', 'TimeTooLarge', 'moov/trak/tkhd', long_edit('moov/trak')),
-        Fault('second-track-too-long', 'TimeTooLarge', 'moov/trak[1]/tkhd',
-              long_edit('moov/trak[1]')),
-    ]
-
-
 def long_edit(path):
-    def breaks(file):
-        file.at(path + '/edts/elst').patches.append((8, u64(1 << 63)))
-        return 'tkhd', file.at(path + '/tkhd')
-    return breaks
+    return naming(path + '/tkhd', put(path + '/edts/elst', 8, u64(1 << 63)))
+
+
+def of_edits():
+    """An edit of 2^63 units; version 0 has no room for it."""
+    return [Fault(name, 'TimeTooLarge', path + '/tkhd', long_edit(path)) for name, path in (
+        ('track-too-long', 'moov/trak'), ('second-track-too-long', 'moov/trak[1]'))]
 
 
 def in_order(is_wide):
     """All faults of a file, in the order in which they are looked for."""
-    return [*of_file(), *of_movie(is_wide), *of_tables(is_wide), *of_fragments(is_wide),
-            *of_limits(is_wide)]
+    early = Fault('fragment-before-the-moov', 'FragmentBeforeMovie', 'moof-before',
+                  added('', Box('moof'), before='moov'))
+    return [early, *headers_in('', 'uuid', ['moov']), *of_movie(is_wide), *of_tables(is_wide),
+            *of_fragments(is_wide), *(of_edits() if is_wide else [])]
 
 
 def neighbours(faults):

@@ -1,6 +1,6 @@
 """The normal form of what a file denotes, by its description."""
 from . import rates
-from .boxes import KEPT, Box, full, i32, u16, u32, u64
+from .boxes import KEPT, Box, full, i32, no_samples, numbers, sbgp, u16, u32, u64
 from .misreadings import taken
 
 # Kept boxes that are metadata: `--without metadata` leaves them out.
@@ -34,16 +34,6 @@ def handler(track):
 COMPRESSOR_NAME, VISUAL_ENTRY = slice(42, 74), 78
 
 
-class Entry:
-    """A sample description: its type, and its payload."""
-
-    def __init__(self, kind, data):
-        self.kind, self.data = kind, data
-
-    def payload(self):
-        return self.data
-
-
 def descriptions(track):
     """The sample descriptions: without labels those of pictures name no compressor."""
     kind, entries = handler(track)[8:12], []
@@ -53,7 +43,7 @@ def descriptions(track):
             data = rates.left(kind, data)
         if 'labels' in track.left and kind == b'vide' and len(data) >= VISUAL_ENTRY:
             data = data[:COMPRESSOR_NAME.start] + bytes(32) + data[COMPRESSOR_NAME.stop:]
-        entries.append(Entry(box.kind, data))
+        entries.append(Box(box.kind, data))
     return entries
 
 
@@ -97,8 +87,7 @@ def movie_box(movie):
     boxes = [movie_header(movie)] + kept(kept_in(movie.moov, 'moov', movie.left))
     boxes += [track_box(track) for track in movie.tracks]
     extends = [Box('mehd', full(1) + u64(movie.length()))]
-    for track in movie.tracks:
-        extends.append(Box('trex', full(0) + u32(track.id) + u32(1) + bytes(12)))
+    extends += [Box('trex', numbers(0, track.id, 1, 0, 0, 0)) for track in movie.tracks]
     if taken('no-mvex-without-tracks') and not movie.tracks:
         return Box('moov', b'', boxes)
     return Box('moov', b'', boxes + [Box('mvex', b'', extends)])
@@ -142,10 +131,8 @@ def media_box(track):
 def sample_table(track):
     entries = kept(descriptions(track))
     boxes = [Box('stsd', full(0) + u32(len(entries)), entries)]
-    boxes += [Box('stts', bytes(8)), Box('stsc', bytes(8)), Box('stsz', bytes(12))]
-    boxes.append(Box('stco', bytes(8)))
     groups = [] if 'groups' in track.left else kept(track.tables.all('sgpd'))
-    return Box('stbl', b'', boxes + groups)
+    return Box('stbl', b'', boxes + no_samples() + groups)
 
 
 def with_times(track):
@@ -158,8 +145,7 @@ def with_times(track):
 
 
 def first_fragments(track):
-    """The fragment of each sample of the first track, and the decode times at which fragments
-    begin."""
+    """The fragment of each sample of the first track, and the times at which they begin."""
     numbers, cuts = [], []
     for time, sample in with_times(track):
         is_sync = not sample.flags & 1 << 16
@@ -173,8 +159,8 @@ def later_fragments(track, first, cuts):
     """The fragment of each sample of another track: the last that has begun by its decode time."""
     numbers = []
     for time, _ in with_times(track):
-        begun = [k for k,
-                 cut in enumerate(cuts) if time * first.timescale >= cut * track.timescale]
+        begun = [k for k, cut in enumerate(cuts)
+                 if time * first.timescale >= cut * track.timescale]
         early = -1 if cuts and taken('early-samples-have-a-fragment') else 0
         numbers.append(begun[-1] if begun else early)
     return numbers
@@ -257,10 +243,7 @@ def groupings(samples):
                 rows.append([1, index])
         if taken('trailing-zeros-are-left-out') and not rows[-1][1]:
             rows.pop()
-        fields = full(0 if parameter is None else 1) + kind
-        fields += b'' if parameter is None else u32(parameter)
-        fields += u32(len(rows)) + b''.join(u32(count) + u32(index) for count, index in rows)
-        boxes.append(Box('sbgp', fields))
+        boxes.append(sbgp(kind, rows, parameter))
     return boxes
 
 

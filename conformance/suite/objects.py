@@ -86,8 +86,7 @@ STATUSES = {b'memory': 2, b'store': 3, b'store changed': 3, b'write': 3, b'no su
 
 
 def verdict(name, said, end=b'\n'):
-    """The object of a verdict; `said` is what the line of `check` says, nothing of an accepted
-    file."""
+    """The object of a verdict; `said` is what `check` says, nothing of an accepted file."""
     name = name_string(name.encode() if isinstance(name, str) else name)
     if not said:
         return b'{"file":' + name + b',"status":0}' + end
@@ -104,8 +103,8 @@ def verdict(name, said, end=b'\n'):
 
 # How a line begins, and what may stand before its values.
 NUMBERED = ('edit', 'kept box', 'extended language', 'description', 'group description')
-STEP = re.compile(r'(track|sample|' + '|'.join(NUMBERED) + r') (\d+): ')
-ALONE = re.compile(r'(movie|handler|media header): ')
+STEP = re.compile(r'(track|sample|' + '|'.join(NUMBERED) + r') (\d+): '
+                  r'|(movie|handler|media header): ')
 BYTE = re.compile(r'byte (\d+) of (\d+):')
 MATRIX = re.compile(r'matrix entry (\d+)')
 GROUP = re.compile(r'group (.{4}|[0-9a-f]{8})(?: (\d+))?:', re.DOTALL)
@@ -115,15 +114,9 @@ TYPE = re.compile(r'type (.{4}|[0-9a-f]{8}) \| (.{4}|[0-9a-f]{8})', re.DOTALL)
 def steps_of(way):
     """The steps to a value, and of how many bytes it is one."""
     steps = []
-    while True:
-        numbered, alone = STEP.match(way), ALONE.match(way)
-        if numbered:
-            steps += [numbered[1], int(numbered[2])]
-        elif alone:
-            steps.append(alone[1])
-        else:
-            break
-        way = way[(numbered or alone).end():]
+    while step := STEP.match(way):
+        steps += [step[1], int(step[2])] if step[1] else [step[3]]
+        way = way[step.end():]
     byte, matrix, group = BYTE.fullmatch(way), MATRIX.fullmatch(way), GROUP.fullmatch(way)
     if byte:
         return [*steps, 'byte', int(byte[1])], int(byte[2])
@@ -153,8 +146,7 @@ def difference(kind, line):
 
 
 def last(found, words, at_least=False):
-    """The object that ends a list of all differences; `words` make the two the same, or are
-    None."""
+    """The object that ends a list of all differences; `words` make the two the same."""
     counts = {}
     for kind, _ in found:
         counts[kind] = counts.get(kind, 0) + 1

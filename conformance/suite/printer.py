@@ -48,14 +48,14 @@ class Printer:
     def kept(self, container, place):
         self.boxes('kept', normal.kept_in(container, place, self.left))
 
-    def times(self, front, box):
-        for number, name in enumerate(('creation', 'modification')):
-            width = differ.width(box)
-            time = 0 if 'times' in self.left else box.number(4 + number * width, width)
-            self.line(front + name, time)
-
-    def matrix(self, fields):
-        self.line('matrix', *(fields.signed(16 + 4 * k, 4) for k in range(9)))
+    def values(self, found, **others):
+        """The numbers of a head; some have other names, or none."""
+        for _, name, value, digits in found:
+            name = others.get(name, name.removesuffix(' time').replace('alternate ', 'alternate_'))
+            if name == 'matrix':
+                self.line(name, *value)
+            elif name:
+                self.line(name, differ.spelled(value, digits))
 
     def all(self):
         words = ','.join(differ.in_order(self.left)) or 'nothing'
@@ -69,34 +69,18 @@ class Printer:
 
     def head(self):
         self.lines.append('movie')
-        self.times('', self.movie.header)
-        self.line('timescale', self.movie.timescale)
-        fields = differ.behind_times(self.movie.header, 8, 12)
-        self.line('rate', fields.signed(0, 4))
-        self.line('volume', fields.signed(4, 2))
-        self.matrix(fields)
+        self.values(differ.of_movie(self.movie))
         self.kept(self.movie.moov, 'moov')
 
     def track(self, track):
         self.lines.append(f'track {track.id}')
-        self.line('flags', f'{track.header.flags():06x}')
-        self.times('', track.header)
-        fields = differ.behind_times(track.header, 12, 16)
-        self.line('layer', fields.signed(8, 2))
-        self.line('alternate_group', fields.signed(10, 2))
-        self.line('volume', fields.signed(12, 2))
-        self.matrix(fields)
-        self.line('width', fields.number(52, 4))
-        self.line('height', fields.number(56, 4))
+        self.values(differ.of_track(track), id=None)
         for edit in track.edits:
             self.line('edit', *edit)
         self.kept(track.trak, 'moov/trak')
 
     def media(self, track):
-        header = track.media.one('mdhd')
-        self.times('media ', header)
-        self.line('media timescale', track.timescale)
-        self.line('language', f'{differ.behind_times(header, 8, 12).number(0, 2):04x}')
+        self.values(differ.of_media(track), timescale='media timescale')
         self.payload('handler', normal.handler(track))
         for box in track.media.all('elng'):
             self.payload('extended language', bytes(box.payload()))

@@ -4,6 +4,7 @@ denotes.
 It looks for no faults: it is for the wanted answers of files that are known to have none.
 """
 import json
+from dataclasses import dataclass, field
 
 from . import lister
 from .differ import meant
@@ -47,28 +48,34 @@ class Node:
 
     def rows(self, at, count, *widths):
         """So many rows of numbers of these widths; a negative width is of a signed number."""
-        rows = []
-        for _ in range(count):
-            row = []
-            for width in widths:
-                row.append(self.number(at, abs(width), width < 0))
-                at += abs(width)
-            rows.append(row)
-        return rows
+        starts = [at + sum(map(abs, widths[:k])) for k in range(len(widths))]
+        length = sum(map(abs, widths))
+        return [[self.number(start + length * row, abs(width), width < 0)
+                 for start, width in zip(starts, widths)] for row in range(count)]
+
+    def table(self, *widths):
+        """The rows that a full box counts."""
+        return self.rows(8, self.number(4), *widths)
+
+    def scale(self):
+        """What stands behind creation and modification in version 0 or 1."""
+        return self.number(20 if self.version() else 12)
 
 
 def nodes(data, start, end, is_file=False):
     return [Node(data, header) for header in lister.headers(data, start, end, '', is_file)]
 
 
+@dataclass
 class Sample:
-    """A sample: its numbers, where its bytes lie, and its index at each grouping key that has
-    one."""
-
-    def __init__(self, duration, offset, flags, description, place, size):
-        self.duration, self.offset, self.flags = duration, offset, flags
-        self.description, self.place, self.size = description, place, size
-        self.groups = {}
+    """A sample: its numbers, where its bytes lie, and its index at grouping keys."""
+    duration: int
+    offset: int
+    flags: int
+    description: int
+    place: int
+    size: int
+    groups: dict = field(default_factory=dict)
 
     def leave_out(self, words, is_at_end, origin):
         """The origin is the offset of the first sample."""
@@ -94,12 +101,9 @@ class Track:
         self.information = self.media.one('minf')
         self.tables = self.information.one('stbl')
         self.long_times = self.header.version() == 1
-        self.id = self.header.number(20 if self.long_times else 12)
-        media_header = self.media.one('mdhd')
-        self.timescale = media_header.number(20 if media_header.version() else 12)
-        descriptions = self.tables.one('stsd')
-        count = descriptions.number(4)
-        self.descriptions = first_boxes(descriptions, count)
+        self.id = self.header.scale()
+        self.timescale = self.media.one('mdhd').scale()
+        self.descriptions = first_boxes(self.tables.one('stsd'))
         self.edits = edits_of(trak)
         self.samples = plain_samples(self.tables)
         self.start = 0
@@ -144,7 +148,7 @@ class Movie:
         top = nodes(data, 0, len(data) if length is None else length, is_file=True)
         (self.moov,) = [box for box in top if box.kind == 'moov']
         self.header = self.moov.one('mvhd')
-        self.timescale = self.header.number(20 if self.header.version() else 12)
+        self.timescale = self.header.scale()
         self.tracks = [Track(trak) for trak in self.moov.all('trak')]
         self.left = frozenset()
         extends = self.moov.one('mvex')
@@ -190,10 +194,10 @@ class Movie:
         return found[0] if found else None
 
 
-def first_boxes(box, count):
-    """The boxes behind the count of an `stsd`; bytes behind these are not looked at."""
+def first_boxes(box):
+    """The boxes that an `stsd` counts; bytes behind these are not looked at."""
     found, place = [], box.inner + 8
-    while len(found) < count:
+    while len(found) < box.number(4):
         header = lister.header_at(box.data, place, box.end, '', False)
         found.append(Node(box.data, (header[0], place, *header[1:])))
         place = header[2]
@@ -207,7 +211,7 @@ def edits_of(trak):
         return []
     width = 8 if rows.version() else 4
     rate = 2 if taken('rates-are-unsigned') else -2
-    found = rows.rows(8, rows.number(4), width, -width, rate, rate)
+    found = rows.table(width, -width, rate, rate)
     for row in found if taken('media-times-are-unsigned') else []:
         row[1] += 256**width if row[1] < -1 else 0
     return found
@@ -229,22 +233,17 @@ def sizes_of(tables):
 def spread(table, default, count, width=4):
     """The value of each sample, of rows that each count some samples."""
     values = []
-    for repeated, value in table.rows(8, table.number(4), 4, width) if table else []:
+    for repeated, value in table.table(4, width) if table else []:
         values += [value] * repeated
     return values + [default] * (count - len(values))
 
 
 def chunks_of(tables):
     """Of each chunk its place, the number of its samples, and their description."""
-    table = tables.one('stco', 'co64')
-    places = table.rows(8, table.number(4), 4 if table.kind == 'stco' else 8)
-    rows = tables.one('stsc')
-    rows = rows.rows(8, rows.number(4), 4, 4, 4)
-    chunks = []
-    for number, (place,) in enumerate(places, 1):
+    table, rows = tables.one('stco', 'co64'), tables.one('stsc').table(4, 4, 4)
+    for number, (place,) in enumerate(table.table(4 if table.kind == 'stco' else 8), 1):
         _, count, description = [row for row in rows if row[0] <= number][-1]
-        chunks.append((place, count, description))
-    return chunks
+        yield place, count, description
 
 
 def flags_of(word):
@@ -259,7 +258,7 @@ def plain_samples(tables):
     offsets = tables.one('ctts')
     offsets = spread(offsets, 0, count, -4 if offsets and offsets.version() else 4)
     sync = tables.one('stss')
-    named = [row[0] for row in sync.rows(8, sync.number(4), 4)] if sync else range(1, count + 1)
+    named = [row[0] for row in sync.table(4)] if sync else range(1, count + 1)
     depends = tables.one('sdtp')
     samples = []
     for place, chunk_count, description in chunks_of(tables):
@@ -267,9 +266,7 @@ def plain_samples(tables):
             k = len(samples)
             flags = (depends.number(4 + k, 1) if depends else 0) << 20
             flags = flags_of(flags | (k + 1 not in named) << 16)
-            samples.append(
-                Sample(durations[k], offsets[k], flags, description, place, sizes[k])
-            )
+            samples.append(Sample(durations[k], offsets[k], flags, description, place, sizes[k]))
             place += sizes[k]
     group(tables, samples)
     return samples
@@ -278,9 +275,8 @@ def plain_samples(tables):
 def group(container, samples):
     """Gives samples the indexes that the `sbgp` of an `stbl` or a `traf` say."""
     for box in container.all('sbgp'):
-        key = key_of(box)
+        key, first = key_of(box), 0
         at = 8 if key[1] is None else 12
-        first = 0
         for count, index in box.rows(at + 4, box.number(at), 4, 4):
             for sample in samples[first:first + count]:
                 if index:
@@ -297,8 +293,7 @@ def key_of(box):
 
 
 def optional(box, flags, at, *bits):
-    """The fields of 4 bytes that these flags say are there; nothing in the place of one that
-    isn't."""
+    """The fields of 4 bytes that flags say are there; nothing in place of one that isn't."""
     values = []
     for bit in bits:
         values.append(box.number(at) if flags & bit else None)
@@ -353,9 +348,7 @@ def read_run(run, base, place, defaults, samples):
         offset = offset or 0
         if run.version() == 1 and offset >= 1 << 31:
             offset -= 1 << 32
-        samples.append(
-            Sample(duration, offset, flags_of(own_flags), defaults[0], place, size)
-        )
+        samples.append(Sample(duration, offset, flags_of(own_flags), defaults[0], place, size))
         place += size
     return place
 
@@ -382,7 +375,7 @@ def shown(movie):
         'descriptions': [lister.printed(box.kind.encode('latin-1')) for box in track.descriptions],
         'duration': track.duration(),
         'edits': track.edits,
-        'handler': handler_of(track),
+        'handler': lister.printed(bytes(track.media.one('hdlr').payload()[8:12])),
         'id': track.id,
         'samples': len(track.samples),
         'start': track.start,
@@ -395,19 +388,12 @@ def shown(movie):
     return text + '\n'
 
 
-def handler_of(track):
-    payload = track.media.one('hdlr').payload()
-    return lister.printed(bytes(payload[8:12]))
-
-
 def lines_of(track):
     """The lines that `samples` writes."""
     lines, time = [], track.start
     for number, sample in enumerate(track.samples, 1):
-        lines.append(
-            f'{number} {time} {time + sample.offset} {sample.duration} {sample.flags:08x}'
-            f' {sample.description} {sample.size}\n'
-        )
+        lines.append(f'{number} {time} {time + sample.offset} {sample.duration} '
+                     f'{sample.flags:08x} {sample.description} {sample.size}\n')
         time += sample.duration
     return ''.join(lines)
 

@@ -21,6 +21,12 @@ def cases():
     return json.loads(bytes_of('.', 'cases.json'))
 
 
+def lengths_of(case, whole, step=1):
+    """The numbers of first bytes that a case of cases.json is run on."""
+    low, high = case.get('first_bytes', [len(whole), len(whole)])
+    return range(low, high + 1, step)
+
+
 PLAIN = bytes_of('files', 'plain.mp4')
 NORMAL = bytes_of('wanted', 'plain.normal.mp4')
 # The media data of plain.mp4.
@@ -31,9 +37,14 @@ DIFFERENCE = b'track 1: sample 3: byte 4 of 7: 62 | 78\n'
 # Its last byte is missing: the `mdat` of 20 bytes at 541 ends behind the file.
 CUT = PLAIN[:-1]
 CUT_LINE = b'refused: Overrun in mdat at 541'
+CUT_SAID = CUT_LINE + b'\n'
 SHOWN = bytes_of('wanted', 'plain.show.json')
 BOXES = bytes_of('wanted', 'plain.boxes.txt')
 SAMPLES = bytes_of('wanted', 'plain.samples.txt')
+# Two fragments; a gap between two; a file with edits.
+TWO = bytes_of('files', 'two-fragments.mp4')
+GAP = bytes_of('files', 'gap-between-fragments.mp4')
+EDITS = bytes_of('files', 'edits.mp4')
 COLUMNS = b'number decode_time composition_time duration flags description size\n'
 
 

@@ -1,10 +1,12 @@
 """Copies in which some boxes are free space, made from a file's headers by the definition: of each
 box that is named, and that lies in no other such box, the four bytes of its type are `free`."""
+import itertools
 from uuid import UUID
 
 from . import lister, objects, stored
-from .boxes import Box, Raw, u32
+from .boxes import Box, u32
 from .built import single_faults
+from .edits import added_bytes, name_of
 from .movies import whole
 from .stored import PLAIN, bytes_of
 
@@ -19,13 +21,14 @@ UUIDS_OF_ENCRYPTION = ('a2394f52-5a9b-4f14-a244-6c427c648df4',
 OF_TIME = '6d1d9b05-42d5-44e6-80e2-141daff757b2'
 # What is then so where a box is lost, by its type, and by its container where it counts.
 SEALED = "encrypted samples can't be read"
-LOSSES = {
-    'encryption': (('senc', 'saiz', 'saio', 'pssh'), None, SEALED),
-    'fragments': (('sdtp', 'subs', 'sgpd'), 'traf', 'flags or groups of samples are lost'),
-    'tables': (('stps', 'stsh', 'padb', 'stdp'), 'stbl', 'flags or groups of samples are lost'),
-    'events': (('emsg',), None, 'events are lost'),
-    'items': (('meta',), 'file', 'items are lost'),
-}
+LOSSES = (
+    (('senc', 'saiz', 'saio', 'pssh'), None, SEALED),
+    (('sdtp', 'subs', 'sgpd'), 'traf', 'flags or groups of samples are lost'),
+    (('stps', 'stsh', 'padb', 'stdp'), 'stbl', 'flags or groups of samples are lost'),
+    (('emsg',), None, 'events are lost'),
+    (('meta',), 'file', 'items are lost'),
+)
+ZERO = str(UUID(int=0))
 # What names free space, or no type.
 WRONG = ('free', 'moov/free', '66726565', 'uuid,free', '', ',', 'uuid,', ',uuid', 'uui', 'uuids',
          'uuid,,prft', 'uuid, prft', 'moov/', '/uuid', 'moov/trak/uuid', 'none/uuid', 'stsd/uuid',
@@ -36,40 +39,23 @@ WRONG = ('free', 'moov/free', '66726565', 'uuid,free', '', ',', 'uuid,', ',uuid'
 
 
 class Name:
-    """A type of boxes, and the container that they stand in, of which any will do if there is
-    none; `word` is how it is given."""
+    """A type of boxes, the container that they stand in, and of `uuid` boxes their 16 bytes, of
+    which any will do if there are none; `word` is how it is given."""
 
-    def __init__(self, kind, container=None, word=None):
-        self.kind, self.container = kind, container
-        spelled = lister.printed(kind)
-        if any(it in spelled for it in ',/'):
-            spelled = kind.hex()
-        self.shown = lister.printed(kind)
-        if container:
-            self.shown = f'{container}/{self.shown}'
-            spelled = f'{container}/{spelled}'
-        self.word = word or spelled
-
-    def means(self, kind, container, _):
-        return self.kind == kind and self.container in (None, container)
-
-
-class OfUuid(Name):
-    """The `uuid` boxes with these 16 bytes, in a container or in any."""
-
-    def __init__(self, uuid, container=None, word=None):
-        super().__init__(b'uuid', container)
-        self.uuid, self.shown = uuid, f'{self.shown}:{uuid}'
-        self.word = word or f'{self.word}:{uuid}'
+    def __init__(self, kind, container=None, uuid=None, word=None):
+        self.kind, self.container, self.uuid = kind, container, uuid
+        front, end = f'{container}/' if container else '', f':{uuid}' if uuid else ''
+        shown = lister.printed(kind)
+        self.shown = front + shown + end
+        self.word = word or front + (kind.hex() if set(',/') & set(shown) else shown) + end
 
     def means(self, kind, container, uuid):
-        return super().means(kind, container, uuid) and uuid == self.uuid
+        return (self.kind == kind and self.container in (None, container)
+                and self.uuid in (None, uuid))
 
 
 class Foreign:
     """All boxes that the profile refuses where they stand."""
-
-    word = '--foreign'
 
     def means(self, kind, container, _):
         path = next(it for it in objects.PROFILE if (it.rpartition('/')[2] or 'file') == container)
@@ -95,7 +81,7 @@ class Freed:
             return SEALED
         if self.uuid == OF_TIME and self.container == 'traf' and not self.has_time:
             return 'decode times are made up'
-        for kinds, container, lost in LOSSES.values():
+        for kinds, container, lost in LOSSES:
             if self.kind in kinds and container in (None, self.container):
                 return lost
         return None
@@ -228,7 +214,7 @@ def cases_of_names():
                                     ('file', 'moov', 'trak', 'edts', 'mdia', 'minf', 'dinf',
                                      'stbl', 'mvex', 'moof', 'traf')]
     yield 'a type in hexadecimal digits', data, [Name(b'uuid', word='75756964'),
-                                                 Name(b'\xa9nam', 'moov', 'moov/A96E616d')]
+                                                 Name(b'\xa9nam', 'moov', word='moov/A96E616d')]
     yield 'nothing that is there', data, [Name(b'none'), Name(b'senx', 'traf')]
     yield from cases_of_uuids(data)
     yield 'no file', b'', [Name(b'uuid')]
@@ -238,32 +224,31 @@ def cases_of_names():
 def cases_of_uuids(strangers):
     """Boxes that are `uuid`, told apart by the 16 bytes that say which they are."""
     first, other = str(UUID(bytes=b'0123456789abcdef')), str(UUID(int=7))
-    yield 'one uuid', strangers, [OfUuid(first)]
-    yield 'one uuid in a container', strangers, [OfUuid(first, 'moof')]
-    yield 'one uuid, and the others', strangers, [OfUuid(first, 'trak'), Name(b'uuid')]
-    yield 'all, and one uuid', strangers, [Name(b'uuid', 'trak'), OfUuid(first)]
-    yield 'another uuid', strangers, [OfUuid(other)]
-    yield 'a uuid in capitals', strangers, [OfUuid(first, word=f'uuid:{first.upper()}')]
-    yield 'a uuid twice', strangers, [OfUuid(first), OfUuid(first, 'moov')]
+    yield 'one uuid', strangers, [Name(b'uuid', uuid=first)]
+    yield 'one uuid in a container', strangers, [Name(b'uuid', 'moof', first)]
+    yield 'one uuid, and the others', strangers, [Name(b'uuid', 'trak', first), Name(b'uuid')]
+    yield 'all, and one uuid', strangers, [Name(b'uuid', 'trak'), Name(b'uuid', uuid=first)]
+    yield 'another uuid', strangers, [Name(b'uuid', uuid=other)]
+    yield 'a uuid in capitals', strangers, [Name(b'uuid', uuid=first, word=f'uuid:{first.upper()}')]
+    yield 'a uuid twice', strangers, [Name(b'uuid', uuid=first), Name(b'uuid', 'moov', first)]
     for size in (15, 16, 17):
         data = PLAIN + Box('uuid', bytes(size)).spelled()
-        yield f'a uuid of {size} bytes', data, [OfUuid(str(UUID(int=0)))]
+        yield f'a uuid of {size} bytes', data, [Name(b'uuid', uuid=ZERO)]
     file = whole(False)
-    for number in range(3):
-        file.children.append(uuid_box(str(UUID(int=number % 2)), b'ab'))
-    yield 'two of three', file.spelled(), [OfUuid(str(UUID(int=0)))]
+    file.children += [uuid_box(str(UUID(int=number % 2)), b'ab') for number in range(3)]
+    yield 'two of three', file.spelled(), [Name(b'uuid', uuid=ZERO)]
     for name in UUIDS_OF_ENCRYPTION:
-        yield f'encryption {name}', with_one('moov', uuid_box(name), True), [OfUuid(name)]
+        data = with_one('moov', uuid_box(name), True)
+        yield f'encryption {name}', data, [Name(b'uuid', uuid=name)]
 
 
 def cases_of_open_sizes():
     """The last box of a file goes on to its end."""
-    plain = PLAIN
-    for kind in (b'uuid', b'mdat', b'moov'):
-        for content in (b'', b'some bytes', u32(8) + b'uuid'):
-            data = plain + u32(0) + kind + content
-            for names in ([Name(b'uuid')], [Name(kind)], [Name(b'trak')]):
-                yield f'{kind} of size 0 with {content}', data, names
+    for kind, content in itertools.product((b'uuid', b'mdat', b'moov'),
+                                           (b'', b'some bytes', u32(8) + b'uuid')):
+        for name in (b'uuid', kind, b'trak'):
+            data = PLAIN + u32(0) + kind + content
+            yield f'{kind} of size 0 with {content}', data, [Name(name)]
 
 
 def cases_of_faults():
@@ -278,19 +263,17 @@ def cases_of_faults():
         name, data = f'{name}.mp4', bytes_of('files', f'{name}.mp4')
         yield name, data, names
         yield f'{name} without its tracks', data, [Name(b'trak'), Name(b'mdat')]
-    plain = PLAIN
-    for length in range(0, len(plain), 3):
-        yield f'plain.mp4, first {length} bytes', plain[:length], [Name(b'hdlr')]
-        yield f'plain.mp4, first {length} bytes, without moov', plain[:length], [Name(b'moov')]
-    for fault in (u32(7) + b'uuid', u32(0) + b'uuid', u32(99) + b'uuid', b'short',
-                  u32(1) + b'uuid', u32(1) + b'uuid' + bytes(7) + b'\x0f'):
-        for outer in ('moov', 'trak', 'mdia'):
-            file = whole(False)
-            path = {'moov': 'moov', 'trak': 'moov/trak[1]', 'mdia': 'moov/trak/mdia'}[outer]
-            file.at(path).children.append(Raw(fault))
-            data = file.spelled()
-            yield f'{fault} in {outer}', data, [Name(b'uuid')]
-            yield f'{fault} in {outer}, named', data, [Name(outer.encode()), Name(b'mdat')]
+    for length in range(0, len(PLAIN), 3):
+        yield f'plain.mp4, first {length} bytes', PLAIN[:length], [Name(b'hdlr')]
+        yield f'plain.mp4, first {length} bytes, without moov', PLAIN[:length], [Name(b'moov')]
+    faults = (u32(7) + b'uuid', u32(0) + b'uuid', u32(99) + b'uuid', b'short', u32(1) + b'uuid',
+              u32(1) + b'uuid' + bytes(7) + b'\x0f')
+    for fault, path in itertools.product(faults, ('moov', 'moov/trak[1]', 'moov/trak/mdia')):
+        file, outer = whole(False), name_of(path).encode()
+        added_bytes(path, fault)(file)
+        data = file.spelled()
+        yield f'{fault} in {outer}', data, [Name(b'uuid')]
+        yield f'{fault} in {outer}, named', data, [Name(outer), Name(b'mdat')]
 
 
 def cases():
@@ -326,8 +309,7 @@ def foreign_files():
 
 
 def with_one(path, box, is_last):
-    """A file with one more box there; the fragments of the first track have no time where the box
-    comes first."""
+    """A file with one more box; if that comes first, the first `traf` has no time."""
     file = whole(False)
     holder = file.at(path) if path else file
     if path == 'moof/traf' and not is_last:
@@ -338,17 +320,14 @@ def with_one(path, box, is_last):
 
 def lossy_files():
     """One box with which something may be lost, in each container."""
-    paths = {path.replace('moov/trak', 'moov/trak[1]'): path for path in objects.PROFILE}
-    kinds = [kind for kinds, _, _ in LOSSES.values() for kind in kinds]
-    kinds += ['sinf', 'tenc', 'schm', 'stsh']
-    for path in paths:
-        for is_last in (True, False):
-            for kind in kinds:
-                yield f'{kind} in {path}, {is_last}', with_one(path, Box(kind, b'some'), is_last)
-            for name in (*UUIDS_OF_ENCRYPTION, OF_TIME):
-                yield f'{name} in {path}, {is_last}', with_one(path, uuid_box(name), is_last)
-                cut = Box('uuid', UUID(name).bytes[:15])
-                yield f'15 bytes of {name} in {path}, {is_last}', with_one(path, cut, is_last)
+    paths = [path.replace('moov/trak', 'moov/trak[1]') for path in objects.PROFILE]
+    kinds = [*(kind for kinds, _, _ in LOSSES for kind in kinds), 'sinf', 'tenc', 'schm', 'stsh']
+    boxes = [(kind, Box(kind, b'some')) for kind in kinds]
+    for name in (*UUIDS_OF_ENCRYPTION, OF_TIME):
+        boxes += [(name, uuid_box(name)),
+                  (f'15 bytes of {name}', Box('uuid', UUID(name).bytes[:15]))]
+    for path, is_last, (name, box) in itertools.product(paths, (True, False), boxes):
+        yield f'{name} in {path}, {is_last}', with_one(path, box, is_last)
     file = whole(False)
     for path in ('moof', 'moof/traf', 'moov', 'moov/trak[1]'):
         file.at(path).children += [Box('senc'), uuid_box(OF_TIME), Box('emsg'), Box('senc')]
@@ -356,7 +335,7 @@ def lossy_files():
 
 
 def foreign_cases():
-    """Names of cases, files, and the names of boxes; something is lost in those of `lossy_files`."""
+    """Names of cases, files, and names of boxes; something is lost in those of `lossy_files`."""
     for label, data in foreign_files():
         yield label, data, [Foreign()]
         yield f'{label}, and names', data, [Name(b'uuid', 'trak'), Name(b'hdlr'), Foreign()]

@@ -242,6 +242,23 @@ fn moved_on(state: TrackState, time: Option<u64>, passed: Passed, keys: Keys) ->
     }
 }
 
+/// What is known of a file when a `moof` of it is checked: how long the file is, and the places of
+/// its tracks by their IDs.
+#[derive(Clone, Copy)]
+pub struct FileTracks<'a> {
+    pub len: u64,
+    pub places: &'a TrackPlaces,
+}
+
+// Where a `traf` stands: in a `moof` at this place of a file, where the data of the `traf` before
+// ends there.
+#[derive(Clone, Copy)]
+struct Standing<'a> {
+    file: FileTracks<'a>,
+    moof: u64,
+    before: i128,
+}
+
 // A `traf` that passed: where its data ends, the place of its track, and what is noted of it, if it
 // has samples.
 #[derive(Clone, Copy)]
@@ -269,32 +286,32 @@ fn note_of(traf: BoxView, base: i128, count: u32) -> Option<OwnTraf>
     None
 }
 
-// Checks a `traf` of a `moof` at this place, where the data of the `traf` before ends there: it
-// passes, and the tracks and the room are those behind it; or its first fault is named, at a step
-// for each row, run and sample, and at most one look.
+// Checks a `traf` that stands there: it passes, and the tracks and the room are those behind it; or
+// its first fault is named, at a step for each row, run and sample, and at most one look.
 fn check_traf<L: Ledger, M: Ledger>(
     traf: BoxView,
-    moof: u64,
-    before: i128,
-    file_len: u64,
-    places: &TrackPlaces,
+    at: Standing,
     tracks: &mut [TrackState],
     room: &mut u32,
     steps: &mut Steps<L>,
     looks: &mut Steps<M>,
 ) -> Result<PassedTraf, Fault>
     requires room { IsRoomFor tracks.old room.old }
-    requires near { IsUpTo (2 ^ 98) before }
-    requires places { ArePlacesOf (ids_of tracks.old) places.now }
-    ensures passed { IfOk result (λ p. IsTrafPassed file_len moof before (box_seen traf.entry)
+    requires near { IsUpTo (2 ^ 98) at.before }
+    requires places { ArePlacesOf (ids_of tracks.old) at.file.places.now }
+    ensures passed { IfOk result (λ p. IsTrafPassed at.entry.file.len at.entry.moof at.entry.before
+        (box_seen traf.entry)
         tracks.old tracks.new room.old room.new p.ends) }
     ensures kept { IfOk result (λ p. KeepRoom tracks.old tracks.new room.old room.new) }
-    ensures own { IfOk result (IsNotable moof before (box_seen traf.entry) tracks.old) }
+    ensures own { IfOk result
+        (IsNotable at.entry.moof at.entry.before (box_seen traf.entry) tracks.old) }
     ensures ids { IfOk result (λ p. ids_of tracks.new ≡ ids_of tracks.old) }
     ensures fault { IfErr result
-        (TrafFails file_len moof before tracks.old room.old (box_seen traf.entry)) }
+        (TrafFails at.entry.file.len at.entry.moof at.entry.before tracks.old room.old
+        (box_seen traf.entry)) }
     ensures exact { NamesOne
-        (traf_fault file_len moof before tracks.old room.old (box_seen traf.entry)) result }
+        (traf_fault at.entry.file.len at.entry.moof at.entry.before tracks.old room.old
+        (box_seen traf.entry)) result }
     ensures work { TrafWork (box_seen traf.entry) steps.old steps.new room.old room.new result }
     ensures looks { TrafLooks (min 1 (length tracks.old)) looks.old looks.new result }
     ensures many { length tracks.new ≡ length tracks.old }
@@ -304,7 +321,7 @@ fn check_traf<L: Ledger, M: Ledger>(
         return Err(traf.fault(Kind::MissingBox));
     };
     let head = head_of(tfhd)?;
-    let Some(k) = find_track(tracks, head.id, places, looks) else {
+    let Some(k) = find_track(tracks, head.id, at.file.places, looks) else {
         return Err(tfhd.fault(Kind::UnknownTrack));
     };
     let state = tracks[k];
@@ -313,8 +330,8 @@ fn check_traf<L: Ledger, M: Ledger>(
     };
     let time = time_of(traf, heads.time)?;
     let judged = Judged {
-        file_len,
-        base: base_of(head, moof, before),
+        file_len: at.file.len,
+        base: base_of(head, at.moof, at.before),
         inherited: what_is_inherited(head, trex),
     };
     let passed = check_runs(traf, judged, room, steps)?;
@@ -350,58 +367,61 @@ fn note_traf(own: &mut [OwnTrafs], passed: PassedTraf) -> Result<(), Memory>
     Ok(())
 }
 
+// The boxes of a `moof` of a file, or the first of them.
+struct MoofBoxes<'a> {
+    moof: BoxView<'a>,
+    boxes: Children<'a>,
+    file: FileTracks<'a>,
+}
+
 // Checks the `traf`s among the boxes of a `moof` in file order, behind what came before it: all
 // pass, and the tracks, the notes and the room are those behind them; or the first that has a fault
 // is refused. The answer is where the data of the last one ends.
 fn check_trafs<'a, L: Ledger, M: Ledger>(
-    moof: BoxView<'a>,
-    boxes: Children<'a>,
-    file_len: u64,
-    places: &TrackPlaces,
+    all: MoofBoxes<'a>,
     tracks: &mut [TrackState],
     own: &mut [OwnTrafs],
     room: &mut u32,
     steps: &mut Steps<L>,
     looks: &mut Steps<M>,
 ) -> Result<i128, Refusal>
-    requires boxes { Tiles (box_container (box_seen moof)) boxes }
+    requires boxes { Tiles (box_container (box_seen all.moof)) all.boxes }
     requires room { IsRoomFor tracks.old room.old }
-    requires places { ArePlacesOf (ids_of tracks.old) places.now }
-    ensures passed { OnOk result (AreTrafsPassed file_len (box_seen moof.entry)
+    requires places { ArePlacesOf (ids_of tracks.old) all.file.places.now }
+    ensures passed { OnOk result (AreTrafsPassed all.entry.file.len (box_seen all.entry.moof)
         tracks.old tracks.new room.old room.new) }
     ensures refusal { IfErr result
-        (RefusesTrafs file_len tracks.old room.old (box_seen moof.entry) (length own.old)) }
-    ensures exact { NamesFirstOf (TrafsFirst file_len (box_seen moof.entry).offset
-        (pos (box_seen moof.entry).offset) tracks.old room.old
-        (of_kind (codes "traf") (children_of (box_seen moof.entry)))) result }
+        (RefusesTrafs all.entry.file.len tracks.old room.old (box_seen all.entry.moof)
+        (length own.old)) }
+    ensures exact { NamesFirstOf (TrafsFirst all.entry.file.len (box_seen all.entry.moof).offset
+        (pos (box_seen all.entry.moof).offset) tracks.old room.old
+        (of_kind (codes "traf") (children_of (box_seen all.entry.moof)))) result }
     ensures own { OnOk result ((trexes : List Trex) → AreTrexesOf trexes tracks.old
         → AreApart tracks.old → length own.old ≡ length tracks.old → map own_seen own.new
-        ≡ noted_in trexes (tree_of (box_seen moof.entry)) tracks.old (map own_seen own.old)) }
+        ≡ noted_in trexes (tree_of (box_seen all.entry.moof)) tracks.old (map own_seen own.old)) }
     ensures ends { IfOk result (λ ends. (trexes : List Trex) → AreTrexesOf trexes tracks.old
-        → ends ≡ data_end trexes (box_seen moof.entry).offset (pos (box_seen moof.entry).offset)
-        (of_kind (codes "traf") (children_of (box_seen moof.entry)))) }
+        → ends ≡ data_end trexes (box_seen all.entry.moof).offset
+        (pos (box_seen all.entry.moof).offset)
+        (of_kind (codes "traf") (children_of (box_seen all.entry.moof)))) }
     ensures each { length own.new ≡ length own.old }
-    ensures work { MoofWork (box_seen moof.entry) steps.old steps.new room.old room.new result }
-    ensures looks { MoofLooks (box_seen moof.entry) (min 1 (length tracks.old))
+    ensures work { MoofWork (box_seen all.entry.moof) steps.old steps.new room.old room.new result }
+    ensures looks { MoofLooks (box_seen all.entry.moof) (min 1 (length tracks.old))
         looks.old looks.new result }
-    ensures stops { IfMemory result (StopsWithin (box_seen moof.entry) (min 1 (length tracks.old))
+    ensures stops { IfMemory result
+        (StopsWithin (box_seen all.entry.moof) (min 1 (length tracks.old))
         steps.old steps.new looks.old looks.new) }
 {
+    let MoofBoxes { moof, boxes, file } = all;
     let mut before = i128::from(moof.offset());
     for child in boxes {
         if child.kind() == TRAF {
             steps.tick();
-            let passed = check_traf(
-                child,
-                moof.offset(),
+            let at = Standing {
+                file,
+                moof: moof.offset(),
                 before,
-                file_len,
-                places,
-                tracks,
-                room,
-                steps,
-                looks,
-            )?;
+            };
+            let passed = check_traf(child, at, tracks, room, steps, looks)?;
             note_traf(own, passed)?;
             before = passed.ends;
         }
@@ -409,7 +429,7 @@ fn check_trafs<'a, L: Ledger, M: Ledger>(
     Ok(before)
 }
 
-/// Checks a `moof` of a file of this length behind what came before it. The tracks move on by its
+/// Checks a `moof` of a file behind what came before it. The tracks move on by its
 /// samples, and the room for samples falls by their number. Each `traf` with samples is noted at
 /// the place of its track, as far as there are notes; a caller that wants none gives an empty list.
 /// After a refusal all of these may have any values. The answer is where the data of the last
@@ -417,8 +437,7 @@ fn check_trafs<'a, L: Ledger, M: Ledger>(
 /// and sample, and one look for each `traf`.
 pub fn check_moof<L: Ledger, M: Ledger>(
     moof: BoxView,
-    file_len: u64,
-    places: &TrackPlaces,
+    file: FileTracks,
     tracks: &mut [TrackState],
     own: &mut [OwnTrafs],
     room: &mut u32,
@@ -426,17 +445,18 @@ pub fn check_moof<L: Ledger, M: Ledger>(
     looks: &mut Steps<M>,
 ) -> Result<i128, Refusal>
     requires room { IsRoomFor tracks.old room.old }
-    requires places { ArePlacesOf (ids_of tracks.old) places.now }
+    requires places { ArePlacesOf (ids_of tracks.old) file.places.now }
     ensures sound { OnOk result ((trexes : List Trex) → AreTrexesOf trexes tracks.old
-        → IsSoundMoof file_len trexes tracks.old (tree_of (box_seen moof.entry))) }
-    ensures accepted { OnOk result (IsAccepted file_len (box_seen moof.entry)
+        → IsSoundMoof file.entry.len trexes tracks.old (tree_of (box_seen moof.entry))) }
+    ensures accepted { OnOk result (IsAccepted file.entry.len (box_seen moof.entry)
         tracks.old tracks.new room.old room.new) }
     ensures refusal { IfErr result
-        (RefusesMoof file_len tracks.old room.old (box_seen moof.entry) (length own.old)) }
-    ensures exact { NamesFirstOf (MoofFirst file_len tracks.old room.old (box_seen moof.entry))
+        (RefusesMoof file.entry.len tracks.old room.old (box_seen moof.entry) (length own.old)) }
+    ensures exact { NamesFirstOf
+        (MoofFirst file.entry.len tracks.old room.old (box_seen moof.entry))
         result }
     ensures only { IfErr result (λ r. (f : Fault) → r ≡ refusals.Fault f
-        → IsAcceptable file_len tracks.old room.old (box_seen moof.entry) → ⊥) }
+        → IsAcceptable file.entry.len tracks.old room.old (box_seen moof.entry) → ⊥) }
     ensures moved { OnOk result
         (IsMoofMovedOn (box_seen moof.entry) tracks.old tracks.new room.old room.new) }
     ensures own { OnOk result ((trexes : List Trex) → AreTrexesOf trexes tracks.old
@@ -453,9 +473,8 @@ pub fn check_moof<L: Ledger, M: Ledger>(
         steps.old steps.new looks.old looks.new) }
 {
     let boxes = check_children(moof, Rule::MovieFragment)?;
-    check_trafs(
-        moof, boxes, file_len, places, tracks, own, room, steps, looks,
-    )
+    let all = MoofBoxes { moof, boxes, file };
+    check_trafs(all, tracks, own, room, steps, looks)
 }
 
 /// Moves tracks on by the first boxes of a `moof`, up to a place, where the rest may hold boxes
@@ -463,40 +482,34 @@ pub fn check_moof<L: Ledger, M: Ledger>(
 /// the last of its `traf`s ends, or the place of the `moof` without one.
 pub fn check_front<L: Ledger, M: Ledger>(
     front: BoxView,
-    file_len: u64,
-    places: &TrackPlaces,
+    file: FileTracks,
     tracks: &mut [TrackState],
     room: &mut u32,
     steps: &mut Steps<L>,
     looks: &mut Steps<M>,
 ) -> Result<i128, Refusal>
     requires room { IsRoomFor tracks.old room.old }
-    requires places { ArePlacesOf (ids_of tracks.old) places.now }
+    requires places { ArePlacesOf (ids_of tracks.old) file.places.now }
     ensures sound { OnOk result ((trexes : List Trex) → AreTrexesOf trexes tracks.old
-        → IsSoundFront file_len trexes (tree_of (box_seen front.entry))) }
+        → IsSoundFront file.entry.len trexes (tree_of (box_seen front.entry))) }
     ensures moved { OnOk result
         (IsMoofMovedOn (box_seen front.entry) tracks.old tracks.new room.old room.new) }
     ensures ends { IfOk result (λ ends. (trexes : List Trex) → AreTrexesOf trexes tracks.old
         → ends ≡ data_end trexes (box_seen front.entry).offset (pos (box_seen front.entry).offset)
         (of_kind (codes "traf") (children_of (box_seen front.entry)))) }
-    ensures refusal { IfErr result (RefusesFront file_len tracks.old room.old
+    ensures refusal { IfErr result (RefusesFront file.entry.len tracks.old room.old
         (box_seen front.entry)) }
     ensures work { MoofWork (box_seen front.entry) steps.old steps.new room.old room.new result }
     ensures looks { MoofLooks (box_seen front.entry) (min 1 (length tracks.old))
         looks.old looks.new result }
 {
     let boxes = children(front.payload(), front.payload_offset(), front.kind())?;
-    check_trafs(
-        front,
+    let all = MoofBoxes {
+        moof: front,
         boxes,
-        file_len,
-        places,
-        tracks,
-        &mut [],
-        room,
-        steps,
-        looks,
-    )
+        file,
+    };
+    check_trafs(all, tracks, &mut [], room, steps, looks)
 }
 
 /// Where the runs of a `traf` with this `tfhd` are counted from, in a `moof` at this place, where

@@ -2,7 +2,7 @@
 use crate::counts::{Counts, leave_run};
 use crate::opened_runs::settle;
 use crate::places::FragPlace;
-use crate::traf_samples::{begin_traf, pass_non_sync, pass_sample, sample_here};
+use crate::traf_samples::{Beginning, begin_traf, pass_non_sync, pass_sample, sample_here};
 use crate::trex::Trex;
 use mp4_tables::{Keys, SampleAt, Samples};
 use std::marker::Model;
@@ -67,7 +67,8 @@ impl<'a> FragCursor<'a> {
             → dts + duration_of (part_samples p.part) < 2 ^ 64
             → samples_coming result ≡ timed (keys_seen keys) number dts (part_samples p.part) }
     {
-        let place = begin_traf(payload, base, id, trex, number, dts, keys);
+        let from = Beginning { base, number, dts };
+        let place = begin_traf(payload, from, id, trex, keys);
         FragCursor::at(payload, place)
     }
 

@@ -196,24 +196,31 @@ fn first_place(base: i128, number: u32, dts: u64) -> FragPlace
     }
 }
 
-/// Before the first sample of the track with this ID in a `traf` whose runs are counted from this
-/// base. A `traf` that does not name the track gives none.
+/// Where the samples of a `traf` begin: its runs are counted from this base, and the first sample
+/// has this number and this decode time.
+#[derive(Clone, Copy)]
+pub(crate) struct Beginning {
+    pub(crate) base: i128,
+    pub(crate) number: u32,
+    pub(crate) dts: u64,
+}
+
+/// Before the first sample of the track with this ID in a `traf` that begins there. A `traf` that
+/// does not name the track gives none.
 pub(crate) fn begin_traf(
     payload: &[u8],
-    base: i128,
+    from: Beginning,
     id: u32,
     trex: Trex,
-    number: u32,
-    dts: u64,
     keys: Keys,
 ) -> FragPlace
     ensures bytes { AreBytes payload.now }
     ensures place { IsPlaceIn payload.now result }
-    ensures time { result.dts ≡ dts }
+    ensures time { result.dts ≡ from.dts }
     ensures coming { coming payload.now result
-        ≡ samples_in payload.now base id trex number dts (keys_seen keys) }
+        ≡ samples_in payload.now from.base id trex from.number from.dts (keys_seen keys) }
 {
-    let mut place = first_place(base, number, dts);
+    let mut place = first_place(from.base, from.number, from.dts);
     if open_traf(payload, id, trex, keys, &mut place) {
         settle(payload, &mut place);
     } else {

@@ -13,7 +13,7 @@ use Rattle.mp4_boxes.proofs.OfBytes.{bytes_dropped, bytes_taken, no_bytes}
 use Rattle.mp4_boxes.proofs.WrittenBoxes.{length-box_bytes}
 use Rattle.mp4_head.specs.format.Head.{Kept}
 use Rattle.mp4_head.specs.format.Writing.{kept_bytes}
-use Rattle.mp4_present.specs.format.BitRates.{begins_box, first_box, first_boxes, behind_boxes, boxes_of, end_of, left_of_boxes, tiles_left, are_zeros}
+use Rattle.mp4_present.specs.format.BitRates.{begins_box, first_box, leading_boxes, behind_boxes, boxes_of, end_of, left_of_boxes, tiles_left, are_zeros}
 use Rattle.mp4_present.proofs.FirstBoxes.{begins, begun, is_left, left_bytes, rest_shorter, too_short, boxes_stop, end_stop}
 
 take_at : (xs ys : List ℕ) (n : ℕ) → length xs ≡ n → take n (xs ++ ys) ≡ xs
@@ -111,15 +111,15 @@ module _ (k : Kept) (rest : List ℕ) (short : IsShortBox k) where
 
 -- ---- boxes that were written
 
-boxes_again : (n : ℕ) (ks : List Kept) (rest : List ℕ) → AllByRecursion IsShortBox ks → begins_box rest ≡ false → length ks ≤ n → first_boxes n (flat_map kept_bytes ks ++ rest) ≡ ks
+boxes_again : (n : ℕ) (ks : List Kept) (rest : List ℕ) → AllByRecursion IsShortBox ks → begins_box rest ≡ false → length ks ≤ n → leading_boxes n (flat_map kept_bytes ks ++ rest) ≡ ks
 boxes_again n [] rest h e le = boxes_stop n rest e
 boxes_again zero (k ∷ ks) rest h e le = absurd (omega (arith, le))
 boxes_again (suc n) (k ∷ ks) rest h e le =
     let more = flat_map kept_bytes ks ++ rest in
     let joined : flat_map kept_bytes (k ∷ ks) ++ rest ≡ kept_bytes k ++ more = append_assoc (kept_bytes k) (flat_map kept_bytes ks) rest in
-    ap (first_boxes (suc n)) joined
-    ∙ ap (λ (b : Bool). if b then first_box (kept_bytes k ++ more) ∷ first_boxes n (drop (field (kept_bytes k ++ more) 0 4) (kept_bytes k ++ more)) else []) (begins_again k more h.0)
-    ∙ (λ i. box_again k more h.0 i ∷ first_boxes n (rest_again k more h.0 i))
+    ap (leading_boxes (suc n)) joined
+    ∙ ap (λ (b : Bool). if b then first_box (kept_bytes k ++ more) ∷ leading_boxes n (drop (field (kept_bytes k ++ more) 0 4) (kept_bytes k ++ more)) else []) (begins_again k more h.0)
+    ∙ (λ i. box_again k more h.0 i ∷ leading_boxes n (rest_again k more h.0 i))
     ∙ ap (λ xs. k ∷ xs) (boxes_again n ks rest h.1 e (omega (arith, le)))
 
 end_again : (n : ℕ) (ks : List Kept) (rest : List ℕ) → AllByRecursion IsShortBox ks → begins_box rest ≡ false → length ks ≤ n → behind_boxes n (flat_map kept_bytes ks ++ rest) ≡ rest
@@ -157,9 +157,9 @@ chosen : {A : Type 0} (P : A → Type 0) (v : Bool) (x y : A) → (v ≡ true �
 chosen P true x y h k = h refl
 chosen P false x y h k = k
 
-boxes_are_short : (n : ℕ) (bytes : List ℕ) → AllByRecursion IsShortBox (first_boxes n bytes)
+boxes_are_short : (n : ℕ) (bytes : List ℕ) → AllByRecursion IsShortBox (leading_boxes n bytes)
 boxes_are_short zero bytes = tt
-boxes_are_short (suc n) bytes = chosen (AllByRecursion IsShortBox) (begins_box bytes) (first_box bytes ∷ first_boxes n (drop (field bytes 0 4) bytes)) []
+boxes_are_short (suc n) bytes = chosen (AllByRecursion IsShortBox) (begins_box bytes) (first_box bytes ∷ leading_boxes n (drop (field bytes 0 4) bytes)) []
     (λ e. (first_short bytes e, boxes_are_short n (drop (field bytes 0 4) bytes))) tt
 
 no_box_by : (v : Bool) (bytes rest : List ℕ) → begins_box bytes ≡ v → (v ≡ true → begins_box rest ≡ false) → begins_box (if v then rest else bytes) ≡ false
@@ -243,9 +243,9 @@ module _ (change : Kept → Kept) (lasting : IsLasting change) where
       all_bytes : (ks : List Kept) → AllByRecursion (λ k. AreBytes k.kind × AreBytes k.payload) ks → AreBytes (flat_map kept_bytes (left_of_boxes change ks))
       all_bytes ks h = changed_bytes (filter is_left ks) (each_weaker (λ k. (AreBytes k.kind × AreBytes k.payload) × (is_left k ≡ true)) (λ k. AreBytes k.kind × AreBytes k.payload) (λ k both. both.0) (filter is_left ks) (each_kept (λ k. AreBytes k.kind × AreBytes k.payload) is_left ks h))
 
-      boxes_bytes : (n : ℕ) (bytes : List ℕ) → AreBytes bytes → AllByRecursion (λ k. AreBytes k.kind × AreBytes k.payload) (first_boxes n bytes)
+      boxes_bytes : (n : ℕ) (bytes : List ℕ) → AreBytes bytes → AllByRecursion (λ k. AreBytes k.kind × AreBytes k.payload) (leading_boxes n bytes)
       boxes_bytes zero bytes are = tt
-      boxes_bytes (suc n) bytes are = chosen (AllByRecursion (λ k. AreBytes k.kind × AreBytes k.payload)) (begins_box bytes) (first_box bytes ∷ first_boxes n (drop (field bytes 0 4) bytes)) []
+      boxes_bytes (suc n) bytes are = chosen (AllByRecursion (λ k. AreBytes k.kind × AreBytes k.payload)) (begins_box bytes) (first_box bytes ∷ leading_boxes n (drop (field bytes 0 4) bytes)) []
           (λ e. ((bytes_taken 4 (drop 4 bytes) (bytes_dropped 4 bytes are), bytes_taken (field bytes 0 4 - 8) (drop 8 bytes) (bytes_dropped 8 bytes are)), boxes_bytes n (drop (field bytes 0 4) bytes) (bytes_dropped (field bytes 0 4) bytes are))) tt
 
       end_bytes : (n : ℕ) (bytes : List ℕ) → AreBytes bytes → AreBytes (behind_boxes n bytes)

@@ -23,7 +23,7 @@ use Rattle.mp4_present.specs.words.SamplesComing.{track_keys, track_samples}
 use Rattle.mp4_present.specs.declared.without.Without.{Without}
 use Rattle.mp4_present.specs.declared.track_info.TrackInfo.{TrackInfo}
 use Rattle.mp4_present.proofs.Assembled.{timescale_there}
-use Rattle.mp4_plan.specs.format.ReducedTimes.{LeftInLimits, ReducedTimePasses, ReducesInLimits}
+use Rattle.mp4_plan.specs.format.ReducedTimes.{LeftInLimits, ReducedLimitPasses, ReducesInLimits}
 use Rattle.mp4_plan.specs.words.ComingLess.{asks_first, track_reduction}
 use Rattle.mp4_plan.specs.words.LeftTimes.{check_tracks}
 use Rattle.mp4_plan.specs.words.Measuring.{AreTotals, no_total, total_from, track_total}
@@ -158,7 +158,7 @@ module _ (l : Without) (counts : l.timing ≡ false) (file : List ℕ) (tree : F
         (record { in_time = apart.0; in_range = apart.1 }, r.1)
 
     -- Where one isn't, it is the first.
-    pub left_err : (f : Fault) → check_tracks l head.timescale 0 head.tracks.items m.tracks totals ≡ Err f → ReducedTimePasses l file tree f
+    pub left_err : (f : Fault) → check_tracks l head.timescale 0 head.tracks.items m.tracks totals ≡ Err f → ReducedLimitPasses l file tree f
     left_err f e =
         let p = all_err l counts file tree 0 f tree.movie.tracks head.tracks.items m.tracks totals good (ap (λ timescale. check_tracks l timescale 0 head.tracks.items m.tracks totals) (sym scale) ∙ e) in
         record { before = p.before; t = p.t; after = p.after; tracks = p.split; in_limits = p.in_limits; named = p.named }

@@ -1,9 +1,10 @@
 -- How long what is left of an opened file is, where timing doesn't count and where edits, ends and origins stay.
-use Rattle.std.proofs.Common.{◌≡◌, ℕ, zero, suc, ◌+◌, ◌<◌, ◌≤◌, max, min, Bool, true, false, if◌then◌else◌, List, [], ◌∷◌, length, drop, map, slice_index_or, refl, sym, ap, subst, ◌∙◌, arith, ◌⊎◌, inl, inr, ◌^◌, ◌-◌}
+use Rattle.std.proofs.Common.{◌≡◌, ℕ, ◌+◌, ◌<◌, ◌≤◌, max, min, Bool, true, false, if◌then◌else◌, List, [], ◌∷◌, length, drop, map, slice_index_or, refl, sym, ap, subst, ◌∙◌, arith, ◌⊎◌, inl, inr, ◌^◌, ◌-◌}
 use Rattle.std.specs.Prelude.{fold, FitsSigned}
 use Rattle.std.specs.Int.{w32}
 use Rattle.std.specs.List.{AllByRecursion, AllZip}
 use Rattle.std.proofs.lemmas.Bool.{cases_lt}
+use Rattle.std.proofs.lemmas.List.{drop_all, drop_more}
 use Rattle.mp4_boxes.specs.format.Bytes.{sum_of}
 use Rattle.mp4_boxes.proofs.Each.{each_member, each_value, each_weaker}
 use Rattle.mp4_head.specs.format.Head as heads
@@ -64,28 +65,18 @@ edits_stay l file m tree stay counts lasts begins o =
 
 -- ---- where timing doesn't count
 
-pub drop_at : {A : Type 0} (xs : List A) (k : ℕ) (x : A) → k < length xs → x ≡ slice_index_or xs k x → drop k xs ≡ x ∷ drop (k + 1) xs
-drop_at xs k x lt e = let next : suc k ≡ k + 1 = omega arith in subst (λ n. drop k xs ≡ x ∷ drop n xs) next (at xs k x lt e)
-  where
-    at : {A : Type 0} (xs : List A) (k : ℕ) (x : A) → k < length xs → x ≡ slice_index_or xs k x → drop k xs ≡ x ∷ drop (suc k) xs
-    at [] k x lt e = absurd (omega (arith, lt))
-    at (y ∷ ys) zero x lt e = λ i. sym e i ∷ ys
-    at (y ∷ ys) (suc k) x lt e = at ys k x (omega (arith, lt)) e
-
-none_behind : {A : Type 0} (xs : List A) (k : ℕ) → length xs ≤ k → drop k xs ≡ []
-none_behind [] zero le = refl
-none_behind [] (suc k) le = refl
-none_behind (x ∷ xs) zero le = absurd (omega (arith, le))
-none_behind (x ∷ xs) (suc k) le = none_behind xs k (omega (arith, le))
+-- what is left from a place on begins with what was read there
+read_front : {A : Type 0} (xs : List A) (k : ℕ) (x : A) → k < length xs → x ≡ slice_index_or xs k x → drop k xs ≡ x ∷ drop (k + 1) xs
+read_front xs k x lt e = drop_more xs k x lt ∙ ap (λ y. y ∷ drop (k + 1) xs) (sym e)
 
 pub count_more : (l : Without) (hs : List TrackHead) (tracks : List TrackInfo) (k longest : ℕ) (h : TrackHead) (info : TrackInfo) → k < length hs → k < length tracks → h ≡ slice_index_or hs k h → info ≡ slice_index_or tracks k info
     → longest_count l longest (drop k hs) (drop k tracks) ≡ longest_count l (max (count_length l (track_seen h).edits info.samples) longest) (drop (k + 1) hs) (drop (k + 1) tracks)
 count_more l hs tracks k longest h info lt less e f =
-    (λ i. longest_count l longest (drop_at hs k h lt e i) (drop_at tracks k info less f i))
+    (λ i. longest_count l longest (read_front hs k h lt e i) (read_front tracks k info less f i))
     ∙ ap (λ n. longest_count l n (drop (k + 1) hs) (drop (k + 1) tracks)) (turned longest (count_length l (track_seen h).edits info.samples))
 
 pub count_end : (l : Without) (hs : List TrackHead) (tracks : List TrackInfo) (k longest : ℕ) → min (length tracks) (length hs) ≤ k → longest_count l longest (drop k hs) (drop k tracks) ≡ longest
-count_end l hs tracks k longest le = by (drop k hs) (drop k tracks) (none_behind hs k) (none_behind tracks k)
+count_end l hs tracks k longest le = by (drop k hs) (drop k tracks) (drop_all k hs) (drop_all k tracks)
   where
     by : (xs : List TrackHead) (ys : List TrackInfo) → (length hs ≤ k → xs ≡ []) → (length tracks ≤ k → ys ≡ []) → longest_count l longest xs ys ≡ longest
     by [] ys h g = refl

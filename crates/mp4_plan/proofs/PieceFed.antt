@@ -24,7 +24,7 @@ use Rattle.mp4_plan.specs.words.Taken.{row_seen}
 use Rattle.mp4_plan.specs.declared.ends.End.{End}
 use Rattle.mp4_plan.specs.declared.track_pieces.Stop.{Stop}
 use Rattle.mp4_plan.specs.declared.track_pieces.Stop.TheVariants.{Empty, Ended, Full}
-use Rattle.mp4_plan.specs.declared.joined.Stretches.{Stretches}
+use Rattle.mp4_plan.specs.declared.stretches.Stretches.{Stretches}
 use Rattle.mp4_plan.specs.declared.noted_rows.Row.{Row}
 use Rattle.mp4_plan.proofs.PlannerSteps.{fed_more, after_more, fed_none, after_none, more_of_no, more_of-nil}
 use Rattle.mp4_plan.proofs.HandsTaken.{more_with, counted_fed}
@@ -215,6 +215,10 @@ NotesOn leaving file m begun p rows =
 -- nothing is noted yet
 pub notes_new : (leaving : Reduction) (file : List ℕ) (m : MovieSeen) (w : Walk) (end : End) (p : Planning) (rows : List Row) → p ≡ piece_from end → NotesOn leaving file m w p rows
 notes_new leaving file m w end p rows is tree t samples o c = let none = ap (λ (q : Planning). count_of q.gathered) is in ap (λ n. take n rows) none ∙ sym (ap (λ n. map row_seen (take n samples)) none)
+
+-- what a vector holds whose items were written over, as many as it had
+pub written_over : {A : Type 0} (n len : ℕ) (xs items ys : List A) → length xs ≡ length items → len ≡ length items → take n xs ≡ ys → take n (take len (xs ++ drop (length xs) items)) ≡ ys
+written_over n len xs items ys same own e = ap (take n) (take_at xs (drop (length xs) items) len (same ∙ sym own)) ∙ e
 
 -- those in hand that were taken are noted behind the others, in a part of the rows
 pub hand_noted : (leaving : Reduction) (file : List ℕ) (m : MovieSeen) (begun w : Walk) (room n : ℕ) (start p q : Planning) (stop : Stop) (place : Place) (rows part behind_it : List Row) (told told_after : Stretches) → FeedsOn leaving file m begun w start p → NotesOn leaving file m begun p rows

@@ -1,8 +1,7 @@
 -- Walks over the tracks of an opened file, and what is planned of the pieces that come in them.
-use Rattle.std.proofs.Common.{get_or, ◌≡◌, ℕ, zero, suc, ◌+◌, ◌*◌, ◌<◌, ◌≤◌, List, [], ◌∷◌, ◌++◌, length, take, map, Some, refl, sym, ap, subst, ◌∙◌, arith, length-set}
+use Rattle.std.proofs.Common.{◌≡◌, ℕ, zero, suc, ◌+◌, ◌*◌, ◌<◌, ◌≤◌, List, [], ◌∷◌, ◌++◌, length, take, map, Some, refl, sym, ap, subst, ◌∙◌, arith, length-set}
 use Rattle.mp4_present.specs.declared.without.Without.{Without}
-use Rattle.mp4_plan.specs.words.ComingLess.{ComesLess, left_samples, plain_reduction, track_reduction}
-use Rattle.mp4_plan.specs.format.ReducedLaws.{nothing}
+use Rattle.mp4_plan.specs.words.ComingLess.{ComesLess, left_samples, track_reduction}
 use Rattle.mp4_plan.specs.declared.reduced.Reduction.{Reduction}
 use Rattle.std.specs.Prelude.{slice_get, slice_set, slice_index_or}
 use Rattle.std.specs.List.{AllByRecursion}
@@ -151,9 +150,6 @@ reduced_there leaving tree by k t e is = ap (λ (rs : List Reduction). slice_get
     at (u ∷ trees) zero is = let same : u ≡ t = cc in ap (λ (v : TrackTree). Some (track_reduction leaving tree v)) same
     at (u ∷ trees) (suc k) is = at trees k is
 
-pub reduced_is : (leaving : Without) (tree : FileTree) (by : List Reduction) (k : ℕ) (t : TrackTree) → by ≡ reductions_of leaving tree → slice_get tree.movie.tracks k ≡ Some t → k < length by → get_or by k (plain_reduction nothing) ≡ track_reduction leaving tree t
-reduced_is leaving tree by k t e is lt = some_is (get_or by k (plain_reduction nothing)) (track_reduction leaving tree t) (sym (got_there by k (plain_reduction nothing) lt) ∙ reduced_there leaving tree by k t e is)
-
 -- another walk at its place, in which the same samples come
 pub same_come : (leaving : Without) (file : List ℕ) (tree : FileTree) (m : MovieSeen) (walks : List Walk) (lefts : List (List SampleAt)) (k : ℕ) (walk next : Walk) → AllCome leaving file tree m tree.movie.tracks walks lefts → (r : ComesThere leaving file tree m lefts k walk)
     → ComesLess (track_reduction leaving tree r.t) file tree r.t m next r.left → AllCome leaving file tree m tree.movie.tracks (slice_set walks k next) lefts
@@ -168,8 +164,6 @@ each_set P (y ∷ xs) (suc k) x h p = (h.0, each_set P xs k x h.1 p)
 
 pub walks_set : (m : MovieSeen) (walks : List Walk) (k : ℕ) (next : Walk) → AreWalksOf m walks → IsWalkOf m next → AreWalksOf m (slice_set walks k next)
 walks_set m walks k next h w = record { each = each_set (IsWalkOf m) walks k next h.each w; count = length-set walks k next ∙ h.count }
-
--- ---- when the first track begins
 
 -- ---- the rooms of walks over all tracks
 

@@ -16,7 +16,7 @@ use Rattle.mp4_present.specs.words.Movies.{MovieSeen}
 use Rattle.mp4_present.specs.words.OpenedMovie.{IsOpenedAs}
 use Rattle.mp4_present.specs.declared.without.Without.{Without}
 use Rattle.mp4_present.proofs.One.{denotes_one, file_tree_one}
-use Rattle.mp4_plan.specs.format.ReducedTimes.{IsLeftFault, LeftInLimits, ReducesInLimits, ReducedTimePasses, ReducedFaultStands}
+use Rattle.mp4_plan.specs.format.ReducedTimes.{IsLeftFault, LeftInLimits, ReducesInLimits, ReducedLimitPasses, ReducedFaultStands}
 use Rattle.mp4_plan.specs.format.ReducedLaws.{ReducedFaultRefuses, ReducedFaultIsOne}
 
 -- ---- whether a track is too long, and whether its offsets fit
@@ -123,7 +123,7 @@ module _ (l : Without) (file : List ℕ) (tree : FileTree) where
   fault_one t f g (inr a) (inl b) = absurd (b.0 a.0)
   fault_one t f g (inr a) (inr b) = b.2 ∙ sym a.2
 
-  there_is : (ReducesInLimits l (presentation_of file tree) → ⊥) → (f : Fault) × ReducedTimePasses l file tree f
+  there_is : (ReducesInLimits l (presentation_of file tree) → ⊥) → (f : Fault) × ReducedLimitPasses l file tree f
   there_is over =
       let all_in : AllByRecursion (LeftInLimits l file tree) tree.movie.tracks → ReducesInLimits l (presentation_of file tree) = λ all. record {
         in_time = each_value (LeftInLimits l file tree) IsShort own (λ t h. h.0) tree.movie.tracks all;
@@ -133,7 +133,7 @@ module _ (l : Without) (file : List ℕ) (tree : FileTree) where
       let named = fault_there r.t r.fails in
       (named.0, record { before = r.before; t = r.t; after = r.after; tracks = r.split; in_limits = r.each; named = named.1 })
 
-  one_of_tree : (f g : Fault) → ReducedTimePasses l file tree f → ReducedTimePasses l file tree g → g ≡ f
+  one_of_tree : (f g : Fault) → ReducedLimitPasses l file tree f → ReducedLimitPasses l file tree g → g ≡ f
   one_of_tree f g p q =
       let same = same_first (LeftInLimits l file tree) q.before p.before q.after p.after q.t p.t (sym q.tracks ∙ p.tracks) q.in_limits p.in_limits (fault_fails q.t g q.named) (fault_fails p.t f p.named) in
       fault_one p.t f g p.named (subst (λ (t : TrackTree). IsLeftFault l file tree t g) same q.named)
@@ -142,11 +142,11 @@ module _ (l : Without) (file : List ℕ) (tree : FileTree) where
   here P [] after t h = h.0
   here P (u ∷ before) after t h = here P before after t h.1
 
-  named_here : (P : Track → Type 0) (f : Fault) (q : ReducedTimePasses l file tree f) → AllByRecursion P (map own tree.movie.tracks) → P (own q.t)
+  named_here : (P : Track → Type 0) (f : Fault) (q : ReducedLimitPasses l file tree f) → AllByRecursion P (map own tree.movie.tracks) → P (own q.t)
   named_here P f q h = here P q.before q.after q.t (subst (λ (trees : List TrackTree). AllByRecursion P (map own trees)) q.tracks h)
 
   -- Where it is named, what is left is not in the limits.
-  pub passes_limits : (f : Fault) → ReducedTimePasses l file tree f → ReducesInLimits l (presentation_of file tree) → ⊥
+  pub passes_limits : (f : Fault) → ReducedLimitPasses l file tree f → ReducesInLimits l (presentation_of file tree) → ⊥
   passes_limits f q h = fault_fails q.t f q.named (named_here IsShort f q h.in_time, named_here IsNear f q h.in_range)
 
 -- ---- the laws
@@ -161,11 +161,11 @@ is_one l file p d over =
     let r = there_is l file d.tree (λ limits. over (subst (ReducesInLimits l) (sym d.says) limits)) in (
       r.0,
       record { p = p; denotes = d; passes = r.1 },
-      λ g s. one_of_tree l file d.tree r.0 g r.1 (subst (λ (tree : FileTree). ReducedTimePasses l file tree g) (file_tree_one file s.denotes.tree d.tree s.denotes.is_tree d.is_tree) s.passes),
+      λ g s. one_of_tree l file d.tree r.0 g r.1 (subst (λ (tree : FileTree). ReducedLimitPasses l file tree g) (file_tree_one file s.denotes.tree d.tree s.denotes.is_tree d.is_tree) s.passes),
     )
 
 -- a file that was opened denotes what its boxes say
-pub opened_stands : (l : Without) (file : List ℕ) (m : MovieSeen) (tree : FileTree) (f : Fault) → IsOpenedAs file m tree → ReducedTimePasses l file tree f → ReducedFaultStands l file f
+pub opened_stands : (l : Without) (file : List ℕ) (m : MovieSeen) (tree : FileTree) (f : Fault) → IsOpenedAs file m tree → ReducedLimitPasses l file tree f → ReducedFaultStands l file f
 opened_stands l file m tree f o passes = record {
   p = presentation_of file tree;
   denotes = record { tree = tree; is_tree = o.is_tree; is_sound = o.is_sound; is_consistent = o.is_consistent; says = refl; limits = o.limits };

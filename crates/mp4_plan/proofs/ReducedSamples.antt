@@ -6,6 +6,11 @@ use Rattle.mp4_present.specs.format.Presentation.{Sample, total_duration}
 use Rattle.mp4_present.specs.format.Reduced.{is_at_end, duration_left, reduce_sample, reduce_from}
 use Rattle.mp4_present.specs.declared.without.Without.{Without}
 
+-- what holds of both, whichever it is
+pub by_case : {A : Type 0} (P : A → Type 0) (b : Bool) (x y : A) → P x → P y → P (if b then x else y)
+by_case P true x y h k = h
+by_case P false x y h k = k
+
 module _ (l : Without) (count : ℕ) (first : ℤ) where
   pub left_many : (n : ℕ) (samples : List Sample) → length (reduce_from l count first n samples) ≡ length samples
   left_many n [] = refl

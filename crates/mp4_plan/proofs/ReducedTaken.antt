@@ -1,5 +1,6 @@
 -- What is left of samples that are handed out.
 use Rattle.std.proofs.Common.{◌≡◌, ℕ, zero, suc, ◌+◌, ◌-◌, ◌^◌, ◌<◌, ◌≤◌, min, Bool, true, false, if◌then◌else◌, List, [], ◌∷◌, ◌++◌, length, take, drop, refl, sym, ap, subst, ◌∙◌, arith, ne_eqb, ◌⊎◌, inl, inr}
+use Rattle.std.proofs.lemmas.Bool.{cond-false}
 use Rattle.std.proofs.lemmas.List.{map-append}
 use Rattle.std.proofs.lemmas.List.Sums.{sum_by-cons}
 use Rattle.mp4_boxes.specs.format.Bytes.{sum_of}
@@ -25,6 +26,7 @@ use Rattle.mp4_plan.specs.words.ComingLess.{asks_first, begun_time, left_samples
 use Rattle.mp4_plan.specs.words.Taken.{IsTaken, AreTaken}
 use Rattle.mp4_plan.specs.declared.reduced.Reduction.{Reduction}
 use Rattle.mp4_plan.proofs.PieceFacts.{length-timed_from}
+use Rattle.mp4_plan.proofs.ReducedSamples.{by_case}
 
 no_indexes : (keys : List GroupKey) → indexes keys [] ≡ 0 ∷ 0 ∷ 0 ∷ 0 ∷ []
 no_indexes [] = refl
@@ -32,10 +34,6 @@ no_indexes (a ∷ []) = refl
 no_indexes (a ∷ b ∷ []) = refl
 no_indexes (a ∷ b ∷ c ∷ []) = refl
 no_indexes (a ∷ b ∷ c ∷ d ∷ keys) = refl
-
-by_case : {A : Type 0} (P : A → Type 0) (b : Bool) (x y : A) → P x → P y → P (if b then x else y)
-by_case P true x y h k = h
-by_case P false x y h k = k
 
 groups_less : (b : Bool) (keys : List GroupKey) (taken : List ℕ) (groups : Groups) → taken ≡ indexes keys groups → (if b then 0 ∷ 0 ∷ 0 ∷ 0 ∷ [] else taken) ≡ indexes keys (if b then [] else groups)
 groups_less true keys taken groups e = sym (no_indexes keys)
@@ -348,10 +346,6 @@ none_kept false false false true e h = absurd cc
 none_kept false false false false true h = absurd cc
 none_kept false false false false false h = (refl, refl, refl, refl, refl)
 
-other : {A : Type 0} (b : Bool) (x y : A) → b ≡ false → (if b then x else y) ≡ y
-other true x y e = absurd cc
-other false x y e = refl
-
 pub all_kept : (r : Reduction) → keeps_samples r.leaving ≡ true → (samples : List SampleAt) → less r samples ≡ samples
 all_kept r e [] = refl
 all_kept r e (s ∷ samples) = λ i. one i ∷ all_kept r e samples i
@@ -360,15 +354,15 @@ all_kept r e (s ∷ samples) = λ i. one i ∷ all_kept r e samples i
     one =
         let l = r.leaving in
         let none = none_kept l.flags l.groups l.ends l.origins l.timing e in
-        let moved : moved_time r s.number s.dts ≡ s.dts = (λ i. if none.2 i && not (s.number == 0) then min (begun_time r s.dts - r.duration + 1) (2 ^ 64 - 1) else begun_time r s.dts) ∙ other l.origins (s.dts - r.start) s.dts none.3 in
-        let offset : offset_near l r.offset s.cto ≡ s.cto = other l.timing (pos 0) (if l.origins then near_offset (s.cto -ℤ r.offset) else s.cto) none.4 ∙ other l.origins (near_offset (s.cto -ℤ r.offset)) s.cto none.3 in
-        let duration : duration_left l r.samples s.number s.duration ≡ s.duration = other l.timing 1 (if l.ends && is_at_end r.samples s.number then 1 else s.duration) none.4 ∙ (λ i. if none.2 i && is_at_end r.samples s.number then 1 else s.duration) in
+        let moved : moved_time r s.number s.dts ≡ s.dts = (λ i. if none.2 i && not (s.number == 0) then min (begun_time r s.dts - r.duration + 1) (2 ^ 64 - 1) else begun_time r s.dts) ∙ cond-false l.origins (s.dts - r.start) s.dts none.3 in
+        let offset : offset_near l r.offset s.cto ≡ s.cto = cond-false l.timing (pos 0) (if l.origins then near_offset (s.cto -ℤ r.offset) else s.cto) none.4 ∙ cond-false l.origins (near_offset (s.cto -ℤ r.offset)) s.cto none.3 in
+        let duration : duration_left l r.samples s.number s.duration ≡ s.duration = cond-false l.timing 1 (if l.ends && is_at_end r.samples s.number then 1 else s.duration) none.4 ∙ (λ i. if none.2 i && is_at_end r.samples s.number then 1 else s.duration) in
         λ i. record s {
-          dts = (other l.timing s.number (moved_time r s.number s.dts) none.4 ∙ moved) i;
+          dts = (cond-false l.timing s.number (moved_time r s.number s.dts) none.4 ∙ moved) i;
           duration = duration i;
           cto = offset i;
-          flags = other l.flags (sync_flag s.flags) s.flags none.0 i;
-          groups = other l.groups (0 ∷ 0 ∷ 0 ∷ 0 ∷ []) s.groups none.1 i;
+          flags = cond-false l.flags (sync_flag s.flags) s.flags none.0 i;
+          groups = cond-false l.groups (0 ∷ 0 ∷ 0 ∷ 0 ∷ []) s.groups none.1 i;
         }
 
 module _ (r : Reduction) where

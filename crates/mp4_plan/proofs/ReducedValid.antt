@@ -18,11 +18,7 @@ use Rattle.mp4_present.specs.format.Reduced.{metadata_kinds, sync_flag, plain_ha
 use Rattle.mp4_present.specs.declared.without.Without.{Without}
 use Rattle.mp4_plan.specs.format.ReducedLaws.{KeepsLimits, ReducedIsValid, ReducedStaysValid}
 use Rattle.mp4_plan.specs.format.ReducedTimes.{ReducesInLimits}
-use Rattle.mp4_plan.proofs.ReducedSamples.{left_many, left_none, each_left, durations_stay, durations_count}
-
-by_case : {A : Type 0} (P : A → Type 0) (b : Bool) (x y : A) → P x → P y → P (if b then x else y)
-by_case P true x y h k = h
-by_case P false x y h k = k
+use Rattle.mp4_plan.proofs.ReducedSamples.{by_case, left_many, left_none, each_left, durations_stay, durations_count}
 
 -- ---- how long the `moov` is
 

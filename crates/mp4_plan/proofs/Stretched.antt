@@ -12,8 +12,8 @@ use Rattle.mp4_present.specs.words.Joined.{IsBelow}
 use Rattle.mp4_present.proofs.Carrying.{BytesGoOn-then, BytesGoOn-fails, BytesGoOn-front}
 use Rattle.mp4_present.proofs.Counts.{sum-append}
 use Rattle.mp4_plan.specs.words.Stretches.{span_len, span_bytes, EndsBelow, spans_len, spans_bytes, AreBytesOf, Tells, JoinsOn}
-use Rattle.mp4_plan.specs.declared.joined.Span.{Span}
-use Rattle.mp4_plan.specs.declared.joined.Stretches.{Stretches}
+use Rattle.mp4_plan.specs.declared.stretches.Span.{Span}
+use Rattle.mp4_plan.specs.declared.stretches.Stretches.{Stretches}
 use Rattle.mp4_plan.proofs.EachAt.{holds_push}
 
 size_of : SampleAt → ℕ

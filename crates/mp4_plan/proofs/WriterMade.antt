@@ -11,8 +11,8 @@ use Rattle.mp4_plan.specs.declared.writer.TheConstants.{PIECE}
 use Rattle.mp4_plan.specs.declared.writer.Writer.{Writer}
 
 -- of its walks, rows, next samples, due tracks, buffer and head
-pub writer_made : (m : MovieSeen) (l : Without) (w : Writer) → HaveRooms m w.walks.items → length w.rows.items ≤ 2 ^ 24 → length w.nexts.items ≡ length m.tracks → length w.reductions.items ≡ length m.tracks → IsDueTree w.due → w.due.leaves ≡ length m.tracks
-    → length w.carrier.buffer.items ≡ PIECE → waiting w.carrier ≡ [] → w.leaving ≡ l → IsHeadLeft m l w.head.items → IsMade m l w
+pub writer_made : (m : MovieSeen) (l : Without) (w : Writer) → HaveRooms m w.walks.items → length w.notes.rows.items ≤ 2 ^ 24 → length w.nexts.items ≡ length m.tracks → length w.reductions.of_tracks.items ≡ length m.tracks → IsDueTree w.due → w.due.leaves ≡ length m.tracks
+    → length w.carrier.buffer.items ≡ PIECE → waiting w.carrier ≡ [] → w.reductions.leaving ≡ l → IsHeadLeft m l w.head.items → IsMade m l w
 writer_made m l w walks few nexts reductions due many room empty left head =
     let rooms = walks.rooms in
     let within = walks.within in

@@ -29,6 +29,7 @@ use Rattle.mp4_plan.specs.declared.due_tracks.DueTracks.{DueTracks}
 use Rattle.mp4_plan.specs.declared.ends.End.{End}
 use Rattle.mp4_plan.specs.declared.moof_front.PieceHead.{PieceHead}
 use Rattle.mp4_plan.specs.declared.planner.Planned.{Planned}
+use Rattle.mp4_plan.specs.declared.reduced.Reductions.{Reductions}
 use Rattle.mp4_plan.specs.declared.schedule.Schedule.{Schedule}
 use Rattle.mp4_plan.specs.declared.schedule.Turn.{Turn}
 use Rattle.mp4_plan.specs.declared.writer.Noted.{Noted}
@@ -43,11 +44,12 @@ use Rattle.mp4_plan.proofs.TurnTaken.{turn_moves}
 use Rattle.mp4_plan.proofs.WritesOn.{WritesOn, AtTurn, at_turn, turn_stops, turn_over}
 
 module _ (leaving : Without) (file : List ℕ) (tree : FileTree) (m : MovieSeen) (o : IsOpenedAs file m tree) (s : Schedule) (sequence sent : ℕ) (w : Writer) {Y : Type 0} {takes : Y → Y → List ℕ → Type 0} (joins : IsJoining takes) (before after : Y)
-    (h : WritesOn leaving file tree m s sequence sent w.walks.items w.nexts.items (length w.rows.items) (takes before after) (waiting w.carrier)) (turn : Turn) (here : (turn.track ≡ s.track) × (s.track < s.tracks))
-    (ends : (info : TrackInfo) → slice_get m.tracks s.track ≡ Some info → turn.end ≡ turn_end s (timescale_left leaving info.timescale)) (tracks : s.tracks ≡ length m.tracks) (goes : IsWriterOf m w) (same_leaving : w.leaving ≡ leaving) (reduced : w.reductions.items ≡ reductions_of leaving tree)
+    (h : WritesOn leaving file tree m s sequence sent w.walks.items w.nexts.items (length w.notes.rows.items) (takes before after) (waiting w.carrier)) (turn : Turn) (here : (turn.track ≡ s.track) × (s.track < s.tracks))
+    (ends : (info : TrackInfo) → slice_get m.tracks s.track ≡ Some info → turn.end ≡ turn_end s (timescale_left leaving info.timescale)) (tracks : s.tracks ≡ length m.tracks) (goes : IsWriterOf m w) (same_leaving : w.reductions.leaving ≡ leaving) (reduced : w.reductions.of_tracks.items
+    ≡ reductions_of leaving tree)
   where
-    at : AtTurn leaving file tree m s w.walks.items w.nexts.items (length w.rows.items) h.lefts h.comings
-    at = at_turn leaving file tree m s sequence sent w.walks.items w.nexts.items (length w.rows.items) (takes before after) (waiting w.carrier) o h here.1 tracks goes.walks.count
+    at : AtTurn leaving file tree m s w.walks.items w.nexts.items (length w.notes.rows.items) h.lefts h.comings
+    at = at_turn leaving file tree m s sequence sent w.walks.items w.nexts.items (length w.notes.rows.items) (takes before after) (waiting w.carrier) o h here.1 tracks goes.walks.count
 
     end_is : turn.end ≡ turn_end s (timescale_left leaving at.info.timescale)
     end_is = ends at.info at.is_info
@@ -58,23 +60,24 @@ module _ (leaving : Without) (file : List ℕ) (tree : FileTree) (m : MovieSeen)
     next_there : slice_get w.nexts.items turn.track ≡ Some (slice_get at.left 0)
     next_there = ap (λ k. slice_get w.nexts.items k) here.0 ∙ at.shown
 
-    comes_there : ComesLess (track_reduction w.leaving tree at.t) file tree at.t m at.walk at.left
+    comes_there : ComesLess (track_reduction w.reductions.leaving tree at.t) file tree at.t m at.walk at.left
     comes_there = subst (λ (l : Without). ComesLess (track_reduction l tree at.t) file tree at.t m at.walk at.left) (sym same_leaving) at.comes
 
-    by_there : slice_get w.reductions.items turn.track ≡ Some (track_reduction w.leaving tree at.t)
-    by_there = ap (λ k. slice_get w.reductions.items k) here.0 ∙ reduced_there w.leaving tree w.reductions.items s.track at.t (reduced ∙ ap (λ (l : Without). reductions_of l tree) (sym same_leaving)) at.is_tree
+    by_there : slice_get w.reductions.of_tracks.items turn.track ≡ Some (track_reduction w.reductions.leaving tree at.t)
+    by_there = ap (λ k. slice_get w.reductions.of_tracks.items k) here.0 ∙ reduced_there w.reductions.leaving tree w.reductions.of_tracks.items s.track at.t (reduced ∙ ap (λ (l : Without). reductions_of l tree) (sym same_leaving)) at.is_tree
 
     -- there is room for the rows
-    pub note_lacks : (X : Type 0) → ((t : TrackTree) (walk : Walk) (left : List SampleAt) → slice_get w.walks.items turn.track ≡ Some walk → slice_get w.reductions.items turn.track ≡ Some (track_reduction w.leaving tree t) → ComesLess (track_reduction w.leaving tree t) file tree t m walk left
+    pub note_lacks : (X : Type 0) → ((t : TrackTree) (walk : Walk) (left : List SampleAt) → slice_get w.walks.items turn.track ≡ Some walk → slice_get w.reductions.of_tracks.items turn.track ≡ Some (track_reduction w.reductions.leaving tree t)
+        → ComesLess (track_reduction w.reductions.leaving tree t) file tree t m walk left
         → walk.mark ≡ mark_of walk (length left)
-        → slice_get w.nexts.items turn.track ≡ Some (slice_get left 0) → more_of (piece_from turn.end) left ≤ length w.rows.items → X) → X
-    note_lacks X f = f at.t at.walk at.left walk_there by_there comes_there at.is_marked next_there (subst (λ (e : End). more_of (piece_from e) at.left ≤ length w.rows.items) (sym end_is) at.fits)
+        → slice_get w.nexts.items turn.track ≡ Some (slice_get left 0) → more_of (piece_from turn.end) left ≤ length w.notes.rows.items → X) → X
+    note_lacks X f = f at.t at.walk at.left walk_there by_there comes_there at.is_marked next_there (subst (λ (e : End). more_of (piece_from e) at.left ≤ length w.notes.rows.items) (sym end_is) at.fits)
 
-    module _ (w1 : Writer) (n : Noted) (id : ℕ) (noted : (t : TrackTree) (walk : Walk) (left : List SampleAt) → slice_get w.walks.items turn.track ≡ Some walk → slice_get w.reductions.items turn.track ≡ Some (track_reduction w.leaving tree t)
-        → ComesLess (track_reduction w.leaving tree t) file tree t m walk left → walk.mark ≡ mark_of walk (length left)
+    module _ (w1 : Writer) (n : Noted) (id : ℕ) (noted : (t : TrackTree) (walk : Walk) (left : List SampleAt) → slice_get w.walks.items turn.track ≡ Some walk → slice_get w.reductions.of_tracks.items turn.track ≡ Some (track_reduction w.reductions.leaving tree t)
+        → ComesLess (track_reduction w.reductions.leaving tree t) file tree t m walk left → walk.mark ≡ mark_of walk (length left)
         → slice_get w.nexts.items turn.track ≡ Some (slice_get left 0)
         → HasNoted file tree t m turn sequence id left w w1 n)
-        (by_same : w1.reductions ≡ w.reductions) (keeps : (w1.leaving ≡ w.leaving) × (w1.carrier ≡ w.carrier) × (length w1.rows.items ≡ length w.rows.items) × (w1.nexts ≡ w.nexts) × (w1.due ≡ w.due)) (few : IsFew n.planned) (is_id : (info : TrackInfo) → slice_get m.tracks s.track ≡ Some info
+        (by_same : w1.reductions ≡ w.reductions) (keeps : (w1.carrier ≡ w.carrier) × (length w1.notes.rows.items ≡ length w.notes.rows.items) × (w1.nexts ≡ w.nexts) × (w1.due ≡ w.due)) (few : IsFew n.planned) (is_id : (info : TrackInfo) → slice_get m.tracks s.track ≡ Some info
         → id ≡ info.id) where
       it : HasNoted file tree at.t m turn sequence id at.left w w1 n
       it = noted at.t at.walk at.left walk_there by_there comes_there at.is_marked next_there
@@ -100,15 +103,18 @@ module _ (leaving : Without) (file : List ℕ) (tree : FileTree) (m : MovieSeen)
       info_there : slice_get m.tracks turn.track ≡ Some at.info
       info_there = ap (λ k. slice_get m.tracks k) here.0 ∙ at.is_info
 
+      left_same : w1.reductions.leaving ≡ w.reductions.leaving
+      left_same = ap (λ (r : Reductions). r.leaving) by_same
+
       is_noted : IsNoted file tree m turn.track n.planned.count at.left w1
       is_noted = record {
         t = at.t;
         walk = it.walk;
         is_walk = there_now;
-        reduction = (λ i. slice_get (by_same i).items turn.track) ∙ by_there ∙ ap (λ (l : Without). Some (track_reduction l tree at.t)) (sym keeps.0);
-        comes = subst (λ (l : Without). ComesMarked (track_reduction l tree at.t) file tree at.t m it.walk n.planned.count at.left) (sym keeps.0) it.comes;
+        reduction = (λ i. slice_get (by_same i).of_tracks.items turn.track) ∙ by_there ∙ ap (λ (l : Without). Some (track_reduction l tree at.t)) (sym left_same);
+        comes = subst (λ (l : Without). ComesMarked (track_reduction l tree at.t) file tree at.t m it.walk n.planned.count at.left) (sym left_same) it.comes;
         none = it.none;
-        next = ap (λ v. slice_get v.items turn.track) keeps.3 ∙ next_there;
+        next = ap (λ v. slice_get v.items turn.track) keeps.2 ∙ next_there;
         rows = it.rows;
         stretches = it.stretches;
       }
@@ -119,8 +125,8 @@ module _ (leaving : Without) (file : List ℕ) (tree : FileTree) (m : MovieSeen)
       carry_stops last f =
           let q = f at.left is_noted at.info info_there at.keys.apart in
           let own = subst (λ (hd : Option PieceHead). TakesPrefix (takes after last) (waiting w1.carrier ++ turn_bytes file hd n.planned (keys_seen at.info.keys) (take n.planned.count at.left))) head_is q in
-          let same = subst (λ (c : OutBuffer). TakesPrefix (takes after last) (waiting c ++ turn_bytes file (turn_head sequence at.info.id n.planned.count (slice_get at.left 0)) n.planned (keys_seen at.info.keys) (take n.planned.count at.left))) keeps.1 own in
-          turn_stops leaving file tree m s sequence sent w.walks.items w.nexts.items (length w.rows.items) joins before after (waiting w.carrier) h at n.planned planned_is few last same
+          let same = subst (λ (c : OutBuffer). TakesPrefix (takes after last) (waiting c ++ turn_bytes file (turn_head sequence at.info.id n.planned.count (slice_get at.left 0)) n.planned (keys_seen at.info.keys) (take n.planned.count at.left))) keeps.0 own in
+          turn_stops leaving file tree m s sequence sent w.walks.items w.nexts.items (length w.notes.rows.items) joins before after (waiting w.carrier) h at n.planned planned_is few last same
 
       -- its samples lie in the file, with as many bytes as were planned
       pub carry_lacks : (X : Type 0) → ((samples : List SampleAt) → IsNoted file tree m turn.track n.planned.count samples w1 → AreThere file n.planned.count n.planned.bytes samples → X) → X
@@ -139,7 +145,7 @@ module _ (leaving : Without) (file : List ℕ) (tree : FileTree) (m : MovieSeen)
         done = copied at.left is_noted
 
         next_is : next ≡ slice_get (samples_after (piece_from end) at.left) 0
-        next_is = read (slice_get (drop n.planned.count at.left) 0) (ap (λ (xs : List (Option SampleAt)). slice_get xs turn.track) (done.2 ∙ ap (λ v. slice_set v.items turn.track (slice_get (drop n.planned.count at.left) 0)) keeps.3)
+        next_is = read (slice_get (drop n.planned.count at.left) 0) (ap (λ (xs : List (Option SampleAt)). slice_get xs turn.track) (done.2 ∙ ap (λ v. slice_set v.items turn.track (slice_get (drop n.planned.count at.left) 0)) keeps.2)
             ∙ set_there w.nexts.items turn.track (slice_get at.left 0) (slice_get (drop n.planned.count at.left) 0) next_there) ∙ ap (λ (ss : List SampleAt). slice_get ss 0) rest_is
 
         -- the schedule goes on
@@ -151,35 +157,36 @@ module _ (leaving : Without) (file : List ℕ) (tree : FileTree) (m : MovieSeen)
 
         -- the next samples are the same but for one
         nexts_are : w2.nexts.items ≡ slice_set w.nexts.items s.track next
-        nexts_are = done.2 ∙ (λ i. slice_set (keeps.3 i).items (here.0 i) ((ap (λ (ss : List SampleAt). slice_get ss 0) rest_is ∙ sym next_is) i))
+        nexts_are = done.2 ∙ (λ i. slice_set (keeps.2 i).items (here.0 i) ((ap (λ (ss : List SampleAt). slice_get ss 0) rest_is ∙ sym next_is) i))
 
         -- what is so of them, by what the leaves say
         pub with_times : (P : List (Option SampleAt) → Type 0) → IsDueAt (infos_left leaving m.tracks) w.nexts.items s w.due → w2.due ≡ w1.due → ((nexts : List (Option SampleAt)) → AreTimes (infos_left leaving m.tracks) nexts s.first w2.due → P (slice_set nexts s.track next)) → P w2.nexts.items
         with_times P due same f =
-            let times = subst (λ (e : DueTracks). AreTimes (infos_left leaving m.tracks) w.nexts.items s.first e) (sym (same ∙ keeps.4)) due.times in
+            let times = subst (λ (e : DueTracks). AreTimes (infos_left leaving m.tracks) w.nexts.items s.first e) (sym (same ∙ keeps.3)) due.times in
             subst P (sym nexts_are) (f w.nexts.items times)
 
         -- the turn behind it
         pub turn_goes : (last : Y) (later : Schedule) → ((samples : List SampleAt) → IsNoted file tree m turn.track n.planned.count samples w1 → (info : TrackInfo) → slice_get m.tracks turn.track ≡ Some info → AreApart (keys_seen info.keys)
             → BytesGoOn (takes after last) (waiting w1.carrier) (waiting w2.carrier) (turn_bytes file n.head n.planned (keys_seen info.keys) (take n.planned.count samples)))
-            → (w2.leaving ≡ w1.leaving) × (w2.rows ≡ w1.rows) × (w2.due ≡ w1.due)
-            → later ≡ turned s turn.end n.planned.count next → WritesOn leaving file tree m later (sequence_behind sequence n.head) (sent + n.planned.bytes) w2.walks.items w2.nexts.items (length w2.rows.items) (takes before last) (waiting w2.carrier)
+            → (w2.notes.rows ≡ w1.notes.rows) × (w2.due ≡ w1.due)
+            → later ≡ turned s turn.end n.planned.count next → WritesOn leaving file tree m later (sequence_behind sequence n.head) (sent + n.planned.bytes) w2.walks.items w2.nexts.items (length w2.notes.rows.items) (takes before last) (waiting w2.carrier)
         turn_goes last later put kept is =
             let q = put at.left is_noted at.info info_there at.keys.apart in
             let own = subst (λ (hd : Option PieceHead). BytesGoOn (takes after last) (waiting w1.carrier) (waiting w2.carrier) (turn_bytes file hd n.planned (keys_seen at.info.keys) (take n.planned.count at.left))) head_is q in
-            let same = subst (λ (c : OutBuffer). BytesGoOn (takes after last) (waiting c) (waiting w2.carrier) (turn_bytes file (turn_head sequence at.info.id n.planned.count (slice_get at.left 0)) n.planned (keys_seen at.info.keys) (take n.planned.count at.left))) keeps.1 own in
-            let comes = subst (λ (l : Without). ComesLess (track_reduction l tree at.t) file tree at.t m done.0 (drop n.planned.count at.left)) (keeps.0 ∙ same_leaving) done.3 in
+            let same = subst (λ (c : OutBuffer). BytesGoOn (takes after last) (waiting c) (waiting w2.carrier) (turn_bytes file (turn_head sequence at.info.id n.planned.count (slice_get at.left 0)) n.planned (keys_seen at.info.keys) (take n.planned.count at.left))) keeps.0 own in
+            let comes = subst (λ (l : Without). ComesLess (track_reduction l tree at.t) file tree at.t m done.0 (drop n.planned.count at.left)) (left_same ∙ same_leaving) done.3 in
             let comes_rest = subst (λ (ss : List SampleAt). ComesLess (track_reduction leaving tree at.t) file tree at.t m done.0 ss) rest_is comes in
             let marked = subst (λ (ss : List SampleAt). done.0.mark ≡ mark_of done.0 (length ss)) rest_is done.4 in
-            let on = turn_over leaving file tree m s sequence sent w.walks.items w.nexts.items (length w.rows.items) joins before after (waiting w.carrier) h at n.planned planned_is few done.0 last (waiting w2.carrier) comes_rest marked same in
+            let on = turn_over leaving file tree m s sequence sent w.walks.items w.nexts.items (length w.notes.rows.items) joins before after (waiting w.carrier) h at n.planned planned_is few done.0 last (waiting w2.carrier) comes_rest marked same in
             let walks : slice_set w.walks.items s.track done.0 ≡ w2.walks.items = sym (done.1 ∙ ap (λ (ws : List Walk). slice_set ws turn.track done.0) it.walks ∙ set_twice w.walks.items turn.track it.walk done.0 ∙ ap (λ k. slice_set w.walks.items k done.0) here.0) in
-            let rows : length w.rows.items ≡ length w2.rows.items = sym (ap (λ v. length v.items) kept.1 ∙ keeps.2) in
+            let rows : length w.notes.rows.items ≡ length w2.notes.rows.items = sym (ap (λ v. length v.items) kept.0 ∙ keeps.1) in
             let number : sequence_behind sequence (turn_head sequence at.info.id n.planned.count (slice_get at.left 0)) ≡ sequence_behind sequence n.head = ap (sequence_behind sequence) (sym head_is) in
             let schedule : turned s end n.planned.count (slice_get (samples_after (piece_from end) at.left) 0) ≡ later = (λ i. turned s (sym end_is i) n.planned.count (sym next_is i)) ∙ sym is in
-            let nexts : slice_set w.nexts.items s.track (slice_get (samples_after (piece_from end) at.left) 0) ≡ w2.nexts.items = sym (done.2 ∙ (λ i. slice_set (keeps.3 i).items (here.0 i) (slice_get (rest_is i) 0))) in
+            let nexts : slice_set w.nexts.items s.track (slice_get (samples_after (piece_from end) at.left) 0) ≡ w2.nexts.items = sym (done.2 ∙ (λ i. slice_set (keeps.2 i).items (here.0 i) (slice_get (rest_is i) 0))) in
             subst (λ (k : ℕ). WritesOn leaving file tree m later (sequence_behind sequence n.head) (sent + n.planned.bytes) w2.walks.items w2.nexts.items k (takes before last) (waiting w2.carrier)) rows
-            (subst (λ (xs : List (Option SampleAt)). WritesOn leaving file tree m later (sequence_behind sequence n.head) (sent + n.planned.bytes) w2.walks.items xs (length w.rows.items) (takes before last) (waiting w2.carrier)) nexts
-            (subst (λ (ws : List Walk). WritesOn leaving file tree m later (sequence_behind sequence n.head) (sent + n.planned.bytes) ws (slice_set w.nexts.items s.track (slice_get (samples_after (piece_from end) at.left) 0)) (length w.rows.items) (takes before last) (waiting w2.carrier)) walks
-            (subst (λ (k : ℕ). WritesOn leaving file tree m later k (sent + n.planned.bytes) (slice_set w.walks.items s.track done.0) (slice_set w.nexts.items s.track (slice_get (samples_after (piece_from end) at.left) 0)) (length w.rows.items) (takes before last) (waiting w2.carrier)) number
+            (subst (λ (xs : List (Option SampleAt)). WritesOn leaving file tree m later (sequence_behind sequence n.head) (sent + n.planned.bytes) w2.walks.items xs (length w.notes.rows.items) (takes before last) (waiting w2.carrier)) nexts
+            (subst (λ (ws : List Walk). WritesOn leaving file tree m later (sequence_behind sequence n.head) (sent + n.planned.bytes) ws (slice_set w.nexts.items s.track (slice_get (samples_after (piece_from end) at.left) 0)) (length w.notes.rows.items) (takes before last) (waiting w2.carrier))
+            walks
+            (subst (λ (k : ℕ). WritesOn leaving file tree m later k (sent + n.planned.bytes) (slice_set w.walks.items s.track done.0) (slice_set w.nexts.items s.track (slice_get (samples_after (piece_from end) at.left) 0)) (length w.notes.rows.items) (takes before last) (waiting w2.carrier)) number
             (subst (λ (r : Schedule). WritesOn leaving file tree m r (sequence_behind sequence (turn_head sequence at.info.id n.planned.count (slice_get at.left 0))) (sent + n.planned.bytes)
-            (slice_set w.walks.items s.track done.0) (slice_set w.nexts.items s.track (slice_get (samples_after (piece_from end) at.left) 0)) (length w.rows.items) (takes before last) (waiting w2.carrier)) schedule on))))
+            (slice_set w.walks.items s.track done.0) (slice_set w.nexts.items s.track (slice_get (samples_after (piece_from end) at.left) 0)) (length w.notes.rows.items) (takes before last) (waiting w2.carrier)) schedule on))))

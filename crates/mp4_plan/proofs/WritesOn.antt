@@ -307,10 +307,10 @@ module _ (leaving : Without) (file : List ℕ) (tree : FileTree) (m : MovieSeen)
   all_lie (i ∷ infos) (t ∷ trees) z = (less_below (track_reduction leaving tree t) (length file) (track_samples tree t) z.0.lies, all_lie infos trees z.1)
 
   -- the first turn
-  pub begins : (s : Schedule) (w : Writer) (walks : List Walk) (nexts : List (Option SampleAt)) (Took : List ℕ → Type 0) (held : List ℕ) → IsOpenedAs file m tree → IsReady file tree m w → w.leaving ≡ leaving
+  pub begins : (s : Schedule) (w : Writer) (walks : List Walk) (nexts : List (Option SampleAt)) (Took : List ℕ → Type 0) (held : List ℕ) → IsOpenedAs file m tree → IsReady file tree m w → w.reductions.leaving ≡ leaving
       → IsFirst (infos_left leaving m.tracks) (map (left_samples leaving tree) tree.movie.tracks) s
       → AllBegin leaving file tree m walks → AreMarked walks (map (left_samples leaving tree) tree.movie.tracks) → nexts ≡ firsts (map (left_samples leaving tree) tree.movie.tracks) → BytesGoOn Took (waiting w.carrier) held w.head.items
-      → WritesOn s 1 0 walks nexts (length w.rows.items) Took held
+      → WritesOn s 1 0 walks nexts (length w.notes.rows.items) Took held
   begins s w walks nexts Took held o r same first come marked shown goes =
       let range = subst (λ (k : Without). ReducesInRange k (presentation_of file tree)) same r.range in
       let all = first_turn leaving file m tree s o range first in
@@ -324,7 +324,7 @@ module _ (leaving : Without) (file : List ℕ) (tree : FileTree) (m : MovieSeen)
         shown = shown;
         turn = all.0;
         lie = all_lie m.tracks tree.movie.tracks (track_facts file m tree o);
-        fits = subst (λ (ps : List Piece). AllByRecursion (λ (q : Piece). length q.samples ≤ length w.rows.items) ps) (sym all.1)
+        fits = subst (λ (ps : List Piece). AllByRecursion (λ (q : Piece). length q.samples ≤ length w.notes.rows.items) ps) (sym all.1)
             (subst (λ n. AllByRecursion (λ (q : Piece). length q.samples ≤ n) (pieces p)) (sym (r.rows ∙ ap (λ (k : Without). longest_piece (pieces (reduce k (presentation_of file tree)))) same)) (no_longer (pieces p)));
         small = omega (arith, few);
         sizes = (let all = all_bytes leaving file m tree o in omega (arith, all));
@@ -336,14 +336,14 @@ module _ (leaving : Without) (file : List ℕ) (tree : FileTree) (m : MovieSeen)
   -- ---- before the first turn
 
   -- the head is not put whole
-  pub head_stops : (w : Writer) (Took : List ℕ → Type 0) (bytes : List ℕ) → IsReady file tree m w → w.leaving ≡ leaving → bytes ≡ w.head.items → TakesPrefix Took (waiting w.carrier ++ bytes) → TakesPrefix Took (normal (reduce leaving (presentation_of file tree)))
+  pub head_stops : (w : Writer) (Took : List ℕ → Type 0) (bytes : List ℕ) → IsReady file tree m w → w.reductions.leaving ≡ leaving → bytes ≡ w.head.items → TakesPrefix Took (waiting w.carrier ++ bytes) → TakesPrefix Took (normal (reduce leaving (presentation_of file tree)))
   head_stops w Took bytes r same e q =
       let p = reduce leaving (presentation_of file tree) in
       let own : TakesPrefix Took (head_of_normal p) = subst (λ (bs : List ℕ). TakesPrefix Took bs) (ap (λ (bs : List ℕ). waiting w.carrier ++ bs) e ∙ r.head ∙ ap (λ (k : Without). head_of_normal (reduce k (presentation_of file tree))) same) q in
       TakesPrefix-longer Took (head_of_normal p) (pieces_bytes 1 (pieces p)) own
 
   -- nothing behind the head is put
-  pub head_put : (w : Writer) (Took : List ℕ → Type 0) (held bytes : List ℕ) → IsReady file tree m w → w.leaving ≡ leaving → bytes ≡ w.head.items → BytesGoOn Took (waiting w.carrier) held bytes → TakesPrefix Took (normal (reduce leaving (presentation_of file tree)))
+  pub head_put : (w : Writer) (Took : List ℕ → Type 0) (held bytes : List ℕ) → IsReady file tree m w → w.reductions.leaving ≡ leaving → bytes ≡ w.head.items → BytesGoOn Took (waiting w.carrier) held bytes → TakesPrefix Took (normal (reduce leaving (presentation_of file tree)))
   head_put w Took held bytes r same e q =
       let p = reduce leaving (presentation_of file tree) in
       let whole : waiting w.carrier ++ bytes ≡ head_of_normal p = ap (λ (bs : List ℕ). waiting w.carrier ++ bs) e ∙ r.head ∙ ap (λ (k : Without). head_of_normal (reduce k (presentation_of file tree))) same in

@@ -1,5 +1,6 @@
 pub mod Ends
 pub mod Gathering
+pub mod PlanBegun
 pub mod PlannerLaws
 pub mod Sizes
 pub mod ComingLess
@@ -21,6 +22,8 @@ pub mod PutPieces
 pub mod Counting
 pub mod ReducedWalks
 pub mod OwnRooms
+pub mod Loading
 pub mod MadeWriters
+pub mod CarriedPieces
 pub mod CarriedSamples
 pub mod WriterWalks

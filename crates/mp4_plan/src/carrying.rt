@@ -8,18 +8,18 @@ ghost use Rattle.mp4_present.specs.words.SamplesComing.{Comes};
 ghost use Rattle.mp4_present.specs.words.Loaded.{Follows, left_in_hand};
 ghost use Rattle.mp4_present.specs.words.Joined.{IsBelow, sample_bytes};
 ghost use Rattle.mp4_present.specs.words.Movies.{IsWalkOf};
-ghost use Rattle.mp4_present.specs.words.OutBuffers.{Carries, OnlyCopies, TakesAlong};
+ghost use Rattle.mp4_present.specs.words.OutBuffers.{Carries, OnlyCopies};
 ghost use Rattle.mp4_present.specs.words.StoresRead.{IsUnchanged, WhereHonest};
 ghost use Rattle.mp4_present.specs.words.TrackWalks.{TakesSteps, WhereComes};
 ghost use Rattle.mp4_plan.specs.words.ComingLess.{ComesLess};
 ghost use Rattle.mp4_plan.specs.words.GoneOn.{GoesPast, WentOn};
 ghost use Rattle.mp4_plan.specs.words.HandsFed.{sizes_of};
+ghost use Rattle.mp4_plan.specs.words.CarriedPieces.{CarriesPiece};
 ghost use Rattle.mp4_plan.specs.words.CarriedSamples.{AreThere, CarriesFirst, HasMarkInHand, MarksNext, StepsAgain, StepsInHand, StepsMarked, WhereMarkedLess, WhereMayFinish, WhereToldLess};
-ghost use Rattle.mp4_plan.specs.words.ReducedWalks.{KeepsWalk};
 ghost use Rattle.mp4_plan.specs.words.WriterSteps.{WritesOn};
 
-use crate::joined::Stretches;
 use crate::reduced::Reduction;
+use crate::stretches::Stretches;
 use crate::track_pieces::next_sample;
 use mp4_boxes::{Refusal, Steps};
 use mp4_present::{Loaded, Movie, OutBuffer, Walk, next_stretch};
@@ -32,6 +32,14 @@ use std::sync::ledger::Ledger;
 pub(crate) struct Load {
     pub(crate) samples: u32,
     pub(crate) bytes: u64,
+}
+
+/// What was noted of the bytes of a piece: where they lie, and of how many samples how many they
+/// are.
+#[derive(Clone, Copy)]
+pub(crate) struct NotedBytes<'a> {
+    pub(crate) stretches: &'a Stretches,
+    pub(crate) load: Load,
 }
 
 // Takes the bytes of samples in hand along, and says what is left then. Where they have more bytes
@@ -86,7 +94,8 @@ fn carry_piece<S: Store, K: Sink, L: Ledger>(
     steps: &mut Steps<L>,
 ) -> Result<(), Refusal>
     requires { IsWalkOf movie.now walk.old }
-    ensures walk { KeepsWalk movie.now walk.old walk.new result }
+    ensures piece { CarriesPiece movie.now walk.old walk.new S.Store store.old store.new
+        K.Sink sink.old sink.new carrier.old carrier.new load.bytes result }
     ensures went { OnOk result (WentOn movie.now walk.old walk.new steps.old steps.new) }
     ensures put { WhereComes S.Store store.old movie.now walk.old (λ file tree t samples.
         Carries K.Sink sink.old sink.new carrier.old carrier.new result
@@ -95,12 +104,8 @@ fn carry_piece<S: Store, K: Sink, L: Ledger>(
         OnOk result (Comes file tree t movie.now walk.new (drop load.samples samples))) }
     ensures unchanged { WhereComes S.Store store.old movie.now walk.old (λ file tree t samples.
         AreThere file load.samples load.bytes samples → IsUnchanged result) }
-    ensures along { TakesAlong K.Sink sink.old sink.new carrier.old carrier.new result load.bytes }
-    ensures devices { OnlyCopies S.Store store.old store.new K.Sink sink.old sink.new result }
     ensures work { TakesSteps S.Store store.old movie.now walk.old walk.new result steps.old
         steps.new }
-    ensures refusal { RefusedByBoth S.Store store.old store.new K.Sink sink.old sink.new result
-        RefusesCarry }
 {
     let mut left = load;
     loop {
@@ -131,7 +136,8 @@ fn carry_in_hand<S: Store, K: Sink, L: Ledger>(
     steps: &mut Steps<L>,
 ) -> Result<(), Refusal>
     requires { HasMarkInHand movie.now walk.old }
-    ensures walk { KeepsWalk movie.now walk.old walk.new result }
+    ensures piece { CarriesPiece movie.now walk.old walk.new S.Store store.old store.new
+        K.Sink sink.old sink.new carrier.old carrier.new load.bytes result }
     ensures put { (l : Reduction) → WhereMarkedLess S.Store store.old movie.now l walk.old
         load.samples (λ file tree t samples.
         Carries K.Sink sink.old sink.new carrier.old carrier.new result
@@ -142,14 +148,10 @@ fn carry_in_hand<S: Store, K: Sink, L: Ledger>(
     ensures unchanged { (l : Reduction) → WhereMarkedLess S.Store store.old movie.now l walk.old
         load.samples (λ file tree t samples. AreThere file load.samples load.bytes samples
         → IsUnchanged result) }
-    ensures along { TakesAlong K.Sink sink.old sink.new carrier.old carrier.new result load.bytes }
-    ensures devices { OnlyCopies S.Store store.old store.new K.Sink sink.old sink.new result }
     ensures grows { OnOk result (steps.old ≤ steps.new) }
     ensures work { StepsInHand S.Store store.old movie.now walk.old walk.new result steps.old
         steps.new }
     ensures on { OnOk result (walk.old.mark.next ≤ walk.new.next) }
-    ensures refusal { RefusedByBoth S.Store store.old store.new K.Sink sink.old sink.new result
-        RefusesCarry }
 {
     walk.turn_back();
     carry_piece(walk, load, carrier, movie, store, sink, steps)?;
@@ -169,7 +171,8 @@ fn carry_again<S: Store, K: Sink, L: Ledger>(
     steps: &mut Steps<L>,
 ) -> Result<(), Refusal>
     requires { IsWalkOf movie.now walk.old }
-    ensures walk { KeepsWalk movie.now walk.old walk.new result }
+    ensures piece { CarriesPiece movie.now walk.old walk.new S.Store store.old store.new
+        K.Sink sink.old sink.new carrier.old carrier.new load.bytes result }
     ensures put { (l : Reduction) → WhereMarkedLess S.Store store.old movie.now l walk.old
         load.samples (λ file tree t samples.
         Carries K.Sink sink.old sink.new carrier.old carrier.new result
@@ -180,14 +183,10 @@ fn carry_again<S: Store, K: Sink, L: Ledger>(
     ensures unchanged { (l : Reduction) → WhereMarkedLess S.Store store.old movie.now l walk.old
         load.samples (λ file tree t samples. AreThere file load.samples load.bytes samples
         → IsUnchanged result) }
-    ensures along { TakesAlong K.Sink sink.old sink.new carrier.old carrier.new result load.bytes }
-    ensures devices { OnlyCopies S.Store store.old store.new K.Sink sink.old sink.new result }
     ensures grows { OnOk result (steps.old ≤ steps.new) }
     ensures work { StepsAgain S.Store store.old movie.now walk.old walk.new result steps.old
         steps.new }
     ensures ahead { OnOk result (GoesPast movie.now walk.old.mark.next walk.new) }
-    ensures refusal { RefusedByBoth S.Store store.old store.new K.Sink sink.old sink.new result
-        RefusesCarry }
 {
     walk.go_back(movie, store, steps)?;
     carry_piece(walk, load, carrier, movie, store, sink, steps)
@@ -197,8 +196,7 @@ fn carry_again<S: Store, K: Sink, L: Ledger>(
 // these are all.
 fn carry_marked<S: Store, K: Sink, L: Ledger>(
     walk: &mut Walk,
-    stretches: &Stretches,
-    load: Load,
+    noted: NotedBytes<'_>,
     carrier: &mut OutBuffer,
     movie: &Movie,
     store: &mut S,
@@ -206,33 +204,33 @@ fn carry_marked<S: Store, K: Sink, L: Ledger>(
     steps: &mut Steps<L>,
 ) -> Result<(), Refusal>
     requires { IsWalkOf movie.now walk.old }
-    ensures walk { KeepsWalk movie.now walk.old walk.new result }
+    ensures piece { CarriesPiece movie.now walk.old walk.new S.Store store.old store.new
+        K.Sink sink.old sink.new carrier.old carrier.new noted.entry.load.bytes result }
     ensures put { (l : Reduction)
-        → WhereToldLess S.Store store.old movie.now l walk.old load.samples
-        stretches.now (λ file tree t samples.
+        → WhereToldLess S.Store store.old movie.now l walk.old noted.entry.load.samples
+        noted.entry.stretches.now (λ file tree t samples.
         Carries K.Sink sink.old sink.new carrier.old carrier.new result
-        (sample_bytes file (take load.samples samples))) }
+        (sample_bytes file (take noted.entry.load.samples samples))) }
     ensures comes { (l : Reduction) → WhereMarkedLess S.Store store.old movie.now l walk.old
-        load.samples (λ file tree t samples. OnOk result
-        (ComesLess l file tree t movie.now walk.new (drop load.samples samples))) }
+        noted.entry.load.samples (λ file tree t samples. OnOk result
+        (ComesLess l file tree t movie.now walk.new (drop noted.entry.load.samples samples))) }
     ensures unchanged { (l : Reduction) → WhereToldLess S.Store store.old movie.now l walk.old
-        load.samples stretches.now (λ file tree t samples.
-        AreThere file load.samples load.bytes samples → IsUnchanged result) }
-    ensures along { TakesAlong K.Sink sink.old sink.new carrier.old carrier.new result load.bytes }
-    ensures devices { OnlyCopies S.Store store.old store.new K.Sink sink.old sink.new result }
+        noted.entry.load.samples noted.entry.stretches.now (λ file tree t samples.
+        AreThere file noted.entry.load.samples noted.entry.load.bytes samples
+        → IsUnchanged result) }
     ensures grows { OnOk result (steps.old ≤ steps.new) }
     ensures work { StepsMarked S.Store store.old movie.now walk.old walk.new result steps.old
         steps.new }
     ensures on { OnOk result (walk.old.mark.next ≤ walk.new.next) }
-    ensures refusal { RefusedByBoth S.Store store.old store.new K.Sink sink.old sink.new result
-        RefusesCarry }
 {
-    if stretches.are_all() {
-        stretches.carry(load.bytes, carrier, store, sink)
+    if noted.stretches.are_all() {
+        noted
+            .stretches
+            .carry(noted.load.bytes, carrier, store, sink)
     } else if walk.is_mark_in_hand() {
-        carry_in_hand(walk, load, carrier, movie, store, sink, steps)
+        carry_in_hand(walk, noted.load, carrier, movie, store, sink, steps)
     } else {
-        carry_again(walk, load, carrier, movie, store, sink, steps)
+        carry_again(walk, noted.load, carrier, movie, store, sink, steps)
     }
 }
 
@@ -241,8 +239,7 @@ fn carry_marked<S: Store, K: Sink, L: Ledger>(
 pub(crate) fn carry_noted<S: Store, K: Sink, L: Ledger>(
     walk: &mut Walk,
     reduction: Reduction,
-    stretches: &Stretches,
-    load: Load,
+    noted: NotedBytes<'_>,
     carrier: &mut OutBuffer,
     movie: &Movie,
     store: &mut S,
@@ -250,29 +247,28 @@ pub(crate) fn carry_noted<S: Store, K: Sink, L: Ledger>(
     steps: &mut Steps<L>,
 ) -> Result<Option<SampleAt>, Refusal>
     requires { IsWalkOf movie.now walk.old }
-    ensures walk { KeepsWalk movie.now walk.old walk.new result }
-    ensures put { WhereToldLess S.Store store.old movie.now reduction walk.old load.samples
-        stretches.now (λ file tree t samples.
+    ensures piece { CarriesPiece movie.now walk.old walk.new S.Store store.old store.new
+        K.Sink sink.old sink.new carrier.old carrier.new noted.entry.load.bytes result }
+    ensures put { WhereToldLess S.Store store.old movie.now reduction walk.old
+        noted.entry.load.samples noted.entry.stretches.now (λ file tree t samples.
         Carries K.Sink sink.old sink.new carrier.old carrier.new result
-        (sample_bytes file (take load.samples samples))) }
-    ensures next { WhereToldLess S.Store store.old movie.now reduction walk.old load.samples
-        stretches.now (λ file tree t samples. IfOk result
-        (MarksNext reduction file tree t movie.now walk.new (drop load.samples samples))) }
-    ensures unchanged { WhereToldLess S.Store store.old movie.now reduction walk.old load.samples
-        stretches.now (λ file tree t samples. AreThere file load.samples load.bytes samples
+        (sample_bytes file (take noted.entry.load.samples samples))) }
+    ensures next { WhereToldLess S.Store store.old movie.now reduction walk.old
+        noted.entry.load.samples noted.entry.stretches.now (λ file tree t samples. IfOk result
+        (MarksNext reduction file tree t movie.now walk.new
+        (drop noted.entry.load.samples samples))) }
+    ensures unchanged { WhereToldLess S.Store store.old movie.now reduction walk.old
+        noted.entry.load.samples noted.entry.stretches.now (λ file tree t samples.
+        AreThere file noted.entry.load.samples noted.entry.load.bytes samples
         → IsUnchanged result) }
-    ensures along { TakesAlong K.Sink sink.old sink.new carrier.old carrier.new result load.bytes }
-    ensures devices { OnlyCopies S.Store store.old store.new K.Sink sink.old sink.new result }
     ensures grows { OnOk result (steps.old ≤ steps.new) }
-    ensures work { WhereMayFinish S.Store store.old movie.now reduction walk.old load.samples
-        (λ file tree t n. MatchResult result
+    ensures work { WhereMayFinish S.Store store.old movie.now reduction walk.old
+        noted.entry.load.samples (λ file tree t n. MatchResult result
         (λ _. WritesOn file tree movie.now t n walk.new steps.old steps.new)
         (λ _. steps.new ≤ steps.old + n)) }
-    ensures refusal { RefusedByBoth S.Store store.old store.new K.Sink sink.old sink.new result
-        RefusesCarry }
 {
-    let left = walk.to_come().saturating_sub(load.samples);
-    carry_marked(walk, stretches, load, carrier, movie, store, sink, steps)?;
+    let left = walk.to_come().saturating_sub(noted.load.samples);
+    carry_marked(walk, noted, carrier, movie, store, sink, steps)?;
     let next = next_sample(walk, reduction, movie, store, steps)?;
     walk.mark(left);
     Ok(next)

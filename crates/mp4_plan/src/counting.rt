@@ -1,16 +1,17 @@
 //! How many samples the next piece of a walk has.
 ghost use Rattle.std.specs.Prelude.{◌≡◌, ◌+◌, ◌<◌, ◌≤◌, length, slice_get, IfOk, OnOk};
 ghost use Rattle.mp4_present.specs.words.Loaded.{AreLast};
-ghost use Rattle.mp4_present.specs.words.Movies.{IsWalkOf, RefusesLoad};
-ghost use Rattle.mp4_present.specs.words.StoresRead.{IsUnchanged, OnlyReads, Refused};
+ghost use Rattle.mp4_present.specs.words.Movies.{IsWalkOf};
+ghost use Rattle.mp4_present.specs.words.StoresRead.{IsUnchanged};
 ghost use Rattle.mp4_present.specs.words.TrackWalks.{TakesSteps};
 ghost use Rattle.mp4_plan.specs.words.ComingLess.{less};
 ghost use Rattle.mp4_plan.specs.words.Counting.{CountsFirst, HandCounted, HasCounted, PieceCounted, StopsAt};
 ghost use Rattle.mp4_plan.specs.words.Ends.{goes_in};
 ghost use Rattle.mp4_plan.specs.words.HandsFed.{KeepsOn};
-ghost use Rattle.mp4_plan.specs.words.ReducedWalks.{KeepsWalk, WhereLess};
+ghost use Rattle.mp4_plan.specs.words.Loading.{OnlyLoads};
+ghost use Rattle.mp4_plan.specs.words.ReducedWalks.{WhereLess};
 
-use crate::ends::{End, goes_in, has_ended};
+use crate::ends::{End, Portion, goes_in, has_ended};
 use crate::reduced::{Reduced, Reduction};
 use crate::track_pieces::MOST_SAMPLES;
 use mp4_boxes::{Refusal, Steps};
@@ -147,46 +148,43 @@ fn count_hand(
     }
 }
 
-// Passes the samples of a walk that go into a piece with this end and description, and counts them.
+// Passes the samples of a walk that go into a piece with this description, and counts them.
 // Where they are more than 2^24, the store has changed.
 fn count_piece<S: Store, L: Ledger>(
     walk: &mut Walk,
-    reduction: Reduction,
-    end: &End,
+    portion: Portion,
     description: u32,
     movie: &Movie,
     store: &mut S,
     steps: &mut Steps<L>,
 ) -> Result<Counted, Refusal>
     requires { IsWalkOf movie.now walk.old }
-    ensures walk { KeepsWalk movie.now walk.old walk.new result }
-    ensures store { OnlyReads S.Store store.old store.new result }
-    ensures counted { WhereLess S.Store store.old movie.now reduction walk.old
+    ensures loads { OnlyLoads movie.now walk.old walk.new S.Store store.old store.new result }
+    ensures counted { WhereLess S.Store store.old movie.now portion.reduction walk.old
         (λ file tree t samples.
-        IfOk result (λ c. HasCounted reduction file tree t movie.now walk.new
-        (goes_in end.now description) samples c.count c.next)) }
-    ensures unchanged { WhereLess S.Store store.old movie.now reduction walk.old
+        IfOk result (λ c. HasCounted portion.reduction file tree t movie.now walk.new
+        (goes_in portion.end description) samples c.count c.next)) }
+    ensures unchanged { WhereLess S.Store store.old movie.now portion.reduction walk.old
         (λ file tree t samples. length samples ≤ MOST_SAMPLES → IsUnchanged result) }
     ensures few { IfOk result (λ c. c.count ≤ MOST_SAMPLES) }
     ensures grows { OnOk result (steps.old ≤ steps.new) }
     ensures work { TakesSteps S.Store store.old movie.now walk.old walk.new result steps.old
         steps.new }
-    ensures refusal { Refused S.Store store.old store.new result RefusesLoad }
 {
     let mut count = 0;
     loop {
         let hand = count_hand(
             walk,
-            reduction,
+            portion.reduction,
             movie,
-            end,
+            &portion.end,
             description,
             MOST_SAMPLES - count,
         );
         walk.keep(hand.place, steps);
         count += hand.count;
         if let Some(sample) = hand.next {
-            if goes_in(end, description, &sample) {
+            if goes_in(&portion.end, description, &sample) {
                 return Err(Refusal::StoreChanged);
             }
             return Ok(Counted {
@@ -204,35 +202,33 @@ fn count_piece<S: Store, L: Ledger>(
 /// is the next. Where they are more than 2^24, the store has changed.
 pub(crate) fn count_turn<S: Store, L: Ledger>(
     walk: &mut Walk,
-    reduction: Reduction,
+    portion: Portion,
     next: &mut Option<SampleAt>,
-    end: &End,
     movie: &Movie,
     store: &mut S,
     steps: &mut Steps<L>,
 ) -> Result<u32, Refusal>
     requires { IsWalkOf movie.now walk.old }
-    ensures walk { KeepsWalk movie.now walk.old walk.new result }
-    ensures store { OnlyReads S.Store store.old store.new result }
-    ensures counted { WhereLess S.Store store.old movie.now reduction walk.old
+    ensures loads { OnlyLoads movie.now walk.old walk.new S.Store store.old store.new result }
+    ensures counted { WhereLess S.Store store.old movie.now portion.reduction walk.old
         (λ file tree t samples. next.old ≡ slice_get samples 0
-        → IfOk result (λ n. PieceCounted reduction file tree t movie.now walk.new end.now samples n
+        → IfOk result
+        (λ n. PieceCounted portion.reduction file tree t movie.now walk.new portion.end samples n
         next.new)) }
-    ensures unchanged { WhereLess S.Store store.old movie.now reduction walk.old
+    ensures unchanged { WhereLess S.Store store.old movie.now portion.reduction walk.old
         (λ file tree t samples. length samples ≤ MOST_SAMPLES → IsUnchanged result) }
     ensures few { IfOk result (λ n. n ≤ MOST_SAMPLES) }
     ensures grows { OnOk result (steps.old ≤ steps.new) }
     ensures work { TakesSteps S.Store store.old movie.now walk.old walk.new result steps.old
         steps.new }
-    ensures refusal { Refused S.Store store.old store.new result RefusesLoad }
 {
     let Some(first) = *next else {
         return Ok(0);
     };
-    if has_ended(end, &first) {
+    if has_ended(&portion.end, &first) {
         return Ok(0);
     }
-    let piece = count_piece(walk, reduction, end, first.description, movie, store, steps)?;
+    let piece = count_piece(walk, portion, first.description, movie, store, steps)?;
     *next = piece.next;
     Ok(piece.count)
 }

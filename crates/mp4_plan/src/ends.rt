@@ -2,6 +2,7 @@
 ghost use Rattle.std.specs.Prelude.{◌≡◌};
 ghost use Rattle.mp4_plan.specs.words.Ends.{first_goes, goes_in, has_ended};
 
+use crate::reduced::Reduction;
 use mp4_tables::SampleAt;
 
 /// Where a piece ends.
@@ -19,6 +20,13 @@ pub enum End {
         first: u32,
         scale: u32,
     },
+}
+
+/// What a piece takes of a track: where it ends, and what the track's samples are left by.
+#[derive(Clone, Copy, Debug, PartialEq, Eq)]
+pub(crate) struct Portion {
+    pub(crate) end: End,
+    pub(crate) reduction: Reduction,
 }
 
 /// Whether a piece may go on.

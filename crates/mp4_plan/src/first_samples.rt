@@ -10,7 +10,7 @@ ghost use Rattle.mp4_present.specs.declared.walking.Walk.{Walk};
 ghost use Rattle.mp4_present.specs.words.Movies.{RefusesLoad};
 ghost use Rattle.mp4_plan.specs.words.Writers.{RefusesMemory, AreMarked, AreWalksOf, AllCome, first_dts, firsts};
 
-use crate::reduced::Reduction;
+use crate::reduced::Reductions;
 use crate::track_pieces::next_marked;
 use mp4_boxes::{Refusal, Steps};
 use mp4_present::{Movie, Walk};
@@ -37,23 +37,24 @@ pub(crate) fn walks_of(alloc: Global, movie: &Movie) -> Result<Vec<Walk>, Refusa
 pub(crate) fn peek_each<S: Store, L: Ledger>(
     walks: &mut [Walk],
     nexts: &mut [Option<SampleAt>],
-    reductions: &[Reduction],
+    reductions: &Reductions,
     movie: &Movie,
     store: &mut S,
     steps: &mut Steps<L>,
 ) -> Result<(), Refusal>
     requires walks { AreWalksOf movie.now walks.old }
     requires nexts { length nexts.old ≡ length walks.old }
-    requires reductions { length reductions.now ≡ length walks.old }
+    requires reductions { length reductions.now.of_tracks.items ≡ length walks.old }
     ensures walks { AreWalksStill movie.now walks.old walks.new result }
     ensures store { OnlyReads S.Store store.old store.new result }
-    ensures shown { (l : Without) → WhereAllCome S.Store store.old movie.now l reductions.now
-        walks.old (λ file tree lefts. OnOk result ((nexts.new ≡ firsts lefts)
+    ensures shown { (l : Without) → WhereAllCome S.Store store.old movie.now l
+        reductions.now.of_tracks.items walks.old
+        (λ file tree lefts. OnOk result ((nexts.new ≡ firsts lefts)
         × AllCome l file tree movie.now tree.movie.tracks walks.new lefts)) }
     ensures marked { (lefts : List (List SampleAt)) → AreMarked walks.old lefts
         → OnOk result (AreMarked walks.new lefts) }
-    ensures unchanged { (l : Without) → WhereAllCome S.Store store.old movie.now l reductions.now
-        walks.old (λ file tree lefts. IsUnchanged result) }
+    ensures unchanged { (l : Without) → WhereAllCome S.Store store.old movie.now l
+        reductions.now.of_tracks.items walks.old (λ file tree lefts. IsUnchanged result) }
     ensures refusal { Refused S.Store store.old store.new result RefusesLoad }
     ensures grows { OnOk result (steps.old ≤ steps.new) }
     ensures work { StepsOfAll S.Store store.old movie.now walks.old walks.new result steps.old
@@ -62,7 +63,7 @@ pub(crate) fn peek_each<S: Store, L: Ledger>(
         steps.new }
 {
     for k in 0..walks.len() {
-        let reduction = reductions[k];
+        let reduction = reductions.of_tracks[k];
         nexts[k] = next_marked(&mut walks[k], reduction, movie, store, steps)?;
     }
     Ok(())

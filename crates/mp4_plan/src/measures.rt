@@ -15,7 +15,7 @@ ghost use Rattle.mp4_plan.specs.words.MadeWriters.{OverOpened};
 ghost use Rattle.mp4_plan.specs.words.Measuring.{AreMeasured, is_near, measuring_steps, no_total, total_from, total_with};
 ghost use Rattle.mp4_plan.specs.words.Writers.{RefusesPlan};
 
-use crate::reduced::{Reduction, asks_first};
+use crate::reduced::{Reduction, Reductions, asks_first};
 use crate::track_pieces::peek_sample;
 use mp4_boxes::{Refusal, Steps};
 use mp4_present::{Movie, Walk, Without};
@@ -35,7 +35,7 @@ pub(crate) struct Total {
 /// For each track what its samples are left by, and what is left of them together.
 #[derive(Drop)]
 pub(crate) struct Measures {
-    pub(crate) reductions: Vec<Reduction>,
+    pub(crate) reductions: Reductions,
     pub(crate) totals: Vec<Total>,
 }
 
@@ -156,7 +156,8 @@ fn measure_all<S: Store, L: Ledger>(
 ) -> Result<Measures, Refusal>
     ensures store { OnlyReads S.Store store.old store.new result }
     ensures many { IfOk result
-        (λ all. length all.reductions.items ≡ length movie.now.tracks) }
+        (λ all. length all.reductions.of_tracks.items ≡ length movie.now.tracks) }
+    ensures leaving { IfOk result (λ all. all.reductions.leaving ≡ leaving) }
     ensures measured { asks_first leaving ≡ true → OverOpened S.Store store.old movie.now
         (λ file tree. IfOk result (AreMeasured leaving tree movie.now)) }
     ensures unchanged { OverOpened S.Store store.old movie.now (λ file tree. IsUnchanged result) }
@@ -165,33 +166,36 @@ fn measure_all<S: Store, L: Ledger>(
     ensures grows { OnOk result (steps.old ≤ steps.new) }
     ensures refusal { Refused S.Store store.old store.new result RefusesPlan }
 {
-    let mut reductions = Vec::new(alloc);
+    let mut of_tracks = Vec::new(alloc);
     let mut totals = Vec::new(alloc);
     for track in 0..movie.tracks().len() {
         let found = measure_track(alloc, track, leaving, movie, store, steps)?;
-        reductions.push(found.0)?;
+        of_tracks.push(found.0)?;
         totals.push(found.1)?;
     }
+    let reductions = Reductions { leaving, of_tracks };
     Ok(Measures { reductions, totals })
 }
 
 // What all tracks come to whose samples needn't be asked: as long as opening counted.
 fn measure_at_once(alloc: Global, movie: &Movie, leaving: Without) -> Result<Measures, AllocError>
     ensures many { IfOk result
-        (λ all. length all.reductions.items ≡ length movie.now.tracks) }
+        (λ all. length all.reductions.of_tracks.items ≡ length movie.now.tracks) }
+    ensures leaving { IfOk result (λ all. all.reductions.leaving ≡ leaving) }
     ensures measured { asks_first leaving ≡ false → (file : List ℕ) (tree : FileTree)
         → IsOpenedAs file movie.now tree → IfOk result (AreMeasured leaving tree movie.now) }
 {
-    let mut reductions = Vec::new(alloc);
+    let mut of_tracks = Vec::new(alloc);
     let mut totals = Vec::new(alloc);
     let tracks = movie.tracks();
     for track in 0..tracks.len() {
-        reductions.push(Reduction::plain(leaving))?;
+        of_tracks.push(Reduction::plain(leaving))?;
         totals.push(Total {
             duration: tracks[track].duration,
             is_near: true,
         })?;
     }
+    let reductions = Reductions { leaving, of_tracks };
     Ok(Measures { reductions, totals })
 }
 
@@ -206,7 +210,8 @@ pub(crate) fn measure<S: Store, L: Ledger>(
 ) -> Result<Measures, Refusal>
     ensures store { OnlyReads S.Store store.old store.new result }
     ensures many { IfOk result
-        (λ all. length all.reductions.items ≡ length movie.now.tracks) }
+        (λ all. length all.reductions.of_tracks.items ≡ length movie.now.tracks) }
+    ensures leaving { IfOk result (λ all. all.reductions.leaving ≡ leaving) }
     ensures measured { OverOpened S.Store store.old movie.now
         (λ file tree. IfOk result (AreMeasured leaving tree movie.now)) }
     ensures unchanged { OverOpened S.Store store.old movie.now (λ file tree. IsUnchanged result) }

@@ -104,8 +104,7 @@ pub fn reduced_len<S: Store, L: Ledger, M: Ledger>(
 {
     let measures = measure(alloc, movie, store, leaving, steps)?;
     length_left(alloc, movie, leaving, measures.totals.as_slice())?;
-    let reductions = measures.reductions.as_slice();
-    let len = pieces_len(alloc, movie, store, leaving, reductions, steps, looks)?;
+    let len = pieces_len(alloc, movie, store, &measures.reductions, steps, looks)?;
     let read = movie.head(alloc)?;
     let lefts = payloads_left(alloc, leaving, read.tracks.as_slice())?;
     let head = head_left(alloc, read, leaving, &lefts)?;

@@ -2,6 +2,7 @@
 ghost use Rattle.std.specs.Prelude.{◌≡◌};
 ghost use Rattle.mp4_plan.specs.words.Taken.{row_seen};
 
+use crate::stretches::Stretches;
 use mp4_tables::SampleAt;
 
 /// What is written of a sample: its row of `trun`, and its index at each key of its track.
@@ -35,6 +36,13 @@ pub(crate) const NO_ROW: Row = Row {
     cto: 0,
     groups: [0; 4],
 };
+
+/// What is noted of the samples of a piece: their rows, and where their bytes lie.
+#[derive(Drop)]
+pub(crate) struct PieceNotes {
+    pub(crate) rows: Vec<Row>,
+    pub(crate) stretches: Stretches,
+}
 
 /// What is written of this sample.
 pub(crate) fn row_of(sample: &SampleAt) -> Row

@@ -1,8 +1,7 @@
 //! What all pieces of a movie come to: the most samples of one, and the bytes of all.
-ghost use Rattle.std.specs.Prelude.{◌≡◌, ◌+◌, ◌*◌, ◌-◌, ◌^◌, ◌<◌, ◌≤◌, max, min, length, Some, None, IfOk, OnOk};
+ghost use Rattle.std.specs.Prelude.{◌≡◌, ◌+◌, ◌*◌, ◌-◌, ◌^◌, ◌<◌, ◌≤◌, max, min, length, Some, IfOk, OnOk};
 ghost use Rattle.mp4_tables.specs.words.Keys.{keys_seen};
 ghost use Rattle.mp4_present.specs.format.Reduced.{reduce};
-ghost use Rattle.mp4_present.specs.declared.without.Without.{Without};
 ghost use Rattle.mp4_present.specs.format.Denotes.{presentation_of};
 ghost use Rattle.mp4_present.specs.words.StoresRead.{IsUnchanged, OnlyReads, Refused};
 ghost use Rattle.mp4_present.specs.words.WalkSteps.{walks_steps};
@@ -13,15 +12,14 @@ ghost use Rattle.mp4_plan.specs.words.Turns.{movie_turns};
 ghost use Rattle.mp4_plan.specs.words.Writers.{RefusesPlan, ArePiecesLong, longest_piece, planned_length};
 
 use crate::counting::count_turn;
-use crate::due_tracks::DueTracks;
-use crate::first_samples::{first_time, peek_each, walks_of};
+use crate::ends::Portion;
 use crate::moof_sizes::sizes_of;
+use crate::plan_walks::PlanWalks;
 use crate::planner::Planned;
-use crate::reduced::Reduction;
-use crate::schedule::Schedule;
+use crate::reduced::Reductions;
 use crate::track_pieces::plan_turn;
 use mp4_boxes::{Refusal, Steps};
-use mp4_present::{Movie, Without};
+use mp4_present::Movie;
 use mp4_store::Store;
 use mp4_tables::Keys;
 use std::alloc::Global;
@@ -52,18 +50,17 @@ pub(crate) fn longest_piece<S: Store, L: Ledger, M: Ledger>(
     alloc: Global,
     movie: &Movie,
     store: &mut S,
-    leaving: Without,
-    reductions: &[Reduction],
+    reductions: &Reductions,
     steps: &mut Steps<L>,
     looks: &mut Steps<M>,
 ) -> Result<u32, Refusal>
-    requires reductions { length reductions.now ≡ length movie.now.tracks }
+    requires reductions { length reductions.now.of_tracks.items ≡ length movie.now.tracks }
     ensures store { OnlyReads S.Store store.old store.new result }
     ensures few { IfOk result (λ longest. longest ≤ 2 ^ 24) }
-    ensures longest { OverReduced S.Store store.old movie.now leaving reductions.now
+    ensures longest { OverReduced S.Store store.old movie.now reductions.now
         (λ file tree. IfOk result (λ longest. longest
-        ≡ longest_piece (pieces (reduce leaving (presentation_of file tree))))) }
-    ensures unchanged { OverReduced S.Store store.old movie.now leaving reductions.now
+        ≡ longest_piece (pieces (reduce reductions.now.leaving (presentation_of file tree))))) }
+    ensures unchanged { OverReduced S.Store store.old movie.now reductions.now
         (λ file tree. IsUnchanged result) }
     ensures refusal { Refused S.Store store.old store.new result RefusesPlan }
     ensures grows { OnOk result (steps.old ≤ steps.new) }
@@ -72,22 +69,21 @@ pub(crate) fn longest_piece<S: Store, L: Ledger, M: Ledger>(
     ensures turns { looks.new ≤ looks.old + movie_turns movie.now }
 {
     let tracks = movie.tracks();
-    let mut walks = walks_of(alloc, movie)?;
-    let mut nexts = vec![in alloc; None; tracks.len()]?;
-    let mut due = DueTracks::new(alloc, tracks.len())?;
-    let all = walks.as_mut_slice();
-    peek_each(all, nexts.as_mut_slice(), reductions, movie, store, steps)?;
-    let mut schedule = Schedule::new(leaving, tracks, first_time(nexts.as_slice()));
-    schedule.begin(leaving, tracks, nexts.as_slice(), &mut due);
+    let mut plan = PlanWalks::begin(alloc, movie, store, reductions, steps)?;
     let mut longest: u32 = 0;
-    while let Some(turn) = schedule.turn(leaving, tracks, looks) {
-        let walk = &mut walks[turn.track];
-        let next = &mut nexts[turn.track];
-        let reduction = reductions[turn.track];
-        let count = count_turn(walk, reduction, next, &turn.end, movie, store, steps)?;
+    while let Some(turn) = plan.schedule.turn(tracks, looks) {
+        let walk = &mut plan.walks[turn.track];
+        let next = &mut plan.nexts[turn.track];
+        let reduction = reductions.of_tracks[turn.track];
+        let portion = Portion {
+            end: turn.end,
+            reduction,
+        };
+        let count = count_turn(walk, portion, next, movie, store, steps)?;
         let sample = *next;
         longest = longest.max(count);
-        schedule.pass(leaving, &turn, count, sample, tracks, &mut due)?;
+        plan.schedule
+            .pass(&turn, count, sample, tracks, &mut plan.due)?;
     }
     Ok(longest)
 }
@@ -97,17 +93,16 @@ pub(crate) fn pieces_len<S: Store, L: Ledger, M: Ledger>(
     alloc: Global,
     movie: &Movie,
     store: &mut S,
-    leaving: Without,
-    reductions: &[Reduction],
+    reductions: &Reductions,
     steps: &mut Steps<L>,
     looks: &mut Steps<M>,
 ) -> Result<u64, Refusal>
-    requires reductions { length reductions.now ≡ length movie.now.tracks }
+    requires reductions { length reductions.now.of_tracks.items ≡ length movie.now.tracks }
     ensures store { OnlyReads S.Store store.old store.new result }
-    ensures length { OverReduced S.Store store.old movie.now leaving reductions.now
+    ensures length { OverReduced S.Store store.old movie.now reductions.now
         (λ file tree. IfOk result
-        (ArePiecesLong (reduce leaving (presentation_of file tree)))) }
-    ensures unchanged { OverReduced S.Store store.old movie.now leaving reductions.now
+        (ArePiecesLong (reduce reductions.now.leaving (presentation_of file tree)))) }
+    ensures unchanged { OverReduced S.Store store.old movie.now reductions.now
         (λ file tree. IsUnchanged result) }
     ensures refusal { Refused S.Store store.old store.new result RefusesPlan }
     ensures grows { OnOk result (steps.old ≤ steps.new) }
@@ -116,22 +111,21 @@ pub(crate) fn pieces_len<S: Store, L: Ledger, M: Ledger>(
     ensures turns { looks.new ≤ looks.old + movie_turns movie.now }
 {
     let tracks = movie.tracks();
-    let mut walks = walks_of(alloc, movie)?;
-    let mut nexts = vec![in alloc; None; tracks.len()]?;
-    let mut due = DueTracks::new(alloc, tracks.len())?;
-    let all = walks.as_mut_slice();
-    peek_each(all, nexts.as_mut_slice(), reductions, movie, store, steps)?;
-    let mut schedule = Schedule::new(leaving, tracks, first_time(nexts.as_slice()));
-    schedule.begin(leaving, tracks, nexts.as_slice(), &mut due);
+    let mut plan = PlanWalks::begin(alloc, movie, store, reductions, steps)?;
     let mut len = 0;
-    while let Some(turn) = schedule.turn(leaving, tracks, looks) {
-        let walk = &mut walks[turn.track];
-        let next = &mut nexts[turn.track];
-        let reduction = reductions[turn.track];
-        let planned = plan_turn(walk, reduction, next, turn.end, movie, store, steps)?;
+    while let Some(turn) = plan.schedule.turn(tracks, looks) {
+        let walk = &mut plan.walks[turn.track];
+        let next = &mut plan.nexts[turn.track];
+        let reduction = reductions.of_tracks[turn.track];
+        let portion = Portion {
+            end: turn.end,
+            reduction,
+        };
+        let planned = plan_turn(walk, portion, next, movie, store, steps)?;
         let sample = *next;
         len = len_with(len, &planned, &tracks[turn.track].keys);
-        schedule.pass(leaving, &turn, planned.count, sample, tracks, &mut due)?;
+        plan.schedule
+            .pass(&turn, planned.count, sample, tracks, &mut plan.due)?;
     }
     Ok(len)
 }

@@ -1,8 +1,8 @@
 //! A piece that is fed with samples.
 use crate::ends::{End, Fed, has_ended};
 use crate::gathered::{Gathered, gather_more, gathered_first};
-use crate::joined::Stretches;
 use crate::noted_rows::{Row, row_of};
+use crate::stretches::Stretches;
 use mp4_tables::{SampleAt, Samples};
 use std::marker::Model;
 

@@ -17,6 +17,13 @@ pub(crate) struct Reduction {
     pub(crate) offset: i32,
 }
 
+/// What is left out of a movie, and for each track what its samples are left by.
+#[derive(Drop)]
+pub(crate) struct Reductions {
+    pub(crate) leaving: Without,
+    pub(crate) of_tracks: Vec<Reduction>,
+}
+
 /// Whether what is left of samples depends on the first of them, or on how many there are.
 pub(crate) fn asks_first(leaving: Without) -> bool
     ensures { result ≡ asks_first leaving }

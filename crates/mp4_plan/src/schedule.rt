@@ -19,6 +19,8 @@ pub(crate) struct Turn {
 /// A place in the order of pieces.
 #[derive(Clone, Copy, Debug, PartialEq, Eq)]
 pub(crate) struct Schedule {
+    /// What is left out of the tracks.
+    pub(crate) leaving: Without,
     /// How many tracks there are, and the timescale of the first.
     pub(crate) tracks: usize,
     pub(crate) first: u32,
@@ -69,6 +71,7 @@ impl Schedule {
 
     /// The pieces of what is left of these tracks, of which the first begins at this time.
     pub(crate) fn new(leaving: Without, tracks: &[TrackInfo], from: u64) -> Schedule
+        ensures leaving { result.leaving ≡ leaving }
         ensures tracks { result.tracks ≡ length tracks.now }
         ensures first { result.first ≡ first_scale (infos_left leaving tracks.now) }
         ensures left { result.left ≡ sum_by (λ (i : TrackInfo). i.samples) tracks.now }
@@ -84,6 +87,7 @@ impl Schedule {
             None => 0,
         };
         Schedule {
+            leaving,
             tracks: tracks.len(),
             first,
             track: 0,
@@ -94,18 +98,13 @@ impl Schedule {
     }
 
     /// Whose turn it is. Each turn is a look, which is counted.
-    pub(crate) fn turn<M: Ledger>(
-        &self,
-        leaving: Without,
-        tracks: &[TrackInfo],
-        looks: &mut Steps<M>,
-    ) -> Option<Turn>
+    pub(crate) fn turn<M: Ledger>(&self, tracks: &[TrackInfo], looks: &mut Steps<M>) -> Option<Turn>
         requires { self.now.tracks ≡ length tracks.now }
         ensures track { IfSome result (λ t. (t.track ≡ self.now.track)
             × (self.now.track < self.now.tracks)) }
         ensures end { IfSome result (λ t. (info : TrackInfo)
             → slice_get tracks.now self.now.track ≡ Some info
-            → t.end ≡ turn_end self.now (timescale_left leaving info.timescale)) }
+            → t.end ≡ turn_end self.now (timescale_left self.now.leaving info.timescale)) }
         ensures none { result ≡ None → self.now.tracks ≤ self.now.track }
         ensures looks { MatchOption result (looks.new ≡ looks.old)
             (λ t. looks.new ≡ looks.old + 1) }
@@ -114,7 +113,7 @@ impl Schedule {
             return None;
         }
         looks.tick();
-        let scale = leaving.timescale(tracks[self.track].timescale);
+        let scale = self.leaving.timescale(tracks[self.track].timescale);
         let end = if self.track == 0 {
             End::Sync {
                 from: self.from,
@@ -213,7 +212,6 @@ impl Schedule {
     /// Before the first turn, of tracks of which these samples are the next.
     pub(crate) fn begin(
         &self,
-        leaving: Without,
         tracks: &[TrackInfo],
         nexts: &[Option<SampleAt>],
         due: &mut DueTracks,
@@ -223,10 +221,10 @@ impl Schedule {
         requires infos { self.now.tracks ≡ length tracks.now }
         requires nexts { length nexts.now ≡ length tracks.now }
         requires first { self.now.track ≡ 0 }
-        ensures { IsDueAt (infos_left leaving tracks.now) nexts.now self.now due.new }
+        ensures { IsDueAt (infos_left self.now.leaving tracks.now) nexts.now self.now due.new }
     {
         for k in 1..tracks.len() {
-            let scale = leaving.timescale(tracks[k].timescale);
+            let scale = self.leaving.timescale(tracks[k].timescale);
             due.set(k, due_at(&nexts[k], scale, self.first));
         }
     }
@@ -237,7 +235,6 @@ impl Schedule {
     /// of the first track, and samples that nobody counted, are of a file that has changed.
     pub(crate) fn pass(
         &mut self,
-        leaving: Without,
         turn: &Turn,
         count: u32,
         sample: Option<SampleAt>,
@@ -249,6 +246,7 @@ impl Schedule {
         requires tree { IsDueTree due.old }
         requires tracks { due.old.leaves ≡ self.old.tracks }
         ensures tracks { OnOk result (self.new.tracks ≡ self.old.tracks) }
+        ensures leaving { OnOk result (self.new.leaving ≡ self.old.leaving) }
         ensures turned { OnOk result
             (Skips due.new (turned self.old turn.now.end count sample) self.new) }
         ensures left { OnOk result (self.new.left ≡ self.old.left - count) }
@@ -257,20 +255,24 @@ impl Schedule {
         ensures some { OnOk result (IsSomeLeft self.new) }
         ensures tree { OnOk result (IsDueTree due.new × (due.new.leaves ≡ self.old.tracks)) }
         ensures due { (nexts : List (Option SampleAt))
-            → AreTimes (infos_left leaving tracks.now) nexts self.old.first due.old → OnOk result
-            (IsDueAt (infos_left leaving tracks.now) (slice_set nexts self.old.track sample)
+            → AreTimes (infos_left self.old.leaving tracks.now) nexts self.old.first due.old
+            → OnOk result
+            (IsDueAt (infos_left self.old.leaving tracks.now)
+            (slice_set nexts self.old.track sample)
             self.new due.new) }
         ensures refusal { IfErr result (λ r. r ≡ refusals.StoreChanged) }
         ensures sticks { (nexts : List (Option SampleAt))
-            → AreTimes (infos_left leaving tracks.now) nexts self.old.first due.old → IfErr result
+            → AreTimes (infos_left self.old.leaving tracks.now) nexts self.old.first due.old
+            → IfErr result
             (λ r. Sticks self.old count sample
-            ⊎ FindsMore (infos_left leaving tracks.now) (slice_set nexts self.old.track sample)
+            ⊎ FindsMore (infos_left self.old.leaving tracks.now)
+            (slice_set nexts self.old.track sample)
             (turned self.old turn.now.end count sample) self.new due.new) }
     {
         let track = self.track;
         self.take(turn, count, sample)?;
         if track > 0 {
-            let scale = leaving.timescale(tracks[track].timescale);
+            let scale = self.leaving.timescale(tracks[track].timescale);
             due.set(track, due_at(&sample, scale, self.first));
         }
         self.skip(due);

@@ -2,8 +2,8 @@
 ghost use Rattle.std.specs.Prelude.{◌≡◌, ◌+◌, ◌-◌, ◌*◌, ◌^◌, ◌<◌, ◌≤◌, List, length, take, None, slice_get, IfOk, OnOk, MatchResult};
 ghost use Rattle.mp4_present.specs.words.Loaded.{AreLast};
 ghost use Rattle.mp4_present.specs.words.SamplesComing.{Comes};
-ghost use Rattle.mp4_present.specs.words.Movies.{IsWalkOf, HasSome, RefusesLoad, mark_of};
-ghost use Rattle.mp4_present.specs.words.StoresRead.{IsUnchanged, OnlyReads, Refused};
+ghost use Rattle.mp4_present.specs.words.Movies.{IsWalkOf, HasSome, mark_of};
+ghost use Rattle.mp4_present.specs.words.StoresRead.{IsUnchanged};
 ghost use Rattle.mp4_present.specs.words.TrackWalks.{TakesSteps, WhereComes};
 ghost use Rattle.mp4_plan.specs.words.Gathering.{count_of, more_of, planned_of, piece_from, piece_fed, samples_after};
 ghost use Rattle.mp4_plan.specs.words.GoneOn.{ComesMarked, WentOn};
@@ -11,15 +11,16 @@ ghost use Rattle.mp4_plan.specs.words.WriterSteps.{FinishesOn, WritesOn};
 ghost use Rattle.mp4_plan.specs.words.HandsFed.{stop_of, HandFed, HandNoted, KeepsOn, Notes};
 ghost use Rattle.mp4_plan.specs.words.ComingLess.{ComesLess, less};
 ghost use Rattle.mp4_plan.specs.words.Stretches.{JoinsOn};
-ghost use Rattle.mp4_plan.specs.words.ReducedWalks.{HasBounds, HasRows, KeepsWalk, MayNote, WhereLess, WhereMayWrite};
+ghost use Rattle.mp4_plan.specs.words.Loading.{OnlyLoads};
+ghost use Rattle.mp4_plan.specs.words.ReducedWalks.{HasBounds, HasRows, MayNote, WhereLess, WhereMayWrite};
 ghost use Rattle.mp4_tables.specs.declared.sample.SampleAt.{SampleAt};
 
 use crate::at_most::Limited;
-use crate::ends::{End, first_goes};
-use crate::joined::Stretches;
-use crate::noted_rows::Row;
+use crate::ends::{Portion, first_goes};
+use crate::noted_rows::{PieceNotes, Row};
 use crate::planner::{Planned, Planner};
 use crate::reduced::{Reduced, Reduction, reduced_sample};
+use crate::stretches::Stretches;
 use mp4_boxes::{Refusal, Steps};
 use mp4_present::{Loaded, Movie, Place, Walk};
 use mp4_store::Store;
@@ -37,9 +38,8 @@ pub(crate) fn peek_sample<S: Store, L: Ledger>(
     steps: &mut Steps<L>,
 ) -> Result<Option<SampleAt>, Refusal>
     requires { IsWalkOf movie.now walk.old }
-    ensures walk { KeepsWalk movie.now walk.old walk.new result }
+    ensures loads { OnlyLoads movie.now walk.old walk.new S.Store store.old store.new result }
     ensures went { OnOk result (WentOn movie.now walk.old walk.new steps.old steps.new) }
-    ensures store { OnlyReads S.Store store.old store.new result }
     ensures coming { WhereComes S.Store store.old movie.now walk.old
         (λ file tree t samples. IfOk result (λ next. Comes file tree t movie.now walk.new samples
         × (next ≡ slice_get samples 0))) }
@@ -48,7 +48,6 @@ pub(crate) fn peek_sample<S: Store, L: Ledger>(
         (λ file tree t samples. IsUnchanged result) }
     ensures work { TakesSteps S.Store store.old movie.now walk.old walk.new result steps.old
         steps.new }
-    ensures refusal { Refused S.Store store.old store.new result RefusesLoad }
 {
     let mut next = walk.in_hand(movie).peek();
     while next.is_none() && walk.load(movie, store, steps)? {
@@ -78,9 +77,8 @@ pub(crate) fn next_sample<S: Store, L: Ledger>(
     steps: &mut Steps<L>,
 ) -> Result<Option<SampleAt>, Refusal>
     requires { IsWalkOf movie.now walk.old }
-    ensures walk { KeepsWalk movie.now walk.old walk.new result }
+    ensures loads { OnlyLoads movie.now walk.old walk.new S.Store store.old store.new result }
     ensures went { OnOk result (WentOn movie.now walk.old walk.new steps.old steps.new) }
-    ensures store { OnlyReads S.Store store.old store.new result }
     ensures coming { WhereLess S.Store store.old movie.now reduction walk.old
         (λ file tree t samples. IfOk result (λ next.
         ComesLess reduction file tree t movie.now walk.new samples
@@ -90,7 +88,6 @@ pub(crate) fn next_sample<S: Store, L: Ledger>(
         (λ file tree t samples. IsUnchanged result) }
     ensures work { TakesSteps S.Store store.old movie.now walk.old walk.new result steps.old
         steps.new }
-    ensures refusal { Refused S.Store store.old store.new result RefusesLoad }
 {
     let next = peek_sample(walk, movie, store, steps)?;
     Ok(reduced_next(reduction, next))
@@ -106,9 +103,8 @@ pub(crate) fn next_marked<S: Store, L: Ledger>(
     steps: &mut Steps<L>,
 ) -> Result<Option<SampleAt>, Refusal>
     requires { IsWalkOf movie.now walk.old }
-    ensures walk { KeepsWalk movie.now walk.old walk.new result }
+    ensures loads { OnlyLoads movie.now walk.old walk.new S.Store store.old store.new result }
     ensures marked { OnOk result (walk.new.mark ≡ mark_of walk.new walk.old.mark.to_come) }
-    ensures store { OnlyReads S.Store store.old store.new result }
     ensures coming { WhereLess S.Store store.old movie.now reduction walk.old
         (λ file tree t samples. IfOk result (λ next.
         ComesLess reduction file tree t movie.now walk.new samples
@@ -120,7 +116,6 @@ pub(crate) fn next_marked<S: Store, L: Ledger>(
         steps.new }
     ensures writes { WhereMayWrite S.Store store.old movie.now walk.old (λ file tree t n.
         OnOk result (WritesOn file tree movie.now t n walk.new steps.old steps.new)) }
-    ensures refusal { Refused S.Store store.old store.new result RefusesLoad }
 {
     let left = walk.to_come();
     let next = next_sample(walk, reduction, movie, store, steps)?;
@@ -251,34 +246,31 @@ fn note_hand(
     }
 }
 
-/// Plans the next piece of a walk with this end.
+/// Plans the next piece of a walk.
 pub(crate) fn plan_piece<S: Store, L: Ledger>(
     walk: &mut Walk,
-    reduction: Reduction,
-    end: End,
+    portion: Portion,
     movie: &Movie,
     store: &mut S,
     steps: &mut Steps<L>,
 ) -> Result<Planned, Refusal>
     requires { IsWalkOf movie.now walk.old }
-    ensures walk { KeepsWalk movie.now walk.old walk.new result }
-    ensures store { OnlyReads S.Store store.old store.new result }
-    ensures planned { WhereLess S.Store store.old movie.now reduction walk.old
+    ensures loads { OnlyLoads movie.now walk.old walk.new S.Store store.old store.new result }
+    ensures planned { WhereLess S.Store store.old movie.now portion.reduction walk.old
         (λ file tree t samples. IfOk result (λ p.
-        (p ≡ planned_of (piece_fed (piece_from end) samples).gathered)
-        × ComesLess reduction file tree t movie.now walk.new
-        (samples_after (piece_from end) samples))) }
-    ensures unchanged { WhereLess S.Store store.old movie.now reduction walk.old
+        (p ≡ planned_of (piece_fed (piece_from portion.end) samples).gathered)
+        × ComesLess portion.reduction file tree t movie.now walk.new
+        (samples_after (piece_from portion.end) samples))) }
+    ensures unchanged { WhereLess S.Store store.old movie.now portion.reduction walk.old
         (λ file tree t samples. length samples ≤ MOST_SAMPLES → IsUnchanged result) }
     ensures bounds { IfOk result (HasBounds MOST_SAMPLES) }
     ensures grows { OnOk result (steps.old ≤ steps.new) }
     ensures work { TakesSteps S.Store store.old movie.now walk.old walk.new result steps.old
         steps.new }
-    ensures refusal { Refused S.Store store.old store.new result RefusesLoad }
 {
-    let mut planner = Planner::new(end);
+    let mut planner = Planner::new(portion.end);
     loop {
-        let hand = feed_hand(&mut planner, walk, reduction, movie);
+        let hand = feed_hand(&mut planner, walk, portion.reduction, movie);
         walk.keep(hand.place, steps);
         match hand.stop {
             Stop::Full => return Err(Refusal::StoreChanged),
@@ -296,75 +288,80 @@ pub(crate) fn plan_piece<S: Store, L: Ledger>(
 /// next.
 pub(crate) fn plan_turn<S: Store, L: Ledger>(
     walk: &mut Walk,
-    reduction: Reduction,
+    portion: Portion,
     next: &mut Option<SampleAt>,
-    end: End,
     movie: &Movie,
     store: &mut S,
     steps: &mut Steps<L>,
 ) -> Result<Planned, Refusal>
     requires { IsWalkOf movie.now walk.old }
-    ensures walk { KeepsWalk movie.now walk.old walk.new result }
-    ensures store { OnlyReads S.Store store.old store.new result }
-    ensures planned { WhereLess S.Store store.old movie.now reduction walk.old
+    ensures loads { OnlyLoads movie.now walk.old walk.new S.Store store.old store.new result }
+    ensures planned { WhereLess S.Store store.old movie.now portion.reduction walk.old
         (λ file tree t samples. next.old ≡ slice_get samples 0
-        → IfOk result (λ p. (p ≡ planned_of (piece_fed (piece_from end) samples).gathered)
-        × ComesLess reduction file tree t movie.now walk.new
-        (samples_after (piece_from end) samples)
-        × (next.new ≡ slice_get (samples_after (piece_from end) samples) 0))) }
-    ensures unchanged { WhereLess S.Store store.old movie.now reduction walk.old
+        → IfOk result (λ p. (p ≡ planned_of (piece_fed (piece_from portion.end) samples).gathered)
+        × ComesLess portion.reduction file tree t movie.now walk.new
+        (samples_after (piece_from portion.end) samples)
+        × (next.new ≡ slice_get (samples_after (piece_from portion.end) samples) 0))) }
+    ensures unchanged { WhereLess S.Store store.old movie.now portion.reduction walk.old
         (λ file tree t samples. length samples ≤ MOST_SAMPLES → IsUnchanged result) }
     ensures bounds { IfOk result (HasBounds MOST_SAMPLES) }
     ensures grows { OnOk result (steps.old ≤ steps.new) }
     ensures work { TakesSteps S.Store store.old movie.now walk.old walk.new result steps.old
         steps.new }
-    ensures refusal { Refused S.Store store.old store.new result RefusesLoad }
 {
-    if !first_goes(&end, next) {
-        return Ok(Planner::new(end).piece());
+    if !first_goes(&portion.end, next) {
+        return Ok(Planner::new(portion.end).piece());
     }
-    let planned = plan_piece(walk, reduction, end, movie, store, steps)?;
-    *next = next_sample(walk, reduction, movie, store, steps)?;
+    let planned = plan_piece(walk, portion, movie, store, steps)?;
+    *next = next_sample(walk, portion.reduction, movie, store, steps)?;
     Ok(planned)
 }
 
-// Plans the next piece of a walk with this end, and notes its samples in the rows, and where their
+// Plans the next piece of a walk, and notes its samples in the rows, and where their
 // bytes lie. Where there is no room for the rows, the store has changed.
 fn note_piece<S: Store, L: Ledger>(
     walk: &mut Walk,
-    reduction: Reduction,
-    end: End,
-    rows: &mut [Row],
-    stretches: &mut Stretches,
+    portion: Portion,
+    notes: &mut PieceNotes,
     movie: &Movie,
     store: &mut S,
     steps: &mut Steps<L>,
 ) -> Result<Planned, Refusal>
-    requires { MayNote movie.now walk.old rows.old }
-    ensures walk { KeepsWalk movie.now walk.old walk.new result }
+    requires { MayNote movie.now walk.old notes.old.rows.items }
+    ensures loads { OnlyLoads movie.now walk.old walk.new S.Store store.old store.new result }
     ensures went { OnOk result (WentOn movie.now walk.old walk.new steps.old steps.new) }
-    ensures store { OnlyReads S.Store store.old store.new result }
-    ensures planned { WhereLess S.Store store.old movie.now reduction walk.old
+    ensures planned { WhereLess S.Store store.old movie.now portion.reduction walk.old
         (λ file tree t samples. IfOk result (λ p.
-        (p ≡ planned_of (piece_fed (piece_from end) samples).gathered)
-        × ComesLess reduction file tree t movie.now walk.new
-        (samples_after (piece_from end) samples))) }
-    ensures noted { WhereLess S.Store store.old movie.now reduction walk.old
+        (p ≡ planned_of (piece_fed (piece_from portion.end) samples).gathered)
+        × ComesLess portion.reduction file tree t movie.now walk.new
+        (samples_after (piece_from portion.end) samples))) }
+    ensures noted { WhereLess S.Store store.old movie.now portion.reduction walk.old
         (λ file tree t samples. IfOk result
-        (λ p. HasRows p.count samples rows.new stretches.old stretches.new)) }
-    ensures unchanged { WhereLess S.Store store.old movie.now reduction walk.old
-        (λ file tree t samples. more_of (piece_from end) samples ≤ length rows.old
+        (λ p. HasRows p.count samples notes.new.rows.items notes.old.stretches
+        notes.new.stretches)) }
+    ensures unchanged { WhereLess S.Store store.old movie.now portion.reduction walk.old
+        (λ file tree t samples. more_of (piece_from portion.end) samples
+        ≤ length notes.old.rows.items
         → IsUnchanged result) }
-    ensures bounds { IfOk result (HasBounds (length rows.old)) }
+    ensures room { length notes.new.rows.items ≡ length notes.old.rows.items }
+    ensures bounds { IfOk result (HasBounds (length notes.old.rows.items)) }
     ensures work { TakesSteps S.Store store.old movie.now walk.old walk.new result steps.old
         steps.new }
-    ensures refusal { Refused S.Store store.old store.new result RefusesLoad }
 {
-    let mut planner = Planner::new(end);
+    let mut planner = Planner::new(portion.end);
+    let rows = notes.rows.as_mut_slice();
+    let stretches = &mut notes.stretches;
     loop {
         let noted = planner.piece().count as usize;
         let rows = &mut rows[noted..];
-        let hand = note_hand(&mut planner, walk, reduction, movie, rows, stretches);
+        let hand = note_hand(
+            &mut planner,
+            walk,
+            portion.reduction,
+            movie,
+            rows,
+            stretches,
+        );
         walk.keep(hand.place, steps);
         match hand.stop {
             Stop::Full => return Err(Refusal::StoreChanged),
@@ -383,40 +380,38 @@ fn note_piece<S: Store, L: Ledger>(
 /// the rows, the store has changed.
 pub(crate) fn note_marked<S: Store, L: Ledger>(
     walk: &mut Walk,
-    reduction: Reduction,
-    end: End,
-    rows: &mut [Row],
-    stretches: &mut Stretches,
+    portion: Portion,
+    notes: &mut PieceNotes,
     movie: &Movie,
     store: &mut S,
     steps: &mut Steps<L>,
 ) -> Result<Planned, Refusal>
-    requires { MayNote movie.now walk.old rows.old }
-    ensures walk { KeepsWalk movie.now walk.old walk.new result }
-    ensures store { OnlyReads S.Store store.old store.new result }
-    ensures planned { WhereLess S.Store store.old movie.now reduction walk.old
+    requires { MayNote movie.now walk.old notes.old.rows.items }
+    ensures loads { OnlyLoads movie.now walk.old walk.new S.Store store.old store.new result }
+    ensures planned { WhereLess S.Store store.old movie.now portion.reduction walk.old
         (λ file tree t samples. IfOk result (λ p.
-        (p ≡ planned_of (piece_fed (piece_from end) samples).gathered)
+        (p ≡ planned_of (piece_fed (piece_from portion.end) samples).gathered)
         × (walk.old.mark ≡ mark_of walk.old (length samples)
-        → ComesMarked reduction file tree t movie.now walk.new p.count samples))) }
-    ensures noted { WhereLess S.Store store.old movie.now reduction walk.old
+        → ComesMarked portion.reduction file tree t movie.now walk.new p.count samples))) }
+    ensures noted { WhereLess S.Store store.old movie.now portion.reduction walk.old
         (λ file tree t samples. IfOk result
-        (λ p. HasRows p.count samples rows.new stretches.old stretches.new)) }
-    ensures unchanged { WhereLess S.Store store.old movie.now reduction walk.old
+        (λ p. HasRows p.count samples notes.new.rows.items notes.old.stretches
+        notes.new.stretches)) }
+    ensures unchanged { WhereLess S.Store store.old movie.now portion.reduction walk.old
         (λ file tree t samples. walk.old.mark ≡ mark_of walk.old (length samples)
-        → 0 < more_of (piece_from end) samples
-        → more_of (piece_from end) samples ≤ length rows.old
+        → 0 < more_of (piece_from portion.end) samples
+        → more_of (piece_from portion.end) samples ≤ length notes.old.rows.items
         → IsUnchanged result) }
     ensures some { IfOk result (λ p. 0 < p.count) }
-    ensures bounds { IfOk result (HasBounds (length rows.old)) }
+    ensures room { length notes.new.rows.items ≡ length notes.old.rows.items }
+    ensures bounds { IfOk result (HasBounds (length notes.old.rows.items)) }
     ensures grows { OnOk result (steps.old ≤ steps.new) }
     ensures work { WhereMayWrite S.Store store.old movie.now walk.old (λ file tree t n.
-        MatchResult result (λ p. FinishesOn reduction file tree movie.now p.count t n walk.new
-        steps.old steps.new) (λ r. steps.new ≤ steps.old + n)) }
-    ensures refusal { Refused S.Store store.old store.new result RefusesLoad }
+        MatchResult result (λ p. FinishesOn portion.reduction file tree movie.now p.count t n
+        walk.new steps.old steps.new) (λ r. steps.new ≤ steps.old + n)) }
 {
     let left = walk.to_come();
-    let planned = note_piece(walk, reduction, end, rows, stretches, movie, store, steps)?;
+    let planned = note_piece(walk, portion, notes, movie, store, steps)?;
     if planned.count == 0 || planned.count > left {
         return Err(Refusal::StoreChanged);
     }

@@ -28,24 +28,24 @@ ghost use Rattle.mp4_plan.specs.words.Gathering.{more_of, piece_from};
 ghost use Rattle.mp4_present.specs.words.Movies.{RefusesLoad};
 ghost use Rattle.mp4_present.specs.words.OutBuffers.{Carries, OnlyCopies};
 ghost use Rattle.mp4_plan.specs.words.Writers.{RefusesPlan, IsWriterOf, turn_head, sequence_behind, IsReady, IsReadyWithin, turn_bytes, HasNoted, HaveCopied};
-ghost use Rattle.mp4_plan.specs.format.Held.{held};
+ghost use Rattle.mp4_plan.specs.format.Held.{held_bytes};
 
-use crate::carrying::{Load, carry_noted};
+use crate::carrying::{Load, NotedBytes, carry_noted};
 use crate::due_tracks::DueTracks;
-use crate::ends::first_goes;
+use crate::ends::{Portion, first_goes};
 use crate::first_samples::{first_time, peek_each, walks_of};
-use crate::joined::Stretches;
 use crate::measures::measure;
 use crate::moof_front::{PieceHead, moof_front};
 use crate::moof_rows::{carry_groups, carry_run};
 use crate::moof_sizes::sizes_of;
 use crate::normal_head::head_of;
-use crate::noted_rows::{NO_ROW, Row};
+use crate::noted_rows::{NO_ROW, PieceNotes};
 use crate::piece_totals::longest_piece;
 use crate::planner::{Planned, Planner};
-use crate::reduced::Reduction;
+use crate::reduced::Reductions;
 use crate::reduced_lengths::length_left;
 use crate::schedule::{Schedule, Turn};
+use crate::stretches::Stretches;
 use crate::track_pieces::note_marked;
 use mp4_boxes::{FourCc, Refusal, Steps, header};
 use mp4_present::{Movie, OutBuffer, TrackInfo, Walk, Without};
@@ -60,10 +60,19 @@ const PIECE: usize = 61_440;
 /// The most bytes that a writer holds beside the head, its rows and its walks.
 const MOST_WAITING: usize = 65_000;
 
-// What a turn comes to: what was planned of its samples, and what its piece says once where it has
-// some.
+// What the boxes of a turn's piece are numbered by: the sequence number of `mfhd`, and the track ID
+// of `tfhd`.
+#[derive(Clone, Copy, Debug, PartialEq, Eq)]
+struct PieceNumbers {
+    sequence: u32,
+    id: u32,
+}
+
+// What a turn of a track comes to: what was planned of its samples, and what its piece says once
+// where it has some.
 #[derive(Clone, Copy, Debug, PartialEq, Eq)]
 struct Noted {
+    track: usize,
     planned: Planned,
     head: Option<PieceHead>,
 }
@@ -71,16 +80,13 @@ struct Noted {
 /// Writes the normal form of a movie. All memory that it takes is taken when it is made.
 #[derive(Drop)]
 pub struct Writer {
-    /// What is left out, and for each track what its samples are left by.
-    leaving: Without,
-    reductions: Vec<Reduction>,
+    reductions: Reductions,
     /// What waits to be put.
     carrier: OutBuffer,
     /// The bytes of `ftyp` and `moov`.
     head: Vec<u8>,
-    rows: Vec<Row>,
-    /// Where the bytes of the piece lie that is noted.
-    stretches: Stretches,
+    /// The piece that is noted.
+    notes: PieceNotes,
     /// For each track a walk that notes its pieces, and goes back for their bytes where these lie
     /// in too many places.
     walks: Vec<Walk>,
@@ -113,13 +119,13 @@ fn are_all(left: u128, bytes: u128, tracks: &[TrackInfo]) -> bool
 
 // What a piece of so many samples says once, of which the first is this one; nothing where it has
 // none.
-fn turn_head(sequence: u32, id: u32, count: u32, first: &Option<SampleAt>) -> Option<PieceHead>
-    ensures { result ≡ turn_head sequence id count first.now }
+fn turn_head(numbers: PieceNumbers, count: u32, first: &Option<SampleAt>) -> Option<PieceHead>
+    ensures { result ≡ turn_head numbers.sequence numbers.id count first.now }
 {
     match first {
         Some(sample) if count > 0 => Some(PieceHead {
-            sequence,
-            id,
+            sequence: numbers.sequence,
+            id: numbers.id,
             time: sample.dts,
             description: sample.description,
         }),
@@ -171,16 +177,16 @@ impl Writer {
         let measures = measure(alloc, movie, store, leaving, steps)?;
         let mehd = length_left(alloc, movie, leaving, measures.totals.as_slice())?;
         let reductions = measures.reductions;
-        let by = reductions.as_slice();
-        let longest = longest_piece(alloc, movie, store, leaving, by, steps, looks)?;
+        let longest = longest_piece(alloc, movie, store, &reductions, steps, looks)?;
         let due = DueTracks::new(alloc, movie.tracks().len())?;
         Ok(Writer {
-            leaving,
             reductions,
             carrier: OutBuffer::new(alloc, PIECE)?,
             head: head_of(alloc, movie, leaving, mehd)?,
-            rows: vec![in alloc; NO_ROW; longest as usize]?,
-            stretches: Stretches::new(),
+            notes: PieceNotes {
+                rows: vec![in alloc; NO_ROW; longest as usize]?,
+                stretches: Stretches::new(),
+            },
             walks: walks_of(alloc, movie)?,
             nexts: vec![in alloc; None; movie.tracks().len()]?,
             due,
@@ -212,13 +218,11 @@ impl Writer {
         Writer::reduced(alloc, movie, store, Without::NOTHING, steps, looks)
     }
 
-    // Plans the piece of a turn, and notes its samples. The next piece has this sequence number,
-    // the track this ID.
+    // Plans the piece of a turn, and notes its samples. If it has some, it has these numbers.
     fn note_turn<S: Store, L: Ledger>(
         &mut self,
         turn: &Turn,
-        sequence: u32,
-        id: u32,
+        numbers: PieceNumbers,
         movie: &Movie,
         store: &mut S,
         steps: &mut Steps<L>,
@@ -229,32 +233,39 @@ impl Writer {
         ensures store { OnlyReads S.Store store.old store.new result }
         ensures noted { OnTurn S.Store store.old movie.now turn.now self.old (λ file tree t left.
             IfOk result
-            (HasNoted file tree t movie.now turn.now sequence id left self.old self.new)) }
+            (HasNoted file tree t movie.now turn.now numbers.sequence numbers.id left
+            self.old self.new)) }
         ensures unchanged { OnTurn S.Store store.old movie.now turn.now self.old
-            (λ file tree t left. more_of (piece_from turn.now.end) left ≤ length self.old.rows.items
+            (λ file tree t left.
+            more_of (piece_from turn.now.end) left ≤ length self.old.notes.rows.items
             → IsUnchanged result) }
-        ensures planned { IfOk result (IsPlanned (length self.old.rows.items)) }
+        ensures planned { IfOk result (IsPlanned (length self.old.notes.rows.items)) }
+        ensures track { IfOk result (λ n. n.track ≡ turn.now.track) }
         ensures refusal { Refused S.Store store.old store.new result RefusesLoad }
         ensures grows { OnOk result (steps.old ≤ steps.new) }
         ensures work { StepsToNote S.Store store.old movie.now turn.now.track self.old self.new
             result steps.old steps.new }
     {
-        self.stretches.clear();
+        self.notes.stretches.clear();
         let first = self.nexts[turn.track];
         if !first_goes(&turn.end, &first) {
             return Ok(Noted {
+                track: turn.track,
                 planned: Planner::new(turn.end).piece(),
                 head: None,
             });
         }
-        let reduction = self.reductions[turn.track];
+        let reduction = self.reductions.of_tracks[turn.track];
+        let portion = Portion {
+            end: turn.end,
+            reduction,
+        };
         let walk = &mut self.walks[turn.track];
-        let rows = self.rows.as_mut_slice();
-        let told = &mut self.stretches;
-        let planned = note_marked(walk, reduction, turn.end, rows, told, movie, store, steps)?;
+        let planned = note_marked(walk, portion, &mut self.notes, movie, store, steps)?;
         Ok(Noted {
+            track: turn.track,
             planned,
-            head: turn_head(sequence, id, planned.count, &first),
+            head: turn_head(numbers, planned.count, &first),
         })
     }
 
@@ -262,44 +273,48 @@ impl Writer {
     // looks for the next one.
     fn carry_data<S: Store, K: Sink, L: Ledger>(
         &mut self,
-        track: usize,
-        planned: &Planned,
+        noted: &Noted,
         movie: &Movie,
         store: &mut S,
         sink: &mut K,
         steps: &mut Steps<L>,
     ) -> Result<(), Refusal>
         requires writer { IsWriterOf movie.now self.old }
-        requires track { track < length movie.now.tracks }
+        requires track { noted.now.track < length movie.now.tracks }
         ensures writer { OnlyCarries movie.now self.old self.new result }
         ensures devices { OnlyCopies S.Store store.old store.new K.Sink sink.old sink.new result }
-        ensures put { WhereNoted S.Store store.old movie.now track planned.now.count self.old
+        ensures put { WhereNoted S.Store store.old movie.now noted.now self.old
             (λ file tree t samples.
             Carries K.Sink sink.old sink.new self.old.carrier self.new.carrier result
-            (sample_bytes file (take planned.now.count samples))) }
+            (sample_bytes file (take noted.now.planned.count samples))) }
         ensures many { OnOk result (GoOnBy (K.takes sink.old sink.new)
-            (waiting self.old.carrier) (waiting self.new.carrier) planned.now.bytes) }
-        ensures copied { WhereNoted S.Store store.old movie.now track planned.now.count self.old
+            (waiting self.old.carrier) (waiting self.new.carrier) noted.now.planned.bytes) }
+        ensures copied { WhereNoted S.Store store.old movie.now noted.now self.old
             (λ file tree t samples. OnOk result
-            (HaveCopied file tree movie.now t track planned.now.count samples self.old self.new)) }
-        ensures unchanged { WhereNoted S.Store store.old movie.now track planned.now.count self.old
-            (λ file tree t samples. AreThere file planned.now.count planned.now.bytes samples
+            (HaveCopied file tree movie.now t noted.now.track noted.now.planned.count samples
+            self.old self.new)) }
+        ensures unchanged { WhereNoted S.Store store.old movie.now noted.now self.old
+            (λ file tree t samples.
+            AreThere file noted.now.planned.count noted.now.planned.bytes samples
             → IsUnchanged result) }
         ensures refusal { RefusedByBoth S.Store store.old store.new K.Sink sink.old sink.new result
             RefusesCarry }
         ensures grows { OnOk result (steps.old ≤ steps.new) }
-        ensures work { StepsToCarry S.Store store.old movie.now track planned.now.count self.old
-            self.new result steps.old steps.new }
+        ensures work { StepsToCarry S.Store store.old movie.now noted.now self.old self.new result
+            steps.old steps.new }
     {
-        let load = Load {
-            samples: planned.count,
-            bytes: planned.bytes,
+        let Noted { track, planned, .. } = *noted;
+        let bytes = NotedBytes {
+            stretches: &self.notes.stretches,
+            load: Load {
+                samples: planned.count,
+                bytes: planned.bytes,
+            },
         };
         self.nexts[track] = carry_noted(
             &mut self.walks[track],
-            self.reductions[track],
-            &self.stretches,
-            load,
+            self.reductions.of_tracks[track],
+            bytes,
             &mut self.carrier,
             movie,
             store,
@@ -313,50 +328,52 @@ impl Writer {
     // rows, and the bytes of its samples.
     fn carry_turn<S: Store, K: Sink, L: Ledger>(
         &mut self,
-        track: usize,
-        head: Option<PieceHead>,
-        planned: &Planned,
+        noted: &Noted,
         movie: &Movie,
         store: &mut S,
         sink: &mut K,
         steps: &mut Steps<L>,
     ) -> Result<(), Refusal>
-        requires may { MayCarry movie.now self.old track planned.now }
-        requires none { head ≡ None → planned.now.count ≡ 0 }
+        requires may { MayCarry movie.now self.old noted.now.track noted.now.planned }
+        requires none { noted.now.head ≡ None → noted.now.planned.count ≡ 0 }
         ensures writer { OnlyCarries movie.now self.old self.new result }
         ensures devices { OnlyCopies S.Store store.old store.new K.Sink sink.old sink.new result }
-        ensures put { WhereNoted S.Store store.old movie.now track planned.now.count self.old
-            (λ file tree t samples. WithKeys movie.now track (λ keys.
+        ensures put { WhereNoted S.Store store.old movie.now noted.now self.old
+            (λ file tree t samples. WithKeys movie.now noted.now.track (λ keys.
             Carries K.Sink sink.old sink.new self.old.carrier self.new.carrier result
-            (turn_bytes file head planned.now keys (take planned.now.count samples)))) }
+            (turn_bytes file noted.now.head noted.now.planned keys
+            (take noted.now.planned.count samples)))) }
         ensures many { OnOk result (PiecesFollow (K.takes sink.old sink.new)
-            (waiting self.old.carrier) (waiting self.new.carrier) [] planned.now.count
-            planned.now.bytes) }
-        ensures copied { WhereNoted S.Store store.old movie.now track planned.now.count self.old
+            (waiting self.old.carrier) (waiting self.new.carrier) [] noted.now.planned.count
+            noted.now.planned.bytes) }
+        ensures copied { WhereNoted S.Store store.old movie.now noted.now self.old
             (λ file tree t samples. OnOk result
-            (HaveCopied file tree movie.now t track planned.now.count samples self.old self.new)) }
-        ensures unchanged { WhereNoted S.Store store.old movie.now track planned.now.count self.old
-            (λ file tree t samples. AreThere file planned.now.count planned.now.bytes samples
+            (HaveCopied file tree movie.now t noted.now.track noted.now.planned.count samples
+            self.old self.new)) }
+        ensures unchanged { WhereNoted S.Store store.old movie.now noted.now self.old
+            (λ file tree t samples.
+            AreThere file noted.now.planned.count noted.now.planned.bytes samples
             → IsUnchanged result) }
         ensures refusal { RefusedByBoth S.Store store.old store.new K.Sink sink.old sink.new result
             RefusesCarry }
         ensures grows { OnOk result (steps.old ≤ steps.new) }
-        ensures work { StepsToCarry S.Store store.old movie.now track planned.now.count self.old
-            self.new result steps.old steps.new }
+        ensures work { StepsToCarry S.Store store.old movie.now noted.now self.old self.new result
+            steps.old steps.new }
     {
-        let Some(head) = head else {
+        let Some(head) = noted.head else {
             return Ok(());
         };
-        let keys = movie.tracks()[track].keys;
+        let planned = &noted.planned;
+        let keys = movie.tracks()[noted.track].keys;
         let sizes = sizes_of(planned, &keys);
-        let rows = &self.rows[..planned.count as usize];
+        let rows = &self.notes.rows[..planned.count as usize];
         let front = moof_front(&head, planned, &sizes);
         self.carrier.carry(front.as_bytes(), sink)?;
         carry_run(rows, planned, &mut self.carrier, sink)?;
         carry_groups(rows, planned, &keys, &mut self.carrier, sink)?;
         let mdat = header(FourCc(*b"mdat"), planned.bytes);
         self.carrier.carry(mdat.bytes(), sink)?;
-        self.carry_data(track, planned, movie, store, sink, steps)
+        self.carry_data(noted, movie, store, sink, steps)
     }
 
     /// Puts the normal form of what is left of the movie. It takes no memory; after an answer that
@@ -371,16 +388,16 @@ impl Writer {
         looks: &mut Steps<M>,
     ) -> Result<(), Refusal>
         requires { IsWriterOf movie.now self.old }
-        ensures held { held self.new ≡ held self.old }
+        ensures held { held_bytes self.new ≡ held_bytes self.old }
         ensures devices { OnlyCopies S.Store store.old store.new K.Sink sink.old sink.new result }
         ensures bytes { OverOpened S.Store store.old movie.now (λ file tree.
             IsReady file tree movie.now self.old
             → OnOk result (K.takes sink.old sink.new
-            (normal (reduce self.old.leaving (presentation_of file tree))))) }
+            (normal (reduce self.old.reductions.leaving (presentation_of file tree))))) }
         ensures prefix { OverOpened S.Store store.old movie.now (λ file tree.
             IsReady file tree movie.now self.old
             → OnErr result (TakesPrefix (K.takes sink.old sink.new)
-            (normal (reduce self.old.leaving (presentation_of file tree))))) }
+            (normal (reduce self.old.reductions.leaving (presentation_of file tree))))) }
         ensures unchanged { OverOpened S.Store store.old movie.now (λ file tree.
             IsReady file tree movie.now self.old → IsUnchanged result) }
         ensures whole { OnOk result (IsPutWhole movie.now (K.takes sink.old sink.new)
@@ -394,31 +411,32 @@ impl Writer {
         ensures turns { looks.new ≤ looks.old + movie_turns movie.now }
     {
         let tracks = movie.tracks();
-        let leaving = self.leaving;
         self.carrier.carry(self.head.as_slice(), sink)?;
         let walks = self.walks.as_mut_slice();
         let nexts = self.nexts.as_mut_slice();
-        let reductions = self.reductions.as_slice();
-        peek_each(walks, nexts, reductions, movie, store, steps)?;
-        let mut schedule = Schedule::new(leaving, tracks, first_time(self.nexts.as_slice()));
-        schedule.begin(leaving, tracks, self.nexts.as_slice(), &mut self.due);
+        peek_each(walks, nexts, &self.reductions, movie, store, steps)?;
+        let from = first_time(self.nexts.as_slice());
+        let mut schedule = Schedule::new(self.reductions.leaving, tracks, from);
+        schedule.begin(tracks, self.nexts.as_slice(), &mut self.due);
         let mut sequence: u32 = 1;
         let mut bytes: u128 = 0;
-        while let Some(turn) = schedule.turn(leaving, tracks, looks) {
+        while let Some(turn) = schedule.turn(tracks, looks) {
             let track = turn.track;
-            let noted = self.note_turn(&turn, sequence, tracks[track].id, movie, store, steps)?;
+            let numbers = PieceNumbers {
+                sequence,
+                id: tracks[track].id,
+            };
+            let noted = self.note_turn(&turn, numbers, movie, store, steps)?;
             sequence = sequence_behind(sequence, &noted.head);
-            let planned = &noted.planned;
-            self.carry_turn(track, noted.head, planned, movie, store, sink, steps)?;
+            self.carry_turn(&noted, movie, store, sink, steps)?;
             schedule.pass(
-                leaving,
                 &turn,
-                planned.count,
+                noted.planned.count,
                 self.nexts[track],
                 tracks,
                 &mut self.due,
             )?;
-            bytes += u128::from(planned.bytes);
+            bytes += u128::from(noted.planned.bytes);
         }
         if !are_all(schedule.left, bytes, tracks) {
             return Err(Refusal::StoreChanged);

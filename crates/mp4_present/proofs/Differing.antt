@@ -29,12 +29,17 @@ at_drop [] k x lt e = absurd (omega (arith, lt))
 at_drop (y ∷ ys) zero x lt e = λ i. sym e i ∷ ys
 at_drop (y ∷ ys) (suc k) x lt e = at_drop ys k x (omega (arith, lt)) e
 
+-- the same, with the next place as a sum
+pub drop_at : {A : Type 0} (xs : List A) (k : ℕ) (x : A) → k < length xs → x ≡ slice_index_or xs k x → drop k xs ≡ x ∷ drop (k + 1) xs
+drop_at xs k x lt e = at_drop xs k x lt e ∙ ap (λ n. x ∷ drop n xs) (sym (plus_one k))
+
 -- whatever stands for what isn't there
 itself : {A : Type 0} (xs : List A) (k : ℕ) (d : A) → k < length xs → slice_index_or xs k d ≡ slice_index_or xs k (slice_index_or xs k d)
 itself [] k d lt = absurd (omega (arith, lt))
 itself (x ∷ xs) zero d lt = refl
 itself (x ∷ xs) (suc k) d lt = itself xs k d (omega (arith, lt))
 
+-- nothing is behind the end of a list
 pub none_behind : {A : Type 0} (xs : List A) (k : ℕ) → length xs ≤ k → drop k xs ≡ []
 none_behind [] zero le = refl
 none_behind [] (suc k) le = refl

@@ -7,7 +7,7 @@ use Rattle.std.proofs.lemmas.List.{length-take-le}
 use Rattle.mp4_boxes.proofs.WrittenBoxes.{length-box_bytes}
 use Rattle.mp4_head.specs.format.Head.{Kept}
 use Rattle.mp4_head.specs.format.Writing.{kept_bytes}
-use Rattle.mp4_present.specs.format.BitRates.{begins_box, first_box, first_boxes, behind_boxes, boxes_of, end_of, left_of_boxes, tiles_left, are_zeros}
+use Rattle.mp4_present.specs.format.BitRates.{begins_box, first_box, leading_boxes, behind_boxes, boxes_of, end_of, left_of_boxes, tiles_left, are_zeros}
 
 pub three : (a b c : Bool) → (a && b && c) ≡ true → (a ≡ true) × (b ≡ true) × (c ≡ true)
 three true true true e = (refl, refl, refl)
@@ -51,13 +51,13 @@ chosen_same false x y z f = refl
 
 -- ---- however many are asked for beyond all
 
-boxes_enough : (n m : ℕ) (bytes : List ℕ) → length bytes ≤ n → length bytes ≤ m → first_boxes n bytes ≡ first_boxes m bytes
+boxes_enough : (n m : ℕ) (bytes : List ℕ) → length bytes ≤ n → length bytes ≤ m → leading_boxes n bytes ≡ leading_boxes m bytes
 boxes_enough zero zero bytes h k = refl
 boxes_enough zero (suc m) bytes h k = rw (too_short bytes (omega (arith, h))) refl
 boxes_enough (suc n) zero bytes h k = rw (too_short bytes (omega (arith, k))) refl
 boxes_enough (suc n) (suc m) bytes h k =
     let rest = drop (field bytes 0 4) bytes in
-    chosen_same (begins_box bytes) (first_box bytes ∷ first_boxes n rest) (first_box bytes ∷ first_boxes m rest) []
+    chosen_same (begins_box bytes) (first_box bytes ∷ leading_boxes n rest) (first_box bytes ∷ leading_boxes m rest) []
     (λ e. let less = rest_shorter bytes e in ap (λ (ks : List Kept). first_box bytes ∷ ks) (boxes_enough n m rest (omega (arith, less, h)) (omega (arith, less, k))))
 
 end_enough : (n m : ℕ) (bytes : List ℕ) → length bytes ≤ n → length bytes ≤ m → behind_boxes n bytes ≡ behind_boxes m bytes
@@ -91,7 +91,7 @@ end_begin (b ∷ bytes) e =
     let less = rest_shorter (b ∷ bytes) e in
     rw e (end_enough (length bytes) (length rest) rest (omega (arith, less)) (omega arith))
 
-pub boxes_stop : (n : ℕ) (bytes : List ℕ) → begins_box bytes ≡ false → first_boxes n bytes ≡ []
+pub boxes_stop : (n : ℕ) (bytes : List ℕ) → begins_box bytes ≡ false → leading_boxes n bytes ≡ []
 boxes_stop zero bytes e = refl
 boxes_stop (suc n) bytes e = rw e refl
 
@@ -186,14 +186,14 @@ one_short : (v : Bool) (change : Kept → Kept) → MakesNoLonger change → (k 
 one_short true change short k ks = let less = short k in omega (arith, less, length-append (kept_bytes (change k)) (flat_map kept_bytes (map change ks)))
 one_short false change short k ks = omega arith
 
-boxes_short : (change : Kept → Kept) → MakesNoLonger change → (n : ℕ) (bytes : List ℕ) → length (flat_map kept_bytes (left_of_boxes change (first_boxes n bytes))) + length (behind_boxes n bytes) ≤ length bytes
+boxes_short : (change : Kept → Kept) → MakesNoLonger change → (n : ℕ) (bytes : List ℕ) → length (flat_map kept_bytes (left_of_boxes change (leading_boxes n bytes))) + length (behind_boxes n bytes) ≤ length bytes
 boxes_short change short zero bytes = omega arith
 boxes_short change short (suc n) bytes = by (begins_box bytes) refl (boxes_short change short n (drop (field bytes 0 4) bytes))
   where
-    by : (v : Bool) → begins_box bytes ≡ v → length (flat_map kept_bytes (left_of_boxes change (first_boxes n (drop (field bytes 0 4) bytes)))) + length (behind_boxes n (drop (field bytes 0 4) bytes)) ≤ length (drop (field bytes 0 4) bytes)
-        → length (flat_map kept_bytes (left_of_boxes change (first_boxes (suc n) bytes))) + length (behind_boxes (suc n) bytes) ≤ length bytes
+    by : (v : Bool) → begins_box bytes ≡ v → length (flat_map kept_bytes (left_of_boxes change (leading_boxes n (drop (field bytes 0 4) bytes)))) + length (behind_boxes n (drop (field bytes 0 4) bytes)) ≤ length (drop (field bytes 0 4) bytes)
+        → length (flat_map kept_bytes (left_of_boxes change (leading_boxes (suc n) bytes))) + length (behind_boxes (suc n) bytes) ≤ length bytes
     by true e h = rw e (
-        let one = one_short (is_left (first_box bytes)) change short (first_box bytes) (filter is_left (first_boxes n (drop (field bytes 0 4) bytes))) in
+        let one = one_short (is_left (first_box bytes)) change short (first_box bytes) (filter is_left (leading_boxes n (drop (field bytes 0 4) bytes))) in
         let long = first_long bytes e in
         let within = (begun bytes e).1 in
         omega (arith, h, one, long, within, length-drop (field bytes 0 4) bytes))

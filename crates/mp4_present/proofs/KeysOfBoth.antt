@@ -1,5 +1,5 @@
 -- Keys that are put in their order.
-use Rattle.std.proofs.Common.{◌≡◌, ℕ, zero, suc, ◌+◌, ◌*◌, ◌^◌, ◌<◌, ◌≤◌, Bool, true, false, ltb, Option, Some, None, List, [], ◌∷◌, ◌++◌, length, take, drop, slice_index_or, refl, sym, ap, subst, ◌∙◌, arith, inl, inr, append_assoc}
+use Rattle.std.proofs.Common.{◌≡◌, ℕ, zero, suc, ◌+◌, ◌*◌, ◌^◌, ◌<◌, ◌≤◌, Bool, true, false, ltb, Option, Some, None, List, [], ◌∷◌, ◌++◌, length, take, drop, refl, sym, ap, subst, ◌∙◌, arith, inl, inr, append_assoc}
 use Rattle.std.specs.Prelude.{map, fold, flat_map, slice_index, IfSome}
 use Rattle.std.specs.List.{AllByRecursion, list_any}
 use Rattle.std.proofs.lemmas.List.{map-append, take-append-drop}
@@ -11,7 +11,7 @@ use Rattle.mp4_tables.proofs.Placed.{IsKey}
 use Rattle.mp4_tables.specs.words.Keys.{key_seen}
 use Rattle.mp4_tables.specs.declared.keys.GroupKey.{GroupKey as KeyNamed}
 use Rattle.mp4_present.specs.format.Comparison.{with_key}
-use Rattle.mp4_present.proofs.Differing.{at_drop, none_behind}
+use Rattle.mp4_present.proofs.Differing.{none_behind}
 
 -- ---- a key that is put among others
 
@@ -30,10 +30,6 @@ as_first key first keys e = rw (not_below (key_rank key) (key_rank first) (omega
 
 above_first : (key first : GroupKey) (keys : List GroupKey) → key_rank first < key_rank key → with_key (first ∷ keys) key ≡ first ∷ with_key keys key
 above_first key first keys lt = rw (not_below (key_rank key) (key_rank first) (omega (arith, lt)), ne_eqb (key_rank key) (key_rank first) (λ e. omega (arith, lt, e))) refl
-
--- the key at a place, and those behind it
-pub at_place : (xs : List KeyNamed) (k : ℕ) (x : KeyNamed) → k < length xs → x ≡ slice_index_or xs k x → drop k xs ≡ x ∷ drop (k + 1) xs
-at_place xs k x lt e = let one : suc k ≡ k + 1 = omega arith in at_drop xs k x lt e ∙ ap (λ n. x ∷ drop n xs) one
 
 -- those in front of a place, and behind them the key among the others
 abbrev PutsAt : List KeyNamed → ℕ → KeyNamed → List GroupKey → Type 0

@@ -48,7 +48,7 @@ module _ (r : Run) (honest_then : Bool) (file_then : List ℕ) (m : MovieSeen) (
 -- ---- over a sink that tells its bytes
 
 -- a front of the normal form was put
-front_told : (file before after : List ℕ) (reads reads_after puts puts_after : ℕ) → PutsFront (run_told file before after reads reads_after puts puts_after) (HasNormalForm file) → headline.PutsFront file before after
+front_told : (file before after : List ℕ) (reads reads_after puts puts_after : ℕ) → PutsFront (run_told file before after reads reads_after puts puts_after) (HasNormalForm file) → headline.PutsFrontOfNormal file before after
 front_told file before after reads reads_after puts puts_after p = (take p.2.0 p.0, drop p.2.0 p.0, (p.1.0, p.1.1, take-append-drop p.2.0 p.0 ∙ p.1.2), p.2.2)
 
 pub says_bytes : NormalisedSaysBytes

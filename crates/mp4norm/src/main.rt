@@ -21,7 +21,7 @@ pub use commands::box_names::Name;
 pub use commands::box_path::{Way, way_to};
 pub use commands::boxes::boxes;
 pub use commands::check::{check, check_counted};
-pub use commands::compare::{Failure, Lines, Listing, Side, compare_files};
+pub use commands::compare::{Asked, Failure, Lines, Listing, Side, compare_files};
 pub use commands::extract::{extract, extract_counted};
 pub use commands::normalise::{normalise, normalise_counted};
 pub use commands::normalise_reduced::normalise_reduced;
@@ -39,7 +39,7 @@ pub use shell::action::{
 };
 use shell::check_files::{Manner, check_all};
 pub use shell::command_line::action;
-use shell::costs::Costs;
+pub use shell::costs::Costs;
 use shell::descriptors::take_closed;
 use shell::file_names::{shown_word, word_of};
 use shell::run_command::run;

@@ -10,6 +10,6 @@ rooms walks = sum_by (λ (walk : Walk). length walk.bytes.items) walks
 
 -- all that a writer holds whose length the file decides: its head, the buffer in which bytes wait,
 -- 24 bytes for each row, and a `moof` in each walk
-abbrev pub held : Writer → ℕ
-held w = length w.head.items + length w.carrier.buffer.items + 24 * length w.rows.items
+abbrev pub held_bytes : Writer → ℕ
+held_bytes w = length w.head.items + length w.carrier.buffer.items + 24 * length w.notes.rows.items
     + rooms w.walks.items

@@ -36,7 +36,7 @@ IsLeftFault l file tree t f = ((LeftInTime l file tree t → ⊥)
 
 -- What is left of a track is too long, or has offsets that don't fit: the first such track of the
 -- file.
-pub record ReducedTimePasses (l : Without) (file : List ℕ) (tree : FileTree) (f : Fault)
+pub record ReducedLimitPasses (l : Without) (file : List ℕ) (tree : FileTree) (f : Fault)
     : Type 0 where
   pub before : List TrackTree
   pub t : TrackTree
@@ -51,4 +51,4 @@ pub record ReducedTimePasses (l : Without) (file : List ℕ) (tree : FileTree) (
 pub record ReducedFaultStands (l : Without) (file : List ℕ) (f : Fault) : Type 0 where
   pub p : Presentation
   pub denotes : Denotes file p
-  pub passes : ReducedTimePasses l file denotes.tree f
+  pub passes : ReducedLimitPasses l file denotes.tree f

@@ -24,7 +24,7 @@ use Rattle.mp4_plan.specs.words.HandsFed.{BytesCarried, sizes_of}
 use Rattle.mp4_plan.specs.words.Stretches.{Tells}
 use Rattle.mp4_plan.specs.words.WriterSteps.{CarriesInHand, CarriesOn, MayFinish}
 use Rattle.mp4_plan.specs.declared.carrying.Load.{Load}
-use Rattle.mp4_plan.specs.declared.joined.Stretches.{Stretches}
+use Rattle.mp4_plan.specs.declared.stretches.Stretches.{Stretches}
 
 -- the first of all these samples are taken along: at Ok those that are not to come any more, as
 -- many as the load became less by, and at Err a front of what waited and of its bytes was put

@@ -21,7 +21,7 @@ use Rattle.mp4_plan.specs.words.Ends.{goes_in}
 use Rattle.mp4_plan.specs.words.Gathering.{Planning, description_in, count_of, more_of, piece_fed, samples_after}
 use Rattle.mp4_plan.specs.words.Stretches.{JoinsOn}
 use Rattle.mp4_plan.specs.words.Taken.{row_seen}
-use Rattle.mp4_plan.specs.declared.joined.Stretches.{Stretches}
+use Rattle.mp4_plan.specs.declared.stretches.Stretches.{Stretches}
 use Rattle.mp4_plan.specs.declared.track_pieces.Stop.{Stop}
 use Rattle.mp4_plan.specs.declared.track_pieces.Stop.TheVariants.{Empty, Ended, Full}
 use Rattle.mp4_plan.specs.declared.carrying.Load.{Load}

@@ -15,7 +15,7 @@ use Rattle.mp4_present.specs.format.Reduced.{start_left}
 use Rattle.mp4_present.specs.words.Carried.{RefusesCopy}
 use Rattle.mp4_present.specs.declared.without.Without.{Without}
 use Rattle.mp4_present.specs.declared.track_info.TrackInfo.{TrackInfo}
-use Rattle.mp4_plan.specs.format.ReducedTimes.{ReducedTimePasses, ReducesInLimits}
+use Rattle.mp4_plan.specs.format.ReducedTimes.{ReducedLimitPasses, ReducesInLimits}
 use Rattle.mp4_plan.specs.words.Writers.{RefusesPlan}
 use Rattle.mp4_plan.specs.declared.measures.Total.{Total}
 
@@ -116,6 +116,6 @@ RefusesLeftCopy l Took reads reads_after puts puts_after r =
 
 -- a fault is that of the first track that is too long, or whose offsets don't fit
 abbrev pub NamesLong : Without → List ℕ → FileTree → Refusal → Type 0
-NamesLong l file tree (refusals.Fault f) = ReducedTimePasses l file tree f
+NamesLong l file tree (refusals.Fault f) = ReducedLimitPasses l file tree f
     × (ReducesInLimits l (presentation_of file tree) → ⊥)
 NamesLong l file tree _ = Unit {0}

@@ -44,10 +44,10 @@ pub record AreWalksStill {T E : Type 0} (m : MovieSeen) (before after : List Wal
 -- A writer that was made for what is left of this movie: what it holds, and nothing waits yet.
 pub record IsMade (m : MovieSeen) (l : Without) (w : Writer) : Type 0 where
   pub writer : IsWriterOf m w
-  pub held : memory.held w
-      ≡ length w.head.items + own_rooms m (length m.tracks) + 24 * length w.rows.items + PIECE
-  pub bound : memory.held w ≤ length (waiting w.carrier ++ w.head.items)
-      + length m.tracks * m.longest + 24 * length w.rows.items + MOST_WAITING
-  pub left : w.leaving ≡ l
+  pub held : memory.held_bytes w
+      ≡ length w.head.items + own_rooms m (length m.tracks) + 24 * length w.notes.rows.items + PIECE
+  pub bound : memory.held_bytes w ≤ length (waiting w.carrier ++ w.head.items)
+      + length m.tracks * m.longest + 24 * length w.notes.rows.items + MOST_WAITING
+  pub left : w.reductions.leaving ≡ l
   pub named : IsHeadLeft m l w.head.items
   pub empty : waiting w.carrier ≡ []

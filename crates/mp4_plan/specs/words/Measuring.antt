@@ -16,6 +16,7 @@ use Rattle.mp4_plan.specs.words.Writers.{reductions_of}
 use Rattle.mp4_plan.specs.declared.measures.Measures.{Measures}
 use Rattle.mp4_plan.specs.declared.measures.Total.{Total}
 use Rattle.mp4_plan.specs.declared.reduced.Reduction.{Reduction}
+use Rattle.mp4_plan.specs.declared.reduced.Reductions.{Reductions}
 
 -- an offset fits its field
 abbrev pub is_near : ℤ → Bool
@@ -52,7 +53,7 @@ AreTotals l tree _ _ _ = ⊥
 
 -- all tracks are measured
 pub record AreMeasured (l : Without) (tree : FileTree) (m : MovieSeen) (x : Measures) : Type 0 where
-  pub reductions : x.reductions.items ≡ reductions_of l tree
+  pub reductions : x.reductions.of_tracks.items ≡ reductions_of l tree
   pub totals : AreTotals l tree tree.movie.tracks m.tracks x.totals.items
 
 -- in at most so many steps
@@ -61,8 +62,8 @@ measuring_steps l tree = if asks_first l then walks_steps tree else 0
 
 -- over an honest store that has the file from which the movie was opened, where the samples of its
 -- tracks are left by these, and the offsets that are left fit: it is so of it
-abbrev pub OverReduced : {X : Type 0} → Store X → X → MovieSeen → Without → List Reduction
+abbrev pub OverReduced : {X : Type 0} → Store X → X → MovieSeen → Reductions
     → (List ℕ → FileTree → Type 0) → Type 0
-OverReduced S store m l reductions P = OverOpened S store m (λ file tree.
-    reductions ≡ reductions_of l tree → ReducesInRange l (presentation_of file tree)
-    → P file tree)
+OverReduced S store m r P = OverOpened S store m (λ file tree.
+    r.of_tracks.items ≡ reductions_of r.leaving tree
+    → ReducesInRange r.leaving (presentation_of file tree) → P file tree)

@@ -5,8 +5,8 @@ use Rattle.mp4_boxes.specs.format.Bytes.{sum_of}
 use Rattle.mp4_store.specs.words.Device.{range}
 use Rattle.mp4_tables.specs.declared.sample.SampleAt.{SampleAt}
 use Rattle.mp4_present.specs.words.Joined.{IsBelow, sample_bytes}
-use Rattle.mp4_plan.specs.declared.joined.Span.{Span}
-use Rattle.mp4_plan.specs.declared.joined.Stretches.{Stretches}
+use Rattle.mp4_plan.specs.declared.stretches.Span.{Span}
+use Rattle.mp4_plan.specs.declared.stretches.Stretches.{Stretches}
 
 abbrev pub span_len : Span → ℕ
 span_len s = s.end - s.at

@@ -81,8 +81,9 @@ abbrev pub OnTurn : {X : Type 0} → Store X → X → MovieSeen → Turn → Wr
     → (List ℕ → FileTree → TrackTree → List SampleAt → Type 0) → Type 0
 OnTurn S store m turn w P = OverOpened S store m (λ file tree. (t : TrackTree) (walk : Walk)
     (left : List SampleAt) → slice_get w.walks.items turn.track ≡ Some walk
-    → slice_get w.reductions.items turn.track ≡ Some (track_reduction w.leaving tree t)
-    → ComesLess (track_reduction w.leaving tree t) file tree t m walk left
+    → slice_get w.reductions.of_tracks.items turn.track
+    ≡ Some (track_reduction w.reductions.leaving tree t)
+    → ComesLess (track_reduction w.reductions.leaving tree t) file tree t m walk left
     → walk.mark ≡ mark_of walk (length left)
     → slice_get w.nexts.items turn.track ≡ Some (slice_get left 0) → P file tree t left)
 
@@ -90,10 +91,10 @@ OnTurn S store m turn w P = OverOpened S store m (λ file tree. (t : TrackTree) 
 pub record OnlyNotes {T E : Type 0} (m : MovieSeen) (w w_after : Writer) (result : Result T E)
     : Type 0 where
   pub writer : OnOk result (IsWriterOf m w_after)
-  pub held : memory.held w_after ≡ memory.held w
+  pub held : memory.held_bytes w_after ≡ memory.held_bytes w
   pub reductions : w_after.reductions ≡ w.reductions
-  pub keeps : (w_after.leaving ≡ w.leaving) × (w_after.carrier ≡ w.carrier)
-      × (length w_after.rows.items ≡ length w.rows.items) × (w_after.nexts ≡ w.nexts)
+  pub keeps : (w_after.carrier ≡ w.carrier)
+      × (length w_after.notes.rows.items ≡ length w.notes.rows.items) × (w_after.nexts ≡ w.nexts)
       × (w_after.due ≡ w.due)
 
 -- what was planned has bounds, with at most so many samples, and none where it has no head
@@ -108,7 +109,7 @@ abbrev pub StepsToNote : {X E : Type 0} → Store X → X → MovieSeen → ℕ 
     → Result Noted E → ℕ → ℕ → Type 0
 StepsToNote S store m track w w_after result old new = OverOpened S store m (λ file tree. (n : ℕ)
     → MayAllWrite file tree m w.walks.items n → MatchResult result
-    (λ noted. AllFinishOn w.reductions.items file tree m track noted.planned.count n
+    (λ noted. AllFinishOn w.reductions.of_tracks.items file tree m track noted.planned.count n
     w_after.walks.items old new) (λ _. new ≤ old + n))
 
 -- ---- a piece that was noted
@@ -117,16 +118,15 @@ StepsToNote S store m track w w_after result old new = OverOpened S store m (λ 
 pub record MayCarry (m : MovieSeen) (w : Writer) (k : ℕ) (p : Planned) : Type 0 where
   pub writer : IsWriterOf m w
   pub track : k < length m.tracks
-  pub bounds : HasBounds (length w.rows.items) p
+  pub bounds : HasBounds (length w.notes.rows.items) p
   pub room : p.bytes + 16 < 2 ^ 64
 
 -- over an honest store that has the file from which the movie was opened: it is so of the samples
--- of a track that were noted, of which so many are to be copied
-abbrev pub WhereNoted : {X : Type 0} → Store X → X → MovieSeen → ℕ → ℕ → Writer
+-- of a turn that were noted, of which as many are to be copied as were planned
+abbrev pub WhereNoted : {X : Type 0} → Store X → X → MovieSeen → Noted → Writer
     → (List ℕ → FileTree → TrackTree → List SampleAt → Type 0) → Type 0
-WhereNoted S store m track count w P = OverOpened S store m (λ file tree.
-    (samples : List SampleAt) → (noted : IsNoted file tree m track count samples w)
-    → P file tree noted.t samples)
+WhereNoted S store m n w P = OverOpened S store m (λ file tree. (samples : List SampleAt)
+    → (noted : IsNoted file tree m n.track n.planned.count samples w) → P file tree noted.t samples)
 
 -- it is so of the keys of a track's groups, where no two are the same
 abbrev pub WithKeys : MovieSeen → ℕ → (List GroupKey → Type 0) → Type 0
@@ -138,16 +138,16 @@ WithKeys m track P = (info : TrackInfo) → slice_get m.tracks track ≡ Some in
 pub record OnlyCarries {T E : Type 0} (m : MovieSeen) (w w_after : Writer) (result : Result T E)
     : Type 0 where
   pub writer : OnOk result (IsWriterOf m w_after)
-  pub held : memory.held w_after ≡ memory.held w
+  pub held : memory.held_bytes w_after ≡ memory.held_bytes w
   pub reductions : OnOk result (w_after.reductions ≡ w.reductions)
-  pub keeps : OnOk result ((w_after.leaving ≡ w.leaving) × (w_after.rows ≡ w.rows)
-      × (w_after.due ≡ w.due))
+  pub keeps : OnOk result ((w_after.notes.rows ≡ w.notes.rows) × (w_after.due ≡ w.due))
 
 -- of the steps that its walks may take to copy a piece and to go on, it takes some: at Ok the
 -- others are left to them to write, and at Err it took no more than all
-abbrev pub StepsToCarry : {X T E : Type 0} → Store X → X → MovieSeen → ℕ → ℕ → Writer → Writer
+abbrev pub StepsToCarry : {X T E : Type 0} → Store X → X → MovieSeen → Noted → Writer → Writer
     → Result T E → ℕ → ℕ → Type 0
-StepsToCarry S store m track count w w_after result old new = OverOpened S store m (λ file tree.
-    (n : ℕ) → MayAllFinish w.reductions.items file tree m track count w.walks.items n
+StepsToCarry S store m noted w w_after result old new = OverOpened S store m (λ file tree. (n : ℕ)
+    → MayAllFinish w.reductions.of_tracks.items file tree m noted.track noted.planned.count
+    w.walks.items n
     → MatchResult result
     (λ _. AllWriteOn file tree m n w_after.walks.items old new) (λ _. new ≤ old + n))

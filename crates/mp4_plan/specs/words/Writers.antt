@@ -45,9 +45,9 @@ pub record AreWalksOf (m : MovieSeen) (walks : List Walk) : Type 0 where
 -- a writer of this movie
 pub record IsWriterOf (m : MovieSeen) (w : Writer) : Type 0 where
   pub walks : AreWalksOf m w.walks.items
-  pub few : length w.rows.items ≤ 2 ^ 24
+  pub few : length w.notes.rows.items ≤ 2 ^ 24
   pub nexts : length w.nexts.items ≡ length m.tracks
-  pub reductions : length w.reductions.items ≡ length m.tracks
+  pub reductions : length w.reductions.of_tracks.items ≡ length m.tracks
   pub due : IsDueTree w.due
   pub many : w.due.leaves ≡ length m.tracks
 
@@ -121,13 +121,14 @@ pub record IsHeadOf (p : Presentation) (head : MovieHead) (mehd : ℕ) : Type 0 
 -- samples.
 pub record IsReady (file : List ℕ) (tree : FileTree) (m : MovieSeen) (w : Writer) : Type 0 where
   pub head : waiting w.carrier ++ w.head.items
-      ≡ head_of_normal (reduce w.leaving (presentation_of file tree))
-  pub rows : length w.rows.items
-      ≡ longest_piece (pieces (reduce w.leaving (presentation_of file tree)))
-  pub range : ReducesInRange w.leaving (presentation_of file tree)
-  pub reductions : w.reductions.items ≡ reductions_of w.leaving tree
-  pub walks : AllBegin w.leaving file tree m w.walks.items
-  pub marked : AreMarked w.walks.items (map (left_samples w.leaving tree) tree.movie.tracks)
+      ≡ head_of_normal (reduce w.reductions.leaving (presentation_of file tree))
+  pub rows : length w.notes.rows.items
+      ≡ longest_piece (pieces (reduce w.reductions.leaving (presentation_of file tree)))
+  pub range : ReducesInRange w.reductions.leaving (presentation_of file tree)
+  pub reductions : w.reductions.of_tracks.items ≡ reductions_of w.reductions.leaving tree
+  pub walks : AllBegin w.reductions.leaving file tree m w.walks.items
+  pub marked : AreMarked w.walks.items
+      (map (left_samples w.reductions.leaving tree) tree.movie.tracks)
 
 -- it is, and its walks have no more room together than the `traf`s of the file are long, and these
 -- lie in the file
@@ -143,13 +144,14 @@ pub record HasNoted (file : List ℕ) (tree : FileTree) (t : TrackTree) (m : Mov
     (sequence id : ℕ) (left : List SampleAt) (before after : Writer) (n : Noted) : Type 0 where
   pub planned : n.planned ≡ planned_of (piece_fed (piece_from turn.end) left).gathered
   pub head : n.head ≡ turn_head sequence id n.planned.count (slice_get left 0)
-  pub rows : take n.planned.count after.rows.items ≡ map row_seen (take n.planned.count left)
+  pub rows : take n.planned.count after.notes.rows.items ≡ map row_seen (take n.planned.count left)
   pub walk : Walk
   pub walks : after.walks.items ≡ slice_set before.walks.items turn.track walk
-  pub comes : ComesMarked (track_reduction before.leaving tree t) file tree t m walk n.planned.count
+  pub comes : ComesMarked (track_reduction before.reductions.leaving tree t)
+      file tree t m walk n.planned.count
       left
   pub none : n.planned.count ≡ 0 → walk.mark ≡ mark_of walk (length left)
-  pub stretches : Tells after.stretches (take n.planned.count left)
+  pub stretches : Tells after.notes.stretches (take n.planned.count left)
 
 -- what is written of a piece, by what was planned of its samples
 abbrev pub bytes_of_piece : List ℕ → PieceHead → Planned → List GroupKey → List SampleAt → List ℕ
@@ -168,12 +170,14 @@ pub record IsNoted (file : List ℕ) (tree : FileTree) (m : MovieSeen) (track co
   pub t : TrackTree
   pub walk : Walk
   pub is_walk : slice_get w.walks.items track ≡ Some walk
-  pub reduction : slice_get w.reductions.items track ≡ Some (track_reduction w.leaving tree t)
-  pub comes : ComesMarked (track_reduction w.leaving tree t) file tree t m walk count samples
+  pub reduction : slice_get w.reductions.of_tracks.items track
+      ≡ Some (track_reduction w.reductions.leaving tree t)
+  pub comes : ComesMarked (track_reduction w.reductions.leaving tree t)
+      file tree t m walk count samples
   pub none : count ≡ 0 → walk.mark ≡ mark_of walk (length samples)
   pub next : slice_get w.nexts.items track ≡ Some (slice_get samples 0)
-  pub rows : take count w.rows.items ≡ map row_seen (take count samples)
-  pub stretches : Tells w.stretches (take count samples)
+  pub rows : take count w.notes.rows.items ≡ map row_seen (take count samples)
+  pub stretches : Tells w.notes.stretches (take count samples)
 
 -- so many samples of a track were copied, and its walk has marked where it stands before the next
 abbrev pub HaveCopied : List ℕ → FileTree → MovieSeen → TrackTree → ℕ → ℕ → List SampleAt → Writer
@@ -181,7 +185,8 @@ abbrev pub HaveCopied : List ℕ → FileTree → MovieSeen → TrackTree → �
 HaveCopied file tree m t track count samples before after =
     (next : Walk) × (after.walks.items ≡ slice_set before.walks.items track next)
     × (after.nexts.items ≡ slice_set before.nexts.items track (slice_get (drop count samples) 0))
-    × ComesLess (track_reduction before.leaving tree t) file tree t m next (drop count samples)
+    × ComesLess (track_reduction before.reductions.leaving tree t) file tree t m next
+    (drop count samples)
     × (next.mark ≡ mark_of next (length (drop count samples)))
 
 -- the next sample of each track

@@ -83,10 +83,10 @@ first_box bytes = record {
 }
 
 -- such boxes from the front of the bytes on, so many at most, and what is behind them
-abbrev pub first_boxes : ℕ → List ℕ → List Kept
-first_boxes zero bytes = []
-first_boxes (suc most) bytes = if begins_box bytes
-    then first_box bytes ∷ first_boxes most (drop (field bytes 0 4) bytes) else []
+abbrev pub leading_boxes : ℕ → List ℕ → List Kept
+leading_boxes zero bytes = []
+leading_boxes (suc most) bytes = if begins_box bytes
+    then first_box bytes ∷ leading_boxes most (drop (field bytes 0 4) bytes) else []
 
 abbrev pub behind_boxes : ℕ → List ℕ → List ℕ
 behind_boxes zero bytes = bytes
@@ -95,7 +95,7 @@ behind_boxes (suc most) bytes =
 
 -- all of them: there are no more than bytes
 abbrev pub boxes_of : List ℕ → List Kept
-boxes_of bytes = first_boxes (length bytes) bytes
+boxes_of bytes = leading_boxes (length bytes) bytes
 
 abbrev pub end_of : List ℕ → List ℕ
 end_of bytes = behind_boxes (length bytes) bytes

@@ -37,8 +37,8 @@ pub record SaysTime (moof : Box) (place : ℕ) (traf : Box) (track found : ℕ) 
   pub track_is : track ≡ field head.payload 4 4
 
 -- the end of a track behind the samples of its tables and of these parts, as far as 64 bits go
-abbrev pub end_of : TrackTree → List Part → ℕ
-end_of t parts =
+abbrev pub track_end : TrackTree → List Part → ℕ
+track_end t parts =
     min (first_due parts t + duration_of (fragment_samples (track_head_of t).id parts)) (2 ^ 64 - 1)
 
 -- All of the `moov`, of the `moof`s before, and of each `traf` of this `moof` up to the one with
@@ -68,7 +68,7 @@ pub record IsGap (file : List ℕ) (place track due found : ℕ) : Type 0 where
   pub t : TrackTree
   pub has_track : Contains movie.tracks t
   pub is_track : (track_head_of t).id ≡ track
-  pub due_is : due ≡ end_of t
+  pub due_is : due ≡ track_end t
       (all_parts (trexes_of movie) (map fragment_of (earlier ++ front ∷ [])))
 
 -- a sample of this size at this place does not end in the file, which has this length

@@ -44,8 +44,9 @@ abbrev pub duration_left : Without → ℕ → ℕ → ℕ → ℕ
 duration_left l count n duration =
     if l.timing then 1 else if l.ends && is_at_end count n then 1 else duration
 
--- A composition offset, where the first of the track is this one (8.6.1.3, 8.8.8): 0 where timing
--- doesn't count; less the first where it doesn't count where the track begins.
+-- A composition offset of a sample, in a track whose first sample has the offset `first` (8.6.1.3,
+-- 8.8.8). Where timing doesn't count it is 0. Where timing counts, but not where the track begins,
+-- `first` is taken from it.
 abbrev pub offset_left : Without → ℤ → ℤ → ℤ
 offset_left l first offset =
     if l.timing then pos 0 else if l.origins then offset -ℤ first else offset

@@ -12,20 +12,22 @@ pub mod differences;
 pub mod entries;
 pub mod fields;
 pub mod heads;
+pub mod movies;
 pub mod pairing;
 pub mod same_pairs;
 pub mod samples;
+pub mod tracks;
 
 use crate::comparing::differences::{Difference, Differences, Field, Subject};
 use crate::comparing::fields::compare_numbers;
 use crate::comparing::heads::{movie_differences, track_differences};
+use crate::comparing::movies::Movies;
 use crate::comparing::same_pairs::{Pause, pass_same};
-use crate::comparing::samples::{begin_pairs, compare_pair, refill_both};
-use crate::movie::Movie;
+use crate::comparing::samples::{Next, begin_pairs, compare_pair, refill_both};
+use crate::comparing::tracks::Tracks;
 use crate::track_info::TrackInfo;
 use crate::without::Without;
 use mp4_boxes::{Memory, Refusal, Steps};
-use mp4_head::TrackHead;
 use mp4_store::Store;
 use std::alloc::Global;
 use std::sync::ledger::Ledger;
@@ -46,66 +48,50 @@ fn hand_over<D: Differences>(found: &[Difference], seen: &mut D) -> bool
     true
 }
 
-// Compares the samples of two tracks that stand at one place: what differs is handed over until no
-// more is taken.
+// Compares the samples of two tracks: what differs is handed over until no more is taken.
 fn compare_track_samples<S: Store, T: Store, D: Differences, L: Ledger>(
     alloc: Global,
-    track: usize,
-    left: &Movie,
-    a: &mut S,
-    right: &Movie,
-    b: &mut T,
-    leaving: Without,
+    tracks: Tracks,
+    left: &mut S,
+    right: &mut T,
     seen: &mut D,
     steps: &mut Steps<L>,
 ) -> Result<bool, Refusal>
-    requires tracks { HaveTracks track left.now right.now }
+    requires tracks { HaveTracks tracks.place tracks.movies.now.left tracks.movies.now.right }
     requires goes { D.is_open seen.old ≡ true }
-    ensures stores { OnlyReadsBoth S.Store a.old a.new T.Store b.old b.new result }
-    ensures handed { HandsOver D.Differences seen.old seen.new result
-        (OfSamples S.Store a.old left.now T.Store b.old right.now track leaving) }
-    ensures unchanged { WhereTracks S.Store a.old left.now T.Store b.old right.now track
+    ensures stores { OnlyReadsBoth S.Store left.old left.new T.Store right.old right.new result }
+    ensures handed { HandsOver D.Differences seen.old seen.new result (OfSamples S.Store left.old
+        tracks.entry.movies.now.left T.Store right.old tracks.entry.movies.now.right
+        tracks.entry.place tracks.entry.leaving) }
+    ensures unchanged { WhereTracks S.Store left.old tracks.entry.movies.now.left T.Store
+        right.old tracks.entry.movies.now.right tracks.entry.place
         (λ tree t other u. IsUnchanged result) }
-    ensures work { TracksWork S.Store a.old left.now T.Store b.old right.now track
-        steps.old steps.new }
-    ensures refusal { RefusedBoth S.Store a.old a.new T.Store b.old b.new result RefusesSample }
+    ensures work { TracksWork S.Store left.old tracks.entry.movies.now.left T.Store right.old
+        tracks.entry.movies.now.right tracks.entry.place steps.old steps.new }
+    ensures refusal { RefusedBoth S.Store left.old left.new T.Store right.old right.new result
+        RefusesSample }
 {
-    let (by, mut left_side, mut right_side) = begin_pairs(
-        alloc, leaving, track, left, a, right, b, steps,
-    )?;
-    let samples = left.tracks()[track].samples;
-    let count = samples.min(right.tracks()[track].samples);
+    let (by, mut sides) = begin_pairs(alloc, tracks, left, right, steps)?;
+    let Tracks { movies, place, .. } = tracks;
+    let samples = movies.left.tracks()[place].samples;
+    let count = samples.min(movies.right.tracks()[place].samples);
     let mut pause = Pause::new();
     let mut number = 0;
     while number < count {
-        let passed = pass_same(
-            &by,
-            left,
-            &mut left_side,
-            right,
-            &mut right_side,
-            count - number,
-            &mut pause,
-            steps,
-        );
+        let most = count - number;
+        let passed = pass_same(&by, movies, &mut sides, most, &mut pause, steps);
         number += passed.count;
         if number < count {
             if passed.is_used_up {
-                let _same = refill_both(left, &mut left_side, a, right, &mut right_side, b, steps)?;
+                let _same = refill_both(movies, &mut sides, left, right, steps)?;
             } else {
                 number += 1;
-                let found = compare_pair(
-                    alloc,
-                    &by,
+                let next = Next {
+                    movies,
+                    by: &by,
                     number,
-                    left,
-                    &mut left_side,
-                    a,
-                    right,
-                    &mut right_side,
-                    b,
-                    steps,
-                )?;
+                };
+                let found = compare_pair(alloc, next, &mut sides, left, right, steps)?;
                 if !hand_over(found.as_slice(), seen) {
                     return Ok(false);
                 }
@@ -118,17 +104,16 @@ fn compare_track_samples<S: Store, T: Store, D: Differences, L: Ledger>(
 // Compares two tracks by their heads, their starts and their numbers of samples.
 fn compare_track_heads(
     alloc: Global,
-    leaving: Without,
+    tracks: Tracks,
     of: Subject,
-    left: &TrackHead,
     info: &TrackInfo,
-    right: &TrackHead,
     other: &TrackInfo,
 ) -> Result<Vec<Difference>, Memory>
-    ensures { IfOk result (λ found. found.items
-        ≡ begun_differ leaving of left.now info.now right.now other.now) }
+    ensures { IfOk result (λ found. found.items ≡ begun_differ tracks.entry.leaving of
+        tracks.entry.left.now info.now tracks.entry.right.now other.now) }
 {
-    let mut found = track_differences(alloc, leaving, of, left, right)?;
+    let leaving = tracks.leaving;
+    let mut found = track_differences(alloc, leaving, of, tracks.left, tracks.right)?;
     let start = leaving.start(info.start);
     compare_numbers(
         of,
@@ -143,40 +128,39 @@ fn compare_track_heads(
     Ok(found)
 }
 
-// Compares the tracks at one place, of which these are the heads: what differs is handed over until
-// no more is taken.
+// Compares two tracks: what differs is handed over until no more is taken.
 fn compare_tracks<S: Store, T: Store, D: Differences, L: Ledger>(
     alloc: Global,
-    track: usize,
-    left: &Movie,
-    head: &TrackHead,
-    a: &mut S,
-    right: &Movie,
-    other_head: &TrackHead,
-    b: &mut T,
-    leaving: Without,
+    tracks: Tracks,
+    left: &mut S,
+    right: &mut T,
     seen: &mut D,
     steps: &mut Steps<L>,
 ) -> Result<bool, Refusal>
-    requires tracks { HaveTracks track left.now right.now }
+    requires tracks { HaveTracks tracks.place tracks.movies.now.left tracks.movies.now.right }
     requires goes { D.is_open seen.old ≡ true }
-    ensures stores { OnlyReadsBoth S.Store a.old a.new T.Store b.old b.new result }
-    ensures handed { HandsOver D.Differences seen.old seen.new result (OfTracks S.Store a.old
-        left.now head.now T.Store b.old right.now other_head.now track leaving) }
-    ensures unchanged { WhereTracks S.Store a.old left.now T.Store b.old right.now track
+    ensures stores { OnlyReadsBoth S.Store left.old left.new T.Store right.old right.new result }
+    ensures handed { HandsOver D.Differences seen.old seen.new result (OfTracks S.Store left.old
+        tracks.entry.movies.now.left tracks.entry.left.now T.Store right.old
+        tracks.entry.movies.now.right tracks.entry.right.now tracks.entry.place
+        tracks.entry.leaving) }
+    ensures unchanged { WhereTracks S.Store left.old tracks.entry.movies.now.left T.Store
+        right.old tracks.entry.movies.now.right tracks.entry.place
         (λ tree t other u. IsUnchanged result) }
-    ensures work { TracksWork S.Store a.old left.now T.Store b.old right.now track
-        steps.old steps.new }
-    ensures refusal { RefusedBoth S.Store a.old a.new T.Store b.old b.new result RefusesSample }
+    ensures work { TracksWork S.Store left.old tracks.entry.movies.now.left T.Store right.old
+        tracks.entry.movies.now.right tracks.entry.place steps.old steps.new }
+    ensures refusal { RefusedBoth S.Store left.old left.new T.Store right.old right.new result
+        RefusesSample }
 {
-    let info = left.tracks()[track];
-    let other = right.tracks()[track];
-    let of = Subject::Track(track as u64 + 1);
-    let found = compare_track_heads(alloc, leaving, of, head, &info, other_head, &other)?;
+    let Tracks { movies, place, .. } = tracks;
+    let info = movies.left.tracks()[place];
+    let other = movies.right.tracks()[place];
+    let of = Subject::Track(place as u64 + 1);
+    let found = compare_track_heads(alloc, tracks, of, &info, &other)?;
     if !hand_over(found.as_slice(), seen) {
         return Ok(false);
     }
-    compare_track_samples(alloc, track, left, a, right, b, leaving, seen, steps)
+    compare_track_samples(alloc, tracks, left, right, seen, steps)
 }
 
 /// Compares two opened files by what they say, without what is left out, and hands each difference
@@ -185,41 +169,48 @@ fn compare_tracks<S: Store, T: Store, D: Differences, L: Ledger>(
 /// difference was taken.
 pub fn compare_all<S: Store, T: Store, D: Differences, L: Ledger>(
     alloc: Global,
-    left: &Movie,
-    a: &mut S,
-    right: &Movie,
-    b: &mut T,
+    movies: &Movies,
+    left: &mut S,
+    right: &mut T,
     leaving: Without,
     seen: &mut D,
     steps: &mut Steps<L>,
 ) -> Result<bool, Refusal>
     requires { D.is_open seen.old ≡ true }
-    ensures left { OnlyReads S.Store a.old a.new result }
-    ensures right { OnlyReads T.Store b.old b.new result }
+    ensures left { OnlyReads S.Store left.old left.new result }
+    ensures right { OnlyReads T.Store right.old right.new result }
     ensures goes { IfOk result (λ all. all ≡ D.is_open seen.new) }
-    ensures all { IfOk result (λ all. all ≡ true → OfFiles S.Store a.old left.now T.Store b.old
-        right.now leaving (λ found. D.taken seen.new ≡ D.taken seen.old ++ found)) }
-    ensures front { OfFiles S.Store a.old left.now T.Store b.old right.now leaving
-        (TakesFront (D.taken seen.old) (D.taken seen.new)) }
-    ensures unchanged { WhereOpenedBoth S.Store a.old left.now T.Store b.old right.now
-        (λ tree other. IsUnchanged result) }
-    ensures work { WhereOpenedBoth S.Store a.old left.now T.Store b.old right.now
+    ensures all { IfOk result (λ all. all ≡ true → OfFiles S.Store left.old
+        movies.now.left T.Store right.old movies.now.right leaving
+        (λ found. D.taken seen.new ≡ D.taken seen.old ++ found)) }
+    ensures front { OfFiles S.Store left.old movies.now.left T.Store right.old movies.now.right
+        leaving (TakesFront (D.taken seen.old) (D.taken seen.new)) }
+    ensures unchanged { WhereOpenedBoth S.Store left.old movies.now.left T.Store right.old
+        movies.now.right (λ tree other. IsUnchanged result) }
+    ensures work { WhereOpenedBoth S.Store left.old movies.now.left T.Store right.old
+        movies.now.right
         (λ tree other. steps.new ≤ steps.old + (walks_steps tree + walks_steps other)) }
-    ensures refusal { RefusedBoth S.Store a.old a.new T.Store b.old b.new result RefusesSample }
+    ensures refusal { RefusedBoth S.Store left.old left.new T.Store right.old right.new result
+        RefusesSample }
 {
-    let head = left.head(alloc)?;
-    let other_head = right.head(alloc)?;
+    let head = movies.left.head(alloc)?;
+    let other_head = movies.right.head(alloc)?;
     let found = movie_differences(alloc, leaving, &head, &other_head)?;
     if !hand_over(found.as_slice(), seen) {
         return Ok(false);
     }
-    let tracks = left.tracks().len().min(right.tracks().len());
-    for track in 0..tracks.min(head.tracks.len()).min(other_head.tracks.len()) {
+    let count = movies.left.tracks().len().min(movies.right.tracks().len());
+    for track in 0..count.min(head.tracks.len()).min(other_head.tracks.len()) {
         let first = &head.tracks[track];
         let second = &other_head.tracks[track];
-        if !compare_tracks(
-            alloc, track, left, first, a, right, second, b, leaving, seen, steps,
-        )? {
+        let tracks = Tracks {
+            movies,
+            place: track,
+            left: first,
+            right: second,
+            leaving,
+        };
+        if !compare_tracks(alloc, tracks, left, right, seen, steps)? {
             return Ok(false);
         }
     }
@@ -249,24 +240,25 @@ impl Differences for FirstDifference {
 /// the same.
 pub fn compare<S: Store, T: Store, L: Ledger>(
     alloc: Global,
-    left: &Movie,
-    a: &mut S,
-    right: &Movie,
-    b: &mut T,
+    movies: &Movies,
+    left: &mut S,
+    right: &mut T,
     leaving: Without,
     steps: &mut Steps<L>,
 ) -> Result<Option<Difference>, Refusal>
-    ensures left { OnlyReads S.Store a.old a.new result }
-    ensures right { OnlyReads T.Store b.old b.new result }
-    ensures first { IfOk result (λ first. OfFiles S.Store a.old left.now T.Store b.old right.now
-        leaving (λ found. first ≡ slice_get found 0)) }
-    ensures unchanged { WhereOpenedBoth S.Store a.old left.now T.Store b.old right.now
-        (λ tree other. IsUnchanged result) }
-    ensures work { WhereOpenedBoth S.Store a.old left.now T.Store b.old right.now
+    ensures left { OnlyReads S.Store left.old left.new result }
+    ensures right { OnlyReads T.Store right.old right.new result }
+    ensures first { IfOk result (λ first. OfFiles S.Store left.old movies.now.left T.Store
+        right.old movies.now.right leaving (λ found. first ≡ slice_get found 0)) }
+    ensures unchanged { WhereOpenedBoth S.Store left.old movies.now.left T.Store right.old
+        movies.now.right (λ tree other. IsUnchanged result) }
+    ensures work { WhereOpenedBoth S.Store left.old movies.now.left T.Store right.old
+        movies.now.right
         (λ tree other. steps.new ≤ steps.old + (walks_steps tree + walks_steps other)) }
-    ensures refusal { RefusedBoth S.Store a.old a.new T.Store b.old b.new result RefusesSample }
+    ensures refusal { RefusedBoth S.Store left.old left.new T.Store right.old right.new result
+        RefusesSample }
 {
     let mut seen = FirstDifference { first: None };
-    let _all = compare_all(alloc, left, a, right, b, leaving, &mut seen, steps)?;
+    let _all = compare_all(alloc, movies, left, right, leaving, &mut seen, steps)?;
     Ok(seen.first)
 }

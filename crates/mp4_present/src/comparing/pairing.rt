@@ -4,8 +4,8 @@ ghost use Rattle.mp4_tables.specs.words.Keys.{key_seen, keys_seen};
 ghost use Rattle.mp4_present.specs.format.Comparison.{with_key};
 ghost use Rattle.mp4_present.specs.words.TrackEdges.{keeps_edges};
 
+use crate::comparing::tracks::Tracks;
 use crate::edges::Edges;
-use crate::movie::Movie;
 use crate::without::Without;
 use mp4_boxes::Memory;
 use mp4_tables::{GroupKey, Keys};
@@ -80,27 +80,31 @@ impl Pairing {
     ghost use Rattle.std.specs.Prelude.{◌≡◌, IfOk};
     ghost use Rattle.mp4_present.specs.words.Compared.{HasEdges, HaveTracks, IsPairingAt};
 
-    // Of the tracks at this place in both movies.
+    // Of two tracks with these edges.
     pub(crate) fn new(
         alloc: Global,
-        leaving: Without,
-        track: usize,
-        left: &Movie,
+        tracks: Tracks,
         left_edges: Edges,
-        right: &Movie,
         right_edges: Edges,
     ) -> Result<Pairing, Memory>
-        requires { HaveTracks track left.now right.now }
-        ensures pairing { IfOk result (IsPairingAt leaving track left.now right.now) }
+        requires { HaveTracks tracks.place tracks.movies.now.left tracks.movies.now.right }
+        ensures pairing { IfOk result (IsPairingAt tracks.entry.leaving tracks.entry.place
+            tracks.entry.movies.now.left tracks.entry.movies.now.right) }
         ensures edges { IfOk result (HasEdges left_edges right_edges) }
     {
-        let info = left.tracks()[track];
-        let other = right.tracks()[track];
+        let Tracks {
+            movies,
+            place,
+            leaving,
+            ..
+        } = tracks;
+        let info = movies.left.tracks()[place];
+        let other = movies.right.tracks()[place];
         let keys = joint_keys(alloc, leaving, &info.keys, &other.keys)?;
         Ok(Pairing {
             leaving,
             is_plain: leaving.keeps_edges(),
-            track: track as u64 + 1,
+            track: place as u64 + 1,
             left: info.keys,
             right: other.keys,
             left_edges,

@@ -7,10 +7,10 @@ ghost use Rattle.mp4_present.specs.words.Movies.{IsWalkOf};
 ghost use Rattle.mp4_present.specs.words.SamePairs.{indexes_differ, BeginSame, IsSamePair, PassesSame, SaySame, SayTimes};
 ghost use Rattle.mp4_present.specs.declared.comparing.differences.Subject.{Subject};
 
+use crate::comparing::movies::Movies;
 use crate::comparing::pairing::Pairing;
-use crate::comparing::samples::{Side, flags_left, index_at};
+use crate::comparing::samples::{Sides, flags_left, index_at};
 use crate::file_window::FileWindow;
-use crate::movie::Movie;
 use crate::walking::loaded::Loaded;
 use mp4_boxes::Steps;
 use mp4_tables::{SampleAt, Samples};
@@ -237,50 +237,46 @@ pub(crate) struct Passed {
 #[inline(never)]
 fn pass_now<L: Ledger>(
     by: &Pairing,
-    left: &Movie,
-    left_side: &mut Side,
-    right: &Movie,
-    right_side: &mut Side,
+    movies: &Movies,
+    sides: &mut Sides,
     most: u32,
     steps: &mut Steps<L>,
 ) -> Passed
-    requires left { IsWalkOf left.now left_side.old.walk }
-    requires right { IsWalkOf right.now right_side.old.walk }
+    requires left { IsWalkOf movies.now.left sides.old.left.walk }
+    requires right { IsWalkOf movies.now.right sides.old.right.walk }
     ensures most { result.count ≤ most }
-    ensures passed { PassesSame by.now left.now left_side.old left_side.new right.now
-        right_side.old right_side.new result.count steps.old steps.new }
+    ensures passed { PassesSame by.now movies.now.left sides.old.left sides.new.left
+        movies.now.right sides.old.right sides.new.right result.count steps.old steps.new }
 {
     let (count, is_used_up, place, other) = {
-        let mut x = left_side.walk.in_hand(left);
-        let mut y = right_side.walk.in_hand(right);
-        let first = &left_side.window;
-        let second = &right_side.window;
+        let mut x = sides.left.walk.in_hand(&movies.left);
+        let mut y = sides.right.walk.in_hand(&movies.right);
+        let first = &sides.left.window;
+        let second = &sides.right.window;
         let count = pass_in_hand(by, &mut x, first, &mut y, second, most);
         let is_used_up = x.peek().is_none() || y.peek().is_none();
         (count, is_used_up, x.place(), y.place())
     };
-    left_side.walk.keep(place, steps);
-    right_side.walk.keep(other, steps);
+    sides.left.walk.keep(place, steps);
+    sides.right.walk.keep(other, steps);
     Passed { count, is_used_up }
 }
 
 // The same where the pause is over. A side is used up only where some were passed.
 pub(crate) fn pass_same<L: Ledger>(
     by: &Pairing,
-    left: &Movie,
-    left_side: &mut Side,
-    right: &Movie,
-    right_side: &mut Side,
+    movies: &Movies,
+    sides: &mut Sides,
     most: u32,
     pause: &mut Pause,
     steps: &mut Steps<L>,
 ) -> Passed
-    requires left { IsWalkOf left.now left_side.old.walk }
-    requires right { IsWalkOf right.now right_side.old.walk }
+    requires left { IsWalkOf movies.now.left sides.old.left.walk }
+    requires right { IsWalkOf movies.now.right sides.old.right.walk }
     ensures most { result.count ≤ most }
     ensures some { IsTrue result.is_used_up → 0 < result.count }
-    ensures passed { PassesSame by.now left.now left_side.old left_side.new right.now
-        right_side.old right_side.new result.count steps.old steps.new }
+    ensures passed { PassesSame by.now movies.now.left sides.old.left sides.new.left
+        movies.now.right sides.old.right sides.new.right result.count steps.old steps.new }
 {
     let none = Passed {
         count: 0,
@@ -289,7 +285,7 @@ pub(crate) fn pass_same<L: Ledger>(
     if !pause.is_over() {
         return none;
     }
-    let passed = pass_now(by, left, left_side, right, right_side, most, steps);
+    let passed = pass_now(by, movies, sides, most, steps);
     if passed.count == 0 {
         pause.begin();
         return none;

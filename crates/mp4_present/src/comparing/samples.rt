@@ -9,10 +9,12 @@ ghost use Rattle.mp4_present.specs.words.StoresRead.{WhereBothHonest, IsUnchange
 ghost use Rattle.mp4_present.specs.words.SamplesComing.{Comes};
 ghost use Rattle.mp4_present.specs.words.Windows.{BothShow};
 
-use crate::comparing::bytes::first_difference;
+use crate::comparing::bytes::{Ranges, first_difference};
 use crate::comparing::differences::{Difference, Field, Subject, Value};
 use crate::comparing::fields::{compare_numbers, compare_value, compare_values, number, signed};
+use crate::comparing::movies::Movies;
 use crate::comparing::pairing::Pairing;
+use crate::comparing::tracks::Tracks;
 use crate::edges::Edges;
 use crate::file_window::FileWindow;
 use crate::movie::Movie;
@@ -112,45 +114,6 @@ fn compare_samples(
     compare_numbers(of, Field::Size, size, u64::from(right.size), found)
 }
 
-// Adds the first byte that differs, where two samples have one size. A sample that doesn't lie in
-// its file shows that the store has changed.
-fn compare_bytes<S: Store, T: Store>(
-    of: Subject,
-    left: &SampleAt,
-    left_window: &mut FileWindow,
-    a: &mut S,
-    right: &SampleAt,
-    right_window: &mut FileWindow,
-    b: &mut T,
-    found: &mut Vec<Difference>,
-) -> Result<(), Refusal>
-    requires shows { BothShow S.Store a.old left_window.old T.Store b.old right_window.old }
-    ensures stores { OnlyReadsBoth S.Store a.old a.new T.Store b.old b.new result }
-    ensures shows { BothShow S.Store a.old left_window.new T.Store b.old right_window.new }
-    ensures bytes { OnOk result (WhereBothHonest S.Store a.old T.Store b.old (λ file other.
-        found.new.items
-        ≡ found.old.items ++ sample_bytes_differ of file left.now other right.now)) }
-    ensures unchanged { IsBelow (length (S.file a.old)) left.now
-        → IsBelow (length (T.file b.old)) right.now → IsUnchanged result }
-    ensures refusal { RefusedBoth S.Store a.old a.new T.Store b.old b.new result RefusesSample }
-{
-    if left.size != right.size {
-        return Ok(());
-    }
-    let size = u64::from(left.size);
-    let len = a.len();
-    let other = b.len();
-    if left.at > len || size > len - left.at || right.at > other || size > other - right.at {
-        return Err(Refusal::StoreChanged);
-    }
-    let first = first_difference(left_window, a, left.at, right_window, b, right.at, size)?;
-    if let Some((place, byte, other)) = first {
-        let field = Field::Byte(place + 1, size);
-        compare_value(of, field, Value::Byte(byte), Value::Byte(other), found)?;
-    }
-    Ok(())
-}
-
 // How many bytes of a file are read at once, at most.
 const WINDOW: u64 = 65_536;
 
@@ -186,103 +149,188 @@ impl Side {
     }
 }
 
+// Both tracks.
+#[derive(Drop)]
+pub(crate) struct Sides {
+    pub(crate) left: Side,
+    pub(crate) right: Side,
+}
+
+// A sample of each track.
+#[derive(Clone, Copy)]
+struct Pair<'a> {
+    left: &'a SampleAt,
+    right: &'a SampleAt,
+}
+
+// Adds the first byte that differs, where two samples have one size. A sample that doesn't lie in
+// its file shows that the store has changed.
+fn compare_bytes<S: Store, T: Store>(
+    of: Subject,
+    pair: Pair,
+    sides: &mut Sides,
+    left: &mut S,
+    right: &mut T,
+    found: &mut Vec<Difference>,
+) -> Result<(), Refusal>
+    requires shows { BothShow S.Store left.old sides.old.left.window T.Store right.old
+        sides.old.right.window }
+    ensures stores { OnlyReadsBoth S.Store left.old left.new T.Store right.old right.new result }
+    ensures shows { BothShow S.Store left.old sides.new.left.window T.Store right.old
+        sides.new.right.window }
+    ensures walk { sides.new.left.walk ≡ sides.old.left.walk }
+    ensures right_walk { sides.new.right.walk ≡ sides.old.right.walk }
+    ensures bytes { OnOk result (WhereBothHonest S.Store left.old T.Store right.old
+        (λ file other. found.new.items ≡ found.old.items
+        ++ sample_bytes_differ of file pair.entry.left.now other pair.entry.right.now)) }
+    ensures unchanged { IsBelow (length (S.file left.old)) pair.entry.left.now
+        → IsBelow (length (T.file right.old)) pair.entry.right.now → IsUnchanged result }
+    ensures refusal { RefusedBoth S.Store left.old left.new T.Store right.old right.new result
+        RefusesSample }
+{
+    let Pair { left: x, right: y } = pair;
+    if x.size != y.size {
+        return Ok(());
+    }
+    let size = u64::from(x.size);
+    let len = left.len();
+    let other = right.len();
+    if x.at > len || size > len - x.at || y.at > other || size > other - y.at {
+        return Err(Refusal::StoreChanged);
+    }
+    let ranges = Ranges {
+        left: x.at,
+        right: y.at,
+        len: size,
+    };
+    let window = &mut sides.right.window;
+    let first = first_difference(ranges, &mut sides.left.window, left, window, right)?;
+    if let Some((place, byte, other)) = first {
+        let field = Field::Byte(place + 1, size);
+        compare_value(of, field, Value::Byte(byte), Value::Byte(other), found)?;
+    }
+    Ok(())
+}
+
+// The samples of two movies that are compared next: their number, and what they are compared by.
+#[derive(Clone, Copy)]
+pub(crate) struct Next<'a> {
+    pub(crate) movies: &'a Movies,
+    pub(crate) by: &'a Pairing,
+    pub(crate) number: u32,
+}
+
 // What differs between the next samples of both tracks, which are taken: both sides go on, and
 // what they may take of steps is less by those that were taken.
 pub(crate) fn compare_pair<S: Store, T: Store, L: Ledger>(
     alloc: Global,
-    by: &Pairing,
-    number: u32,
-    left: &Movie,
-    left_side: &mut Side,
-    a: &mut S,
-    right: &Movie,
-    right_side: &mut Side,
-    b: &mut T,
+    next: Next,
+    sides: &mut Sides,
+    left: &mut S,
+    right: &mut T,
     steps: &mut Steps<L>,
 ) -> Result<Vec<Difference>, Refusal>
-    requires sides { BothStand S.Store a.old left.now left_side.old T.Store b.old right.now
-        right_side.old }
-    ensures stores { OnlyReadsBoth S.Store a.old a.new T.Store b.old b.new result }
-    ensures sides { OnOk result (BothStand S.Store a.old left.now left_side.new T.Store b.old
-        right.now right_side.new) }
-    ensures found { PairFound by.now number S.Store a.old left.now left_side.old left_side.new
-        T.Store b.old right.now right_side.old right_side.new (λ found. found.items) result }
-    ensures unchanged { WhereBothLie S.Store a.old left.now left_side.old T.Store b.old right.now
-        right_side.old (IsUnchanged result) }
-    ensures work { BothWork S.Store a.old left.now left_side.old left_side.new T.Store b.old
-        right.now right_side.old right_side.new result steps.old steps.new }
-    ensures refusal { RefusedBoth S.Store a.old a.new T.Store b.old b.new result RefusesSample }
+    requires sides { BothStand S.Store left.old next.movies.now.left sides.old.left T.Store
+        right.old next.movies.now.right sides.old.right }
+    ensures stores { OnlyReadsBoth S.Store left.old left.new T.Store right.old right.new result }
+    ensures sides { OnOk result (BothStand S.Store left.old next.entry.movies.now.left
+        sides.new.left T.Store right.old next.entry.movies.now.right sides.new.right) }
+    ensures found { PairFound next.entry.by.now next.entry.number S.Store left.old
+        next.entry.movies.now.left sides.old.left sides.new.left T.Store right.old
+        next.entry.movies.now.right sides.old.right sides.new.right (λ found. found.items)
+        result }
+    ensures unchanged { WhereBothLie S.Store left.old next.entry.movies.now.left sides.old.left
+        T.Store right.old next.entry.movies.now.right sides.old.right (IsUnchanged result) }
+    ensures work { BothWork S.Store left.old next.entry.movies.now.left sides.old.left
+        sides.new.left T.Store right.old next.entry.movies.now.right sides.old.right
+        sides.new.right result steps.old steps.new }
+    ensures refusal { RefusedBoth S.Store left.old left.new T.Store right.old right.new result
+        RefusesSample }
 {
-    let x = left_side.walk.next_sample(left, a, steps)?;
-    let y = right_side.walk.next_sample(right, b, steps)?;
+    let Next { movies, by, number } = next;
+    let x = sides.left.walk.next_sample(&movies.left, left, steps)?;
+    let y = sides.right.walk.next_sample(&movies.right, right, steps)?;
     let of = Subject::Sample(by.track, number);
     let mut found = Vec::new(alloc);
     compare_samples(of, by, &x, &y, &mut found)?;
-    let window = &mut right_side.window;
-    compare_bytes(of, &x, &mut left_side.window, a, &y, window, b, &mut found)?;
+    let pair = Pair {
+        left: &x,
+        right: &y,
+    };
+    compare_bytes(of, pair, sides, left, right, &mut found)?;
     Ok(found)
 }
 
 // Both sides have a sample in hand, where they have not come to the end: the same samples come.
 pub(crate) fn refill_both<S: Store, T: Store, L: Ledger>(
-    left: &Movie,
-    left_side: &mut Side,
-    a: &mut S,
-    right: &Movie,
-    right_side: &mut Side,
-    b: &mut T,
+    movies: &Movies,
+    sides: &mut Sides,
+    left: &mut S,
+    right: &mut T,
     steps: &mut Steps<L>,
 ) -> Result<(), Refusal>
-    requires sides { BothStand S.Store a.old left.now left_side.old T.Store b.old right.now
-        right_side.old }
-    ensures stores { OnlyReadsBoth S.Store a.old a.new T.Store b.old b.new result }
-    ensures sides { OnOk result (BothStand S.Store a.old left.now left_side.new T.Store b.old
-        right.now right_side.new) }
-    ensures coming { BothCome S.Store a.old left.now left_side.old T.Store b.old right.now
-        right_side.old (λ tree t xs other u ys. OnOk result
-        (Comes (S.file a.old) tree t left.now left_side.new.walk xs
-        × Comes (T.file b.old) other u right.now right_side.new.walk ys)) }
-    ensures unchanged { WhereBothLie S.Store a.old left.now left_side.old T.Store b.old right.now
-        right_side.old (IsUnchanged result) }
-    ensures work { BothWork S.Store a.old left.now left_side.old left_side.new T.Store b.old
-        right.now right_side.old right_side.new result steps.old steps.new }
-    ensures refusal { RefusedBoth S.Store a.old a.new T.Store b.old b.new result RefusesSample }
+    requires sides { BothStand S.Store left.old movies.now.left sides.old.left T.Store right.old
+        movies.now.right sides.old.right }
+    ensures stores { OnlyReadsBoth S.Store left.old left.new T.Store right.old right.new result }
+    ensures sides { OnOk result (BothStand S.Store left.old movies.now.left sides.new.left
+        T.Store right.old movies.now.right sides.new.right) }
+    ensures coming { BothCome S.Store left.old movies.now.left sides.old.left T.Store right.old
+        movies.now.right sides.old.right (λ tree t xs other u ys. OnOk result
+        (Comes (S.file left.old) tree t movies.now.left sides.new.left.walk xs
+        × Comes (T.file right.old) other u movies.now.right sides.new.right.walk ys)) }
+    ensures unchanged { WhereBothLie S.Store left.old movies.now.left sides.old.left T.Store
+        right.old movies.now.right sides.old.right (IsUnchanged result) }
+    ensures work { BothWork S.Store left.old movies.now.left sides.old.left sides.new.left
+        T.Store right.old movies.now.right sides.old.right sides.new.right result steps.old
+        steps.new }
+    ensures refusal { RefusedBoth S.Store left.old left.new T.Store right.old right.new result
+        RefusesSample }
 {
-    left_side.walk.refill(left, a, steps)?;
-    right_side.walk.refill(right, b, steps)?;
+    sides.left.walk.refill(&movies.left, left, steps)?;
+    sides.right.walk.refill(&movies.right, right, steps)?;
     Ok(())
 }
 
-// The tracks at this place in both movies, before the first samples: what these are compared by,
-// and both sides.
+// Two tracks before their first samples: what these are compared by, and both sides.
 pub(crate) fn begin_pairs<S: Store, T: Store, L: Ledger>(
     alloc: Global,
-    leaving: Without,
-    track: usize,
-    left: &Movie,
-    a: &mut S,
-    right: &Movie,
-    b: &mut T,
+    tracks: Tracks,
+    left: &mut S,
+    right: &mut T,
     steps: &mut Steps<L>,
-) -> Result<(Pairing, Side, Side), Refusal>
-    requires { HaveTracks track left.now right.now }
-    ensures stores { OnlyReadsBoth S.Store a.old a.new T.Store b.old b.new result }
-    ensures pairing { IfOk result (λ begun. IsPairingAt leaving track left.now right.now begun.0) }
-    ensures sides { IfOk result (λ begun. BothStand S.Store a.old left.now begun.1 T.Store b.old
-        right.now begun.2) }
-    ensures begun { WhereTracks S.Store a.old left.now T.Store b.old right.now track
-        (λ tree t other u. IfOk result (λ begun. HaveBegun leaving begun.0 (S.file a.old) tree t
-        left.now begun.1.walk (T.file b.old) other u right.now begun.2.walk steps.old steps.new)) }
-    ensures unchanged { WhereTracks S.Store a.old left.now T.Store b.old right.now track
+) -> Result<(Pairing, Sides), Refusal>
+    requires { HaveTracks tracks.place tracks.movies.now.left tracks.movies.now.right }
+    ensures stores { OnlyReadsBoth S.Store left.old left.new T.Store right.old right.new result }
+    ensures pairing { IfOk result (λ begun. IsPairingAt tracks.entry.leaving tracks.entry.place
+        tracks.entry.movies.now.left tracks.entry.movies.now.right begun.0) }
+    ensures sides { IfOk result (λ begun. BothStand S.Store left.old tracks.entry.movies.now.left
+        begun.1.left T.Store right.old tracks.entry.movies.now.right begun.1.right) }
+    ensures begun { WhereTracks S.Store left.old tracks.entry.movies.now.left T.Store right.old
+        tracks.entry.movies.now.right tracks.entry.place (λ tree t other u. IfOk result (λ begun.
+        HaveBegun tracks.entry.leaving begun.0 (S.file left.old) tree t
+        tracks.entry.movies.now.left begun.1.left.walk (T.file right.old) other u
+        tracks.entry.movies.now.right begun.1.right.walk steps.old steps.new)) }
+    ensures unchanged { WhereTracks S.Store left.old tracks.entry.movies.now.left T.Store
+        right.old tracks.entry.movies.now.right tracks.entry.place
         (λ tree t other u. IsUnchanged result) }
-    ensures work { TracksWork S.Store a.old left.now T.Store b.old right.now track
-        steps.old steps.new }
-    ensures refusal { RefusedBoth S.Store a.old a.new T.Store b.old b.new result RefusesSample }
+    ensures work { TracksWork S.Store left.old tracks.entry.movies.now.left T.Store right.old
+        tracks.entry.movies.now.right tracks.entry.place steps.old steps.new }
+    ensures refusal { RefusedBoth S.Store left.old left.new T.Store right.old right.new result
+        RefusesSample }
 {
-    let mut left_side = Side::new(alloc, left, track)?;
-    let mut right_side = Side::new(alloc, right, track)?;
-    let edges = left_side.walk.edges(leaving, left, a, steps)?;
-    let others = right_side.walk.edges(leaving, right, b, steps)?;
-    let by = Pairing::new(alloc, leaving, track, left, edges, right, others)?;
-    Ok((by, left_side, right_side))
+    let movies = tracks.movies;
+    let mut left_side = Side::new(alloc, &movies.left, tracks.place)?;
+    let mut right_side = Side::new(alloc, &movies.right, tracks.place)?;
+    let edges = left_side
+        .walk
+        .edges(tracks.leaving, &movies.left, left, steps)?;
+    let others = right_side
+        .walk
+        .edges(tracks.leaving, &movies.right, right, steps)?;
+    let by = Pairing::new(alloc, tracks, edges, others)?;
+    let sides = Sides {
+        left: left_side,
+        right: right_side,
+    };
+    Ok((by, sides))
 }

@@ -20,12 +20,12 @@ ghost use Rattle.mp4_present.specs.words.Opening.{HasOutline};
 use crate::faults::FaultNumbers;
 use crate::faults::counts::{counts_in_fragment, number_at};
 use crate::faults::places::outside_in_fragment;
+use crate::opening::fragments::Known;
 use crate::opening::outline::Outline;
-use crate::opening::tables_pass::PlainTracks;
 use crate::opening::totals::in_64_bits;
 use crate::reading::{TopBox, read_payload};
 use mp4_boxes::{BoxView, Fault, FourCc, Kind, Refusal, Steps, TopHeader, children, u64_at};
-use mp4_frag::{TrackPlaces, TrackState, base_in, check_front, check_moof};
+use mp4_frag::{FileTracks, TrackPlaces, TrackState, base_in, check_front, check_moof};
 use mp4_store::Store;
 use std::alloc::Global;
 use std::sync::ledger::Ledger;
@@ -37,6 +37,16 @@ pub(crate) const TFHD: FourCc = FourCc(*b"tfhd");
 struct Reached {
     moof: TopBox,
     room: u32,
+}
+
+// A place in a `moof` that was reached: the bytes behind the header of the `moof`, and what is
+// known of the file.
+#[derive(Clone, Copy)]
+struct Sought<'a> {
+    reached: Reached,
+    bytes: &'a [u8],
+    place: u64,
+    file: FileTracks<'a>,
 }
 
 /// The child in which a place of the file lies.
@@ -143,23 +153,28 @@ fn time_in_traf(traf: BoxView, place: u64) -> Option<(u32, u64)>
 // What is due and what is found where a `tfdt` stands at a place in this `moof`. The tracks are
 // moved on by what comes before its `traf`.
 fn gap_in<L: Ledger, M: Ledger>(
-    reached: Reached,
-    bytes: &[u8],
-    place: u64,
-    file_len: u64,
-    places: &TrackPlaces,
+    sought: Sought,
     states: &mut [TrackState],
     steps: &mut Steps<L>,
     looks: &mut Steps<M>,
 ) -> Result<Option<FaultNumbers>, Refusal>
-    requires fills { Fills (length bytes.now) reached.moof }
-    requires room { (reached.room ≤ 2 ^ 24) × HaveRoom reached.room states.old }
-    requires places { ArePlacesOf (ids_of states.old) places.now }
-    ensures finds { FindsOf file_len reached.moof bytes.now states.old reached.room place result }
-    ensures work { 2 * steps.new ≤ 2 * steps.old + 2 * reached.room + length bytes.now }
-    ensures looks { 8 * looks.new ≤ 8 * looks.old + min 1 (length states.old) * length bytes.now }
+    requires fills { Fills (length sought.bytes.now) sought.reached.moof }
+    requires room { (sought.reached.room ≤ 2 ^ 24) × HaveRoom sought.reached.room states.old }
+    requires places { ArePlacesOf (ids_of states.old) sought.file.places.now }
+    ensures finds { FindsOf sought.entry.file.len sought.entry.reached.moof sought.entry.bytes.now
+        states.old sought.entry.reached.room sought.entry.place result }
+    ensures work { 2 * steps.new
+        ≤ 2 * steps.old + 2 * sought.entry.reached.room + length sought.entry.bytes.now }
+    ensures looks { 8 * looks.new
+        ≤ 8 * looks.old + min 1 (length states.old) * length sought.entry.bytes.now }
     ensures refusal { IfErr result MeetsFault }
 {
+    let Sought {
+        reached,
+        bytes,
+        place,
+        file,
+    } = sought;
     let Reached { moof: top, room } = reached;
     let Some(traf) = child_at(top.view(bytes), place) else {
         return Ok(None);
@@ -171,7 +186,7 @@ fn gap_in<L: Ledger, M: Ledger>(
         return Ok(None);
     };
     let mut room = room;
-    check_front(front, file_len, places, states, &mut room, steps, looks)?;
+    check_front(front, file, states, &mut room, steps, looks)?;
     let Some(state) = state_with(states, track) else {
         return Ok(None);
     };
@@ -182,23 +197,28 @@ fn gap_in<L: Ledger, M: Ledger>(
 // The sample that does not lie in the file, of the `trun` at a place in this `moof`. The tracks are
 // moved on by what comes before its `traf`.
 fn outside_in<L: Ledger, M: Ledger>(
-    reached: Reached,
-    bytes: &[u8],
-    place: u64,
-    file_len: u64,
-    places: &TrackPlaces,
+    sought: Sought,
     states: &mut [TrackState],
     steps: &mut Steps<L>,
     looks: &mut Steps<M>,
 ) -> Result<Option<FaultNumbers>, Refusal>
-    requires fills { Fills (length bytes.now) reached.moof }
-    requires room { (reached.room ≤ 2 ^ 24) × HaveRoom reached.room states.old }
-    requires places { ArePlacesOf (ids_of states.old) places.now }
-    ensures finds { FindsOf file_len reached.moof bytes.now states.old reached.room place result }
-    ensures work { 2 * steps.new ≤ 2 * steps.old + 2 * reached.room + length bytes.now }
-    ensures looks { 8 * looks.new ≤ 8 * looks.old + min 1 (length states.old) * length bytes.now }
+    requires fills { Fills (length sought.bytes.now) sought.reached.moof }
+    requires room { (sought.reached.room ≤ 2 ^ 24) × HaveRoom sought.reached.room states.old }
+    requires places { ArePlacesOf (ids_of states.old) sought.file.places.now }
+    ensures finds { FindsOf sought.entry.file.len sought.entry.reached.moof sought.entry.bytes.now
+        states.old sought.entry.reached.room sought.entry.place result }
+    ensures work { 2 * steps.new
+        ≤ 2 * steps.old + 2 * sought.entry.reached.room + length sought.entry.bytes.now }
+    ensures looks { 8 * looks.new
+        ≤ 8 * looks.old + min 1 (length states.old) * length sought.entry.bytes.now }
     ensures refusal { IfErr result MeetsFault }
 {
+    let Sought {
+        reached,
+        bytes,
+        place,
+        file,
+    } = sought;
     let Reached { moof: top, room } = reached;
     let Some(traf) = child_at(top.view(bytes), place) else {
         return Ok(None);
@@ -210,75 +230,89 @@ fn outside_in<L: Ledger, M: Ledger>(
         return Ok(None);
     };
     let mut room = room;
-    let before = check_front(front, file_len, places, states, &mut room, steps, looks)?;
+    let before = check_front(front, file, states, &mut room, steps, looks)?;
     let base = base_in(tfhd, top.offset, before)?;
-    Ok(outside_in_fragment(traf, base, states, file_len))
+    Ok(outside_in_fragment(traf, base, states, file.len))
 }
 
 // What is told of a fault of this kind where the named box stands at a place in this `moof`.
 fn numbers_in_moof<L: Ledger, M: Ledger>(
     kind: Kind,
-    reached: Reached,
-    bytes: &[u8],
-    place: u64,
-    file_len: u64,
-    places: &TrackPlaces,
+    sought: Sought,
     states: &mut [TrackState],
     steps: &mut Steps<L>,
     looks: &mut Steps<M>,
 ) -> Result<Option<FaultNumbers>, Refusal>
-    requires fills { Fills (length bytes.now) reached.moof }
-    requires room { (reached.room ≤ 2 ^ 24) × HaveRoom reached.room states.old }
-    requires places { ArePlacesOf (ids_of states.old) places.now }
-    ensures finds { FindsOf file_len reached.moof bytes.now states.old reached.room place result }
-    ensures work { 2 * steps.new ≤ 2 * steps.old + 2 * reached.room + length bytes.now }
-    ensures looks { 8 * looks.new ≤ 8 * looks.old + min 1 (length states.old) * length bytes.now }
+    requires fills { Fills (length sought.bytes.now) sought.reached.moof }
+    requires room { (sought.reached.room ≤ 2 ^ 24) × HaveRoom sought.reached.room states.old }
+    requires places { ArePlacesOf (ids_of states.old) sought.file.places.now }
+    ensures finds { FindsOf sought.entry.file.len sought.entry.reached.moof sought.entry.bytes.now
+        states.old sought.entry.reached.room sought.entry.place result }
+    ensures work { 2 * steps.new
+        ≤ 2 * steps.old + 2 * sought.entry.reached.room + length sought.entry.bytes.now }
+    ensures looks { 8 * looks.new
+        ≤ 8 * looks.old + min 1 (length states.old) * length sought.entry.bytes.now }
     ensures refusal { IfErr result MeetsFault }
 {
     match kind {
-        Kind::CountMismatch => Ok(counts_in_fragment(reached.moof.view(bytes), place)),
-        Kind::SampleOutsideFile => {
-            outside_in(
-                reached, bytes, place, file_len, places, states, steps, looks,
-            )
+        Kind::CountMismatch => {
+            let moof = sought.reached.moof.view(sought.bytes);
+            Ok(counts_in_fragment(moof, sought.place))
         }
-        _ => gap_in(
-            reached, bytes, place, file_len, places, states, steps, looks,
-        ),
+        Kind::SampleOutsideFile => outside_in(sought, states, steps, looks),
+        _ => gap_in(sought, states, steps, looks),
     }
+}
+
+// A place that is looked for in the `moof`s of a file: where the parts of the file lie, the places
+// of the tracks by their IDs, and how many samples there is room for before the first `moof`.
+#[derive(Clone, Copy)]
+struct Search<'a> {
+    place: u64,
+    outline: &'a Outline,
+    places: &'a TrackPlaces,
+    room: u32,
 }
 
 // The `moof` in which a place lies, where there is one. The tracks are moved on by those before it.
 fn pass_until<S: Store, L: Ledger, M: Ledger>(
+    search: Search,
     store: &mut S,
-    outline: &Outline,
-    places: &TrackPlaces,
     states: &mut [TrackState],
     bytes: &mut [u8],
-    room: u32,
-    place: u64,
     steps: &mut Steps<L>,
     looks: &mut Steps<M>,
 ) -> Result<Option<Reached>, Refusal>
-    requires room { (room ≤ 2 ^ 24) × HaveRoom room states.old }
-    requires places { ArePlacesOf (ids_of states.old) places.now }
-    requires outline { HasOutline (S.is_honest store.old) (S.file store.old) outline.now }
-    requires whole { AllByRecursion (IsWhole (length (S.file store.old))) outline.now.moofs.items }
-    requires longest { length bytes.old ≡ outline.now.longest }
+    requires room { (search.room ≤ 2 ^ 24) × HaveRoom search.room states.old }
+    requires places { ArePlacesOf (ids_of states.old) search.places.now }
+    requires outline { HasOutline (S.is_honest store.old) (S.file store.old) search.outline.now }
+    requires whole { AllByRecursion (IsWhole (length (S.file store.old)))
+        search.outline.now.moofs.items }
+    requires longest { length bytes.old ≡ search.outline.now.longest }
     ensures store { OnlyReads S.Store store.old store.new result }
     ensures bytes { length bytes.new ≡ length bytes.old }
     ensures ids { OnOk result (ids_of states.new ≡ ids_of states.old) }
     ensures reached { IfOk result (λ found. IfSome found
         (IsReached (length (S.file store.old)) states.new)) }
     ensures next { IfOk result (λ found. IfSome found (λ r. WhereHonest S.Store store.old (λ file.
-        IsBehind file states.old room (length bytes.old) r states.new steps.old steps.new
-        looks.old looks.new))) }
+        IsBehind file states.old search.entry.room (length bytes.old) r states.new
+        steps.old steps.new looks.old looks.new))) }
     ensures work { WhereHonest S.Store store.old (λ file. PassesWithin file
         (min 1 (length states.old)) steps.old steps.new looks.old looks.new) }
     ensures refusal { RefusedOf S.Store store.old store.new result
         (λ honest file. RefusesSearch honest) }
 {
     let file_len = store.len();
+    let Search {
+        place,
+        outline,
+        places,
+        room,
+    } = search;
+    let file = FileTracks {
+        len: file_len,
+        places,
+    };
     let mut room = room;
     for top in &outline.moofs {
         if place < top.header.end {
@@ -286,16 +320,7 @@ fn pass_until<S: Store, L: Ledger, M: Ledger>(
         }
         let len = read_payload(store, *top, bytes)?;
         let moof = top.view(&bytes[..len]);
-        check_moof(
-            moof,
-            file_len,
-            places,
-            states,
-            &mut [],
-            &mut room,
-            steps,
-            looks,
-        )?;
+        check_moof(moof, file, states, &mut [], &mut room, steps, looks)?;
     }
     Ok(None)
 }
@@ -304,41 +329,51 @@ fn pass_until<S: Store, L: Ledger, M: Ledger>(
 pub(crate) fn numbers_in_fragments<S: Store, L: Ledger, M: Ledger>(
     alloc: Global,
     store: &mut S,
-    outline: &Outline,
-    plain: &PlainTracks,
+    known: Known,
     fault: &Fault,
     steps: &mut Steps<L>,
     looks: &mut Steps<M>,
 ) -> Result<Option<FaultNumbers>, Refusal>
-    requires room { (plain.now.room ≤ 2 ^ 24)
-        × HaveRoom plain.now.room plain.now.states.items }
-    requires outline { HasOutline (S.is_honest store.old) (S.file store.old) outline.now }
-    requires whole { AllByRecursion (IsWhole (length (S.file store.old))) outline.now.moofs.items }
+    requires room { (known.plain.now.room ≤ 2 ^ 24)
+        × HaveRoom known.plain.now.room known.plain.now.states.items }
+    requires outline { HasOutline (S.is_honest store.old) (S.file store.old) known.outline.now }
+    requires whole { AllByRecursion (IsWhole (length (S.file store.old)))
+        known.outline.now.moofs.items }
     ensures store { OnlyReads S.Store store.old store.new result }
-    ensures told { TellsBehind S.Store store.old plain.now fault.now.offset result }
+    ensures told { TellsBehind S.Store store.old known.entry.plain.now fault.now.offset result }
     ensures work { WhereHonest S.Store store.old (λ file. PassesWithin file
-        (min 1 (length plain.now.states.items)) steps.old steps.new looks.old looks.new) }
+        (min 1 (length known.entry.plain.now.states.items))
+        steps.old steps.new looks.old looks.new) }
     ensures refusal { RefusedOf S.Store store.old store.new result
         (λ honest file. RefusesSearch honest) }
 {
     let mut states = Vec::new(alloc);
+    let Known { outline, plain } = known;
     states.extend_from_slice(plain.states.as_slice())?;
     let places = TrackPlaces::new(alloc, states.as_slice())?;
     let states = states.as_mut_slice();
     let mut bytes = vec![in alloc; 0u8; outline.longest as usize]?;
     let bytes = bytes.as_mut_slice();
-    let place = fault.offset;
-    let Some(reached) = pass_until(
-        store, outline, &places, states, bytes, plain.room, place, steps, looks,
-    )?
-    else {
+    let search = Search {
+        place: fault.offset,
+        outline,
+        places: &places,
+        room: plain.room,
+    };
+    let Some(reached) = pass_until(search, store, states, bytes, steps, looks)? else {
         return Ok(None);
     };
     let len = read_payload(store, reached.moof, bytes)?;
     let file_len = store.len();
-    let bytes = &bytes[..len];
-    let told = numbers_in_moof(
-        fault.kind, reached, bytes, place, file_len, &places, states, steps, looks,
-    )?;
+    let sought = Sought {
+        reached,
+        bytes: &bytes[..len],
+        place: fault.offset,
+        file: FileTracks {
+            len: file_len,
+            places: &places,
+        },
+    };
+    let told = numbers_in_moof(fault.kind, sought, states, steps, looks)?;
     Ok(told)
 }

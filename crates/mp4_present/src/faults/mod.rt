@@ -18,6 +18,7 @@ pub mod places;
 use crate::faults::counts::counts_in_tables;
 use crate::faults::gaps::numbers_in_fragments;
 use crate::faults::places::outside_in_tables;
+use crate::opening::fragments::Known;
 use crate::opening::outline::{Outline, read_outline};
 use crate::opening::tables_pass::check_tables;
 use crate::reading::read_bytes;
@@ -50,36 +51,47 @@ fn numbers_in_tables(head: &MovieHead, fault: &Fault, file_len: u64) -> Option<F
     }
 }
 
-// The same, of a file with this outline and this `moov`; or a fault that comes before what is asked
-// for.
+// A file that was refused: the fault, and where the parts of the file lie.
+#[derive(Clone, Copy)]
+struct RefusedFile<'a> {
+    fault: &'a Fault,
+    outline: &'a Outline,
+}
+
+// The same, of a file with this `moov`; or a fault that comes before what is asked for.
 fn numbers_behind<S: Store, L: Ledger, M: Ledger>(
     alloc: Global,
-    fault: &Fault,
+    refused: RefusedFile,
     store: &mut S,
-    outline: &Outline,
     moov: &[u8],
     steps: &mut Steps<L>,
     looks: &mut Steps<M>,
 ) -> Result<Option<FaultNumbers>, Refusal>
-    requires fills { Fills (length moov.now) outline.now.moov }
+    requires fills { Fills (length moov.now) refused.outline.now.moov }
     requires bytes { WhereHonest S.Store store.old (λ file.
-        IsPayloadIn file outline.now moov.now) }
-    requires outline { HasOutline (S.is_honest store.old) (S.file store.old) outline.now }
-    requires whole { AllByRecursion (IsWhole (length (S.file store.old))) outline.now.moofs.items }
+        IsPayloadIn file refused.outline.now moov.now) }
+    requires outline { HasOutline (S.is_honest store.old) (S.file store.old) refused.outline.now }
+    requires whole { AllByRecursion (IsWhole (length (S.file store.old)))
+        refused.outline.now.moofs.items }
     ensures store { OnlyReads S.Store store.old store.new result }
-    ensures told { TellsOf S.Store store.old fault.now.offset result }
+    ensures told { TellsOf S.Store store.old refused.entry.fault.now.offset result }
     ensures work { WhereHonest S.Store store.old (λ file.
         SearchesWithin file steps.old steps.new looks.old looks.new) }
     ensures refusal { RefusedOf S.Store store.old store.new result
         (λ honest file. RefusesSearch honest) }
 {
+    let RefusedFile { fault, outline } = refused;
     let view = outline.moov.view(moov);
     let head = read_head(alloc, view)?;
     if let Some(told) = numbers_in_tables(&head, fault, store.len()) {
         return Ok(Some(told));
     }
     let plain = check_tables(alloc, view, &head, store.len(), steps)?;
-    let told = numbers_in_fragments(alloc, store, outline, &plain, fault, steps, looks)?;
+    let known = Known {
+        outline,
+        plain: &plain,
+    };
+    let told = numbers_in_fragments(alloc, store, known, fault, steps, looks)?;
     Ok(told)
 }
 
@@ -101,7 +113,11 @@ fn numbers_in<S: Store, L: Ledger, M: Ledger>(
     let outline = read_outline(alloc, store)?;
     let at = outline.moov.payload_offset();
     let moov = read_bytes(alloc, store, at, outline.moov.header.end - at)?;
-    let told = numbers_behind(alloc, fault, store, &outline, moov.as_slice(), steps, looks)?;
+    let refused = RefusedFile {
+        fault,
+        outline: &outline,
+    };
+    let told = numbers_behind(alloc, refused, store, moov.as_slice(), steps, looks)?;
     Ok(told)
 }
 

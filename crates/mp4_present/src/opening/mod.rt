@@ -21,7 +21,7 @@ pub mod tables_pass;
 pub mod totals;
 
 use crate::movie::Movie;
-use crate::opening::fragments::check_fragments;
+use crate::opening::fragments::{Known, check_fragments};
 use crate::opening::limit_checks::{check_limits, duration_of};
 use crate::opening::outline::{Outline, read_outline};
 use crate::opening::tables_pass::{PlainTracks, check_tables};
@@ -108,7 +108,11 @@ fn find<S: Store, L: Ledger, M: Ledger>(
     let head = read_head(alloc, view)?;
     let plain = check_tables(alloc, view, &head, store.len(), steps)?;
     let mut own = Vec::new(alloc);
-    let states = check_fragments(alloc, store, outline, &plain, &mut own, steps, looks)?;
+    let known = Known {
+        outline,
+        plain: &plain,
+    };
+    let states = check_fragments(alloc, store, known, &mut own, steps, looks)?;
     let mehd = check_limits(view, &head, states.as_slice())?;
     let tracks = infos_of(alloc, &head, states.as_slice())?;
     Ok(Found {

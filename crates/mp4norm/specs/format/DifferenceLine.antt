@@ -64,9 +64,9 @@ part_text parts.MediaTime = codes "media time"
 part_text parts.RateInteger = codes "rate integer"
 part_text parts.RateFraction = codes "rate fraction"
 
-abbrev pub parameter_text : Option ℕ → List ℕ
-parameter_text None = []
-parameter_text (Some n) = space ++ decimal n
+abbrev pub parameter_after : Option ℕ → List ℕ
+parameter_after None = []
+parameter_after (Some n) = space ++ decimal n
 
 -- the name of a value; those with numbers have more of a way, below
 abbrev pub field_name : Field → List ℕ
@@ -100,7 +100,7 @@ field_text (fields.Count list) = entries_name list
 field_text (fields.Entry list n part) = entry_name list ++ entry_number list n ++ codes ": "
     ++ part_text part
 field_text (fields.Group key) = codes "group " ++ type_text key.kind.0
-    ++ parameter_text key.parameter ++ codes ":"
+    ++ parameter_after key.parameter ++ codes ":"
 field_text (fields.Byte n count) = byte_text n count
 field_text field = field_name field
 

@@ -16,8 +16,8 @@ abbrev pub DenotesNothing : List ℕ → Type 0
 DenotesNothing file = (p : Presentation) → Denotes file p → ⊥
 
 -- the bytes put are a front of the file's normal form
-abbrev pub PutsFront : List ℕ → List ℕ → List ℕ → Type 0
-PutsFront file before after = (front rest : List ℕ) × HasNormalForm file (front ++ rest)
+abbrev pub PutsFrontOfNormal : List ℕ → List ℕ → List ℕ → Type 0
+PutsFrontOfNormal file before after = (front rest : List ℕ) × HasNormalForm file (front ++ rest)
     × (after ≡ before ++ front)
 
 -- The answer to a file, with what the sink held before and holds after: all of the normal form, or
@@ -28,7 +28,7 @@ Normalises file before after (Ok done) = (bytes : List ℕ) × HasNormalForm fil
 Normalises file before after (Err (refusals.Fault f)) = (judge file ≡ Err f) × (after ≡ before)
 Normalises file before after (Err refusals.Memory) = after ≡ before
 Normalises file before after (Err refusals.StoreFailed) = (after ≡ before)
-    ⊎ PutsFront file before after
+    ⊎ PutsFrontOfNormal file before after
 Normalises file before after (Err refusals.StoreChanged) = ⊥
-Normalises file before after (Err refusals.WriteFailed) = PutsFront file before after
+Normalises file before after (Err refusals.WriteFailed) = PutsFrontOfNormal file before after
 Normalises file before after (Err refusals.NoSuchTrack) = ⊥

@@ -7,6 +7,7 @@ ghost use Rattle.mp4norm.specs.format.Run.{KeepsFile, run_of};
 ghost use Rattle.mp4norm.specs.format.Texts.{line_text, box_line, uuid_of, BoxLines};
 ghost use Rattle.mp4norm.specs.words.BoxSpans.{AddsLines, RefusesLine, RefusesSpan, TilesSpan};
 ghost use Rattle.mp4_present.specs.words.StoresRead.{OnlyReads, RefusedOf, WhereHonest, WhereRead};
+ghost use Rattle.mp4_boxes.specs.declared.rule.Rule.TheVariants as rules;
 ghost use Rattle.mp4_store.specs.words.Device.{Counts};
 ghost use Rattle.mp4norm.specs.words.StoreAndSink.{Reads};
 
@@ -60,32 +61,43 @@ pub(crate) fn read_uuid<S: Store>(
     Ok(Some(bytes))
 }
 
-// Adds the line of a box that stands in so many containers, under this rule.
+// The level of a box: the rule that it stands under, and in how many containers.
+#[derive(Clone, Copy)]
+struct Level {
+    rule: Rule,
+    depth: u8,
+}
+
+// Adds the line of a box at a level.
 fn add_line<S: Store>(
     text: &mut Vec<u8>,
     alloc: Global,
     store: &mut S,
     syntax: Syntax,
-    rule: Rule,
-    depth: u8,
+    level: Level,
     found: &TopBox,
 ) -> Result<(), Refusal>
-    requires levels { depth ≤ 5 }
+    requires levels { level.depth ≤ 5 }
     requires within { IsWithin (S.file store.old) found.now }
     ensures store { OnlyReads S.Store store.old store.new result }
     ensures line { OnOk result (WhereHonest S.Store store.old (λ file. text.new.items
-        ≡ text.old.items ++ box_line syntax rule depth (top_seen file found.now))) }
+        ≡ text.old.items ++ box_line syntax level.rule level.depth (top_seen file found.now))) }
     ensures refusal { RefusedOf S.Store store.old store.new result (λ honest file. RefusesLine) }
 {
     match syntax {
         Syntax::Text => {
             let header = found.header;
-            let line = line_of(depth, header.kind, found.offset, header.end - found.offset);
+            let line = line_of(
+                level.depth,
+                header.kind,
+                found.offset,
+                header.end - found.offset,
+            );
             text.extend_from_slice(line.as_bytes())?;
         }
         Syntax::Json => {
             let uuid = read_uuid(store, found)?;
-            let line = box_json(alloc, depth, rule, found, uuid)?;
+            let line = box_json(alloc, level.depth, level.rule, found, uuid)?;
             text.extend_from_slice(line.as_str().as_bytes())?;
             text.push(b'\n')?;
         }
@@ -113,27 +125,44 @@ pub(crate) fn rule_inside(rule: Rule, kind: FourCc) -> Option<Rule>
     }
 }
 
-// The boxes of a container that ends at `end` and whose boxes lie under a rule, by their headers.
+/// Where the boxes of a container lie: under this rule, from here to there.
+#[derive(Clone, Copy)]
+pub(crate) struct BoxSpan {
+    pub(crate) rule: Rule,
+    pub(crate) from: u64,
+    pub(crate) end: u64,
+}
+
+/// The boxes of a file of this length.
+pub(crate) fn whole_file(len: u64) -> BoxSpan
+    ensures { result ≡ record { rule = rules.File; from = 0; end = len } }
+{
+    BoxSpan {
+        rule: Rule::File,
+        from: 0,
+        end: len,
+    }
+}
+
+// The boxes of a container, by their headers.
 fn boxes_between<S: Store>(
     alloc: Global,
     store: &mut S,
-    rule: Rule,
-    from: u64,
-    end: u64,
+    span: BoxSpan,
 ) -> Result<Vec<TopBox>, Refusal>
-    requires span { from ≤ end }
-    requires within { end ≤ length (S.file store.old) }
+    requires span { span.from ≤ span.end }
+    requires within { span.end ≤ length (S.file store.old) }
     ensures store { OnlyReads S.Store store.old store.new result }
     ensures tiles { WhereRead S.Store store.old result
-        (λ file boxes. TilesSpan file rule from end boxes.items) }
+        (λ file boxes. TilesSpan file span.rule span.from span.end boxes.items) }
     ensures within { IfOk result (λ boxes. All (IsWithin (S.file store.old)) boxes.items) }
     ensures refusal { RefusedOf S.Store store.old store.new result (λ honest file.
-        RefusesSpan honest file rule from end) }
+        RefusesSpan honest file span.rule span.from span.end) }
 {
     let mut boxes = Vec::new(alloc);
-    let mut at = from;
-    while at < end {
-        let header = read_header(store, rule, at, end)?;
+    let mut at = span.from;
+    while at < span.end {
+        let header = read_header(store, span.rule, at, span.end)?;
         boxes.push(TopBox { offset: at, header })?;
         at = header.end;
     }
@@ -148,37 +177,32 @@ fn push_boxes<S: Store>(
     alloc: Global,
     store: &mut S,
     syntax: Syntax,
-    rule: Rule,
     depth: u8,
-    from: u64,
-    end: u64,
+    span: BoxSpan,
 ) -> Result<(), Refusal>
-    requires levels { depth + height rule ≤ 6 }
-    requires span { from ≤ end }
-    requires within { end ≤ length (S.file store.old) }
+    requires levels { depth + height span.rule ≤ 6 }
+    requires span { span.from ≤ span.end }
+    requires within { span.end ≤ length (S.file store.old) }
     ensures store { OnlyReads S.Store store.old store.new result }
     ensures lines { OnOk result (WhereHonest S.Store store.old
-        (λ file. AddsLines file syntax rule depth from end text.old.items text.new.items)) }
+        (λ file. AddsLines file syntax span.rule depth span.from span.end
+        text.old.items text.new.items)) }
     ensures refusal { RefusedOf S.Store store.old store.new result (λ honest file.
-        RefusesSpan honest file rule from end) }
+        RefusesSpan honest file span.rule span.from span.end) }
 {
-    let boxes = boxes_between(alloc, store, rule, from, end)?;
+    let rule = span.rule;
+    let boxes = boxes_between(alloc, store, span)?;
     for found in &boxes {
-        add_line(text, alloc, store, syntax, rule, depth, found)?;
+        add_line(text, alloc, store, syntax, Level { rule, depth }, found)?;
         let header = found.header;
         if let Some(inner) = rule_inside(rule, header.kind) {
             let _size = store.len();
-            let payload = found.offset + u64::from(header.header);
-            push_boxes(
-                text,
-                alloc,
-                store,
-                syntax,
-                inner,
-                depth + 1,
-                payload,
-                header.end,
-            )?;
+            let inside = BoxSpan {
+                rule: inner,
+                from: found.offset + u64::from(header.header),
+                end: header.end,
+            };
+            push_boxes(text, alloc, store, syntax, depth + 1, inside)?;
         }
     }
     Ok(())
@@ -190,8 +214,8 @@ fn list_boxes<S: Store>(alloc: Global, store: &mut S, syntax: Syntax) -> Result<
         (λ file text. BoxLines syntax file text.items) RefusesTops }
 {
     let mut text = Vec::new(alloc);
-    let end = store.len();
-    push_boxes(&mut text, alloc, store, syntax, Rule::File, 0, 0, end)?;
+    let span = whole_file(store.len());
+    push_boxes(&mut text, alloc, store, syntax, 0, span)?;
     Ok(text)
 }
 

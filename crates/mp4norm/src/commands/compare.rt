@@ -12,11 +12,12 @@ ghost use Rattle.mp4norm.specs.words.TwoFiles.{ComparesBoth, OfBoth, ReadsBoth, 
 use crate::commands::guesses::guess;
 use crate::commands::tally::say_last;
 use crate::shell::action::Syntax;
+use crate::shell::costs::Costs;
 use crate::shell::without_words::{EVERYTHING, WORDS, less_word};
 use crate::text::difference_json::{say_difference_object, say_last_object};
 use crate::text::difference_lines::say_difference;
 use mp4_boxes::{Refusal, Steps};
-use mp4_present::{Difference, Differences, Movie, Without, compare, compare_all, open_movie};
+use mp4_present::{Difference, Differences, Movies, Without, compare, compare_all, open_movie};
 use mp4_store::{Sink, Store};
 use std::alloc::{AllocError, Global};
 use std::sync::ledger::Ledger;
@@ -35,6 +36,13 @@ pub enum Listing {
     All(Lines),
 }
 
+/// What is asked of a comparison: what is left out of both files, and how it is told of.
+#[derive(Clone, Copy)]
+pub struct Asked {
+    pub leaving: Without,
+    pub listing: Listing,
+}
+
 /// Which file a comparison fails for.
 #[derive(Clone, Copy)]
 pub enum Side {
@@ -51,13 +59,25 @@ pub struct Failure {
     pub refusal: Refusal,
 }
 
-// What was kept of two files when they were opened.
+// Two opened files that are compared, and what is left out of both.
 #[derive(Drop)]
-struct Movies {
-    /// Of the first file.
-    left: Movie,
-    /// Of the second one.
-    right: Movie,
+struct Compared {
+    movies: Movies,
+    given: Without,
+}
+
+// Words without which two files are the same, and the one that it is to be tried to take away.
+#[derive(Clone, Copy)]
+struct Trial {
+    leaving: Without,
+    word: Without,
+}
+
+// Words without which two files are the same, and all that it is to be tried to take away.
+#[derive(Clone, Copy)]
+struct Shrinking<'a> {
+    leaving: Without,
+    words: &'a [Without],
 }
 
 // A failure for a file.
@@ -231,24 +251,24 @@ fn same_text(
 fn all_of<S: Store, T: Store, L: Ledger>(
     alloc: Global,
     movies: &Movies,
-    a: &mut S,
-    b: &mut T,
+    left: &mut S,
+    right: &mut T,
     leaving: Without,
     steps: &mut Steps<L>,
 ) -> Result<Listed, Refusal>
-    ensures stores { ReadsBoth S.Store a.old a.new T.Store b.old b.new result }
+    ensures stores { ReadsBoth S.Store left.old left.new T.Store right.old right.new result }
     ensures all { IfOk result
-        (λ found. OfFiles S.Store a.old movies.now.left T.Store b.old movies.now.right
+        (λ found. OfFiles S.Store left.old movies.now.left T.Store right.old movies.now.right
         leaving (ListsFront found.all.items)) }
-    ensures opened { WhereOpenedBoth S.Store a.old movies.now.left T.Store b.old movies.now.right
+    ensures opened { WhereOpenedBoth S.Store left.old movies.now.left
+        T.Store right.old movies.now.right
         (λ tree other. IsUnchanged result × WalksOnce tree other steps.old steps.new) }
 {
     let mut listed = Listed::new(alloc)?;
     if !listed.has_room() {
         return Err(Refusal::Memory);
     }
-    let (left, right) = (&movies.left, &movies.right);
-    let is_whole = compare_all(alloc, left, a, right, b, leaving, &mut listed, steps)?;
+    let is_whole = compare_all(alloc, movies, left, right, leaving, &mut listed, steps)?;
     if !is_whole && listed.all.len() <= MOST {
         return Err(Refusal::Memory);
     }
@@ -259,20 +279,20 @@ fn all_of<S: Store, T: Store, L: Ledger>(
 fn is_enough<S: Store, T: Store, L: Ledger>(
     alloc: Global,
     movies: &Movies,
-    a: &mut S,
-    b: &mut T,
+    left: &mut S,
+    right: &mut T,
     leaving: Without,
     steps: &mut Steps<L>,
 ) -> Result<bool, Refusal>
-    ensures stores { ReadsBoth S.Store a.old a.new T.Store b.old b.new result }
+    ensures stores { ReadsBoth S.Store left.old left.new T.Store right.old right.new result }
     ensures enough { IfOk result
-        (λ same. OfBoth S.Store a.old movies.now.left T.Store b.old movies.now.right
+        (λ same. OfBoth S.Store left.old movies.now.left T.Store right.old movies.now.right
         (λ differ. IsSameWith leaving differ same)) }
-    ensures opened { WhereOpenedBoth S.Store a.old movies.now.left T.Store b.old movies.now.right
+    ensures opened { WhereOpenedBoth S.Store left.old movies.now.left
+        T.Store right.old movies.now.right
         (λ tree other. IsUnchanged result × WalksOnce tree other steps.old steps.new) }
 {
-    let (left, right) = (&movies.left, &movies.right);
-    match compare(alloc, left, a, right, b, leaving, steps)? {
+    match compare(alloc, movies, left, right, leaving, steps)? {
         None => Ok(true),
         Some(_) => Ok(false),
     }
@@ -282,25 +302,26 @@ fn is_enough<S: Store, T: Store, L: Ledger>(
 // that the differences ask for, or all.
 fn first_enough<S: Store, T: Store, L: Ledger>(
     alloc: Global,
-    movies: &Movies,
-    a: &mut S,
-    b: &mut T,
-    given: Without,
+    files: &Compared,
+    left: &mut S,
+    right: &mut T,
     all: &[Difference],
     steps: &mut Steps<L>,
 ) -> Result<Option<Without>, Refusal>
-    ensures stores { ReadsBoth S.Store a.old a.new T.Store b.old b.new result }
+    ensures stores { ReadsBoth S.Store left.old left.new T.Store right.old right.new result }
     ensures enough { IfOk result
-        (λ first. OfBoth S.Store a.old movies.now.left T.Store b.old movies.now.right
-        (λ differ. AreSome given differ first)) }
-    ensures opened { WhereOpenedBoth S.Store a.old movies.now.left T.Store b.old movies.now.right
+        (λ first. OfBoth S.Store left.old files.now.movies.left
+        T.Store right.old files.now.movies.right
+        (λ differ. AreSome files.now.given differ first)) }
+    ensures opened { WhereOpenedBoth S.Store left.old files.now.movies.left
+        T.Store right.old files.now.movies.right
         (λ tree other. IsUnchanged result × WalksTimes 2 tree other steps.old steps.new) }
 {
-    let guessed = guess(given, all, movies.left.tracks());
-    if is_enough(alloc, movies, a, b, guessed, steps)? {
+    let guessed = guess(files.given, all, files.movies.left.tracks());
+    if is_enough(alloc, &files.movies, left, right, guessed, steps)? {
         return Ok(Some(guessed));
     }
-    if is_enough(alloc, movies, a, b, EVERYTHING, steps)? {
+    if is_enough(alloc, &files.movies, left, right, EVERYTHING, steps)? {
         return Ok(Some(EVERYTHING));
     }
     Ok(None)
@@ -310,142 +331,159 @@ fn first_enough<S: Store, T: Store, L: Ledger>(
 // the files are the same without the others too.
 fn take_word<S: Store, T: Store, L: Ledger>(
     alloc: Global,
-    movies: &Movies,
-    a: &mut S,
-    b: &mut T,
-    given: Without,
-    leaving: Without,
-    word: Without,
+    files: &Compared,
+    left: &mut S,
+    right: &mut T,
+    trial: Trial,
     steps: &mut Steps<L>,
 ) -> Result<Without, Refusal>
-    ensures stores { ReadsBoth S.Store a.old a.new T.Store b.old b.new result }
+    ensures stores { ReadsBoth S.Store left.old left.new T.Store right.old right.new result }
     ensures tried { IfOk result
-        (λ next. OfBoth S.Store a.old movies.now.left T.Store b.old movies.now.right
-        (λ differ. IsTried word given differ leaving next)) }
-    ensures opened { WhereOpenedBoth S.Store a.old movies.now.left T.Store b.old movies.now.right
+        (λ next. OfBoth S.Store left.old files.now.movies.left
+        T.Store right.old files.now.movies.right
+        (λ differ. IsTried trial.word files.now.given differ trial.leaving next)) }
+    ensures opened { WhereOpenedBoth S.Store left.old files.now.movies.left
+        T.Store right.old files.now.movies.right
         (λ tree other. IsUnchanged result × WalksOnce tree other steps.old steps.new) }
 {
-    let less = less_word(given, leaving, word);
-    if less == leaving {
-        return Ok(leaving);
+    let less = less_word(files.given, trial.leaving, trial.word);
+    if less == trial.leaving {
+        return Ok(trial.leaving);
     }
-    if is_enough(alloc, movies, a, b, less, steps)? {
+    if is_enough(alloc, &files.movies, left, right, less, steps)? {
         return Ok(less);
     }
-    Ok(leaving)
+    Ok(trial.leaving)
 }
 
 // Takes away one after the other all of these words that can be.
 fn shrink<S: Store, T: Store, L: Ledger>(
     alloc: Global,
-    movies: &Movies,
-    a: &mut S,
-    b: &mut T,
-    given: Without,
-    leaving: Without,
-    words: &[Without],
+    files: &Compared,
+    left: &mut S,
+    right: &mut T,
+    from: Shrinking,
     steps: &mut Steps<L>,
 ) -> Result<Without, Refusal>
-    ensures stores { ReadsBoth S.Store a.old a.new T.Store b.old b.new result }
+    ensures stores { ReadsBoth S.Store left.old left.new T.Store right.old right.new result }
     ensures shrunk { IfOk result
-        (λ least. OfBoth S.Store a.old movies.now.left T.Store b.old movies.now.right
-        (λ differ. IsShrunk words.now given differ leaving least)) }
-    ensures opened { WhereOpenedBoth S.Store a.old movies.now.left T.Store b.old movies.now.right
+        (λ least. OfBoth S.Store left.old files.now.movies.left
+        T.Store right.old files.now.movies.right
+        (λ differ. IsShrunk from.entry.words.now files.now.given differ from.entry.leaving least)) }
+    ensures opened { WhereOpenedBoth S.Store left.old files.now.movies.left
+        T.Store right.old files.now.movies.right
         (λ tree other. IsUnchanged result
-        × WalksTimes (length words.now) tree other steps.old steps.new) }
+        × WalksTimes (length from.entry.words.now) tree other steps.old steps.new) }
 {
-    let Some((word, more)) = words.split_first() else {
-        return Ok(leaving);
+    let Some((word, more)) = from.words.split_first() else {
+        return Ok(from.leaving);
     };
-    let next = take_word(alloc, movies, a, b, given, leaving, *word, steps)?;
-    shrink(alloc, movies, a, b, given, next, more, steps)
+    let trial = Trial {
+        leaving: from.leaving,
+        word: *word,
+    };
+    let next = take_word(alloc, files, left, right, trial, steps)?;
+    let from = Shrinking {
+        leaving: next,
+        words: more,
+    };
+    shrink(alloc, files, left, right, from, steps)
 }
 
 // The words without which two opened files are the same, those that were given among them, and none
 // that can be taken away. No words where the files differ even without everything.
 fn enough_for<S: Store, T: Store, L: Ledger>(
     alloc: Global,
-    movies: &Movies,
-    a: &mut S,
-    b: &mut T,
-    given: Without,
+    files: &Compared,
+    left: &mut S,
+    right: &mut T,
     all: &[Difference],
     steps: &mut Steps<L>,
 ) -> Result<Option<Without>, Refusal>
-    ensures stores { ReadsBoth S.Store a.old a.new T.Store b.old b.new result }
+    ensures stores { ReadsBoth S.Store left.old left.new T.Store right.old right.new result }
     ensures enough { IfOk result
-        (λ enough. OfBoth S.Store a.old movies.now.left T.Store b.old movies.now.right
-        (λ differ. IsEnough given differ enough)) }
-    ensures opened { WhereOpenedBoth S.Store a.old movies.now.left T.Store b.old movies.now.right
+        (λ enough. OfBoth S.Store left.old files.now.movies.left
+        T.Store right.old files.now.movies.right
+        (λ differ. IsEnough files.now.given differ enough)) }
+    ensures opened { WhereOpenedBoth S.Store left.old files.now.movies.left
+        T.Store right.old files.now.movies.right
         (λ tree other. IsUnchanged result
         × WalksTimes (2 + word_count) tree other steps.old steps.new) }
 {
-    let Some(first) = first_enough(alloc, movies, a, b, given, all, steps)? else {
+    let Some(first) = first_enough(alloc, files, left, right, all, steps)? else {
         return Ok(None);
     };
-    let least = shrink(alloc, movies, a, b, given, first, WORDS, steps)?;
+    let from = Shrinking {
+        leaving: first,
+        words: WORDS,
+    };
+    let least = shrink(alloc, files, left, right, from, steps)?;
     Ok(Some(least))
 }
 
 // Compares two opened files, and gives the text of all differences; none where there are none.
 fn all_text<S: Store, T: Store, L: Ledger>(
     alloc: Global,
-    movies: &Movies,
-    a: &mut S,
-    b: &mut T,
-    leaving: Without,
+    files: &Compared,
+    left: &mut S,
+    right: &mut T,
     lines: Lines,
     steps: &mut Steps<L>,
 ) -> Result<Option<Vec<u8>>, Refusal>
-    ensures stores { ReadsBoth S.Store a.old a.new T.Store b.old b.new result }
+    ensures stores { ReadsBoth S.Store left.old left.new T.Store right.old right.new result }
     ensures some { IfOk result (λ found. IfSome found (λ text. 0 < length text.items)) }
     ensures said { IfOk result
-        (λ text. OfFiles S.Store a.old movies.now.left T.Store b.old movies.now.right
-        leaving (IsSaid text)) }
+        (λ text. OfFiles S.Store left.old files.now.movies.left
+        T.Store right.old files.now.movies.right
+        files.now.given (IsSaid text)) }
     ensures told { IfOk result
-        (λ text. OfBoth S.Store a.old movies.now.left T.Store b.old movies.now.right
-        (λ differ. IsFoundOf (λ bytes. bytes.items) (All lines) leaving differ text)) }
-    ensures opened { WhereOpenedBoth S.Store a.old movies.now.left T.Store b.old movies.now.right
+        (λ text. OfBoth S.Store left.old files.now.movies.left
+        T.Store right.old files.now.movies.right
+        (λ differ. IsFoundOf (λ bytes. bytes.items) (All lines) files.now.given differ text)) }
+    ensures opened { WhereOpenedBoth S.Store left.old files.now.movies.left
+        T.Store right.old files.now.movies.right
         (λ tree other. IsUnchanged result × WalksTimes most_walks tree other steps.old steps.new) }
 {
-    let listed = all_of(alloc, movies, a, b, leaving, steps)?;
+    let listed = all_of(alloc, &files.movies, left, right, files.given, steps)?;
     if listed.is_empty() {
         return Ok(None);
     }
     let is_whole = listed.all.len() <= MOST;
     let all = first_of(listed.all.as_slice(), MOST);
-    let enough = enough_for(alloc, movies, a, b, leaving, all, steps)?;
+    let enough = enough_for(alloc, files, left, right, all, steps)?;
     Ok(Some(listed_text(alloc, all, lines, is_whole, enough)?))
 }
 
 // Compares two opened files, and gives what there is to say; nothing where they are the same.
 fn text_of<S: Store, T: Store, L: Ledger>(
     alloc: Global,
-    movies: &Movies,
-    a: &mut S,
-    b: &mut T,
-    leaving: Without,
+    files: &Compared,
+    left: &mut S,
+    right: &mut T,
     listing: Listing,
     steps: &mut Steps<L>,
 ) -> Result<Option<Vec<u8>>, Refusal>
-    ensures stores { ReadsBoth S.Store a.old a.new T.Store b.old b.new result }
+    ensures stores { ReadsBoth S.Store left.old left.new T.Store right.old right.new result }
     ensures some { IfOk result (λ found. IfSome found (λ text. 0 < length text.items)) }
     ensures said { IfOk result
-        (λ text. OfFiles S.Store a.old movies.now.left T.Store b.old movies.now.right
-        leaving (IsSaid text)) }
+        (λ text. OfFiles S.Store left.old files.now.movies.left
+        T.Store right.old files.now.movies.right
+        files.now.given (IsSaid text)) }
     ensures told { IfOk result
-        (λ text. OfBoth S.Store a.old movies.now.left T.Store b.old movies.now.right
-        (λ differ. IsFoundOf (λ bytes. bytes.items) listing leaving differ text)) }
-    ensures opened { WhereOpenedBoth S.Store a.old movies.now.left T.Store b.old movies.now.right
+        (λ text. OfBoth S.Store left.old files.now.movies.left
+        T.Store right.old files.now.movies.right
+        (λ differ. IsFoundOf (λ bytes. bytes.items) listing files.now.given differ text)) }
+    ensures opened { WhereOpenedBoth S.Store left.old files.now.movies.left
+        T.Store right.old files.now.movies.right
         (λ tree other. IsUnchanged result × WalksTimes most_walks tree other steps.old steps.new) }
 {
-    let (left, right) = (&movies.left, &movies.right);
+    let (movies, leaving) = (&files.movies, files.given);
     match listing {
-        Listing::First(syntax) => match compare(alloc, left, a, right, b, leaving, steps)? {
+        Listing::First(syntax) => match compare(alloc, movies, left, right, leaving, steps)? {
             None => Ok(None),
             Some(difference) => Ok(Some(first_text(alloc, difference, syntax)?)),
         },
-        Listing::All(lines) => all_text(alloc, movies, a, b, leaving, lines, steps),
+        Listing::All(lines) => all_text(alloc, files, left, right, lines, steps),
     }
 }
 
@@ -498,35 +536,43 @@ fn put_found<K: Sink>(
 /// whether they are the same. Both are judged before anything is put.
 pub fn compare_files<S: Store, T: Store, K: Sink, L: Ledger, M: Ledger>(
     alloc: Global,
-    a: &mut S,
-    b: &mut T,
-    leaving: Without,
-    listing: Listing,
+    left: &mut S,
+    right: &mut T,
+    asked: Asked,
     sink: &mut K,
-    steps: &mut Steps<L>,
-    looks: &mut Steps<M>,
+    costs: &mut Costs<L, M>,
 ) -> Result<bool, Failure>
-    ensures answer { ComparesBoth S.Store a.old a.new T.Store b.old b.new
-        K.Sink sink.old sink.new leaving (is_silent listing) result }
-    ensures verdict { IfOk result (λ same. WhereBothHonest S.Store a.old T.Store b.old
-        (λ file other. IsVerdict leaving file other same)) }
-    ensures told { IfOk result (λ same. same ≡ false → WhereBothHonest S.Store a.old T.Store b.old
-        (λ file other. PutsSuch (K.takes sink.old sink.new) (IsTold listing leaving file other))) }
-    ensures work { WhereBothHonest S.Store a.old T.Store b.old
-        (λ file other. ComparesWithin file other steps.old steps.new) }
-    ensures looks { WhereBothHonest S.Store a.old T.Store b.old
-        (λ file other. FindsBothWithin file other looks.old looks.new) }
+    ensures answer { ComparesBoth S.Store left.old left.new T.Store right.old right.new
+        K.Sink sink.old sink.new asked.leaving (is_silent asked.listing) result }
+    ensures verdict { IfOk result (λ same. WhereBothHonest S.Store left.old T.Store right.old
+        (λ file other. IsVerdict asked.leaving file other same)) }
+    ensures told { IfOk result (λ same. same ≡ false
+        → WhereBothHonest S.Store left.old T.Store right.old
+        (λ file other.
+        PutsSuch (K.takes sink.old sink.new) (IsTold asked.listing asked.leaving file other))) }
+    ensures work { WhereBothHonest S.Store left.old T.Store right.old
+        (λ file other. ComparesWithin file other costs.old.steps costs.new.steps) }
+    ensures looks { WhereBothHonest S.Store left.old T.Store right.old
+        (λ file other. FindsBothWithin file other costs.old.looks costs.new.looks) }
 {
-    let left = match open_movie(alloc, a, steps, looks) {
-        Ok(left) => left,
+    let Costs { steps, looks } = costs;
+    let Asked { leaving, listing } = asked;
+    let first = match open_movie(alloc, left, steps, looks) {
+        Ok(first) => first,
         Err(refusal) => return Err(failed(Side::First, refusal)),
     };
-    let right = match open_movie(alloc, b, steps, looks) {
-        Ok(right) => right,
+    let second = match open_movie(alloc, right, steps, looks) {
+        Ok(second) => second,
         Err(refusal) => return Err(failed(Side::Second, refusal)),
     };
-    let movies = Movies { left, right };
-    let found = match text_of(alloc, &movies, a, b, leaving, listing, steps) {
+    let files = Compared {
+        movies: Movies {
+            left: first,
+            right: second,
+        },
+        given: leaving,
+    };
+    let found = match text_of(alloc, &files, left, right, listing, steps) {
         Ok(found) => found,
         Err(refusal) => return Err(failed_together(refusal)),
     };

@@ -4,7 +4,7 @@ ghost use Rattle.mp4norm.specs.format.Run.{KeepsFile};
 
 use crate::commands::box_headers::read_header;
 use crate::commands::box_names::{FullType, Name, holder, is_named, is_named_foreign};
-use crate::commands::boxes::{read_uuid, rule_inside};
+use crate::commands::boxes::{BoxSpan, read_uuid, rule_inside, whole_file};
 use mp4_boxes::{FourCc, Refusal, Rule};
 use mp4_present::TopBox;
 use mp4_store::Store;
@@ -175,25 +175,19 @@ impl Found {
 }
 
 // Whether a fragment of a track keeps a box that tells when it begins.
-fn keeps_time<S: Store>(
-    names: &[Name],
-    rule: Rule,
-    from: u64,
-    end: u64,
-    store: &mut S,
-) -> Result<bool, Refusal>
-    requires span { from ≤ end }
-    requires within { end ≤ length (S.file store.old) }
+fn keeps_time<S: Store>(names: &[Name], span: BoxSpan, store: &mut S) -> Result<bool, Refusal>
+    requires span { span.from ≤ span.end }
+    requires within { span.end ≤ length (S.file store.old) }
     ensures store { KeepsFile S.Store store.old store.new }
 {
     let kind = FourCc(*b"tfdt");
     let time = FullType { kind, uuid: None };
-    if rule != Rule::TrackFragment || is_named(names, rule, time) {
+    if span.rule != Rule::TrackFragment || is_named(names, span.rule, time) {
         return Ok(false);
     }
-    let mut at = from;
-    while at < end {
-        let header = read_header(store, rule, at, end)?;
+    let mut at = span.from;
+    while at < span.end {
+        let header = read_header(store, span.rule, at, span.end)?;
         if header.kind == kind {
             return Ok(true);
         }
@@ -242,29 +236,34 @@ fn add_box(
 fn find_boxes<S: Store>(
     alloc: Global,
     names: &[Name],
-    rule: Rule,
-    from: u64,
-    end: u64,
+    span: BoxSpan,
     store: &mut S,
     found: &mut Found,
 ) -> Result<(), Refusal>
-    requires span { from ≤ end }
-    requires within { end ≤ length (S.file store.old) }
+    requires span { span.from ≤ span.end }
+    requires within { span.end ≤ length (S.file store.old) }
     ensures store { KeepsFile S.Store store.old store.new }
 {
-    let has_time = keeps_time(names, rule, from, end, store)?;
-    let within = Container { rule, has_time };
-    let mut at = from;
-    while at < end {
-        let header = read_header(store, rule, at, end)?;
+    let has_time = keeps_time(names, span, store)?;
+    let within = Container {
+        rule: span.rule,
+        has_time,
+    };
+    let mut at = span.from;
+    while at < span.end {
+        let header = read_header(store, span.rule, at, span.end)?;
         let uuid = read_uuid(store, &TopBox { offset: at, header })?;
         let kind = header.kind;
         let own = FullType { kind, uuid };
-        if is_named(names, rule, own) {
+        if is_named(names, span.rule, own) {
             add_box(alloc, names, within, at, own, found)?;
-        } else if let Some(inner) = rule_inside(rule, header.kind) {
-            let payload = at + u64::from(header.header);
-            find_boxes(alloc, names, inner, payload, header.end, store, found)?;
+        } else if let Some(inner) = rule_inside(span.rule, header.kind) {
+            let inside = BoxSpan {
+                rule: inner,
+                from: at + u64::from(header.header),
+                end: header.end,
+            };
+            find_boxes(alloc, names, inside, store, found)?;
         }
         at = header.end;
     }
@@ -280,8 +279,8 @@ pub(crate) fn find_freed<S: Store>(
     ensures store { KeepsFile S.Store store.old store.new }
 {
     let mut found = Found::none(alloc);
-    let end = store.len();
-    find_boxes(alloc, names, Rule::File, 0, end, store, &mut found)?;
+    let span = whole_file(store.len());
+    find_boxes(alloc, names, span, store, &mut found)?;
     found.finish(alloc)?;
     Ok(found)
 }

@@ -127,32 +127,39 @@ fn put_sample<S: Store, K: Sink>(
     desk.text.carry(line, sink)
 }
 
+// Samples of a movie, and how their lines are written.
+#[derive(Clone, Copy)]
+struct Styled<'a> {
+    movie: &'a Movie,
+    style: &'a SampleStyle,
+}
+
 // Puts the lines of all samples in hand.
 fn put_hand<S: Store, K: Sink, L: Ledger>(
-    style: &SampleStyle,
-    movie: &Movie,
+    of: Styled,
     walk: &mut Walk,
     desk: &mut Desk,
     store: &mut S,
     sink: &mut K,
     steps: &mut Steps<L>,
 ) -> Result<(), Refusal>
-    requires walk { IsWalkOf movie.now walk.old }
+    requires walk { IsWalkOf of.movie.now walk.old }
     requires empty { waiting desk.old.window ≡ [] }
-    ensures walk { OnOk result (StaysBefore movie.now walk.old walk.new) }
+    ensures walk { OnOk result (StaysBefore of.entry.movie.now walk.old walk.new) }
     ensures empty { OnOk result (waiting desk.new.window ≡ []) }
     ensures store { OnlyCopies S.Store store.old store.new K.Sink sink.old sink.new result }
-    ensures told { OfHandLines S.Store store.old movie.now walk.old style.now (λ lines.
+    ensures told { OfHandLines S.Store store.old of.entry.movie.now walk.old of.entry.style.now
+        (λ lines.
         TellsOn K.Sink sink.old sink.new desk.old.text desk.new.text lines result) }
     ensures grows { steps.old ≤ steps.new }
-    ensures work { HandWork movie.now walk.old walk.new result steps.old steps.new }
+    ensures work { HandWork of.entry.movie.now walk.old walk.new result steps.old steps.new }
     ensures refusal { RefusedByBoth S.Store store.old store.new K.Sink sink.old sink.new result
         RefusesCarry }
 {
     let place = {
-        let mut hand = walk.in_hand(movie);
+        let mut hand = walk.in_hand(of.movie);
         while let Some(sample) = hand.next() {
-            put_sample(style, &sample, desk, store, sink)?;
+            put_sample(of.style, &sample, desk, store, sink)?;
         }
         hand.place()
     };
@@ -162,60 +169,73 @@ fn put_hand<S: Store, K: Sink, L: Ledger>(
 
 // Puts the lines of all samples of a walk.
 fn put_walk<S: Store, K: Sink, L: Ledger>(
-    style: &SampleStyle,
-    movie: &Movie,
+    of: Styled,
     walk: &mut Walk,
     desk: &mut Desk,
     store: &mut S,
     sink: &mut K,
     steps: &mut Steps<L>,
 ) -> Result<(), Refusal>
-    requires walk { IsWalkOf movie.now walk.old }
+    requires walk { IsWalkOf of.movie.now walk.old }
     requires empty { waiting desk.old.window ≡ [] }
     ensures empty { OnOk result (waiting desk.new.window ≡ []) }
     ensures store { OnlyCopies S.Store store.old store.new K.Sink sink.old sink.new result }
-    ensures told { OfWalkLines S.Store store.old movie.now walk.old style.now (λ lines.
+    ensures told { OfWalkLines S.Store store.old of.entry.movie.now walk.old of.entry.style.now
+        (λ lines.
         TellsOn K.Sink sink.old sink.new desk.old.text desk.new.text lines result) }
     ensures grows { steps.old ≤ steps.new }
-    ensures work { WhereMayTake S.Store store.old movie.now walk.old
+    ensures work { WhereMayTake S.Store store.old of.entry.movie.now walk.old
         (λ file tree t n. steps.new ≤ steps.old + n) }
     ensures refusal { RefusedByBoth S.Store store.old store.new K.Sink sink.old sink.new result
         RefusesCarry }
 {
-    put_hand(style, movie, walk, desk, store, sink, steps)?;
-    while walk.load(movie, store, steps)? {
-        put_hand(style, movie, walk, desk, store, sink, steps)?;
+    put_hand(of, walk, desk, store, sink, steps)?;
+    while walk.load(of.movie, store, steps)? {
+        put_hand(of, walk, desk, store, sink, steps)?;
     }
     Ok(())
+}
+
+// A movie, its heads as they are left, and what is left out of it.
+#[derive(Clone, Copy)]
+struct PrintedMovie<'a> {
+    movie: &'a Movie,
+    heads: &'a [TrackHead<'a>],
+    leaving: Without,
 }
 
 // Puts the lines of all samples of a track whose samples are grouped by these keys, of a walk that
 // stands before the first.
 fn put_samples<S: Store, K: Sink, L: Ledger>(
-    leaving: Without,
+    of: PrintedMovie,
     keys: Keys,
-    movie: &Movie,
     walk: &mut Walk,
     desk: &mut Desk,
     store: &mut S,
     sink: &mut K,
     steps: &mut Steps<L>,
 ) -> Result<(), Refusal>
-    requires walk { IsWalkOf movie.now walk.old }
+    requires walk { IsWalkOf of.movie.now walk.old }
     requires empty { waiting desk.old.window ≡ [] }
     ensures empty { OnOk result (waiting desk.new.window ≡ []) }
     ensures store { OnlyCopies S.Store store.old store.new K.Sink sink.old sink.new result }
-    ensures told { OfTrackLines S.Store store.old movie.now walk.old leaving keys (λ lines.
+    ensures told { OfTrackLines S.Store store.old of.entry.movie.now walk.old of.entry.leaving keys
+        (λ lines.
         TellsOn K.Sink sink.old sink.new desk.old.text desk.new.text lines result) }
     ensures grows { steps.old ≤ steps.new }
-    ensures work { WhereMayTake S.Store store.old movie.now walk.old
+    ensures work { WhereMayTake S.Store store.old of.entry.movie.now walk.old
         (λ file tree t n. steps.new ≤ steps.old + n) }
     ensures refusal { RefusedByBoth S.Store store.old store.new K.Sink sink.old sink.new result
         RefusesCarry }
 {
-    let edges = walk.edges(leaving, movie, store, steps)?;
-    let style = SampleStyle::new(leaving, keys, edges);
-    put_walk(&style, movie, walk, desk, store, sink, steps)
+    let movie = of.movie;
+    let edges = walk.edges(of.leaving, movie, store, steps)?;
+    let style = SampleStyle::new(of.leaving, keys, edges);
+    let of = Styled {
+        movie,
+        style: &style,
+    };
+    put_walk(of, walk, desk, store, sink, steps)
 }
 
 // Puts what a track says before its samples.
@@ -252,26 +272,29 @@ fn walks_of(alloc: Global, movie: &Movie) -> Result<Vec<Walk>, Memory>
 
 // Puts all tracks. The walks are those over their samples, the last track's first.
 fn put_tracks<S: Store, K: Sink, L: Ledger>(
-    leaving: Without,
-    movie: &Movie,
-    heads: &[TrackHead],
+    of: PrintedMovie,
     walks: &mut Vec<Walk>,
     desk: &mut Desk,
     store: &mut S,
     sink: &mut K,
     steps: &mut Steps<L>,
 ) -> Result<(), Refusal>
-    requires walks { AreWalks movie.now 0 walks.old.items }
+    requires walks { AreWalks of.movie.now 0 walks.old.items }
     requires empty { waiting desk.old.window ≡ [] }
     ensures store { OnlyCopies S.Store store.old store.new K.Sink sink.old sink.new result }
-    ensures told { WhereHeads S.Store store.old movie.now leaving heads.now
-        (λ file tree. TellsTracks
-        leaving file tree K.Sink sink.old sink.new desk.old.text desk.new.text result
+    ensures told { WhereHeads S.Store store.old of.entry.movie.now of.entry.leaving
+        of.entry.heads.now (λ file tree. TellsTracks
+        of.entry.leaving file tree K.Sink sink.old sink.new desk.old.text desk.new.text result
         steps.old steps.new) }
     ensures grows { steps.old ≤ steps.new }
     ensures refusal { RefusedByBoth S.Store store.old store.new K.Sink sink.old sink.new result
         RefusesCarry }
 {
+    let PrintedMovie {
+        movie,
+        heads,
+        leaving,
+    } = of;
     for track in 0..heads.len().min(movie.tracks().len()) {
         let Some(mut walk) = walks.pop() else {
             return Ok(());
@@ -285,9 +308,7 @@ fn put_tracks<S: Store, K: Sink, L: Ledger>(
             &mut desk.text,
             sink,
         )?;
-        put_samples(
-            leaving, info.keys, movie, &mut walk, desk, store, sink, steps,
-        )?;
+        put_samples(of, info.keys, &mut walk, desk, store, sink, steps)?;
     }
     Ok(())
 }
@@ -323,9 +344,12 @@ pub fn print<S: Store, K: Sink, L: Ledger, M: Ledger>(
     desk.text.carry(front.as_slice(), sink)?;
     put_movie(leaving, &left, &mut desk.text, sink)?;
     let heads = left.tracks.as_slice();
-    put_tracks(
-        leaving, &movie, heads, &mut walks, &mut desk, store, sink, steps,
-    )?;
+    let of = PrintedMovie {
+        movie: &movie,
+        heads,
+        leaving,
+    };
+    put_tracks(of, &mut walks, &mut desk, store, sink, steps)?;
     desk.text.carry(b"end\n", sink)?;
     desk.text.flush(sink)
 }

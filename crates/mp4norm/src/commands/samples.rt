@@ -1,5 +1,5 @@
 //! The samples of a track, a line each.
-ghost use Rattle.std.specs.Prelude.{◌+◌, ◌≤◌, OnOk};
+ghost use Rattle.std.specs.Prelude.{◌≡◌, ◌+◌, ◌≤◌, OnOk};
 ghost use Rattle.mp4_present.specs.words.Loaded.{left_in_hand};
 ghost use Rattle.mp4_present.specs.words.Movies.{IsWalkOf};
 ghost use Rattle.mp4_present.specs.words.Carried.{RefusesCarry};
@@ -28,27 +28,35 @@ use std::sync::ledger::{Blank, Ledger};
 /// How many bytes are put at once: a power of two, so that each put fills whole pages.
 const ROOM: usize = 32_768;
 
+// The text that is put: the form of its lines, and what waits of them.
+#[derive(Drop)]
+struct SampleText {
+    form: Form,
+    carrier: OutBuffer,
+}
+
 // Puts the lines of all samples in hand. The number is that of the next one.
 fn put_hand<K: Sink, L: Ledger>(
-    form: Form,
+    text: &mut SampleText,
+    number: &mut u64,
     movie: &Movie,
     walk: &mut Walk,
-    number: &mut u64,
-    carrier: &mut OutBuffer,
     sink: &mut K,
     steps: &mut Steps<L>,
 ) -> Result<(), Refusal>
     requires { IsWalkOf movie.now walk.old }
     ensures walk { OnOk result (StaysBefore movie.now walk.old walk.new) }
+    ensures form { text.new.form ≡ text.old.form }
     ensures lines { OfHand movie.now walk.old (λ hand. PutsLines K.Sink sink.old sink.new
-        carrier.old carrier.new form number.old number.new (left_in_hand hand) result) }
+        text.old.carrier text.new.carrier text.old.form number.old number.new
+        (left_in_hand hand) result) }
     ensures puts { PutsOrFails K.Sink sink.old sink.new result }
     ensures grows { steps.old ≤ steps.new }
     ensures work { HandWork movie.now walk.old walk.new result steps.old steps.new }
 {
     let place = {
         let mut hand = walk.in_hand(movie);
-        put_lines(form, &mut hand, number, carrier, sink)?;
+        put_lines(text.form, &mut hand, number, &mut text.carrier, sink)?;
         hand.place()
     };
     walk.keep(place, steps);
@@ -58,10 +66,9 @@ fn put_hand<K: Sink, L: Ledger>(
 // Puts the lines of all samples of a walk: at Ok all of them, at Err a front of them. A store that
 // doesn't change is not taken as changed.
 fn put_walk<S: Store, K: Sink, L: Ledger>(
-    form: Form,
+    text: &mut SampleText,
     movie: &Movie,
     walk: &mut Walk,
-    carrier: &mut OutBuffer,
     store: &mut S,
     sink: &mut K,
     steps: &mut Steps<L>,
@@ -70,7 +77,8 @@ fn put_walk<S: Store, K: Sink, L: Ledger>(
     ensures store { OnlyReads S.Store store.old store.new result }
     ensures puts { NoPutFails K.Sink sink.old sink.new result }
     ensures lines { WhereFewCome S.Store store.old movie.now walk.old (λ samples. PutsAll
-        K.Sink sink.old sink.new carrier.old (sample_at_lines form 1 samples) result) }
+        K.Sink sink.old sink.new text.old.carrier (sample_at_lines text.old.form 1 samples)
+        result) }
     ensures refusal { RefusedByBoth S.Store store.old store.new K.Sink sink.old sink.new result
         RefusesCarry }
     ensures grows { steps.old ≤ steps.new }
@@ -78,11 +86,11 @@ fn put_walk<S: Store, K: Sink, L: Ledger>(
         (λ file tree t n. steps.new ≤ steps.old + n) }
 {
     let mut number = 1;
-    put_hand(form, movie, walk, &mut number, carrier, sink, steps)?;
+    put_hand(text, &mut number, movie, walk, sink, steps)?;
     while walk.load(movie, store, steps)? {
-        put_hand(form, movie, walk, &mut number, carrier, sink, steps)?;
+        put_hand(text, &mut number, movie, walk, sink, steps)?;
     }
-    carrier.flush(sink)
+    text.carrier.flush(sink)
 }
 
 /// As `samples`, with the steps that it takes counted: at most 8 for each sample and each row
@@ -107,9 +115,10 @@ pub fn samples_counted<S: Store, K: Sink, L: Ledger, M: Ledger>(
     let movie = open_movie(alloc, store, steps, looks)?;
     let track = track_with(movie.tracks(), id)?;
     let mut walk = movie.walk(alloc, track)?;
-    let mut carrier = OutBuffer::new(alloc, ROOM)?;
-    carrier.carry(head_of(form), sink)?;
-    put_walk(form, &movie, &mut walk, &mut carrier, store, sink, steps)
+    let carrier = OutBuffer::new(alloc, ROOM)?;
+    let mut text = SampleText { form, carrier };
+    text.carrier.carry(head_of(form), sink)?;
+    put_walk(&mut text, &movie, &mut walk, store, sink, steps)
 }
 
 /// Puts a line for each sample of the track with this ID: number, decode time, composition time,

@@ -13,7 +13,7 @@ ghost use Rattle.mp4norm.specs.words.StripSpans.{HasCopy, IsHeaderAt, IsUuidAt, 
 
 use crate::commands::box_headers::read_header;
 use crate::commands::box_names::{FullType, Name, count_box, is_named};
-use crate::commands::boxes::{read_uuid, rule_inside};
+use crate::commands::boxes::{BoxSpan, read_uuid, rule_inside, whole_file};
 use mp4_boxes::{Refusal, Rule, TopHeader};
 use mp4_present::{OutBuffer, TopBox};
 use mp4_store::{Sink, Store};
@@ -81,22 +81,16 @@ fn find_again<S: Store>(store: &mut S, rule: Rule, at: u64, end: u64) -> Result<
 }
 
 // Reads the headers of all boxes of a container.
-fn read_headers<S: Store>(
-    names: &[Name],
-    rule: Rule,
-    from: u64,
-    end: u64,
-    store: &mut S,
-) -> Result<(), Refusal>
-    requires span { from ≤ end }
-    requires within { end ≤ length (S.file store.old) }
+fn read_headers<S: Store>(names: &[Name], span: BoxSpan, store: &mut S) -> Result<(), Refusal>
+    requires span { span.from ≤ span.end }
+    requires within { span.end ≤ length (S.file store.old) }
     ensures store { OnlyReads S.Store store.old store.new result }
     ensures refusal { RefusedOf S.Store store.old store.new result
-        (RefusesWalkAt names.now rule from end) }
+        (RefusesWalkAt names.now span.rule span.from span.end) }
 {
-    let mut at = from;
-    while at < end {
-        let header = read_header(store, rule, at, end)?;
+    let mut at = span.from;
+    while at < span.end {
+        let header = read_header(store, span.rule, at, span.end)?;
         at = header.end;
     }
     Ok(())
@@ -107,30 +101,32 @@ fn read_headers<S: Store>(
 // as where boxes are listed.
 fn judge_boxes<S: Store>(
     names: &[Name],
-    rule: Rule,
-    from: u64,
-    end: u64,
+    span: BoxSpan,
     store: &mut S,
     counts: &mut [u64],
 ) -> Result<(), Refusal>
-    requires span { from ≤ end }
-    requires within { end ≤ length (S.file store.old) }
+    requires span { span.from ≤ span.end }
+    requires within { span.end ≤ length (S.file store.old) }
     ensures store { OnlyReads S.Store store.old store.new result }
     ensures judged { OnOk result (WhereHonest S.Store store.old
-        (HasCopy names.now rule from end)) }
+        (HasCopy names.now span.rule span.from span.end)) }
     ensures refusal { RefusedOf S.Store store.old store.new result
-        (RefusesWalkAt names.now rule from end) }
+        (RefusesWalkAt names.now span.rule span.from span.end) }
 {
-    read_headers(names, rule, from, end, store)?;
-    let mut at = from;
-    while at < end {
-        let found = find(store, rule, at, end)?;
+    read_headers(names, span, store)?;
+    let mut at = span.from;
+    while at < span.end {
+        let found = find(store, span.rule, at, span.end)?;
         let header = found.header;
-        if is_named(names, rule, found.full_type()) {
-            count_box(names, rule, found.full_type(), counts);
-        } else if let Some(inner) = rule_inside(rule, header.kind) {
-            let payload = at + u64::from(header.header);
-            judge_boxes(names, inner, payload, header.end, store, counts)?;
+        if is_named(names, span.rule, found.full_type()) {
+            count_box(names, span.rule, found.full_type(), counts);
+        } else if let Some(inner) = rule_inside(span.rule, header.kind) {
+            let inside = BoxSpan {
+                rule: inner,
+                from: at + u64::from(header.header),
+                end: header.end,
+            };
+            judge_boxes(names, inside, store, counts)?;
         }
         at = header.end;
     }
@@ -162,34 +158,37 @@ fn carry_freed<S: Store, K: Sink>(
 // Takes the boxes of a container along, with those free space that are named.
 fn carry_boxes<S: Store, K: Sink>(
     names: &[Name],
-    rule: Rule,
-    from: u64,
-    end: u64,
+    span: BoxSpan,
     store: &mut S,
     carrier: &mut OutBuffer,
     sink: &mut K,
 ) -> Result<(), Refusal>
-    requires span { from ≤ end }
-    requires within { end ≤ length (S.file store.old) }
+    requires span { span.from ≤ span.end }
+    requires within { span.end ≤ length (S.file store.old) }
     ensures store { OnlyReads S.Store store.old store.new result }
     ensures puts { NoPutFails K.Sink sink.old sink.new result }
-    ensures bytes { WhereStrips S.Store store.old names.now rule from end (λ text.
+    ensures bytes { WhereStrips S.Store store.old names.now span.rule span.from span.end (λ text.
         Carries K.Sink sink.old sink.new carrier.old carrier.new result text) }
-    ensures unchanged { WhereStrips S.Store store.old names.now rule from end
+    ensures unchanged { WhereStrips S.Store store.old names.now span.rule span.from span.end
         (λ text. IsUnchanged result) }
     ensures refusal { RefusedByBoth S.Store store.old store.new K.Sink sink.old sink.new result
         RefusesCarry }
 {
-    let mut at = from;
-    while at < end {
-        let found = find_again(store, rule, at, end)?;
+    let mut at = span.from;
+    while at < span.end {
+        let found = find_again(store, span.rule, at, span.end)?;
         let header = found.header;
-        if is_named(names, rule, found.full_type()) {
+        if is_named(names, span.rule, found.full_type()) {
             carry_freed(at, header.end, store, carrier, sink)?;
-        } else if let Some(inner) = rule_inside(rule, header.kind) {
+        } else if let Some(inner) = rule_inside(span.rule, header.kind) {
             let head = u64::from(header.header);
             carrier.carry_range(store, at, head, sink)?;
-            carry_boxes(names, inner, at + head, header.end, store, carrier, sink)?;
+            let inside = BoxSpan {
+                rule: inner,
+                from: at + head,
+                end: header.end,
+            };
+            carry_boxes(names, inside, store, carrier, sink)?;
         } else {
             carrier.carry_range(store, at, header.end - at, sink)?;
         }
@@ -214,9 +213,9 @@ pub fn strip<S: Store, K: Sink>(
         result }
 {
     let mut carrier = OutBuffer::new(alloc, ROOM)?;
-    let end = store.len();
-    judge_boxes(names, Rule::File, 0, end, store, &mut [])?;
-    carry_boxes(names, Rule::File, 0, end, store, &mut carrier, sink)?;
+    let span = whole_file(store.len());
+    judge_boxes(names, span, store, &mut [])?;
+    carry_boxes(names, span, store, &mut carrier, sink)?;
     carrier.flush(sink)
 }
 
@@ -231,7 +230,7 @@ pub fn count_named<S: Store>(
     ensures many { IfOk result (λ counts. length counts.items ≡ length names.now) }
 {
     let mut counts = vec![in alloc; 0u64; names.len()]?;
-    let end = store.len();
-    judge_boxes(names, Rule::File, 0, end, store, counts.as_mut_slice())?;
+    let span = whole_file(store.len());
+    judge_boxes(names, span, store, counts.as_mut_slice())?;
     Ok(counts)
 }

@@ -4,9 +4,9 @@ use std::sync::ledger::Ledger;
 
 /// The counters of a command. They take no bytes at run time.
 #[derive(Drop)]
-pub(crate) struct Costs<L: Ledger, M: Ledger> {
+pub struct Costs<L: Ledger, M: Ledger> {
     /// The rows, `traf`s, runs and samples that are passed.
-    pub(crate) steps: Steps<L>,
+    pub steps: Steps<L>,
     /// The comparisons of tracks and the turns of fragments.
-    pub(crate) looks: Steps<M>,
+    pub looks: Steps<M>,
 }

@@ -95,21 +95,6 @@ fn strip_and_tell<'a, L: Ledger, M: Ledger>(
     Ok(())
 }
 
-// Does a job.
-fn answer<'a, L: Ledger, M: Ledger>(
-    rt: &'a HostRuntime,
-    job: Job,
-    source: &mut Source,
-    order: Order,
-    costs: &mut Costs<L, M>,
-    report: &mut Report<'a>,
-) -> Result<(), Refusal> {
-    match job {
-        Job::Strip { names } => strip_and_tell(rt, names, source, order, costs, report),
-        job => write_to(rt, job, source, order, costs, report),
-    }
-}
-
 // Opens what is read, and does the job. A fault is explained where that is asked for.
 fn open_and_answer<'a, L: Ledger, M: Ledger>(
     rt: &'a HostRuntime,
@@ -119,9 +104,12 @@ fn open_and_answer<'a, L: Ledger, M: Ledger>(
     report: &mut Report<'a>,
 ) -> Result<(), Refusal> {
     let mut source = open(rt, order.input, report)?;
-    let answer = match source.check_parts() {
-        Ok(()) => answer(rt, job, &mut source, order, costs, report),
-        Err(refusal) => source.settled(Err(refusal)),
+    let answer = match (source.check_parts(), job) {
+        (Err(refusal), _) => source.settled(Err(refusal)),
+        (Ok(()), Job::Strip { names }) => {
+            strip_and_tell(rt, names, &mut source, order, costs, report)
+        }
+        (Ok(()), job) => write_to(rt, job, &mut source, order, costs, report),
     };
     report.end();
     if let Err(refusal) = &answer {

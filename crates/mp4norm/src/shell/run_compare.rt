@@ -1,5 +1,5 @@
 //! Comparing, from the names of two files to what is printed.
-use crate::commands::compare::{Failure, Side, compare_files};
+use crate::commands::compare::{Asked, Failure, Side, compare_files};
 use crate::shell::action::{Comparison, Input, Telling};
 use crate::shell::costs::Costs;
 use crate::shell::file_names::push_shown;
@@ -86,21 +86,15 @@ fn answer_of<L: Ledger, M: Ledger>(
     report: &mut Report,
     costs: &mut Costs<L, M>,
 ) -> Result<bool, Failure> {
-    let (leaving, listing) = (asked.leaving, asked.listing);
+    let asked = Asked {
+        leaving: asked.leaving,
+        listing: asked.listing,
+    };
     let out = &mut rt.stdout();
     let mut sink = IoSink::new(Noted { out, report });
     let alloc = rt.alloc();
     let answer = match parts_of(first, second) {
-        Ok(()) => compare_files(
-            alloc,
-            first,
-            second,
-            leaving,
-            listing,
-            &mut sink,
-            &mut costs.steps,
-            &mut costs.looks,
-        ),
+        Ok(()) => compare_files(alloc, first, second, asked, &mut sink, costs),
         Err(failure) => Err(failure),
     };
     if is_settled(&answer) {

@@ -16,25 +16,25 @@ use Rattle.mp4_frag.proofs.check.check_moof.Goals as goal
 
 pub returns-clause-sound : goal.returns-clause-sound
 returns-clause-sound g c =
-    let short : c.args.file_len < 2 ^ 64 = search rules in
-    on_ok_weaker c.check_trafs.result (λ p. passed_sound c.args.file_len (box_seen c.args.moof) _ _ _ _ _ short p c.in_ok-boxes.ensures.holds) c.check_trafs.ensures.passed
+    let short : c.args.file.len < 2 ^ 64 = search rules in
+    on_ok_weaker c.check_trafs.result (λ p. passed_sound c.args.file.len (box_seen c.args.moof) _ _ _ _ _ short p c.in_ok-boxes.ensures.holds) c.check_trafs.ensures.passed
 
 pub returns-clause-accepted : goal.returns-clause-accepted
 returns-clause-accepted g c =
-    let short : c.args.file_len < 2 ^ 64 = search rules in
-    on_ok_weaker c.check_trafs.result (λ p. passed_accepted c.args.file_len (box_seen c.args.moof) _ _ _ _ _ short p c.in_ok-boxes.ensures.holds) c.check_trafs.ensures.passed
+    let short : c.args.file.len < 2 ^ 64 = search rules in
+    on_ok_weaker c.check_trafs.result (λ p. passed_accepted c.args.file.len (box_seen c.args.moof) _ _ _ _ _ short p c.in_ok-boxes.ensures.holds) c.check_trafs.ensures.passed
 
 pub returns-clause-refusal : goal.returns-clause-refusal
 returns-clause-refusal g c =
     let a = c.args in
     let moof = box_seen a.moof in
-    IfErr-weaker c.check_trafs.result (RefusesTrafs a.file_len a.tracks.now a.room.now moof _) (RefusesMoof a.file_len a.tracks.now a.room.now moof _) (refuses_moof a.file_len moof _ a.tracks.now a.room.now _ c.in_ok-boxes.ensures.holds) c.check_trafs.ensures.refusal
+    IfErr-weaker c.check_trafs.result (RefusesTrafs a.file.len a.tracks.now a.room.now moof _) (RefusesMoof a.file.len a.tracks.now a.room.now moof _) (refuses_moof a.file.len moof _ a.tracks.now a.room.now _ c.in_ok-boxes.ensures.holds) c.check_trafs.ensures.refusal
 
 pub returns-clause-only : goal.returns-clause-only
 returns-clause-only g c =
     let a = c.args in
     let moof = box_seen a.moof in
-    IfErr-weaker c.check_trafs.result (RefusesTrafs a.file_len a.tracks.now a.room.now moof _) _ (never_refused a.file_len moof _ a.tracks.now a.room.now _ c.in_ok-boxes.ensures.holds) c.check_trafs.ensures.refusal
+    IfErr-weaker c.check_trafs.result (RefusesTrafs a.file.len a.tracks.now a.room.now moof _) _ (never_refused a.file.len moof _ a.tracks.now a.room.now _ c.in_ok-boxes.ensures.holds) c.check_trafs.ensures.refusal
 
 -- ---- the first fault
 
@@ -47,4 +47,4 @@ pub returns-clause-exact : goal.returns-clause-exact
 returns-clause-exact g c =
     let moof = box_seen c.args.moof in
     let held = held_are rules.MovieFragment (box_container moof) (children_of moof) (subst (λ (boxes : List Box). Holds rules.MovieFragment (box_container moof) boxes) (holds_children rules.MovieFragment moof _ c.in_ok-boxes.ensures.holds) c.in_ok-boxes.ensures.holds) in
-    record { names = MatchResult-weaker c.check_trafs.result c.check_trafs.ensures.exact.names (λ p h. inr (held, h)) (trafs_first c.args.file_len c.args.tracks.now c.args.room.now moof held) }
+    record { names = MatchResult-weaker c.check_trafs.result c.check_trafs.ensures.exact.names (λ p h. inr (held, h)) (trafs_first c.args.file.len c.args.tracks.now c.args.room.now moof held) }

@@ -48,19 +48,19 @@ loop-child-preserved-then-eq g c =
       tt,
       fits,
       r.kept.each,
-      rw kept (moof_traf c.args.file_len _ _ _ _ _ (box_seen c.in-Some.child) _ ends _ _ i.4 c.in-Some.ensures.steps is_traf r.passed.holds sound r.passed.bound r.kept.same),
-      rw kept (moves_traf c.args.file_len _ _ _ _ _ _ (box_seen c.in-Some.child) _ ends _ _ _ _ i.5 c.in-Some.ensures.steps is_traf r.passed.holds sound (rw there at r.passed.moved) (rw there at r.exact.names)),
+      rw kept (moof_traf c.args.all.file.len _ _ _ _ _ (box_seen c.in-Some.child) _ ends _ _ i.4 c.in-Some.ensures.steps is_traf r.passed.holds sound r.passed.bound r.kept.same),
+      rw kept (moves_traf c.args.all.file.len _ _ _ _ _ _ (box_seen c.in-Some.child) _ ends _ _ _ _ i.5 c.in-Some.ensures.steps is_traf r.passed.holds sound (rw there at r.passed.moved) (rw there at r.exact.names)),
       moof_cost_traf _ _ _ (box_seen c.in-Some.child) _ _ _ _ _ _ i.6 c.in-Some.ensures.steps is_traf (rw c.tick.ensures.one_more at r.work.cost) (rw c.tick.ensures.one_more at r.work.within),
       r.ids ∙ i.7,
       looked_traf _ _ _ (box_seen c.in-Some.child) _ _ _ _ i.8 c.in-Some.ensures.steps is_traf r.looks.one (rw i.9 at r.looks.most),
       r.many ∙ i.9,
-      rw kept (notes_traf c.args.file_len _ _ _ _ _ (box_seen c.in-Some.child) _ ends _ _ _ _ _ c.in_ok-passed.passed i.10 c.in-Some.ensures.steps is_traf i.4.same sound (rw there at r.own) r.ids noted.noted each),
+      rw kept (notes_traf c.args.all.file.len _ _ _ _ _ (box_seen c.in-Some.child) _ ends _ _ _ _ _ c.in_ok-passed.passed i.10 c.in-Some.ensures.steps is_traf i.4.same sound (rw there at r.own) r.ids noted.noted each),
       taken_traf _ _ _ (box_seen c.in-Some.child) _ _ _ _ _ _ _ i.11 c.in-Some.ensures.steps is_traf (rw there at r.passed.moved),
     )
 
 pub returns-clause-passed : goal.returns-clause-passed
 returns-clause-passed g c =
-    let all = holds_boxes (box_seen c.args.moof) _ c.requires.boxes in
+    let all = holds_boxes (box_seen c.args.all.moof) _ c.requires.boxes in
     let i = c.loop-child.invariant in
     let left = c.in-None.ensures.steps.0 in
     let same = c.into_iter-child-iterator.ensures.into_iter_gives ∙ all in
@@ -73,45 +73,45 @@ returns-clause-passed g c =
 pub returns-in_err-passed-clause-refusal : goal.returns-in_err-passed-clause-refusal
 returns-in_err-passed-clause-refusal g c =
     let p = err_from_is_err_and c.from_residual.result c.from_residual.ensures.1 in
-    let all = holds_boxes (box_seen c.args.moof) _ c.requires.boxes in
-    rw (p.1, p.2) (moves_fault c.args.file_len _ _ _ _ _ _ _ (box_seen c.in-Some.child) _ _ _ c.in_err-passed.field-0.0 c.loop-child.invariant.5 c.in-Some.ensures.steps (rw c.kind.ensures at (sym c.if-eq.ensures))
+    let all = holds_boxes (box_seen c.args.all.moof) _ c.requires.boxes in
+    rw (p.1, p.2) (moves_fault c.args.all.file.len _ _ _ _ _ _ _ (box_seen c.in-Some.child) _ _ _ c.in_err-passed.field-0.0 c.loop-child.invariant.5 c.in-Some.ensures.steps (rw c.kind.ensures at (sym c.if-eq.ensures))
     (c.into_iter-child-iterator.ensures.into_iter_gives ∙ all) (rw c.offset-then-eq.ensures at c.in_err-passed.ensures.fault))
 
 pub returns-clause-work : goal.returns-clause-work
 returns-clause-work g c =
-    let all = holds_boxes (box_seen c.args.moof) _ c.requires.boxes in
-    let most = moof_cost_ended _ _ _ (box_seen c.args.moof) _ _ _ _ c.loop-child.invariant.6 c.into_iter-child-iterator.ensures.into_iter_gives c.requires.boxes in
-    record { cost = moof_cost_said _ _ (box_seen c.args.moof) _ _ _ _ c.loop-child.invariant.6 c.in-None.ensures.steps.0 (c.into_iter-child-iterator.ensures.into_iter_gives ∙ all); within = most; most = omega (arith, most) }
+    let all = holds_boxes (box_seen c.args.all.moof) _ c.requires.boxes in
+    let most = moof_cost_ended _ _ _ (box_seen c.args.all.moof) _ _ _ _ c.loop-child.invariant.6 c.into_iter-child-iterator.ensures.into_iter_gives c.requires.boxes in
+    record { cost = moof_cost_said _ _ (box_seen c.args.all.moof) _ _ _ _ c.loop-child.invariant.6 c.in-None.ensures.steps.0 (c.into_iter-child-iterator.ensures.into_iter_gives ∙ all); within = most; most = omega (arith, most) }
 
 pub returns-clause-looks : goal.returns-clause-looks
 returns-clause-looks g c =
-    let all = holds_boxes (box_seen c.args.moof) _ c.requires.boxes in
+    let all = holds_boxes (box_seen c.args.all.moof) _ c.requires.boxes in
     let same = c.into_iter-child-iterator.ensures.into_iter_gives ∙ all in
     let h = c.loop-child.invariant.8 in
     record {
-      one = looked_one _ _ (box_seen c.args.moof) _ _ _ h c.in-None.ensures.steps.0 same;
-      each = looked_each _ _ (box_seen c.args.moof) _ _ _ h same;
-      most = looked_ended _ _ _ (box_seen c.args.moof) _ _ _ h c.into_iter-child-iterator.ensures.into_iter_gives c.requires.boxes;
+      one = looked_one _ _ (box_seen c.args.all.moof) _ _ _ h c.in-None.ensures.steps.0 same;
+      each = looked_each _ _ (box_seen c.args.all.moof) _ _ _ h same;
+      most = looked_ended _ _ _ (box_seen c.args.all.moof) _ _ _ h c.into_iter-child-iterator.ensures.into_iter_gives c.requires.boxes;
     }
 
 pub returns-in_err-passed-clause-work : goal.returns-in_err-passed-clause-work
 returns-in_err-passed-clause-work g c =
     let p = err_from_is_err_and c.from_residual.result c.from_residual.ensures.1 in
-    let most = moof_cost_fault _ _ _ _ (box_seen c.in-Some.child) (box_seen c.args.moof) _ _ _ _ _ c.loop-child.invariant.6 c.in-Some.ensures.steps c.into_iter-child-iterator.ensures.into_iter_gives c.requires.boxes
+    let most = moof_cost_fault _ _ _ _ (box_seen c.in-Some.child) (box_seen c.args.all.moof) _ _ _ _ _ c.loop-child.invariant.6 c.in-Some.ensures.steps c.into_iter-child-iterator.ensures.into_iter_gives c.requires.boxes
     (rw c.tick.ensures.one_more at c.in_err-passed.ensures.work.most) in
     rw p.1 (record { cost = tt; within = tt; most = most })
 
 pub returns-in_err-passed-clause-looks : goal.returns-in_err-passed-clause-looks
 returns-in_err-passed-clause-looks g c =
     let p = err_from_is_err_and c.from_residual.result c.from_residual.ensures.1 in
-    let most = looked_fault _ _ _ _ (box_seen c.in-Some.child) (box_seen c.args.moof) _ _ _ _ c.loop-child.invariant.8 c.in-Some.ensures.steps c.into_iter-child-iterator.ensures.into_iter_gives c.requires.boxes
+    let most = looked_fault _ _ _ _ (box_seen c.in-Some.child) (box_seen c.args.all.moof) _ _ _ _ c.loop-child.invariant.8 c.in-Some.ensures.steps c.into_iter-child-iterator.ensures.into_iter_gives c.requires.boxes
     (rw c.loop-child.invariant.9 at c.in_err-passed.ensures.looks.most) in
     rw p.1 (record { one = tt; each = tt; most = most })
 
 pub returns-clause-own : goal.returns-clause-own
 returns-clause-own g c trexes defaults apart long =
-    let all = holds_boxes (box_seen c.args.moof) _ c.requires.boxes in
-    notes_ended trexes (box_seen c.args.moof) c.args.tracks.now _ _ _ _ _ _ c.loop-child.invariant.10 c.in-None.ensures.steps.0 (c.into_iter-child-iterator.ensures.into_iter_gives ∙ all) defaults apart (length-map c.args.own.now own_seen ∙ long)
+    let all = holds_boxes (box_seen c.args.all.moof) _ c.requires.boxes in
+    notes_ended trexes (box_seen c.args.all.moof) c.args.tracks.now _ _ _ _ _ _ c.loop-child.invariant.10 c.in-None.ensures.steps.0 (c.into_iter-child-iterator.ensures.into_iter_gives ∙ all) defaults apart (length-map c.args.own.now own_seen ∙ long)
 
 pub returns-in_err-note_traf-clause-refusal : goal.returns-in_err-note_traf-clause-refusal
 returns-in_err-note_traf-clause-refusal g c =
@@ -121,14 +121,14 @@ returns-in_err-note_traf-clause-refusal g c =
 pub returns-in_err-note_traf-clause-work : goal.returns-in_err-note_traf-clause-work
 returns-in_err-note_traf-clause-work g c =
     let p = err_from_is_err_and c.from_residual-in_err-note_traf.result c.from_residual-in_err-note_traf.ensures.1 in
-    let most = moof_cost_fault _ _ _ _ (box_seen c.in-Some.child) (box_seen c.args.moof) _ _ _ _ _ c.loop-child.invariant.6 c.in-Some.ensures.steps c.into_iter-child-iterator.ensures.into_iter_gives c.requires.boxes
+    let most = moof_cost_fault _ _ _ _ (box_seen c.in-Some.child) (box_seen c.args.all.moof) _ _ _ _ _ c.loop-child.invariant.6 c.in-Some.ensures.steps c.into_iter-child-iterator.ensures.into_iter_gives c.requires.boxes
     (rw c.tick.ensures.one_more at c.in_ok-passed.ensures.work.most) in
     rw p.1 (record { cost = tt; within = tt; most = most })
 
 pub returns-in_err-note_traf-clause-looks : goal.returns-in_err-note_traf-clause-looks
 returns-in_err-note_traf-clause-looks g c =
     let p = err_from_is_err_and c.from_residual-in_err-note_traf.result c.from_residual-in_err-note_traf.ensures.1 in
-    let most = looked_fault _ _ _ _ (box_seen c.in-Some.child) (box_seen c.args.moof) _ _ _ _ c.loop-child.invariant.8 c.in-Some.ensures.steps c.into_iter-child-iterator.ensures.into_iter_gives c.requires.boxes
+    let most = looked_fault _ _ _ _ (box_seen c.in-Some.child) (box_seen c.args.all.moof) _ _ _ _ c.loop-child.invariant.8 c.in-Some.ensures.steps c.into_iter-child-iterator.ensures.into_iter_gives c.requires.boxes
     (rw c.loop-child.invariant.9 at c.in_ok-passed.ensures.looks.most) in
     rw p.1 (record { one = tt; each = tt; most = most })
 
@@ -142,26 +142,26 @@ returns-in_err-note_traf-clause-stops g c =
     let i = c.loop-child.invariant in
     let r = c.in_ok-passed.ensures in
     let p = err_from_is_err_and c.from_residual-in_err-note_traf.result c.from_residual-in_err-note_traf.ensures.1 in
-    let all = holds_boxes (box_seen c.args.moof) _ c.requires.boxes in
+    let all = holds_boxes (box_seen c.args.all.moof) _ c.requires.boxes in
     let is_traf = rw c.kind.ensures at (sym c.if-eq.ensures) in
     let taken = taken_traf _ _ _ (box_seen c.in-Some.child) _ _ _ _ _ _ _ i.11 c.in-Some.ensures.steps is_traf r.passed.moved in
     let cost = moof_cost_traf _ _ _ (box_seen c.in-Some.child) _ _ _ _ _ _ i.6 c.in-Some.ensures.steps is_traf (rw c.tick.ensures.one_more at r.work.cost) (rw c.tick.ensures.one_more at r.work.within) in
     let looked = looked_traf _ _ _ (box_seen c.in-Some.child) _ _ _ _ i.8 c.in-Some.ensures.steps is_traf r.looks.one (rw i.9 at r.looks.most) in
-    rw (p.1, p.2) (stops_within _ _ (box_seen c.args.moof) _ _ _ _ _ _ _ taken cost looked (c.into_iter-child-iterator.ensures.into_iter_gives ∙ all))
+    rw (p.1, p.2) (stops_within _ _ (box_seen c.args.all.moof) _ _ _ _ _ _ _ taken cost looked (c.into_iter-child-iterator.ensures.into_iter_gives ∙ all))
 
 pub returns-clause-ends : goal.returns-clause-ends
 returns-clause-ends g c trexes defaults =
-    let all = holds_boxes (box_seen c.args.moof) _ c.requires.boxes in
-    data_ended trexes (box_seen c.args.moof) _ _ _ _ _ _ _ c.loop-child.invariant.10 c.in-None.ensures.steps.0 (c.into_iter-child-iterator.ensures.into_iter_gives ∙ all) defaults
+    let all = holds_boxes (box_seen c.args.all.moof) _ c.requires.boxes in
+    data_ended trexes (box_seen c.args.all.moof) _ _ _ _ _ _ _ c.loop-child.invariant.10 c.in-None.ensures.steps.0 (c.into_iter-child-iterator.ensures.into_iter_gives ∙ all) defaults
 
 -- ---- the first fault
 
 pub returns-in_err-passed-clause-exact : goal.returns-in_err-passed-clause-exact
 returns-in_err-passed-clause-exact g c =
     let p = err_from_is_err_and c.from_residual.result c.from_residual.ensures.1 in
-    let all = holds_boxes (box_seen c.args.moof) _ c.requires.boxes in
+    let all = holds_boxes (box_seen c.args.all.moof) _ c.requires.boxes in
     record {
-      names = rw (p.1, p.2) (moves_first c.args.file_len _ _ _ _ _ _ _ (box_seen c.in-Some.child) _ _ _ c.in_err-passed.field-0.0 c.loop-child.invariant.5 c.in-Some.ensures.steps (rw c.kind.ensures at (sym c.if-eq.ensures))
+      names = rw (p.1, p.2) (moves_first c.args.all.file.len _ _ _ _ _ _ _ (box_seen c.in-Some.child) _ _ _ c.in_err-passed.field-0.0 c.loop-child.invariant.5 c.in-Some.ensures.steps (rw c.kind.ensures at (sym c.if-eq.ensures))
           (c.into_iter-child-iterator.ensures.into_iter_gives ∙ all) (rw c.offset-then-eq.ensures at c.in_err-passed.ensures.exact.names));
     }
 
@@ -172,5 +172,5 @@ returns-in_err-note_traf-clause-exact g c =
 
 pub returns-clause-exact : goal.returns-clause-exact
 returns-clause-exact g c =
-    let all = holds_boxes (box_seen c.args.moof) _ c.requires.boxes in
+    let all = holds_boxes (box_seen c.args.all.moof) _ c.requires.boxes in
     record { names = moves_none _ _ _ _ _ _ _ _ _ _ c.loop-child.invariant.5 c.in-None.ensures.steps.0 (c.into_iter-child-iterator.ensures.into_iter_gives ∙ all) }

@@ -17,11 +17,11 @@ invariant-loop-child g l =
     × (goal.iterator-loop-child g).is_finite l.child-iterator
     × (l.room ≤ l.fn.room)
     × HaveRoom l.room l.tracks
-    × MoofSeen l.file_len (box_seen l.moof).offset l.fn.tracks l.initial.child-iterator l.child-iterator l.before l.tracks
-    × MovesSeen l.file_len (box_seen l.moof).offset l.fn.tracks l.fn.room l.initial.child-iterator l.child-iterator l.before l.tracks l.room
+    × MoofSeen l.fn.all.file.len (box_seen l.fn.all.moof).offset l.fn.tracks l.initial.child-iterator l.child-iterator l.before l.tracks
+    × MovesSeen l.fn.all.file.len (box_seen l.fn.all.moof).offset l.fn.tracks l.fn.room l.initial.child-iterator l.child-iterator l.before l.tracks l.room
     × MoofCost l.initial.child-iterator l.child-iterator l.fn.steps l.fn.room l.steps l.room
     × (ids_of l.tracks ≡ ids_of l.fn.tracks)
     × MoofLooked l.initial.child-iterator l.child-iterator (min 1 (length l.fn.tracks)) l.fn.looks l.looks
     × (length l.tracks ≡ length l.fn.tracks)
-    × NotesSeen (box_seen l.moof).offset l.fn.tracks l.initial.child-iterator l.child-iterator l.before l.tracks (map own_seen l.fn.own) (map own_seen l.own)
+    × NotesSeen (box_seen l.fn.all.moof).offset l.fn.tracks l.initial.child-iterator l.child-iterator l.before l.tracks (map own_seen l.fn.own) (map own_seen l.own)
     × MoofTaken l.initial.child-iterator l.child-iterator l.fn.room l.room

@@ -31,9 +31,9 @@ returns-then-open_traf-clause-coming c =
     let payload = c.args.payload.now in
     let first = c.first_place-place.ensures.first in
     let o = c.open_traf.ensures in
-    let kept : to_z w128 (of_z w128 c.args.base) ≡ c.args.base = search rules in
-    begun payload c.args.base c.args.id c.args.trex c.args.number c.args.dts (keys_seen c.args.keys) c.first_place-place.result c.open_traf.new.place c.settle.new.place
-    (c.first_place-place.ensures.reached payload ∙ ap (λ z. at_first z c.args.number c.args.dts) kept) (ap (λ (r : RowPlace). r.left) o.same.1 ∙ first.1) (o.same.0 ∙ first.0) (sym o.named ∙ c.if-open_traf.true) o.reached c.settle.ensures.coming
+    let kept : to_z w128 (of_z w128 c.args.from.base) ≡ c.args.from.base = search rules in
+    begun payload c.args.from.base c.args.id c.args.trex c.args.from.number c.args.from.dts (keys_seen c.args.keys) c.first_place-place.result c.open_traf.new.place c.settle.new.place
+    (c.first_place-place.ensures.reached payload ∙ ap (λ z. at_first z c.args.from.number c.args.from.dts) kept) (ap (λ (r : RowPlace). r.left) o.same.1 ∙ first.1) (o.same.0 ∙ first.0) (sym o.named ∙ c.if-open_traf.true) o.reached c.settle.ensures.coming
 
 pub returns-else-open_traf-clause-place : goal.returns-else-open_traf-clause-place
 returns-else-open_traf-clause-place c =
@@ -58,7 +58,7 @@ pub returns-else-open_traf-clause-coming : goal.returns-else-open_traf-clause-co
 returns-else-open_traf-clause-coming c =
     let first = c.first_place-place.ensures.first in
     let o = c.open_traf.ensures in
-    not_begun c.args.payload.now c.args.base c.args.id c.args.trex c.args.number c.args.dts (keys_seen c.args.keys) _ (ap (λ (r : RowPlace). r.left) o.same.1 ∙ first.1) refl (sym o.named ∙ c.if-open_traf.false)
+    not_begun c.args.payload.now c.args.from.base c.args.id c.args.trex c.args.from.number c.args.from.dts (keys_seen c.args.keys) _ (ap (λ (r : RowPlace). r.left) o.same.1 ∙ first.1) refl (sym o.named ∙ c.if-open_traf.false)
 
 pub open_traf-requires : goal.open_traf-requires
 open_traf-requires c = record { indexes = c.first_place-place.ensures.indexes c.args.payload.now }

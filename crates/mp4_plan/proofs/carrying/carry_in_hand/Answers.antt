@@ -49,7 +49,7 @@ returns-clause-comes g c l told tree t samples o h =
     let x = e.comes told tree t h.samples o back in
     let mark = e.went.mark ∙ ap (λ (v : Walk). v.mark) c.turn_back.ensures.is in
     let there : GoesBackTo file tree t m w c.carry_piece.new.walk w.mark.to_come = record { is_walk = c.requires.walk; mark = mark; earlier = x.0; later = x.1; stands = x.3.0 } in
-    let on = c.go_farther.ensures.coming file tree t m w w.mark.to_come h.comes.samples (drop c.args.load.samples h.samples) there e.walk.walk h.comes.comes x in
+    let on = c.go_farther.ensures.coming file tree t m w w.mark.to_come h.comes.samples (drop c.args.load.samples h.samples) there e.piece.walk.walk h.comes.comes x in
     comes_either l file tree t m w c.args.load.samples samples h (is_mark_farther c.carry_piece.new.walk) c.go_farther.new.self on
 
 pub returns-clause-on : goal.returns-clause-on
@@ -72,9 +72,9 @@ returns-clause-work g c told tree t begun before own o back began now may =
     let mark = e.went.mark ∙ ap (λ (v : Walk). v.mark) c.turn_back.ensures.is in
     let there : GoesBackTo file tree t m w mid w.mark.to_come = record { is_walk = c.requires.walk; mark = mark; earlier = k.1.earlier; later = k.1.later; stands = k.1.stands } in
     let far = is_mark_farther mid in
-    let on = c.go_farther.ensures.may file tree t m w w.mark.to_come now k.0 there e.walk.walk may k.1 in
+    let on = c.go_farther.ensures.may file tree t m w w.mark.to_come now k.0 there e.piece.walk.walk may k.1 in
     let next = ap (λ (v : Walk). v.next) c.turn_back.ensures.is in
     let kind = ap (λ (v : Walk). v.before) c.turn_back.ensures.is in
     let fits = farther_fits file m tree o t w set mid now k.0 far refl (ap (λ (x : Mark). x.next) mark) (ap (λ (x : Mark). x.place) mark)
-    (farther_mark file m tree o t w set mid c.requires.walk e.walk.walk c.requires.marked next kind e.went.ahead now k.0 may k.1) (farther_walk file m tree o t w set mid c.requires.walk e.walk.walk c.requires.marked next kind e.went.ahead now k.0 may k.1) e.went.ahead _ _ own k.2 in
+    (farther_mark file m tree o t w set mid c.requires.walk e.piece.walk.walk c.requires.marked next kind e.went.ahead now k.0 may k.1) (farther_walk file m tree o t w set mid c.requires.walk e.piece.walk.walk c.requires.marked next kind e.went.ahead now k.0 may k.1) e.went.ahead _ _ own k.2 in
     ((if far then now else k.0), on, fits.0, fits.1)

@@ -14,7 +14,7 @@ use Rattle.mp4_plan.proofs.carrying.carry_marked.Goals as goal
 
 pub returns-then-are_all-clause-put : goal.returns-then-are_all-clause-put
 returns-then-are_all-clause-put g c l told tree t samples o h tells =
-    let all : c.args.stretches.now.are_all ≡ true = search rules in
+    let all : c.args.noted.stretches.now.are_all ≡ true = search rules in
     let bytes = (tells.kept all).bytes (g.S.Store.file c.args.store.now) in
     on_both c.carry.result (λ x. goes_on_as (g.K.Sink.takes c.args.sink.now c.carry.new.sink) (waiting c.args.carrier.now) (waiting c.carry.new.carrier) _ _ x (sym bytes))
     (λ x. front_as (g.K.Sink.takes c.args.sink.now c.carry.new.sink) (waiting c.args.carrier.now) _ _ x (sym bytes)) (c.carry.ensures.put told)
@@ -24,10 +24,10 @@ returns-then-are_all-clause-comes g c l told tree t samples o h = so_if_ok c.car
 
 pub returns-then-are_all-clause-unchanged : goal.returns-then-are_all-clause-unchanged
 returns-then-are_all-clause-unchanged g c l told tree t samples o h tells there =
-    let all : c.args.stretches.now.are_all ≡ true = search rules in
+    let all : c.args.noted.stretches.now.are_all ≡ true = search rules in
     let kept = tells.kept all in
     let n = length (g.S.Store.file c.args.store.now) in
-    c.carry.ensures.unchanged told (kept.below n (each_taken (IsBelow n) c.args.load.samples samples there.below)) (kept.len ∙ sym there.sizes)
+    c.carry.ensures.unchanged told (kept.below n (each_taken (IsBelow n) c.args.noted.load.samples samples there.below)) (kept.len ∙ sym there.sizes)
 
 pub returns-then-are_all-clause-work : goal.returns-then-are_all-clause-work
 returns-then-are_all-clause-work g c told tree t begun before own o back began = so_both c.carry.result _ _ (λ now may less. inl (now, may, omega arith, omega (arith, less))) (omega arith)

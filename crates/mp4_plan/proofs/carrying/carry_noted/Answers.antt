@@ -25,7 +25,7 @@ pub returns-in_err-carry_marked-clause-work : goal.returns-in_err-carry_marked-c
 returns-in_err-carry_marked-clause-work g c told tree t n o h =
     let p = err_from_is_err_and c.from_residual.result c.from_residual.ensures.1 in
     let most = c.in_err-carry_marked.ensures.work told tree t h.marked.begun (length h.marked.samples) h.own o h.marked.back h.began in
-    let within = again_within (g.S.Store.file c.args.store.now) c.args.movie.now tree o t c.args.reduction c.args.load.samples c.args.walk.now n h c.requires in
+    let within = again_within (g.S.Store.file c.args.store.now) c.args.movie.now tree o t c.args.reduction c.args.noted.load.samples c.args.walk.now n h c.requires in
     rw p.1 (omega (arith, most, within))
 
 pub returns-in_err-next-clause-put : goal.returns-in_err-next-clause-put
@@ -38,15 +38,15 @@ pub returns-in_err-next-clause-unchanged : goal.returns-in_err-next-clause-uncha
 returns-in_err-next-clause-unchanged g c told tree t samples o h tells there =
     let p = err_from_is_err_and c.from_residual-in_err-next.result c.from_residual-in_err-next.ensures.1 in
     let e = c.in_ok-carry_marked.ensures in
-    rw (p.1, p.2) ((rw (e.devices.honesty, e.devices.file) at c.in_err-next.ensures.unchanged) told tree t (drop c.args.load.samples samples) o (e.comes c.args.reduction told tree t samples o h))
+    rw (p.1, p.2) ((rw (e.piece.devices.honesty, e.piece.devices.file) at c.in_err-next.ensures.unchanged) told tree t (drop c.args.noted.load.samples samples) o (e.comes c.args.reduction told tree t samples o h))
 
 pub returns-in_err-next-clause-work : goal.returns-in_err-next-clause-work
 returns-in_err-next-clause-work g c told tree t n o h =
     let p = err_from_is_err_and c.from_residual-in_err-next.result c.from_residual-in_err-next.ensures.1 in
     let e = c.in_ok-carry_marked.ensures in
     let x = e.work told tree t h.marked.begun (length h.marked.samples) h.own o h.marked.back h.began h.now h.may h.less in
-    let k = carries_rest (g.S.Store.file c.args.store.now) c.args.movie.now tree o t c.args.reduction c.args.load.samples c.args.walk.now n h c.requires c.carry_marked.new.walk _ _ x in
-    let most = (rw (e.devices.honesty, e.devices.file) at c.in_err-next.ensures.work) told tree t k.0 o k.1 in
+    let k = carries_rest (g.S.Store.file c.args.store.now) c.args.movie.now tree o t c.args.reduction c.args.noted.load.samples c.args.walk.now n h c.requires c.carry_marked.new.walk _ _ x in
+    let most = (rw (e.piece.devices.honesty, e.piece.devices.file) at c.in_err-next.ensures.work) told tree t k.0 o k.1 in
     let within = k.2 in
     rw p.1 (omega (arith, most, within))
 
@@ -58,8 +58,8 @@ returns-clause-next g c told tree t samples o h tells =
     let file = g.S.Store.file c.args.store.now in
     let m = c.args.movie.now in
     let e = c.in_ok-carry_marked.ensures in
-    let count = c.args.load.samples in
-    let r = (rw (e.devices.honesty, e.devices.file) at c.in_ok-next.ensures.coming) told tree t (drop count samples) o (e.comes c.args.reduction told tree t samples o h) in
+    let count = c.args.noted.load.samples in
+    let r = (rw (e.piece.devices.honesty, e.piece.devices.file) at c.in_ok-next.ensures.coming) told tree t (drop count samples) o (e.comes c.args.reduction told tree t samples o h) in
     let now = c.mark.new.self in
     let to_come = ap (λ (k : Mark). k.to_come) h.back.mark in
     let all = ap (λ (ss : List SampleAt). length ss) h.is_left ∙ less_length c.args.reduction h.samples in
@@ -81,11 +81,11 @@ returns-clause-work g c told tree t n o h =
     let now = c.mark.new.self in
     let e = c.in_ok-carry_marked.ensures in
     let f = c.in_ok-next.ensures in
-    let count = c.args.load.samples in
+    let count = c.args.noted.load.samples in
     let x = e.work told tree t h.marked.begun (length h.marked.samples) h.own o h.marked.back h.began h.now h.may h.less in
     let comes = e.comes c.args.reduction told tree t h.left o h.marked in
-    let r = (rw (e.devices.honesty, e.devices.file) at f.coming) told tree t (drop count h.left) o comes in
-    let takes = rw (e.devices.honesty, e.devices.file) at f.work in
+    let r = (rw (e.piece.devices.honesty, e.piece.devices.file) at f.coming) told tree t (drop count h.left) o comes in
+    let takes = rw (e.piece.devices.honesty, e.piece.devices.file) at f.work in
     let to_come = ap (λ (k : Mark). k.to_come) h.marked.back.mark in
     let all = ap (λ (ss : List SampleAt). length ss) h.marked.is_left ∙ less_length c.args.reduction h.marked.samples in
     let first = c.to_come.ensures in
@@ -95,7 +95,7 @@ returns-clause-work g c told tree t n o h =
     let next = ap (λ (k : Mark). k.next) h.marked.back.mark in
     let on = e.on in
     let number = c.saturating_sub-left.result in
-    let walk = f.walk.walk in
+    let walk = f.loads.walk.walk in
     writes_on file m tree o t c.args.reduction count w n h c.requires mid now _ _ _ (λ rest may. (let k = takes told tree t rest o may in (k.0, c.mark.ensures.may file tree t k.0 k.1, k.2)))
     f.went.grows (marked_ahead m mid last now number c.mark.ensures.mark f.went.ahead) r.0.samples (c.mark.ensures.coming file tree t m r.0.samples r.0.comes) (marked_is last now number c.mark.ensures.mark ∙ ap (mark_of now) (left ∙ same))
     (c.mark.ensures.walk m walk.goes_on walk.place walk.rest)

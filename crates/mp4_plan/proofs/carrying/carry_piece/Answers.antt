@@ -14,12 +14,6 @@ use Rattle.mp4_plan.proofs.WalksGone.{went_none, went_kept, went_loaded}
 use Rattle.mp4_plan.proofs.carrying.carry_piece.Goals as goal
 use Rattle.mp4_plan.proofs.carrying.carry_piece.Goals.{else-left-eq0-via-then-left-eq0+else-left-eq0-2, else-left-eq0-via-else-left-eq0, then-left-eq0-3-via-then-left-eq0-3, then-left-eq0-3-via-else-left-eq0-3+in_ok-load+then-not-branch}
 
-pub returns-then-left-eq0-2-clause-walk : goal.returns-then-left-eq0-2-clause-walk
-returns-then-left-eq0-2-clause-walk g c = record {
-  walk = rw c.keep.ensures.place (kept_on c.args.movie.now c.loop-left.walk c.in_hand-hand.result _ c.place-place.result c.loop-left.invariant.walk c.in_hand-hand.ensures.hand c.in_ok-left.ensures.later c.place-place.ensures);
-  room = search rules;
-}
-
 pub load-requires : goal.load-requires
 load-requires g c =
     rw c.keep.ensures.place (kept_on c.args.movie.now c.loop-left.walk c.in_hand-hand.result _ c.place-place.result c.loop-left.invariant.walk c.in_hand-hand.ensures.hand c.in_ok-left.ensures.later c.place-place.ensures)
@@ -60,16 +54,24 @@ returns-then-left-eq0-2-clause-comes g c told tree t samples o h =
     c.place-place.ensures ((rw (i.honesty, i.file) at e.put) told) c.keep.ensures.place tree t samples o h in
     subst (λ ss. Comes file tree t m c.keep.new.self ss) (carried_all file _ _ _ samples u.0 c.args.load c.in_ok-left.left (search rules) u.1.1).1 u.1.0
 
-pub returns-then-left-eq0-2-clause-along : goal.returns-then-left-eq0-2-clause-along
-returns-then-left-eq0-2-clause-along g c =
+pub returns-then-left-eq0-2-clause-piece : goal.returns-then-left-eq0-2-clause-piece
+returns-then-left-eq0-2-clause-piece g c =
     let i = c.loop-left.invariant in
     let e = c.in_ok-left.ensures in
     let few = i.few in
     let fewer = e.many.0 in
     let none : c.in_ok-left.left.bytes ≡ 0 = search rules in
     record {
-      many = GoOnBy-then g.met.K.Sink.takes_on _ _ _ _ (waiting c.loop-left.carrier) _ (c.args.load.bytes - c.loop-left.left.bytes) (c.loop-left.left.bytes - c.in_ok-left.left.bytes) _ i.many e.many.1 (omega (arith, few, fewer, none));
-      buffer = e.room ∙ i.buffer;
+      walk = record {
+        walk = rw c.keep.ensures.place (kept_on c.args.movie.now c.loop-left.walk c.in_hand-hand.result _ c.place-place.result i.walk c.in_hand-hand.ensures.hand e.later c.place-place.ensures);
+        room = search rules;
+      };
+      along = record {
+        many = GoOnBy-then g.met.K.Sink.takes_on _ _ _ _ (waiting c.loop-left.carrier) _ (c.args.load.bytes - c.loop-left.left.bytes) (c.loop-left.left.bytes - c.in_ok-left.left.bytes) _ i.many e.many.1 (omega (arith, few, fewer, none));
+        buffer = e.room ∙ i.buffer;
+      };
+      devices = record { honesty = e.devices.honesty ∙ i.honesty; file = e.devices.file ∙ i.file; reads = e.devices.reads ∙ i.reads; puts = e.devices.puts ∙ i.puts };
+      refusal = search rules;
     }
 
 pub loop-left-preserved : goal.loop-left-preserved

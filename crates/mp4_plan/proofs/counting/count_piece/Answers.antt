@@ -15,7 +15,7 @@ loop-sample-init g c = record {
   file = refl;
   reads = refl;
   few = omega arith;
-  counts = λ told. counts_new c.args.reduction (g.S.Store.file c.args.store.now) c.args.movie.now c.args.walk.now (goes_in c.args.end.now c.args.description);
+  counts = λ told. counts_new c.args.portion.reduction (g.S.Store.file c.args.store.now) c.args.movie.now c.args.walk.now (goes_in c.args.portion.end c.args.description);
   takes = λ told tree t n o h. takes_none (g.S.Store.file c.args.store.now) tree t n c.args.steps.now c.args.walk.now h;
   grows = omega arith;
 }
@@ -24,14 +24,14 @@ pub returns-then-goes_in-clause-unchanged : goal.returns-then-goes_in-clause-unc
 returns-then-goes_in-clause-unchanged g c told tree t samples o h few =
     let i = c.loop-sample.invariant in
     let within = i.few in
-    let full = count_full c.args.reduction (g.S.Store.file c.args.store.now) c.args.movie.now c.args.walk.now c.loop-sample.walk c.keep.new.self (goes_in c.args.end.now c.args.description) _ c.loop-sample.count c.count_hand-hand.result.count
+    let full = count_full c.args.portion.reduction (g.S.Store.file c.args.store.now) c.args.movie.now c.args.walk.now c.loop-sample.walk c.keep.new.self (goes_in c.args.portion.end c.args.description) _ c.loop-sample.count c.count_hand-hand.result.count
     c.count_hand-hand.result.next c.count_hand-hand.result.place (i.counts told) c.count_hand-hand.ensures.counted c.keep.ensures.place c.in-Some.sample c.in-Some.is (sym c.goes_in.ensures ∙ c.if-goes_in.true) tree t samples o h in
     λ e. absurd (omega (arith, full, few, within))
 
 pub returns-in-Some-clause-counted : goal.returns-in-Some-clause-counted
 returns-in-Some-clause-counted g c told tree t samples o h =
     let i = c.loop-sample.invariant in
-    count_ended c.args.reduction (g.S.Store.file c.args.store.now) c.args.movie.now c.args.walk.now c.loop-sample.walk c.keep.new.self (goes_in c.args.end.now c.args.description) _ c.loop-sample.count c.count_hand-hand.result.count c.count_hand-hand.result.next
+    count_ended c.args.portion.reduction (g.S.Store.file c.args.store.now) c.args.movie.now c.args.walk.now c.loop-sample.walk c.keep.new.self (goes_in c.args.portion.end c.args.description) _ c.loop-sample.count c.count_hand-hand.result.count c.count_hand-hand.result.next
     c.count_hand-hand.result.place (i.counts told) c.count_hand-hand.ensures.counted c.keep.ensures.place c.in-Some.sample c.in-Some.is (sym c.goes_in.ensures ∙ c.if-goes_in.false) tree t samples o h
 
 pub returns-then-goes_in-clause-work : goal.returns-then-goes_in-clause-work
@@ -53,7 +53,7 @@ pub returns-in_err-load-clause-unchanged : goal.returns-in_err-load-clause-uncha
 returns-in_err-load-clause-unchanged g c told tree t samples o h few =
     let p = err_from_is_err_and c.from_residual.result c.from_residual.ensures.1 in
     let i = c.loop-sample.invariant in
-    let on = hand_counted c.args.reduction (g.S.Store.file c.args.store.now) c.args.movie.now c.args.walk.now c.loop-sample.walk c.keep.new.self (goes_in c.args.end.now c.args.description) _ c.loop-sample.count c.count_hand-hand.result.count
+    let on = hand_counted c.args.portion.reduction (g.S.Store.file c.args.store.now) c.args.movie.now c.args.walk.now c.loop-sample.walk c.keep.new.self (goes_in c.args.portion.end c.args.description) _ c.loop-sample.count c.count_hand-hand.result.count
     c.count_hand-hand.result.next c.count_hand-hand.result.place (i.counts told) c.count_hand-hand.ensures.counted c.keep.ensures.place in
     let k = (on tree t samples o h).comes.comes in
     rw (p.1, p.2) ((rw (i.honesty, i.file) at c.in_err-load.ensures.loaded) told tree t k.0 k.1 o k.3.0)
@@ -72,14 +72,14 @@ returns-then-not-branch-clause-counted g c told tree t samples o h =
     let i = c.loop-sample.invariant in
     let file = g.S.Store.file c.args.store.now in
     let m = c.args.movie.now in
-    let test = goes_in c.args.end.now c.args.description in
+    let test = goes_in c.args.portion.end c.args.description in
     let counted = c.count_hand-hand.ensures.counted in
-    let on = hand_counted c.args.reduction file m c.args.walk.now c.loop-sample.walk c.keep.new.self test _ c.loop-sample.count c.count_hand-hand.result.count c.count_hand-hand.result.next c.count_hand-hand.result.place (i.counts told) counted c.keep.ensures.place in
+    let on = hand_counted c.args.portion.reduction file m c.args.walk.now c.loop-sample.walk c.keep.new.self test _ c.loop-sample.count c.count_hand-hand.result.count c.count_hand-hand.result.next c.count_hand-hand.result.place (i.counts told) counted c.keep.ensures.place in
     let is_none : c.count_hand-hand.result.next ≡ None = search rules in
-    let empty = count_empty c.args.reduction file m c.args.walk.now c.loop-sample.walk c.keep.new.self test _ c.loop-sample.count c.count_hand-hand.result.count c.count_hand-hand.result.next c.count_hand-hand.result.place (i.counts told) counted c.keep.ensures.place is_none in
+    let empty = count_empty c.args.portion.reduction file m c.args.walk.now c.loop-sample.walk c.keep.new.self test _ c.loop-sample.count c.count_hand-hand.result.count c.count_hand-hand.result.next c.count_hand-hand.result.place (i.counts told) counted c.keep.ensures.place is_none in
     let is_hand = subst (λ w. InHandOf m w counted.later) (sym c.keep.ensures.place) counted.is_later in
     let l = c.in_ok-load.ensures in
-    none_counted c.args.reduction file m c.args.walk.now c.keep.new.self c.load.new.self test _ counted.later c.in_ok-load.field-0 on is_hand empty ((rw (i.honesty, i.file) at l.loaded) told) c.if-not-branch.true ((rw (i.honesty, i.file) at l.ended) told) tree t samples o h
+    none_counted c.args.portion.reduction file m c.args.walk.now c.keep.new.self c.load.new.self test _ counted.later c.in_ok-load.field-0 on is_hand empty ((rw (i.honesty, i.file) at l.loaded) told) c.if-not-branch.true ((rw (i.honesty, i.file) at l.ended) told) tree t samples o h
 
 pub returns-then-not-branch-clause-work : goal.returns-then-not-branch-clause-work
 returns-then-not-branch-clause-work g c told tree t n o h =
@@ -103,13 +103,13 @@ loop-sample-preserved g c =
       counts = λ told.
           let file = g.S.Store.file c.args.store.now in
           let m = c.args.movie.now in
-          let test = goes_in c.args.end.now c.args.description in
+          let test = goes_in c.args.portion.end c.args.description in
           let counted = c.count_hand-hand.ensures.counted in
-          let on = hand_counted c.args.reduction file m c.args.walk.now c.loop-sample.walk c.keep.new.self test _ c.loop-sample.count c.count_hand-hand.result.count c.count_hand-hand.result.next c.count_hand-hand.result.place (i.counts told) counted c.keep.ensures.place in
+          let on = hand_counted c.args.portion.reduction file m c.args.walk.now c.loop-sample.walk c.keep.new.self test _ c.loop-sample.count c.count_hand-hand.result.count c.count_hand-hand.result.next c.count_hand-hand.result.place (i.counts told) counted c.keep.ensures.place in
           let is_none : c.count_hand-hand.result.next ≡ None = search rules in
-          let empty = count_empty c.args.reduction file m c.args.walk.now c.loop-sample.walk c.keep.new.self test _ c.loop-sample.count c.count_hand-hand.result.count c.count_hand-hand.result.next c.count_hand-hand.result.place (i.counts told) counted c.keep.ensures.place is_none in
+          let empty = count_empty c.args.portion.reduction file m c.args.walk.now c.loop-sample.walk c.keep.new.self test _ c.loop-sample.count c.count_hand-hand.result.count c.count_hand-hand.result.next c.count_hand-hand.result.place (i.counts told) counted c.keep.ensures.place is_none in
           let is_hand = subst (λ w. InHandOf m w counted.later) (sym c.keep.ensures.place) counted.is_later in
-          next_counted c.args.reduction file m c.args.walk.now c.keep.new.self c.load.new.self test _ counted.later c.in_ok-load.field-0 on is_hand empty ((rw (i.honesty, i.file) at l.loaded) told) (search rules);
+          next_counted c.args.portion.reduction file m c.args.walk.now c.keep.new.self c.load.new.self test _ counted.later c.in_ok-load.field-0 on is_hand empty ((rw (i.honesty, i.file) at l.loaded) told) (search rules);
       takes = λ told.
           let file = g.S.Store.file c.args.store.now in
           let m = c.args.movie.now in

@@ -1,9 +1,11 @@
 use Rattle.std.proofs.Common.{rules, arith, ◌<◌, length, slice_set, ◌∙◌}
 use Rattle.std.proofs.lemmas.Option.{slice_get-get_or}
 use Rattle.std.proofs.lemmas.Result.{err_from_is_err_and}
+use Rattle.mp4_plan.specs.words.ComingLess.{track_reduction}
 use Rattle.mp4_plan.proofs.AllTake.{one_takes, one_stops}
+use Rattle.mp4_plan.proofs.CarriedParts.{read_at}
 use Rattle.mp4_plan.proofs.NextSamples.{noted_more, noted_all, come_length, rooms_set}
-use Rattle.mp4_plan.proofs.Planning.{comes_there, reduced_is, same_come, walks_set}
+use Rattle.mp4_plan.proofs.Planning.{comes_there, reduced_there, same_come, walks_set}
 use Rattle.mp4_plan.specs.words.WriterSteps.{MayWrite}
 use Rattle.mp4_plan.proofs.AllMay.{one_moves, one_ends}
 use Rattle.mp4_plan.proofs.StepsOn.{none_taken, all_then, all_then_stop, writes_none_taken, write_then, write_then_stop}
@@ -39,20 +41,19 @@ loop-k-preserved g c =
     let many = i.many in
     let each = i.nexts in
     let inside : k < length walks = omega (arith, lt, many) in
-    let more_by = c.requires.reductions in
     let within : k < length c.loop-k.nexts = omega (arith, inside, each) in
     record {
-      walks = walks_set m walks k now i.walks e.walk.walk;
+      walks = walks_set m walks k now i.walks e.loads.walk.walk;
       nexts = search rules;
       many = search rules;
-      rooms = rooms_set walks k now c.index-walks-k.result inside e.walk.room ∙ i.rooms;
-      honesty = e.store.honesty ∙ i.honesty;
-      file = e.store.file ∙ i.file;
-      reads = e.store.reads ∙ i.reads;
+      rooms = rooms_set walks k now c.index-walks-k.result inside e.loads.walk.room ∙ i.rooms;
+      honesty = e.loads.store.honesty ∙ i.honesty;
+      file = e.loads.store.file ∙ i.file;
+      reads = e.loads.store.reads ∙ i.reads;
       shown = λ leaving told tree o lefts by h.
           let was = i.shown leaving told tree o lefts by h in
           let r = comes_there leaving file tree m walks lefts k c.index-walks-k.result was.0 inside in
-          let own = reduced_is leaving tree c.args.reductions.now k r.t by r.is_tree (omega (arith, inside, many, more_by)) in
+          let own = read_at c.args.reductions.now.of_tracks.items c.loop-k.k (track_reduction leaving tree r.t) c.index-reduction.result.now (reduced_there leaving tree c.args.reductions.now.of_tracks.items c.loop-k.k r.t by r.is_tree) c.index-reduction.ensures in
           let come = (rw (i.honesty, i.file, own) at e.coming) told tree r.t r.left o r.comes in
           (same_come leaving file tree m walks lefts k _ now was.0 r come.0, noted_more c.loop-k.nexts lefts k r.left c.in_ok-nexts.field-0 was.1 within r.is_left come.1);
       takes = λ told tree o n h.
@@ -72,9 +73,8 @@ returns-in_err-nexts-clause-unchanged g c leaving told tree o lefts by h =
     let lt = c.loop-k-test.true in
     let many = i.many in
     let was = i.shown leaving told tree o lefts by h in
-    let more_by = c.requires.reductions in
     let r = comes_there leaving (g.S.Store.file c.args.store.now) tree c.args.movie.now c.loop-k.walks lefts c.loop-k.k c.index-walks-k.result was.0 (omega (arith, lt, many)) in
-    let own = reduced_is leaving tree c.args.reductions.now c.loop-k.k r.t by r.is_tree (omega (arith, lt, many, more_by)) in
+    let own = read_at c.args.reductions.now.of_tracks.items c.loop-k.k (track_reduction leaving tree r.t) c.index-reduction.result.now (reduced_there leaving tree c.args.reductions.now.of_tracks.items c.loop-k.k r.t by r.is_tree) c.index-reduction.ensures in
     rw (p.1, p.2) ((rw (i.honesty, i.file, own) at c.in_err-nexts.ensures.unchanged) told tree r.t r.left o r.comes)
 
 pub returns-in_err-nexts-clause-work : goal.returns-in_err-nexts-clause-work

@@ -13,7 +13,7 @@ loop-track-init g c = record {
   file = refl;
   reads = refl;
   grows = omega arith;
-  measured = λ asks told tree o. rw (c.new-reductions.ensures.items, c.new-totals.ensures.items) (so_far_none c.args.leaving (g.S.Store.file c.args.store.now) c.args.movie.now tree o);
+  measured = λ asks told tree o. rw (c.new-of_tracks.ensures.items, c.new-totals.ensures.items) (so_far_none c.args.leaving (g.S.Store.file c.args.store.now) c.args.movie.now tree o);
   work = λ told tree o. omega arith;
 }
 
@@ -39,7 +39,7 @@ loop-track-preserved g c =
           let found = (rw (i.honesty, i.file) at e.measured) told tree a.t o a.is_tree in
           let by = found.0 ∙ asked_reduction l tree a.t asks in
           rw (c.in_ok-push.ensures.items, c.in_ok-push-2.ensures.items)
-          (so_far_more l file m tree o k c.loop-track.reductions.items c.loop-track.totals.items c.in_ok-found.found.0 c.in_ok-found.found.1 a (i.measured asks told tree o) by
+          (so_far_more l file m tree o k c.loop-track.of_tracks.items c.loop-track.totals.items c.in_ok-found.found.0 c.in_ok-found.found.1 a (i.measured asks told tree o) by
           (found.1 ∙ ap (λ (r : Reduction). total_from r no_total (track_samples tree a.t)) by ∙ asked_total l tree a.t a.info asks));
       work = λ told tree o.
           let a = is_at l file m tree o k lt in
@@ -86,7 +86,7 @@ returns-in_err-push-2-clause-work g c told tree o =
 
 pub returns-clause-measured : goal.returns-clause-measured
 returns-clause-measured g c asks told tree o =
-    let r = so_far_all c.args.leaving (g.S.Store.file c.args.store.now) c.args.movie.now tree o c.loop-track.track c.loop-track.reductions.items c.loop-track.totals.items (c.loop-track.invariant.measured asks told tree o) (search rules) in
+    let r = so_far_all c.args.leaving (g.S.Store.file c.args.store.now) c.args.movie.now tree o c.loop-track.track c.loop-track.of_tracks.items c.loop-track.totals.items (c.loop-track.invariant.measured asks told tree o) (search rules) in
     record { reductions = r.0; totals = r.1 }
 
 pub returns-clause-work : goal.returns-clause-work

@@ -11,12 +11,12 @@ use Rattle.mp4_plan.proofs.measures.measure_all.Given as goal
 -- the first tracks were measured, and took no more steps than walks over them
 abbrev pub invariant-loop-track : goal.invariant-loop-track
 invariant-loop-track g l = record {
-  many : length l.reductions.items ≡ l.track;
+  many : length l.of_tracks.items ≡ l.track;
   honesty : g.S.Store.is_honest l.store ≡ g.S.Store.is_honest l.fn.store;
   file : g.S.Store.file l.store ≡ g.S.Store.file l.fn.store;
   reads : g.S.Store.read_failures l.store ≡ g.S.Store.read_failures l.fn.store;
   grows : l.fn.steps ≤ l.steps;
   measured : asks_first l.leaving ≡ true → IsTrue (g.S.Store.is_honest l.fn.store) → (tree : FileTree) (o : IsOpenedAs (g.S.Store.file l.fn.store) l.movie tree)
-      → AreSoFar l.leaving (g.S.Store.file l.fn.store) l.movie tree o l.track l.reductions.items l.totals.items;
+      → AreSoFar l.leaving (g.S.Store.file l.fn.store) l.movie tree o l.track l.of_tracks.items l.totals.items;
   work : IsTrue (g.S.Store.is_honest l.fn.store) → (tree : FileTree) → IsOpenedAs (g.S.Store.file l.fn.store) l.movie tree → l.steps ≤ l.fn.steps + sum_of (walk_steps tree) (take l.track tree.movie.tracks);
 }

@@ -21,10 +21,10 @@ loop-track-preserved c =
           let lasts = ap (λ (ts : List TrackInfo). (get_or ts k c.index-tracks-track.result).duration) c.tracks-tracks.ensures ∙ ap (λ (x : TrackInfo). x.duration) (sym at ∙ info) in
           let total : ◌≡◌ {A = Total} (record { duration = (get_or c.tracks-tracks.result.now k c.index-tracks-track.result).duration; is_near = true }) (record { duration = a.info.duration; is_near = true }) = λ i. record { duration = lasts i; is_near = true } in
           rw (c.in_ok-push.ensures.items, c.in_ok-push-2.ensures.items)
-          (so_far_more l file m tree o k c.loop-track.reductions.items c.loop-track.totals.items _ _ a (i.measured none file tree o) (c.plain.ensures ∙ plain_is l tree a.t none) (total ∙ counted_total l tree a.t a.info none));
+          (so_far_more l file m tree o k c.loop-track.of_tracks.items c.loop-track.totals.items _ _ a (i.measured none file tree o) (c.plain.ensures ∙ plain_is l tree a.t none) (total ∙ counted_total l tree a.t a.info none));
     }
 
 pub returns-clause-measured : goal.returns-clause-measured
 returns-clause-measured c none file tree o =
-    let r = so_far_all c.args.leaving file c.args.movie.now tree o c.loop-track.track c.loop-track.reductions.items c.loop-track.totals.items (c.loop-track.invariant.measured none file tree o) (search rules) in
+    let r = so_far_all c.args.leaving file c.args.movie.now tree o c.loop-track.track c.loop-track.of_tracks.items c.loop-track.totals.items (c.loop-track.invariant.measured none file tree o) (search rules) in
     record { reductions = r.0; totals = r.1 }

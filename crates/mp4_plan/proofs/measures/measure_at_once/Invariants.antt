@@ -8,6 +8,6 @@ use Rattle.mp4_plan.proofs.measures.measure_at_once.Given as goal
 -- so many tracks are done
 abbrev pub invariant-loop-track : goal.invariant-loop-track
 invariant-loop-track l = record {
-  many : length l.reductions.items ≡ l.track;
-  measured : asks_first l.leaving ≡ false → (file : List ℕ) (tree : FileTree) (o : IsOpenedAs file l.movie tree) → AreSoFar l.leaving file l.movie tree o l.track l.reductions.items l.totals.items;
+  many : length l.of_tracks.items ≡ l.track;
+  measured : asks_first l.leaving ≡ false → (file : List ℕ) (tree : FileTree) (o : IsOpenedAs file l.movie tree) → AreSoFar l.leaving file l.movie tree o l.track l.of_tracks.items l.totals.items;
 }

@@ -1,4 +1,3 @@
-use Rattle.std.proofs.Common.{◌∙◌}
 use Rattle.mp4_present.specs.format.Denotes.{presentation_of}
 use Rattle.mp4_present.specs.format.Presentation.{movie_length}
 use Rattle.mp4_present.specs.format.Reduced.{reduce}
@@ -13,7 +12,7 @@ returns-clause-length g c told tree o =
     let measured = c.in_ok-measures.ensures.measured told tree o in
     let left = c.in_ok-length_left.ensures.left file tree o (rw c.as_slice.ensures.value measured.totals) in
     let same = c.in_ok-measures.ensures.store in
-    let long = (rw (same.honesty, same.file) at c.in_ok-len.ensures.length) told tree o (c.as_slice-reductions.ensures.value ∙ measured.reductions) left.0.in_range in
+    let long = (rw (same.honesty, same.file, c.in_ok-measures.ensures.leaving) at c.in_ok-len.ensures.length) told tree o measured.reductions left.0.in_range in
     less_long _ c.in_ok-head.head mehd c.in_ok-len.len c.head_len.result c.min.result c.saturating_add.result (less.head_left c.args.leaving file c.args.movie.now tree c.in_ok-read.read c.in_ok-head.head o c.in_ok-read.ensures c.in_ok-head.ensures.movie c.in_ok-head.ensures.tracks)
     long (c.head_len.ensures.length mehd) c.min.ensures c.saturating_add.ensures
 

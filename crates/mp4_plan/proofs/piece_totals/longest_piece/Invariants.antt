@@ -14,17 +14,18 @@ use Rattle.mp4_plan.proofs.piece_totals.longest_piece.Given as goal
 -- the walks go on, what was passed is planned, and they took no more steps than they may
 abbrev pub invariant-loop-turn : goal.invariant-loop-turn
 invariant-loop-turn g l =
-    AreWalksOf l.movie l.walks.items
-    × (l.schedule.tracks ≡ length l.movie.tracks)
+    AreWalksOf l.movie l.plan.walks.items
+    × (l.plan.schedule.tracks ≡ length l.movie.tracks)
     × (g.S.Store.file l.store ≡ g.S.Store.file l.fn.store)
     × (g.S.Store.read_failures l.store ≡ g.S.Store.read_failures l.fn.store)
     × (l.longest ≤ 2 ^ 24)
     × (g.S.Store.is_honest l.store ≡ g.S.Store.is_honest l.fn.store)
-    × (IsTrue (g.S.Store.is_honest l.fn.store) → (tree : FileTree) → IsOpenedAs (g.S.Store.file l.fn.store) l.movie tree → l.reductions ≡ reductions_of l.leaving tree → ReducesInRange l.leaving (presentation_of (g.S.Store.file l.fn.store) tree)
-    → IsLongest l.leaving (g.S.Store.file l.fn.store) tree l.movie l.schedule l.walks.items l.nexts.items l.longest)
-    × (IsTrue (g.S.Store.is_honest l.fn.store) → (tree : FileTree) → IsOpenedAs (g.S.Store.file l.fn.store) l.movie tree → AllTakeOn (g.S.Store.file l.fn.store) tree (walks_steps tree) l.walks.items l.fn.steps l.steps)
-    × (length l.nexts.items ≡ length l.movie.tracks) × (l.looks + turns_left l.schedule ≤ l.fn.looks + movie_turns l.movie)
-    × IsDueAt (infos_left l.leaving l.movie.tracks) l.nexts.items l.schedule l.due × IsSomeLeft l.schedule × (l.fn.steps ≤ l.steps)
+    × (IsTrue (g.S.Store.is_honest l.fn.store) → (tree : FileTree) → IsOpenedAs (g.S.Store.file l.fn.store) l.movie tree → l.reductions.of_tracks.items ≡ reductions_of l.reductions.leaving tree → ReducesInRange l.reductions.leaving (presentation_of (g.S.Store.file l.fn.store) tree)
+    → IsLongest l.reductions.leaving (g.S.Store.file l.fn.store) tree l.movie l.plan.schedule l.plan.walks.items l.plan.nexts.items l.longest)
+    × (IsTrue (g.S.Store.is_honest l.fn.store) → (tree : FileTree) → IsOpenedAs (g.S.Store.file l.fn.store) l.movie tree → AllTakeOn (g.S.Store.file l.fn.store) tree (walks_steps tree) l.plan.walks.items l.fn.steps l.steps)
+    × (length l.plan.nexts.items ≡ length l.movie.tracks) × (l.looks + turns_left l.plan.schedule ≤ l.fn.looks + movie_turns l.movie)
+    × IsDueAt (infos_left l.reductions.leaving l.movie.tracks) l.plan.nexts.items l.plan.schedule l.plan.due × IsSomeLeft l.plan.schedule × (l.fn.steps ≤ l.steps)
+    × (l.plan.schedule.leaving ≡ l.reductions.leaving)
 
 abbrev pub decreases-loop-turn : goal.decreases-loop-turn
-decreases-loop-turn g l = turns_left l.schedule
+decreases-loop-turn g l = turns_left l.plan.schedule

@@ -3,7 +3,7 @@ use Rattle.std.proofs.lemmas.List.{length-take, length-drop}
 use Rattle.std.proofs.lemmas.Result.{err_from_is_err_and}
 use Rattle.mp4_present.specs.words.Movies.{InHandOf}
 use Rattle.mp4_plan.specs.words.Gathering.{Planning, planned_of}
-use Rattle.mp4_plan.proofs.PieceFed.{hand_fed, hand_ended, hand_full, hand_noted, hand_joined, notes_new, joins_new, next_fed, none_fed, feeds_new}
+use Rattle.mp4_plan.proofs.PieceFed.{hand_fed, hand_ended, hand_full, hand_noted, hand_joined, notes_new, joins_new, written_over, next_fed, none_fed, feeds_new}
 use Rattle.mp4_plan.proofs.PlannerSteps.{planned_counts}
 use Rattle.mp4_plan.specs.declared.planner.Planned.{Planned}
 use Rattle.mp4_present.proofs.WayThrough.{takes_none}
@@ -19,10 +19,10 @@ loop-planner-init g c = record {
   file = refl;
   reads = refl;
   few = search rules;
-  rows = refl;
-  fed = λ told. feeds_new c.args.reduction (g.S.Store.file c.args.store.now) c.args.movie.now c.args.walk.now c.args.end c.new-planner.result c.new-planner.ensures;
-  noted = λ told. notes_new c.args.reduction (g.S.Store.file c.args.store.now) c.args.movie.now c.args.walk.now c.args.end c.new-planner.result c.args.rows.now c.new-planner.ensures;
-  joined = λ told. joins_new c.args.reduction (g.S.Store.file c.args.store.now) c.args.movie.now c.args.walk.now c.args.end c.new-planner.result c.args.stretches.now c.new-planner.ensures;
+  rows = ap length c.as_mut_slice-rows.ensures.value;
+  fed = λ told. feeds_new c.args.portion.reduction (g.S.Store.file c.args.store.now) c.args.movie.now c.args.walk.now c.args.portion.end c.new-planner.result c.new-planner.ensures;
+  noted = λ told. notes_new c.args.portion.reduction (g.S.Store.file c.args.store.now) c.args.movie.now c.args.walk.now c.args.portion.end c.new-planner.result c.as_mut_slice-rows.result.now c.new-planner.ensures;
+  joined = λ told. joins_new c.args.portion.reduction (g.S.Store.file c.args.store.now) c.args.movie.now c.args.walk.now c.args.portion.end c.new-planner.result c.args.notes.now.stretches c.new-planner.ensures;
   went = went_none c.args.movie.now c.args.walk.now c.args.steps.now;
   takes = λ told tree t n o h. takes_none (g.S.Store.file c.args.store.now) tree t n c.args.steps.now c.args.walk.now h;
 }
@@ -32,7 +32,7 @@ returns-in-Ended-clause-planned g c told tree t samples o h =
     let i = c.loop-planner.invariant in
     let file = g.S.Store.file c.args.store.now in
     let fed = (rw c.in-Ended.is at c.note_hand-hand.ensures.fed).0 in
-    let r = hand_ended c.args.reduction file c.args.movie.now c.args.walk.now c.loop-planner.walk c.keep.new.self _ _ c.loop-planner.planner c.note_hand-hand.new.planner c.note_hand-hand.result.place (i.fed told) fed c.keep.ensures.place tree t samples o h in
+    let r = hand_ended c.args.portion.reduction file c.args.movie.now c.args.walk.now c.loop-planner.walk c.keep.new.self _ _ c.loop-planner.planner c.note_hand-hand.new.planner c.note_hand-hand.result.place (i.fed told) fed c.keep.ensures.place tree t samples o h in
     (c.piece-in-Ended.ensures.is ∙ ap (λ (p : Planning). planned_of p.gathered) r.0, r.1)
 
 pub returns-then-not-branch-clause-planned : goal.returns-then-not-branch-clause-planned
@@ -43,10 +43,10 @@ returns-then-not-branch-clause-planned g c told tree t samples o h =
     let place = c.note_hand-hand.result.place in
     let planner = c.note_hand-hand.new.planner in
     let fed = (rw c.in-Empty.is at c.note_hand-hand.ensures.fed).0 in
-    let on = hand_fed c.args.reduction file m c.args.walk.now c.loop-planner.walk c.keep.new.self _ _ c.loop-planner.planner planner place (i.fed told) fed c.keep.ensures.place in
+    let on = hand_fed c.args.portion.reduction file m c.args.walk.now c.loop-planner.walk c.keep.new.self _ _ c.loop-planner.planner planner place (i.fed told) fed c.keep.ensures.place in
     let is_hand = subst (λ w. InHandOf m w fed.later) (sym c.keep.ensures.place) fed.is_later in
     let l = c.in_ok-load-in-Empty.ensures in
-    let r = none_fed c.args.reduction file m c.args.walk.now c.keep.new.self c.load.new.self _ planner fed.later c.in_ok-load-in-Empty.field-0 on is_hand fed.taken.2 ((rw (i.honesty, i.file) at l.loaded) told) c.if-not-branch.true
+    let r = none_fed c.args.portion.reduction file m c.args.walk.now c.keep.new.self c.load.new.self _ planner fed.later c.in_ok-load-in-Empty.field-0 on is_hand fed.taken.2 ((rw (i.honesty, i.file) at l.loaded) told) c.if-not-branch.true
     ((rw (i.honesty, i.file) at l.ended) told) tree t samples o h in
     (c.piece-then-not-branch.ensures.is ∙ ap (λ (p : Planning). planned_of p.gathered) r.0, r.1)
 
@@ -68,15 +68,17 @@ loop-planner-preserved g c =
           let place = c.note_hand-hand.result.place in
           let planner = c.note_hand-hand.new.planner in
           let fed = (rw c.in-Empty.is at c.note_hand-hand.ensures.fed).0 in
-          let on = hand_fed c.args.reduction file m c.args.walk.now c.loop-planner.walk c.keep.new.self _ _ c.loop-planner.planner planner place (i.fed told) fed c.keep.ensures.place in
+          let on = hand_fed c.args.portion.reduction file m c.args.walk.now c.loop-planner.walk c.keep.new.self _ _ c.loop-planner.planner planner place (i.fed told) fed c.keep.ensures.place in
           let is_hand = subst (λ w. InHandOf m w fed.later) (sym c.keep.ensures.place) fed.is_later in
-          next_fed c.args.reduction file m c.args.walk.now c.keep.new.self c.load.new.self _ planner fed.later c.in_ok-load-in-Empty.field-0 on is_hand fed.taken.2 ((rw (i.honesty, i.file) at l.loaded) told) (search rules);
+          next_fed c.args.portion.reduction file m c.args.walk.now c.keep.new.self c.load.new.self _ planner fed.later c.in_ok-load-in-Empty.field-0 on is_hand fed.taken.2 ((rw (i.honesty, i.file) at l.loaded) told) (search rules);
       noted = λ told. (let rows = c.loop-planner.rows in
           let counted = ap (λ (p : Planned). p.count) c.piece.ensures.is ∙ planned_counts c.loop-planner.planner.gathered in
-          hand_noted c.args.reduction (g.S.Store.file c.args.store.now) c.args.movie.now c.args.walk.now c.loop-planner.walk _ c.piece.result.count _ c.loop-planner.planner c.note_hand-hand.new.planner c.note_hand-hand.result.stop c.note_hand-hand.result.place rows c.note_hand-hand.new.rows _ _ _
+          hand_noted c.args.portion.reduction (g.S.Store.file c.args.store.now)
+          c.args.movie.now c.args.walk.now c.loop-planner.walk _ c.piece.result.count _ c.loop-planner.planner c.note_hand-hand.new.planner c.note_hand-hand.result.stop c.note_hand-hand.result.place rows c.note_hand-hand.new.rows _ _ _
           (i.fed told)
           (i.noted told) c.note_hand-hand.ensures.fed counted (search rules));
-      joined = λ told. hand_joined c.args.reduction (g.S.Store.file c.args.store.now) c.args.movie.now c.args.walk.now c.loop-planner.walk _ _ c.loop-planner.planner c.note_hand-hand.new.planner c.note_hand-hand.result.stop c.note_hand-hand.result.place _ c.args.stretches.now _ _ (i.fed told)
+      joined = λ told. hand_joined c.args.portion.reduction (g.S.Store.file c.args.store.now) c.args.movie.now c.args.walk.now c.loop-planner.walk _ _ c.loop-planner.planner c.note_hand-hand.new.planner c.note_hand-hand.result.stop c.note_hand-hand.result.place _ c.args.notes.now.stretches _ _
+          (i.fed told)
           (i.joined told)
           c.note_hand-hand.ensures.fed;
       went =
@@ -95,7 +97,7 @@ returns-in_err-load-in-Empty-clause-unchanged g c told tree t samples o h few =
     let p = err_from_is_err_and c.from_residual.result c.from_residual.ensures.1 in
     let i = c.loop-planner.invariant in
     let fed = (rw c.in-Empty.is at c.note_hand-hand.ensures.fed).0 in
-    let on = hand_fed c.args.reduction (g.S.Store.file c.args.store.now) c.args.movie.now c.args.walk.now c.loop-planner.walk c.keep.new.self _ _ c.loop-planner.planner c.note_hand-hand.new.planner c.note_hand-hand.result.place (i.fed told) fed c.keep.ensures.place in
+    let on = hand_fed c.args.portion.reduction (g.S.Store.file c.args.store.now) c.args.movie.now c.args.walk.now c.loop-planner.walk c.keep.new.self _ _ c.loop-planner.planner c.note_hand-hand.new.planner c.note_hand-hand.result.place (i.fed told) fed c.keep.ensures.place in
     let k = (on tree t samples o h).comes.comes in
     rw (p.1, p.2) ((rw (i.honesty, i.file) at c.in_err-load-in-Empty.ensures.loaded) told tree t k.0 k.1 o k.3.0)
 
@@ -107,7 +109,7 @@ returns-in-Full-clause-unchanged g c told tree t samples o h few =
     let rows = c.loop-planner.rows in
     let n = c.piece.result.count in
     let counted = ap (λ (p : Planned). p.count) c.piece.ensures.is ∙ planned_counts c.loop-planner.planner.gathered in
-    let full = hand_full c.args.reduction file c.args.movie.now c.args.walk.now c.loop-planner.walk (length (take (length rows - n) (drop n rows))) _ c.loop-planner.planner c.note_hand-hand.new.planner c.note_hand-hand.result.place (i.fed told) fed tree t samples o h in
+    let full = hand_full c.args.portion.reduction file c.args.movie.now c.args.walk.now c.loop-planner.walk (length (take (length rows - n) (drop n rows))) _ c.loop-planner.planner c.note_hand-hand.new.planner c.note_hand-hand.result.place (i.fed told) fed tree t samples o h in
     let within = i.few in
     let as_many = i.rows in
     λ e. absurd (omega (arith, full, few, within, as_many, counted, length-take (length rows - n) (drop n rows), length-drop n rows))
@@ -118,15 +120,15 @@ returns-in-Ended-clause-noted g c told tree t samples o h = record {
       let i = c.loop-planner.invariant in
       let counted = ap (λ (p : Planned). p.count) c.piece.ensures.is ∙ planned_counts c.loop-planner.planner.gathered in
       let counted_now = ap (λ (p : Planned). p.count) c.piece-in-Ended.ensures.is ∙ planned_counts c.note_hand-hand.new.planner.gathered in
-      let on = hand_noted c.args.reduction (g.S.Store.file c.args.store.now)
+      let on = hand_noted c.args.portion.reduction (g.S.Store.file c.args.store.now)
       c.args.movie.now c.args.walk.now c.loop-planner.walk _ c.piece.result.count _ c.loop-planner.planner c.note_hand-hand.new.planner c.note_hand-hand.result.stop c.note_hand-hand.result.place c.loop-planner.rows c.note_hand-hand.new.rows _ _ _
       (i.fed told) (i.noted told) c.note_hand-hand.ensures.fed counted (search rules) in
-      rw counted_now (on tree t samples o h));
+      written_over _ _ _ _ _ (search rules) c.args.notes.now.rows.ok.0 (rw counted_now (on tree t samples o h)));
   joined = (
       let i = c.loop-planner.invariant in
       let counted_now = ap (λ (p : Planned). p.count) c.piece-in-Ended.ensures.is ∙ planned_counts c.note_hand-hand.new.planner.gathered in
-      let on = hand_joined c.args.reduction (g.S.Store.file c.args.store.now) c.args.movie.now c.args.walk.now c.loop-planner.walk _ _ c.loop-planner.planner c.note_hand-hand.new.planner c.note_hand-hand.result.stop c.note_hand-hand.result.place _
-      c.args.stretches.now _ _ (i.fed told) (i.joined told)
+      let on = hand_joined c.args.portion.reduction (g.S.Store.file c.args.store.now) c.args.movie.now c.args.walk.now c.loop-planner.walk _ _ c.loop-planner.planner c.note_hand-hand.new.planner c.note_hand-hand.result.stop c.note_hand-hand.result.place _
+      c.args.notes.now.stretches _ _ (i.fed told) (i.joined told)
       c.note_hand-hand.ensures.fed in
       rw counted_now (on tree t samples o h));
 }
@@ -137,15 +139,15 @@ returns-then-not-branch-clause-noted g c told tree t samples o h = record {
       let i = c.loop-planner.invariant in
       let counted = ap (λ (p : Planned). p.count) c.piece.ensures.is ∙ planned_counts c.loop-planner.planner.gathered in
       let counted_now = ap (λ (p : Planned). p.count) c.piece-then-not-branch.ensures.is ∙ planned_counts c.note_hand-hand.new.planner.gathered in
-      let on = hand_noted c.args.reduction (g.S.Store.file c.args.store.now)
+      let on = hand_noted c.args.portion.reduction (g.S.Store.file c.args.store.now)
       c.args.movie.now c.args.walk.now c.loop-planner.walk _ c.piece.result.count _ c.loop-planner.planner c.note_hand-hand.new.planner c.note_hand-hand.result.stop c.note_hand-hand.result.place c.loop-planner.rows c.note_hand-hand.new.rows _ _ _
       (i.fed told) (i.noted told) c.note_hand-hand.ensures.fed counted (search rules) in
-      rw counted_now (on tree t samples o h));
+      written_over _ _ _ _ _ (search rules) c.args.notes.now.rows.ok.0 (rw counted_now (on tree t samples o h)));
   joined = (
       let i = c.loop-planner.invariant in
       let counted_now = ap (λ (p : Planned). p.count) c.piece-then-not-branch.ensures.is ∙ planned_counts c.note_hand-hand.new.planner.gathered in
-      let on = hand_joined c.args.reduction (g.S.Store.file c.args.store.now) c.args.movie.now c.args.walk.now c.loop-planner.walk _ _ c.loop-planner.planner c.note_hand-hand.new.planner c.note_hand-hand.result.stop c.note_hand-hand.result.place _
-      c.args.stretches.now _ _ (i.fed told) (i.joined told)
+      let on = hand_joined c.args.portion.reduction (g.S.Store.file c.args.store.now) c.args.movie.now c.args.walk.now c.loop-planner.walk _ _ c.loop-planner.planner c.note_hand-hand.new.planner c.note_hand-hand.result.stop c.note_hand-hand.result.place _
+      c.args.notes.now.stretches _ _ (i.fed told) (i.joined told)
       c.note_hand-hand.ensures.fed in
       rw counted_now (on tree t samples o h));
 }

@@ -16,10 +16,10 @@ invariant-loop-planner g l = record {
   file : g.S.Store.file l.store ≡ g.S.Store.file l.fn.store;
   reads : g.S.Store.read_failures l.store ≡ g.S.Store.read_failures l.fn.store;
   few : count_of l.planner.gathered ≤ length l.rows;
-  rows : length l.rows ≡ length l.fn.rows;
-  fed : IsTrue (g.S.Store.is_honest l.fn.store) → FeedsOn l.reduction (g.S.Store.file l.fn.store) l.movie l.fn.walk l.walk (piece_from l.fn.end) l.planner;
-  noted : IsTrue (g.S.Store.is_honest l.fn.store) → NotesOn l.reduction (g.S.Store.file l.fn.store) l.movie l.fn.walk l.planner l.rows;
-  joined : IsTrue (g.S.Store.is_honest l.fn.store) → JoinsFor l.reduction (g.S.Store.file l.fn.store) l.movie l.fn.walk l.planner l.fn.stretches l.stretches;
+  rows : length l.rows ≡ length l.fn.notes.rows.items;
+  fed : IsTrue (g.S.Store.is_honest l.fn.store) → FeedsOn l.portion.reduction (g.S.Store.file l.fn.store) l.movie l.fn.walk l.walk (piece_from l.fn.portion.end) l.planner;
+  noted : IsTrue (g.S.Store.is_honest l.fn.store) → NotesOn l.portion.reduction (g.S.Store.file l.fn.store) l.movie l.fn.walk l.planner l.rows;
+  joined : IsTrue (g.S.Store.is_honest l.fn.store) → JoinsFor l.portion.reduction (g.S.Store.file l.fn.store) l.movie l.fn.walk l.planner l.fn.notes.stretches l.stretches;
   went : WentOn l.movie l.fn.walk l.walk l.fn.steps l.steps;
   takes : IsTrue (g.S.Store.is_honest l.fn.store) → TakesBefore (g.S.Store.file l.fn.store) l.movie l.fn.walk l.walk l.fn.steps l.steps;
 }

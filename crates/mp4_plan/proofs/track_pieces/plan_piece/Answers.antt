@@ -16,7 +16,7 @@ loop-planner-init g c = record {
   file = refl;
   reads = refl;
   few = search rules;
-  fed = λ told. feeds_new c.args.reduction (g.S.Store.file c.args.store.now) c.args.movie.now c.args.walk.now c.args.end c.new-planner.result c.new-planner.ensures;
+  fed = λ told. feeds_new c.args.portion.reduction (g.S.Store.file c.args.store.now) c.args.movie.now c.args.walk.now c.args.portion.end c.new-planner.result c.new-planner.ensures;
   takes = λ told tree t n o h. takes_none (g.S.Store.file c.args.store.now) tree t n c.args.steps.now c.args.walk.now h;
   grows = omega arith;
 }
@@ -26,7 +26,7 @@ returns-in-Ended-clause-planned g c told tree t samples o h =
     let i = c.loop-planner.invariant in
     let file = g.S.Store.file c.args.store.now in
     let fed = rw c.in-Ended.is at c.feed_hand-hand.ensures.fed in
-    let r = hand_ended c.args.reduction file c.args.movie.now c.args.walk.now c.loop-planner.walk c.keep.new.self _ _ c.loop-planner.planner c.feed_hand-hand.new.planner c.feed_hand-hand.result.place (i.fed told) fed c.keep.ensures.place tree t samples o h in
+    let r = hand_ended c.args.portion.reduction file c.args.movie.now c.args.walk.now c.loop-planner.walk c.keep.new.self _ _ c.loop-planner.planner c.feed_hand-hand.new.planner c.feed_hand-hand.result.place (i.fed told) fed c.keep.ensures.place tree t samples o h in
     (c.piece.ensures.is ∙ ap (λ (p : Planning). planned_of p.gathered) r.0, r.1)
 
 pub returns-then-not-branch-clause-planned : goal.returns-then-not-branch-clause-planned
@@ -37,10 +37,10 @@ returns-then-not-branch-clause-planned g c told tree t samples o h =
     let place = c.feed_hand-hand.result.place in
     let planner = c.feed_hand-hand.new.planner in
     let fed = rw c.in-Empty.is at c.feed_hand-hand.ensures.fed in
-    let on = hand_fed c.args.reduction file m c.args.walk.now c.loop-planner.walk c.keep.new.self _ _ c.loop-planner.planner planner place (i.fed told) fed c.keep.ensures.place in
+    let on = hand_fed c.args.portion.reduction file m c.args.walk.now c.loop-planner.walk c.keep.new.self _ _ c.loop-planner.planner planner place (i.fed told) fed c.keep.ensures.place in
     let is_hand = subst (λ w. InHandOf m w fed.later) (sym c.keep.ensures.place) fed.is_later in
     let l = c.in_ok-load-in-Empty.ensures in
-    let r = none_fed c.args.reduction file m c.args.walk.now c.keep.new.self c.load.new.self _ planner fed.later c.in_ok-load-in-Empty.field-0 on is_hand fed.taken.2 ((rw (i.honesty, i.file) at l.loaded) told) c.if-not-branch.true
+    let r = none_fed c.args.portion.reduction file m c.args.walk.now c.keep.new.self c.load.new.self _ planner fed.later c.in_ok-load-in-Empty.field-0 on is_hand fed.taken.2 ((rw (i.honesty, i.file) at l.loaded) told) c.if-not-branch.true
     ((rw (i.honesty, i.file) at l.ended) told) tree t samples o h in
     (c.piece-then-not-branch.ensures.is ∙ ap (λ (p : Planning). planned_of p.gathered) r.0, r.1)
 
@@ -61,9 +61,9 @@ loop-planner-preserved g c =
           let place = c.feed_hand-hand.result.place in
           let planner = c.feed_hand-hand.new.planner in
           let fed = rw c.in-Empty.is at c.feed_hand-hand.ensures.fed in
-          let on = hand_fed c.args.reduction file m c.args.walk.now c.loop-planner.walk c.keep.new.self _ _ c.loop-planner.planner planner place (i.fed told) fed c.keep.ensures.place in
+          let on = hand_fed c.args.portion.reduction file m c.args.walk.now c.loop-planner.walk c.keep.new.self _ _ c.loop-planner.planner planner place (i.fed told) fed c.keep.ensures.place in
           let is_hand = subst (λ w. InHandOf m w fed.later) (sym c.keep.ensures.place) fed.is_later in
-          next_fed c.args.reduction file m c.args.walk.now c.keep.new.self c.load.new.self _ planner fed.later c.in_ok-load-in-Empty.field-0 on is_hand fed.taken.2 ((rw (i.honesty, i.file) at l.loaded) told) (search rules);
+          next_fed c.args.portion.reduction file m c.args.walk.now c.keep.new.self c.load.new.self _ planner fed.later c.in_ok-load-in-Empty.field-0 on is_hand fed.taken.2 ((rw (i.honesty, i.file) at l.loaded) told) (search rules);
       takes = λ told.
           let file = g.S.Store.file c.args.store.now in
           let m = c.args.movie.now in
@@ -77,7 +77,7 @@ returns-in_err-load-in-Empty-clause-unchanged g c told tree t samples o h few =
     let p = err_from_is_err_and c.from_residual.result c.from_residual.ensures.1 in
     let i = c.loop-planner.invariant in
     let fed = rw c.in-Empty.is at c.feed_hand-hand.ensures.fed in
-    let on = hand_fed c.args.reduction (g.S.Store.file c.args.store.now) c.args.movie.now c.args.walk.now c.loop-planner.walk c.keep.new.self _ _ c.loop-planner.planner c.feed_hand-hand.new.planner c.feed_hand-hand.result.place (i.fed told) fed c.keep.ensures.place in
+    let on = hand_fed c.args.portion.reduction (g.S.Store.file c.args.store.now) c.args.movie.now c.args.walk.now c.loop-planner.walk c.keep.new.self _ _ c.loop-planner.planner c.feed_hand-hand.new.planner c.feed_hand-hand.result.place (i.fed told) fed c.keep.ensures.place in
     let k = (on tree t samples o h).comes.comes in
     rw (p.1, p.2) ((rw (i.honesty, i.file) at c.in_err-load-in-Empty.ensures.loaded) told tree t k.0 k.1 o k.3.0)
 
@@ -86,8 +86,8 @@ returns-in-Full-clause-unchanged g c told tree t samples o h few =
     let i = c.loop-planner.invariant in
     let file = g.S.Store.file c.args.store.now in
     let fed = rw c.in-Full.is at c.feed_hand-hand.ensures.fed in
-    let full = hand_full c.args.reduction file c.args.movie.now c.args.walk.now c.loop-planner.walk _ _ c.loop-planner.planner c.feed_hand-hand.new.planner c.feed_hand-hand.result.place (i.fed told) fed tree t samples o h in
-    λ e. absurd (omega (arith, full, few, i.few, few_more (piece_from c.args.end) samples))
+    let full = hand_full c.args.portion.reduction file c.args.movie.now c.args.walk.now c.loop-planner.walk _ _ c.loop-planner.planner c.feed_hand-hand.new.planner c.feed_hand-hand.result.place (i.fed told) fed tree t samples o h in
+    λ e. absurd (omega (arith, full, few, i.few, few_more (piece_from c.args.portion.end) samples))
 
 pub returns-in-Ended-clause-work : goal.returns-in-Ended-clause-work
 returns-in-Ended-clause-work g c told tree t n o h =

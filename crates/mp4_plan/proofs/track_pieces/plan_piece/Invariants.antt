@@ -15,7 +15,7 @@ invariant-loop-planner g l = record {
   file : g.S.Store.file l.store ≡ g.S.Store.file l.fn.store;
   reads : g.S.Store.read_failures l.store ≡ g.S.Store.read_failures l.fn.store;
   few : count_of l.planner.gathered ≤ 16777216;
-  fed : IsTrue (g.S.Store.is_honest l.fn.store) → FeedsOn l.reduction (g.S.Store.file l.fn.store) l.movie l.fn.walk l.walk (piece_from l.fn.end) l.planner;
+  fed : IsTrue (g.S.Store.is_honest l.fn.store) → FeedsOn l.portion.reduction (g.S.Store.file l.fn.store) l.movie l.fn.walk l.walk (piece_from l.fn.portion.end) l.planner;
   takes : IsTrue (g.S.Store.is_honest l.fn.store) → TakesBefore (g.S.Store.file l.fn.store) l.movie l.fn.walk l.walk l.fn.steps l.steps;
   grows : l.fn.steps ≤ l.steps;
 }

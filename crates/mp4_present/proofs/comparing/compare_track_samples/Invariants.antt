@@ -10,20 +10,20 @@ use Rattle.mp4_present.proofs.comparing.compare_track_samples.Given as goal
 abbrev pub invariant-loop-number : goal.invariant-loop-number
 invariant-loop-number g l = record {
   within : l.number ≤ l.count;
-  honesty : g.S.Store.is_honest l.a ≡ g.S.Store.is_honest l.fn.a;
-  file : g.S.Store.file l.a ≡ g.S.Store.file l.fn.a;
-  reads : g.S.Store.read_failures l.a ≡ g.S.Store.read_failures l.fn.a;
-  honesty_right : g.T.Store.is_honest l.b ≡ g.T.Store.is_honest l.fn.b;
-  file_right : g.T.Store.file l.b ≡ g.T.Store.file l.fn.b;
-  reads_right : g.T.Store.read_failures l.b ≡ g.T.Store.read_failures l.fn.b;
+  honesty : g.S.Store.is_honest l.left ≡ g.S.Store.is_honest l.fn.left;
+  file : g.S.Store.file l.left ≡ g.S.Store.file l.fn.left;
+  reads : g.S.Store.read_failures l.left ≡ g.S.Store.read_failures l.fn.left;
+  honesty_right : g.T.Store.is_honest l.right ≡ g.T.Store.is_honest l.fn.right;
+  file_right : g.T.Store.file l.right ≡ g.T.Store.file l.fn.right;
+  reads_right : g.T.Store.read_failures l.right ≡ g.T.Store.read_failures l.fn.right;
   goes : g.D.Differences.is_open l.seen ≡ true;
-  walk : IsWalkOf l.left l.left_side.walk;
-  walk_right : IsWalkOf l.right l.right_side.walk;
-  shows : IsTrue (g.S.Store.is_honest l.fn.a) → Shows (g.S.Store.file l.fn.a) l.left_side.window;
-  shows_right : IsTrue (g.T.Store.is_honest l.fn.b) → Shows (g.T.Store.file l.fn.b) l.right_side.window;
-  going : WhereBothOpened (g.S.Store.is_honest l.fn.a) (g.S.Store.file l.fn.a) l.left (g.T.Store.is_honest l.fn.b) (g.T.Store.file l.fn.b) l.right
-      (λ tree other. AtTracks l.track tree other (λ t u.
-      PairsGo l.by (g.S.Store.file l.fn.a) tree t l.left (g.T.Store.file l.fn.b) other u l.right l.number l.left_side.walk l.right_side.walk (g.D.Differences.taken l.fn.seen) (g.D.Differences.taken l.seen) l.fn.steps l.steps));
+  walk : IsWalkOf l.movies.left l.sides.left.walk;
+  walk_right : IsWalkOf l.movies.right l.sides.right.walk;
+  shows : IsTrue (g.S.Store.is_honest l.fn.left) → Shows (g.S.Store.file l.fn.left) l.sides.left.window;
+  shows_right : IsTrue (g.T.Store.is_honest l.fn.right) → Shows (g.T.Store.file l.fn.right) l.sides.right.window;
+  going : WhereBothOpened (g.S.Store.is_honest l.fn.left) (g.S.Store.file l.fn.left) l.movies.left (g.T.Store.is_honest l.fn.right) (g.T.Store.file l.fn.right) l.movies.right
+      (λ tree other. AtTracks l.place tree other (λ t u.
+      PairsGo l.by (g.S.Store.file l.fn.left) tree t l.movies.left (g.T.Store.file l.fn.right) other u l.movies.right l.number l.sides.left.walk l.sides.right.walk (g.D.Differences.taken l.fn.seen) (g.D.Differences.taken l.seen) l.fn.steps l.steps));
 }
 
 abbrev pub decreases-loop-number : goal.decreases-loop-number

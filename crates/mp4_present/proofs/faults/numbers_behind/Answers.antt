@@ -29,7 +29,7 @@ pub returns-in_err-plain-clause-work : goal.returns-in_err-plain-clause-work
 returns-in_err-plain-clause-work g c =
     let honest = g.S.Store.is_honest c.args.store.now in
     let file = g.S.Store.file c.args.store.now in
-    let outline = c.args.outline.now in
+    let outline = c.args.refused.outline.now in
     let moov = c.args.moov.now in
     let b = box_seen c.view-view.result in
     let r : IsRead honest file outline moov b = record { outline = c.requires.outline; is = c.view-view.ensures; fills = c.requires.fills; bytes = c.requires.bytes } in
@@ -39,7 +39,7 @@ pub returns-in_err-told-clause-work : goal.returns-in_err-told-clause-work
 returns-in_err-told-clause-work g c =
     let honest = g.S.Store.is_honest c.args.store.now in
     let file = g.S.Store.file c.args.store.now in
-    let outline = c.args.outline.now in
+    let outline = c.args.refused.outline.now in
     let moov = c.args.moov.now in
     let b = box_seen c.view-view.result in
     let r : IsRead honest file outline moov b = record { outline = c.requires.outline; is = c.view-view.ensures; fills = c.requires.fills; bytes = c.requires.bytes } in
@@ -57,7 +57,7 @@ pub returns-clause-work : goal.returns-clause-work
 returns-clause-work g c =
     let honest = g.S.Store.is_honest c.args.store.now in
     let file = g.S.Store.file c.args.store.now in
-    let outline = c.args.outline.now in
+    let outline = c.args.refused.outline.now in
     let moov = c.args.moov.now in
     let b = box_seen c.view-view.result in
     let r : IsRead honest file outline moov b = record { outline = c.requires.outline; is = c.view-view.ensures; fills = c.requires.fills; bytes = c.requires.bytes } in
@@ -76,14 +76,14 @@ returns-clause-told g c =
     let honest = g.S.Store.is_honest c.args.store.now in
     let file = g.S.Store.file c.args.store.now in
     let b = box_seen c.view-view.result in
-    let r : IsRead honest file c.args.outline.now c.args.moov.now b = record { outline = c.requires.outline; is = c.view-view.ensures; fills = c.requires.fills; bytes = c.requires.bytes } in
+    let r : IsRead honest file c.args.refused.outline.now c.args.moov.now b = record { outline = c.requires.outline; is = c.view-view.ensures; fills = c.requires.fills; bytes = c.requires.bytes } in
     let bytes : AreBytes c.args.moov.now = λ k. search rules in
     let says = c.in_ok-head.ensures.head in
-    let outline = c.args.outline.now in
+    let outline = c.args.refused.outline.now in
     let moov = c.args.moov.now in
     let head = c.in_ok-head.head in
     let plain = c.in_ok-plain.plain in
-    let place = c.args.fault.now.offset in
+    let place = c.args.refused.fault.now.offset in
     some_so (λ (n : FaultNumbers). IsTrue honest → (m : MovieTree) (boxes : List Box) → IsBegun file m boxes plain.states.items plain.room → Tells file place n)
     (λ (n : FaultNumbers). IsTrue honest → Tells file place n)
     c.in_ok-told.told
@@ -91,4 +91,4 @@ returns-clause-told g c =
     c.in_ok-told.ensures.told
 
 pub returns-in-Some-clause-told : goal.returns-in-Some-clause-told
-returns-in-Some-clause-told g c = λ told. tells_plain (g.S.Store.file c.args.store.now) _ c.args.fault.now.offset c.in-Some.told c.len.ensures c.in-Some.ensures
+returns-in-Some-clause-told g c = λ told. tells_plain (g.S.Store.file c.args.store.now) _ c.args.refused.fault.now.offset c.in-Some.told c.len.ensures c.in-Some.ensures

@@ -14,7 +14,7 @@ returns c =
       tree = i.tree;
       many = i.many;
       times = λ k x next some at shown.
-          let of = info_of c.args.leaving c.args.tracks.now k x at in
+          let of = info_of s.leaving c.args.tracks.now k x at in
           let inside = there_before c.args.tracks.now k of.0 of.1 in
           subst (λ (y : TrackInfo). IsDue s.first y.timescale next (leaf c.loop-k.due k)) (sym of.2) (i.times k of.0 next some (omega (arith, inside, end)) of.1 shown);
       here = λ some lt. (let first = c.requires.first in absurd (omega (arith, some, first)));

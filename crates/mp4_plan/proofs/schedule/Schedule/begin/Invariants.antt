@@ -10,5 +10,5 @@ abbrev pub invariant-loop-k : goal.invariant-loop-k
 invariant-loop-k l = record {
   tree : IsDueTree l.due;
   many : l.due.leaves ≡ l.self.tracks;
-  times : (k : ℕ) (info : TrackInfo) (next : Option SampleAt) → 0 < k → k < l.k → slice_get l.tracks k ≡ Some info → slice_get l.nexts k ≡ Some next → IsDue l.self.first (timescale_left l.leaving info.timescale) next (leaf l.due k);
+  times : (k : ℕ) (info : TrackInfo) (next : Option SampleAt) → 0 < k → k < l.k → slice_get l.tracks k ≡ Some info → slice_get l.nexts k ≡ Some next → IsDue l.self.first (timescale_left l.self.leaving info.timescale) next (leaf l.due k);
 }

@@ -33,14 +33,14 @@ pub returns-in_err-carry-clause-put : goal.returns-in_err-carry-clause-put
 returns-in_err-carry-clause-put g c told_honest tree o samples noted_are info is apart =
     let e = err_from_is_err_and c.from_residual.result c.from_residual.ensures.1 in
     let file = g.S.Store.file c.args.store.now in
-    let p = c.args.planned.now in
-    let there = get_or c.tracks.result.now c.args.track c.index-tracks-track.result in
+    let p = c.args.noted.now.planned in
+    let there = get_or c.tracks.result.now c.args.noted.now.track c.index-tracks-noted.result in
     let told = keys_seen there.keys in
     let noted = take p.count c.deref.result.now in
     let front : List ℕ = c.as_bytes.result.now in
     let mdat : List ℕ = header_bytes (codes "mdat") p.bytes in
     let bytes_there = sample_bytes file (take p.count samples) in
-    let keys = ap (λ (t : TrackInfo). keys_seen t.keys) (sym c.index-tracks-track.is ∙ read_at c.args.movie.now.tracks c.args.track info c.index-tracks-track.result is (rw c.tracks.ensures at c.index-tracks-track.is)) in
+    let keys = ap (λ (t : TrackInfo). keys_seen t.keys) (sym c.index-tracks-noted.is ∙ read_at c.args.movie.now.tracks c.args.noted.now.track info c.index-tracks-noted.result is (rw c.tracks.ensures at c.index-tracks-noted.is)) in
     let whole = parts_are c.in-Some.head p c.sizes_of-sizes.result (keys_seen info.keys) told (map row_seen (take p.count samples)) noted front mdat bytes_there (c.as_bytes.ensures ∙ c.moof_front-front.ensures) c.sizes_of-sizes.ensures.is keys (ap (take p.count) c.deref.ensures.value
     ∙ noted_are.rows) refl in
     rw (e.1, c.in-Some.is) (front_as (g.K.Sink.takes c.args.sink.now c.carry.new.sink) (waiting c.args.self.now.carrier) _ _
@@ -50,14 +50,14 @@ pub returns-in_err-carry_run-clause-put : goal.returns-in_err-carry_run-clause-p
 returns-in_err-carry_run-clause-put g c told_honest tree o samples noted_are info is apart =
     let e = err_from_is_err_and c.from_residual-in_err-carry_run.result c.from_residual-in_err-carry_run.ensures.1 in
     let file = g.S.Store.file c.args.store.now in
-    let p = c.args.planned.now in
-    let there = get_or c.tracks.result.now c.args.track c.index-tracks-track.result in
+    let p = c.args.noted.now.planned in
+    let there = get_or c.tracks.result.now c.args.noted.now.track c.index-tracks-noted.result in
     let told = keys_seen there.keys in
     let noted = take p.count c.deref.result.now in
     let front : List ℕ = c.as_bytes.result.now in
     let mdat : List ℕ = header_bytes (codes "mdat") p.bytes in
     let bytes_there = sample_bytes file (take p.count samples) in
-    let keys = ap (λ (t : TrackInfo). keys_seen t.keys) (sym c.index-tracks-track.is ∙ read_at c.args.movie.now.tracks c.args.track info c.index-tracks-track.result is (rw c.tracks.ensures at c.index-tracks-track.is)) in
+    let keys = ap (λ (t : TrackInfo). keys_seen t.keys) (sym c.index-tracks-noted.is ∙ read_at c.args.movie.now.tracks c.args.noted.now.track info c.index-tracks-noted.result is (rw c.tracks.ensures at c.index-tracks-noted.is)) in
     let whole = parts_are c.in-Some.head p c.sizes_of-sizes.result (keys_seen info.keys) told (map row_seen (take p.count samples)) noted front mdat bytes_there (c.as_bytes.ensures ∙ c.moof_front-front.ensures) c.sizes_of-sizes.ensures.is keys (ap (take p.count) c.deref.ensures.value
     ∙ noted_are.rows) refl in
     rw (e.1, c.in-Some.is) (front_as (g.K.Sink.takes c.args.sink.now c.carry_run.new.sink) (waiting c.args.self.now.carrier) _ _
@@ -69,14 +69,14 @@ pub returns-in_err-carry_groups-clause-put : goal.returns-in_err-carry_groups-cl
 returns-in_err-carry_groups-clause-put g c told_honest tree o samples noted_are info is apart =
     let e = err_from_is_err_and c.from_residual-in_err-carry_groups.result c.from_residual-in_err-carry_groups.ensures.1 in
     let file = g.S.Store.file c.args.store.now in
-    let p = c.args.planned.now in
-    let there = get_or c.tracks.result.now c.args.track c.index-tracks-track.result in
+    let p = c.args.noted.now.planned in
+    let there = get_or c.tracks.result.now c.args.noted.now.track c.index-tracks-noted.result in
     let told = keys_seen there.keys in
     let noted = take p.count c.deref.result.now in
     let front : List ℕ = c.as_bytes.result.now in
     let mdat : List ℕ = header_bytes (codes "mdat") p.bytes in
     let bytes_there = sample_bytes file (take p.count samples) in
-    let keys = ap (λ (t : TrackInfo). keys_seen t.keys) (sym c.index-tracks-track.is ∙ read_at c.args.movie.now.tracks c.args.track info c.index-tracks-track.result is (rw c.tracks.ensures at c.index-tracks-track.is)) in
+    let keys = ap (λ (t : TrackInfo). keys_seen t.keys) (sym c.index-tracks-noted.is ∙ read_at c.args.movie.now.tracks c.args.noted.now.track info c.index-tracks-noted.result is (rw c.tracks.ensures at c.index-tracks-noted.is)) in
     let whole = parts_are c.in-Some.head p c.sizes_of-sizes.result (keys_seen info.keys) told (map row_seen (take p.count samples)) noted front mdat bytes_there (c.as_bytes.ensures ∙ c.moof_front-front.ensures) c.sizes_of-sizes.ensures.is keys (ap (take p.count) c.deref.ensures.value
     ∙ noted_are.rows) refl in
     rw (e.1, c.in-Some.is) (front_as (g.K.Sink.takes c.args.sink.now c.carry_groups.new.sink) (waiting c.args.self.now.carrier) _ _
@@ -88,14 +88,14 @@ pub returns-in_err-carry-2-clause-put : goal.returns-in_err-carry-2-clause-put
 returns-in_err-carry-2-clause-put g c told_honest tree o samples noted_are info is apart =
     let e = err_from_is_err_and c.from_residual-in_err-carry-2.result c.from_residual-in_err-carry-2.ensures.1 in
     let file = g.S.Store.file c.args.store.now in
-    let p = c.args.planned.now in
-    let there = get_or c.tracks.result.now c.args.track c.index-tracks-track.result in
+    let p = c.args.noted.now.planned in
+    let there = get_or c.tracks.result.now c.args.noted.now.track c.index-tracks-noted.result in
     let told = keys_seen there.keys in
     let noted = take p.count c.deref.result.now in
     let front : List ℕ = c.as_bytes.result.now in
     let mdat : List ℕ = c.bytes.result.now in
     let bytes_there = sample_bytes file (take p.count samples) in
-    let keys = ap (λ (t : TrackInfo). keys_seen t.keys) (sym c.index-tracks-track.is ∙ read_at c.args.movie.now.tracks c.args.track info c.index-tracks-track.result is (rw c.tracks.ensures at c.index-tracks-track.is)) in
+    let keys = ap (λ (t : TrackInfo). keys_seen t.keys) (sym c.index-tracks-noted.is ∙ read_at c.args.movie.now.tracks c.args.noted.now.track info c.index-tracks-noted.result is (rw c.tracks.ensures at c.index-tracks-noted.is)) in
     let whole = parts_are c.in-Some.head p c.sizes_of-sizes.result (keys_seen info.keys) told (map row_seen (take p.count samples)) noted front mdat bytes_there (c.as_bytes.ensures ∙ c.moof_front-front.ensures) c.sizes_of-sizes.ensures.is keys (ap (take p.count) c.deref.ensures.value
     ∙ noted_are.rows) (c.bytes.ensures ∙ c.header-mdat.ensures) in
     rw (e.1, c.in-Some.is) (front_as (g.K.Sink.takes c.args.sink.now c.carry-2.new.sink) (waiting c.args.self.now.carrier) _ _
@@ -106,17 +106,17 @@ returns-in_err-carry-2-clause-put g c told_honest tree o samples noted_are info 
 pub returns-clause-put : goal.returns-clause-put
 returns-clause-put g c told_honest tree o samples noted_are info is apart =
     let file = g.S.Store.file c.args.store.now in
-    let p = c.args.planned.now in
-    let there = get_or c.tracks.result.now c.args.track c.index-tracks-track.result in
+    let p = c.args.noted.now.planned in
+    let there = get_or c.tracks.result.now c.args.noted.now.track c.index-tracks-noted.result in
     let told = keys_seen there.keys in
     let noted = take p.count c.deref.result.now in
     let front : List ℕ = c.as_bytes.result.now in
     let mdat : List ℕ = c.bytes.result.now in
     let bytes_there = sample_bytes file (take p.count samples) in
-    let keys = ap (λ (t : TrackInfo). keys_seen t.keys) (sym c.index-tracks-track.is ∙ read_at c.args.movie.now.tracks c.args.track info c.index-tracks-track.result is (rw c.tracks.ensures at c.index-tracks-track.is)) in
+    let keys = ap (λ (t : TrackInfo). keys_seen t.keys) (sym c.index-tracks-noted.is ∙ read_at c.args.movie.now.tracks c.args.noted.now.track info c.index-tracks-noted.result is (rw c.tracks.ensures at c.index-tracks-noted.is)) in
     let whole = parts_are c.in-Some.head p c.sizes_of-sizes.result (keys_seen info.keys) told (map row_seen (take p.count samples)) noted front mdat bytes_there (c.as_bytes.ensures ∙ c.moof_front-front.ensures) c.sizes_of-sizes.ensures.is keys (ap (take p.count) c.deref.ensures.value
     ∙ noted_are.rows) (c.bytes.ensures ∙ c.header-mdat.ensures) in
-    let here = noted_with file tree c.args.movie.now c.args.track p.count samples c.args.self.now c.carry-2.new.self noted_are in
+    let here = noted_with file tree c.args.movie.now c.args.noted.now.track p.count samples c.args.self.now c.carry-2.new.self noted_are in
     rw c.in-Some.is (on_both c.carry_data.result
     (λ x. goes_on_as (g.K.Sink.takes c.args.sink.now c.carry_data.new.sink) (waiting c.args.self.now.carrier) (waiting c.carry_data.new.self.carrier) _ _
     (go_five front (run_rows p noted) (groups_bytes noted p told) mdat bytes_there g.met.K.Sink.takes_on c.args.sink.now c.carry.new.sink c.carry_run.new.sink c.carry_groups.new.sink c.carry-2.new.sink
@@ -130,8 +130,8 @@ returns-clause-put g c told_honest tree o samples noted_are info is apart =
 
 pub returns-clause-many : goal.returns-clause-many
 returns-clause-many g c =
-    let p = c.args.planned.now in
-    let there = get_or c.tracks.result.now c.args.track c.index-tracks-track.result in
+    let p = c.args.noted.now.planned in
+    let there = get_or c.tracks.result.now c.args.noted.now.track c.index-tracks-noted.result in
     let noted = take p.count c.deref.result.now in
     let groups = c.in_ok-carry_groups.ensures.some in
     let few = c.requires.may.bounds.few in
@@ -148,13 +148,13 @@ pub returns-clause-copied : goal.returns-clause-copied
 unfolding noted_with
 returns-clause-copied g c told_honest tree o samples noted_are =
     let file = g.S.Store.file c.args.store.now in
-    let here = noted_with file tree c.args.movie.now c.args.track c.args.planned.now.count samples c.args.self.now c.carry-2.new.self noted_are in
+    let here = noted_with file tree c.args.movie.now c.args.noted.now.track c.args.noted.now.planned.count samples c.args.self.now c.carry-2.new.self noted_are in
     c.carry_data.ensures.copied told_honest tree o samples here
 
 pub returns-clause-unchanged : goal.returns-clause-unchanged
 returns-clause-unchanged g c told_honest tree o samples noted_are there =
     let file = g.S.Store.file c.args.store.now in
-    let here = noted_with file tree c.args.movie.now c.args.track c.args.planned.now.count samples c.args.self.now c.carry-2.new.self noted_are in
+    let here = noted_with file tree c.args.movie.now c.args.noted.now.track c.args.noted.now.planned.count samples c.args.self.now c.carry-2.new.self noted_are in
     c.carry_data.ensures.unchanged told_honest tree o samples here there
 
 pub returns-in_err-carry-clause-unchanged : goal.returns-in_err-carry-clause-unchanged
@@ -187,10 +187,10 @@ pub returns-in_default-clause-copied : goal.returns-in_default-clause-copied
 returns-in_default-clause-copied g c told tree o samples noted =
     let w = c.args.self.now in
     let none = c.requires.none c.in_default.is in
-    let all : drop c.args.planned.now.count samples ≡ samples = ap (λ n. drop n samples) none in (
+    let all : drop c.args.noted.now.planned.count samples ≡ samples = ap (λ n. drop n samples) none in (
       noted.walk,
-      sym (set_same w.walks.items c.args.track noted.walk noted.is_walk),
-      sym (set_same w.nexts.items c.args.track (slice_get (drop c.args.planned.now.count samples) 0) (noted.next ∙ ap (λ (ss : List SampleAt). Some (slice_get ss 0)) (sym all))),
+      sym (set_same w.walks.items c.args.noted.now.track noted.walk noted.is_walk),
+      sym (set_same w.nexts.items c.args.noted.now.track (slice_get (drop c.args.noted.now.planned.count samples) 0) (noted.next ∙ ap (λ (ss : List SampleAt). Some (slice_get ss 0)) (sym all))),
       noted.comes.comes,
       noted.none none ∙ ap (λ (ss : List SampleAt). mark_of noted.walk (length ss)) (sym all),
     )
@@ -199,7 +199,8 @@ pub returns-in_default-clause-work : goal.returns-in_default-clause-work
 returns-in_default-clause-work g c told tree o n h =
     let w = c.args.self.now in
     let m = c.args.movie.now in
-    none_carried w.reductions.items (g.S.Store.file c.args.store.now) m tree o w.walks.items c.args.track c.args.planned.now.count n h _ (of_got (IsWalkOf m) w.walks.items c.args.track h.walk h.is_walk c.requires.may.writer.walks.each) (c.requires.none c.in_default.is)
+    none_carried w.reductions.of_tracks.items (g.S.Store.file c.args.store.now) m tree o w.walks.items c.args.noted.now.track c.args.noted.now.planned.count n h _ (of_got (IsWalkOf m) w.walks.items c.args.noted.now.track h.walk h.is_walk c.requires.may.writer.walks.each)
+    (c.requires.none c.in_default.is)
 
 pub returns-in_default-clause-many : goal.returns-in_default-clause-many
-returns-in_default-clause-many g c = none_follow _ (g.met.K.Sink.takes_nothing c.args.sink.now) (waiting c.args.self.now.carrier) c.args.planned.now.count c.args.planned.now.bytes (c.requires.none c.in_default.is) c.requires.may.bounds.bytes
+returns-in_default-clause-many g c = none_follow _ (g.met.K.Sink.takes_nothing c.args.sink.now) (waiting c.args.self.now.carrier) c.args.noted.now.planned.count c.args.noted.now.planned.bytes (c.requires.none c.in_default.is) c.requires.may.bounds.bytes

@@ -1,6 +1,5 @@
 use Rattle.std.proofs.Common.{rules, ◌≡◌, [], length, take, refl, sym, ap, subst, ◌∙◌, arith}
 use Rattle.std.specs.Prelude.{slice_get}
-use Rattle.std.proofs.lemmas.List.{with_items_is}
 use Rattle.std.proofs.lemmas.Option.{slice_get_read}
 use Rattle.std.proofs.lemmas.Result.{err_from_is_err_and}
 use Rattle.mp4_present.specs.words.Movies.{IsWalkOf, mark_of}
@@ -30,7 +29,7 @@ returns-then-not-first_goes-clause-noted g c told tree o t walk left is by comes
     let m = c.args.movie.now in
     let k = c.args.turn.now.track in
     let end = c.args.turn.now.end in
-    let l = track_reduction c.args.self.now.leaving tree t in
+    let l = track_reduction c.args.self.now.reductions.leaving tree t in
     let first = read_at c.args.self.now.nexts.items k (slice_get left 0) c.index.result.now shown c.index.ensures in
     let none = none_goes end left c.index.result.now c.first_goes.result first c.first_goes.ensures c.if-not-first_goes.true in
     let fed = fed_none (piece_from end) left none in
@@ -38,8 +37,8 @@ returns-then-not-first_goes-clause-noted g c told tree o t walk left is by comes
     let count = ap (λ (p : Planned). p.count) empty in
     record {
       planned = empty ∙ ap (λ (p : Planning). planned_of p.gathered) (sym fed);
-      head = no_head c.args.sequence c.args.id c.piece.result.count (slice_get left 0) count;
-      rows = no_rows c.piece.result.count c.args.self.now.rows.items left count;
+      head = no_head c.args.numbers.sequence c.args.numbers.id c.piece.result.count (slice_get left 0) count;
+      rows = no_rows c.piece.result.count c.args.self.now.notes.rows.items left count;
       walk = walk;
       walks = sym (set_same c.args.self.now.walks.items k walk is);
       comes = (still_marked l file tree t m walk c.piece.result.count left (of_got (IsWalkOf m) c.args.self.now.walks.items k walk is c.requires.writer.walks.each) comes marked count).0;
@@ -58,42 +57,40 @@ returns-then-not-first_goes-clause-work g c told tree o n h =
     let there = there_is w.walks.items k (omega (arith, lt, many)) in
     let empty = c.piece.ensures.is ∙ ap (λ (p : Planning). planned_of p.gathered) c.new.ensures in
     let many_by = c.requires.writer.reductions in
-    let by = there_is w.reductions.items k (omega (arith, lt, many_by)) in
-    none_noted w.reductions.items by.0 file m tree o w.walks.items k c.piece.result.count there.0 n h there.1 by.1 _ (of_got (IsWalkOf m) w.walks.items k there.0 there.1 c.requires.writer.walks.each) (ap (λ (p : Planned). p.count) empty)
+    let by = there_is w.reductions.of_tracks.items k (omega (arith, lt, many_by)) in
+    none_noted w.reductions.of_tracks.items by.0 file m tree o w.walks.items k c.piece.result.count there.0 n h there.1 by.1 _ (of_got (IsWalkOf m) w.walks.items k there.0 there.1 c.requires.writer.walks.each) (ap (λ (p : Planned). p.count) empty)
 
 pub returns-in_err-planned-clause-unchanged : goal.returns-in_err-planned-clause-unchanged
 returns-in_err-planned-clause-unchanged g c told tree o t walk left is by comes marked shown few =
     let e = err_from_is_err_and c.from_residual.result c.from_residual.ensures.1 in
     let file = g.S.Store.file c.args.store.now in
     let m = c.args.movie.now in
-    let l = track_reduction c.args.self.now.leaving tree t in
-    let own = read_at c.args.self.now.reductions.items c.args.turn.now.track l c.index-reduction.result.now by c.index-reduction.ensures in
+    let l = track_reduction c.args.self.now.reductions.leaving tree t in
+    let own = read_at c.args.self.now.reductions.of_tracks.items c.args.turn.now.track l c.index-reduction.result.now by c.index-reduction.ensures in
     let same = read_at c.args.self.now.walks.items c.args.turn.now.track walk c.index_mut-walk.result.now is c.index_mut-walk.ensures.value in
     let here = subst (λ (r : Reduction). ComesLess r file tree t m c.index_mut-walk.result.now left) (sym own) (subst (λ (w : Walk). ComesLess l file tree t m w left) (sym same) comes) in
     let there = subst (λ (w : Walk). w.mark ≡ mark_of w (length left)) (sym same) marked in
     let first = read_at c.args.self.now.nexts.items c.args.turn.now.track (slice_get left 0) c.index.result.now shown c.index.ensures in
     let some = some_goes c.args.turn.now.end left c.index.result.now c.first_goes.result first c.first_goes.ensures (search rules) in
-    rw (e.1, e.2) (c.in_err-planned.ensures.unchanged told tree t left o here there some (rw c.as_mut_slice-rows.ensures.value few))
+    rw (e.1, e.2) (c.in_err-planned.ensures.unchanged told tree t left o here there some few)
 
 pub returns-clause-noted : goal.returns-clause-noted
 returns-clause-noted g c told tree o t walk left is by comes marked shown =
     let file = g.S.Store.file c.args.store.now in
     let m = c.args.movie.now in
-    let l = track_reduction c.args.self.now.leaving tree t in
-    let own = read_at c.args.self.now.reductions.items c.args.turn.now.track l c.index-reduction.result.now by c.index-reduction.ensures in
+    let l = track_reduction c.args.self.now.reductions.leaving tree t in
+    let own = read_at c.args.self.now.reductions.of_tracks.items c.args.turn.now.track l c.index-reduction.result.now by c.index-reduction.ensures in
     let same = read_at c.args.self.now.walks.items c.args.turn.now.track walk c.index_mut-walk.result.now is c.index_mut-walk.ensures.value in
     let here = subst (λ (r : Reduction). ComesLess r file tree t m c.index_mut-walk.result.now left) (sym own) (subst (λ (w : Walk). ComesLess l file tree t m w left) (sym same) comes) in
     let there = subst (λ (w : Walk). w.mark ≡ mark_of w (length left)) (sym same) marked in
     let first = read_at c.args.self.now.nexts.items c.args.turn.now.track (slice_get left 0) c.index.result.now shown c.index.ensures in
     let p = c.in_ok-planned.ensures in
     let two = p.planned told tree t left o here in
-    let many : length c.note_marked.new.rows ≡ c.args.self.now.rows.len = search rules in
-    let rows = with_items_is c.args.self.now.rows c.note_marked.new.rows many in
     let some = p.some in
     record {
       planned = two.0;
-      head = c.turn_head.ensures ∙ ap (turn_head c.args.sequence c.args.id c.in_ok-planned.planned.count) first;
-      rows = ap (take c.in_ok-planned.planned.count) rows ∙ (p.noted told tree t left o here).seen;
+      head = c.turn_head.ensures ∙ ap (turn_head c.args.numbers.sequence c.args.numbers.id c.in_ok-planned.planned.count) first;
+      rows = (p.noted told tree t left o here).seen;
       walk = c.note_marked.new.walk;
       walks = refl;
       comes = subst (λ (r : Reduction). ComesMarked r file tree t m c.note_marked.new.walk c.in_ok-planned.planned.count left) own (two.1 there);
@@ -112,8 +109,8 @@ returns-clause-work g c told tree o n h =
     let many = c.requires.writer.walks.count in
     let there = slice_get_read walks (length walks) k c.index_mut-walk.result.now refl (omega (arith, lt, many)) c.index_mut-walk.ensures.value in
     let many_by = c.requires.writer.reductions in
-    let by = slice_get_read w.reductions.items (length w.reductions.items) k c.index-reduction.result.now refl (omega (arith, lt, many_by)) c.index-reduction.ensures in
-    all_noted w.reductions.items c.index-reduction.result.now file m tree o walks k c.in_ok-planned.planned.count c.index_mut-walk.result.now n h there by c.note_marked.new.walk _ _ (λ t own may. c.in_ok-planned.ensures.work told tree t own o may)
+    let by = slice_get_read w.reductions.of_tracks.items (length w.reductions.of_tracks.items) k c.index-reduction.result.now refl (omega (arith, lt, many_by)) c.index-reduction.ensures in
+    all_noted w.reductions.of_tracks.items c.index-reduction.result.now file m tree o walks k c.in_ok-planned.planned.count c.index_mut-walk.result.now n h there by c.note_marked.new.walk _ _ (λ t own may. c.in_ok-planned.ensures.work told tree t own o may)
 
 pub returns-in_err-planned-clause-work : goal.returns-in_err-planned-clause-work
 returns-in_err-planned-clause-work g c told tree o n h =

@@ -1,4 +1,4 @@
-use Rattle.std.proofs.Common.{rules, ◌++◌, refl, sym, ◌∙◌, arith}
+use Rattle.std.proofs.Common.{rules, ◌++◌, sym, ◌∙◌, arith}
 use Rattle.std.proofs.lemmas.Result.{err_from_is_err_and}
 use Rattle.mp4_present.proofs.OwnSums.{trafs_few}
 use Rattle.mp4_plan.proofs.Planning.{rooms_fit}
@@ -11,8 +11,8 @@ returns-clause-ready g c told tree o =
     let measured = c.in_ok-measures.ensures.measured told tree o in
     let left = c.in_ok-mehd.ensures.left file tree o (rw c.as_slice.ensures.value measured.totals) in
     let same = c.in_ok-measures.ensures.store in
-    let longest = (rw (same.honesty, same.file) at c.in_ok-longest.ensures.longest) told tree o (c.as_slice-by.ensures.value ∙ measured.reductions) left.0.in_range in
-    record {
+    let longest = (rw (same.honesty, same.file, c.in_ok-measures.ensures.leaving) at c.in_ok-longest.ensures.longest) told tree o measured.reductions left.0.in_range in
+    rw c.in_ok-measures.ensures.leaving (record {
       ready = record {
         head = (λ i. c.in_ok-new.ensures.empty i ++ c.in_ok-head_of.field-0.items) ∙ c.in_ok-head_of.ensures.head file tree o left.1;
         rows = sym c.in_ok-vec.field-0.ok.0 ∙ c.in_ok-vec.ensures.len ∙ longest;
@@ -23,7 +23,7 @@ returns-clause-ready g c told tree o =
       };
       rooms = rooms_fit file c.args.movie.now tree o;
       trafs = trafs_few file tree o.is_tree;
-    }
+    })
 
 pub returns-clause-may : goal.returns-clause-may
 returns-clause-may g c told tree o = c.in_ok-walks_of.ensures.start.writes (g.S.Store.file c.args.store.now) tree o
@@ -121,4 +121,4 @@ returns-clause-made g c =
     let long = sym rows.ok.0 ∙ c.in_ok-vec.ensures.len in
     let few = c.in_ok-longest.ensures.few in
     writer_made c.args.movie.now c.args.leaving _ c.in_ok-walks_of.ensures.walks (omega (arith, long, few)) (sym nexts.ok.0 ∙ c.in_ok-vec-2.ensures.len ∙ search rules) c.in_ok-measures.ensures.many c.in_ok-due.ensures.tree (c.in_ok-due.ensures.tracks ∙ search rules)
-    (sym c.in_ok-new.field-0.buffer.ok.0 ∙ c.in_ok-new.ensures.room) c.in_ok-new.ensures.empty refl c.in_ok-head_of.ensures.named
+    (sym c.in_ok-new.field-0.buffer.ok.0 ∙ c.in_ok-new.ensures.room) c.in_ok-new.ensures.empty c.in_ok-measures.ensures.leaving c.in_ok-head_of.ensures.named

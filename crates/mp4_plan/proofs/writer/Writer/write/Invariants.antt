@@ -7,7 +7,7 @@ use Rattle.mp4_plan.specs.words.Turns.{IsSomeLeft, infos_left, movie_turns, turn
 use Rattle.mp4_plan.specs.words.DueTracks.{IsDueAt}
 use Rattle.mp4_plan.specs.words.MadeWriters.{OverOpened}
 use Rattle.mp4_plan.specs.words.Writers.{IsWriterOf, IsReady}
-use Rattle.mp4_plan.specs.format.Held.{held}
+use Rattle.mp4_plan.specs.format.Held.{held_bytes}
 use Rattle.mp4_plan.proofs.WritesOn.{WritesOn}
 use Rattle.std.specs.Prelude.{ℕ}
 use Rattle.mp4_plan.specs.words.WriterSteps.{MayAllWrite, AllWriteOn}
@@ -17,24 +17,24 @@ use Rattle.mp4_plan.proofs.writer.Writer.write.Given as goal
 abbrev pub invariant-loop-turn : goal.invariant-loop-turn
 invariant-loop-turn g l = record {
   writer : IsWriterOf l.movie l.self;
-  held : held l.self ≡ held l.fn.self;
-  leaving : l.self.leaving ≡ l.fn.self.leaving;
+  held : held_bytes l.self ≡ held_bytes l.fn.self;
   reductions : l.self.reductions ≡ l.fn.self.reductions;
   tracks : l.schedule.tracks ≡ length l.movie.tracks;
+  left_out : l.schedule.leaving ≡ l.fn.self.reductions.leaving;
   honesty : g.S.Store.is_honest l.store ≡ g.S.Store.is_honest l.fn.store;
   file : g.S.Store.file l.store ≡ g.S.Store.file l.fn.store;
   reads : g.S.Store.read_failures l.store ≡ g.S.Store.read_failures l.fn.store;
   puts : g.K.Sink.put_failures l.sink ≡ g.K.Sink.put_failures l.fn.sink;
-  rows : length l.self.rows.items ≡ length l.fn.self.rows.items;
+  rows : length l.self.notes.rows.items ≡ length l.fn.self.notes.rows.items;
   few : l.bytes + l.schedule.left * 4294967295 ≤ 2 ^ 64 * 4294967295 * 4294967295;
   sent : (samples : ℕ) × (samples + l.schedule.left ≡ sum_by (λ (i : TrackInfo). i.samples) l.movie.tracks)
       × PiecesFollow (g.K.Sink.takes l.fn.sink l.sink) (waiting l.fn.self.carrier) (waiting l.self.carrier) l.fn.self.head.items samples l.bytes;
   on : OverOpened g.S.Store l.fn.store l.movie
       (λ file tree. IsReady file tree l.movie l.fn.self
-      → WritesOn l.fn.self.leaving file tree l.movie l.schedule l.sequence l.bytes l.self.walks.items l.self.nexts.items (length l.self.rows.items) (g.K.Sink.takes l.fn.sink l.sink) (waiting l.self.carrier));
+      → WritesOn l.fn.self.reductions.leaving file tree l.movie l.schedule l.sequence l.bytes l.self.walks.items l.self.nexts.items (length l.self.notes.rows.items) (g.K.Sink.takes l.fn.sink l.sink) (waiting l.self.carrier));
   within : OverOpened g.S.Store l.fn.store l.movie
       (λ file tree. (n : ℕ) → MayAllWrite file tree l.movie l.fn.self.walks.items n → AllWriteOn file tree l.movie n l.self.walks.items l.fn.steps l.steps);
-  due : OverOpened g.S.Store l.fn.store l.movie (λ file tree. IsReady file tree l.movie l.fn.self → IsDueAt (infos_left l.fn.self.leaving l.movie.tracks) l.self.nexts.items l.schedule l.self.due);
+  due : OverOpened g.S.Store l.fn.store l.movie (λ file tree. IsReady file tree l.movie l.fn.self → IsDueAt (infos_left l.fn.self.reductions.leaving l.movie.tracks) l.self.nexts.items l.schedule l.self.due);
   some : IsSomeLeft l.schedule;
   looks : l.looks + turns_left l.schedule ≤ l.fn.looks + movie_turns l.movie;
   grows : l.fn.steps ≤ l.steps;

@@ -8,10 +8,10 @@ use Rattle.mp4_present.proofs.comparing.same_pairs.pass_now.Goals as goal
 pub returns-clause-passed : goal.returns-clause-passed
 returns-clause-passed g c =
     let by = c.args.by.now in
-    let m = c.args.left.now in
-    let n = c.args.right.now in
-    let left = c.args.left_side.now in
-    let right = c.args.right_side.now in
+    let m = c.args.movies.now.left in
+    let n = c.args.movies.now.right in
+    let left = c.args.sides.now.left in
+    let right = c.args.sides.now.right in
     let a = c.in_hand-x.result in
     let b = c.in_hand-y.result in
     let p = c.pass_in_hand-count in

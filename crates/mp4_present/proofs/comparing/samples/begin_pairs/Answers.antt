@@ -6,23 +6,23 @@ use Rattle.mp4_present.proofs.comparing.samples.begin_pairs.Goals as goal
 pub returns-in_err-edges-clause-unchanged : goal.returns-in_err-edges-clause-unchanged
 returns-in_err-edges-clause-unchanged g c told told_right tree other o p t u at bt =
     let e = err_from_is_err_and c.from_residual-in_err-edges.result c.from_residual-in_err-edges.ensures.1 in
-    rw (e.1, e.2) (c.in_err-edges.ensures.unchanged told tree t _ o (c.in_ok-left_side.ensures.coming (g.S.Store.file c.args.a.now) tree t o at) refl)
+    rw (e.1, e.2) (c.in_err-edges.ensures.unchanged told tree t _ o (c.in_ok-left_side.ensures.coming (g.S.Store.file c.args.left.now) tree t o at) refl)
 
 pub returns-in_err-edges-clause-work : goal.returns-in_err-edges-clause-work
 returns-in_err-edges-clause-work g c told told_right tree other o p t u at bt =
-    let first = c.in_ok-left_side.ensures.may (g.S.Store.file c.args.a.now) tree t o at in
-    let second = c.in_ok-right_side.ensures.may (g.T.Store.file c.args.b.now) other u p bt in
+    let first = c.in_ok-left_side.ensures.may (g.S.Store.file c.args.left.now) tree t o at in
+    let second = c.in_ok-right_side.ensures.may (g.T.Store.file c.args.right.now) other u p bt in
     most_within _ _ c.args.steps.now _ (most_of_both _ _ _ _ first.2 second.2) (first_most first.0 second.0 c.args.steps.now _ (c.in_err-edges.ensures.work told tree t first.0 o first.1))
 
 pub returns-in_err-others-clause-unchanged : goal.returns-in_err-others-clause-unchanged
 returns-in_err-others-clause-unchanged g c told told_right tree other o p t u at bt =
     let e = err_from_is_err_and c.from_residual-in_err-others.result c.from_residual-in_err-others.ensures.1 in
-    rw (e.1, e.2) (c.in_err-others.ensures.unchanged told_right other u _ p (c.in_ok-right_side.ensures.coming (g.T.Store.file c.args.b.now) other u p bt) refl)
+    rw (e.1, e.2) (c.in_err-others.ensures.unchanged told_right other u _ p (c.in_ok-right_side.ensures.coming (g.T.Store.file c.args.right.now) other u p bt) refl)
 
 pub returns-in_err-others-clause-work : goal.returns-in_err-others-clause-work
 returns-in_err-others-clause-work g c told told_right tree other o p t u at bt =
-    let file = g.S.Store.file c.args.a.now in
-    let right_file = g.T.Store.file c.args.b.now in
+    let file = g.S.Store.file c.args.left.now in
+    let right_file = g.T.Store.file c.args.right.now in
     let first = c.in_ok-left_side.ensures.may file tree t o at in
     let second = c.in_ok-right_side.ensures.may right_file other u p bt in
     most_within _ _ c.args.steps.now _ (most_of_both _ _ _ _ first.2 second.2)
@@ -30,8 +30,8 @@ returns-in_err-others-clause-work g c told told_right tree other o p t u at bt =
 
 pub returns-in_err-by-clause-work : goal.returns-in_err-by-clause-work
 returns-in_err-by-clause-work g c told told_right tree other o p t u at bt =
-    let file = g.S.Store.file c.args.a.now in
-    let right_file = g.T.Store.file c.args.b.now in
+    let file = g.S.Store.file c.args.left.now in
+    let right_file = g.T.Store.file c.args.right.now in
     let first = c.in_ok-left_side.ensures.may file tree t o at in
     let second = c.in_ok-right_side.ensures.may right_file other u p bt in
     most_within _ _ c.args.steps.now _ (most_of_both _ _ _ _ first.2 second.2)
@@ -40,8 +40,8 @@ returns-in_err-by-clause-work g c told told_right tree other o p t u at bt =
 
 pub returns-clause-begun : goal.returns-clause-begun
 returns-clause-begun g c told told_right tree other o p t u at bt =
-    let file = g.S.Store.file c.args.a.now in
-    let right_file = g.T.Store.file c.args.b.now in
+    let file = g.S.Store.file c.args.left.now in
+    let right_file = g.T.Store.file c.args.right.now in
     let first = c.in_ok-left_side.ensures.may file tree t o at in
     let second = c.in_ok-right_side.ensures.may right_file other u p bt in
     let come = c.in_ok-left_side.ensures.coming file tree t o at in
@@ -60,8 +60,8 @@ returns-clause-begun g c told told_right tree other o p t u at bt =
 
 pub returns-clause-work : goal.returns-clause-work
 returns-clause-work g c told told_right tree other o p t u at bt =
-    let file = g.S.Store.file c.args.a.now in
-    let right_file = g.T.Store.file c.args.b.now in
+    let file = g.S.Store.file c.args.left.now in
+    let right_file = g.T.Store.file c.args.right.now in
     let first = c.in_ok-left_side.ensures.may file tree t o at in
     let second = c.in_ok-right_side.ensures.may right_file other u p bt in
     most_within _ _ c.args.steps.now _ (most_of_both _ _ _ _ first.2 second.2)

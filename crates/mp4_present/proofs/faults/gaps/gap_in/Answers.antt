@@ -11,7 +11,7 @@ use Rattle.mp4_present.proofs.faults.gaps.gap_in.Goals as goal
 
 pub returns-clause-finds : goal.returns-clause-finds
 returns-clause-finds g c =
-    let moof = moof_read c.args.reached.moof c.args.bytes.now in
+    let moof = moof_read c.args.sought.reached.moof c.args.sought.bytes.now in
     let traf = box_seen c.in-Some.traf in
     let is : box_seen c.in-Some-front_of.front ≡ box_up_to traf.offset moof = c.in-Some-front_of.ensures ∙ ap (λ (k : ℕ). box_up_to k moof) c.offset.ensures in
     record {
@@ -19,8 +19,8 @@ returns-clause-finds g c =
       says = c.in-Some-time_in_traf.ensures moof (subst (λ (b : Box). IsChildOf b traf) c.view.ensures c.in-Some.ensures);
       after = c.check_front.new.tracks;
       less = c.check_front.new.room;
-      sound = λ trexes a. subst (λ (b : Box). IsSoundFront c.args.file_len trexes (tree_of b)) is (c.in_ok-check_front.ensures.sound trexes a);
-      moved = subst (λ (b : Box). AreMovedOn b.offset (pos b.offset) (of_kind (codes "traf") (children_of b)) c.args.states.now c.check_front.new.tracks c.args.reached.room c.check_front.new.room) is c.in_ok-check_front.ensures.moved;
+      sound = λ trexes a. subst (λ (b : Box). IsSoundFront c.args.sought.file.len trexes (tree_of b)) is (c.in_ok-check_front.ensures.sound trexes a);
+      moved = subst (λ (b : Box). AreMovedOn b.offset (pos b.offset) (of_kind (codes "traf") (children_of b)) c.args.states.now c.check_front.new.tracks c.args.sought.reached.room c.check_front.new.room) is c.in_ok-check_front.ensures.moved;
       state = c.in-Some-state_with.state;
       found_state = sym c.state_with.ensures ∙ c.in-Some-state_with.is;
       due_is = c.in_64_bits-due.ensures;

@@ -22,13 +22,13 @@ returns-clause-told g c =
     let m = moof_read reached.moof (take c.in_ok-len.len bytes) in
     let states = c.pass_until.new.states in
     let start = c.as_mut_slice-states.result.now in
-    let whole = c.args.plain.now.room in
-    let old : c.args.plain.now.states.items ≡ start = search rules in
+    let whole = c.args.known.plain.now.room in
+    let old : c.args.known.plain.now.states.items ≡ start = search rules in
     let passed = c.in_ok-reached.ensures in
     let len_is : c.len-file_len.result ≡ length file = c.len-file_len.ensures ∙ ap length (c.in_ok-len.ensures.store.file ∙ passed.store.file) in
     let next = rw c.in-Some.is at passed.next in
     some_so (λ (n : FaultNumbers). FindsIn c.len-file_len.result m states reached.room place n)
-    (λ (n : FaultNumbers). IsTrue honest → (movie : MovieTree) (boxes : List Box) → IsBegun file movie boxes c.args.plain.now.states.items whole → Tells file place n)
+    (λ (n : FaultNumbers). IsTrue honest → (movie : MovieTree) (boxes : List Box) → IsBegun file movie boxes c.args.known.plain.now.states.items whole → Tells file place n)
     c.in_ok-told.told
     (λ n f told movie boxes b.
     let begun : IsBegun file movie boxes start whole = subst (λ (xs : List TrackState). IsBegun file movie boxes xs whole) old b in

@@ -12,7 +12,7 @@ use Rattle.mp4_present.proofs.faults.gaps.pass_until.Goals as goal
 pub loop-top-init : goal.loop-top-init
 loop-top-init g c =
     let file = g.S.Store.file c.args.store.now in
-    let outline = c.args.outline.now in (
+    let outline = c.args.search.outline.now in (
       0,
       record {
         honesty = refl;
@@ -25,7 +25,7 @@ loop-top-init g c =
         whole = rw c.deref-top-items.ensures.value c.requires.whole;
         to_come = λ told. let o = c.requires.outline told in rw c.deref-top-items.ensures.value o.3.moofs;
         left = λ told. let o = c.requires.outline told in left_first file o.0 outline o.1 o.3;
-        so = λ told movie boxes b. let o = c.requires.outline told in under_way_first file movie boxes o.0 outline c.args.states.now c.args.room o.1 o.3 b;
+        so = λ told movie boxes b. let o = c.requires.outline told in under_way_first file movie boxes o.0 outline c.args.states.now c.args.search.room o.1 o.3 b;
         looks = λ told. none_looked _ _ _ _;
         fit = λ told. none_fit _ _ _ _ c.requires.room.0;
       },
@@ -114,7 +114,7 @@ loop-top-preserved g c =
               read = (rw (i.honesty, i.file) at c.in_ok-len.ensures.bytes) told;
               of_bytes = c.in_ok-len.ensures.room;
             } in
-            next_passed file movie boxes at c.args.outline.now.longest c.args.states.now c.loop-top.states c.args.room c.loop-top.room b u top whole.0 ((coming told).0 u.left.boxes u.left.are_from)
+            next_passed file movie boxes at c.args.search.outline.now.longest c.args.states.now c.loop-top.states c.args.search.room c.loop-top.room b u top whole.0 ((coming told).0 u.left.boxes u.left.are_from)
             (box_seen c.view-moof.result) c.read_payload.new.room c.in_ok-len.len c.len-file_len.result r c.len-file_len.ensures
             c.check_moof.new.tracks c.check_moof.new.room c.in_ok-check_moof.ensures.sound c.in_ok-check_moof.ensures.moved;
         looks = λ told.
@@ -171,7 +171,7 @@ returns-then-place-top-clause-next g c =
           record {
             earlier = u.fragments;
             before = _;
-            next = stands_next file movie boxes at c.args.outline.now.longest c.args.states.now c.loop-top.states c.args.room c.loop-top.room b u top whole.0 ((coming told).0 u.left.boxes u.left.are_from);
+            next = stands_next file movie boxes at c.args.search.outline.now.longest c.args.states.now c.loop-top.states c.args.search.room c.loop-top.room b u top whole.0 ((coming told).0 u.left.boxes u.left.are_from);
             behind = u.behind;
           };
       left = left_before _ _ _ _ _ _ (let l = i.left told in stands_behind file at top l.boxes ((coming told).0 l.boxes l.are_from)) (i.fit told);

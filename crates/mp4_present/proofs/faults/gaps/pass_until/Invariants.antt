@@ -24,11 +24,11 @@ invariant-loop-top g l =
       states : HaveRoom l.room l.states;
       ids : ids_of l.states ≡ ids_of l.fn.states;
       few : l.room ≤ 2 ^ 24;
-      longest : length l.bytes ≡ l.outline.longest;
+      longest : length l.bytes ≡ l.search.outline.now.longest;
       whole : AllByRecursion (IsWhole (length (g.S.Store.file l.fn.store))) (drop l.top-index l.top-items);
       to_come : IsTrue (g.S.Store.is_honest l.fn.store) → AreMoofsFrom (g.S.Store.file l.fn.store) next (drop l.top-index l.top-items);
-      left : IsTrue (g.S.Store.is_honest l.fn.store) → Left (g.S.Store.file l.fn.store) next l.outline.longest;
-      so : IsTrue (g.S.Store.is_honest l.fn.store) → (movie : MovieTree) (boxes : List Box) → IsBegun (g.S.Store.file l.fn.store) movie boxes l.fn.states l.fn.room → IsUnderWay (g.S.Store.file l.fn.store) movie boxes next l.outline.longest l.states l.room;
+      left : IsTrue (g.S.Store.is_honest l.fn.store) → Left (g.S.Store.file l.fn.store) next l.search.outline.now.longest;
+      so : IsTrue (g.S.Store.is_honest l.fn.store) → (movie : MovieTree) (boxes : List Box) → IsBegun (g.S.Store.file l.fn.store) movie boxes l.fn.states l.fn.search.room → IsUnderWay (g.S.Store.file l.fn.store) movie boxes next l.search.outline.now.longest l.states l.room;
       looks : IsTrue (g.S.Store.is_honest l.fn.store) → LooksFit (length (g.S.Store.file l.fn.store)) next (min 1 (length l.fn.states)) l.fn.looks l.looks;
       fit : IsTrue (g.S.Store.is_honest l.fn.store) → MoofsFit (length (g.S.Store.file l.fn.store)) next l.room l.fn.steps l.steps;
     }

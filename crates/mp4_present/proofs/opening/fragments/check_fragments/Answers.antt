@@ -21,11 +21,11 @@ returns-clause-own g c =
     let long : length owns ≡ o0.len = search rules in
     let o : owns ≡ take o0.len (owns ++ drop (length owns) o0.items) = written_back owns _ o0.len long in
     let start = c.as_mut_slice-all.result.now in
-    let old : c.args.plain.now.states.items ≡ start = search rules in
+    let old : c.args.known.plain.now.states.items ≡ start = search rules in
     let own : c.as_mut_slice-own.result.now ≡ o0.items = search rules in
     let each : length start ≡ c.len.result = search rules in
     let first : map own_seen c.as_mut_slice-own.result.now ≡ map (λ _. none_noted) start = ap (map own_seen) own ∙ c.in_ok-begin_own.ensures ∙ splat_is_map start c.len.result none_noted each in
-    let room = c.args.plain.now.room in
+    let room = c.args.known.plain.now.room in
     λ told movie boxes b.
     let file = g.S.Store.file c.args.store.now in
     let begun : IsBegun file movie boxes start room = subst (λ (xs : List TrackState). IsBegun file movie boxes xs room) old b in
@@ -40,8 +40,8 @@ returns-clause-exact g c =
     let many : length states ≡ s0.len = search rules in
     let s : states ≡ take s0.len (states ++ drop (length states) s0.items) = written_back states _ s0.len many in
     let start = c.as_mut_slice-all.result.now in
-    let old : c.args.plain.now.states.items ≡ start = search rules in
-    let room = c.args.plain.now.room in
+    let old : c.args.known.plain.now.states.items ≡ start = search rules in
+    let room = c.args.known.plain.now.room in
     let file = g.S.Store.file c.args.store.now in
     λ told. record {
       names = λ movie boxes b.
@@ -53,8 +53,8 @@ pub returns-in_err-pass_fragments-clause-exact : goal.returns-in_err-pass_fragme
 returns-in_err-pass_fragments-clause-exact g c =
     let p = err_from_is_err_and c.from_residual-in_err-pass_fragments.result c.from_residual-in_err-pass_fragments.ensures.1 in
     let start = c.as_mut_slice-all.result.now in
-    let old : c.args.plain.now.states.items ≡ start = search rules in
-    let room = c.args.plain.now.room in
+    let old : c.args.known.plain.now.states.items ≡ start = search rules in
+    let room = c.args.known.plain.now.room in
     let file = g.S.Store.file c.args.store.now in
     rw (p.1, p.2) (λ told. record {
       names = λ movie boxes b.

@@ -21,7 +21,7 @@ use Rattle.mp4_present.proofs.opening.fragments.pass_fragments.Goals as goal
 pub loop-top-init : goal.loop-top-init
 loop-top-init g c =
     let file = g.S.Store.file c.args.store.now in
-    let outline = c.args.outline.now in (
+    let outline = c.args.start.outline.now in (
       0,
       record {
         honesty = refl;
@@ -33,11 +33,11 @@ loop-top-init g c =
         whole = rw c.deref-top-items.ensures.value c.requires.whole;
         to_come = λ told. let o = c.requires.outline told in rw c.deref-top-items.ensures.value o.3.moofs;
         left = λ told. let o = c.requires.outline told in left_first file o.0 outline o.1 o.3;
-        so = λ told movie boxes b. let o = c.requires.outline told in under_way_first file movie boxes o.0 outline c.args.states.now c.args.room o.1 o.3 b;
-        first = λ told movie boxes b. let o = c.requires.outline told in judged_first file movie boxes o.0 outline c.args.states.now c.args.room o.1 o.3 b;
+        so = λ told movie boxes b. let o = c.requires.outline told in under_way_first file movie boxes o.0 outline c.args.states.now c.args.start.room o.1 o.3 b;
+        first = λ told movie boxes b. let o = c.requires.outline told in judged_first file movie boxes o.0 outline c.args.states.now c.args.start.room o.1 o.3 b;
         each = c.requires.rooms.1;
         ids = refl;
-        own = λ told movie boxes b own. let o = c.requires.outline told in owns_first file movie boxes o.0 outline c.args.states.now c.args.room (map own_seen c.args.own.now) o.1 o.3 b own;
+        own = λ told movie boxes b own. let o = c.requires.outline told in owns_first file movie boxes o.0 outline c.args.states.now c.args.start.room (map own_seen c.args.own.now) o.1 o.3 b own;
         work = λ told. steps_first file _;
         looked = λ told. looks_first file _ _;
         looks = λ told. none_looked _ _ _ _;
@@ -56,7 +56,7 @@ returns-in_err-len-clause-refusal g c =
     let top = top_at items k in
     let whole = next_whole items k c.loop-top-test.true (length file) i.whole in
     let coming = λ (told : IsTrue (g.S.Store.is_honest c.args.store.now)). next_moof items k c.loop-top-test.true file at (i.to_come told) in
-    rw (p.1, p.2) (not_read (g.S.Store.is_honest c.args.store.now) file c.args.states.now c.args.room top c.args.outline.now.longest _ _ _ _ (λ told. let l = i.left told in left_next file _ _ top l whole.0 ((coming told).0 l.boxes l.are_from)) (search rules)
+    rw (p.1, p.2) (not_read (g.S.Store.is_honest c.args.store.now) file c.args.states.now c.args.start.room top c.args.start.outline.now.longest _ _ _ _ (λ told. let l = i.left told in left_next file _ _ top l whole.0 ((coming told).0 l.boxes l.are_from)) (search rules)
     (rw i.reads at c.in_err-len.ensures.refusal))
 
 pub loop-top-preserved : goal.loop-top-preserved
@@ -90,7 +90,7 @@ loop-top-preserved g c =
               read = (rw (i.honesty, i.file) at c.in_ok-len.ensures.bytes) told;
               of_bytes = c.in_ok-len.ensures.room;
             } in
-            next_passed file movie boxes at c.args.outline.now.longest c.args.states.now c.loop-top.states c.args.room c.loop-top.room b u top whole.0 ((coming told).0 u.left.boxes u.left.are_from)
+            next_passed file movie boxes at c.args.start.outline.now.longest c.args.states.now c.loop-top.states c.args.start.room c.loop-top.room b u top whole.0 ((coming told).0 u.left.boxes u.left.are_from)
             (box_seen c.view-moof.result) c.read_payload.new.room c.in_ok-len.len c.len-file_len.result r c.len-file_len.ensures
             c.check_moof.new.tracks c.check_moof.new.room c.in_ok-check_moof.ensures.sound c.in_ok-check_moof.ensures.moved;
         first = λ told movie boxes b.
@@ -102,7 +102,7 @@ loop-top-preserved g c =
               read = (rw (i.honesty, i.file) at c.in_ok-len.ensures.bytes) told;
               of_bytes = c.in_ok-len.ensures.room;
             } in
-            judged_next file movie boxes at c.args.outline.now.longest c.args.states.now c.loop-top.states c.args.room c.loop-top.room b u top whole.0 ((coming told).0 u.0.left.boxes u.0.left.are_from)
+            judged_next file movie boxes at c.args.start.outline.now.longest c.args.states.now c.loop-top.states c.args.start.room c.loop-top.room b u top whole.0 ((coming told).0 u.0.left.boxes u.0.left.are_from)
             (box_seen c.view-moof.result) c.read_payload.new.room c.in_ok-len.len c.len-file_len.result r c.len-file_len.ensures
             c.check_moof.new.tracks c.check_moof.new.room c.in_ok-check_moof.ensures.sound c.in_ok-check_moof.ensures.moved c.in_ok-check_moof.ensures.exact.names;
         each = search rules;
@@ -116,7 +116,7 @@ loop-top-preserved g c =
               read = (rw (i.honesty, i.file) at c.in_ok-len.ensures.bytes) told;
               of_bytes = c.in_ok-len.ensures.room;
             } in
-            owns_next file movie boxes at c.args.outline.now.longest c.args.states.now c.loop-top.states c.args.room c.loop-top.room (map own_seen c.loop-top.own) b u top whole.0 ((coming told).0 u.0.left.boxes u.0.left.are_from)
+            owns_next file movie boxes at c.args.start.outline.now.longest c.args.states.now c.loop-top.states c.args.start.room c.loop-top.room (map own_seen c.loop-top.own) b u top whole.0 ((coming told).0 u.0.left.boxes u.0.left.are_from)
             (box_seen c.view-moof.result) c.read_payload.new.room c.in_ok-len.len c.len-file_len.result r c.len-file_len.ensures
             c.check_moof.new.tracks c.check_moof.new.room (map own_seen c.check_moof.new.own) c.in_ok-check_moof.ensures.sound c.in_ok-check_moof.ensures.moved
             (λ trexes defaults apart. c.in_ok-check_moof.ensures.own trexes defaults apart (i.each ∙ sym many));
@@ -176,7 +176,7 @@ returns-in_err-check_moof-clause-refusal g c =
     let top = top_at items k in
     let whole = next_whole items k c.loop-top-test.true (length file) i.whole in
     let coming = λ (told : IsTrue (g.S.Store.is_honest c.args.store.now)). next_moof items k c.loop-top-test.true file at (i.to_come told) in
-    rw (p.1, p.2) (not_passed (g.S.Store.is_honest c.args.store.now) file c.args.states.now c.loop-top.states c.args.room c.loop-top.room c.len-file_len.result _ _ _ (box_seen c.view-moof.result) c.in_err-check_moof.field-0.0 (λ f fails told movie boxes b.
+    rw (p.1, p.2) (not_passed (g.S.Store.is_honest c.args.store.now) file c.args.states.now c.loop-top.states c.args.start.room c.loop-top.room c.len-file_len.result _ _ _ (box_seen c.view-moof.result) c.in_err-check_moof.field-0.0 (λ f fails told movie boxes b.
     let u = i.so told movie boxes b in
     let r : IsRead file top (box_seen c.view-moof.result) c.read_payload.new.room c.in_ok-len.len = record {
       is = c.view-moof.ensures;
@@ -185,7 +185,7 @@ returns-in_err-check_moof-clause-refusal g c =
       read = (rw (i.honesty, i.file) at c.in_ok-len.ensures.bytes) told;
       of_bytes = c.in_ok-len.ensures.room;
     } in
-    next_refused file movie boxes at c.args.outline.now.longest c.args.states.now c.loop-top.states c.args.room c.loop-top.room b u top whole.0 ((coming told).0 u.left.boxes u.left.are_from)
+    next_refused file movie boxes at c.args.start.outline.now.longest c.args.states.now c.loop-top.states c.args.start.room c.loop-top.room b u top whole.0 ((coming told).0 u.left.boxes u.left.are_from)
     (box_seen c.view-moof.result) c.read_payload.new.room c.in_ok-len.len c.len-file_len.result r c.len-file_len.ensures f fails)
     (c.in_err-check_moof.ensures.refusal))
 
@@ -195,7 +195,7 @@ returns-clause-passed g c = λ told movie boxes b.
     let i = c.loop-top.invariant.1 in
     let u = i.so told movie boxes b in
     let file = g.S.Store.file c.args.store.now in
-    all_passed file movie boxes at c.args.outline.now.longest c.loop-top.states c.loop-top.room u (last_moof file at c.deref-top-items.result.now c.loop-top.top-index c.loop-top-test.false (i.to_come told) u.left.boxes u.left.are_from)
+    all_passed file movie boxes at c.args.start.outline.now.longest c.loop-top.states c.loop-top.room u (last_moof file at c.deref-top-items.result.now c.loop-top.top-index c.loop-top-test.false (i.to_come told) u.left.boxes u.left.are_from)
 
 pub returns-clause-own : goal.returns-clause-own
 returns-clause-own g c = λ told own movie boxes b.
@@ -203,7 +203,7 @@ returns-clause-own g c = λ told own movie boxes b.
     let i = c.loop-top.invariant.1 in
     let u = i.own told movie boxes b own in
     let file = g.S.Store.file c.args.store.now in
-    all_noted file movie boxes at c.args.outline.now.longest c.loop-top.states c.loop-top.room (map own_seen c.loop-top.own) u (last_moof file at c.deref-top-items.result.now c.loop-top.top-index c.loop-top-test.false (i.to_come told) u.0.left.boxes u.0.left.are_from)
+    all_noted file movie boxes at c.args.start.outline.now.longest c.loop-top.states c.loop-top.room (map own_seen c.loop-top.own) u (last_moof file at c.deref-top-items.result.now c.loop-top.top-index c.loop-top-test.false (i.to_come told) u.0.left.boxes u.0.left.are_from)
 
 pub returns-clause-work : goal.returns-clause-work
 returns-clause-work g c =
@@ -275,7 +275,7 @@ returns-in_err-len-clause-exact g c =
     let file = g.S.Store.file c.args.store.now in
     rw (p.1, p.2) (λ told. record {
       names = λ movie boxes b.
-          unread_judged file movie c.args.room (of_kind (codes "moof") boxes) _ (top_at c.deref-top-items.result.now c.loop-top.top-index) _ _ c.in_err-len.field-0.0 c.in_err-len.ensures.refusal;
+          unread_judged file movie c.args.start.room (of_kind (codes "moof") boxes) _ (top_at c.deref-top-items.result.now c.loop-top.top-index) _ _ c.in_err-len.field-0.0 c.in_err-len.ensures.refusal;
     })
 
 pub returns-in_err-check_moof-clause-exact : goal.returns-in_err-check_moof-clause-exact
@@ -299,8 +299,8 @@ returns-in_err-check_moof-clause-exact g c =
             read = (rw (i.honesty, i.file) at c.in_ok-len.ensures.bytes) told;
             of_bytes = c.in_ok-len.ensures.room;
           } in
-          refused_judged file movie c.args.room (of_kind (codes "moof") boxes) (MoofFirst c.len-file_len.result c.loop-top.states c.loop-top.room (box_seen c.view-moof.result)) c.in_err-check_moof.field-0.0
-          (judged_refused file movie boxes at c.args.outline.now.longest c.args.states.now c.loop-top.states c.args.room c.loop-top.room b u top whole.0 ((coming told).0 u.0.left.boxes u.0.left.are_from)
+          refused_judged file movie c.args.start.room (of_kind (codes "moof") boxes) (MoofFirst c.len-file_len.result c.loop-top.states c.loop-top.room (box_seen c.view-moof.result)) c.in_err-check_moof.field-0.0
+          (judged_refused file movie boxes at c.args.start.outline.now.longest c.args.states.now c.loop-top.states c.args.start.room c.loop-top.room b u top whole.0 ((coming told).0 u.0.left.boxes u.0.left.are_from)
           (box_seen c.view-moof.result) c.read_payload.new.room c.in_ok-len.len c.len-file_len.result r c.len-file_len.ensures)
           c.in_err-check_moof.ensures.exact.names;
     })
@@ -312,5 +312,5 @@ returns-clause-exact g c = λ told. record {
       let i = c.loop-top.invariant.1 in
       let u = i.first told movie boxes b in
       let file = g.S.Store.file c.args.store.now in
-      all_judged file movie boxes at c.args.outline.now.longest c.loop-top.states c.args.room c.loop-top.room u (last_moof file at c.deref-top-items.result.now c.loop-top.top-index c.loop-top-test.false (i.to_come told) u.0.left.boxes u.0.left.are_from);
+      all_judged file movie boxes at c.args.start.outline.now.longest c.loop-top.states c.args.start.room c.loop-top.room u (last_moof file at c.deref-top-items.result.now c.loop-top.top-index c.loop-top-test.false (i.to_come told) u.0.left.boxes u.0.left.are_from);
 }

@@ -29,17 +29,17 @@ invariant-loop-top g l =
       reads : g.S.Store.read_failures l.store ≡ g.S.Store.read_failures l.fn.store;
       states : HaveRoom l.room l.states;
       few : l.room ≤ 2 ^ 24;
-      longest : length l.bytes ≡ l.outline.longest;
+      longest : length l.bytes ≡ l.start.outline.now.longest;
       whole : AllByRecursion (IsWhole (length (g.S.Store.file l.fn.store))) (drop l.top-index l.top-items);
       to_come : IsTrue (g.S.Store.is_honest l.fn.store) → AreMoofsFrom (g.S.Store.file l.fn.store) next (drop l.top-index l.top-items);
-      left : IsTrue (g.S.Store.is_honest l.fn.store) → Left (g.S.Store.file l.fn.store) next l.outline.longest;
-      so : IsTrue (g.S.Store.is_honest l.fn.store) → (movie : MovieTree) (boxes : List Box) → IsBegun (g.S.Store.file l.fn.store) movie boxes l.fn.states l.fn.room → IsUnderWay (g.S.Store.file l.fn.store) movie boxes next l.outline.longest l.states l.room;
-      first : IsTrue (g.S.Store.is_honest l.fn.store) → (movie : MovieTree) (boxes : List Box) → IsBegun (g.S.Store.file l.fn.store) movie boxes l.fn.states l.fn.room
-          → JudgedUnderWay (g.S.Store.file l.fn.store) movie boxes next l.outline.longest l.states l.fn.room l.room;
+      left : IsTrue (g.S.Store.is_honest l.fn.store) → Left (g.S.Store.file l.fn.store) next l.start.outline.now.longest;
+      so : IsTrue (g.S.Store.is_honest l.fn.store) → (movie : MovieTree) (boxes : List Box) → IsBegun (g.S.Store.file l.fn.store) movie boxes l.fn.states l.fn.start.room → IsUnderWay (g.S.Store.file l.fn.store) movie boxes next l.start.outline.now.longest l.states l.room;
+      first : IsTrue (g.S.Store.is_honest l.fn.store) → (movie : MovieTree) (boxes : List Box) → IsBegun (g.S.Store.file l.fn.store) movie boxes l.fn.states l.fn.start.room
+          → JudgedUnderWay (g.S.Store.file l.fn.store) movie boxes next l.start.outline.now.longest l.states l.fn.start.room l.room;
       each : length l.own ≡ length l.fn.states;
       ids : ids_of l.states ≡ ids_of l.fn.states;
-      own : IsTrue (g.S.Store.is_honest l.fn.store) → (movie : MovieTree) (boxes : List Box) → IsBegun (g.S.Store.file l.fn.store) movie boxes l.fn.states l.fn.room → map own_seen l.fn.own ≡ map (λ _. none_noted) l.fn.states
-          → OwnsUnderWay (g.S.Store.file l.fn.store) movie boxes next l.outline.longest l.states l.room (map own_seen l.own);
+      own : IsTrue (g.S.Store.is_honest l.fn.store) → (movie : MovieTree) (boxes : List Box) → IsBegun (g.S.Store.file l.fn.store) movie boxes l.fn.states l.fn.start.room → map own_seen l.fn.own ≡ map (λ _. none_noted) l.fn.states
+          → OwnsUnderWay (g.S.Store.file l.fn.store) movie boxes next l.start.outline.now.longest l.states l.room (map own_seen l.own);
       work : IsTrue (g.S.Store.is_honest l.fn.store) → StepsLeft (g.S.Store.file l.fn.store) next l.fn.steps l.steps;
       looked : IsTrue (g.S.Store.is_honest l.fn.store) → LooksLeft (g.S.Store.file l.fn.store) next (min 1 (length l.fn.states)) l.fn.looks l.looks;
       looks : IsTrue (g.S.Store.is_honest l.fn.store) → LooksFit (length (g.S.Store.file l.fn.store)) next (min 1 (length l.fn.states)) l.fn.looks l.looks;

@@ -5,7 +5,7 @@ use Rattle.mp4norm.proofs.BoxLists.{Listed}
 use Rattle.mp4norm.proofs.commands.boxes.+push_boxes.Given as goal
 
 abbrev pub decreases-push_boxes : goal.decreases-push_boxes
-decreases-push_boxes g l = height l.rule
+decreases-push_boxes g l = height l.span.rule
 
 -- the boxes so far have their lines
 abbrev pub invariant-loop-found : goal.invariant-loop-found
@@ -15,5 +15,5 @@ invariant-loop-found g l =
       file : g.S.Store.file l.store ≡ g.S.Store.file l.fn.store;
       reads : g.S.Store.read_failures l.store ≡ g.S.Store.read_failures l.fn.store;
       listed : IsTrue (g.S.Store.is_honest l.fn.store)
-          → Listed (IsListed l.syntax l.rule l.depth) (tops_seen (g.S.Store.file l.fn.store) l.found-items) l.fn.text.items l.text.items (tops_seen (g.S.Store.file l.fn.store) (drop l.found-index l.found-items));
+          → Listed (IsListed l.syntax l.fn.span.rule l.depth) (tops_seen (g.S.Store.file l.fn.store) l.found-items) l.fn.text.items l.text.items (tops_seen (g.S.Store.file l.fn.store) (drop l.found-index l.found-items));
     }

@@ -12,5 +12,5 @@ pub returns-in_ok-push-in-Json-clause-line : goal.returns-in_ok-push-in-Json-cla
 returns-in_ok-push-in-Json-clause-line g c told =
     let top = c.args.found.now in
     let uuid = c.in_ok-uuid-in-Json.uuid in
-    let object = top_object (g.S.Store.file c.args.store.now) c.args.rule c.args.depth top uuid c.requires.within (c.in_ok-uuid-in-Json.ensures.uuid told) in
-    rw c.in-Json.is (joined c.args.text.now.items (compact_text (found_value c.args.depth c.args.rule top uuid)) c.extend_from_slice-in-Json.new.self.items c.push.new.self.items _ (search rules) c.in_ok-push-in-Json.ensures.items object)
+    let object = top_object (g.S.Store.file c.args.store.now) c.args.level.rule c.args.level.depth top uuid c.requires.within (c.in_ok-uuid-in-Json.ensures.uuid told) in
+    rw c.in-Json.is (joined c.args.text.now.items (compact_text (found_value c.args.level.depth c.args.level.rule top uuid)) c.extend_from_slice-in-Json.new.self.items c.push.new.self.items _ (search rules) c.in_ok-push-in-Json.ensures.items object)

@@ -13,7 +13,7 @@ returns-in_err-header-clause-refusal g c =
     let i = c.loop-at.invariant in
     let file = g.S.Store.file c.args.store.now in
     let e = rw (i.honesty, i.file, i.reads) at c.in_err-header.ensures.refusal in
-    rw (p.1, p.2) (refuses_between (g.S.Store.is_honest c.args.store.now) file c.args.rule c.args.from c.args.end (tops_seen file c.loop-at.boxes.items) c.loop-at.at (g.S.Store.read_failures c.args.store.now) (g.S.Store.read_failures c.read_header.new.store)
+    rw (p.1, p.2) (refuses_between (g.S.Store.is_honest c.args.store.now) file c.args.span.rule c.args.span.from c.args.span.end (tops_seen file c.loop-at.boxes.items) c.loop-at.at (g.S.Store.read_failures c.args.store.now) (g.S.Store.read_failures c.read_header.new.store)
     c.in_err-header.field-0.0 i.passed c.loop-at-test.true c.requires.within e)
 
 pub loop-at-preserved : goal.loop-at-preserved
@@ -32,7 +32,7 @@ loop-at-preserved g c =
       reads = e.store.reads ∙ i.reads;
       passed = λ told.
           let read = rw (i.honesty, i.file) at e.header in
-          let more = span_more file c.args.rule c.args.from c.args.end (tops_seen file c.loop-at.boxes.items) c.loop-at.at h (i.passed told) (read told) w.0 w.2 in
+          let more = span_more file c.args.span.rule c.args.span.from c.args.span.end (tops_seen file c.loop-at.boxes.items) c.loop-at.at h (i.passed told) (read told) w.0 w.2 in
           rw (c.in_ok-push.ensures.items, map_push) more;
       within = rw c.in_ok-push.ensures.items (All-push (IsWithin file) c.loop-at.boxes.items top i.within (w.0, omega (arith, w.2, le)));
     }
@@ -41,4 +41,4 @@ pub returns-clause-tiles : goal.returns-clause-tiles
 returns-clause-tiles g c told start =
     let file = g.S.Store.file c.args.store.now in
     let i = c.loop-at.invariant in
-    span_tiles file c.args.rule start c.args.from c.args.end (tops_seen file c.loop-at.boxes.items) c.loop-at.at (i.passed told) (search rules) i.span c.requires.within
+    span_tiles file c.args.span.rule start c.args.span.from c.args.span.end (tops_seen file c.loop-at.boxes.items) c.loop-at.at (i.passed told) (search rules) i.span c.requires.within

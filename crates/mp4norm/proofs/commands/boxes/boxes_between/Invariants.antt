@@ -9,13 +9,13 @@ use Rattle.mp4norm.proofs.commands.boxes.boxes_between.Given as goal
 abbrev pub invariant-loop-at : goal.invariant-loop-at
 invariant-loop-at g l =
     record {
-      span : l.at ≤ l.end;
+      span : l.at ≤ l.span.end;
       honesty : g.S.Store.is_honest l.store ≡ g.S.Store.is_honest l.fn.store;
       file : g.S.Store.file l.store ≡ g.S.Store.file l.fn.store;
       reads : g.S.Store.read_failures l.store ≡ g.S.Store.read_failures l.fn.store;
-      passed : IsTrue (g.S.Store.is_honest l.fn.store) → SpanPassed (g.S.Store.file l.fn.store) l.rule l.from l.end (tops_seen (g.S.Store.file l.fn.store) l.boxes.items) l.at;
+      passed : IsTrue (g.S.Store.is_honest l.fn.store) → SpanPassed (g.S.Store.file l.fn.store) l.span.rule l.span.from l.span.end (tops_seen (g.S.Store.file l.fn.store) l.boxes.items) l.at;
       within : All (IsWithin (g.S.Store.file l.fn.store)) l.boxes.items;
     }
 
 abbrev pub decreases-loop-at : goal.decreases-loop-at
-decreases-loop-at g l = l.end - l.at
+decreases-loop-at g l = l.span.end - l.at

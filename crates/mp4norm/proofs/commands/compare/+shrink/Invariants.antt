@@ -3,4 +3,4 @@ use Rattle.mp4norm.proofs.commands.compare.+shrink.Given as goal
 
 -- one less is left to try
 abbrev pub decreases-shrink : goal.decreases-shrink
-decreases-shrink g l = length l.words.now
+decreases-shrink g l = length l.from.words.now

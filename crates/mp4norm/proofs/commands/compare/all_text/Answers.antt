@@ -9,7 +9,7 @@ use Rattle.mp4norm.proofs.commands.compare.all_text.Goals as goal
 
 pub returns-then-is_empty-clause-said : goal.returns-then-is_empty-clause-said
 returns-then-is_empty-clause-said g c = λ told right tree other o u.
-    empty_listed c.in_ok-listed.listed.all.items (files_differ c.args.leaving (g.S.Store.file c.args.a.now) tree (g.T.Store.file c.args.b.now) other)
+    empty_listed c.in_ok-listed.listed.all.items (files_differ c.args.files.now.given (g.S.Store.file c.args.left.now) tree (g.T.Store.file c.args.right.now) other)
     (c.in_ok-listed.ensures.all told right tree other o u) (sym c.is_empty.ensures ∙ c.if-is_empty.true)
 
 pub returns-then-is_empty-clause-opened : goal.returns-then-is_empty-clause-opened
@@ -41,7 +41,7 @@ returns-in_err-listed_text-clause-opened g c =
 
 pub returns-clause-said : goal.returns-clause-said
 returns-clause-said g c = λ told right tree other o u.
-    some_listed c.in_ok-listed.listed.all.items (files_differ c.args.leaving (g.S.Store.file c.args.a.now) tree (g.T.Store.file c.args.b.now) other)
+    some_listed c.in_ok-listed.listed.all.items (files_differ c.args.files.now.given (g.S.Store.file c.args.left.now) tree (g.T.Store.file c.args.right.now) other)
     (c.in_ok-listed.ensures.all told right tree other o u) (sym c.is_empty.ensures ∙ c.if-is_empty.false)
 
 pub returns-clause-opened : goal.returns-clause-opened
@@ -57,7 +57,7 @@ returns-clause-told g c = λ told right tree other o u.
     let is = c.in_ok-listed.ensures in
     let named = rw (is.stores.left.honesty, is.stores.left.file, is.stores.right.honesty, is.stores.right.file) at c.in_ok-enough.ensures.enough in
     let long : c.len-is_whole.result ≡ length c.in_ok-listed.listed.all.items = search rules in
-    let ds = files_differ c.args.leaving (g.S.Store.file c.args.a.now) tree (g.T.Store.file c.args.b.now) other in
+    let ds = files_differ c.args.files.now.given (g.S.Store.file c.args.left.now) tree (g.T.Store.file c.args.right.now) other in
     let front = is.all told right tree other o u in
     let taken = c.first_of-all.ensures ∙ ap (take most_counted) c.as_slice.ensures.value in
     let whole = ap (λ (n : ℕ). nat_le n most_counted) long in (

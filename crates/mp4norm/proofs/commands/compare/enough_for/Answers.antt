@@ -17,7 +17,7 @@ returns-in_err-first-clause-opened g c =
 
 pub returns-in_default-clause-enough : goal.returns-in_default-clause-enough
 returns-in_default-clause-enough g c = λ told right tree other o u.
-    none_enough c.args.given (λ l. files_differ l (g.S.Store.file c.args.a.now) tree (g.T.Store.file c.args.b.now) other) c.in_ok-first.field-0 c.in_default.is (c.in_ok-first.ensures.enough told right tree other o u)
+    none_enough c.args.files.now.given (λ l. files_differ l (g.S.Store.file c.args.left.now) tree (g.T.Store.file c.args.right.now) other) c.in_ok-first.field-0 c.in_default.is (c.in_ok-first.ensures.enough told right tree other o u)
 
 pub returns-in_default-clause-opened : goal.returns-in_default-clause-opened
 returns-in_default-clause-opened g c = λ told right tree other o u.
@@ -36,7 +36,7 @@ pub returns-clause-enough : goal.returns-clause-enough
 returns-clause-enough g c = λ told right tree other o u.
     let is = c.in_ok-first.ensures in
     let more = rw (is.stores.left.honesty, is.stores.left.file, is.stores.right.honesty, is.stores.right.file) at c.in_ok-least.ensures.shrunk in
-    least_enough c.args.given (λ l. files_differ l (g.S.Store.file c.args.a.now) tree (g.T.Store.file c.args.b.now) other) c.in_ok-first.field-0 c.in-Some.first c.in_ok-least.least c.in-Some.is (is.enough told right tree other o u) (more told right tree other o u)
+    least_enough c.args.files.now.given (λ l. files_differ l (g.S.Store.file c.args.left.now) tree (g.T.Store.file c.args.right.now) other) c.in_ok-first.field-0 c.in-Some.first c.in_ok-least.least c.in-Some.is (is.enough told right tree other o u) (more told right tree other o u)
 
 pub returns-clause-opened : goal.returns-clause-opened
 returns-clause-opened g c = λ told right tree other o u.

@@ -17,7 +17,7 @@ returns-in_err-is_enough-clause-opened g c =
 
 pub returns-then-branch-clause-enough : goal.returns-then-branch-clause-enough
 returns-then-branch-clause-enough g c = λ told right tree other o u.
-    some_found c.args.given c.guess-guessed.result (λ l. files_differ l (g.S.Store.file c.args.a.now) tree (g.T.Store.file c.args.b.now) other) c.in_ok-is_enough.field-0 c.guess-guessed.ensures c.if-branch.true
+    some_found c.args.files.now.given c.guess-guessed.result (λ l. files_differ l (g.S.Store.file c.args.left.now) tree (g.T.Store.file c.args.right.now) other) c.in_ok-is_enough.field-0 c.guess-guessed.ensures c.if-branch.true
     (c.in_ok-is_enough.ensures.enough told right tree other o u)
 
 pub returns-then-branch-clause-opened : goal.returns-then-branch-clause-opened
@@ -37,7 +37,7 @@ pub returns-then-branch-2-clause-enough : goal.returns-then-branch-2-clause-enou
 returns-then-branch-2-clause-enough g c = λ told right tree other o u.
     let is = c.in_ok-is_enough.ensures in
     let more = rw (is.stores.left.honesty, is.stores.left.file, is.stores.right.honesty, is.stores.right.file) at c.in_ok-is_enough-2.ensures.enough in
-    some_found c.args.given everything (λ l. files_differ l (g.S.Store.file c.args.a.now) tree (g.T.Store.file c.args.b.now) other) c.in_ok-is_enough-2.field-0 (covers_all c.args.given) c.if-branch-2.true (more told right tree other o u)
+    some_found c.args.files.now.given everything (λ l. files_differ l (g.S.Store.file c.args.left.now) tree (g.T.Store.file c.args.right.now) other) c.in_ok-is_enough-2.field-0 (covers_all c.args.files.now.given) c.if-branch-2.true (more told right tree other o u)
 
 pub returns-then-branch-2-clause-opened : goal.returns-then-branch-2-clause-opened
 returns-then-branch-2-clause-opened g c = λ told right tree other o u.
@@ -49,7 +49,7 @@ pub returns-clause-enough : goal.returns-clause-enough
 returns-clause-enough g c = λ told right tree other o u.
     let is = c.in_ok-is_enough.ensures in
     let more = rw (is.stores.left.honesty, is.stores.left.file, is.stores.right.honesty, is.stores.right.file) at c.in_ok-is_enough-2.ensures.enough in
-    none_found c.args.given (λ l. files_differ l (g.S.Store.file c.args.a.now) tree (g.T.Store.file c.args.b.now) other) c.in_ok-is_enough-2.field-0 c.if-branch-2.false (more told right tree other o u)
+    none_found c.args.files.now.given (λ l. files_differ l (g.S.Store.file c.args.left.now) tree (g.T.Store.file c.args.right.now) other) c.in_ok-is_enough-2.field-0 c.if-branch-2.false (more told right tree other o u)
 
 pub returns-clause-opened : goal.returns-clause-opened
 returns-clause-opened g c = λ told right tree other o u.

@@ -7,8 +7,8 @@ use Rattle.mp4norm.proofs.commands.compare.take_word.Goals as goal
 
 pub returns-then-eq-clause-tried : goal.returns-then-eq-clause-tried
 returns-then-eq-clause-tried g c = λ told right tree other o u.
-    no_word_taken c.args.word c.args.given c.args.leaving c.less_word-less.result (λ l. files_differ l (g.S.Store.file c.args.a.now) tree (g.T.Store.file c.args.b.now) other) c.less_word-less.ensures
-    (equal_words c.less_word-less.result c.args.leaving (sym c.eq.ensures ∙ c.if-eq.true))
+    no_word_taken c.args.trial.word c.args.files.now.given c.args.trial.leaving c.less_word-less.result (λ l. files_differ l (g.S.Store.file c.args.left.now) tree (g.T.Store.file c.args.right.now) other) c.less_word-less.ensures
+    (equal_words c.less_word-less.result c.args.trial.leaving (sym c.eq.ensures ∙ c.if-eq.true))
 
 pub returns-in_err-is_enough-clause-opened : goal.returns-in_err-is_enough-clause-opened
 returns-in_err-is_enough-clause-opened g c =
@@ -17,10 +17,10 @@ returns-in_err-is_enough-clause-opened g c =
 
 pub returns-then-branch-clause-tried : goal.returns-then-branch-clause-tried
 returns-then-branch-clause-tried g c = λ told right tree other o u.
-    word_taken c.args.word c.args.given c.args.leaving c.less_word-less.result (λ l. files_differ l (g.S.Store.file c.args.a.now) tree (g.T.Store.file c.args.b.now) other) c.in_ok-is_enough.field-0 c.less_word-less.ensures c.if-branch.true
+    word_taken c.args.trial.word c.args.files.now.given c.args.trial.leaving c.less_word-less.result (λ l. files_differ l (g.S.Store.file c.args.left.now) tree (g.T.Store.file c.args.right.now) other) c.in_ok-is_enough.field-0 c.less_word-less.ensures c.if-branch.true
     (c.in_ok-is_enough.ensures.enough told right tree other o u)
 
 pub returns-clause-tried : goal.returns-clause-tried
 returns-clause-tried g c = λ told right tree other o u.
-    word_kept c.args.word c.args.given c.args.leaving c.less_word-less.result (λ l. files_differ l (g.S.Store.file c.args.a.now) tree (g.T.Store.file c.args.b.now) other) c.in_ok-is_enough.field-0 c.less_word-less.ensures c.if-branch.false
+    word_kept c.args.trial.word c.args.files.now.given c.args.trial.leaving c.less_word-less.result (λ l. files_differ l (g.S.Store.file c.args.left.now) tree (g.T.Store.file c.args.right.now) other) c.in_ok-is_enough.field-0 c.less_word-less.ensures c.if-branch.false
     (c.in_ok-is_enough.ensures.enough told right tree other o u)

@@ -8,7 +8,7 @@ use Rattle.mp4norm.proofs.commands.compare.text_of.Goals as goal
 pub returns-in-None-clause-said : goal.returns-in-None-clause-said
 returns-in-None-clause-said g c = λ told right tree other o u.
     let is = c.in_ok-compare-in-First in
-    let said = first_said is.field-0 (files_differ c.args.leaving (g.S.Store.file c.args.a.now) tree (g.T.Store.file c.args.b.now) other) (is.ensures.first told right tree other o u) in
+    let said = first_said is.field-0 (files_differ c.args.files.now.given (g.S.Store.file c.args.left.now) tree (g.T.Store.file c.args.right.now) other) (is.ensures.first told right tree other o u) in
     rw c.in-None.is at said
 
 pub returns-in-None-clause-opened : goal.returns-in-None-clause-opened
@@ -18,7 +18,7 @@ returns-in-None-clause-opened g c = λ told right tree other o u.
 pub returns-in_ok-first_text-in-Some-clause-said : goal.returns-in_ok-first_text-in-Some-clause-said
 returns-in_ok-first_text-in-Some-clause-said g c = λ told right tree other o u.
     let is = c.in_ok-compare-in-First in
-    let said = first_said is.field-0 (files_differ c.args.leaving (g.S.Store.file c.args.a.now) tree (g.T.Store.file c.args.b.now) other) (is.ensures.first told right tree other o u) in
+    let said = first_said is.field-0 (files_differ c.args.files.now.given (g.S.Store.file c.args.left.now) tree (g.T.Store.file c.args.right.now) other) (is.ensures.first told right tree other o u) in
     rw c.in-Some.is at said
 
 pub returns-in_ok-first_text-in-Some-clause-opened : goal.returns-in_ok-first_text-in-Some-clause-opened

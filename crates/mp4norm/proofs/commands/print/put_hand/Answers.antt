@@ -21,7 +21,7 @@ loop-sample-init g c = record {
   first = c.in_hand-hand.result;
   is = c.in_hand-hand.ensures.hand;
   later = follows_itself c.in_hand-hand.result;
-  told = λ told lie. hand_begun (told_sample c.args.style.now (g.S.Store.file c.args.store.now)) (length (g.S.Store.file c.args.store.now)) _ (g.met.K.Sink.takes_nothing _) _ _ lie;
+  told = λ told lie. hand_begun (told_sample c.args.of.style.now (g.S.Store.file c.args.store.now)) (length (g.S.Store.file c.args.store.now)) _ (g.met.K.Sink.takes_nothing _) _ _ lie;
 }
 
 pub loop-sample-preserved : goal.loop-sample-preserved
@@ -39,7 +39,8 @@ loop-sample-preserved g c =
       later = follows_on _ _ _ i.later c.next.ensures.later;
       told = λ told lie.
           let file = g.S.Store.file c.args.store.now in
-          sample_told (told_sample c.args.style.now file) (length file) g.met.K.Sink.takes_on _ _ _ _ _ _ (left_in_hand c.loop-sample.hand) (left_in_hand c.next.new.self) c.in-Some.sample _ (i.told told lie) c.in-Some.ensures.given c.next.ensures.rest ((rw (i.honesty, i.file) at e.told) told).all;
+          sample_told (told_sample c.args.of.style.now file) (length file) g.met.K.Sink.takes_on _ _ _ _ _ _ (left_in_hand c.loop-sample.hand) (left_in_hand c.next.new.self) c.in-Some.sample _ (i.told told lie) c.in-Some.ensures.given c.next.ensures.rest
+          ((rw (i.honesty, i.file) at e.told) told).all;
     }
 
 pub returns-in_err-put_sample-clause-told : goal.returns-in_err-put_sample-clause-told
@@ -52,7 +53,7 @@ returns-in_err-put_sample-clause-told g c =
       i.is,
       λ told lie.
           let file = g.S.Store.file c.args.store.now in
-          let f = told_sample c.args.style.now file in
+          let f = told_sample c.args.of.style.now file in
           let samples = left_in_hand c.loop-sample.hand in
           let h = i.told told lie in
           record {
@@ -70,7 +71,7 @@ returns-clause-told g c =
       i.first,
       i.is,
       λ told lie.
-          let f = told_sample c.args.style.now (g.S.Store.file c.args.store.now) in
+          let f = told_sample c.args.of.style.now (g.S.Store.file c.args.store.now) in
           record {
             text = record { all = texts_all _ _ _ _ _ (i.told told lie).goes (ap (flat_map f) (none_left (left_in_hand c.loop-sample.hand) c.in_default.ensures.given)); front = tt };
             unchanged = tt;
@@ -81,7 +82,7 @@ pub returns-clause-walk : goal.returns-clause-walk
 returns-clause-walk g c =
     let i = c.loop-sample.invariant in
     record {
-      walk = rw c.keep.ensures.place (kept_on c.args.movie.now c.args.walk.now i.first _ c.place-place.result c.requires.walk i.is (follows_on _ _ _ i.later c.next.ensures.later) c.place-place.ensures);
+      walk = rw c.keep.ensures.place (kept_on c.args.of.movie.now c.args.walk.now i.first _ c.place-place.result c.requires.walk i.is (follows_on _ _ _ i.later c.next.ensures.later) c.place-place.ensures);
       next = search rules;
       left = search rules;
       stands = λ file tree t earlier later s. rw c.keep.ensures.place (kept_before file tree t earlier later c.args.walk.now c.place-place.result s);
@@ -90,4 +91,4 @@ returns-clause-walk g c =
 pub returns-clause-work : goal.returns-clause-work
 returns-clause-work g c file tree t n o may =
     let i = c.loop-sample.invariant in
-    rw c.keep.ensures.place (hand_goes_on file c.args.movie.now tree t c.args.walk.now i.first _ c.place-place.result n _ _ o c.in_hand-hand.ensures.movie c.requires.walk i.is (follows_on _ _ _ i.later c.next.ensures.later) c.place-place.ensures c.keep.ensures.work may)
+    rw c.keep.ensures.place (hand_goes_on file c.args.of.movie.now tree t c.args.walk.now i.first _ c.place-place.result n _ _ o c.in_hand-hand.ensures.movie c.requires.walk i.is (follows_on _ _ _ i.later c.next.ensures.later) c.place-place.ensures c.keep.ensures.work may)

@@ -19,10 +19,10 @@ invariant-loop-sample g l =
       puts : g.K.Sink.put_failures l.sink ≡ g.K.Sink.put_failures l.fn.sink;
       empty : waiting l.desk.window ≡ [];
       first : Loaded;
-      is : InHandOf l.movie l.fn.walk first;
+      is : InHandOf l.of.movie.now l.fn.walk first;
       later : Follows first l.hand;
       told : IsTrue (g.S.Store.is_honest l.fn.store) → LieBelow (length (g.S.Store.file l.fn.store)) (left_in_hand first)
-          → HandTold (told_sample l.style (g.S.Store.file l.fn.store)) (length (g.S.Store.file l.fn.store)) (g.K.Sink.takes l.fn.sink l.sink) (waiting l.fn.desk.text) (waiting l.desk.text) (left_in_hand first) (left_in_hand l.hand);
+          → HandTold (told_sample l.of.style.now (g.S.Store.file l.fn.store)) (length (g.S.Store.file l.fn.store)) (g.K.Sink.takes l.fn.sink l.sink) (waiting l.fn.desk.text) (waiting l.desk.text) (left_in_hand first) (left_in_hand l.hand);
     }
 
 abbrev pub decreases-loop-sample : goal.decreases-loop-sample

@@ -25,13 +25,13 @@ returns-in_err-edges-clause-work g c told tree t n o may = c.in_err-edges.ensure
 pub returns-clause-told : goal.returns-clause-told
 returns-clause-told g c told tree t samples o k same lie place info at there keys =
     let file = g.S.Store.file c.args.store.now in
-    let l = c.args.leaving in
+    let l = c.args.of.leaving in
     let style = c.new-style.result in
     let e = c.in_ok-edges.ensures in
     let lines = (rw (e.store.honesty, e.store.file) at c.put_walk.ensures.told) told tree t samples o (e.coming told tree t samples o k) lie in
     let found = e.edges told tree t samples o k same ∙ ap (λ ss. edges_left l ss) same in
     let is = subst (λ (ks : Keys). IsStyle l ks c.in_ok-edges.edges style) keys c.new-style.ensures in
-    let text = ap (flat_map (told_sample style file)) same ∙ track_told l style file c.args.movie.now tree t place info c.in_ok-edges.edges o at there found is in
+    let text = ap (flat_map (told_sample style file)) same ∙ track_told l style file c.args.of.movie.now tree t place info c.in_ok-edges.edges o at there found is in
     subst (λ (bs : List ℕ). TellsOn g.K.Sink c.args.sink.now c.put_walk.new.sink c.args.desk.now.text c.put_walk.new.desk.text bs c.put_walk.result) text lines
 
 pub returns-clause-work : goal.returns-clause-work

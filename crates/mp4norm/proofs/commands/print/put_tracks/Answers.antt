@@ -8,7 +8,7 @@ use Rattle.mp4norm.proofs.PrintedTracks.{front_fails, lines_fail, track_most, tr
 use Rattle.mp4norm.proofs.commands.print.put_tracks.Goals as goal
 
 pub put_samples-requires-clause-walk : goal.put_samples-requires-clause-walk
-put_samples-requires-clause-walk g c = (walk_popped c.args.movie.now c.loop-track.track _ c.pop.new.self.items _ c.in-Some.ensures.items c.loop-track.invariant.walks).0.walk
+put_samples-requires-clause-walk g c = (walk_popped c.args.of.movie.now c.loop-track.track _ c.pop.new.self.items _ c.in-Some.ensures.items c.loop-track.invariant.walks).0.walk
 
 pub loop-track-init : goal.loop-track-init
 loop-track-init g c = record {
@@ -19,16 +19,16 @@ loop-track-init g c = record {
   file = refl;
   reads = refl;
   puts = refl;
-  told = λ told tree o same. tracks_begin c.args.leaving (g.S.Store.file c.args.store.now) tree _ (g.met.K.Sink.takes_nothing _) _ _;
+  told = λ told tree o same. tracks_begin c.args.of.leaving (g.S.Store.file c.args.store.now) tree _ (g.met.K.Sink.takes_nothing _) _ _;
 }
 
 pub loop-track-preserved : goal.loop-track-preserved
 loop-track-preserved g c =
     let i = c.loop-track.invariant in
     let file = g.S.Store.file c.args.store.now in
-    let l = c.args.leaving in
-    let m = c.args.movie.now in
-    let known = c.args.heads.now in
+    let l = c.args.of.leaving in
+    let m = c.args.of.movie.now in
+    let known = c.args.of.heads.now in
     let k = c.loop-track.track in
     let head = c.index-heads-track.result in
     let info = c.index-tracks-track.result in
@@ -69,9 +69,9 @@ returns-in_err-put_front-clause-told g c =
     let p = err_from_is_err_and c.from_residual.result c.from_residual.ensures.1 in
     let i = c.loop-track.invariant in
     let file = g.S.Store.file c.args.store.now in
-    let l = c.args.leaving in
-    let m = c.args.movie.now in
-    let known = c.args.heads.now in
+    let l = c.args.of.leaving in
+    let m = c.args.of.movie.now in
+    let known = c.args.of.heads.now in
     let k = c.loop-track.track in
     let head = c.index-heads-track.result in
     let info = c.index-tracks-track.result in
@@ -103,9 +103,9 @@ returns-in_err-put_samples-clause-told g c =
     let p = err_from_is_err_and c.from_residual-in_err-put_samples.result c.from_residual-in_err-put_samples.ensures.1 in
     let i = c.loop-track.invariant in
     let file = g.S.Store.file c.args.store.now in
-    let l = c.args.leaving in
-    let m = c.args.movie.now in
-    let known = c.args.heads.now in
+    let l = c.args.of.leaving in
+    let m = c.args.of.movie.now in
+    let known = c.args.of.heads.now in
     let k = c.loop-track.track in
     let head = c.index-heads-track.result in
     let info = c.index-tracks-track.result in
@@ -142,15 +142,15 @@ returns-in_err-put_samples-clause-told g c =
 pub returns-clause-told : goal.returns-clause-told
 returns-clause-told g c told tree o same =
     let file = g.S.Store.file c.args.store.now in
-    let m = c.args.movie.now in
+    let m = c.args.of.movie.now in
     let k = c.loop-track.track in
-    let known = c.args.heads.now in
+    let known = c.args.of.heads.now in
     let h = c.loop-track.invariant.told told tree o same in
     let stop : min (length known) (length m.tracks) ≤ k = search rules in
     record {
       lines = record {
-        text = record { all = tracks_end c.args.leaving file m tree known k _ _ _ c.args.steps.now c.loop-track.steps o same (λ e f. omega (arith, e, f, stop)) h; front = tt };
+        text = record { all = tracks_end c.args.of.leaving file m tree known k _ _ _ c.args.steps.now c.loop-track.steps o same (λ e f. omega (arith, e, f, stop)) h; front = tt };
         unchanged = tt;
       };
-      steps = tracks_most c.args.leaving file tree k _ _ _ c.args.steps.now c.loop-track.steps h;
+      steps = tracks_most c.args.of.leaving file tree k _ _ _ c.args.steps.now c.loop-track.steps h;
     }

@@ -14,13 +14,13 @@ use Rattle.mp4norm.proofs.commands.print.put_tracks.Given as goal
 abbrev pub invariant-loop-track : goal.invariant-loop-track
 invariant-loop-track g l =
     record {
-      walks : AreWalks l.movie l.track l.walks.items;
+      walks : AreWalks l.of.movie.now l.track l.walks.items;
       empty : waiting l.desk.window ≡ [];
       grows : l.fn.steps ≤ l.steps;
       honesty : g.S.Store.is_honest l.store ≡ g.S.Store.is_honest l.fn.store;
       file : g.S.Store.file l.store ≡ g.S.Store.file l.fn.store;
       reads : g.S.Store.read_failures l.store ≡ g.S.Store.read_failures l.fn.store;
       puts : g.K.Sink.put_failures l.sink ≡ g.K.Sink.put_failures l.fn.sink;
-      told : IsTrue (g.S.Store.is_honest l.fn.store) → (tree : FileTree) → IsOpenedAs (g.S.Store.file l.fn.store) l.movie tree → map track_seen l.heads ≡ map (track_payloads_left l.leaving) (map track_head_of tree.movie.tracks)
-          → TracksTold l.leaving (g.S.Store.file l.fn.store) tree l.track (g.K.Sink.takes l.fn.sink l.sink) (waiting l.fn.desk.text) (waiting l.desk.text) l.fn.steps l.steps;
+      told : IsTrue (g.S.Store.is_honest l.fn.store) → (tree : FileTree) → IsOpenedAs (g.S.Store.file l.fn.store) l.of.movie.now tree → map track_seen l.of.heads.now ≡ map (track_payloads_left l.of.leaving) (map track_head_of tree.movie.tracks)
+          → TracksTold l.of.leaving (g.S.Store.file l.fn.store) tree l.track (g.K.Sink.takes l.fn.sink l.sink) (waiting l.fn.desk.text) (waiting l.desk.text) l.fn.steps l.steps;
     }

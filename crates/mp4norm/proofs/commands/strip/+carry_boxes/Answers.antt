@@ -14,7 +14,7 @@ returns-in_err-found-clause-bytes g t c =
     let p = err_from_is_err_and c.from_residual.result c.from_residual.ensures.1 in
     let i = c.loop-at.invariant in
     let file = g.S.Store.file c.args.store.now in
-    rw p.1 (λ told text s. copying_stops c.args.names.now c.args.rule file c.args.end c.loop-at.at _ (waiting c.args.carrier.now) (waiting c.loop-at.carrier) text (i.goes told text s))
+    rw p.1 (λ told text s. copying_stops c.args.names.now c.args.span.rule file c.args.span.end c.loop-at.at _ (waiting c.args.carrier.now) (waiting c.loop-at.carrier) text (i.goes told text s))
 
 pub returns-in_err-found-clause-unchanged : goal.returns-in_err-found-clause-unchanged
 returns-in_err-found-clause-unchanged g t c told text s =
@@ -23,8 +23,8 @@ returns-in_err-found-clause-unchanged g t c told text s =
     let file = g.S.Store.file c.args.store.now in
     let x = rw (i.honesty, i.file, i.reads) at c.in_err-found.ensures.refusal in
     let u = i.goes told text s in
-    let some = some_there file c.loop-at.at c.args.end c.loop-at-test.true c.requires.within in
-    rw (p.1, p.2) (again_unchanged c.args.names.now _ c.args.rule c.loop-at.at _ _ _ u.rest c.in_err-found.field-0.0 told some u.left x)
+    let some = some_there file c.loop-at.at c.args.span.end c.loop-at-test.true c.requires.within in
+    rw (p.1, p.2) (again_unchanged c.args.names.now _ c.args.span.rule c.loop-at.at _ _ _ u.rest c.in_err-found.field-0.0 told some u.left x)
 
 pub returns-in_err-found-clause-refusal : goal.returns-in_err-found-clause-refusal
 returns-in_err-found-clause-refusal g t c =
@@ -32,7 +32,7 @@ returns-in_err-found-clause-refusal g t c =
     let i = c.loop-at.invariant in
     let file = g.S.Store.file c.args.store.now in
     let x = rw (i.honesty, i.file, i.reads) at c.in_err-found.ensures.refusal in
-    rw (p.1, p.2) (again_carried (g.S.Store.is_honest c.args.store.now) (range file c.loop-at.at (c.args.end - c.loop-at.at)) c.args.rule c.loop-at.at (g.S.Store.read_failures c.args.store.now) (g.S.Store.read_failures c.find_again.new.store) (g.K.Sink.put_failures c.args.sink.now)
+    rw (p.1, p.2) (again_carried (g.S.Store.is_honest c.args.store.now) (range file c.loop-at.at (c.args.span.end - c.loop-at.at)) c.args.span.rule c.loop-at.at (g.S.Store.read_failures c.args.store.now) (g.S.Store.read_failures c.find_again.new.store) (g.K.Sink.put_failures c.args.sink.now)
     (g.K.Sink.put_failures c.loop-at.sink) c.in_err-found.field-0.0 x)
 
 pub returns-in_err-carry_freed-clause-bytes : goal.returns-in_err-carry_freed-clause-bytes
@@ -44,12 +44,12 @@ returns-in_err-carry_freed-clause-bytes g t c =
     let h = c.in_ok-found.found.header in
     let w = e.fits in
     let read = rw (i.honesty, i.file) at e.header in
-    let some = some_there file c.loop-at.at c.args.end c.loop-at-test.true c.requires.within in
-    let named : is_named c.args.names.now c.args.rule h.kind.0 c.in_ok-found.found.uuid ≡ true = search rules in
+    let some = some_there file c.loop-at.at c.args.span.end c.loop-at-test.true c.requires.within in
+    let named : is_named c.args.names.now c.args.span.rule h.kind.0 c.in_ok-found.found.uuid ≡ true = search rules in
     let own = rw (i.honesty, i.file) at e.uuid in
     let x = rw (e.store.honesty ∙ i.honesty, e.store.file ∙ i.file) at c.in_err-carry_freed.ensures.bytes in
-    rw p.1 (λ told text s. freed_fails c.args.names.now c.args.rule file c.args.end c.loop-at.at h w.0 w.2 some (read told) g.met.K.Sink.takes_on _ _ (waiting c.args.carrier.now) (waiting c.loop-at.carrier) text (i.goes told text s) _
-    (subst (λ u. is_named c.args.names.now c.args.rule h.kind.0 u ≡ true) (own told) named) (x told))
+    rw p.1 (λ told text s. freed_fails c.args.names.now c.args.span.rule file c.args.span.end c.loop-at.at h w.0 w.2 some (read told) g.met.K.Sink.takes_on _ _ (waiting c.args.carrier.now) (waiting c.loop-at.carrier) text (i.goes told text s) _
+    (subst (λ u. is_named c.args.names.now c.args.span.rule h.kind.0 u ≡ true) (own told) named) (x told))
 
 pub returns-in_err-carry_freed-clause-unchanged : goal.returns-in_err-carry_freed-clause-unchanged
 returns-in_err-carry_freed-clause-unchanged g t c told text s =
@@ -73,13 +73,13 @@ returns-in_err-carry_range-clause-bytes g t c =
     let h = c.in_ok-found.found.header in
     let w = e.fits in
     let read = rw (i.honesty, i.file) at e.header in
-    let some = some_there file c.loop-at.at c.args.end c.loop-at-test.true c.requires.within in
-    let named : is_named c.args.names.now c.args.rule h.kind.0 c.in_ok-found.found.uuid ≡ false = search rules in
+    let some = some_there file c.loop-at.at c.args.span.end c.loop-at-test.true c.requires.within in
+    let named : is_named c.args.names.now c.args.span.rule h.kind.0 c.in_ok-found.found.uuid ≡ false = search rules in
     let own = rw (i.honesty, i.file) at e.uuid in
-    let into : rule_inside c.args.rule c.in_ok-found.found.header.kind.0 ≡ Some c.in-Some.inner = search rules in
+    let into : rule_inside c.args.span.rule c.in_ok-found.found.header.kind.0 ≡ Some c.in-Some.inner = search rules in
     let x = rw (c.from-head.ensures, e.store.honesty ∙ i.honesty, e.store.file ∙ i.file) at c.in_err-carry_range.ensures.prefix in
-    rw p.1 (λ told text s. entered_header_fails c.args.names.now c.args.rule file c.args.end c.loop-at.at h w.0 w.2 some (read told) g.met.K.Sink.takes_on _ _ (waiting c.args.carrier.now) (waiting c.loop-at.carrier) text (i.goes told text s) c.in-Some.inner
-    (subst (λ u. is_named c.args.names.now c.args.rule h.kind.0 u ≡ false) (own told) named) into _ (x told))
+    rw p.1 (λ told text s. entered_header_fails c.args.names.now c.args.span.rule file c.args.span.end c.loop-at.at h w.0 w.2 some (read told) g.met.K.Sink.takes_on _ _ (waiting c.args.carrier.now) (waiting c.loop-at.carrier) text (i.goes told text s) c.in-Some.inner
+    (subst (λ u. is_named c.args.names.now c.args.span.rule h.kind.0 u ≡ false) (own told) named) into _ (x told))
 
 pub returns-in_err-carry_range-clause-unchanged : goal.returns-in_err-carry_range-clause-unchanged
 returns-in_err-carry_range-clause-unchanged g t c told text s =
@@ -103,15 +103,15 @@ returns-in_err-carry_boxes-clause-bytes g t c =
     let h = c.in_ok-found.found.header in
     let w = e.fits in
     let read = rw (i.honesty, i.file) at e.header in
-    let some = some_there file c.loop-at.at c.args.end c.loop-at-test.true c.requires.within in
-    let named : is_named c.args.names.now c.args.rule h.kind.0 c.in_ok-found.found.uuid ≡ false = search rules in
+    let some = some_there file c.loop-at.at c.args.span.end c.loop-at-test.true c.requires.within in
+    let named : is_named c.args.names.now c.args.span.rule h.kind.0 c.in_ok-found.found.uuid ≡ false = search rules in
     let own = rw (i.honesty, i.file) at e.uuid in
-    let into : rule_inside c.args.rule c.in_ok-found.found.header.kind.0 ≡ Some c.in-Some.inner = search rules in
+    let into : rule_inside c.args.span.rule c.in_ok-found.found.header.kind.0 ≡ Some c.in-Some.inner = search rules in
     let head = c.in_ok-carry_range.ensures in
     let first = rw (c.from-head.ensures, e.store.honesty ∙ i.honesty, e.store.file ∙ i.file) at head.bytes in
     let x = rw (c.from-head.ensures, head.store.honesty ∙ e.store.honesty ∙ i.honesty, head.store.file ∙ e.store.file ∙ i.file) at c.in_err-carry_boxes.ensures.bytes in
-    rw p.1 (λ told text s. entered_fails c.args.names.now c.args.rule file c.args.end c.loop-at.at h w.0 w.2 some (read told) g.met.K.Sink.takes_on _ _ (waiting c.args.carrier.now) (waiting c.loop-at.carrier) text (i.goes told text s) c.in-Some.inner
-    (subst (λ u. is_named c.args.names.now c.args.rule h.kind.0 u ≡ false) (own told) named) into _ _ (waiting c.carry_range.new.self)
+    rw p.1 (λ told text s. entered_fails c.args.names.now c.args.span.rule file c.args.span.end c.loop-at.at h w.0 w.2 some (read told) g.met.K.Sink.takes_on _ _ (waiting c.args.carrier.now) (waiting c.loop-at.carrier) text (i.goes told text s) c.in-Some.inner
+    (subst (λ u. is_named c.args.names.now c.args.span.rule h.kind.0 u ≡ false) (own told) named) into _ _ (waiting c.carry_range.new.self)
     (first told) (x told))
 
 pub returns-in_err-carry_boxes-clause-unchanged : goal.returns-in_err-carry_boxes-clause-unchanged
@@ -123,14 +123,14 @@ returns-in_err-carry_boxes-clause-unchanged g t c told text s =
     let h = c.in_ok-found.found.header in
     let w = e.fits in
     let read = rw (i.honesty, i.file) at e.header in
-    let some = some_there file c.loop-at.at c.args.end c.loop-at-test.true c.requires.within in
-    let named : is_named c.args.names.now c.args.rule h.kind.0 c.in_ok-found.found.uuid ≡ false = search rules in
+    let some = some_there file c.loop-at.at c.args.span.end c.loop-at-test.true c.requires.within in
+    let named : is_named c.args.names.now c.args.span.rule h.kind.0 c.in_ok-found.found.uuid ≡ false = search rules in
     let own = rw (i.honesty, i.file) at e.uuid in
-    let into : rule_inside c.args.rule c.in_ok-found.found.header.kind.0 ≡ Some c.in-Some.inner = search rules in
+    let into : rule_inside c.args.span.rule c.in_ok-found.found.header.kind.0 ≡ Some c.in-Some.inner = search rules in
     let head = c.in_ok-carry_range.ensures in
     let x = rw (c.from-head.ensures, head.store.honesty ∙ e.store.honesty ∙ i.honesty, head.store.file ∙ e.store.file ∙ i.file) at c.in_err-carry_boxes.ensures.unchanged in
-    let y = entered_part c.args.names.now c.args.rule file c.args.end c.loop-at.at h w.0 w.2 some (read told) g.met.K.Sink.takes_on _ _ (waiting c.args.carrier.now) (waiting c.loop-at.carrier) text (i.goes told text s) c.in-Some.inner
-    (subst (λ u. is_named c.args.names.now c.args.rule h.kind.0 u ≡ false) (own told) named) into in
+    let y = entered_part c.args.names.now c.args.span.rule file c.args.span.end c.loop-at.at h w.0 w.2 some (read told) g.met.K.Sink.takes_on _ _ (waiting c.args.carrier.now) (waiting c.loop-at.carrier) text (i.goes told text s) c.in-Some.inner
+    (subst (λ u. is_named c.args.names.now c.args.span.rule h.kind.0 u ≡ false) (own told) named) into in
     rw (p.1, p.2) (x told y.0 y.2)
 
 pub returns-in_err-carry_boxes-clause-refusal : goal.returns-in_err-carry_boxes-clause-refusal
@@ -151,13 +151,13 @@ returns-in_err-carry_range-2-clause-bytes g t c =
     let h = c.in_ok-found.found.header in
     let w = e.fits in
     let read = rw (i.honesty, i.file) at e.header in
-    let some = some_there file c.loop-at.at c.args.end c.loop-at-test.true c.requires.within in
-    let named : is_named c.args.names.now c.args.rule h.kind.0 c.in_ok-found.found.uuid ≡ false = search rules in
+    let some = some_there file c.loop-at.at c.args.span.end c.loop-at-test.true c.requires.within in
+    let named : is_named c.args.names.now c.args.span.rule h.kind.0 c.in_ok-found.found.uuid ≡ false = search rules in
     let own = rw (i.honesty, i.file) at e.uuid in
-    let into : rule_inside c.args.rule c.in_ok-found.found.header.kind.0 ≡ None = search rules in
+    let into : rule_inside c.args.span.rule c.in_ok-found.found.header.kind.0 ≡ None = search rules in
     let x = rw (e.store.honesty ∙ i.honesty, e.store.file ∙ i.file) at c.in_err-carry_range-2.ensures.prefix in
-    rw p.1 (λ told text s. kept_fails c.args.names.now c.args.rule file c.args.end c.loop-at.at h w.0 w.2 some (read told) g.met.K.Sink.takes_on _ _ (waiting c.args.carrier.now) (waiting c.loop-at.carrier) text (i.goes told text s) _
-    (subst (λ u. is_named c.args.names.now c.args.rule h.kind.0 u ≡ false) (own told) named) into (x told))
+    rw p.1 (λ told text s. kept_fails c.args.names.now c.args.span.rule file c.args.span.end c.loop-at.at h w.0 w.2 some (read told) g.met.K.Sink.takes_on _ _ (waiting c.args.carrier.now) (waiting c.loop-at.carrier) text (i.goes told text s) _
+    (subst (λ u. is_named c.args.names.now c.args.span.rule h.kind.0 u ≡ false) (own told) named) into (x told))
 
 pub returns-in_err-carry_range-2-clause-unchanged : goal.returns-in_err-carry_range-2-clause-unchanged
 returns-in_err-carry_range-2-clause-unchanged g t c told text s =
@@ -180,8 +180,8 @@ loop-at-preserved-in_ok-carry_freed g t c =
     let h = c.in_ok-found.found.header in
     let w = e.fits in
     let read = rw (i.honesty, i.file) at e.header in
-    let some = some_there file c.loop-at.at c.args.end c.loop-at-test.true c.requires.within in
-    let named : is_named c.args.names.now c.args.rule h.kind.0 c.in_ok-found.found.uuid ≡ true = search rules in
+    let some = some_there file c.loop-at.at c.args.span.end c.loop-at-test.true c.requires.within in
+    let named : is_named c.args.names.now c.args.span.rule h.kind.0 c.in_ok-found.found.uuid ≡ true = search rules in
     let own = rw (i.honesty, i.file) at e.uuid in
     let j = c.in_ok-carry_freed.ensures in
     let x = rw (e.store.honesty ∙ i.honesty, e.store.file ∙ i.file) at j.bytes in
@@ -191,8 +191,8 @@ loop-at-preserved-in_ok-carry_freed g t c =
       file = j.store.file ∙ e.store.file ∙ i.file;
       reads = j.store.reads ∙ e.store.reads ∙ i.reads;
       puts = j.puts ∙ i.puts;
-      goes = λ told text s. copy_freed c.args.names.now c.args.rule file c.args.end c.loop-at.at h w.0 w.2 some (read told) g.met.K.Sink.takes_on _ _ (waiting c.args.carrier.now) (waiting c.loop-at.carrier) text (i.goes told text s) _ (waiting c.carry_freed.new.carrier)
-          (subst (λ u. is_named c.args.names.now c.args.rule h.kind.0 u ≡ true) (own told) named) (x told);
+      goes = λ told text s. copy_freed c.args.names.now c.args.span.rule file c.args.span.end c.loop-at.at h w.0 w.2 some (read told) g.met.K.Sink.takes_on _ _ (waiting c.args.carrier.now) (waiting c.loop-at.carrier) text (i.goes told text s) _ (waiting c.carry_freed.new.carrier)
+          (subst (λ u. is_named c.args.names.now c.args.span.rule h.kind.0 u ≡ true) (own told) named) (x told);
     }
 
 pub loop-at-preserved-in_ok-carry_boxes : goal.loop-at-preserved-in_ok-carry_boxes
@@ -203,10 +203,10 @@ loop-at-preserved-in_ok-carry_boxes g t c =
     let h = c.in_ok-found.found.header in
     let w = e.fits in
     let read = rw (i.honesty, i.file) at e.header in
-    let some = some_there file c.loop-at.at c.args.end c.loop-at-test.true c.requires.within in
-    let named : is_named c.args.names.now c.args.rule h.kind.0 c.in_ok-found.found.uuid ≡ false = search rules in
+    let some = some_there file c.loop-at.at c.args.span.end c.loop-at-test.true c.requires.within in
+    let named : is_named c.args.names.now c.args.span.rule h.kind.0 c.in_ok-found.found.uuid ≡ false = search rules in
     let own = rw (i.honesty, i.file) at e.uuid in
-    let into : rule_inside c.args.rule c.in_ok-found.found.header.kind.0 ≡ Some c.in-Some.inner = search rules in
+    let into : rule_inside c.args.span.rule c.in_ok-found.found.header.kind.0 ≡ Some c.in-Some.inner = search rules in
     let head = c.in_ok-carry_range.ensures in
     let j = c.in_ok-carry_boxes.ensures in
     let first = rw (c.from-head.ensures, e.store.honesty ∙ i.honesty, e.store.file ∙ i.file) at head.bytes in
@@ -217,8 +217,8 @@ loop-at-preserved-in_ok-carry_boxes g t c =
       file = j.store.file ∙ head.store.file ∙ e.store.file ∙ i.file;
       reads = j.store.reads ∙ head.store.reads ∙ e.store.reads ∙ i.reads;
       puts = j.puts ∙ head.store.puts ∙ i.puts;
-      goes = λ told text s. copy_entered c.args.names.now c.args.rule file c.args.end c.loop-at.at h w.0 w.2 some (read told) g.met.K.Sink.takes_on _ _ (waiting c.args.carrier.now) (waiting c.loop-at.carrier) text (i.goes told text s) c.in-Some.inner
-          (subst (λ u. is_named c.args.names.now c.args.rule h.kind.0 u ≡ false) (own told) named) into _ _ (waiting c.carry_range.new.self)
+      goes = λ told text s. copy_entered c.args.names.now c.args.span.rule file c.args.span.end c.loop-at.at h w.0 w.2 some (read told) g.met.K.Sink.takes_on _ _ (waiting c.args.carrier.now) (waiting c.loop-at.carrier) text (i.goes told text s) c.in-Some.inner
+          (subst (λ u. is_named c.args.names.now c.args.span.rule h.kind.0 u ≡ false) (own told) named) into _ _ (waiting c.carry_range.new.self)
           (waiting c.carry_boxes.new.carrier) (first told) (x told);
     }
 
@@ -230,10 +230,10 @@ loop-at-preserved g t c =
     let h = c.in_ok-found.found.header in
     let w = e.fits in
     let read = rw (i.honesty, i.file) at e.header in
-    let some = some_there file c.loop-at.at c.args.end c.loop-at-test.true c.requires.within in
-    let named : is_named c.args.names.now c.args.rule h.kind.0 c.in_ok-found.found.uuid ≡ false = search rules in
+    let some = some_there file c.loop-at.at c.args.span.end c.loop-at-test.true c.requires.within in
+    let named : is_named c.args.names.now c.args.span.rule h.kind.0 c.in_ok-found.found.uuid ≡ false = search rules in
     let own = rw (i.honesty, i.file) at e.uuid in
-    let into : rule_inside c.args.rule c.in_ok-found.found.header.kind.0 ≡ None = search rules in
+    let into : rule_inside c.args.span.rule c.in_ok-found.found.header.kind.0 ≡ None = search rules in
     let j = c.in_ok-carry_range-2.ensures in
     let x = rw (e.store.honesty ∙ i.honesty, e.store.file ∙ i.file) at j.bytes in
     record {
@@ -242,14 +242,14 @@ loop-at-preserved g t c =
       file = j.store.file ∙ e.store.file ∙ i.file;
       reads = j.store.reads ∙ e.store.reads ∙ i.reads;
       puts = j.store.puts ∙ i.puts;
-      goes = λ told text s. copy_kept c.args.names.now c.args.rule file c.args.end c.loop-at.at h w.0 w.2 some (read told) g.met.K.Sink.takes_on _ _ (waiting c.args.carrier.now) (waiting c.loop-at.carrier) text (i.goes told text s) _ (waiting c.carry_range-in_default.new.self)
-          (subst (λ u. is_named c.args.names.now c.args.rule h.kind.0 u ≡ false) (own told) named) into (x told);
+      goes = λ told text s. copy_kept c.args.names.now c.args.span.rule file c.args.span.end c.loop-at.at h w.0 w.2 some (read told) g.met.K.Sink.takes_on _ _ (waiting c.args.carrier.now) (waiting c.loop-at.carrier) text (i.goes told text s) _ (waiting c.carry_range-in_default.new.self)
+          (subst (λ u. is_named c.args.names.now c.args.span.rule h.kind.0 u ≡ false) (own told) named) into (x told);
     }
 
 pub returns-clause-bytes : goal.returns-clause-bytes
 returns-clause-bytes g t c told text s =
     let i = c.loop-at.invariant in
-    copying_all c.args.names.now c.args.rule (g.S.Store.file c.args.store.now) c.args.end c.loop-at.at _ (waiting c.args.carrier.now) (waiting c.loop-at.carrier) text (search rules) (i.goes told text s)
+    copying_all c.args.names.now c.args.span.rule (g.S.Store.file c.args.store.now) c.args.span.end c.loop-at.at _ (waiting c.args.carrier.now) (waiting c.loop-at.carrier) text (search rules) (i.goes told text s)
 
 pub carry_boxes-requires : goal.carry_boxes-requires
 carry_boxes-requires g t c κs within =
@@ -258,8 +258,8 @@ carry_boxes-requires g t c κs within =
     let head = c.in_ok-carry_range.ensures in
     let h = c.in_ok-found.found.header in
     let w = e.fits in
-    let into : rule_inside c.args.rule h.kind.0 ≡ Some c.in-Some.inner = search rules in
-    let lower = inside_lower c.args.rule c.in-Some.inner h.kind.0 into in
+    let into : rule_inside c.args.span.rule h.kind.0 ≡ Some c.in-Some.inner = search rules in
+    let lower = inside_lower c.args.span.rule c.in-Some.inner h.kind.0 into in
     let d = c.decreases in
     let from : c.from-head.result ≡ h.header = c.from-head.ensures in
     let le = c.requires.within in (
@@ -277,5 +277,5 @@ loop-at-init g t c = record {
   file = refl;
   reads = refl;
   puts = refl;
-  goes = λ told text s. copying_none c.args.names.now c.args.rule (g.S.Store.file c.args.store.now) c.args.end c.args.from _ (g.met.K.Sink.takes_nothing _) (waiting c.args.carrier.now) text s;
+  goes = λ told text s. copying_none c.args.names.now c.args.span.rule (g.S.Store.file c.args.store.now) c.args.span.end c.args.span.from _ (g.met.K.Sink.takes_nothing _) (waiting c.args.carrier.now) text s;
 }

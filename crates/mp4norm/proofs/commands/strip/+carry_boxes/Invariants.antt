@@ -8,20 +8,20 @@ use Rattle.mp4norm.proofs.StripCopies.{Copying}
 use Rattle.mp4norm.proofs.commands.strip.+carry_boxes.Given as goal
 
 abbrev pub decreases-carry_boxes : goal.decreases-carry_boxes
-decreases-carry_boxes g l = height l.rule
+decreases-carry_boxes g l = height l.span.rule
 
 -- what stands for the boxes so far is put or waits
 abbrev pub invariant-loop-at : goal.invariant-loop-at
 invariant-loop-at g l =
     record {
-      span : l.at ≤ l.end;
+      span : l.at ≤ l.span.end;
       honesty : g.S.Store.is_honest l.store ≡ g.S.Store.is_honest l.fn.store;
       file : g.S.Store.file l.store ≡ g.S.Store.file l.fn.store;
       reads : g.S.Store.read_failures l.store ≡ g.S.Store.read_failures l.fn.store;
       puts : g.K.Sink.put_failures l.sink ≡ g.K.Sink.put_failures l.fn.sink;
-      goes : IsTrue (g.S.Store.is_honest l.fn.store) → (text : List ℕ) → Strips l.names l.rule (range (g.S.Store.file l.fn.store) l.from (l.end - l.from)) text
-          → Copying l.names l.rule (g.S.Store.file l.fn.store) l.end l.at (g.K.Sink.takes l.fn.sink l.sink) (waiting l.fn.carrier) (waiting l.carrier) text;
+      goes : IsTrue (g.S.Store.is_honest l.fn.store) → (text : List ℕ) → Strips l.names l.span.rule (range (g.S.Store.file l.fn.store) l.span.from (l.span.end - l.span.from)) text
+          → Copying l.names l.span.rule (g.S.Store.file l.fn.store) l.span.end l.at (g.K.Sink.takes l.fn.sink l.sink) (waiting l.fn.carrier) (waiting l.carrier) text;
     }
 
 abbrev pub decreases-loop-at : goal.decreases-loop-at
-decreases-loop-at g l = l.end - l.at
+decreases-loop-at g l = l.span.end - l.at

@@ -8,19 +8,19 @@ use Rattle.mp4norm.proofs.StripWalks.{HasText}
 use Rattle.mp4norm.proofs.commands.strip.+judge_boxes.Given as goal
 
 abbrev pub decreases-judge_boxes : goal.decreases-judge_boxes
-decreases-judge_boxes g l = height l.rule
+decreases-judge_boxes g l = height l.span.rule
 
 -- what stands for the boxes from the place on is the end of what stands for all of them, and a fault there is one of the container
 abbrev pub invariant-loop-at : goal.invariant-loop-at
 invariant-loop-at g l =
     record {
-      span : l.at ≤ l.end;
+      span : l.at ≤ l.span.end;
       honesty : g.S.Store.is_honest l.store ≡ g.S.Store.is_honest l.fn.store;
       file : g.S.Store.file l.store ≡ g.S.Store.file l.fn.store;
       reads : g.S.Store.read_failures l.store ≡ g.S.Store.read_failures l.fn.store;
-      judged : IsTrue (g.S.Store.is_honest l.fn.store) → HasText l.names l.rule (g.S.Store.file l.fn.store) l.end l.at → HasText l.names l.rule (g.S.Store.file l.fn.store) l.end l.from;
-      halts : IsTrue (g.S.Store.is_honest l.fn.store) → (f : Fault) → Halts l.names f l.rule l.at (range (g.S.Store.file l.fn.store) l.at (l.end - l.at)) → Halts l.names f l.rule l.from (range (g.S.Store.file l.fn.store) l.from (l.end - l.from));
+      judged : IsTrue (g.S.Store.is_honest l.fn.store) → HasText l.names l.span.rule (g.S.Store.file l.fn.store) l.span.end l.at → HasText l.names l.span.rule (g.S.Store.file l.fn.store) l.span.end l.span.from;
+      halts : IsTrue (g.S.Store.is_honest l.fn.store) → (f : Fault) → Halts l.names f l.span.rule l.at (range (g.S.Store.file l.fn.store) l.at (l.span.end - l.at)) → Halts l.names f l.span.rule l.span.from (range (g.S.Store.file l.fn.store) l.span.from (l.span.end - l.span.from));
     }
 
 abbrev pub decreases-loop-at : goal.decreases-loop-at
-decreases-loop-at g l = l.end - l.at
+decreases-loop-at g l = l.span.end - l.at

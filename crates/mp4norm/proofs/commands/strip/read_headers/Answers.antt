@@ -10,7 +10,7 @@ returns-in_err-header-clause-refusal g c =
     let i = c.loop-at.invariant in
     let file = g.S.Store.file c.args.store.now in
     let e = rw (i.honesty, i.file, i.reads) at c.in_err-header.ensures.refusal in
-    rw (p.1, p.2) (refuses_walk c.args.names.now (g.S.Store.is_honest c.args.store.now) c.args.rule file c.args.from c.loop-at.at c.args.end (g.S.Store.read_failures c.args.store.now) (g.S.Store.read_failures c.read_header.new.store) c.in_err-header.field-0.0
+    rw (p.1, p.2) (refuses_walk c.args.names.now (g.S.Store.is_honest c.args.store.now) c.args.span.rule file c.args.span.from c.loop-at.at c.args.span.end (g.S.Store.read_failures c.args.store.now) (g.S.Store.read_failures c.read_header.new.store) c.in_err-header.field-0.0
     c.loop-at-test.true c.requires.within i.halts e)
 
 pub loop-at-preserved : goal.loop-at-preserved
@@ -26,5 +26,5 @@ loop-at-preserved g c =
       honesty = e.store.honesty ∙ i.honesty;
       file = e.store.file ∙ i.file;
       reads = e.store.reads ∙ i.reads;
-      halts = λ told f x. i.halts told f (halts_behind c.args.names.now c.args.rule file c.loop-at.at c.args.end h w.0 w.2 (read told) f x);
+      halts = λ told f x. i.halts told f (halts_behind c.args.names.now c.args.span.rule file c.loop-at.at c.args.span.end h w.0 w.2 (read told) f x);
     }

@@ -12,7 +12,7 @@ use Rattle.mp4norm.proofs.commands.strip.strip.Goals as goal
 pub returns-in_err-judge_boxes-clause-answer : goal.returns-in_err-judge_boxes-clause-answer
 returns-in_err-judge_boxes-clause-answer g c =
     let p = err_from_is_err_and c.from_residual-in_err-judge_boxes.result c.from_residual-in_err-judge_boxes.ensures.1 in
-    let cause = rw c.len-end.ensures at c.in_err-judge_boxes.ensures.refusal in
+    let cause = rw (c.whole_file-span.ensures, c.len.ensures) at c.in_err-judge_boxes.ensures.refusal in
     let r = run_of g.S.Store c.args.store.now c.judge_boxes.new.store g.K.Sink c.args.sink.now c.args.sink.now in
     rw (p.1, p.2) (walk_fails (Unit {0}) c.args.names.now r c.in_err-judge_boxes.field-0.0 (g.met.K.Sink.takes_nothing c.args.sink.now) cause)
 
@@ -22,10 +22,10 @@ returns-in_err-carry_boxes-clause-answer g c =
     let j = c.in_ok-judge_boxes.ensures in
     let x = c.in_err-carry_boxes.ensures in
     let file = g.S.Store.file c.args.store.now in
-    let judged = rw c.len-end.ensures at j.judged in
+    let judged = rw (c.whole_file-span.ensures, c.len.ensures) at j.judged in
     let cause = rw j.store.reads at x.refusal in
-    let prefix = rw (c.len-end.ensures, j.store.honesty, j.store.file, c.in_ok-carrier.ensures.empty) at x.bytes in
-    let unchanged = rw (c.len-end.ensures, j.store.honesty, j.store.file) at x.unchanged in
+    let prefix = rw (c.whole_file-span.ensures, c.len.ensures, j.store.honesty, j.store.file, c.in_ok-carrier.ensures.empty) at x.bytes in
+    let unchanged = rw (c.whole_file-span.ensures, c.len.ensures, j.store.honesty, j.store.file) at x.unchanged in
     let r = run_of g.S.Store c.args.store.now c.carry_boxes.new.store g.K.Sink c.args.sink.now c.carry_boxes.new.sink in
     rw (p.1, p.2) (carry_fails (Unit {0}) r (IsStripped c.args.names.now file) (λ f. Halts c.args.names.now f File 0 file) ⊥ c.in_err-carry_boxes.field-0.0 cause
     (λ told. let t = judged told in (t.0, of_file c.args.names.now file t.0 t.1, prefix told t.0 t.1))
@@ -36,8 +36,8 @@ returns-clause-answer g c =
     let j = c.in_ok-judge_boxes.ensures in
     let k = c.in_ok-carry_boxes.ensures in
     let file = g.S.Store.file c.args.store.now in
-    let judged = rw c.len-end.ensures at j.judged in
-    let goes = rw (c.len-end.ensures, j.store.honesty, j.store.file) at k.bytes in
+    let judged = rw (c.whole_file-span.ensures, c.len.ensures) at j.judged in
+    let goes = rw (c.whole_file-span.ensures, c.len.ensures, j.store.honesty, j.store.file) at k.bytes in
     let cause = rw k.puts at c.flush.ensures.refusal in
     let r = run_of g.S.Store c.args.store.now c.carry_boxes.new.store g.K.Sink c.args.sink.now c.flush.new.sink in
     put_answers _ r (IsStripped c.args.names.now file) (λ f. Halts c.args.names.now f File 0 file) ⊥ c.flush.result

@@ -3,7 +3,7 @@ use Rattle.std.proofs.lemmas.Result.{err_from_is_err_and}
 use Rattle.mp4_present.specs.words.Carried.{waiting}
 use Rattle.mp4_present.proofs.Carrying.{GoOnBy-then}
 use Rattle.mp4_plan.proofs.Stretched.{spans_more, spans_fail, spans_front, spans_whole, spans_counted, span_there, span_fits, next_span, last_span}
-use Rattle.mp4_plan.proofs.joined.Stretches.carry.Goals as goal
+use Rattle.mp4_plan.proofs.stretches.Stretches.carry.Goals as goal
 
 pub loop-span-preserved : goal.loop-span-preserved
 loop-span-preserved g c =

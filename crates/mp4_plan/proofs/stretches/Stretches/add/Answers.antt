@@ -1,6 +1,6 @@
 use Rattle.std.proofs.Common.{rules, take, arith, refl, sym, ◌≡◌, ◌+◌}
 use Rattle.mp4_plan.proofs.Stretched.{bytes_longer}
-use Rattle.mp4_plan.proofs.joined.Stretches.add.Goals as goal
+use Rattle.mp4_plan.proofs.stretches.Stretches.add.Goals as goal
 
 pub returns-in-Some-clause-joined : goal.returns-in-Some-clause-joined
 returns-in-Some-clause-joined c earlier h =

@@ -1,6 +1,6 @@
 use Rattle.std.proofs.Common.{rules, take, arith, refl, ◌≡◌, ◌+◌}
 use Rattle.mp4_plan.proofs.Stretched.{bytes_more}
-use Rattle.mp4_plan.proofs.joined.Stretches.open.Goals as goal
+use Rattle.mp4_plan.proofs.stretches.Stretches.open.Goals as goal
 
 pub returns-in-Some-clause-joined : goal.returns-in-Some-clause-joined
 returns-in-Some-clause-joined c earlier h =

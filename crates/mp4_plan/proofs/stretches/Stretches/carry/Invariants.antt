@@ -3,7 +3,7 @@ use Rattle.std.proofs.Common.{◌≡◌, ◌-◌, ◌≤◌, ◌∷◌, ◌++◌
 use Rattle.mp4_present.specs.words.Carried.{GoOnBy, waiting}
 use Rattle.mp4_plan.specs.words.Stretches.{spans_of}
 use Rattle.mp4_plan.proofs.Stretched.{SpansCarried}
-use Rattle.mp4_plan.proofs.joined.Stretches.carry.Given as goal
+use Rattle.mp4_plan.proofs.stretches.Stretches.carry.Given as goal
 
 -- the bytes of the stretches before are taken along
 abbrev pub invariant-loop-span : goal.invariant-loop-span

@@ -1,0 +1,71 @@
+//! The walks over all pieces of a movie, before the first turn.
+use crate::due_tracks::DueTracks;
+use crate::first_samples::{first_time, peek_each, walks_of};
+use crate::reduced::Reductions;
+use crate::schedule::Schedule;
+use mp4_boxes::{Refusal, Steps};
+use mp4_present::{Movie, Walk};
+use mp4_store::Store;
+use mp4_tables::SampleAt;
+use std::alloc::Global;
+use std::sync::ledger::Ledger;
+
+/// What a plan goes over all pieces by: for each track a walk and its next sample, when these are
+/// due, and whose turn it is.
+#[derive(Drop)]
+pub(crate) struct PlanWalks {
+    pub(crate) walks: Vec<Walk>,
+    pub(crate) nexts: Vec<Option<SampleAt>>,
+    pub(crate) due: DueTracks,
+    pub(crate) schedule: Schedule,
+}
+
+impl PlanWalks {
+    ghost use Rattle.std.specs.Prelude.{◌≡◌, ◌+◌, ◌≤◌, length, IfOk, MatchResult, OnOk};
+    ghost use Rattle.mp4_present.specs.words.StoresRead.{IsUnchanged, OnlyReads, Refused};
+    ghost use Rattle.mp4_present.specs.words.WalkSteps.{walks_steps};
+    ghost use Rattle.mp4_plan.specs.words.MadeWriters.{OverOpened};
+    ghost use Rattle.mp4_plan.specs.words.Measuring.{OverReduced};
+    ghost use Rattle.mp4_plan.specs.words.PlanBegun.{AreAllToCome, BeginsPlan};
+    ghost use Rattle.mp4_plan.specs.words.WriterSteps.{AllTakeOn};
+    ghost use Rattle.mp4_plan.specs.words.Writers.{RefusesPlan};
+
+    /// Before the first turn of what is left of a movie.
+    pub(crate) fn begin<S: Store, L: Ledger>(
+        alloc: Global,
+        movie: &Movie,
+        store: &mut S,
+        reductions: &Reductions,
+        steps: &mut Steps<L>,
+    ) -> Result<PlanWalks, Refusal>
+        requires reductions { length reductions.now.of_tracks.items ≡ length movie.now.tracks }
+        ensures store { OnlyReads S.Store store.old store.new result }
+        ensures begins { IfOk result (BeginsPlan reductions.now.leaving movie.now) }
+        ensures first { OverReduced S.Store store.old movie.now reductions.now
+            (λ file tree. IfOk result
+            (AreAllToCome reductions.now.leaving file tree movie.now)) }
+        ensures unchanged { OverReduced S.Store store.old movie.now reductions.now
+            (λ file tree. IsUnchanged result) }
+        ensures refusal { Refused S.Store store.old store.new result RefusesPlan }
+        ensures grows { OnOk result (steps.old ≤ steps.new) }
+        ensures work { OverOpened S.Store store.old movie.now (λ file tree. MatchResult result
+            (λ p. AllTakeOn file tree (walks_steps tree) p.walks.items steps.old steps.new)
+            (λ _. steps.new ≤ steps.old + walks_steps tree)) }
+    {
+        let tracks = movie.tracks();
+        let mut walks = walks_of(alloc, movie)?;
+        let mut nexts = vec![in alloc; None; tracks.len()]?;
+        let mut due = DueTracks::new(alloc, tracks.len())?;
+        let all = walks.as_mut_slice();
+        peek_each(all, nexts.as_mut_slice(), reductions, movie, store, steps)?;
+        let from = first_time(nexts.as_slice());
+        let schedule = Schedule::new(reductions.leaving, tracks, from);
+        schedule.begin(tracks, nexts.as_slice(), &mut due);
+        Ok(PlanWalks {
+            walks,
+            nexts,
+            due,
+            schedule,
+        })
+    }
+}
