@@ -50,7 +50,7 @@ loop-child-preserved-then-eq g c =
       r.kept.each,
       rw kept (moof_traf c.args.all.file.len _ _ _ _ _ (box_seen c.in-Some.child) _ ends _ _ i.4 c.in-Some.ensures.steps is_traf r.passed.holds sound r.passed.bound r.kept.same),
       rw kept (moves_traf c.args.all.file.len _ _ _ _ _ _ (box_seen c.in-Some.child) _ ends _ _ _ _ i.5 c.in-Some.ensures.steps is_traf r.passed.holds sound (rw there at r.passed.moved) (rw there at r.exact.names)),
-      moof_cost_traf _ _ _ (box_seen c.in-Some.child) _ _ _ _ _ _ i.6 c.in-Some.ensures.steps is_traf (rw c.tick.ensures.one_more at r.work.cost) (rw c.tick.ensures.one_more at r.work.within),
+      moof_cost_traf _ _ _ (box_seen c.in-Some.child) _ _ _ _ _ _ i.6 c.in-Some.ensures.steps is_traf (let t = r.work.cost in omega (arith, t)) (let t = r.work.within in omega (arith, t)),
       r.ids ∙ i.7,
       looked_traf _ _ _ (box_seen c.in-Some.child) _ _ _ _ i.8 c.in-Some.ensures.steps is_traf r.looks.one (rw i.9 at r.looks.most),
       r.many ∙ i.9,
@@ -98,7 +98,7 @@ pub returns-in_err-passed-clause-work : goal.returns-in_err-passed-clause-work
 returns-in_err-passed-clause-work g c =
     let p = err_from_is_err_and c.from_residual.result c.from_residual.ensures.1 in
     let most = moof_cost_fault _ _ _ _ (box_seen c.in-Some.child) (box_seen c.args.all.moof) _ _ _ _ _ c.loop-child.invariant.6 c.in-Some.ensures.steps c.into_iter-child-iterator.ensures.into_iter_gives c.requires.boxes
-    (rw c.tick.ensures.one_more at c.in_err-passed.ensures.work.most) in
+    (let t = c.in_err-passed.ensures.work.most in omega (arith, t)) in
     rw p.1 (record { cost = tt; within = tt; most = most })
 
 pub returns-in_err-passed-clause-looks : goal.returns-in_err-passed-clause-looks
@@ -122,7 +122,7 @@ pub returns-in_err-note_traf-clause-work : goal.returns-in_err-note_traf-clause-
 returns-in_err-note_traf-clause-work g c =
     let p = err_from_is_err_and c.from_residual-in_err-note_traf.result c.from_residual-in_err-note_traf.ensures.1 in
     let most = moof_cost_fault _ _ _ _ (box_seen c.in-Some.child) (box_seen c.args.all.moof) _ _ _ _ _ c.loop-child.invariant.6 c.in-Some.ensures.steps c.into_iter-child-iterator.ensures.into_iter_gives c.requires.boxes
-    (rw c.tick.ensures.one_more at c.in_ok-passed.ensures.work.most) in
+    (let t = c.in_ok-passed.ensures.work.most in omega (arith, t)) in
     rw p.1 (record { cost = tt; within = tt; most = most })
 
 pub returns-in_err-note_traf-clause-looks : goal.returns-in_err-note_traf-clause-looks
@@ -145,7 +145,7 @@ returns-in_err-note_traf-clause-stops g c =
     let all = holds_boxes (box_seen c.args.all.moof) _ c.requires.boxes in
     let is_traf = rw c.kind.ensures at (sym c.if-eq.ensures) in
     let taken = taken_traf _ _ _ (box_seen c.in-Some.child) _ _ _ _ _ _ _ i.11 c.in-Some.ensures.steps is_traf r.passed.moved in
-    let cost = moof_cost_traf _ _ _ (box_seen c.in-Some.child) _ _ _ _ _ _ i.6 c.in-Some.ensures.steps is_traf (rw c.tick.ensures.one_more at r.work.cost) (rw c.tick.ensures.one_more at r.work.within) in
+    let cost = moof_cost_traf _ _ _ (box_seen c.in-Some.child) _ _ _ _ _ _ i.6 c.in-Some.ensures.steps is_traf (let t = r.work.cost in omega (arith, t)) (let t = r.work.within in omega (arith, t)) in
     let looked = looked_traf _ _ _ (box_seen c.in-Some.child) _ _ _ _ i.8 c.in-Some.ensures.steps is_traf r.looks.one (rw i.9 at r.looks.most) in
     rw (p.1, p.2) (stops_within _ _ (box_seen c.args.all.moof) _ _ _ _ _ _ _ taken cost looked (c.into_iter-child-iterator.ensures.into_iter_gives ∙ all))
 
