@@ -276,9 +276,12 @@ def of_fragments():
              'sample-one-byte-past-the-file', 'empty-sample-past-the-file'),
         unless('sample_runs', 'have_large_offset(run, samples)', 'OffsetTooLarge of trun',
                'narrow-offset-too-large-in-trun'),
-        Edit('sample_runs', '    if samples.are_within {',
-             '    if have_large_offset(run, samples) {\n'
-             '        return Err(Kind::OffsetTooLarge);\n    }\n    if samples.are_within {',
+        Edit('sample_runs',
+             '        if size > left {\n            return none_passed(0, false);\n        }\n'
+             '        left -= size;\n',
+             '        if size > left && (run.is_signed || !are_large) {\n'
+             '            return none_passed(0, false);\n        }\n'
+             '        left = left.saturating_sub(size);\n',
              'SampleOutsideFile before OffsetTooLarge in trun',
              'late-sample-outside-before-a-large-offset'),
         Edit('mp4_frag/check', 'find_track(tracks, head.id, at.file.places, looks) else {',
