@@ -220,9 +220,9 @@ class Bench(Room, Tally):
 
     def started(self, words, **how):
         """A run that goes on, whose standard output is read meanwhile."""
-        return subprocess.Popen([self.program, *words_of(words)], stdin=subprocess.DEVNULL,
-                                cwd=self.folder,
-                                **{'stdout': subprocess.PIPE, 'stderr': subprocess.PIPE, **how})
+        return subprocess.Popen([self.program, *words_of(words)], cwd=self.folder,
+                                **{'stdin': subprocess.DEVNULL, 'stdout': subprocess.PIPE,
+                                   'stderr': subprocess.PIPE, **how})
 
     def library(self):
         """The library that fails calls, or runs words of the shell before them (`failures.c`)."""

@@ -19,14 +19,15 @@ UUIDS_OF_ENCRYPTION = ('a2394f52-5a9b-4f14-a244-6c427c648df4',
                        'd08a4f18-10f3-4a82-b6c8-32d8aba183d3')
 # The `uuid` that tells when a fragment of Smooth Streaming begins.
 OF_TIME = '6d1d9b05-42d5-44e6-80e2-141daff757b2'
-# What is then so where a box is lost, by its type, and by its container where it counts.
+# What is then so where a box is lost, by its type, and by its containers where they count.
 SEALED = "encrypted samples can't be read"
 LOSSES = (
     (('senc', 'saiz', 'saio', 'pssh'), None, SEALED),
-    (('sdtp', 'subs', 'sgpd'), 'traf', 'flags or groups of samples are lost'),
+    (('sdtp', 'sgpd'), 'traf', 'flags or groups of samples are lost'),
+    (('subs', 'csgp'), 'traf stbl', 'flags or groups of samples are lost'),
     (('stps', 'stsh', 'padb', 'stdp'), 'stbl', 'flags or groups of samples are lost'),
     (('emsg',), None, 'events are lost'),
-    (('meta',), 'file', 'items are lost'),
+    (('meta',), 'file moof traf', 'items are lost'),
 )
 ZERO = str(UUID(int=0))
 # What names free space, or no type.
@@ -82,7 +83,7 @@ class Freed:
         if self.uuid == OF_TIME and self.container == 'traf' and not self.has_time:
             return 'decode times are made up'
         for kinds, container, lost in LOSSES:
-            if self.kind in kinds and container in (None, self.container):
+            if self.kind in kinds and (not container or self.container in container.split()):
                 return lost
         return None
 
@@ -127,17 +128,20 @@ def told(names, freed):
     return said + ''.join(f'strip: {count} {name}\n' for name, count in groups.items())
 
 
+def losses(names, freed):
+    """What is lost with boxes that the profile refuses, a line each."""
+    return {f'strip: warning: without {it.name()} {it.loss()}\n': None for it in freed
+            if isinstance(names[it.number], Foreign) and it.loss()}
+
+
 def warned(names, freed):
-    """What is warned of: a dropped `uuid` of encryption, and each loss."""
+    """What is warned of where a copy is made: a dropped `uuid` of encryption, and each loss."""
     dropped = any(isinstance(names[it.number], Name) and it.uuid in UUIDS_OF_ENCRYPTION
                   for it in freed)
     dropped |= any(isinstance(name, Name) and name.kind.decode('latin-1') in OF_ENCRYPTION
                    for name in names)
     warnings = {f'strip: warning: without these boxes {SEALED}\n': None} if dropped else {}
-    for it in freed:
-        if isinstance(names[it.number], Foreign) and it.loss():
-            warnings[f'strip: warning: without {it.name()} {it.loss()}\n'] = None
-    return ''.join(warnings)
+    return ''.join([*warnings, *losses(names, freed)])
 
 
 def stripped(data, names, is_lossy=True):
@@ -147,15 +151,14 @@ def stripped(data, names, is_lossy=True):
         freed = list(named_in(data, found, '', names))
     except lister.BadHeader as fault:
         return 1, (fault.line() + '\n').encode(), b''
-    warnings = warned(names, freed)
     lost = [it for it in freed if isinstance(names[it.number], Foreign) and it.loss()]
     if lost and not is_lossy:
         first = f'refused: BoxNotInProfile in {lost[0].kind} at {lost[0].place}\n'
-        return 1, (warnings + first).encode(), b''
+        return 1, (''.join(losses(names, freed)) + first).encode(), b''
     copy = bytearray(data)
     for it in freed:
         copy[it.place + 4:it.place + 8] = FREE
-    return 0, (warnings + told(names, freed)).encode(), bytes(copy)
+    return 0, (warned(names, freed) + told(names, freed)).encode(), bytes(copy)
 
 
 def kinds_in(data):

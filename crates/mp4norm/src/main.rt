@@ -34,8 +34,8 @@ pub use commands::sum::sum_file;
 use mp4_boxes::{Refusal, Steps};
 use mp4_store::{IoSink, Sink};
 pub use shell::action::{
-    Action, CommandFault, Comparison, Finding, Form, Input, Job, Order, Syntax, Target, Telling,
-    VerdictStyle,
+    Action, CommandFault, Comparison, Finding, Form, Input, Job, Order, SumCheck, Syntax, Target,
+    Telling, VerdictStyle,
 };
 use shell::check_files::{Manner, check_all};
 pub use shell::command_line::action;
@@ -47,7 +47,7 @@ use shell::run_compare::compare_named;
 use shell::sum_checks::check_sums;
 use std::alloc::{AllocError, Global};
 use std::io;
-use std::io::Write;
+use std::io::{IsTerminal, Write};
 use std::marker::Brand;
 use std::process::ExitCode;
 use std::rt::Env;
@@ -61,6 +61,9 @@ pub use text::verdicts::{first_name, put_verdict, verdict_status};
 
 /// The status for words that are not known.
 const USAGE: u8 = 64;
+
+/// What stands behind the first lines of the help.
+const MORE_HELP: &[u8] = b"\nFor more information, try '--help'.\n";
 
 /// The most bytes that a word of a command line has in Linux, with the zero byte that ends it.
 const MOST_OF_WORD: usize = 131_072;
@@ -148,11 +151,7 @@ fn act<L: Ledger, M: Ledger>(
             let job = Job::Strip { names };
             end(rt, run(rt, job, order, &mut costs))
         }
-        Action::CheckSums {
-            list,
-            quiet,
-            telling,
-        } => end_verdicts(rt, check_sums(rt, list, quiet, telling, &mut costs)),
+        Action::CheckSums { list, how } => end_verdicts(rt, check_sums(rt, list, how, &mut costs)),
         Action::Compare(comparison) => compare_named(rt, comparison, &mut costs),
         Action::Check {
             files,
@@ -180,12 +179,42 @@ fn tell(rt: &HostRuntime, fault: CommandFault) -> ExitCode {
     }
 }
 
+// What is said where no word is given and no file comes, since standard input is a terminal: the
+// help, up to its options.
+fn first_help(alloc: Global) -> Result<Vec<u8>, AllocError> {
+    let mut text = Vec::new(alloc);
+    let words = vec![in alloc; String::from_str(alloc, "--help")?]?;
+    if let Err(CommandFault::Help(help)) = action(alloc, words.as_slice()) {
+        let (first, _) = help
+            .as_str()
+            .split_once("\nOptions:")
+            .unwrap_or((help.as_str(), ""));
+        text.extend_from_slice(first.as_bytes())?;
+    }
+    text.extend_from_slice(MORE_HELP)?;
+    Ok(text)
+}
+
+// Says how the program is used.
+fn tell_usage(rt: &HostRuntime) -> ExitCode {
+    match first_help(rt.alloc()) {
+        Ok(text) => {
+            let _ = rt.stderr().write_all(text.as_slice());
+            ExitCode::from(USAGE)
+        }
+        Err(_) => end(rt, Err(Refusal::Memory)),
+    }
+}
+
 fn main(rt: HostRuntime) -> ExitCode {
     let _taken = take_closed(&rt);
     let Ok(words) = words(&rt) else {
         return end(&rt, Err(Refusal::Memory));
     };
     let words = words.as_slice();
+    if words.is_empty() && rt.stdin().is_terminal() {
+        return tell_usage(&rt);
+    }
     match action(rt.alloc(), words) {
         Ok(action) => act::<Brand, Brand>(&rt, action, Blank::new(1), Blank::new(1)),
         Err(fault) => tell(&rt, shown_fault(&rt, words, fault)),

@@ -64,10 +64,14 @@ fn loss_of(rule: Rule, kind: FourCc, uuid: Option<u128>, has_time: bool) -> Opti
     match &kind.0 {
         b"senc" | b"saiz" | b"saio" | b"pssh" => Some(Loss::Encryption),
         b"uuid" => loss_of_uuid(rule, uuid, has_time),
-        b"sdtp" | b"subs" | b"sgpd" if rule == Rule::TrackFragment => Some(Loss::Flags),
-        b"stps" | b"stsh" | b"padb" | b"stdp" if rule == Rule::SampleTable => Some(Loss::Flags),
+        b"sdtp" | b"subs" | b"sgpd" | b"csgp" if rule == Rule::TrackFragment => Some(Loss::Flags),
+        b"stps" | b"stsh" | b"padb" | b"stdp" | b"subs" | b"csgp" if rule == Rule::SampleTable => {
+            Some(Loss::Flags)
+        }
         b"emsg" => Some(Loss::Events),
-        b"meta" if rule == Rule::File => Some(Loss::Items),
+        b"meta" if matches!(rule, Rule::File | Rule::MovieFragment | Rule::TrackFragment) => {
+            Some(Loss::Items)
+        }
         _ => None,
     }
 }

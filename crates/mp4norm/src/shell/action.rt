@@ -36,12 +36,12 @@ pub enum Job<'a> {
 }
 
 /// What is read: standard input, the file of this name, or those that a list names, one after the
-/// other; of a list the word, with the `@` before it.
+/// other; of a list the word, with the `@` before it, and how many files it may name.
 #[derive(Clone, Copy)]
 pub enum Input<'a> {
     Standard,
     File { name: &'a str },
-    List { word: &'a str },
+    List { word: &'a str, most: u64 },
 }
 
 impl<'a> Input<'a> {
@@ -50,7 +50,7 @@ impl<'a> Input<'a> {
         match self {
             Input::Standard => "-",
             Input::File { name } => name,
-            Input::List { word } => word,
+            Input::List { word, .. } => word,
         }
     }
 }
@@ -110,6 +110,15 @@ pub struct VerdictStyle {
     pub end: u8,
 }
 
+/// How files are checked against their sums: whether those that have theirs are passed over in
+/// silence, how many files a list may name, and what is said beside the verdicts.
+#[derive(Clone, Copy)]
+pub struct SumCheck {
+    pub quiet: bool,
+    pub most_parts: u64,
+    pub telling: Telling,
+}
+
 /// What is found of each of some files: whether it is accepted, or its sum, of what is left of it;
 /// then a line that says of what may stand before all of them.
 #[derive(Clone, Copy)]
@@ -142,8 +151,7 @@ pub enum Action<'a> {
     },
     CheckSums {
         list: Input<'a>,
-        quiet: bool,
-        telling: Telling,
+        how: SumCheck,
     },
     Compare(Comparison<'a>),
     Strip {

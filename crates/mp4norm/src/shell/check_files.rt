@@ -5,10 +5,9 @@ use crate::commands::sum::sum_file;
 use crate::shell::action::{Finding, Input, Syntax, Telling, VerdictStyle};
 use crate::shell::costs::Costs;
 use crate::shell::file_names::{push_plain, shown, word_of};
-use crate::shell::input::read_input;
 use crate::shell::reports::{Noted, Report, tell_of};
-use crate::shell::run_command::explain_fault;
-use crate::shell::sources::{MOST_INPUT, Source, open};
+use crate::shell::run_command::explain_refusal;
+use crate::shell::sources::{Source, open, read_whole};
 use crate::text::fault_text::{fault_line, status};
 use crate::text::json_text::name_json;
 use crate::text::sum_lines::{push_header, sum_line, sum_object};
@@ -21,6 +20,14 @@ use std::sync::ledger::Ledger;
 
 /// What was found of a file: its sum, where that was asked for, or that it is accepted.
 pub(crate) type Found = Result<Option<[u8; DIGEST]>, Refusal>;
+
+// What is named by a word, or by a name of a list: and whether it is a file, and neither standard
+// input nor a list.
+#[derive(Clone, Copy)]
+struct GivenName<'a> {
+    name: &'a [u8],
+    is_file: bool,
+}
 
 /// How files are judged: what is found of each, how it is written, what is said beside that, and
 /// whether the file is named there.
@@ -84,7 +91,7 @@ fn judged<L: Ledger, M: Ledger>(
     let answer = source.settled(answer);
     if let Err(refusal) = &answer {
         let name = manner.is_named.then_some(input.name());
-        explain_fault(rt, name, refusal, manner.telling, &mut source, costs);
+        explain_refusal(rt, name, refusal, manner.telling, &mut source, costs);
         if matches!(refusal, Refusal::StoreFailed) {
             report.concerns_part(rt, &source)?;
         }
@@ -127,14 +134,10 @@ pub(crate) fn read_list(
 ) -> Result<Vec<u8>, Refusal> {
     match list {
         None => Ok(Vec::new(rt.alloc())),
-        Some(Input::Standard) => {
-            let out = &mut rt.reader();
-            read_input(rt.alloc(), &mut Noted { out, report }, MOST_INPUT)
-        }
-        Some(Input::File { name } | Input::List { word: name }) => {
+        Some(Input::Standard) => read_whole(rt.alloc(), &mut rt.reader(), report),
+        Some(Input::File { name } | Input::List { word: name, .. }) => {
             let mut file = report.outcome(File::open(rt, name), Refusal::StoreFailed)?;
-            let out = &mut file;
-            read_input(rt.alloc(), &mut Noted { out, report }, MOST_INPUT)
+            read_whole(rt.alloc(), &mut file, report)
         }
     }
 }
@@ -166,16 +169,31 @@ fn put_answer<K: Sink>(
     Ok(verdict_status(answer))
 }
 
+// The name of a file in a line of its sum. Where it would name standard input or a list there, it
+// stands behind `./`.
+fn name_in_list(alloc: Global, name: &[u8], is_file: bool) -> Result<Vec<u8>, AllocError> {
+    let mut text = Vec::new(alloc);
+    if is_file && (name == b"-".as_slice() || name.starts_with(b"@")) {
+        text.extend_from_slice(b"./")?;
+    }
+    text.extend_from_slice(name)?;
+    Ok(text)
+}
+
 // Puts the sum of a file of this name.
 fn put_sum<K: Sink>(
     alloc: Global,
-    name: &[u8],
+    named: GivenName,
     digest: &[u8; DIGEST],
     style: VerdictStyle,
     sink: &mut K,
 ) -> Result<u8, Refusal> {
+    let GivenName { name, is_file } = named;
     let line = match style.syntax {
-        Syntax::Text => sum_line(alloc, name, digest, style.end)?,
+        Syntax::Text => {
+            let name = name_in_list(alloc, name, is_file)?;
+            sum_line(alloc, name.as_slice(), digest, style.end)?
+        }
         Syntax::Json => sum_object(alloc, name, digest, style.end)?,
     };
     sink.put(line.as_slice())?;
@@ -186,14 +204,14 @@ fn put_sum<K: Sink>(
 // of on standard error, but in JSON.
 fn put_named<K: Sink>(
     rt: &HostRuntime,
-    name: &[u8],
+    named: GivenName,
     found: &Found,
     manner: Manner,
     sink: &mut K,
 ) -> Result<u8, Refusal> {
-    let (alloc, style) = (rt.alloc(), manner.style);
+    let (alloc, style, name) = (rt.alloc(), manner.style, named.name);
     match (found, manner.finding) {
-        (Ok(Some(digest)), _) => put_sum(alloc, name, digest, style, sink),
+        (Ok(Some(digest)), _) => put_sum(alloc, named, digest, style, sink),
         (Ok(None), _) => put_answer(alloc, name, &Ok(()), style, sink),
         (Err(refusal), Finding::Sum { .. }) if matches!(style.syntax, Syntax::Text) => {
             tell_of(rt, name, fault_line(refusal).as_bytes());
@@ -216,7 +234,9 @@ fn check_list<K: Sink, L: Ledger, M: Ledger>(
     while !left.is_empty() {
         let (name, rest) = first_name(left);
         let answer = answer_of_listed(rt, name, manner, costs);
-        worst = put_named(rt, name, &answer, manner, sink)?.max(worst);
+        let is_file = true;
+        let named = GivenName { name, is_file };
+        worst = put_named(rt, named, &answer, manner, sink)?.max(worst);
         left = rest;
     }
     Ok(worst)
@@ -245,8 +265,11 @@ fn check_each<L: Ledger, M: Ledger>(
     let mut worst = 0;
     for input in files {
         let answer = answer_of(rt, *input, manner, costs);
-        let name = input.name().as_bytes();
-        worst = put_named(rt, name, &answer, manner, &mut sink)?.max(worst);
+        let named = GivenName {
+            name: input.name().as_bytes(),
+            is_file: matches!(input, Input::File { .. }),
+        };
+        worst = put_named(rt, named, &answer, manner, &mut sink)?.max(worst);
     }
     Ok(worst.max(check_list(rt, list, manner, &mut sink, costs)?))
 }

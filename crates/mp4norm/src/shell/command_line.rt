@@ -5,13 +5,14 @@ ghost use Rattle.mp4norm.specs.words.Actions.{IsJob, IsAction, boxes_of_input};
 use crate::commands::box_names::Name;
 use crate::commands::compare::{Lines, Listing};
 use crate::shell::action::{
-    Action, CommandFault, Comparison, Finding, Form, Input, Job, Order, Syntax, Target, Telling,
-    VerdictStyle,
+    Action, CommandFault, Comparison, Finding, Form, Input, Job, Order, SumCheck, Syntax, Target,
+    Telling, VerdictStyle,
 };
 use crate::shell::command_table::whole_command;
 use crate::shell::drop_lists::names_of;
 use crate::shell::file_names::shown_word;
-use crate::shell::without_words::leaving_of;
+use crate::shell::lists::MOST_PARTS;
+use crate::shell::without_words::{leaving_both, leaving_of};
 use clap::error::ErrorKind;
 use clap::{ArgMatches, Error};
 use mp4_present::Without;
@@ -35,7 +36,8 @@ const LOSSY_ALONE: &str = "the argument '--lossy' is of use only with '--foreign
 const QUIET_ALONE: &str = "the argument '--quiet' is of use only with '--check <LIST>'";
 
 const CHECK_ALONE: &str = "\
-the argument '--check <LIST>' can be used only with '--quiet', '--explain' and '--brief'";
+the argument '--check <LIST>' can be used only with '--quiet', '--max-parts', '--explain' and \
+'--brief'";
 
 const INPUT_TWICE: &str = "standard input ('-') can be read only once";
 
@@ -66,13 +68,18 @@ fn plain_input_of(word: &str) -> Input<'_> {
     }
 }
 
-// What a word names that is to be read.
-fn input_of(word: &str) -> Input<'_> {
+/// What a word names that is to be read; a list may name so many files.
+pub(crate) fn input_of(word: &str, most: u64) -> Input<'_> {
     if word.starts_with('@') {
-        Input::List { word }
+        Input::List { word, most }
     } else {
         plain_input_of(word)
     }
+}
+
+// How many files a list may name.
+fn most_parts_of(found: &ArgMatches) -> u64 {
+    found.get_one::<u64>("max-parts").unwrap_or(MOST_PARTS)
 }
 
 // Where the answer goes: to standard output where no other word is given.
@@ -96,7 +103,7 @@ fn telling_of(found: &ArgMatches) -> Telling {
 // What is read, where the answer goes, and what is said beside it.
 fn order_of<'a>(found: &ArgMatches<'a>, file: &'a str) -> Order<'a> {
     Order {
-        input: input_of(file),
+        input: input_of(file, most_parts_of(found)),
         target: target_of(found),
         most: found.get_one::<u64>("max-bytes"),
         lossy: found.get_flag("lossy"),
@@ -133,8 +140,9 @@ fn check_asked<'a>(
     ensures { IfOk result IsAction }
 {
     let mut files = Vec::new(alloc);
+    let most = most_parts_of(found);
     for word in found.get_strs("file").unwrap_or(&[]) {
-        files.push(input_of(word))?;
+        files.push(input_of(word, most))?;
     }
     let list = found.get_str("names-from").map(plain_input_of);
     let style = VerdictStyle {
@@ -211,12 +219,13 @@ fn listed_out(alloc: Global, list: &str) -> Result<Without, CommandFault> {
     }
 }
 
-// What is left out; nothing where no words are given.
+// What is left out: what all lists of words say; nothing where none is given.
 fn left_out(alloc: Global, found: &ArgMatches) -> Result<Without, CommandFault> {
-    match found.get_str("without") {
-        Some(list) => listed_out(alloc, list),
-        None => Ok(Without::NOTHING),
+    let mut leaving = Without::NOTHING;
+    for list in found.get_strs("without").unwrap_or(&[]) {
+        leaving = leaving_both(leaving, listed_out(alloc, list)?);
     }
+    Ok(leaving)
 }
 
 // What is to be done; nothing where a word is missing.
@@ -242,13 +251,11 @@ fn job_of(
             let leaving = left_out(alloc, found)?;
             Job::Print { leaving }
         }
-        ("normalise", _) => match found.get_str("without") {
-            Some(list) => {
-                let leaving = listed_out(alloc, list)?;
-                Job::Reduce { leaving }
-            }
-            None => Job::Normalise,
-        },
+        ("normalise", _) if found.get_str("without").is_some() => {
+            let leaving = left_out(alloc, found)?;
+            Job::Reduce { leaving }
+        }
+        ("normalise", _) => Job::Normalise,
         _ => return Ok(None),
     };
     Ok(Some(job))
@@ -276,8 +283,11 @@ fn sum_asked<'a>(alloc: Global, found: &ArgMatches<'a>) -> Result<Action<'a>, Co
     if let Some(word) = found.get_str("check") {
         return Ok(Action::CheckSums {
             list: plain_input_of(word),
-            quiet: found.get_flag("quiet"),
-            telling: telling_of(found),
+            how: SumCheck {
+                quiet: found.get_flag("quiet"),
+                most_parts: most_parts_of(found),
+                telling: telling_of(found),
+            },
         });
     }
     let is_plain = !found.get_flag("zero") && !found.get_flag("json");
@@ -305,9 +315,10 @@ fn compare_asked<'a>(alloc: Global, found: &ArgMatches<'a>) -> Result<Action<'a>
     let (Some(left), Some(right)) = (found.get_str("left"), found.get_str("right")) else {
         return Err(missing(alloc));
     };
+    let most = most_parts_of(found);
     Ok(Action::Compare(Comparison {
-        left: input_of(left),
-        right: input_of(right),
+        left: input_of(left, most),
+        right: input_of(right, most),
         leaving: left_out(alloc, found)?,
         listing: listing_of(found),
         telling: telling_of(found),

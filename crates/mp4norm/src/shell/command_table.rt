@@ -87,6 +87,7 @@ fn track_arg<'a>(alloc: Global) -> Arg<'a> {
 fn out_arg<'a>(alloc: Global) -> Arg<'a> {
     Arg::new(alloc, "out")
         .long("out")
+        .short('o')
         .value_name("NEW")
         .help(
             "The file to make, or - for standard output; it must not be there, but with --replace",
@@ -102,6 +103,24 @@ fn most_arg<'a>(alloc: Global) -> Arg<'a> {
         .help("Write nothing where the answer has more than N bytes")
         .action(ArgAction::Set)
         .value_parser(value_parser!(u64))
+}
+
+// How many files a list may name.
+fn parts_arg<'a>(alloc: Global) -> Arg<'a> {
+    Arg::new(alloc, "max-parts")
+        .long("max-parts")
+        .value_name("N")
+        .help("Take a list of at most N files; 100000 where it isn't given")
+        .action(ArgAction::Set)
+        .value_parser(value_parser!(u64))
+}
+
+// What every command takes that reads a file.
+fn with_reading<'a>(command: Command<'a>, alloc: Global) -> Result<Command<'a>, AllocError> {
+    command
+        .arg(parts_arg(alloc))?
+        .arg(flag(alloc, "explain", EXPLAIN))?
+        .arg(flag(alloc, "brief", BRIEF))
 }
 
 // A command that writes a file.
@@ -120,12 +139,11 @@ fn of_file<'a>(
     about: &'a str,
     example: &'a str,
 ) -> Result<Command<'a>, AllocError> {
-    Command::new(alloc, name)
+    let command = Command::new(alloc, name)
         .about(about)
         .after_help(example)
-        .arg(file_arg(alloc))?
-        .arg(flag(alloc, "explain", EXPLAIN))?
-        .arg(flag(alloc, "brief", BRIEF))
+        .arg(file_arg(alloc))?;
+    with_reading(command, alloc)
 }
 
 fn boxes_command<'a>(alloc: Global) -> Result<Command<'a>, AllocError> {
@@ -178,7 +196,7 @@ fn normalise_command<'a>(alloc: Global) -> Result<Command<'a>, AllocError> {
         "Writes the normal form of a file",
         "Example: mp4norm normalise movie.mp4 --out normal.mp4",
     )?;
-    with_out(command.arg(without_arg(alloc))?, alloc)
+    with_out(command.alias("normalize")?.arg(without_arg(alloc))?, alloc)
 }
 
 fn print_command<'a>(alloc: Global) -> Result<Command<'a>, AllocError> {
@@ -199,7 +217,7 @@ fn without_arg<'a>(alloc: Global) -> Arg<'a> {
         .long("without")
         .value_name("WORDS")
         .help(WITHOUT)
-        .action(ArgAction::Set)
+        .action(ArgAction::Append)
 }
 
 fn drop_arg<'a>(alloc: Global) -> Result<Arg<'a>, AllocError> {
@@ -246,15 +264,14 @@ fn list_arg<'a>(alloc: Global) -> Arg<'a> {
 }
 
 fn check_command<'a>(alloc: Global) -> Result<Command<'a>, AllocError> {
-    Command::new(alloc, "check")
+    let command = Command::new(alloc, "check")
         .about("Says of each file whether it has a normal form, a line each")
         .after_help("Example: mp4norm check *.mp4")
         .arg(files_arg(alloc)?)?
         .arg(list_arg(alloc))?
         .arg(flag(alloc, "zero", ZERO))?
-        .arg(flag(alloc, "json", JSON))?
-        .arg(flag(alloc, "explain", EXPLAIN))?
-        .arg(flag(alloc, "brief", BRIEF))
+        .arg(flag(alloc, "json", JSON))?;
+    with_reading(command, alloc)
 }
 
 fn sum_command<'a>(alloc: Global) -> Result<Command<'a>, AllocError> {
@@ -270,13 +287,12 @@ fn sum_command<'a>(alloc: Global) -> Result<Command<'a>, AllocError> {
 }
 
 fn sum_flags<'a>(command: Command<'a>, alloc: Global) -> Result<Command<'a>, AllocError> {
-    command
+    let command = command
         .arg(flag(alloc, "json", JSON))?
         .arg(flag(alloc, "no-header", NO_HEADER))?
         .arg(checked_arg(alloc))?
-        .arg(flag(alloc, "quiet", QUIET))?
-        .arg(flag(alloc, "explain", EXPLAIN))?
-        .arg(flag(alloc, "brief", BRIEF))
+        .arg(flag(alloc, "quiet", QUIET))?;
+    with_reading(command, alloc)
 }
 
 fn checked_arg<'a>(alloc: Global) -> Arg<'a> {
@@ -305,7 +321,7 @@ fn limit_arg<'a>(alloc: Global) -> Arg<'a> {
 }
 
 fn compare_command<'a>(alloc: Global) -> Result<Command<'a>, AllocError> {
-    Command::new(alloc, "compare")
+    let command = Command::new(alloc, "compare")
         .about("Says whether two files say the same, and names the first difference")
         .after_help("Example: mp4norm compare one.mp4 other.mp4 --without times,metadata")
         .arg(side_arg(alloc, "left", "A"))?
@@ -313,9 +329,8 @@ fn compare_command<'a>(alloc: Global) -> Result<Command<'a>, AllocError> {
         .arg(without_arg(alloc))?
         .arg(flag(alloc, "all", ALL))?
         .arg(limit_arg(alloc))?
-        .arg(flag(alloc, "json", JSON))?
-        .arg(flag(alloc, "explain", EXPLAIN))?
-        .arg(flag(alloc, "brief", BRIEF))
+        .arg(flag(alloc, "json", JSON))?;
+    with_reading(command, alloc)
 }
 
 fn top_command<'a>(alloc: Global) -> Result<Command<'a>, AllocError> {

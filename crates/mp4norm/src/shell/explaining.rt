@@ -8,7 +8,7 @@ use crate::shell::costs::Costs;
 use crate::shell::file_names::shown;
 use crate::text::difference_lines::{say, say_counted};
 use mp4_boxes::{Fault, FourCc, Kind, Refusal};
-use mp4_present::{FaultNumbers, fault_numbers};
+use mp4_present::{FaultNumbers, TrackInfo, fault_numbers, open_movie};
 use mp4_store::{Sink, Store};
 use std::alloc::{AllocError, Global};
 use std::sync::ledger::Ledger;
@@ -90,6 +90,30 @@ fn clause_of(kind: FourCc) -> &'static [u8] {
         }
     }
     b"4.2"
+}
+
+/// Types of boxes of other standards that stand first in files of this kind: of Apple's QuickTime, of
+/// whoever has a UUID, of MPEG-DASH.
+const FIRST_TYPES: [FourCc; 3] = [FourCc(*b"wide"), FourCc(*b"uuid"), FourCc(*b"emsg")];
+
+/// The meaning of any fault of a file that begins with no box of a type that is known.
+const NO_MP4: &str = "this does not look like an MP4 file";
+
+/// So many tracks are named.
+const MOST_TRACKS: usize = 100;
+
+// Whether a file begins with a box of a type that is known here.
+fn begins_with_box<S: Store>(store: &mut S) -> Result<bool, Refusal>
+    ensures honesty { S.is_honest store.new ≡ S.is_honest store.old }
+    ensures file { S.file store.new ≡ S.file store.old }
+{
+    let mut front = [0; 8];
+    if store.len() < 8 {
+        return Ok(false);
+    }
+    store.read_at(0, &mut front)?;
+    let kind = FourCc([front[4], front[5], front[6], front[7]]);
+    Ok(FIRST_TYPES.contains(&kind) || CLAUSES.iter().any(|row| row.0 == kind))
 }
 
 // What a fault means.
@@ -209,30 +233,80 @@ fn say_told(text: &mut Vec<u8>, numbers: FaultNumbers) -> Result<(), AllocError>
     }
 }
 
+// What is found of a fault beside the way to its box: whether the file begins like an MP4 file, and
+// numbers.
+#[derive(Clone, Copy)]
+struct Found {
+    is_mp4: bool,
+    numbers: Option<FaultNumbers>,
+}
+
+// Finds what there is.
+fn find<S: Store, L: Ledger, M: Ledger>(
+    alloc: Global,
+    store: &mut S,
+    fault: &Fault,
+    costs: &mut Costs<L, M>,
+) -> Result<Found, Refusal>
+    ensures honesty { S.is_honest store.new ≡ S.is_honest store.old }
+    ensures file { S.file store.new ≡ S.file store.old }
+{
+    let is_mp4 = begins_with_box(store)?;
+    let numbers = numbers_of(alloc, store, fault, costs)?;
+    Ok(Found { is_mp4, numbers })
+}
+
+// Adds the name of the file, where it is given.
+fn push_file(text: &mut Vec<u8>, alloc: Global, name: Option<&str>) -> Result<(), AllocError> {
+    match name {
+        Some(name) => push_line(text, b"file: ", shown(alloc, name.as_bytes())?.as_slice()),
+        None => Ok(()),
+    }
+}
+
 // The lines of an explanation, behind the file's name where that is given.
 fn explanation(
     alloc: Global,
     name: Option<&str>,
     fault: &Fault,
     way: &[u8],
-    numbers: Option<FaultNumbers>,
+    found: Found,
 ) -> Result<Vec<u8>, AllocError> {
     let mut text = Vec::new(alloc);
-    if let Some(name) = name {
-        push_line(
-            &mut text,
-            b"file: ",
-            shown(alloc, name.as_bytes())?.as_slice(),
-        )?;
-    }
+    push_file(&mut text, alloc, name)?;
     push_line(&mut text, b"way: ", way)?;
     push_line(
         &mut text,
         b"clause: ISO/IEC 14496-12, ",
         clause_of(FourCc(fault.box_type)),
     )?;
-    push_line(&mut text, b"meaning: ", meaning_of(fault).as_bytes())?;
-    if let Some(numbers) = numbers {
+    let meaning = if found.is_mp4 {
+        meaning_of(fault)
+    } else {
+        NO_MP4
+    };
+    push_line(&mut text, b"meaning: ", meaning.as_bytes())?;
+    if let Some(numbers) = found.numbers {
+        say_told(&mut text, numbers)?;
+    }
+    Ok(text)
+}
+
+// Of these lines those that say what the line of the refusal doesn't.
+fn brief_explanation(
+    alloc: Global,
+    name: Option<&str>,
+    found: Found,
+) -> Result<Vec<u8>, AllocError> {
+    let mut text = Vec::new(alloc);
+    if found.is_mp4 && found.numbers.is_none() {
+        return Ok(text);
+    }
+    push_file(&mut text, alloc, name)?;
+    if !found.is_mp4 {
+        push_line(&mut text, b"meaning: ", NO_MP4.as_bytes())?;
+    }
+    if let Some(numbers) = found.numbers {
         say_told(&mut text, numbers)?;
     }
     Ok(text)
@@ -253,8 +327,58 @@ pub(crate) fn explain<S: Store, K: Sink, L: Ledger, M: Ledger>(
     ensures file { S.file store.new ≡ S.file store.old }
 {
     let way = whole_way(alloc, store, fault)?;
-    let numbers = numbers_of(alloc, store, fault, costs)?;
-    let text = explanation(alloc, name, fault, way.as_slice(), numbers)?;
+    let found = find(alloc, store, fault, costs)?;
+    let text = explanation(alloc, name, fault, way.as_slice(), found)?;
     sink.put(text.as_slice())?;
+    Ok(())
+}
+
+/// Puts of these lines only the numbers, and the meaning where the file doesn't begin like an MP4
+/// file; nothing where there is neither.
+pub(crate) fn explain_briefly<S: Store, K: Sink, L: Ledger, M: Ledger>(
+    alloc: Global,
+    name: Option<&str>,
+    fault: &Fault,
+    store: &mut S,
+    sink: &mut K,
+    costs: &mut Costs<L, M>,
+) -> Result<(), Refusal>
+    ensures honesty { S.is_honest store.new ≡ S.is_honest store.old }
+    ensures file { S.file store.new ≡ S.file store.old }
+{
+    let found = find(alloc, store, fault, costs)?;
+    let text = brief_explanation(alloc, name, found)?;
+    if !text.is_empty() {
+        sink.put(text.as_slice())?;
+    }
+    Ok(())
+}
+
+// The line that names these tracks by their IDs.
+fn tracks_line(alloc: Global, tracks: &[TrackInfo]) -> Result<Vec<u8>, AllocError> {
+    let mut text = Vec::new(alloc);
+    say(&mut text, "tracks:")?;
+    for track in tracks.iter().take(MOST_TRACKS) {
+        say_counted(&mut text, " ", u64::from(track.id), "")?;
+    }
+    if tracks.len() > MOST_TRACKS {
+        say(&mut text, " ..")?;
+    }
+    text.push(b'\n')?;
+    Ok(text)
+}
+
+/// Puts a line that names the tracks of a file by their IDs, the first hundred of them.
+pub(crate) fn name_tracks<S: Store, K: Sink, L: Ledger, M: Ledger>(
+    alloc: Global,
+    store: &mut S,
+    sink: &mut K,
+    costs: &mut Costs<L, M>,
+) -> Result<(), Refusal>
+    ensures honesty { S.is_honest store.new ≡ S.is_honest store.old }
+    ensures file { S.file store.new ≡ S.file store.old }
+{
+    let movie = open_movie(alloc, store, &mut costs.steps, &mut costs.looks)?;
+    sink.put(tracks_line(alloc, movie.tracks())?.as_slice())?;
     Ok(())
 }

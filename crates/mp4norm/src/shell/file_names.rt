@@ -1,10 +1,11 @@
 //! Names of files: as the system has them, as text, and as they are shown.
 //!
-//! A name is any bytes but 0, a word of this program is text. So bytes of a word that are no text
-//! are kept in it as a zero byte and two hexadecimal digits each. No file can be opened by such a
-//! word.
+//! A name is any bytes but 0, a word of this program is text. So bytes of a word that are no text,
+//! and zero bytes of a list, are kept in it as a zero byte and two hexadecimal digits each. No file
+//! can be opened by such a word.
 use crate::text::digits::hex_digit;
 use std::alloc::{AllocError, Global};
+use unicode::properties::GeneralCategory;
 
 // Adds two hexadecimal digits.
 fn push_hex(text: &mut Vec<u8>, byte: u8) -> Result<(), AllocError> {
@@ -13,15 +14,25 @@ fn push_hex(text: &mut Vec<u8>, byte: u8) -> Result<(), AllocError> {
     Ok(())
 }
 
+// Adds a byte that is no text to a word.
+fn push_byte(word: &mut String, byte: u8) -> Result<(), AllocError> {
+    word.push('\0')?;
+    word.push(char::from(hex_digit(byte >> 4)))?;
+    word.push(char::from(hex_digit(byte & 15)))
+}
+
 /// The word of some bytes.
 pub(crate) fn word_of(alloc: Global, bytes: &[u8]) -> Result<String, AllocError> {
     let mut word = String::new(alloc);
     for chunk in bytes.utf8_chunks() {
-        word.push_str(chunk.valid())?;
+        for character in chunk.valid().chars() {
+            match character {
+                '\0' => push_byte(&mut word, 0)?,
+                _ => word.push(character)?,
+            }
+        }
         for byte in chunk.invalid() {
-            word.push('\0')?;
-            word.push(char::from(hex_digit(byte >> 4)))?;
-            word.push(char::from(hex_digit(byte & 15)))?;
+            push_byte(&mut word, *byte)?;
         }
     }
     Ok(word)
@@ -63,14 +74,27 @@ fn push_escaped(text: &mut Vec<u8>, byte: u8) -> Result<(), AllocError> {
     push_hex(text, byte)
 }
 
-// Adds text, its control characters and backslashes escaped.
+// Whether a character steers a terminal, or how the text around it is shown: the controls, the
+// characters of format (as those that turn the direction of writing), and those that end a line or
+// a paragraph (Unicode, general categories Cc, Cf, Zl and Zp).
+fn steers(character: char) -> bool {
+    character.is_control()
+        || matches!(
+            GeneralCategory::for_char(character),
+            GeneralCategory::Format
+                | GeneralCategory::LineSeparator
+                | GeneralCategory::ParagraphSeparator
+        )
+}
+
+// Adds text, backslashes and the characters that steer how it is shown escaped.
 fn push_text(text: &mut Vec<u8>, valid: &str) -> Result<(), AllocError> {
     for character in valid.chars() {
         let mut room = [0; 4];
         let bytes = character.encode_utf8(&mut room).as_bytes();
         if character == '\\' {
             text.extend_from_slice(b"\\\\")?;
-        } else if character.is_control() {
+        } else if steers(character) {
             for byte in bytes {
                 push_escaped(text, *byte)?;
             }
@@ -81,7 +105,7 @@ fn push_text(text: &mut Vec<u8>, valid: &str) -> Result<(), AllocError> {
     Ok(())
 }
 
-/// Adds a name as a person is shown it: on one line, without a byte that steers a terminal. The
+/// Adds a name as a person is shown it: on one line, without a character that steers a terminal. The
 /// bytes of the name are those of a word, or of a list of names.
 pub(crate) fn push_shown(text: &mut Vec<u8>, name: &[u8]) -> Result<(), AllocError> {
     let alloc = *text.allocator();

@@ -1,12 +1,11 @@
 //! The files that a list names, opened as one.
 use crate::shell::file_change::State;
 use crate::shell::file_names::{shown, word_of};
-use crate::shell::input::read_input;
 use crate::shell::lists::{ListFault, listed_names};
-use crate::shell::named_files::{ListStore, NamedFile};
+use crate::shell::named_files::{ListStore, NamedFile, room_for};
 use crate::shell::part_checks::check_parts;
-use crate::shell::reports::{Noted, Report};
-use crate::shell::sources::MOST_INPUT;
+use crate::shell::reports::Report;
+use crate::shell::sources::read_whole;
 use mp4_boxes::Refusal;
 use mp4_store::BufferedStore;
 use std::alloc::{AllocError, Global};
@@ -35,13 +34,11 @@ pub(crate) struct ListSource<'a> {
 // Reads a list whole.
 fn read_list(rt: &HostRuntime, name: &str, report: &mut Report) -> Result<Vec<u8>, Refusal> {
     if name == "-" {
-        let out = &mut rt.reader();
-        return read_input(rt.alloc(), &mut Noted { out, report }, MOST_INPUT);
+        return read_whole(rt.alloc(), &mut rt.reader(), report);
     }
     report.concerns(rt, name)?;
     let mut file = report.outcome(File::open(rt, name), Refusal::StoreFailed)?;
-    let out = &mut file;
-    read_input(rt.alloc(), &mut Noted { out, report }, MOST_INPUT)
+    read_whole(rt.alloc(), &mut file, report)
 }
 
 /// Says which line of a list is wrong, and in which way.
@@ -80,16 +77,17 @@ fn look(rt: &HostRuntime, path: &str) -> io::Result<State> {
     Ok(State::of(&metadata))
 }
 
-/// Reads a list, and looks at all its files. A line of the list that can't be taken is told of on
-/// standard error.
+/// Reads a list of so many files at most, and looks at all of them. A line of the list that can't be
+/// taken is told of on standard error.
 pub(crate) fn open_list<'a>(
     rt: &'a HostRuntime,
     list: &str,
+    most: u64,
     report: &mut Report,
 ) -> Result<ListSource<'a>, Refusal> {
     let alloc = rt.alloc();
     let text = read_list(rt, list, report)?;
-    let names = match listed_names(alloc, text.as_slice())? {
+    let names = match listed_names(alloc, text.as_slice(), most)? {
         Ok(names) => names,
         Err(fault) => {
             tell_fault(rt, list, fault)?;
@@ -104,7 +102,7 @@ pub(crate) fn open_list<'a>(
         ends: Vec::new(alloc),
     };
     let mut files = Vec::new(alloc);
-    let mut end = 0u64;
+    let (mut end, mut held) = (0u64, 0u64);
     for name in &listed.names {
         let path = path_of(alloc, folder, name.as_slice())?;
         let looked = look(rt, path.as_str());
@@ -115,7 +113,9 @@ pub(crate) fn open_list<'a>(
         end = end.saturating_add(state.len);
         listed.ends.push(end)?;
         listed.states.push(state)?;
-        files.push(NamedFile::new(rt, path.clone()?, state))?;
+        let room = room_for(alloc, state.len, held)?;
+        held = held.saturating_add(room.len() as u64);
+        files.push(NamedFile::new(rt, path.clone()?, state, room))?;
         listed.paths.push(path)?;
     }
     match ListStore::new(alloc, files)? {

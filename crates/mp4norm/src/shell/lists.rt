@@ -2,7 +2,7 @@
 ghost use Rattle.std.specs.Prelude.{◌≡◌, ◌<◌, length};
 ghost use Rattle.mp4norm.specs.format.Lists.{FirstLine, IsLineLength, without_return, is_name};
 
-use crate::shell::playlists::playlist_names;
+use crate::shell::playlists::{is_playlist, playlist_names};
 use std::alloc::{AllocError, Global};
 
 /// Why a list can't be taken: the number of its line, and what is wrong with that.
@@ -12,10 +12,18 @@ pub struct ListFault {
     pub what: &'static str,
 }
 
-/// How a playlist begins, and a list that isn't UTF-8 without a mark.
-const PLAYLIST: &[u8] = b"#EXTM3U";
+/// So many files of a list are taken where no other number is given.
+pub(crate) const MOST_PARTS: u64 = 100_000;
 
+/// What is wrong with the line behind those that are taken.
+pub(crate) const TOO_MANY: &str =
+    "more files than --max-parts allows (100000 where it isn't given)";
+
+/// The bytes of a byte order mark in UTF-8.
 const MARK: &[u8] = b"\xef\xbb\xbf";
+
+/// How XML begins, and so a manifest of DASH.
+const XML: [&[u8]; 2] = [b"<?xml", b"<MPD"];
 
 // How long the first line of a list is, without its line feed.
 fn line_len(list: &[u8]) -> usize
@@ -64,47 +72,62 @@ fn is_name(line: &[u8]) -> bool
     }
 }
 
-/// The names of a list of names.
-pub fn text_names(alloc: Global, list: &[u8]) -> Result<Vec<&[u8]>, AllocError> {
-    let mut names = Vec::new(alloc);
+// What is wrong with a list as a whole, if it is neither a list of names nor a playlist.
+fn odd_of_list(list: &[u8]) -> Option<&'static str> {
+    if list.starts_with(MARK) {
+        return Some("it begins with a byte order mark");
+    }
+    XML.iter().any(|front| list.starts_with(front)).then_some(
+        "it is XML; a list has a name in each line, or is an HLS media playlist",
+    )
+}
+
+// What is wrong with a name, where there are so many before it.
+fn odd_of_name(name: &[u8], count: u64, most: u64) -> Option<&'static str> {
+    if name.contains(&0) {
+        return Some("the name has a zero byte");
+    }
+    (count >= most).then_some(TOO_MANY)
+}
+
+/// The names of a list of names, of which there may be so many.
+pub fn text_names(
+    alloc: Global,
+    list: &[u8],
+    most: u64,
+) -> Result<Result<Vec<Vec<u8>>, ListFault>, AllocError> {
+    let mut names: Vec<Vec<u8>> = Vec::new(alloc);
     let mut left = list;
+    let mut line = 0u64;
     while !left.is_empty() {
-        let (line, rest) = first_line(left);
-        let name = without_return(line);
+        let (own, rest) = first_line(left);
+        line = line.saturating_add(1);
+        let name = without_return(own);
         if is_name(name) {
-            names.push(name)?;
+            if let Some(what) = odd_of_name(name, names.len() as u64, most) {
+                return Ok(Err(ListFault { line, what }));
+            }
+            let mut bytes = Vec::new(alloc);
+            bytes.extend_from_slice(name)?;
+            names.push(bytes)?;
         }
         left = rest;
     }
-    Ok(names)
-}
-
-// The same names, each by itself.
-fn owned(alloc: Global, names: &[&[u8]]) -> Result<Vec<Vec<u8>>, AllocError> {
-    let mut all = Vec::new(alloc);
-    for name in names {
-        let mut bytes = Vec::new(alloc);
-        bytes.extend_from_slice(name)?;
-        all.push(bytes)?;
-    }
-    Ok(all)
+    Ok(Ok(names))
 }
 
 /// The names of the files of a list, in their order: of a playlist those of its map and of its
-/// segments, else the lines that are neither empty nor begin with `#`.
+/// segments, else the lines that are neither empty nor begin with `#`. There may be so many.
 pub(crate) fn listed_names(
     alloc: Global,
     list: &[u8],
+    most: u64,
 ) -> Result<Result<Vec<Vec<u8>>, ListFault>, AllocError> {
-    if list.starts_with(MARK) {
-        return Ok(Err(ListFault {
-            line: 1,
-            what: "it begins with a byte order mark",
-        }));
+    if let Some(what) = odd_of_list(list) {
+        return Ok(Err(ListFault { line: 1, what }));
     }
-    if list.starts_with(PLAYLIST) {
-        return playlist_names(alloc, list);
+    if is_playlist(list) {
+        return playlist_names(alloc, list, most);
     }
-    let names = text_names(alloc, list)?;
-    Ok(Ok(owned(alloc, names.as_slice())?))
+    text_names(alloc, list, most)
 }

@@ -1,6 +1,7 @@
 //! From the words of a command line to files, and what is said beside an answer.
 
 pub mod action;
+pub mod attributes;
 pub mod check_files;
 pub mod command_line;
 pub mod command_table;
@@ -19,6 +20,7 @@ pub mod part_checks;
 pub mod part_files;
 pub mod playlists;
 pub mod progress;
+pub mod references;
 pub mod replacing;
 pub mod reports;
 pub mod run_command;

@@ -10,22 +10,37 @@ use std::os::unix::fs::FileExt;
 /// At most so many files of a list are open.
 const MOST_OPEN: usize = 16;
 
+/// A file of at most so many bytes is read whole where there is room for it.
+const SMALL: u64 = 65_536;
+
+/// There is room for so many bytes of small files.
+const ROOM: u64 = 1 << 24;
+
 /// A file by its name, and how it was when it was first looked at. While it isn't held open, it is
-/// opened for each read. What it gives isn't known.
+/// opened for each read; one that has room is opened once, and then read from there. What it gives
+/// isn't known.
 #[derive(Drop)]
 pub(crate) struct NamedFile<'a> {
     rt: &'a HostRuntime,
     name: String,
     state: State,
     held: Option<File>,
+    // Room for all of its bytes, or none; and whether they are there.
+    room: Vec<u8>,
+    is_read: bool,
     failed: u64,
     // Whether the last read failed.
     fails: bool,
 }
 
 impl<'a> NamedFile<'a> {
-    /// The file of this name, which was so when it was looked at.
-    pub(crate) fn new(rt: &'a HostRuntime, name: String, state: State) -> NamedFile<'a>
+    /// The file of this name, which was so when it was looked at, with this room.
+    pub(crate) fn new(
+        rt: &'a HostRuntime,
+        name: String,
+        state: State,
+        room: Vec<u8>,
+    ) -> NamedFile<'a>
         ensures { result.state ≡ state }
     {
         NamedFile {
@@ -33,6 +48,8 @@ impl<'a> NamedFile<'a> {
             name,
             state,
             held: None,
+            room,
+            is_read: false,
             failed: 0,
             fails: false,
         }
@@ -49,15 +66,66 @@ impl<'a> NamedFile<'a> {
         }
     }
 
-    // Reads as `read_at` does, and counts no failure.
-    fn read(&self, at: u64, out: &mut [u8]) -> Result<(), StoreFailed>
-        ensures { length out.new ≡ length out.old }
+    // Reads all bytes of a file that has room for them, the first time.
+    fn fill(&mut self) -> Result<(), StoreFailed>
+        ensures state { self.new.state ≡ self.old.state }
+        ensures count { self.new.failed ≡ self.old.failed }
     {
+        if self.is_read {
+            return Ok(());
+        }
+        let file = self.open()?;
+        if file.read_exact_at(self.room.as_mut_slice(), 0).is_err() {
+            return Err(StoreFailed);
+        }
+        self.is_read = true;
+        Ok(())
+    }
+
+    // Reads as `read_at` does, and counts no failure.
+    fn read(&mut self, at: u64, out: &mut [u8]) -> Result<(), StoreFailed>
+        ensures bytes { length out.new ≡ length out.old }
+        ensures state { self.new.state ≡ self.old.state }
+        ensures count { self.new.failed ≡ self.old.failed }
+    {
+        if self.is_small() {
+            self.fill()?;
+            return copy_from(self.room.as_slice(), at, out);
+        }
         let read = match &self.held {
             Some(file) => file.read_exact_at(out, at),
             None => self.open()?.read_exact_at(out, at),
         };
         read.map_err(|_| StoreFailed)
+    }
+
+    // Whether the file is read whole.
+    fn is_small(&self) -> bool {
+        !self.room.is_empty()
+    }
+}
+
+/// The room for a file of so many bytes, where so many of files before it are held: for all of them
+/// if they are few, else none.
+pub(crate) fn room_for(alloc: Global, len: u64, held: u64) -> Result<Vec<u8>, AllocError> {
+    if len > SMALL || held > ROOM - len {
+        return Ok(Vec::new(alloc));
+    }
+    vec![in alloc; 0u8; len as usize]
+}
+
+// Copies the bytes from a place on.
+fn copy_from(bytes: &[u8], at: u64, out: &mut [u8]) -> Result<(), StoreFailed>
+    ensures { length out.new ≡ length out.old }
+{
+    let len = out.len();
+    let from = bytes.get(at as usize..).and_then(|rest| rest.get(..len));
+    match from {
+        Some(from) => {
+            out.copy_from_slice(from);
+            Ok(())
+        }
+        None => Err(StoreFailed),
     }
 }
 
@@ -82,8 +150,8 @@ impl<'a> Store for NamedFile<'a> {
     }
 }
 
-/// The files of a list, one after the other. Of these at most 16 are held open, the one used
-/// longest ago is closed. What they give isn't known.
+/// The files of a list, one after the other. Small ones are read whole where there is room; of the
+/// others at most 16 are held open, the one used longest ago is closed. What they give isn't known.
 #[derive(Drop)]
 pub(crate) struct ListStore<'a> {
     alloc: Global,
@@ -129,7 +197,7 @@ impl<'a> ListStore<'a> {
             let file = &self.files.parts()[part];
             (file.rt, file.state)
         };
-        let hollow = NamedFile::new(rt, String::new(self.alloc), state);
+        let hollow = NamedFile::new(rt, String::new(self.alloc), state, Vec::new(self.alloc));
         let mut file = self.files.replace_part(part, hollow);
         file.state = state;
         file.held = if is_held { file.open().ok() } else { None };
@@ -185,6 +253,14 @@ impl<'a> ListStore<'a> {
         self.files.read_at(at, out)
     }
 
+    // Whether a file is read whole.
+    fn is_small(&self, part: usize) -> bool {
+        self.files
+            .parts()
+            .get(part)
+            .is_some_and(|file| file.is_small())
+    }
+
     // The files in which some bytes lie are used, but for those that would close the first.
     fn touch_all(&mut self, at: u64, len: u64)
         ensures size { self.new.size ≡ self.old.size }
@@ -192,11 +268,18 @@ impl<'a> ListStore<'a> {
     {
         let end = at.saturating_add(len);
         let mut next = at;
-        for _file in 0..MOST_OPEN {
+        let mut open = 0;
+        for _file in 0..self.files.parts().len() {
             let Some(place) = self.files.place(next) else {
                 return;
             };
-            self.touch(place.part);
+            if !self.is_small(place.part) {
+                if open == MOST_OPEN {
+                    return;
+                }
+                self.touch(place.part);
+                open += 1;
+            }
             let Some(file) = self.files.parts().get(place.part) else {
                 return;
             };

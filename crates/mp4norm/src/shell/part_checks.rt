@@ -7,7 +7,7 @@ use mp4_boxes::{Refusal, Rule, box_header};
 use mp4_store::Store;
 
 // Where the box at the place `at` ends, in a part that ends at `end`. A size of 0, which means to
-// the end, is allowed in the last part alone.
+// the end, is allowed only in the last part that has bytes.
 fn end_of_box<S: Store>(store: &mut S, at: u64, end: u64, is_last: bool) -> Result<u64, Refusal>
     requires some { at < end }
     requires within { end ≤ length (S.file store.old) }
@@ -38,14 +38,15 @@ fn check_part<S: Store>(store: &mut S, from: u64, end: u64, is_last: bool) -> Re
 }
 
 /// Goes over the headers of the file's own boxes, part by part; the parts end at these places. A
-/// box that ends behind its part is at fault, and so is one of size 0 in any part but the last.
+/// box that ends behind its part is at fault, and so is one of size 0 where bytes follow the part.
 pub(crate) fn check_parts<S: Store>(store: &mut S, ends: &[u64]) -> Result<(), Refusal>
     ensures store { OnlyReads S.Store store.old store.new result }
 {
+    let whole = ends.last().copied().unwrap_or(0);
     let mut from = 0;
     for part in 0..ends.len() {
         let end = ends[part];
-        check_part(store, from, end, part == ends.len() - 1)?;
+        check_part(store, from, end, end == whole)?;
         from = end;
     }
     Ok(())

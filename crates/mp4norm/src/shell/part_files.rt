@@ -78,8 +78,22 @@ fn is_gone(rt: &HostRuntime, process: u32) -> bool {
     }
 }
 
-// Names the files that interrupted runs left beside one of this name.
-fn tell_leftovers(rt: &HostRuntime, name: &str) -> io::Result<()> {
+// Takes away a file that an interrupted run left, if no process holds it: one that runs where its
+// number is another, as in a container, has it locked.
+fn take_leftover(rt: &HostRuntime, name: &str) -> bool {
+    match fs::symlink_metadata(rt, name) {
+        Ok(metadata) if metadata.is_file() => {}
+        _ => return false,
+    }
+    let Ok(file) = File::open(rt, name) else {
+        return false;
+    };
+    file.try_lock().is_ok() && fs::remove_file(rt, name).is_ok()
+}
+
+// Takes away the files that interrupted runs left beside one of this name, and says so where that
+// is asked for.
+fn take_leftovers(rt: &HostRuntime, name: &str, explains: bool) -> io::Result<()> {
     let (folder, beside) = folder_of(name);
     for entry in fs::read_dir(rt, folder)? {
         let Ok(entry) = entry else {
@@ -88,11 +102,16 @@ fn tell_leftovers(rt: &HostRuntime, name: &str) -> io::Result<()> {
         let found = entry.file_name();
         if process_in(found, beside).is_some_and(|process| is_gone(rt, process)) {
             let front = name.strip_suffix(beside).unwrap_or("");
-            tell_name(
-                rt,
-                b"leftover: ",
-                format!(in rt.alloc(); "{front}{found}")?.as_str(),
-            );
+            let left = format!(in rt.alloc(); "{front}{found}")?;
+            let is_taken = take_leftover(rt, left.as_str());
+            if explains {
+                let label: &[u8] = if is_taken {
+                    b"removed: "
+                } else {
+                    b"leftover: "
+                };
+                tell_name(rt, label, left.as_str());
+            }
         }
     }
     Ok(())
@@ -108,20 +127,22 @@ fn create(rt: &HostRuntime, name: &str) -> io::Result<File> {
 }
 
 impl Part {
-    /// Makes a file beside another one. What interrupted runs left there stays.
+    /// Makes a file beside another one, and locks it. What interrupted runs left there is taken
+    /// away.
     pub(crate) fn new(
         rt: &HostRuntime,
         beside: &str,
         report: &mut Report,
     ) -> Result<Part, Refusal> {
-        if report.explains() {
-            let _ = tell_leftovers(rt, beside);
-        }
+        let _ = take_leftovers(rt, beside, report.explains());
         let front = name_of_process(rt.alloc(), beside, process::id(rt.process()))?;
         for number in 0..MOST_NAMES {
             let name = part_name(rt.alloc(), front.as_str(), number)?;
             match create(rt, name.as_str()) {
-                Ok(file) => return Ok(Part { file, name }),
+                Ok(file) => {
+                    let _ = file.try_lock();
+                    return Ok(Part { file, name });
+                }
                 Err(error) if error.kind() == ErrorKind::AlreadyExists => {}
                 Err(error) => return report.outcome(Err(error), Refusal::WriteFailed),
             }

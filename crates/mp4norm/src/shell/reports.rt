@@ -124,6 +124,11 @@ impl<'a> Report<'a> {
         }
     }
 
+    /// Whether a cause is known.
+    pub(crate) fn has_cause(&self) -> bool {
+        self.cause.is_some()
+    }
+
     /// A failure with a cause of its own.
     pub(crate) fn failure(&mut self, cause: &'static str, failed: Refusal) -> Refusal {
         self.cause = Some(Cause::Said(cause));
@@ -146,10 +151,9 @@ impl<'a> Report<'a> {
         self.telling.explain
     }
 
-    // Whether the cause of a failure is said: where more words are asked for, and on a terminal,
-    // unless few are.
+    // Whether the cause of a failure is said.
     fn tells_causes(&self, rt: &HostRuntime) -> bool {
-        self.telling.explain || (!self.telling.brief && rt.stderr().is_terminal())
+        tells_more(rt, self.telling)
     }
 
     /// Says which file can't be read, and why.
@@ -189,6 +193,12 @@ impl<'a> Report<'a> {
             None => tell_name(rt, b"cause: ", else_cause),
         }
     }
+}
+
+/// Whether more is said than a line: where that is asked for, and on a terminal, unless few words
+/// are.
+pub(crate) fn tells_more(rt: &HostRuntime, telling: Telling) -> bool {
+    telling.explain || (!telling.brief && rt.stderr().is_terminal())
 }
 
 // Says how many bytes an answer may have.

@@ -4,12 +4,12 @@ use crate::commands::box_names::Name;
 use crate::commands::strip::count_named;
 use crate::shell::action::{Job, Order, Target, Telling};
 use crate::shell::costs::Costs;
-use crate::shell::explaining::explain;
+use crate::shell::explaining::{explain, explain_briefly, name_tracks};
 use crate::shell::output::{Out, make, write};
 use crate::shell::replacing::replace;
-use crate::shell::reports::Report;
+use crate::shell::reports::{Report, tells_more};
 use crate::shell::sources::{Source, open};
-use crate::text::strip_lines::{count_lines, find_told, refusal_of, warnings};
+use crate::text::strip_lines::{count_lines, find_told, losses, refusal_of, warnings};
 use mp4_boxes::Refusal;
 use mp4_store::{IoSink, Sink};
 use std::io::Write;
@@ -74,17 +74,17 @@ fn strip_and_tell<'a, L: Ledger, M: Ledger>(
     let counts = source.settled(counts)?;
     let found = find_told(alloc, source, names);
     let found = source.settled(found)?;
-    let warnings = warnings(alloc, names, &found)?;
     if !order.lossy
         && let Some(refusal) = refusal_of(&found)
     {
         let mut errors = rt.stderr();
-        let _ = errors.write_all(warnings.as_slice());
+        let _ = errors.write_all(losses(alloc, &found)?.as_slice());
         if order.telling.explain {
             let _ = errors.write_all(LOSSY);
         }
         return Err(refusal);
     }
+    let warnings = warnings(alloc, names, &found)?;
     let lines = count_lines(alloc, names, counts.as_slice(), &found)?;
     let job = Job::Strip { names };
     write_to(rt, job, source, order, costs, report)?;
@@ -113,7 +113,7 @@ fn open_and_answer<'a, L: Ledger, M: Ledger>(
     };
     report.end();
     if let Err(refusal) = &answer {
-        explain_fault(rt, None, refusal, order.telling, &mut source, costs);
+        explain_refusal(rt, None, refusal, order.telling, &mut source, costs);
         if matches!(refusal, Refusal::StoreFailed) {
             report.concerns_part(rt, &source)?;
         }
@@ -121,9 +121,10 @@ fn open_and_answer<'a, L: Ledger, M: Ledger>(
     answer
 }
 
-/// Explains a fault on standard error, where that is asked for, behind the file's name if it is
-/// given.
-pub(crate) fn explain_fault<L: Ledger, M: Ledger>(
+/// Explains on standard error why a file is refused, or which tracks there are where one is asked
+/// for that isn't there, behind the file's name if it is given: in full where that is asked for; on
+/// a terminal, unless few words are, what the line of the refusal lacks.
+pub(crate) fn explain_refusal<L: Ledger, M: Ledger>(
     rt: &HostRuntime,
     name: Option<&str>,
     refusal: &Refusal,
@@ -131,17 +132,24 @@ pub(crate) fn explain_fault<L: Ledger, M: Ledger>(
     source: &mut Source,
     costs: &mut Costs<L, M>,
 ) {
-    let Refusal::Fault(fault) = refusal else {
+    if !tells_more(rt, telling) {
         return;
-    };
-    if telling.explain {
-        let mut errors = IoSink::new(rt.stderr());
-        let part = source.part_text(rt.alloc(), fault.offset);
-        let _ = explain(rt.alloc(), name, fault, source, &mut errors, costs);
-        if let Ok(Some(part)) = part {
-            let _ = errors.put(part.as_slice());
-        }
     }
+    let alloc = rt.alloc();
+    let mut errors = IoSink::new(rt.stderr());
+    let _ = match refusal {
+        Refusal::Fault(fault) if telling.explain => {
+            let part = source.part_text(alloc, fault.offset);
+            let said = explain(alloc, name, fault, source, &mut errors, costs);
+            if let Ok(Some(part)) = part {
+                let _ = errors.put(part.as_slice());
+            }
+            said
+        }
+        Refusal::Fault(fault) => explain_briefly(alloc, name, fault, source, &mut errors, costs),
+        Refusal::NoSuchTrack => name_tracks(alloc, source, &mut errors, costs),
+        _ => Ok(()),
+    };
 }
 
 /// Does a job from what is read to where its answer goes. What is wrong is explained where that is

@@ -4,7 +4,7 @@ use crate::shell::action::{Comparison, Input, Telling};
 use crate::shell::costs::Costs;
 use crate::shell::file_names::push_shown;
 use crate::shell::reports::{Noted, Report};
-use crate::shell::run_command::explain_fault;
+use crate::shell::run_command::explain_refusal;
 use crate::shell::sources::{Source, is_of_file, open};
 use crate::text::fault_text::{fault_line, status};
 use mp4_boxes::Refusal;
@@ -120,10 +120,10 @@ fn answer<L: Ledger, M: Ledger>(
         tell_cause(rt, asked, failure, &first, &second, &report);
         if matches!(failure.side, Side::First) {
             let name = Some(left.name());
-            explain_fault(rt, name, refusal, telling, &mut first, costs);
+            explain_refusal(rt, name, refusal, telling, &mut first, costs);
         } else {
             let name = Some(right.name());
-            explain_fault(rt, name, refusal, telling, &mut second, costs);
+            explain_refusal(rt, name, refusal, telling, &mut second, costs);
         }
     }
     answer

@@ -12,12 +12,15 @@ use mp4_boxes::Refusal;
 use mp4_store::{BufferedStore, FileStore, MemStore, Store, StoreFailed};
 use std::alloc::{AllocError, Global};
 use std::fs::File;
-use std::io::ErrorKind;
+use std::io::{ErrorKind, Read};
 use std::os::unix::fs::FileTypeExt;
 use std::{fs, io};
 
-/// The most bytes that are read of standard input.
-pub(crate) const MOST_INPUT: usize = 1 << 30;
+/// The most bytes that are read of standard input, or of a list.
+const MOST_INPUT: usize = 1 << 30;
+
+/// The cause where there are more.
+const TOO_LONG_INPUT: &str = "it has more than 1073741824 bytes, the most that are held in memory";
 
 /// What is read: a file, of which nothing is known, or the bytes of standard input. As a store it
 /// is honest where it is standard input: all reads are of the bytes that were read.
@@ -46,6 +49,21 @@ fn open_file<'a>(rt: &'a HostRuntime, name: &str) -> io::Result<Source<'a>> {
     Ok(Source::File(store, watched))
 }
 
+/// Reads all that a reader gives, and keeps the cause where that fails.
+pub(crate) fn read_whole<R: Read>(
+    alloc: Global,
+    out: &mut R,
+    report: &mut Report,
+) -> Result<Vec<u8>, Refusal> {
+    let answer = read_input(alloc, &mut Noted { out, report }, MOST_INPUT);
+    match answer {
+        Err(Refusal::StoreFailed) if !report.has_cause() => {
+            Err(report.failure(TOO_LONG_INPUT, Refusal::StoreFailed))
+        }
+        answer => answer,
+    }
+}
+
 /// Opens what is to be read. Standard input is read to its end.
 pub(crate) fn open<'a>(
     rt: &'a HostRuntime,
@@ -55,14 +73,13 @@ pub(crate) fn open<'a>(
     match input {
         Input::Standard => {
             let mut reader = rt.reader();
-            let out = &mut reader;
-            let bytes = read_input(rt.alloc(), &mut Noted { out, report }, MOST_INPUT)?;
+            let bytes = read_whole(rt.alloc(), &mut reader, report)?;
             Ok(Source::Input(bytes))
         }
         Input::File { name } => report.outcome(open_file(rt, name), Refusal::StoreFailed),
-        Input::List { word } => {
+        Input::List { word, most } => {
             let list = word.strip_prefix('@').unwrap_or(word);
-            Ok(Source::List(open_list(rt, list, report)?))
+            Ok(Source::List(open_list(rt, list, most, report)?))
         }
     }
 }

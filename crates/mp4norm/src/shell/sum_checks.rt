@@ -1,7 +1,8 @@
 //! Lists of sums: whether each file that is named has the sum that stands there.
 use crate::commands::hash_sink::DIGEST;
-use crate::shell::action::{Finding, Input, Syntax, Telling, VerdictStyle};
+use crate::shell::action::{Finding, Input, SumCheck, Syntax, VerdictStyle};
 use crate::shell::check_files::{Found, Manner, answer_of, read_list};
+use crate::shell::command_line::input_of;
 use crate::shell::costs::Costs;
 use crate::shell::file_names::word_of;
 use crate::shell::list_sources::tell_fault;
@@ -53,18 +54,15 @@ fn files_of(alloc: Global, list: &[u8]) -> Result<Result<Vec<ListedFile>, ListFa
     Ok(Ok(files))
 }
 
-// Sums a file, and explains why it has no sum where that is asked for.
+// Sums a file, or those of a list, and explains why there is no sum where that is asked for.
 fn sum_of<L: Ledger, M: Ledger>(
     rt: &HostRuntime,
     file: &ListedFile,
-    telling: Telling,
+    how: SumCheck,
     costs: &mut Costs<L, M>,
 ) -> Found {
     let word = word_of(rt.alloc(), file.name.as_slice())?;
-    let input = match word.as_str() {
-        "-" => Input::Standard,
-        name => Input::File { name },
-    };
+    let input = input_of(word.as_str(), how.most_parts);
     let finding = Finding::Sum {
         leaving: file.leaving,
         header: false,
@@ -73,7 +71,7 @@ fn sum_of<L: Ledger, M: Ledger>(
         syntax: Syntax::Text,
         end: b'\n',
     };
-    let manner = Manner::of(&[], Some(input), finding, style, telling);
+    let manner = Manner::of(&[], Some(input), finding, style, how.telling);
     answer_of(rt, input, manner, costs)
 }
 
@@ -114,8 +112,7 @@ fn line_of(
 fn check_files<L: Ledger, M: Ledger>(
     rt: &HostRuntime,
     files: &[ListedFile],
-    is_quiet: bool,
-    telling: Telling,
+    how: SumCheck,
     report: &mut Report,
     costs: &mut Costs<L, M>,
 ) -> Result<u8, Refusal> {
@@ -123,12 +120,12 @@ fn check_files<L: Ledger, M: Ledger>(
     let mut sink = IoSink::new(Noted { out, report });
     let (mut worst, mut differ) = (0, 0);
     for file in files {
-        let found = sum_of(rt, file, telling, costs);
-        let line = line_of(rt.alloc(), file, &found, is_quiet)?;
+        let found = sum_of(rt, file, how, costs);
+        let line = line_of(rt.alloc(), file, &found, how.quiet)?;
         if !line.is_empty() {
             sink.put(line.as_slice())?;
         }
-        match verdict_on(file, &found, is_quiet) {
+        match verdict_on(file, &found, how.quiet) {
             (_, DIFFER) => differ = DIFFER,
             (_, status) => worst = status.max(worst),
         }
@@ -141,11 +138,10 @@ fn check_files<L: Ledger, M: Ledger>(
 pub(crate) fn check_sums<L: Ledger, M: Ledger>(
     rt: &HostRuntime,
     list: Input,
-    is_quiet: bool,
-    telling: Telling,
+    how: SumCheck,
     costs: &mut Costs<L, M>,
 ) -> Result<u8, Refusal> {
-    let mut report = Report::new(telling);
+    let mut report = Report::new(how.telling);
     let text = match read_list(rt, Some(list), &mut report) {
         Ok(text) => text,
         Err(refusal) => {
@@ -167,7 +163,7 @@ pub(crate) fn check_sums<L: Ledger, M: Ledger>(
         return Ok(NO_LIST);
     }
     let files = files.as_slice();
-    let worst = check_files(rt, files, is_quiet, telling, &mut report, costs);
+    let worst = check_files(rt, files, how, &mut report, costs);
     if matches!(worst, Err(Refusal::WriteFailed)) {
         report.tell_output(rt, "-");
     }

@@ -90,6 +90,24 @@ pub(crate) fn less_word(given: Without, leaving: Without, word: Without) -> With
     }
 }
 
+/// What is left out where both are.
+pub(crate) fn leaving_both(one: Without, other: Without) -> Without
+    ensures { result ≡ both one other }
+{
+    Without {
+        times: one.times || other.times,
+        edits: one.edits || other.edits,
+        flags: one.flags || other.flags,
+        groups: one.groups || other.groups,
+        metadata: one.metadata || other.metadata,
+        bitrates: one.bitrates || other.bitrates,
+        ends: one.ends || other.ends,
+        origins: one.origins || other.origins,
+        labels: one.labels || other.labels,
+        timing: one.timing || other.timing,
+    }
+}
+
 // Leaves out what changes when a file is packed another way. The set never changes, so that sums
 // which were made with it stay right: other words would be `packaging-2`.
 fn leave_out_packaging(leaving: &mut Without)

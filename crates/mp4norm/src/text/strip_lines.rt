@@ -77,18 +77,19 @@ fn push_group(text: &mut Vec<u8>, alloc: Global, group: &Group) -> Result<(), Al
     Ok(())
 }
 
-// Adds the warnings of what is lost with boxes that the profile refuses.
-fn push_losses(text: &mut Vec<u8>, alloc: Global, found: &Found) -> Result<(), AllocError> {
+/// The warnings of what is lost with boxes that the profile refuses.
+pub(crate) fn losses(alloc: Global, found: &Found) -> Result<Vec<u8>, AllocError> {
+    let mut text = Vec::new(alloc);
     for group in &found.groups {
         if let Some((_, loss)) = group.loss {
             text.extend_from_slice(b"strip: warning: without ")?;
-            push_group(text, alloc, group)?;
+            push_group(&mut text, alloc, group)?;
             text.push(b' ')?;
             text.extend_from_slice(loss.text())?;
             text.push(b'\n')?;
         }
     }
-    Ok(())
+    Ok(text)
 }
 
 /// What is told of the boxes that become free space, where more than their numbers is.
@@ -104,7 +105,7 @@ pub(crate) fn find_told<S: Store>(
     }
 }
 
-/// All warnings of what is lost with boxes that become free space.
+/// All warnings of a copy: of what is lost with boxes that became free space.
 pub(crate) fn warnings(
     alloc: Global,
     names: &[Name],
@@ -114,7 +115,7 @@ pub(crate) fn warnings(
     if found.has_encryption || names_encryption(names) {
         text.extend_from_slice(WARNING)?;
     }
-    push_losses(&mut text, alloc, found)?;
+    text.extend_from_slice(losses(alloc, found)?.as_slice())?;
     Ok(text)
 }
 
