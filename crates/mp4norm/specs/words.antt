@@ -1,17 +1,2 @@
-pub mod BoxSpans
 pub mod Actions
-pub mod ShowValue
 pub mod Sources
-pub mod Jobs
-pub mod Compares
-pub mod SingleWords
-pub mod Telling
-pub mod ToldSamples
-pub mod PrintedTracks
-pub mod Pairs
-pub mod StoreAndSink
-pub mod TwoFiles
-pub mod ListedWalks
-pub mod StripSpans
-pub mod AddedWays
-pub mod WholePut

@@ -7,39 +7,24 @@
 //! doesn't know.
 #![tactic(auto)]
 
-ghost use Rattle.mp4norm.specs.words.StoreAndSink.{IsOf};
+ghost use Rattle.mp4_answers.specs.words.StoreAndSink.{IsOf};
 
-pub mod answer_laws;
-mod commands;
-pub mod laws;
 mod shell;
-mod text;
-pub mod text_laws;
 
-pub use commands::answer_len::text_len;
-pub use commands::box_names::Name;
-pub use commands::box_path::{Way, way_to};
-pub use commands::boxes::boxes;
-pub use commands::check::{check, check_counted};
-pub use commands::compare::{Asked, Failure, Lines, Listing, Side, compare_files};
-pub use commands::extract::{extract, extract_counted};
-pub use commands::normalise::{normalise, normalise_counted};
-pub use commands::normalise_reduced::normalise_reduced;
-pub use commands::perform::perform;
-pub use commands::print::print;
-pub use commands::samples::{samples, samples_counted};
-pub use commands::show::{show, show_counted};
-pub use commands::strip::{count_named, strip};
-pub use commands::sum::sum_file;
+pub use mp4_answers::{
+    Asked, Costs, Failure, Form, Job, Line, Lines, Listing, Name, Side, Syntax, VerdictStyle, Way,
+    answer_laws, boxes, check, check_counted, compare_files, count_named, extract, extract_counted,
+    fault_line, first_name, laws, normalise, normalise_counted, normalise_reduced, perform, print,
+    put_lines, put_verdict, samples, samples_counted, say_difference, show, show_counted, show_text,
+    status, strip, sum_file, text_laws, text_len, verdict_status, way_to,
+};
 use mp4_boxes::{Refusal, Steps};
 use mp4_store::{IoSink, Sink};
 pub use shell::action::{
-    Action, CommandFault, Comparison, Finding, Form, Input, Job, Order, SumCheck, Syntax, Target,
-    Telling, VerdictStyle,
+    Action, CommandFault, Comparison, Finding, Input, Order, SumCheck, Target, Telling,
 };
 use shell::check_files::{Manner, check_all};
 pub use shell::command_line::action;
-pub use shell::costs::Costs;
 use shell::descriptors::take_closed;
 use shell::file_names::{shown_word, word_of};
 use shell::run_command::run;
@@ -52,12 +37,6 @@ use std::marker::Brand;
 use std::process::ExitCode;
 use std::rt::Env;
 use std::sync::ledger::{Blank, Ledger};
-pub use text::difference_lines::say_difference;
-pub use text::fault_text::{fault_line, status};
-pub use text::line::Line;
-pub use text::movie_json::show_text;
-pub use text::sample_lines::put_lines;
-pub use text::verdicts::{first_name, put_verdict, verdict_status};
 
 /// The status for words that are not known.
 const USAGE: u8 = 64;

@@ -3,9 +3,9 @@ use Rattle.std.specs.Prelude.{◌<◌, ◌≤◌, length, false, None}
 use Rattle.mp4norm.specs.declared.shell.action.Action.{Action}
 use Rattle.mp4norm.specs.declared.shell.action.Action.TheVariants as actions
 use Rattle.mp4norm.specs.declared.shell.action.Input.TheVariants as inputs
-use Rattle.mp4norm.specs.declared.shell.action.Job.{Job}
-use Rattle.mp4norm.specs.declared.shell.action.Job.TheVariants as jobs
-use Rattle.mp4norm.specs.declared.shell.action.Syntax.TheVariants as syntaxes
+use Rattle.mp4_answers.specs.declared.jobs.Job.{Job}
+use Rattle.mp4_answers.specs.declared.jobs.Job.TheVariants as jobs
+use Rattle.mp4_answers.specs.declared.jobs.Syntax.TheVariants as syntaxes
 use Rattle.mp4norm.specs.declared.shell.action.Target.TheVariants as targets
 
 -- a track's ID is at least 1

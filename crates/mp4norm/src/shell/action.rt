@@ -1,39 +1,9 @@
 //! What the words behind the program's name can ask for.
-use crate::commands::box_names::Name;
-use crate::commands::compare::Listing;
+use mp4_answers::box_names::Name;
+use mp4_answers::commands::compare::Listing;
+use mp4_answers::jobs::{Job, VerdictStyle};
 use mp4_present::Without;
 use std::alloc::AllocError;
-
-/// How the samples of a track are listed: a line each, the same behind the names of the columns, or
-/// an object of JSON each.
-#[derive(Clone, Copy)]
-pub enum Form {
-    Plain,
-    Named,
-    Json,
-}
-
-/// How an answer is written: as lines for people, or as an object of JSON a line.
-#[derive(Clone, Copy)]
-pub enum Syntax {
-    Text,
-    Json,
-}
-
-/// What is done over a file.
-#[derive(Clone, Copy)]
-pub enum Job<'a> {
-    Boxes { syntax: Syntax },
-    Show,
-    Samples { track: u32, form: Form },
-    Extract { track: u32 },
-    Normalise,
-    /// The normal form of what is left.
-    Reduce { leaving: Without },
-    /// The text of what is left.
-    Print { leaving: Without },
-    Strip { names: &'a [Name] },
-}
 
 /// What is read: standard input, the file of this name, or those that a list names, one after the
 /// other; of a list the word, with the `@` before it, and how many files it may name.
@@ -101,13 +71,6 @@ pub struct Order<'a> {
     pub most: Option<u64>,
     pub lossy: bool,
     pub telling: Telling,
-}
-
-/// How verdicts are written: in which syntax, and with which byte at the end of each.
-#[derive(Clone, Copy)]
-pub struct VerdictStyle {
-    pub syntax: Syntax,
-    pub end: u8,
 }
 
 /// How files are checked against their sums: whether those that have theirs are passed over in

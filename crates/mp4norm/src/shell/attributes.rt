@@ -1,7 +1,7 @@
 //! Lists of attributes, as tags of playlists have them (RFC 8216, 4.2).
 ghost use Rattle.std.specs.Prelude.{◌<◌, length, IfSome};
 
-use crate::shell::drop_lists::cut;
+use mp4_answers::text::cutting::cut;
 
 /// An attribute: its name, and its value; of a quoted string what stands between the marks.
 #[derive(Clone, Copy)]

@@ -2,17 +2,15 @@
 ghost use Rattle.std.specs.Prelude.{◌≡◌, ◌≤◌, [], IfOk, IfSome, Ok};
 ghost use Rattle.mp4norm.specs.words.Actions.{IsJob, IsAction, boxes_of_input};
 
-use crate::commands::box_names::Name;
-use crate::commands::compare::{Lines, Listing};
-use crate::shell::action::{
-    Action, CommandFault, Comparison, Finding, Form, Input, Job, Order, SumCheck, Syntax, Target,
-    Telling, VerdictStyle,
-};
+use mp4_answers::box_names::Name;
+use mp4_answers::commands::compare::{Lines, Listing};
+use crate::shell::action::{Action, CommandFault, Comparison, Finding, Input, Order, SumCheck, Target, Telling};
+use mp4_answers::jobs::{Form, Job, Syntax, VerdictStyle};
 use crate::shell::command_table::whole_command;
 use crate::shell::drop_lists::names_of;
 use crate::shell::file_names::shown_word;
 use crate::shell::lists::MOST_PARTS;
-use crate::shell::without_words::{leaving_both, leaving_of};
+use mp4_answers::without_words::{leaving_both, leaving_of};
 use clap::error::ErrorKind;
 use clap::{ArgMatches, Error};
 use mp4_present::Without;

@@ -1,17 +1,11 @@
 //! Lists of types of boxes, as the words behind `--drop` give them.
 ghost use Rattle.std.specs.Prelude.{◌<◌, length, IfOk, IfSome};
 
-use crate::commands::box_names::{Name, is_holder};
-use crate::text::type_names::is_text;
+use mp4_answers::box_names::{Name, is_holder};
+use mp4_answers::text::cutting::{byte_of, cut};
+use mp4_answers::text::type_names::is_text;
 use mp4_boxes::FourCc;
 use std::alloc::{AllocError, Global};
-
-/// The byte that two hexadecimal digits spell.
-pub(crate) fn byte_of(high: u8, low: u8) -> Option<u8> {
-    let high = char::from(high).to_digit(16)?;
-    let low = char::from(low).to_digit(16)?;
-    Some((16 * high + low) as u8)
-}
 
 // The type that a word spells: four printable characters, or eight hexadecimal digits.
 fn type_of(word: &[u8]) -> Option<FourCc> {
@@ -27,20 +21,6 @@ fn type_of(word: &[u8]) -> Option<FourCc> {
         byte_of(word[4], word[5])?,
         byte_of(word[6], word[7])?,
     ]))
-}
-
-/// What stands before the first such byte, and what stands behind it, if it is there.
-pub(crate) fn cut(word: &[u8], at: u8) -> (&[u8], Option<&[u8]>)
-    ensures { IfSome result.1 (λ rest. length rest.now < length word.now) }
-{
-    for k in 0..word.len() {
-        if word[k] == at {
-            let (front, rest) = word.split_at(k);
-            let (_, rest) = rest.split_at(1);
-            return (front, Some(rest));
-        }
-    }
-    (word, None)
 }
 
 // The 16 bytes that 32 hexadecimal digits spell, in groups of 8, 4, 4, 4 and 12 that are apart by

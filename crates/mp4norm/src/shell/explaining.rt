@@ -1,12 +1,12 @@
 //! What there is to say of a fault besides its line: the way to the box, where the standard tells
 //! of it, what the kind means.
 ghost use Rattle.std.specs.Prelude.{◌≡◌, ◌++◌, OnOk};
-ghost use Rattle.mp4norm.specs.format.Texts.{line_feed};
+ghost use Rattle.mp4_answers.specs.format.Texts.{line_feed};
 
-use crate::commands::box_path::{Way, number_at_top, step_line, way_to};
-use crate::shell::costs::Costs;
+use mp4_answers::commands::box_path::{Way, number_at_top, step_line, way_to};
+use mp4_answers::costs::Costs;
 use crate::shell::file_names::shown;
-use crate::text::difference_lines::{say, say_counted};
+use mp4_answers::text::difference_lines::{say, say_counted};
 use mp4_boxes::{Fault, FourCc, Kind, Refusal};
 use mp4_present::{FaultNumbers, TrackInfo, fault_numbers, open_movie};
 use mp4_store::{Sink, Store};
@@ -92,8 +92,8 @@ fn clause_of(kind: FourCc) -> &'static [u8] {
     b"4.2"
 }
 
-/// Types of boxes of other standards that stand first in files of this kind: of Apple's QuickTime, of
-/// whoever has a UUID, of MPEG-DASH.
+/// Types of boxes of other standards that stand first in files of this kind: of Apple's QuickTime,
+/// of whoever has a UUID, of MPEG-DASH.
 const FIRST_TYPES: [FourCc; 3] = [FourCc(*b"wide"), FourCc(*b"uuid"), FourCc(*b"emsg")];
 
 /// The meaning of any fault of a file that begins with no box of a type that is known.

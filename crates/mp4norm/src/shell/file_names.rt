@@ -3,7 +3,8 @@
 //! A name is any bytes but 0, a word of this program is text. So bytes of a word that are no text,
 //! and zero bytes of a list, are kept in it as a zero byte and two hexadecimal digits each. No file
 //! can be opened by such a word.
-use crate::text::digits::hex_digit;
+use mp4_answers::text::digits::hex_digit;
+use mp4_answers::text::plain_names::push_plain;
 use std::alloc::{AllocError, Global};
 use unicode::properties::GeneralCategory;
 
@@ -43,31 +44,6 @@ pub(crate) fn is_text(word: &str) -> bool {
     !word.as_bytes().contains(&0)
 }
 
-// The value of a hexadecimal digit.
-fn digit_of(byte: u8) -> u8 {
-    match byte {
-        b'0'..=b'9' => byte - b'0',
-        b'a'..=b'f' => byte - b'a' + 10,
-        _ => 0,
-    }
-}
-
-/// Adds the bytes of a word.
-pub(crate) fn push_plain(text: &mut Vec<u8>, word: &[u8]) -> Result<(), AllocError> {
-    let mut left = word;
-    while let Some((first, rest)) = left.split_first() {
-        left = rest;
-        match (*first, rest) {
-            (0, [high, low, more @ ..]) => {
-                text.push(digit_of(*high) << 4 | digit_of(*low))?;
-                left = more;
-            }
-            (byte, _) => text.push(byte)?,
-        }
-    }
-    Ok(())
-}
-
 // Adds a byte as a person is shown one that is no text or steers a terminal.
 fn push_escaped(text: &mut Vec<u8>, byte: u8) -> Result<(), AllocError> {
     text.extend_from_slice(b"\\x")?;
@@ -105,8 +81,8 @@ fn push_text(text: &mut Vec<u8>, valid: &str) -> Result<(), AllocError> {
     Ok(())
 }
 
-/// Adds a name as a person is shown it: on one line, without a character that steers a terminal. The
-/// bytes of the name are those of a word, or of a list of names.
+/// Adds a name as a person is shown it: on one line, without a character that steers a terminal.
+/// The bytes of the name are those of a word, or of a list of names.
 pub(crate) fn push_shown(text: &mut Vec<u8>, name: &[u8]) -> Result<(), AllocError> {
     let alloc = *text.allocator();
     let mut plain = Vec::new(alloc);

@@ -1,7 +1,7 @@
 //! Where the answer goes.
-use crate::commands::perform::perform;
-use crate::shell::action::Job;
-use crate::shell::costs::Costs;
+use mp4_answers::commands::perform::perform;
+use mp4_answers::jobs::Job;
+use mp4_answers::costs::Costs;
 use crate::shell::reports::{Noted, Report};
 use crate::shell::sources::Source;
 use mp4_boxes::Refusal;

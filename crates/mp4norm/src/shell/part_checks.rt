@@ -2,7 +2,7 @@
 ghost use Rattle.std.specs.Prelude.{◌<◌, ◌≤◌, length, IfOk};
 ghost use Rattle.mp4_present.specs.words.StoresRead.{OnlyReads};
 
-use crate::commands::box_names::holder;
+use mp4_answers::box_names::holder;
 use mp4_boxes::{Refusal, Rule, box_header};
 use mp4_store::Store;
 

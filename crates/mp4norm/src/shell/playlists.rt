@@ -2,7 +2,7 @@
 ghost use Rattle.std.specs.Prelude.{◌<◌, length};
 
 use crate::shell::attributes::value_of;
-use crate::shell::drop_lists::cut;
+use mp4_answers::text::cutting::cut;
 use crate::shell::lists::{ListFault, TOO_MANY, first_line, without_return};
 use crate::shell::references::referred_name;
 use std::alloc::{AllocError, Global};

@@ -1,6 +1,6 @@
 //! A file that is put in the place of another only once it is whole.
-use crate::shell::action::Job;
-use crate::shell::costs::Costs;
+use mp4_answers::jobs::Job;
+use mp4_answers::costs::Costs;
 use crate::shell::output::{Out, write};
 use crate::shell::part_files::{Part, replaced};
 use crate::shell::reports::Report;

@@ -7,7 +7,7 @@ use crate::shell::input::read_input;
 use crate::shell::list_sources::{ListSource, open_list};
 use crate::shell::named_files::ListStore;
 use crate::shell::reports::{Noted, Report};
-use crate::text::difference_lines::say_number;
+use mp4_answers::text::difference_lines::say_number;
 use mp4_boxes::Refusal;
 use mp4_store::{BufferedStore, FileStore, MemStore, Store, StoreFailed};
 use std::alloc::{AllocError, Global};

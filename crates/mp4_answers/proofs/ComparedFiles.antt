@@ -1,0 +1,169 @@
+-- Two files compared: what is listed, and what there is to say of it.
+use Rattle.std.proofs.Common.{◌≡◌, ◌⊎◌, inl, inr, ℕ, zero, suc, ◌+◌, ◌*◌, ◌<◌, ◌≤◌, List, [], ◌∷◌, ◌++◌, length, take, nat_eq, Bool, true, false, refl, sym, ap, subst, ◌∙◌, arith, Ok}
+use Rattle.std.specs.Prelude.{◌↔◌, Option, None, Some, slice_get, IsTrue}
+use Rattle.std.proofs.Math.Nat.{mul-le-mul_right}
+use Rattle.std.proofs.lemmas.Bool.{ne_eqb}
+use Rattle.mp4_boxes.specs.declared.refusal.Refusal.{Refusal}
+use Rattle.mp4_boxes.specs.declared.refusal.Refusal.TheVariants as refusals
+use Rattle.mp4_present.specs.format.Comparison.{differences}
+use Rattle.mp4_present.specs.format.Denotes.{FileTree, IsFileTree, Denotes, presentation_of}
+use Rattle.mp4_present.specs.format.Judge.{judge}
+use Rattle.mp4_present.specs.format.Presentation.{Presentation, Valid, sample_total}
+use Rattle.mp4_present.specs.format.Reduced.{reduce}
+use Rattle.mp4_present.specs.words.Compared.{TakesFront}
+use Rattle.mp4_present.specs.words.Differing.{RefusesSample}
+use Rattle.mp4_present.specs.words.Movies.{MovieSeen}
+use Rattle.mp4_present.specs.words.OpenedMovie.{IsOpenedAs}
+use Rattle.mp4_present.specs.words.WalkSteps.{opening_steps, walks_steps}
+use Rattle.mp4_present.specs.declared.comparing.differences.Difference.{Difference}
+use Rattle.mp4_present.specs.declared.without.Without.{Without}
+use Rattle.mp4_present.proofs.ComparisonWhole.{no_difference_is_same}
+use Rattle.mp4_present.proofs.DenotedValid.{denoted_is_valid}
+use Rattle.mp4_answers.specs.format.CompareHeadline.{IsVerdict, ComparedWithin, ComparesWithin, most_counted, most_walks, word_count}
+use Rattle.mp4_answers.specs.format.Steps.{WalksWithin, row_total}
+use Rattle.mp4_present.specs.words.Compared.{files_differ}
+use Rattle.mp4_plan.proofs.Judged.{denoted_judged}
+use Rattle.mp4_answers.specs.words.Compares.{side_of, says_nothing, IsSaid, ListsFront, WalksTimes, RefusesBoth, RefusesCompare}
+use Rattle.mp4_answers.specs.declared.commands.compare.Failure.{Failure}
+use Rattle.mp4_answers.proofs.StepsTaken.{looked_within, often_walked}
+
+pub listed_front : (old new : List Difference) (whole : Bool) (ds : List Difference) → old ≡ [] → (whole ≡ true → new ≡ old ++ ds) → TakesFront old new ds → (whole ≡ true) ⊎ (most_counted < length new) → ListsFront new ds
+listed_front old new whole ds none all front (inl e) = inl (all e ∙ ap (λ (xs : List Difference). xs ++ ds) none)
+listed_front old new whole ds none all front (inr long) = inr (long, front.0, front.1 ∙ ap (λ (xs : List Difference). xs ++ take front.0 ds) none)
+
+pub true_false : true ≡ false → ⊥
+true_false e = cc
+
+none_long : (xs : List Difference) → xs ≡ [] → most_counted < length xs → ⊥
+none_long xs e long = let none : length xs ≡ 0 = ap length e in omega (arith, long, none)
+
+take_none : (n : ℕ) (ds : List Difference) → ds ≡ [] → take n ds ≡ []
+take_none zero [] e = refl
+take_none (suc n) [] e = refl
+take_none n (d ∷ ds) e = absurd cc
+
+empty_by : (xs : List Difference) → nat_eq (length xs) 0 ≡ true → xs ≡ []
+empty_by [] e = refl
+empty_by (x ∷ xs) e = absurd (true_false (sym e ∙ ne_eqb (length (x ∷ xs)) 0 (λ z. absurd (omega (arith, z)))))
+
+-- where none is listed, nothing differs
+pub empty_listed : (listed ds : List Difference) → ListsFront listed ds → nat_eq (length listed) 0 ≡ true → ds ≡ []
+empty_listed listed ds (inl e) none = sym e ∙ empty_by listed none
+empty_listed listed ds (inr h) none = absurd (none_long listed (empty_by listed none) h.0)
+
+-- where one is listed, something differs
+pub some_listed : (listed ds : List Difference) → ListsFront listed ds → nat_eq (length listed) 0 ≡ false → ds ≡ [] → ⊥
+some_listed listed ds (inl e) some none = let no : nat_eq (length listed) 0 ≡ true = ap (λ (xs : List Difference). nat_eq (length xs) 0) (e ∙ none) in true_false (sym no ∙ some)
+some_listed listed ds (inr h) some none = none_long listed (h.2 ∙ take_none h.1 ds none) h.0
+
+-- the first that differs is there exactly if one is
+pub first_said : (first : Option Difference) (ds : List Difference) → first ≡ slice_get ds 0 → IsSaid first ds
+first_said first [] e = subst (λ (f : Option Difference). IsSaid f []) (sym e) refl
+first_said first (d ∷ ds) e = subst (λ (f : Option Difference). IsSaid f (d ∷ ds)) (sym e) (λ none. cc)
+
+-- some walks, and more
+pub walks_joined : (old mid new a b times more : ℕ) → mid ≤ old + times * (a + b) → new ≤ mid + more * (a + b) → new ≤ old + (times + more) * (a + b)
+walks_joined old mid new a b times more g h = omega (arith, g, h)
+
+one_walk_more : (old mid new a b times : ℕ) → mid ≤ old + (a + b) → new ≤ mid + times * (a + b) → new ≤ old + suc times * (a + b)
+one_walk_more old mid new a b times g h = omega (arith, g, h)
+
+pub one_of_times : (old new a b times : ℕ) → 0 < times → new ≤ old + (a + b) → new ≤ old + times * (a + b)
+one_of_times old new a b times some h = let most = mul-le-mul_right (a + b) some in omega (arith, h, most)
+
+-- one walk, of as many as there are words to be tried
+pub one_of_more : (old new a b : ℕ) (first : Without) (more tries : List Without) → tries ≡ first ∷ more → new ≤ old + (a + b) → new ≤ old + length tries * (a + b)
+one_of_more old new a b first more tries e h =
+    let long : length tries ≡ suc (length more) = ap (λ (xs : List Without). length xs) e in
+    one_of_times old new a b (length tries) (omega (arith, long)) h
+
+-- one walk, and as many as there are others
+pub one_more_time : (old mid new a b : ℕ) (first : Without) (more tries : List Without) → tries ≡ first ∷ more → mid ≤ old + (a + b) → new ≤ mid + length more * (a + b) → new ≤ old + length tries * (a + b)
+one_more_time old mid new a b first more tries e g h =
+    let long : length tries ≡ suc (length more) = ap (λ (xs : List Without). length xs) e in
+    subst (λ n. new ≤ old + n * (a + b)) (sym long) (one_walk_more old mid new a b (length more) g h)
+
+pub two_walks : (old mid new a b : ℕ) → mid ≤ old + (a + b) → new ≤ mid + (a + b) → new ≤ old + 2 * (a + b)
+two_walks old mid new a b g h = omega (arith, g, h)
+
+-- one walk to list, and those that find words
+pub listing_walks : (old mid new a b : ℕ) → mid ≤ old + (a + b) → new ≤ mid + (2 + word_count) * (a + b) → new ≤ old + most_walks * (a + b)
+listing_walks old mid new a b g h = omega (arith, g, h)
+
+-- fewer are as many at most
+pub few_times_of : (old new a b few times : ℕ) → few ≤ times → new ≤ old + few * (a + b) → new ≤ old + times * (a + b)
+few_times_of old new a b few times le h = let most = mul-le-mul_right (a + b) le in omega (arith, h, most)
+
+-- ---- the answer
+
+verdict_of : (l : Without) (p q : Presentation) {A : Type 0} (found : Option A) (same : Bool) → same ≡ says_nothing found → IsSaid found (differences (reduce l p) (reduce l q)) → Valid p → Valid q → (same ≡ true) ↔ (reduce l p ≡ reduce l q)
+verdict_of l p q None same is said v w = (λ e. (no_difference_is_same l p q v w).0 said, λ e. is)
+verdict_of l p q (Some text) same is said v w = (λ e. absurd (true_false (sym e ∙ is)), λ e. absurd (said ((no_difference_is_same l p q v w).1 e)))
+
+module _ (file : List ℕ) (m : MovieSeen) (tree : FileTree) (o : IsOpenedAs file m tree) where
+  pub denotes_by : Denotes file (presentation_of file tree)
+  denotes_by = record { tree = tree; is_tree = o.is_tree; is_sound = o.is_sound; is_consistent = o.is_consistent; says = refl; limits = o.limits }
+
+  pub judged_by : judge file ≡ Ok (presentation_of file tree)
+  judged_by = denoted_judged file (presentation_of file tree) denotes_by
+
+pub verdict : (l : Without) (file other : List ℕ) (m n : MovieSeen) {A : Type 0} (found : Option A) (same : Bool) → same ≡ says_nothing found → (a : (tree : FileTree) × IsOpenedAs file m tree) → (b : (tree : FileTree) × IsOpenedAs other n tree)
+    → IsSaid found (files_differ l file a.0 other b.0) → IsVerdict l file other same
+verdict l file other m n found same is a b said = record {
+  p = presentation_of file a.0;
+  q = presentation_of other b.0;
+  first = judged_by file m a.0 a.1;
+  second = judged_by other n b.0 b.1;
+  is = λ x y. verdict_of l (presentation_of file a.0) (presentation_of other b.0) found same is said
+      (denoted_is_valid file (presentation_of file a.0) x (denotes_by file m a.0 a.1)) (denoted_is_valid other (presentation_of other b.0) y (denotes_by other n b.0 b.1));
+}
+
+-- ---- refusals
+
+-- what fails once both files are opened
+pub together : (First Second : Refusal → Type 0) (honest honest_right : Bool) (l m r s : ℕ) (Took : List ℕ → Type 0) (nothing : Took []) (puts : ℕ) (refusal : Refusal) (f : Failure) → f.side ≡ side_of refusal → f.refusal ≡ refusal
+    → RefusesSample l m r s refusal → (IsTrue honest → IsTrue honest_right → refusal ≡ refusals.StoreChanged → ⊥) → RefusesCompare First Second (RefusesBoth honest honest_right l m r s) Took puts puts f
+together First Second honest honest_right l m r s Took nothing puts (refusals.Fault g) f side is w u = absurd w
+together First Second honest honest_right l m r s Took nothing puts refusals.Memory f side is w u = rw (side, is) nothing
+together First Second honest honest_right l m r s Took nothing puts refusals.StoreFailed f side is w u = rw (side, is) (w, nothing)
+together First Second honest honest_right l m r s Took nothing puts refusals.StoreChanged f side is w u = rw (side, is) (λ told right. u told right refl, nothing)
+together First Second honest honest_right l m r s Took nothing puts refusals.WriteFailed f side is w u = absurd w
+together First Second honest honest_right l m r s Took nothing puts refusals.NoSuchTrack f side is w u = absurd w
+
+-- ---- steps
+
+-- a file that is looked at, and no more
+pub looked_alone : (file : List ℕ) (old new : ℕ) → WalksWithin file old new → ComparedWithin file old new
+looked_alone file old new h = record {
+  denoted = λ p d. let own = h.denoted p d in omega (arith, own);
+  refused = h.refused;
+}
+
+none_taken : (file : List ℕ) (n : ℕ) → ComparedWithin file n n
+none_taken file n = record {
+  denoted = λ p d. let rest = sample_total p + row_total d.tree in omega arith;
+  refused = λ nothing. inl refl;
+}
+
+-- the second file was not looked at
+pub first_alone : (file other : List ℕ) (old new : ℕ) → WalksWithin file old new → ComparesWithin file other old new
+first_alone file other old new first = record { between = new; first = looked_alone file old new first; second = none_taken other new }
+
+-- the first file was opened, and so were the second or not
+pub both_looked : (file other : List ℕ) (m : MovieSeen) (old mid new : ℕ) → ((tree : FileTree) × IsOpenedAs file m tree) → ((tree : FileTree) → IsFileTree file tree → mid ≤ old + opening_steps tree) → WalksWithin other mid new → ComparesWithin file other old new
+both_looked file other m old mid new a opening second = record {
+  between = mid;
+  first = looked_alone file old mid (looked_within file old mid m a.0 a.1 (opening a.0 a.1.is_tree));
+  second = looked_alone other mid new second;
+}
+
+-- both were opened, and walked over as many times as may be
+pub both_walked : (file other : List ℕ) (m n : MovieSeen) (old mid behind new : ℕ) → ((tree : FileTree) × IsOpenedAs file m tree) → ((tree : FileTree) × IsOpenedAs other n tree) → ((tree : FileTree) → IsFileTree file tree → mid ≤ old + opening_steps tree)
+    → ((tree : FileTree) → IsFileTree other tree → behind ≤ mid + opening_steps tree) → ((tree next : FileTree) → IsOpenedAs file m tree → IsOpenedAs other n next → WalksTimes most_walks tree next behind new) → ComparesWithin file other old new
+both_walked file other m n old mid behind new a b opening next walks =
+    record {
+      between = mid + most_walks * walks_steps a.0;
+      first = often_walked file old (mid + most_walks * walks_steps a.0) m a.0 a.1 (let opened = opening a.0 a.1.is_tree in omega (arith, opened));
+      second = often_walked other (mid + most_walks * walks_steps a.0) new n b.0 b.1
+          (let more = walks a.0 b.0 a.1 b.1 in let opened = next b.0 b.1.is_tree in omega (arith, more, opened));
+    }

@@ -1,0 +1,101 @@
+-- A file that is printed: the text of what is left of it, part after part.
+use Rattle.std.proofs.Common.{◌≡◌, ℕ, List, [], ◌++◌, refl, sym, ap, ◌∙◌, append_assoc, codes}
+use Rattle.std.specs.Prelude.{map, flat_map}
+use Rattle.std.proofs.lemmas.List.{append-nil}
+use Rattle.mp4_store.specs.words.Device.{TakesPrefix}
+use Rattle.mp4_store.proofs.Known.{IsJoining}
+use Rattle.mp4_head.specs.format.Head as heads
+use Rattle.mp4_head.specs.format.Tree.{head_of, track_head_of}
+use Rattle.mp4_head.specs.words.Found.{SaysHead}
+use Rattle.mp4_head.specs.words.Seen.{head_seen, movie_seen, track_seen}
+use Rattle.mp4_head.specs.declared.heads.MovieHead.{MovieHead}
+use Rattle.mp4_head.proofs.ReadAgain.{said_of}
+use Rattle.mp4_present.specs.format.Denotes.{FileTree, presentation_of}
+use Rattle.mp4_present.specs.format.Reduced.{reduce, reduce_movie_head}
+use Rattle.mp4_present.specs.words.Carried.{BytesGoOn}
+use Rattle.mp4_present.specs.words.Movies.{MovieSeen, moov_box}
+use Rattle.mp4_present.specs.words.OpenedMovie.{IsOpenedAs}
+use Rattle.mp4_present.specs.declared.without.Without.{Without}
+use Rattle.mp4_answers.specs.format.FileTexts.{PrintsText}
+use Rattle.mp4_answers.specs.format.Text.{front_lines, movie_lines, text, track_text}
+use Rattle.mp4_answers.proofs.Going.{Going, going_none}
+use Rattle.mp4_answers.proofs.ShownLines.{judged}
+use Rattle.mp4_answers.proofs.TextsGoOn.{text_next, text_fails, texts_not_put, texts_put}
+
+-- some of the first bytes of the text of the file were put; all of them were
+abbrev pub FrontPrinted : Without → List ℕ → (List ℕ → Type 0) → Type 0
+FrontPrinted l file Took = (bytes : List ℕ) × PrintsText l file bytes × TakesPrefix Took bytes
+
+abbrev pub AllPrinted : Without → List ℕ → (List ℕ → Type 0) → Type 0
+AllPrinted l file Took = (bytes : List ℕ) × PrintsText l file bytes × Took bytes
+
+module _ (l : Without) (file : List ℕ) (m : MovieSeen) (tree : FileTree) (head : MovieHead) (o : IsOpenedAs file m tree) (says : SaysHead (moov_box m) head) where
+  said : head_seen head ≡ head_of tree.movie
+  said = (said_of (moov_box m) head tree.movie says (sym o.moov) o.is_tree.movie).0
+
+  -- the heads of the tracks
+  pub heads_are : map track_seen head.tracks.items ≡ map track_head_of tree.movie.tracks
+  heads_are = ap (λ (h : heads.Head). h.tracks) said
+
+  abbrev whole : List ℕ
+  whole = text l (presentation_of file tree)
+
+  abbrev pub movie_part : List ℕ
+  movie_part = movie_lines (reduce_movie_head l (movie_seen head))
+
+  abbrev pub tracks_part : List ℕ
+  tracks_part = flat_map track_text (reduce l (presentation_of file tree)).tracks
+
+  abbrev end : List ℕ
+  end = codes "end\n"
+
+  parts : whole ≡ front_lines l ++ (movie_part ++ (tracks_part ++ end))
+  parts =
+      ap (λ (bs : List ℕ). front_lines l ++ bs) (append_assoc (movie_lines (reduce l (presentation_of file tree)).movie) tracks_part end)
+      ∙ ap (λ (h : heads.Head). front_lines l ++ (movie_lines (reduce_movie_head l h.movie) ++ (tracks_part ++ end))) (sym said)
+
+  prints : PrintsText l file whole
+  prints = (presentation_of file tree, judged file m tree o, refl)
+
+  module _ {Y : Type 0} {takes : Y → Y → List ℕ → Type 0} (joins : IsJoining takes) (a b c d e f : Y) (nothing : takes a a []) (held_b held_c held_d held_e : List ℕ) where
+    begun : Going (takes a a) [] [] whole whole
+    begun = going_none (takes a a) nothing [] whole
+
+    -- the first lines
+    pub first_fails : TakesPrefix (takes a b) (front_lines l) → FrontPrinted l file (takes a b)
+    first_fails q = (whole, prints, text_fails joins a a b [] [] whole whole begun (front_lines l) (movie_part ++ (tracks_part ++ end)) parts q)
+
+    module _ (p : BytesGoOn (takes a b) [] held_b (front_lines l)) where
+      one : Going (takes a b) [] held_b (movie_part ++ (tracks_part ++ end)) whole
+      one = text_next joins a a b [] [] whole whole begun held_b (front_lines l) (movie_part ++ (tracks_part ++ end)) parts p
+
+      -- those of the movie
+      pub movie_fails : TakesPrefix (takes b c) (held_b ++ movie_part) → FrontPrinted l file (takes a c)
+      movie_fails q = (whole, prints, text_fails joins a b c [] held_b (movie_part ++ (tracks_part ++ end)) whole one movie_part (tracks_part ++ end) refl q)
+
+      module _ (q : BytesGoOn (takes b c) held_b held_c movie_part) where
+        two : Going (takes a c) [] held_c (tracks_part ++ end) whole
+        two = text_next joins a b c [] held_b (movie_part ++ (tracks_part ++ end)) whole one held_c movie_part (tracks_part ++ end) refl q
+
+        -- those of the tracks
+        pub tracks_fail : TakesPrefix (takes c d) (held_c ++ tracks_part) → FrontPrinted l file (takes a d)
+        tracks_fail r = (whole, prints, text_fails joins a c d [] held_c (tracks_part ++ end) whole two tracks_part end refl r)
+
+        module _ (r : BytesGoOn (takes c d) held_c held_d tracks_part) where
+          three : Going (takes a d) [] held_d end whole
+          three = text_next joins a c d [] held_c (tracks_part ++ end) whole two held_d tracks_part end refl r
+
+          -- the last line
+          pub last_fails : TakesPrefix (takes d e) (held_d ++ end) → FrontPrinted l file (takes a e)
+          last_fails s = (whole, prints, text_fails joins a d e [] held_d end whole three end [] (sym (append-nil end)) s)
+
+          module _ (s : BytesGoOn (takes d e) held_d held_e end) where
+            four : Going (takes a e) [] held_e [] whole
+            four = text_next joins a d e [] held_d end whole three held_e end [] (sym (append-nil end)) s
+
+            -- and what waits then
+            pub all_printed : takes e f held_e → AllPrinted l file (takes a f)
+            all_printed t = (whole, prints, texts_put joins a e f held_e [] whole four refl t)
+
+            pub end_fails : TakesPrefix (takes e f) held_e → FrontPrinted l file (takes a f)
+            end_fails t = (whole, prints, texts_not_put joins a e f held_e [] whole four refl t)

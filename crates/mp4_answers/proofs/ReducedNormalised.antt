@@ -1,0 +1,152 @@
+-- The normal form of what is left of what a file denotes: all of it is put, or why it is not.
+use Rattle.std.proofs.Common.{◌≡◌, ◌⊎◌, inl, inr, ℕ, List, [], ◌∷◌, refl, subst}
+use Rattle.std.specs.Prelude.{Bool, Result, Ok, Err, IfErr, OnOk, OnErr, IsTrue}
+use Rattle.mp4_boxes.specs.declared.fault.Fault.{Fault}
+use Rattle.mp4_boxes.specs.declared.refusal.Refusal.{Refusal}
+use Rattle.mp4_boxes.specs.declared.refusal.Refusal.TheVariants as refusals
+use Rattle.mp4_present.specs.format.Denotes.{FileTree, presentation_of}
+use Rattle.std.specs.List.{AllByRecursion}
+use Rattle.mp4_present.specs.format.Presentation.{Presentation, Track, IsInTime}
+use Rattle.mp4_present.specs.format.Reduced.{HasNearOffsets, reduce, reduce_track, timescale_left}
+use Rattle.mp4_present.specs.words.Movies.{MovieSeen}
+use Rattle.mp4_present.specs.words.OpenedMovie.{IsOpenedAs}
+use Rattle.mp4_present.specs.declared.without.Without.{Without}
+use Rattle.mp4_present.proofs.WalkCopied.{on_err}
+use Rattle.mp4_plan.specs.format.Normal.{normal}
+use Rattle.mp4_plan.specs.format.ReducedTimes.{ReducedFaultStands, ReducesInLimits}
+use Rattle.mp4_plan.specs.words.LeftTimes.{NamesLong, RefusesLeftCopy}
+use Rattle.mp4_plan.specs.words.MadeWriters.{TellsLong}
+use Rattle.mp4_plan.proofs.Judged.{judged_one}
+use Rattle.mp4_plan.proofs.ReducedFaults.{in_time_or, near_offsets_or, opened_stands}
+use Rattle.mp4_answers.specs.format.Answers.{IsFaultOf}
+use Rattle.mp4_answers.specs.format.ReducedHeadline.{HasReducedForm, PassesLimits}
+use Rattle.mp4_answers.specs.format.Run.{Run, Honest, PutsNothing, PutsAll, PutsFront, PutsSomeOf, Answered}
+use Rattle.mp4_answers.proofs.ShownLines.{judged}
+
+-- the normal form of what is left of what was opened is one of its file
+reduced_form : (l : Without) (file : List ℕ) (m : MovieSeen) (tree : FileTree) → IsOpenedAs file m tree → ReducesInLimits l (presentation_of file tree) → HasReducedForm l file (normal (reduce l (presentation_of file tree)))
+reduced_form l file m tree o in_time = (presentation_of file tree, judged file m tree o, in_time, refl)
+
+-- what is left is within the limits, or it is not
+each_or : (P : Track → Type 0) → ((t : Track) → P t ⊎ (P t → ⊥)) → (tracks : List Track) → AllByRecursion P tracks ⊎ (AllByRecursion P tracks → ⊥)
+each_or P or [] = inl tt
+each_or P or (t ∷ tracks) = elim (or t) [
+  | inl here ↦ elim (each_or P or tracks) [
+    | inl all ↦ inl (here, all)
+    | inr some ↦ inr (λ h. some h.1)
+  ]
+  | inr fails ↦ inr (λ h. fails h.0)
+]
+
+reduces_or : (l : Without) (p : Presentation) → ReducesInLimits l p ⊎ (ReducesInLimits l p → ⊥)
+reduces_or l p =
+    let timescale = timescale_left l p.movie.timescale in
+    elim (each_or (λ (t : Track). IsInTime timescale (reduce_track l t)) (λ t. in_time_or timescale (reduce_track l t)) p.tracks) [
+      | inr long ↦ inr (λ h. long h.in_time)
+      | inl short ↦ elim (each_or (λ (t : Track). HasNearOffsets (reduce_track l t)) (λ t. near_offsets_or (reduce_track l t)) p.tracks) [
+        | inl near ↦ inl (record { in_time = short; in_range = near })
+        | inr far ↦ inr (λ h. far h.in_range)
+      ]
+    ]
+
+-- ---- why it is not put
+
+-- what is named where what is left is too long
+abbrev pub TooLong : Without → List ℕ → Refusal → Type 0
+TooLong l file (refusals.Fault f) = ReducedFaultStands l file f
+TooLong l file _ = Unit {0}
+
+-- a fault is one of what the file denotes, or of what is left of it
+abbrev pub IsReducedFault : Without → List ℕ → Fault → Type 0
+IsReducedFault l file f = IsFaultOf file f ⊎ ReducedFaultStands l file f
+
+module _ (A : Type 0) (l : Without) (r : Run) where
+  write_fails : (e : Refusal) → RefusesLeftCopy l r.took r.reads r.reads_after r.puts r.puts_after e → (Honest r → PutsNothing r ⊎ PutsFront r (HasReducedForm l r.file)) → (Honest r → e ≡ refusals.WriteFailed → PutsFront r (HasReducedForm l r.file))
+      → (Honest r → e ≡ refusals.StoreChanged → ⊥) → (Honest r → TooLong l r.file e) → Answered {A = A} r (HasReducedForm l r.file) (IsReducedFault l r.file) ⊥ (Err e)
+  write_fails (refusals.Fault f) w p b u t = (w.1, λ told. inr (t told))
+  write_fails refusals.Memory w p b u t = w
+  write_fails refusals.StoreFailed w p b u t = (w, p)
+  write_fails refusals.StoreChanged w p b u t = λ told. u told refl
+  write_fails refusals.WriteFailed w p b u t = (w, λ told. b told refl)
+  write_fails refusals.NoSuchTrack w p b u t = absurd w
+
+  -- a movie that is written, or isn't
+  pub write_answers : (answer : Result A Refusal) → OnOk answer (r.reads_after ≡ r.reads) → OnOk answer (r.puts_after ≡ r.puts) → OnOk answer (Honest r → PutsAll r (HasReducedForm l r.file))
+      → IfErr answer (RefusesLeftCopy l r.took r.reads r.reads_after r.puts r.puts_after) → (Honest r → OnErr answer (PutsNothing r ⊎ PutsFront r (HasReducedForm l r.file)))
+      → (Honest r → IfErr answer (λ e. e ≡ refusals.WriteFailed → PutsFront r (HasReducedForm l r.file))) → (Honest r → IfErr answer (λ e. e ≡ refusals.StoreChanged → ⊥)) → (Honest r → IfErr answer (TooLong l r.file))
+      → Answered r (HasReducedForm l r.file) (IsReducedFault l r.file) ⊥ answer
+  write_answers (Ok x) reads puts text w p b u t = ((reads, puts), text)
+  write_answers (Err e) reads puts text w p b u t = write_fails e w p b u t
+
+too_long : (l : Without) (file : List ℕ) (m : MovieSeen) (tree : FileTree) → IsOpenedAs file m tree → (r : Refusal) → NamesLong l file tree r → TooLong l file r
+too_long l file m tree o (refusals.Fault f) n = opened_stands l file m tree f o n.0
+too_long l file m tree o refusals.Memory n = tt
+too_long l file m tree o refusals.StoreFailed n = tt
+too_long l file m tree o refusals.StoreChanged n = tt
+too_long l file m tree o refusals.WriteFailed n = tt
+too_long l file m tree o refusals.NoSuchTrack n = tt
+
+if_too_long : (l : Without) (file : List ℕ) (m : MovieSeen) (tree : FileTree) → IsOpenedAs file m tree → {T : Type 0} (answer : Result T Refusal) → IfErr answer (NamesLong l file tree) → IfErr answer (TooLong l file)
+if_too_long l file m tree o (Ok x) n = tt
+if_too_long l file m tree o (Err r) n = too_long l file m tree o r n
+
+-- ---- what is so of the boxes of a file that was opened, is so of what it denotes
+
+-- the store and its file as they are when the file is opened, in the run, and when it is written
+module _ (l : Without) (r : Run) (honest_then : Bool) (file_then : List ℕ) (m : MovieSeen) (same_honesty : honest_then ≡ r.honest) (same_file : file_then ≡ r.file) (opened : Honest r → (t : FileTree) × IsOpenedAs r.file m t) where
+  -- what is so of the boxes that were opened
+  abbrev Then : Bool → List ℕ → (List ℕ → FileTree → Type 0) → Type 0
+  Then told f P = IsTrue told → (t : FileTree) → IsOpenedAs f m t → P f t
+
+  so : (P : List ℕ → FileTree → Type 0) → Then honest_then file_then P → (told : Honest r) → P r.file (opened told).0
+  so P p told =
+      let here : Then r.honest r.file P = subst (λ b. Then b r.file P) same_honesty (subst (λ f. Then honest_then f P) same_file p) in
+      here told (opened told).0 (opened told).1
+
+  -- the normal form of what is left
+  abbrev left : List ℕ → FileTree → List ℕ
+  left f t = normal (reduce l (presentation_of f t))
+
+  pub reduced_written : {T : Type 0} (answer : Result T Refusal) → Then honest_then file_then (λ f t. OnOk answer (r.took (left f t))) → Then honest_then file_then (λ f t. TellsLong l f t answer (PutsNothing r))
+      → OnOk answer (Honest r → PutsAll r (HasReducedForm l r.file))
+  reduced_written (Ok x) put long = λ told.
+      let tells = so (λ f t. TellsLong l f t (Ok x) (PutsNothing r)) long told in
+      (left r.file (opened told).0, reduced_form l r.file m (opened told).0 (opened told).1 tells.in_limits, so (λ f t. r.took (left f t)) put told)
+  reduced_written (Err e) put long = tt
+
+  -- a front of it was put, where it is not too long
+  front_in_time : (told : Honest r) → ReducesInLimits l (presentation_of r.file (opened told).0) → PutsSomeOf r (left r.file (opened told).0) → PutsFront r (HasReducedForm l r.file)
+  front_in_time told in_time put = (left r.file (opened told).0, reduced_form l r.file m (opened told).0 (opened told).1 in_time, put)
+
+  pub reduced_front : {T : Type 0} (answer : Result T Refusal) → Then honest_then file_then (λ f t. OnErr answer (PutsSomeOf r (left f t))) → Then honest_then file_then (λ f t. TellsLong l f t answer (PutsNothing r))
+      → Honest r → OnErr answer (PutsNothing r ⊎ PutsFront r (HasReducedForm l r.file))
+  reduced_front answer put long told =
+      let tells = so (λ f t. TellsLong l f t answer (PutsNothing r)) long told in
+      on_err _ _ answer
+      (λ a. elim (reduces_or l (presentation_of r.file (opened told).0)) [
+        | inl in_time ↦ inr (front_in_time told in_time a)
+        | inr late ↦ inl (tells.nothing late)
+      ])
+      (so (λ f t. OnErr answer (PutsSomeOf r (left f t))) put told)
+
+  begun_in_time : {T : Type 0} (answer : Result T Refusal) → Then honest_then file_then (λ f t. TellsLong l f t answer (PutsNothing r)) → (told : Honest r)
+      → IfErr answer (λ e. e ≡ refusals.WriteFailed → ReducesInLimits l (presentation_of r.file (opened told).0))
+  begun_in_time answer long told = (so (λ f t. TellsLong l f t answer (PutsNothing r)) long told).begun
+
+  pub reduced_begun : {T : Type 0} (answer : Result T Refusal) → Then honest_then file_then (λ f t. OnErr answer (PutsSomeOf r (left f t))) → Then honest_then file_then (λ f t. TellsLong l f t answer (PutsNothing r))
+      → Honest r → IfErr answer (λ e. e ≡ refusals.WriteFailed → PutsFront r (HasReducedForm l r.file))
+  reduced_begun (Ok x) put long told = tt
+  reduced_begun (Err e) put long told = λ failed. front_in_time told (begun_in_time (Err e) long told failed) (so (λ f t. PutsSomeOf r (left f t)) put told)
+
+  -- nothing was put of what is too long
+  pub none_too_long : {T : Type 0} (answer : Result T Refusal) → Then honest_then file_then (λ f t. TellsLong l f t answer (PutsNothing r)) → Honest r → PassesLimits l r.file → PutsNothing r
+  none_too_long answer long told late =
+      let tells = so (λ f t. TellsLong l f t answer (PutsNothing r)) long told in
+      let same : presentation_of r.file (opened told).0 ≡ late.0 = judged_one r.file (presentation_of r.file (opened told).0) late.0 (judged r.file m (opened told).0 (opened told).1) late.1 in
+      tells.nothing (λ in_time. late.2 (subst (ReducesInLimits l) same in_time))
+
+  pub reduced_unchanged : {T : Type 0} (answer : Result T Refusal) → Then honest_then file_then (λ f t. IfErr answer (λ e. e ≡ refusals.StoreChanged → ⊥)) → Honest r → IfErr answer (λ e. e ≡ refusals.StoreChanged → ⊥)
+  reduced_unchanged answer put told = so (λ f t. IfErr answer (λ e. e ≡ refusals.StoreChanged → ⊥)) put told
+
+  pub reduced_too_long : {T : Type 0} (answer : Result T Refusal) → Then honest_then file_then (λ f t. IfErr answer (NamesLong l f t)) → Honest r → IfErr answer (TooLong l r.file)
+  reduced_too_long answer put told = if_too_long l r.file m (opened told).0 (opened told).1 answer (so (λ f t. IfErr answer (NamesLong l f t)) put told)

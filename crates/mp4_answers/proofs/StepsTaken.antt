@@ -1,0 +1,128 @@
+-- The steps of `normalise`, by what its parts promise.
+use Rattle.std.proofs.Common.{◌≡◌, ℕ, ◌+◌, ◌*◌, ◌≤◌, List, length, Some, subst, arith}
+use Rattle.std.specs.Prelude.{Bool, true, false, ◌||◌, ◌&&◌, not, if◌then◌else◌, Err, IsTrue, slice_get}
+use Rattle.mp4_head.specs.format.Tree.{TrackTree}
+use Rattle.mp4_boxes.specs.declared.refusal.Refusal.{Refusal}
+use Rattle.mp4_boxes.specs.declared.refusal.Refusal.TheVariants as refusals
+use Rattle.mp4_present.specs.format.Denotes.{FileTree, IsFileTree, presentation_of}
+use Rattle.mp4_present.specs.format.Presentation.{sample_total}
+use Rattle.mp4_present.specs.words.Movies.{MovieSeen}
+use Rattle.mp4_present.specs.words.OpenedMovie.{IsOpenedAs}
+use Rattle.mp4_present.specs.words.Opening.{RefusesOpen}
+use Rattle.mp4_present.specs.format.ByBytes.{OpensWithin}
+use Rattle.mp4_present.specs.words.WalkSteps.{IfNoFault, opening_steps, walk_steps, walks_steps}
+use Rattle.mp4_present.proofs.One.{file_tree_one}
+use Rattle.mp4_answers.specs.format.Steps.{WorksWithin, WalksWithin, row_total}
+use Rattle.mp4_answers.specs.format.CompareHeadline.{ComparedWithin, most_walks}
+use Rattle.mp4_answers.proofs.RunParts.{denotes_nothing}
+use Rattle.mp4_answers.proofs.ShownLines.{denoted}
+use Rattle.mp4_present.specs.declared.without.Without.{Without}
+use Rattle.mp4_plan.specs.words.Measuring.{measuring_steps}
+use Rattle.mp4_plan.specs.words.WriterSteps.{writing_steps}
+use Rattle.mp4_answers.proofs.StepSums.{all_within, often_looks, opened_looks, walked_looks, walks_looks}
+
+few_times : (k n : ℕ) → 8 * n ≤ 8 * ((k + 1) * n)
+few_times k n = let small : n ≤ (k + 1) * n = omega arith in omega (arith, small)
+
+eight_of : (v : Bool) (n : ℕ) → 8 * n ≤ (if v then 15 else 12) * n
+eight_of true n = omega arith
+eight_of false n = omega arith
+
+module _ (file : List ℕ) (old new : ℕ) where
+  -- as many as opening takes, and no more
+  opening_only : ((tree : FileTree) → IsFileTree file tree → new ≤ old + opening_steps tree) → OpensWithin file old new → WalksWithin file old new
+  opening_only work within = record {
+    denoted = λ p d. let own = work d.tree d.is_tree in let all = opened_looks file p d in omega (arith, own, all);
+    refused = λ nothing. within;
+  }
+
+  -- a file that isn't opened
+  pub not_looked : (honest : Bool) (reads reads_after : ℕ) (r : Refusal) → IsTrue honest → RefusesOpen honest file reads reads_after r → ((tree : FileTree) → IsFileTree file tree → IfNoFault {A = Unit {0}} (Err r) (new ≤ old + opening_steps tree)) → OpensWithin file old new
+      → WalksWithin file old new
+  not_looked honest reads reads_after (refusals.Fault f) told refuses work within = record {
+    denoted = λ p d. absurd (denotes_nothing file f (refuses told) p d);
+    refused = λ nothing. within;
+  }
+  not_looked honest reads reads_after refusals.Memory told refuses work within = opening_only work within
+  not_looked honest reads reads_after refusals.StoreFailed told refuses work within = opening_only work within
+  not_looked honest reads reads_after refusals.StoreChanged told refuses work within = opening_only work within
+  not_looked honest reads reads_after refusals.WriteFailed told refuses work within = opening_only work within
+  not_looked honest reads reads_after refusals.NoSuchTrack told refuses work within = opening_only work within
+
+  -- the same, where walks over all tracks would be allowed
+  pub not_opened : (l : Without) (honest : Bool) (reads reads_after : ℕ) (r : Refusal) → IsTrue honest → RefusesOpen honest file reads reads_after r → ((tree : FileTree) → IsFileTree file tree → IfNoFault {A = Unit {0}} (Err r) (new ≤ old + opening_steps tree)) → OpensWithin file old new
+      → WorksWithin l file old new
+  not_opened l honest reads reads_after r told refuses work within =
+      let w = not_looked honest reads reads_after r told refuses work within in
+      record {
+        denoted = λ p d. let own = w.denoted p d in let more = few_times (length p.tracks) (sample_total p + row_total d.tree) in omega (arith, own, more);
+        few = λ p d. let own = w.denoted p d in let more = eight_of ((l.ends || l.origins) && not l.timing) (sample_total p + row_total d.tree) in omega (arith, own, more);
+        refused = w.refused;
+      }
+
+  -- a file that is opened, planned and written
+  pub opened_within : (l : Without) (m : MovieSeen) (tree : FileTree) (behind : ℕ) → IsOpenedAs file m tree → behind ≤ old + opening_steps tree → new ≤ behind + (measuring_steps l tree + walks_steps tree + writing_steps tree) → WorksWithin l file old new
+  opened_within l m tree behind o opening walks =
+      let asks = (l.ends || l.origins) && not l.timing in
+      record {
+        denoted = λ p d.
+            let same = file_tree_one file tree d.tree o.is_tree d.is_tree in
+            let own = subst (λ (t : FileTree). new ≤ old + (opening_steps t + (measuring_steps l t + walks_steps t + writing_steps t))) same (omega (arith, opening, walks)) in
+            let all = (all_within asks file p d).0 in
+            omega (arith, own, all);
+        few = λ p d.
+            let same = file_tree_one file tree d.tree o.is_tree d.is_tree in
+            let own = subst (λ (t : FileTree). new ≤ old + (opening_steps t + (measuring_steps l t + walks_steps t + writing_steps t))) same (omega (arith, opening, walks)) in
+            let all = (all_within asks file p d).1 in
+            omega (arith, own, all);
+        refused = λ nothing. absurd (nothing (presentation_of file tree) (denoted file m tree o));
+      }
+
+  -- a file that is opened, and of which no track is walked over
+  pub looked_within : (m : MovieSeen) (tree : FileTree) → IsOpenedAs file m tree → new ≤ old + opening_steps tree → WalksWithin file old new
+  looked_within m tree o opening = record {
+    denoted = λ p d.
+        let same = file_tree_one file tree d.tree o.is_tree d.is_tree in
+        let own = subst (λ (t : FileTree). new ≤ old + opening_steps t) same opening in
+        let all = opened_looks file p d in
+        omega (arith, own, all);
+    refused = λ nothing. absurd (nothing (presentation_of file tree) (denoted file m tree o));
+  }
+
+  -- a file that is opened, and of which one track is walked over once
+  pub walked_within : (m : MovieSeen) (tree : FileTree) (behind k : ℕ) (t : TrackTree) → IsOpenedAs file m tree → behind ≤ old + opening_steps tree → slice_get tree.movie.tracks k ≡ Some t → new ≤ behind + walk_steps tree t → WalksWithin file old new
+  walked_within m tree behind k t o opening is walk = record {
+    denoted = λ p d.
+        let same = file_tree_one file tree d.tree o.is_tree d.is_tree in
+        let own = subst (λ (u : FileTree). new ≤ old + (opening_steps u + walk_steps u t)) same (omega (arith, opening, walk)) in
+        let all = walked_looks file p d k t (subst (λ (u : FileTree). slice_get u.movie.tracks k ≡ Some t) same is) in
+        omega (arith, own, all);
+    refused = λ nothing. absurd (nothing (presentation_of file tree) (denoted file m tree o));
+  }
+
+  -- a file that is opened, and of which each track is walked over once
+  pub all_walked_within : (m : MovieSeen) (tree : FileTree) (behind : ℕ) → IsOpenedAs file m tree → behind ≤ old + opening_steps tree → new ≤ behind + walks_steps tree → WalksWithin file old new
+  all_walked_within m tree behind o opening walks = record {
+    denoted = λ p d.
+        let same = file_tree_one file tree d.tree o.is_tree d.is_tree in
+        let own = subst (λ (u : FileTree). new ≤ old + (opening_steps u + walks_steps u)) same (omega (arith, opening, walks)) in
+        let all = walks_looks file p d in
+        omega (arith, own, all);
+    refused = λ nothing. absurd (nothing (presentation_of file tree) (denoted file m tree o));
+  }
+
+  -- a file that is opened, and of which each track is walked over at most as many times as may be
+  pub often_walked : (m : MovieSeen) (tree : FileTree) → IsOpenedAs file m tree → new ≤ old + (opening_steps tree + most_walks * walks_steps tree) → ComparedWithin file old new
+  often_walked m tree o walks = record {
+    denoted = λ p d.
+        let same = file_tree_one file tree d.tree o.is_tree d.is_tree in
+        let own = subst (λ (u : FileTree). new ≤ old + (opening_steps u + most_walks * walks_steps u)) same walks in
+        let all = often_looks file p d in
+        omega (arith, own, all);
+    refused = λ nothing. absurd (nothing (presentation_of file tree) (denoted file m tree o));
+  }
+
+-- a movie that is written or not
+pub written_within : (l : Without) (file : List ℕ) (m : MovieSeen) (old behind new : ℕ) → ((tree : FileTree) × IsOpenedAs file m tree) → ((tree : FileTree) → IsFileTree file tree → behind ≤ old + opening_steps tree)
+    → ((tree : FileTree) → IsOpenedAs file m tree → new ≤ behind + (measuring_steps l tree + walks_steps tree + writing_steps tree)) → WorksWithin l file old new
+written_within l file m old behind new opened opening write = opened_within file old new l m opened.0 behind opened.1 (opening opened.0 opened.1.is_tree) (write opened.0 opened.1)

@@ -1,0 +1,138 @@
+-- Texts that are taken along to a sink, one after the other.
+use Rattle.std.proofs.Common.{◌≡◌, ℕ, zero, suc, ◌+◌, ◌<◌, ◌≤◌, List, [], ◌∷◌, ◌++◌, length, take, drop, get_or, refl, sym, ap, subst, ◌∙◌, append_assoc, arith}
+use Rattle.std.specs.Prelude.{Bool, true, false, not, ◌||◌, if◌then◌else◌, filter, map, flat_map, Result, Ok, Err}
+use Rattle.std.proofs.lemmas.List.{append-nil}
+use Rattle.mp4_boxes.specs.format.Children.{is_among}
+use Rattle.mp4_head.specs.format.Head as heads
+use Rattle.mp4_head.specs.words.Seen.{kept_seen}
+use Rattle.mp4_head.specs.declared.kept_boxes.Kept.{Kept}
+use Rattle.mp4_present.specs.format.Reduced.{metadata_kinds, reduce_kept}
+use Rattle.mp4_present.specs.declared.without.Without.{Without}
+use Rattle.mp4_boxes.specs.declared.refusal.Refusal.{Refusal}
+use Rattle.mp4_store.specs.words.Device.{TakesPrefix}
+use Rattle.mp4_store.specs.declared.sink.Sink.{Ghosts as Sink}
+use Rattle.mp4_store.proofs.Known.{IsJoining, TakesPrefix-longer}
+use Rattle.mp4_present.specs.words.Carried.{RefusesPut, waiting}
+use Rattle.mp4_present.specs.words.OutBuffers.{TakesBytes, PutsFrontOf}
+use Rattle.mp4_present.specs.declared.out_buffer.OutBuffer.{OutBuffer}
+use Rattle.mp4_present.proofs.Carrying.{BytesGoOn-nothing, BytesGoOn-then, BytesGoOn-fails}
+use Rattle.mp4_answers.specs.words.Telling.{Tells}
+
+-- ---- lists, item by item
+
+one_more : {A : Type 0} (xs : List A) (k : ℕ) (d : A) → k < length xs → take (suc k) xs ≡ take k xs ++ get_or xs k d ∷ []
+one_more [] k d lt = absurd (omega (arith, lt))
+one_more (x ∷ xs) zero d lt = refl
+one_more (x ∷ xs) (suc k) d lt = ap (λ (ys : List _). x ∷ ys) (one_more xs k d (omega (arith, lt)))
+
+one_there : {A : Type 0} (xs : List A) (k : ℕ) (d : A) → k < length xs → xs ≡ take k xs ++ get_or xs k d ∷ drop (suc k) xs
+one_there [] k d lt = absurd (omega (arith, lt))
+one_there (x ∷ xs) zero d lt = refl
+one_there (x ∷ xs) (suc k) d lt = ap (λ (ys : List _). x ∷ ys) (one_there xs k d (omega (arith, lt)))
+
+all_taken : {A : Type 0} (xs : List A) (k : ℕ) → length xs ≤ k → take k xs ≡ xs
+all_taken [] zero le = refl
+all_taken [] (suc k) le = refl
+all_taken (x ∷ xs) zero le = absurd (omega (arith, le))
+all_taken (x ∷ xs) (suc k) le = ap (λ (ys : List _). x ∷ ys) (all_taken xs k (omega (arith, le)))
+
+pub flat_two : {A : Type 0} (f : A → List ℕ) (xs ys : List A) → flat_map f (xs ++ ys) ≡ flat_map f xs ++ flat_map f ys
+flat_two f [] ys = refl
+flat_two f (x ∷ xs) ys = ap (λ (bs : List ℕ). f x ++ bs) (flat_two f xs ys) ∙ sym (append_assoc (f x) (flat_map f xs) (flat_map f ys))
+
+next_is : (k : ℕ) → k + 1 ≡ suc k
+next_is k = omega arith
+
+pub flat_next : {A : Type 0} (f : A → List ℕ) (xs : List A) (k : ℕ) (d : A) → k < length xs → flat_map f (take (k + 1) xs) ≡ flat_map f (take k xs) ++ f (get_or xs k d)
+flat_next f xs k d lt = ap (λ n. flat_map f (take n xs)) (next_is k) ∙ ap (flat_map f) (one_more xs k d lt) ∙ flat_two f (take k xs) (get_or xs k d ∷ []) ∙ ap (λ (bs : List ℕ). flat_map f (take k xs) ++ bs) (append-nil (f (get_or xs k d)))
+
+pub flat_rest : {A : Type 0} (f : A → List ℕ) (xs : List A) (k : ℕ) (d : A) → k < length xs → flat_map f xs ≡ flat_map f (take k xs) ++ (f (get_or xs k d) ++ flat_map f (drop (k + 1) xs))
+flat_rest f xs k d lt = ap (flat_map f) (one_there xs k d lt) ∙ flat_two f (take k xs) (get_or xs k d ∷ drop (suc k) xs) ∙ ap (λ n. flat_map f (take k xs) ++ (f (get_or xs k d) ++ flat_map f (drop n xs))) (sym (next_is k))
+
+pub flat_all : {A : Type 0} (f : A → List ℕ) (xs : List A) (k : ℕ) → length xs ≤ k → flat_map f (take k xs) ≡ flat_map f xs
+flat_all f xs k le = ap (flat_map f) (all_taken xs k le)
+
+pub flat_of_map : {A B : Type 0} (f : B → List ℕ) (g : A → B) (xs : List A) → flat_map f (map g xs) ≡ flat_map (λ (x : A). f (g x)) xs
+flat_of_map f g [] = refl
+flat_of_map f g (x ∷ xs) = ap (λ (bs : List ℕ). f (g x) ++ bs) (flat_of_map f g xs)
+
+one_kept : {A : Type 0} (b : Bool) (x : A) (ys : List A) → (if b then x ∷ ys else ys) ≡ (if b then x ∷ [] else []) ++ ys
+one_kept true x ys = refl
+one_kept false x ys = refl
+
+apart : (b : Bool) (f : heads.Kept → List ℕ) (boxes : List Kept) → flat_map f (if b then filter (λ (k : heads.Kept). not (is_among metadata_kinds k.kind)) (map kept_seen boxes) else map kept_seen boxes)
+    ≡ flat_map (λ (k : Kept). flat_map f (if b then filter (λ (k : heads.Kept). not (is_among metadata_kinds k.kind)) (kept_seen k ∷ []) else kept_seen k ∷ [])) boxes
+apart true f [] = refl
+apart false f [] = refl
+apart true f (x ∷ boxes) =
+    let P : heads.Kept → Bool = λ k. not (is_among metadata_kinds k.kind) in
+    ap (flat_map f) (one_kept (P (kept_seen x)) (kept_seen x) (filter P (map kept_seen boxes))) ∙ flat_two f (filter P (kept_seen x ∷ [])) (filter P (map kept_seen boxes)) ∙ ap (λ (bs : List ℕ). flat_map f (filter P (kept_seen x ∷ [])) ++ bs) (apart true f boxes)
+apart false f (x ∷ boxes) = ap (λ (bs : List ℕ). f (kept_seen x) ++ bs) (apart false f boxes) ∙ ap (λ (bs : List ℕ). bs ++ flat_map (λ (k : Kept). flat_map f (kept_seen k ∷ [])) boxes) (sym (append-nil (f (kept_seen x))))
+
+-- the kept boxes that are left, one by one
+pub kept_apart : (l : Without) (f : heads.Kept → List ℕ) (boxes : List Kept) → flat_map f (reduce_kept l (map kept_seen boxes)) ≡ flat_map (λ (k : Kept). flat_map f (reduce_kept l (kept_seen k ∷ []))) boxes
+kept_apart l f boxes = apart l.metadata f boxes
+
+-- one that is left, and one that isn't
+pub one_left : (l : Without) (f : heads.Kept → List ℕ) (k : heads.Kept) (b : Bool) → b ≡ not l.metadata || not (is_among metadata_kinds k.kind) → b ≡ true → f k ≡ flat_map f (reduce_kept l (k ∷ []))
+one_left l f k b e t = by l.metadata (is_among metadata_kinds k.kind) (sym t ∙ e)
+  where
+    by : (m a : Bool) → true ≡ not m || not a → f k ≡ flat_map f (if m then (if not a then k ∷ [] else []) else k ∷ [])
+    by true true e = absurd cc
+    by true false e = sym (append-nil (f k))
+    by false true e = sym (append-nil (f k))
+    by false false e = sym (append-nil (f k))
+
+pub none_of : (l : Without) (f : heads.Kept → List ℕ) (k : heads.Kept) (b : Bool) → b ≡ not l.metadata || not (is_among metadata_kinds k.kind) → b ≡ false → [] ≡ flat_map f (reduce_kept l (k ∷ []))
+none_of l f k b e t = by l.metadata (is_among metadata_kinds k.kind) (sym t ∙ e)
+  where
+    by : (m a : Bool) → false ≡ not m || not a → [] ≡ flat_map f (if m then (if not a then k ∷ [] else []) else k ∷ [])
+    by true true e = refl
+    by true false e = absurd cc
+    by false true e = absurd cc
+    by false false e = absurd cc
+
+-- ---- text after text
+
+-- this is told between two states, and no put failed
+pub record ToldSoFar {Y : Type 0} (K : Sink Y) (sink sink_after : Y) (c c_after : OutBuffer) (done : List ℕ) : Type 0 where
+  pub told : TakesBytes K sink sink_after c c_after done
+  pub puts : K.put_failures sink_after ≡ K.put_failures sink
+
+module _ {Y : Type 0} (K : Sink Y) (joins : IsJoining K.takes) where
+  pub told_none : (s : Y) (c : OutBuffer) → K.takes s s [] → ToldSoFar K s s c c []
+  told_none s c nothing = record { told = BytesGoOn-nothing (K.takes s s) nothing (waiting c); puts = refl }
+
+  pub told_more : (s t u : Y) (c d e : OutBuffer) (done x whole : List ℕ) → ToldSoFar K s t c d done → TakesBytes K t u d e x → K.put_failures u ≡ K.put_failures t → whole ≡ done ++ x → ToldSoFar K s u c e whole
+  told_more s t u c d e done x whole p told puts w = record {
+    told = BytesGoOn-then joins s t u (waiting c) (waiting d) (waiting e) done x whole p.told told w;
+    puts = puts ∙ p.puts;
+  }
+
+  -- a put fails
+  pub told_fails : {B : Type 0} (s t u : Y) (c d e : OutBuffer) (done x whole : List ℕ) (v : Refusal) → ToldSoFar K s t c d done → PutsFrontOf K t u d x → RefusesPut (K.put_failures t) (K.put_failures u) v → whole ≡ done ++ x → Tells {T = B} K s u c e whole (Err v)
+  told_fails s t u c d e done x whole v p front cause w = record {
+    all = tt;
+    front = subst (λ (bs : List ℕ). TakesPrefix (K.takes s u) (waiting c ++ bs)) (sym w) (BytesGoOn-fails joins s t u (waiting c) (waiting d) done x p.told front);
+    puts = tt;
+    refusal = subst (λ (n : ℕ). RefusesPut n (K.put_failures u) v) p.puts cause;
+  }
+
+  -- it goes on with a text, and then as it is
+  pub told_last : {T : Type 0} (s t u : Y) (c d e : OutBuffer) (done x whole : List ℕ) (r : Result T Refusal) → ToldSoFar K s t c d done → Tells K t u d e x r → whole ≡ done ++ x → Tells K s u c e whole r
+  told_last s t u c d e done x whole (Ok v) p q w =
+      let m = told_more s t u c d e done x whole p q.all q.puts w in
+      record { all = m.told; front = tt; puts = m.puts; refusal = tt }
+  told_last s t u c d e done x whole (Err v) p q w = told_fails s t u c d e done x whole v p q.front q.refusal w
+
+  -- it stops meanwhile
+  pub told_stops : {B : Type 0} (s t u : Y) (c d e : OutBuffer) (done x more whole : List ℕ) (v : Refusal) → ToldSoFar K s t c d done → PutsFrontOf K t u d x → RefusesPut (K.put_failures t) (K.put_failures u) v → whole ≡ done ++ (x ++ more) → Tells {T = B} K s u c e whole (Err v)
+  told_stops s t u c d e done x more whole v p front cause w =
+      told_fails s t u c d e done (x ++ more) whole v p (subst (λ (bs : List ℕ). TakesPrefix (K.takes t u) bs) (append_assoc (waiting d) x more) (TakesPrefix-longer (K.takes t u) (waiting d ++ x) more front)) cause w
+
+  pub told_all : {T : Type 0} (s t : Y) (c d : OutBuffer) (done whole : List ℕ) (r : T) → ToldSoFar K s t c d done → done ≡ whole → Tells K s t c d whole (Ok r)
+  told_all s t c d done whole r p w = record { all = subst (λ (bs : List ℕ). TakesBytes K s t c d bs) w p.told; front = tt; puts = p.puts; refusal = tt }
+
+-- the same text
+pub tells_is : {Y T : Type 0} (K : Sink Y) (s t : Y) (c d : OutBuffer) (x whole : List ℕ) (r : Result T Refusal) → Tells K s t c d x r → x ≡ whole → Tells K s t c d whole r
+tells_is K s t c d x whole r p w = subst (λ (bs : List ℕ). Tells K s t c d bs r) w p

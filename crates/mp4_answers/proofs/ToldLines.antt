@@ -1,0 +1,201 @@
+-- The lines of samples as they are handed out are those of the presentation's samples.
+use Rattle.std.proofs.Common.{◌≡◌, ℕ, zero, suc, ◌+◌, ◌<◌, ◌≤◌, Bool, true, false, List, [], ◌∷◌, ◌++◌, length, Some, refl, sym, ap, ◌∙◌, arith, append_assoc, decimal}
+use Rattle.std.specs.Prelude.{map, flat_map, slice_index, slice_get, if◌then◌else◌, ℤ, pos, negsuc, IsTrue}
+use Rattle.std.specs.Fmt.{signed_decimal}
+use Rattle.std.specs.List.{AllByRecursion, list_any, position_from}
+use Rattle.std.proofs.lemmas.Bool.{eqb-true, ne_eqb, or_from}
+use Rattle.sha2.specs.Sha256.{sha256}
+use Rattle.mp4_boxes.proofs.Among.{true_false}
+use Rattle.mp4_boxes.proofs.Each.{each_from, each_member, each_weaker}
+use Rattle.mp4_store.specs.words.Device.{range}
+use Rattle.mp4_tables.specs.format.Groups.{GroupKey, Groups, key_rank, same_key, index_at}
+use Rattle.mp4_tables.specs.format.PlainSamples.{PlacedSample}
+use Rattle.mp4_tables.specs.format.TableRules.{lies_within}
+use Rattle.mp4_tables.specs.words.Keys.{keys_seen, key_place}
+use Rattle.mp4_tables.specs.words.Timed.{padded, indexes, place_of, sample_at, timed}
+use Rattle.mp4_tables.specs.declared.keys.Keys.{Keys}
+use Rattle.mp4_tables.specs.declared.sample.SampleAt.{SampleAt}
+use Rattle.mp4_tables.proofs.GroupMaps.{IsMap, order_test}
+use Rattle.mp4_tables.proofs.NamedKeys.{IsAmong, IsNone, by_rank, among_through, same_itself}
+use Rattle.mp4_tables.proofs.Placed as placed
+use Rattle.mp4_head.specs.format.Tree.{TrackTree}
+use Rattle.mp4_present.specs.format.Denotes.{FileTree, bytes_at, sample_of, file_parts, placed_of, track_of}
+use Rattle.mp4_present.specs.format.Presentation.{IsGroup}
+use Rattle.mp4_present.specs.format.Reduced.{duration_left, offset_left, reduce_from, reduce_sample, reduce_track}
+use Rattle.mp4_present.specs.words.Differing.{index_in, flags_left}
+use Rattle.mp4_present.specs.words.Movies.{MovieSeen}
+use Rattle.mp4_present.specs.words.OpenedMovie.{IsOpenedAs, IsInfoOf}
+use Rattle.mp4_present.specs.words.SamplesComing.{track_keys, track_samples}
+use Rattle.mp4_present.specs.words.TrackEdges.{edges_left}
+use Rattle.mp4_present.specs.declared.edges.Edges.{Edges}
+use Rattle.mp4_present.specs.declared.without.Without.{Without}
+use Rattle.mp4_present.specs.declared.track_info.TrackInfo.{TrackInfo}
+use Rattle.mp4_present.proofs.ComparisonGroups.{index_rank}
+use Rattle.mp4_present.proofs.PlacedTracks.{IsTrackPlaced, tracks_placed}
+use Rattle.mp4_present.proofs.SamplesLie.{IsInFile, placed_lie, bytes_whole}
+use Rattle.mp4_present.proofs.SamplesReduced.{reduced_by_edges}
+use Rattle.mp4_present.proofs.TrafTaken.{zipped_at}
+use Rattle.mp4_present.proofs.ValidSamples.{IsOfTrack, is_group, is_parameter}
+use Rattle.mp4_present.proofs.WalkPlaces.{of_got}
+use Rattle.mp4_plan.specs.format.Normal.{in_key_order}
+use Rattle.mp4_plan.specs.format.TableLaws.{IsKey}
+use Rattle.mp4_plan.proofs.KeyOrder.{order_rises, order_each, order_has, covers}
+use Rattle.mp4_plan.proofs.Maps.{AreAbove, KeysAbove, Covers}
+use Rattle.mp4_plan.proofs.Maps as maps
+use Rattle.mp4_answers.specs.format.Text.{group_text, sample_text}
+use Rattle.mp4_answers.specs.format.Texts.{hex_digits, hex_text, space, line_feed}
+use Rattle.mp4_answers.specs.words.ToldSamples.{IsStyle, index_text, told_indexes, told_sample}
+use Rattle.mp4_answers.specs.declared.text.sample_texts.SampleStyle.{SampleStyle}
+
+-- ---- an index at a key, by its place among the keys of the track
+
+-- none at a key that is none of those named
+none_at : (named : List GroupKey) (key : GroupKey) (groups : Groups) → AllByRecursion (λ (group : GroupKey × ℕ). IsAmong named group.0) groups → IsNone named key → index_at key groups ≡ 0
+none_at named key [] a n = refl
+none_at named key (group ∷ groups) a n = by (same_key key group.0) refl (none_at named key groups a.1 n)
+  where
+    by : (v : Bool) → same_key key group.0 ≡ v → index_at key groups ≡ 0 → (if v then group.1 else index_at key groups) ≡ 0
+    by true e more = absurd (true_false (list_any (same_key key) named) (by_rank named key group.0 (eqb-true (key_rank key) (key_rank group.0) e) ∙ a.0) n)
+    by false e more = more
+
+module _ (key : GroupKey) (groups : Groups) where
+  place_from : (keys : List GroupKey) (m n : ℕ) (ys : List ℕ) → length keys ≤ m → ((j : ℕ) → slice_index ys (n + j) ≡ slice_index (padded m (map (λ (k : GroupKey). index_at k groups) keys)) j) → (IsNone keys key → index_at key groups ≡ 0)
+      → index_in (position_from (same_key key) n keys) ys ≡ index_at key groups
+  place_from [] m n ys le at none = sym (none refl)
+  place_from (k ∷ keys) zero n ys le at none = absurd (omega (arith, le))
+  place_from (k ∷ keys) (suc m) n ys le at none = by (same_key key k) refl (λ no. place_from keys m (n + 1) ys (omega (arith, le)) more no)
+    where
+      more : (j : ℕ) → slice_index ys (n + 1 + j) ≡ slice_index (padded m (map (λ (x : GroupKey). index_at x groups) keys)) j
+      more j = let e : n + 1 + j ≡ n + suc j = omega arith in ap (slice_index ys) e ∙ at (suc j)
+
+      by : (v : Bool) → same_key key k ≡ v → ((IsNone keys key → index_at key groups ≡ 0) → index_in (position_from (same_key key) (n + 1) keys) ys ≡ index_at key groups)
+          → index_in (if v then Some n else position_from (same_key key) (n + 1) keys) ys ≡ index_at key groups
+      by true e behind = let here : n ≡ n + 0 = omega arith in ap (slice_index ys) here ∙ at 0 ∙ index_rank groups k key (sym (eqb-true (key_rank key) (key_rank k) e))
+      by false e behind = behind (λ no. none (or_from (same_key key k) (list_any (same_key key) keys) e no))
+
+index_there : (keys : List GroupKey) (groups : Groups) (key : GroupKey) → length keys ≤ 4 → AllByRecursion (λ (group : GroupKey × ℕ). IsAmong keys group.0) groups → index_in (key_place key keys) (indexes keys groups) ≡ index_at key groups
+index_there keys groups key few named = place_from key groups keys 4 0 (indexes keys groups) few (λ j. let e : 0 + j ≡ j = omega arith in ap (slice_index (indexes keys groups)) e) (none_at keys key groups named)
+
+-- ---- the indexes of a sample at the keys of its track, in their order
+
+-- none below all keys of a map
+index_none : (key : GroupKey) (groups : Groups) → AreAbove key groups → index_at key groups ≡ 0
+index_none key [] above = refl
+index_none key (group ∷ groups) above = rw (ne_eqb (key_rank key) (key_rank group.0) (λ e. omega (arith, above.0, e))) (index_none key groups above.1)
+
+index_first : (key : GroupKey) (index : ℕ) (groups : Groups) → index_at key ((key, index) ∷ groups) ≡ index
+index_first key index groups = rw (same_itself key) refl
+
+-- the text at a key of a map
+abbrev text_at : Groups → GroupKey → List ℕ
+text_at groups key = index_text key (index_at key groups)
+
+not_first : (key first : GroupKey) (index : ℕ) (groups : Groups) → key_rank first < key_rank key → index_at key ((first, index) ∷ groups) ≡ index_at key groups
+not_first key first index groups lt = rw (ne_eqb (key_rank key) (key_rank first) (λ e. omega (arith, lt, e))) refl
+
+texts_past : (first : GroupKey) (index : ℕ) (groups : Groups) (keys : List GroupKey) → KeysAbove first keys → flat_map (text_at ((first, index) ∷ groups)) keys ≡ flat_map (text_at groups) keys
+texts_past first index groups [] above = refl
+texts_past first index groups (key ∷ keys) above =
+    let one = not_first key first index groups above.0 in
+    let more = texts_past first index groups keys above.1 in
+    λ i. index_text key (one i) ++ more i
+
+some_text : (key : GroupKey) (index : ℕ) → 0 < index → index_text key index ≡ group_text (key, index)
+some_text key index some = rw (ne_eqb index 0 (λ e. omega (arith, some, e))) refl
+
+-- at keys that cover a map, one by one, its indexes stand in their order
+covered_text : {keys : List GroupKey} {groups : Groups} → Covers keys groups → flat_map (text_at groups) keys ≡ flat_map group_text groups
+covered_text maps.none = refl
+covered_text (maps.without {key} {keys} {groups} above others) = ap (λ n. index_text key n ++ flat_map (text_at groups) keys) (index_none key groups above) ∙ covered_text others
+covered_text (maps.with_index {key} {index} {keys} {groups} some keys_above above others) =
+    let own = ap (index_text key) (index_first key index groups) ∙ some_text key index some in
+    let more = texts_past key index groups keys keys_above ∙ covered_text others in
+    λ i. own i ++ more i
+
+-- the keys of a track, and the map of a sample of it
+record AreKeysOf (keys : List GroupKey) (groups : Groups) : Type 0 where
+  pub are : AllByRecursion placed.IsKey keys
+  pub few : length keys ≤ 4
+  pub map : IsMap placed.IsIndex keys groups
+
+seen_at : (keys : Keys) (own order : List GroupKey) (groups : Groups) (s : SampleAt) → keys_seen keys ≡ own → s.groups ≡ indexes own groups → AreKeysOf own groups → told_indexes keys s order ≡ flat_map (text_at groups) order
+seen_at keys own [] groups s e g h = refl
+seen_at keys own (key ∷ order) groups s e g h =
+    let index = (λ i. index_in (key_place key (e i)) (g i)) ∙ index_there own groups key h.few h.map.named in
+    let more = seen_at keys own order groups s e g h in
+    λ i. index_text key (index i) ++ more i
+
+module _ (own : List GroupKey) (groups : Groups) (h : AreKeysOf own groups) where
+  is_key : (key : GroupKey) → placed.IsKey key → IsKey key
+  is_key key k = record { kind_length = k.kind_length; kind = k.kind; parameter = is_parameter key.parameter k.parameter }
+
+  own_covers : Covers (in_key_order own) groups
+  own_covers =
+      covers (in_key_order own) groups (order_rises own) (order_each IsKey own (each_weaker placed.IsKey IsKey is_key own h.are)) (order_test groups h.map.order) (each_weaker placed.IsIndex IsGroup is_group groups h.map.each)
+      (each_weaker (λ (group : GroupKey × ℕ). IsAmong own group.0) (λ (group : GroupKey × ℕ). IsAmong (in_key_order own) group.0) (λ group a. among_through own (in_key_order own) group.0 (order_has own) a) groups h.map.named)
+
+-- none where groups are left out
+groups_told : (v : Bool) (keys : Keys) (own order : List GroupKey) (groups : Groups) (s : SampleAt) → keys_seen keys ≡ own → order ≡ (if v then [] else in_key_order own) → s.groups ≡ indexes own groups → AreKeysOf own groups
+    → told_indexes keys s order ≡ flat_map group_text (if v then [] else groups)
+groups_told true keys own order groups s e f g h = ap (told_indexes keys s) f
+groups_told false keys own order groups s e f g h = ap (told_indexes keys s) f ∙ seen_at keys own (in_key_order own) groups s e g h ∙ covered_text (own_covers own groups h)
+
+-- ---- a line
+
+line_is : (sp d o fl de si di ix end : List ℕ) → sp ++ d ++ sp ++ o ++ (sp ++ fl ++ sp ++ de ++ sp ++ si ++ (sp ++ di ++ ix ++ end)) ≡ sp ++ d ++ sp ++ o ++ sp ++ fl ++ sp ++ de ++ sp ++ si ++ sp ++ di ++ ix ++ end
+line_is sp d o fl de si di ix end = simp append_assoc
+
+there : (file : List ℕ) (at : ℤ) (size : ℕ) → IsTrue (lies_within (length file) at size) → range file (place_of at) size ≡ bytes_at file at size
+there file (pos at) size h = refl
+there file (negsuc below) size h = absurd cc
+
+-- a sample of a track with these keys lies in the file
+abbrev IsSampleOf : List ℕ → List GroupKey → PlacedSample → Type 0
+IsSampleOf file keys s = AreKeysOf keys s.groups × IsInFile (length file) s
+
+next_is : (n : ℕ) → n + 1 ≡ suc n
+next_is n = omega arith
+
+module _ (l : Without) (keys : Keys) (edges : Edges) (style : SampleStyle) (is : IsStyle l keys edges style) (file : List ℕ) (own : List GroupKey) (e : keys_seen keys ≡ own) where
+  order_is : keys_seen style.order ≡ (if l.groups then [] else in_key_order own)
+  order_is = is.order ∙ ap (λ (ks : List GroupKey). if l.groups then [] else in_key_order ks) e
+
+  one_told : (number dts : ℕ) (s : PlacedSample) → IsSampleOf file own s → told_sample style file (sample_at own number dts s) ≡ sample_text (reduce_sample l edges.samples edges.first_offset number (sample_of file s))
+  one_told number dts s h =
+      let bytes = bytes_at file s.at s.size in
+      let size : s.size ≡ length bytes = sym (bytes_whole file s.at s.size h.1) in
+      let digest : sha256 (range file (place_of s.at) s.size) ≡ sha256 bytes = ap sha256 (there file s.at s.size h.1) in
+      let flags : flags_left style.leaving s.flags ≡ flags_left l s.flags = ap (λ (x : Without). flags_left x s.flags) is.leaving in
+      let groups : told_indexes style.keys (sample_at own number dts s) (keys_seen style.order) ≡ flat_map group_text (if l.groups then [] else s.groups) =
+      groups_told l.groups style.keys own (keys_seen style.order) s.groups (sample_at own number dts s) (ap keys_seen is.keys_are ∙ e) order_is refl h.0 in
+      let duration : duration_left style.leaving style.edges.samples number s.duration ≡ duration_left l edges.samples number s.duration = (λ i. duration_left (is.leaving i) (is.edges_are i).samples number s.duration) in
+      let offset : offset_left style.leaving style.edges.first_offset s.offset ≡ offset_left l edges.first_offset s.offset = (λ i. offset_left (is.leaving i) (is.edges_are i).first_offset s.offset) in
+      line_is space (decimal (duration_left style.leaving style.edges.samples number s.duration)) (signed_decimal (offset_left style.leaving style.edges.first_offset s.offset)) (hex_digits 8 (flags_left style.leaving s.flags)) (decimal s.description) (decimal s.size)
+      (hex_text (sha256 (range file (place_of s.at) s.size)))
+      (told_indexes style.keys (sample_at own number dts s) (keys_seen style.order)) line_feed
+      ∙ (λ i. space ++ decimal (duration i) ++ space ++ signed_decimal (offset i) ++ space ++ hex_digits 8 (flags i) ++ space ++ decimal s.description ++ space ++ decimal (size i) ++ space ++ hex_text (digest i) ++ groups i ++ line_feed)
+
+  all_told : (number dts : ℕ) (samples : List PlacedSample) → AllByRecursion (IsSampleOf file own) samples → flat_map (told_sample style file) (timed own number dts samples) ≡ flat_map sample_text (reduce_from l edges.samples edges.first_offset number (map (sample_of file) samples))
+  all_told number dts [] h = refl
+  all_told number dts (s ∷ samples) h =
+      let one = one_told number dts s h.0 in
+      let more = all_told (number + 1) (dts + s.duration) samples h.1 ∙ (λ i. flat_map sample_text (reduce_from l edges.samples edges.first_offset (next_is number i) (map (sample_of file) samples))) in
+      λ i. one i ++ more i
+
+-- ---- a track
+
+opened_samples : (file : List ℕ) (m : MovieSeen) (tree : FileTree) (t : TrackTree) (k : ℕ) → IsOpenedAs file m tree → slice_get tree.movie.tracks k ≡ Some t → AllByRecursion (IsSampleOf file (track_keys tree t)) (placed_of (file_parts tree) t)
+opened_samples file m tree t k o is =
+    let Lie : TrackTree → Type 0 = λ u. AllByRecursion (IsInFile (length file)) (placed_of (file_parts tree) u) in
+    let lie = of_got Lie tree.movie.tracks k t is (each_member Lie tree.movie.tracks (λ u i. placed_lie file tree u o.is_consistent i)) in
+    let h = of_got (IsTrackPlaced tree) tree.movie.tracks k t is (tracks_placed file tree o.is_tree o.is_sound o.is_consistent o.bytes) in
+    each_from (IsOfTrack (length t.descriptions) (track_keys tree t)) (IsInFile (length file)) (IsSampleOf file (track_keys tree t)) (λ s k i. (record { are = h.keys; few = h.few; map = k.groups }, i)) (placed_of (file_parts tree) t) h.placed lie
+
+-- The lines of a track's samples are those of the samples that are left of it.
+pub track_told : (l : Without) (style : SampleStyle) (file : List ℕ) (m : MovieSeen) (tree : FileTree) (t : TrackTree) (k : ℕ) (info : TrackInfo) (edges : Edges) → IsOpenedAs file m tree → slice_get tree.movie.tracks k ≡ Some t → slice_get m.tracks k ≡ Some info
+    → edges ≡ edges_left l (track_samples tree t) → IsStyle l info.keys edges style
+    → flat_map (told_sample style file) (track_samples tree t) ≡ flat_map sample_text (reduce_track l (track_of file (file_parts tree) t)).samples
+track_told l style file m tree t k info edges o at there found is =
+    let own = (zipped_at (IsInfoOf file tree) tree.movie.tracks m.tracks k t info o.tracks at there).keys in
+    all_told l info.keys edges style is file (track_keys tree t) own 0 _ (placed_of (file_parts tree) t) (opened_samples file m tree t k o at)
+    ∙ ap (flat_map sample_text) (reduced_by_edges l edges file (track_keys tree t) 0 _ (placed_of (file_parts tree) t) found)

@@ -1,0 +1,26 @@
+use Rattle.std.proofs.Common.{sym, ◌∙◌}
+use Rattle.std.proofs.lemmas.Result.{err_from_is_err_and}
+use Rattle.mp4_present.specs.words.Compared.{files_differ}
+use Rattle.mp4_answers.proofs.ComparedTexts.{no_word_taken, word_kept, word_taken}
+use Rattle.mp4_answers.proofs.WordSets.{equal_words}
+use Rattle.mp4_answers.proofs.commands.compare.take_word.Goals as goal
+
+pub returns-then-eq-clause-tried : goal.returns-then-eq-clause-tried
+returns-then-eq-clause-tried g c = λ told right tree other o u.
+    no_word_taken c.args.trial.word c.args.files.now.given c.args.trial.leaving c.less_word-less.result (λ l. files_differ l (g.S.Store.file c.args.left.now) tree (g.T.Store.file c.args.right.now) other) c.less_word-less.ensures
+    (equal_words c.less_word-less.result c.args.trial.leaving (sym c.eq.ensures ∙ c.if-eq.true))
+
+pub returns-in_err-is_enough-clause-opened : goal.returns-in_err-is_enough-clause-opened
+returns-in_err-is_enough-clause-opened g c =
+    let p = err_from_is_err_and c.from_residual.result c.from_residual.ensures.1 in
+    rw (p.1, p.2) c.in_err-is_enough.ensures.opened
+
+pub returns-then-branch-clause-tried : goal.returns-then-branch-clause-tried
+returns-then-branch-clause-tried g c = λ told right tree other o u.
+    word_taken c.args.trial.word c.args.files.now.given c.args.trial.leaving c.less_word-less.result (λ l. files_differ l (g.S.Store.file c.args.left.now) tree (g.T.Store.file c.args.right.now) other) c.in_ok-is_enough.field-0 c.less_word-less.ensures c.if-branch.true
+    (c.in_ok-is_enough.ensures.enough told right tree other o u)
+
+pub returns-clause-tried : goal.returns-clause-tried
+returns-clause-tried g c = λ told right tree other o u.
+    word_kept c.args.trial.word c.args.files.now.given c.args.trial.leaving c.less_word-less.result (λ l. files_differ l (g.S.Store.file c.args.left.now) tree (g.T.Store.file c.args.right.now) other) c.in_ok-is_enough.field-0 c.less_word-less.ensures c.if-branch.false
+    (c.in_ok-is_enough.ensures.enough told right tree other o u)

@@ -1,0 +1,13 @@
+use Rattle.std.proofs.Common.{◌≡◌, ◌-◌, ◌≤◌}
+use Rattle.mp4_answers.proofs.commands.freed_boxes.keeps_time.Given as goal
+
+abbrev pub invariant-loop-at : goal.invariant-loop-at
+invariant-loop-at g l =
+    record {
+      span : l.at ≤ l.span.end;
+      honesty : g.S.Store.is_honest l.store ≡ g.S.Store.is_honest l.fn.store;
+      file : g.S.Store.file l.store ≡ g.S.Store.file l.fn.store;
+    }
+
+abbrev pub decreases-loop-at : goal.decreases-loop-at
+decreases-loop-at g l = l.span.end - l.at

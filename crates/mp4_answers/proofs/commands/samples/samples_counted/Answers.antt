@@ -1,0 +1,159 @@
+use Rattle.std.proofs.Common.{arith, ◌++◌, ◌∙◌}
+use Rattle.std.proofs.lemmas.Result.{err_from_is_err_and, on_ok_weaker}
+use Rattle.mp4_present.specs.words.SamplesComing.{track_samples}
+use Rattle.mp4_present.proofs.WalkCopied.{on_ok, on_err, if_err}
+use Rattle.mp4_present.proofs.Causes.{copy_not_carried}
+use Rattle.mp4_answers.specs.format.Answers.{IsFaultOf}
+use Rattle.mp4_answers.specs.format.FileTexts.{ListsSamples, LacksTrack}
+use Rattle.mp4_answers.specs.format.Run.{run_of, Honest}
+use Rattle.mp4_answers.specs.format.Texts.{listing_head, sample_at_lines}
+use Rattle.mp4_answers.proofs.RunParts.{copy_answers, open_fails, put_fails}
+use Rattle.mp4_answers.proofs.TrackTexts.{track_found, lacks, lists}
+use Rattle.mp4_answers.proofs.WalkLines.{headed_whole, headed_fails}
+use Rattle.mp4_store.proofs.Known.{TakesPrefix-longer}
+use Rattle.mp4_answers.proofs.StepSums.{opened_least}
+use Rattle.mp4_answers.proofs.StepsTaken.{not_looked, looked_within, walked_within}
+use Rattle.mp4_answers.proofs.LooksTaken.{not_found, finds_taken}
+use Rattle.mp4_answers.proofs.Matched.{told_ok}
+use Rattle.mp4_answers.proofs.commands.samples.samples_counted.Goals as goal
+
+pub returns-in_err-movie-clause-answer : goal.returns-in_err-movie-clause-answer
+returns-in_err-movie-clause-answer g c =
+    let p = err_from_is_err_and c.from_residual.result c.from_residual.ensures.1 in
+    let r = run_of g.S.Store c.args.store.now c.open_movie.new.store g.K.Sink c.args.sink.now c.args.sink.now in
+    rw (p.1, p.2) (open_fails (Unit {0}) r (ListsSamples r.file c.args.id c.args.form) (IsFaultOf r.file) (Honest r → LacksTrack r.file c.args.id) c.in_err-movie.field-0.0 (λ f s. s) (g.met.K.Sink.takes_nothing c.args.sink.now) c.in_err-movie.ensures.refusal)
+
+pub returns-in_err-track-clause-answer : goal.returns-in_err-track-clause-answer
+returns-in_err-track-clause-answer g c =
+    let p = err_from_is_err_and c.from_residual-in_err-track.result c.from_residual-in_err-track.ensures.1 in
+    let e = c.in_ok-movie.ensures in
+    let n = rw c.tracks.ensures at c.in_err-track.ensures.none in
+    rw (p.1, p.2, n.0) (g.met.K.Sink.takes_nothing c.args.sink.now, λ told. (let o = e.movie told in lacks (g.S.Store.file c.args.store.now) c.in_ok-movie.movie o.0 c.args.id o.1 n.1))
+
+pub returns-in_err-carrier-clause-answer : goal.returns-in_err-carrier-clause-answer
+returns-in_err-carrier-clause-answer g c =
+    let p = err_from_is_err_and c.from_residual-in_err-carrier.result c.from_residual-in_err-carrier.ensures.1 in
+    rw (p.1, p.2) (g.met.K.Sink.takes_nothing c.args.sink.now)
+
+pub returns-in_err-carry-clause-answer : goal.returns-in_err-carry-clause-answer
+returns-in_err-carry-clause-answer g c =
+    let p = err_from_is_err_and c.from_residual-in_err-carry.result c.from_residual-in_err-carry.ensures.1 in
+    let e = c.in_ok-movie.ensures in
+    let file = g.S.Store.file c.args.store.now in
+    let form = c.args.form in
+    let front = rw (c.in_ok-carrier.ensures.empty, c.head_of.ensures) at c.in_err-carry.ensures.prefix in
+    let r = run_of g.S.Store c.args.store.now c.open_movie.new.store g.K.Sink c.args.sink.now c.carry.new.sink in
+    rw (p.1, p.2) (put_fails (Unit {0}) r (ListsSamples file c.args.id form) (IsFaultOf file) (Honest r → LacksTrack file c.args.id) c.in_err-carry.field-0.0 c.in_err-carry.ensures.refusal
+    (λ told.
+    let o = e.movie told in
+    let f = track_found file c.in_ok-movie.movie o.0 c.in_ok-track.track c.args.id o.1 (rw c.tracks.ensures at c.in_ok-track.ensures.within) (rw c.tracks.ensures at c.in_ok-track.ensures.track) in
+    let lines = sample_at_lines form 1 (track_samples o.0 f.t) in
+    (listing_head form ++ lines, lists form file o.0 c.in_ok-track.track c.args.id f, TakesPrefix-longer (g.K.Sink.takes c.args.sink.now c.carry.new.sink) (listing_head form) lines front)))
+
+pub returns-clause-answer : goal.returns-clause-answer
+returns-clause-answer g c =
+    let file = g.S.Store.file c.args.store.now in
+    let form = c.args.form in
+    let e = c.in_ok-movie.ensures in
+    let y = c.put_walk.ensures in
+    let went = rw (c.in_ok-carrier.ensures.empty, c.head_of.ensures) at c.in_ok-carry.ensures.bytes in
+    let walked = rw (e.store.honesty, e.store.file) at y.lines in
+    let cause = rw (e.store.reads, c.in_ok-carry.ensures.puts) at y.refusal in
+    let r = run_of g.S.Store c.args.store.now c.put_walk.new.store g.K.Sink c.args.sink.now c.put_walk.new.sink in
+    copy_answers _ r (ListsSamples file c.args.id form) (IsFaultOf file) (Honest r → LacksTrack file c.args.id) c.put_walk.result (rw e.store.reads at y.store.reads) (rw c.in_ok-carry.ensures.puts at y.puts)
+    (told_ok _ _ c.put_walk.result (λ told.
+    let o = e.movie told in
+    let f = track_found file c.in_ok-movie.movie o.0 c.in_ok-track.track c.args.id o.1 (rw c.tracks.ensures at c.in_ok-track.ensures.within) (rw c.tracks.ensures at c.in_ok-track.ensures.track) in
+    let samples = track_samples o.0 f.t in
+    let lines = sample_at_lines form 1 samples in
+    on_ok _ _ c.put_walk.result (λ all. (listing_head form ++ lines, lists form file o.0 c.in_ok-track.track c.args.id f, headed_whole g.met.K.Sink.takes_on _ _ _ _ (listing_head form) lines went all))
+    (walked told o.0 f.t samples o.1 (c.in_ok-walk.ensures.coming file o.0 f.t o.1 f.is_there) f.few).all))
+    (if_err _ _ c.put_walk.result (λ e x. copy_not_carried r.took _ _ _ _ e x) cause)
+    (λ told.
+    let o = e.movie told in
+    let f = track_found file c.in_ok-movie.movie o.0 c.in_ok-track.track c.args.id o.1 (rw c.tracks.ensures at c.in_ok-track.ensures.within) (rw c.tracks.ensures at c.in_ok-track.ensures.track) in
+    let samples = track_samples o.0 f.t in
+    let lines = sample_at_lines form 1 samples in
+    on_err _ _ c.put_walk.result (λ all. (listing_head form ++ lines, lists form file o.0 c.in_ok-track.track c.args.id f, headed_fails g.met.K.Sink.takes_on _ _ _ _ (listing_head form) lines went all))
+    (walked told o.0 f.t samples o.1 (c.in_ok-walk.ensures.coming file o.0 f.t o.1 f.is_there) f.few).front)
+    (λ told.
+    let o = e.movie told in
+    let f = track_found file c.in_ok-movie.movie o.0 c.in_ok-track.track c.args.id o.1 (rw c.tracks.ensures at c.in_ok-track.ensures.within) (rw c.tracks.ensures at c.in_ok-track.ensures.track) in
+    (walked told o.0 f.t (track_samples o.0 f.t) o.1 (c.in_ok-walk.ensures.coming file o.0 f.t o.1 f.is_there) f.few).unchanged)
+
+pub returns-clause-store : goal.returns-clause-store
+returns-clause-store g c =
+    let e = c.in_ok-movie.ensures.store in
+    let y = c.put_walk.ensures.store in
+    record { honesty = y.honesty ∙ e.honesty; file = y.file ∙ e.file }
+
+-- ---- steps
+
+pub returns-in_err-movie-clause-work : goal.returns-in_err-movie-clause-work
+returns-in_err-movie-clause-work g c = λ told.
+    not_looked _ _ _ _ _ _ c.in_err-movie.field-0.0 told c.in_err-movie.ensures.refusal (c.in_err-movie.ensures.work told) (c.in_err-movie.ensures.within told)
+
+pub returns-in_err-track-clause-work : goal.returns-in_err-track-clause-work
+returns-in_err-track-clause-work g c = λ told.
+    let o = c.in_ok-movie.ensures.movie told in
+    looked_within _ _ _ c.in_ok-movie.movie o.0 o.1 (c.in_ok-movie.ensures.work told o.0 o.1.is_tree)
+
+pub returns-in_err-walk-clause-work : goal.returns-in_err-walk-clause-work
+returns-in_err-walk-clause-work g c = λ told.
+    let o = c.in_ok-movie.ensures.movie told in
+    looked_within _ _ _ c.in_ok-movie.movie o.0 o.1 (c.in_ok-movie.ensures.work told o.0 o.1.is_tree)
+
+pub returns-in_err-carrier-clause-work : goal.returns-in_err-carrier-clause-work
+returns-in_err-carrier-clause-work g c = λ told.
+    let o = c.in_ok-movie.ensures.movie told in
+    looked_within _ _ _ c.in_ok-movie.movie o.0 o.1 (c.in_ok-movie.ensures.work told o.0 o.1.is_tree)
+
+pub returns-in_err-carry-clause-work : goal.returns-in_err-carry-clause-work
+returns-in_err-carry-clause-work g c = λ told.
+    let o = c.in_ok-movie.ensures.movie told in
+    looked_within _ _ _ c.in_ok-movie.movie o.0 o.1 (c.in_ok-movie.ensures.work told o.0 o.1.is_tree)
+
+pub returns-clause-work : goal.returns-clause-work
+returns-clause-work g c = λ told.
+    let file = g.S.Store.file c.args.store.now in
+    let o = c.in_ok-movie.ensures.movie told in
+    let f = track_found file c.in_ok-movie.movie o.0 c.in_ok-track.track c.args.id o.1 (rw c.tracks.ensures at c.in_ok-track.ensures.within) (rw c.tracks.ensures at c.in_ok-track.ensures.track) in
+    let may = c.in_ok-walk.ensures.may file o.0 f.t o.1 f.is_there in
+    let few = may.2 in
+    let walk = (rw (c.in_ok-movie.ensures.store.honesty, c.in_ok-movie.ensures.store.file) at c.put_walk.ensures.work) told o.0 f.t may.0 o.1 may.1 in
+    walked_within file _ _ c.in_ok-movie.movie o.0 _ c.in_ok-track.track f.t o.1 (c.in_ok-movie.ensures.work told o.0 o.1.is_tree) f.is_there (omega (arith, few, walk))
+
+pub returns-clause-least : goal.returns-clause-least
+returns-clause-least g c = on_ok_weaker c.put_walk.result
+    (λ put told p d.
+    let taken = c.in_ok-movie.ensures.least told d.tree d.is_tree in
+    let grown = c.put_walk.ensures.grows in
+    omega (arith, taken, grown, opened_least _ p d))
+    c.put_walk.ensures.puts
+
+-- ---- looks
+
+pub returns-in_err-movie-clause-looks : goal.returns-in_err-movie-clause-looks
+returns-in_err-movie-clause-looks g c = λ told.
+    let l = c.in_err-movie.ensures.looks told in
+    not_found _ _ _ _ _ _ c.in_err-movie.field-0.0 told c.in_err-movie.ensures.refusal l.said l.within
+
+pub returns-in_err-track-clause-looks : goal.returns-in_err-track-clause-looks
+returns-in_err-track-clause-looks g c = λ told.
+    finds_taken _ c.in_ok-movie.movie _ _ (c.in_ok-movie.ensures.movie told) (c.in_ok-movie.ensures.looks told).said
+
+pub returns-in_err-walk-clause-looks : goal.returns-in_err-walk-clause-looks
+returns-in_err-walk-clause-looks g c = λ told.
+    finds_taken _ c.in_ok-movie.movie _ _ (c.in_ok-movie.ensures.movie told) (c.in_ok-movie.ensures.looks told).said
+
+pub returns-in_err-carrier-clause-looks : goal.returns-in_err-carrier-clause-looks
+returns-in_err-carrier-clause-looks g c = λ told.
+    finds_taken _ c.in_ok-movie.movie _ _ (c.in_ok-movie.ensures.movie told) (c.in_ok-movie.ensures.looks told).said
+
+pub returns-in_err-carry-clause-looks : goal.returns-in_err-carry-clause-looks
+returns-in_err-carry-clause-looks g c = λ told.
+    finds_taken _ c.in_ok-movie.movie _ _ (c.in_ok-movie.ensures.movie told) (c.in_ok-movie.ensures.looks told).said
+
+pub returns-clause-looks : goal.returns-clause-looks
+returns-clause-looks g c = λ told.
+    finds_taken _ c.in_ok-movie.movie _ _ (c.in_ok-movie.ensures.movie told) (c.in_ok-movie.ensures.looks told).said

@@ -1,0 +1,121 @@
+-- What comparing two files answers.
+use Rattle.std.specs.Prelude.{◌≡◌, ◌↔◌, ◌≤◌, ℕ, ◌+◌, ◌*◌, nat_le, List, ◌++◌, length, take, map, flat_map, slice_get, Bool, true, Option, Some, None, Ok}
+use Rattle.mp4_boxes.specs.format.Bytes.{AreBytes}
+use Rattle.mp4_present.specs.format.ByBytes.{OpensWithin}
+use Rattle.mp4_present.specs.format.Denotes.{Denotes}
+use Rattle.mp4_head.specs.format.Head.{Kept}
+use Rattle.mp4_present.specs.format.Presentation.{Track, Presentation, sample_total}
+use Rattle.mp4_present.specs.format.Judge.{judge}
+use Rattle.mp4_present.specs.format.Reduced.{reduce}
+use Rattle.mp4_present.specs.format.Comparison.{differences}
+use Rattle.mp4_present.specs.declared.comparing.differences.Difference.{Difference}
+use Rattle.mp4_present.specs.declared.without.Without.{Without}
+use Rattle.mp4_plan.specs.format.CoveringLaws.{Covers}
+use Rattle.mp4_answers.specs.declared.commands.compare.Listing.{Listing}
+use Rattle.mp4_answers.specs.declared.commands.compare.Listing.TheVariants as listings
+use Rattle.mp4_answers.specs.declared.jobs.Syntax.{Syntax}
+use Rattle.mp4_answers.specs.declared.jobs.Syntax.TheVariants as syntaxes
+use Rattle.mp4_answers.specs.format.DifferenceLine.{difference_line}
+use Rattle.mp4_answers.specs.format.DifferenceObject.{difference_object, last_object}
+use Rattle.mp4_answers.specs.format.Headline.{DenotesNothing}
+use Rattle.mp4_answers.specs.format.LastLine.{last_line}
+use Rattle.mp4_answers.specs.format.Steps.{FindsWithin, row_total}
+
+-- Both files are judged to be a presentation, and the answer is whether the same is left of both.
+pub record IsVerdict (l : Without) (file other : List ℕ) (same : Bool) : Type 0 where
+  pub p : Presentation
+  pub q : Presentation
+  pub first : judge file ≡ Ok p
+  pub second : judge other ≡ Ok q
+  pub is : AreBytes file → AreBytes other → (same ≡ true) ↔ (reduce l p ≡ reduce l q)
+
+-- ---- what is said of two files that differ
+
+-- so many differences are counted at most
+abbrev pub most_counted : ℕ
+most_counted = 1048576
+
+-- the sample descriptions of all tracks
+abbrev pub descriptions_in : Presentation → List (List Kept)
+descriptions_in p = map (λ (t : Track). t.head.media.descriptions) p.tracks
+
+-- Words are named that leave out what was asked for, and with which the same is left of both. None
+-- of them can be taken away; where the sample descriptions are the same, they are among any others
+-- that do it too, and have `timing` if these have it and only then: what `ends` and `origins` hide
+-- `timing` hides too, so there may be such words with it and others without. Or none are named, and
+-- there are none.
+abbrev pub AreEnough : Without → Presentation → Presentation → Option Without → Type 0
+AreEnough l p q None = (m : Without) → reduce m p ≡ reduce m q → ⊥
+AreEnough l p q (Some m) = Covers l m × (reduce m p ≡ reduce m q)
+    × ((k : Without) → Covers l k → Covers k m → reduce k p ≡ reduce k q → k ≡ m)
+    × (descriptions_in p ≡ descriptions_in q
+    → (k : Without) → Covers l k → k.timing ≡ m.timing → reduce k p ≡ reduce k q → Covers m k)
+
+-- a difference as a line or as an object
+abbrev pub difference_in : Syntax → Difference → List ℕ
+difference_in syntaxes.Text d = difference_line d
+difference_in syntaxes.Json d = difference_object d
+
+-- and what is said of all
+abbrev pub last_in : Syntax → Bool → List Difference → Option Without → List ℕ
+last_in syntaxes.Text whole ds enough = last_line whole ds enough
+last_in syntaxes.Json whole ds enough = last_object whole ds enough
+
+-- the first differences, as many as are asked for, and what is said of all that are counted
+abbrev pub listing_text : Syntax → ℕ → List Difference → Option Without → List ℕ
+listing_text syntax limit ds enough =
+    flat_map (difference_in syntax) (take limit (take most_counted ds))
+    ++ last_in syntax (nat_le (length ds) most_counted) (take most_counted ds) enough
+
+-- What is said of two presentations of which not the same is left: the first difference; or all of
+-- them, with the words that make the two the same.
+abbrev pub TellsOf : Listing → Without → Presentation → Presentation → List ℕ → Type 0
+TellsOf (listings.First syntax) l p q text = (first : Difference)
+    × (slice_get (differences (reduce l p) (reduce l q)) 0 ≡ Some first)
+    × (text ≡ difference_in syntax first)
+TellsOf (listings.All lines) l p q text = (enough : Option Without) × AreEnough l p q enough
+    × (text
+    ≡ listing_text lines.syntax lines.limit (differences (reduce l p) (reduce l q)) enough)
+
+-- The text tells of what the two files are judged to be.
+pub record IsTold (listing : Listing) (l : Without) (file other text : List ℕ) : Type 0 where
+  pub p : Presentation
+  pub q : Presentation
+  pub first : judge file ≡ Ok p
+  pub second : judge other ≡ Ok q
+  pub tells : AreBytes file → AreBytes other → TellsOf listing l p q text
+
+-- such a text was put
+abbrev pub PutsSuch : (List ℕ → Type 0) → (List ℕ → Type 0) → Type 0
+PutsSuch Took IsText = (text : List ℕ) × IsText text × Took text
+
+-- ---- its steps
+
+-- how many words there are behind `--without`
+abbrev pub word_count : ℕ
+word_count = 10
+
+-- A file is walked over at most so many times: to list what differs; to find words that make the
+-- two the same, those that the differences ask for and then all; and without each of these words.
+abbrev pub most_walks : ℕ
+most_walks = 3 + word_count
+
+-- The steps over one of two files that are compared: those of opening it, and of so many walks over
+-- each of its tracks. Where it denotes a presentation: 3 for opening it and 3 for each walk, times
+-- the samples and rows, however many tracks there are. Where it denotes nothing: by its bytes.
+pub record ComparedWithin (file : List ℕ) (old new : ℕ) : Type 0 where
+  pub denoted : (p : Presentation) → (d : Denotes file p)
+      → new ≤ old + 3 * (most_walks + 1) * (sample_total p + row_total d.tree)
+  pub refused : DenotesNothing file → OpensWithin file old new
+
+-- the steps of comparing two files
+pub record ComparesWithin (file other : List ℕ) (old new : ℕ) : Type 0 where
+  pub between : ℕ
+  pub first : ComparedWithin file old between
+  pub second : ComparedWithin other between new
+
+-- Their looks: those that opening each may take.
+pub record FindsBothWithin (file other : List ℕ) (old new : ℕ) : Type 0 where
+  pub between : ℕ
+  pub first : FindsWithin file old between
+  pub second : FindsWithin other between new

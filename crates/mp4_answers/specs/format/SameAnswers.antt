@@ -1,0 +1,53 @@
+-- Laws of what the commands answer, taken together.
+use Rattle.std.specs.Prelude.{◌≡◌, ◌↔◌, ℕ, List, Bool, true}
+use Rattle.mp4_boxes.specs.format.Bytes.{AreBytes}
+use Rattle.mp4_boxes.specs.declared.fault.Fault.{Fault}
+use Rattle.mp4_present.specs.format.Presentation.{Presentation}
+use Rattle.mp4_present.specs.format.Denotes.{Denotes}
+use Rattle.mp4_present.specs.format.Stands.{Stands}
+use Rattle.mp4_present.specs.declared.without.Without.{Without}
+use Rattle.mp4_plan.specs.format.CoveringLaws.{Covers}
+use Rattle.mp4_answers.specs.declared.jobs.Form.{Form}
+use Rattle.mp4_answers.specs.format.CompareHeadline.{IsVerdict}
+use Rattle.mp4_answers.specs.format.Headline.{HasNormalForm}
+use Rattle.mp4_answers.specs.format.ReducedHeadline.{HasReducedForm}
+use Rattle.mp4_answers.specs.format.FileTexts.{ShowsLine, ListsSamples, HasData}
+
+-- Two files are told the same, without some things, exactly if the normal forms of what is left of
+-- them are the same bytes.
+abbrev pub SameIsSameBytes : Type 0
+SameIsSameBytes = (l : Without) (file other text other_text : List ℕ) (same : Bool)
+    → AreBytes file → AreBytes other → IsVerdict l file other same
+    → HasReducedForm l file text → HasReducedForm l other other_text
+    → (same ≡ true) ↔ (text ≡ other_text)
+
+-- Files that are told the same without some things are told the same without more.
+abbrev pub SameStaysSame : Type 0
+SameStaysSame = (l m : Without) (file other : List ℕ) (more : Bool) → AreBytes file
+    → AreBytes other → Covers l m → IsVerdict l file other true → IsVerdict m file other more
+    → more ≡ true
+
+-- The normal form of a file denotes what the file denotes, and nothing else.
+abbrev pub NormalFormDenotesTheSame : Type 0
+NormalFormDenotesTheSame = (file text : List ℕ) → AreBytes file → HasNormalForm file text
+    → (p : Presentation) → Denotes file p ↔ Denotes text p
+
+-- What is shown of a file, listed of it and extracted from it is what is shown, listed and
+-- extracted of its normal form.
+abbrev pub NormalFormShowsTheSame : Type 0
+NormalFormShowsTheSame = (file text : List ℕ) → AreBytes file → HasNormalForm file text
+    → (line : List ℕ) → ShowsLine file line ↔ ShowsLine text line
+
+abbrev pub NormalFormListsTheSame : Type 0
+NormalFormListsTheSame = (file text : List ℕ) → AreBytes file → HasNormalForm file text
+    → (id : ℕ) (form : Form) (lines : List ℕ)
+    → ListsSamples file id form lines ↔ ListsSamples text id form lines
+
+abbrev pub NormalFormHasTheSameData : Type 0
+NormalFormHasTheSameData = (file text : List ℕ) → AreBytes file → HasNormalForm file text
+    → (id : ℕ) (bytes : List ℕ) → HasData file id bytes ↔ HasData text id bytes
+
+-- No fault stands in a file that has a normal form. (That `check` and `normalise` never disagree
+-- needs no law: both say what `judge` says.)
+abbrev pub AcceptedHasNoFault : Type 0
+AcceptedHasNoFault = (file text : List ℕ) (f : Fault) → HasNormalForm file text → Stands file f → ⊥

@@ -1,0 +1,72 @@
+-- How many steps and looks a whole run may take. A step is a row, a `traf`, a run or a sample that
+-- a check or a cursor passes. A look passes none of these: it finds the track of a `traf` by its
+-- ID, or is a turn.
+use Rattle.std.specs.Prelude.{ℕ, ◌+◌, ◌*◌, ◌≤◌, ◌||◌, ◌&&◌, not, if◌then◌else◌, List, length}
+use Rattle.mp4_boxes.specs.format.Bytes.{sum_of}
+use Rattle.mp4_tables.specs.format.Tables.{tables_of}
+use Rattle.mp4_tables.specs.format.TableRows.{table_rows}
+use Rattle.mp4_frag.specs.format.Fragments.{FragmentTree, fragment_of}
+use Rattle.mp4_frag.specs.format.FragmentRows.{fragment_rows}
+use Rattle.mp4_head.specs.format.Tree.{TrackTree}
+use Rattle.mp4_present.specs.format.ByBytes.{OpensWithin, LooksByBytes}
+use Rattle.mp4_present.specs.format.Denotes.{FileTree, Denotes}
+use Rattle.mp4_present.specs.format.Presentation.{Presentation, sample_total}
+use Rattle.mp4_present.specs.declared.without.Without.{Without}
+use Rattle.mp4_plan.specs.format.TurnCount.{most_turns}
+use Rattle.mp4_answers.specs.format.Headline.{DenotesNothing}
+
+-- the rows of all tables of a file, and the `traf`s, runs and rows of `sbgp` of all its `moof`s
+abbrev pub row_total : FileTree → ℕ
+row_total tree = sum_of (λ (t : TrackTree). table_rows (tables_of t.table)) tree.movie.tracks
+    + sum_of (λ (f : FragmentTree). fragment_rows (fragment_of f)) tree.fragments
+
+-- 8 for each sample and each row, times one more than there are tracks
+abbrev pub most_steps : ℕ → ℕ → ℕ → ℕ
+most_steps tracks samples rows = 8 * ((tracks + 1) * (samples + rows))
+
+-- The steps for each sample and each row where this is left out. Where it is ends or origins, each
+-- track is walked over once more: what is left of all its samples has to be known first.
+abbrev pub steps_each : Without → ℕ
+steps_each l = if (l.ends || l.origins) && not l.timing then 15 else 12
+
+-- The steps taken over a file to write the normal form of what is left of it. Where it denotes a
+-- presentation: by the tracks, samples and rows of that; and 12 or 15 for each sample and each row,
+-- however many tracks there are. Where it denotes nothing: by its bytes.
+pub record WorksWithin (l : Without) (file : List ℕ) (old new : ℕ) : Type 0 where
+  pub denoted : (p : Presentation) → (d : Denotes file p)
+      → new ≤ old + most_steps (length p.tracks) (sample_total p) (row_total d.tree)
+  pub few : (p : Presentation) → (d : Denotes file p)
+      → new ≤ old + steps_each l * (sample_total p + row_total d.tree)
+  pub refused : DenotesNothing file → OpensWithin file old new
+
+-- The steps of looking at a file, and of a walk over one of its tracks: 8 for each sample and each
+-- row, however many tracks there are.
+pub record WalksWithin (file : List ℕ) (old new : ℕ) : Type 0 where
+  pub denoted : (p : Presentation) → (d : Denotes file p)
+      → new ≤ old + 8 * (sample_total p + row_total d.tree)
+  pub refused : DenotesNothing file → OpensWithin file old new
+
+-- where it denotes a presentation, at least one for each of its samples, and one for each row
+abbrev pub TakesEach : List ℕ → ℕ → ℕ → Type 0
+TakesEach file old new = (p : Presentation) → (d : Denotes file p)
+    → old + (sample_total p + row_total d.tree) ≤ new
+
+-- ---- looks
+
+-- at how many places of a file a track is looked for by its ID: each `traf`
+abbrev pub place_total : FileTree → ℕ
+place_total tree = sum_of (λ (f : FragmentTree). length (fragment_of f).trafs) tree.fragments
+
+-- The looks at a file: at most one for each `traf`, however many tracks there are. Where it denotes
+-- nothing: by its bytes.
+pub record FindsWithin (file : List ℕ) (old new : ℕ) : Type 0 where
+  pub denoted : (p : Presentation) → (d : Denotes file p)
+      → new ≤ old + place_total d.tree
+  pub refused : DenotesNothing file → LooksByBytes file old new
+
+-- The looks taken to write a file's normal form: those at the file, and the turns of two ways over
+-- all pieces, to plan and to write; a turn takes samples of a track.
+pub record TurnsWithin (file : List ℕ) (old new : ℕ) : Type 0 where
+  pub denoted : (p : Presentation) → (d : Denotes file p) → new ≤ old
+      + (place_total d.tree + 2 * most_turns (sample_total p) (length p.tracks))
+  pub refused : DenotesNothing file → LooksByBytes file old new

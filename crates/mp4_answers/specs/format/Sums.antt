@@ -1,0 +1,19 @@
+-- The sum of a file: the digest of its normal form.
+use Rattle.std.specs.Prelude.{◌≡◌, ◌⊎◌, ℕ, List, [], Result, IfOk}
+use Rattle.sha2.specs.Sha256.{sha256}
+use Rattle.mp4_boxes.specs.declared.refusal.Refusal.{Refusal}
+use Rattle.mp4_present.specs.declared.without.Without.{Without}
+use Rattle.mp4_plan.specs.format.ReducedTimes.{ReducedFaultStands}
+use Rattle.mp4_answers.specs.format.Answers.{IsFaultOf}
+use Rattle.mp4_answers.specs.format.ReducedHeadline.{HasReducedForm}
+use Rattle.mp4_answers.specs.format.Run.{Run, Honest, Answered}
+
+-- the digest under SHA-256 of the normal form of what is left of the file
+abbrev pub HasSum : Without → List ℕ → List ℕ → Type 0
+HasSum l file digest = (bytes : List ℕ) × HasReducedForm l file bytes × (digest ≡ sha256 bytes)
+
+-- `sum`: that digest; nothing is put, and it is refused where `normalise --without` is
+abbrev pub Summed : Without → Run → Result (List ℕ) Refusal → Type 0
+Summed l r result = Answered r (λ text. text ≡ [])
+    (λ f. IsFaultOf r.file f ⊎ ReducedFaultStands l r.file f) ⊥ result
+    × IfOk result (λ digest. Honest r → HasSum l r.file digest)

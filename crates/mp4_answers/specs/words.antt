@@ -1,0 +1,15 @@
+pub mod BoxSpans
+pub mod ShowValue
+pub mod Jobs
+pub mod Compares
+pub mod SingleWords
+pub mod Telling
+pub mod ToldSamples
+pub mod PrintedTracks
+pub mod Pairs
+pub mod StoreAndSink
+pub mod TwoFiles
+pub mod ListedWalks
+pub mod StripSpans
+pub mod AddedWays
+pub mod WholePut

@@ -1,0 +1,161 @@
+-- What there is to say of two files that are compared, and why they are not. `Took` says of bytes
+-- that they were put, the numbers are counts of failed reads and of failed puts.
+use Rattle.std.specs.Prelude.{◌≡◌, ◌⊎◌, ◌+◌, ◌*◌, ◌<◌, ◌≤◌, ℕ, List, [], ◌∷◌, ◌++◌, length, take, flat_map, slice_get, Option, None, Some, Bool, true, false, IsTrue}
+use Rattle.mp4_store.specs.words.Device.{HasRisen, TakesPrefix}
+use Rattle.mp4_boxes.specs.declared.refusal.Refusal.{Refusal}
+use Rattle.mp4_boxes.specs.declared.refusal.Refusal.TheVariants as refusals
+use Rattle.mp4_present.specs.format.Comparison.{differences}
+use Rattle.mp4_present.specs.format.Denotes.{FileTree}
+use Rattle.mp4_present.specs.words.WalkSteps.{walks_steps}
+use Rattle.mp4_present.specs.declared.comparing.differences.Difference.{Difference}
+use Rattle.mp4_present.specs.declared.without.Without.{Without}
+use Rattle.mp4_plan.specs.format.CoveringLaws.{Covers}
+use Rattle.mp4_answers.specs.format.CompareHeadline.{difference_in, last_in, listing_text, most_counted}
+use Rattle.mp4_answers.specs.format.DifferenceObject.{last_object}
+use Rattle.mp4_answers.specs.words.SingleWords.{everything, less_word, single_words}
+use Rattle.mp4_answers.specs.declared.commands.compare.Listing.{Listing}
+use Rattle.mp4_answers.specs.declared.commands.compare.Listing.TheVariants as listings
+use Rattle.mp4_answers.specs.declared.commands.compare.Side.{Side}
+use Rattle.mp4_answers.specs.declared.commands.compare.Side.TheVariants as sides
+use Rattle.mp4_answers.specs.declared.commands.compare.Failure.{Failure}
+use Rattle.mp4_answers.specs.declared.jobs.Syntax.{Syntax}
+use Rattle.mp4_answers.specs.declared.jobs.Syntax.TheVariants as syntaxes
+
+-- ---- what there is to say
+
+-- there is something to say exactly where something differs
+abbrev pub IsSaid : {A : Type 0} → Option A → List Difference → Type 0
+IsSaid None differences = differences ≡ []
+IsSaid (Some text) differences = differences ≡ [] → ⊥
+
+-- all of these are listed, or more of the first of them than are counted
+abbrev pub ListsFront : List Difference → List Difference → Type 0
+ListsFront listed differences = (listed ≡ differences)
+    ⊎ ((most_counted < length listed) × (n : ℕ) × (listed ≡ take n differences))
+
+-- the lines of these were added
+abbrev pub AddsLines : Syntax → List Difference → List ℕ → List ℕ → Type 0
+AddsLines syntax ds old new = new ≡ old ++ flat_map (difference_in syntax) ds
+
+-- the last line was added
+abbrev pub AddsLast : Syntax → Bool → List Difference → Option Without → List ℕ → List ℕ → Type 0
+AddsLast syntax whole ds enough old new = new ≡ old ++ last_in syntax whole ds enough
+
+-- the lines of some first of these, and the last one, which says whether these are all
+abbrev pub IsCounted : Syntax → ℕ → List Difference → Bool → Option Without → List ℕ → Type 0
+IsCounted syntax limit ds whole enough text = text
+    ≡ flat_map (difference_in syntax) (take limit ds) ++ last_in syntax whole ds enough
+
+-- The differences are given for whatever is left out. Whether there are none without this.
+abbrev pub IsSameWith : Without → (Without → List Difference) → Bool → Type 0
+IsSameWith l differ true = differ l ≡ []
+IsSameWith l differ false = differ l ≡ [] → ⊥
+
+-- some words, those that were given among them, without which nothing differs; or none do
+abbrev pub AreSome : Without → (Without → List Difference) → Option Without → Type 0
+AreSome given differ None = differ everything ≡ [] → ⊥
+AreSome given differ (Some l) = Covers given l × (differ l ≡ [])
+
+-- One of the words was taken away, where nothing differs without the others; else it was not.
+abbrev pub IsTried : Without → Without → (Without → List Difference) → Without → Without → Type 0
+IsTried word given differ l next =
+    ((next ≡ less_word given l word) × (differ l ≡ [] → differ next ≡ []))
+    ⊎ ((next ≡ l) × (differ (less_word given l word) ≡ [] → ⊥))
+
+-- the same of several, one after the other
+unfoldable pub IsShrunk : List Without → Without → (Without → List Difference) → Without → Without
+    → Type 0
+IsShrunk [] given differ l least = least ≡ l
+IsShrunk (word ∷ words) given differ l least = (next : Without)
+    × IsTried word given differ l next × IsShrunk words given differ next least
+
+-- what is left of some words that are enough; or none are
+abbrev pub IsEnough : Without → (Without → List Difference) → Option Without → Type 0
+IsEnough given differ None = AreSome given differ None
+IsEnough given differ (Some least) = (l : Without) × AreSome given differ (Some l)
+    × IsShrunk single_words given differ l least
+
+-- what is said where something differs
+abbrev pub IsSaidOf : Listing → Without → (Without → List Difference) → List ℕ → Type 0
+IsSaidOf (listings.First syntax) l differ text = (first : Difference)
+    × (slice_get (differ l) 0 ≡ Some first) × (text ≡ difference_in syntax first)
+IsSaidOf (listings.All lines) l differ text = (enough : Option Without) × IsEnough l differ enough
+    × (text ≡ listing_text lines.syntax lines.limit (differ l) enough)
+
+-- the same of what was found
+abbrev pub IsFoundOf : {A : Type 0} → (A → List ℕ) → Listing → Without → (Without → List Difference)
+    → Option A → Type 0
+IsFoundOf bytes listing l differ None = Unit {0}
+IsFoundOf bytes listing l differ (Some text) = IsSaidOf listing l differ (bytes text)
+
+abbrev pub says_nothing : {A : Type 0} → Option A → Bool
+says_nothing None = true
+says_nothing (Some text) = false
+
+-- the steps of at most so many walks over all tracks of both
+abbrev pub WalksTimes : ℕ → FileTree → FileTree → ℕ → ℕ → Type 0
+WalksTimes times tree other old new = new ≤ old + times * (walks_steps tree + walks_steps other)
+
+-- Nothing is said of files that are the same, but where all differences are listed as JSON.
+abbrev pub is_text : Syntax → Bool
+is_text syntaxes.Text = true
+is_text syntaxes.Json = false
+
+abbrev pub is_silent : Listing → Bool
+is_silent (listings.First syntax) = true
+is_silent (listings.All lines) = is_text lines.syntax
+
+-- some text was put
+abbrev pub PutsSome : (List ℕ → Type 0) → Type 0
+PutsSome Took = (text : List ℕ) × (0 < length text) × Took text
+
+-- what was put of files that are the same without this
+abbrev pub PutsSame : Without → Bool → (List ℕ → Type 0) → Type 0
+PutsSame l true Took = Took []
+PutsSame l false Took = Took (last_object true [] (Some l))
+
+-- nothing was put where two files are the same and nothing is said of that, or the object that says
+-- so; where they differ, some text
+abbrev pub PutsAnswer : Without → Bool → (List ℕ → Type 0) → Bool → Type 0
+PutsAnswer l silent Took true = PutsSame l silent Took
+PutsAnswer l silent Took false = PutsSome Took
+
+-- all that was found was put
+abbrev pub PutsFound : {A : Type 0} → (A → List ℕ) → Option A → (List ℕ → Type 0) → Type 0
+PutsFound bytes None Took = Unit {0}
+PutsFound bytes (Some text) Took = Took (bytes text)
+
+-- ---- refusals
+
+-- the files that a failure is about, once both are judged
+abbrev pub side_of : Refusal → Side
+side_of refusals.StoreFailed = sides.Both
+side_of refusals.StoreChanged = sides.Both
+side_of _ = sides.Neither
+
+-- reading both files side by side failed, or one of them has changed
+abbrev pub RefusesBoth : Bool → Bool → ℕ → ℕ → ℕ → ℕ → Refusal → Type 0
+RefusesBoth honest honest_right left left_after right right_after refusals.StoreFailed =
+    HasRisen left left_after ⊎ HasRisen right right_after
+RefusesBoth honest honest_right left left_after right right_after refusals.StoreChanged =
+    IsTrue honest → IsTrue honest_right → ⊥
+RefusesBoth honest honest_right left left_after right right_after _ = ⊥
+
+-- the answer could not be put, or there was no memory for it
+abbrev pub RefusesAnswer : (List ℕ → Type 0) → ℕ → ℕ → Refusal → Type 0
+RefusesAnswer Took puts puts_after refusals.WriteFailed = HasRisen puts puts_after
+    × (text : List ℕ) × TakesPrefix Took text
+RefusesAnswer Took puts puts_after refusals.Memory = Took []
+RefusesAnswer Took puts puts_after _ = ⊥
+
+-- The side says whose refusal it is: of the first file, of the second, of reading both, or of
+-- neither. Nothing is put before both are judged and compared.
+abbrev pub RefusesCompare : (Refusal → Type 0) → (Refusal → Type 0) → (Refusal → Type 0)
+    → (List ℕ → Type 0) → ℕ → ℕ → Failure → Type 0
+RefusesCompare First Second Both Took puts puts_after failure = of failure.side
+  where
+    of : Side → Type 0
+    of sides.First = First failure.refusal × Took []
+    of sides.Second = Second failure.refusal × Took []
+    of sides.Both = Both failure.refusal × Took []
+    of sides.Neither = RefusesAnswer Took puts puts_after failure.refusal

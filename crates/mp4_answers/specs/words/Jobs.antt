@@ -1,0 +1,28 @@
+-- How many steps and looks a job may take.
+use Rattle.std.specs.Prelude.{ℕ, List}
+use Rattle.mp4_plan.specs.format.ReducedLaws.{nothing}
+use Rattle.mp4_answers.specs.format.Steps.{WorksWithin, WalksWithin, FindsWithin, TurnsWithin}
+use Rattle.mp4_answers.specs.declared.jobs.Job.{Job}
+use Rattle.mp4_answers.specs.declared.jobs.Job.TheVariants as jobs
+
+-- the steps, where they are counted
+abbrev pub JobWorksWithin : Job → List ℕ → ℕ → ℕ → Type 0
+JobWorksWithin (jobs.Boxes syntax) file old new = Unit {0}
+JobWorksWithin jobs.Show file old new = WalksWithin file old new
+JobWorksWithin (jobs.Samples track form) file old new = WalksWithin file old new
+JobWorksWithin (jobs.Extract track) file old new = WalksWithin file old new
+JobWorksWithin jobs.Normalise file old new = WorksWithin nothing file old new
+JobWorksWithin (jobs.Print l) file old new = WalksWithin file old new
+JobWorksWithin (jobs.Reduce l) file old new = WorksWithin l file old new
+JobWorksWithin (jobs.Strip names) file old new = Unit {0}
+
+-- the looks, where these are counted
+abbrev pub JobLooksWithin : Job → List ℕ → ℕ → ℕ → Type 0
+JobLooksWithin (jobs.Boxes syntax) file old new = Unit {0}
+JobLooksWithin jobs.Show file old new = FindsWithin file old new
+JobLooksWithin (jobs.Samples track form) file old new = FindsWithin file old new
+JobLooksWithin (jobs.Extract track) file old new = FindsWithin file old new
+JobLooksWithin jobs.Normalise file old new = TurnsWithin file old new
+JobLooksWithin (jobs.Print l) file old new = FindsWithin file old new
+JobLooksWithin (jobs.Reduce l) file old new = TurnsWithin file old new
+JobLooksWithin (jobs.Strip names) file old new = Unit {0}

@@ -1,0 +1,38 @@
+//! Laws of what the commands answer, taken together.
+ghost use Rattle.mp4_answers.specs.format.SameAnswers.{AcceptedHasNoFault, NormalFormDenotesTheSame, NormalFormHasTheSameData, NormalFormListsTheSame, NormalFormShowsTheSame, SameIsSameBytes, SameStaysSame};
+
+/// `compare --without` says that two files are the same exactly if `normalise --without` of both
+/// gives the same bytes, where both are not too long.
+pub fn same_is_same_bytes()
+    ensures { SameIsSameBytes }
+{}
+
+/// What is told the same without some words is told the same without more.
+pub fn same_stays_same()
+    ensures { SameStaysSame }
+{}
+
+/// A normal form denotes what its file denotes.
+pub fn normal_form_denotes_the_same()
+    ensures { NormalFormDenotesTheSame }
+{}
+
+/// `show` answers the same of a file and of its normal form.
+pub fn normal_form_shows_the_same()
+    ensures { NormalFormShowsTheSame }
+{}
+
+/// And so does `samples`.
+pub fn normal_form_lists_the_same()
+    ensures { NormalFormListsTheSame }
+{}
+
+/// And so does `extract`.
+pub fn normal_form_has_the_same_data()
+    ensures { NormalFormHasTheSameData }
+{}
+
+/// No fault stands in a file that has a normal form.
+pub fn accepted_has_no_fault()
+    ensures { AcceptedHasNoFault }
+{}

@@ -1,0 +1,583 @@
+//! Two files, compared by what they say.
+ghost use Rattle.std.specs.Prelude.{◌≡◌, ◌+◌, ◌<◌, [], ◌∷◌, length, take, Some, true, false, IfOk, IfErr, IfSome, OnOk};
+ghost use Rattle.mp4_answers.specs.declared.commands.compare.Listing.TheVariants.{All};
+ghost use Rattle.mp4_answers.specs.format.CompareHeadline.{IsVerdict, IsTold, difference_in, PutsSuch, ComparesWithin, FindsBothWithin, most_walks, word_count};
+ghost use Rattle.mp4_answers.specs.format.DifferenceObject.{last_object};
+ghost use Rattle.mp4_answers.specs.words.Compares.{side_of, says_nothing, is_silent, AddsLines, AddsLast, IsCounted, AreSome, IsEnough, IsTried, IsShrunk, IsSameWith, IsFoundOf, IsSaid, ListsFront, PutsAnswer, PutsFound, PutsSame, WalksTimes, RefusesAnswer};
+ghost use Rattle.mp4_present.specs.words.StoresRead.{IsUnchanged, WhereBothHonest};
+ghost use Rattle.mp4_answers.specs.words.StoreAndSink.{NoPutFails};
+ghost use Rattle.mp4_present.specs.words.Compared.{OfFiles, WhereOpenedBoth};
+ghost use Rattle.mp4_answers.specs.words.TwoFiles.{ComparesBoth, OfBoth, ReadsBoth, WalksOnce};
+
+use crate::commands::guesses::guess;
+use crate::text::tally::say_last;
+use crate::jobs::Syntax;
+use crate::costs::Costs;
+use crate::without_words::{EVERYTHING, WORDS, less_word};
+use crate::text::difference_json::{say_difference_object, say_last_object};
+use crate::text::difference_lines::say_difference;
+use mp4_boxes::{Refusal, Steps};
+use mp4_present::{Difference, Differences, Movies, Without, compare, compare_all, open_movie};
+use mp4_store::{Sink, Store};
+use std::alloc::{AllocError, Global};
+use std::sync::ledger::Ledger;
+
+/// How many differences are listed at most, and in which syntax.
+#[derive(Clone, Copy)]
+pub struct Lines {
+    pub limit: u32,
+    pub syntax: Syntax,
+}
+
+/// How a comparison is told of: by the first difference alone, or by so many and their counts.
+#[derive(Clone, Copy)]
+pub enum Listing {
+    First(Syntax),
+    All(Lines),
+}
+
+/// What is asked of a comparison: what is left out of both files, and how it is told of.
+#[derive(Clone, Copy)]
+pub struct Asked {
+    pub leaving: Without,
+    pub listing: Listing,
+}
+
+/// Which file a comparison fails for.
+#[derive(Clone, Copy)]
+pub enum Side {
+    First,
+    Second,
+    Both,
+    Neither,
+}
+
+/// Why a comparison has no answer, and for which file.
+#[derive(Clone, Copy)]
+pub struct Failure {
+    pub side: Side,
+    pub refusal: Refusal,
+}
+
+// Two opened files that are compared, and what is left out of both.
+#[derive(Drop)]
+struct Compared {
+    movies: Movies,
+    given: Without,
+}
+
+// Words without which two files are the same, and the one that it is to be tried to take away.
+#[derive(Clone, Copy)]
+struct Trial {
+    leaving: Without,
+    word: Without,
+}
+
+// Words without which two files are the same, and all that it is to be tried to take away.
+#[derive(Clone, Copy)]
+struct Shrinking<'a> {
+    leaving: Without,
+    words: &'a [Without],
+}
+
+// A failure for a file.
+pub(crate) fn failed(side: Side, refusal: Refusal) -> Failure
+    ensures side { result.side ≡ side }
+    ensures refusal { result.refusal ≡ refusal }
+{
+    Failure { side, refusal }
+}
+
+// A failure while both files are read, or none is.
+fn failed_together(refusal: Refusal) -> Failure
+    ensures side { result.side ≡ side_of refusal }
+    ensures refusal { result.refusal ≡ refusal }
+{
+    let side = match refusal {
+        Refusal::StoreFailed | Refusal::StoreChanged => Side::Both,
+        _ => Side::Neither,
+    };
+    failed(side, refusal)
+}
+
+/// The most differences that are counted. One more is held, to know whether there are more.
+const MOST: usize = 1 << 20;
+
+// Differences, as many as there is room for.
+#[derive(Drop)]
+struct Listed {
+    all: Vec<Difference>,
+}
+
+impl Listed {
+    ghost use Rattle.std.specs.Prelude.{◌≡◌, nat_eq, nat_lt, length, IfOk, []};
+    ghost use Rattle.std.specs.Vec.{vec_len, vec_capacity};
+
+    // None yet.
+    fn new(alloc: Global) -> Result<Listed, AllocError>
+        ensures { IfOk result (λ listed. listed.all.items ≡ []) }
+    {
+        let mut all = Vec::new(alloc);
+        all.reserve(1)?;
+        Ok(Listed { all })
+    }
+
+    // Whether none was taken.
+    fn is_empty(&self) -> bool
+        ensures { result ≡ nat_eq (length self.now.all.items) 0 }
+    {
+        self.all.len() == 0
+    }
+
+    // Whether there is room for one more.
+    fn has_room(&self) -> bool
+        ensures { result ≡ nat_lt (vec_len self.now.all) (vec_capacity self.now.all) }
+    {
+        self.all.len() < self.all.capacity()
+    }
+}
+
+impl Differences for Listed {
+    ghost use Rattle.std.specs.Prelude.{nat_lt};
+    ghost use Rattle.std.specs.Vec.{vec_len, vec_capacity};
+
+    ghost taken = { λ s. s.all.items };
+
+    ghost is_open = { λ s. nat_lt (vec_len s.all) (vec_capacity s.all) };
+
+    fn take(&mut self, difference: Difference) -> bool {
+        let _ = self.all.push(difference);
+        if self.all.len() <= MOST {
+            let _ = self.all.reserve(1);
+        }
+        self.all.len() < self.all.capacity()
+    }
+}
+
+// Adds a difference in this syntax.
+fn say_in(text: &mut Vec<u8>, difference: Difference, syntax: Syntax) -> Result<(), AllocError>
+    ensures lines { OnOk result
+        (AddsLines syntax (difference ∷ []) text.old.items text.new.items) }
+    ensures some { OnOk result (0 < length text.new.items) }
+{
+    match syntax {
+        Syntax::Text => say_difference(text, difference),
+        Syntax::Json => say_difference_object(text, difference),
+    }
+}
+
+// Adds the line that ends a list, in this syntax.
+fn say_last_in(
+    text: &mut Vec<u8>,
+    all: &[Difference],
+    is_whole: bool,
+    enough: Option<Without>,
+    syntax: Syntax,
+) -> Result<(), AllocError>
+    ensures line { OnOk result
+        (AddsLast syntax is_whole all.now enough text.old.items text.new.items) }
+    ensures some { OnOk result (0 < length text.new.items) }
+{
+    match syntax {
+        Syntax::Text => say_last(text, all, is_whole, enough),
+        Syntax::Json => say_last_object(text, all, is_whole, enough),
+    }
+}
+
+// The text of a first difference.
+fn first_text(alloc: Global, difference: Difference, syntax: Syntax) -> Result<Vec<u8>, AllocError>
+    ensures line { IfOk result (λ text. text.items ≡ difference_in syntax difference) }
+    ensures some { IfOk result (λ text. 0 < length text.items) }
+{
+    let mut text = Vec::new(alloc);
+    say_in(&mut text, difference, syntax)?;
+    Ok(text)
+}
+
+// The first of some differences, so many or all.
+fn first_of(all: &[Difference], most: usize) -> &[Difference]
+    ensures { result.now ≡ take most all.now }
+{
+    &all[..all.len().min(most)]
+}
+
+// The text of the first of some differences, and of the counts of all.
+fn listed_text(
+    alloc: Global,
+    all: &[Difference],
+    lines: Lines,
+    is_whole: bool,
+    enough: Option<Without>,
+) -> Result<Vec<u8>, AllocError>
+    ensures list { IfOk result (λ text.
+        IsCounted lines.syntax lines.limit all.now is_whole enough text.items) }
+    ensures some { IfOk result (λ text. 0 < length text.items) }
+{
+    let mut text = Vec::new(alloc);
+    for difference in first_of(all, lines.limit as usize) {
+        say_in(&mut text, *difference, lines.syntax)?;
+    }
+    say_last_in(&mut text, all, is_whole, enough, lines.syntax)?;
+    Ok(text)
+}
+
+// What there is to say of two files that are the same without this; nothing but where all
+// differences are listed as JSON.
+fn same_text(
+    alloc: Global,
+    leaving: Without,
+    listing: Listing,
+) -> Result<Option<Vec<u8>>, AllocError>
+    ensures some { IfOk result
+        (λ said. IfSome said (λ text. text.items ≡ last_object true [] (Some leaving))) }
+    ensures silent { IfOk result (λ said. says_nothing said ≡ is_silent listing) }
+{
+    match listing {
+        Listing::All(
+            Lines {
+                syntax: Syntax::Json,
+                ..
+            },
+        ) => {
+            let mut text = Vec::new(alloc);
+            say_last_object(&mut text, &[], true, Some(leaving))?;
+            Ok(Some(text))
+        }
+        _ => Ok(None),
+    }
+}
+
+// What differs between two opened files: all, or more than is counted.
+fn all_of<S: Store, T: Store, L: Ledger>(
+    alloc: Global,
+    movies: &Movies,
+    left: &mut S,
+    right: &mut T,
+    leaving: Without,
+    steps: &mut Steps<L>,
+) -> Result<Listed, Refusal>
+    ensures stores { ReadsBoth S.Store left.old left.new T.Store right.old right.new result }
+    ensures all { IfOk result
+        (λ found. OfFiles S.Store left.old movies.now.left T.Store right.old movies.now.right
+        leaving (ListsFront found.all.items)) }
+    ensures opened { WhereOpenedBoth S.Store left.old movies.now.left
+        T.Store right.old movies.now.right
+        (λ tree other. IsUnchanged result × WalksOnce tree other steps.old steps.new) }
+{
+    let mut listed = Listed::new(alloc)?;
+    if !listed.has_room() {
+        return Err(Refusal::Memory);
+    }
+    let is_whole = compare_all(alloc, movies, left, right, leaving, &mut listed, steps)?;
+    if !is_whole && listed.all.len() <= MOST {
+        return Err(Refusal::Memory);
+    }
+    Ok(listed)
+}
+
+// Whether two opened files are the same without this.
+fn is_enough<S: Store, T: Store, L: Ledger>(
+    alloc: Global,
+    movies: &Movies,
+    left: &mut S,
+    right: &mut T,
+    leaving: Without,
+    steps: &mut Steps<L>,
+) -> Result<bool, Refusal>
+    ensures stores { ReadsBoth S.Store left.old left.new T.Store right.old right.new result }
+    ensures enough { IfOk result
+        (λ same. OfBoth S.Store left.old movies.now.left T.Store right.old movies.now.right
+        (λ differ. IsSameWith leaving differ same)) }
+    ensures opened { WhereOpenedBoth S.Store left.old movies.now.left
+        T.Store right.old movies.now.right
+        (λ tree other. IsUnchanged result × WalksOnce tree other steps.old steps.new) }
+{
+    match compare(alloc, movies, left, right, leaving, steps)? {
+        None => Ok(true),
+        Some(_) => Ok(false),
+    }
+}
+
+// Some words without which two opened files are the same, those that were given among them: those
+// that the differences ask for, or all.
+fn first_enough<S: Store, T: Store, L: Ledger>(
+    alloc: Global,
+    files: &Compared,
+    left: &mut S,
+    right: &mut T,
+    all: &[Difference],
+    steps: &mut Steps<L>,
+) -> Result<Option<Without>, Refusal>
+    ensures stores { ReadsBoth S.Store left.old left.new T.Store right.old right.new result }
+    ensures enough { IfOk result
+        (λ first. OfBoth S.Store left.old files.now.movies.left
+        T.Store right.old files.now.movies.right
+        (λ differ. AreSome files.now.given differ first)) }
+    ensures opened { WhereOpenedBoth S.Store left.old files.now.movies.left
+        T.Store right.old files.now.movies.right
+        (λ tree other. IsUnchanged result × WalksTimes 2 tree other steps.old steps.new) }
+{
+    let guessed = guess(files.given, all, files.movies.left.tracks());
+    if is_enough(alloc, &files.movies, left, right, guessed, steps)? {
+        return Ok(Some(guessed));
+    }
+    if is_enough(alloc, &files.movies, left, right, EVERYTHING, steps)? {
+        return Ok(Some(EVERYTHING));
+    }
+    Ok(None)
+}
+
+// Takes a word away from those without which two opened files are the same, if it was not given and
+// the files are the same without the others too.
+fn take_word<S: Store, T: Store, L: Ledger>(
+    alloc: Global,
+    files: &Compared,
+    left: &mut S,
+    right: &mut T,
+    trial: Trial,
+    steps: &mut Steps<L>,
+) -> Result<Without, Refusal>
+    ensures stores { ReadsBoth S.Store left.old left.new T.Store right.old right.new result }
+    ensures tried { IfOk result
+        (λ next. OfBoth S.Store left.old files.now.movies.left
+        T.Store right.old files.now.movies.right
+        (λ differ. IsTried trial.word files.now.given differ trial.leaving next)) }
+    ensures opened { WhereOpenedBoth S.Store left.old files.now.movies.left
+        T.Store right.old files.now.movies.right
+        (λ tree other. IsUnchanged result × WalksOnce tree other steps.old steps.new) }
+{
+    let less = less_word(files.given, trial.leaving, trial.word);
+    if less == trial.leaving {
+        return Ok(trial.leaving);
+    }
+    if is_enough(alloc, &files.movies, left, right, less, steps)? {
+        return Ok(less);
+    }
+    Ok(trial.leaving)
+}
+
+// Takes away one after the other all of these words that can be.
+fn shrink<S: Store, T: Store, L: Ledger>(
+    alloc: Global,
+    files: &Compared,
+    left: &mut S,
+    right: &mut T,
+    from: Shrinking,
+    steps: &mut Steps<L>,
+) -> Result<Without, Refusal>
+    ensures stores { ReadsBoth S.Store left.old left.new T.Store right.old right.new result }
+    ensures shrunk { IfOk result
+        (λ least. OfBoth S.Store left.old files.now.movies.left
+        T.Store right.old files.now.movies.right
+        (λ differ. IsShrunk from.entry.words.now files.now.given differ from.entry.leaving least)) }
+    ensures opened { WhereOpenedBoth S.Store left.old files.now.movies.left
+        T.Store right.old files.now.movies.right
+        (λ tree other. IsUnchanged result
+        × WalksTimes (length from.entry.words.now) tree other steps.old steps.new) }
+{
+    let Some((word, more)) = from.words.split_first() else {
+        return Ok(from.leaving);
+    };
+    let trial = Trial {
+        leaving: from.leaving,
+        word: *word,
+    };
+    let next = take_word(alloc, files, left, right, trial, steps)?;
+    let from = Shrinking {
+        leaving: next,
+        words: more,
+    };
+    shrink(alloc, files, left, right, from, steps)
+}
+
+// The words without which two opened files are the same, those that were given among them, and none
+// that can be taken away. No words where the files differ even without everything.
+fn enough_for<S: Store, T: Store, L: Ledger>(
+    alloc: Global,
+    files: &Compared,
+    left: &mut S,
+    right: &mut T,
+    all: &[Difference],
+    steps: &mut Steps<L>,
+) -> Result<Option<Without>, Refusal>
+    ensures stores { ReadsBoth S.Store left.old left.new T.Store right.old right.new result }
+    ensures enough { IfOk result
+        (λ enough. OfBoth S.Store left.old files.now.movies.left
+        T.Store right.old files.now.movies.right
+        (λ differ. IsEnough files.now.given differ enough)) }
+    ensures opened { WhereOpenedBoth S.Store left.old files.now.movies.left
+        T.Store right.old files.now.movies.right
+        (λ tree other. IsUnchanged result
+        × WalksTimes (2 + word_count) tree other steps.old steps.new) }
+{
+    let Some(first) = first_enough(alloc, files, left, right, all, steps)? else {
+        return Ok(None);
+    };
+    let from = Shrinking {
+        leaving: first,
+        words: WORDS,
+    };
+    let least = shrink(alloc, files, left, right, from, steps)?;
+    Ok(Some(least))
+}
+
+// Compares two opened files, and gives the text of all differences; none where there are none.
+fn all_text<S: Store, T: Store, L: Ledger>(
+    alloc: Global,
+    files: &Compared,
+    left: &mut S,
+    right: &mut T,
+    lines: Lines,
+    steps: &mut Steps<L>,
+) -> Result<Option<Vec<u8>>, Refusal>
+    ensures stores { ReadsBoth S.Store left.old left.new T.Store right.old right.new result }
+    ensures some { IfOk result (λ found. IfSome found (λ text. 0 < length text.items)) }
+    ensures said { IfOk result
+        (λ text. OfFiles S.Store left.old files.now.movies.left
+        T.Store right.old files.now.movies.right
+        files.now.given (IsSaid text)) }
+    ensures told { IfOk result
+        (λ text. OfBoth S.Store left.old files.now.movies.left
+        T.Store right.old files.now.movies.right
+        (λ differ. IsFoundOf (λ bytes. bytes.items) (All lines) files.now.given differ text)) }
+    ensures opened { WhereOpenedBoth S.Store left.old files.now.movies.left
+        T.Store right.old files.now.movies.right
+        (λ tree other. IsUnchanged result × WalksTimes most_walks tree other steps.old steps.new) }
+{
+    let listed = all_of(alloc, &files.movies, left, right, files.given, steps)?;
+    if listed.is_empty() {
+        return Ok(None);
+    }
+    let is_whole = listed.all.len() <= MOST;
+    let all = first_of(listed.all.as_slice(), MOST);
+    let enough = enough_for(alloc, files, left, right, all, steps)?;
+    Ok(Some(listed_text(alloc, all, lines, is_whole, enough)?))
+}
+
+// Compares two opened files, and gives what there is to say; nothing where they are the same.
+fn text_of<S: Store, T: Store, L: Ledger>(
+    alloc: Global,
+    files: &Compared,
+    left: &mut S,
+    right: &mut T,
+    listing: Listing,
+    steps: &mut Steps<L>,
+) -> Result<Option<Vec<u8>>, Refusal>
+    ensures stores { ReadsBoth S.Store left.old left.new T.Store right.old right.new result }
+    ensures some { IfOk result (λ found. IfSome found (λ text. 0 < length text.items)) }
+    ensures said { IfOk result
+        (λ text. OfFiles S.Store left.old files.now.movies.left
+        T.Store right.old files.now.movies.right
+        files.now.given (IsSaid text)) }
+    ensures told { IfOk result
+        (λ text. OfBoth S.Store left.old files.now.movies.left
+        T.Store right.old files.now.movies.right
+        (λ differ. IsFoundOf (λ bytes. bytes.items) listing files.now.given differ text)) }
+    ensures opened { WhereOpenedBoth S.Store left.old files.now.movies.left
+        T.Store right.old files.now.movies.right
+        (λ tree other. IsUnchanged result × WalksTimes most_walks tree other steps.old steps.new) }
+{
+    let (movies, leaving) = (&files.movies, files.given);
+    match listing {
+        Listing::First(syntax) => match compare(alloc, movies, left, right, leaving, steps)? {
+            None => Ok(None),
+            Some(difference) => Ok(Some(first_text(alloc, difference, syntax)?)),
+        },
+        Listing::All(lines) => all_text(alloc, files, left, right, lines, steps),
+    }
+}
+
+// Puts what there is to say of two files that are the same without this.
+fn put_same<K: Sink>(
+    alloc: Global,
+    leaving: Without,
+    listing: Listing,
+    sink: &mut K,
+) -> Result<(), Refusal>
+    ensures puts { NoPutFails K.Sink sink.old sink.new result }
+    ensures put { OnOk result
+        (PutsSame leaving (is_silent listing) (K.takes sink.old sink.new)) }
+    ensures refusal { IfErr result (RefusesAnswer (K.takes sink.old sink.new)
+        (K.put_failures sink.old) (K.put_failures sink.new)) }
+{
+    if let Some(said) = same_text(alloc, leaving, listing)? {
+        sink.put(said.as_slice())?;
+    }
+    Ok(())
+}
+
+// Puts what there is to say: where two files differ, or that they are the same.
+fn put_found<K: Sink>(
+    alloc: Global,
+    found: Option<Vec<u8>>,
+    leaving: Without,
+    listing: Listing,
+    sink: &mut K,
+) -> Result<bool, Refusal>
+    requires { IfSome found (λ text. 0 < length text.items) }
+    ensures puts { NoPutFails K.Sink sink.old sink.new result }
+    ensures is { IfOk result (λ same. same ≡ says_nothing found) }
+    ensures all { OnOk result
+        (PutsFound (λ bytes. bytes.items) found (K.takes sink.old sink.new)) }
+    ensures put { IfOk result
+        (PutsAnswer leaving (is_silent listing) (K.takes sink.old sink.new)) }
+    ensures refusal { IfErr result (RefusesAnswer (K.takes sink.old sink.new)
+        (K.put_failures sink.old) (K.put_failures sink.new)) }
+{
+    let Some(text) = found else {
+        put_same(alloc, leaving, listing, sink)?;
+        return Ok(true);
+    };
+    sink.put(text.as_slice())?;
+    Ok(false)
+}
+
+/// Compares two files by what they say, without what is left out, puts where they differ, and says
+/// whether they are the same. Both are judged before anything is put.
+pub fn compare_files<S: Store, T: Store, K: Sink, L: Ledger, M: Ledger>(
+    alloc: Global,
+    left: &mut S,
+    right: &mut T,
+    asked: Asked,
+    sink: &mut K,
+    costs: &mut Costs<L, M>,
+) -> Result<bool, Failure>
+    ensures answer { ComparesBoth S.Store left.old left.new T.Store right.old right.new
+        K.Sink sink.old sink.new asked.leaving (is_silent asked.listing) result }
+    ensures verdict { IfOk result (λ same. WhereBothHonest S.Store left.old T.Store right.old
+        (λ file other. IsVerdict asked.leaving file other same)) }
+    ensures told { IfOk result (λ same. same ≡ false
+        → WhereBothHonest S.Store left.old T.Store right.old
+        (λ file other.
+        PutsSuch (K.takes sink.old sink.new) (IsTold asked.listing asked.leaving file other))) }
+    ensures work { WhereBothHonest S.Store left.old T.Store right.old
+        (λ file other. ComparesWithin file other costs.old.steps costs.new.steps) }
+    ensures looks { WhereBothHonest S.Store left.old T.Store right.old
+        (λ file other. FindsBothWithin file other costs.old.looks costs.new.looks) }
+{
+    let Costs { steps, looks } = costs;
+    let Asked { leaving, listing } = asked;
+    let first = match open_movie(alloc, left, steps, looks) {
+        Ok(first) => first,
+        Err(refusal) => return Err(failed(Side::First, refusal)),
+    };
+    let second = match open_movie(alloc, right, steps, looks) {
+        Ok(second) => second,
+        Err(refusal) => return Err(failed(Side::Second, refusal)),
+    };
+    let files = Compared {
+        movies: Movies {
+            left: first,
+            right: second,
+        },
+        given: leaving,
+    };
+    let found = match text_of(alloc, &files, left, right, listing, steps) {
+        Ok(found) => found,
+        Err(refusal) => return Err(failed_together(refusal)),
+    };
+    match put_found(alloc, found, leaving, listing, sink) {
+        Ok(same) => Ok(same),
+        Err(refusal) => Err(failed_together(refusal)),
+    }
+}

@@ -1,0 +1,290 @@
+//! Boxes that become free space since the profile refuses them, and what is lost with them.
+ghost use Rattle.std.specs.Prelude.{◌<◌, ◌≤◌, length};
+ghost use Rattle.mp4_answers.specs.format.Run.{KeepsFile};
+
+use crate::commands::box_headers::read_header;
+use crate::box_names::{FullType, Name, holder, is_named, is_named_foreign};
+use crate::commands::boxes::{BoxSpan, read_uuid, rule_inside, whole_file};
+use mp4_boxes::{FourCc, Refusal, Rule};
+use mp4_present::TopBox;
+use mp4_store::Store;
+use std::alloc::{AllocError, Global};
+
+/// From so many boxes on, those of one group are put together.
+const MANY: usize = 4_096;
+
+/// The UUIDs of boxes without which encrypted samples can't be read: of sample encryption, of track
+/// encryption and of protection systems (Protected Interoperable File Format, 5.3).
+const OF_ENCRYPTION: [u128; 3] = [
+    0xa239_4f52_5a9b_4f14_a244_6c42_7c64_8df4,
+    0x8974_dbce_7be7_4c51_84f9_7148_f988_2554,
+    0xd08a_4f18_10f3_4a82_b6c8_32d8_aba1_83d3,
+];
+
+/// The UUID of the box that tells when a fragment of Smooth Streaming begins.
+const OF_TIME: u128 = 0x6d1d_9b05_42d5_44e6_80e2_141d_aff7_57b2;
+
+/// What is lost with a box.
+#[derive(Clone, Copy, PartialEq, Eq, PartialOrd, Ord)]
+pub enum Loss {
+    Encryption,
+    Times,
+    Flags,
+    Events,
+    Items,
+}
+
+impl Loss {
+    /// What is then so.
+    pub(crate) fn text(self) -> &'static [u8] {
+        match self {
+            Loss::Encryption => b"encrypted samples can't be read",
+            Loss::Times => b"decode times are made up",
+            Loss::Flags => b"flags or groups of samples are lost",
+            Loss::Events => b"events are lost",
+            Loss::Items => b"items are lost",
+        }
+    }
+}
+
+// What is lost with a `uuid`, in a fragment of a track that has a `tfdt` or not.
+fn loss_of_uuid(rule: Rule, uuid: Option<u128>, has_time: bool) -> Option<Loss> {
+    let uuid = uuid?;
+    if OF_ENCRYPTION.contains(&uuid) {
+        Some(Loss::Encryption)
+    } else if uuid == OF_TIME && rule == Rule::TrackFragment && !has_time {
+        Some(Loss::Times)
+    } else {
+        None
+    }
+}
+
+// What is lost with a box that the profile refuses where it stands.
+fn loss_of(rule: Rule, kind: FourCc, uuid: Option<u128>, has_time: bool) -> Option<Loss> {
+    match &kind.0 {
+        b"senc" | b"saiz" | b"saio" | b"pssh" => Some(Loss::Encryption),
+        b"uuid" => loss_of_uuid(rule, uuid, has_time),
+        b"sdtp" | b"subs" | b"sgpd" | b"csgp" if rule == Rule::TrackFragment => Some(Loss::Flags),
+        b"stps" | b"stsh" | b"padb" | b"stdp" | b"subs" | b"csgp" if rule == Rule::SampleTable => {
+            Some(Loss::Flags)
+        }
+        b"emsg" => Some(Loss::Events),
+        b"meta" if matches!(rule, Rule::File | Rule::MovieFragment | Rule::TrackFragment) => {
+            Some(Loss::Items)
+        }
+        _ => None,
+    }
+}
+
+/// Boxes of one type, and of one UUID where they are `uuid`, in containers of one type. They are
+/// ordered by these, and then by where the first stands.
+#[derive(Clone, Copy, PartialEq, Eq, PartialOrd, Ord)]
+pub struct Group {
+    container: u32,
+    kind: u32,
+    /// None where the box has fewer than 16 bytes.
+    pub uuid: Option<u128>,
+    /// The place of the first.
+    offset: u64,
+    pub count: u64,
+    /// The place of the first with which something is lost, and what.
+    pub loss: Option<(u64, Loss)>,
+}
+
+impl Group {
+    pub(crate) fn container(&self) -> FourCc {
+        FourCc(self.container.to_be_bytes())
+    }
+
+    pub(crate) fn kind(&self) -> FourCc {
+        FourCc(self.kind.to_be_bytes())
+    }
+
+    fn is_like(&self, other: &Group) -> bool {
+        self.container == other.container && self.kind == other.kind && self.uuid == other.uuid
+    }
+
+    // Takes those behind its own in.
+    fn take_in(&mut self, other: &Group) {
+        self.count = self.count.saturating_add(other.count);
+        self.loss = self.loss.or(other.loss);
+    }
+}
+
+/// What is found of the boxes that become free space.
+#[derive(Drop)]
+pub struct Found {
+    /// Those that the profile refuses and that have no other name, group by group.
+    pub groups: Vec<Group>,
+    /// Whether others are `uuid` without which encrypted samples can't be read.
+    pub has_encryption: bool,
+    // So many boxes are kept before those of one group are put together.
+    room: usize,
+}
+
+impl Found {
+    /// Nothing is told.
+    pub fn none(alloc: Global) -> Found {
+        Found {
+            groups: Vec::new(alloc),
+            has_encryption: false,
+            room: MANY,
+        }
+    }
+
+    // Puts those of one group together.
+    fn merge(&mut self, alloc: Global) -> Result<(), AllocError> {
+        self.groups.as_mut_slice().sort_unstable();
+        let mut merged: Vec<Group> = Vec::new(alloc);
+        for group in &self.groups {
+            match merged.last_mut() {
+                Some(last) if last.is_like(group) => last.take_in(group),
+                _ => merged.push(*group)?,
+            }
+        }
+        self.room = merged.len().saturating_mul(2).max(MANY);
+        self.groups = merged;
+        Ok(())
+    }
+
+    fn add(&mut self, alloc: Global, group: Group) -> Result<(), AllocError> {
+        self.groups.push(group)?;
+        if self.groups.len() < self.room {
+            return Ok(());
+        }
+        self.merge(alloc)
+    }
+
+    // Orders the groups by where the first box of each stands.
+    fn finish(&mut self, alloc: Global) -> Result<(), AllocError> {
+        self.merge(alloc)?;
+        self.groups
+            .as_mut_slice()
+            .sort_unstable_by_key(|group| group.offset);
+        Ok(())
+    }
+
+    /// The place and the type of the first box with which something is lost.
+    pub(crate) fn first_loss(&self) -> Option<(u64, FourCc)> {
+        let mut first: Option<(u64, FourCc)> = None;
+        for group in &self.groups {
+            if let Some((offset, _)) = group.loss
+                && first.is_none_or(|found| offset < found.0)
+            {
+                first = Some((offset, group.kind()));
+            }
+        }
+        first
+    }
+}
+
+// Whether a fragment of a track keeps a box that tells when it begins.
+fn keeps_time<S: Store>(names: &[Name], span: BoxSpan, store: &mut S) -> Result<bool, Refusal>
+    requires span { span.from ≤ span.end }
+    requires within { span.end ≤ length (S.file store.old) }
+    ensures store { KeepsFile S.Store store.old store.new }
+{
+    let kind = FourCc(*b"tfdt");
+    let time = FullType { kind, uuid: None };
+    if span.rule != Rule::TrackFragment || is_named(names, span.rule, time) {
+        return Ok(false);
+    }
+    let mut at = span.from;
+    while at < span.end {
+        let header = read_header(store, span.rule, at, span.end)?;
+        if header.kind == kind {
+            return Ok(true);
+        }
+        at = header.end;
+    }
+    Ok(false)
+}
+
+// A container of boxes.
+#[derive(Clone, Copy)]
+struct Container {
+    /// The rule that its boxes lie under.
+    rule: Rule,
+    /// Whether a time is kept in it.
+    has_time: bool,
+}
+
+// Adds a named box at a place of a container.
+fn add_box(
+    alloc: Global,
+    names: &[Name],
+    within: Container,
+    offset: u64,
+    own: FullType,
+    found: &mut Found,
+) -> Result<(), AllocError> {
+    let Container { rule, has_time } = within;
+    let uuid = own.uuid.map(u128::from_be_bytes);
+    if !is_named_foreign(names, rule, own) {
+        found.has_encryption |= uuid.is_some_and(|uuid| OF_ENCRYPTION.contains(&uuid));
+        return Ok(());
+    }
+    let loss = loss_of(rule, own.kind, uuid, has_time);
+    let group = Group {
+        container: u32::from_be_bytes(holder(rule).0),
+        kind: u32::from_be_bytes(own.kind.0),
+        uuid,
+        offset,
+        count: 1,
+        loss: loss.map(|loss| (offset, loss)),
+    };
+    found.add(alloc, group)
+}
+
+// Finds the named boxes of a container and of the containers in it.
+fn find_boxes<S: Store>(
+    alloc: Global,
+    names: &[Name],
+    span: BoxSpan,
+    store: &mut S,
+    found: &mut Found,
+) -> Result<(), Refusal>
+    requires span { span.from ≤ span.end }
+    requires within { span.end ≤ length (S.file store.old) }
+    ensures store { KeepsFile S.Store store.old store.new }
+{
+    let has_time = keeps_time(names, span, store)?;
+    let within = Container {
+        rule: span.rule,
+        has_time,
+    };
+    let mut at = span.from;
+    while at < span.end {
+        let header = read_header(store, span.rule, at, span.end)?;
+        let uuid = read_uuid(store, &TopBox { offset: at, header })?;
+        let kind = header.kind;
+        let own = FullType { kind, uuid };
+        if is_named(names, span.rule, own) {
+            add_box(alloc, names, within, at, own, found)?;
+        } else if let Some(inner) = rule_inside(span.rule, header.kind) {
+            let inside = BoxSpan {
+                rule: inner,
+                from: at + u64::from(header.header),
+                end: header.end,
+            };
+            find_boxes(alloc, names, inside, store, found)?;
+        }
+        at = header.end;
+    }
+    Ok(())
+}
+
+/// What is told of the boxes that `strip` makes free space, beside how many there are of each name.
+pub(crate) fn find_freed<S: Store>(
+    alloc: Global,
+    store: &mut S,
+    names: &[Name],
+) -> Result<Found, Refusal>
+    ensures store { KeepsFile S.Store store.old store.new }
+{
+    let mut found = Found::none(alloc);
+    let span = whole_file(store.len());
+    find_boxes(alloc, names, span, store, &mut found)?;
+    found.finish(alloc)?;
+    Ok(found)
+}

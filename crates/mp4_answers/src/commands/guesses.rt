@@ -1,0 +1,172 @@
+//! Which words may leave out all of some differences.
+ghost use Rattle.std.specs.Prelude.{◌≡◌, ◌||◌};
+ghost use Rattle.mp4_plan.specs.format.CoveringLaws.{Covers};
+
+use crate::text::tally::{Kind, count_of_kind};
+use mp4_present::{Difference, Entries, Field, Part, Subject, TrackInfo, Value, Without};
+
+// Whether there is a difference of a kind.
+fn has(kind: Kind, all: &[Difference]) -> bool {
+    count_of_kind(kind, all) > 0
+}
+
+// Whether a difference is of a handler, which may be of its name.
+fn is_label(difference: &Difference) -> bool {
+    matches!(difference.field, Field::Entry(Entries::Handler, _, _))
+}
+
+// Whether a difference is of the bytes of a sample description, or of how many they are: of names,
+// of bit rates, or of neither.
+fn is_detail(difference: &Difference) -> bool {
+    match difference.field {
+        Field::Entry(Entries::Descriptions, _, Part::Byte(_, _)) => true,
+        Field::Entry(Entries::Descriptions, _, Part::Length) => true,
+        _ => false,
+    }
+}
+
+// By how much the composition offset of a sample differs.
+#[derive(Clone, Copy)]
+struct Shift {
+    track: u64,
+    sample: u32,
+    by: i128,
+}
+
+// How many samples a track has; 0 for one that isn't there.
+fn samples_of(tracks: &[TrackInfo], track: u64) -> u32 {
+    match track.checked_sub(1) {
+        Some(place) if place < tracks.len() as u64 => tracks[place as usize].samples,
+        _ => 0,
+    }
+}
+
+// Whether a sample is the first or the last of its track.
+fn is_at_end(tracks: &[TrackInfo], track: u64, sample: u32) -> bool {
+    sample == 1 || sample == samples_of(tracks, track)
+}
+
+// A value as a number; 0 for one that is none.
+fn number_of(value: Value) -> i128 {
+    match value {
+        Value::Number(number) => i128::from(number),
+        Value::Signed(number) => i128::from(number),
+        _ => 0,
+    }
+}
+
+// Whether all samples of a track are moved, or none, as far as this one.
+fn is_through(tracks: &[TrackInfo], last: Option<Shift>) -> bool {
+    match last {
+        Some(shift) => shift.sample == samples_of(tracks, shift.track),
+        None => true,
+    }
+}
+
+// Whether a shift goes on in the next sample, or begins in the first one of another track.
+fn goes_on(tracks: &[TrackInfo], last: Option<Shift>, next: Shift) -> bool {
+    match last {
+        Some(shift) if shift.track == next.track => {
+            shift.by == next.by && u64::from(shift.sample) + 1 == u64::from(next.sample)
+        }
+        _ => next.sample == 1 && is_through(tracks, last),
+    }
+}
+
+// What differences in times ask for.
+#[derive(Clone, Copy)]
+struct Asked {
+    ends: bool,
+    origins: bool,
+    /// No less will do than all times.
+    timing: bool,
+    /// The last composition offset that differs.
+    last: Option<Shift>,
+}
+
+impl Asked {
+    // Nothing.
+    fn new() -> Asked {
+        Asked {
+            ends: false,
+            origins: false,
+            timing: false,
+            last: None,
+        }
+    }
+
+    // And what one more difference asks for.
+    fn take(&mut self, tracks: &[TrackInfo], difference: &Difference) {
+        match (difference.field, difference.subject) {
+            (Field::Timescale | Field::MediaTimescale, _) => self.timing = true,
+            (Field::Start, _) => self.origins = true,
+            (Field::Duration, Subject::Sample(track, sample)) => {
+                if is_at_end(tracks, track, sample) {
+                    self.ends = true;
+                } else {
+                    self.timing = true;
+                }
+            }
+            (Field::Offset, Subject::Sample(track, sample)) => {
+                let left = number_of(difference.left);
+                let by = left.saturating_sub(number_of(difference.right));
+                self.take_shift(tracks, Shift { track, sample, by });
+            }
+            _ => {}
+        }
+    }
+
+    // One more composition offset that differs: all of a track by the same, or they ask for all
+    // times.
+    fn take_shift(&mut self, tracks: &[TrackInfo], next: Shift) {
+        if goes_on(tracks, self.last, next) {
+            self.origins = true;
+        } else {
+            self.timing = true;
+        }
+        self.last = Some(next);
+    }
+}
+
+// What these differences ask for in times, of tracks with so many samples.
+fn asked_by(tracks: &[TrackInfo], all: &[Difference]) -> Asked {
+    let mut asked = Asked::new();
+    for difference in all {
+        asked.take(tracks, difference);
+    }
+    asked
+}
+
+// Whether something is left out, which was given or may be needed.
+fn is_left_out(was_given: bool, may_be_needed: bool) -> bool
+    ensures { (was_given || result) ≡ result }
+{
+    was_given || may_be_needed
+}
+
+/// A guess what has to be left out, beside what is left out already, for none of these differences
+/// to be left. It may be too much or too little: whether it is enough is for the caller to try. The
+/// tracks are those of one of the files.
+pub(crate) fn guess(leaving: Without, all: &[Difference], tracks: &[TrackInfo]) -> Without
+    ensures { Covers leaving result }
+{
+    let has_detail = all.iter().any(|difference| is_detail(difference));
+    let has_label = all.iter().any(|difference| is_label(difference));
+    let asked = asked_by(tracks, all);
+    // Without all times nothing is left of where tracks begin and end.
+    let ends = asked.ends && !asked.timing;
+    let origins = asked.origins && !asked.timing;
+    let timing = asked.timing || !is_through(tracks, asked.last);
+    Without {
+        times: is_left_out(leaving.times, has(Kind::Times, all)),
+        edits: is_left_out(leaving.edits, has(Kind::Edits, all)),
+        flags: is_left_out(leaving.flags, has(Kind::Flags, all)),
+        groups: is_left_out(leaving.groups, has(Kind::Groups, all)),
+        metadata: is_left_out(leaving.metadata, has(Kind::Kept, all)),
+        bitrates: is_left_out(leaving.bitrates, has_detail),
+        ends: is_left_out(leaving.ends, ends),
+        origins: is_left_out(leaving.origins, origins),
+        labels: is_left_out(leaving.labels, has_detail || has_label),
+        timing: is_left_out(leaving.timing, timing),
+    }
+}

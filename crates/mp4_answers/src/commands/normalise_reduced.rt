@@ -1,0 +1,39 @@
+//! The normal form of what is left of a file, where some of what it says is left out.
+ghost use Rattle.std.specs.Prelude.{OnOk};
+ghost use Rattle.mp4_answers.specs.format.Answers.{ReducedTo};
+ghost use Rattle.mp4_answers.specs.format.Run.{KeepsFile, run_of};
+ghost use Rattle.mp4_answers.specs.format.Steps.{WorksWithin, TurnsWithin, TakesEach};
+ghost use Rattle.mp4_answers.specs.words.WholePut.{PutsWhole};
+ghost use Rattle.mp4_present.specs.words.StoresRead.{WhereHonest};
+
+use mp4_boxes::{Refusal, Steps};
+use mp4_plan::write_reduced;
+use mp4_present::{Without, open_movie};
+use mp4_store::{Sink, Store};
+use std::alloc::Global;
+use std::sync::ledger::Ledger;
+
+/// As `normalise_counted`, of what is left of the file. That may have no normal form: then the
+/// fault is TimeTooLarge or OffsetTooLarge at the `tkhd` of the first track that is too long, or of
+/// which an offset doesn't fit, and nothing is put.
+pub fn normalise_reduced<S: Store, K: Sink, L: Ledger, M: Ledger>(
+    alloc: Global,
+    store: &mut S,
+    sink: &mut K,
+    leaving: Without,
+    steps: &mut Steps<L>,
+    looks: &mut Steps<M>,
+) -> Result<(), Refusal>
+    ensures store { KeepsFile S.Store store.old store.new }
+    ensures answer { ReducedTo leaving (run_of S.Store store.old store.new K.Sink sink.old sink.new)
+        result }
+    ensures whole { OnOk result (PutsWhole leaving (K.takes sink.old sink.new)) }
+    ensures work { WhereHonest S.Store store.old (λ file.
+        WorksWithin leaving file steps.old steps.new) }
+    ensures least { OnOk result (WhereHonest S.Store store.old (λ file.
+        TakesEach file steps.old steps.new)) }
+    ensures looks { WhereHonest S.Store store.old (λ file. TurnsWithin file looks.old looks.new) }
+{
+    let movie = open_movie(alloc, store, steps, looks)?;
+    write_reduced(alloc, &movie, store, sink, leaving, steps, looks)
+}

@@ -1,0 +1,356 @@
+//! The text of what a file says.
+ghost use Rattle.std.specs.Prelude.{◌≡◌, ◌+◌, ◌<◌, ◌≤◌, ◌++◌, [], length, IfOk, OnOk, codes};
+ghost use Rattle.sha2.specs.Sha256.{sha256};
+ghost use Rattle.mp4_head.specs.words.Seen.{track_seen};
+ghost use Rattle.mp4_store.specs.words.Device.{range};
+ghost use Rattle.mp4_present.specs.words.Carried.{RefusesCarry, waiting};
+ghost use Rattle.mp4_present.specs.words.HandCarried.{HandWork, RefusedByBoth, StaysBefore};
+ghost use Rattle.mp4_present.specs.words.Joined.{IsBelow};
+ghost use Rattle.mp4_present.specs.words.Movies.{IsWalkOf};
+ghost use Rattle.mp4_present.specs.words.OutBuffers.{OnlyCopies};
+ghost use Rattle.mp4_present.specs.words.StoresRead.{IsUnchanged, OnlyReads, Refused, WhereHonest};
+ghost use Rattle.mp4_present.specs.words.TrackWalks.{WhereMayTake};
+ghost use Rattle.mp4_present.specs.format.Reduced.{reduce_track_head};
+ghost use Rattle.mp4_present.specs.words.PayloadsLeft.{keeping_payloads};
+ghost use Rattle.mp4_answers.specs.format.Answers.{Printed};
+ghost use Rattle.mp4_answers.specs.format.Run.{KeepsFile, run_of};
+ghost use Rattle.mp4_answers.specs.format.Steps.{FindsWithin, TakesEach, WalksWithin};
+ghost use Rattle.mp4_answers.specs.format.Text.{front_lines, head_lines, number_line, samples_heading};
+ghost use Rattle.mp4_answers.specs.words.PrintedTracks.{AreWalks, OfHandLines, OfTrackLines, OfWalkLines, TellsOn, TellsTracks, WhereHeads};
+ghost use Rattle.mp4_answers.specs.words.Telling.{Tells, TellsText};
+ghost use Rattle.mp4_answers.specs.words.ToldSamples.{RefusesDigest, told_sample};
+
+use crate::commands::hash_sink::HashSink;
+use crate::text::digits::DIGEST;
+use crate::text::tally::say_words;
+use crate::text::head_lines::{put_head, put_heading, put_movie};
+use crate::text::named_lines::{number, put_all_named};
+use crate::text::sample_texts::{LONGEST, SampleStyle, write_sample};
+use mp4_boxes::{Memory, Refusal, Steps};
+use mp4_head::TrackHead;
+use mp4_present::{
+    Movie, OutBuffer, Stretch, Walk, Without, open_movie, payloads_left, put_payloads_left,
+};
+use mp4_store::{Sink, Store};
+use mp4_tables::{Keys, SampleAt, Samples};
+use std::alloc::{AllocError, Global};
+use std::sync::ledger::Ledger;
+
+/// How many bytes of text are put at once, and how many bytes of a sample are read at once: a power
+/// of two, so that each put fills whole pages.
+const ROOM: usize = 65_536;
+
+// What waits for a sink, and room for bytes of samples.
+#[derive(Drop)]
+pub(crate) struct Desk {
+    text: OutBuffer,
+    window: OutBuffer,
+}
+
+impl Desk {
+    ghost use Rattle.std.specs.Prelude.{◌≡◌, [], IfOk};
+    ghost use Rattle.mp4_present.specs.words.Carried.{waiting};
+
+    fn new(alloc: Global) -> Result<Desk, AllocError>
+        ensures text { IfOk result (λ desk. waiting desk.text ≡ []) }
+        ensures window { IfOk result (λ desk. waiting desk.window ≡ []) }
+    {
+        Ok(Desk {
+            text: OutBuffer::new(alloc, ROOM)?,
+            window: OutBuffer::new(alloc, ROOM)?,
+        })
+    }
+}
+
+// The first lines: the number of the form, and what is left out.
+fn front_lines(alloc: Global, leaving: Without) -> Result<Vec<u8>, AllocError>
+    ensures { IfOk result (λ text. text.items ≡ front_lines leaving) }
+{
+    let mut words = Vec::new(alloc);
+    say_words(&mut words, leaving)?;
+    let mut text = Vec::new(alloc);
+    text.extend_from_slice(b"MP4 presentation, form 1\nwithout:")?;
+    if words.is_empty() {
+        text.extend_from_slice(b" nothing")?;
+    } else {
+        text.extend_from_slice(words.as_slice())?;
+    }
+    text.extend_from_slice(b"\n")?;
+    Ok(text)
+}
+
+// The digest of the bytes of a sample.
+fn digest_of<S: Store>(
+    window: &mut OutBuffer,
+    store: &mut S,
+    sample: &SampleAt,
+) -> Result<[u8; DIGEST], Refusal>
+    requires { waiting window.old ≡ [] }
+    ensures store { OnlyReads S.Store store.old store.new result }
+    ensures empty { OnOk result (waiting window.new ≡ []) }
+    ensures digest { IfOk result (λ digest. WhereHonest S.Store store.old
+        (λ file. digest ≡ sha256 (range file sample.now.at sample.now.size))) }
+    ensures unchanged { IsBelow (length (S.file store.old)) sample.now → IsUnchanged result }
+    ensures refusal { Refused S.Store store.old store.new result RefusesDigest }
+{
+    let mut sink = HashSink::new();
+    let stretch = Stretch {
+        at: sample.at,
+        len: u64::from(sample.size),
+        samples: 1,
+    };
+    window.carry_stretch(stretch, store, &mut sink)?;
+    window.flush(&mut sink)?;
+    Ok(sink.digest())
+}
+
+// Puts the line of a sample.
+fn put_sample<S: Store, K: Sink>(
+    style: &SampleStyle,
+    sample: &SampleAt,
+    desk: &mut Desk,
+    store: &mut S,
+    sink: &mut K,
+) -> Result<(), Refusal>
+    requires { waiting desk.old.window ≡ [] }
+    ensures empty { OnOk result (waiting desk.new.window ≡ []) }
+    ensures store { OnlyCopies S.Store store.old store.new K.Sink sink.old sink.new result }
+    ensures told { WhereHonest S.Store store.old (λ file. TellsText K.Sink sink.old sink.new
+        desk.old.text desk.new.text (told_sample style.now file sample.now) result) }
+    ensures unchanged { IsBelow (length (S.file store.old)) sample.now → IsUnchanged result }
+    ensures refusal { RefusedByBoth S.Store store.old store.new K.Sink sink.old sink.new result
+        RefusesCarry }
+{
+    let digest = digest_of(&mut desk.window, store, sample)?;
+    let mut text = [0; LONGEST];
+    let start = write_sample(&mut text, LONGEST, style, sample, &digest);
+    let (_unused, line) = text.split_at(start);
+    desk.text.carry(line, sink)
+}
+
+// Samples of a movie, and how their lines are written.
+#[derive(Clone, Copy)]
+struct Styled<'a> {
+    movie: &'a Movie,
+    style: &'a SampleStyle,
+}
+
+// Puts the lines of all samples in hand.
+fn put_hand<S: Store, K: Sink, L: Ledger>(
+    of: Styled,
+    walk: &mut Walk,
+    desk: &mut Desk,
+    store: &mut S,
+    sink: &mut K,
+    steps: &mut Steps<L>,
+) -> Result<(), Refusal>
+    requires walk { IsWalkOf of.movie.now walk.old }
+    requires empty { waiting desk.old.window ≡ [] }
+    ensures walk { OnOk result (StaysBefore of.entry.movie.now walk.old walk.new) }
+    ensures empty { OnOk result (waiting desk.new.window ≡ []) }
+    ensures store { OnlyCopies S.Store store.old store.new K.Sink sink.old sink.new result }
+    ensures told { OfHandLines S.Store store.old of.entry.movie.now walk.old of.entry.style.now
+        (λ lines.
+        TellsOn K.Sink sink.old sink.new desk.old.text desk.new.text lines result) }
+    ensures grows { steps.old ≤ steps.new }
+    ensures work { HandWork of.entry.movie.now walk.old walk.new result steps.old steps.new }
+    ensures refusal { RefusedByBoth S.Store store.old store.new K.Sink sink.old sink.new result
+        RefusesCarry }
+{
+    let place = {
+        let mut hand = walk.in_hand(of.movie);
+        while let Some(sample) = hand.next() {
+            put_sample(of.style, &sample, desk, store, sink)?;
+        }
+        hand.place()
+    };
+    walk.keep(place, steps);
+    Ok(())
+}
+
+// Puts the lines of all samples of a walk.
+fn put_walk<S: Store, K: Sink, L: Ledger>(
+    of: Styled,
+    walk: &mut Walk,
+    desk: &mut Desk,
+    store: &mut S,
+    sink: &mut K,
+    steps: &mut Steps<L>,
+) -> Result<(), Refusal>
+    requires walk { IsWalkOf of.movie.now walk.old }
+    requires empty { waiting desk.old.window ≡ [] }
+    ensures empty { OnOk result (waiting desk.new.window ≡ []) }
+    ensures store { OnlyCopies S.Store store.old store.new K.Sink sink.old sink.new result }
+    ensures told { OfWalkLines S.Store store.old of.entry.movie.now walk.old of.entry.style.now
+        (λ lines.
+        TellsOn K.Sink sink.old sink.new desk.old.text desk.new.text lines result) }
+    ensures grows { steps.old ≤ steps.new }
+    ensures work { WhereMayTake S.Store store.old of.entry.movie.now walk.old
+        (λ file tree t n. steps.new ≤ steps.old + n) }
+    ensures refusal { RefusedByBoth S.Store store.old store.new K.Sink sink.old sink.new result
+        RefusesCarry }
+{
+    put_hand(of, walk, desk, store, sink, steps)?;
+    while walk.load(of.movie, store, steps)? {
+        put_hand(of, walk, desk, store, sink, steps)?;
+    }
+    Ok(())
+}
+
+// A movie, its heads as they are left, and what is left out of it.
+#[derive(Clone, Copy)]
+struct PrintedMovie<'a> {
+    movie: &'a Movie,
+    heads: &'a [TrackHead<'a>],
+    leaving: Without,
+}
+
+// Puts the lines of all samples of a track whose samples are grouped by these keys, of a walk that
+// stands before the first.
+fn put_samples<S: Store, K: Sink, L: Ledger>(
+    of: PrintedMovie,
+    keys: Keys,
+    walk: &mut Walk,
+    desk: &mut Desk,
+    store: &mut S,
+    sink: &mut K,
+    steps: &mut Steps<L>,
+) -> Result<(), Refusal>
+    requires walk { IsWalkOf of.movie.now walk.old }
+    requires empty { waiting desk.old.window ≡ [] }
+    ensures empty { OnOk result (waiting desk.new.window ≡ []) }
+    ensures store { OnlyCopies S.Store store.old store.new K.Sink sink.old sink.new result }
+    ensures told { OfTrackLines S.Store store.old of.entry.movie.now walk.old of.entry.leaving keys
+        (λ lines.
+        TellsOn K.Sink sink.old sink.new desk.old.text desk.new.text lines result) }
+    ensures grows { steps.old ≤ steps.new }
+    ensures work { WhereMayTake S.Store store.old of.entry.movie.now walk.old
+        (λ file tree t n. steps.new ≤ steps.old + n) }
+    ensures refusal { RefusedByBoth S.Store store.old store.new K.Sink sink.old sink.new result
+        RefusesCarry }
+{
+    let movie = of.movie;
+    let edges = walk.edges(of.leaving, movie, store, steps)?;
+    let style = SampleStyle::new(of.leaving, keys, edges);
+    let of = Styled {
+        movie,
+        style: &style,
+    };
+    put_walk(of, walk, desk, store, sink, steps)
+}
+
+// Puts what a track says before its samples.
+fn put_front<K: Sink>(
+    leaving: Without,
+    head: &TrackHead,
+    start: u64,
+    text: &mut OutBuffer,
+    sink: &mut K,
+) -> Result<(), Refusal>
+    ensures { Tells K.Sink sink.old sink.new text.old text.new
+        (head_lines (reduce_track_head (keeping_payloads leaving) (track_seen head.now))
+        ++ number_line (codes "start") start ++ samples_heading head.now.id) result }
+{
+    put_head(leaving, head, text, sink)?;
+    put_all_named(&[number(b"start", start)], text, sink)?;
+    let end = b": duration, offset, flags, description, size, SHA-256, groups\n";
+    put_heading(b"samples of track ", head.id, end, text, sink)
+}
+
+// A walk over the samples of each track, the last track's first.
+fn walks_of(alloc: Global, movie: &Movie) -> Result<Vec<Walk>, Memory>
+    ensures { IfOk result (λ walks. AreWalks movie.now 0 walks.items) }
+{
+    let mut walks = Vec::new(alloc);
+    let mut left = movie.tracks().len();
+    while left > 0 {
+        left -= 1;
+        let walk = movie.walk(alloc, left)?;
+        walks.push(walk).map_err(|_| Memory)?;
+    }
+    Ok(walks)
+}
+
+// Puts all tracks. The walks are those over their samples, the last track's first.
+fn put_tracks<S: Store, K: Sink, L: Ledger>(
+    of: PrintedMovie,
+    walks: &mut Vec<Walk>,
+    desk: &mut Desk,
+    store: &mut S,
+    sink: &mut K,
+    steps: &mut Steps<L>,
+) -> Result<(), Refusal>
+    requires walks { AreWalks of.movie.now 0 walks.old.items }
+    requires empty { waiting desk.old.window ≡ [] }
+    ensures store { OnlyCopies S.Store store.old store.new K.Sink sink.old sink.new result }
+    ensures told { WhereHeads S.Store store.old of.entry.movie.now of.entry.leaving
+        of.entry.heads.now (λ file tree. TellsTracks
+        of.entry.leaving file tree K.Sink sink.old sink.new desk.old.text desk.new.text result
+        steps.old steps.new) }
+    ensures grows { steps.old ≤ steps.new }
+    ensures refusal { RefusedByBoth S.Store store.old store.new K.Sink sink.old sink.new result
+        RefusesCarry }
+{
+    let PrintedMovie {
+        movie,
+        heads,
+        leaving,
+    } = of;
+    for track in 0..heads.len().min(movie.tracks().len()) {
+        let Some(mut walk) = walks.pop() else {
+            return Ok(());
+        };
+        let head = &heads[track];
+        let info = movie.tracks()[track];
+        put_front(
+            leaving,
+            head,
+            leaving.start(info.start),
+            &mut desk.text,
+            sink,
+        )?;
+        put_samples(of, info.keys, &mut walk, desk, store, sink, steps)?;
+    }
+    Ok(())
+}
+
+/// Puts the text of what is left of a file: a line for each value that its movie, its tracks and
+/// their samples have, with the digest of each sample's bytes. The whole file is judged, and all
+/// memory is taken, before the first line is put.
+pub fn print<S: Store, K: Sink, L: Ledger, M: Ledger>(
+    alloc: Global,
+    store: &mut S,
+    sink: &mut K,
+    leaving: Without,
+    steps: &mut Steps<L>,
+    looks: &mut Steps<M>,
+) -> Result<(), Refusal>
+    ensures store { KeepsFile S.Store store.old store.new }
+    ensures answer { Printed leaving (run_of S.Store store.old store.new K.Sink sink.old sink.new)
+        result }
+    ensures work { WhereHonest S.Store store.old (λ file. WalksWithin file steps.old steps.new) }
+    ensures least { OnOk result (WhereHonest S.Store store.old (λ file.
+        TakesEach file steps.old steps.new)) }
+    ensures looks { WhereHonest S.Store store.old (λ file. FindsWithin file looks.old looks.new) }
+{
+    let movie = open_movie(alloc, store, steps, looks)?;
+    let head = movie.head(alloc)?;
+    let tracks = head.tracks.as_slice();
+    let lefts = payloads_left(alloc, leaving, tracks)?;
+    let mut left = head;
+    put_payloads_left(alloc, &mut left, leaving, &lefts)?;
+    let front = front_lines(alloc, leaving)?;
+    let mut walks = walks_of(alloc, &movie)?;
+    let mut desk = Desk::new(alloc)?;
+    desk.text.carry(front.as_slice(), sink)?;
+    put_movie(leaving, &left, &mut desk.text, sink)?;
+    let heads = left.tracks.as_slice();
+    let of = PrintedMovie {
+        movie: &movie,
+        heads,
+        leaving,
+    };
+    put_tracks(of, &mut walks, &mut desk, store, sink, steps)?;
+    desk.text.carry(b"end\n", sink)?;
+    desk.text.flush(sink)
+}

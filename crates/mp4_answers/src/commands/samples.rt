@@ -1,0 +1,140 @@
+//! The samples of a track, a line each.
+ghost use Rattle.std.specs.Prelude.{◌≡◌, ◌+◌, ◌≤◌, OnOk};
+ghost use Rattle.mp4_present.specs.words.Loaded.{left_in_hand};
+ghost use Rattle.mp4_present.specs.words.Movies.{IsWalkOf};
+ghost use Rattle.mp4_present.specs.words.Carried.{RefusesCarry};
+ghost use Rattle.mp4_present.specs.words.TrackWalks.{WhereMayTake};
+ghost use Rattle.mp4_answers.specs.format.Texts.{sample_at_lines};
+ghost use Rattle.mp4_answers.specs.format.Steps.{WalksWithin, FindsWithin, TakesEach};
+ghost use Rattle.mp4_answers.specs.format.Answers.{Listed};
+ghost use Rattle.mp4_answers.specs.format.Run.{KeepsFile, run_of};
+ghost use Rattle.mp4_present.specs.words.HandCarried.{StaysBefore, OfHand, HandWork, RefusedByBoth};
+ghost use Rattle.mp4_present.specs.words.StoresRead.{OnlyReads, WhereHonest};
+ghost use Rattle.mp4_answers.specs.words.StoreAndSink.{NoPutFails, PutsOrFails};
+ghost use Rattle.mp4_answers.specs.words.ListedWalks.{PutsAll, PutsLines, WhereFewCome};
+
+use crate::commands::forms::head_of;
+use crate::commands::perform::perform_blank;
+use crate::commands::tracks::track_with;
+use crate::jobs::{Form, Job};
+use crate::text::sample_lines::put_lines;
+use mp4_boxes::{Refusal, Steps};
+use mp4_present::{Movie, OutBuffer, Walk, open_movie};
+use mp4_store::{Sink, Store};
+use std::alloc::Global;
+use std::marker::Brand;
+use std::sync::ledger::{Blank, Ledger};
+
+/// How many bytes are put at once: a power of two, so that each put fills whole pages.
+const ROOM: usize = 32_768;
+
+// The text that is put: the form of its lines, and what waits of them.
+#[derive(Drop)]
+struct SampleText {
+    form: Form,
+    carrier: OutBuffer,
+}
+
+// Puts the lines of all samples in hand. The number is that of the next one.
+fn put_hand<K: Sink, L: Ledger>(
+    text: &mut SampleText,
+    number: &mut u64,
+    movie: &Movie,
+    walk: &mut Walk,
+    sink: &mut K,
+    steps: &mut Steps<L>,
+) -> Result<(), Refusal>
+    requires { IsWalkOf movie.now walk.old }
+    ensures walk { OnOk result (StaysBefore movie.now walk.old walk.new) }
+    ensures form { text.new.form ≡ text.old.form }
+    ensures lines { OfHand movie.now walk.old (λ hand. PutsLines K.Sink sink.old sink.new
+        text.old.carrier text.new.carrier text.old.form number.old number.new
+        (left_in_hand hand) result) }
+    ensures puts { PutsOrFails K.Sink sink.old sink.new result }
+    ensures grows { steps.old ≤ steps.new }
+    ensures work { HandWork movie.now walk.old walk.new result steps.old steps.new }
+{
+    let place = {
+        let mut hand = walk.in_hand(movie);
+        put_lines(text.form, &mut hand, number, &mut text.carrier, sink)?;
+        hand.place()
+    };
+    walk.keep(place, steps);
+    Ok(())
+}
+
+// Puts the lines of all samples of a walk: at Ok all of them, at Err a front of them. A store that
+// doesn't change is not taken as changed.
+fn put_walk<S: Store, K: Sink, L: Ledger>(
+    text: &mut SampleText,
+    movie: &Movie,
+    walk: &mut Walk,
+    store: &mut S,
+    sink: &mut K,
+    steps: &mut Steps<L>,
+) -> Result<(), Refusal>
+    requires { IsWalkOf movie.now walk.old }
+    ensures store { OnlyReads S.Store store.old store.new result }
+    ensures puts { NoPutFails K.Sink sink.old sink.new result }
+    ensures lines { WhereFewCome S.Store store.old movie.now walk.old (λ samples. PutsAll
+        K.Sink sink.old sink.new text.old.carrier (sample_at_lines text.old.form 1 samples)
+        result) }
+    ensures refusal { RefusedByBoth S.Store store.old store.new K.Sink sink.old sink.new result
+        RefusesCarry }
+    ensures grows { steps.old ≤ steps.new }
+    ensures work { WhereMayTake S.Store store.old movie.now walk.old
+        (λ file tree t n. steps.new ≤ steps.old + n) }
+{
+    let mut number = 1;
+    put_hand(text, &mut number, movie, walk, sink, steps)?;
+    while walk.load(movie, store, steps)? {
+        put_hand(text, &mut number, movie, walk, sink, steps)?;
+    }
+    text.carrier.flush(sink)
+}
+
+/// As `samples`, with the steps that it takes counted: at most 8 for each sample and each row
+/// of the file, however many tracks it has.
+pub fn samples_counted<S: Store, K: Sink, L: Ledger, M: Ledger>(
+    alloc: Global,
+    store: &mut S,
+    id: u32,
+    form: Form,
+    sink: &mut K,
+    steps: &mut Steps<L>,
+    looks: &mut Steps<M>,
+) -> Result<(), Refusal>
+    ensures store { KeepsFile S.Store store.old store.new }
+    ensures answer { Listed id form (run_of S.Store store.old store.new K.Sink sink.old sink.new)
+        result }
+    ensures work { WhereHonest S.Store store.old (λ file. WalksWithin file steps.old steps.new) }
+    ensures least { OnOk result (WhereHonest S.Store store.old (λ file.
+        TakesEach file steps.old steps.new)) }
+    ensures looks { WhereHonest S.Store store.old (λ file. FindsWithin file looks.old looks.new) }
+{
+    let movie = open_movie(alloc, store, steps, looks)?;
+    let track = track_with(movie.tracks(), id)?;
+    let mut walk = movie.walk(alloc, track)?;
+    let carrier = OutBuffer::new(alloc, ROOM)?;
+    let mut text = SampleText { form, carrier };
+    text.carrier.carry(head_of(form), sink)?;
+    put_walk(&mut text, &movie, &mut walk, store, sink, steps)
+}
+
+/// Puts a line for each sample of the track with this ID: number, decode time, composition time,
+/// duration, flags, description index, size. The whole file is judged, and all memory is taken,
+/// before the first line is put.
+pub fn samples<S: Store, K: Sink>(
+    alloc: Global,
+    store: &mut S,
+    id: u32,
+    form: Form,
+    sink: &mut K,
+) -> Result<(), Refusal>
+    ensures store { KeepsFile S.Store store.old store.new }
+    ensures answer { Listed id form (run_of S.Store store.old store.new K.Sink sink.old sink.new)
+        result }
+{
+    let job = Job::Samples { track: id, form };
+    perform_blank::<S, K, Brand, Brand>(alloc, job, store, sink, Blank::new(1), Blank::new(1))
+}

@@ -1,0 +1,37 @@
+//! The sum of a file: the SHA-256 of its normal form.
+ghost use Rattle.std.specs.Prelude.{OnOk};
+ghost use Rattle.mp4_answers.specs.format.Run.{KeepsFile, look_of};
+ghost use Rattle.mp4_answers.specs.format.Steps.{WorksWithin, TurnsWithin, TakesEach};
+ghost use Rattle.mp4_answers.specs.format.Sums.{Summed};
+ghost use Rattle.mp4_present.specs.words.StoresRead.{WhereHonest};
+
+use crate::commands::hash_sink::HashSink;
+use crate::text::digits::DIGEST;
+use crate::commands::normalise_reduced::normalise_reduced;
+use mp4_boxes::{Refusal, Steps};
+use mp4_present::Without;
+use mp4_store::Store;
+use std::alloc::Global;
+use std::sync::ledger::Ledger;
+
+/// The SHA-256 of the normal form of what is left of the file. It is that of what
+/// `normalise_reduced` puts, and is refused where that is.
+pub fn sum_file<S: Store, L: Ledger, M: Ledger>(
+    alloc: Global,
+    store: &mut S,
+    leaving: Without,
+    steps: &mut Steps<L>,
+    looks: &mut Steps<M>,
+) -> Result<[u8; DIGEST], Refusal>
+    ensures store { KeepsFile S.Store store.old store.new }
+    ensures answer { Summed leaving (look_of S.Store store.old store.new) result }
+    ensures work { WhereHonest S.Store store.old (λ file.
+        WorksWithin leaving file steps.old steps.new) }
+    ensures least { OnOk result (WhereHonest S.Store store.old (λ file.
+        TakesEach file steps.old steps.new)) }
+    ensures looks { WhereHonest S.Store store.old (λ file. TurnsWithin file looks.old looks.new) }
+{
+    let mut sink = HashSink::new();
+    normalise_reduced(alloc, store, &mut sink, leaving, steps, looks)?;
+    Ok(sink.digest())
+}

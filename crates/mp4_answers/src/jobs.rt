@@ -1,0 +1,41 @@
+//! What is done over a file, and how the answer is written.
+use crate::box_names::Name;
+use mp4_present::Without;
+
+/// How the samples of a track are listed: a line each, the same behind the names of the columns, or
+/// an object of JSON each.
+#[derive(Clone, Copy)]
+pub enum Form {
+    Plain,
+    Named,
+    Json,
+}
+
+/// How an answer is written: as lines for people, or as an object of JSON a line.
+#[derive(Clone, Copy)]
+pub enum Syntax {
+    Text,
+    Json,
+}
+
+/// What is done over a file.
+#[derive(Clone, Copy)]
+pub enum Job<'a> {
+    Boxes { syntax: Syntax },
+    Show,
+    Samples { track: u32, form: Form },
+    Extract { track: u32 },
+    Normalise,
+    /// The normal form of what is left.
+    Reduce { leaving: Without },
+    /// The text of what is left.
+    Print { leaving: Without },
+    Strip { names: &'a [Name] },
+}
+
+/// How verdicts are written: in which syntax, and with which byte at the end of each.
+#[derive(Clone, Copy)]
+pub struct VerdictStyle {
+    pub syntax: Syntax,
+    pub end: u8,
+}

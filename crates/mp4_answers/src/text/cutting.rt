@@ -1,0 +1,23 @@
+//! Words in lists, and bytes that two hexadecimal digits spell.
+ghost use Rattle.std.specs.Prelude.{◌<◌, length, IfSome};
+
+/// The byte that two hexadecimal digits spell.
+pub fn byte_of(high: u8, low: u8) -> Option<u8> {
+    let high = char::from(high).to_digit(16)?;
+    let low = char::from(low).to_digit(16)?;
+    Some((16 * high + low) as u8)
+}
+
+/// What stands before the first such byte, and what stands behind it, if it is there.
+pub fn cut(word: &[u8], at: u8) -> (&[u8], Option<&[u8]>)
+    ensures { IfSome result.1 (λ rest. length rest.now < length word.now) }
+{
+    for k in 0..word.len() {
+        if word[k] == at {
+            let (front, rest) = word.split_at(k);
+            let (_, rest) = rest.split_at(1);
+            return (front, Some(rest));
+        }
+    }
+    (word, None)
+}

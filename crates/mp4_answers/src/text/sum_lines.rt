@@ -1,0 +1,214 @@
+//! Lines of sums, as `sha256sum` of the GNU coreutils writes them, and what a list of them says.
+use crate::text::digits::DIGEST;
+use crate::text::tally::say_words;
+use crate::text::cutting::{byte_of, cut};
+use crate::text::plain_names::push_plain;
+use crate::without_words::leaving_of;
+use crate::text::digits::hex_digit;
+use crate::text::json_text::name_json;
+use mp4_present::Without;
+use std::alloc::{AllocError, Global};
+use std::str;
+
+/// How the line begins that says of which normal form sums are.
+const HEADER: &[u8] = b"# mp4norm sum: normal form ";
+
+/// The number of the normal form.
+const FORM: &[u8] = b"1";
+
+/// What stands before the words of what is left out.
+const WITHOUT: &[u8] = b", without";
+
+/// What stands there where nothing is.
+const NOTHING: &[u8] = b" nothing";
+
+/// How many digits a digest has.
+const DIGITS: usize = 2 * DIGEST;
+
+// Adds the digits of a digest.
+fn push_digest(text: &mut Vec<u8>, digest: &[u8; DIGEST]) -> Result<(), AllocError> {
+    for byte in digest {
+        text.push(hex_digit(*byte >> 4))?;
+        text.push(hex_digit(*byte & 15))?;
+    }
+    Ok(())
+}
+
+/// Adds the line that says of which normal form, and of what is left of files, the sums behind it
+/// are.
+pub fn push_header(text: &mut Vec<u8>, leaving: Without) -> Result<(), AllocError> {
+    text.extend_from_slice(HEADER)?;
+    text.extend_from_slice(FORM)?;
+    text.extend_from_slice(WITHOUT)?;
+    if leaving == Without::NOTHING {
+        text.extend_from_slice(NOTHING)?;
+    } else {
+        say_words(text, leaving)?;
+    }
+    text.extend_from_slice(b"\n")
+}
+
+// Whether a name has a byte that a line of its own can't have.
+fn is_escaped(name: &[u8]) -> bool {
+    name.iter()
+        .any(|byte| matches!(*byte, b'\n' | b'\r' | b'\\'))
+}
+
+// Adds a name as it stands in a line that a line feed ends: behind a backslash, which stands at the
+// front of the line, `\n`, `\r` and `\\` are these bytes.
+fn push_escaped(text: &mut Vec<u8>, name: &[u8]) -> Result<(), AllocError> {
+    for byte in name {
+        match *byte {
+            b'\n' => text.extend_from_slice(b"\\n")?,
+            b'\r' => text.extend_from_slice(b"\\r")?,
+            b'\\' => text.extend_from_slice(b"\\\\")?,
+            byte => text.push(byte)?,
+        }
+    }
+    Ok(())
+}
+
+/// Adds a name at the front of a line that a line feed ends, behind a backslash where it is
+/// escaped.
+pub fn push_name(text: &mut Vec<u8>, name: &[u8]) -> Result<(), AllocError> {
+    if !is_escaped(name) {
+        return text.extend_from_slice(name);
+    }
+    text.push(b'\\')?;
+    push_escaped(text, name)
+}
+
+/// The line of a file's sum, ended by this byte; where that is a line feed, with the name escaped.
+pub fn sum_line(
+    alloc: Global,
+    name: &[u8],
+    digest: &[u8; DIGEST],
+    end: u8,
+) -> Result<Vec<u8>, AllocError> {
+    let mut plain = Vec::new(alloc);
+    push_plain(&mut plain, name)?;
+    let mut line = Vec::new(alloc);
+    let is_escaped = end != 0 && is_escaped(plain.as_slice());
+    if is_escaped {
+        line.push(b'\\')?;
+    }
+    push_digest(&mut line, digest)?;
+    line.extend_from_slice(b"  ")?;
+    if is_escaped {
+        push_escaped(&mut line, plain.as_slice())?;
+    } else {
+        line.extend_from_slice(plain.as_slice())?;
+    }
+    line.push(end)?;
+    Ok(line)
+}
+
+/// The object of JSON of a file's sum, ended by this byte.
+pub fn sum_object(
+    alloc: Global,
+    name: &[u8],
+    digest: &[u8; DIGEST],
+    end: u8,
+) -> Result<Vec<u8>, AllocError> {
+    let mut line = Vec::new(alloc);
+    line.extend_from_slice(b"{\"file\":")?;
+    line.extend_from_slice(name_json(alloc, name)?.as_slice())?;
+    line.extend_from_slice(b",\"sha256\":\"")?;
+    push_digest(&mut line, digest)?;
+    line.extend_from_slice(b"\",\"status\":0}")?;
+    line.push(end)?;
+    Ok(line)
+}
+
+/// What a line of a list of sums says.
+#[derive(Drop)]
+pub enum ListedSum {
+    /// What is left out of the files behind it.
+    Header(Without),
+    /// The sum of the file of this name.
+    Sum { digest: [u8; DIGEST], name: Vec<u8> },
+    /// Nothing.
+    Passed,
+    /// It can't be read, for this reason.
+    Odd(&'static str),
+}
+
+// The digest that digits spell.
+fn digest_of(digits: &[u8]) -> Option<[u8; DIGEST]> {
+    if digits.len() != DIGITS {
+        return None;
+    }
+    let mut digest = [0; DIGEST];
+    for at in 0..DIGEST {
+        digest[at] = byte_of(digits[2 * at], digits[2 * at + 1])?;
+    }
+    Some(digest)
+}
+
+// The name that stands in a line, escaped or not; none where an escape is none.
+fn name_of(alloc: Global, spelled: &[u8], is_escaped: bool) -> Result<Option<Vec<u8>>, AllocError> {
+    let mut name = Vec::new(alloc);
+    let mut left = spelled;
+    while let Some((first, rest)) = left.split_first() {
+        left = rest;
+        match (*first, rest.split_first()) {
+            (b'\\', Some((escaped, more))) if is_escaped => {
+                left = more;
+                name.push(match *escaped {
+                    b'n' => b'\n',
+                    b'r' => b'\r',
+                    b'\\' => b'\\',
+                    _ => return Ok(None),
+                })?;
+            }
+            (b'\\', None) if is_escaped => return Ok(None),
+            (byte, _) => name.push(byte)?,
+        }
+    }
+    Ok(Some(name))
+}
+
+// What a line with this behind the mark of a header says.
+fn header_of(rest: &[u8]) -> ListedSum {
+    let (form, words) = cut(rest, b',');
+    if form != FORM {
+        return ListedSum::Odd("sums of another normal form");
+    }
+    let left_out = match words.and_then(|words| words.strip_prefix(b" without ")) {
+        Some(b"nothing") => Some(Without::NOTHING),
+        Some(words) => str::from_utf8(words).ok().and_then(leaving_of),
+        None => None,
+    };
+    match left_out {
+        Some(leaving) => ListedSum::Header(leaving),
+        None => ListedSum::Odd("words that leave out nothing that is known"),
+    }
+}
+
+/// What a line of a list says. A name is as the list has it, which is no word.
+pub fn listed_sum(alloc: Global, line: &[u8]) -> Result<ListedSum, AllocError> {
+    const NONE: &str = "no checksum";
+    if let Some(rest) = line.strip_prefix(HEADER) {
+        return Ok(header_of(rest));
+    }
+    if line.is_empty() || line[0] == b'#' {
+        return Ok(ListedSum::Passed);
+    }
+    let (is_escaped, line) = match line.strip_prefix(b"\\") {
+        Some(rest) => (true, rest),
+        None => (false, line),
+    };
+    if line.len() < DIGITS + 3 {
+        return Ok(ListedSum::Odd(NONE));
+    }
+    let (digits, rest) = line.split_at(DIGITS);
+    let spelled = match rest {
+        [b' ', b' ' | b'*', spelled @ ..] => spelled,
+        _ => return Ok(ListedSum::Odd(NONE)),
+    };
+    let (Some(digest), Some(name)) = (digest_of(digits), name_of(alloc, spelled, is_escaped)?)
+    else {
+        return Ok(ListedSum::Odd(NONE));
+    };
+    Ok(ListedSum::Sum { digest, name })
+}

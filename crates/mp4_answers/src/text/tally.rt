@@ -1,0 +1,199 @@
+//! How many differences of which kind there are.
+ghost use Rattle.std.specs.Prelude.{◌≡◌, [], ◌∷◌, ◌++◌, ◌&&◌, ◌==◌, not, true, IfOk, OnOk};
+ghost use Rattle.mp4_answers.specs.format.LastLine.{all_kinds, count_of_kind, count_text, counts_text, enough_text, kind_name, kind_of_difference, kind_of_entries, last_line, leaving_text, total_end, total_front, words_text};
+
+use crate::text::difference_lines::{end_line, say, say_counted};
+use mp4_present::{Difference, Entries, Field, Subject, Without};
+use std::alloc::AllocError;
+
+/// What a difference is of, in the order in which the kinds are told of.
+#[derive(Clone, Copy)]
+pub(crate) enum Kind {
+    Times,
+    Edits,
+    Flags,
+    Groups,
+    Kept,
+    Heads,
+    Samples,
+    Bytes,
+}
+
+/// What a kind is called.
+pub(crate) fn kind_name(kind: Kind) -> &'static str
+    ensures { result.now ≡ kind_name kind }
+{
+    match kind {
+        Kind::Times => "times",
+        Kind::Edits => "edits",
+        Kind::Flags => "flags",
+        Kind::Groups => "groups",
+        Kind::Kept => "kept",
+        Kind::Heads => "heads",
+        Kind::Samples => "samples",
+        Kind::Bytes => "bytes",
+    }
+}
+
+// The kind of a difference of heads.
+fn kind_of_entries(entries: Entries) -> Kind
+    ensures { result ≡ kind_of_entries entries }
+{
+    match entries {
+        Entries::Edits => Kind::Edits,
+        Entries::Kept => Kind::Kept,
+        Entries::GroupDescriptions => Kind::Groups,
+        _ => Kind::Heads,
+    }
+}
+
+/// The kind of a difference.
+pub(crate) fn kind_of_difference(difference: &Difference) -> Kind
+    ensures { result ≡ kind_of_difference difference.now }
+{
+    match (difference.field, difference.subject) {
+        (Field::Creation | Field::Modification, _) => Kind::Times,
+        (Field::MediaCreation | Field::MediaModification, _) => Kind::Times,
+        (Field::Count(entries) | Field::Entry(entries, _, _), _) => kind_of_entries(entries),
+        (Field::Group(_), _) => Kind::Groups,
+        (Field::Byte(_, _), _) => Kind::Bytes,
+        (Field::Start | Field::Samples, _) => Kind::Samples,
+        (Field::Flags, Subject::Sample(_, _)) => Kind::Flags,
+        (_, Subject::Sample(_, _)) => Kind::Samples,
+        _ => Kind::Heads,
+    }
+}
+
+/// How many of these differences are of a kind.
+pub(crate) fn count_of_kind(kind: Kind, all: &[Difference]) -> u64
+    ensures { result ≡ count_of_kind kind all.now }
+{
+    let mut count = 0u64;
+    for difference in all {
+        if kind_of_difference(difference) as u8 == kind as u8 {
+            count += 1;
+        }
+    }
+    count
+}
+
+// Adds a count of a kind, where it isn't 0, and says whether none is added yet.
+#[tactic(auto, unfolding(crate::specs::format::LastLine::count_text))]
+fn say_count(
+    text: &mut Vec<u8>,
+    kind: Kind,
+    all: &[Difference],
+    is_first: bool,
+) -> Result<bool, AllocError>
+    ensures text { OnOk result (text.new.items
+        ≡ text.old.items ++ count_text is_first kind all.now) }
+    ensures first { IfOk result (λ first. first ≡ is_first && (count_of_kind kind all.now == 0)) }
+{
+    let count = count_of_kind(kind, all);
+    if count == 0 {
+        return Ok(is_first);
+    }
+    say(text, if is_first { ": " } else { ", " })?;
+    say(text, kind_name(kind))?;
+    say_counted(text, " ", count, "")?;
+    Ok(false)
+}
+
+// Adds the counts by kind.
+fn say_counts(text: &mut Vec<u8>, all: &[Difference]) -> Result<(), AllocError>
+    ensures { OnOk result (text.new.items ≡ text.old.items ++ counts_text true all_kinds all.now) }
+{
+    let is_first = say_count(text, Kind::Times, all, true)?;
+    let is_first = say_count(text, Kind::Edits, all, is_first)?;
+    let is_first = say_count(text, Kind::Flags, all, is_first)?;
+    let is_first = say_count(text, Kind::Groups, all, is_first)?;
+    let is_first = say_count(text, Kind::Kept, all, is_first)?;
+    let is_first = say_count(text, Kind::Heads, all, is_first)?;
+    let is_first = say_count(text, Kind::Samples, all, is_first)?;
+    let _ = say_count(text, Kind::Bytes, all, is_first)?;
+    Ok(())
+}
+
+// Adds a word behind others, if it leaves something out, and says whether none is added yet.
+fn say_word(
+    text: &mut Vec<u8>,
+    word: &str,
+    is_left_out: bool,
+    is_first: bool,
+) -> Result<bool, AllocError>
+    ensures text { OnOk result (text.new.items
+        ≡ text.old.items ++ words_text is_first ((word.now, is_left_out) ∷ [])) }
+    ensures first { IfOk result (λ first. first ≡ is_first && not is_left_out) }
+{
+    if !is_left_out {
+        return Ok(is_first);
+    }
+    say(text, if is_first { " " } else { "," })?;
+    say(text, word)?;
+    Ok(false)
+}
+
+/// Adds the words that leave these out, a space before them and commas between them.
+pub(crate) fn say_words(text: &mut Vec<u8>, leaving: Without) -> Result<(), AllocError>
+    ensures { OnOk result (text.new.items ≡ text.old.items ++ leaving_text leaving) }
+{
+    let is_first = say_word(text, "times", leaving.times, true)?;
+    let is_first = say_word(text, "edits", leaving.edits, is_first)?;
+    let is_first = say_word(text, "flags", leaving.flags, is_first)?;
+    let is_first = say_word(text, "groups", leaving.groups, is_first)?;
+    let is_first = say_word(text, "metadata", leaving.metadata, is_first)?;
+    let is_first = say_word(text, "bitrates", leaving.bitrates, is_first)?;
+    let is_first = say_word(text, "ends", leaving.ends, is_first)?;
+    let is_first = say_word(text, "origins", leaving.origins, is_first)?;
+    let is_first = say_word(text, "labels", leaving.labels, is_first)?;
+    let _ = say_word(text, "timing", leaving.timing, is_first)?;
+    Ok(())
+}
+
+// Adds with which words two files are the same, or that there are none.
+fn say_enough(text: &mut Vec<u8>, enough: Option<Without>) -> Result<(), AllocError>
+    ensures { OnOk result (text.new.items ≡ text.old.items ++ enough_text enough) }
+{
+    match enough {
+        Some(leaving) => {
+            say(text, "; the same --without")?;
+            say_words(text, leaving)
+        }
+        None => say(text, "; no words of --without make them the same"),
+    }
+}
+
+// What stands before the number of differences.
+fn total_front(is_whole: bool) -> &'static str
+    ensures { result.now ≡ total_front is_whole }
+{
+    if is_whole { "" } else { "at least " }
+}
+
+// And behind it.
+fn total_end(count: usize) -> &'static str
+    ensures { result.now ≡ total_end count }
+{
+    if count == 1 {
+        " difference"
+    } else {
+        " differences"
+    }
+}
+
+/// Adds the line that ends a list of all differences: how many there are, or whether there are
+/// more, of which kinds, and what has to be left out for the files to be the same.
+pub(crate) fn say_last(
+    text: &mut Vec<u8>,
+    all: &[Difference],
+    is_whole: bool,
+    enough: Option<Without>,
+) -> Result<(), AllocError>
+    ensures { OnOk result (text.new.items ≡ text.old.items ++ last_line is_whole all.now enough) }
+{
+    let count = all.len();
+    say_counted(text, total_front(is_whole), count as u64, total_end(count))?;
+    say_counts(text, all)?;
+    say_enough(text, enough)?;
+    end_line(text)
+}

@@ -1,5 +1,0 @@
-use Rattle.mp4norm.proofs.SameAnswers.{normal_form_denotes_the_same}
-use Rattle.mp4norm.proofs.answer_laws.normal_form_denotes_the_same.Goals as goal
-
-pub returns : goal.returns
-returns c = normal_form_denotes_the_same

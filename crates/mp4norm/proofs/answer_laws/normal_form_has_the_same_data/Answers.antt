@@ -1,5 +1,0 @@
-use Rattle.mp4norm.proofs.SameAnswers.{normal_form_has_the_same_data}
-use Rattle.mp4norm.proofs.answer_laws.normal_form_has_the_same_data.Goals as goal
-
-pub returns : goal.returns
-returns c = normal_form_has_the_same_data

@@ -1,5 +1,0 @@
-use Rattle.mp4norm.proofs.SameAnswers.{same_is_same_bytes}
-use Rattle.mp4norm.proofs.answer_laws.same_is_same_bytes.Goals as goal
-
-pub returns : goal.returns
-returns c = same_is_same_bytes

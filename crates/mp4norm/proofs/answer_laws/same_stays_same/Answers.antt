@@ -1,5 +1,0 @@
-use Rattle.mp4norm.proofs.SameAnswers.{same_stays_same}
-use Rattle.mp4norm.proofs.answer_laws.same_stays_same.Goals as goal
-
-pub returns : goal.returns
-returns c = same_stays_same

@@ -1,5 +1,0 @@
-use Rattle.mp4norm.specs.format.BoxWalk.{height}
-use Rattle.mp4norm.proofs.commands.box_path.+push_way.Given as goal
-
-abbrev pub decreases-push_way : goal.decreases-push_way
-decreases-push_way l = height l.rule

@@ -1,4 +1,0 @@
-use Rattle.mp4norm.proofs.commands.normalise.normalise.Goals as goal
-
-pub returns : goal.returns
-returns g c = record { store = c.perform_blank.ensures.store; answer = c.perform_blank.ensures.answer; whole = c.perform_blank.ensures.whole }

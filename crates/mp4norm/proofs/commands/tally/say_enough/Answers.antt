@@ -1,5 +1,0 @@
-use Rattle.std.proofs.Common.{rules, append_assoc}
-use Rattle.mp4norm.proofs.commands.tally.say_enough.Goals as goal
-
-pub returns-in_ok-say-in-Some : goal.returns-in_ok-say-in-Some
-returns-in_ok-say-in-Some c = rw c.in-Some.is (search (rules, append_assoc))

@@ -1,5 +1,0 @@
-use Rattle.mp4norm.proofs.StripDenotes.{copy_denotes_the_same}
-use Rattle.mp4norm.proofs.laws.copy_denotes_the_same.Goals as goal
-
-pub returns : goal.returns
-returns c = copy_denotes_the_same

@@ -1,5 +1,0 @@
-use Rattle.mp4norm.proofs.StripFaults.{foreign_is_fault}
-use Rattle.mp4norm.proofs.laws.foreign_is_fault.Goals as goal
-
-pub returns : goal.returns
-returns c = foreign_is_fault

@@ -1,5 +1,0 @@
-use Rattle.mp4norm.proofs.StripLaws.{named_is_free}
-use Rattle.mp4norm.proofs.laws.named_is_free.Goals as goal
-
-pub returns : goal.returns
-returns c = named_is_free

@@ -1,5 +1,0 @@
-use Rattle.mp4norm.proofs.Normalised.{says_bytes}
-use Rattle.mp4norm.proofs.laws.normalised_says_bytes.Goals as goal
-
-pub returns : goal.returns
-returns c = says_bytes

@@ -1,5 +1,0 @@
-use Rattle.mp4norm.proofs.StripLaws.{strip_keeps_length}
-use Rattle.mp4norm.proofs.laws.strip_keeps_length.Goals as goal
-
-pub returns : goal.returns
-returns c = strip_keeps_length

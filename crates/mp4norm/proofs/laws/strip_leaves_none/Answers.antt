@@ -1,5 +1,0 @@
-use Rattle.mp4norm.proofs.StripLeft.{strip_leaves_none}
-use Rattle.mp4norm.proofs.laws.strip_leaves_none.Goals as goal
-
-pub returns : goal.returns
-returns c = strip_leaves_none

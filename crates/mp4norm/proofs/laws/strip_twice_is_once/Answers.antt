@@ -1,5 +1,0 @@
-use Rattle.mp4norm.proofs.StripLeft.{strip_twice_is_once}
-use Rattle.mp4norm.proofs.laws.strip_twice_is_once.Goals as goal
-
-pub returns : goal.returns
-returns c = strip_twice_is_once

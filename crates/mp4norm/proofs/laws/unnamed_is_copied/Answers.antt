@@ -1,5 +1,0 @@
-use Rattle.mp4norm.proofs.StripLaws.{unnamed_is_copied}
-use Rattle.mp4norm.proofs.laws.unnamed_is_copied.Goals as goal
-
-pub returns : goal.returns
-returns c = unnamed_is_copied

@@ -1,5 +1,0 @@
-use Rattle.mp4norm.proofs.LineParts.{plain_lines}
-use Rattle.mp4norm.proofs.text.sample_lines.sample_line.Goals as goal
-
-pub returns-in-Plain-clause-written : goal.returns-in-Plain-clause-written
-returns-in-Plain-clause-written c = rw (plain_lines c.args.form c.in-Plain.is c.args.number c.args.sample.now) c.plain_line.ensures.written

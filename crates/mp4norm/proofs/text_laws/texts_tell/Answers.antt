@@ -1,5 +1,0 @@
-use Rattle.mp4norm.proofs.TextsTell.{same_text_tells}
-use Rattle.mp4norm.proofs.text_laws.texts_tell.Goals as goal
-
-pub returns : goal.returns
-returns c l p q v w e = same_text_tells l p q v w e
