@@ -22,6 +22,8 @@ from trials import LIMIT, Room, Tally, other, printed
 HERE = os.path.dirname(os.path.abspath(__file__))
 # Seconds within which a program that must not wait has ended.
 AT_ONCE = 5
+# What never has room; no run may name it as NEW.
+FULL = '/dev/full'
 # A name as users have them.
 ODD_NAME = 'a file of two\nlines'
 # The name of a new file beside NEW, in a folder.
@@ -207,8 +209,11 @@ class Bench(Room, Tally):
                           **how)
 
     def run_to_full(self, words):
-        """The same where standard output has no room."""
-        with open('/dev/full', 'wb') as full:
+        """The same where standard output has no room. That has to be the device: a file of its
+        name would have room."""
+        with open(FULL, 'r+b', buffering=0) as full:
+            if os.fstat(full.fileno()).st_rdev != os.makedev(1, 7):
+                raise OSError(f'{FULL} is no device that is always full')
             return self.run(words, stdout=full, limit=AT_ONCE)
 
     def run_piped(self, name, words, limit=LIMIT):
