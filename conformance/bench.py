@@ -12,6 +12,7 @@ import subprocess
 import sys
 import tempfile
 import traceback
+import unicodedata
 from dataclasses import dataclass
 
 import trials
@@ -101,10 +102,12 @@ def gone_process():
 
 
 def escaped(name):
-    """A name in a line for people: backslashes, controls and what is no UTF-8 are spelled."""
+    """A name in a line for people: backslashes, controls, what is no UTF-8, and characters of format
+    or that end a line or a paragraph are spelled."""
     made = ''
     for one in os.fsdecode(name):
         is_control = one < ' ' or '\x7f' <= one < '\xa0' or '\ud800' <= one < '\ue000'
+        is_control |= unicodedata.category(one) in ('Cf', 'Zl', 'Zp')
         spelled_one = ''.join(f'\\x{byte:02x}' for byte in os.fsencode(one)) if is_control else one
         made += '\\\\' if one == '\\' else spelled_one
     return os.fsencode(made)
