@@ -60,15 +60,16 @@ def of_explanations():
         edit('mp4_present/places', 'if u64::from(first) <= u64::from(chunk) + 1 {',
              'if u64::from(first) <= u64::from(chunk) + 1 && false {',
              'later rows of stsc are passed over in numbers', 'numbers of the third row of stsc:'),
-        edit('run_command', 'if telling.explain {', 'if telling.explain && !telling.progress {',
+        edit('run_command', 'Refusal::Fault(fault) if telling.explain => {',
+             'Refusal::Fault(fault) if telling.explain && !telling.progress => {',
              '--explain is dropped beside --progress', r"--explain \['--progress'\] of a cut file"),
         edit('check_files', 'files.len() != 1 || list.is_some()', 'files.len() > 1',
              'the file of a list is not named where its fault is explained',
              'check --names-from - --explain'),
-        edit('run_compare', 'explain_fault(rt, name, refusal, telling, &mut first, costs);',
-             'explain_fault(rt, name, refusal, telling, &mut second, costs);',
+        edit('run_compare', 'explain_refusal(rt, name, refusal, telling, &mut first, costs);',
+             'explain_refusal(rt, name, refusal, telling, &mut second, costs);',
              'compare explains the fault of A in B', 'compare gap.mp4 plain.mp4'),
-        edit('reports', '|| (!self.telling.brief && rt.stderr().is_terminal())', '',
+        edit('reports', '|| (!telling.brief && rt.stderr().is_terminal())', '',
              'on a terminal a failure stands alone', 'show none on a terminal'),
     )
 
@@ -99,7 +100,7 @@ ONE_OF_WORDS = '        let answer = answer_of(rt, *input, manner, costs);'
 JUDGED = ('            check_counted(alloc, source, &mut costs.steps, &mut costs.looks)?;\n'
           '            Ok(None)')
 LISTED = '    answer_of(rt, Input::File { name }, manner, costs)\n'
-PUT_LISTED = '        worst = put_named(rt, name, &answer, manner, sink)?.max(worst);'
+PUT_LISTED = '        worst = put_named(rt, named, &answer, manner, sink)?.max(worst);'
 WORST = 'Ok(worst.max(check_list(rt, list, manner, &mut sink, costs)?))'
 
 
@@ -341,7 +342,7 @@ def of_files():
 def of_lists():
     return together(
         'lists',
-        Edit('part_checks', 'check_part(store, from, end, part == ends.len() - 1)?;',
+        Edit('part_checks', 'check_part(store, from, end, end == whole)?;',
              'check_part(store, from, end, true)?;',
              'a box to the end of a part in the middle is taken',
              'lists ends_of_parts: a part with a box to its end:'),
@@ -359,13 +360,6 @@ def of_lists():
              'lists changed_parts: part2.m4s is another before open of part2.m4s', joins='states'),
         Edit('named_files', 'if self.held.len() >= MOST_OPEN {', 'if self.held.len() >= 100 {',
              'a hundred parts are open', 'lists many_parts: 64 parts, few open'),
-        Edit('playlists', "b',' if !is_quoted =>", "b',' =>",
-             'a comma within quotation marks ends an attribute',
-             'lists playlists: list.m3u8: other attributes'),
-        Edit('playlists', 'Some(b"NONE") => Ok(None),',
-             'Some(b"NONE" | b"SAMPLE-AES") => Ok(None),',
-             'segments of SAMPLE-AES are read as if they were not encrypted',
-             'lists playlists: show @parts/list.m3u8: .*METHOD=SAMPLE-AES,', joins='further'),
         Edit('lists', '        if is_name(name) {',
              '        if is_name(name) && name.len() < 200 {',
              'names of 200 bytes and more are not in a list',
@@ -489,8 +483,8 @@ def of_edges():
         Edit('descriptors', 'if number > ERRORS {', 'if number >= ERRORS {',
              'what is said where standard error is closed goes into NEW',
              'descriptors said_elsewhere: 2>&-'),
-        Edit('file_names', '} else if character.is_control() {',
-             "} else if character.is_control() && character != '\\u{7f}' {",
+        Edit('file_names', '} else if steers(character) {',
+             "} else if steers(character) && character != '\\u{7f}' {",
              'the last control character of ASCII is no such',
              "names names_in_checks: check 'bell "),
         Edit('file_names', "if character == '\\\\' {", "if character == '\\u{0}' {",
