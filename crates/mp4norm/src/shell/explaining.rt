@@ -92,8 +92,8 @@ fn clause_of(kind: FourCc) -> &'static [u8] {
     b"4.2"
 }
 
-/// Types of boxes of other standards that stand first in files of this kind: of Apple's QuickTime, of
-/// whoever has a UUID, of MPEG-DASH.
+/// Types of boxes of other standards that stand first in files of this kind: of Apple's QuickTime,
+/// of whoever has a UUID, of MPEG-DASH.
 const FIRST_TYPES: [FourCc; 3] = [FourCc(*b"wide"), FourCc(*b"uuid"), FourCc(*b"emsg")];
 
 /// The meaning of any fault of a file that begins with no box of a type that is known.

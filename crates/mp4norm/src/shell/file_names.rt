@@ -105,8 +105,8 @@ fn push_text(text: &mut Vec<u8>, valid: &str) -> Result<(), AllocError> {
     Ok(())
 }
 
-/// Adds a name as a person is shown it: on one line, without a character that steers a terminal. The
-/// bytes of the name are those of a word, or of a list of names.
+/// Adds a name as a person is shown it: on one line, without a character that steers a terminal.
+/// The bytes of the name are those of a word, or of a list of names.
 pub(crate) fn push_shown(text: &mut Vec<u8>, name: &[u8]) -> Result<(), AllocError> {
     let alloc = *text.allocator();
     let mut plain = Vec::new(alloc);

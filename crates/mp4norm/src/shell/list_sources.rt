@@ -77,8 +77,8 @@ fn look(rt: &HostRuntime, path: &str) -> io::Result<State> {
     Ok(State::of(&metadata))
 }
 
-/// Reads a list of so many files at most, and looks at all of them. A line of the list that can't be
-/// taken is told of on standard error.
+/// Reads a list of so many files at most, and looks at all of them. A line of the list that can't
+/// be taken is told of on standard error.
 pub(crate) fn open_list<'a>(
     rt: &'a HostRuntime,
     list: &str,
