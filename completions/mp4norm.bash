@@ -1,40 +1,71 @@
 # Completion of mp4norm for bash.
 
+# Words of a list with commas, of which none is offered twice; what stands before the last comma stays.
+_mp4norm_list() {
+    local before='' word
+    [[ $current != *,* ]] || before=${current%,*},
+    for word; do
+        if [[ ,$before != *",$word,"* && $before$word = "$current"* ]]; then COMPREPLY+=("$before$word"); fi
+    done
+    compopt -o nospace 2>/dev/null
+}
+
+# Files behind an @, which stand for those that they name.
+_mp4norm_at() {
+    local file
+    while read -r file; do
+        if [ -d "$file" ]; then
+            compopt -o nospace 2>/dev/null
+            file+=/
+        fi
+        printf -v file '@%q' "$file"
+        COMPREPLY+=("$file")
+    done < <(compgen -f -- "${current#@}")
+}
+
 _mp4norm() {
     local current=$2 previous=$3 command='' word words
     COMPREPLY=()
     for word in "${COMP_WORDS[@]:1:COMP_CWORD-1}"; do
         case $word in
-        normalise | show | samples | extract | boxes | strip | compare | check | sum | print | help)
+        normalise | normalize | show | samples | extract | boxes | strip | compare | check | sum | print | help)
             command=$word
             break
             ;;
         esac
     done
+    # bash takes `--option=value` for three words.
+    [ "$previous" != = ] || previous=${COMP_WORDS[COMP_CWORD - 2]}
     case $previous in
-    --track | --drop | --without | --limit | --max-bytes)
+    --without)
+        _mp4norm_list times edits flags groups metadata bitrates ends origins labels timing packaging-1 media-1
+        return
+        ;;
+    --track | --drop | --limit | --max-bytes | --max-parts)
         compopt +o default 2>/dev/null
         return
         ;;
-    --out | --names-from | --check) return ;;
+    -o | --out | --names-from | --check) return ;;
     esac
     case $command in
     '') words='normalise show samples extract boxes strip compare check sum print help --help --version' ;;
-    normalise) words='--out --without --max-bytes --replace --progress --explain --brief --help' ;;
-    show) words='--explain --brief --help' ;;
-    samples) words='--track --header --json --explain --brief --help' ;;
-    extract) words='--track --out --max-bytes --replace --progress --explain --brief --help' ;;
-    boxes) words='--json --explain --brief --help' ;;
-    strip) words='--foreign --lossy --drop --out --max-bytes --replace --progress --explain --brief --help' ;;
-    compare) words='--without --all --limit --json --explain --brief --help' ;;
-    check) words='--names-from --zero --json --explain --brief --help' ;;
-    sum) words='--names-from --without --zero --json --no-header --check --quiet --explain --brief --help' ;;
-    print) words='--without --out --replace --explain --brief --help' ;;
+    normalise | normalize) words='--out --without --max-bytes --max-parts --replace --progress --explain --brief --help' ;;
+    show) words='--max-parts --explain --brief --help' ;;
+    samples) words='--track --header --json --max-parts --explain --brief --help' ;;
+    extract) words='--track --out --max-bytes --max-parts --replace --progress --explain --brief --help' ;;
+    boxes) words='--json --max-parts --explain --brief --help' ;;
+    strip) words='--foreign --lossy --drop --out --max-bytes --max-parts --replace --progress --explain --brief --help' ;;
+    compare) words='--without --all --limit --json --max-parts --explain --brief --help' ;;
+    check) words='--names-from --zero --json --max-parts --explain --brief --help' ;;
+    sum) words='--names-from --without --zero --json --no-header --check --quiet --max-parts --explain --brief --help' ;;
+    print) words='--without --out --replace --max-parts --explain --brief --help' ;;
     help) words='normalise show samples extract boxes strip compare check sum print' ;;
     esac
     # Behind a command that reads a file, words without a dash are files: bash completes them by itself.
     if [[ -z $command || $command = help || $current = -* ]]; then
         mapfile -t COMPREPLY < <(compgen -W "$words" -- "$current")
+    elif [[ $current = @* ]]; then
+        _mp4norm_at
     fi
 }
 

@@ -11,6 +11,8 @@ import re
 import subprocess
 import sys
 import tempfile
+import traceback
+import unicodedata
 from dataclasses import dataclass
 
 import trials
@@ -22,6 +24,8 @@ from trials import LIMIT, Room, Tally, other, printed
 HERE = os.path.dirname(os.path.abspath(__file__))
 # Seconds within which a program that must not wait has ended.
 AT_ONCE = 5
+# What never has room; no run may name it as NEW.
+FULL = '/dev/full'
 # A name as users have them.
 ODD_NAME = 'a file of two\nlines'
 # The name of a new file beside NEW, in a folder.
@@ -98,10 +102,12 @@ def gone_process():
 
 
 def escaped(name):
-    """A name in a line for people: backslashes, controls and what is no UTF-8 are spelled."""
+    """A name in a line for people: backslashes, controls, what is no UTF-8, and characters of format
+    or that end a line or a paragraph are spelled."""
     made = ''
     for one in os.fsdecode(name):
         is_control = one < ' ' or '\x7f' <= one < '\xa0' or '\ud800' <= one < '\ue000'
+        is_control |= unicodedata.category(one) in ('Cf', 'Zl', 'Zp')
         spelled_one = ''.join(f'\\x{byte:02x}' for byte in os.fsencode(one)) if is_control else one
         made += '\\\\' if one == '\\' else spelled_one
     return os.fsencode(made)
@@ -195,20 +201,30 @@ class Bench(Room, Tally):
 
     # ---- runs
 
+    def ended(self, *words, limit=LIMIT, **how):
+        """Status, standard error, standard output of a run in the folder; one that has not ended in
+        time is ended, and has that in the place of its status."""
+        try:
+            return trials.run(*words, cwd=self.folder, limit=limit, **how)
+        except subprocess.TimeoutExpired as late:
+            return f'none in {limit} seconds', late.stderr or b'', late.stdout or b''
+
     def run(self, words, **how):
-        """Status, standard error, standard output."""
-        return trials.run(self.program, *words_of(words), cwd=self.folder, **how)
+        """The same of the program with some words."""
+        return self.ended(self.program, *words_of(words), **how)
 
     def run_in_shell(self, words, before='', behind='', environment=(), **how):
         """The same of a shell that runs the program; what is set for the program alone."""
         setting = ''.join(f"export {name}='{it}'; " for name, it in dict(environment).items())
         script = f'{before}{setting}exec "$0" "$@" {behind}'
-        return trials.run('sh', '-c', script, self.program, *words_of(words), cwd=self.folder,
-                          **how)
+        return self.ended('sh', '-c', script, self.program, *words_of(words), **how)
 
     def run_to_full(self, words):
-        """The same where standard output has no room."""
-        with open('/dev/full', 'wb') as full:
+        """The same where standard output has no room. That has to be the device: a file of its
+        name would have room."""
+        with open(FULL, 'r+b', buffering=0) as full:
+            if os.fstat(full.fileno()).st_rdev != os.makedev(1, 7):
+                raise OSError(f'{FULL} is no device that is always full')
             return self.run(words, stdout=full, limit=AT_ONCE)
 
     def run_piped(self, name, words, limit=LIMIT):
@@ -315,5 +331,14 @@ def run_parts():
     with benched(script.__doc__) as (bench, only):
         for part in [it for it in vars(script).values() if is_part(it)]:
             if only in part.__name__:
-                bench.begin()
-                part(bench)
+                run_part(bench, part)
+
+
+def run_part(bench, part):
+    """Runs a part. One that does not come to its end, for what a wrong program does, has failed."""
+    bench.begin()
+    try:
+        part(bench)
+    except Exception as fault:
+        traceback.print_exc()
+        bench.note(f'{part.__name__} ended early', repr(fault))

@@ -1,5 +1,5 @@
 -- What is due behind the front of a `moof`.
-use Rattle.std.proofs.Common.{◌≡◌, ℕ, ◌-◌, ◌^◌, ◌==◌, List, [], ◌∷◌, ◌++◌, Some, find, length, map, min, pos, refl, sym, ap, subst, ◌∙◌}
+use Rattle.std.proofs.Common.{◌≡◌, ℕ, ◌==◌, List, [], ◌∷◌, ◌++◌, Some, find, length, map, pos, refl, sym, ap, subst, ◌∙◌}
 use Rattle.std.specs.Prelude.{codes, option_map}
 use Rattle.mp4_boxes.specs.format.Box.{Box}
 use Rattle.mp4_boxes.specs.format.Children.{of_kind}
@@ -67,7 +67,7 @@ module _ (file : List ℕ) (movie : MovieTree) (boxes : List Box) (start states 
         t = t.tree;
         has_track = found_there _ movie.tracks t.tree t.among;
         is_track = t.same;
-        due_is = f.due_is ∙ ap (λ (s : TrackSeen). min s.time (2 ^ 64 - 1)) (sym t.seen);
+        due_is = f.due_is ∙ ap (λ (s : TrackSeen). s.time) (sym t.seen);
       }
   tells_gap place (numbers.Counts counted wanted) f = tt
   tells_gap place (numbers.Outside at size told) f = (f.0 ∙ e, rw (← e) f.1)

@@ -1,5 +1,5 @@
 -- What numbers say of a fault.
-use Rattle.std.specs.Prelude.{◌≡◌, ℕ, ◌+◌, ◌-◌, ◌^◌, ◌<◌, min, List, [], ◌∷◌, ◌++◌, length, take, map, codes, Contains}
+use Rattle.std.specs.Prelude.{◌≡◌, ℕ, ◌+◌, ◌-◌, ◌<◌, List, [], ◌∷◌, ◌++◌, length, take, map, codes, Contains}
 use Rattle.std.specs.List.{AllByRecursion}
 use Rattle.mp4_boxes.specs.format.Bytes.{field}
 use Rattle.mp4_boxes.specs.format.Box.{Box, Tiles, file_container, box_container, StandsAfter}
@@ -36,10 +36,10 @@ pub record SaysTime (moof : Box) (place : ℕ) (traf : Box) (track found : ℕ) 
   pub is_head : head.kind ≡ codes "tfhd"
   pub track_is : track ≡ field head.payload 4 4
 
--- the end of a track behind the samples of its tables and of these parts, as far as 64 bits go
+-- the end of a track behind the samples of its tables and of these parts
 abbrev pub track_end : TrackTree → List Part → ℕ
 track_end t parts =
-    min (first_due parts t + duration_of (fragment_samples (track_head_of t).id parts)) (2 ^ 64 - 1)
+    first_due parts t + duration_of (fragment_samples (track_head_of t).id parts)
 
 -- All of the `moov`, of the `moof`s before, and of each `traf` of this `moof` up to the one with
 -- the `tfdt` at the place is as it should be. With these samples the track that the `traf` names

@@ -99,7 +99,7 @@ pub record FindsGap (file_length : ℕ) (moof : Box) (states : List TrackState) 
       (of_kind (codes "traf") (children_of (box_up_to traf.offset moof))) states after room less
   pub state : TrackState
   pub found_state : find (λ (t : TrackState). t.id == track) after ≡ Some state
-  pub due_is : due ≡ min state.time (2 ^ 64 - 1)
+  pub due_is : due ≡ state.time
 
 -- numbers that are told without the fragments before: counts; and a sample that passes the end of
 -- a file of this length

@@ -22,7 +22,6 @@ use crate::faults::counts::{counts_in_fragment, number_at};
 use crate::faults::places::outside_in_fragment;
 use crate::opening::fragments::Known;
 use crate::opening::outline::Outline;
-use crate::opening::totals::in_64_bits;
 use crate::reading::{TopBox, read_payload};
 use mp4_boxes::{BoxView, Fault, FourCc, Kind, Refusal, Steps, TopHeader, children, u64_at};
 use mp4_frag::{FileTracks, TrackPlaces, TrackState, base_in, check_front, check_moof};
@@ -190,7 +189,9 @@ fn gap_in<L: Ledger, M: Ledger>(
     let Some(state) = state_with(states, track) else {
         return Ok(None);
     };
-    let due = in_64_bits(state.time);
+    let Ok(due) = u64::try_from(state.time) else {
+        return Ok(None);
+    };
     Ok(Some(FaultNumbers::Gap { track, due, found }))
 }
 

@@ -122,24 +122,27 @@ pub(crate) fn outside_in_tables(head: &MovieHead, place: u64, file_len: u64) -> 
 
 // ---- runs
 
-// The first of these samples that does not lie in the file. A place below 0, or of more than 64
-// bits, is handed out as 0: from there on nothing is told.
+// The first of these samples that does not lie in the file.
 fn first_outside<C: Samples>(samples: &mut C, file_len: u64) -> Option<FaultNumbers>
     ensures { IfSome result (IsPlain file_len) }
 {
     while let Some(sample) = samples.next() {
-        if sample.at == 0 {
-            return None;
-        }
-        if let Some(numbers) = outside(sample.at, sample.size, file_len) {
-            return Some(numbers);
+        let found = outside(sample.at, sample.size, file_len);
+        if found.is_some() {
+            return found;
         }
     }
     None
 }
 
+// Whether what is told is of a sample at this place.
+fn is_told_at(told: Option<FaultNumbers>, place: u64) -> bool {
+    matches!(told, Some(FaultNumbers::Outside { at, .. }) if at == place)
+}
+
 /// The first sample of a `traf` that does not lie in the file, where its runs are counted from this
-/// base. These are the states of the tracks.
+/// base; nothing, if it lies before the file or beyond all places of 64 bits. These are the states
+/// of the tracks.
 pub(crate) fn outside_in_fragment(
     traf: BoxView,
     base: i128,
@@ -150,6 +153,18 @@ pub(crate) fn outside_in_fragment(
 {
     let track = track_in(child_of(traf, TFHD)?.payload())?;
     let trex = state_with(states, track)?.trex?;
-    let mut cursor = FragCursor::start(traf.payload(), base, track, trex, 0, 0, Keys::new());
-    first_outside(&mut cursor, file_len)
+    let bytes = traf.payload();
+    let mut cursor = FragCursor::start(bytes, base, track, trex, 0, 0, Keys::new());
+    let told = first_outside(&mut cursor, file_len);
+    if !is_told_at(told, u64::MAX) {
+        return told;
+    }
+    // A place below 0, or of more than 64 bits, is handed out as the last one of 64 bits. It is
+    // that one only if it lies a byte before where the runs are counted from a byte before.
+    let before = base.checked_sub(1)?;
+    let mut cursor = FragCursor::start(bytes, before, track, trex, 0, 0, Keys::new());
+    if is_told_at(first_outside(&mut cursor, file_len), u64::MAX - 1) {
+        return told;
+    }
+    None
 }

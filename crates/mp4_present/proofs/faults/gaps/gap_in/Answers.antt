@@ -1,4 +1,4 @@
-use Rattle.std.proofs.Common.{◌≡◌, ℕ, pos, sym, ap, subst, ◌∙◌}
+use Rattle.std.proofs.Common.{◌≡◌, ℕ, pos, sym, ap, subst, ◌∙◌, rules}
 use Rattle.std.specs.Prelude.{codes}
 use Rattle.mp4_boxes.specs.format.Box.{Box}
 use Rattle.mp4_boxes.specs.format.Children.{of_kind}
@@ -23,5 +23,5 @@ returns-clause-finds g c =
       moved = subst (λ (b : Box). AreMovedOn b.offset (pos b.offset) (of_kind (codes "traf") (children_of b)) c.args.states.now c.check_front.new.tracks c.args.sought.reached.room c.check_front.new.room) is c.in_ok-check_front.ensures.moved;
       state = c.in-Some-state_with.state;
       found_state = sym c.state_with.ensures ∙ c.in-Some-state_with.is;
-      due_is = c.in_64_bits-due.ensures;
+      due_is = search rules;
     }
