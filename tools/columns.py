@@ -5,7 +5,7 @@ import re
 from common import text
 from suite import stored
 
-TEXTS = 'crates/mp4norm/specs/format/Texts.antt'
+TEXTS = 'crates/mp4_answers/specs/format/Texts.antt'
 
 
 def columns():
@@ -40,10 +40,10 @@ def places():
     """Each place, the names there, and those that are due."""
     names, in_objects = columns(), sorted(columns())
     object_of_page = behind('docs/PYTHON.md', r'`samples FILE --track ID --json` \| `([^`]*)`')
-    yield 'crates/mp4norm/src/commands/forms.rt', behind(
-        'crates/mp4norm/src/commands/forms.rt', r'NAMES: &\[u8\] = b"([^"\\]*)').split(), names
-    yield 'crates/mp4norm/src/text/sample_lines.rt, objects', re.findall(
-        r'[,{]\\"(\w+)\\":', text('crates/mp4norm/src/text/sample_lines.rt'))[::-1], in_objects
+    yield 'crates/mp4_answers/src/commands/forms.rt', behind(
+        'crates/mp4_answers/src/commands/forms.rt', r'NAMES: &\[u8\] = b"([^"\\]*)').split(), names
+    yield 'crates/mp4_answers/src/text/sample_lines.rt, objects', re.findall(
+        r'[,{]\\"(\w+)\\":', text('crates/mp4_answers/src/text/sample_lines.rt'))[::-1], in_objects
     fields = text(TEXTS).partition('\nfields_value ')[2].partition('\n\n')[0]
     yield f'{TEXTS}, objects', re.findall(r'codes "(\w+)"', fields), in_objects
     yield 'conformance/suite/stored.py', stored.COLUMNS.decode().split(), names

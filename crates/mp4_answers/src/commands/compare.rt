@@ -10,12 +10,12 @@ ghost use Rattle.mp4_present.specs.words.Compared.{OfFiles, WhereOpenedBoth};
 ghost use Rattle.mp4_answers.specs.words.TwoFiles.{ComparesBoth, OfBoth, ReadsBoth, WalksOnce};
 
 use crate::commands::guesses::guess;
-use crate::text::tally::say_last;
-use crate::jobs::Syntax;
 use crate::costs::Costs;
-use crate::without_words::{EVERYTHING, WORDS, less_word};
+use crate::jobs::Syntax;
 use crate::text::difference_json::{say_difference_object, say_last_object};
 use crate::text::difference_lines::say_difference;
+use crate::text::tally::say_last;
+use crate::without_words::{EVERYTHING, WORDS, less_word};
 use mp4_boxes::{Refusal, Steps};
 use mp4_present::{Difference, Differences, Movies, Without, compare, compare_all, open_movie};
 use mp4_store::{Sink, Store};

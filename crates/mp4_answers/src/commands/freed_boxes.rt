@@ -2,8 +2,8 @@
 ghost use Rattle.std.specs.Prelude.{◌<◌, ◌≤◌, length};
 ghost use Rattle.mp4_answers.specs.format.Run.{KeepsFile};
 
-use crate::commands::box_headers::read_header;
 use crate::box_names::{FullType, Name, holder, is_named, is_named_foreign};
+use crate::commands::box_headers::read_header;
 use crate::commands::boxes::{BoxSpan, read_uuid, rule_inside, whole_file};
 use mp4_boxes::{FourCc, Refusal, Rule};
 use mp4_present::TopBox;

@@ -3,8 +3,8 @@ ghost use Rattle.std.specs.Prelude.{◌≡◌, ℕ, List, []};
 ghost use Rattle.sha2.specs.Hashers.{Holds256};
 ghost use Rattle.sha2.specs.Sha256.{sha256};
 
-use mp4_store::{Sink, WriteFailed};
 use crate::text::digits::DIGEST;
+use mp4_store::{Sink, WriteFailed};
 use sha2::{Digest, Sha256};
 
 /// Keeps nothing but what the digest of all that is put is worked out from. A put never fails.

@@ -22,10 +22,10 @@ ghost use Rattle.mp4_answers.specs.words.ToldSamples.{RefusesDigest, told_sample
 
 use crate::commands::hash_sink::HashSink;
 use crate::text::digits::DIGEST;
-use crate::text::tally::say_words;
 use crate::text::head_lines::{put_head, put_heading, put_movie};
 use crate::text::named_lines::{number, put_all_named};
 use crate::text::sample_texts::{LONGEST, SampleStyle, write_sample};
+use crate::text::tally::say_words;
 use mp4_boxes::{Memory, Refusal, Steps};
 use mp4_head::TrackHead;
 use mp4_present::{

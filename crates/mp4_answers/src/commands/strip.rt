@@ -11,8 +11,8 @@ ghost use Rattle.mp4_present.specs.words.StoresRead.{IsUnchanged, OnlyReads, Ref
 ghost use Rattle.mp4_answers.specs.words.StoreAndSink.{NoPutFails};
 ghost use Rattle.mp4_answers.specs.words.StripSpans.{HasCopy, IsHeaderAt, IsUuidAt, LiesBetween, RefusesAgainAt, RefusesHeaderAt, RefusesWalkAt, WhereStrips};
 
-use crate::commands::box_headers::read_header;
 use crate::box_names::{FullType, Name, count_box, is_named};
+use crate::commands::box_headers::read_header;
 use crate::commands::boxes::{BoxSpan, read_uuid, rule_inside, whole_file};
 use mp4_boxes::{Refusal, Rule, TopHeader};
 use mp4_present::{OutBuffer, TopBox};

@@ -93,11 +93,7 @@ pub fn losses(alloc: Global, found: &Found) -> Result<Vec<u8>, AllocError> {
 }
 
 /// What is told of the boxes that become free space, where more than their numbers is.
-pub fn find_told<S: Store>(
-    alloc: Global,
-    store: &mut S,
-    names: &[Name],
-) -> Result<Found, Refusal> {
+pub fn find_told<S: Store>(alloc: Global, store: &mut S, names: &[Name]) -> Result<Found, Refusal> {
     if asks_which(names) {
         find_freed(alloc, store, names)
     } else {
@@ -106,11 +102,7 @@ pub fn find_told<S: Store>(
 }
 
 /// All warnings of a copy: of what is lost with boxes that became free space.
-pub fn warnings(
-    alloc: Global,
-    names: &[Name],
-    found: &Found,
-) -> Result<Vec<u8>, AllocError> {
+pub fn warnings(alloc: Global, names: &[Name], found: &Found) -> Result<Vec<u8>, AllocError> {
     let mut text = Vec::new(alloc);
     if found.has_encryption || names_encryption(names) {
         text.extend_from_slice(WARNING)?;

@@ -6,8 +6,8 @@ ghost use Rattle.mp4_answers.specs.format.Sums.{Summed};
 ghost use Rattle.mp4_present.specs.words.StoresRead.{WhereHonest};
 
 use crate::commands::hash_sink::HashSink;
-use crate::text::digits::DIGEST;
 use crate::commands::normalise_reduced::normalise_reduced;
+use crate::text::digits::DIGEST;
 use mp4_boxes::{Refusal, Steps};
 use mp4_present::Without;
 use mp4_store::Store;

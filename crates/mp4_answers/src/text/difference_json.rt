@@ -5,13 +5,13 @@ ghost use Rattle.mp4_answers.specs.format.DifferenceLine.{difference_text};
 ghost use Rattle.mp4_answers.specs.format.LastLine.{count_of_kind};
 ghost use Rattle.mp4_answers.specs.format.DifferenceObject.{count_member, count_members, difference_object, enough_value, escaped, field_steps, json_value, kinds_by_name, last_object, leaving_list, line_members, of_member, part_steps, subject_steps, total_members, totals_front, type_string, value_members, word_list, word_step};
 
-use crate::text::tally::{Kind, count_of_kind, kind_name, kind_of_difference};
 use crate::text::difference_lines::{
     digits_of, end_line, entries_name, entry_name, is_numbered, name_of, say, say_counted,
     say_line, say_value,
 };
 use crate::text::json_text::push_printable;
 use crate::text::line::Line;
+use crate::text::tally::{Kind, count_of_kind, kind_name, kind_of_difference};
 use mp4_boxes::FourCc;
 use mp4_present::{Difference, Entries, Field, Part, Subject, Value, Without};
 use mp4_tables::GroupKey;

@@ -2,8 +2,8 @@
 ghost use Rattle.std.specs.Prelude.{◌≡◌, ◌++◌, OnOk};
 ghost use Rattle.mp4_answers.specs.format.DifferenceObject.{escaped};
 
-use crate::text::plain_names::push_plain;
 use crate::text::digits::hex_digit;
+use crate::text::plain_names::push_plain;
 use std::alloc::{AllocError, Global};
 
 /// Adds text of printable characters as it stands within a string of JSON: quotation marks and

@@ -8,8 +8,7 @@ ghost use Rattle.mp4_answers.specs.format.Texts.{hex_text};
 ghost use Rattle.mp4_answers.specs.format.Text.{dump_line, dump_lines, is_plain_type, kept_lines, payload_lines, shown_byte, spelled_type};
 ghost use Rattle.mp4_answers.specs.words.Telling.{Tells};
 
-use crate::text::digits::DIGEST;
-use crate::text::digits::{hex_digit, write_byte, write_bytes, write_digits};
+use crate::text::digits::{DIGEST, hex_digit, write_byte, write_bytes, write_digits};
 use crate::text::text_parts::{LINE_FEED, SPACE, put_parts};
 use mp4_boxes::{FourCc, Refusal};
 use mp4_head::Kept;

@@ -1,5 +1,5 @@
-//! Names as the system has them, of words in which a zero byte and two hexadecimal digits stand for a
-//! byte that is no text.
+//! Names as the system has them, of words in which a zero byte and two hexadecimal digits stand for
+//! a byte that is no text.
 use std::alloc::AllocError;
 
 // The value of a hexadecimal digit.

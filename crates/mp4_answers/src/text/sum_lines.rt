@@ -1,11 +1,10 @@
 //! Lines of sums, as `sha256sum` of the GNU coreutils writes them, and what a list of them says.
-use crate::text::digits::DIGEST;
-use crate::text::tally::say_words;
 use crate::text::cutting::{byte_of, cut};
-use crate::text::plain_names::push_plain;
-use crate::without_words::leaving_of;
-use crate::text::digits::hex_digit;
+use crate::text::digits::{DIGEST, hex_digit};
 use crate::text::json_text::name_json;
+use crate::text::plain_names::push_plain;
+use crate::text::tally::say_words;
+use crate::without_words::leaving_of;
 use mp4_present::Without;
 use std::alloc::{AllocError, Global};
 use std::str;

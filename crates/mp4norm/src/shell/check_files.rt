@@ -1,14 +1,14 @@
 //! Many files, judged or summed one after the other.
-use mp4_answers::commands::check::check_counted;
-use mp4_answers::text::digits::DIGEST;
-use mp4_answers::commands::sum::sum_file;
 use crate::shell::action::{Finding, Input, Telling};
-use mp4_answers::jobs::{Syntax, VerdictStyle};
-use mp4_answers::costs::Costs;
 use crate::shell::file_names::{shown, word_of};
 use crate::shell::reports::{Noted, Report, tell_of};
 use crate::shell::run_command::explain_refusal;
 use crate::shell::sources::{Source, open, read_whole};
+use mp4_answers::commands::check::check_counted;
+use mp4_answers::commands::sum::sum_file;
+use mp4_answers::costs::Costs;
+use mp4_answers::jobs::{Syntax, VerdictStyle};
+use mp4_answers::text::digits::DIGEST;
 use mp4_answers::text::fault_text::{fault_line, status};
 use mp4_answers::text::json_text::name_json;
 use mp4_answers::text::plain_names::push_plain;

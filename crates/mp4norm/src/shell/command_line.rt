@@ -2,17 +2,19 @@
 ghost use Rattle.std.specs.Prelude.{◌≡◌, ◌≤◌, [], IfOk, IfSome, Ok};
 ghost use Rattle.mp4norm.specs.words.Actions.{IsJob, IsAction, boxes_of_input};
 
-use mp4_answers::box_names::Name;
-use mp4_answers::commands::compare::{Lines, Listing};
-use crate::shell::action::{Action, CommandFault, Comparison, Finding, Input, Order, SumCheck, Target, Telling};
-use mp4_answers::jobs::{Form, Job, Syntax, VerdictStyle};
+use crate::shell::action::{
+    Action, CommandFault, Comparison, Finding, Input, Order, SumCheck, Target, Telling,
+};
 use crate::shell::command_table::whole_command;
 use crate::shell::drop_lists::names_of;
 use crate::shell::file_names::shown_word;
 use crate::shell::lists::MOST_PARTS;
-use mp4_answers::without_words::{leaving_both, leaving_of};
 use clap::error::ErrorKind;
 use clap::{ArgMatches, Error};
+use mp4_answers::box_names::Name;
+use mp4_answers::commands::compare::{Lines, Listing};
+use mp4_answers::jobs::{Form, Job, Syntax, VerdictStyle};
+use mp4_answers::without_words::{leaving_both, leaving_of};
 use mp4_present::Without;
 use std::alloc::{AllocError, Global};
 

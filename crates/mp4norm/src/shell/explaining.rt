@@ -3,9 +3,9 @@
 ghost use Rattle.std.specs.Prelude.{◌≡◌, ◌++◌, OnOk};
 ghost use Rattle.mp4_answers.specs.format.Texts.{line_feed};
 
+use crate::shell::file_names::shown;
 use mp4_answers::commands::box_path::{Way, number_at_top, step_line, way_to};
 use mp4_answers::costs::Costs;
-use crate::shell::file_names::shown;
 use mp4_answers::text::difference_lines::{say, say_counted};
 use mp4_boxes::{Fault, FourCc, Kind, Refusal};
 use mp4_present::{FaultNumbers, TrackInfo, fault_numbers, open_movie};

@@ -1,9 +1,9 @@
 //! Where the answer goes.
-use mp4_answers::commands::perform::perform;
-use mp4_answers::jobs::Job;
-use mp4_answers::costs::Costs;
 use crate::shell::reports::{Noted, Report};
 use crate::shell::sources::Source;
+use mp4_answers::commands::perform::perform;
+use mp4_answers::costs::Costs;
+use mp4_answers::jobs::Job;
 use mp4_boxes::Refusal;
 use mp4_store::IoSink;
 use std::alloc::Global;

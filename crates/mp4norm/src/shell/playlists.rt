@@ -1,10 +1,8 @@
 //! HLS media playlists (RFC 8216): which files they name, one after the other.
-ghost use Rattle.std.specs.Prelude.{◌<◌, length};
-
 use crate::shell::attributes::value_of;
-use mp4_answers::text::cutting::cut;
 use crate::shell::lists::{ListFault, TOO_MANY, first_line, without_return};
 use crate::shell::references::referred_name;
+use mp4_answers::text::cutting::cut;
 use std::alloc::{AllocError, Global};
 
 /// Tags of which the files don't make one file, and why.

@@ -1,10 +1,10 @@
 //! A file that is put in the place of another only once it is whole.
-use mp4_answers::jobs::Job;
-use mp4_answers::costs::Costs;
 use crate::shell::output::{Out, write};
 use crate::shell::part_files::{Part, replaced};
 use crate::shell::reports::Report;
 use crate::shell::sources::Source;
+use mp4_answers::costs::Costs;
+use mp4_answers::jobs::Job;
 use mp4_boxes::Refusal;
 use std::sync::ledger::Ledger;
 

@@ -1,16 +1,16 @@
 //! A command from what is read to where its answer goes.
-use mp4_answers::commands::answer_len::text_len;
-use mp4_answers::box_names::Name;
-use mp4_answers::commands::strip::count_named;
 use crate::shell::action::{Order, Target, Telling};
-use mp4_answers::jobs::Job;
-use mp4_answers::costs::Costs;
 use crate::shell::explaining::{explain, explain_briefly, name_tracks};
 use crate::shell::output::{Out, make, write};
 use crate::shell::replacing::replace;
 use crate::shell::reports::{Report, tells_more};
 use crate::shell::sources::{Source, open};
+use mp4_answers::box_names::Name;
+use mp4_answers::commands::answer_len::text_len;
+use mp4_answers::commands::strip::count_named;
 use mp4_answers::commands::strip_lines::{count_lines, find_told, losses, refusal_of, warnings};
+use mp4_answers::costs::Costs;
+use mp4_answers::jobs::Job;
 use mp4_boxes::Refusal;
 use mp4_store::{IoSink, Sink};
 use std::io::Write;

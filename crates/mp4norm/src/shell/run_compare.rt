@@ -1,11 +1,11 @@
 //! Comparing, from the names of two files to what is printed.
-use mp4_answers::commands::compare::{Asked, Failure, Side, compare_files};
 use crate::shell::action::{Comparison, Input, Telling};
-use mp4_answers::costs::Costs;
 use crate::shell::file_names::push_shown;
 use crate::shell::reports::{Noted, Report};
 use crate::shell::run_command::explain_refusal;
 use crate::shell::sources::{Source, is_of_file, open};
+use mp4_answers::commands::compare::{Asked, Failure, Side, compare_files};
+use mp4_answers::costs::Costs;
 use mp4_answers::text::fault_text::{fault_line, status};
 use mp4_boxes::Refusal;
 use mp4_store::IoSink;

@@ -1,14 +1,14 @@
 //! Lists of sums: whether each file that is named has the sum that stands there.
-use mp4_answers::text::digits::DIGEST;
 use crate::shell::action::{Finding, Input, SumCheck};
-use mp4_answers::jobs::{Syntax, VerdictStyle};
 use crate::shell::check_files::{Found, Manner, answer_of, read_list};
 use crate::shell::command_line::input_of;
-use mp4_answers::costs::Costs;
 use crate::shell::file_names::word_of;
 use crate::shell::list_sources::tell_fault;
 use crate::shell::lists::{ListFault, first_line, without_return};
 use crate::shell::reports::{Noted, Report, tell_of};
+use mp4_answers::costs::Costs;
+use mp4_answers::jobs::{Syntax, VerdictStyle};
+use mp4_answers::text::digits::DIGEST;
 use mp4_answers::text::fault_text::{fault_line, status};
 use mp4_answers::text::sum_lines::{ListedSum, listed_sum, push_name};
 use mp4_boxes::Refusal;
