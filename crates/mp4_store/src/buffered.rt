@@ -1,6 +1,6 @@
 //! A store that reads ahead, so that headers that lie near one another cost one read.
-ghost use Rattle.std.specs.Prelude.{◌≡◌, ◌+◌, ◌≤◌, length, take, drop, IsTrue, OnOk, IfOk};
-ghost use Rattle.mp4_store.specs.words.Device.{Counts, range};
+ghost use Rattle.std.specs.Prelude.{◌≡◌, ◌+◌, ◌≤◌, length, take, drop, IsTrue, OnOk, OnErr, IfOk};
+ghost use Rattle.mp4_store.specs.words.Device.{Counts, range, HasRisen, MayRise};
 
 use crate::store::{Store, StoreFailed};
 use std::alloc::{AllocError, Global};
@@ -104,7 +104,7 @@ fn copy_part(bytes: &[u8], from: usize, out: &mut [u8])
 
 impl Window {
     ghost use Rattle.std.specs.Prelude.{◌≡◌, ◌+◌, ◌^◌, ◌<◌, ◌≤◌, ◌-◌, min, length, List, ℕ, Bool, IsTrue, OnOk, IfOk};
-    ghost use Rattle.mp4_store.specs.words.Device.{Counts, range};
+    ghost use Rattle.mp4_store.specs.words.Device.{Counts, range, MayRise};
     ghost use Rattle.mp4_store.specs.words.Windows.{IsWindowOf, Holds};
 
     // Nothing is read yet. The room is taken here.
@@ -208,6 +208,7 @@ impl Window {
         ensures honesty { S.is_honest store.new ≡ S.is_honest store.old }
         ensures file { S.file store.new ≡ S.file store.old }
         ensures window { IsWindowOf (S.is_honest store.old) (S.file store.old) self.new }
+        ensures cause { MayRise (S.read_failures store.old) (S.read_failures store.new) }
     {
         let ahead = self.ahead(way, count);
         if count <= ahead / SHARE {
@@ -271,7 +272,7 @@ impl<S: Store> Model for BufferedStore<S> {
 
 impl<S: Store> BufferedStore<S> {
     ghost use Rattle.std.specs.Prelude.{◌≡◌, ◌+◌, ◌≤◌, length, IsTrue, IfOk};
-    ghost use Rattle.mp4_store.specs.words.Device.{range};
+    ghost use Rattle.mp4_store.specs.words.Device.{range, MayRise};
 
     /// Nothing is read yet. The room for what is read ahead is taken here.
     pub fn new(alloc: Global, store: S) -> Result<BufferedStore<S>, AllocError>
@@ -320,6 +321,7 @@ impl<S: Store> BufferedStore<S> {
         ensures honesty { S.is_honest self.new.0 ≡ S.is_honest self.old.0 }
         ensures file { S.file self.new.0 ≡ S.file self.old.0 }
         ensures count { self.new.1 ≡ self.old.1 }
+        ensures cause { MayRise (S.read_failures self.old.0) (S.read_failures self.new.0) }
     {
         match self.window.way(at, count) {
             Way::On => self.window.prepare(&mut self.store, Way::On, at, count),
@@ -347,7 +349,17 @@ impl<S: Store> Store for BufferedStore<S> {
         self.store.len()
     }
 
-    fn read_at(&mut self, at: u64, out: &mut [u8]) -> Result<(), StoreFailed> {
+    // It fails only where a read of the store below did, which that store counted.
+    fn read_at(&mut self, at: u64, out: &mut [u8]) -> Result<(), StoreFailed>
+        requires { at + length out.old ≤ length (S.file self.old.0) }
+        ensures honesty { S.is_honest self.new.0 ≡ S.is_honest self.old.0 }
+        ensures file { S.file self.new.0 ≡ S.file self.old.0 }
+        ensures read { OnOk result (IsTrue (S.is_honest self.old.0)
+            → out.new ≡ range (S.file self.old.0) at (length out.old)) }
+        ensures cause { Counts self.old.1 self.new.1 result }
+        ensures below { OnErr result
+            (HasRisen (S.read_failures self.old.0) (S.read_failures self.new.0)) }
+    {
         if self.give(at, out) {
             return Ok(());
         }

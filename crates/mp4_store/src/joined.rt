@@ -240,7 +240,17 @@ impl<S: Store> Store for JoinedStore<S> {
         }
     }
 
-    fn read_at(&mut self, at: u64, out: &mut [u8]) -> Result<(), StoreFailed> {
+    // It fails only where a read of a part did, which that part counted.
+    fn read_at(&mut self, at: u64, out: &mut [u8]) -> Result<(), StoreFailed>
+        requires { at + length out.old ≤ length (flat_map S.file self.old.0) }
+        ensures honesty { list_all S.is_honest self.new.0 ≡ list_all S.is_honest self.old.0 }
+        ensures file { flat_map S.file self.new.0 ≡ flat_map S.file self.old.0 }
+        ensures read { OnOk result (IsTrue (list_all S.is_honest self.old.0)
+            → out.new ≡ range (flat_map S.file self.old.0) at (length out.old)) }
+        ensures cause { Counts self.old.1 self.new.1 result }
+        ensures below { OnErr result
+            (HasFailed (map S.read_failures self.old.0) (map S.read_failures self.new.0)) }
+    {
         let answer = self.read(at, out);
         if answer.is_err() {
             self.failed = self.failed.saturating_add(1);

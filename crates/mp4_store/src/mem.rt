@@ -1,6 +1,7 @@
 //! A store and a sink in memory.
-ghost use Rattle.std.specs.Prelude.{◌≡◌, ℕ, List, [], ◌++◌, true, OnOk, OnErr};
-ghost use Rattle.mp4_store.specs.words.Device.{Counts};
+ghost use Rattle.std.specs.Prelude.{◌≡◌, ◌<◌, ◌+◌, ℕ, List, [], ◌++◌, length, vec_len, true, OnOk, OnErr};
+ghost use Rattle.std.specs.Vec.{vec_capacity};
+ghost use Rattle.mp4_store.specs.words.Device.{Counts, TakesPrefix};
 
 use crate::sink::{Sink, WriteFailed};
 use crate::store::{Store, StoreFailed};
@@ -58,7 +59,7 @@ impl MemSink {
     }
 
     /// Appends a piece, as `put` does; one that doesn't fit into memory leaves the bytes as they
-    /// are.
+    /// are. It fails only where there is no room for the piece.
     ///
     /// # Errors
     /// `WriteFailed` where a growth is refused.
@@ -66,6 +67,8 @@ impl MemSink {
         ensures whole { OnOk result (self.new.held.items ≡ self.old.held.items ++ piece.now) }
         ensures nothing { OnErr result (self.new.held.items ≡ self.old.held.items) }
         ensures cause { Counts self.old.failed self.new.failed result }
+        ensures full { OnErr result
+            (vec_capacity self.old.held < vec_len self.old.held + length piece.now) }
     {
         match self.held.extend_from_slice(piece) {
             Ok(()) => Ok(()),
@@ -93,7 +96,15 @@ impl Sink for MemSink {
 
     ghost put_failures = { λ s. s.failed };
 
-    fn put(&mut self, piece: &[u8]) -> Result<(), WriteFailed> {
+    // It fails only where it has no room for the piece, and a growth was refused.
+    fn put(&mut self, piece: &[u8]) -> Result<(), WriteFailed>
+        ensures appends { OnOk result (self.new.held.items ≡ self.old.held.items ++ piece.now) }
+        ensures prefix { OnErr result
+            (TakesPrefix (λ xs. self.new.held.items ≡ self.old.held.items ++ xs) piece.now) }
+        ensures cause { Counts self.old.failed self.new.failed result }
+        ensures full { OnErr result
+            (vec_capacity self.old.held < vec_len self.old.held + length piece.now) }
+    {
         self.append(piece)
     }
 
