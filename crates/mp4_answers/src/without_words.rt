@@ -90,21 +90,28 @@ pub(crate) fn less_word(given: Without, leaving: Without, word: Without) -> With
     }
 }
 
+// Whether one of two words is there.
+fn is_either(one: bool, other: bool) -> bool
+    ensures { result ≡ one || other }
+{
+    one || other
+}
+
 /// What is left out where both are.
 pub fn leaving_both(one: Without, other: Without) -> Without
     ensures { result ≡ both one other }
 {
     Without {
-        times: one.times || other.times,
-        edits: one.edits || other.edits,
-        flags: one.flags || other.flags,
-        groups: one.groups || other.groups,
-        metadata: one.metadata || other.metadata,
-        bitrates: one.bitrates || other.bitrates,
-        ends: one.ends || other.ends,
-        origins: one.origins || other.origins,
-        labels: one.labels || other.labels,
-        timing: one.timing || other.timing,
+        times: is_either(one.times, other.times),
+        edits: is_either(one.edits, other.edits),
+        flags: is_either(one.flags, other.flags),
+        groups: is_either(one.groups, other.groups),
+        metadata: is_either(one.metadata, other.metadata),
+        bitrates: is_either(one.bitrates, other.bitrates),
+        ends: is_either(one.ends, other.ends),
+        origins: is_either(one.origins, other.origins),
+        labels: is_either(one.labels, other.labels),
+        timing: is_either(one.timing, other.timing),
     }
 }
 

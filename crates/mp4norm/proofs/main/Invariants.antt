@@ -1,4 +1,4 @@
-use Rattle.mp4_answers.proofs.main.Given as goal
+use Rattle.mp4norm.proofs.main.Given as goal
 
 abbrev pub ghosts-act-L-Ledger : goal.ghosts-act-L-Ledger
 ghosts-act-L-Ledger a = record { name = a.steps.name; parts = a.steps.parts }
