@@ -31,6 +31,8 @@ class Edit:
         self.file, self.old, self.new, self.takes_out = source(file), old, new, takes_out
         self.run, _, self.fails = refused[0].partition(': ')
         self.cases, self.joins = () if self.fails else refused, joins
+        # The module that it is of.
+        self.module = None
         if self.cases:
             self.run = self.fails = None
 
@@ -60,6 +62,8 @@ def all_edits():
     """The edits of all modules, in the order of their names."""
     edits = []
     for path in sorted(glob.glob(os.path.join(HERE, 'left_out_*.py'))):
-        module = importlib.import_module(os.path.basename(path).removesuffix('.py'))
-        edits += module.all_edits()
+        name = os.path.basename(path).removesuffix('.py')
+        for edit in importlib.import_module(name).all_edits():
+            edit.module = name
+            edits.append(edit)
     return edits
