@@ -1,5 +1,5 @@
 -- A file that was read whole: what was kept is what its boxes say.
-use Rattle.std.proofs.Common.{◌≡◌, ℕ, zero, suc, ◌+◌, ◌-◌, ◌^◌, ◌<◌, ◌≤◌, min, Bool, false, eqb, List, [], ◌∷◌, ◌++◌, length, take, drop, slice_index_or, slice_get, Option, Some, inl, inr, map, refl, sym, ap, subst, ◌∙◌, arith}
+use Rattle.std.proofs.Common.{◌≡◌, ℕ, zero, suc, ◌+◌, ◌-◌, ◌^◌, ◌<◌, ◌≤◌, min, Bool, false, eqb, List, [], ◌∷◌, ◌++◌, length, take, slice_index_or, map, refl, sym, ap, subst, ◌∙◌, arith}
 use Rattle.std.specs.Prelude.{codes, IsTrue}
 use Rattle.std.specs.List.{AllByRecursion, AllZip}
 use Rattle.std.proofs.lemmas.Bool.{eqb-false}
@@ -11,26 +11,21 @@ use Rattle.mp4_boxes.specs.format.Places.{ruled}
 use Rattle.mp4_boxes.specs.declared.rule.Rule.TheVariants as rules
 use Rattle.mp4_boxes.proofs.Among.{head_is, tail_is}
 use Rattle.mp4_boxes.proofs.Refusing.{holds_only}
-use Rattle.mp4_boxes.proofs.Sound.{sound_one, same_kind}
+use Rattle.mp4_boxes.proofs.Sound.{sound_one}
 use Rattle.mp4_tables.specs.words.Keys.{keys_seen}
 use Rattle.mp4_tables.specs.format.PlainSamples.{PlacedSample}
-use Rattle.mp4_frag.specs.format.FragmentSamples.{Part, start_of, duration_of, bytes_of, fragment_samples}
+use Rattle.mp4_frag.specs.format.FragmentSamples.{start_of, duration_of, bytes_of, fragment_samples}
 use Rattle.mp4_frag.specs.words.Judged.{TrackSeen, track_seen}
 use Rattle.mp4_frag.specs.declared.state.TrackState.{TrackState}
 use Rattle.mp4_frag.specs.declared.trex.Trex.{Trex}
 use Rattle.mp4_head.specs.words.Found.{SaysHead}
 use Rattle.mp4_head.specs.format.Head as heads
-use Rattle.mp4_head.specs.format.Tree.{TrackTree, MovieTree, IsTrackTree, IsSoundTrack, first_of, track_head_of, trexes_of}
+use Rattle.mp4_head.specs.format.Tree.{TrackTree, MovieTree, IsTrackTree, IsSoundTrack, track_head_of, trexes_of}
 use Rattle.mp4_head.specs.declared.heads.MovieHead.{MovieHead}
 use Rattle.mp4_head.specs.declared.heads.TrackHead.{TrackHead}
 use Rattle.mp4_present.specs.declared.opening.Found.{Found}
 use Rattle.mp4_present.specs.format.Denotes.{Denotes, FileTree, IsFileTree, IsSoundFile, IsConsistent, sample_of, plain_of, placed_of, first_due, track_of, file_parts, presentation_of}
-use Rattle.mp4_present.specs.words.Measured.{IsMeasured, AreMeasured, IsMeasure, TimeFails, MovieFails, LimitFails}
-use Rattle.mp4_present.specs.format.Stands.{Stands, limit}
-use Rattle.mp4_boxes.specs.format.BoxFaults.{fault_of}
-use Rattle.mp4_boxes.specs.declared.fault.Fault.{Fault}
-use Rattle.mp4_boxes.specs.declared.fault.Kind.TheVariants.{TimeTooLarge, MovieTooLarge}
-use Rattle.mp4_head.proofs.Inside.{first_is}
+use Rattle.mp4_present.specs.words.Measured.{IsMeasured, AreMeasured, IsMeasure}
 use Rattle.mp4_present.specs.words.OpenedMovie.{IsInfoBy, AreInfosBy, IsInfoOf, IsOpenedAs, kept_of, plain_seen}
 use Rattle.mp4_frag.specs.words.OwnTrafs.{own_seen}
 use Rattle.mp4_present.specs.words.OwnTrafs.{AreOwn}
@@ -179,30 +174,6 @@ all_infos file tree timescale (t ∷ trees) (h ∷ hs) (s ∷ ss) (x ∷ infos) 
       all_infos file tree timescale trees hs ss infos z.1 (tail_is (track_seen s) (f t) (map track_seen ss) (map f trees) e) w.1 q.1,
     )
 
--- the k-th track, its tree and its head
-pub record IsTrackAt (file : List ℕ) (parts : List Part) (trees : List TrackTree) (k : ℕ) (h : TrackHead) (t : Track) : Type 0 where
-  pub u : TrackTree
-  pub goes : IsTrackOf u h
-  pub same : t ≡ track_of file parts u
-  pub split : trees ≡ take k trees ++ u ∷ drop (suc k) trees
-
-some_is : {A : Type 0} (x y : A) → ◌≡◌ {A = Option A} (Some x) (Some y) → x ≡ y
-some_is x y e = cc
-
-track_at : (file : List ℕ) (parts : List Part) (trees : List TrackTree) (hs : List TrackHead) (k : ℕ) (h : TrackHead) (t : Track) → AreTracksOf trees hs → slice_get hs k ≡ Some h → slice_get (map (track_of file parts) trees) k ≡ Some t → IsTrackAt file parts trees k h t
-track_at file parts [] [] k h t z e f = absurd cc
-track_at file parts [] (x ∷ hs) k h t z e f = absurd z
-track_at file parts (u ∷ trees) [] k h t z e f = absurd z
-track_at file parts (u ∷ trees) (x ∷ hs) zero h t z e f = record { u = u; goes = subst (IsTrackOf u) (some_is x h e) z.0; same = sym (some_is (track_of file parts u) t f); split = refl }
-track_at file parts (u ∷ trees) (x ∷ hs) (suc k) h t z e f =
-    let r = track_at file parts trees hs k h t z.1 e f in
-    record { u = r.u; goes = r.goes; same = r.same; split = ap (λ (us : List TrackTree). u ∷ us) r.split }
-
-all_front : {A B : Type 0} (f : A → B) (P : B → Type 0) (k : ℕ) (xs : List A) → AllByRecursion P (take k (map f xs)) → AllByRecursion (λ x. P (f x)) (take k xs)
-all_front f P zero xs h = tt
-all_front f P (suc k) [] h = tt
-all_front f P (suc k) (x ∷ xs) h = (h.0, all_front f P k xs h.1)
-
 -- ---- one more track in numbers
 
 pub infos_more : (hs : List TrackHead) (ss : List TrackState) (infos : List TrackInfo) (h : TrackHead) (s : TrackState) (x : TrackInfo) → AreInfosBy hs ss infos → IsInfoBy h s x → AreInfosBy (hs ++ h ∷ []) (ss ++ s ∷ []) (infos ++ x ∷ [])
@@ -308,43 +279,3 @@ module _ (honest : Bool) (file : List ℕ) (o : Outline) (moov : List ℕ) (b : 
     says = refl;
     limits = record { samples = few_samples file tree states p.room begin.movie_is p.behind; times = times; moov = short };
   }
-
-  -- ---- a limit that is passed
-
-  time_stands : (f : Fault) → TimeFails (presentation_of file tree) head f → Stands file f
-  time_stands f q =
-      let a = track_at file (file_parts tree) says.has.tree.tracks head.tracks.items q.k q.h q.t tracks_are q.head_is q.there in
-      let ts = (presentation_of file tree).movie.timescale in
-      let first = first_is (codes "tkhd") a.u.track (holds_only a.goes.tree.track (codes "tkhd") refl) in
-      let kind = same_kind (codes "tkhd") (first_of (codes "tkhd") a.u.track).kind first.1 in (
-        limit,
-        inl (record {
-          tree = tree;
-          is_tree = is_file_tree;
-          is_sound = is_sound_file;
-          is_consistent = is_consistent_file;
-          before = take q.k says.has.tree.tracks;
-          t = a.u;
-          after = drop (suc q.k) says.has.tree.tracks;
-          tracks = a.split;
-          in_time = all_front (track_of file (file_parts tree)) (IsInTime ts) q.k says.has.tree.tracks q.in_time;
-          passes = subst (λ (x : Track). IsInTime ts x → ⊥) a.same q.passes;
-          named = q.named ∙ (λ i. record { kind = TimeTooLarge; box_type = sym kind i; offset = a.goes.found.offset i });
-        }),
-      )
-
-  movie_stands : (f : Fault) → MovieFails (presentation_of file tree) b f → Stands file f
-  movie_stands f q = (
-    limit,
-    inr (record {
-      tree = tree;
-      is_tree = is_file_tree;
-      is_sound = is_sound_file;
-      is_consistent = is_consistent_file;
-      passes = q.passes;
-      named = q.named ∙ ap (fault_of MovieTooLarge) (sym says.has.is_moov);
-    }),
-  )
-
-  pub limit_stands : (f : Fault) → LimitFails (presentation_of file tree) head b f → Stands file f
-  limit_stands f q = elim (q) [ inl x ↦ time_stands f x | inr x ↦ movie_stands f x ]

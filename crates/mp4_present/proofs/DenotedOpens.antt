@@ -5,14 +5,14 @@ use Rattle.mp4_boxes.specs.declared.fault.Fault.{Fault}
 use Rattle.mp4_boxes.specs.declared.refusal.Refusal.{Refusal}
 use Rattle.mp4_boxes.specs.declared.refusal.Refusal.TheVariants as refusals
 use Rattle.mp4_present.specs.format.Denotes.{Denotes}
-use Rattle.mp4_present.specs.words.Opening.{RefusesFile, RefusesDenoted}
-use Rattle.mp4_present.specs.words.Outline.{RefusesOutline}
+use Rattle.mp4_present.specs.words.Opening.{RefusesOpen, RefusesDenoted}
 use Rattle.mp4_present.specs.format.Presentation.{Presentation}
 use Rattle.mp4_present.specs.words.Reading.{RefusesRead}
 use Rattle.mp4_present.specs.format.Stands.{Reason, StandsBy, header, child, missing, leaf, tables, fragment, count, limit, order}
 use Rattle.mp4_present.proofs.BoxReasons.{header_refuses, child_refuses, missing_stands_refuses}
 use Rattle.mp4_present.proofs.Counts.{count_refuses}
 use Rattle.mp4_present.proofs.FragmentReasons.{fragment_refuses}
+use Rattle.mp4_present.proofs.JudgedTrees.{judged_fault_stands}
 use Rattle.mp4_present.proofs.Leaves.{leaf_refuses}
 use Rattle.mp4_present.proofs.Limits.{limit_refuses}
 use Rattle.mp4_present.proofs.Order.{order_refuses}
@@ -30,24 +30,15 @@ stands_refuses count = count_refuses
 stands_refuses limit = limit_refuses
 stands_refuses order = order_refuses
 
-pub denoted_opens : (honest : Bool) (file : List ℕ) (p : Presentation) (reads reads_after : ℕ) (r : Refusal) → IsTrue honest → Denotes file p → RefusesFile honest file reads reads_after r → RefusesDenoted reads reads_after r
-denoted_opens honest file p reads reads_after (refusals.Fault f) told d w = let s = w told in stands_refuses s.0 file f p s.1 d
+pub denoted_opens : (honest : Bool) (file : List ℕ) (p : Presentation) (reads reads_after : ℕ) (r : Refusal) → IsTrue honest → Denotes file p → RefusesOpen honest file reads reads_after r → RefusesDenoted reads reads_after r
+denoted_opens honest file p reads reads_after (refusals.Fault f) told d w = let s = judged_fault_stands file f (w told) in stands_refuses s.0 file f p s.1 d
 denoted_opens honest file p reads reads_after refusals.Memory told d w = tt
 denoted_opens honest file p reads reads_after refusals.StoreFailed told d w = w
 denoted_opens honest file p reads reads_after refusals.StoreChanged told d w = w told
 denoted_opens honest file p reads reads_after refusals.WriteFailed told d w = w
 denoted_opens honest file p reads reads_after refusals.NoSuchTrack told d w = w
 
--- why there is no outline is why the file is not opened
-pub outline_refuses : (honest : Bool) (file : List ℕ) (reads reads_after : ℕ) (r : Refusal) → RefusesOutline honest file reads reads_after r → RefusesFile honest file reads reads_after r
-outline_refuses honest file reads reads_after (refusals.Fault f) w = w
-outline_refuses honest file reads reads_after refusals.Memory w = tt
-outline_refuses honest file reads reads_after refusals.StoreFailed w = w
-outline_refuses honest file reads reads_after refusals.StoreChanged w = absurd w
-outline_refuses honest file reads reads_after refusals.WriteFailed w = w
-outline_refuses honest file reads reads_after refusals.NoSuchTrack w = w
-
--- and so is why its `moov` is not read
+-- why its `moov` is not read
 pub read_refuses : (reads reads_after : ℕ) (r : Refusal) → RefusesRead reads reads_after r → RefusesDenoted reads reads_after r
 read_refuses reads reads_after (refusals.Fault f) w = w
 read_refuses reads reads_after refusals.Memory w = tt

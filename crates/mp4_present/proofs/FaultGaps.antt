@@ -7,7 +7,8 @@ use Rattle.mp4_boxes.specs.declared.refusal.Refusal.{Refusal}
 use Rattle.mp4_boxes.specs.declared.refusal.Refusal.TheVariants as refusals
 use Rattle.mp4_frag.specs.words.TrafFaults.{RefusesMoof}
 use Rattle.mp4_frag.specs.declared.state.TrackState.{TrackState}
-use Rattle.mp4_present.specs.words.NumbersTold.{MeetsFault, RefusesSearch, StepsFit}
+use Rattle.mp4_present.specs.words.NumbersTold.{StepsFit}
+use Rattle.mp4_present.specs.words.Refusing.{MeetsFault, RefusesSearch}
 use Rattle.mp4_present.specs.words.Reading.{RefusesPayload}
 use Rattle.mp4_present.specs.declared.reading.TopBox.{TopBox}
 use Rattle.mp4_present.proofs.MoofBytes.{MoofsFit}

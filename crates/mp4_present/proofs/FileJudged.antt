@@ -26,7 +26,8 @@ use Rattle.mp4_present.specs.format.Presentation.{Presentation, IsInTime, max_sa
 use Rattle.mp4_present.specs.format.Stands.{table_total}
 use Rattle.mp4_present.specs.words.FileJudged.{RefusesJudged}
 use Rattle.mp4_present.specs.words.Measured.{LimitFails}
-use Rattle.mp4_present.specs.words.Opening.{RefusesFile, RefusesOpen}
+use Rattle.mp4_present.specs.words.Opening.{RefusesOpen}
+use Rattle.mp4_present.specs.words.Refusing.{RefusesSearch}
 use Rattle.mp4_present.specs.words.MoofsJudged.{PassesMoofs, RefusesMoofs}
 use Rattle.mp4_present.specs.words.Reading.{RefusesRead}
 use Rattle.mp4_present.specs.words.TopJudged.{RefusesTop}
@@ -232,8 +233,8 @@ read_judged file reads reads_after refusals.NoSuchTrack w = tt
 
 -- ---- why a file is not opened
 
--- by its first fault, where a fault stands in it and is that
-pub refused_first : (honest : Bool) (file : List ℕ) (reads reads_after : ℕ) (n : Refusal) → RefusesFile honest file reads reads_after n → (IsTrue honest → RefusesJudged file n) → RefusesOpen honest file reads reads_after n
+-- by its first fault, where it is that
+pub refused_first : (honest : Bool) (file : List ℕ) (reads reads_after : ℕ) (n : Refusal) → RefusesSearch honest reads reads_after n → (IsTrue honest → RefusesJudged file n) → RefusesOpen honest file reads reads_after n
 refused_first honest file reads reads_after (refusals.Fault f) w named = named
 refused_first honest file reads reads_after refusals.Memory w named = tt
 refused_first honest file reads reads_after refusals.StoreFailed w named = w

@@ -35,7 +35,7 @@ use Rattle.mp4_present.proofs.Opened.{head_stands, moov_there}
 use Rattle.mp4_present.proofs.PartsBehind.{ids_of}
 use Rattle.mp4_present.proofs.SampleTotals.{parts_most}
 use Rattle.mp4_present.proofs.TablesStand.{tables_stand}
-use Rattle.mp4_present.proofs.TrafStands.{first_kept}
+use Rattle.mp4_present.proofs.FirstKept.{first_kept}
 use Rattle.mp4_present.proofs.TopLaws.{top_held, top_fault_stands}
 use Rattle.mp4_present.proofs.TableLaws.{AllInOrder, all_in_order, tables_failed}
 use Rattle.mp4_present.proofs.LimitLaws.{times_keep, times_fail}

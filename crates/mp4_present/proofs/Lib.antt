@@ -52,8 +52,7 @@ pub mod MovieJudged
 pub mod LimitsJudged
 pub mod FileJudged
 pub mod TrafPlaces
-pub mod TrafStands
-pub mod MoofRefused
+pub mod FirstKept
 pub mod DueBehind
 pub mod KeysExtended
 pub mod MoofSound
@@ -93,6 +92,7 @@ pub mod ComparisonComplete
 pub mod ComparisonVectors
 mod NextSample
 pub mod FaultGaps
+pub mod Refusals
 pub mod GapsTold
 mod KeysOfBoth
 mod SamplesDiffer

@@ -1,15 +1,12 @@
 -- The `moof`s of a file, passed one after the other behind its `moov`.
-use Rattle.std.proofs.Common.{◌≡◌, ℕ, ◌+◌, ◌≤◌, true, false, Bool, List, [], ◌∷◌, ◌++◌, Some, None, length, take, map, pos, refl, sym, ap, subst, ◌∙◌, arith, append_assoc, length-take}
-use Rattle.std.specs.Prelude.{codes, IsTrue, bytes_eq}
+use Rattle.std.proofs.Common.{◌≡◌, ℕ, ◌+◌, ◌≤◌, true, false, List, [], ◌∷◌, ◌++◌, Some, None, length, take, map, pos, refl, sym, ap, subst, ◌∙◌, arith, append_assoc, length-take}
+use Rattle.std.specs.Prelude.{codes, bytes_eq}
 use Rattle.std.specs.List.{AllByRecursion}
 use Rattle.std.proofs.lemmas.List.{append-nil, map-append}
 use Rattle.mp4_store.specs.words.Device.{range}
 use Rattle.mp4_boxes.specs.format.Bytes.{AreBytes}
 use Rattle.mp4_boxes.specs.format.Box.{Box, LieEndToEnd, file_container}
 use Rattle.mp4_boxes.specs.format.Children.{Holds, of_kind}
-use Rattle.mp4_boxes.specs.declared.fault.Fault.{Fault}
-use Rattle.mp4_boxes.specs.declared.refusal.Refusal.{Refusal}
-use Rattle.mp4_boxes.specs.declared.refusal.Refusal.TheVariants as refusals
 use Rattle.mp4_boxes.specs.declared.rule.Rule.TheVariants.{File}
 use Rattle.mp4_boxes.proofs.Among.{of_kind-append, head_is, tail_is, all_append}
 use Rattle.mp4_boxes.proofs.OfBytes.{bytes_taken}
@@ -17,7 +14,6 @@ use Rattle.mp4_boxes.proofs.Tiling.{tiles_one}
 use Rattle.mp4_frag.specs.format.Fragments.{FragmentTree}
 use Rattle.mp4_frag.specs.words.Judged.{AreTrexesOf, IsSoundMoof, AreMovedOn, tree_of}
 use Rattle.mp4_frag.specs.words.RunsJudged.{children_of}
-use Rattle.mp4_frag.specs.words.TrafFaults.{MoofFails, RefusesMoof}
 use Rattle.mp4_frag.specs.declared.state.TrackState.{TrackState}
 use Rattle.mp4_frag.specs.declared.trex.Trex.{Trex}
 use Rattle.mp4_head.specs.format.Tree.{MovieTree, trexes_of}
@@ -25,17 +21,14 @@ use Rattle.mp4_head.proofs.Above.{lies_front}
 use Rattle.mp4_present.specs.format.Denotes.{begins_with_movie}
 use Rattle.mp4_present.specs.words.Movies.{IsWhole}
 use Rattle.mp4_present.specs.words.Outline.{IsNextFragment, IsOutline, box_at}
-use Rattle.mp4_present.specs.words.PassedMoofs.{IsBegun, IsPassed, RefusesFragments}
+use Rattle.mp4_present.specs.words.PassedMoofs.{IsBegun, IsPassed}
 use Rattle.mp4_present.specs.words.Passing.{AreBehind, IsNextMoof}
-use Rattle.mp4_present.specs.words.Reading.{RefusesPayload}
-use Rattle.mp4_present.specs.format.Stands.{Stands}
 use Rattle.mp4_present.specs.declared.opening.outline.Outline.{Outline}
 use Rattle.mp4_present.specs.declared.reading.TopBox.{TopBox}
-use Rattle.mp4_present.proofs.FragmentPass.{Left, Next, left_first, left_next, next_boxes}
+use Rattle.mp4_present.proofs.FragmentPass.{Left, left_first, left_next, next_boxes}
 use Rattle.mp4_present.proofs.Opened.{moov_is}
 use Rattle.mp4_present.specs.words.Movies.{Fills}
 use Rattle.mp4_present.proofs.MoofBehind.{passes_moof, trexes_behind}
-use Rattle.mp4_present.proofs.MoofRefused.{refuses_moof}
 use Rattle.mp4_present.proofs.Order.{not_first}
 
 -- the boxes of the file up to a place were passed, and the `moof`s among them are as they should be
@@ -113,10 +106,6 @@ module _ (file : List ℕ) (movie : MovieTree) (boxes : List Box) (at most : ℕ
     is_moov = moov_before (u.passed ++ n.0) n.1 moof movie.moov n.5 (subst (λ (bs : List Box). begins_with_movie bs ≡ true) around b.order) (subst (λ (bs : List Box). of_kind (codes "moov") bs ≡ movie.moov ∷ []) around b.is_moov);
     earlier_moofs = moofs_before;
   }
-
-  -- it was refused
-  pub moof_refused : (f : Fault) → MoofFails (length file) states room moof f → Stands file f
-  moof_refused f fails = refuses_moof file movie u.fragments (u.passed ++ n.0) moof states room f b.movie_is u.behind stands_next fails
 
   module _ (new : List TrackState) (less : ℕ) (sound : IsSoundMoof (length file) (trexes_of movie) states (tree_of moof))
       (moved : AreMovedOn moof.offset (pos moof.offset) (of_kind (codes "traf") (children_of moof)) states new room less) (bytes : AreBytes moof.payload) where
@@ -201,30 +190,3 @@ module _ (file : List ℕ) (movie : MovieTree) (boxes : List Box) (at most : ℕ
       let on = subst (λ (x : Box). AreMovedOn x.offset (pos x.offset) (of_kind (codes "traf") (children_of x)) states new room less) there moved in
       let of_bytes : AreBytes (box_at file top).payload = subst (λ (x : Box). AreBytes x.payload) there (subst (λ (x : Box). AreBytes x.payload) (sym r.is) (bytes_taken len bytes r.of_bytes)) in
       more_left file movie boxes at most start states whole room b u top w n new less sound on of_bytes
-
-  -- it was refused
-  pub next_refused : (f : Fault) → MoofFails L states room m f → Stands file f
-  next_refused f fails = moof_refused file movie boxes at most start states whole room b u top w n f (subst (λ (k : ℕ). MoofFails k states room (box_at file top) f) e (subst (λ (x : Box). MoofFails L states room x f) there fails))
-
--- ---- why one is not passed
-
--- the room is as long as the longest `moof`
-pub not_read : (honest : Bool) (file : List ℕ) (states : List TrackState) (whole : ℕ) (top : TopBox) (most room reads reads_after : ℕ) (r : Refusal) → (IsTrue honest → Next file top most) → room ≡ most
-    → RefusesPayload room top reads reads_after r → RefusesFragments honest file states whole reads reads_after r
-not_read honest file states whole top most room reads reads_after (refusals.Fault f) n e w = absurd w
-not_read honest file states whole top most room reads reads_after refusals.Memory n e w = absurd w
-not_read honest file states whole top most room reads reads_after refusals.StoreFailed n e w = w
-not_read honest file states whole top most room reads reads_after refusals.StoreChanged n e w = λ told. let short = (n told).short in omega (arith, short, e, w)
-not_read honest file states whole top most room reads reads_after refusals.WriteFailed n e w = w
-not_read honest file states whole top most room reads reads_after refusals.NoSuchTrack n e w = w
-
--- it has a fault, or there is no memory
-pub not_passed : (honest : Bool) (file : List ℕ) (start states : List TrackState) (whole room file_length owns reads reads_after : ℕ) (m : Box) (r : Refusal)
-    → ((f : Fault) → MoofFails file_length states room m f → IsTrue honest → (movie : MovieTree) (boxes : List Box) → IsBegun file movie boxes start whole → Stands file f)
-    → RefusesMoof file_length states room m owns r → RefusesFragments honest file start whole reads reads_after r
-not_passed honest file start states whole room file_length owns reads reads_after m (refusals.Fault f) stands w = stands f w
-not_passed honest file start states whole room file_length owns reads reads_after m refusals.Memory stands w = tt
-not_passed honest file start states whole room file_length owns reads reads_after m refusals.StoreFailed stands w = absurd w
-not_passed honest file start states whole room file_length owns reads reads_after m refusals.StoreChanged stands w = absurd w
-not_passed honest file start states whole room file_length owns reads reads_after m refusals.WriteFailed stands w = w
-not_passed honest file start states whole room file_length owns reads reads_after m refusals.NoSuchTrack stands w = w

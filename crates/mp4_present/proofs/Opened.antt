@@ -8,10 +8,8 @@ use Rattle.mp4_boxes.specs.format.Children.{Holds, of_kind}
 use Rattle.mp4_boxes.specs.format.Places.{whole, ruled}
 use Rattle.mp4_boxes.specs.declared.rule.Rule.TheVariants.{File, Movie}
 use Rattle.mp4_boxes.specs.declared.fault.Fault.{Fault}
-use Rattle.mp4_boxes.specs.declared.refusal.Refusal.{Refusal}
-use Rattle.mp4_boxes.specs.declared.refusal.Refusal.TheVariants as refusals
 use Rattle.mp4_head.specs.format.HeadFaults.{HeadStands, HeaderStands, ChildStands, MissingStands, LeafStands}
-use Rattle.mp4_head.specs.words.Refuses.{place_of, RefusesIn}
+use Rattle.mp4_head.specs.words.Refuses.{place_of}
 use Rattle.mp4_head.specs.format.Head as heads
 use Rattle.mp4_head.specs.format.Tree.{TrackTree, MovieTree, IsTrackTree, IsSoundTrack, track_head_of}
 use Rattle.mp4_head.specs.words.Found.{SaysHead, IsFoundIn}
@@ -23,12 +21,9 @@ use Rattle.mp4_head.specs.declared.heads.MovieHead.{MovieHead}
 use Rattle.mp4_head.proofs.Above.{stands_in_file}
 use Rattle.mp4_present.specs.words.Movies.{Fills}
 use Rattle.mp4_present.specs.words.Outline.{box_at}
-use Rattle.mp4_present.specs.words.Opening.{HasOutline, RefusesFile}
+use Rattle.mp4_present.specs.words.Opening.{HasOutline}
 use Rattle.mp4_present.specs.format.Denotes.{HasMovie}
-use Rattle.mp4_present.specs.words.PassedMoofs.{IsBegun, RefusesFragments}
-use Rattle.mp4_frag.specs.declared.state.TrackState.{TrackState}
-use Rattle.mp4_present.specs.words.TrackTrees.{AreTracksOf, RefusesTables, TablesFail}
-use Rattle.mp4_present.proofs.TablesStand.{tables_stand}
+use Rattle.mp4_present.specs.words.TrackTrees.{AreTracksOf}
 use Rattle.mp4_present.specs.format.Denotes.{begins_with_movie}
 use Rattle.mp4_present.specs.format.Stands.{Stands, header, child, missing, leaf}
 use Rattle.mp4_present.specs.declared.reading.TopBox.{TopBox}
@@ -129,15 +124,6 @@ pub its_movie : (honest : Bool) (file : List ℕ) (o : Outline) (moov : List ℕ
     → IsTrue honest → HasMovie file ids
 its_movie honest file o moov b head ids r says are told = let k = r.outline told in has_movie file k.0 b head ids k.1 k.2 (its_moov honest file o moov b r told) says are
 
--- its head is at fault
-pub open_not_sound : (honest : Bool) (file : List ℕ) (o : Outline) (moov : List ℕ) (b : Box) (reads : ℕ) (r : Refusal) → IsRead honest file o moov b → RefusesIn (place_of (ruled Movie) b) r → RefusesFile honest file reads reads r
-open_not_sound honest file o moov b reads (refusals.Fault f) i w = λ told. let k = i.outline told in head_stands file k.0 b f k.1 (its_moov honest file o moov b i told) w
-open_not_sound honest file o moov b reads refusals.Memory i w = tt
-open_not_sound honest file o moov b reads refusals.StoreFailed i w = absurd w
-open_not_sound honest file o moov b reads refusals.StoreChanged i w = absurd w
-open_not_sound honest file o moov b reads refusals.WriteFailed i w = w
-open_not_sound honest file o moov b reads refusals.NoSuchTrack i w = w
-
 -- where the `moov` stands in the file
 pub record IsThere (file : List ℕ) (m : MovieTree) : Type 0 where
   pub before : List Box
@@ -163,25 +149,3 @@ are_tracks (t ∷ trees) (x ∷ tracks) h s z e = (
 
 pub tracks_read : (b : Box) (head : MovieHead) (says : SaysHead b head) → AreTracksOf says.has.tree.tracks head.tracks.items
 tracks_read b head says = are_tracks says.has.tree.tracks head.tracks.items says.has.is_tree.tracks says.has.is_sound.tracks says.tracks (ap (λ (x : heads.Head). x.tracks) says.has.says)
-
--- its tables are at fault
-pub open_not_fit : (honest : Bool) (file : List ℕ) (o : Outline) (moov : List ℕ) (b : Box) (head : MovieHead) (file_length reads : ℕ) (r : Refusal) → IsRead honest file o moov b → SaysHead b head → file_length ≡ length file
-    → RefusesTables file_length head.tracks.items r → RefusesFile honest file reads reads r
-open_not_fit honest file o moov b head file_length reads (refusals.Fault f) i says e w = λ told.
-    let k = i.outline told in
-    let there = moov_there file k.0 b says.has.tree k.1 (its_moov honest file o moov b i told) says.has.is_moov in
-    (tables_stand file there.before says.has.tree f there.stands there.kind says.has.is_tree (subst (λ (n : ℕ). TablesFail n says.has.tree.tracks f) e (w says.has.tree.tracks (tracks_read b head says))))
-open_not_fit honest file o moov b head file_length reads refusals.Memory i says e w = tt
-open_not_fit honest file o moov b head file_length reads refusals.StoreFailed i says e w = absurd w
-open_not_fit honest file o moov b head file_length reads refusals.StoreChanged i says e w = absurd w
-open_not_fit honest file o moov b head file_length reads refusals.WriteFailed i says e w = w
-open_not_fit honest file o moov b head file_length reads refusals.NoSuchTrack i says e w = w
-
-pub open_not_passed : (honest : Bool) (file : List ℕ) (states : List TrackState) (room reads reads_after : ℕ) (r : Refusal) → (IsTrue honest → (movie : MovieTree) × (boxes : List Box) × IsBegun file movie boxes states room)
-    → RefusesFragments honest file states room reads reads_after r → RefusesFile honest file reads reads_after r
-open_not_passed honest file states room reads reads_after (refusals.Fault f) m w = λ told. let k = m told in w told k.0 k.1 k.2
-open_not_passed honest file states room reads reads_after refusals.Memory m w = tt
-open_not_passed honest file states room reads reads_after refusals.StoreFailed m w = w
-open_not_passed honest file states room reads reads_after refusals.StoreChanged m w = w
-open_not_passed honest file states room reads reads_after refusals.WriteFailed m w = w
-open_not_passed honest file states room reads reads_after refusals.NoSuchTrack m w = w

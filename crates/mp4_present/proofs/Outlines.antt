@@ -1,29 +1,23 @@
 -- What the top-level headers of a file say of its `moov` and its `moof`s, one header after the other.
-use Rattle.std.proofs.Common.{◌≡◌, ℕ, drop, Err, ◌-◌, ◌<◌, ◌≤◌, Bool, true, false, List, [], ◌∷◌, ◌++◌, Option, Some, None, length, max, refl, sym, ap, subst, ◌∙◌, arith, inl, inr}
+use Rattle.std.proofs.Common.{◌≡◌, ℕ, ◌-◌, ◌≤◌, Bool, true, false, List, [], ◌∷◌, ◌++◌, Option, Some, None, length, max, refl, sym, ap, subst, ◌∙◌, arith}
 use Rattle.std.specs.Prelude.{codes, bytes_eq, IsTrue}
 use Rattle.std.proofs.lemmas.List.Sums.{fold-append}
-use Rattle.mp4_boxes.specs.format.Box.{Box, IsFront, StandsAfter, Tiles, size, sizes, file_container}
-use Rattle.mp4_boxes.specs.format.Children.{of_kind, count_among, allows, repeats, Holds}
-use Rattle.mp4_boxes.specs.format.BoxFaults.{header_there}
-use Rattle.mp4_boxes.specs.format.Places.{whole}
+use Rattle.mp4_boxes.specs.format.Box.{Box, IsFront, Tiles, size, sizes, file_container}
+use Rattle.mp4_boxes.specs.format.Children.{of_kind, count_among, allows, Holds}
 use Rattle.mp4_boxes.specs.declared.rule.Rule.TheVariants.{File}
 use Rattle.mp4_boxes.specs.declared.headers.TopHeader.{TopHeader}
-use Rattle.mp4_boxes.specs.declared.refusal.Refusal.{Refusal}
-use Rattle.mp4_boxes.specs.declared.refusal.Refusal.TheVariants as refusals
-use Rattle.mp4_boxes.specs.declared.fault.Fault.{Fault}
-use Rattle.mp4_boxes.specs.declared.fault.Kind.TheVariants.{BoxNotInProfile, DuplicateBox, MissingBox, FragmentBeforeMovie}
 use Rattle.mp4_boxes.proofs.Among.{all_append, of_kind-append}
 use Rattle.mp4_boxes.proofs.Tiling.{sizes-append, sizes-cons}
-use Rattle.mp4_present.specs.words.Reading.{IsTopHeader, RefusesHeader, top_box}
+use Rattle.mp4_present.specs.words.Reading.{IsTopHeader, top_box}
 use Rattle.mp4_present.specs.format.Denotes.{begins_with_movie}
-use Rattle.mp4_present.specs.format.Stands.{Stands, child, missing, header, order}
-use Rattle.mp4_present.specs.words.Outline.{AreSeen, AreMoofsFrom, IsOutline, IsOrdered, longest, moov_seen, RefusesOutline}
+use Rattle.mp4_present.specs.format.Stands.{header, order}
+use Rattle.mp4_present.specs.words.Outline.{AreSeen, AreMoofsFrom, IsOutline, IsOrdered, longest, moov_seen}
 use Rattle.mp4_present.specs.declared.reading.TopBox.{TopBox}
 use Rattle.mp4_present.specs.declared.opening.outline.Outline.{Outline}
 use Rattle.mp4_present.specs.declared.opening.outline.Seen.{Seen}
-use Rattle.mp4_present.proofs.OutlineCounts.{same_text, not_both, count_is}
+use Rattle.mp4_present.proofs.OutlineCounts.{not_both, count_is}
 use Rattle.mp4_present.proofs.TopJudged.{TopGoes, top_goes_none}
-use Rattle.mp4_present.proofs.TopLevel.{TopPassed, top_more, top_tiles, top_fault}
+use Rattle.mp4_present.proofs.TopLevel.{TopPassed, top_more, top_tiles}
 
 -- ---- boxes of one type, with one box more
 
@@ -81,50 +75,12 @@ pub record IsNext (file : List ℕ) (boxes : List Box) (at : ℕ) (h : TopHeader
 more : (file : List ℕ) (boxes : List Box) (at : ℕ) (h : TopHeader) → IsNext file boxes at h → TopPassed file (boxes ++ top_box file at h ∷ []) h.end
 more file boxes at h n = top_more file boxes at h (record { lie = n.front.0; taken = n.taken }) n.read n.room
 
-stands : (file : List ℕ) (boxes : List Box) (at : ℕ) (h : TopHeader) → IsNext file boxes at h → StandsAfter (file_container file) boxes (top_box file at h)
-stands file boxes at h n = ((more file boxes at h n).lie, tt)
-
 size_is : (file : List ℕ) (boxes : List Box) (at : ℕ) (h : TopHeader) → IsNext file boxes at h → size (top_box file at h) ≡ h.end - at
 size_is file boxes at h n =
     let b = top_box file at h in
     let t = (more file boxes at h n).taken in
     let a = n.taken in
     omega (arith, t, a, sizes-append boxes (b ∷ []), sizes-cons b [])
-
--- a box of the type may not stand in a file
-pub refused : (file : List ℕ) (boxes : List Box) (at : ℕ) (h : TopHeader) → IsNext file boxes at h → allows File h.kind.0 ≡ false → Stands file (record { kind = BoxNotInProfile; box_type = h.kind.0; offset = at })
-refused file boxes at h n e = (
-  child,
-  record { place = whole file; reaches = ([], refl); rule = File; under = refl; fault = inl (record { before = boxes; b = top_box file at h; stands = stands file boxes at h n; refused = e; named = refl }) },
-)
-
-repeated_movie : (boxes : List Box) (kind : List ℕ) (x : Box) → of_kind (codes "moov") boxes ≡ x ∷ [] → bytes_eq (codes "moov") kind ≡ true → repeats File boxes kind ≡ true
-repeated_movie boxes kind x e k =
-    let count : count_among (codes "moov" ∷ []) boxes ≡ 1 = count_is (codes "moov") boxes ∙ ap (λ (bs : List Box). length bs) e in
-    rw (k, count) refl
-
--- a second `moov`
-pub repeated : (file : List ℕ) (boxes : List Box) (at : ℕ) (h : TopHeader) (seen : Seen) (top : TopBox) → IsNext file boxes at h → AreSeen file boxes seen → seen.moov ≡ Some top → bytes_eq (codes "moov") h.kind.0 ≡ true
-    → Stands file (record { kind = DuplicateBox; box_type = h.kind.0; offset = at })
-repeated file boxes at h seen top n s e k =
-    let one = s.moov ∙ ap (moov_seen file) e in (
-      child,
-      record {
-        place = whole file;
-        reaches = ([], refl);
-        rule = File;
-        under = refl;
-        fault = inr (record { before = boxes; b = top_box file at h; stands = stands file boxes at h n; repeated = repeated_movie boxes h.kind.0 _ one k; named = refl });
-      },
-    )
-
--- a `moof`, and no `moov` came
-pub too_early : (file : List ℕ) (boxes : List Box) (at : ℕ) (h : TopHeader) (seen : Seen) → IsNext file boxes at h → AreSeen file boxes seen → seen.moov ≡ None → bytes_eq (codes "moof") h.kind.0 ≡ true
-    → Stands file (record { kind = FragmentBeforeMovie; box_type = h.kind.0; offset = at })
-too_early file boxes at h seen n s e k = (
-  order,
-  record { before = boxes; moof = top_box file at h; stands = stands file boxes at h n; is_moof = sym (same_text (codes "moof") h.kind.0 k); no_moov = s.moov ∙ ap (moov_seen file) e; named = refl },
-)
 
 -- the `moov`
 pub seen_movie : (file : List ℕ) (boxes : List Box) (at : ℕ) (h : TopHeader) (seen : Seen) → IsNext file boxes at h → AreSeen file boxes seen → allows File h.kind.0 ≡ true → seen.moov ≡ None → bytes_eq (codes "moov") h.kind.0 ≡ true
@@ -194,30 +150,8 @@ outlining_more file at h seen boxes f t r le s g =
     let m = more file boxes at h (record { front = f; taken = t; read = r; room = le }) in
     record { boxes = boxes ++ top_box file at h ∷ []; front = (m.lie, tt); taken = m.taken; are_seen = s; goes = g }
 
--- a header that can't be read
-pub unread : (file : List ℕ) (at : ℕ) (seen : Seen) (f : Fault) → Outlining file at seen → at < length file → header_there true (length file - at) (drop at file) (codes "file") at ≡ Err f → Stands file f
-unread file at seen f o lt e = (
-  header,
-  record { place = whole file; reaches = ([], refl); fault = top_fault file o.boxes at f (record { lie = o.front.0; taken = o.taken }) lt e },
-)
-
 tiles : (file : List ℕ) (at : ℕ) (seen : Seen) (o : Outlining file at seen) → length file ≤ at → Tiles (file_container file) o.boxes
 tiles file at seen o le = top_tiles file o.boxes at (record { lie = o.front.0; taken = o.taken }) le
-
--- the end was reached, and no `moov` came
-pub no_movie : (file : List ℕ) (at : ℕ) (seen : Seen) → Outlining file at seen → length file ≤ at → seen.moov ≡ None → Stands file (record { kind = MissingBox; box_type = codes "file"; offset = 0 })
-no_movie file at seen o le e =
-    let none : of_kind (codes "moov") o.boxes ≡ [] = o.are_seen.moov ∙ ap (moov_seen file) e in
-    let count : count_among (codes "moov" ∷ []) o.boxes ≡ 0 = count_is (codes "moov") o.boxes ∙ ap (λ (bs : List Box). length bs) none in (
-      missing,
-      record {
-        place = whole file;
-        reaches = ([], refl);
-        rule = File;
-        under = refl;
-        fault = record { boxes = o.boxes; tiles = tiles file at seen o le; lacking = rw count refl; named = refl };
-      },
-    )
 
 -- the end was reached: these are the boxes of the file
 pub outlined : (file : List ℕ) (at : ℕ) (seen : Seen) (out : Outline) (o : Outlining file at seen) → length file ≤ at → seen.moov ≡ Some out.moov → out.longest ≡ seen.longest → AreMoofsFrom file 0 out.moofs.items
@@ -230,13 +164,3 @@ outlined file at seen out o le e long m =
       subst (λ (w : Option TopBox). IsOrdered w o.boxes) e s.order,
       record { moov = one; moofs = m; longest = long ∙ s.longest },
     )
-
--- why a header is not read is why there is no outline
-pub refuses : (honest : Bool) (file : List ℕ) (at : ℕ) (seen : Seen) (reads reads_after : ℕ) (r : Refusal) → (IsTrue honest → Outlining file at seen) → at < length file
-    → RefusesHeader honest file at reads reads_after r → RefusesOutline honest file reads reads_after r
-refuses honest file at seen reads reads_after (refusals.Fault f) o lt e = λ told. unread file at seen f (o told) lt (e told)
-refuses honest file at seen reads reads_after refusals.Memory o lt e = tt
-refuses honest file at seen reads reads_after refusals.StoreFailed o lt e = e
-refuses honest file at seen reads reads_after refusals.StoreChanged o lt e = e
-refuses honest file at seen reads reads_after refusals.WriteFailed o lt e = e
-refuses honest file at seen reads reads_after refusals.NoSuchTrack o lt e = e

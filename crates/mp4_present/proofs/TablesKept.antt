@@ -19,10 +19,8 @@ use Rattle.mp4_tables.specs.format.Groups.{keys_after}
 use Rattle.mp4_tables.specs.words.Keys.{keys_seen}
 use Rattle.mp4_tables.specs.declared.keys.Keys.{Keys}
 use Rattle.mp4_tables.specs.words.TablesSeen.{TablesSeen, tables_seen}
-use Rattle.mp4_tables.specs.words.Leaves.{AllOf, AreAccepted, TablesRead, boxes_of, tables_in, HasDescriptions, NamesFault, IsFault}
+use Rattle.mp4_tables.specs.words.Leaves.{AllOf, AreAccepted, TablesRead, boxes_of, tables_in}
 use Rattle.mp4_tables.proofs.Sums.{timed_lasts, timed_bytes}
-use Rattle.mp4_tables.proofs.ChunkReads.{has_descriptions}
-use Rattle.mp4_boxes.specs.declared.fault.Fault.{Fault}
 use Rattle.mp4_tables.specs.format.PlainSamples.{PlacedSample, plain_samples}
 use Rattle.mp4_tables.specs.format.TableRules.{Fit}
 use Rattle.mp4_tables.specs.format.Tables.{Tables, tables_of, sample_count}
@@ -46,7 +44,7 @@ use Rattle.mp4_present.specs.format.Denotes.{plain_of, plain_keys}
 use Rattle.mp4_present.specs.words.OpenedMovie.{AreTablesOf, plain_seen}
 use Rattle.mp4_present.specs.format.Presentation.{max_samples}
 use Rattle.mp4_present.specs.format.Stands.{table_total}
-use Rattle.mp4_present.specs.words.TrackTrees.{IsTrackOf, HaveTables, TableFails, surroundings_in}
+use Rattle.mp4_present.specs.words.TrackTrees.{IsTrackOf, HaveTables, surroundings_in}
 use Rattle.mp4_present.specs.declared.movie.TrackTables.{TrackTables}
 use Rattle.mp4_present.specs.declared.opening.tables_pass.PlainTracks.{PlainTracks}
 use Rattle.mp4_present.proofs.Chain.{is_first}
@@ -264,13 +262,3 @@ tables_none file_length moov trexes p ts ss e = record {
   states = ap (map track_seen) ss;
   room = omega (arith, e);
 }
-
--- The fault that a check names is one of the tables of the track.
-pub table_fails : (file_length n room : ℕ) (h : TrackHead) (t : TrackTree) (f : Fault) → IsTrackOf t h → AreBytes (box_seen h.stbl).payload → n ≡ min (length h.media.descriptions.items) (2 ^ 32 - 1)
-    → NamesFault (record { file_len = file_length; descriptions = n; room = room }) (box_seen h.stbl) f → TableFails file_length room t f
-table_fails file_length n room h t f i bytes e fault =
-    let stbl = i.found.stbl in
-    let count = as_many t h n i (subst (λ (b : Box). AreBytes b.payload) stbl bytes) e in
-    let own : HasDescriptions (box_seen h.stbl) = subst HasDescriptions (sym stbl) (has_descriptions (stbl_of t) t.table i.tree.table i.sound.stsd) in
-    subst (λ (m : ℕ). IsFault (record { file_len = file_length; descriptions = m; room = room }) (stbl_of t) f) count
-    (subst (λ (b : Box). IsFault (record { file_len = file_length; descriptions = n; room = room }) b f) stbl (fault (λ _. own)))

@@ -1,16 +1,16 @@
 -- A walk over the boxes of the file itself.
-use Rattle.std.proofs.Common.{◌≡◌, ℕ, ◌+◌, ◌-◌, ◌<◌, ◌≤◌, true, List, [], ◌∷◌, ◌++◌, length, take, drop, Ok, Err, sym, ap, subst, ◌∙◌, arith, length-drop}
+use Rattle.std.proofs.Common.{◌≡◌, ℕ, ◌+◌, ◌-◌, ◌≤◌, true, List, [], ◌∷◌, ◌++◌, length, take, drop, Ok, sym, ap, subst, ◌∙◌, arith, length-drop}
 use Rattle.std.specs.Prelude.{codes, min, Result}
 use Rattle.std.proofs.lemmas.List.{drop-drop}
 use Rattle.mp4_boxes.specs.format.Box.{Box, Header, header_at, box_of, sizes, LieEndToEnd, file_container, Tiles}
-use Rattle.mp4_boxes.specs.format.BoxFaults.{IsHeaderFault, header_there, type_of, unreadable}
+use Rattle.mp4_boxes.specs.format.BoxFaults.{header_there, type_of}
 use Rattle.mp4_boxes.specs.words.View.{top_header_seen}
 use Rattle.mp4_boxes.specs.declared.headers.TopHeader.{TopHeader}
 use Rattle.mp4_boxes.specs.declared.fault.Fault.{Fault}
 use Rattle.mp4_boxes.proofs.Tiling.{header_is, box_size, lies_push, sizes-append, sizes-cons, sizes_fit}
 use Rattle.mp4_store.specs.words.Device.{range}
 use Rattle.mp4_boxes.proofs.HeaderFronts.{header_there-take}
-use Rattle.mp4_boxes.proofs.Walking.{located_ok, located_err}
+use Rattle.mp4_boxes.proofs.Walking.{located_ok}
 use Rattle.mp4_present.specs.words.Reading.{IsTopHeader, top_box}
 
 -- these boxes lie from the front of the file up to a place
@@ -37,23 +37,6 @@ top_more file boxes at h p e le =
     record {
       lie = subst (λ (x : Box). LieEndToEnd true 0 file (boxes ++ x ∷ [])) same (lies_push true 0 file boxes g p.lie read);
       taken = subst (λ (x : Box). sizes (boxes ++ x ∷ []) ≡ h.end) same (omega (arith, t, big, le, sizes-append boxes (b ∷ []), sizes-cons b []));
-    }
-
--- a header of the file itself that can't be read is a fault of the file
-pub top_fault : (file : List ℕ) (boxes : List Box) (at : ℕ) (f : Fault) → TopPassed file boxes at → at < length file → header_there true (length file - at) (drop at file) (codes "file") at ≡ Err f
-    → IsHeaderFault (file_container file) f
-top_fault file boxes at f p lt e =
-    let l : length (drop at file) ≡ length file - at = length-drop at file in
-    let r = located_err (codes "file") at (type_of (drop at file)) (header_at true (drop at file)) f (subst (λ (n : ℕ). header_there true n (drop at file) (codes "file") at ≡ Err f) (sym l) e) in
-    let t = p.taken in
-    let place : at ≡ 0 + sizes boxes = omega arith in
-    record {
-      before = boxes;
-      front = (p.lie, tt);
-      due = omega arith;
-      kind = r.0;
-      fails = ap (λ (n : ℕ). header_at true (drop n file)) t ∙ r.1;
-      named = r.2 ∙ (λ i. unreadable (codes "file") (place i) (type_of (drop (sym t i) file)) r.0);
     }
 
 -- the boxes up to the end are those of the file

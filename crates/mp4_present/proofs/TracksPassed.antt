@@ -2,12 +2,10 @@
 use Rattle.std.proofs.Common.{◌≡◌, ℕ, zero, suc, ◌+◌, ◌<◌, ◌≤◌, List, [], ◌∷◌, ◌++◌, length, take, drop, slice_index_or, refl, sym, ap, subst, arith}
 use Rattle.std.specs.List.{AllZip}
 use Rattle.std.proofs.lemmas.List.{take_all}
-use Rattle.mp4_boxes.specs.declared.refusal.Refusal.{Refusal}
-use Rattle.mp4_boxes.specs.declared.refusal.Refusal.TheVariants as refusals
 use Rattle.mp4_frag.specs.declared.trex.Trex.{Trex}
 use Rattle.mp4_head.specs.format.Tree.{TrackTree}
 use Rattle.mp4_head.specs.declared.heads.TrackHead.{TrackHead}
-use Rattle.mp4_present.specs.words.TrackTrees.{IsTrackOf, AreTracksOf, HaveTables, RefusesTable, RefusesTables}
+use Rattle.mp4_present.specs.words.TrackTrees.{IsTrackOf, AreTracksOf, HaveTables}
 use Rattle.mp4_present.specs.declared.opening.tables_pass.PlainTracks.{PlainTracks}
 
 -- the value beside the k-th of a list
@@ -56,15 +54,3 @@ module _ (file_length : ℕ) (moov : List ℕ) (trexes : List Trex) (tracks : Li
   passed_all le trees a =
       let n = zip_length IsTrackOf trees tracks a in
       subst (λ (ts : List TrackTree). HaveTables file_length moov trexes ts plain) (take_all k trees (omega (arith, n, le))) (so trees a)
-
-  -- the next one was refused
-  pub passed_refused : (h : TrackHead) (r : Refusal) → k < length tracks → h ≡ slice_index_or tracks k h → RefusesTable file_length plain.room h r → RefusesTables file_length tracks r
-  passed_refused h (refusals.Fault f) lt e w = λ trees a.
-      let b = beside IsTrackOf trees tracks k h a lt in
-      let p = so trees a in
-      record { before = take k trees; t = b.x; after = drop (suc k) trees; are = b.split; sound = p.sound; room = plain.room; left = p.room; fails = w b.x (subst (IsTrackOf b.x) (sym e) b.goes) }
-  passed_refused h refusals.Memory lt e w = tt
-  passed_refused h refusals.StoreFailed lt e w = w
-  passed_refused h refusals.StoreChanged lt e w = w
-  passed_refused h refusals.WriteFailed lt e w = w
-  passed_refused h refusals.NoSuchTrack lt e w = w

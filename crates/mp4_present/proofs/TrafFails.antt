@@ -45,7 +45,7 @@ use Rattle.mp4_present.proofs.RunsFail.{FailsAs, ManyIn, OutsideIn, FailingRun, 
 use Rattle.mp4_present.proofs.RunsPassed.{runs_pass}
 use Rattle.mp4_present.proofs.TrafJudged.{only_first, track_found, head_passes, runs_many}
 use Rattle.mp4_present.proofs.TrafPlaces.{place_of, kept, moof_reached, child_stands, sound_of}
-use Rattle.mp4_present.proofs.TrafStands.{first_kept}
+use Rattle.mp4_present.proofs.FirstKept.{first_kept}
 
 -- ---- boxes of a type
 

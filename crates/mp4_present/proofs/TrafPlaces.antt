@@ -4,19 +4,15 @@ use Rattle.std.specs.Prelude.{ℕ, codes, bytes_eq, option_map}
 use Rattle.std.specs.List.{AllByRecursion}
 use Rattle.std.proofs.lemmas.Slice.Eq.{bytes_eq-Decides}
 use Rattle.mp4_boxes.specs.format.Box.{Box, box_container, file_container, StandsAfter}
-use Rattle.mp4_boxes.specs.format.BoxFaults.{fault_of, Fails, IsChildFault}
-use Rattle.mp4_boxes.specs.format.Children.{of_kind, Holds}
+use Rattle.mp4_boxes.specs.format.BoxFaults.{IsChildFault}
+use Rattle.mp4_boxes.specs.format.Children.{of_kind}
 use Rattle.mp4_boxes.specs.format.Layout.{Leaf, IsSound}
 use Rattle.mp4_boxes.specs.format.Places.{ruled, Place, whole, at_kind, containers, as_container, inside, leaf_of, IsSoundAs, AreSound, Reaches}
 use Rattle.mp4_boxes.specs.declared.rule.Rule.{Rule}
 use Rattle.mp4_boxes.specs.declared.rule.Rule.TheVariants as rules
 use Rattle.mp4_boxes.specs.declared.fault.Fault.{Fault}
-use Rattle.mp4_boxes.specs.declared.fault.Kind.{Kind}
 use Rattle.mp4_boxes.proofs.Among.{tail_is}
-use Rattle.mp4_frag.specs.words.RunsJudged.{children_of}
-use Rattle.mp4_frag.specs.words.TrafFaults.{HoldsBoxes}
-use Rattle.mp4_head.proofs.Above.{stands_of}
-use Rattle.mp4_present.specs.format.Stands.{Stands, header, child, missing, leaf as of_leaf}
+use Rattle.mp4_present.specs.format.Stands.{Stands, header, child, missing}
 
 -- ---- places
 
@@ -26,9 +22,6 @@ place_of rule b = record { scope = ruled rule; container = box_container b }
 
 moof_inside : (file : List ℕ) (moof : Box) → moof.kind ≡ codes "moof" → inside (whole file) moof ≡ Some (place_of rules.MovieFragment moof)
 moof_inside file moof e = ap (λ kind. option_map (λ scope. record { scope = scope; container = as_container scope moof }) (at_kind (containers (ruled rules.File)) kind)) e
-
-traf_inside : (moof b : Box) → bytes_eq (codes "traf") b.kind ≡ true → inside (place_of rules.MovieFragment moof) b ≡ Some (place_of rules.TrackFragment b)
-traf_inside moof b e = rw e refl
 
 -- the `moof` is in the file
 pub moof_reached : (file : List ℕ) (before : List Box) (moof : Box) → StandsAfter (file_container file) before moof → moof.kind ≡ codes "moof" → Reaches (whole file) (place_of rules.MovieFragment moof)
@@ -60,13 +53,6 @@ kept kind (c ∷ boxes) front b after e = choice (bytes_eq kind c.kind) refl fro
     choice true h (d ∷ front) e more = kept_behind kind c boxes b (more front (tail_is c d (of_kind kind boxes) (front ++ b ∷ after) e))
     choice false h front e more = kept_behind kind c boxes b (more front e)
 
--- a `traf` of the `moof` is in the file
-pub traf_reached : (file : List ℕ) (before : List Box) (moof : Box) (front : List Box) (b : Box) (after : List Box) → StandsAfter (file_container file) before moof → moof.kind ≡ codes "moof"
-    → Holds rules.MovieFragment (box_container moof) (children_of moof) → of_kind (codes "traf") (children_of moof) ≡ front ++ b ∷ after → Reaches (whole file) (place_of rules.TrackFragment b)
-traf_reached file before moof front b after s e holds are =
-    let k = kept (codes "traf") (children_of moof) front b after are in
-    (moof ∷ b ∷ [], (before, s, place_of rules.MovieFragment moof, moof_inside file moof e, (k.before, stands_of moof (children_of moof) k.before k.after b holds.tiles k.are, place_of rules.TrackFragment b, traf_inside moof b k.of_it, refl)))
-
 -- ---- faults
 
 -- a fault of the children
@@ -79,25 +65,6 @@ child_stands file rule b f r (inr (inr (inr h))) = (missing, record { place = pl
 -- a box of this type is read as this leaf
 read_as : (kind : List ℕ) (leaf : Leaf) (b : Box) → leaf_of (ruled rules.TrackFragment) kind ≡ Some leaf → bytes_eq kind b.kind ≡ true → leaf_of (ruled rules.TrackFragment) b.kind ≡ Some leaf
 read_as kind leaf b e k = ap (leaf_of (ruled rules.TrackFragment)) (sym ((bytes_eq-Decides kind b.kind).0 k)) ∙ e
-
--- a fault of a leaf
-pub leaf_stands : (file : List ℕ) (b : Box) (f : Fault) → Reaches (whole file) (place_of rules.TrackFragment b) → HoldsBoxes b → (type : List ℕ) (leaf : Leaf) → leaf_of (ruled rules.TrackFragment) type ≡ Some leaf
-    → (front : List Box) (h : Box) (after : List Box) → of_kind type (children_of b) ≡ front ++ h ∷ after → (kind : Kind) → Fails leaf h.payload kind → f ≡ fault_of kind h → Stands file f
-leaf_stands file b f r holds type leaf e front h after are kind fails named =
-    let k = kept type (children_of b) front h after are in (
-      of_leaf,
-      inl (record {
-        place = place_of rules.TrackFragment b;
-        before = k.before;
-        b = h;
-        stands = record { reaches = r; after = stands_of b (children_of b) k.before k.after h holds.tiles k.are };
-        leaf = leaf;
-        read = read_as type leaf h e k.of_it;
-        kind = kind;
-        fails = fails;
-        named = named;
-      }),
-    )
 
 -- ---- leaves that can be read
 

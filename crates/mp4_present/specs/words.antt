@@ -1,6 +1,7 @@
 pub mod Loaded
 pub mod Movies
 pub mod Reading
+pub mod Refusing
 pub mod Outline
 pub mod TopJudged
 pub mod TablesFirst

@@ -6,27 +6,25 @@ use Rattle.std.proofs.lemmas.Bool.Decides.{nat_tests}
 use Rattle.std.proofs.lemmas.List.Folds.{list_all-append}
 use Rattle.mp4_boxes.specs.format.Bytes.{field, rows}
 use Rattle.mp4_boxes.specs.format.Box.{Box, box_container}
-use Rattle.mp4_boxes.specs.format.Children.{Holds, count_among, payload_of, sample_sizes, chunk_offsets, one}
+use Rattle.mp4_boxes.specs.format.Children.{Holds, count_among, payload_of, chunk_offsets, one}
 use Rattle.mp4_boxes.specs.format.Layout.{stsd, stsc, stco, co64, IsSound, IsReadable, leaf_rows, needed}
-use Rattle.mp4_boxes.specs.format.BoxFaults.{fault_of}
-use Rattle.mp4_boxes.specs.declared.fault.Fault.{Fault}
 use Rattle.mp4_boxes.specs.declared.rule.Rule.TheVariants.{SampleTable}
 use Rattle.mp4_boxes.proofs.Among.{true_false}
 use Rattle.mp4_boxes.proofs.Refusing.{holds_only, line_has}
 use Rattle.mp4_tables.specs.format.Tables.{ChunkRow, first_number, chunk_rows_of, chunk_offsets_of}
 use Rattle.mp4_tables.specs.format.PlainSamples.{Spot, row_of_chunk, laid_out, in_chunks, in_chunks_total}
 use Rattle.mp4_tables.specs.words.Rows.{HaveRoom, chunk_row_of, chunk_rows_at, offsets_at, offset_width}
-use Rattle.mp4_tables.specs.format.TableRules.{chunk_counts, chunk_order, description_indexes, test, kind_of, AreReadable, is_chunk_order, is_index}
+use Rattle.mp4_tables.specs.format.TableRules.{chunk_order, description_indexes, test, AreReadable, is_chunk_order, is_index}
 use Rattle.mp4_tables.specs.words.TablesComing.{are_described}
-use Rattle.mp4_tables.specs.words.Leaves.{boxes_of, HasTables, HasDescriptions, AllOf, IsFirstOf, IsFault, surroundings_of, ShapeFails, RowsRead, tables_in, SizesKnown, ChunksRead, ChunkRowsRead}
+use Rattle.mp4_tables.specs.words.Leaves.{boxes_of, HasTables, HasDescriptions, AllOf, IsFirstOf, surroundings_of, RowsRead, tables_in, SizesKnown, ChunksRead, ChunkRowsRead}
 use Rattle.mp4_tables.specs.declared.leaves.Limits.{Limits}
 use Rattle.mp4_tables.specs.declared.places.RowsAt.{RowsAt}
 use Rattle.mp4_tables.specs.declared.places.ChunksAt.{ChunksAt}
 use Rattle.mp4_tables.proofs.RowLists.{numbers_length}
 use Rattle.mp4_tables.proofs.Counts.{eqb_is}
 use Rattle.mp4_tables.proofs.LeafLists.{boxes_are, hit_counts, payload_first, payload_none, all_first, all_none, count_each}
-use Rattle.mp4_tables.proofs.LeafRows.{lies_in, first_is_child, chunk_rows_there, numbers_there, shape_fails, shape_readable}
-use Rattle.mp4_tables.proofs.TableReads.{payload_is, readable_more, readable_join, named_by, rule_fault, first_fault, all_readable, rows_have}
+use Rattle.mp4_tables.proofs.LeafRows.{lies_in, first_is_child, chunk_rows_there, numbers_there, shape_readable}
+use Rattle.mp4_tables.proofs.TableReads.{payload_is, readable_more, rows_have}
 
 -- ---- offsets of chunks
 stco_needed : (payload : List ℕ) → needed stco payload ≡ 8 + 4 * field payload 4 4
@@ -34,12 +32,6 @@ stco_needed payload = omega arith
 
 co64_needed : (payload : List ℕ) → needed co64 payload ≡ 8 + 8 * field payload 4 4
 co64_needed payload = omega arith
-
-pub narrow_fail : (l : Limits) (stbl b : Box) (f : Fault) → IsFirstOf (codes "stco") (boxes_of stbl) b → ShapeFails 0 8 4 b f → IsFault l stbl f
-narrow_fail l stbl b f i s = first_fault l stbl b (codes "stco") stco f i refl refl (shape_fails stco 0 8 4 b f refl (stco_needed b.payload) (omega arith) s)
-
-pub wide_fail : (l : Limits) (stbl b : Box) (f : Fault) → IsFirstOf (codes "co64") (boxes_of stbl) b → ShapeFails 0 8 8 b f → IsFault l stbl f
-wide_fail l stbl b f i s = first_fault l stbl b (codes "co64") co64 f i refl refl (shape_fails co64 0 8 8 b f refl (co64_needed b.payload) (omega arith) s)
 
 pub one_of_both : (stbl : Box) → HasTables stbl → count_among (codes "stco" ∷ []) (boxes_of stbl) + count_among (codes "co64" ∷ []) (boxes_of stbl) ≡ 1
 one_of_both stbl h = count_each (codes "stco") (codes "co64") (boxes_of stbl) refl ∙ line_has h (codes "stco") (record { kinds = chunk_offsets; quantity = one }) refl
@@ -83,9 +75,6 @@ wide_read stbl b r h e i read =
 stsc_needed : (payload : List ℕ) → needed stsc payload ≡ 8 + 12 * field payload 4 4
 stsc_needed payload = omega arith
 
-pub chunk_rows_fail : (l : Limits) (stbl b : Box) (f : Fault) → IsFirstOf (codes "stsc") (boxes_of stbl) b → ShapeFails 0 8 12 b f → IsFault l stbl f
-chunk_rows_fail l stbl b f i s = first_fault l stbl b (codes "stsc") stsc f i refl refl (shape_fails stsc 0 8 12 b f refl (stsc_needed b.payload) (omega arith) s)
-
 chunk_rows_sound : (stbl b : Box) (r : RowsAt) → HasTables stbl → IsFirstOf (codes "stsc") (boxes_of stbl) b → RowsRead 0 8 12 stbl b r → AllOf (codes "stsc") (IsSound stsc) (boxes_of stbl)
 chunk_rows_sound stbl b r h i read =
     all_first (codes "stsc") (IsSound stsc) (boxes_of stbl) b i (omega (arith, holds_only h (codes "stsc") refl))
@@ -105,13 +94,6 @@ pub order_as : (l : Limits) (stbl b : Box) (at : ChunksAt) (r : RowsAt) (v : Boo
     → is_chunk_order (map (λ (row : ChunkRow). row.first) (chunk_rows_at stbl.payload r)) (nat_lt 0 at.rows.count) ≡ v → test chunk_order (surroundings_of l) (tables_in stbl) ≡ v
 order_as l stbl b at r v h i read k t =
     (let c = offsets_counted stbl at k in let d = sym (chunk_rows_same stbl b r h i read) in λ j. is_chunk_order (map (λ (row : ChunkRow). row.first) (d j)) (nat_lt 0 (c j))) ∙ t
-
-chunks_readable : (stbl b : Box) (at : ChunksAt) (r : RowsAt) (kinds : List (List ℕ)) → HasTables stbl → IsFirstOf (codes "stsc") (boxes_of stbl) b → RowsRead 0 8 12 stbl b r → ChunksRead stbl at → AreReadable kinds (boxes_of stbl)
-    → AreReadable (codes "stsc" ∷ codes "stco" ∷ codes "co64" ∷ kinds) (boxes_of stbl)
-chunks_readable stbl b at r kinds h i read k more =
-    readable_more (codes "stsc") (codes "stco" ∷ codes "co64" ∷ kinds) (boxes_of stbl) (all_readable (codes "stsc") stsc (boxes_of stbl) (chunk_rows_sound stbl b r h i read))
-    (readable_more (codes "stco") (codes "co64" ∷ kinds) (boxes_of stbl) (all_readable (codes "stco") stco (boxes_of stbl) k.narrow)
-    (readable_more (codes "co64") kinds (boxes_of stbl) (all_readable (codes "co64") co64 (boxes_of stbl) k.wide) more))
 
 pub no_readable : (boxes : List Box) → AreReadable [] boxes
 no_readable [] = tt
@@ -135,26 +117,10 @@ has_descriptions stbl boxes h s =
     let readable = readable_more (codes "stsd") [] boxes (only_all (codes "stsd") (IsReadable stsd) boxes (omega (arith, holds_only h (codes "stsd") refl)) s.readable) (no_readable boxes) in
     subst (λ (bs : List Box). AreReadable (codes "stsd" ∷ []) bs) (sym (boxes_are stbl boxes h.tiles)) readable
 
-pub chunk_rows_disorder : (l : Limits) (stbl b : Box) (at : ChunksAt) (r : RowsAt) (f : Fault) → HasTables stbl → IsFirstOf (codes "stsc") (boxes_of stbl) b → RowsRead 0 8 12 stbl b r → ChunksRead stbl at
-    → is_chunk_order (map (λ (row : ChunkRow). row.first) (chunk_rows_at stbl.payload r)) (nat_lt 0 at.rows.count) ≡ false → f ≡ fault_of (kind_of chunk_order) b → IsFault l stbl f
-chunk_rows_disorder l stbl b at r f h i read k t s =
-    rule_fault l stbl b (codes "stsc") chunk_order f h i (chunks_readable stbl b at r [] h i read k (no_readable (boxes_of stbl))) tt (λ e. absurd (never e))
-    (order_as l stbl b at r false h i read k t) (named_by (codes "stsc") (boxes_of stbl) b i []) s
-  where
-    never : false ≡ true → ⊥
-    never m = cc
-
 pub counts_as : (stbl b : Box) (at : ChunksAt) (r : RowsAt) (n m : ℕ) (v : Bool) → HasTables stbl → IsFirstOf (codes "stsc") (boxes_of stbl) b → RowsRead 0 8 12 stbl b r → ChunksRead stbl at → m ≡ n
     → (in_chunks_total (chunk_rows_at stbl.payload r) 1 (offsets_at stbl.payload at) == n) ≡ v → (in_chunks_total (tables_in stbl).chunk_rows 1 (tables_in stbl).chunk_offsets == m) ≡ v
 counts_as stbl b at r n m v h i read k e t =
     (let c = sym k.same in let d = sym (chunk_rows_same stbl b r h i read) in λ j. in_chunks_total (d j) 1 (c j) == e j) ∙ t
-
-pub chunk_rows_mismatch : (l : Limits) (stbl b : Box) (at : ChunksAt) (r : RowsAt) (n : ℕ) (f : Fault) → HasTables stbl → IsFirstOf (codes "stsc") (boxes_of stbl) b → RowsRead 0 8 12 stbl b r → ChunksRead stbl at → SizesKnown stbl n
-    → is_chunk_order (map (λ (row : ChunkRow). row.first) (chunk_rows_at stbl.payload r)) (nat_lt 0 at.rows.count) ≡ true
-    → (in_chunks_total (chunk_rows_at stbl.payload r) 1 (offsets_at stbl.payload at) == n) ≡ false → f ≡ fault_of (kind_of chunk_counts) b → IsFault l stbl f
-chunk_rows_mismatch l stbl b at r n f h i read k sizes o t s =
-    rule_fault l stbl b (codes "stsc") chunk_counts f h i (chunks_readable stbl b at r sample_sizes h i read k sizes.readable) tt (λ _. order_as l stbl b at r true h i read k o)
-    (counts_as stbl b at r n (length (tables_in stbl).sizes) false h i read k sizes.count t) (named_by (codes "stsc") (boxes_of stbl) b i []) s
 
 laid_described : (n : ℕ) (at : ℤ) (description : ℕ) (sizes : List ℕ) → list_all (λ (spot : Spot). is_index n spot.description) (laid_out at description sizes) ≡ (nat_eq (length sizes) 0 || is_index n description)
 laid_described n at description [] = refl
@@ -188,14 +154,6 @@ described_as l stbl b at r n v h i read k sizes e t =
     let c = sizes.count in
     spots_described l.descriptions (tables_in stbl).chunk_rows 1 (tables_in stbl).chunk_offsets (tables_in stbl).sizes (omega arith)
     ∙ (let c = sym k.same in let d = sym (chunk_rows_same stbl b r h i read) in λ j. are_described l.descriptions (d j) 1 (c j)) ∙ t
-
-pub chunk_rows_undescribed : (l : Limits) (stbl b : Box) (at : ChunksAt) (r : RowsAt) (n : ℕ) (f : Fault) → HasTables stbl → HasDescriptions stbl → IsFirstOf (codes "stsc") (boxes_of stbl) b → RowsRead 0 8 12 stbl b r → ChunksRead stbl at → SizesKnown stbl n
-    → is_chunk_order (map (λ (row : ChunkRow). row.first) (chunk_rows_at stbl.payload r)) (nat_lt 0 at.rows.count) ≡ true → (in_chunks_total (chunk_rows_at stbl.payload r) 1 (offsets_at stbl.payload at) == n) ≡ true
-    → are_described l.descriptions (chunk_rows_at stbl.payload r) 1 (offsets_at stbl.payload at) ≡ false → f ≡ fault_of (kind_of description_indexes) b → IsFault l stbl f
-chunk_rows_undescribed l stbl b at r n f h d i read k sizes o e t s =
-    rule_fault l stbl b (codes "stsc") description_indexes f h i
-    (readable_join (codes "stsd") (codes "stsc" ∷ codes "stco" ∷ codes "co64" ∷ sample_sizes) (boxes_of stbl) d (chunks_readable stbl b at r sample_sizes h i read k sizes.readable)) tt (λ _. order_as l stbl b at r true h i read k o)
-    (described_as l stbl b at r n false h i read k sizes e t) (named_by (codes "stsc") (boxes_of stbl) b i []) s
 
 pub chunk_rows_read : (l : Limits) (stbl b : Box) (at : ChunksAt) (r : RowsAt) (n : ℕ) → HasTables stbl → IsFirstOf (codes "stsc") (boxes_of stbl) b → RowsRead 0 8 12 stbl b r → ChunksRead stbl at → SizesKnown stbl n
     → is_chunk_order (map (λ (row : ChunkRow). row.first) (chunk_rows_at stbl.payload r)) (nat_lt 0 at.rows.count) ≡ true → (in_chunks_total (chunk_rows_at stbl.payload r) 1 (offsets_at stbl.payload at) == n) ≡ true

@@ -5,27 +5,23 @@ use Rattle.std.specs.List.{AllByRecursion, slice_get}
 use Rattle.std.proofs.lemmas.List.{append-nil, append_assoc}
 use Rattle.mp4_tables.proofs.RowLists.{runs_all, runs_length}
 use Rattle.mp4_boxes.proofs.Among.{all_append, of_kind-split, of_kind-append}
-use Rattle.mp4_tables.specs.format.Groups.{GroupKey, GroupRule, Grouping, one_of_key, few_keys, index_range, group_counts, grouping_of, groupings_of, keeps, group_test, group_reads}
+use Rattle.mp4_tables.specs.format.Groups.{GroupKey, GroupRule, Grouping, one_of_key, few_keys, index_range, group_counts, grouping_of, groupings_of, group_reads}
 use Rattle.mp4_tables.specs.words.Keys.{keys_seen}
 use Rattle.mp4_boxes.specs.format.Bytes.{sum_of}
 use Rattle.mp4_tables.specs.words.Rows.{HaveRoom, runs_at}
 use Rattle.mp4_tables.specs.words.Accepted.{group_count, grouped, group_rows, AreDistinct, AreUsed, AreIndexes, HaveGroups}
 use Rattle.mp4_boxes.specs.format.Box.{Box}
 use Rattle.mp4_boxes.specs.format.Children.{of_kind}
-use Rattle.mp4_boxes.specs.format.Places.{leaf_of, ruled}
-use Rattle.mp4_boxes.specs.declared.rule.Rule.TheVariants.{SampleTable}
 use Rattle.mp4_boxes.specs.format.Layout.{sbgp, sgpd, IsReadable, IsSound}
 use Rattle.mp4_boxes.proofs.Sound.{same_kind}
-use Rattle.mp4_tables.specs.format.TableRules.{table_group, reads, AreReadable, GroupsReadable}
-use Rattle.mp4_tables.specs.declared.leaves.Limits.{Limits}
-use Rattle.mp4_tables.proofs.ChunkReads.{no_readable}
+use Rattle.mp4_tables.specs.format.TableRules.{GroupsReadable}
 use Rattle.mp4_boxes.specs.declared.fault.Fault.{Fault}
-use Rattle.mp4_tables.specs.words.Leaves.{GroupsSo, GroupPassed, SlotTaken, HasTables, IsChild, boxes_of, AllOf, tables_in, SizesKnown, IsFault, ChildFails, ChildRead, GroupsRead}
+use Rattle.mp4_tables.specs.words.Leaves.{GroupsSo, GroupPassed, SlotTaken, IsChild, boxes_of, AllOf, tables_in, ChildRead, GroupsRead}
 use Rattle.mp4_tables.specs.declared.places.RowsAt.{RowsAt}
 use Rattle.mp4_tables.specs.declared.places.GroupsAt.{GroupsAt}
 use Rattle.mp4_tables.proofs.IndexesLeft.{four}
 use Rattle.mp4_tables.proofs.TableRows.{groups_count}
-use Rattle.mp4_tables.proofs.GroupsKept.{found_none, test_at, test_none}
+use Rattle.mp4_tables.proofs.GroupsKept.{found_none, test_none}
 use Rattle.mp4_boxes.specs.format.FirstFault.{first_failed}
 use Rattle.mp4_tables.specs.format.FirstFault.{groups_tests}
 use Rattle.mp4_tables.specs.words.RowTests.{child_tests}
@@ -51,14 +47,6 @@ taken_with (x ∷ xs) ys y = ap (λ zs. x ∷ zs) (taken_with xs ys y)
 dropped_to : {A : Type 0} (xs : List A) (y : A) → drop (length xs) (xs ++ y ∷ []) ≡ y ∷ []
 dropped_to [] y = refl
 dropped_to (x ∷ xs) y = dropped_to xs y
-
-kept_all : (kind : List ℕ) (P : List ℕ → Type 0) (boxes : List Box) → AllOf kind P boxes → AllByRecursion (λ (b : Box). P b.payload) (of_kind kind boxes)
-kept_all kind P [] h = tt
-kept_all kind P (b ∷ boxes) h = choose (bytes_eq kind b.kind) refl h.0 (kept_all kind P boxes h.1)
-  where
-    choose : (v : Bool) → bytes_eq kind b.kind ≡ v → (bytes_eq kind b.kind ≡ true → P b.payload) → AllByRecursion (λ (c : Box). P c.payload) (of_kind kind boxes) → AllByRecursion (λ (c : Box). P c.payload) (of_kind kind (b ∷ boxes))
-    choose true e p more = rw e (p e, more)
-    choose false e p more = rw e more
 
 pub record GroupsPassed (stbl : Box) (n : ℕ) (at : GroupsAt) (left : List Box) : Type 0 where
   pub passed : List Box
@@ -93,69 +81,11 @@ first_of_next stbl b n at left later f p e t =
     let v = bytes_eq (codes "sbgp") b.kind in
     next_told stbl b n at left later p e v refl ∙ ap (λ o. or_then o (first_failed (groups_tests n [] (tables_in stbl).groups (cond v (suc (length (of_kind (codes "sbgp") p.passed))) (length (of_kind (codes "sbgp") p.passed))) later))) t
 
-group_readable : (rule : GroupRule) (stbl : Box) (n k : ℕ) → SizesKnown stbl n → AreReadable (reads (table_group rule k)) (boxes_of stbl)
-group_readable one_of_key stbl n k s = no_readable (boxes_of stbl)
-group_readable few_keys stbl n k s = no_readable (boxes_of stbl)
-group_readable index_range stbl n k s = no_readable (boxes_of stbl)
-group_readable group_counts stbl n k s = s.readable
-
 pub groups_readable : (rule : GroupRule) (gs more : List Box) (b : Box) → GroupsReadable gs → IsReadable sbgp b.payload → GroupsReadable (group_reads rule (length gs) (gs ++ b ∷ more))
 groups_readable one_of_key gs more b h k = subst GroupsReadable (sym (taken_with gs more b)) (all_append (λ (c : Box). IsReadable sbgp c.payload) gs (b ∷ []) h (k, tt))
 groups_readable few_keys gs more b h k = subst GroupsReadable (sym (taken_with gs more b)) (all_append (λ (c : Box). IsReadable sbgp c.payload) gs (b ∷ []) h (k, tt))
 groups_readable index_range gs more b h k = subst GroupsReadable (sym (ap (drop (length gs)) (taken_with gs more b) ∙ dropped_to gs b)) (k, tt)
 groups_readable group_counts gs more b h k = subst GroupsReadable (sym (ap (drop (length gs)) (taken_with gs more b) ∙ dropped_to gs b)) (k, tt)
-
--- a fault of the next child is a fault of the check
-pub child_fault : (l : Limits) (stbl b : Box) (n : ℕ) (at : GroupsAt) (left later : List Box) (f : Fault) → HasTables stbl → SizesKnown stbl n → GroupsPassed stbl n at left → left ≡ b ∷ later → ChildFails stbl.payload n at b f → IsFault l stbl f
-child_fault l stbl b n at left later f h s p e (inl d) = inl (record {
-  before = p.passed;
-  b = b;
-  after = later;
-  stands = p.is ∙ ap (λ bs. p.passed ++ bs) e;
-  table = ap (bytes_eq (codes "stsd")) (same_kind (codes "sgpd") b.kind d.0);
-  leaf = sgpd;
-  read = ap (leaf_of (ruled SampleTable)) (same_kind (codes "sgpd") b.kind d.0);
-  fails = d.1;
-})
-child_fault l stbl b n at left later f h s p e (inr (k, inl d)) = inl (record {
-  before = p.passed;
-  b = b;
-  after = later;
-  stands = p.is ∙ ap (λ bs. p.passed ++ bs) e;
-  table = ap (bytes_eq (codes "stsd")) (same_kind (codes "sbgp") b.kind k);
-  leaf = sbgp;
-  read = ap (leaf_of (ruled SampleTable)) (same_kind (codes "sbgp") b.kind k);
-  fails = d;
-})
-child_fault l stbl b n at left later f h s p e (inr (k, inr r)) =
-    let G = of_kind (codes "sbgp") p.passed in
-    let M = of_kind (codes "sbgp") later in
-    let all : boxes_of stbl ≡ p.passed ++ b ∷ later = p.is ∙ ap (λ bs. p.passed ++ bs) e in
-    let split : of_kind (codes "sbgp") (boxes_of stbl) ≡ G ++ b ∷ M = ap (of_kind (codes "sbgp")) all ∙ of_kind-split (codes "sbgp") p.passed later b k in
-    let m = s.count in
-    let gs = (tables_in stbl).groups in
-    let found : slice_get gs (length G) ≡ Some (grouping_of b.payload) = ap (λ bs. slice_get (groupings_of bs) (length G)) split ∙ found_in (λ (c : Box). grouping_of c.payload) G M b in
-    let front : take (length G) gs ≡ groupings_of G = ap (λ bs. take (length G) (groupings_of bs)) split ∙ taken_in (λ (c : Box). grouping_of c.payload) G (b ∷ M) in
-    let fails : group_test r.rule (length (tables_in stbl).sizes) [] gs (length G) ≡ false =
-    ap (λ x. group_test r.rule x [] gs (length G)) m ∙ test_at r.rule n (length G) gs (grouping_of b.payload) false found (ap (λ before. keeps r.rule n [] before (grouping_of b.payload)) front ∙ r.fails (groupings_of G) p.so) in
-    inr (inl (record {
-      children = boxes_of stbl;
-      holds = h;
-      rule = table_group r.rule (length G);
-      readable = group_readable r.rule stbl n (length G) s;
-      groups_readable = subst (λ bs. GroupsReadable (group_reads r.rule (length G) bs)) (sym split) (groups_readable r.rule G M b (kept_all (codes "sbgp") (IsReadable sbgp) p.passed p.groups) r.readable);
-      ordered = λ x. absurd (never x);
-      fails = fails;
-      before = p.passed;
-      b = b;
-      after = later;
-      stands = all;
-      is_named = ap (λ bs. slice_get bs (length G)) split ∙ found_there G M b;
-      same = r.named;
-    }))
-  where
-    never : false ≡ true → ⊥
-    never x = cc
 
 -- ---- walking over the children
 pub no_groups_so : (payload : List ℕ) (n : ℕ) (at : GroupsAt) → keys_seen at.keys ≡ [] → at.rows.by_key ≡ record { place = 0; count = 0 } ∷ record { place = 0; count = 0 } ∷ record { place = 0; count = 0 } ∷ record { place = 0; count = 0 } ∷ []

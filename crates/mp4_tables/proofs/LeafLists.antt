@@ -1,21 +1,19 @@
 -- The children of an `stbl`: the first of a type, where it lies, and what holds of all of a type.
 use Rattle.std.proofs.Common.{◌≡◌, ℕ, zero, suc, ◌+◌, ◌-◌, ◌≤◌, List, [], ◌∷◌, ◌++◌, length, take, drop, subst, refl, ap, sym, ◌∙◌, arith, Bool, true, false, Some, None, length-take, length-drop, append_assoc}
-use Rattle.std.specs.Prelude.{bytes_eq, codes, nat_eq, Result, Ok, Err}
+use Rattle.std.specs.Prelude.{bytes_eq, nat_eq, Result, Ok, Err}
 use Rattle.std.specs.List.{AllByRecursion}
 use Rattle.std.proofs.lemmas.List.{drop-drop}
 use Rattle.std.proofs.lemmas.Bool.Decides.{nat_tests}
 use Rattle.mp4_boxes.specs.format.Box.{Box, Header, header_at, box_of, size, sizes, LieEndToEnd, Tiles, box_container, bytes_container, first_boxes, box_and_more}
 use Rattle.mp4_boxes.specs.format.Children.{Holds, count_among, is_among, payload_if}
-use Rattle.mp4_boxes.specs.format.Layout.{Leaf}
 use Rattle.mp4_boxes.specs.format.Places.{leaf_of, ruled}
 use Rattle.mp4_boxes.specs.declared.rule.Rule.TheVariants.{SampleTable}
-use Rattle.mp4_boxes.specs.declared.fault.Fault.{Fault}
 use Rattle.mp4_boxes.specs.declared.fault.Kind.{Kind}
 use Rattle.mp4_boxes.proofs.Tiling.{header_is, box_size, sizes-cons}
 use Rattle.mp4_boxes.proofs.Among.{count-append}
 use Rattle.mp4_boxes.proofs.Sound.{same_kind}
 use Rattle.mp4_tables.specs.format.TableRules.{AreReadable, IsReadableAs}
-use Rattle.mp4_tables.specs.words.Leaves.{boxes_of, HasTables, AllOf, IsFirstOf, LiesIn, FailsAs, IsLeafFaultAmong}
+use Rattle.mp4_tables.specs.words.Leaves.{boxes_of, HasTables, AllOf, IsFirstOf, LiesIn}
 
 -- a box of a type counts
 pub hit_counts : (kind : List ℕ) (b : Box) (bs : List Box) → bytes_eq kind b.kind ≡ true → count_among (kind ∷ []) (b ∷ bs) ≡ 1 + count_among (kind ∷ []) bs
@@ -166,19 +164,6 @@ count_each a b (c ∷ boxes) e = step (bytes_eq a c.kind) (bytes_eq b c.kind) re
     step false true f g h = rw (f, g) (omega (arith, h))
     step false false f g h = rw (f, g) (omega (arith, h))
 
--- a fault of the first of a type
-pub leaf_fault : (kind : List ℕ) (boxes : List Box) (b : Box) (leaf : Leaf) (f : Fault) → IsFirstOf kind boxes b → bytes_eq (codes "stsd") kind ≡ false → leaf_of (ruled SampleTable) kind ≡ Some leaf → FailsAs leaf b f → IsLeafFaultAmong boxes f
-leaf_fault kind boxes b leaf f i t e h = record {
-  before = i.before;
-  b = b;
-  after = i.after;
-  stands = i.is;
-  table = ap (bytes_eq (codes "stsd")) (same_kind kind b.kind i.same) ∙ t;
-  leaf = leaf;
-  read = ap (leaf_of (ruled SampleTable)) (same_kind kind b.kind i.same) ∙ e;
-  fails = h;
-}
-
 -- what can be read of each type can be read of all of them
 pub readable_from : (kinds : List (List ℕ)) (boxes : List Box) → AllByRecursion (λ (kind : List ℕ). AllOf kind (IsReadableAs (leaf_of (ruled SampleTable) kind)) boxes) kinds → AreReadable kinds boxes
 readable_from kinds [] h = tt
@@ -198,10 +183,6 @@ readable_from kinds (b ∷ boxes) h = (λ m. one kinds h m, readable_from kinds 
     one (kind ∷ kinds) h m = this kind kinds (bytes_eq kind b.kind) refl h m (one kinds h.1)
 
 -- ---- walking over children
-
--- a box that comes behind others of which none has the type is the first of the type
-pub first_here : (kind : List ℕ) (boxes before after : List Box) (b : Box) → boxes ≡ before ++ b ∷ after → count_among (kind ∷ []) before ≡ 0 → bytes_eq kind b.kind ≡ true → IsFirstOf kind boxes b
-first_here kind boxes before after b e n s = record { before = before; after = after; is = e; same = s; none = n }
 
 -- some boxes were passed, of which none has the type, and these are left
 pub record NonePassed (kind : List ℕ) (boxes left : List Box) : Type 0 where

@@ -1,20 +1,18 @@
 -- A child of an `stbl`, as it was read: where its rows lie in the payload of the `stbl`, and what its shape says of it.
-use Rattle.std.proofs.Common.{◌≡◌, ℕ, zero, suc, ◌+◌, ◌-◌, ◌*◌, ◌≤◌, inl, inr, List, [], ◌∷◌, length, take, drop, subst, refl, ap, sym, ◌∙◌, arith, true, false, Some}
+use Rattle.std.proofs.Common.{◌≡◌, ℕ, zero, suc, ◌+◌, ◌-◌, ◌*◌, ◌≤◌, List, [], ◌∷◌, length, take, drop, subst, refl, ap, sym, ◌∙◌, arith, true, false, Some}
 use Rattle.std.specs.Prelude.{map}
 use Rattle.std.proofs.lemmas.List.{drop-drop, drop-take}
 use Rattle.byteorder.specs.Numbers.{big_from-take}
 use Rattle.mp4_boxes.specs.format.Bytes.{field, rows, numbers, width_of}
 use Rattle.mp4_boxes.specs.format.Box.{Box, LieEndToEnd}
 use Rattle.mp4_boxes.specs.format.Layout.{Leaf, IsReadable, version, last_version, needed, up_to, knows_flags}
-use Rattle.mp4_boxes.specs.declared.fault.Fault.{Fault}
-use Rattle.mp4_boxes.specs.declared.fault.Kind.TheVariants.{ShortBox, BadVersion}
 use Rattle.mp4_tables.specs.format.Tables.{first_number}
 use Rattle.mp4_tables.specs.words.Rows.{HaveRoom, run_of, chunk_row_of, runs_at, chunk_rows_at, numbers_at}
 use Rattle.mp4_tables.specs.words.Accepted.{bytes_at}
 use Rattle.mp4_tables.specs.declared.places.RowsAt.{RowsAt}
 use Rattle.mp4_tables.specs.declared.places.BytesAt.{BytesAt}
-use Rattle.mp4_tables.proofs.ChunkLists.{yes_le, no_le}
-use Rattle.mp4_tables.specs.words.Leaves.{boxes_of, HasTables, IsFirstOf, LiesIn, IsChild, FailsAs, VersionFails, ShapeFails, RowsRead}
+use Rattle.mp4_tables.proofs.ChunkLists.{yes_le}
+use Rattle.mp4_tables.specs.words.Leaves.{boxes_of, HasTables, IsFirstOf, LiesIn, IsChild, RowsRead}
 use Rattle.mp4_tables.proofs.LeafLists.{child_lies}
 
 -- ---- rows of a child, where they lie in the payload of its `stbl`
@@ -83,12 +81,6 @@ numbers_there last fields width stbl b r i h =
 
 -- ---- shapes
 
-pub shape_fails : (leaf : Leaf) (last fields width : ℕ) (b : Box) (f : Fault) → last_version leaf ≡ Some last → needed leaf b.payload ≡ fields + width * field b.payload (fields - 4) 4 → 4 ≤ fields
-    → ShapeFails last fields width b f → FailsAs leaf b f
-shape_fails leaf last fields width b f v n h (inl (inl short)) = record { kind = ShortBox; fails = (let s = short.0 in omega arith); named = short.1 }
-shape_fails leaf last fields width b f v n h (inl (inr bad)) = record { kind = BadVersion; fails = (bad.0, ap (λ l. up_to l (version b.payload)) v ∙ no_le (version b.payload) last bad.1); named = bad.2 }
-shape_fails leaf last fields width b f v n h (inr short) = record { kind = ShortBox; fails = (let s = short.0 in omega arith); named = short.1 }
-
 pub shape_readable : (leaf : Leaf) (last fields width : ℕ) (stbl b : Box) (r : RowsAt) → last_version leaf ≡ Some last → knows_flags leaf b.payload ≡ true → needed leaf b.payload ≡ fields + width * field b.payload (fields - 4) 4
     → RowsRead last fields width stbl b r → IsReadable leaf b.payload
 shape_readable leaf last fields width stbl b r v g n h = record {
@@ -96,10 +88,6 @@ shape_readable leaf last fields width stbl b r v g n h = record {
   flags = g;
   room = subst (λ m. fields + width * m ≤ length b.payload → needed leaf b.payload ≤ length b.payload) (sym h.count) (λ l. omega arith) h.room;
 }
-
-pub version_fails : (leaf : Leaf) (last : ℕ) (b : Box) (f : Fault) → last_version leaf ≡ Some last → 4 ≤ needed leaf b.payload → VersionFails last b f → FailsAs leaf b f
-version_fails leaf last b f v n (inl short) = record { kind = ShortBox; fails = (let s = short.0 in omega arith); named = short.1 }
-version_fails leaf last b f v n (inr bad) = record { kind = BadVersion; fails = (bad.0, ap (λ l. up_to l (version b.payload)) v ∙ no_le (version b.payload) last bad.1); named = bad.2 }
 
 -- bytes behind the fields of a child, where they lie in the payload of its `stbl`
 pub bytes_there : (at : ℕ) (bytes : List ℕ) (b : Box) (r : BytesAt) (fields : ℕ) → LiesIn at bytes b → at + r.place ≡ b.offset + b.header + fields → r.length + fields ≡ length b.payload → bytes_at bytes r ≡ drop fields b.payload

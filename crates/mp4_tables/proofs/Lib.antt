@@ -2,7 +2,6 @@ pub mod Counts
 pub mod RowLists
 pub mod Passed
 pub mod Assembly
-pub mod Excludes
 pub mod GroupWalks
 pub mod GroupReads
 pub mod GroupsKept

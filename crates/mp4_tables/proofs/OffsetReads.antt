@@ -1,42 +1,31 @@
 -- What was read of `ctts`, and its faults.
-use Rattle.std.proofs.Common.{◌≡◌, ℕ, ◌+◌, ◌*◌, ◌^◌, ◌<◌, ◌≤◌, List, [], ◌∷◌, length, drop, map, refl, ap, sym, ◌∙◌, arith, Bool, true, false, Some, None}
+use Rattle.std.proofs.Common.{◌≡◌, ℕ, ◌+◌, ◌*◌, ◌^◌, ◌<◌, ◌≤◌, List, [], ◌∷◌, drop, map, refl, ap, sym, ◌∙◌, arith, Bool, true, false, Some, None}
 use Rattle.std.specs.Prelude.{codes, unwrap_or, option_map, nat_eq, nat_le, nat_lt, ◌==◌, ◌||◌, ◌&&◌, not, slice_index, ℤ}
 use Rattle.std.specs.List.{AllByRecursion}
 use Rattle.std.proofs.lemmas.Bool.Decides.{nat_tests}
 use Rattle.mp4_boxes.specs.format.Bytes.{field, rows}
 use Rattle.mp4_boxes.specs.format.Box.{Box}
-use Rattle.mp4_boxes.specs.format.Children.{count_among, sample_sizes}
+use Rattle.mp4_boxes.specs.format.Children.{count_among}
 use Rattle.mp4_boxes.specs.format.Layout.{ctts, IsSound, IsReadable, version, leaf_rows, needed, too_large, has_large_offset}
-use Rattle.mp4_boxes.specs.format.BoxFaults.{fault_of}
-use Rattle.mp4_boxes.specs.declared.fault.Fault.{Fault}
-use Rattle.mp4_boxes.specs.declared.fault.Kind.TheVariants.{OffsetTooLarge}
 use Rattle.mp4_boxes.proofs.Refusing.{holds_few}
 use Rattle.mp4_tables.specs.format.Repeated.{total}
 use Rattle.mp4_tables.specs.format.Tables.{composition_offset, offsets_of}
 use Rattle.mp4_tables.specs.words.Rows.{run_of, runs_at}
-use Rattle.mp4_tables.specs.format.TableRules.{offset_counts, kind_of}
 use Rattle.mp4_tables.specs.words.TablesComing.{all_below}
 use Rattle.mp4_tables.specs.words.Accepted.{composition_offsets_at, AreSmall, offset_version}
-use Rattle.mp4_tables.specs.words.Leaves.{boxes_of, HasTables, AllOf, IsFirstOf, IsFault, ShapeFails, RowsRead, tables_in, SizesKnown, OffsetsRead}
-use Rattle.mp4_tables.specs.declared.leaves.Limits.{Limits}
+use Rattle.mp4_tables.specs.words.Leaves.{boxes_of, HasTables, IsFirstOf, RowsRead, tables_in, OffsetsRead}
 use Rattle.mp4_tables.specs.declared.places.RowsAt.{RowsAt}
 use Rattle.mp4_tables.proofs.ChunkLists.{lt_yes, both}
 use Rattle.mp4_tables.proofs.LeafLists.{payload_first, payload_none, all_first, all_none}
-use Rattle.mp4_tables.proofs.LeafRows.{lies_in, first_is_child, runs_there, shape_fails, shape_readable}
-use Rattle.mp4_tables.proofs.TableReads.{readable_more, named_by, rule_fault, first_fault, rows_have}
+use Rattle.mp4_tables.proofs.LeafRows.{lies_in, first_is_child, runs_there, shape_readable}
+use Rattle.mp4_tables.proofs.TableReads.{rows_have}
 
 -- ---- composition offsets
 ctts_needed : (payload : List ℕ) → needed ctts payload ≡ 8 + 8 * field payload 4 4
 ctts_needed payload = omega arith
 
-pub offsets_fail : (l : Limits) (stbl b : Box) (f : Fault) → IsFirstOf (codes "ctts") (boxes_of stbl) b → ShapeFails 1 8 8 b f → IsFault l stbl f
-offsets_fail l stbl b f i s = first_fault l stbl b (codes "ctts") ctts f i refl refl (shape_fails ctts 1 8 8 b f refl (ctts_needed b.payload) (omega arith) s)
-
 offsets_readable : (stbl b : Box) (r : RowsAt) → RowsRead 1 8 8 stbl b r → IsReadable ctts b.payload
 offsets_readable stbl b r read = shape_readable ctts 1 8 8 stbl b r refl refl (ctts_needed b.payload) read
-
-all_offsets_readable : (stbl b : Box) (r : RowsAt) → HasTables stbl → IsFirstOf (codes "ctts") (boxes_of stbl) b → RowsRead 1 8 8 stbl b r → AllOf (codes "ctts") (IsReadable ctts) (boxes_of stbl)
-all_offsets_readable stbl b r h i read = all_first (codes "ctts") (IsReadable ctts) (boxes_of stbl) b i (holds_few h (codes "ctts") refl) (offsets_readable stbl b r read)
 
 offset_runs : (stbl b : Box) (r : RowsAt) → HasTables stbl → IsFirstOf (codes "ctts") (boxes_of stbl) b → RowsRead 1 8 8 stbl b r → runs_at stbl.payload r ≡ map run_of (leaf_rows ctts b.payload)
 offset_runs stbl b r h i read =
@@ -74,16 +63,6 @@ total_of stbl b r n m v h i read k t =
     ap (λ o. unwrap_or (option_map (λ (rows : List (ℕ × ℤ)). total rows == m) o) true) (offsets_are stbl b r (nat_eq (version b.payload) 1) h i read refl)
     ∙ (let d = total_read (offset_version (nat_eq (version b.payload) 1)) (runs_at stbl.payload r) in λ j. d j == k j) ∙ t
 
-pub offsets_mismatch : (l : Limits) (stbl b : Box) (r : RowsAt) (n : ℕ) (f : Fault) → HasTables stbl → IsFirstOf (codes "ctts") (boxes_of stbl) b → RowsRead 1 8 8 stbl b r → SizesKnown stbl n → (total (runs_at stbl.payload r) == n) ≡ false
-    → f ≡ fault_of (kind_of offset_counts) b → IsFault l stbl f
-offsets_mismatch l stbl b r n f h i read k t s =
-    rule_fault l stbl b (codes "ctts") offset_counts f h i
-    (readable_more (codes "ctts") sample_sizes (boxes_of stbl) (all_offsets_readable stbl b r h i read) k.readable) tt (λ e. absurd (no_chunks e))
-    (total_of stbl b r n (length (tables_in stbl).sizes) false h i read k.count t) (named_by (codes "ctts") (boxes_of stbl) b i []) s
-  where
-    no_chunks : false ≡ true → ⊥
-    no_chunks e = cc
-
 -- an offset is too large where not all are below 2^31
 large : (rs : List (List ℕ)) → too_large (map (λ (r : List ℕ). Some (slice_index r 1)) rs) ≡ not (all_below (2 ^ 31) (map run_of rs))
 large [] = refl
@@ -107,11 +86,6 @@ offset_is_large stbl b r v h i read z t =
     twice : (v : Bool) → not (not v) ≡ v
     twice true = refl
     twice false = refl
-
-pub offsets_large : (l : Limits) (stbl b : Box) (r : RowsAt) (f : Fault) → HasTables stbl → IsFirstOf (codes "ctts") (boxes_of stbl) b → RowsRead 1 8 8 stbl b r → version b.payload ≡ 0 → all_below (2 ^ 31) (runs_at stbl.payload r) ≡ false
-    → f ≡ fault_of OffsetTooLarge b → IsFault l stbl f
-offsets_large l stbl b r f h i read z t s =
-    first_fault l stbl b (codes "ctts") ctts f i refl refl (record { kind = OffsetTooLarge; fails = (offsets_readable stbl b r read, offset_is_large stbl b r true h i read z t); named = s })
 
 small_rows : (runs : List (ℕ × ℕ)) → all_below (2 ^ 31) runs ≡ true → AllByRecursion (λ (run : ℕ × ℕ). run.1 < 2 ^ 31) runs
 small_rows [] e = tt

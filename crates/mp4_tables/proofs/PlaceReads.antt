@@ -1,25 +1,19 @@
 -- Where the samples lie, and the fault where one does not lie in the file.
-use Rattle.std.proofs.Common.{◌≡◌, ℕ, inl, inr, [], ◌∷◌, map, refl, sym, ◌∙◌, Bool, true, false}
-use Rattle.std.specs.Prelude.{bytes_eq, codes, nat_lt}
+use Rattle.std.proofs.Common.{◌≡◌, ℕ, map, sym, ◌∙◌, Bool, true}
+use Rattle.std.specs.Prelude.{nat_lt}
 use Rattle.mp4_boxes.specs.format.Box.{Box}
-use Rattle.mp4_boxes.specs.format.Children.{is_among, sample_sizes}
-use Rattle.mp4_boxes.specs.format.Layout.{stsc, stco, co64}
-use Rattle.mp4_boxes.specs.format.BoxFaults.{fault_of}
-use Rattle.mp4_boxes.specs.declared.fault.Fault.{Fault}
 use Rattle.mp4_tables.specs.format.Tables.{ChunkRow}
 use Rattle.mp4_tables.specs.format.PlainSamples.{in_chunks, in_chunks_total}
 use Rattle.mp4_tables.specs.words.Rows.{chunk_rows_at, offsets_at, sizes_at}
-use Rattle.mp4_tables.specs.format.TableRules.{places, test, kind_of, reads, AreReadable, is_chunk_order}
+use Rattle.mp4_tables.specs.format.TableRules.{places, test, is_chunk_order}
 use Rattle.mp4_tables.specs.words.TablesComing.{all_lie_within}
-use Rattle.mp4_tables.specs.words.Leaves.{boxes_of, HasTables, IsFault, surroundings_of, tables_in, SizesRead, ChunksRead, ChunkRowsRead, IsOffsetsLeaf}
+use Rattle.mp4_tables.specs.words.Leaves.{surroundings_of, tables_in, SizesRead, ChunksRead, ChunkRowsRead}
 use Rattle.mp4_tables.specs.declared.leaves.Limits.{Limits}
 use Rattle.mp4_tables.specs.declared.places.RowsAt.{RowsAt}
 use Rattle.mp4_tables.specs.declared.places.SizesAt.{SizesAt}
 use Rattle.mp4_tables.specs.declared.places.ChunksAt.{ChunksAt}
 use Rattle.mp4_tables.proofs.Counts.{eqb_is}
-use Rattle.mp4_tables.proofs.TableReads.{readable_more, rule_fault, all_readable}
 use Rattle.mp4_tables.proofs.ChunkReads.{offsets_counted}
-use Rattle.mp4_tables.proofs.SizeReads.{sizes_known}
 
 -- the rows are in order, and hold all samples
 pub places_ordered : (l : Limits) (stbl : Box) (n : ℕ) (at : ChunksAt) (r : RowsAt) → ChunksRead stbl at → ChunkRowsRead l stbl n r → is_chunk_order (map (λ (row : ChunkRow). row.first) (chunk_rows_at stbl.payload r)) (nat_lt 0 at.rows.count) ≡ true
@@ -31,20 +25,3 @@ places_counted l stbl n at r k h = (let c = k.same in let d = h.same in λ j. in
 pub places_as : (l : Limits) (stbl : Box) (n : ℕ) (sizes : SizesAt) (at : ChunksAt) (r : RowsAt) (v : Bool) → SizesRead l stbl sizes → ChunksRead stbl at → ChunkRowsRead l stbl n r
     → all_lie_within l.file_len (in_chunks (chunk_rows_at stbl.payload r) 1 (offsets_at stbl.payload at) (sizes_at stbl.payload sizes)) ≡ v → test places (surroundings_of l) (tables_in stbl) ≡ v
 places_as l stbl n sizes at r v s k h t = (let a = sym s.same in let c = sym k.same in let d = sym h.same in λ j. all_lie_within l.file_len (in_chunks (d j) 1 (c j) (a j))) ∙ t
-
-places_readable : (l : Limits) (stbl : Box) (n : ℕ) (sizes : SizesAt) (at : ChunksAt) (r : RowsAt) → SizesRead l stbl sizes → ChunksRead stbl at → ChunkRowsRead l stbl n r → AreReadable (reads places) (boxes_of stbl)
-places_readable l stbl n sizes at r s k h =
-    readable_more (codes "stsc") (codes "stco" ∷ codes "co64" ∷ sample_sizes) (boxes_of stbl) (all_readable (codes "stsc") stsc (boxes_of stbl) h.sound)
-    (readable_more (codes "stco") (codes "co64" ∷ sample_sizes) (boxes_of stbl) (all_readable (codes "stco") stco (boxes_of stbl) k.narrow)
-    (readable_more (codes "co64") sample_sizes (boxes_of stbl) (all_readable (codes "co64") co64 (boxes_of stbl) k.wide) (sizes_known l stbl sizes s).readable))
-
-pub places_outside : (l : Limits) (stbl b : Box) (n : ℕ) (sizes : SizesAt) (at : ChunksAt) (r : RowsAt) (f : Fault) → HasTables stbl → IsOffsetsLeaf stbl b → SizesRead l stbl sizes → ChunksRead stbl at → ChunkRowsRead l stbl n r
-    → all_lie_within l.file_len (in_chunks (chunk_rows_at stbl.payload r) 1 (offsets_at stbl.payload at) (sizes_at stbl.payload sizes)) ≡ false → f ≡ fault_of (kind_of places) b → IsFault l stbl f
-places_outside l stbl b n sizes at r f h (inl i) s k c t e =
-    rule_fault l stbl b (codes "stco") places f h i (places_readable l stbl n sizes at r s k c) tt (λ _. c.ordered) (places_as l stbl n sizes at r false s k c t) (rw i.same refl) e
-places_outside l stbl b n sizes at r f h (inr i) s k c t e =
-    rule_fault l stbl b (codes "co64") places f h i (places_readable l stbl n sizes at r s k c) tt (λ _. c.ordered) (places_as l stbl n sizes at r false s k c t) (either (bytes_eq (codes "stco") b.kind) refl) e
-  where
-    either : (v : Bool) → bytes_eq (codes "stco") b.kind ≡ v → is_among (codes "stco" ∷ codes "co64" ∷ []) b.kind ≡ true
-    either true g = rw g refl
-    either false g = rw (g, i.same) refl

@@ -1,21 +1,18 @@
 -- What was read of `stsz` or `stz2`, and the faults of these.
-use Rattle.std.proofs.Common.{◌≡◌, ◌≢◌, ℕ, zero, suc, ◌+◌, ◌-◌, ◌*◌, ◌/◌, ◌<◌, ◌≤◌, inr, List, [], ◌∷◌, length, take, drop, map, replicate, subst, refl, ap, sym, ◌∙◌, arith, Bool, true, false, cond}
-use Rattle.std.specs.Prelude.{bytes_eq, codes, ◌==◌, ◌%◌, not, slice_index}
+use Rattle.std.proofs.Common.{◌≡◌, ◌≢◌, ℕ, zero, suc, ◌+◌, ◌-◌, ◌*◌, ◌/◌, ◌<◌, ◌≤◌, List, [], ◌∷◌, length, take, drop, map, replicate, subst, refl, ap, sym, ◌∙◌, arith, Bool, true, false, cond}
+use Rattle.std.specs.Prelude.{codes, ◌==◌, ◌%◌, not, slice_index}
 use Rattle.std.specs.Int.{div_ceil}
 use Rattle.std.proofs.lemmas.List.{drop-drop, drop-take}
 use Rattle.std.proofs.lemmas.Bool.Decides.{nat_tests}
 use Rattle.mp4_boxes.specs.format.Bytes.{field, rows}
 use Rattle.mp4_boxes.specs.format.Box.{Box}
-use Rattle.mp4_boxes.specs.format.Children.{count_among, is_among, payload_of, sample_sizes, one}
+use Rattle.mp4_boxes.specs.format.Children.{count_among, payload_of, sample_sizes, one}
 use Rattle.mp4_boxes.specs.format.Layout.{stsz, stz2, IsSound, IsReadable, version, leaf_rows, needed, rows_size, size_bits, is_size_bits}
-use Rattle.mp4_boxes.specs.format.BoxFaults.{fault_of}
-use Rattle.mp4_boxes.specs.declared.fault.Fault.{Fault}
-use Rattle.mp4_boxes.specs.declared.fault.Kind.TheVariants.{ShortBox, BadValue, TooManySamples}
 use Rattle.mp4_boxes.proofs.Refusing.{line_has}
 use Rattle.mp4_tables.specs.format.Tables.{first_number, half_bytes, sample_count, sizes_of, compact_sizes_of, sample_sizes_of}
 use Rattle.mp4_tables.specs.words.Rows.{HaveSizes, numbers_at, sizes_in}
 use Rattle.mp4_tables.specs.format.TableRules.{AreReadable}
-use Rattle.mp4_tables.specs.words.Leaves.{boxes_of, HasTables, AllOf, IsFirstOf, LiesIn, IsFault, VersionFails, SizesKnown, SizesRead, IsFormOf}
+use Rattle.mp4_tables.specs.words.Leaves.{boxes_of, HasTables, AllOf, IsFirstOf, LiesIn, SizesKnown, SizesRead, IsFormOf}
 use Rattle.mp4_tables.specs.declared.leaves.Limits.{Limits}
 use Rattle.mp4_tables.specs.declared.places.RowsAt.{RowsAt}
 use Rattle.mp4_tables.specs.declared.places.SizesAt.{SizesAt}
@@ -24,8 +21,8 @@ use Rattle.mp4_tables.specs.declared.places.SizeForm.TheVariants as forms
 use Rattle.mp4_tables.proofs.ChunkLists.{yes_le}
 use Rattle.mp4_tables.proofs.RowLists.{sizes_length}
 use Rattle.mp4_tables.proofs.LeafLists.{payload_first, payload_none, all_first, all_none, count_each}
-use Rattle.mp4_tables.proofs.LeafRows.{lies_in, first_is_child, rows_there, version_fails}
-use Rattle.mp4_tables.proofs.TableReads.{payload_is, readable_more, first_fault, all_readable}
+use Rattle.mp4_tables.proofs.LeafRows.{lies_in, first_is_child, rows_there}
+use Rattle.mp4_tables.proofs.TableReads.{payload_is, readable_more, all_readable}
 use Rattle.mp4_tables.proofs.ChunkReads.{first_counts, no_readable}
 
 pub one_of_both : (stbl : Box) → HasTables stbl → count_among (codes "stsz" ∷ []) (boxes_of stbl) + count_among (codes "stz2" ∷ []) (boxes_of stbl) ≡ 1
@@ -51,18 +48,6 @@ pub words_needed : (payload : List ℕ) (v : Bool) → (field payload 4 4 == 0) 
 words_needed payload v e =
     let c = ap (λ b. cond b (field payload 8 4) 0) e in omega arith
 
-pub words_version : (l : Limits) (stbl b : Box) (f : Fault) → IsFirstOf (codes "stsz") (boxes_of stbl) b → VersionFails 0 b f → IsFault l stbl f
-words_version l stbl b f i s = first_fault l stbl b (codes "stsz") stsz f i refl refl (version_fails stsz 0 b f refl (omega arith) s)
-
-pub words_short : (l : Limits) (stbl b : Box) (f : Fault) → IsFirstOf (codes "stsz") (boxes_of stbl) b → length b.payload < 12 → f ≡ fault_of ShortBox b → IsFault l stbl f
-words_short l stbl b f i s n = first_fault l stbl b (codes "stsz") stsz f i refl refl (record { kind = ShortBox; fails = omega arith; named = n })
-
-pub words_rows_short : (l : Limits) (stbl b : Box) (f : Fault) → IsFirstOf (codes "stsz") (boxes_of stbl) b → field b.payload 4 4 ≡ 0 → length b.payload < 12 + 4 * field b.payload 8 4 → f ≡ fault_of ShortBox b → IsFault l stbl f
-words_rows_short l stbl b f i z s n =
-    let y : (field b.payload 4 4 == 0) ≡ true = grind (arith, nat_tests) in
-    let m = words_needed b.payload true y in
-    first_fault l stbl b (codes "stsz") stsz f i refl refl (record { kind = ShortBox; fails = omega arith; named = n })
-
 -- there is room for the sizes of a `stsz`, where it has them
 abbrev pub WordsHave : Box → Bool → Type 0
 WordsHave b true = 12 + 4 * field b.payload 8 4 ≤ length b.payload
@@ -82,18 +67,6 @@ no_compact stbl b h i =
     let n = one_of_both stbl h in
     let m = first_counts (codes "stsz") (boxes_of stbl) b i in
     all_none (codes "stz2") (IsSound stz2) (boxes_of stbl) (omega arith)
-
-pub words_many : (l : Limits) (stbl b : Box) (v : Bool) (f : Fault) → HasTables stbl → IsFirstOf (codes "stsz") (boxes_of stbl) b → (field b.payload 4 4 == 0) ≡ v → version b.payload ≤ 0 → WordsHave b v → l.room < field b.payload 8 4 → f ≡ fault_of TooManySamples b → IsFault l stbl f
-words_many l stbl b v f h i e k w many s = inr (inr (record {
-  before = i.before;
-  b = b;
-  after = i.after;
-  stands = i.is;
-  sizes = rw i.same refl;
-  readable = sizes_readable stbl (all_readable (codes "stsz") stsz (boxes_of stbl) (words_all stbl b v h i e k w)) (all_readable (codes "stz2") stz2 (boxes_of stbl) (no_compact stbl b h i));
-  many = many;
-  named = s;
-}))
 
 -- the form of the sizes of a `stsz`
 abbrev pub words_form : Bool → ℕ → SizeForm
@@ -129,37 +102,8 @@ words_read l stbl b v r h i e k w c p few =
 pub compact_needed : (payload : List ℕ) → needed stz2 payload ≡ 12 + rows_size stz2 payload
 compact_needed payload = omega arith
 
-pub compact_version : (l : Limits) (stbl b : Box) (f : Fault) → IsFirstOf (codes "stz2") (boxes_of stbl) b → VersionFails 0 b f → IsFault l stbl f
-compact_version l stbl b f i s = first_fault l stbl b (codes "stz2") stz2 f i refl refl (version_fails stz2 0 b f refl (let n = compact_needed b.payload in omega arith) s)
-
-pub compact_short : (l : Limits) (stbl b : Box) (f : Fault) → IsFirstOf (codes "stz2") (boxes_of stbl) b → length b.payload < 12 + rows_size stz2 b.payload → f ≡ fault_of ShortBox b → IsFault l stbl f
-compact_short l stbl b f i s n = first_fault l stbl b (codes "stz2") stz2 f i refl refl (record { kind = ShortBox; fails = (let m = compact_needed b.payload in omega arith); named = n })
-
 compact_readable : (b : Box) → version b.payload ≤ 0 → 12 + rows_size stz2 b.payload ≤ length b.payload → IsReadable stz2 b.payload
 compact_readable b v h = record { version = yes_le (version b.payload) 0 v; flags = refl; room = (let n = compact_needed b.payload in omega arith) }
-
-compact_all : (stbl b : Box) → HasTables stbl → IsFirstOf (codes "stz2") (boxes_of stbl) b → version b.payload ≤ 0 → 12 + rows_size stz2 b.payload ≤ length b.payload → AllOf (codes "stz2") (IsReadable stz2) (boxes_of stbl)
-compact_all stbl b h i v w = let n = one_of_both stbl h in all_first (codes "stz2") (IsReadable stz2) (boxes_of stbl) b i (omega arith) (compact_readable b v w)
-
-pub compact_many : (l : Limits) (stbl b : Box) (f : Fault) → HasTables stbl → count_among (codes "stsz" ∷ []) (boxes_of stbl) ≡ 0 → IsFirstOf (codes "stz2") (boxes_of stbl) b → version b.payload ≤ 0 → 12 + rows_size stz2 b.payload ≤ length b.payload → l.room < field b.payload 8 4
-    → f ≡ fault_of TooManySamples b → IsFault l stbl f
-compact_many l stbl b f h none i v w many s = inr (inr (record {
-  before = i.before;
-  b = b;
-  after = i.after;
-  stands = i.is;
-  sizes = among (bytes_eq (codes "stsz") b.kind) refl;
-  readable = sizes_readable stbl (all_none (codes "stsz") (IsReadable stsz) (boxes_of stbl) none) (compact_all stbl b h i v w);
-  many = many;
-  named = s;
-}))
-  where
-    among : (c : Bool) → bytes_eq (codes "stsz") b.kind ≡ c → is_among sample_sizes b.kind ≡ true
-    among true e = rw e refl
-    among false e = rw (e, i.same) refl
-
-pub compact_value : (l : Limits) (stbl b : Box) (f : Fault) → IsFirstOf (codes "stz2") (boxes_of stbl) b → version b.payload ≤ 0 → 12 + rows_size stz2 b.payload ≤ length b.payload → is_size_bits (size_bits b.payload) ≡ false → f ≡ fault_of BadValue b → IsFault l stbl f
-compact_value l stbl b f i v w e n = first_fault l stbl b (codes "stz2") stz2 f i refl refl (record { kind = BadValue; fails = (compact_readable b v w, ap not e); named = n })
 
 half_cut : (n m : ℕ) (bytes : List ℕ) → n ≤ 2 * m → half_bytes n (take m bytes) ≡ half_bytes n bytes
 half_cut zero m bytes h = refl

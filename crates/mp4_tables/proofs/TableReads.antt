@@ -1,28 +1,25 @@
 -- What was read of a leaf is what the definition reads, and a rule that fails is a fault.
-use Rattle.std.proofs.Common.{◌≡◌, ℕ, ◌+◌, ◌*◌, ◌<◌, ◌≤◌, inl, inr, List, [], ◌∷◌, length, drop, map, subst, refl, ap, sym, ◌∙◌, arith, Bool, true, false, Option, Some, None, length-drop}
-use Rattle.std.specs.Prelude.{bytes_eq, codes, IsTrue, unwrap_or, option_map, nat_le, ◌==◌}
+use Rattle.std.proofs.Common.{◌≡◌, ℕ, ◌+◌, ◌*◌, ◌≤◌, List, [], ◌∷◌, length, drop, map, subst, refl, ap, sym, ◌∙◌, arith, Bool, true, false, Option, Some, None, length-drop}
+use Rattle.std.specs.Prelude.{bytes_eq, codes, unwrap_or, option_map, nat_le, ◌==◌}
 use Rattle.mp4_boxes.specs.format.Bytes.{field, rows}
 use Rattle.mp4_boxes.specs.format.Box.{Box}
-use Rattle.mp4_boxes.specs.format.Children.{count_among, is_among, payload_of, of_kind, sample_sizes}
+use Rattle.mp4_boxes.specs.format.Children.{count_among, is_among, payload_of}
 use Rattle.mp4_boxes.specs.format.Layout.{Leaf, stts, stss, sdtp, IsSound, IsReadable, version, leaf_rows, needed}
 use Rattle.mp4_boxes.specs.format.Places.{leaf_of, ruled}
-use Rattle.mp4_boxes.specs.format.BoxFaults.{fault_of}
 use Rattle.mp4_boxes.specs.declared.rule.Rule.TheVariants.{SampleTable}
-use Rattle.mp4_boxes.specs.declared.fault.Fault.{Fault}
 use Rattle.mp4_boxes.proofs.Refusing.{holds_only, holds_few}
 use Rattle.mp4_boxes.proofs.Sound.{same_kind}
 use Rattle.mp4_tables.specs.format.Repeated.{total}
 use Rattle.mp4_tables.specs.format.Tables.{first_number, durations_of}
 use Rattle.mp4_tables.specs.words.Rows.{HaveRoom, run_of, runs_at, numbers_at}
-use Rattle.mp4_tables.specs.format.TableRules.{TableRule, duration_counts, chunk_order, sync_order, dependency_room, test, kind_of, reads, reads_groups, goes_by_chunks, IsNamed, AreReadable, IsReadableAs, GroupsReadable, is_sync_order}
-use Rattle.mp4_tables.specs.words.Leaves.{boxes_of, HasTables, AllOf, IsFirstOf, FailsAs, IsFault, surroundings_of, ShapeFails, RowsRead, VersionFails, tables_in, SizesKnown, DurationsRead, SyncRead, DependenciesRead}
-use Rattle.mp4_tables.specs.declared.leaves.Limits.{Limits}
+use Rattle.mp4_tables.specs.format.TableRules.{AreReadable, IsReadableAs, is_sync_order}
+use Rattle.mp4_tables.specs.words.Leaves.{boxes_of, HasTables, AllOf, IsFirstOf, RowsRead, tables_in, DurationsRead, SyncRead, DependenciesRead}
 use Rattle.mp4_tables.specs.words.Accepted.{bytes_at}
 use Rattle.mp4_tables.specs.declared.places.RowsAt.{RowsAt}
 use Rattle.mp4_tables.specs.declared.places.BytesAt.{BytesAt}
-use Rattle.mp4_tables.proofs.LeafLists.{payload_first, payload_none, all_first, all_none, leaf_fault}
-use Rattle.mp4_tables.proofs.LeafRows.{lies_in, first_is_child, room_there, runs_there, numbers_there, shape_fails, shape_readable, version_fails, bytes_there}
-use Rattle.mp4_tables.proofs.ChunkLists.{yes_le, no_le}
+use Rattle.mp4_tables.proofs.LeafLists.{payload_first, payload_none, all_first, all_none}
+use Rattle.mp4_tables.proofs.LeafRows.{lies_in, first_is_child, room_there, runs_there, numbers_there, shape_readable, bytes_there}
+use Rattle.mp4_tables.proofs.ChunkLists.{yes_le}
 
 -- the payload of the first of a type
 pub payload_is : (kind : List ℕ) (boxes : List Box) (b : Box) → IsFirstOf kind boxes b → payload_of kind boxes ≡ b.payload
@@ -38,52 +35,9 @@ readable_more kind kinds (b ∷ boxes) h k = (either (bytes_eq kind b.kind) refl
     either true e p q m = subst (λ k. IsReadableAs (leaf_of (ruled SampleTable) k) b.payload) (sym (same_kind kind b.kind e)) (p e)
     either false e p q m = q (rw e at m)
 
--- types of which one can be read, and others
-pub readable_join : (kind : List ℕ) (kinds : List (List ℕ)) (boxes : List Box) → AreReadable (kind ∷ []) boxes → AreReadable kinds boxes → AreReadable (kind ∷ kinds) boxes
-readable_join kind kinds [] h k = tt
-readable_join kind kinds (b ∷ boxes) h k = (either (bytes_eq kind b.kind) refl h.0 k.0, readable_join kind kinds boxes h.1 k.1)
-  where
-    either : (v : Bool) → bytes_eq kind b.kind ≡ v → (is_among (kind ∷ []) b.kind ≡ true → IsReadableAs (leaf_of (ruled SampleTable) b.kind) b.payload) → (is_among kinds b.kind ≡ true → IsReadableAs (leaf_of (ruled SampleTable) b.kind) b.payload)
-        → is_among (kind ∷ kinds) b.kind ≡ true → IsReadableAs (leaf_of (ruled SampleTable) b.kind) b.payload
-    either true e p q m = p (rw e refl)
-    either false e p q m = q (rw e at m)
-
--- a type names what it is among
-pub named_by : (kind : List ℕ) (boxes : List Box) (b : Box) → IsFirstOf kind boxes b → (kinds : List (List ℕ)) → is_among (kind ∷ kinds) b.kind ≡ true
-named_by kind boxes b i kinds = rw i.same refl
-
--- a rule that fails is a fault of the first of a type
-pub rule_fault : (l : Limits) (stbl b : Box) (kind : List ℕ) (rule : TableRule) (f : Fault) → HasTables stbl → IsFirstOf kind (boxes_of stbl) b
-    → AreReadable (reads rule) (boxes_of stbl)
-    → GroupsReadable (reads_groups rule (of_kind (codes "sbgp") (boxes_of stbl)))
-    → (goes_by_chunks rule ≡ true → IsTrue (test chunk_order (surroundings_of l) (tables_in stbl)))
-    → test rule (surroundings_of l) (tables_in stbl) ≡ false → IsNamed rule (boxes_of stbl) b → f ≡ fault_of (kind_of rule) b → IsFault l stbl f
-rule_fault l stbl b kind rule f h i r g o t n s = inr (inl (record {
-  children = boxes_of stbl;
-  holds = h;
-  rule = rule;
-  readable = r;
-  groups_readable = g;
-  ordered = o;
-  fails = t;
-  before = i.before;
-  b = b;
-  after = i.after;
-  stands = i.is;
-  is_named = n;
-  same = s;
-}))
-
--- a fault of the first of a type
-pub first_fault : (l : Limits) (stbl b : Box) (kind : List ℕ) (leaf : Leaf) (f : Fault) → IsFirstOf kind (boxes_of stbl) b → bytes_eq (codes "stsd") kind ≡ false → leaf_of (ruled SampleTable) kind ≡ Some leaf → FailsAs leaf b f → IsFault l stbl f
-first_fault l stbl b kind leaf f i t e h = inl (leaf_fault kind (boxes_of stbl) b leaf f i t e h)
-
 -- ---- durations
 stts_needed : (payload : List ℕ) → needed stts payload ≡ 8 + 8 * field payload 4 4
 stts_needed payload = omega arith
-
-pub durations_fail : (l : Limits) (stbl b : Box) (f : Fault) → IsFirstOf (codes "stts") (boxes_of stbl) b → ShapeFails 0 8 8 b f → IsFault l stbl f
-durations_fail l stbl b f i s = first_fault l stbl b (codes "stts") stts f i refl refl (shape_fails stts 0 8 8 b f refl (stts_needed b.payload) (omega arith) s)
 
 durations_sound : (stbl b : Box) (r : RowsAt) → HasTables stbl → IsFirstOf (codes "stts") (boxes_of stbl) b → RowsRead 0 8 8 stbl b r → AllOf (codes "stts") (IsSound stts) (boxes_of stbl)
 durations_sound stbl b r h i read =
@@ -108,16 +62,6 @@ pub all_readable : (kind : List ℕ) (leaf : Leaf) (boxes : List Box) → AllOf 
 all_readable kind leaf [] h = tt
 all_readable kind leaf (b ∷ boxes) h = ((λ e. (h.0 e).readable), all_readable kind leaf boxes h.1)
 
-pub durations_mismatch : (l : Limits) (stbl b : Box) (r : RowsAt) (n : ℕ) (f : Fault) → HasTables stbl → IsFirstOf (codes "stts") (boxes_of stbl) b → RowsRead 0 8 8 stbl b r → SizesKnown stbl n → (total (runs_at stbl.payload r) == n) ≡ false
-    → f ≡ fault_of (kind_of duration_counts) b → IsFault l stbl f
-durations_mismatch l stbl b r n f h i read k t s =
-    rule_fault l stbl b (codes "stts") duration_counts f h i
-    (readable_more (codes "stts") sample_sizes (boxes_of stbl) (all_readable (codes "stts") stts (boxes_of stbl) (durations_sound stbl b r h i read)) k.readable) tt (λ e. absurd (no_chunks e))
-    ((let c = k.count in let d = sym (durations_same stbl b r h i read) in λ j. total (d j) == c j) ∙ t) (named_by (codes "stts") (boxes_of stbl) b i []) s
-  where
-    no_chunks : false ≡ true → ⊥
-    no_chunks e = cc
-
 -- the bytes of rows that were read of the first of a type
 pub rows_have : (last width : ℕ) (kind : List ℕ) (stbl b : Box) (r : RowsAt) → HasTables stbl → IsFirstOf kind (boxes_of stbl) b → RowsRead last 8 width stbl b r → HaveRoom width stbl.payload r
 rows_have last width kind stbl b r h i read = room_there last 8 width stbl b r (lies_in stbl b h (first_is_child kind stbl b i)) read
@@ -125,9 +69,6 @@ rows_have last width kind stbl b r h i read = room_there last 8 width stbl b r (
 -- ---- sync samples
 stss_needed : (payload : List ℕ) → needed stss payload ≡ 8 + 4 * field payload 4 4
 stss_needed payload = omega arith
-
-pub sync_fail : (l : Limits) (stbl b : Box) (f : Fault) → IsFirstOf (codes "stss") (boxes_of stbl) b → ShapeFails 0 8 4 b f → IsFault l stbl f
-sync_fail l stbl b f i s = first_fault l stbl b (codes "stss") stss f i refl refl (shape_fails stss 0 8 4 b f refl (stss_needed b.payload) (omega arith) s)
 
 sync_sound : (stbl b : Box) (r : RowsAt) → HasTables stbl → IsFirstOf (codes "stss") (boxes_of stbl) b → RowsRead 0 8 4 stbl b r → AllOf (codes "stss") (IsSound stss) (boxes_of stbl)
 sync_sound stbl b r h i read =
@@ -152,19 +93,7 @@ sync_none stbl n e =
     let none : (tables_in stbl).sync ≡ None = ap (option_map (λ (payload : List ℕ). map first_number (leaf_rows stss payload))) (payload_none (codes "stss") (boxes_of stbl) e) in
     record { have = tt; same = sym none; sound = all_none (codes "stss") (IsSound stss) (boxes_of stbl) e; ordered = ap (λ o. unwrap_or (option_map (is_sync_order n) o) true) none }
 
-pub sync_disorder : (l : Limits) (stbl b : Box) (r : RowsAt) (n : ℕ) (f : Fault) → HasTables stbl → IsFirstOf (codes "stss") (boxes_of stbl) b → RowsRead 0 8 4 stbl b r → SizesKnown stbl n → is_sync_order n (numbers_at 4 stbl.payload r) ≡ false
-    → f ≡ fault_of (kind_of sync_order) b → IsFault l stbl f
-sync_disorder l stbl b r n f h i read k t s =
-    rule_fault l stbl b (codes "stss") sync_order f h i
-    (readable_more (codes "stss") sample_sizes (boxes_of stbl) (all_readable (codes "stss") stss (boxes_of stbl) (sync_sound stbl b r h i read)) k.readable) tt (λ e. absurd (no_chunks e))
-    ((let c = k.count in let d = sync_is stbl b r h i read in λ j. unwrap_or (option_map (is_sync_order (c j)) (d j)) true) ∙ t) (named_by (codes "stss") (boxes_of stbl) b i []) s
-  where
-    no_chunks : false ≡ true → ⊥
-    no_chunks e = cc
-
 -- ---- dependencies
-pub dependencies_version : (l : Limits) (stbl b : Box) (f : Fault) → IsFirstOf (codes "sdtp") (boxes_of stbl) b → VersionFails 0 b f → IsFault l stbl f
-dependencies_version l stbl b f i s = first_fault l stbl b (codes "sdtp") sdtp f i refl refl (version_fails sdtp 0 b f refl (omega arith) s)
 
 dependencies_sound : (stbl b : Box) → HasTables stbl → IsFirstOf (codes "sdtp") (boxes_of stbl) b → version b.payload ≤ 0 → 4 ≤ length b.payload → AllOf (codes "sdtp") (IsSound sdtp) (boxes_of stbl)
 dependencies_sound stbl b h i v n =
@@ -193,14 +122,3 @@ pub dependencies_none : (stbl : Box) (n : ℕ) → count_among (codes "sdtp" ∷
 dependencies_none stbl n e =
     let none : (tables_in stbl).dependencies ≡ None = ap (option_map (λ (payload : List ℕ). drop 4 payload)) (payload_none (codes "sdtp") (boxes_of stbl) e) in
     record { have = tt; same = sym none; sound = all_none (codes "sdtp") (IsSound sdtp) (boxes_of stbl) e; room = ap (λ o. unwrap_or (option_map (λ (bytes : List ℕ). nat_le n (length bytes)) o) true) none }
-
-pub dependencies_short : (l : Limits) (stbl b : Box) (n : ℕ) (f : Fault) → HasTables stbl → IsFirstOf (codes "sdtp") (boxes_of stbl) b → version b.payload ≤ 0 → 4 ≤ length b.payload → SizesKnown stbl n → length b.payload < n + 4
-    → f ≡ fault_of (kind_of dependency_room) b → IsFault l stbl f
-dependencies_short l stbl b n f h i v long k short s =
-    let few : nat_le n (length (drop 4 b.payload)) ≡ false = no_le n (length (drop 4 b.payload)) (omega (arith, length-drop 4 b.payload)) in
-    rule_fault l stbl b (codes "sdtp") dependency_room f h i
-    (readable_more (codes "sdtp") sample_sizes (boxes_of stbl) (all_readable (codes "sdtp") sdtp (boxes_of stbl) (dependencies_sound stbl b h i v long)) k.readable) tt (λ e. absurd (no_chunks e))
-    ((let c = k.count in let d = dependencies_is stbl b i in λ j. unwrap_or (option_map (λ (bytes : List ℕ). nat_le (c j) (length bytes)) (d j)) true) ∙ few) (named_by (codes "sdtp") (boxes_of stbl) b i []) s
-  where
-    no_chunks : false ≡ true → ⊥
-    no_chunks e = cc

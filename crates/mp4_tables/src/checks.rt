@@ -1,11 +1,11 @@
 //! The tables of a track, read and held against each other, in the order in which a file is judged.
-ghost use Rattle.std.specs.Prelude.{◌≡◌, ◌+◌, ◌*◌, ◌≤◌, length, nat_eq, IfOk, IfErr, IsOk};
+ghost use Rattle.std.specs.Prelude.{◌≡◌, ◌+◌, ◌*◌, ◌≤◌, length, nat_eq, IfOk};
 ghost use Rattle.mp4_boxes.specs.format.Layout.{version};
 ghost use Rattle.mp4_boxes.specs.words.View.{box_seen};
 ghost use Rattle.mp4_boxes.specs.format.FirstFault.{FirstNamed, NamesFirst};
 ghost use Rattle.mp4_tables.specs.format.FirstFault.{table_tests};
 ghost use Rattle.mp4_tables.specs.words.RowTests.{duration_tests, offset_tests, chunk_tests, chunk_row_tests, place_tests, sync_tests, dependency_tests};
-ghost use Rattle.mp4_tables.specs.words.Leaves.{HasTables, SizesKnown, DurationsRead, OffsetsRead, ChunksRead, ChunkRowsRead, IsOffsetsLeaf, SyncRead, DependenciesRead, SizesRead, PlacesRead, TablesRead, IsFault, NamesFault, AreAccepted, boxes_of, surroundings_of};
+ghost use Rattle.mp4_tables.specs.words.Leaves.{HasTables, SizesKnown, DurationsRead, OffsetsRead, ChunksRead, ChunkRowsRead, IsOffsetsLeaf, SyncRead, DependenciesRead, SizesRead, PlacesRead, TablesRead, boxes_of, surroundings_of};
 ghost use Rattle.mp4_tables.specs.words.Accepted.{offset_rows, offset_steps, count_of, rows_in, check_steps};
 
 use crate::chunks::{are_described, are_ordered, chunk_counts_are};
@@ -33,7 +33,6 @@ pub(crate) fn read_durations<L: Ledger>(
     requires tables { HasTables (box_seen stbl) }
     requires sizes { SizesKnown (box_seen stbl) n }
     ensures rows { IfOk result (DurationsRead (box_seen stbl.entry) n) }
-    ensures fault { IfErr result (IsFault limits (box_seen stbl.entry)) }
     ensures exact { NamesFirst (duration_tests limits (box_seen stbl.entry)) result }
     ensures passed { IfOk result (λ r. steps.new ≡ steps.old + r.count) }
     ensures work { 4 * steps.new ≤ 4 * steps.old + length (box_seen stbl.entry).payload }
@@ -64,7 +63,6 @@ pub(crate) fn read_offsets<L: Ledger>(
     requires tables { HasTables (box_seen stbl) }
     requires sizes { SizesKnown (box_seen stbl) n }
     ensures rows { IfOk result (OffsetsRead (box_seen stbl.entry) n) }
-    ensures fault { IfErr result (IsFault limits (box_seen stbl.entry)) }
     ensures exact { NamesFirst (offset_tests limits (box_seen stbl.entry)) result }
     ensures passed { IfOk result (λ o. steps.new ≤ steps.old + 2 * (offset_rows o).count) }
     ensures work { 4 * steps.new ≤ 4 * steps.old + length (box_seen stbl.entry).payload }
@@ -96,7 +94,6 @@ pub(crate) fn read_offsets<L: Ledger>(
 pub(crate) fn read_chunks(stbl: BoxView, limits: Limits) -> Result<ChunksAt, Fault>
     requires tables { HasTables (box_seen stbl) }
     ensures rows { IfOk result (ChunksRead (box_seen stbl.entry)) }
-    ensures fault { IfErr result (IsFault limits (box_seen stbl.entry)) }
     ensures exact { NamesFirst (chunk_tests limits (box_seen stbl.entry)) result }
 {
     match first_of(stbl, STCO) {
@@ -141,10 +138,7 @@ pub(crate) fn read_chunk_rows<L: Ledger>(
     requires sizes { SizesKnown (box_seen stbl) n }
     requires chunks { ChunksRead (box_seen stbl) chunks }
     ensures rows { IfOk result (ChunkRowsRead limits (box_seen stbl.entry) n) }
-    ensures fault { IfErr result (NamesFault limits (box_seen stbl.entry)) }
     ensures exact { NamesFirst (chunk_row_tests limits (box_seen stbl.entry)) result }
-    ensures only { AreAccepted limits (box_seen stbl.entry) (boxes_of (box_seen stbl.entry))
-        → IsOk result }
     ensures passed { IfOk result (λ r. steps.new ≡ steps.old + r.count + 4 * chunks.rows.count) }
     ensures work { 4 * steps.new ≤ 4 * steps.old + 5 * length (box_seen stbl.entry).payload }
 {
@@ -173,7 +167,6 @@ pub(crate) fn read_sync<L: Ledger>(
     requires tables { HasTables (box_seen stbl) }
     requires sizes { SizesKnown (box_seen stbl) n }
     ensures rows { IfOk result (SyncRead (box_seen stbl.entry) n) }
-    ensures fault { IfErr result (IsFault limits (box_seen stbl.entry)) }
     ensures exact { NamesFirst (sync_tests limits (box_seen stbl.entry)) result }
     ensures passed { IfOk result (λ o. steps.new ≡ steps.old + count_of o) }
     ensures work { 4 * steps.new ≤ 4 * steps.old + length (box_seen stbl.entry).payload }
@@ -197,7 +190,6 @@ pub(crate) fn read_dependencies(
     requires tables { HasTables (box_seen stbl) }
     requires sizes { SizesKnown (box_seen stbl) n }
     ensures rows { IfOk result (DependenciesRead (box_seen stbl.entry) n) }
-    ensures fault { IfErr result (IsFault limits (box_seen stbl.entry)) }
     ensures exact { NamesFirst (dependency_tests limits (box_seen stbl.entry)) result }
 {
     let Some(leaf) = first_of(stbl, FourCc(*b"sdtp")) else {
@@ -228,7 +220,6 @@ pub(crate) fn check_places<L: Ledger>(
     requires chunks { ChunksRead (box_seen stbl) chunks }
     requires rows { ChunkRowsRead limits (box_seen stbl) sizes.rows.count rows }
     ensures places { IfOk result (λ _. PlacesRead limits (box_seen stbl.entry)) }
-    ensures fault { IfErr result (IsFault limits (box_seen stbl.entry)) }
     ensures exact { NamesFirst (place_tests limits (box_seen stbl.entry)) result }
     ensures passed { steps.new ≤ steps.old + 2 * sizes.rows.count + 2 * chunks.rows.count }
     ensures counted { IfOk result
@@ -248,11 +239,8 @@ pub(crate) fn read_tables<L: Ledger>(
 ) -> Result<TablesAt, Fault>
     requires { HasTables (box_seen stbl) }
     ensures tables { IfOk result (TablesRead limits (box_seen stbl.entry)) }
-    ensures fault { IfErr result (NamesFault limits (box_seen stbl.entry)) }
     ensures exact { FirstNamed (table_tests limits.room (surroundings_of limits)
         (boxes_of (box_seen stbl.entry))) result }
-    ensures only { AreAccepted limits (box_seen stbl.entry) (boxes_of (box_seen stbl.entry))
-        → IsOk result }
     ensures passed { IfOk result (λ at. steps.new ≤ steps.old + 6 * rows_in at
         + 2 * at.sizes.rows.count) }
     ensures within { IfOk result (λ at. steps.new ≤ steps.old

@@ -5,7 +5,7 @@ ghost use Rattle.mp4_boxes.specs.format.FirstFault.{NamesFirst, naming, leaf_tes
 ghost use Rattle.mp4_boxes.specs.words.View.{box_seen};
 ghost use Rattle.mp4_tables.specs.words.RowTests.{kept_tests, child_tests, NamesBehind, group_box_tests};
 ghost use Rattle.mp4_tables.specs.words.Keys.{key_seen, keys_seen};
-ghost use Rattle.mp4_tables.specs.words.Leaves.{HasTables, IsChild, FailsAs, SlotTaken, GroupRead, GroupFails, GroupNext, ChildRead, ChildFails, GroupsRead, GroupsSo, GroupPassed, SizesKnown, IsFault};
+ghost use Rattle.mp4_tables.specs.words.Leaves.{HasTables, IsChild, FailsAs, SlotTaken, GroupRead, GroupNext, ChildRead, GroupsRead, GroupsSo, GroupPassed, SizesKnown};
 ghost use Rattle.mp4_tables.specs.words.Accepted.{group_count};
 
 use crate::group_boxes::read_group;
@@ -77,8 +77,6 @@ fn read_next<L: Ledger>(
     requires child { IsChild (box_seen stbl) (box_seen leaf) }
     ensures next { IfOk result
         (GroupNext (box_seen stbl.entry).payload n groups (box_seen leaf.entry)) }
-    ensures fault { IfErr result
-        (GroupFails (box_seen stbl.entry).payload n groups (box_seen leaf.entry)) }
     ensures exact { NamesBehind (box_seen stbl.entry).payload n groups (λ before.
         naming (box_seen leaf.entry) (kept_tests n before (box_seen leaf.entry).payload)) result }
     ensures passed { IfOk result
@@ -114,8 +112,6 @@ fn read_child<L: Ledger>(
     requires child { IsChild (box_seen stbl) (box_seen child) }
     ensures next { IfOk result
         (ChildRead (box_seen stbl.entry).payload n groups (box_seen child.entry)) }
-    ensures fault { IfErr result
-        (ChildFails (box_seen stbl.entry).payload n groups (box_seen child.entry)) }
     ensures exact { NamesBehind (box_seen stbl.entry).payload n groups
         (λ before. child_tests n before (box_seen child.entry)) result }
     ensures passed { IfOk result
@@ -157,7 +153,6 @@ pub(crate) fn read_groups<L: Ledger>(
     requires tables { HasTables (box_seen stbl) }
     requires sizes { SizesKnown (box_seen stbl) n }
     ensures groups { IfOk result (GroupsRead (box_seen stbl.entry) n) }
-    ensures fault { IfErr result (IsFault limits (box_seen stbl.entry)) }
     ensures exact { NamesFirst (group_box_tests (box_seen stbl.entry)) result }
     ensures passed { IfOk result (λ groups. steps.new ≡ steps.old + 2 * group_count groups) }
     ensures work { 2 * steps.new ≤ 2 * steps.old + 3 * length (box_seen stbl.entry).payload }

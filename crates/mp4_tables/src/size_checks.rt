@@ -1,12 +1,12 @@
 //! The box of sizes, read and judged: `stsz` or `stz2` (ISO/IEC 14496-12, 8.7.3).
-ghost use Rattle.std.specs.Prelude.{◌≡◌, ◌+◌, ◌*◌, [], ◌∷◌, codes, if◌then◌else◌, IfOk, IfErr, MatchOption, false};
+ghost use Rattle.std.specs.Prelude.{◌≡◌, ◌+◌, ◌*◌, [], ◌∷◌, codes, if◌then◌else◌, IfOk, MatchOption, false};
 ghost use Rattle.std.specs.Int.{div_ceil};
 ghost use Rattle.mp4_boxes.specs.format.Children.{count_among};
 ghost use Rattle.mp4_boxes.specs.format.Layout.{is_size_bits};
 ghost use Rattle.mp4_boxes.specs.format.FirstFault.{NamesFirst};
 ghost use Rattle.mp4_boxes.specs.words.View.{box_seen};
 ghost use Rattle.mp4_tables.specs.words.RowTests.{size_tests};
-ghost use Rattle.mp4_tables.specs.words.Leaves.{boxes_of, HasTables, IsFirstOf, SizesRead, IsFormOf, IsFault};
+ghost use Rattle.mp4_tables.specs.words.Leaves.{boxes_of, HasTables, IsFirstOf, SizesRead, IsFormOf};
 
 use crate::leaves::{Limits, first_of, only_of, place_in, version_of};
 use crate::places::{RowsAt, SizeForm, SizesAt};
@@ -17,7 +17,6 @@ fn read_words(stbl: BoxView, leaf: BoxView, limits: Limits) -> Result<SizesAt, F
     requires tables { HasTables (box_seen stbl) }
     requires first { IsFirstOf (codes "stsz") (boxes_of (box_seen stbl)) (box_seen leaf) }
     ensures sizes { IfOk result (SizesRead limits (box_seen stbl.entry)) }
-    ensures fault { IfErr result (IsFault limits (box_seen stbl.entry)) }
     ensures exact { NamesFirst (size_tests limits (box_seen stbl.entry)) result }
 {
     version_of(leaf, 0)?;
@@ -79,7 +78,6 @@ fn read_compact(stbl: BoxView, leaf: BoxView, limits: Limits) -> Result<SizesAt,
     requires none { count_among (codes "stsz" ∷ []) (boxes_of (box_seen stbl)) ≡ 0 }
     requires first { IsFirstOf (codes "stz2") (boxes_of (box_seen stbl)) (box_seen leaf) }
     ensures sizes { IfOk result (SizesRead limits (box_seen stbl.entry)) }
-    ensures fault { IfErr result (IsFault limits (box_seen stbl.entry)) }
     ensures exact { NamesFirst (size_tests limits (box_seen stbl.entry)) result }
 {
     version_of(leaf, 0)?;
@@ -111,7 +109,6 @@ fn read_compact(stbl: BoxView, leaf: BoxView, limits: Limits) -> Result<SizesAt,
 pub(crate) fn read_sizes(stbl: BoxView, limits: Limits) -> Result<SizesAt, Fault>
     requires { HasTables (box_seen stbl) }
     ensures sizes { IfOk result (SizesRead limits (box_seen stbl.entry)) }
-    ensures fault { IfErr result (IsFault limits (box_seen stbl.entry)) }
     ensures exact { NamesFirst (size_tests limits (box_seen stbl.entry)) result }
 {
     match first_of(stbl, FourCc(*b"stsz")) {

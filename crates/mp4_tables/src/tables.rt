@@ -30,14 +30,14 @@ impl<'a> Model for Tables<'a> {
 impl<'a> Tables<'a> {
     ghost use Rattle.mp4_boxes.specs.format.FirstFault.{FirstNamed};
     ghost use Rattle.mp4_tables.specs.format.FirstFault.{table_tests};
-    ghost use Rattle.std.specs.Prelude.{◌≡◌, ◌+◌, ◌-◌, ◌*◌, ◌^◌, ◌≤◌, min, [], length, IfOk, IfErr, IsOk};
+    ghost use Rattle.std.specs.Prelude.{◌≡◌, ◌+◌, ◌-◌, ◌*◌, ◌^◌, ◌≤◌, min, [], length, IfOk};
     ghost use Rattle.mp4_boxes.specs.format.Bytes.{sum_of};
     ghost use Rattle.mp4_tables.specs.words.Timed.{samples_of};
     ghost use Rattle.mp4_tables.specs.declared.sample.SampleAt.{SampleAt};
     ghost use Rattle.mp4_boxes.specs.words.View.{box_seen};
     ghost use Rattle.mp4_tables.specs.format.Groups.{keys_after};
     ghost use Rattle.mp4_tables.specs.words.Keys.{keys_seen};
-    ghost use Rattle.mp4_tables.specs.words.Leaves.{HasTables, TablesRead, tables_in, NamesFault, AreAccepted, boxes_of};
+    ghost use Rattle.mp4_tables.specs.words.Leaves.{HasTables, TablesRead, tables_in, boxes_of};
     ghost use Rattle.mp4_tables.specs.words.TablesSeen.{tables_seen};
     ghost use Rattle.mp4_tables.specs.words.Accepted.{IsAccepted, rows_in, check_steps};
 
@@ -65,17 +65,9 @@ impl<'a> Tables<'a> {
             }) (box_seen stbl.entry) t.at) }
         ensures keys { IfOk result (λ _. keys_seen keys.new
             ≡ keys_after [] (tables_in (box_seen stbl.entry)).groups) }
-        ensures fault { IfErr result
-            (NamesFault (record { file_len = file_len; descriptions = descriptions; room = room })
-            (box_seen stbl.entry)) }
         ensures exact { FirstNamed (table_tests room
             (record { file_length = file_len; descriptions = descriptions })
             (boxes_of (box_seen stbl.entry))) result }
-        ensures only { AreAccepted (record {
-          file_len = file_len;
-          descriptions = descriptions;
-          room = room;
-        }) (box_seen stbl.entry) (boxes_of (box_seen stbl.entry)) → IsOk result }
         ensures passed { IfOk result (λ t. steps.new ≤ steps.old + 6 * rows_in t.at
             + 2 * t.at.sizes.rows.count) }
         ensures within { IfOk result (λ t. steps.new ≤ steps.old

@@ -1,8 +1,5 @@
--- What is told of a fault in numbers, and why nothing is.
-use Rattle.std.specs.Prelude.{ℕ, ◌+◌, ◌-◌, ◌*◌, ◌^◌, ◌<◌, ◌≤◌, ◌≡◌, ◌==◌, min, pos, find, codes, Some, List, length, Bool, IsTrue}
-use Rattle.mp4_store.specs.words.Device.{HasRisen}
-use Rattle.mp4_boxes.specs.declared.refusal.Refusal.{Refusal}
-use Rattle.mp4_boxes.specs.declared.refusal.Refusal.TheVariants as refusals
+-- What is told of a fault in numbers.
+use Rattle.std.specs.Prelude.{ℕ, ◌+◌, ◌-◌, ◌*◌, ◌^◌, ◌<◌, ◌≤◌, ◌≡◌, ◌==◌, min, pos, find, codes, Some, List, length}
 use Rattle.mp4_boxes.specs.format.Box.{Box}
 use Rattle.mp4_frag.specs.format.Fragments.{FragmentTree}
 use Rattle.mp4_boxes.specs.format.Children.{of_kind}
@@ -21,24 +18,6 @@ use Rattle.mp4_frag.specs.words.States.{HaveRoom}
 use Rattle.mp4_present.specs.words.Passing.{AreBehind, IsNextMoof}
 use Rattle.mp4_present.specs.declared.reading.TopBox.{TopBox}
 use Rattle.mp4_present.specs.declared.faults.gaps.Reached.{Reached}
-
--- Why no numbers are told of a fault. The numbers are counts of failed reads, before and after.
-abbrev pub RefusesNumbers : Bool → ℕ → ℕ → Refusal → Type 0
-RefusesNumbers honest reads reads_after refusals.Memory = Unit {0}
-RefusesNumbers honest reads reads_after refusals.StoreFailed = HasRisen reads reads_after
-RefusesNumbers honest reads reads_after refusals.StoreChanged = IsTrue honest → ⊥
-RefusesNumbers honest reads reads_after _ = ⊥
-
--- the same, or a fault is met before what is looked for
-abbrev pub RefusesSearch : Bool → ℕ → ℕ → Refusal → Type 0
-RefusesSearch honest reads reads_after (refusals.Fault f) = Unit {0}
-RefusesSearch honest reads reads_after r = RefusesNumbers honest reads reads_after r
-
--- a fault is met, or there is no memory
-abbrev pub MeetsFault : Refusal → Type 0
-MeetsFault (refusals.Fault f) = Unit {0}
-MeetsFault refusals.Memory = Unit {0}
-MeetsFault _ = ⊥
 
 -- so many steps are left of those that the `moof`s of a file of so many bytes may take, with room
 -- for more samples and all bytes from a place on

@@ -8,7 +8,6 @@ use Rattle.mp4_boxes.specs.declared.refusal.Refusal.{Refusal}
 use Rattle.mp4_boxes.specs.declared.refusal.Refusal.TheVariants as refusals
 use Rattle.mp4_present.specs.format.Denotes.{begins_with_movie}
 use Rattle.mp4_present.specs.format.Judge.{judge}
-use Rattle.mp4_present.specs.format.Stands.{Stands}
 use Rattle.mp4_present.specs.words.Movies.{MovieSeen, moov_box}
 use Rattle.mp4_present.specs.words.Outline.{IsOutline, longest}
 use Rattle.mp4_present.specs.declared.opening.outline.Outline.{Outline}
@@ -27,15 +26,6 @@ pub record IsOpened (file : List ℕ) (m : MovieSeen) : Type 0 where
   pub whole : m.file_len ≡ length file
   pub moov : of_kind (codes "moov") boxes ≡ moov_box m ∷ []
   pub longest_is : m.longest ≡ longest (of_kind (codes "moof") boxes)
-
--- Why a file is not found to be as it should be: a fault stands in it, there is no memory, or a
--- read failed. The numbers are counts of failed reads, before and after.
-abbrev pub RefusesFile : Bool → List ℕ → ℕ → ℕ → Refusal → Type 0
-RefusesFile honest file reads reads_after (refusals.Fault f) = IsTrue honest → Stands file f
-RefusesFile honest file reads reads_after refusals.Memory = Unit {0}
-RefusesFile honest file reads reads_after refusals.StoreFailed = HasRisen reads reads_after
-RefusesFile honest file reads reads_after refusals.StoreChanged = IsTrue honest → ⊥
-RefusesFile honest file reads reads_after _ = ⊥
 
 -- Why a file is not opened: so, and the fault is its first.
 abbrev pub RefusesOpen : Bool → List ℕ → ℕ → ℕ → Refusal → Type 0

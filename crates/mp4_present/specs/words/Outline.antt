@@ -1,15 +1,11 @@
 -- Where the `moov` and the `moof`s of a file lie, as its top-level headers say.
-use Rattle.std.specs.Prelude.{◌≡◌, ℕ, ◌+◌, length, drop, List, [], ◌∷◌, ◌++◌, true, Bool, IsTrue, Option, Some, None, max, fold, codes}
+use Rattle.std.specs.Prelude.{◌≡◌, ℕ, ◌+◌, length, drop, List, [], ◌∷◌, ◌++◌, true, IsTrue, Option, Some, None, max, fold, codes}
 use Rattle.std.specs.List.{AllByRecursion}
-use Rattle.mp4_store.specs.words.Device.{HasRisen}
 use Rattle.mp4_boxes.specs.format.Box.{Box, LieEndToEnd, size, sizes}
 use Rattle.mp4_boxes.specs.format.Children.{of_kind, allows}
 use Rattle.mp4_boxes.specs.declared.rule.Rule.TheVariants.{File}
-use Rattle.mp4_boxes.specs.declared.refusal.Refusal.{Refusal}
-use Rattle.mp4_boxes.specs.declared.refusal.Refusal.TheVariants as refusals
 use Rattle.mp4_present.specs.words.Reading.{top_box}
 use Rattle.mp4_present.specs.format.Denotes.{begins_with_movie}
-use Rattle.mp4_present.specs.format.Stands.{Stands}
 use Rattle.mp4_present.specs.declared.reading.TopBox.{TopBox}
 use Rattle.mp4_present.specs.declared.opening.outline.Seen.{Seen}
 use Rattle.mp4_present.specs.declared.opening.outline.Outline.{Outline}
@@ -64,10 +60,3 @@ pub record IsOutline (file : List ℕ) (boxes : List Box) (o : Outline) : Type 0
   pub moov : of_kind (codes "moov") boxes ≡ box_at file o.moov ∷ []
   pub moofs : AreMoofsFrom file 0 o.moofs.items
   pub longest : o.longest ≡ longest (of_kind (codes "moof") boxes)
-
--- Why there is no outline. The numbers are counts of failed reads, before and after.
-abbrev pub RefusesOutline : Bool → List ℕ → ℕ → ℕ → Refusal → Type 0
-RefusesOutline honest file reads reads_after (refusals.Fault f) = IsTrue honest → Stands file f
-RefusesOutline honest file reads reads_after refusals.Memory = Unit {0}
-RefusesOutline honest file reads reads_after refusals.StoreFailed = HasRisen reads reads_after
-RefusesOutline honest file reads reads_after _ = ⊥

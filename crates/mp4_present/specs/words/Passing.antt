@@ -5,19 +5,17 @@ use Rattle.std.specs.List.{AllByRecursion}
 use Rattle.mp4_boxes.specs.format.Bytes.{sum_of}
 use Rattle.mp4_boxes.specs.format.Box.{Box, file_container, StandsAfter}
 use Rattle.mp4_boxes.specs.format.Children.{of_kind}
-use Rattle.mp4_boxes.specs.declared.fault.Fault.{Fault}
 use Rattle.mp4_tables.specs.format.TableRules.{Fit}
 use Rattle.mp4_tables.specs.format.Tables.{tables_of}
 use Rattle.mp4_frag.specs.format.Fragments.{FragmentTree, IsFragmentTree, fragment_of}
 use Rattle.mp4_frag.specs.format.FragmentSamples.{Part, all_parts, trex_for, duration_of, keys_behind, bytes_of}
 use Rattle.mp4_frag.specs.words.Judged.{AreTrexesOf, IsSoundMoof, AreMovedOn, TrackSeen, track_seen, tree_of}
 use Rattle.mp4_frag.specs.words.RunsJudged.{children_of}
-use Rattle.mp4_frag.specs.words.TrafFaults.{MoofFails}
 use Rattle.mp4_frag.specs.declared.state.TrackState.{TrackState}
 use Rattle.mp4_head.specs.format.Tree.{TrackTree, MovieTree, IsMovieTree, IsSoundMovie, track_head_of, trexes_of}
 use Rattle.mp4_present.specs.format.Presentation.{max_samples}
 use Rattle.mp4_present.specs.format.Denotes.{HasSoundTables, IsSoundFragment, surroundings, plain_keys, parts_of_track, first_due, placed_of, plain_of}
-use Rattle.mp4_present.specs.format.Stands.{AreConsistent, Stands, table_total, trafs_total}
+use Rattle.mp4_present.specs.format.Stands.{AreConsistent, table_total, trafs_total}
 use Rattle.mp4_frag.specs.format.FragmentSamples.{start_of, fragment_samples}
 
 -- the `moov` is as it should be, and so are the tables of each track
@@ -90,11 +88,3 @@ PassesMoof = (file : List ℕ) (movie : MovieTree) (earlier : List FragmentTree)
     → AreMovedOn moof.offset (pos moof.offset) (of_kind (codes "traf") (children_of moof))
     states new room less
     → AreBehind file movie (earlier ++ tree_of moof ∷ []) new less
-
--- one that was refused
-abbrev pub RefusesMoof : Type 0
-RefusesMoof = (file : List ℕ) (movie : MovieTree) (earlier : List FragmentTree) (before : List Box)
-    (moof : Box) (states : List TrackState) (room : ℕ) (f : Fault)
-    → IsMovieOf file movie → AreBehind file movie earlier states room
-    → IsNextMoof file movie earlier before moof
-    → MoofFails (length file) states room moof f → Stands file f

@@ -3,8 +3,6 @@ use Rattle.std.specs.Prelude.{◌≡◌, ℕ, ◌+◌, List, ◌∷◌, ◌++◌
 use Rattle.std.specs.List.{AllByRecursion, AllZip}
 use Rattle.mp4_boxes.specs.format.Places.{ruled, AreSound}
 use Rattle.mp4_boxes.specs.declared.fault.Fault.{Fault}
-use Rattle.mp4_boxes.specs.declared.refusal.Refusal.{Refusal}
-use Rattle.mp4_boxes.specs.declared.refusal.Refusal.TheVariants as refusals
 use Rattle.mp4_boxes.specs.declared.rule.Rule.TheVariants.{SampleTable}
 use Rattle.mp4_tables.specs.words.Leaves.{IsFault}
 use Rattle.mp4_tables.specs.format.TableRules.{Surroundings, Fit}
@@ -53,14 +51,6 @@ pub record HaveTables (file_length : ℕ) (moov : List ℕ) (trexes : List Trex)
   pub states : map track_seen plain.states.items ≡ map (plain_seen trexes) trees
   pub room : plain.room + table_total trees ≡ max_samples
 
--- Why the tables of a track are refused: one of them, or what they say together, is at fault, or
--- they name more samples than there is room for; or there is no memory.
-abbrev pub RefusesTable : ℕ → ℕ → TrackHead → Refusal → Type 0
-RefusesTable file_length room h (refusals.Fault f) = (t : TrackTree) → IsTrackOf t h
-    → TableFails file_length room t f
-RefusesTable file_length room h refusals.Memory = Unit {0}
-RefusesTable file_length room h _ = ⊥
-
 -- the fault is in the tables of one of these tracks, and those of the tracks before it can be read
 pub record TablesFail (file_length : ℕ) (trees : List TrackTree) (f : Fault) : Type 0 where
   pub before : List TrackTree
@@ -71,10 +61,3 @@ pub record TablesFail (file_length : ℕ) (trees : List TrackTree) (f : Fault) :
   pub room : ℕ
   pub left : room + table_total before ≡ max_samples
   pub fails : TableFails file_length room t f
-
--- the same of all tracks of a movie
-abbrev pub RefusesTables : ℕ → List TrackHead → Refusal → Type 0
-RefusesTables file_length tracks (refusals.Fault f) = (trees : List TrackTree)
-    → AreTracksOf trees tracks → TablesFail file_length trees f
-RefusesTables file_length tracks refusals.Memory = Unit {0}
-RefusesTables file_length tracks _ = ⊥

@@ -2,7 +2,8 @@
 //! sample would end.
 ghost use Rattle.std.specs.Prelude.{◌≡◌, length, IfOk, IfErr, IfSome, IsTrue};
 ghost use Rattle.mp4_present.specs.format.FaultNumbers.{Tells};
-ghost use Rattle.mp4_present.specs.words.NumbersTold.{IsPlain, RefusesNumbers, RefusesSearch};
+ghost use Rattle.mp4_present.specs.words.NumbersTold.{IsPlain};
+ghost use Rattle.mp4_present.specs.words.Refusing.{RefusesNumbers, RefusesSearch};
 ghost use Rattle.std.specs.List.{AllByRecursion};
 ghost use Rattle.mp4_present.specs.words.Movies.{Fills, IsWhole};
 ghost use Rattle.mp4_present.specs.words.Opening.{HasOutline};

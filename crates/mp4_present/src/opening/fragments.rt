@@ -12,7 +12,7 @@ ghost use Rattle.mp4_frag.specs.words.States.{HaveRoom};
 ghost use Rattle.mp4_present.specs.words.Opening.{HasOutline};
 ghost use Rattle.mp4_present.specs.words.MoofsJudged.{NamesMoofs};
 ghost use Rattle.mp4_present.specs.words.OpeningWork.{ChecksMoofs, NotesOn};
-ghost use Rattle.mp4_present.specs.words.PassedMoofs.{RefusesFragments};
+ghost use Rattle.mp4_present.specs.words.Refusing.{RefusesSearch};
 ghost use Rattle.mp4_present.specs.words.WalkSteps.{ChecksAll};
 
 use crate::opening::outline::Outline;
@@ -60,8 +60,8 @@ fn pass_fragments<S: Store, L: Ledger, M: Ledger>(
         (min 1 (length states.old)) result steps.old steps.new looks.old looks.new) }
     ensures least { OnOk result (WhereHonest S.Store store.old (λ file.
         ChecksAll file steps.old steps.new)) }
-    ensures refusal { RefusedOf S.Store store.old store.new result (λ honest file.
-        RefusesFragments honest file states.old start.entry.room) }
+    ensures refusal { RefusedOf S.Store store.old store.new result
+        (λ honest file. RefusesSearch honest) }
     ensures exact { WhereHonest S.Store store.old (λ file.
         NamesMoofs file states.old start.entry.room (λ _. states.new) result) }
 {
@@ -133,9 +133,8 @@ pub(crate) fn check_fragments<S: Store, L: Ledger, M: Ledger>(
         result steps.old steps.new looks.old looks.new) }
     ensures least { OnOk result (WhereHonest S.Store store.old (λ file.
         ChecksAll file steps.old steps.new)) }
-    ensures refusal { RefusedOf S.Store store.old store.new result (λ honest file.
-        RefusesFragments honest file known.entry.plain.now.states.items
-        known.entry.plain.now.room) }
+    ensures refusal { RefusedOf S.Store store.old store.new result
+        (λ honest file. RefusesSearch honest) }
     ensures exact { WhereHonest S.Store store.old (λ file. NamesMoofs file
         known.entry.plain.now.states.items known.entry.plain.now.room
         (λ states. states.items) result) }

@@ -7,7 +7,8 @@ ghost use Rattle.mp4_head.specs.declared.heads.TrackHead.{TrackHead};
 ghost use Rattle.mp4_present.specs.format.Presentation.{Presentation};
 ghost use Rattle.mp4_present.specs.format.Denotes.{Denotes, FileTree};
 ghost use Rattle.mp4_present.specs.words.OpenedMovie.{IsInfoBy, IsOpenedAs, OpensAs, kept_of};
-ghost use Rattle.mp4_present.specs.words.Opening.{HasOutline, IsOpened, RefusesDenoted, RefusesFile, RefusesOpen};
+ghost use Rattle.mp4_present.specs.words.Opening.{HasOutline, IsOpened, RefusesDenoted, RefusesOpen};
+ghost use Rattle.mp4_present.specs.words.Refusing.{RefusesSearch};
 ghost use Rattle.mp4_present.specs.words.FileJudged.{NamesBehindTop, NamesJudged};
 ghost use Rattle.mp4_present.specs.words.OpeningWork.{ChecksFile, HaveInfos};
 ghost use Rattle.mp4_present.specs.words.StoresRead.{OnlyReads, WhereHonest, WhereRead, Refused, RefusedOf};
@@ -101,7 +102,8 @@ fn find<S: Store, L: Ledger, M: Ledger>(
         ChecksFile file result steps.old steps.new looks.old looks.new) }
     ensures least { OnOk result (WhereHonest S.Store store.old (λ file.
         TakesToOpen file steps.old steps.new)) }
-    ensures refusal { RefusedOf S.Store store.old store.new result RefusesFile }
+    ensures refusal { RefusedOf S.Store store.old store.new result
+        (λ honest file. RefusesSearch honest) }
     ensures exact { WhereHonest S.Store store.old (λ file. NamesBehindTop file result) }
 {
     let view = outline.moov.view(moov);

@@ -1,14 +1,14 @@
 //! Where the parts of a file lie, by its top-level headers alone.
-ghost use Rattle.std.specs.Prelude.{◌≡◌, ℕ, ◌+◌, ◌≤◌, ◌++◌, ◌∷◌, [], length, bytes_eq, IfOk, IfErr, IfSome, IsTrue};
+ghost use Rattle.std.specs.Prelude.{◌≡◌, ℕ, ◌+◌, ◌≤◌, ◌++◌, ◌∷◌, [], length, bytes_eq, IfOk, IfSome, IsTrue};
 ghost use Rattle.std.specs.List.{AllByRecursion};
 ghost use Rattle.mp4_boxes.specs.declared.rule.Rule.TheVariants.{File};
 ghost use Rattle.mp4_boxes.specs.format.FirstFault.{FirstNamed, naming, top_tests};
 ghost use Rattle.mp4_present.specs.words.TopJudged.{NamesTop};
 ghost use Rattle.mp4_present.specs.words.Movies.{IsWhole};
 ghost use Rattle.mp4_present.specs.words.Reading.{top_box};
-ghost use Rattle.mp4_present.specs.format.Stands.{Stands};
 ghost use Rattle.mp4_present.specs.words.ToOpen.{WhereSeen};
-ghost use Rattle.mp4_present.specs.words.Outline.{AreSeen, RefusesOutline};
+ghost use Rattle.mp4_present.specs.words.Outline.{AreSeen};
+ghost use Rattle.mp4_present.specs.words.Refusing.{RefusesSearch};
 ghost use Rattle.mp4_present.specs.words.Opening.{HasOutline};
 ghost use Rattle.mp4_present.specs.words.StoresRead.{OnlyReads, RefusedOf};
 
@@ -51,7 +51,6 @@ fn note(seen: Seen, at: u64, header: TopHeader) -> Result<Seen, Fault>
         → IfSome s.moov (IsWhole len)) }
     ensures noted { WhereSeen at header seen (λ file boxes.
         IfOk result (AreSeen file (boxes ++ top_box file at header ∷ []))) }
-    ensures fault { WhereSeen at header seen (λ file boxes. IfErr result (Stands file)) }
     ensures exact { WhereSeen at header seen (λ file boxes. FirstNamed
         (naming (top_box file at header) (top_tests boxes header.kind.0)) result) }
 {
@@ -86,7 +85,8 @@ pub(crate) fn read_outline<S: Store>(alloc: Global, store: &mut S) -> Result<Out
     ensures outline { IfOk result (HasOutline (S.is_honest store.old) (S.file store.old)) }
     ensures within { IfOk result (λ o. IsWhole (length (S.file store.old)) o.moov
         × AllByRecursion (IsWhole (length (S.file store.old))) o.moofs.items) }
-    ensures refusal { RefusedOf S.Store store.old store.new result RefusesOutline }
+    ensures refusal { RefusedOf S.Store store.old store.new result
+        (λ honest file. RefusesSearch honest) }
     ensures exact { IsTrue (S.is_honest store.old) → NamesTop (S.file store.old) result }
 {
     let len = store.len();

@@ -6,7 +6,8 @@ ghost use Rattle.mp4_frag.specs.declared.trex.Trex.{Trex};
 ghost use Rattle.mp4_head.specs.format.Tree.{TrackTree};
 ghost use Rattle.mp4_present.specs.words.TablesChecked.{AreTrexesById, IsStateBehind, WhereTrees};
 ghost use Rattle.mp4_present.specs.words.Plain.{ArePlain, HaveTablesIn};
-ghost use Rattle.mp4_present.specs.words.TrackTrees.{AreTracksOf, HaveTables, RefusesTables};
+ghost use Rattle.mp4_present.specs.words.TrackTrees.{AreTracksOf, HaveTables};
+ghost use Rattle.mp4_present.specs.words.Refusing.{MeetsFault};
 ghost use Rattle.mp4_present.specs.words.TablesFirst.{NamesOfTracks};
 ghost use Rattle.mp4_present.specs.words.WalkSteps.{IfNoFault, least_table_steps, table_steps};
 
@@ -88,7 +89,8 @@ impl PlainTracks {
     ghost use Rattle.mp4_head.specs.format.Tree.{TrackTree};
     ghost use Rattle.mp4_present.specs.words.TablesChecked.{AreTrexesById, ChecksTables};
     ghost use Rattle.mp4_present.specs.words.Plain.{ArePlain, HasTablesIn};
-    ghost use Rattle.mp4_present.specs.words.TrackTrees.{IsTrackOf, HaveTables, RefusesTable};
+    ghost use Rattle.mp4_present.specs.words.TrackTrees.{IsTrackOf, HaveTables};
+    ghost use Rattle.mp4_present.specs.words.Refusing.{MeetsFault};
     ghost use Rattle.mp4_present.specs.words.TablesFirst.{NamesOfTrack};
     ghost use Rattle.mp4_present.specs.words.ToOpen.{OneMorePlain, OneMoreSaid};
     ghost use Rattle.mp4_present.specs.words.WalkSteps.{IfNoFault, least_table_steps, table_steps};
@@ -127,7 +129,7 @@ impl PlainTracks {
             self.new.room result steps.old steps.new }
         ensures least { OnOk result ((t : TrackTree) → IsTrackOf t track.now
             → steps.old + least_table_steps t ≤ steps.new) }
-        ensures refusal { IfErr result (RefusesTable file_len self.old.room track.now) }
+        ensures refusal { IfErr result MeetsFault }
         ensures exact { NamesOfTrack file_len self.old.room track.now result }
     {
         let mut keys = Keys::new();
@@ -168,7 +170,7 @@ pub(crate) fn check_tables<L: Ledger>(
         steps.old + sum_of least_table_steps trees ≤ steps.new)) }
     ensures within { steps.new ≤ steps.old + 5 * 2 ^ 24
         + 6 * (length head.now.tracks.items * length (box_seen moov.entry).payload) }
-    ensures refusal { IfErr result (RefusesTables file_len head.now.tracks.items) }
+    ensures refusal { IfErr result MeetsFault }
     ensures exact { NamesOfTracks file_len head.now.tracks.items result }
 {
     let trexes = trexes_by_id(alloc, &head.trexes)?;

@@ -11,9 +11,9 @@ use Rattle.mp4_boxes.specs.format.BoxFaults.{Fails, fault_of}
 use Rattle.mp4_boxes.specs.declared.rule.Rule.TheVariants.{SampleTable}
 use Rattle.mp4_boxes.specs.declared.fault.Fault.{Fault}
 use Rattle.mp4_boxes.specs.declared.fault.Kind.{Kind}
-use Rattle.mp4_boxes.specs.declared.fault.Kind.TheVariants.{ShortBox, BadVersion, BadDescriptionIndex, TooManySamples}
+use Rattle.mp4_boxes.specs.declared.fault.Kind.TheVariants.{ShortBox, BadVersion, TooManySamples}
 use Rattle.mp4_tables.specs.format.Repeated.{total}
-use Rattle.mp4_tables.specs.format.Groups.{Grouping, GroupKey, GroupRule, keys_after, key_of, grouping_of, group_test, group_kind, keeps}
+use Rattle.mp4_tables.specs.format.Groups.{Grouping, GroupKey, GroupRule, keys_after, key_of, grouping_of, group_test}
 use Rattle.mp4_tables.specs.format.Tables.{Tables, sample_count, tables_of}
 use Rattle.mp4_tables.specs.words.Rows.{HaveRoom, HaveSizes, runs_at, chunk_rows_at, numbers_at, offsets_at, offset_width, sizes_at}
 use Rattle.mp4_tables.specs.format.TableRules.{Surroundings, Fit, AreReadable, IsTableFault, test, chunk_order, description_indexes, places, is_sync_order}
@@ -104,11 +104,6 @@ HasDescriptions stbl = AreReadable (codes "stsd" ∷ []) (boxes_of stbl)
 abbrev pub IsFault : Limits → Box → Fault → Type 0
 IsFault l stbl f = IsLeafFaultAmong (boxes_of stbl) f
     ⊎ (IsTableFault (surroundings_of l) (box_container stbl) f ⊎ IsTooMany l.room (boxes_of stbl) f)
-
--- The fault that a check names is one of theirs; a description index is judged only where the
--- descriptions can be read.
-abbrev pub NamesFault : Limits → Box → Fault → Type 0
-NamesFault l stbl f = (f.kind ≡ BadDescriptionIndex → HasDescriptions stbl) → IsFault l stbl f
 
 -- a full box that is too short for its version and flags, or of a version past the last
 abbrev pub VersionFails : ℕ → Box → Fault → Type 0
@@ -227,18 +222,6 @@ pub record GroupRead (stbl b : Box) (key : GroupKey) (r : RowsAt) : Type 0 where
   pub same : runs_at stbl.payload r ≡ (grouping_of b.payload).rows
   pub readable : IsReadable sbgp b.payload
 
--- an `sbgp` does not keep a rule, behind those that were read
-pub record GroupRuleFails (payload : List ℕ) (n : ℕ) (at : GroupsAt) (b : Box) (f : Fault)
-    : Type 0 where
-  pub rule : GroupRule
-  pub readable : IsReadable sbgp b.payload
-  pub fails : (gs : List Grouping) → GroupsSo payload n gs at
-      → keeps rule n [] gs (grouping_of b.payload) ≡ false
-  pub named : f ≡ fault_of (group_kind rule) b
-
-abbrev pub GroupFails : List ℕ → ℕ → GroupsAt → Box → Fault → Type 0
-GroupFails payload n at b f = FailsAs sbgp b f ⊎ GroupRuleFails payload n at b f
-
 -- an `sbgp` was read behind those: all are still in order with it
 pub record GroupNext (payload : List ℕ) (n : ℕ) (at : GroupsAt) (b : Box) (after : GroupsAt)
     : Type 0 where
@@ -260,10 +243,6 @@ pub record OtherChild (at : GroupsAt) (b : Box) (after : GroupsAt) : Type 0 wher
 abbrev pub ChildRead : List ℕ → ℕ → GroupsAt → Box → GroupsAt → Type 0
 ChildRead payload n at b after = OtherChild at b after
     ⊎ ((bytes_eq (codes "sbgp") b.kind ≡ true) × GroupNext payload n at b after)
-
-abbrev pub ChildFails : List ℕ → ℕ → GroupsAt → Box → Fault → Type 0
-ChildFails payload n at b f = ((bytes_eq (codes "sgpd") b.kind ≡ true) × FailsAs sgpd b f)
-    ⊎ ((bytes_eq (codes "sbgp") b.kind ≡ true) × GroupFails payload n at b f)
 
 pub record GroupsRead (stbl : Box) (n : ℕ) (at : GroupsAt) : Type 0 where
   pub so : GroupsSo stbl.payload n (tables_in stbl).groups at

@@ -2,9 +2,11 @@ use Rattle.std.proofs.Common.{◌≡◌, rules, refl, length}
 use Rattle.mp4_boxes.specs.words.View.{box_seen}
 use Rattle.mp4_present.specs.declared.opening.Found.{Found}
 use Rattle.mp4_boxes.specs.format.Bytes.{AreBytes}
-use Rattle.mp4_present.proofs.Assembled.{movie, begun, have, opened_as, denoted, limit_stands, measure}
+use Rattle.mp4_present.proofs.Assembled.{begun, have, opened_as, denoted, measure}
 use Rattle.std.proofs.lemmas.Result.{err_from_is_err_and}
-use Rattle.mp4_present.proofs.Opened.{IsRead, its_movie, tracks_read, open_not_sound, open_not_fit, open_not_passed}
+use Rattle.mp4_present.proofs.Opened.{IsRead, its_movie, tracks_read}
+use Rattle.mp4_present.proofs.FaultGaps.{not_searched}
+use Rattle.mp4_present.proofs.Refusals.{not_sound}
 use Rattle.mp4_present.proofs.LooksCounted.{looks_counted, looks_open, none_looks}
 use Rattle.mp4_present.proofs.OpeningBytes.{tables_open, moofs_open, none_open}
 use Rattle.mp4_present.proofs.OpeningSteps.{all_taken, tables_counted, moofs_counted}
@@ -24,52 +26,12 @@ check_tables-requires g c = record {
 pub returns-in_err-head-clause-refusal : goal.returns-in_err-head-clause-refusal
 returns-in_err-head-clause-refusal g c =
     let p = err_from_is_err_and c.from_residual.result c.from_residual.ensures.1 in
-    let r : IsRead (g.S.Store.is_honest c.args.store.now) (g.S.Store.file c.args.store.now) c.args.outline.now c.args.moov.now _ = record { outline = c.requires.outline; is = c.view-view.ensures; fills = c.requires.moov.0; bytes = c.requires.moov.1 } in
-    rw (p.1, p.2) (open_not_sound (g.S.Store.is_honest c.args.store.now) (g.S.Store.file c.args.store.now) c.args.outline.now c.args.moov.now _ _ _ r c.in_err-head.ensures.fault)
+    rw (p.1, p.2) (not_searched (g.S.Store.is_honest c.args.store.now) _ _ c.in_err-head.field-0.0 (not_sound _ c.in_err-head.field-0.0 c.in_err-head.ensures.fault))
 
 pub returns-in_err-plain-clause-refusal : goal.returns-in_err-plain-clause-refusal
 returns-in_err-plain-clause-refusal g c =
     let p = err_from_is_err_and c.from_residual-in_err-plain.result c.from_residual-in_err-plain.ensures.1 in
-    let r : IsRead (g.S.Store.is_honest c.args.store.now) (g.S.Store.file c.args.store.now) c.args.outline.now c.args.moov.now _ = record { outline = c.requires.outline; is = c.view-view.ensures; fills = c.requires.moov.0; bytes = c.requires.moov.1 } in
-    rw (p.1, p.2) (open_not_fit _ _ c.args.outline.now c.args.moov.now _ c.in_ok-head.head _ _ _ r c.in_ok-head.ensures.head c.len.ensures c.in_err-plain.ensures.refusal)
-
-pub returns-in_err-states-clause-refusal : goal.returns-in_err-states-clause-refusal
-returns-in_err-states-clause-refusal g c =
-    let p = err_from_is_err_and c.from_residual-in_err-states.result c.from_residual-in_err-states.ensures.1 in
-    let honest = g.S.Store.is_honest c.args.store.now in
-    let file = g.S.Store.file c.args.store.now in
-    let r : IsRead honest file c.args.outline.now c.args.moov.now _ = record { outline = c.requires.outline; is = c.view-view.ensures; fills = c.requires.moov.0; bytes = c.requires.moov.1 } in
-    let bytes : AreBytes c.args.moov.now = λ k. search rules in
-    let says = c.in_ok-head.ensures.head in
-    rw (p.1, p.2) (open_not_passed honest file _ _ _ _ _
-    (λ told. (
-      movie honest file c.args.outline.now c.args.moov.now _ c.in_ok-head.head c.in_ok-plain.plain r says bytes _ c.len.ensures c.in_ok-plain.ensures.says told,
-      _,
-      begun honest file c.args.outline.now c.args.moov.now _ c.in_ok-head.head c.in_ok-plain.plain r says bytes _ c.len.ensures c.in_ok-plain.ensures.says told,
-    ))
-    c.in_err-states.ensures.refusal)
-
-pub returns-in_err-mehd-clause-refusal : goal.returns-in_err-mehd-clause-refusal
-returns-in_err-mehd-clause-refusal g c =
-    let q = err_from_is_err_and c.from_residual-in_err-mehd.result c.from_residual-in_err-mehd.ensures.1 in
-    let honest = g.S.Store.is_honest c.args.store.now in
-    let file = g.S.Store.file c.args.store.now in
-    let b = box_seen c.view-view.result in
-    let r : IsRead honest file c.args.outline.now c.args.moov.now b = record { outline = c.requires.outline; is = c.view-view.ensures; fills = c.requires.moov.0; bytes = c.requires.moov.1 } in
-    let bytes : AreBytes c.args.moov.now = λ k. search rules in
-    let says = c.in_ok-head.ensures.head in
-    let outline = c.args.outline.now in
-    let moov = c.args.moov.now in
-    let head = c.in_ok-head.head in
-    let plain = c.in_ok-plain.plain in
-    let states = c.in_ok-states.states in
-    rw (q.1, q.2) (λ told.
-    let own = have honest file outline moov b head plain r says bytes _ c.len.ensures c.in_ok-plain.ensures.says told in
-    let begin = begun honest file outline moov b head plain r says bytes _ c.len.ensures c.in_ok-plain.ensures.says told in
-    let passed = (c.in_ok-states.ensures.own told _ _ begin).0 in
-    let fails = rw c.as_slice.ensures.value at c.in_err-mehd.ensures.fault in
-    limit_stands honest file outline moov b head plain r says told own begin states.items passed c.in_err-mehd.field-0.0
-    (fails _ (measure honest file outline moov b head plain r says told own begin states.items passed)))
+    rw (p.1, p.2) (not_searched (g.S.Store.is_honest c.args.store.now) _ _ c.in_err-plain.field-0.0 c.in_err-plain.ensures.refusal)
 
 pub returns-clause-movie : goal.returns-clause-movie
 returns-clause-movie g c =

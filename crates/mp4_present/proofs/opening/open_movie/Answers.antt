@@ -1,6 +1,6 @@
 use Rattle.std.proofs.Common.{◌≡◌, ℕ, length, subst, sym, ap, ◌∙◌}
 use Rattle.std.proofs.lemmas.Result.{err_from_is_err_and}
-use Rattle.mp4_present.proofs.DenotedOpens.{denoted_opens, outline_refuses, read_refuses}
+use Rattle.mp4_present.proofs.DenotedOpens.{denoted_opens, read_refuses}
 use Rattle.mp4_present.proofs.LooksCounted.{none_looks}
 use Rattle.mp4_present.proofs.OpeningBytes.{none_open}
 use Rattle.mp4_present.proofs.OpenedDenotes.{opened_denotes}
@@ -25,7 +25,7 @@ returns-in_err-outline-clause-only g c = λ p told d.
     let q = err_from_is_err_and c.from_residual.result c.from_residual.ensures.1 in
     let honest = g.S.Store.is_honest c.args.store.now in
     let file = g.S.Store.file c.args.store.now in
-    rw (q.1, q.2) (denoted_opens honest file p _ _ _ told d (outline_refuses honest file _ _ _ c.in_err-outline.ensures.refusal))
+    rw (q.1, q.2) (denoted_opens honest file p _ _ _ told d (refused_first honest file _ _ _ c.in_err-outline.ensures.refusal (λ on. outline_judged file c.in_err-outline.field-0.0 (c.in_err-outline.ensures.exact on).names)))
 
 pub returns-in_err-moov-clause-only : goal.returns-in_err-moov-clause-only
 returns-in_err-moov-clause-only g c = λ p told d.
@@ -39,7 +39,9 @@ returns-in_err-plain-clause-only g c = λ p told d.
     let moov = c.in_ok-moov.ensures in
     let honest = g.S.Store.is_honest c.args.store.now in
     let file = g.S.Store.file c.args.store.now in
-    rw (q.1, q.2) (denoted_opens honest file p _ _ _ told d (rw (moov.honesty, outline.store.honesty, moov.file, outline.store.file, moov.reads, outline.store.reads) at c.in_err-plain.ensures.refusal))
+    let named = rw (moov.honesty, outline.store.honesty, moov.file, outline.store.file) at c.in_err-plain.ensures.exact in
+    let refused = rw (moov.honesty, outline.store.honesty, moov.reads, outline.store.reads) at c.in_err-plain.ensures.refusal in
+    rw (q.1, q.2) (denoted_opens honest file p _ _ _ told d (refused_first honest file _ _ _ refused (λ on. let top = (outline.exact on).names in (named on top.0 top.1).names)))
 
 pub returns-clause-denotes : goal.returns-clause-denotes
 returns-clause-denotes g c = λ told.
@@ -157,7 +159,7 @@ returns-in_err-outline-clause-refusal g c =
     let q = err_from_is_err_and c.from_residual.result c.from_residual.ensures.1 in
     let honest = g.S.Store.is_honest c.args.store.now in
     let file = g.S.Store.file c.args.store.now in
-    rw (q.1, q.2) (refused_first honest file _ _ _ (outline_refuses honest file _ _ _ c.in_err-outline.ensures.refusal) (λ told. outline_judged file c.in_err-outline.field-0.0 (c.in_err-outline.ensures.exact told).names))
+    rw (q.1, q.2) (refused_first honest file _ _ _ c.in_err-outline.ensures.refusal (λ told. outline_judged file c.in_err-outline.field-0.0 (c.in_err-outline.ensures.exact told).names))
 
 pub returns-in_err-moov-clause-refusal : goal.returns-in_err-moov-clause-refusal
 returns-in_err-moov-clause-refusal g c =
@@ -174,5 +176,5 @@ returns-in_err-plain-clause-refusal g c =
     let honest = g.S.Store.is_honest c.args.store.now in
     let file = g.S.Store.file c.args.store.now in
     let named = rw (moov.honesty, outline.store.honesty, moov.file, outline.store.file) at c.in_err-plain.ensures.exact in
-    let refused = rw (moov.honesty, outline.store.honesty, moov.file, outline.store.file, moov.reads, outline.store.reads) at c.in_err-plain.ensures.refusal in
+    let refused = rw (moov.honesty, outline.store.honesty, moov.reads, outline.store.reads) at c.in_err-plain.ensures.refusal in
     rw (q.1, q.2) (refused_first honest file _ _ _ refused (λ told. let top = (outline.exact told).names in (named told top.0 top.1).names))

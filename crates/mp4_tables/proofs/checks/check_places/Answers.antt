@@ -1,6 +1,6 @@
 use Rattle.std.proofs.Common.{sym}
 use Rattle.mp4_boxes.specs.words.View.{box_seen}
-use Rattle.mp4_tables.proofs.PlaceReads.{places_ordered, places_counted, places_as, places_outside}
+use Rattle.mp4_tables.proofs.PlaceReads.{places_ordered, places_counted, places_as}
 use Rattle.std.proofs.Common.{true, false}
 use Rattle.mp4_tables.proofs.FirstReads.{places_judged, places_any}
 use Rattle.mp4_tables.proofs.checks.check_places.Goals as goal
@@ -19,11 +19,6 @@ lie_within-requires-clause-ordered g c = rw c.payload.ensures (places_ordered c.
 
 pub lie_within-requires-clause-counts : goal.lie_within-requires-clause-counts
 lie_within-requires-clause-counts g c = rw c.payload.ensures (places_counted c.args.limits (box_seen c.args.stbl) c.args.sizes.rows.count c.args.chunks c.args.rows c.requires.chunks c.requires.rows)
-
-pub returns-then-not-lie_within-clause-fault : goal.returns-then-not-lie_within-clause-fault
-returns-then-not-lie_within-clause-fault g c =
-    places_outside c.args.limits (box_seen c.args.stbl) (box_seen c.offsets_leaf.result) c.args.sizes.rows.count c.args.sizes c.args.chunks c.args.rows c.fault.result c.requires.tables c.offsets_leaf.ensures c.requires.sizes c.requires.chunks c.requires.rows
-    (rw c.payload.ensures at (sym c.if-not-lie_within.ensures.same)) c.fault.ensures
 
 pub returns-clause-places : goal.returns-clause-places
 returns-clause-places g c =

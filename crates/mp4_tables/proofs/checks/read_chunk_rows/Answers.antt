@@ -1,12 +1,9 @@
-use Rattle.std.proofs.Common.{arith, sym, ap, codes, false}
-use Rattle.mp4_boxes.specs.declared.fault.Fault.{Fault}
+use Rattle.std.proofs.Common.{arith, sym, codes, false}
 use Rattle.std.proofs.lemmas.Result.{err_from_is_err_and}
 use Rattle.mp4_boxes.specs.words.View.{box_seen}
 use Rattle.mp4_tables.proofs.TableReads.{rows_have}
-use Rattle.mp4_tables.proofs.ChunkReads.{chunk_rows_fail, chunk_rows_disorder, chunk_rows_mismatch, chunk_rows_undescribed, described_as, chunk_rows_read, narrower}
-use Rattle.mp4_boxes.proofs.Among.{true_false}
+use Rattle.mp4_tables.proofs.ChunkReads.{described_as, chunk_rows_read, narrower}
 use Rattle.mp4_tables.specs.format.TableRules.{description_indexes}
-use Rattle.mp4_tables.proofs.Excludes.{fault_excludes}
 use Rattle.std.proofs.Common.{true, refl}
 use Rattle.mp4_tables.specs.format.TableRules.{chunk_counts, test}
 use Rattle.mp4_tables.specs.words.Leaves.{tables_in, surroundings_of}
@@ -14,29 +11,8 @@ use Rattle.mp4_tables.proofs.ChunkReads.{order_as, counts_as}
 use Rattle.mp4_tables.proofs.FirstReads.{chunk_rows_stop, chunk_rows_judged}
 use Rattle.mp4_tables.proofs.checks.read_chunk_rows.Goals as goal
 
-pub returns-in_err-rows-clause-fault : goal.returns-in_err-rows-clause-fault
-returns-in_err-rows-clause-fault g c =
-    let p = err_from_is_err_and c.from_residual.result c.from_residual.ensures.1 in
-    rw (p.1, p.2) (λ _. chunk_rows_fail c.args.limits (box_seen c.args.stbl) (box_seen c.only_of-leaf.result) c.in_err-rows.field-0.0 c.only_of-leaf.ensures c.in_err-rows.ensures.fault)
-
-pub returns-in_err-rows-clause-only : goal.returns-in_err-rows-clause-only
-returns-in_err-rows-clause-only g c = λ a.
-    absurd (fault_excludes c.args.limits (box_seen c.args.stbl) c.in_err-rows.field-0.0 c.requires.tables
-    (chunk_rows_fail c.args.limits (box_seen c.args.stbl) (box_seen c.only_of-leaf.result) c.in_err-rows.field-0.0 c.only_of-leaf.ensures c.in_err-rows.ensures.fault) a)
-
 pub are_ordered-requires : goal.are_ordered-requires
 are_ordered-requires g c = rw c.payload-payload.ensures (rows_have 0 12 (codes "stsc") (box_seen c.args.stbl) (box_seen c.only_of-leaf.result) c.in_ok-rows.rows c.requires.tables c.only_of-leaf.ensures c.in_ok-rows.ensures.rows)
-
-pub returns-then-not-are_ordered-clause-fault : goal.returns-then-not-are_ordered-clause-fault
-returns-then-not-are_ordered-clause-fault g c = λ _.
-    chunk_rows_disorder c.args.limits (box_seen c.args.stbl) (box_seen c.only_of-leaf.result) c.args.chunks c.in_ok-rows.rows c.fault.result c.requires.tables c.only_of-leaf.ensures c.in_ok-rows.ensures.rows c.requires.chunks
-    (rw c.payload-payload.ensures at (sym c.if-not-are_ordered.ensures.same)) c.fault.ensures
-
-pub returns-then-not-are_ordered-clause-only : goal.returns-then-not-are_ordered-clause-only
-returns-then-not-are_ordered-clause-only g c = λ a.
-    absurd (fault_excludes c.args.limits (box_seen c.args.stbl) _ c.requires.tables
-    (chunk_rows_disorder c.args.limits (box_seen c.args.stbl) (box_seen c.only_of-leaf.result) c.args.chunks c.in_ok-rows.rows c.fault.result c.requires.tables c.only_of-leaf.ensures c.in_ok-rows.ensures.rows c.requires.chunks
-    (rw c.payload-payload.ensures at (sym c.if-not-are_ordered.ensures.same)) c.fault.ensures) a)
 
 pub returns-then-not-are_ordered-clause-work : goal.returns-then-not-are_ordered-clause-work
 returns-then-not-are_ordered-clause-work g c =
@@ -52,17 +28,6 @@ chunk_counts_are-requires-clause-offsets g c = rw c.payload-payload.ensures c.re
 
 pub chunk_counts_are-requires-clause-ordered : goal.chunk_counts_are-requires-clause-ordered
 chunk_counts_are-requires-clause-ordered g c = sym c.if-not-are_ordered.ensures.same
-
-pub returns-then-not-chunk_counts_are-clause-fault : goal.returns-then-not-chunk_counts_are-clause-fault
-returns-then-not-chunk_counts_are-clause-fault g c = λ _.
-    chunk_rows_mismatch c.args.limits (box_seen c.args.stbl) (box_seen c.only_of-leaf.result) c.args.chunks c.in_ok-rows.rows c.args.n c.fault-then-not-chunk_counts_are.result c.requires.tables c.only_of-leaf.ensures c.in_ok-rows.ensures.rows c.requires.chunks c.requires.sizes
-    (rw c.payload-payload.ensures at (sym c.if-not-are_ordered.ensures.same)) (rw c.payload-payload.ensures at (sym c.if-not-chunk_counts_are.ensures.same)) c.fault-then-not-chunk_counts_are.ensures
-
-pub returns-then-not-chunk_counts_are-clause-only : goal.returns-then-not-chunk_counts_are-clause-only
-returns-then-not-chunk_counts_are-clause-only g c = λ a.
-    absurd (fault_excludes c.args.limits (box_seen c.args.stbl) _ c.requires.tables
-    (chunk_rows_mismatch c.args.limits (box_seen c.args.stbl) (box_seen c.only_of-leaf.result) c.args.chunks c.in_ok-rows.rows c.args.n c.fault-then-not-chunk_counts_are.result c.requires.tables c.only_of-leaf.ensures c.in_ok-rows.ensures.rows c.requires.chunks c.requires.sizes
-    (rw c.payload-payload.ensures at (sym c.if-not-are_ordered.ensures.same)) (rw c.payload-payload.ensures at (sym c.if-not-chunk_counts_are.ensures.same)) c.fault-then-not-chunk_counts_are.ensures) a)
 
 pub returns-then-not-chunk_counts_are-clause-work : goal.returns-then-not-chunk_counts_are-clause-work
 returns-then-not-chunk_counts_are-clause-work g c =
@@ -80,19 +45,6 @@ are_described-requires-clause-offsets g c = rw c.payload-payload.ensures c.requi
 
 pub are_described-requires-clause-ordered : goal.are_described-requires-clause-ordered
 are_described-requires-clause-ordered g c = sym c.if-not-are_ordered.ensures.same
-
-pub returns-then-not-are_described-clause-fault : goal.returns-then-not-are_described-clause-fault
-returns-then-not-are_described-clause-fault g c = λ d.
-    let is = c.fault-then-not-are_described.ensures in
-    chunk_rows_undescribed c.args.limits (box_seen c.args.stbl) (box_seen c.only_of-leaf.result) c.args.chunks c.in_ok-rows.rows c.args.n c.fault-then-not-are_described.result c.requires.tables (d (ap (λ (f : Fault). f.kind) is))
-    c.only_of-leaf.ensures c.in_ok-rows.ensures.rows c.requires.chunks c.requires.sizes
-    (rw c.payload-payload.ensures at (sym c.if-not-are_ordered.ensures.same)) (rw c.payload-payload.ensures at (sym c.if-not-chunk_counts_are.ensures.same)) (rw c.payload-payload.ensures at (sym c.if-not-are_described.ensures.same)) c.fault-then-not-are_described.ensures
-
-pub returns-then-not-are_described-clause-only : goal.returns-then-not-are_described-clause-only
-returns-then-not-are_described-clause-only g c = λ a.
-    absurd (true_false _ (a.fit description_indexes)
-    (described_as c.args.limits (box_seen c.args.stbl) (box_seen c.only_of-leaf.result) c.args.chunks c.in_ok-rows.rows c.args.n false c.requires.tables c.only_of-leaf.ensures c.in_ok-rows.ensures.rows c.requires.chunks c.requires.sizes
-    (rw c.payload-payload.ensures at (sym c.if-not-chunk_counts_are.ensures.same)) (rw c.payload-payload.ensures at (sym c.if-not-are_described.ensures.same))))
 
 pub returns-then-not-are_described-clause-work : goal.returns-then-not-are_described-clause-work
 returns-then-not-are_described-clause-work g c =

@@ -2,7 +2,7 @@ use Rattle.std.proofs.Common.{arith, ap, codes, length, List, ℕ}
 use Rattle.std.proofs.lemmas.Result.{err_from_is_err_and}
 use Rattle.mp4_boxes.specs.words.View.{box_seen}
 use Rattle.mp4_tables.proofs.LeafRows.{lies_in, first_is_child}
-use Rattle.mp4_tables.proofs.TableReads.{dependencies_version, dependencies_read, dependencies_none, dependencies_short}
+use Rattle.mp4_tables.proofs.TableReads.{dependencies_read, dependencies_none}
 use Rattle.std.proofs.Common.{[], ◌∷◌, true, false, drop, length-drop}
 use Rattle.mp4_tables.specs.format.TableRules.{dependency_room}
 use Rattle.mp4_tables.proofs.ChunkLists.{yes_le, no_le}
@@ -12,19 +12,6 @@ use Rattle.mp4_tables.proofs.checks.read_dependencies.Goals as goal
 
 pub returns-in_default-clause-rows : goal.returns-in_default-clause-rows
 returns-in_default-clause-rows c = dependencies_none (box_seen c.args.stbl) c.args.n c.in_default.ensures
-
-pub returns-in_err-version_of-clause-fault : goal.returns-in_err-version_of-clause-fault
-returns-in_err-version_of-clause-fault c =
-    let p = err_from_is_err_and c.from_residual.result c.from_residual.ensures.1 in
-    rw (p.1, p.2) (dependencies_version c.args.limits (box_seen c.args.stbl) (box_seen c.in-Some.leaf) c.in_err-version_of.field-0.0 c.in-Some.ensures c.in_err-version_of.ensures.fault)
-
-pub returns-then-length-n-clause-fault : goal.returns-then-length-n-clause-fault
-returns-then-length-n-clause-fault c =
-    let q = ap (λ (xs : List ℕ). length xs) c.payload.ensures in
-    let v = c.in_ok-version_of.ensures.version in
-    let k = c.in_ok-version_of.ensures.known in
-    let l = c.in_ok-version_of.ensures.long in
-    dependencies_short c.args.limits (box_seen c.args.stbl) (box_seen c.in-Some.leaf) c.args.n c.fault.result c.requires.tables c.in-Some.ensures (omega arith) (omega arith) c.requires.sizes (omega arith) c.fault.ensures
 
 pub place_in-requires : goal.place_in-requires
 place_in-requires c = let i = (lies_in (box_seen c.args.stbl) (box_seen c.in-Some.leaf) c.requires.tables (first_is_child (codes "sdtp") (box_seen c.args.stbl) (box_seen c.in-Some.leaf) c.in-Some.ensures)).is in omega arith

@@ -1,23 +1,13 @@
 use Rattle.std.proofs.Common.{arith, sym, codes, true, false}
 use Rattle.std.proofs.lemmas.Result.{err_from_is_err_and}
 use Rattle.mp4_boxes.specs.words.View.{box_seen}
-use Rattle.mp4_tables.proofs.TableReads.{durations_fail, durations_mismatch, durations_read, rows_have}
+use Rattle.mp4_tables.proofs.TableReads.{durations_read, rows_have}
 use Rattle.mp4_tables.proofs.FirstReads.{durations_stop, durations_judged}
 use Rattle.mp4_tables.proofs.checks.read_durations.Goals as goal
-
-pub returns-in_err-rows-clause-fault : goal.returns-in_err-rows-clause-fault
-returns-in_err-rows-clause-fault g c =
-    let p = err_from_is_err_and c.from_residual.result c.from_residual.ensures.1 in
-    rw (p.1, p.2) (durations_fail c.args.limits (box_seen c.args.stbl) (box_seen c.only_of-leaf.result) c.in_err-rows.field-0.0 c.only_of-leaf.ensures c.in_err-rows.ensures.fault)
 
 pub counts_are-requires : goal.counts_are-requires
 counts_are-requires g c =
     rw c.payload.ensures (rows_have 0 8 (codes "stts") (box_seen c.args.stbl) (box_seen c.only_of-leaf.result) c.in_ok-rows.rows c.requires.tables c.only_of-leaf.ensures c.in_ok-rows.ensures.rows)
-
-pub returns-then-not-counts_are-clause-fault : goal.returns-then-not-counts_are-clause-fault
-returns-then-not-counts_are-clause-fault g c =
-    durations_mismatch c.args.limits (box_seen c.args.stbl) (box_seen c.only_of-leaf.result) c.in_ok-rows.rows c.args.n c.fault.result c.requires.tables c.only_of-leaf.ensures c.in_ok-rows.ensures.rows c.requires.sizes
-    (rw c.payload.ensures at (sym c.if-not-counts_are.ensures.same)) c.fault.ensures
 
 pub returns-then-not-counts_are-clause-work : goal.returns-then-not-counts_are-clause-work
 returns-then-not-counts_are-clause-work g c =

@@ -2,7 +2,7 @@ use Rattle.std.proofs.Common.{arith, sym, codes, ◌∙◌, true, false}
 use Rattle.std.proofs.lemmas.Result.{err_from_is_err_and}
 use Rattle.mp4_boxes.specs.words.View.{box_seen}
 use Rattle.mp4_tables.proofs.TableReads.{rows_have}
-use Rattle.mp4_tables.proofs.OffsetReads.{offsets_fail, offsets_mismatch, offsets_large, offsets_read, offsets_none, unsigned_version}
+use Rattle.mp4_tables.proofs.OffsetReads.{offsets_read, offsets_none, unsigned_version}
 use Rattle.std.proofs.Common.{[], ◌∷◌, refl}
 use Rattle.mp4_boxes.specs.format.Layout.{ctts, has_large_offset}
 use Rattle.mp4_tables.specs.format.TableRules.{offset_counts}
@@ -14,18 +14,8 @@ use Rattle.mp4_tables.proofs.checks.read_offsets.Goals as goal
 pub returns-in_default-clause-rows : goal.returns-in_default-clause-rows
 returns-in_default-clause-rows g c = offsets_none (box_seen c.args.stbl) c.args.n c.in_default.ensures
 
-pub returns-in_err-rows-clause-fault : goal.returns-in_err-rows-clause-fault
-returns-in_err-rows-clause-fault g c =
-    let p = err_from_is_err_and c.from_residual.result c.from_residual.ensures.1 in
-    rw (p.1, p.2) (offsets_fail c.args.limits (box_seen c.args.stbl) (box_seen c.in-Some.leaf) c.in_err-rows.field-0.0 c.in-Some.ensures c.in_err-rows.ensures.fault)
-
 pub counts_are-requires : goal.counts_are-requires
 counts_are-requires g c = rw c.payload.ensures (rows_have 1 8 (codes "ctts") (box_seen c.args.stbl) (box_seen c.in-Some.leaf) c.in_ok-rows.rows c.requires.tables c.in-Some.ensures c.in_ok-rows.ensures.rows)
-
-pub returns-then-not-counts_are-clause-fault : goal.returns-then-not-counts_are-clause-fault
-returns-then-not-counts_are-clause-fault g c =
-    offsets_mismatch c.args.limits (box_seen c.args.stbl) (box_seen c.in-Some.leaf) c.in_ok-rows.rows c.args.n c.fault.result c.requires.tables c.in-Some.ensures c.in_ok-rows.ensures.rows c.requires.sizes
-    (rw c.payload.ensures at (sym c.if-not-counts_are.ensures.same)) c.fault.ensures
 
 pub returns-then-not-counts_are-clause-work : goal.returns-then-not-counts_are-clause-work
 returns-then-not-counts_are-clause-work g c =
@@ -49,12 +39,6 @@ returns-then-is_signed-clause-work g c =
 
 pub are_below-requires : goal.are_below-requires
 are_below-requires g c = rw c.payload-2.ensures (rows_have 1 8 (codes "ctts") (box_seen c.args.stbl) (box_seen c.in-Some.leaf) c.in_ok-rows.rows c.requires.tables c.in-Some.ensures c.in_ok-rows.ensures.rows)
-
-pub returns-then-not-are_below-clause-fault : goal.returns-then-not-are_below-clause-fault
-returns-then-not-are_below-clause-fault g c =
-    offsets_large c.args.limits (box_seen c.args.stbl) (box_seen c.in-Some.leaf) c.in_ok-rows.rows c.fault-then-not-are_below.result c.requires.tables c.in-Some.ensures c.in_ok-rows.ensures.rows
-    (unsigned_version (box_seen c.in-Some.leaf) c.in_ok-rows.ensures.rows.version (sym c.if-is_signed.false ∙ c.is_signed.ensures))
-    (rw c.payload-2.ensures at (sym c.if-not-are_below.ensures.same)) c.fault-then-not-are_below.ensures
 
 pub returns-then-not-are_below-clause-work : goal.returns-then-not-are_below-clause-work
 returns-then-not-are_below-clause-work g c =

@@ -1,7 +1,7 @@
 use Rattle.std.proofs.Common.{arith, sym, codes}
 use Rattle.std.proofs.lemmas.Result.{err_from_is_err_and}
 use Rattle.mp4_boxes.specs.words.View.{box_seen}
-use Rattle.mp4_tables.proofs.TableReads.{sync_fail, sync_disorder, sync_read, sync_none, rows_have}
+use Rattle.mp4_tables.proofs.TableReads.{sync_read, sync_none, rows_have}
 use Rattle.std.proofs.Common.{[], ◌∷◌, true, false}
 use Rattle.mp4_tables.specs.format.TableRules.{sync_order}
 use Rattle.mp4_tables.proofs.FirstTables.{none_tested}
@@ -11,19 +11,9 @@ use Rattle.mp4_tables.proofs.checks.read_sync.Goals as goal
 pub returns-in_default-clause-rows : goal.returns-in_default-clause-rows
 returns-in_default-clause-rows g c = sync_none (box_seen c.args.stbl) c.args.n c.in_default.ensures
 
-pub returns-in_err-rows-clause-fault : goal.returns-in_err-rows-clause-fault
-returns-in_err-rows-clause-fault g c =
-    let p = err_from_is_err_and c.from_residual.result c.from_residual.ensures.1 in
-    rw (p.1, p.2) (sync_fail c.args.limits (box_seen c.args.stbl) (box_seen c.in-Some.leaf) c.in_err-rows.field-0.0 c.in-Some.ensures c.in_err-rows.ensures.fault)
-
 pub are_numbers-requires : goal.are_numbers-requires
 are_numbers-requires g c =
     rw c.payload.ensures (rows_have 0 4 (codes "stss") (box_seen c.args.stbl) (box_seen c.in-Some.leaf) c.in_ok-rows.rows c.requires.tables c.in-Some.ensures c.in_ok-rows.ensures.rows)
-
-pub returns-then-not-are_numbers-clause-fault : goal.returns-then-not-are_numbers-clause-fault
-returns-then-not-are_numbers-clause-fault g c =
-    sync_disorder c.args.limits (box_seen c.args.stbl) (box_seen c.in-Some.leaf) c.in_ok-rows.rows c.args.n c.fault.result c.requires.tables c.in-Some.ensures c.in_ok-rows.ensures.rows c.requires.sizes
-    (rw c.payload.ensures at (sym c.if-not-are_numbers.ensures.same)) c.fault.ensures
 
 pub returns-then-not-are_numbers-clause-work : goal.returns-then-not-are_numbers-clause-work
 returns-then-not-are_numbers-clause-work g c =

@@ -2,7 +2,6 @@ use Rattle.std.proofs.Common.{◌<◌, ◌^◌, rules}
 use Rattle.mp4_boxes.specs.words.View.{box_seen}
 use Rattle.mp4_tables.proofs.SizeReads.{sizes_known}
 use Rattle.mp4_tables.proofs.Assembly.{tables_read}
-use Rattle.mp4_tables.proofs.Excludes.{fault_excludes}
 use Rattle.std.proofs.lemmas.Result.{err_from_is_err_and}
 use Rattle.mp4_tables.proofs.FirstOfAll.{at_sizes, at_durations, at_offsets, at_chunks, at_chunk_rows, at_check_places, at_sync, at_dependencies, at_groups, none_at_all}
 use Rattle.mp4_tables.proofs.checks.read_tables.Goals as goal
@@ -39,30 +38,6 @@ returns-clause-tables g c =
       dependencies = c.in_ok-dependencies.ensures.rows;
       groups = c.in_ok-groups.ensures.groups;
     })
-
-pub returns-in_err-sizes-clause-only : goal.returns-in_err-sizes-clause-only
-returns-in_err-sizes-clause-only g c = λ a. absurd (fault_excludes c.args.limits (box_seen c.args.stbl) c.in_err-sizes.field-0.0 c.requires c.in_err-sizes.ensures.fault a)
-
-pub returns-in_err-durations-clause-only : goal.returns-in_err-durations-clause-only
-returns-in_err-durations-clause-only g c = λ a. absurd (fault_excludes c.args.limits (box_seen c.args.stbl) c.in_err-durations.field-0.0 c.requires c.in_err-durations.ensures.fault a)
-
-pub returns-in_err-offsets-clause-only : goal.returns-in_err-offsets-clause-only
-returns-in_err-offsets-clause-only g c = λ a. absurd (fault_excludes c.args.limits (box_seen c.args.stbl) c.in_err-offsets.field-0.0 c.requires c.in_err-offsets.ensures.fault a)
-
-pub returns-in_err-chunks-clause-only : goal.returns-in_err-chunks-clause-only
-returns-in_err-chunks-clause-only g c = λ a. absurd (fault_excludes c.args.limits (box_seen c.args.stbl) c.in_err-chunks.field-0.0 c.requires c.in_err-chunks.ensures.fault a)
-
-pub returns-in_err-check_places-clause-only : goal.returns-in_err-check_places-clause-only
-returns-in_err-check_places-clause-only g c = λ a. absurd (fault_excludes c.args.limits (box_seen c.args.stbl) c.in_err-check_places.field-0.0 c.requires c.in_err-check_places.ensures.fault a)
-
-pub returns-in_err-sync-clause-only : goal.returns-in_err-sync-clause-only
-returns-in_err-sync-clause-only g c = λ a. absurd (fault_excludes c.args.limits (box_seen c.args.stbl) c.in_err-sync.field-0.0 c.requires c.in_err-sync.ensures.fault a)
-
-pub returns-in_err-dependencies-clause-only : goal.returns-in_err-dependencies-clause-only
-returns-in_err-dependencies-clause-only g c = λ a. absurd (fault_excludes c.args.limits (box_seen c.args.stbl) c.in_err-dependencies.field-0.0 c.requires c.in_err-dependencies.ensures.fault a)
-
-pub returns-in_err-groups-clause-only : goal.returns-in_err-groups-clause-only
-returns-in_err-groups-clause-only g c = λ a. absurd (fault_excludes c.args.limits (box_seen c.args.stbl) c.in_err-groups.field-0.0 c.requires c.in_err-groups.ensures.fault a)
 
 pub returns-in_err-sizes-clause-exact : goal.returns-in_err-sizes-clause-exact
 returns-in_err-sizes-clause-exact g c =

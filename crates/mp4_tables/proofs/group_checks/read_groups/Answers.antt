@@ -1,7 +1,7 @@
 use Rattle.std.proofs.Common.{arith, sym, ◌∙◌}
 use Rattle.std.proofs.lemmas.Result.{err_from_is_err_and}
 use Rattle.mp4_boxes.specs.words.View.{box_seen}
-use Rattle.mp4_tables.proofs.GroupWalks.{next_child, passed_first, passed_next, child_fault, rows_bounded, none_passed, first_of_next, none_left}
+use Rattle.mp4_tables.proofs.GroupWalks.{next_child, passed_first, passed_next, rows_bounded, none_passed, first_of_next, none_left}
 use Rattle.mp4_tables.proofs.group_checks.read_groups.Goals as goal
 
 pub loop-child-init : goal.loop-child-init
@@ -12,12 +12,6 @@ loop-child-init g c =
 
 pub read_child-requires-clause-child : goal.read_child-requires-clause-child
 read_child-requires-clause-child g c = next_child (box_seen c.args.stbl) (box_seen c.in-Some.child) c.args.n c.loop-child.groups c.loop-child.child-iterator c.next.new.self c.loop-child.invariant.2 c.in-Some.ensures.steps
-
-pub returns-in_err-groups-clause-fault : goal.returns-in_err-groups-clause-fault
-returns-in_err-groups-clause-fault g c =
-    let p = err_from_is_err_and c.from_residual.result c.from_residual.ensures.1 in
-    rw (p.1, p.2)
-    (child_fault c.args.limits (box_seen c.args.stbl) (box_seen c.in-Some.child) c.args.n c.loop-child.groups c.loop-child.child-iterator c.next.new.self c.in_err-groups.field-0.0 c.requires.tables c.requires.sizes c.loop-child.invariant.2 c.in-Some.ensures.steps c.in_err-groups.ensures.fault)
 
 pub loop-child-preserved : goal.loop-child-preserved
 loop-child-preserved g c =

@@ -3,30 +3,10 @@ use Rattle.mp4_tables.specs.format.Repeated.{total}
 use Rattle.mp4_tables.specs.words.Rows.{runs_at}
 use Rattle.mp4_boxes.specs.words.View.{box_seen}
 use Rattle.mp4_tables.specs.words.Keys.{key_seen, keys_seen}
-use Rattle.mp4_tables.proofs.GroupReads.{group_twice, group_fifth, group_range, group_many, group_next, not_true}
+use Rattle.mp4_tables.proofs.GroupReads.{group_next, not_true}
 use Rattle.mp4_tables.proofs.GroupWalks.{group_passed}
 use Rattle.mp4_tables.proofs.FirstGroups.{group_is_second, group_is_fifth, group_is_high, group_is_long, group_is_kept}
 use Rattle.mp4_tables.proofs.group_checks.read_next.Goals as goal
-
-pub returns-then-names-clause-fault : goal.returns-then-names-clause-fault
-returns-then-names-clause-fault g c =
-    group_twice (box_seen c.args.stbl) (box_seen c.args.leaf) (key_seen c.in_ok-key.key) c.in_ok-key.rows c.args.n c.args.groups c.fault.result c.in_ok-key.ensures.read (sym c.if-names.ensures) c.fault.ensures
-
-pub returns-then-count-eq4-clause-fault : goal.returns-then-count-eq4-clause-fault
-returns-then-count-eq4-clause-fault g c =
-    let e = c.count.ensures.is in
-    let t = c.if-count-eq4.true in
-    group_fifth (box_seen c.args.stbl) (box_seen c.args.leaf) (key_seen c.in_ok-key.key) c.in_ok-key.rows c.args.n c.args.groups c.fault-then-count-eq4.result c.in_ok-key.ensures.read (sym c.if-names.ensures) (omega arith) c.fault-then-count-eq4.ensures
-
-pub returns-then-not-are_below-clause-fault : goal.returns-then-not-are_below-clause-fault
-returns-then-not-are_below-clause-fault g c =
-    group_range (box_seen c.args.stbl) (box_seen c.args.leaf) (key_seen c.in_ok-key.key) c.in_ok-key.rows c.args.n c.args.groups c.fault-then-not-are_below.result c.in_ok-key.ensures.read (rw c.payload-payload.ensures at (sym c.if-not-are_below.ensures.same)) c.fault-then-not-are_below.ensures
-
-pub returns-then-not-counts_are_within-clause-fault : goal.returns-then-not-counts_are_within-clause-fault
-returns-then-not-counts_are_within-clause-fault g c =
-    let out : total (runs_at c.payload-payload.result.now c.in_ok-key.rows) ≤ c.args.n → ⊥ = λ h. not_true (sym c.if-not-counts_are_within.true ∙ c.counts_are_within.ensures.same.1 h) in
-    group_many (box_seen c.args.stbl) (box_seen c.args.leaf) (key_seen c.in_ok-key.key) c.in_ok-key.rows c.args.n c.args.groups c.fault-then-not-counts_are_within.result c.in_ok-key.ensures.read
-    (rw c.payload-payload.ensures at out) c.fault-then-not-counts_are_within.ensures
 
 pub returns-clause-next : goal.returns-clause-next
 returns-clause-next g c =

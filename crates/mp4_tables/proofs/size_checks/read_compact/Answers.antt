@@ -5,7 +5,7 @@ use Rattle.mp4_boxes.specs.format.Layout.{size_bits, is_size_bits}
 use Rattle.mp4_tables.specs.words.Leaves.{IsFormOf}
 use Rattle.mp4_boxes.specs.words.View.{box_seen}
 use Rattle.mp4_tables.proofs.LeafRows.{lies_in, first_is_child}
-use Rattle.mp4_tables.proofs.SizeReads.{compact_version, compact_short, compact_many, compact_value, compact_read, compact_len_is, bits_are, compact_needed}
+use Rattle.mp4_tables.proofs.SizeReads.{compact_read, compact_len_is, bits_are, compact_needed}
 use Rattle.std.proofs.Common.{true, false}
 use Rattle.std.specs.Prelude.{nat_le, not}
 use Rattle.mp4_boxes.specs.format.Layout.{stz2, needed, has_bad_value}
@@ -15,34 +15,6 @@ use Rattle.mp4_tables.specs.declared.places.SizeForm.TheVariants as forms
 use Rattle.mp4_tables.proofs.ChunkLists.{yes_le, no_le}
 use Rattle.mp4_tables.proofs.FirstReads.{found_compact, sizes_stop, sizes_judged}
 use Rattle.mp4_tables.proofs.size_checks.read_compact.Goals as goal
-
-pub returns-in_err-version_of-clause-fault : goal.returns-in_err-version_of-clause-fault
-returns-in_err-version_of-clause-fault c =
-    let p = err_from_is_err_and c.from_residual.result c.from_residual.ensures.1 in
-    rw (p.1, p.2) (compact_version c.args.limits (box_seen c.args.stbl) (box_seen c.args.leaf) c.in_err-version_of.field-0.0 c.requires.first c.in_err-version_of.ensures.fault)
-
-pub returns-then-payload-lt12-clause-fault : goal.returns-then-payload-lt12-clause-fault
-returns-then-payload-lt12-clause-fault c =
-    let q = ap (λ (xs : List ℕ). length xs) c.payload-payload.ensures in
-    compact_short c.args.limits (box_seen c.args.stbl) (box_seen c.args.leaf) c.fault.result c.requires.first (omega arith) c.fault.ensures
-
-pub returns-then-payload-compact_len-clause-fault : goal.returns-then-payload-compact_len-clause-fault
-returns-then-payload-compact_len-clause-fault c =
-    let q = ap (λ (xs : List ℕ). length xs) c.payload-payload.ensures in
-    let v = c.in_ok-version_of.ensures.version in
-    let k = c.in_ok-version_of.ensures.known in
-    let count : c.u32_at-count.result ≡ field (box_seen c.args.leaf).payload 8 4 = rw c.payload-payload.ensures at c.u32_at-count.ensures in
-    let l = compact_len_is (box_seen c.args.leaf) c.payload-payload.result.now _ c.u32_at-count.result c.compact_len.result c.payload-payload.ensures refl c.u32_at-count.ensures c.compact_len.ensures in
-    compact_short c.args.limits (box_seen c.args.stbl) (box_seen c.args.leaf) c.fault-then-payload-compact_len.result c.requires.first (omega arith) c.fault-then-payload-compact_len.ensures
-
-pub returns-then-count-limits-clause-fault : goal.returns-then-count-limits-clause-fault
-returns-then-count-limits-clause-fault c =
-    let q = ap (λ (xs : List ℕ). length xs) c.payload-payload.ensures in
-    let v = c.in_ok-version_of.ensures.version in
-    let k = c.in_ok-version_of.ensures.known in
-    let count : c.u32_at-count.result ≡ field (box_seen c.args.leaf).payload 8 4 = rw c.payload-payload.ensures at c.u32_at-count.ensures in
-    let l = compact_len_is (box_seen c.args.leaf) c.payload-payload.result.now _ c.u32_at-count.result c.compact_len.result c.payload-payload.ensures refl c.u32_at-count.ensures c.compact_len.ensures in
-    compact_many c.args.limits (box_seen c.args.stbl) (box_seen c.args.leaf) c.fault-then-count-limits.result c.requires.tables c.requires.none c.requires.first (omega arith) (omega arith) (omega arith) c.fault-then-count-limits.ensures
 
 pub place_in-place-requires : goal.place_in-place-requires
 place_in-place-requires c = let i = (lies_in (box_seen c.args.stbl) (box_seen c.args.leaf) c.requires.tables (first_is_child (codes "stz2") (box_seen c.args.stbl) (box_seen c.args.leaf) c.requires.first)).is in omega arith
@@ -57,16 +29,6 @@ returns-in-Some-clause-sizes c =
     let bits : slice_index c.payload-payload.result.now 7 ≡ size_bits (box_seen c.args.leaf).payload = bits_are c.payload-payload.result.now (slice_index c.payload-payload.result.now 7) refl ∙ ap size_bits c.payload-payload.ensures in
     let p = c.place_in-place.ensures in
     compact_read c.args.limits (box_seen c.args.stbl) (box_seen c.args.leaf) c.in-Some.form _ c.requires.tables c.requires.none c.requires.first (omega arith) (subst (IsFormOf c.in-Some.form) bits c.in-Some.ensures) (omega arith) count (omega arith) (omega arith)
-
-pub returns-in-None-clause-fault : goal.returns-in-None-clause-fault
-returns-in-None-clause-fault c =
-    let q = ap (λ (xs : List ℕ). length xs) c.payload-payload.ensures in
-    let v = c.in_ok-version_of.ensures.version in
-    let k = c.in_ok-version_of.ensures.known in
-    let count : c.u32_at-count.result ≡ field (box_seen c.args.leaf).payload 8 4 = rw c.payload-payload.ensures at c.u32_at-count.ensures in
-    let l = compact_len_is (box_seen c.args.leaf) c.payload-payload.result.now _ c.u32_at-count.result c.compact_len.result c.payload-payload.ensures refl c.u32_at-count.ensures c.compact_len.ensures in
-    let bits : slice_index c.payload-payload.result.now 7 ≡ size_bits (box_seen c.args.leaf).payload = bits_are c.payload-payload.result.now (slice_index c.payload-payload.result.now 7) refl ∙ ap size_bits c.payload-payload.ensures in
-    compact_value c.args.limits (box_seen c.args.stbl) (box_seen c.args.leaf) c.fault-in-None.result c.requires.first (omega arith) (omega arith) (ap is_size_bits (sym bits) ∙ c.in-None.ensures) c.fault-in-None.ensures
 
 pub returns-in_err-version_of-clause-exact : goal.returns-in_err-version_of-clause-exact
 returns-in_err-version_of-clause-exact c =

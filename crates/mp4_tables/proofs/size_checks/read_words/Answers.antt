@@ -1,9 +1,9 @@
-use Rattle.std.proofs.Common.{arith, sym, ap, codes, ◌≡◌, ◌∙◌, length, List, ℕ, true, false}
+use Rattle.std.proofs.Common.{arith, ap, codes, ◌≡◌, length, List, ℕ, true, false}
 use Rattle.std.proofs.lemmas.Result.{err_from_is_err_and}
 use Rattle.mp4_boxes.specs.format.Bytes.{field}
 use Rattle.mp4_boxes.specs.words.View.{box_seen}
 use Rattle.mp4_tables.proofs.LeafRows.{lies_in, first_is_child}
-use Rattle.mp4_tables.proofs.SizeReads.{words_version, words_short, words_rows_short, words_many, words_read, one_size_read, is_zero, is_some, words_needed}
+use Rattle.mp4_tables.proofs.SizeReads.{words_read, one_size_read, is_zero, is_some, words_needed}
 use Rattle.std.proofs.Common.{refl}
 use Rattle.std.specs.Prelude.{nat_le, ◌==◌}
 use Rattle.mp4_boxes.specs.format.Layout.{stsz, needed}
@@ -12,38 +12,8 @@ use Rattle.mp4_tables.proofs.ChunkLists.{yes_le, no_le}
 use Rattle.mp4_tables.proofs.FirstReads.{found_words, sizes_stop, sizes_judged}
 use Rattle.mp4_tables.proofs.size_checks.read_words.Goals as goal
 
-pub returns-in_err-version_of-clause-fault : goal.returns-in_err-version_of-clause-fault
-returns-in_err-version_of-clause-fault c =
-    let p = err_from_is_err_and c.from_residual.result c.from_residual.ensures.1 in
-    rw (p.1, p.2) (words_version c.args.limits (box_seen c.args.stbl) (box_seen c.args.leaf) c.in_err-version_of.field-0.0 c.requires.first c.in_err-version_of.ensures.fault)
-
-pub returns-then-payload-lt12-clause-fault : goal.returns-then-payload-lt12-clause-fault
-returns-then-payload-lt12-clause-fault c =
-    let q = ap (λ (xs : List ℕ). length xs) c.payload-payload.ensures in
-    words_short c.args.limits (box_seen c.args.stbl) (box_seen c.args.leaf) c.fault.result c.requires.first (omega arith) c.fault.ensures
-
 pub place_in-place-requires : goal.place_in-place-requires
 place_in-place-requires c = let i = (lies_in (box_seen c.args.stbl) (box_seen c.args.leaf) c.requires.tables (first_is_child (codes "stsz") (box_seen c.args.stbl) (box_seen c.args.leaf) c.requires.first)).is in omega arith
-
-pub returns-then-payload-count-clause-fault : goal.returns-then-payload-count-clause-fault
-returns-then-payload-count-clause-fault c =
-    let q = ap (λ (xs : List ℕ). length xs) c.payload-payload.ensures in
-    let v = c.in_ok-version_of.ensures.version in
-    let k = c.in_ok-version_of.ensures.known in
-    let size : c.u32_at-size.result ≡ field (box_seen c.args.leaf).payload 4 4 = rw c.payload-payload.ensures at c.u32_at-size.ensures in
-    let count : c.u32_at-count.result ≡ field (box_seen c.args.leaf).payload 8 4 = rw c.payload-payload.ensures at c.u32_at-count.ensures in
-    let p = c.place_in-place.ensures in
-    words_rows_short c.args.limits (box_seen c.args.stbl) (box_seen c.args.leaf) c.fault-then-payload-count.result c.requires.first (sym size ∙ c.if-size-eq0.true) (omega arith) c.fault-then-payload-count.ensures
-
-pub returns-then-count-limits-clause-fault : goal.returns-then-count-limits-clause-fault
-returns-then-count-limits-clause-fault c =
-    let q = ap (λ (xs : List ℕ). length xs) c.payload-payload.ensures in
-    let v = c.in_ok-version_of.ensures.version in
-    let k = c.in_ok-version_of.ensures.known in
-    let size : c.u32_at-size.result ≡ field (box_seen c.args.leaf).payload 4 4 = rw c.payload-payload.ensures at c.u32_at-size.ensures in
-    let count : c.u32_at-count.result ≡ field (box_seen c.args.leaf).payload 8 4 = rw c.payload-payload.ensures at c.u32_at-count.ensures in
-    let p = c.place_in-place.ensures in
-    words_many c.args.limits (box_seen c.args.stbl) (box_seen c.args.leaf) true c.fault-then-count-limits.result c.requires.tables c.requires.first (is_zero _ _ size c.if-size-eq0.true) (omega arith) (omega arith) (omega arith) c.fault-then-count-limits.ensures
 
 pub returns-then-size-eq0-clause-sizes : goal.returns-then-size-eq0-clause-sizes
 returns-then-size-eq0-clause-sizes c =
@@ -54,16 +24,6 @@ returns-then-size-eq0-clause-sizes c =
     let count : c.u32_at-count.result ≡ field (box_seen c.args.leaf).payload 8 4 = rw c.payload-payload.ensures at c.u32_at-count.ensures in
     let p = c.place_in-place.ensures in
     words_read c.args.limits (box_seen c.args.stbl) (box_seen c.args.leaf) true _ c.requires.tables c.requires.first (is_zero _ _ size c.if-size-eq0.true) (omega arith) (omega arith) count (omega arith) (omega arith)
-
-pub returns-then-count-limits-2-clause-fault : goal.returns-then-count-limits-2-clause-fault
-returns-then-count-limits-2-clause-fault c =
-    let q = ap (λ (xs : List ℕ). length xs) c.payload-payload.ensures in
-    let v = c.in_ok-version_of.ensures.version in
-    let k = c.in_ok-version_of.ensures.known in
-    let size : c.u32_at-size.result ≡ field (box_seen c.args.leaf).payload 4 4 = rw c.payload-payload.ensures at c.u32_at-size.ensures in
-    let count : c.u32_at-count.result ≡ field (box_seen c.args.leaf).payload 8 4 = rw c.payload-payload.ensures at c.u32_at-count.ensures in
-    let p = c.place_in-place.ensures in
-    words_many c.args.limits (box_seen c.args.stbl) (box_seen c.args.leaf) false c.fault-then-count-limits-2.result c.requires.tables c.requires.first (is_some _ _ size c.if-size-eq0.false) (omega arith) (omega arith) (omega arith) c.fault-then-count-limits-2.ensures
 
 pub returns-clause-sizes : goal.returns-clause-sizes
 returns-clause-sizes c =

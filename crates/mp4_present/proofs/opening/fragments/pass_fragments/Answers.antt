@@ -6,7 +6,8 @@ use Rattle.std.proofs.lemmas.Result.{err_from_is_err_and}
 use Rattle.mp4_present.proofs.FragmentPass.{last_moof, left_first, left_next, next_moof, next_whole, stands_behind, top_at}
 use Rattle.mp4_frag.specs.words.OwnTrafs.{own_seen}
 use Rattle.mp4_present.proofs.TrafsNoted.{owns_first, owns_next, all_noted}
-use Rattle.mp4_present.proofs.MoofsPassed.{IsRead, under_way_first, not_read, not_passed, all_passed, next_passed, next_refused}
+use Rattle.mp4_present.proofs.FaultGaps.{not_read, meets, not_searched}
+use Rattle.mp4_present.proofs.MoofsPassed.{IsRead, under_way_first, all_passed, next_passed}
 use Rattle.mp4_present.proofs.MoofsJudged.{judged_first, judged_next, judged_refused, all_judged, refused_judged, unread_judged}
 use Rattle.mp4_boxes.specs.words.View.{box_seen}
 use Rattle.mp4_present.proofs.ChecksCounted.{steps_first, next_checked, next_stopped, stopped_steps, if_stopped, checks_all, checks_done}
@@ -56,7 +57,8 @@ returns-in_err-len-clause-refusal g c =
     let top = top_at items k in
     let whole = next_whole items k c.loop-top-test.true (length file) i.whole in
     let coming = λ (told : IsTrue (g.S.Store.is_honest c.args.store.now)). next_moof items k c.loop-top-test.true file at (i.to_come told) in
-    rw (p.1, p.2) (not_read (g.S.Store.is_honest c.args.store.now) file c.args.states.now c.args.start.room top c.args.start.outline.now.longest _ _ _ _ (λ told. let l = i.left told in left_next file _ _ top l whole.0 ((coming told).0 l.boxes l.are_from)) (search rules)
+    rw (p.1, p.2) (not_read (g.S.Store.is_honest c.args.store.now) top _ _ _ _
+    (λ told. let l = i.left told in rw i.longest (left_next file _ _ top l whole.0 ((coming told).0 l.boxes l.are_from)).short)
     (rw i.reads at c.in_err-len.ensures.refusal))
 
 pub loop-top-preserved : goal.loop-top-preserved
@@ -168,26 +170,7 @@ loop-top-preserved g c =
 pub returns-in_err-check_moof-clause-refusal : goal.returns-in_err-check_moof-clause-refusal
 returns-in_err-check_moof-clause-refusal g c =
     let p = err_from_is_err_and c.from_residual-in_err-check_moof.result c.from_residual-in_err-check_moof.ensures.1 in
-    let at = c.loop-top.invariant.0 in
-    let i = c.loop-top.invariant.1 in
-    let file = g.S.Store.file c.args.store.now in
-    let items = c.deref-top-items.result.now in
-    let k = c.loop-top.top-index in
-    let top = top_at items k in
-    let whole = next_whole items k c.loop-top-test.true (length file) i.whole in
-    let coming = λ (told : IsTrue (g.S.Store.is_honest c.args.store.now)). next_moof items k c.loop-top-test.true file at (i.to_come told) in
-    rw (p.1, p.2) (not_passed (g.S.Store.is_honest c.args.store.now) file c.args.states.now c.loop-top.states c.args.start.room c.loop-top.room c.len-file_len.result _ _ _ (box_seen c.view-moof.result) c.in_err-check_moof.field-0.0 (λ f fails told movie boxes b.
-    let u = i.so told movie boxes b in
-    let r : IsRead file top (box_seen c.view-moof.result) c.read_payload.new.room c.in_ok-len.len = record {
-      is = c.view-moof.ensures;
-      fills = c.in_ok-len.ensures.fills.0;
-      within = c.in_ok-len.ensures.fills.1;
-      read = (rw (i.honesty, i.file) at c.in_ok-len.ensures.bytes) told;
-      of_bytes = c.in_ok-len.ensures.room;
-    } in
-    next_refused file movie boxes at c.args.start.outline.now.longest c.args.states.now c.loop-top.states c.args.start.room c.loop-top.room b u top whole.0 ((coming told).0 u.left.boxes u.left.are_from)
-    (box_seen c.view-moof.result) c.read_payload.new.room c.in_ok-len.len c.len-file_len.result r c.len-file_len.ensures f fails)
-    (c.in_err-check_moof.ensures.refusal))
+    rw (p.1, p.2) (not_searched (g.S.Store.is_honest c.args.store.now) _ _ c.in_err-check_moof.field-0.0 (meets _ _ _ _ (box_seen c.view-moof.result) c.in_err-check_moof.field-0.0 c.in_err-check_moof.ensures.refusal))
 
 pub returns-clause-passed : goal.returns-clause-passed
 returns-clause-passed g c = λ told movie boxes b.

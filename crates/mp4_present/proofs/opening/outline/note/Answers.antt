@@ -1,16 +1,8 @@
 use Rattle.std.proofs.Common.{rules, arith}
 use Rattle.mp4_present.specs.words.Reading.{top_box}
 use Rattle.mp4_present.proofs.TopJudged.{refused_first, repeated_first, movie_fine, other_fine, early_first, fragment_fine}
-use Rattle.mp4_present.proofs.Outlines.{refused, repeated, too_early, seen_movie, seen_other, seen_fragment}
+use Rattle.mp4_present.proofs.Outlines.{seen_movie, seen_other, seen_fragment}
 use Rattle.mp4_present.proofs.opening.outline.note.Goals as goal
-
-pub returns-then-not-allows-clause-fault : goal.returns-then-not-allows-clause-fault
-returns-then-not-allows-clause-fault c file boxes front taken read seen =
-    rw c.new.ensures (refused file boxes c.args.at c.args.header (record { front = front; taken = taken; read = read; room = omega arith }) (search rules))
-
-pub returns-in-Some-clause-fault : goal.returns-in-Some-clause-fault
-returns-in-Some-clause-fault c file boxes front taken read seen =
-    rw c.new-in-Some.ensures (repeated file boxes c.args.at c.args.header c.args.seen c.in-Some.field-0 (record { front = front; taken = taken; read = read; room = omega arith }) seen c.in-Some.is (search rules))
 
 pub returns-in-None-clause-noted : goal.returns-in-None-clause-noted
 returns-in-None-clause-noted c file boxes front taken read seen =
@@ -19,10 +11,6 @@ returns-in-None-clause-noted c file boxes front taken read seen =
 pub returns-then-not-is-clause-noted : goal.returns-then-not-is-clause-noted
 returns-then-not-is-clause-noted c file boxes front taken read seen =
     seen_other file boxes c.args.at c.args.header c.args.seen (record { front = front; taken = taken; read = read; room = omega arith }) seen (search rules) (search rules) (search rules)
-
-pub returns-then-is_none-clause-fault : goal.returns-then-is_none-clause-fault
-returns-then-is_none-clause-fault c file boxes front taken read seen =
-    rw c.new-then-is_none.ensures (too_early file boxes c.args.at c.args.header c.args.seen (record { front = front; taken = taken; read = read; room = omega arith }) seen (search rules) (search rules))
 
 pub returns-clause-noted : goal.returns-clause-noted
 returns-clause-noted c file boxes front taken read seen =

@@ -5,7 +5,8 @@ use Rattle.mp4_boxes.proofs.Among.{all_append}
 use Rattle.mp4_present.specs.words.Movies.{IsWhole}
 use Rattle.mp4_present.proofs.Fragmented.{moofs_ended, moofs_more, moofs_other, no_moofs}
 use Rattle.mp4_present.proofs.TopJudged.{refuses_top, top_unread, top_failed, top_goes_more, top_lacks, top_holds, top_ends}
-use Rattle.mp4_present.proofs.Outlines.{outlining_none, outlining_more, refuses, no_movie, outlined}
+use Rattle.mp4_present.proofs.Outlines.{outlining_none, outlining_more, outlined}
+use Rattle.mp4_present.proofs.Refusals.{not_headed}
 use Rattle.mp4_present.proofs.opening.outline.read_outline.Goals as goal
 
 pub loop-at-init : goal.loop-at-init
@@ -19,7 +20,7 @@ returns-in_err-header-clause-refusal g c =
     let p = err_from_is_err_and c.from_residual.result c.from_residual.ensures.1 in
     let i = c.loop-at.invariant in
     let e = rw (i.0, i.1, i.2) at c.in_err-header.ensures.refusal in
-    rw (p.1, p.2) (refuses (g.S.Store.is_honest c.args.store.now) (g.S.Store.file c.args.store.now) c.loop-at.at c.loop-at.seen (g.S.Store.read_failures c.args.store.now) (g.S.Store.read_failures c.read_top_header.new.store) c.in_err-header.field-0.0 i.3 (search rules) e)
+    rw (p.1, p.2) (not_headed (g.S.Store.is_honest c.args.store.now) (g.S.Store.file c.args.store.now) _ _ _ c.in_err-header.field-0.0 e)
 
 pub loop-at-preserved : goal.loop-at-preserved
 loop-at-preserved g c =
@@ -66,10 +67,6 @@ loop-at-preserved-in_ok-push g c =
       (λ told. rw pushed (moofs_more file c.loop-at.at c.in_ok-header.header lt ((rw (i.0, i.1) at e.header) told) le (search rules) 0 c.loop-at.moofs.items (i.5 told))),
       rw pushed (all_append (IsWhole (length file)) c.loop-at.moofs.items (top ∷ []) i.6 (record { header = w.0; within = end }, tt)),
     )
-
-pub returns-in_default-clause-refusal : goal.returns-in_default-clause-refusal
-returns-in_default-clause-refusal g c told =
-    rw c.new-fault.ensures (no_movie (g.S.Store.file c.args.store.now) c.loop-at.at c.loop-at.seen (c.loop-at.invariant.3 told) (search rules) (search rules))
 
 pub returns-clause-outline : goal.returns-clause-outline
 returns-clause-outline g c told =

@@ -3,7 +3,7 @@ use Rattle.mp4_boxes.specs.words.View.{box_seen}
 use Rattle.mp4_present.specs.words.Plain.{HasTablesIn, HaveTablesIn}
 use Rattle.mp4_present.proofs.PlainLists.{from_next, next_of}
 use Rattle.std.proofs.lemmas.Result.{err_from_is_err_and}
-use Rattle.mp4_present.proofs.TracksPassed.{passed_more, passed_all, passed_refused, read_of}
+use Rattle.mp4_present.proofs.TracksPassed.{passed_more, passed_all, read_of}
 use Rattle.mp4_present.proofs.TablesFirst.{tables_first, tables_next, tables_refused, tables_fine}
 use Rattle.mp4_present.proofs.OpeningBytes.{none_fit, next_fit, all_fit, last_fit}
 use Rattle.mp4_present.proofs.TablesWork.{handed_on, next_left, next_taken, next_done, tracks_done, tracks_taken}
@@ -35,11 +35,6 @@ loop-track-preserved g c =
       next_fit _ _ _ _ _ _ _ i.5 c.in_ok-push.ensures.work.less,
       tables_next _ _ _ _ _ _ c.track-item.result c.loop-track-test.true c.track-item.is i.6 c.push.new.self i.2 (c.in_ok-push.ensures.says c.args.head.now.trexes.items (rw c.deref.ensures.value at c.in_ok-trexes.ensures)) (λ file e t own. (c.in_ok-push.ensures.exact file e t own).names),
     )
-
-pub returns-in_err-push-clause-refusal : goal.returns-in_err-push-clause-refusal
-returns-in_err-push-clause-refusal g c =
-    let p = err_from_is_err_and c.from_residual-in_err-push.result c.from_residual-in_err-push.ensures.1 in
-    rw (p.1, p.2) (rw c.deref-track-items.ensures.value at (passed_refused _ _ _ _ _ _ c.loop-track.invariant.2 c.track-item.result c.in_err-push.field-0.0 c.loop-track-test.true c.track-item.is c.in_err-push.ensures.refusal))
 
 pub returns-clause-says : goal.returns-clause-says
 returns-clause-says g c = rw c.deref-track-items.ensures.value at (passed_all _ _ _ _ _ _ c.loop-track.invariant.2 c.loop-track-test.false)

@@ -5,7 +5,7 @@ use Rattle.mp4_present.specs.declared.opening.tables_pass.PlainTracks.{PlainTrac
 use Rattle.std.proofs.lemmas.Result.{err_from_is_err_and}
 use Rattle.mp4_boxes.specs.format.Bytes.{AreBytes}
 use Rattle.mp4_present.proofs.PlainLists.{lie_in, plain_more}
-use Rattle.mp4_present.proofs.TablesKept.{IsRead, tables_are, state_is, bytes_few, tables_more, table_fails}
+use Rattle.mp4_present.proofs.TablesKept.{IsRead, tables_are, state_is, bytes_few, tables_more}
 use Rattle.mp4_boxes.specs.words.View.{box_seen}
 use Rattle.mp4_present.proofs.OpeningBytes.{track_fits, of_less, refused_fits}
 use Rattle.mp4_present.proofs.TablesWork.{if_no_fault, track_least, track_within}
@@ -65,11 +65,6 @@ returns-clause-says g c = λ all by t trees i a.
     ∙ c.count-2.ensures
     ∙ sym c.count.ensures) c.state_of.ensures.time c.state_of.ensures.bytes c.state_of.ensures.keys in
     tables_more L n _ _ _ _ moov h v c.check.new.keys t i r all trees c.args.self.now new x s a few refl refl tables state c.in_ok-push.ensures.items c.in_ok-push-2.ensures.items
-
-pub returns-in_err-tables-clause-refusal : goal.returns-in_err-tables-clause-refusal
-returns-in_err-tables-clause-refusal g c =
-    let p = err_from_is_err_and c.from_residual.result c.from_residual.ensures.1 in
-    rw (p.1, p.2) (λ t i. table_fails _ _ _ c.args.track.now t c.in_err-tables.field-0.0 i (subst AreBytes c.payload.ensures c.length_of-len.ensures.bytes) c.description_count-descriptions.ensures c.in_err-tables.ensures.fault)
 
 pub returns-clause-work : goal.returns-clause-work
 returns-clause-work g c =
