@@ -23,7 +23,7 @@ def of_playlists():
              'an attribute may stand twice', f'{PLAYLIST}URI="part1.m4s"'),
         Edit('attributes', "Some((b',', rest)) => Some((own, Some(rest))),",
              "Some((b',', rest)) => Some((own, (!rest.is_empty()).then_some(rest))),",
-             'a list of attributes may end with a comma', rf'{PLAYLIST}URI="part0.m4s",\n'),
+             'a list of attributes may end with a comma', f'{PLAYLIST}URI="part0.m4s",$'),
         Edit('attributes', "cut(text, b'\"');", "cut(text, b',');",
              'a comma within quotation marks ends an attribute',
              'lists playlists: show @parts/list.m3u8: other attributes', joins='further'),

@@ -4,8 +4,9 @@ ghost use Rattle.std.specs.Prelude.{◌≡◌, ◌+◌, ◌<◌};
 use std::marker::Model;
 use std::sync::ledger::{Blank, Book, Ledger, Share};
 
-/// Leave to read one row of a table: a step that was counted. It takes no bytes, and is spent by
-/// the reading, so no loop of a check reads two rows for one step.
+/// Leave to read one row of a table. It takes no bytes, and is spent by the reading. One comes with
+/// each step that is counted; a cursor makes its own (`of_place`), so that a loop reads one row for
+/// a step is said by its clause, or seen by reading it.
 #[derive(Drop)]
 pub struct Ticket {
     counted: (),
