@@ -1,6 +1,7 @@
 //! Many files, judged or summed one after the other.
 use crate::shell::action::{Finding, Input, Telling};
 use crate::shell::file_names::{shown, word_of};
+use crate::shell::gathered::Gathered;
 use crate::shell::reports::{Noted, Report, tell_of};
 use crate::shell::run_command::explain_refusal;
 use crate::shell::sources::{Source, open, read_whole};
@@ -244,17 +245,15 @@ fn check_list<K: Sink, L: Ledger, M: Ledger>(
     Ok(worst)
 }
 
-// Judges these files and then those of a list.
-fn check_each<L: Ledger, M: Ledger>(
+// Judges these files and then those of a list, and puts what is found of each.
+fn put_each<K: Sink, L: Ledger, M: Ledger>(
     rt: &HostRuntime,
     files: &[Input],
     list: &[u8],
     manner: Manner,
-    report: &mut Report,
+    sink: &mut K,
     costs: &mut Costs<L, M>,
 ) -> Result<u8, Refusal> {
-    let out = &mut rt.stdout();
-    let mut sink = IoSink::new(Noted { out, report });
     if let Finding::Sum {
         leaving,
         header: true,
@@ -271,9 +270,31 @@ fn check_each<L: Ledger, M: Ledger>(
             name: input.name().as_bytes(),
             is_file: matches!(input, Input::File { .. }),
         };
-        worst = put_named(rt, named, &answer, manner, &mut sink)?.max(worst);
+        worst = put_named(rt, named, &answer, manner, sink)?.max(worst);
     }
-    Ok(worst.max(check_list(rt, list, manner, &mut sink, costs)?))
+    Ok(worst.max(check_list(rt, list, manner, sink, costs)?))
+}
+
+// The same, to standard output. Lines of sums are written together.
+fn check_each<L: Ledger, M: Ledger>(
+    rt: &HostRuntime,
+    files: &[Input],
+    list: &[u8],
+    manner: Manner,
+    report: &mut Report,
+    costs: &mut Costs<L, M>,
+) -> Result<u8, Refusal> {
+    let out = &mut rt.stdout();
+    let gathers = matches!(manner.finding, Finding::Sum { .. });
+    let mut gathered = Gathered::new(rt, out, gathers)?;
+    let out = &mut gathered;
+    let mut sink = IoSink::new(Noted { out, report });
+    let worst = put_each(rt, files, list, manner, &mut sink, costs);
+    drop(sink);
+    let written = report.outcome(gathered.finish(), Refusal::WriteFailed);
+    let worst = worst?;
+    written?;
+    Ok(worst)
 }
 
 /// Judges each of these files and then those of a list, or sums them, puts what is found of each to
