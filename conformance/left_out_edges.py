@@ -100,8 +100,8 @@ ONE_OF_WORDS = '        let answer = answer_of(rt, *input, manner, costs);'
 JUDGED = ('            check_counted(alloc, source, &mut costs.steps, &mut costs.looks)?;\n'
           '            Ok(None)')
 LISTED = '    answer_of(rt, Input::File { name }, manner, costs)\n'
-PUT_LISTED = '        worst = put_named(rt, named, &answer, manner, sink)?.max(worst);'
-WORST = 'Ok(worst.max(check_list(rt, list, manner, &mut sink, costs)?))'
+PUT_LISTED = '        let is_file = true;'
+WORST = 'Ok(worst.max(check_list(rt, list, manner, sink, costs)?))'
 
 
 def of_verdicts():

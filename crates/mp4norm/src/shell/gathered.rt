@@ -1,5 +1,4 @@
 //! Lines that are written together.
-ghost use Rattle.std.specs.Prelude.{◌≤◌, length};
 
 use std::alloc::AllocError;
 use std::io;

@@ -278,7 +278,7 @@ impl<'a> ListStore<'a> {
                     return;
                 }
                 self.touch(place.part);
-                open += 1;
+                open = usize::saturating_add(open, 1);
             }
             let Some(file) = self.files.parts().get(place.part) else {
                 return;
