@@ -1,6 +1,6 @@
 -- The first fault of a `traf`, part by part.
-use Rattle.std.proofs.Common.{◌≡◌, ℕ, ℤ, true, false, List, [], ◌∷◌, ◌++◌, Option, Some, None, Ok, Err, inr, refl, sym, ap, ◌∙◌}
-use Rattle.std.specs.Prelude.{codes, pos, not}
+use Rattle.std.proofs.Common.{◌≡◌, ℕ, ℤ, true, false, List, [], ◌∷◌, ◌++◌, Option, Some, None, Ok, Err, refl, sym, ap, ◌∙◌}
+use Rattle.std.specs.Prelude.{codes, not}
 use Rattle.mp4_boxes.specs.format.Box.{Box, box_container}
 use Rattle.mp4_boxes.specs.format.BoxFaults.{fault_of}
 use Rattle.mp4_boxes.specs.format.Children.{of_kind}
@@ -20,7 +20,7 @@ use Rattle.mp4_frag.specs.words.GroupsJudged.{groups_in}
 use Rattle.mp4_frag.specs.words.Passing.{is_late_at}
 use Rattle.mp4_frag.specs.words.RunsJudged.{children_of, runs_in, runs_total}
 use Rattle.mp4_frag.specs.words.TrafFaults.{traf_in, IsOnly}
-use Rattle.mp4_frag.specs.words.TrafTests.{time_tests, late_tests, lacks, known_tests, trex_tests, track_tests, traf_fault, TrafsFirst, MoofFirst, RefusedFirst}
+use Rattle.mp4_frag.specs.words.TrafTests.{time_tests, late_tests, lacks, known_tests, trex_tests, track_tests, traf_fault, RefusedFirst}
 use Rattle.mp4_frag.specs.declared.heads.Inherited.{Inherited}
 use Rattle.mp4_frag.specs.declared.sample_runs.Judged.{Judged}
 use Rattle.mp4_frag.specs.declared.state.TrackState.{TrackState}
@@ -111,11 +111,10 @@ late_none t time n [] l = refl
 late_none t time n (d ∷ times) l = rw l refl
 
 -- what is named of the `traf`s of a `moof` is named of the `moof`
-pub trafs_first : (L : ℕ) (tracks : List TrackState) (room : ℕ) (moof : Box) → children_or_fault rules.MovieFragment (box_container moof) ≡ Ok (children_of moof) → (r : Refusal)
-    → RefusedFirst (TrafsFirst L moof.offset (pos moof.offset) tracks room (of_kind (codes "traf") (children_of moof))) r → RefusedFirst (MoofFirst L tracks room moof) r
-trafs_first L tracks room moof held (refusals.Fault f) h = inr (held, h)
-trafs_first L tracks room moof held refusals.Memory h = tt
-trafs_first L tracks room moof held refusals.StoreFailed h = tt
-trafs_first L tracks room moof held refusals.WriteFailed h = tt
-trafs_first L tracks room moof held refusals.StoreChanged h = tt
-trafs_first L tracks room moof held refusals.NoSuchTrack h = tt
+pub named_as : (P Q : Option Fault → Type 0) → ((o : Option Fault) → P o → Q o) → (r : Refusal) → RefusedFirst P r → RefusedFirst Q r
+named_as P Q on (refusals.Fault f) h = on (Some f) h
+named_as P Q on refusals.Memory h = tt
+named_as P Q on refusals.StoreFailed h = tt
+named_as P Q on refusals.WriteFailed h = tt
+named_as P Q on refusals.StoreChanged h = tt
+named_as P Q on refusals.NoSuchTrack h = tt

@@ -1,5 +1,5 @@
 -- The `sbgp`s of a `traf`, passed one by one.
-use Rattle.std.proofs.Common.{◌≡◌, ℕ, zero, suc, ◌≤◌, length, Bool, true, false, nat_le, List, [], ◌∷◌, ◌++◌, map, drop, replicate, Some, None, inl, inr, refl, sym, ap, subst, ◌∙◌}
+use Rattle.std.proofs.Common.{◌≡◌, ℕ, zero, suc, ◌≤◌, length, Bool, true, false, nat_le, List, [], ◌∷◌, ◌++◌, map, drop, replicate, Some, None, refl, sym, ap, subst, ◌∙◌}
 use Rattle.std.specs.Prelude.{codes, bytes_eq, IsTrue}
 use Rattle.std.specs.List.{list_all}
 use Rattle.std.proofs.lemmas.List.{append_assoc, append-nil}
@@ -7,14 +7,12 @@ use Rattle.mp4_boxes.specs.format.Bytes.{rows}
 use Rattle.mp4_boxes.specs.format.Box.{Box}
 use Rattle.mp4_boxes.specs.format.Children.{of_kind}
 use Rattle.mp4_boxes.specs.format.BoxFaults.{fault_of}
-use Rattle.mp4_boxes.specs.declared.fault.Fault.{Fault}
 use Rattle.mp4_boxes.specs.declared.fault.Kind.{Kind}
-use Rattle.mp4_boxes.specs.declared.fault.Kind.TheVariants as kinds
 use Rattle.mp4_tables.specs.format.Groups.{GroupKey, Grouping, GroupRule, one_of_key, few_keys, index_range, group_counts, max_index, grouping_of, groupings_of, keeps, keys_after}
 use Rattle.mp4_tables.specs.words.Keys.{key_seen}
 use Rattle.mp4_tables.specs.format.Repeated.{total}
 use Rattle.mp4_tables.specs.words.Rows.{run_of, runs_at}
-use Rattle.mp4_frag.specs.words.GroupsJudged.{IsGroupSound, AreGroupsSound, IsGroupFault, GroupsFail, AreNamed, NamesOneMore, IsNameFault, is_named_at}
+use Rattle.mp4_frag.specs.words.GroupsJudged.{IsGroupSound, AreGroupsSound, AreNamed, NamesOneMore, is_named_at}
 use Rattle.mp4_tables.specs.words.GroupBoxes.{IsGroup, group_runs}
 use Rattle.mp4_tables.specs.declared.group_boxes.Group.{Group}
 use Rattle.std.specs.Prelude.{option_map}
@@ -32,19 +30,6 @@ rows_are payload group g = let place = g.rows in let count = g.count in λ i. ma
 
 pub key_is : (payload : List ℕ) (group : Group) → IsGroup payload group → (grouping_of payload).key ≡ key_seen group.key
 key_is payload group g = sym g.key
-
--- a rule of keys is broken
-pub name_fault : (n : ℕ) (first : List GroupKey) (before : List Grouping) (payload : List ℕ) (group : Group) (kind : Kind) → IsGroup payload group → IsNameFault first before (grouping_of payload) kind → IsGroupFault n first before payload kind
-name_fault n first before payload group kind g (inl f) = inr (g.readable, (one_of_key, f.0, f.1))
-name_fault n first before payload group kind g (inr f) = inr (g.readable, (few_keys, f.0, f.1))
-
--- an index is out of range
-pub index_fault : (n : ℕ) (first : List GroupKey) (before : List Grouping) (payload : List ℕ) (group : Group) → IsGroup payload group → false ≡ list_all (λ run. nat_le run.1 max_index) (group_runs payload group) → IsGroupFault n first before payload kinds.BadValue
-index_fault n first before payload group g e = inr (g.readable, (index_range, refl, ap (list_all (λ run. nat_le run.1 max_index)) (sym (rows_are payload group g)) ∙ sym e))
-
--- it counts more samples than there are
-pub count_fault : (n : ℕ) (first : List GroupKey) (before : List Grouping) (payload : List ℕ) (group : Group) → IsGroup payload group → false ≡ nat_le (total (group_runs payload group)) n → IsGroupFault n first before payload kinds.CountMismatch
-count_fault n first before payload group g e = inr (g.readable, (group_counts, refl, ap (λ runs. nat_le (total runs) n) (sym (rows_are payload group g)) ∙ sym e))
 
 -- whether its indexes and its counts keep the rules
 pub index_kept : (n : ℕ) (first : List GroupKey) (before : List Grouping) (payload : List ℕ) (group : Group) (v : Bool) → IsGroup payload group → v ≡ list_all (λ run. nat_le run.1 max_index) (group_runs payload group) → keeps index_range n first before (grouping_of payload) ≡ v
@@ -75,7 +60,6 @@ pub record GroupsSeen (n : ℕ) (first : List GroupKey) (all left : List Box) (n
   pub names : AreNamed first before now named
   pub groupings : groupings_of (groups_of all) ≡ before ++ groupings_of (groups_of left)
   pub sound : AreGroupsSound n first before (groups_of left) → AreGroupsSound n first [] (groups_of all)
-  pub fails : (f : Fault) → GroupsFail n first before (groups_of left) f → GroupsFail n first [] (groups_of all) f
   pub names_first : first_failed (traf_groups_tests n first [] (groups_of all)) ≡ first_failed (traf_groups_tests n first before (groups_of left))
 
 none_named : (j : ℕ) → is_named_at (replicate 4 false) j ≡ false
@@ -92,7 +76,6 @@ groups_none n first all named few e = record {
   names = record { keys_now = refl; few = few; there = λ key j f. ap (λ (m : List Bool). is_named_at m j) e ∙ none_named j; missing = λ key f. refl };
   groupings = refl;
   sound = λ h. h;
-  fails = λ f h. h;
   names_first = refl;
 }
 
@@ -116,18 +99,10 @@ groups_more n first all left later b now then_now named then_named s e k is_soun
       names = is_named first s.before s.names;
       groupings = s.groupings ∙ ap (λ boxes. s.before ++ groupings_of boxes) same ∙ sym (append_assoc s.before (grouping_of b.payload ∷ []) (groupings_of (groups_of later)));
       sound = λ h. s.sound (subst (AreGroupsSound n first s.before) (sym same) (one, h));
-      fails = λ f h. s.fails f (subst (λ boxes. GroupsFail n first s.before boxes f) (sym same) (inr (one, h)));
       names_first = s.names_first ∙ ap (λ (boxes : List Box). first_failed (traf_groups_tests n first s.before boxes)) same
           ∙ behind_all (naming b (one_group_tests n first s.before b.payload)) (traf_groups_tests n first (s.before ++ grouping_of b.payload ∷ []) (groups_of later)) _
           (named_first b (one_group_tests n first s.before b.payload) ∙ ap (option_map (λ (k : Kind). fault_of k b)) (is_fine first s.before s.names)) refl;
     }
-
--- an `sbgp` that fails
-pub group_fails : (n : ℕ) (first : List GroupKey) (all left later : List Box) (b : Box) (now : List GroupKey) (named : List Bool) (f : Fault) (kind : Kind) → GroupsSeen n first all left now named → left ≡ b ∷ later → bytes_eq b.kind (codes "sbgp") ≡ true
-    → f ≡ fault_of kind b → ((keys : List GroupKey) (before : List Grouping) → AreNamed keys before now named → IsGroupFault n keys before b.payload kind) → GroupsFail n first [] (groups_of all) f
-group_fails n first all left later b now named f kind s e k is h =
-    let same : groups_of left ≡ b ∷ groups_of later = ap groups_of e ∙ group_kept b later k in
-    s.fails f (subst (λ boxes. GroupsFail n first s.before boxes f) (sym same) (inl (kind, is, h first s.before s.names)))
 
 -- an `sbgp` that is named
 pub group_first : (n : ℕ) (first : List GroupKey) (all left later : List Box) (b : Box) (now : List GroupKey) (named : List Bool) (kind : Kind) → GroupsSeen n first all left now named → left ≡ b ∷ later → bytes_eq b.kind (codes "sbgp") ≡ true

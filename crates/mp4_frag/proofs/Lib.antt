@@ -1,10 +1,7 @@
 pub mod TrafRefused
 pub mod FirstTraf
-pub mod RunReasons
-pub mod GroupReasons
 pub mod PartReasons
 pub mod SeenLists
-pub mod MoofExcludes
 pub mod Costs
 pub mod CheckLooks
 pub mod WalkWork

@@ -12,7 +12,7 @@ use Rattle.mp4_frag.specs.words.Judged.{is_known_among, IsPlacedWithin, IsGroupe
 use Rattle.mp4_frag.specs.words.Passing.{IsUpTo}
 use Rattle.mp4_frag.specs.words.RunsJudged.{children_of}
 use Rattle.mp4_boxes.specs.declared.fault.Fault.{Fault}
-use Rattle.mp4_frag.specs.words.TrafFaults.{HoldsBoxes, TrafFails, TrafsFail}
+use Rattle.mp4_frag.specs.words.TrafFaults.{HoldsBoxes}
 use Rattle.mp4_frag.specs.words.TrafTests.{traf_fault, TrafsFirst}
 use Rattle.mp4_frag.specs.words.Walks.{trex_among}
 use Rattle.mp4_frag.specs.declared.state.TrackState.{TrackState}
@@ -126,7 +126,6 @@ front_sound trexes L moof tracks tiles s h =
 -- Of all boxes these are left; the tracks were moved on by those passed.
 pub record MovesSeen (L moof : ℕ) (first : List TrackState) (whole : ℕ) (all left : List Box) (before : ℤ) (tracks : List TrackState) (room : ℕ) : Type 0 where
   pub moves : (new : List TrackState) (less : ℕ) → AreMovedOn moof before (of_kind (codes "traf") left) tracks new room less → AreMovedOn moof (pos moof) (of_kind (codes "traf") all) first new whole less
-  pub fails : (f : Fault) → TrafsFail L moof before tracks room (of_kind (codes "traf") left) f → TrafsFail L moof (pos moof) first whole (of_kind (codes "traf") all) f
   pub firsts : (o : Option Fault) → TrafsFirst L moof before tracks room (of_kind (codes "traf") left) o → TrafsFirst L moof (pos moof) first whole (of_kind (codes "traf") all) o
 
 some_trex : (x y : Trex) → ◌≡◌ {A = Option Trex} (Some x) (Some y) → x ≡ y
@@ -143,17 +142,8 @@ moves_traf L moof first whole all left later b before ends tracks now room rest 
     let end : ends ≡ end_with moof before m.trex (track_fragment_of (children_of b)) = t.end ∙ ap (λ (x : Trex). end_with moof before x (track_fragment_of (children_of b))) (same_trex L moof before ends (children_of b) tracks now room rest t m) in
     record {
       moves = λ new less h. s.moves new less (subst (λ (bs : List Box). AreMovedOn moof before bs tracks new room less) (sym kept) (now, rest, (m, subst (λ (at : ℤ). AreMovedOn moof at (of_kind (codes "traf") later) now new rest less) end h)));
-      fails = λ f h. s.fails f (subst (λ (bs : List Box). TrafsFail L moof before tracks room bs f) (sym kept) (inr (ends, now, rest, (holds, t, m, h))));
       firsts = λ o h. s.firsts o (subst (λ (bs : List Box). TrafsFirst L moof before tracks room bs o) (sym kept) (inr (ends, now, rest, (none, t, m, h))));
     }
-
--- a `traf` that is refused
-pub moves_fault : (L moof : ℕ) (first : List TrackState) (whole : ℕ) (all left later boxes : List Box) (b : Box) (before : ℤ) (tracks : List TrackState) (room : ℕ) (f : Fault) → MovesSeen L moof first whole all left before tracks room → left ≡ b ∷ later → bytes_eq b.kind (codes "traf") ≡ true
-    → all ≡ boxes
-    → TrafFails L moof before tracks room b f → TrafsFail L moof (pos moof) first whole (of_kind (codes "traf") boxes) f
-moves_fault L moof first whole all left later boxes b before tracks room f s e k same h =
-    let kept : of_kind (codes "traf") left ≡ b ∷ of_kind (codes "traf") later = ap (of_kind (codes "traf")) e ∙ traf_kept b later k in
-    subst (λ (bs : List Box). TrafsFail L moof (pos moof) first whole (of_kind (codes "traf") bs) f) same (s.fails f (subst (λ (bs : List Box). TrafsFail L moof before tracks room bs f) (sym kept) (inl h)))
 
 -- a `traf` that is named
 pub moves_first : (L moof : ℕ) (first : List TrackState) (whole : ℕ) (all left later boxes : List Box) (b : Box) (before : ℤ) (tracks : List TrackState) (room : ℕ) (f : Fault) → MovesSeen L moof first whole all left before tracks room → left ≡ b ∷ later → bytes_eq b.kind (codes "traf") ≡ true

@@ -1,5 +1,5 @@
 -- The runs of a `traf`, passed one by one.
-use Rattle.std.proofs.Common.{◌≡◌, ℕ, ◌+◌, ◌-◌, ◌≤◌, true, false, List, [], ◌∷◌, Some, None, inl, inr, refl, sym, ap, subst, ◌∙◌, arith}
+use Rattle.std.proofs.Common.{◌≡◌, ℕ, ◌+◌, ◌-◌, ◌≤◌, true, false, List, [], ◌∷◌, Some, None, refl, sym, ap, subst, ◌∙◌, arith}
 use Rattle.std.specs.Prelude.{ℤ, codes, bytes_eq}
 use Rattle.mp4_boxes.specs.format.Box.{Box, Tiles, box_container, bytes_container}
 use Rattle.mp4_tables.specs.words.Leaves.{boxes_of}
@@ -7,11 +7,10 @@ use Rattle.mp4_tables.proofs.LeafLists.{boxes_are}
 use Rattle.mp4_boxes.specs.format.Children.{of_kind}
 use Rattle.mp4_boxes.specs.format.Layout.{trun, row_count}
 use Rattle.mp4_boxes.specs.format.BoxFaults.{fault_of}
-use Rattle.mp4_boxes.specs.declared.fault.Fault.{Fault}
 use Rattle.mp4_boxes.specs.declared.fault.Kind.{Kind}
 use Rattle.mp4_frag.specs.format.Fragments.{sample_run_of}
-use Rattle.mp4_frag.specs.words.Passing.{lasting, filling, IsRunPassed, IsRunFault}
-use Rattle.mp4_frag.specs.words.RunsJudged.{children_of, run_ends, IsRunSound, AreRunsSound, all_end, runs_total, runs_lasting, runs_filling, RunsFail}
+use Rattle.mp4_frag.specs.words.Passing.{lasting, filling, IsRunPassed}
+use Rattle.mp4_frag.specs.words.RunsJudged.{children_of, run_ends, IsRunSound, AreRunsSound, all_end, runs_total, runs_lasting, runs_filling}
 use Rattle.mp4_frag.specs.declared.heads.Inherited.{Inherited}
 use Rattle.std.specs.Prelude.{option_map}
 use Rattle.mp4_boxes.specs.format.FirstFault.{first_failed, naming}
@@ -35,7 +34,6 @@ pub record RunsSeen (file_length : ℕ) (inherited : Inherited) (base : ℤ) (al
   pub total : runs_total (runs_of all) ≡ count + runs_total (runs_of left)
   pub lasting : runs_lasting inherited (runs_of all) ≡ lasts + runs_lasting inherited (runs_of left)
   pub filling : runs_filling inherited (runs_of all) ≡ fills + runs_filling inherited (runs_of left)
-  pub fails : (f : Fault) → RunsFail file_length inherited base at room (runs_of left) f → RunsFail file_length inherited base base whole (runs_of all) f
   pub first : first_failed (runs_tests (judged_by file_length inherited base) base whole (runs_of all)) ≡ first_failed (runs_tests (judged_by file_length inherited base) at room (runs_of left))
 
 other_kept : (b : Box) (boxes : List Box) → bytes_eq b.kind (codes "trun") ≡ false → runs_of (b ∷ boxes) ≡ runs_of boxes
@@ -55,16 +53,8 @@ seen_other L inherited base all left later b whole room at count lasts fills s e
       total = s.total ∙ ap (λ runs. count + runs_total runs) same;
       lasting = s.lasting ∙ ap (λ runs. lasts + runs_lasting inherited runs) same;
       filling = s.filling ∙ ap (λ runs. fills + runs_filling inherited runs) same;
-      fails = λ f h. s.fails f (subst (λ runs. RunsFail L inherited base at room runs f) (sym same) h);
       first = s.first ∙ ap (λ (runs : List Box). first_failed (runs_tests (judged_by L inherited base) at room runs)) same;
     }
-
--- a run that fails
-pub run_fails : (L : ℕ) (inherited : Inherited) (base : ℤ) (all left later : List Box) (b : Box) (whole room : ℕ) (at : ℤ) (count lasts fills : ℕ) (f : Fault) (kind : Kind) → RunsSeen L inherited base all left whole room at count lasts fills → left ≡ b ∷ later → bytes_eq b.kind (codes "trun") ≡ true
-    → f ≡ fault_of kind b → IsRunFault L inherited base at room b.payload kind → RunsFail L inherited base base whole (runs_of all) f
-run_fails L inherited base all left later b whole room at count lasts fills f kind s e k named h =
-    let same : runs_of left ≡ b ∷ runs_of later = ap runs_of e ∙ run_kept b later k in
-    s.fails f (subst (λ runs. RunsFail L inherited base at room runs f) (sym same) (inl (kind, named, h)))
 
 passed_total : (whole n more rest : ℕ) → whole ≡ n + (more + rest) → whole ≡ (n + more) + rest
 passed_total whole n more rest e = omega arith
@@ -97,7 +87,6 @@ seen_run L inherited base all left later b whole room less at to count more last
     let lasting = p.duration in
     let filled = p.bytes in
     let room_left : less ≡ room - row_count trun b.payload = omega arith in
-    let fits : row_count trun b.payload ≤ room = omega arith in
     let n : more ≡ count + row_count trun b.payload = omega arith in
     let d : longer ≡ lasts + lasting_of b = omega arith in
     let z : larger ≡ fills + filling_of b = omega arith in
@@ -107,7 +96,6 @@ seen_run L inherited base all left later b whole room less at to count more last
       total = passed_total (runs_total (runs_of all)) count (row_count trun b.payload) (runs_total (runs_of later)) (s.total ∙ ap (λ runs. count + runs_total runs) same) ∙ ap (λ m. m + runs_total (runs_of later)) (sym n);
       lasting = passed_total (runs_lasting inherited (runs_of all)) lasts (lasting_of b) (runs_lasting inherited (runs_of later)) (s.lasting ∙ ap (λ runs. lasts + runs_lasting inherited runs) same) ∙ ap (λ m. m + runs_lasting inherited (runs_of later)) (sym d);
       filling = passed_total (runs_filling inherited (runs_of all)) fills (filling_of b) (runs_filling inherited (runs_of later)) (s.filling ∙ ap (λ runs. fills + runs_filling inherited runs) same) ∙ ap (λ m. m + runs_filling inherited (runs_of later)) (sym z);
-      fails = λ f h. s.fails f (subst (λ runs. RunsFail L inherited base at room runs f) (sym same) (inr (one, fits, behind f ends room_left h)));
       first = s.first ∙ ap (λ (runs : List Box). first_failed (runs_tests (judged_by L inherited base) at room runs)) same
           ∙ behind_all (naming b (one_run_tests (judged_by L inherited base) at room b.payload)) (runs_tests (judged_by L inherited base) (run_ends inherited base at b.payload) (room - row_count trun b.payload) (runs_of later)) _
           (named_first b (one_run_tests (judged_by L inherited base) at room b.payload) ∙ ap (option_map (λ (k : Kind). fault_of k b)) fine) refl
@@ -119,9 +107,6 @@ seen_run L inherited base all left later b whole room less at to count more last
 
     filling_of : Box → ℕ
     filling_of c = filling inherited.size (sample_run_of c.payload).rows
-
-    behind : (f : Fault) → to ≡ run_ends inherited base at b.payload → less ≡ room - row_count trun b.payload → RunsFail L inherited base to less (runs_of later) f → RunsFail L inherited base (run_ends inherited base at b.payload) (room - row_count trun b.payload) (runs_of later) f
-    behind f ends room_left h = subst (λ m. RunsFail L inherited base (run_ends inherited base at b.payload) m (runs_of later) f) room_left (subst (λ (place : ℤ). RunsFail L inherited base place less (runs_of later) f) ends h)
 
 -- ---- the boxes in a box
 

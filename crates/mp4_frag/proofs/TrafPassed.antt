@@ -126,9 +126,6 @@ groups_readable n keys before (b ∷ boxes) h = (h.0.readable, groups_readable n
 pub head_sound : (payload : List ℕ) → IsReadable tfhd payload → IsSound tfhd payload
 head_sound payload r = record { readable = r; value = refl; inside = refl; offsets = refl }
 
-pub time_sound : (payload : List ℕ) → IsReadable tfdt payload → IsSound tfdt payload
-time_sound payload r = record { readable = r; value = refl; inside = refl; offsets = refl }
-
 pub group_is_sound : (payload : List ℕ) → IsReadable sbgp payload → IsSound sbgp payload
 group_is_sound payload r = record { readable = r; value = refl; inside = refl; offsets = refl }
 

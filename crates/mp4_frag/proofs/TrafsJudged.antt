@@ -1,18 +1,13 @@
 -- A whole `moof`, or the front of one, by its `traf`s.
-use Rattle.std.proofs.Common.{◌≡◌, ℕ, ◌^◌, ◌<◌, List, inr, subst}
+use Rattle.std.proofs.Common.{ℕ, ◌^◌, ◌<◌, List, subst}
 use Rattle.mp4_boxes.specs.format.Box.{Box, Tiles, box_container}
 use Rattle.mp4_boxes.specs.format.Children.{Holds}
-use Rattle.mp4_boxes.specs.declared.fault.Fault.{Fault}
-use Rattle.mp4_boxes.specs.declared.refusal.Refusal.{Refusal}
-use Rattle.mp4_boxes.specs.declared.refusal.Refusal.TheVariants as refusals
 use Rattle.mp4_boxes.specs.declared.rule.Rule.TheVariants as rules
-use Rattle.mp4_frag.specs.words.Judged.{AreTrexesOf, AreTrafsPassed, IsAcceptable, IsAccepted, IsSoundFront, IsSoundMoof, own_trexes, tree_of}
+use Rattle.mp4_frag.specs.words.Judged.{AreTrexesOf, AreTrafsPassed, IsAccepted, IsSoundFront, IsSoundMoof, own_trexes, tree_of}
 use Rattle.mp4_frag.specs.words.RunsJudged.{children_of}
-use Rattle.mp4_frag.specs.words.TrafFaults.{RefusesMoof, RefusesTrafs}
 use Rattle.mp4_frag.specs.declared.state.TrackState.{TrackState}
 use Rattle.mp4_frag.specs.declared.trex.Trex.{Trex}
 use Rattle.mp4_frag.proofs.HeadsFound.{holds_boxes, holds_children}
-use Rattle.mp4_frag.proofs.MoofExcludes.{moof_excluded}
 use Rattle.mp4_frag.proofs.MoofPassed.{front_sound, moof_sound}
 use Rattle.mp4_frag.proofs.OwnTrexes.{agree_of, own_agree}
 
@@ -29,17 +24,3 @@ module _ (L : ℕ) (moof : Box) (boxes : List Box) (old new : List TrackState) (
 
   pub passed_front : Tiles (box_container moof) boxes → (trexes : List Trex) → AreTrexesOf trexes old → IsSoundFront L trexes (tree_of moof)
   passed_front t trexes defaults = front_sound trexes L moof old (subst (Tiles (box_container moof)) (holds_boxes moof boxes t) t) p.sound (agree_of trexes old defaults)
-
-module _ (L : ℕ) (moof : Box) (boxes : List Box) (tracks : List TrackState) (room owns : ℕ) where
-  -- a refused `traf` refuses its `moof`
-  pub refuses_moof : Holds rules.MovieFragment (box_container moof) boxes → (r : Refusal) → RefusesTrafs L tracks room moof owns r → RefusesMoof L tracks room moof owns r
-  refuses_moof held (refusals.Fault f) h = inr (held_by moof boxes held, h)
-  refuses_moof held refusals.Memory h = h
-  refuses_moof held refusals.StoreFailed h = h
-  refuses_moof held refusals.StoreChanged h = h
-  refuses_moof held refusals.WriteFailed h = h
-  refuses_moof held refusals.NoSuchTrack h = h
-
-  -- such a `moof` isn't one that may be accepted
-  pub never_refused : Holds rules.MovieFragment (box_container moof) boxes → (r : Refusal) → RefusesTrafs L tracks room moof owns r → (f : Fault) → r ≡ refusals.Fault f → IsAcceptable L tracks room moof → ⊥
-  never_refused held r h f same = moof_excluded L tracks room moof f (subst (RefusesMoof L tracks room moof owns) same (refuses_moof held r h))

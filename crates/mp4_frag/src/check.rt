@@ -1,32 +1,30 @@
 //! A `moof`, checked behind what came before it (ISO/IEC 14496-12, 8.8).
 ghost use Rattle.std.specs.Prelude.{List, pos, nat_lt, not, ◌&&◌, ◌≡◌, ◌+◌, ◌*◌, ◌^◌, ◌<◌, ◌≤◌, ◌==◌, [], min, length, map, None, Some, option_map, codes, if◌then◌else◌, IfOk, IfErr, OnOk, OnErr};
 ghost use Rattle.mp4_boxes.specs.format.Box.{Tiles, box_container};
-ghost use Rattle.mp4_boxes.specs.format.BoxFaults.{IsChildFault};
 ghost use Rattle.mp4_boxes.specs.declared.rule.Rule.TheVariants as rules;
 ghost use Rattle.mp4_boxes.specs.words.View.{box_seen};
 ghost use Rattle.mp4_tables.specs.format.Groups.{groupings_of, keys_after};
 ghost use Rattle.mp4_tables.specs.words.Keys.{keys_seen};
 ghost use Rattle.mp4_frag.specs.words.CheckWork.{TrafWork, TrafLooks, MoofWork, MoofLooks, IfMemory, StopsWithin};
 ghost use Rattle.mp4_boxes.specs.format.FirstFault.{FirstNamed, leaf_tests, naming};
-ghost use Rattle.mp4_frag.specs.words.TrafTests.{ListsBoxes, NamesOne, NamesFirstOf, MoofFirst, TrafsFirst, time_tests, traf_fault};
+ghost use Rattle.mp4_frag.specs.words.TrafTests.{ListsBoxes, NamesOne, NamesFirstOf, MoofFirst, FrontFirst, TrafsFirst, time_tests, traf_fault};
 ghost use Rattle.mp4_frag.specs.words.FragmentTests.{runs_tests, traf_groups_tests};
 ghost use Rattle.mp4_frag.specs.words.Finding.{ArePlacesOf};
-ghost use Rattle.mp4_frag.specs.words.GroupsJudged.{groups_in, AreGroupsSound, GroupsFail};
+ghost use Rattle.mp4_frag.specs.words.GroupsJudged.{groups_in, AreGroupsSound};
 ghost use Rattle.mp4_frag.specs.words.Passing.{IsNearer, IsUpTo, EndsNear, IsPassed, AreBounded, is_late_at, state_with};
 ghost use Rattle.mp4_boxes.specs.format.Children.{of_kind};
 ghost use Rattle.mp4_boxes.specs.format.Layout.{IsSound, tfdt as tfdt_leaf, tfhd as tfhd_leaf};
 ghost use Rattle.std.specs.List.{AllByRecursion};
 ghost use Rattle.mp4_frag.specs.words.Reading.{IsBaseIn, IsHead};
-ghost use Rattle.mp4_frag.specs.words.RunsJudged.{children_of, HoldsChildren, only_list, runs_in, AreRunsPassed, RunsFail};
-ghost use Rattle.mp4_frag.specs.words.Judged.{AreTrexesOf, AreTrafsPassed, IsAcceptable, IsAccepted, IsSoundFront, IsSoundMoof, IsTrafPassed, IsMoofMovedOn, KeepRoom, tree_of};
+ghost use Rattle.mp4_frag.specs.words.RunsJudged.{children_of, HoldsChildren, only_list, runs_in, AreRunsPassed};
+ghost use Rattle.mp4_frag.specs.words.Judged.{AreTrexesOf, AreTrafsPassed, IsAccepted, IsSoundFront, IsSoundMoof, IsTrafPassed, IsMoofMovedOn, KeepRoom, tree_of};
 ghost use Rattle.mp4_tables.specs.format.TableRules.{is_index};
 ghost use Rattle.mp4_frag.specs.declared.trex.Trex.{Trex};
 ghost use Rattle.mp4_frag.specs.words.States.{HasRoom, IsRoomFor};
-ghost use Rattle.mp4_frag.specs.words.TrafFaults.{HoldsBoxes, IsLeafFault, IsTimeFault, TrafFails, RefusesFront, RefusesMoof, RefusesTrafs, traf_in};
+ghost use Rattle.mp4_frag.specs.words.TrafFaults.{HoldsBoxes, RefusesNotes, traf_in};
 ghost use Rattle.mp4_frag.specs.words.OwnTrafs.{AreApart, data_end, own_seen, noted_in};
 ghost use Rattle.mp4_frag.specs.words.Noted.{IsNotable, ids_of, noted_if};
 ghost use Rattle.mp4_boxes.specs.declared.fault.Fault.{Fault};
-ghost use Rattle.mp4_boxes.specs.declared.refusal.Refusal.TheVariants as refusals;
 ghost use Rattle.mp4_frag.specs.format.FragmentRows.{group_rows};
 ghost use Rattle.mp4_frag.specs.declared.state.TrackState.{TrackState};
 
@@ -65,8 +63,6 @@ fn check_boxes<'a>(traf: BoxView<'a>) -> Result<Heads<'a>, Fault>
         ≡ of_kind (codes "tfhd") (children_of (box_seen traf.entry))) }
     ensures time { IfOk result (λ h. only_list (option_map box_seen h.time)
         ≡ of_kind (codes "tfdt") (children_of (box_seen traf.entry))) }
-    ensures fault { IfErr result
-        (IsChildFault rules.TrackFragment (box_container (box_seen traf.entry))) }
     ensures exact { ListsBoxes rules.TrackFragment (box_seen traf.entry) result }
 {
     let mut heads = Heads {
@@ -86,7 +82,6 @@ fn check_boxes<'a>(traf: BoxView<'a>) -> Result<Heads<'a>, Fault>
 // What the `tfhd` says.
 fn head_of(tfhd: BoxView) -> Result<Head, Fault>
     ensures head { IfOk result (IsHead (box_seen tfhd.entry).payload) }
-    ensures fault { IfErr result (IsLeafFault tfhd_leaf (box_seen tfhd.entry)) }
     ensures exact { FirstNamed (naming (box_seen tfhd.entry)
         (leaf_tests tfhd_leaf (box_seen tfhd.entry).payload)) result }
 {
@@ -103,7 +98,6 @@ fn time_of(traf: BoxView, tfdt: Option<BoxView>) -> Result<Option<u64>, Fault>
     ensures sound { IfOk result (λ time. AllByRecursion (λ b. IsSound tfdt_leaf b.payload)
         (of_kind (codes "tfdt") (children_of (box_seen traf.entry)))) }
     ensures time { IfOk result (λ time. (traf_in (box_seen traf.entry)).decode_time ≡ time) }
-    ensures fault { IfErr result (IsTimeFault (box_seen traf.entry)) }
     ensures exact { FirstNamed
         (time_tests (of_kind (codes "tfdt") (children_of (box_seen traf.entry)))) result }
 {
@@ -130,9 +124,6 @@ fn check_runs<L: Ledger>(
     ensures runs { IfOk result (AreRunsPassed judged (runs_in (box_seen traf.entry))) }
     ensures taken { IfOk result (λ p. p.count + room.new ≡ room.old) }
     ensures bound { IfOk result (λ p. EndsNear judged.base p.at) }
-    ensures fault { IfErr result (λ f. HoldsChildren (box_seen traf.entry)
-        → RunsFail judged.file_len judged.inherited judged.base judged.base room.old
-        (runs_in (box_seen traf.entry)) f) }
     ensures exact { HoldsChildren (box_seen traf.entry) → FirstNamed
         (runs_tests judged judged.base room.old (runs_in (box_seen traf.entry))) result }
     ensures cost { IfOk result (λ p. steps.new ≤ steps.old
@@ -173,8 +164,6 @@ fn check_groups<L: Ledger>(
         (λ k. AreGroupsSound n (keys_seen keys) [] (groups_in (box_seen traf.entry))) }
     ensures keys { IfOk result (λ k. keys_seen k
         ≡ keys_after (keys_seen keys) (groupings_of (groups_in (box_seen traf.entry)))) }
-    ensures fault { IfErr result (λ f. HoldsChildren (box_seen traf.entry)
-        → GroupsFail n (keys_seen keys) [] (groups_in (box_seen traf.entry)) f) }
     ensures exact { HoldsChildren (box_seen traf.entry) → FirstNamed
         (traf_groups_tests n (keys_seen keys) [] (groups_in (box_seen traf.entry))) result }
     ensures cost { IfOk result (λ k. steps.new ≤ steps.old
@@ -306,9 +295,6 @@ fn check_traf<L: Ledger, M: Ledger>(
     ensures own { IfOk result
         (IsNotable at.entry.moof at.entry.before (box_seen traf.entry) tracks.old) }
     ensures ids { IfOk result (λ p. ids_of tracks.new ≡ ids_of tracks.old) }
-    ensures fault { IfErr result
-        (TrafFails at.entry.file.len at.entry.moof at.entry.before tracks.old room.old
-        (box_seen traf.entry)) }
     ensures exact { NamesOne
         (traf_fault at.entry.file.len at.entry.moof at.entry.before tracks.old room.old
         (box_seen traf.entry)) result }
@@ -390,9 +376,7 @@ fn check_trafs<'a, L: Ledger, M: Ledger>(
     requires places { ArePlacesOf (ids_of tracks.old) all.file.places.now }
     ensures passed { OnOk result (AreTrafsPassed all.entry.file.len (box_seen all.entry.moof)
         tracks.old tracks.new room.old room.new) }
-    ensures refusal { IfErr result
-        (RefusesTrafs all.entry.file.len tracks.old room.old (box_seen all.entry.moof)
-        (length own.old)) }
+    ensures refusal { IfErr result (RefusesNotes (length own.old)) }
     ensures exact { NamesFirstOf (TrafsFirst all.entry.file.len (box_seen all.entry.moof).offset
         (pos (box_seen all.entry.moof).offset) tracks.old room.old
         (of_kind (codes "traf") (children_of (box_seen all.entry.moof)))) result }
@@ -450,13 +434,10 @@ pub fn check_moof<L: Ledger, M: Ledger>(
         → IsSoundMoof file.entry.len trexes tracks.old (tree_of (box_seen moof.entry))) }
     ensures accepted { OnOk result (IsAccepted file.entry.len (box_seen moof.entry)
         tracks.old tracks.new room.old room.new) }
-    ensures refusal { IfErr result
-        (RefusesMoof file.entry.len tracks.old room.old (box_seen moof.entry) (length own.old)) }
+    ensures refusal { IfErr result (RefusesNotes (length own.old)) }
     ensures exact { NamesFirstOf
         (MoofFirst file.entry.len tracks.old room.old (box_seen moof.entry))
         result }
-    ensures only { IfErr result (λ r. (f : Fault) → r ≡ refusals.Fault f
-        → IsAcceptable file.entry.len tracks.old room.old (box_seen moof.entry) → ⊥) }
     ensures moved { OnOk result
         (IsMoofMovedOn (box_seen moof.entry) tracks.old tracks.new room.old room.new) }
     ensures own { OnOk result ((trexes : List Trex) → AreTrexesOf trexes tracks.old
@@ -497,8 +478,9 @@ pub fn check_front<L: Ledger, M: Ledger>(
     ensures ends { IfOk result (λ ends. (trexes : List Trex) → AreTrexesOf trexes tracks.old
         → ends ≡ data_end trexes (box_seen front.entry).offset (pos (box_seen front.entry).offset)
         (of_kind (codes "traf") (children_of (box_seen front.entry)))) }
-    ensures refusal { IfErr result (RefusesFront file.entry.len tracks.old room.old
-        (box_seen front.entry)) }
+    ensures refusal { IfErr result (RefusesNotes 0) }
+    ensures exact { NamesFirstOf
+        (FrontFirst file.entry.len tracks.old room.old (box_seen front.entry)) result }
     ensures work { MoofWork (box_seen front.entry) steps.old steps.new room.old room.new result }
     ensures looks { MoofLooks (box_seen front.entry) (min 1 (length tracks.old))
         looks.old looks.new result }
@@ -517,7 +499,8 @@ pub fn check_front<L: Ledger, M: Ledger>(
 pub fn base_in(tfhd: BoxView, moof: u64, before: i128) -> Result<i128, Fault>
     ensures base { IfOk result
         (λ base. IsBaseIn (box_seen tfhd.entry).payload moof before base) }
-    ensures fault { IfErr result (IsLeafFault tfhd_leaf (box_seen tfhd.entry)) }
+    ensures exact { FirstNamed (naming (box_seen tfhd.entry)
+        (leaf_tests tfhd_leaf (box_seen tfhd.entry).payload)) result }
 {
     let head = head_of(tfhd)?;
     Ok(base_of(head, moof, before))

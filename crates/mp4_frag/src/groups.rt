@@ -1,5 +1,5 @@
 //! `sbgp` in a `traf`: which group description its samples have (ISO/IEC 14496-12, 8.9.2).
-ghost use Rattle.std.specs.Prelude.{◌≡◌, ◌+◌, ◌*◌, ◌<◌, ◌≤◌, ◌∷◌, drop, nat_le, length, is_some, OnOk, IfErr, IfSome, ◌++◌, []};
+ghost use Rattle.std.specs.Prelude.{◌≡◌, ◌+◌, ◌*◌, ◌<◌, ◌≤◌, ◌∷◌, drop, nat_le, length, is_some, OnOk, IfSome, ◌++◌, []};
 ghost use Rattle.mp4_boxes.specs.format.Layout.{sbgp, row_count};
 ghost use Rattle.mp4_tables.specs.words.Keys.{key_seen};
 ghost use Rattle.mp4_tables.specs.format.Groups.{max_index};
@@ -8,7 +8,7 @@ ghost use Rattle.mp4_tables.specs.words.GroupBoxes.{group_runs};
 ghost use Rattle.std.specs.List.{list_all};
 ghost use Rattle.mp4_tables.specs.format.Groups.{Grouping, grouping_of};
 ghost use Rattle.mp4_tables.specs.words.Keys.{keys_seen};
-ghost use Rattle.mp4_frag.specs.words.GroupsJudged.{AreNamed, WhereNamed, NamesOneMore, IsNameFault, IsGroupSound, IsGroupFault};
+ghost use Rattle.mp4_frag.specs.words.GroupsJudged.{AreNamed, WhereNamed, NamesOneMore, IsGroupSound};
 ghost use Rattle.mp4_boxes.specs.format.FirstFault.{FirstNamed};
 ghost use Rattle.mp4_frag.specs.words.FragmentTests.{name_tests, one_group_tests};
 
@@ -25,8 +25,6 @@ fn name(key: GroupKey, keys: &mut Keys, named: &mut [bool; 4]) -> Result<(), Kin
     ensures named { OnOk result (WhereNamed (keys_seen keys.old) named.old (λ first before.
         (g : Grouping) → g.key ≡ key_seen key
         → NamesOneMore first before g (keys_seen keys.new) named.new)) }
-    ensures fault { IfErr result (λ kind. WhereNamed (keys_seen keys.old) named.old
-        (λ first before. (g : Grouping) → g.key ≡ key_seen key → IsNameFault first before g kind)) }
     ensures exact { WhereNamed (keys_seen keys.old) named.old (λ first before. (g : Grouping)
         → g.key ≡ key_seen key → FirstNamed (name_tests first before g) result) }
 {
@@ -93,8 +91,6 @@ pub(crate) fn check_group<L: Ledger>(
         (λ first before. IsGroupSound n first before payload.now)) }
     ensures named { OnOk result (WhereNamed (keys_seen keys.old) named.old (λ first before.
         AreNamed first (before ++ grouping_of payload.now ∷ []) (keys_seen keys.new) named.new)) }
-    ensures fault { IfErr result (λ kind. WhereNamed (keys_seen keys.old) named.old
-        (λ first before. IsGroupFault n first before payload.now kind)) }
     ensures exact { WhereNamed (keys_seen keys.old) named.old (λ first before.
         FirstNamed (one_group_tests n first before payload.now) result) }
     ensures cost { steps.new ≤ steps.old + row_count sbgp payload.now }

@@ -1,9 +1,9 @@
 //! The samples of a run, passed one by one to judge them.
-ghost use Rattle.std.specs.Prelude.{ℕ, ◌≡◌, ◌+◌, ◌*◌, ◌^◌, ◌<◌, ◌≤◌, ◌∷◌, [], ◌||◌, pos, true, IfOk, IfErr, ◌-◌, not, ◌&&◌, None, IfSome, false};
+ghost use Rattle.std.specs.Prelude.{ℕ, ◌≡◌, ◌+◌, ◌*◌, ◌^◌, ◌<◌, ◌≤◌, ◌∷◌, [], ◌||◌, pos, true, IfOk, ◌-◌, not, ◌&&◌, None, IfSome, false};
 ghost use Rattle.mp4_boxes.specs.format.Layout.{too_large};
 ghost use Rattle.mp4_tables.specs.format.TableRules.{lies_within as lies_in};
 ghost use Rattle.mp4_frag.specs.format.FragmentSamples.{run_start as run_start_by};
-ghost use Rattle.mp4_frag.specs.words.Passing.{IsNear, IsNearer, IsUpTo, HasRows, AreSamplesOf, AreBounded, IsPassed, IsPassedWith, IsRunFault, rows_left, offsets_left, row_seen, within_from};
+ghost use Rattle.mp4_frag.specs.words.Passing.{IsNear, IsNearer, IsUpTo, HasRows, AreSamplesOf, AreBounded, IsPassed, IsPassedWith, rows_left, offsets_left, row_seen, within_from};
 ghost use Rattle.mp4_boxes.specs.format.FirstFault.{FirstNamed};
 ghost use Rattle.mp4_frag.specs.words.FragmentTests.{one_run_tests};
 
@@ -203,8 +203,6 @@ pub(crate) fn check_run<L: Ledger>(
     ensures run { IfOk result (IsPassedWith judged payload.now passed room.old room.new) }
     ensures bound { IfOk result (λ p. (n : ℕ) → 2 ^ 64 ≤ n → IsUpTo n judged.base
         → IsUpTo (n + 2 ^ 31) passed.at → IsUpTo (n + 2 ^ 31) p.at) }
-    ensures fault { IfErr result
-        (IsRunFault judged.file_len judged.inherited judged.base passed.at room.old payload.now) }
     ensures exact { FirstNamed (one_run_tests judged passed.at room.old payload.now) result }
     ensures cost { IfOk result (λ p. steps.new + passed.count ≤ steps.old + p.count) }
     ensures work { steps.new ≤ steps.old + room.old }

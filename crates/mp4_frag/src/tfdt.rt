@@ -1,6 +1,5 @@
 //! `tfdt`: the decode time of a `traf` (ISO/IEC 14496-12, 8.8.12).
-ghost use Rattle.std.specs.Prelude.{◌≡◌, IfOk, IfErr};
-ghost use Rattle.mp4_boxes.specs.format.BoxFaults.{Fails};
+ghost use Rattle.std.specs.Prelude.{◌≡◌, IfOk};
 ghost use Rattle.mp4_boxes.specs.format.FirstFault.{FirstNamed, leaf_tests};
 ghost use Rattle.mp4_boxes.specs.format.Layout.{IsReadable, tfdt};
 ghost use Rattle.mp4_frag.specs.format.Fragments.{decode_time_of};
@@ -11,7 +10,6 @@ use mp4_boxes::{Kind, front, u32_at, u64_at};
 pub(crate) fn read_time(payload: &[u8]) -> Result<u64, Kind>
     ensures time { IfOk result (λ t. t ≡ decode_time_of payload.now) }
     ensures readable { IfOk result (λ t. IsReadable tfdt payload.now) }
-    ensures fault { IfErr result (Fails tfdt payload.now) }
     ensures exact { FirstNamed (leaf_tests tfdt payload.now) result }
 {
     let (version, _) = front(payload)?;

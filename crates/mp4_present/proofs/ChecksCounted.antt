@@ -10,8 +10,7 @@ use Rattle.mp4_boxes.specs.declared.rule.Rule.TheVariants.{File}
 use Rattle.mp4_boxes.proofs.Among.{of_kind-split}
 use Rattle.mp4_frag.specs.format.FragmentRows.{fragment_rows, fragment_length, moof_says}
 use Rattle.mp4_frag.specs.words.CheckWork.{IfMemory}
-use Rattle.mp4_frag.specs.words.TrafFaults.{RefusesMoof}
-use Rattle.mp4_frag.specs.declared.state.TrackState.{TrackState}
+use Rattle.mp4_frag.specs.words.TrafFaults.{RefusesNotes}
 use Rattle.mp4_present.specs.words.Movies.{IsWhole}
 use Rattle.mp4_present.specs.words.Outline.{AreFrom, IsNextFragment, box_at, longest}
 use Rattle.mp4_present.specs.words.WalkSteps.{moof_steps, boxes_steps, ChecksAll, ChecksWithin, IfNoFault}
@@ -85,10 +84,10 @@ unfolding moof_steps
 stopped_steps m before after h = h
 
 -- a check that stops has found a fault, or there was no memory: then this is so
-pub if_stopped : (T A : Type 0) (P Q : Type 0) (file_length room owns : ℕ) (states : List TrackState) (m : Box) (r : Refusal) → RefusesMoof file_length states room m owns r → IfMemory {T = T} (Err r) Q → (Q → P) → IfNoFault {A = A} (Err r) P
-if_stopped T A P Q file_length room owns states m (refusals.Fault f) w q p = tt
-if_stopped T A P Q file_length room owns states m refusals.Memory w q p = p q
-if_stopped T A P Q file_length room owns states m refusals.StoreFailed w q p = absurd w
-if_stopped T A P Q file_length room owns states m refusals.StoreChanged w q p = absurd w
-if_stopped T A P Q file_length room owns states m refusals.WriteFailed w q p = absurd w
-if_stopped T A P Q file_length room owns states m refusals.NoSuchTrack w q p = absurd w
+pub if_stopped : (T A : Type 0) (P Q : Type 0) (owns : ℕ) (r : Refusal) → RefusesNotes owns r → IfMemory {T = T} (Err r) Q → (Q → P) → IfNoFault {A = A} (Err r) P
+if_stopped T A P Q owns (refusals.Fault f) w q p = tt
+if_stopped T A P Q owns refusals.Memory w q p = p q
+if_stopped T A P Q owns refusals.StoreFailed w q p = absurd w
+if_stopped T A P Q owns refusals.StoreChanged w q p = absurd w
+if_stopped T A P Q owns refusals.WriteFailed w q p = absurd w
+if_stopped T A P Q owns refusals.NoSuchTrack w q p = absurd w

@@ -2,11 +2,9 @@
 use Rattle.std.proofs.Common.{◌≡◌, ℕ, ◌+◌, ◌^◌, ◌≤◌, Bool, true, false, List, [], ◌∷◌, Option, Some, None, find, cond, refl, sym, subst, arith}
 use Rattle.std.specs.Prelude.{IsTrue, Contains, IfSome, suc}
 use Rattle.std.proofs.lemmas.List.Elements.{Contains-append_right}
-use Rattle.mp4_boxes.specs.format.Box.{Box}
 use Rattle.mp4_boxes.specs.declared.refusal.Refusal.{Refusal}
 use Rattle.mp4_boxes.specs.declared.refusal.Refusal.TheVariants as refusals
-use Rattle.mp4_frag.specs.words.TrafFaults.{RefusesMoof}
-use Rattle.mp4_frag.specs.declared.state.TrackState.{TrackState}
+use Rattle.mp4_frag.specs.words.TrafFaults.{RefusesNotes}
 use Rattle.mp4_present.specs.words.NumbersTold.{StepsFit}
 use Rattle.mp4_present.specs.words.Refusing.{MeetsFault, RefusesSearch}
 use Rattle.mp4_present.specs.words.Reading.{RefusesPayload}
@@ -23,13 +21,13 @@ not_read honest top room reads reads_after refusals.WriteFailed n w = w
 not_read honest top room reads reads_after refusals.NoSuchTrack n w = w
 
 -- one was not checked to its end
-pub meets : (file_length room owns : ℕ) (states : List TrackState) (m : Box) (r : Refusal) → RefusesMoof file_length states room m owns r → MeetsFault r
-meets file_length room owns states m (refusals.Fault f) w = tt
-meets file_length room owns states m refusals.Memory w = tt
-meets file_length room owns states m refusals.StoreFailed w = w
-meets file_length room owns states m refusals.StoreChanged w = w
-meets file_length room owns states m refusals.WriteFailed w = w
-meets file_length room owns states m refusals.NoSuchTrack w = w
+pub meets : (owns : ℕ) (r : Refusal) → RefusesNotes owns r → MeetsFault r
+meets owns (refusals.Fault f) w = tt
+meets owns refusals.Memory w = tt
+meets owns refusals.StoreFailed w = w
+meets owns refusals.StoreChanged w = w
+meets owns refusals.WriteFailed w = w
+meets owns refusals.NoSuchTrack w = w
 
 pub not_searched : (honest : Bool) (reads reads_after : ℕ) (r : Refusal) → MeetsFault r → RefusesSearch honest reads reads_after r
 not_searched honest reads reads_after (refusals.Fault f) w = tt

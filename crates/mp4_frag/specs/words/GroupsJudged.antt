@@ -1,13 +1,10 @@
 -- The `sbgp`s of a `traf` judged one after the other, in file order.
-use Rattle.std.specs.Prelude.{◌≡◌, ℕ, ◌≤◌, ◌⊎◌, Bool, true, false, IsTrue, List, [], ◌∷◌, ◌++◌, length, slice_index_or, Some, None, codes, ⊤}
+use Rattle.std.specs.Prelude.{◌≡◌, ℕ, ◌≤◌, Bool, true, false, IsTrue, List, [], ◌∷◌, ◌++◌, length, slice_index_or, Some, None, codes, ⊤}
 use Rattle.std.specs.List.{list_any}
 use Rattle.mp4_boxes.specs.format.Box.{Box}
-use Rattle.mp4_boxes.specs.format.BoxFaults.{fault_of, Fails}
 use Rattle.mp4_boxes.specs.format.Children.{of_kind}
 use Rattle.mp4_boxes.specs.format.Layout.{sbgp, IsReadable}
-use Rattle.mp4_boxes.specs.declared.fault.Fault.{Fault}
-use Rattle.mp4_boxes.specs.declared.fault.Kind.{Kind}
-use Rattle.mp4_tables.specs.format.Groups.{GroupKey, Grouping, GroupRule, one_of_key, few_keys, grouping_of, group_kind, keeps, same_key, keys_after, max_keys}
+use Rattle.mp4_tables.specs.format.Groups.{GroupKey, Grouping, GroupRule, one_of_key, few_keys, grouping_of, keeps, same_key, keys_after, max_keys}
 use Rattle.mp4_tables.specs.words.Keys.{key_place}
 use Rattle.mp4_frag.specs.words.RunsJudged.{children_of}
 
@@ -26,22 +23,6 @@ abbrev pub AreGroupsSound : ℕ → List GroupKey → List Grouping → List Box
 AreGroupsSound n keys before [] = ⊤
 AreGroupsSound n keys before (b ∷ boxes) = IsGroupSound n keys before b.payload
     × AreGroupsSound n keys (before ++ grouping_of b.payload ∷ []) boxes
-
--- what is wrong with it: it can't be read, or it breaks a rule of this kind
-abbrev pub IsGroupFault : ℕ → List GroupKey → List Grouping → List ℕ → Kind → Type 0
-IsGroupFault n keys before payload kind =
-    Fails sbgp payload kind
-    ⊎ (IsReadable sbgp payload
-    × ((rule : GroupRule) × (kind ≡ group_kind rule)
-    × (keeps rule n keys before (grouping_of payload) ≡ false)))
-
--- The fault is one of the `sbgp`s: of the first, or of one behind it, where the first is sound.
-abbrev pub GroupsFail : ℕ → List GroupKey → List Grouping → List Box → Fault → Type 0
-GroupsFail n keys before [] f = ⊥
-GroupsFail n keys before (b ∷ boxes) f =
-    ((kind : Kind) × (f ≡ fault_of kind b) × IsGroupFault n keys before b.payload kind)
-    ⊎ (IsGroupSound n keys before b.payload
-    × GroupsFail n keys (before ++ grouping_of b.payload ∷ []) boxes f)
 
 -- whether the key at a place among the track's was named
 abbrev pub is_named_at : List Bool → ℕ → Bool
@@ -64,12 +45,6 @@ pub record NamesOneMore (keys : List GroupKey) (before : List Grouping) (g : Gro
   pub once : keeps one_of_key 0 keys before g ≡ true
   pub room : keeps few_keys 0 keys before g ≡ true
   pub names : AreNamed keys (before ++ g ∷ []) now named
-
--- it breaks one of these rules, which has this kind
-abbrev pub IsNameFault : List GroupKey → List Grouping → Grouping → Kind → Type 0
-IsNameFault keys before g kind = ((kind ≡ group_kind one_of_key)
-    × (keeps one_of_key 0 keys before g ≡ false))
-    ⊎ ((kind ≡ group_kind few_keys) × (keeps few_keys 0 keys before g ≡ false))
 
 -- it holds of each `traf` so far whose track has these keys now, of which these are named
 abbrev pub WhereNamed : List GroupKey → List Bool → (List GroupKey → List Grouping → Type 0)

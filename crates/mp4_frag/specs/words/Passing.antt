@@ -1,14 +1,11 @@
 -- Rows of a `trun`, passed one by one, and tracks moved on by samples.
-use Rattle.std.specs.Prelude.{◌≡◌, ℕ, suc, ◌+◌, ◌-◌, ◌<◌, ◌≤◌, ◌*◌, ◌^◌, nat_lt, ◌==◌, ◌&&◌, not, Bool, true, false, if◌then◌else◌, List, [], ◌∷◌, length, drop, Option, Some, None, unwrap_or, option_map, ℤ, pos, negsuc, ◌+ℤ◌, ◌≤ℤ◌}
+use Rattle.std.specs.Prelude.{◌≡◌, ℕ, suc, ◌+◌, ◌-◌, ◌≤◌, ◌*◌, ◌^◌, nat_lt, ◌==◌, ◌&&◌, not, Bool, true, false, if◌then◌else◌, List, [], ◌∷◌, length, drop, Option, Some, None, unwrap_or, option_map, ℤ, pos, negsuc, ◌+ℤ◌, ◌≤ℤ◌}
 use Rattle.mp4_tables.specs.format.TableRules.{lies_within}
 use Rattle.mp4_frag.specs.words.ColumnsRead.{row_room}
 use Rattle.mp4_frag.specs.format.Fragments.{RunRow, run_rows, sample_run_of}
 use Rattle.mp4_frag.specs.format.FragmentSamples.{run_start}
 use Rattle.mp4_frag.specs.declared.heads.Inherited.{Inherited}
-use Rattle.mp4_boxes.specs.format.Layout.{run_offsets, too_large, trun, row_count, IsReadable, IsSound}
-use Rattle.mp4_boxes.specs.format.BoxFaults.{Fails}
-use Rattle.mp4_boxes.specs.declared.fault.Kind.{Kind}
-use Rattle.mp4_boxes.specs.declared.fault.Kind.TheVariants.{TooManySamples, SampleOutsideFile}
+use Rattle.mp4_boxes.specs.format.Layout.{run_offsets, too_large, trun, row_count, IsSound}
 use Rattle.mp4_tables.specs.format.Tables.{composition_offset}
 use Rattle.mp4_tables.specs.declared.keys.Keys.{Keys}
 use Rattle.mp4_frag.specs.declared.run_rows.Row.{Row}
@@ -129,19 +126,6 @@ state_with state time passed keys = record state {
   bytes = state.bytes + passed.bytes;
   keys = keys;
 }
-
--- what is wrong with a `trun`, behind samples whose data ends at a place, where there is room for
--- so many: it can't be read; it has more samples; one of them does not lie in the file; an offset
--- is too large
-abbrev pub IsRunFault : ℕ → Inherited → ℤ → ℤ → ℕ → List ℕ → Kind → Type 0
-IsRunFault file_length inherited base before room payload TooManySamples = IsReadable trun payload
-    × (room < row_count trun payload)
-IsRunFault file_length inherited base before room payload SampleOutsideFile =
-    IsReadable trun payload
-    × (within_from file_length inherited.size
-    (run_start base before (sample_run_of payload).data_offset) (sample_run_of payload).rows
-    ≡ false)
-IsRunFault file_length inherited base before room payload kind = Fails trun payload kind
 
 -- what a `trun` keeps there: where its data ends, how many samples it has, how long they last, and
 -- how many bytes they take

@@ -1,15 +1,12 @@
 -- The runs of a `traf` judged one after the other, in file order.
-use Rattle.std.specs.Prelude.{◌≡◌, ℕ, ◌+◌, ◌-◌, ◌≤◌, ◌⊎◌, true, List, [], ◌∷◌, Option, Some, None, ℤ, codes, ⊤}
+use Rattle.std.specs.Prelude.{◌≡◌, ℕ, ◌+◌, true, List, [], ◌∷◌, Option, Some, None, ℤ, codes, ⊤}
 use Rattle.mp4_boxes.specs.format.Bytes.{sum_of}
 use Rattle.mp4_boxes.specs.format.Box.{Box, Tiles, box_container}
-use Rattle.mp4_boxes.specs.format.BoxFaults.{fault_of}
 use Rattle.mp4_boxes.specs.format.Children.{of_kind}
 use Rattle.mp4_boxes.specs.format.Layout.{trun, row_count, IsSound}
-use Rattle.mp4_boxes.specs.declared.fault.Fault.{Fault}
-use Rattle.mp4_boxes.specs.declared.fault.Kind.{Kind}
 use Rattle.mp4_frag.specs.format.Fragments.{sample_run_of}
 use Rattle.mp4_frag.specs.format.FragmentSamples.{run_start}
-use Rattle.mp4_frag.specs.words.Passing.{within_from, end_from, lasting, filling, IsRunFault}
+use Rattle.mp4_frag.specs.words.Passing.{within_from, end_from, lasting, filling}
 use Rattle.mp4_frag.specs.words.Walks.{boxes_in}
 use Rattle.mp4_frag.specs.declared.heads.Inherited.{Inherited}
 use Rattle.mp4_frag.specs.declared.sample_runs.Judged.{Judged}
@@ -81,14 +78,3 @@ pub record AreRunsPassed (judged : Judged) (runs : List Box) (p : Passed) : Type
   pub count : p.count ≡ runs_total runs
   pub lasting : p.duration ≡ runs_lasting judged.inherited runs
   pub filling : p.bytes ≡ runs_filling judged.inherited runs
-
--- The fault is one of the runs, where there is room for so many samples: of the first, or of one
--- behind it, where the first is sound and there is room for its samples.
-abbrev pub RunsFail : ℕ → Inherited → ℤ → ℤ → ℕ → List Box → Fault → Type 0
-RunsFail file_length inherited base before room [] f = ⊥
-RunsFail file_length inherited base before room (b ∷ runs) f =
-    ((kind : Kind) × (f ≡ fault_of kind b)
-    × IsRunFault file_length inherited base before room b.payload kind)
-    ⊎ (IsRunSound file_length inherited base before b.payload × (row_count trun b.payload ≤ room)
-    × RunsFail file_length inherited base (run_ends inherited base before b.payload)
-    (room - row_count trun b.payload) runs f)

@@ -1,10 +1,10 @@
 -- What is tested of a `traf`, in order, behind what is known of the tracks.
-use Rattle.std.specs.Prelude.{◌≡◌, ◌⊎◌, ℕ, ℤ, pos, nat_lt, not, ◌&&◌, Bool, false, List, [], ◌∷◌, ◌++◌, Option, Some, None, Result, Ok, Err, MatchResult, codes}
-use Rattle.mp4_boxes.specs.format.Box.{Box, box_container}
+use Rattle.std.specs.Prelude.{◌≡◌, ◌⊎◌, ◌+◌, ℕ, ℤ, pos, nat_lt, not, ◌&&◌, Bool, false, List, [], ◌∷◌, ◌++◌, Option, Some, None, Result, Ok, Err, MatchResult, codes}
+use Rattle.mp4_boxes.specs.format.Box.{Box, Container, box_container, bytes_container}
 use Rattle.mp4_boxes.specs.format.BoxFaults.{fault_of}
 use Rattle.mp4_boxes.specs.format.Children.{of_kind}
 use Rattle.mp4_boxes.specs.format.Layout.{tfhd, tfdt}
-use Rattle.mp4_boxes.specs.format.FirstFault.{Test, first_failed, naming, leaf_tests, children_or_fault}
+use Rattle.mp4_boxes.specs.format.FirstFault.{Test, first_failed, naming, leaf_tests, no_tests, boxes_or_fault, children_or_fault}
 use Rattle.mp4_boxes.specs.declared.rule.Rule.{Rule}
 use Rattle.mp4_boxes.specs.declared.rule.Rule.TheVariants as rules
 use Rattle.mp4_boxes.specs.declared.fault.Fault.{Fault}
@@ -112,6 +112,18 @@ MoofFirst file_length tracks room moof o =
     ⊎ ((children_or_fault rules.MovieFragment (box_container moof) ≡ Ok (children_of moof))
     × TrafsFirst file_length moof.offset (pos moof.offset) tracks room
     (of_kind (codes "traf") (children_of moof)) o)
+
+-- the bytes in a box
+abbrev inside : Box → Container
+inside b = bytes_container b.kind (b.offset + b.header) b.payload
+
+-- the first fault of the first boxes of a `moof`: of their headers, then of the `traf`s among them
+abbrev pub FrontFirst : ℕ → List TrackState → ℕ → Box → Option Fault → Type 0
+FrontFirst file_length tracks room front o =
+    ((f : Fault) × (boxes_or_fault no_tests (inside front) ≡ Err f) × (o ≡ Some f))
+    ⊎ ((boxes_or_fault no_tests (inside front) ≡ Ok (children_of front))
+    × TrafsFirst file_length front.offset (pos front.offset) tracks room
+    (of_kind (codes "traf") (children_of front)) o)
 
 -- An answer names the first fault, and is Ok where there is none; want of memory says nothing.
 abbrev pub RefusedFirst : (Option Fault → Type 0) → Refusal → Type 0

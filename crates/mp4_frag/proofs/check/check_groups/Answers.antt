@@ -3,7 +3,7 @@ use Rattle.std.proofs.lemmas.List.{length-map, length-take}
 use Rattle.mp4_boxes.specs.words.View.{box_seen}
 use Rattle.mp4_tables.specs.words.Keys.{key_seen, keys_seen}
 use Rattle.mp4_frag.proofs.Costs.{groups_cost_none, groups_cost_more, groups_cost_said}
-use Rattle.mp4_frag.proofs.GroupsPassed.{groups_none, groups_more, group_fails, group_first, groups_first, groups_sound, groups_keys}
+use Rattle.mp4_frag.proofs.GroupsPassed.{groups_none, groups_more, group_first, groups_first, groups_sound, groups_keys}
 use Rattle.mp4_frag.proofs.RunsPassed.{all_children}
 use Rattle.std.proofs.Common.{◌≡◌, List, Some, subst, codes, []}
 use Rattle.mp4_boxes.specs.format.Box.{Box}
@@ -11,7 +11,6 @@ use Rattle.mp4_boxes.specs.format.BoxFaults.{fault_of}
 use Rattle.mp4_boxes.specs.format.FirstFault.{first_failed}
 use Rattle.mp4_frag.specs.words.FragmentTests.{traf_groups_tests}
 use Rattle.mp4_boxes.specs.format.Children.{of_kind}
-use Rattle.mp4_frag.specs.words.GroupsJudged.{GroupsFail}
 use Rattle.mp4_frag.proofs.check.check_groups.Goals as goal
 
 pub loop-child-init : goal.loop-child-init
@@ -46,12 +45,6 @@ returns-clause-counted g c =
 
 pub returns-clause-cost : goal.returns-clause-cost
 returns-clause-cost g c = let counted = returns-clause-counted g c in omega (arith, counted)
-
-pub returns-in-Err-clause-fault : goal.returns-in-Err-clause-fault
-returns-in-Err-clause-fault g c = λ _.
-    let all = all_children (box_seen c.args.traf) _ _ _ _ c.payload.ensures c.payload_offset.ensures c.in_ok-child-items.ensures.tiles in
-    subst (λ boxes. GroupsFail c.args.n (keys_seen c.args.keys) [] (of_kind (codes "sbgp") boxes) c.fault.result) (c.into_iter-child-iterator.ensures.into_iter_gives ∙ all)
-    (group_fails _ _ _ _ _ (box_seen c.in-Some.child) _ _ c.fault.result _ c.loop-child.invariant.2 c.in-Some.ensures.steps (rw c.kind-in-loop-child.ensures at (sym c.if-eq.ensures)) c.fault.ensures (rw c.payload-then-eq.ensures at c.in-Err.ensures.fault))
 
 -- ---- the first fault
 

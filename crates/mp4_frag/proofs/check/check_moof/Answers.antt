@@ -1,8 +1,7 @@
 use Rattle.std.proofs.Common.{◌^◌, ◌<◌, rules}
-use Rattle.std.proofs.lemmas.Result.{IfErr-weaker, on_ok_weaker}
+use Rattle.std.proofs.lemmas.Result.{on_ok_weaker}
 use Rattle.mp4_boxes.specs.words.View.{box_seen}
-use Rattle.mp4_frag.specs.words.TrafFaults.{RefusesMoof, RefusesTrafs}
-use Rattle.mp4_frag.proofs.TrafsJudged.{never_refused, passed_accepted, passed_sound, refuses_moof}
+use Rattle.mp4_frag.proofs.TrafsJudged.{passed_accepted, passed_sound}
 use Rattle.std.proofs.Common.{List, inl, inr, refl, subst}
 use Rattle.std.proofs.lemmas.Result.{err_from_is_err_and, MatchResult-weaker}
 use Rattle.mp4_boxes.specs.format.Box.{Box, box_container}
@@ -10,7 +9,11 @@ use Rattle.mp4_boxes.specs.format.Children.{Holds}
 use Rattle.mp4_boxes.specs.declared.rule.Rule.TheVariants as rules
 use Rattle.mp4_boxes.proofs.ChildrenJudged.{held_are}
 use Rattle.mp4_frag.specs.words.RunsJudged.{children_of}
-use Rattle.mp4_frag.proofs.FirstTraf.{trafs_first}
+use Rattle.std.proofs.Common.{pos}
+use Rattle.std.specs.Prelude.{codes}
+use Rattle.mp4_boxes.specs.format.Children.{of_kind}
+use Rattle.mp4_frag.specs.words.TrafTests.{MoofFirst, TrafsFirst}
+use Rattle.mp4_frag.proofs.FirstTraf.{named_as}
 use Rattle.mp4_frag.proofs.HeadsFound.{holds_children}
 use Rattle.mp4_frag.proofs.check.check_moof.Goals as goal
 
@@ -24,18 +27,6 @@ returns-clause-accepted g c =
     let short : c.args.file.len < 2 ^ 64 = search rules in
     on_ok_weaker c.check_trafs.result (λ p. passed_accepted c.args.file.len (box_seen c.args.moof) _ _ _ _ _ short p c.in_ok-boxes.ensures.holds) c.check_trafs.ensures.passed
 
-pub returns-clause-refusal : goal.returns-clause-refusal
-returns-clause-refusal g c =
-    let a = c.args in
-    let moof = box_seen a.moof in
-    IfErr-weaker c.check_trafs.result (RefusesTrafs a.file.len a.tracks.now a.room.now moof _) (RefusesMoof a.file.len a.tracks.now a.room.now moof _) (refuses_moof a.file.len moof _ a.tracks.now a.room.now _ c.in_ok-boxes.ensures.holds) c.check_trafs.ensures.refusal
-
-pub returns-clause-only : goal.returns-clause-only
-returns-clause-only g c =
-    let a = c.args in
-    let moof = box_seen a.moof in
-    IfErr-weaker c.check_trafs.result (RefusesTrafs a.file.len a.tracks.now a.room.now moof _) _ (never_refused a.file.len moof _ a.tracks.now a.room.now _ c.in_ok-boxes.ensures.holds) c.check_trafs.ensures.refusal
-
 -- ---- the first fault
 
 pub returns-in_err-boxes-clause-exact : goal.returns-in_err-boxes-clause-exact
@@ -47,4 +38,7 @@ pub returns-clause-exact : goal.returns-clause-exact
 returns-clause-exact g c =
     let moof = box_seen c.args.moof in
     let held = held_are rules.MovieFragment (box_container moof) (children_of moof) (subst (λ (boxes : List Box). Holds rules.MovieFragment (box_container moof) boxes) (holds_children rules.MovieFragment moof _ c.in_ok-boxes.ensures.holds) c.in_ok-boxes.ensures.holds) in
-    record { names = MatchResult-weaker c.check_trafs.result c.check_trafs.ensures.exact.names (λ p h. inr (held, h)) (trafs_first c.args.file.len c.args.tracks.now c.args.room.now moof held) }
+    record {
+      names = MatchResult-weaker c.check_trafs.result c.check_trafs.ensures.exact.names (λ p h. inr (held, h))
+          (named_as (TrafsFirst c.args.file.len moof.offset (pos moof.offset) c.args.tracks.now c.args.room.now (of_kind (codes "traf") (children_of moof))) (MoofFirst c.args.file.len c.args.tracks.now c.args.room.now moof) (λ o h. inr (held, h)));
+    }

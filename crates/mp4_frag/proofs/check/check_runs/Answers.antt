@@ -3,13 +3,12 @@ use Rattle.mp4_boxes.specs.words.View.{box_seen}
 use Rattle.mp4_frag.proofs.Costs.{runs_cost_run, runs_cost_said, runs_cost_ended, runs_work_ended, runs_cost_fault}
 use Rattle.std.proofs.Common.{subst, codes}
 use Rattle.mp4_boxes.specs.format.Children.{of_kind}
-use Rattle.mp4_frag.specs.words.RunsJudged.{RunsFail}
 use Rattle.std.proofs.Common.{◌≡◌, List, Some}
 use Rattle.mp4_boxes.specs.format.Box.{Box}
 use Rattle.mp4_boxes.specs.format.BoxFaults.{fault_of}
 use Rattle.mp4_boxes.specs.format.FirstFault.{first_failed}
 use Rattle.mp4_frag.specs.words.FragmentTests.{runs_tests}
-use Rattle.mp4_frag.proofs.RunsPassed.{all_children, seen_run, run_fails, run_first, runs_first, runs_sound, runs_ended}
+use Rattle.mp4_frag.proofs.RunsPassed.{all_children, seen_run, run_first, runs_first, runs_sound, runs_ended}
 use Rattle.mp4_frag.proofs.check.check_runs.Goals as goal
 
 pub loop-child-preserved-then-eq : goal.loop-child-preserved-then-eq
@@ -56,12 +55,6 @@ pub returns-in-Err-clause-work : goal.returns-in-Err-clause-work
 returns-in-Err-clause-work g c =
     runs_cost_fault _ _ _ _ (box_seen c.in-Some.child) _ _ _ _ _ _ _ _ _ _ c.loop-child.invariant.6 c.in-Some.ensures.steps c.into_iter-child-iterator.ensures.into_iter_gives c.in_ok-child-items.ensures.tiles c.payload.ensures c.loop-child.invariant.2
     (let most = c.in-Err.ensures.work in omega (arith, most))
-
-pub returns-in-Err-clause-fault : goal.returns-in-Err-clause-fault
-returns-in-Err-clause-fault g c = λ _.
-    let all = all_children (box_seen c.args.traf) _ _ _ _ c.payload.ensures c.payload_offset.ensures c.in_ok-child-items.ensures.tiles in
-    subst (λ boxes. RunsFail c.args.judged.file_len c.args.judged.inherited c.args.judged.base c.args.judged.base c.args.room.now (of_kind (codes "trun") boxes) c.fault.result) (c.into_iter-child-iterator.ensures.into_iter_gives ∙ all)
-    (run_fails _ _ _ _ _ _ (box_seen c.in-Some.child) _ _ _ _ _ _ c.fault.result c.in-Err.kind c.loop-child.invariant.5 c.in-Some.ensures.steps (rw c.kind-in-loop-child.ensures at (sym c.if-eq.ensures)) c.fault.ensures (rw c.payload-then-eq.ensures at c.in-Err.ensures.fault))
 
 -- ---- the first fault
 

@@ -8,7 +8,6 @@ use Rattle.mp4_boxes.specs.declared.view.BoxView.{BoxView}
 use Rattle.mp4_tables.specs.words.Keys.{keys_seen}
 use Rattle.mp4_frag.specs.words.Passing.{IsUpTo}
 use Rattle.mp4_frag.specs.words.Passing.{is_late_at}
-use Rattle.mp4_frag.specs.words.TrafFaults.{head_fails, time_fails}
 use Rattle.mp4_boxes.specs.format.BoxFaults.{fault_of}
 use Rattle.mp4_boxes.specs.format.FirstFault.{first_failed}
 use Rattle.mp4_boxes.specs.declared.fault.Kind.TheVariants.{UnknownTrack, BadDescriptionIndex, Gap}
@@ -23,7 +22,7 @@ use Rattle.mp4_frag.specs.words.TrafTests.{lacks}
 use Rattle.mp4_frag.proofs.FirstTraf.{list_first, head_first, behind_head, no_track_first, no_trex_first, some_track, known_first, time_first, runs_then, description_then, groups_then, rest_then, late_first, late_none}
 use Rattle.mp4_frag.proofs.LeavesRead.{got}
 use Rattle.mp4_frag.proofs.RunsPassed.{judged_by}
-use Rattle.mp4_frag.proofs.TrafRefused.{same_head, no_head, unknown_id, unknown_trex, opened, runs_refused, description_refused, groups_refused, time_refused}
+use Rattle.mp4_frag.proofs.TrafRefused.{same_head, no_head, opened}
 use Rattle.mp4_frag.proofs.TracksMoved.{traf_moved, no_time}
 use Rattle.mp4_frag.specs.words.RunsJudged.{children_of, runs_in, runs_total, only_list}
 use Rattle.mp4_frag.specs.words.States.{HasRoom}
@@ -114,86 +113,6 @@ returns-clause-own g c =
     c.in-Some-find_track.ensures.inside c.in-Some-find_track.ensures.there.found (ap (λ t. t.trex) (sym c.index-tracks-k.is) ∙ c.in-Some-trex.is) in
     traf_notable c.args.at.moof c.in_ok-passed.passed.count c.in-Some-find_track.k c.args.at.before c.base_of.result _ c.args.tracks.now (box_seen c.args.traf) (box_seen c.in-Some.tfhd) c.in_ok-head.head c.in-Some-trex.trex c.note_of.result
     head c.in_ok-head.ensures.head known c.in-Some-find_track.ensures.inside c.in-Some-find_track.ensures.there.found (rw before at c.base_of.ensures.is) c.in_ok-passed.ensures.runs.count (rw twice at c.note_of.ensures)
-
-pub returns-in_default-clause-fault : goal.returns-in_default-clause-fault
-returns-in_default-clause-fault g c =
-    let none : [] ≡ of_kind (codes "tfhd") (children_of (box_seen c.args.traf)) = ap (λ (o : Option BoxView). only_list (option_map box_seen o)) (sym c.in_default.is) ∙ c.in_ok-heads.ensures.head in
-    absurd (no_head (box_seen c.args.traf) (children_of (box_seen c.args.traf)) c.in_ok-heads.ensures.holds (sym none))
-
-pub returns-in_err-head-clause-fault : goal.returns-in_err-head-clause-fault
-returns-in_err-head-clause-fault g c =
-    let p = err_from_is_err_and c.from_residual-in_err-head.result c.from_residual-in_err-head.ensures.1 in
-    let head = sym c.in_ok-heads.ensures.head ∙ ap (λ (o : Option BoxView). only_list (option_map box_seen o)) c.in-Some.is in
-    let e = c.in_err-head.ensures.fault in
-    rw (p.1, p.2) (head_fails (box_seen c.in-Some.tfhd) e.0 c.in_ok-heads.ensures.holds head e.1 e.2)
-
-pub returns-in_default-find_track-clause-fault : goal.returns-in_default-find_track-clause-fault
-returns-in_default-find_track-clause-fault g c =
-    let head = sym c.in_ok-heads.ensures.head ∙ ap (λ (o : Option BoxView). only_list (option_map box_seen o)) c.in-Some.is in
-    unknown_id c.args.at.file.len c.args.at.moof c.args.room.now c.args.at.before c.args.tracks.now (box_seen c.args.traf) (box_seen c.in-Some.tfhd) c.in_ok-head.head _ c.in_ok-heads.ensures.holds head c.in_ok-head.ensures.head (c.in_default-find_track.ensures.none refl)
-    c.fault-in_default-find_track.ensures
-
-pub returns-in_default-trex-clause-fault : goal.returns-in_default-trex-clause-fault
-returns-in_default-trex-clause-fault g c =
-    let head = sym c.in_ok-heads.ensures.head ∙ ap (λ (o : Option BoxView). only_list (option_map box_seen o)) c.in-Some.is in
-    unknown_trex c.args.at.file.len c.args.at.moof c.args.room.now c.in-Some-find_track.k c.args.at.before c.args.tracks.now _ c.index-tracks-k.result (box_seen c.args.traf) (box_seen c.in-Some.tfhd) c.in_ok-head.head _ c.in_ok-heads.ensures.holds head c.in_ok-head.ensures.head
-    c.in-Some-find_track.ensures.inside c.in-Some-find_track.ensures.there.found c.index-tracks-k.is c.in_default-trex.is c.fault-in_default-trex.ensures
-
-pub returns-in_err-time-clause-fault : goal.returns-in_err-time-clause-fault
-returns-in_err-time-clause-fault g c =
-    let p = err_from_is_err_and c.from_residual-in_err-time.result c.from_residual-in_err-time.ensures.1 in
-    let e = c.in_err-time.ensures.fault in
-    rw (p.1, p.2) (time_fails e.0 e.2.0 c.in_ok-heads.ensures.holds e.1 e.2.1 e.2.2)
-
-pub returns-in_err-passed-clause-fault : goal.returns-in_err-passed-clause-fault
-returns-in_err-passed-clause-fault g c =
-    let p = err_from_is_err_and c.from_residual-in_err-passed.result c.from_residual-in_err-passed.ensures.1 in
-    let head = sym c.in_ok-heads.ensures.head ∙ ap (λ (o : Option BoxView). only_list (option_map box_seen o)) c.in-Some.is in
-    let same : to_z w128 (of_z w128 c.base_of.result) ≡ c.base_of.result = search rules in
-    let before : to_z w128 (of_z w128 c.args.at.before) ≡ c.args.at.before = search rules in
-    let o = opened c.args.at.moof c.in-Some-find_track.k c.args.at.before c.base_of.result c.args.tracks.now _ c.index-tracks-k.result (box_seen c.args.traf) (box_seen c.in-Some.tfhd) c.in_ok-head.head c.in-Some-trex.trex c.what_is_inherited.result c.in_ok-heads.ensures.holds head
-    c.in_ok-head.ensures.head
-    c.in-Some-find_track.ensures.inside c.in-Some-find_track.ensures.there.found c.index-tracks-k.is c.in-Some-trex.is (rw before at c.base_of.ensures.is) c.what_is_inherited.ensures in
-    rw (p.1, p.2) (runs_refused c.args.at.file.len c.args.at.moof c.args.room.now c.args.at.before c.base_of.result c.args.tracks.now (box_seen c.args.traf) (box_seen c.in-Some.tfhd) c.index-tracks-k.result c.in-Some-trex.trex c.what_is_inherited.result c.in_err-passed.field-0.0 o
-    ((rw same at c.in_err-passed.ensures.fault) c.in_ok-heads.ensures.holds.tiles))
-
-pub returns-then-lacks_description-clause-fault : goal.returns-then-lacks_description-clause-fault
-returns-then-lacks_description-clause-fault g c =
-    let head = sym c.in_ok-heads.ensures.head ∙ ap (λ (o : Option BoxView). only_list (option_map box_seen o)) c.in-Some.is in
-    let same : to_z w128 (of_z w128 c.base_of.result) ≡ c.base_of.result = search rules in
-    let before : to_z w128 (of_z w128 c.args.at.before) ≡ c.args.at.before = search rules in
-    let o = opened c.args.at.moof c.in-Some-find_track.k c.args.at.before c.base_of.result c.args.tracks.now _ c.index-tracks-k.result (box_seen c.args.traf) (box_seen c.in-Some.tfhd) c.in_ok-head.head c.in-Some-trex.trex c.what_is_inherited.result c.in_ok-heads.ensures.holds head
-    c.in_ok-head.ensures.head
-    c.in-Some-find_track.ensures.inside c.in-Some-find_track.ensures.there.found c.index-tracks-k.is c.in-Some-trex.is (rw before at c.base_of.ensures.is) c.what_is_inherited.ensures in
-    description_refused c.args.at.file.len c.args.at.moof c.args.room.now c.in_ok-passed.passed.count c.args.at.before c.base_of.result c.args.tracks.now (box_seen c.args.traf) (box_seen c.in-Some.tfhd) c.index-tracks-k.result c.in-Some-trex.trex c.what_is_inherited.result _ o
-    (rw same at c.in_ok-passed.ensures.runs.sound) c.in_ok-passed.ensures.runs.count (sym c.if-lacks_description.ensures) c.fault-then-lacks_description.ensures
-
-pub returns-in_err-keys-clause-fault : goal.returns-in_err-keys-clause-fault
-returns-in_err-keys-clause-fault g c =
-    let p = err_from_is_err_and c.from_residual-in_err-keys.result c.from_residual-in_err-keys.ensures.1 in
-    let head = sym c.in_ok-heads.ensures.head ∙ ap (λ (o : Option BoxView). only_list (option_map box_seen o)) c.in-Some.is in
-    let same : to_z w128 (of_z w128 c.base_of.result) ≡ c.base_of.result = search rules in
-    let before : to_z w128 (of_z w128 c.args.at.before) ≡ c.args.at.before = search rules in
-    let o = opened c.args.at.moof c.in-Some-find_track.k c.args.at.before c.base_of.result c.args.tracks.now _ c.index-tracks-k.result (box_seen c.args.traf) (box_seen c.in-Some.tfhd) c.in_ok-head.head c.in-Some-trex.trex c.what_is_inherited.result c.in_ok-heads.ensures.holds head
-    c.in_ok-head.ensures.head
-    c.in-Some-find_track.ensures.inside c.in-Some-find_track.ensures.there.found c.index-tracks-k.is c.in-Some-trex.is (rw before at c.base_of.ensures.is) c.what_is_inherited.ensures in
-    rw (p.1, p.2)
-    (groups_refused c.args.at.file.len c.args.at.moof c.args.room.now c.in_ok-passed.passed.count c.args.at.before c.base_of.result c.args.tracks.now (box_seen c.args.traf) (box_seen c.in-Some.tfhd) c.index-tracks-k.result c.in-Some-trex.trex c.what_is_inherited.result c.in_err-keys.field-0.0 o
-    (rw same at c.in_ok-passed.ensures.runs.sound) c.in_ok-passed.ensures.runs.count (c.in_err-keys.ensures.fault c.in_ok-heads.ensures.holds.tiles))
-
-pub returns-then-is_late-clause-fault : goal.returns-then-is_late-clause-fault
-returns-then-is_late-clause-fault g c =
-    let boxes = children_of (box_seen c.args.traf) in
-    let there = sym c.in_ok-heads.ensures.time ∙ ap (λ (o : Option BoxView). only_list (option_map box_seen o)) c.in-Some-time.is in
-    let head = sym c.in_ok-heads.ensures.head ∙ ap (λ (o : Option BoxView). only_list (option_map box_seen o)) c.in-Some.is in
-    let same : to_z w128 (of_z w128 c.base_of.result) ≡ c.base_of.result = search rules in
-    let before : to_z w128 (of_z w128 c.args.at.before) ≡ c.args.at.before = search rules in
-    let o = opened c.args.at.moof c.in-Some-find_track.k c.args.at.before c.base_of.result c.args.tracks.now _ c.index-tracks-k.result (box_seen c.args.traf) (box_seen c.in-Some.tfhd) c.in_ok-head.head c.in-Some-trex.trex c.what_is_inherited.result c.in_ok-heads.ensures.holds head
-    c.in_ok-head.ensures.head
-    c.in-Some-find_track.ensures.inside c.in-Some-find_track.ensures.there.found c.index-tracks-k.is c.in-Some-trex.is (rw before at c.base_of.ensures.is) c.what_is_inherited.ensures in
-    time_refused c.args.at.file.len c.args.at.moof c.args.room.now c.in_ok-passed.passed.count c.args.at.before c.base_of.result c.args.tracks.now (box_seen c.args.traf) (box_seen c.in-Some.tfhd) (box_seen c.in-Some-time.tfdt)
-    c.index-tracks-k.result c.in-Some-trex.trex c.what_is_inherited.result c.in_ok-time.time _ o (rw same at c.in_ok-passed.ensures.runs.sound) c.in_ok-passed.ensures.runs.count c.in_ok-keys.ensures.sound there
-    c.in_ok-time.ensures.sound c.in_ok-time.ensures.time (sym c.if-is_late.ensures) c.fault-then-is_late.ensures
 
 -- ---- the first fault
 

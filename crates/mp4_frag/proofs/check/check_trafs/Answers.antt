@@ -7,7 +7,7 @@ use Rattle.mp4_frag.proofs.HeadsFound.{holds_boxes}
 use Rattle.mp4_frag.proofs.ChecksStopped.{taken_traf, taken_other, stops_within}
 use Rattle.mp4_frag.proofs.Costs.{moof_cost_traf, moof_cost_said, moof_cost_ended, moof_cost_fault}
 use Rattle.mp4_frag.proofs.CheckLooks.{looked_traf, looked_one, looked_each, looked_ended, looked_fault}
-use Rattle.mp4_frag.proofs.MoofPassed.{moof_traf, moof_ended, moves_traf, moves_fault, moves_first, moves_none, moves_ended}
+use Rattle.mp4_frag.proofs.MoofPassed.{moof_traf, moof_ended, moves_traf, moves_first, moves_none, moves_ended}
 use Rattle.mp4_frag.specs.words.OwnTrafs.{own_seen}
 use Rattle.mp4_frag.proofs.OwnNoted.{data_ended, notes_other, notes_traf, notes_ended}
 use Rattle.mp4_frag.proofs.check.check_trafs.Goals as goal
@@ -69,13 +69,6 @@ returns-clause-passed g c =
       moved = moves_ended _ _ _ _ _ _ _ _ _ _ i.5 left same;
       kept = search rules;
     }
-
-pub returns-in_err-passed-clause-refusal : goal.returns-in_err-passed-clause-refusal
-returns-in_err-passed-clause-refusal g c =
-    let p = err_from_is_err_and c.from_residual.result c.from_residual.ensures.1 in
-    let all = holds_boxes (box_seen c.args.all.moof) _ c.requires.boxes in
-    rw (p.1, p.2) (moves_fault c.args.all.file.len _ _ _ _ _ _ _ (box_seen c.in-Some.child) _ _ _ c.in_err-passed.field-0.0 c.loop-child.invariant.5 c.in-Some.ensures.steps (rw c.kind.ensures at (sym c.if-eq.ensures))
-    (c.into_iter-child-iterator.ensures.into_iter_gives ∙ all) (rw c.offset-then-eq.ensures at c.in_err-passed.ensures.fault))
 
 pub returns-clause-work : goal.returns-clause-work
 returns-clause-work g c =

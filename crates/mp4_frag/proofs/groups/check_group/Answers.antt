@@ -2,23 +2,8 @@ use Rattle.std.proofs.Common.{◌≡◌, refl, true, false, nat_le, ap, ◌∙�
 use Rattle.std.proofs.lemmas.Result.{err_from_is_err_and}
 use Rattle.mp4_tables.specs.format.Groups.{grouping_of}
 use Rattle.mp4_frag.proofs.FirstGroup.{group_shape, group_name, group_rest}
-use Rattle.mp4_frag.proofs.GroupsPassed.{key_is, index_kept, count_kept, name_fault, index_fault, count_fault, group_sound}
+use Rattle.mp4_frag.proofs.GroupsPassed.{key_is, index_kept, count_kept, group_sound}
 use Rattle.mp4_frag.proofs.groups.check_group.Goals as goal
-
-pub returns-in_err-name-clause-fault : goal.returns-in_err-name-clause-fault
-returns-in_err-name-clause-fault g c =
-    let p = err_from_is_err_and c.from_residual-in_err-name.result c.from_residual-in_err-name.ensures.1 in
-    let r = c.in_ok-group.ensures.group in
-    rw (p.1, p.2) (λ first before a. name_fault c.args.n first before c.args.payload.now c.in_ok-group.group c.in_err-name.field-0.0 r (c.in_err-name.ensures.fault first before a (grouping_of c.args.payload.now) (key_is c.args.payload.now c.in_ok-group.group r)))
-
-pub returns-in_default-clause-fault : goal.returns-in_default-clause-fault
-returns-in_default-clause-fault g c first before a =
-    index_fault c.args.n first before c.args.payload.now c.in_ok-group.group c.in_ok-group.ensures.group c.in_default.ensures.indexes
-
-pub returns-then-total-from-clause-fault : goal.returns-then-total-from-clause-fault
-returns-then-total-from-clause-fault g c first before a =
-    let more : false ≡ nat_le c.in-Some.total c.args.n = search rules in
-    count_fault c.args.n first before c.args.payload.now c.in_ok-group.group c.in_ok-group.ensures.group (more ∙ ap (λ m. nat_le m c.args.n) c.in-Some.ensures.total)
 
 pub returns-clause-sound : goal.returns-clause-sound
 returns-clause-sound g c first before a =

@@ -1,4 +1,4 @@
-use Rattle.std.proofs.Common.{◌<◌, ◌≤◌, length, take, ◌∙◌, refl, sym, ap, inl, arith, rules}
+use Rattle.std.proofs.Common.{◌<◌, ◌≤◌, length, take, ◌∙◌, sym, ap, arith, rules}
 use Rattle.std.proofs.lemmas.List.{length-map, length-take}
 use Rattle.mp4_tables.specs.format.Groups.{GroupKey as GroupKeyOf}
 use Rattle.mp4_tables.specs.words.Keys.{key_place, key_seen, keys_seen}
@@ -22,11 +22,6 @@ bounds-named-place c =
       | in-Some+else-named-j w ↦ let inside = place_inside (key_seen c.args.key) w.in-Some.j (keys_seen keys) (sym w.in-Some.ensures) in omega (arith, w.place-is)
       | in-None+else-count-ge4 w ↦ let less : w.count-count.result < 4 = search rules in omega (arith, w.place-is)
     ]
-
-pub returns-then-named-j-clause-fault : goal.returns-then-named-j-clause-fault
-returns-then-named-j-clause-fault c first before a g e =
-    let now = keys_seen c.args.keys.now in
-    inl (refl, name_again 0 first now before c.args.named.now g c.in-Some.j a (ap (λ (k : GroupKeyOf). key_place k now) e ∙ sym c.in-Some.ensures) c.if-named-j.true)
 
 pub returns-clause-named : goal.returns-clause-named
 returns-clause-named c first before a g e =

@@ -7,19 +7,6 @@ use Rattle.mp4_frag.proofs.FirstRun.{run_large, run_fine, run_elsewhere}
 use Rattle.mp4_frag.proofs.RunsRead.{run_outside, run_passes, large_is, within_same}
 use Rattle.mp4_frag.proofs.sample_runs.check_run.Goals as goal
 
-pub returns-clause-fault : goal.returns-clause-fault
-returns-clause-fault g c =
-    let r = c.in_ok-run.ensures.run in
-    let start = rw (nearer_again c.args.judged.base c.requires.base, near_again c.args.passed.at c.requires.passed.near) at c.run_start-start.ensures.is in
-    let within = rw (near_again c.run_start-start.result c.run_start-start.ensures.near) at c.pass_samples-samples.ensures.within in
-    (r.readable, run_outside c.args.payload.now c.in_ok-run.run' c.args.judged.file_len c.args.judged.inherited.size c.args.judged.base c.args.passed.at c.run_start-start.result _ r start within c.if-samples.false)
-
-pub returns-then-have_large_offset-clause-fault : goal.returns-then-have_large_offset-clause-fault
-returns-then-have_large_offset-clause-fault g c =
-    let r = c.in_ok-run.ensures.run in
-    let large = (c.pass_samples-samples.ensures.samples c.if-samples.true).large in
-    (r.readable, sym (large_is c.args.payload.now c.in_ok-run.run' _ r large) ∙ sym c.have_large_offset.ensures ∙ c.if-have_large_offset.true)
-
 pub returns-then-samples-clause-run : goal.returns-then-samples-clause-run
 returns-then-samples-clause-run g c =
     let r = c.in_ok-run.ensures.run in

@@ -80,7 +80,7 @@ returns-in_err-check_moof-clause-work g c =
 pub returns-in_err-check_moof-clause-refusal : goal.returns-in_err-check_moof-clause-refusal
 returns-in_err-check_moof-clause-refusal g c =
     let p = err_from_is_err_and c.from_residual-in_err-check_moof.result c.from_residual-in_err-check_moof.ensures.1 in
-    rw (p.1, p.2) (not_searched (g.S.Store.is_honest c.args.store.now) _ _ c.in_err-check_moof.field-0.0 (meets _ _ _ _ (box_seen c.view-moof.result) c.in_err-check_moof.field-0.0 c.in_err-check_moof.ensures.refusal))
+    rw (p.1, p.2) (not_searched (g.S.Store.is_honest c.args.store.now) _ _ c.in_err-check_moof.field-0.0 (meets _ c.in_err-check_moof.field-0.0 c.in_err-check_moof.ensures.refusal))
 
 pub loop-top-preserved : goal.loop-top-preserved
 loop-top-preserved g c =

@@ -170,7 +170,7 @@ loop-top-preserved g c =
 pub returns-in_err-check_moof-clause-refusal : goal.returns-in_err-check_moof-clause-refusal
 returns-in_err-check_moof-clause-refusal g c =
     let p = err_from_is_err_and c.from_residual-in_err-check_moof.result c.from_residual-in_err-check_moof.ensures.1 in
-    rw (p.1, p.2) (not_searched (g.S.Store.is_honest c.args.store.now) _ _ c.in_err-check_moof.field-0.0 (meets _ _ _ _ (box_seen c.view-moof.result) c.in_err-check_moof.field-0.0 c.in_err-check_moof.ensures.refusal))
+    rw (p.1, p.2) (not_searched (g.S.Store.is_honest c.args.store.now) _ _ c.in_err-check_moof.field-0.0 (meets _ c.in_err-check_moof.field-0.0 c.in_err-check_moof.ensures.refusal))
 
 pub returns-clause-passed : goal.returns-clause-passed
 returns-clause-passed g c = λ told movie boxes b.
@@ -234,13 +234,13 @@ returns-in_err-check_moof-clause-work g c =
       of_bytes = c.in_ok-len.ensures.room;
     } in
     record {
-      work = if_stopped ℤ (Unit {0}) (ChecksWithin file _ _) _ _ _ _ _ moof _ refused stops (λ s all h.
+      work = if_stopped ℤ (Unit {0}) (ChecksWithin file _ _) _ _ _ refused stops (λ s all h.
           let u = i.work told all h in
           next_stopped file at top all whole.0 u.0 u.1.0 ((coming told).0 u.0 u.1.0) moof c.read_payload.new.room c.in_ok-len.len r
           _ _ _ (stopped_steps moof _ _ s.checked) u.1.1);
       within = refused_fits file at top whole.0 (let l = i.left told in stands_behind file at top l.boxes ((coming told).0 l.boxes l.are_from)) moof c.read_payload.new.room c.in_ok-len.len r _ _ _ _ c.check_moof.ensures.work.most (i.fit told);
       looks = record {
-        said = if_stopped ℤ (Unit {0}) (LooksWithin file _ _ _) _ _ _ _ _ moof _ refused stops (λ s. looks_done file top.header.end _ _ _ (λ all h.
+        said = if_stopped ℤ (Unit {0}) (LooksWithin file _ _ _) _ _ _ refused stops (λ s. looks_done file top.header.end _ _ _ (λ all h.
             let u = i.looked told all h in
             next_looked file at top all whole.0 u.0 u.1.0 ((coming told).0 u.0 u.1.0) moof c.read_payload.new.room c.in_ok-len.len r
             (min 1 (length c.args.states.now)) _ _ _ (rw many at s.looked) u.1.1));
