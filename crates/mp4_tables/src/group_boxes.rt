@@ -1,6 +1,5 @@
 //! What an `sbgp` says: its key, and where its rows lie (ISO/IEC 14496-12, 8.9.2).
-ghost use Rattle.std.specs.Prelude.{◌≡◌, ◌≤◌, length, IfOk, IfErr};
-ghost use Rattle.mp4_boxes.specs.format.BoxFaults.{Fails};
+ghost use Rattle.std.specs.Prelude.{◌≡◌, ◌≤◌, length, IfOk};
 ghost use Rattle.mp4_boxes.specs.format.FirstFault.{FirstNamed, leaf_tests};
 ghost use Rattle.mp4_boxes.specs.format.Layout.{sbgp};
 ghost use Rattle.mp4_boxes.specs.format.Layout.{version as version_of};
@@ -38,7 +37,6 @@ fn key_of(payload: &[u8], version: u8) -> GroupKey
 /// What the `sbgp` of this payload says.
 pub fn read_group(payload: &[u8]) -> Result<Group, Kind>
     ensures group { IfOk result (IsGroup payload.now) }
-    ensures fault { IfErr result (Fails sbgp payload.now) }
     ensures exact { FirstNamed (leaf_tests sbgp payload.now) result }
 {
     let (version, _) = front(payload)?;

@@ -1,11 +1,11 @@
 //! Sample groups, read and judged: `sgpd` and `sbgp` (ISO/IEC 14496-12, 8.9).
-ghost use Rattle.std.specs.Prelude.{◌≡◌, ◌+◌, ◌*◌, ◌≤◌, ◌<◌, ◌++◌, ◌∷◌, [], length, IfOk, IfErr};
+ghost use Rattle.std.specs.Prelude.{◌≡◌, ◌+◌, ◌*◌, ◌≤◌, ◌<◌, ◌++◌, ◌∷◌, [], length, IfOk};
 ghost use Rattle.mp4_boxes.specs.format.Layout.{sbgp, sgpd, IsSound};
 ghost use Rattle.mp4_boxes.specs.format.FirstFault.{NamesFirst, naming, leaf_tests};
 ghost use Rattle.mp4_boxes.specs.words.View.{box_seen};
 ghost use Rattle.mp4_tables.specs.words.RowTests.{kept_tests, child_tests, NamesBehind, group_box_tests};
 ghost use Rattle.mp4_tables.specs.words.Keys.{key_seen, keys_seen};
-ghost use Rattle.mp4_tables.specs.words.Leaves.{HasTables, IsChild, FailsAs, SlotTaken, GroupRead, GroupNext, ChildRead, GroupsRead, GroupsSo, GroupPassed, SizesKnown};
+ghost use Rattle.mp4_tables.specs.words.Leaves.{HasTables, IsChild, SlotTaken, GroupRead, GroupNext, ChildRead, GroupsRead, GroupsSo, GroupPassed, SizesKnown};
 ghost use Rattle.mp4_tables.specs.words.Accepted.{group_count};
 
 use crate::group_boxes::read_group;
@@ -20,7 +20,6 @@ use std::sync::ledger::Ledger;
 // An `sgpd`: what follows its grouping type is kept unread.
 fn check_descriptions(leaf: BoxView) -> Result<(), Fault>
     ensures sound { IfOk result (λ _. IsSound sgpd (box_seen leaf.entry).payload) }
-    ensures fault { IfErr result (FailsAs sgpd (box_seen leaf.entry)) }
     ensures exact { NamesFirst (naming (box_seen leaf.entry)
         (leaf_tests sgpd (box_seen leaf.entry).payload)) result }
 {
@@ -37,7 +36,6 @@ fn read_grouping(stbl: BoxView, leaf: BoxView) -> Result<(GroupKey, RowsAt), Fau
     requires child { IsChild (box_seen stbl) (box_seen leaf) }
     ensures read { IfOk result
         (λ r. GroupRead (box_seen stbl.entry) (box_seen leaf.entry) (key_seen r.0) r.1) }
-    ensures fault { IfErr result (FailsAs sbgp (box_seen leaf.entry)) }
     ensures exact { NamesFirst (naming (box_seen leaf.entry)
         (leaf_tests sbgp (box_seen leaf.entry).payload)) result }
 {

@@ -1,11 +1,11 @@
 //! The children of an `stbl`: which box is which table, and where its rows lie.
-ghost use Rattle.std.specs.Prelude.{◌≡◌, ◌+◌, ◌*◌, ◌-◌, ◌<◌, ◌≤◌, length, [], ◌∷◌, IfOk, IfErr, MatchOption};
+ghost use Rattle.std.specs.Prelude.{◌≡◌, ◌+◌, ◌*◌, ◌-◌, ◌<◌, ◌≤◌, length, [], ◌∷◌, IfOk, MatchOption};
 ghost use Rattle.mp4_boxes.specs.format.Children.{count_among};
 ghost use Rattle.mp4_boxes.specs.format.Layout.{version as version_in};
 ghost use Rattle.mp4_boxes.specs.words.View.{box_seen};
 ghost use Rattle.mp4_boxes.specs.format.FirstFault.{NamesFirst, naming};
 ghost use Rattle.mp4_tables.specs.words.RowTests.{version_tests, row_tests};
-ghost use Rattle.mp4_tables.specs.words.Leaves.{boxes_of, HasTables, IsFirstOf, IsChild, VersionFails, ShapeFails, RowsRead};
+ghost use Rattle.mp4_tables.specs.words.Leaves.{boxes_of, HasTables, IsFirstOf, IsChild, RowsRead};
 
 use crate::places::RowsAt;
 use mp4_boxes::{BoxView, Children, Fault, FourCc, Kind, children, full, u32_at};
@@ -71,7 +71,6 @@ pub(crate) fn version_of(leaf: BoxView, last: u8) -> Result<u8, Fault>
     ensures version { IfOk result (λ v. v ≡ version_in (box_seen leaf.entry).payload) }
     ensures known { IfOk result (λ v. v ≤ last) }
     ensures long { IfOk result (λ v. 4 ≤ length (box_seen leaf.entry).payload) }
-    ensures fault { IfErr result (VersionFails last (box_seen leaf.entry)) }
     ensures exact { NamesFirst (naming (box_seen leaf.entry)
         (version_tests last (box_seen leaf.entry).payload)) result }
 {
@@ -88,7 +87,6 @@ pub(crate) fn table_rows(stbl: BoxView, leaf: BoxView, last: u8, width: u8) -> R
     requires tables { HasTables (box_seen stbl) }
     requires child { IsChild (box_seen stbl) (box_seen leaf) }
     ensures rows { IfOk result (RowsRead last 8 width (box_seen stbl.entry) (box_seen leaf.entry)) }
-    ensures fault { IfErr result (ShapeFails last 8 width (box_seen leaf.entry)) }
     ensures exact { NamesFirst (naming (box_seen leaf.entry)
         (row_tests last width (box_seen leaf.entry).payload)) result }
 {

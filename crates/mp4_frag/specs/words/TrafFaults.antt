@@ -35,8 +35,8 @@ pub record HasHead (b h : Box) : Type 0 where
   pub only : IsOnly (codes "tfhd") b h
   pub readable : IsReadable tfhd h.payload
 
--- Why a `moof` is refused, apart from which fault it has: a fault is met; or there was no memory for
--- a note, where so many tracks have notes.
+-- Why a `moof` is refused, apart from which fault it has: one is met; or there was no memory for a
+-- note, where so many tracks have notes.
 abbrev pub RefusesNotes : ℕ → Refusal → Type 0
 RefusesNotes owns (refusals.Fault f) = Unit {0}
 RefusesNotes owns refusals.Memory = 0 < owns

@@ -11,7 +11,7 @@ use Rattle.mp4_boxes.specs.format.BoxFaults.{Fails, fault_of}
 use Rattle.mp4_boxes.specs.declared.rule.Rule.TheVariants.{SampleTable}
 use Rattle.mp4_boxes.specs.declared.fault.Fault.{Fault}
 use Rattle.mp4_boxes.specs.declared.fault.Kind.{Kind}
-use Rattle.mp4_boxes.specs.declared.fault.Kind.TheVariants.{ShortBox, BadVersion, TooManySamples}
+use Rattle.mp4_boxes.specs.declared.fault.Kind.TheVariants.{TooManySamples}
 use Rattle.mp4_tables.specs.format.Repeated.{total}
 use Rattle.mp4_tables.specs.format.Groups.{Grouping, GroupKey, GroupRule, keys_after, key_of, grouping_of, group_test}
 use Rattle.mp4_tables.specs.format.Tables.{Tables, sample_count, tables_of}
@@ -104,21 +104,6 @@ HasDescriptions stbl = AreReadable (codes "stsd" ∷ []) (boxes_of stbl)
 abbrev pub IsFault : Limits → Box → Fault → Type 0
 IsFault l stbl f = IsLeafFaultAmong (boxes_of stbl) f
     ⊎ (IsTableFault (surroundings_of l) (box_container stbl) f ⊎ IsTooMany l.room (boxes_of stbl) f)
-
--- a full box that is too short for its version and flags, or of a version past the last
-abbrev pub VersionFails : ℕ → Box → Fault → Type 0
-VersionFails last b f = ((length b.payload < 4) × (f ≡ fault_of ShortBox b))
-    ⊎ ((4 ≤ length b.payload) × (last < version b.payload) × (f ≡ fault_of BadVersion b))
-
--- a box that is too short for its fields, of which the last is a count, or for as many rows of a
--- width
-abbrev pub RowsFail : ℕ → ℕ → Box → Fault → Type 0
-RowsFail fields width b f = (length b.payload < fields + width * field b.payload (fields - 4) 4)
-    × (f ≡ fault_of ShortBox b)
-
--- one of these
-abbrev pub ShapeFails : ℕ → ℕ → ℕ → Box → Fault → Type 0
-ShapeFails last fields width b f = VersionFails last b f ⊎ RowsFail fields width b f
 
 -- rows that were read in a child: where they lie in the payload of its `stbl`
 pub record RowsRead (last fields width : ℕ) (stbl b : Box) (r : RowsAt) : Type 0 where
