@@ -10,6 +10,7 @@ pub mod SampleTexts
 pub mod ShownLines
 pub mod WalkLines
 pub mod TrackTexts
+pub mod Lengths
 pub mod Matched
 pub mod Normalised
 pub mod Summed

@@ -13,6 +13,7 @@ pub mod LastLine
 pub mod DifferenceObject
 pub mod CompareHeadline
 pub mod FileTexts
+pub mod Lengths
 pub mod Run
 pub mod Answers
 pub mod AnswerLaws
