@@ -34,6 +34,7 @@ mod WordSets
 mod LeastWords
 pub mod ComparedTexts
 pub mod SameAnswers
+pub mod OneTexts
 pub mod Fronts
 pub mod RunParts
 pub mod BoxesPut

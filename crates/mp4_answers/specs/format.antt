@@ -21,3 +21,4 @@ pub mod Text
 pub mod TextLaws
 pub mod Sums
 pub mod SameAnswers
+pub mod OneTextLaws
