@@ -10,6 +10,7 @@ pub mod SampleTexts
 pub mod ShownLines
 pub mod WalkLines
 pub mod TrackTexts
+pub mod Lengths
 pub mod Matched
 pub mod Normalised
 pub mod Summed
@@ -33,6 +34,7 @@ mod WordSets
 mod LeastWords
 pub mod ComparedTexts
 pub mod SameAnswers
+pub mod OneTexts
 pub mod Fronts
 pub mod RunParts
 pub mod BoxesPut

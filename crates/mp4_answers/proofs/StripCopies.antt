@@ -97,7 +97,7 @@ next_entered names rule bytes text g into some read n there (enters _ _ _ h inne
 pub no_header : (is_open : Bool) (bytes : List ℕ) (h : Header) → bytes ≡ [] → header_at is_open bytes ≡ Ok h → ⊥
 no_header is_open bytes h none e = let short : Err ShortHeader ≡ Ok h = subst (λ bs. header_at is_open bs ≡ Ok h) none e in cc
 
-nothing_stands : (names : List Name) (rule : Rule) (bytes text : List ℕ) → bytes ≡ [] → Strips names rule bytes text → text ≡ []
+pub nothing_stands : (names : List Name) (rule : Rule) (bytes text : List ℕ) → bytes ≡ [] → Strips names rule bytes text → text ≡ []
 nothing_stands names rule bytes text none (ends _ _ _ b t) = t
 nothing_stands names rule bytes text none (frees _ _ _ h rest e m s t) = absurd (no_header (is_top rule) bytes h none e)
 nothing_stands names rule bytes text none (keeps _ _ _ h rest e m i s t) = absurd (no_header (is_top rule) bytes h none e)

@@ -13,6 +13,7 @@ pub mod LastLine
 pub mod DifferenceObject
 pub mod CompareHeadline
 pub mod FileTexts
+pub mod Lengths
 pub mod Run
 pub mod Answers
 pub mod AnswerLaws
@@ -20,3 +21,4 @@ pub mod Text
 pub mod TextLaws
 pub mod Sums
 pub mod SameAnswers
+pub mod OneTextLaws

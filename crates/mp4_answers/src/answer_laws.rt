@@ -1,4 +1,5 @@
 //! Laws of what the commands answer, taken together.
+ghost use Rattle.mp4_answers.specs.format.OneTextLaws.{StripIsOne, ListOfBoxesIsOne, JudgedTextsAreOne};
 ghost use Rattle.mp4_answers.specs.format.SameAnswers.{AcceptedHasNoFault, NormalFormDenotesTheSame, NormalFormHasTheSameData, NormalFormListsTheSame, NormalFormShowsTheSame, SameIsSameBytes, SameStaysSame};
 
 /// `compare --without` says that two files are the same exactly if `normalise --without` of both
@@ -35,4 +36,20 @@ pub fn normal_form_has_the_same_data()
 /// No fault stands in a file that has a normal form.
 pub fn accepted_has_no_fault()
     ensures { AcceptedHasNoFault }
+{}
+
+/// A file has one copy in which the boxes of some names are free space.
+pub fn strip_is_one()
+    ensures { StripIsOne }
+{}
+
+/// It has one list of its boxes.
+pub fn list_of_boxes_is_one()
+    ensures { ListOfBoxesIsOne }
+{}
+
+/// It has one normal form, one of what is left of it, one line that shows it, one listing and the
+/// bytes of a track with an ID, and one text of what is left.
+pub fn judged_texts_are_one()
+    ensures { JudgedTextsAreOne }
 {}

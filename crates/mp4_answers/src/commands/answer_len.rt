@@ -1,14 +1,64 @@
 //! How many bytes a job puts.
-ghost use Rattle.mp4_present.specs.words.StoresRead.{OnlyReads};
+ghost use Rattle.mp4_answers.specs.format.FileTexts.{HasData};
+ghost use Rattle.mp4_answers.specs.format.Headline.{HasNormalForm};
+ghost use Rattle.mp4_answers.specs.format.Lengths.{AreLong, HasLength};
+ghost use Rattle.mp4_answers.specs.format.ReducedHeadline.{HasReducedForm};
+ghost use Rattle.mp4_present.specs.words.StoresRead.{OnlyReads, WhereRead};
 
 use crate::commands::tracks::track_with;
 use crate::jobs::Job;
 use mp4_boxes::{Refusal, Steps};
 use mp4_plan::{normal_len, reduced_len};
-use mp4_present::open_movie;
+use mp4_present::{Without, open_movie};
 use mp4_store::Store;
 use std::alloc::Global;
 use std::sync::ledger::Ledger;
+
+// How many bytes the samples have of the track with this ID.
+fn data_len<S: Store, L: Ledger, M: Ledger>(
+    alloc: Global,
+    store: &mut S,
+    id: u32,
+    steps: &mut Steps<L>,
+    looks: &mut Steps<M>,
+) -> Result<u64, Refusal>
+    ensures store { OnlyReads S.Store store.old store.new result }
+    ensures length { WhereRead S.Store store.old result (λ file. AreLong (HasData file id)) }
+{
+    let movie = open_movie(alloc, store, steps, looks)?;
+    let place = track_with(movie.tracks(), id)?;
+    Ok(movie.tracks()[place].bytes)
+}
+
+// How many bytes the normal form of a file has.
+fn form_len<S: Store, L: Ledger, M: Ledger>(
+    alloc: Global,
+    store: &mut S,
+    steps: &mut Steps<L>,
+    looks: &mut Steps<M>,
+) -> Result<u64, Refusal>
+    ensures store { OnlyReads S.Store store.old store.new result }
+    ensures length { WhereRead S.Store store.old result (λ file. AreLong (HasNormalForm file)) }
+{
+    let movie = open_movie(alloc, store, steps, looks)?;
+    normal_len(alloc, &movie, store, steps, looks)
+}
+
+// How many bytes the normal form has of what is left of a file.
+fn form_left_len<S: Store, L: Ledger, M: Ledger>(
+    alloc: Global,
+    store: &mut S,
+    leaving: Without,
+    steps: &mut Steps<L>,
+    looks: &mut Steps<M>,
+) -> Result<u64, Refusal>
+    ensures store { OnlyReads S.Store store.old store.new result }
+    ensures length { WhereRead S.Store store.old result
+        (λ file. AreLong (HasReducedForm leaving file)) }
+{
+    let movie = open_movie(alloc, store, steps, looks)?;
+    reduced_len(alloc, &movie, store, leaving, steps, looks)
+}
 
 /// How many bytes a job puts, of those that copy samples or boxes; 0 of the others, whose text is
 /// as long as it gets. The file is opened and planned for it.
@@ -20,22 +70,13 @@ pub fn text_len<S: Store, L: Ledger, M: Ledger>(
     looks: &mut Steps<M>,
 ) -> Result<u64, Refusal>
     ensures store { OnlyReads S.Store store.old store.new result }
+    ensures length { WhereRead S.Store store.old result (HasLength job.entry) }
 {
     match job {
         Job::Strip { .. } => Ok(store.len()),
-        Job::Extract { track } => {
-            let movie = open_movie(alloc, store, steps, looks)?;
-            let place = track_with(movie.tracks(), track)?;
-            Ok(movie.tracks()[place].bytes)
-        }
-        Job::Normalise => {
-            let movie = open_movie(alloc, store, steps, looks)?;
-            normal_len(alloc, &movie, store, steps, looks)
-        }
-        Job::Reduce { leaving } => {
-            let movie = open_movie(alloc, store, steps, looks)?;
-            reduced_len(alloc, &movie, store, leaving, steps, looks)
-        }
+        Job::Extract { track } => data_len(alloc, store, track, steps, looks),
+        Job::Normalise => form_len(alloc, store, steps, looks),
+        Job::Reduce { leaving } => form_left_len(alloc, store, leaving, steps, looks),
         Job::Boxes { .. } | Job::Show | Job::Samples { .. } | Job::Print { .. } => Ok(0),
     }
 }

@@ -1,0 +1,96 @@
+-- A job has one text of a file.
+use Rattle.std.proofs.Common.{◌≡◌, ℕ, zero, suc, ◌+◌, ◌<◌, ◌≤◌, List, [], ◌∷◌, ◌++◌, length, take, drop, Option, Some, None, Ok, refl, sym, ap, subst, ◌∙◌, arith}
+use Rattle.std.specs.Prelude.{Bool}
+use Rattle.std.specs.List.{AllZip, concat}
+use Rattle.serde_json.specs.Written.{compact_text}
+use Rattle.mp4_boxes.specs.format.Box.{Box, Container, Header, header_at, box_container}
+use Rattle.mp4_boxes.specs.format.Places.{ruled, containers, at_kind}
+use Rattle.mp4_boxes.specs.declared.rule.Rule.{Rule}
+use Rattle.mp4_boxes.specs.declared.rule.Rule.TheVariants.{File}
+use Rattle.mp4_boxes.proofs.Tiling.{header_is, tiles_one}
+use Rattle.mp4_present.specs.format.Presentation.{Track, Presentation}
+use Rattle.mp4_present.specs.format.Reduced.{reduce}
+use Rattle.mp4_plan.specs.format.Normal.{normal}
+use Rattle.mp4_plan.proofs.Judged.{judged_one}
+use Rattle.mp4_answers.specs.declared.box_names.Name.{Name}
+use Rattle.mp4_answers.specs.declared.jobs.Syntax.{Syntax}
+use Rattle.mp4_answers.specs.format.OneTextLaws.{StripIsOne, ListOfBoxesIsOne, JudgedTextsAreOne}
+use Rattle.mp4_answers.specs.format.Strips.{is_top, freed, Strips, ends, frees, keeps, enters}
+use Rattle.mp4_answers.specs.format.Text.{text}
+use Rattle.mp4_answers.specs.format.Texts.{descends, line_feed, show_value, sample_listing, sample_data, IsPart, AreBoxLines, box_line}
+use Rattle.mp4_answers.proofs.Lengths.{track_is_one}
+use Rattle.mp4_answers.proofs.StripCopies.{next_freed, next_kept, next_entered, nothing_stands}
+
+-- ---- copies in which boxes are free space
+
+-- where a header is read there is something
+some_there : (is_open : Bool) (bytes : List ℕ) (h : Header) → header_at is_open bytes ≡ Ok h → 0 < length bytes
+some_there is_open bytes h e =
+    let r = header_is is_open bytes h e in
+    let long : 8 ≤ h.length = r.length in
+    let from : h.length ≤ h.size = r.inside in
+    let to : h.size ≤ length bytes = r.fits in
+    omega (arith, long, from, to)
+
+pub copy_is_one : (names : List Name) (rule : Rule) (bytes text other : List ℕ) → Strips names rule bytes text → Strips names rule bytes other → text ≡ other
+copy_is_one names rule bytes text other (ends _ _ _ b t) u = t ∙ sym (nothing_stands names rule bytes other b u)
+copy_is_one names rule bytes text other (frees _ _ _ h rest e n s t) u =
+    let next = next_freed names rule bytes other h (some_there (is_top rule) bytes h e) e n u in
+    t ∙ ap (λ (xs : List ℕ). freed (take h.size bytes) ++ xs) (copy_is_one names rule (drop h.size bytes) rest next.0 s next.1) ∙ sym next.2
+copy_is_one names rule bytes text other (keeps _ _ _ h rest e n i s t) u =
+    let next = next_kept names rule bytes other h (some_there (is_top rule) bytes h e) e n i u in
+    t ∙ ap (λ (xs : List ℕ). take h.size bytes ++ xs) (copy_is_one names rule (drop h.size bytes) rest next.0 s next.1) ∙ sym next.2
+copy_is_one names rule bytes text other (enters _ _ _ h inner middle rest e n i w s t) u =
+    let next = next_entered names rule bytes other h inner (some_there (is_top rule) bytes h e) e n i u in
+    let held = copy_is_one names inner _ middle next.0 w next.2 in
+    let more = copy_is_one names rule (drop h.size bytes) rest next.1 s next.3 in
+    t ∙ (λ k. take h.length bytes ++ (held k ++ more k)) ∙ sym next.4
+
+pub strip_is_one : StripIsOne
+strip_is_one names file text other s u = copy_is_one names File file text other s u
+
+-- ---- lists of boxes
+
+-- what is one for each is one for all
+zip_one : {A B : Type 0} (P : A → B → Type 0) → ((a : A) (x y : B) → P a x → P a y → x ≡ y) → (zs : List A) (xs ys : List B) → AllZip P zs xs → AllZip P zs ys → xs ≡ ys
+zip_one P one [] [] [] z w = refl
+zip_one P one [] [] (y ∷ ys) z w = absurd w
+zip_one P one [] (x ∷ xs) ys z w = absurd z
+zip_one P one (a ∷ zs) [] ys z w = absurd z
+zip_one P one (a ∷ zs) (x ∷ xs) [] z w = absurd w
+zip_one P one (a ∷ zs) (x ∷ xs) (y ∷ ys) z w = λ j. one a x y z.0 w.0 j ∷ zip_one P one zs xs ys z.1 w.1 j
+
+part_one : (syntax : Syntax) (n depth : ℕ) (b : Box) (line part other : List ℕ) (o : Option Rule)
+    → ((r : Rule) (text more : List ℕ) → AreBoxLines syntax n (depth + 1) r (box_container b) text → AreBoxLines syntax n (depth + 1) r (box_container b) more → text ≡ more)
+    → IsPart (AreBoxLines syntax n (depth + 1)) line o b part → IsPart (AreBoxLines syntax n (depth + 1)) line o b other → part ≡ other
+part_one syntax n depth b line part other None one p q = p ∙ sym q
+part_one syntax n depth b line part other (Some r) one p q = p.2 ∙ ap (λ (xs : List ℕ). line ++ xs) (one r p.0 q.0 p.1 q.1) ∙ sym q.2
+
+-- the lines of a box
+abbrev PartOf : Syntax → ℕ → ℕ → Rule → Box → List ℕ → Type 0
+PartOf syntax n depth rule b part = IsPart (AreBoxLines syntax n (depth + 1)) (box_line syntax rule depth b) (descends (at_kind (containers (ruled rule)) b.kind)) b part
+
+lines_one : (syntax : Syntax) (n depth : ℕ) (rule : Rule) (c : Container) (text other : List ℕ) → AreBoxLines syntax n depth rule c text → AreBoxLines syntax n depth rule c other → text ≡ other
+lines_one syntax zero depth rule c text other x y = absurd x
+lines_one syntax (suc n) depth rule c text other x y =
+    let same : y.0 ≡ x.0 = tiles_one c y.0 x.0 y.1 x.1 in
+    let z : AllZip (PartOf syntax n depth rule) x.0 y.2 = subst (λ (bs : List Box). AllZip (PartOf syntax n depth rule) bs y.2) same y.3 in
+    let parts : x.2 ≡ y.2 = zip_one (PartOf syntax n depth rule)
+    (λ b part more p q. part_one syntax n depth b (box_line syntax rule depth b) part more (descends (at_kind (containers (ruled rule)) b.kind)) (λ r t m u v. lines_one syntax n (depth + 1) r (box_container b) t m u v) p q)
+    x.0 x.2 y.2 x.3 z in
+    x.4 ∙ ap (λ (ps : List (List ℕ)). concat ps) parts ∙ sym y.4
+
+pub list_of_boxes_is_one : ListOfBoxesIsOne
+list_of_boxes_is_one syntax file text other x y = lines_one syntax 6 0 File _ text other x y
+
+-- ---- texts of what a file is judged to be
+
+pub judged_texts_are_one : JudgedTextsAreOne
+judged_texts_are_one = record {
+  normal_form = λ file bytes other x y. x.2 ∙ ap (λ (p : Presentation). normal p) (judged_one file x.0 y.0 x.1 y.1) ∙ sym y.2;
+  reduced_form = λ l file bytes other x y. x.3 ∙ ap (λ (p : Presentation). normal (reduce l p)) (judged_one file x.0 y.0 x.1 y.1) ∙ sym y.3;
+  shown = λ file bytes other x y. x.2 ∙ ap (λ (p : Presentation). compact_text (show_value p) ++ line_feed) (judged_one file x.0 y.0 x.1 y.1) ∙ sym y.2;
+  listed = λ file id form bytes other x y. x.2 ∙ ap (λ (t : Track). sample_listing form t) (track_is_one file id x.0 y.0 x.1 y.1) ∙ sym y.2;
+  extracted = λ file id bytes other x y. x.2 ∙ ap (λ (t : Track). sample_data t) (track_is_one file id x.0 y.0 x.1 y.1) ∙ sym y.2;
+  printed = λ l file bytes other x y. x.2 ∙ ap (λ (p : Presentation). text l p) (judged_one file x.0 y.0 x.1 y.1) ∙ sym y.2;
+}
