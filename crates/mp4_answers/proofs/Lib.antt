@@ -22,6 +22,7 @@ pub mod WaysTo
 pub mod StripWalks
 pub mod StripCopies
 pub mod StripLaws
+pub mod BoxCounts
 pub mod StripLeft
 pub mod StripFaults
 pub mod StripDenotes

@@ -6,6 +6,7 @@ pub mod Verdicts
 pub mod Ways
 pub mod Strips
 pub mod StripLaws
+pub mod StripCounts
 pub mod BoxWalk
 pub mod ReducedHeadline
 pub mod DifferenceLine

@@ -11,5 +11,6 @@ pub mod StoreAndSink
 pub mod TwoFiles
 pub mod ListedWalks
 pub mod StripSpans
+pub mod CountedBoxes
 pub mod AddedWays
 pub mod WholePut

@@ -1,6 +1,8 @@
 //! Which boxes are named.
 ghost use Rattle.std.specs.Prelude.{◌≡◌};
+ghost use Rattle.mp4_answers.specs.format.StripCounts.{first_meant};
 ghost use Rattle.mp4_answers.specs.format.Strips.{holder, is_in, is_uuid, means, is_named};
+ghost use Rattle.mp4_answers.specs.words.CountedBoxes.{counts_on};
 
 use mp4_boxes::{FourCc, Rule};
 
@@ -113,10 +115,13 @@ pub(crate) fn is_named_foreign(names: &[Name], rule: Rule, own: FullType) -> boo
 }
 
 /// Counts a box for the first name that means it.
-pub(crate) fn count_box(names: &[Name], rule: Rule, own: FullType, counts: &mut [u64]) {
-    for (name, count) in names.iter().zip(counts.iter_mut()) {
-        if means(name, rule, own) {
-            *count = count.saturating_add(1);
+pub(crate) fn count_box(names: &[Name], rule: Rule, own: FullType, counts: &mut [u64])
+    ensures { counts.new ≡ counts_on counts.old
+        (first_meant rule own.kind.0 own.uuid names.now) }
+{
+    for k in 0..names.len().min(counts.len()) {
+        if means(&names[k], rule, own) {
+            counts[k] = counts[k].saturating_add(1);
             return;
         }
     }

@@ -4,7 +4,10 @@ ghost use Rattle.mp4_store.specs.words.Device.{range};
 ghost use Rattle.mp4_present.specs.words.Carried.{RefusesCarry, RefusesRange};
 ghost use Rattle.mp4_answers.specs.format.Answers.{StrippedOf};
 ghost use Rattle.mp4_answers.specs.format.Run.{KeepsFile, run_of};
+ghost use Rattle.mp4_answers.specs.format.StripCounts.{Counts};
 ghost use Rattle.mp4_answers.specs.format.Strips.{freed};
+ghost use Rattle.mp4_answers.specs.words.CountedBoxes.{CountsOn};
+ghost use Rattle.mp4_boxes.specs.declared.rule.Rule.TheVariants.{File};
 ghost use Rattle.mp4_present.specs.words.HandCarried.{RefusedByBoth};
 ghost use Rattle.mp4_present.specs.words.OutBuffers.{Carries};
 ghost use Rattle.mp4_present.specs.words.StoresRead.{IsUnchanged, OnlyReads, RefusedOf, WhereHonest, WhereRead};
@@ -110,6 +113,8 @@ fn judge_boxes<S: Store>(
     ensures store { OnlyReads S.Store store.old store.new result }
     ensures judged { OnOk result (WhereHonest S.Store store.old
         (HasCopy names.now span.rule span.from span.end)) }
+    ensures counted { OnOk result (WhereHonest S.Store store.old
+        (CountsOn names.now span.rule span.from span.end counts.old counts.new)) }
     ensures refusal { RefusedOf S.Store store.old store.new result
         (RefusesWalkAt names.now span.rule span.from span.end) }
 {
@@ -227,6 +232,8 @@ pub fn count_named<S: Store>(
     names: &[Name],
 ) -> Result<Vec<u64>, Refusal>
     ensures store { KeepsFile S.Store store.old store.new }
+    ensures counts { WhereRead S.Store store.old result
+        (λ file counts. Counts names.now File file counts.items) }
     ensures many { IfOk result (λ counts. length counts.items ≡ length names.now) }
 {
     let mut counts = vec![in alloc; 0u64; names.len()]?;

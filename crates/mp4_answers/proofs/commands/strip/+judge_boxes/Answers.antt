@@ -1,10 +1,13 @@
-use Rattle.std.proofs.Common.{rules, ◌≡◌, ◌+◌, ◌≤◌, ℕ, List, length, ◌∙◌, sym, subst, [], Some, None, true, false, arith}
+use Rattle.std.proofs.Common.{rules, ◌≡◌, ◌+◌, ◌≤◌, ℕ, List, length, ◌∙◌, sym, ap, subst, [], Some, None, true, false, arith}
 use Rattle.std.proofs.lemmas.Result.{err_from_is_err_and}
 use Rattle.mp4_answers.specs.format.BoxWalk.{rule_inside}
 use Rattle.mp4_answers.specs.format.Strips.{is_named}
 use Rattle.mp4_answers.proofs.BoxLists.{inside_lower}
 use Rattle.mp4_answers.proofs.HeadersUnder.{refuses_walk, refuses_inside}
 use Rattle.mp4_answers.proofs.StripWalks.{walk_ends, walk_frees, walk_keeps, walk_enters, halts_behind, halts_within}
+use Rattle.mp4_answers.specs.format.StripCounts.{first_meant}
+use Rattle.mp4_answers.specs.words.CountedBoxes.{counts_on}
+use Rattle.mp4_answers.proofs.BoxCounts.{on_none, on_sums, count_meant, count_passed, count_entered, count_ends}
 use Rattle.mp4_answers.proofs.commands.strip.+judge_boxes.Goals as goal
 
 pub returns-in_err-found-clause-refusal : goal.returns-in_err-found-clause-refusal
@@ -58,6 +61,7 @@ loop-at-preserved-then-is_named g t c =
     let read = rw (i.honesty, i.file) at e.header in
     let named : is_named c.args.names.now c.args.span.rule h.kind.0 c.in_ok-found.found.uuid ≡ true = search rules in
     let own = rw (i.honesty, i.file) at e.uuid in
+    let counted : c.count_box.new.counts ≡ counts_on c.loop-at.counts (first_meant c.args.span.rule h.kind.0 c.in_ok-found.found.uuid c.args.names.now) = cc (c.count_box.ensures) in
     record {
       span = w.2;
       honesty = e.store.honesty ∙ i.honesty;
@@ -65,6 +69,9 @@ loop-at-preserved-then-is_named g t c =
       reads = e.store.reads ∙ i.reads;
       judged = λ told s. i.judged told (walk_frees c.args.names.now c.args.span.rule file c.loop-at.at c.args.span.end h w.0 w.2 (read told) (subst (λ u. is_named c.args.names.now c.args.span.rule h.kind.0 u ≡ true) (own told) named) s);
       halts = λ told f x. i.halts told f (halts_behind c.args.names.now c.args.span.rule file c.loop-at.at c.args.span.end h w.0 w.2 (read told) f x);
+      counted = λ told ns x.
+          let all = i.counted told _ (count_meant c.args.names.now c.args.span.rule file c.loop-at.at c.args.span.end h w.0 w.2 (read told) c.in_ok-found.found.uuid (own told) named ns x) in
+          (all.0, all.1, ap (λ (cs : List ℕ). counts_on cs ns) counted ∙ on_sums c.loop-at.counts (first_meant c.args.span.rule h.kind.0 c.in_ok-found.found.uuid c.args.names.now) ns ∙ all.2);
     }
 
 pub loop-at-preserved-in_ok-judge_boxes : goal.loop-at-preserved-in_ok-judge_boxes
@@ -80,6 +87,7 @@ loop-at-preserved-in_ok-judge_boxes g t c =
     let own = rw (i.honesty, i.file) at e.uuid in
     let into : rule_inside c.args.span.rule h.kind.0 ≡ Some c.in-Some.inner = search rules in
     let held = rw (c.from.ensures, e.store.honesty ∙ i.honesty, e.store.file ∙ i.file) at j.judged in
+    let counted = rw (c.from.ensures, e.store.honesty ∙ i.honesty, e.store.file ∙ i.file) at j.counted in
     record {
       span = w.2;
       honesty = j.store.honesty ∙ e.store.honesty ∙ i.honesty;
@@ -87,6 +95,10 @@ loop-at-preserved-in_ok-judge_boxes g t c =
       reads = j.store.reads ∙ e.store.reads ∙ i.reads;
       judged = λ told s. i.judged told (walk_enters c.args.names.now c.args.span.rule file c.loop-at.at c.args.span.end h w.0 w.2 (read told) c.in-Some.inner (subst (λ u. is_named c.args.names.now c.args.span.rule h.kind.0 u ≡ false) (own told) named) into (held told) s);
       halts = λ told f x. i.halts told f (halts_behind c.args.names.now c.args.span.rule file c.loop-at.at c.args.span.end h w.0 w.2 (read told) f x);
+      counted = λ told ns x.
+          let inside = counted told in
+          let all = i.counted told _ (count_entered c.args.names.now c.args.span.rule file c.loop-at.at c.args.span.end h w.0 w.2 (read told) c.in_ok-found.found.uuid (own told) named c.in-Some.inner into inside.0 ns inside.1 x) in
+          (all.0, all.1, ap (λ (cs : List ℕ). counts_on cs ns) inside.2 ∙ on_sums c.loop-at.counts inside.0 ns ∙ all.2);
     }
 
 pub loop-at-preserved : goal.loop-at-preserved
@@ -107,7 +119,13 @@ loop-at-preserved g t c =
       reads = e.store.reads ∙ i.reads;
       judged = λ told s. i.judged told (walk_keeps c.args.names.now c.args.span.rule file c.loop-at.at c.args.span.end h w.0 w.2 (read told) (subst (λ u. is_named c.args.names.now c.args.span.rule h.kind.0 u ≡ false) (own told) named) into s);
       halts = λ told f x. i.halts told f (halts_behind c.args.names.now c.args.span.rule file c.loop-at.at c.args.span.end h w.0 w.2 (read told) f x);
+      counted = λ told ns x. i.counted told ns (count_passed c.args.names.now c.args.span.rule file c.loop-at.at c.args.span.end h w.0 w.2 (read told) c.in_ok-found.found.uuid (own told) named into ns x);
     }
 
 pub returns-clause-judged : goal.returns-clause-judged
 returns-clause-judged g t c told = c.loop-at.invariant.judged told ([], walk_ends c.args.names.now c.args.span.rule (g.S.Store.file c.args.store.now) c.loop-at.at c.args.span.end (search rules))
+
+pub returns-clause-counted : goal.returns-clause-counted
+returns-clause-counted g t c told =
+    let all = c.loop-at.invariant.counted told _ (count_ends c.args.names.now c.args.span.rule (g.S.Store.file c.args.store.now) c.loop-at.at c.args.span.end (search rules)) in
+    (all.0, all.1, sym (on_none c.loop-at.counts c.args.names.now) ∙ all.2)

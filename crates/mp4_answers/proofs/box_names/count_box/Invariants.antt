@@ -1,0 +1,11 @@
+use Rattle.std.proofs.Common.{◌≡◌}
+use Rattle.mp4_answers.proofs.BoxCounts.{NoneBefore}
+use Rattle.mp4_answers.proofs.box_names.count_box.Given as goal
+
+-- no name before this one means the box
+abbrev pub invariant-loop-k : goal.invariant-loop-k
+invariant-loop-k l =
+    record {
+      before : NoneBefore l.rule l.own.kind.0 l.own.uuid l.k l.names;
+      same : l.counts ≡ l.fn.counts;
+    }
