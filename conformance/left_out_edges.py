@@ -101,7 +101,7 @@ JUDGED = ('            check_counted(alloc, source, &mut costs.steps, &mut costs
           '            Ok(None)')
 LISTED = '    answer_of(rt, Input::File { name }, manner, costs)\n'
 PUT_LISTED = '        let is_file = true;'
-WORST = 'Ok(worst.max(check_list(rt, list, manner, sink, costs)?))'
+WORST = 'Ok(worst.max(check_list(rt, list, manner, lines, costs)?))'
 
 
 def of_verdicts():
@@ -357,7 +357,7 @@ def of_lists():
              joins='parts'),
         Edit('named_files', 'Ok(state) if state == self.state => Ok(file),', 'Ok(_) => Ok(file),',
              'a part is read though it is another one',
-             'lists changed_parts: part2.m4s is another before open of part2.m4s', joins='states'),
+             'lists replaced_parts: another file in the place', joins='states'),
         Edit('named_files', 'if self.held.len() >= MOST_OPEN {', 'if self.held.len() >= 100 {',
              'a hundred parts are open', 'lists many_parts: 64 parts, few open'),
         Edit('lists', '        if is_name(name) {',

@@ -20,6 +20,7 @@ import os
 import re
 import shutil
 import subprocess
+import unicodedata
 from dataclasses import dataclass, fields
 from typing import (Any, Dict, Iterable, List, Mapping, Optional, Sequence, Tuple, Type, TypeVar,
                     Union, cast)
@@ -306,7 +307,8 @@ def _shown(name: str) -> str:
     shown = ""
     for character in os.fsencode(name).decode("utf-8", "surrogateescape"):
         code = ord(character)
-        if code < 32 or 127 <= code < 160 or 0xDC80 <= code < 0xDD00:
+        is_format = unicodedata.category(character) in ("Cf", "Zl", "Zp")
+        if code < 32 or 127 <= code < 160 or 0xDC80 <= code < 0xDD00 or is_format:
             coded = character.encode("utf-8", "surrogateescape")
             shown += "".join(f"\\x{byte:02x}" for byte in coded)
         else:

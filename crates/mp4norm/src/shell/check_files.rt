@@ -165,10 +165,10 @@ fn put_answer<K: Sink>(
     name: &[u8],
     answer: &Result<(), Refusal>,
     style: VerdictStyle,
-    sink: &mut K,
+    lines: &mut Gathered<K>,
 ) -> Result<u8, Refusal> {
     let name = named(alloc, name, style)?;
-    put_verdict(alloc, name.as_slice(), answer, style, sink)?;
+    put_verdict(alloc, name.as_slice(), answer, style, lines.sink()?)?;
     Ok(verdict_status(answer))
 }
 
@@ -189,7 +189,7 @@ fn put_sum<K: Sink>(
     named: GivenName,
     digest: &[u8; DIGEST],
     style: VerdictStyle,
-    sink: &mut K,
+    lines: &mut Gathered<K>,
 ) -> Result<u8, Refusal> {
     let GivenName { name, is_file } = named;
     let line = match style.syntax {
@@ -199,7 +199,7 @@ fn put_sum<K: Sink>(
         }
         Syntax::Json => sum_object(alloc, name, digest, style.end)?,
     };
-    sink.put(line.as_slice())?;
+    lines.add(line.as_slice())?;
     Ok(0)
 }
 
@@ -210,17 +210,18 @@ fn put_named<K: Sink>(
     named: GivenName,
     found: &Found,
     manner: Manner,
-    sink: &mut K,
+    lines: &mut Gathered<K>,
 ) -> Result<u8, Refusal> {
     let (alloc, style, name) = (rt.alloc(), manner.style, named.name);
     match (found, manner.finding) {
-        (Ok(Some(digest)), _) => put_sum(alloc, named, digest, style, sink),
-        (Ok(None), _) => put_answer(alloc, name, &Ok(()), style, sink),
+        (Ok(Some(digest)), _) => put_sum(alloc, named, digest, style, lines),
+        (Ok(None), _) => put_answer(alloc, name, &Ok(()), style, lines),
         (Err(refusal), Finding::Sum { .. }) if matches!(style.syntax, Syntax::Text) => {
+            lines.flush()?;
             tell_of(rt, name, fault_line(refusal).as_bytes());
             Ok(status(refusal))
         }
-        (Err(refusal), _) => put_answer(alloc, name, &Err(*refusal), style, sink),
+        (Err(refusal), _) => put_answer(alloc, name, &Err(*refusal), style, lines),
     }
 }
 
@@ -229,7 +230,7 @@ fn check_list<K: Sink, L: Ledger, M: Ledger>(
     rt: &HostRuntime,
     list: &[u8],
     manner: Manner,
-    sink: &mut K,
+    lines: &mut Gathered<K>,
     costs: &mut Costs<L, M>,
 ) -> Result<u8, Refusal> {
     let mut worst = 0;
@@ -239,7 +240,7 @@ fn check_list<K: Sink, L: Ledger, M: Ledger>(
         let answer = answer_of_listed(rt, name, manner, costs);
         let is_file = true;
         let named = GivenName { name, is_file };
-        worst = put_named(rt, named, &answer, manner, sink)?.max(worst);
+        worst = put_named(rt, named, &answer, manner, lines)?.max(worst);
         left = rest;
     }
     Ok(worst)
@@ -251,7 +252,7 @@ fn put_each<K: Sink, L: Ledger, M: Ledger>(
     files: &[Input],
     list: &[u8],
     manner: Manner,
-    sink: &mut K,
+    lines: &mut Gathered<K>,
     costs: &mut Costs<L, M>,
 ) -> Result<u8, Refusal> {
     if let Finding::Sum {
@@ -261,7 +262,7 @@ fn put_each<K: Sink, L: Ledger, M: Ledger>(
     {
         let mut header = Vec::new(rt.alloc());
         push_header(&mut header, leaving)?;
-        sink.put(header.as_slice())?;
+        lines.add(header.as_slice())?;
     }
     let mut worst = 0;
     for input in files {
@@ -270,9 +271,9 @@ fn put_each<K: Sink, L: Ledger, M: Ledger>(
             name: input.name().as_bytes(),
             is_file: matches!(input, Input::File { .. }),
         };
-        worst = put_named(rt, named, &answer, manner, sink)?.max(worst);
+        worst = put_named(rt, named, &answer, manner, lines)?.max(worst);
     }
-    Ok(worst.max(check_list(rt, list, manner, sink, costs)?))
+    Ok(worst.max(check_list(rt, list, manner, lines, costs)?))
 }
 
 // The same, to standard output. Lines of sums are written together.
@@ -285,15 +286,13 @@ fn check_each<L: Ledger, M: Ledger>(
     costs: &mut Costs<L, M>,
 ) -> Result<u8, Refusal> {
     let out = &mut rt.stdout();
-    let gathers = matches!(manner.finding, Finding::Sum { .. });
-    let mut gathered = Gathered::new(rt, out, gathers)?;
-    let out = &mut gathered;
-    let mut sink = IoSink::new(Noted { out, report });
-    let worst = put_each(rt, files, list, manner, &mut sink, costs);
-    drop(sink);
-    let written = report.outcome(gathered.finish(), Refusal::WriteFailed);
+    let gathers = matches!(manner.finding, Finding::Sum { .. }) && !manner.telling.explain;
+    let sink = IoSink::new(Noted { out, report });
+    let mut lines = Gathered::new(rt, sink, gathers)?;
+    let worst = put_each(rt, files, list, manner, &mut lines, costs);
+    let put = lines.flush();
     let worst = worst?;
-    written?;
+    put?;
     Ok(worst)
 }
 

@@ -1,35 +1,36 @@
-//! Lines that are written together.
+//! Lines that are put together.
 
+use mp4_boxes::Refusal;
+use mp4_store::Sink;
 use std::alloc::AllocError;
-use std::io;
-use std::io::{IsTerminal, Write};
+use std::io::IsTerminal;
 use std::time::{Duration, Instant};
 
 /// So many bytes are gathered at most.
 const ROOM: usize = 64_000;
 
-/// What is gathered is written with the next line once so many seconds have passed.
+/// What is gathered is put with the next line once so many seconds have passed.
 const APART: u64 = 1;
 
-/// A writer that gathers what is written to it, so that lines which come fast are written at once.
-/// Whoever reads them has what came a second before; where each line is to be there by itself, as
-/// on a terminal, nothing is gathered.
+/// A sink whose lines are gathered, so that those which come fast are put at once. Whoever reads
+/// them has what came a second before; where each line is to be there by itself, as on a terminal,
+/// nothing is gathered.
 #[derive(Drop)]
-pub(crate) struct Gathered<'a, W> {
+pub(crate) struct Gathered<'a, K> {
     rt: &'a HostRuntime,
-    out: &'a mut W,
+    sink: K,
     held: Vec<u8>,
-    // When it was last written. Where the system has no clock, nothing is gathered.
+    // When something was last put. Where the system has no clock, nothing is gathered.
     last: Option<Instant>,
 }
 
-impl<'a, W: Write> Gathered<'a, W> {
+impl<'a, K: Sink + Drop> Gathered<'a, K> {
     /// Nothing is gathered yet; nothing ever is, where it isn't to be.
     pub(crate) fn new(
         rt: &'a HostRuntime,
-        out: &'a mut W,
+        sink: K,
         gathers: bool,
-    ) -> Result<Gathered<'a, W>, AllocError> {
+    ) -> Result<Gathered<'a, K>, AllocError> {
         let is_alone = !gathers || rt.stdout().is_terminal();
         let mut held = Vec::new(rt.alloc());
         held.reserve(ROOM)?;
@@ -40,12 +41,14 @@ impl<'a, W: Write> Gathered<'a, W> {
         };
         Ok(Gathered {
             rt,
-            out,
+            sink,
             held,
             last,
         })
     }
+}
 
+impl<'a, K: Sink> Gathered<'a, K> {
     // Whether lines may be kept a while longer.
     fn may_wait(&self) -> bool {
         match (self.last, Instant::now(self.rt)) {
@@ -54,35 +57,39 @@ impl<'a, W: Write> Gathered<'a, W> {
         }
     }
 
-    /// Writes what is gathered.
-    pub(crate) fn finish(&mut self) -> io::Result<()> {
+    /// Puts what is gathered.
+    pub(crate) fn flush(&mut self) -> Result<(), Refusal> {
         if self.held.is_empty() {
             return Ok(());
         }
-        let written = self.out.write_all(self.held.as_slice());
+        let put = self.sink.put(self.held.as_slice());
         self.held.clear();
         if self.last.is_some() {
             self.last = Instant::now(self.rt).ok();
         }
-        written
-    }
-}
-
-impl<'a, W: Write> Write for Gathered<'a, W> {
-    fn write(&mut self, piece: &[u8]) -> io::Result<usize> {
-        if piece.len() > ROOM - self.held.len().min(ROOM) {
-            self.finish()?;
-        }
-        if piece.len() > ROOM || self.held.extend_from_slice(piece).is_err() {
-            return self.out.write(piece);
-        }
-        if !self.may_wait() {
-            self.finish()?;
-        }
-        Ok(piece.len())
+        put?;
+        Ok(())
     }
 
-    fn flush(&mut self) -> io::Result<()> {
-        self.finish()
+    /// Takes a line.
+    pub(crate) fn add(&mut self, line: &[u8]) -> Result<(), Refusal> {
+        if line.len() > ROOM - self.held.len().min(ROOM) {
+            self.flush()?;
+        }
+        if line.len() > ROOM {
+            self.sink.put(line)?;
+            return Ok(());
+        }
+        self.held.extend_from_slice(line)?;
+        if self.may_wait() {
+            return Ok(());
+        }
+        self.flush()
+    }
+
+    /// The sink, once what is gathered is put.
+    pub(crate) fn sink(&mut self) -> Result<&mut K, Refusal> {
+        self.flush()?;
+        Ok(&mut self.sink)
     }
 }
