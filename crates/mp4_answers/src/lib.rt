@@ -3,7 +3,39 @@
 //! whether two files say the same. Each is a function of stores and sinks. None knows the name of a
 //! file, a word of a command line or a terminal.
 //!
+//! - [`normalise`], [`show`], [`samples`], [`extract`], [`print`], [`boxes`], [`strip`] put their
+//!   text to a sink; [`check`] puts none. [`perform`] does any of these jobs ([`Job`]), and
+//!   [`text_len`] says how long its text gets.
+//! - [`sum_file`] gives the SHA-256 of a normal form; [`compare_files`] says where two files
+//!   differ.
+//! - [`fault_line`] and [`status`] are what is said of a refusal, [`put_verdict`] of each of many
+//!   files. [`laws`], [`answer_laws`] and [`text_laws`] say how answers hang together.
+//!
 //! Commands call texts, and both call what stands beside them here; nothing calls back.
+//!
+//! ```rust
+//! use mp4_answers::{check, fault_line, normalise, show, status};
+//! use mp4_store::{MemSink, MemStore};
+//!
+//! // A movie without tracks, of 25 ticks a second: `moov` with an `mvhd` of version 0.
+//! let mut bytes = [0; 116];
+//! bytes[..16].copy_from_slice(b"\0\0\0\x74moov\0\0\0\x6Cmvhd");
+//! bytes[31] = 25;
+//! let mut store = MemStore::new(&bytes);
+//! let mut line = MemSink::new(rt.alloc());
+//! show(rt.alloc(), &mut store, &mut line)?;
+//! assert_eq!(rt; line.bytes(), b"{\"mehd\":0,\"timescale\":25,\"tracks\":[]}\n".as_slice());
+//! let mut form = MemSink::new(rt.alloc());
+//! normalise(rt.alloc(), &mut store, &mut form)?;
+//! assert_eq!(rt; form.bytes().len(), 180);
+//! let answer = check(rt.alloc(), &mut MemStore::new(&bytes[..115]));
+//! assert!(rt; answer.is_err());
+//! if let Err(refusal) = answer {
+//!     let due = b"refused: Overrun in moov at 0";
+//!     assert_eq!(rt; fault_line(&refusal).as_bytes(), due.as_slice());
+//!     assert_eq!(rt; status(&refusal), 1);
+//! }
+//! ```
 #![tactic(auto)]
 
 pub mod answer_laws;
