@@ -3,25 +3,25 @@ use Rattle.std.proofs.Common.{◌≡◌, ◌⊎◌, inl, inr, ℕ, ◌<◌, nat_
 use Rattle.std.specs.Prelude.{Option, None, Some, flat_map, slice_get, Result, Ok, Err, IfOk}
 use Rattle.std.proofs.lemmas.Bool.Decides.{leb_tells}
 use Rattle.std.proofs.lemmas.List.{take-take}
-use Rattle.mp4_present.specs.format.Comparison.{differences}
+use Rattle.mp4_content.specs.format.Comparison.{differences}
 use Rattle.mp4_present.specs.format.Denotes.{FileTree, presentation_of}
 use Rattle.mp4_present.specs.format.Presentation.{Presentation, Valid}
-use Rattle.mp4_present.specs.format.Reduced.{reduce}
-use Rattle.mp4_present.specs.words.Compared.{files_differ}
+use Rattle.mp4_content.specs.format.Reduced.{reduce}
+use Rattle.mp4_content.specs.words.Compared.{files_differ}
 use Rattle.mp4_present.specs.words.Movies.{MovieSeen}
 use Rattle.mp4_present.specs.words.OpenedMovie.{IsOpenedAs}
-use Rattle.mp4_present.specs.declared.comparing.differences.Difference.{Difference}
-use Rattle.mp4_present.specs.declared.without.Without.{Without}
-use Rattle.mp4_present.proofs.ComparisonWhole.{no_difference_is_same}
+use Rattle.mp4_content.specs.declared.comparing.differences.Difference.{Difference}
+use Rattle.mp4_content.specs.declared.without.Without.{Without}
+use Rattle.mp4_content.proofs.ComparisonWhole.{no_difference_is_same}
 use Rattle.mp4_present.proofs.DenotedValid.{denoted_is_valid}
-use Rattle.mp4_plan.specs.format.CoveringLaws.{Covers}
+use Rattle.mp4_content.specs.format.CoveringLaws.{Covers}
 use Rattle.mp4_answers.specs.declared.commands.compare.Listing.{Listing}
 use Rattle.mp4_answers.specs.declared.commands.compare.Listing.TheVariants as listings
 use Rattle.mp4_answers.specs.declared.jobs.Syntax.{Syntax}
 use Rattle.mp4_answers.specs.format.CompareHeadline.{AreEnough, IsTold, PutsSuch, TellsOf, difference_in, last_in, listing_text, most_counted}
 use Rattle.mp4_answers.specs.words.Compares.{AreSome, IsCounted, IsEnough, IsTried, IsShrunk, IsSameWith, IsFoundOf, IsSaid, IsSaidOf, ListsFront, PutsFound, says_nothing}
 use Rattle.mp4_answers.specs.words.SingleWords.{everything, less_word, single_words}
-use Rattle.mp4_plan.proofs.Covering.{same_without_more}
+use Rattle.mp4_content.proofs.Covering.{same_without_more}
 use Rattle.mp4_answers.proofs.LeastWords.{among_others}
 use Rattle.mp4_answers.proofs.WordSets.{covers_all, none_to_take, shrunk}
 use Rattle.mp4_answers.proofs.ComparedFiles.{denotes_by, first_said, judged_by, true_false}

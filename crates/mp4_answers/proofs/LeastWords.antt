@@ -4,11 +4,11 @@ use Rattle.std.specs.Prelude.{map, ℤ}
 use Rattle.std.specs.List.{AllZip}
 use Rattle.mp4_head.specs.format.Head.{Kept, Media, TrackHead, MovieHead}
 use Rattle.mp4_present.specs.format.Presentation.{Sample, Track, Presentation}
-use Rattle.mp4_present.specs.format.Reduced.{first_offset, is_at_end, reduce}
-use Rattle.mp4_present.specs.declared.without.Without.{Without}
-use Rattle.mp4_plan.specs.format.CoveringLaws.{Covers}
-use Rattle.mp4_plan.specs.format.Agreeing.{AllAgree, SamplesAgree, MediaAgree, TrackHeadsAgree, MovieHeadsAgree, TracksAgree}
-use Rattle.mp4_plan.proofs.Agreed.{plain_of, reduce_is_exact, type_of_left, unrated_of}
+use Rattle.mp4_content.specs.format.Reduced.{first_offset, is_at_end, reduce}
+use Rattle.mp4_content.specs.declared.without.Without.{Without}
+use Rattle.mp4_content.specs.format.CoveringLaws.{Covers}
+use Rattle.mp4_content.specs.format.Agreeing.{AllAgree, SamplesAgree, MediaAgree, TrackHeadsAgree, MovieHeadsAgree, TracksAgree}
+use Rattle.mp4_content.proofs.Agreed.{plain_of, reduce_is_exact, type_of_left, unrated_of}
 use Rattle.mp4_answers.specs.format.CompareHeadline.{descriptions_in}
 use Rattle.mp4_answers.proofs.WordSets.{common, common_first, common_second, covers_common}
 

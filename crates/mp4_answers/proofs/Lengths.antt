@@ -11,11 +11,11 @@ use Rattle.mp4_head.specs.format.Tree.{TrackTree, are_distinct, track_head_of}
 use Rattle.mp4_head.proofs.Distinct.{distinct_same, map_twice}
 use Rattle.mp4_present.specs.format.Denotes.{FileTree, Denotes, file_parts, placed_of, track_of, presentation_of}
 use Rattle.mp4_present.specs.format.Presentation.{Track, Presentation}
-use Rattle.mp4_present.specs.format.Reduced.{reduce}
+use Rattle.mp4_content.specs.format.Reduced.{reduce}
 use Rattle.mp4_present.specs.words.Movies.{MovieSeen}
 use Rattle.mp4_present.specs.words.OpenedMovie.{IsInfoOf, IsOpenedAs}
 use Rattle.mp4_present.specs.declared.track_info.TrackInfo.{TrackInfo}
-use Rattle.mp4_present.specs.declared.without.Without.{Without}
+use Rattle.mp4_content.specs.declared.without.Without.{Without}
 use Rattle.mp4_present.proofs.JudgedTrees.{judged_denotes}
 use Rattle.mp4_present.proofs.SamplesLie.{data_length}
 use Rattle.mp4_present.proofs.WalkPlaces.{of_got}

@@ -9,7 +9,7 @@ use Rattle.mp4_boxes.specs.declared.rule.Rule.{Rule}
 use Rattle.mp4_boxes.specs.declared.rule.Rule.TheVariants.{File}
 use Rattle.mp4_boxes.proofs.Tiling.{header_is, tiles_one}
 use Rattle.mp4_present.specs.format.Presentation.{Track, Presentation}
-use Rattle.mp4_present.specs.format.Reduced.{reduce}
+use Rattle.mp4_content.specs.format.Reduced.{reduce}
 use Rattle.mp4_plan.specs.format.Normal.{normal}
 use Rattle.mp4_plan.proofs.Judged.{judged_one}
 use Rattle.mp4_answers.specs.declared.box_names.Name.{Name}

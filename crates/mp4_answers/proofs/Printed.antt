@@ -11,11 +11,11 @@ use Rattle.mp4_head.specs.words.Seen.{head_seen, movie_seen, track_seen}
 use Rattle.mp4_head.specs.declared.heads.MovieHead.{MovieHead}
 use Rattle.mp4_head.proofs.ReadAgain.{said_of}
 use Rattle.mp4_present.specs.format.Denotes.{FileTree, presentation_of}
-use Rattle.mp4_present.specs.format.Reduced.{reduce, reduce_movie_head}
+use Rattle.mp4_content.specs.format.Reduced.{reduce, reduce_movie_head}
 use Rattle.mp4_present.specs.words.Carried.{BytesGoOn}
 use Rattle.mp4_present.specs.words.Movies.{MovieSeen, moov_box}
 use Rattle.mp4_present.specs.words.OpenedMovie.{IsOpenedAs}
-use Rattle.mp4_present.specs.declared.without.Without.{Without}
+use Rattle.mp4_content.specs.declared.without.Without.{Without}
 use Rattle.mp4_answers.specs.format.FileTexts.{PrintsText}
 use Rattle.mp4_answers.specs.format.Text.{front_lines, movie_lines, text, track_text}
 use Rattle.mp4_answers.proofs.Going.{Going, going_none}

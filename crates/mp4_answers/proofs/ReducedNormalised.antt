@@ -7,17 +7,18 @@ use Rattle.mp4_boxes.specs.declared.refusal.Refusal.TheVariants as refusals
 use Rattle.mp4_present.specs.format.Denotes.{FileTree, presentation_of}
 use Rattle.std.specs.List.{AllByRecursion}
 use Rattle.mp4_present.specs.format.Presentation.{Presentation, Track, IsInTime}
-use Rattle.mp4_present.specs.format.Reduced.{HasNearOffsets, reduce, reduce_track, timescale_left}
+use Rattle.mp4_content.specs.format.Reduced.{HasNearOffsets, reduce, reduce_track, timescale_left}
 use Rattle.mp4_present.specs.words.Movies.{MovieSeen}
 use Rattle.mp4_present.specs.words.OpenedMovie.{IsOpenedAs}
-use Rattle.mp4_present.specs.declared.without.Without.{Without}
+use Rattle.mp4_content.specs.declared.without.Without.{Without}
 use Rattle.mp4_present.proofs.WalkCopied.{on_err}
 use Rattle.mp4_plan.specs.format.Normal.{normal}
-use Rattle.mp4_plan.specs.format.ReducedTimes.{ReducedFaultStands, ReducesInLimits}
-use Rattle.mp4_plan.specs.words.LeftTimes.{NamesLong, RefusesLeftCopy}
+use Rattle.mp4_content.specs.format.ReducedTimes.{ReducedFaultStands, ReducesInLimits}
+use Rattle.mp4_content.specs.words.LeftTimes.{NamesLong}
+use Rattle.mp4_plan.specs.words.LeftRefusals.{RefusesLeftCopy}
 use Rattle.mp4_plan.specs.words.MadeWriters.{TellsLong}
 use Rattle.mp4_plan.proofs.Judged.{judged_one}
-use Rattle.mp4_plan.proofs.ReducedFaults.{in_time_or, near_offsets_or, opened_stands}
+use Rattle.mp4_content.proofs.ReducedFaults.{in_time_or, near_offsets_or, opened_stands}
 use Rattle.mp4_answers.specs.format.Answers.{IsFaultOf}
 use Rattle.mp4_answers.specs.format.ReducedHeadline.{HasReducedForm, PassesLimits}
 use Rattle.mp4_answers.specs.format.Run.{Run, Honest, PutsNothing, PutsAll, PutsFront, PutsSomeOf, Answered}

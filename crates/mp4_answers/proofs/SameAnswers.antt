@@ -3,10 +3,10 @@ use Rattle.std.proofs.Common.{◌≡◌, ℕ, List, refl, sym, ap, ◌∙◌}
 use Rattle.mp4_boxes.specs.format.Bytes.{AreBytes}
 use Rattle.mp4_present.specs.format.Presentation.{Track}
 use Rattle.mp4_present.specs.format.Judge.{judge}
-use Rattle.mp4_present.specs.format.Reduced.{reduce}
+use Rattle.mp4_content.specs.format.Reduced.{reduce}
 use Rattle.mp4_present.proofs.DenotedValid.{denoted_is_valid}
 use Rattle.mp4_present.proofs.JudgedTrees.{judged_denotes}
-use Rattle.mp4_plan.proofs.Covering.{same_without_more}
+use Rattle.mp4_content.proofs.Covering.{same_without_more}
 use Rattle.mp4_plan.proofs.Judged.{denoted_judged, judged_one, normal_judged}
 use Rattle.mp4_plan.proofs.ReducedNormal.{reduced_normal_is_exact}
 use Rattle.mp4_present.proofs.DenotedOpens.{stands_refuses}

@@ -16,8 +16,8 @@ use Rattle.mp4_answers.specs.format.Steps.{WorksWithin, WalksWithin, row_total}
 use Rattle.mp4_answers.specs.format.CompareHeadline.{ComparedWithin, most_walks}
 use Rattle.mp4_answers.proofs.RunParts.{denotes_nothing}
 use Rattle.mp4_answers.proofs.ShownLines.{denoted}
-use Rattle.mp4_present.specs.declared.without.Without.{Without}
-use Rattle.mp4_plan.specs.words.Measuring.{measuring_steps}
+use Rattle.mp4_content.specs.declared.without.Without.{Without}
+use Rattle.mp4_content.specs.words.Measuring.{measuring_steps}
 use Rattle.mp4_plan.specs.words.WriterSteps.{writing_steps}
 use Rattle.mp4_answers.proofs.StepSums.{all_within, often_looks, opened_looks, walked_looks, walks_looks}
 

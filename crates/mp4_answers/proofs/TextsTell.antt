@@ -20,11 +20,11 @@ use Rattle.mp4_boxes.proofs.WrittenBoxes.{among_has}
 use Rattle.mp4_tables.specs.format.Groups.{Groups}
 use Rattle.mp4_head.specs.format.Head.{Edit, Kept, Media, TrackHead, MovieHead, IsDescription, IsEdit, IsGroupDescription, IsKept, IsMedia, IsMovieHead, IsTrackHead}
 use Rattle.mp4_present.specs.format.Presentation.{Sample, Track, Presentation, IsGroup, IsInTime, IsSample, IsTrack, Valid}
-use Rattle.mp4_present.specs.format.Reduced.{first_offset, is_at_end, metadata_kinds, plain_handler, reduce, reduce_descriptions, reduce_kept, reduce_media, reduce_movie_head, reduce_sample, reduce_track, reduce_track_head, sync_flag}
-use Rattle.mp4_present.specs.format.Zeros.{zeroed}
-use Rattle.mp4_present.proofs.SamplesReduced.{reduced_each}
-use Rattle.mp4_plan.proofs.Plain.{descriptions_good}
-use Rattle.mp4_present.specs.declared.without.Without.{Without}
+use Rattle.mp4_content.specs.format.Reduced.{first_offset, is_at_end, metadata_kinds, plain_handler, reduce, reduce_descriptions, reduce_kept, reduce_media, reduce_movie_head, reduce_sample, reduce_track, reduce_track_head, sync_flag}
+use Rattle.mp4_content.specs.format.Zeros.{zeroed}
+use Rattle.mp4_content.proofs.SamplesReduced.{reduced_each}
+use Rattle.mp4_content.proofs.Plain.{descriptions_good}
+use Rattle.mp4_content.specs.declared.without.Without.{Without}
 use Rattle.mp4_plan.proofs.GoodPieces.{CanWrite, valid_tracks}
 use Rattle.mp4_answers.specs.format.Text.{edit_line, edit_words, front_lines, group_text, head_lines, kept_lines, media_lines, movie_lines, named_line, number_line, payload_lines, sample_text, samples_heading, text_of, track_lines, track_text}
 use Rattle.mp4_answers.specs.format.TextLaws.{Collision, TextsTell, digested, digested_head, digested_media, digested_track, payloads_of}

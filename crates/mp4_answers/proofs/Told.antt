@@ -6,8 +6,8 @@ use Rattle.mp4_boxes.specs.format.Children.{is_among}
 use Rattle.mp4_head.specs.format.Head as heads
 use Rattle.mp4_head.specs.words.Seen.{kept_seen}
 use Rattle.mp4_head.specs.declared.kept_boxes.Kept.{Kept}
-use Rattle.mp4_present.specs.format.Reduced.{metadata_kinds, reduce_kept}
-use Rattle.mp4_present.specs.declared.without.Without.{Without}
+use Rattle.mp4_content.specs.format.Reduced.{metadata_kinds, reduce_kept}
+use Rattle.mp4_content.specs.declared.without.Without.{Without}
 use Rattle.mp4_boxes.specs.declared.refusal.Refusal.{Refusal}
 use Rattle.mp4_store.specs.words.Device.{TakesPrefix}
 use Rattle.mp4_store.specs.declared.sink.Sink.{Ghosts as Sink}

@@ -21,19 +21,19 @@ use Rattle.mp4_tables.proofs.Placed as placed
 use Rattle.mp4_head.specs.format.Tree.{TrackTree}
 use Rattle.mp4_present.specs.format.Denotes.{FileTree, bytes_at, sample_of, file_parts, placed_of, track_of}
 use Rattle.mp4_present.specs.format.Presentation.{IsGroup}
-use Rattle.mp4_present.specs.format.Reduced.{duration_left, offset_left, reduce_from, reduce_sample, reduce_track}
-use Rattle.mp4_present.specs.words.Differing.{index_in, flags_left}
+use Rattle.mp4_content.specs.format.Reduced.{duration_left, offset_left, reduce_from, reduce_sample, reduce_track}
+use Rattle.mp4_content.specs.words.Differing.{index_in, flags_left}
 use Rattle.mp4_present.specs.words.Movies.{MovieSeen}
 use Rattle.mp4_present.specs.words.OpenedMovie.{IsOpenedAs, IsInfoOf}
 use Rattle.mp4_present.specs.words.SamplesComing.{track_keys, track_samples}
-use Rattle.mp4_present.specs.words.TrackEdges.{edges_left}
-use Rattle.mp4_present.specs.declared.edges.Edges.{Edges}
-use Rattle.mp4_present.specs.declared.without.Without.{Without}
+use Rattle.mp4_content.specs.words.TrackEdges.{edges_left}
+use Rattle.mp4_content.specs.declared.edges.Edges.{Edges}
+use Rattle.mp4_content.specs.declared.without.Without.{Without}
 use Rattle.mp4_present.specs.declared.track_info.TrackInfo.{TrackInfo}
-use Rattle.mp4_present.proofs.ComparisonGroups.{index_rank}
+use Rattle.mp4_content.proofs.ComparisonGroups.{index_rank}
 use Rattle.mp4_present.proofs.PlacedTracks.{IsTrackPlaced, tracks_placed}
 use Rattle.mp4_present.proofs.SamplesLie.{IsInFile, placed_lie, bytes_whole}
-use Rattle.mp4_present.proofs.SamplesReduced.{reduced_by_edges}
+use Rattle.mp4_content.proofs.SamplesReduced.{reduced_by_edges}
 use Rattle.mp4_present.proofs.TrafTaken.{zipped_at}
 use Rattle.mp4_present.proofs.ValidSamples.{IsOfTrack, is_group, is_parameter}
 use Rattle.mp4_present.proofs.WalkPlaces.{of_got}

@@ -1,6 +1,6 @@
 //! What is done over a file, and how the answer is written.
 use crate::box_names::Name;
-use mp4_present::Without;
+use mp4_content::Without;
 
 /// How the samples of a track are listed: a line each, the same behind the names of the columns, or
 /// an object of JSON each.

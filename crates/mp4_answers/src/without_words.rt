@@ -1,10 +1,10 @@
 //! What the words behind `--without` leave out.
 ghost use Rattle.std.specs.Prelude.{◌≡◌, ◌&&◌, ◌||◌, not};
-ghost use Rattle.mp4_plan.specs.format.ReducedLaws.{both};
+ghost use Rattle.mp4_content.specs.format.ReducedLaws.{both};
 ghost use Rattle.mp4_answers.specs.words.SingleWords.{everything, less_word, packaging};
 
 use crate::text::cutting::cut;
-use mp4_present::Without;
+use mp4_content::Without;
 
 /// All that can be left out.
 pub(crate) const EVERYTHING: Without = Without {

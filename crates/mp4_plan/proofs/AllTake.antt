@@ -14,7 +14,7 @@ use Rattle.mp4_present.proofs.TracksPassed.{zip_length}
 use Rattle.mp4_plan.specs.words.WriterSteps.{MayAllTake, MayAllBegin, MayWrite, WriteAllBegin, again_steps, track_writes}
 use Rattle.mp4_plan.proofs.AllMay.{MayWithin, may_more, one_moves, one_ends}
 use Rattle.mp4_plan.proofs.TrafsAhead.{last_more, steps_append}
-use Rattle.mp4_plan.proofs.TurnTaken.{there_is}
+use Rattle.mp4_content.proofs.AtPlaces.{there_is}
 
 module _ (file : List ℕ) (tree : FileTree) where
   -- one walk of all moves on

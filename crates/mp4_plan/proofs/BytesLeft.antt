@@ -13,19 +13,19 @@ use Rattle.mp4_present.specs.format.Denotes.{FileTree, file_parts, parts_of_trac
 use Rattle.mp4_present.specs.words.Movies.{MovieSeen}
 use Rattle.mp4_present.specs.words.OpenedMovie.{IsInfoOf, IsOpenedAs}
 use Rattle.mp4_present.specs.words.SamplesComing.{track_keys, track_samples}
-use Rattle.mp4_present.specs.declared.without.Without.{Without}
+use Rattle.mp4_content.specs.declared.without.Without.{Without}
 use Rattle.mp4_present.specs.declared.track_info.TrackInfo.{TrackInfo}
 use Rattle.mp4_present.proofs.Counts.{sum-append}
-use Rattle.mp4_plan.specs.format.Pieces.{TimedSample}
-use Rattle.mp4_plan.specs.words.ComingLess.{left_samples, track_reduction}
+use Rattle.mp4_content.specs.format.TimedSamples.{TimedSample}
+use Rattle.mp4_content.specs.words.ComingLess.{left_samples, track_reduction}
 use Rattle.mp4_plan.specs.words.HandsFed.{sizes_of}
 use Rattle.mp4_plan.specs.words.PiecesComing.{Coming, stops, rest, end_of_other}
-use Rattle.mp4_plan.specs.words.Taken.{AreTaken}
+use Rattle.mp4_content.specs.words.TakenSamples.{AreTaken}
 use Rattle.mp4_plan.specs.words.TurnLaws.{HavePassed, next_time}
 use Rattle.mp4_plan.specs.declared.ends.End.TheVariants.{Before}
 use Rattle.mp4_plan.specs.declared.schedule.Schedule.{Schedule}
 use Rattle.mp4_plan.proofs.Lefts.{AreLeft, left_count, IsTurn}
-use Rattle.mp4_plan.proofs.ReducedTaken.{less_sizes}
+use Rattle.mp4_content.proofs.ReducedTaken.{less_sizes}
 
 abbrev pub left_bytes : List (List SampleAt) → ℕ
 left_bytes lefts = sum_by (λ (left : List SampleAt). sizes_of left) lefts

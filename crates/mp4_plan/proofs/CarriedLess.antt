@@ -9,15 +9,15 @@ use Rattle.mp4_present.specs.words.Carried.{BytesGoOn}
 use Rattle.mp4_present.specs.words.Joined.{IsBelow, sample_bytes}
 use Rattle.mp4_present.specs.words.Movies.{MovieSeen}
 use Rattle.mp4_present.specs.words.SamplesComing.{Comes}
-use Rattle.mp4_plan.specs.declared.reduced.Reduction.{Reduction}
+use Rattle.mp4_content.specs.declared.reduced.Reduction.{Reduction}
 use Rattle.mp4_present.specs.declared.walking.Walk.{Walk}
-use Rattle.mp4_plan.specs.words.ComingLess.{less, ComesLess}
-use Rattle.mp4_plan.specs.words.GoneOn.{ComesMarked}
+use Rattle.mp4_content.specs.words.ComingLess.{less, ComesLess}
+use Rattle.mp4_content.specs.words.GoneOn.{ComesMarked}
 use Rattle.mp4_plan.specs.words.HandsFed.{sizes_of}
 use Rattle.mp4_plan.specs.words.CarriedSamples.{AreThere}
 use Rattle.mp4_plan.proofs.FrontsPut.{front_as}
 use Rattle.mp4_plan.proofs.Pushes.{goes_on_as}
-use Rattle.mp4_plan.proofs.ReducedTaken.{bytes_stay, less_length, less_sizes, above_less, less_drop, less_take}
+use Rattle.mp4_content.proofs.ReducedTaken.{bytes_stay, less_length, less_sizes, above_less, less_drop, less_take}
 
 module _ (l : Reduction) (file : List ℕ) (tree : FileTree) (t : TrackTree) (m : MovieSeen) (w : Walk) (count : ℕ) (left : List SampleAt) (h : ComesMarked l file tree t m w count left) where
   front_left : take count left ≡ less l (take count h.samples)

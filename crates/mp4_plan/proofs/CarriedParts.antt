@@ -1,6 +1,6 @@
 -- The parts of a piece that a writer takes along are what is written of it.
-use Rattle.std.proofs.Common.{◌≡◌, ℕ, zero, suc, List, [], ◌∷◌, ◌++◌, Some, ap, ◌∙◌}
-use Rattle.std.specs.Prelude.{slice_get, slice_index_or, codes}
+use Rattle.std.proofs.Common.{◌≡◌, ℕ, List, ◌++◌, ap, ◌∙◌}
+use Rattle.std.specs.Prelude.{codes}
 use Rattle.mp4_boxes.specs.format.Written.{header_bytes}
 use Rattle.mp4_present.specs.format.Denotes.{FileTree}
 use Rattle.mp4_present.specs.words.Movies.{MovieSeen}
@@ -24,12 +24,6 @@ pub parts_are : (head : PieceHead) (p : Planned) (sizes : MoofSizes) (keys told 
 parts_are head p sizes keys told rows noted front mdat bytes_there f s k r m =
     let whole : front ≡ moof_front head p (moof_sizes p keys) = f ∙ ap (moof_front head p) (s ∙ ap (moof_sizes p) k) in
     λ i. (whole i ++ run_rows p (r i) ++ groups_bytes (r i) p (k i) ++ m i) ++ bytes_there
-
--- what stands at a place is what was read there
-pub read_at : {A : Type 0} (xs : List A) (k : ℕ) (x y : A) → slice_get xs k ≡ Some x → y ≡ slice_index_or xs k y → y ≡ x
-read_at [] k x y is e = absurd cc
-read_at (z ∷ xs) zero x y is e = let same : z ≡ x = cc in e ∙ same
-read_at (z ∷ xs) (suc k) x y is e = read_at xs k x y is e
 
 -- what was noted doesn't depend on what waits to be put
 unfoldable pub noted_with : (file : List ℕ) (tree : FileTree) (m : MovieSeen) (track count : ℕ) (samples : List SampleAt) (w : Writer) (c : OutBuffer) → IsNoted file tree m track count samples w → IsNoted file tree m track count samples (record w { carrier = c })

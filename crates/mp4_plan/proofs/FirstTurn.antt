@@ -1,12 +1,12 @@
 -- The first turn over the tracks of an opened file of which something may be left out: all of their samples are left, and so are all pieces.
 use Rattle.std.proofs.Common.{◌≡◌, ℕ, suc, ◌+◌, ◌-◌, ◌^◌, ◌<◌, ◌≤◌, min, List, [], ◌∷◌, length, Some, None, refl, sym, ap, subst, ◌∙◌, arith}
-use Rattle.mp4_present.specs.declared.without.Without.{Without}
-use Rattle.mp4_plan.specs.words.ComingLess.{asks_first, left_samples, plain_reduction, reduce_at, reduction_by, reduction_of}
-use Rattle.mp4_present.specs.format.Reduced.{HasNearOffsets, ReducesInRange, reduce_track, reduce_movie_head, reduce, start_left, timescale_left}
+use Rattle.mp4_content.specs.declared.without.Without.{Without}
+use Rattle.mp4_content.specs.words.ComingLess.{asks_first, left_samples, plain_reduction, reduce_at, reduction_by, reduction_of}
+use Rattle.mp4_content.specs.format.Reduced.{HasNearOffsets, ReducesInRange, reduce_track, reduce_movie_head, reduce, start_left, timescale_left}
 use Rattle.mp4_head.proofs.Distinct.{map_twice}
-use Rattle.mp4_plan.proofs.ReducedTaken.{reduced_are_taken, timed_numbered}
+use Rattle.mp4_content.proofs.ReducedTaken.{reduced_are_taken, timed_numbered}
 use Rattle.mp4_plan.proofs.InfosLeft.{as_many_left}
-use Rattle.mp4_plan.proofs.ReducedValid.{scale_some}
+use Rattle.mp4_content.proofs.ReducedValid.{scale_some}
 use Rattle.std.specs.Prelude.{Bool, true, false, not, ◌&&◌, ◌||◌, ◌==◌, if◌then◌else◌, map, unwrap_or, option_map}
 use Rattle.std.specs.List.{AllByRecursion, AllZip, slice_get}
 use Rattle.mp4_boxes.proofs.Each.{each_from}
@@ -27,8 +27,9 @@ use Rattle.mp4_present.specs.declared.track_info.TrackInfo.{TrackInfo}
 use Rattle.mp4_present.proofs.Assembled.{timescale_there}
 use Rattle.mp4_present.proofs.ValidSamples.{starts_at_0}
 use Rattle.mp4_plan.specs.words.PiecesComing.{coming_of, stops, all_left}
-use Rattle.mp4_plan.specs.format.Pieces.{TimedSample, pieces}
-use Rattle.mp4_plan.specs.words.Taken.{AreTaken}
+use Rattle.mp4_content.specs.format.TimedSamples.{TimedSample}
+use Rattle.mp4_plan.specs.format.Pieces.{pieces}
+use Rattle.mp4_content.specs.words.TakenSamples.{AreTaken}
 use Rattle.mp4_plan.specs.words.TurnLaws.{HavePassed}
 use Rattle.mp4_plan.specs.words.Turns.{first_scale, info_left, infos_left}
 use Rattle.mp4_plan.specs.declared.ends.End.TheVariants.{Sync}

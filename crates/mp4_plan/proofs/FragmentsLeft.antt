@@ -5,7 +5,8 @@ use Rattle.std.specs.List.{AllByRecursion, range_with_len}
 use Rattle.std.proofs.lemmas.Bool.{lt-leb, and_right}
 use Rattle.mp4_head.specs.format.Head.{MovieHead}
 use Rattle.mp4_present.specs.format.Presentation.{Sample, Track}
-use Rattle.mp4_plan.specs.format.Pieces.{TimedSample, timed_from, is_sync, cuts_after, cuts_in, fragment_by_number, fragment_by_time, Piece, by_description, track_pieces, fragment_pieces}
+use Rattle.mp4_content.specs.format.TimedSamples.{TimedSample, timed_from}
+use Rattle.mp4_plan.specs.format.Pieces.{is_sync, cuts_after, cuts_in, fragment_by_number, fragment_by_time, Piece, by_description, track_pieces, fragment_pieces}
 use Rattle.mp4_plan.specs.format.PieceLaws.{NeverFalls}
 use Rattle.mp4_plan.specs.words.PiecesComing.{Coming, coming_of, stops, front, rest, end_of_other, others_before, others_behind, fragments_left, all_left, BeginsWithAll, TurnsBeginWithAll}
 use Rattle.mp4_plan.specs.declared.ends.End.{End}

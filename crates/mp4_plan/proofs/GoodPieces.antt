@@ -15,7 +15,8 @@ use Rattle.mp4_head.proofs.WrittenContents.{content_of, contents_of, kept_writte
 use Rattle.mp4_head.proofs.WrittenTrack.{has_inner}
 use Rattle.mp4_head.proofs.WrittenMovie.{traks_small}
 use Rattle.mp4_present.specs.format.Presentation.{Sample, Track, Presentation, heads, movie_length, IsSample, IsTrack, Valid, IsInTime, end_time, keys_of, max_time}
-use Rattle.mp4_plan.specs.format.Pieces.{TimedSample, timed, Piece, pieces}
+use Rattle.mp4_content.specs.format.TimedSamples.{TimedSample, timed}
+use Rattle.mp4_plan.specs.format.Pieces.{Piece, pieces}
 use Rattle.mp4_plan.specs.format.Normal.{first_time, first_description, piece_keys}
 use Rattle.mp4_plan.specs.format.PieceLaws.{IsOnePiece}
 use Rattle.mp4_plan.proofs.Filters.{all_weaker, all_from_splits, found_by_id}

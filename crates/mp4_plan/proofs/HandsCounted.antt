@@ -12,9 +12,9 @@ use Rattle.mp4_present.specs.words.OpenedMovie.{IsOpenedAs}
 use Rattle.mp4_present.specs.words.SamplesComing.{samples_behind}
 use Rattle.mp4_present.specs.declared.walking.loaded.Loaded.{Loaded}
 use Rattle.mp4_present.specs.declared.walking.loaded.Place.{Place}
-use Rattle.mp4_plan.specs.declared.reduced.Reduction.{Reduction}
+use Rattle.mp4_content.specs.declared.reduced.Reduction.{Reduction}
 use Rattle.mp4_present.specs.declared.walking.Walk.{Walk}
-use Rattle.mp4_plan.specs.words.ComingLess.{ComesLess, less}
+use Rattle.mp4_content.specs.words.ComingLess.{ComesLess, less}
 use Rattle.mp4_plan.specs.words.Counting.{CountsFirst, HandCounted, HasCounted, PieceCounted}
 use Rattle.mp4_plan.specs.words.Ends.{goes_in, has_ended, first_goes}
 use Rattle.mp4_plan.specs.words.Gathering.{count_of, more_of, piece_fed, piece_from}
@@ -23,7 +23,7 @@ use Rattle.mp4_plan.proofs.HandsTaken.{counted_fed}
 use Rattle.mp4_plan.proofs.PieceCarried.{LoadsFor, EndsFor}
 use Rattle.mp4_plan.proofs.PieceFed.{fed_coming, hand_less, nothing_left}
 use Rattle.mp4_plan.proofs.PlannerSteps.{first_is, none_is}
-use Rattle.mp4_plan.proofs.WalksOn.{hand_none, loads_none, loads_on}
+use Rattle.mp4_content.proofs.WalksOn.{hand_none, loads_none, loads_on}
 
 -- ---- one sample after the other
 

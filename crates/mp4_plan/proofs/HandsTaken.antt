@@ -5,15 +5,6 @@ use Rattle.std.proofs.Math.Seq.{take-append-add}
 use Rattle.std.proofs.lemmas.List.{length-take, length-drop, take_at, drop_at}
 use Rattle.std.proofs.lemmas.List.Sums.{prefix_len-le-length}
 use Rattle.mp4_tables.specs.declared.sample.SampleAt.{SampleAt}
-use Rattle.mp4_present.specs.words.Loaded.{Follows, IsPlaceOf}
-use Rattle.mp4_present.specs.words.Movies.{MovieSeen, HandAt, InHandOf}
-use Rattle.mp4_tables.specs.words.TablesSeen.{CursorSeen as TableView}
-use Rattle.mp4_frag.specs.words.FragmentsSeen.{CursorSeen as TrafView}
-use Rattle.mp4_present.specs.declared.walking.loaded.Loaded.{Loaded}
-use Rattle.mp4_present.specs.declared.walking.loaded.Loaded.TheVariants as hands
-use Rattle.mp4_present.specs.declared.walking.loaded.Place.{Place}
-use Rattle.mp4_present.specs.declared.walking.loaded.Place.TheVariants as places
-use Rattle.mp4_present.specs.declared.walking.Walk.{Walk}
 use Rattle.mp4_plan.specs.words.Ends.{goes_in}
 use Rattle.mp4_plan.specs.words.Gathering.{Planning, description_in, gather, gather_all, count_of, more_of, piece_fed, samples_after}
 use Rattle.mp4_plan.specs.words.HandsFed.{TakesFirst, stop_of, HasTaken}
@@ -144,21 +135,3 @@ module _ (p q : Planning) (room room_after : ℕ) (xs ys : List SampleAt) (piece
   -- why no more were taken
   pub fed_stops : HasTaken room (stop_of q (slice_get ys 0)) p q xs ys
   fed_stops = by_left ys refl
-
--- A walk that goes on from a later place has the later samples in hand.
-pub hand_kept : (m : MovieSeen) (w : Walk) (hand later : Loaded) (place : Place) → InHandOf m w hand → Follows hand later → IsPlaceOf later place → InHandOf m (record w { place = place }) later
-hand_kept m w (hands.Tables a) (hands.Tables b) (places.Tables p) h f i = tables w.place h
-  where
-    tables : (at : Place) → HandAt m w at (hands.Tables a) → HandAt m w (places.Tables p) (hands.Tables b)
-    tables (places.Tables q) h = (h.0, h.1, (λ j. record { tables = (f.0 ∙ ap (λ (c : TableView). c.tables) h.2) j; place = sym i.0 j }))
-    tables (places.Fragment q) h = absurd h
-hand_kept m w (hands.Fragment a) (hands.Fragment b) (places.Fragment p) h f i = fragment w.place h
-  where
-    fragment : (at : Place) → HandAt m w at (hands.Fragment a) → HandAt m w (places.Fragment p) (hands.Fragment b)
-    fragment (places.Tables q) h = absurd h
-    fragment (places.Fragment q) h =
-        λ j. record { payload = (f.0 ∙ ap (λ (c : TrafView). c.payload) h) j; place = sym i.0 j }
-hand_kept m w (hands.Tables a) (hands.Fragment b) place h f i = absurd f
-hand_kept m w (hands.Fragment a) (hands.Tables b) place h f i = absurd f
-hand_kept m w (hands.Tables a) (hands.Tables b) (places.Fragment p) h f i = absurd i
-hand_kept m w (hands.Fragment a) (hands.Fragment b) (places.Tables p) h f i = absurd i

@@ -2,12 +2,12 @@
 use Rattle.std.proofs.Common.{◌≡◌, ℕ, zero, suc, ◌<◌, List, [], ◌∷◌, length, Some, refl, sym, ap, subst}
 use Rattle.std.specs.Prelude.{slice_get}
 use Rattle.mp4_present.specs.declared.track_info.TrackInfo.{TrackInfo}
-use Rattle.mp4_present.specs.declared.without.Without.{Without}
+use Rattle.mp4_content.specs.declared.without.Without.{Without}
 use Rattle.mp4_present.specs.format.Denotes.{FileTree}
 use Rattle.mp4_present.specs.words.Movies.{MovieSeen}
 use Rattle.mp4_present.specs.words.OpenedMovie.{IsOpenedAs}
 use Rattle.mp4_plan.specs.words.Turns.{info_left, infos_left}
-use Rattle.mp4_plan.proofs.ReducedValid.{scale_some}
+use Rattle.mp4_content.proofs.ReducedValid.{scale_some}
 use Rattle.mp4_plan.proofs.SkippedTurns.{HaveScales, opened_scales}
 
 module _ (l : Without) where

@@ -5,9 +5,10 @@ use Rattle.mp4_boxes.specs.declared.refusal.Refusal.{Refusal}
 use Rattle.mp4_boxes.specs.declared.refusal.Refusal.TheVariants as refusals
 use Rattle.mp4_present.specs.format.Denotes.{FileTree}
 use Rattle.mp4_present.specs.words.Carried.{RefusesCarry, RefusesCopy}
-use Rattle.mp4_present.specs.declared.without.Without.{Without}
-use Rattle.mp4_plan.specs.words.Writers.{RefusesPlan}
-use Rattle.mp4_plan.specs.words.LeftTimes.{NamesLong, RefusesLeft, RefusesLeftCopy, moves_limits}
+use Rattle.mp4_content.specs.declared.without.Without.{Without}
+use Rattle.mp4_content.specs.words.Opened.{RefusesPlan}
+use Rattle.mp4_content.specs.words.LeftTimes.{NamesLong, moves_limits}
+use Rattle.mp4_plan.specs.words.LeftRefusals.{RefusesLeft, RefusesLeftCopy}
 
 -- what holds anyway holds of each answer
 pub so_if_ok : {T : Type 0} (answer : Result T Refusal) (P : Type 0) → P → OnOk answer P

@@ -22,7 +22,6 @@ pub mod Vectors
 pub mod SuiteVectors
 pub mod WrittenGroups
 pub mod WrittenRun
-mod WalksOn
 mod PieceCarried
 mod PieceFed
 mod HandsCounted
@@ -37,13 +36,7 @@ pub mod NormalGroups
 pub mod NormalDenotes
 pub mod TurnOrder
 mod LooksOn
-pub mod ReducedSamples
-pub mod Reducing
-pub mod Covering
-pub mod ReducedValid
 pub mod ReducedNormal
-pub mod TooLong
-pub mod Agreed
 pub mod HeadLimit
 pub mod EachAt
 pub mod AllTake
@@ -78,17 +71,8 @@ pub mod WritesOn
 pub mod WriterTurns
 pub mod TurnTaken
 pub mod TakenFrom
-pub mod ReducedTaken
-pub mod Measured
 pub mod CarriedLess
-pub mod HeadLess
-pub mod CheckedTracks
-pub mod MayPass
-pub mod MeasuredTracks
-pub mod LeftTimes
-pub mod LeftChecked
 pub mod LeftRefused
-pub mod ReducedFaults
 pub mod InfosLeft
 pub mod FirstTurn
 pub mod NextSamples
@@ -96,18 +80,12 @@ pub mod Planning
 pub mod HeadAgain
 pub mod PieceCounts
 pub mod PlannedTurns
-pub mod CourseSteps
 pub mod AllPut
-mod WalksGone
 mod AllMay
 mod TrafsAhead
 mod WritingSteps
 mod PiecesPut
 mod WriterMade
 mod BytesLeft
-pub mod ZeroedAgain
-pub mod RatesKept
-pub mod BoxesAgain
-pub mod Unrated
-pub mod Plain
 pub mod Judged
+pub mod NormalHead

@@ -1,6 +1,6 @@
 -- The next samples of tracks, and turns in which none goes into a piece.
 use Rattle.std.proofs.Common.{rules, ◌≡◌, ℕ, zero, suc, ◌+◌, ◌<◌, ◌≤◌, ◌==◌, ◌&&◌, Bool, true, false, List, [], ◌∷◌, ◌++◌, length, take, map, Some, None, refl, sym, ap, ◌∙◌, arith, slice_set}
-use Rattle.mp4_present.specs.declared.without.Without.{Without}
+use Rattle.mp4_content.specs.declared.without.Without.{Without}
 use Rattle.std.specs.Prelude.{Option, slice_get, slice_index_or}
 use Rattle.std.proofs.lemmas.List.Sums.{sum_by-cons}
 use Rattle.std.proofs.lemmas.List.{take_all, take_more_set, map-append}

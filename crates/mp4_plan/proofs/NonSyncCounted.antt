@@ -1,43 +1,16 @@
 -- Samples that are no sync samples, passed and counted: of a walk, of what is left of its samples, and of the first of them.
-use Rattle.std.proofs.Common.{◌≡◌, ℕ, zero, suc, ◌+◌, ◌-◌, ◌/◌, ◌%◌, ◌^◌, ◌≤◌, ◌==◌, Bool, true, false, cond, List, [], ◌∷◌, take, Some, refl, ap, sym, subst, ◌∙◌, arith, if◌then◌else◌}
-use Rattle.std.specs.Prelude.{◌&&◌, ◌||◌, slice_get}
+use Rattle.std.proofs.Common.{◌≡◌, ℕ, zero, suc, ◌+◌, ◌-◌, ◌/◌, ◌%◌, ◌^◌, ◌≤◌, ◌==◌, true, false, cond, List, [], ◌∷◌, take, Some, refl, ap, sym, subst, ◌∙◌, arith}
+use Rattle.std.specs.Prelude.{slice_get}
 use Rattle.std.specs.List.{prefix_len}
 use Rattle.std.proofs.lemmas.Bool.Decides.{nat_tests}
 use Rattle.mp4_tables.specs.words.Next.{IsNext, IsNonSyncOf, PassesNonSync}
 use Rattle.mp4_tables.specs.declared.sample.SampleAt.{SampleAt}
-use Rattle.mp4_present.specs.format.Reduced.{duration_left, is_at_end, sync_flag}
-use Rattle.mp4_plan.specs.declared.reduced.Reduction.{Reduction}
-use Rattle.mp4_plan.specs.words.ComingLess.{less, reduce_at}
 use Rattle.mp4_plan.specs.words.Counting.{CountsFirst}
 use Rattle.mp4_plan.specs.words.Ends.{goes_in, is_sync_at}
 use Rattle.mp4_plan.specs.words.HandsFed.{TakesFirst}
 use Rattle.mp4_plan.specs.declared.ends.End.TheVariants.{Sync}
 
 -- ---- the next one
-
-neither : (a b : Bool) → (a || b) ≡ false → (a ≡ false) × (b ≡ false)
-neither true b e = absurd cc
-neither false b e = (refl, e)
-
--- what is left of a sample has its duration, where timing and ends count, and its size
-pub next_reduced : (l : Reduction) (s : SampleAt) (samples : List SampleAt) → (l.leaving.timing || l.leaving.ends) ≡ false → IsNext s (less l samples) → IsNext s samples
-next_reduced l s [] counts h = absurd (none h.first)
-  where
-    none : {x : SampleAt} → slice_get (less l []) 0 ≡ Some x → ⊥
-    none e = cc
-next_reduced l s (x ∷ samples) counts h =
-    let none = neither l.leaving.timing l.leaving.ends counts in
-    let stays : duration_left l.leaving l.samples x.number x.duration ≡ x.duration = λ i. if none.0 i then 1 else if none.1 i && is_at_end l.samples x.number then 1 else x.duration in
-    let same : reduce_at l x ≡ h.next = is (reduce_at l x) h.next h.first in
-    record {
-      next = x;
-      first = refl;
-      duration = sym stays ∙ ap (λ (y : SampleAt). y.duration) same ∙ h.duration;
-      size = ap (λ (y : SampleAt). y.size) same ∙ h.size;
-    }
-  where
-    is : (a b : SampleAt) → Some a ≡ Some b → a ≡ b
-    is a b e = cc
 
 pub next_limited : (room : ℕ) (s : SampleAt) (samples : List SampleAt) → IsNext s (take room samples) → IsNext s samples
 next_limited zero s samples h = absurd (none h.first)
@@ -55,15 +28,6 @@ pub next_seen : (s : SampleAt) (samples : List SampleAt) → Some s ≡ slice_ge
 next_seen s samples e = record { next = s; first = sym e; duration = refl; size = refl }
 
 -- ---- several
-
-bit_left : (b : Bool) (flags : ℕ) → flags / 2 ^ 16 % 2 ≡ 1 → (if b then sync_flag flags else flags) / 2 ^ 16 % 2 ≡ 1
-bit_left true flags e = omega (arith, e)
-bit_left false flags e = e
-
-pub passes_reduced : (l : Reduction) (description n : ℕ) (samples left : List SampleAt) → PassesNonSync description n samples left → PassesNonSync description n (less l samples) (less l left)
-passes_reduced l description zero samples left h = ap (less l) h
-passes_reduced l description (suc n) [] left h = absurd h
-passes_reduced l description (suc n) (s ∷ samples) left h = ((bit_left l.leaving.flags s.flags h.0.0, h.0.1), passes_reduced l description n samples left h.1)
 
 pub passes_limited : (room description n : ℕ) (samples left : List SampleAt) → n ≤ room → PassesNonSync description n samples left → PassesNonSync description n (take room samples) (take (room - n) left)
 passes_limited room description zero samples left le h =

@@ -23,7 +23,8 @@ use Rattle.mp4_head.proofs.WrittenMovie.{tracks_at, movie_front, normal_trex, no
 use Rattle.mp4_head.proofs.WrittenTables.{tables_none, none_fit}
 use Rattle.mp4_present.specs.format.Presentation.{Sample, Track, Presentation, heads, movie_length, IsSample, IsTrack, Valid, keys_of}
 use Rattle.mp4_present.specs.format.Denotes.{IsConsistent, surroundings, track_infos, file_parts, parts_of_track, first_due, plain_keys, sample_of, track_of, presentation_of}
-use Rattle.mp4_plan.specs.format.Pieces.{TimedSample, timed, pieces}
+use Rattle.mp4_content.specs.format.TimedSamples.{TimedSample, timed}
+use Rattle.mp4_plan.specs.format.Pieces.{pieces}
 use Rattle.mp4_plan.specs.format.Normal.{normal}
 use Rattle.mp4_plan.specs.format.PieceLaws.{pieces_for}
 use Rattle.mp4_plan.specs.format.Laws.{NormalDenotes}

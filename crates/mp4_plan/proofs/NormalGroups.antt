@@ -10,7 +10,8 @@ use Rattle.mp4_tables.specs.format.Repeated.{total}
 use Rattle.mp4_tables.specs.format.Groups.{GroupRule, one_of_key, few_keys, index_range, group_counts, GroupKey, Grouping, key_rank, same_key, index_at, keys_with, keys_after, keeps, group_test, max_index, max_keys}
 use Rattle.mp4_tables.proofs.NamedKeys.{IsAmong, few_with}
 use Rattle.mp4_frag.specs.format.FragmentSamples.{Part, part_samples, parts_for, AreGrouped}
-use Rattle.mp4_plan.specs.format.Pieces.{TimedSample, Piece}
+use Rattle.mp4_content.specs.format.TimedSamples.{TimedSample}
+use Rattle.mp4_plan.specs.format.Pieces.{Piece}
 use Rattle.mp4_plan.specs.format.Normal.{piece_keys, longest_runs}
 use Rattle.mp4_plan.specs.format.PieceLaws.{pieces_for}
 use Rattle.mp4_plan.proofs.Filters.{all_weaker}

@@ -11,7 +11,8 @@ use Rattle.mp4_boxes.proofs.Each.{each_value, each_weaker, each_from}
 use Rattle.mp4_boxes.proofs.Columns.{columns_again}
 use Rattle.mp4_frag.specs.format.Fragments.{column}
 use Rattle.mp4_present.specs.format.Presentation.{Sample, Track, IsSample, IsTrack}
-use Rattle.mp4_plan.specs.format.Pieces.{TimedSample, Piece, timed, pieces}
+use Rattle.mp4_content.specs.format.TimedSamples.{TimedSample, timed}
+use Rattle.mp4_plan.specs.format.Pieces.{Piece, pieces}
 use Rattle.mp4_plan.specs.format.Normal.{common, shared_by, row_flags, trun_row, first_description}
 use Rattle.mp4_plan.specs.format.SpellingLaws.{AreAlike, IsSpelledOnce, defaults, run_bits, HasOneSpelling, ColumnsAreSpelledOnce}
 use Rattle.mp4_plan.proofs.Shared.{common_is}

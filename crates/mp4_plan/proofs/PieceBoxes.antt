@@ -13,7 +13,8 @@ use Rattle.mp4_boxes.proofs.WrittenBoxes.{placed_box, length-box_bytes}
 use Rattle.mp4_frag.specs.declared.trex.Trex.{Trex}
 use Rattle.mp4_frag.specs.format.Fragments.{Fragment, FragmentTree, IsFragmentTree, fragment_of}
 use Rattle.mp4_frag.specs.format.FragmentSamples.{Part, parts_of, all_parts, trex_for, no_trex}
-use Rattle.mp4_plan.specs.format.Pieces.{TimedSample, Piece}
+use Rattle.mp4_content.specs.format.TimedSamples.{TimedSample}
+use Rattle.mp4_plan.specs.format.Pieces.{Piece}
 use Rattle.mp4_plan.specs.format.Normal.{piece_data, moof_bytes, piece_bytes, pieces_bytes}
 use Rattle.mp4_plan.specs.format.PieceLaws.{IsOnePiece}
 use Rattle.mp4_plan.proofs.RunRows.{FitsRow}

@@ -1,8 +1,8 @@
 -- A piece that is fed over the `moof`s that its samples are in.
 use Rattle.std.proofs.Common.{◌≡◌, ℕ, ◌+◌, ◌<◌, ◌≤◌, Bool, true, false, List, [], ◌∷◌, ◌++◌, length, take, drop, refl, sym, ap, subst, ◌∙◌, append_assoc, length-append, arith}
-use Rattle.mp4_plan.specs.declared.reduced.Reduction.{Reduction}
-use Rattle.mp4_plan.specs.words.ComingLess.{ComesLess, less}
-use Rattle.mp4_plan.proofs.ReducedTaken.{less_append}
+use Rattle.mp4_content.specs.declared.reduced.Reduction.{Reduction}
+use Rattle.mp4_content.specs.words.ComingLess.{ComesLess, less}
+use Rattle.mp4_content.proofs.ReducedTaken.{less_append}
 use Rattle.std.specs.Prelude.{map}
 use Rattle.std.proofs.Math.Seq.{take-add, take-append-add}
 use Rattle.std.proofs.lemmas.List.{drop-drop, drop_at, take_at, take-append-le, length-take, length-drop, length-map, map-append}
@@ -29,7 +29,7 @@ use Rattle.mp4_plan.specs.declared.noted_rows.Row.{Row}
 use Rattle.mp4_plan.proofs.PlannerSteps.{fed_more, after_more, fed_none, after_none, more_of_no, more_of-nil}
 use Rattle.mp4_plan.proofs.HandsTaken.{more_with, counted_fed}
 use Rattle.mp4_present.proofs.WalkCopied.{kept_before}
-use Rattle.mp4_plan.proofs.WalksOn.{hand_first, loads_on, loads_none, hand_none}
+use Rattle.mp4_content.proofs.WalksOn.{hand_first, loads_on, loads_none, hand_none}
 use Rattle.mp4_plan.proofs.PieceCarried.{LoadsFor, EndsFor}
 use Rattle.mp4_plan.proofs.Stretched.{joins_none, joins_then}
 

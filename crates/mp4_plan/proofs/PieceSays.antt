@@ -16,7 +16,8 @@ use Rattle.mp4_frag.specs.format.FragmentSamples.{run_samples, Part, part_sample
 use Rattle.mp4_frag.specs.format.FragmentRules.{is_within}
 use Rattle.mp4_present.specs.format.Presentation.{Sample}
 use Rattle.mp4_present.specs.format.Denotes.{sample_of}
-use Rattle.mp4_plan.specs.format.Pieces.{TimedSample, Piece}
+use Rattle.mp4_content.specs.format.TimedSamples.{TimedSample}
+use Rattle.mp4_plan.specs.format.Pieces.{Piece}
 use Rattle.mp4_plan.specs.format.Normal.{piece_data, common, shared_by, first_description, first_time, piece_keys, moof_length}
 use Rattle.mp4_plan.specs.format.PieceLaws.{IsOnePiece}
 use Rattle.mp4_plan.proofs.PartLists.{Says, untimed_samples}

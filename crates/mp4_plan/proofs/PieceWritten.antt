@@ -5,11 +5,13 @@ use Rattle.std.specs.Prelude.{slice_get, slice_index}
 use Rattle.std.specs.List.{AllByRecursion}
 use Rattle.mp4_tables.specs.format.Groups.{GroupKey}
 use Rattle.mp4_tables.specs.declared.sample.SampleAt.{SampleAt}
-use Rattle.mp4_plan.specs.format.Pieces.{TimedSample, Piece}
+use Rattle.mp4_content.specs.format.TimedSamples.{TimedSample}
+use Rattle.mp4_plan.specs.format.Pieces.{Piece}
 use Rattle.mp4_plan.specs.format.Normal.{piece_bytes, pieces_bytes}
 use Rattle.mp4_plan.specs.words.Gathering.{gather_all, planned_of}
 use Rattle.mp4_plan.specs.words.Sizes.{moof_sizes}
-use Rattle.mp4_plan.specs.words.Taken.{AreTaken, IsNamed, head_of}
+use Rattle.mp4_content.specs.words.TakenSamples.{AreTaken, IsNamed}
+use Rattle.mp4_plan.specs.words.Taken.{head_of}
 use Rattle.mp4_plan.specs.words.TurnLaws.{piece_if}
 use Rattle.mp4_plan.specs.words.UsedKeys.{AreApart}
 use Rattle.mp4_plan.specs.words.Writers.{turn_head, sequence_behind, bytes_of_piece, turn_bytes}

@@ -1,9 +1,9 @@
 -- What is planned of the pieces of an opened file, turn by turn.
 use Rattle.std.proofs.Common.{◌≡◌, ℕ, zero, suc, ◌+◌, ◌-◌, ◌*◌, ◌^◌, ◌<◌, ◌≤◌, nat_lt, Bool, true, false, cond, List, [], ◌∷◌, ◌++◌, length, take, map, Option, Some, None, refl, sym, ap, subst, ◌∙◌, arith, length-append, append-nil}
-use Rattle.mp4_present.specs.declared.without.Without.{Without}
-use Rattle.mp4_plan.specs.words.ComingLess.{ComesLess, left_samples, track_reduction}
-use Rattle.mp4_present.specs.format.Reduced.{ReducesInRange, reduce, timescale_left}
-use Rattle.mp4_plan.proofs.ReducedTaken.{less_counted}
+use Rattle.mp4_content.specs.declared.without.Without.{Without}
+use Rattle.mp4_content.specs.words.ComingLess.{ComesLess, left_samples, track_reduction}
+use Rattle.mp4_content.specs.format.Reduced.{ReducesInRange, reduce, timescale_left}
+use Rattle.mp4_plan.proofs.Lefts.{less_counted, left_count, pieces_from, IsTurn}
 use Rattle.std.specs.Prelude.{slice_get, slice_set, slice_index_or, min, max, fold}
 use Rattle.std.specs.List.{sum_by}
 use Rattle.std.proofs.lemmas.List.{length-take-le}
@@ -20,9 +20,10 @@ use Rattle.mp4_present.specs.declared.walking.Walk.{Walk}
 use Rattle.mp4_plan.specs.words.PiecesComing.{Coming, coming_of}
 use Rattle.mp4_plan.specs.words.Gathering.{gather_all, planned_of, more_of, piece_from, piece_fed, samples_after}
 use Rattle.mp4_plan.specs.format.Normal.{pieces_bytes, piece_bytes}
-use Rattle.mp4_plan.specs.format.Pieces.{TimedSample, Piece, pieces}
+use Rattle.mp4_content.specs.format.TimedSamples.{TimedSample}
+use Rattle.mp4_plan.specs.format.Pieces.{Piece, pieces}
 use Rattle.mp4_plan.specs.words.Sizes.{moof_sizes}
-use Rattle.mp4_plan.specs.words.Taken.{AreTaken}
+use Rattle.mp4_content.specs.words.TakenSamples.{AreTaken}
 use Rattle.mp4_plan.specs.words.TurnLaws.{piece_if}
 use Rattle.mp4_plan.specs.words.Turns.{first_scale, info_left, infos_left, turn_end, turned, Sticks}
 use Rattle.mp4_plan.specs.words.DueTracks.{FindsMore, IsDueAt, Skips}
@@ -35,7 +36,6 @@ use Rattle.mp4_plan.specs.declared.schedule.Schedule.{Schedule}
 use Rattle.mp4_plan.proofs.ComeAt.{come_with}
 use Rattle.mp4_plan.proofs.InfosLeft.{as_many_left, info_at, left_scales}
 use Rattle.mp4_plan.proofs.FirstTurn.{begins_at, first_turn}
-use Rattle.mp4_plan.proofs.Lefts.{left_count, pieces_from, IsTurn}
 use Rattle.mp4_plan.proofs.NextSamples.{first_at, firsts_set}
 use Rattle.mp4_plan.proofs.PieceWritten.{AreKeys, IsFew, bytes_of_two}
 use Rattle.mp4_plan.proofs.Planning.{comes_there}
@@ -44,7 +44,8 @@ use Rattle.mp4_plan.proofs.SkippedTurns.{due_here, finds_none, turns_skipped}
 use Rattle.mp4_plan.proofs.SpelledPiece.{piece_length, taken_count}
 use Rattle.mp4_plan.proofs.TakenFrom.{track_facts_at, all_counted}
 use Rattle.mp4_plan.proofs.TakenFrom as taken_from
-use Rattle.mp4_plan.proofs.TurnTaken.{TurnTakes, turn_taken, turn_moves, turns_end, turn_tracks, there_is, more_few, few_left, count_behind}
+use Rattle.mp4_plan.proofs.TurnTaken.{TurnTakes, turn_taken, turn_moves, turns_end, turn_tracks, more_few, few_left, count_behind}
+use Rattle.mp4_content.proofs.AtPlaces.{there_is}
 
 -- ---- the longest piece
 

@@ -1,8 +1,8 @@
 -- Walks over the tracks of an opened file, and what is planned of the pieces that come in them.
 use Rattle.std.proofs.Common.{◌≡◌, ℕ, zero, suc, ◌+◌, ◌*◌, ◌<◌, ◌≤◌, List, [], ◌∷◌, ◌++◌, length, take, map, Some, refl, sym, ap, subst, ◌∙◌, arith, length-set}
-use Rattle.mp4_present.specs.declared.without.Without.{Without}
-use Rattle.mp4_plan.specs.words.ComingLess.{ComesLess, left_samples, track_reduction}
-use Rattle.mp4_plan.specs.declared.reduced.Reduction.{Reduction}
+use Rattle.mp4_content.specs.declared.without.Without.{Without}
+use Rattle.mp4_content.specs.words.ComingLess.{ComesLess, left_samples, track_reduction, reductions_of}
+use Rattle.mp4_content.specs.declared.reduced.Reduction.{Reduction}
 use Rattle.std.specs.Prelude.{slice_get, slice_set, slice_index_or}
 use Rattle.std.specs.List.{AllByRecursion}
 use Rattle.std.proofs.lemmas.List.{take_all, map-append}
@@ -21,13 +21,13 @@ use Rattle.mp4_present.proofs.OwnSums.{rooms_within}
 use Rattle.mp4_present.proofs.WalkRooms.{room_opened}
 use Rattle.mp4_present.proofs.TrafTaken.{zipped_at}
 use Rattle.mp4_present.proofs.TracksPassed.{zip_length}
-use Rattle.mp4_plan.specs.words.Writers.{AreWalksOf, AreMarked, AllCome, AllBegin, reductions_of}
+use Rattle.mp4_plan.specs.words.Writers.{AreWalksOf, AreMarked, AllCome, AllBegin}
 use Rattle.mp4_plan.specs.format.Held.{rooms}
 use Rattle.mp4_plan.specs.words.OwnRooms.{own_rooms}
 use Rattle.mp4_plan.proofs.ComeAt.{come_at, come_with, come_more, set_same}
-use Rattle.mp4_plan.proofs.ReducedTaken.{less_length}
-use Rattle.mp4_plan.proofs.TakenFrom.{as_many}
-use Rattle.mp4_plan.proofs.TurnTaken.{there_is}
+use Rattle.mp4_content.proofs.ReducedTaken.{less_length}
+use Rattle.mp4_content.proofs.SamplesTaken.{as_many}
+use Rattle.mp4_content.proofs.AtPlaces.{there_is, taken_next}
 
 -- ---- walks that begin
 
@@ -80,14 +80,6 @@ marked_behind [] [] w left h is = (is, tt)
 marked_behind [] (l ∷ lefts) w left h is = absurd h
 marked_behind (v ∷ walks) [] w left h is = absurd h
 marked_behind (v ∷ walks) (l ∷ lefts) w left h is = (h.0, marked_behind walks lefts w left h.1 is)
-
-pub taken_next : {A : Type 0} (xs : List A) (k : ℕ) (x : A) → slice_get xs k ≡ Some x → take (k + 1) xs ≡ take k xs ++ x ∷ []
-taken_next {A} xs k x is = let one : k + 1 ≡ suc k = omega arith in ap (λ n. take n xs) one ∙ by xs k is
-  where
-    by : (ys : List A) (k : ℕ) → slice_get ys k ≡ Some x → take (suc k) ys ≡ take k ys ++ x ∷ []
-    by [] k e = absurd cc
-    by (y ∷ ys) zero e = let same : y ≡ x = cc in ap (λ z. z ∷ []) same
-    by (y ∷ ys) (suc k) e = ap (λ zs. y ∷ zs) (by ys k e)
 
 pub one_marked : (m : MovieSeen) (k : ℕ) (walks : List Walk) (walk : Walk) → BeginMarked m k walks → k < length m.tracks → ((info : TrackInfo) → slice_get m.tracks k ≡ Some info → walk.mark ≡ mark_of walk info.samples) → BeginMarked m (k + 1) (walks ++ walk ∷ [])
 one_marked m k walks walk h lt mark file tree o leaving =

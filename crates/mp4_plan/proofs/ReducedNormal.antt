@@ -2,12 +2,12 @@
 use Rattle.std.proofs.Common.{ap, ◌∙◌}
 use Rattle.mp4_present.proofs.One.{denotes_one}
 use Rattle.mp4_plan.specs.format.Normal.{normal}
-use Rattle.mp4_present.specs.format.Reduced.{reduce}
-use Rattle.mp4_plan.specs.format.ReducedLaws.{ReducedNormalDenotes, ReducedNormalIsFixed, ReducedNormalIsExact}
+use Rattle.mp4_content.specs.format.Reduced.{reduce}
+use Rattle.mp4_plan.specs.format.ReducedNormal.{ReducedNormalDenotes, ReducedNormalIsFixed, ReducedNormalIsExact}
 use Rattle.mp4_plan.proofs.FromTwo.{exact_from}
 use Rattle.mp4_plan.proofs.NormalDenotes.{normal_denotes}
-use Rattle.mp4_plan.proofs.Reducing.{reduce_is_fixed}
-use Rattle.mp4_plan.proofs.ReducedValid.{reduced_is_valid}
+use Rattle.mp4_content.proofs.Reducing.{reduce_is_fixed}
+use Rattle.mp4_content.proofs.ReducedValid.{reduced_is_valid}
 
 pub reduced_normal_denotes : ReducedNormalDenotes
 reduced_normal_denotes l p v limits = normal_denotes (reduce l p) ((reduced_is_valid l p v).1 limits)

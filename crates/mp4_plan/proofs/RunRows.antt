@@ -10,7 +10,7 @@ use Rattle.mp4_boxes.specs.format.Layout.{column_values, sample_columns, data_of
 use Rattle.mp4_boxes.proofs.Columns.{FitColumns, columns_again, length-column_bytes}
 use Rattle.mp4_frag.specs.format.Fragments.{RunRow, run_rows, run_row_of}
 use Rattle.mp4_head.proofs.Again.{signed_again}
-use Rattle.mp4_plan.specs.format.Pieces.{TimedSample}
+use Rattle.mp4_content.specs.format.TimedSamples.{TimedSample}
 use Rattle.mp4_plan.specs.format.Normal.{Shared, own, row_values, row_flags, trun_row}
 
 -- the numbers of a sample fit the fields of a row

@@ -23,7 +23,8 @@ use Rattle.mp4_plan.proofs.DueTurns.{late_over, due_goes, other_keeps, skips_kee
 use Rattle.mp4_plan.proofs.Lefts.{pieces_from, IsTurn}
 use Rattle.mp4_plan.proofs.NextSamples.{first_at}
 use Rattle.mp4_plan.proofs.TakenFrom.{has_track}
-use Rattle.mp4_plan.proofs.TurnTaken.{few_left, there_is, tracks_left, turn_skips, turn_tracks}
+use Rattle.mp4_plan.proofs.TurnTaken.{few_left, tracks_left, turn_skips, turn_tracks}
+use Rattle.mp4_content.proofs.AtPlaces.{there_is}
 
 -- no track of these has a timescale of 0
 abbrev pub HaveScales : List TrackInfo → Type 0

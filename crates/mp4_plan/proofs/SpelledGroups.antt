@@ -10,13 +10,14 @@ use Rattle.mp4_tables.specs.format.Groups.{GroupKey, Groups, key_rank, same_key,
 use Rattle.mp4_tables.specs.declared.sample.SampleAt.{SampleAt}
 use Rattle.mp4_tables.proofs.NamedKeys.{IsAmong, among_more, same_itself}
 use Rattle.mp4_present.specs.format.Presentation.{IsGroup}
-use Rattle.mp4_plan.specs.format.Pieces.{TimedSample}
+use Rattle.mp4_content.specs.format.TimedSamples.{TimedSample}
 use Rattle.mp4_plan.specs.format.Normal.{put_key, in_key_order, piece_keys, longest_runs, put_run, key_bytes, sbgp_bytes}
 use Rattle.mp4_plan.specs.words.PlannerLaws.{indexes as indexes_of}
 use Rattle.mp4_plan.specs.format.SpellingLaws.{sample_keys}
 use Rattle.mp4_plan.specs.words.Sizes.{group_size, groups_size}
 use Rattle.mp4_plan.specs.words.Spelling.{box_front, group_row, group_rows}
-use Rattle.mp4_plan.specs.words.Taken.{AreTaken, IsNamed, row_seen}
+use Rattle.mp4_content.specs.words.TakenSamples.{AreTaken, IsNamed}
+use Rattle.mp4_plan.specs.words.Taken.{row_seen}
 use Rattle.mp4_plan.specs.words.UsedKeys.{AreApart, IsKeyAt, place_at, used_from, key_front, group_front, group_bytes, groups_bytes}
 use Rattle.mp4_plan.specs.declared.planner.Planned.{Planned}
 use Rattle.mp4_plan.specs.declared.noted_rows.Row.{Row}

@@ -10,13 +10,15 @@ use Rattle.mp4_tables.specs.format.Groups.{GroupKey}
 use Rattle.mp4_tables.specs.declared.sample.SampleAt.{SampleAt}
 use Rattle.mp4_present.specs.words.Joined.{sample_bytes}
 use Rattle.mp4_boxes.proofs.LyingData.{length-header_bytes}
-use Rattle.mp4_plan.specs.format.Pieces.{TimedSample, Piece}
+use Rattle.mp4_content.specs.format.TimedSamples.{TimedSample}
+use Rattle.mp4_plan.specs.format.Pieces.{Piece}
 use Rattle.mp4_plan.specs.format.Normal.{Shared, common, own, shared_by, trun_row, trun_bytes, tfhd_bytes, sbgp_bytes, piece_keys, traf_bytes, moof_bytes, moof_length, piece_bytes, first_time, first_description, longest_runs}
 use Rattle.mp4_plan.specs.words.Gathering.{gather_all, planned_of, used_rows, runs_at}
 use Rattle.mp4_plan.specs.words.PlannerLaws.{SumsUp, indexes as indexes_of}
 use Rattle.mp4_plan.specs.words.Sizes.{row_size, groups_size, tfhd_size, trun_size, traf_size, moof_sizes}
 use Rattle.mp4_plan.specs.words.Spelling.{option_bytes, offset_of, run_row, run_rows, box_front, mfhd_front, head_bits, tfhd_front, tfdt_front, run_bits, trun_front, moof_front}
-use Rattle.mp4_plan.specs.words.Taken.{IsTaken, AreTaken, IsNamed, row_seen, piece_front, head_of, PieceIsSpelled}
+use Rattle.mp4_content.specs.words.TakenSamples.{IsTaken, AreTaken, IsNamed}
+use Rattle.mp4_plan.specs.words.Taken.{row_seen, piece_front, head_of, PieceIsSpelled}
 use Rattle.mp4_plan.specs.words.UsedKeys.{AreApart, groups_bytes}
 use Rattle.mp4_plan.specs.declared.gathered.Gathered.{Gathered}
 use Rattle.mp4_plan.specs.declared.gathered.GroupRuns.{GroupRuns}

@@ -1,71 +1,34 @@
 -- What an opened file says of its tracks: their samples are those of the presentation that it denotes, and lie in it; their keys differ, and are at most four.
-use Rattle.std.proofs.Common.{◌≡◌, ℕ, zero, suc, ◌+◌, ◌^◌, ◌≤◌, false, List, [], ◌∷◌, length, Some, refl, sym, ap, subst, ◌∙◌, arith}
-use Rattle.std.specs.Prelude.{map, IsTrue, ℤ, pos, negsuc}
+use Rattle.std.proofs.Common.{◌≡◌, ℕ, zero, suc, ◌^◌, ◌≤◌, false, List, [], ◌∷◌, length, Some, refl, sym, ap, subst, ◌∙◌, arith}
+use Rattle.std.specs.Prelude.{map}
 use Rattle.std.specs.List.{AllByRecursion, AllZip, list_any, slice_get, sum_by}
 use Rattle.std.proofs.lemmas.Bool.{or_from}
-use Rattle.std.proofs.lemmas.List.{length-map}
 use Rattle.std.proofs.lemmas.List.Sums.{sum_by-cons}
 use Rattle.mp4_boxes.specs.format.Bytes.{sum_of}
 use Rattle.mp4_boxes.proofs.Each.{each_weaker, each_member}
-use Rattle.mp4_store.specs.words.Device.{range}
 use Rattle.mp4_tables.specs.words.Accepted.{AreDistinct}
 use Rattle.mp4_tables.specs.format.Groups.{GroupKey, same_key}
 use Rattle.mp4_tables.specs.words.Keys.{keys_seen}
-use Rattle.mp4_tables.specs.format.PlainSamples.{PlacedSample}
-use Rattle.mp4_tables.specs.format.TableRules.{lies_within}
-use Rattle.mp4_tables.specs.words.Timed.{timed, sample_at, place_of}
-use Rattle.mp4_tables.proofs.SampleLists.{timed_length}
 use Rattle.mp4_tables.specs.declared.sample.SampleAt.{SampleAt}
-use Rattle.mp4_tables.proofs.Placed.{IsKey, IsIndex}
+use Rattle.mp4_tables.proofs.Placed.{IsKey}
 use Rattle.mp4_head.specs.format.Tree.{TrackTree}
 use Rattle.mp4_present.specs.words.SamplesComing.{track_keys, track_samples}
-use Rattle.mp4_present.specs.format.Denotes.{FileTree, file_parts, placed_of, bytes_at, sample_of, track_of}
+use Rattle.mp4_present.specs.format.Denotes.{FileTree, file_parts, placed_of, track_of}
 use Rattle.mp4_present.specs.words.Joined.{IsBelow}
 use Rattle.mp4_present.specs.words.Movies.{MovieSeen}
 use Rattle.mp4_present.specs.words.OpenedMovie.{IsInfoOf, IsOpenedAs}
-use Rattle.mp4_present.specs.format.Presentation.{Track, IsGroup}
+use Rattle.mp4_present.specs.format.Presentation.{Track}
 use Rattle.mp4_present.specs.declared.track_info.TrackInfo.{TrackInfo}
 use Rattle.mp4_present.proofs.TrafTaken.{zipped_at}
 use Rattle.mp4_present.proofs.PlacedTracks.{IsTrackPlaced, track_placed}
-use Rattle.mp4_present.proofs.SamplesLie.{IsInFile, placed_lie, bytes_whole, timed_lie}
-use Rattle.mp4_present.proofs.ValidSamples.{IsOfTrack, is_parameter, is_group}
+use Rattle.mp4_present.proofs.SamplesLie.{IsInFile, placed_lie, timed_lie}
 use Rattle.mp4_plan.specs.words.PiecesComing.{coming_of}
-use Rattle.mp4_plan.specs.format.Pieces.{timed_from}
-use Rattle.mp4_plan.specs.words.Taken.{IsTaken, AreTaken, IsNamed}
+use Rattle.mp4_content.specs.words.TakenSamples.{AreTaken, IsNamed}
 use Rattle.mp4_plan.specs.words.UsedKeys.{AreApart}
 use Rattle.mp4_plan.proofs.Lefts.{IsLeft, left_count}
+use Rattle.mp4_content.proofs.SamplesTaken.{is_named, are_taken, turned, as_many}
 
 -- ---- samples
-
--- the bytes from the place of a sample on that lies in the file
-bytes_there : (file : List ℕ) (at : ℤ) (size : ℕ) → IsTrue (lies_within (length file) at size) → range file (place_of at) size ≡ bytes_at file at size
-bytes_there file (pos at) size h = refl
-bytes_there file (negsuc below) size h = absurd cc
-
-is_named : (key : GroupKey) → IsKey key → IsNamed key
-is_named key h = record { kind_length = h.kind_length; kind = h.kind; parameter = is_parameter key.parameter h.parameter }
-
--- a sample that lies in the file, with its decode time, is that of the presentation
-is_taken : (file : List ℕ) (descriptions : ℕ) (keys : List GroupKey) (before number dts : ℕ) (s : PlacedSample) → IsInFile (length file) s → IsOfTrack descriptions keys s
-    → IsTaken file keys (sample_at keys before dts s) (record { sample = sample_of file s; number = number; time = dts })
-is_taken file descriptions keys before number dts s h k = record {
-  time = refl;
-  duration = refl;
-  offset = refl;
-  flags = refl;
-  description = refl;
-  size = sym (bytes_whole file s.at s.size h);
-  bytes = bytes_there file s.at s.size h;
-  groups = refl;
-  named = k.groups.named;
-  are_groups = each_weaker IsIndex IsGroup is_group s.groups k.groups.each;
-}
-
--- so are samples one after the other
-are_taken : (file : List ℕ) (descriptions : ℕ) (keys : List GroupKey) (before number dts : ℕ) (placed : List PlacedSample) → AllByRecursion (IsInFile (length file)) placed → AllByRecursion (IsOfTrack descriptions keys) placed
-    → AreTaken file keys (timed keys before dts placed) (timed_from number dts (map (sample_of file) placed))
-are_taken file descriptions keys before number dts [] h k = tt
-are_taken file descriptions keys before number dts (s ∷ placed) h k = (is_taken file descriptions keys before number dts s h.0 k.0, are_taken file descriptions keys (before + 1) (number + 1) (dts + s.duration) placed h.1 k.1)
 
 -- ---- keys
 
@@ -100,13 +63,6 @@ facts_of file tree t info h p i =
       few_keys = subst (λ (ks : List GroupKey). length ks ≤ 4) keys p.few;
       lies = timed_lie (length file) (track_keys tree t) 0 u.start placed h;
     }
-
--- each of the first list with its partner in the second, where it is so of all that go with it
-turned : {A B : Type 0} (R : A → B → Type 0) (Q : B → A → Type 0) (xs : List A) (ys : List B) → AllByRecursion (λ x. (y : B) → R x y → Q y x) xs → AllZip R xs ys → AllZip Q ys xs
-turned R Q [] [] h z = tt
-turned R Q [] (y ∷ ys) h z = absurd z
-turned R Q (x ∷ xs) [] h z = absurd z
-turned R Q (x ∷ xs) (y ∷ ys) h z = (h.0 y z.0, turned R Q xs ys h.1 z.1)
 
 -- The facts of all tracks in order.
 pub track_facts : (file : List ℕ) (m : MovieSeen) (tree : FileTree) → IsOpenedAs file m tree → AllZip (TrackFacts file tree) m.tracks tree.movie.tracks
@@ -146,11 +102,6 @@ has_track file m tree k info o e =
     record { t = r.0; is_there = r.1; samples = got_map (track_samples tree) tree.movie.tracks k r.0 r.1; facts = track_facts_at file m tree k info r.0 o e r.1 }
 
 -- ---- how many samples there are
-
-pub as_many : (file : List ℕ) (tree : FileTree) (t : TrackTree) → length (track_samples tree t) ≡ length (track_of file (file_parts tree) t).samples
-as_many file tree t =
-    let placed = placed_of (file_parts tree) t in
-    timed_length (track_keys tree t) 0 (track_of file (file_parts tree) t).start placed ∙ sym (length-map placed (sample_of file))
 
 -- as many as the presentation has
 left_total : (file : List ℕ) (tree : FileTree) (trees : List TrackTree) → left_count (map (track_samples tree) trees) ≡ sum_of (λ (u : Track). length u.samples) (map (track_of file (file_parts tree)) trees)

@@ -3,12 +3,13 @@ use Rattle.std.proofs.Common.{◌≡◌, ℕ, zero, suc, ◌+◌, ◌*◌, ◌^�
 use Rattle.std.specs.List.{prefix_len}
 use Rattle.mp4_tables.specs.format.Groups.{GroupKey}
 use Rattle.mp4_tables.specs.declared.sample.SampleAt.{SampleAt}
-use Rattle.mp4_plan.specs.format.Pieces.{TimedSample}
+use Rattle.mp4_content.specs.format.TimedSamples.{TimedSample}
 use Rattle.mp4_plan.specs.format.Normal.{first_description}
 use Rattle.mp4_plan.specs.words.Ends.{has_ended, goes_in}
 use Rattle.mp4_plan.specs.words.Gathering.{description_in, more_of}
 use Rattle.mp4_plan.specs.words.PiecesComing.{stops}
-use Rattle.mp4_plan.specs.words.Taken.{IsTaken, AreTaken, PiecesTakeAlike}
+use Rattle.mp4_content.specs.words.TakenSamples.{IsTaken, AreTaken}
+use Rattle.mp4_plan.specs.words.Taken.{PiecesTakeAlike}
 use Rattle.mp4_plan.specs.words.TurnLaws.{goes, turn_count}
 use Rattle.mp4_plan.specs.declared.ends.End.{End}
 use Rattle.mp4_plan.specs.declared.ends.End.TheVariants.{Sync, Before}

@@ -26,8 +26,8 @@ use Rattle.mp4_present.proofs.Counts.{sum-append}
 use Rattle.mp4_present.proofs.OwnPlaced.{placed_append}
 use Rattle.mp4_present.proofs.WayThrough.{same_steps}
 use Rattle.mp4_plan.specs.words.WriterSteps.{last_steps, again_steps}
-use Rattle.mp4_plan.proofs.TurnTaken.{there_is}
-use Rattle.mp4_plan.proofs.WalksOn.{one_hand}
+use Rattle.mp4_content.proofs.AtPlaces.{there_is}
+use Rattle.mp4_content.proofs.WalksOn.{one_hand}
 
 -- ---- lists
 

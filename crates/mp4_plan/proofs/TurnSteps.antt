@@ -4,7 +4,8 @@ use Rattle.std.specs.Prelude.{map}
 use Rattle.std.specs.List.{AllByRecursion, prefix_len}
 use Rattle.std.proofs.lemmas.Bool.{eq-eqb, ne_eqb, and_parts, eqb-true}
 use Rattle.std.proofs.lemmas.List.{map-append, drop_all}
-use Rattle.mp4_plan.specs.format.Pieces.{TimedSample, is_sync, cuts_after, Piece, put_before, by_description}
+use Rattle.mp4_content.specs.format.TimedSamples.{TimedSample}
+use Rattle.mp4_plan.specs.format.Pieces.{is_sync, cuts_after, Piece, put_before, by_description}
 use Rattle.mp4_plan.specs.format.Normal.{first_description}
 use Rattle.mp4_plan.specs.words.PiecesComing.{Coming, stops, front, rest, pieces_before, left_behind, end_of_first, end_of_other, others_before, others_behind, fragments_left, all_left, next_left, pieces_left}
 use Rattle.mp4_plan.specs.words.Turns.{track_passed, wrapped}

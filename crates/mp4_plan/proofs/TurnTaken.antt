@@ -9,11 +9,12 @@ use Rattle.mp4_tables.specs.format.Groups.{GroupKey}
 use Rattle.mp4_tables.specs.words.Keys.{keys_seen}
 use Rattle.mp4_tables.specs.declared.sample.SampleAt.{SampleAt}
 use Rattle.mp4_present.specs.declared.track_info.TrackInfo.{TrackInfo}
-use Rattle.mp4_plan.specs.format.Pieces.{TimedSample, is_sync, Piece}
+use Rattle.mp4_content.specs.format.TimedSamples.{TimedSample}
+use Rattle.mp4_plan.specs.format.Pieces.{is_sync, Piece}
 use Rattle.mp4_plan.specs.words.Ends.{has_ended, goes_in}
 use Rattle.mp4_plan.specs.words.Gathering.{Planning, piece_from, more_of, samples_after}
 use Rattle.mp4_plan.specs.words.PiecesComing.{Coming, end_of_first, end_of_other, pieces_left}
-use Rattle.mp4_plan.specs.words.Taken.{AreTaken}
+use Rattle.mp4_content.specs.words.TakenSamples.{AreTaken}
 use Rattle.mp4_plan.specs.words.Turns.{turn_end, turned, track_passed, wrapped, is_over, MayPass, Sticks, to_come}
 use Rattle.mp4_plan.specs.words.TurnLaws.{IsAmong, IsOver, next_time, piece_if, turn_count, after_turn}
 use Rattle.mp4_plan.specs.declared.ends.End.{End}
@@ -25,6 +26,7 @@ use Rattle.mp4_plan.proofs.Lefts.{IsLeft, AreLeft, left_count, IsFresh, StandsIn
 use Rattle.mp4_plan.proofs.TakenTurns.{ended_same, turn_same, taken_front, taken_behind}
 use Rattle.mp4_plan.proofs.TurnOrder.{less_on, less_over}
 use Rattle.mp4_plan.proofs.TurnSteps.{turns_take_all}
+use Rattle.mp4_content.proofs.AtPlaces.{there_is}
 
 -- ---- how many are left
 
@@ -425,11 +427,6 @@ pub turn_tracks : (file : List ℕ) (infos : List TrackInfo) (s : Schedule) (lef
 turn_tracks file infos s [] [] h = h.among ∙ (tracks_left file infos [] [] h.each).1
 turn_tracks file infos s (l ∷ lefts) [] h = h.among ∙ (tracks_left file infos (l ∷ lefts) [] h.each).1
 turn_tracks file infos s lefts (first ∷ others) h = h.among.among.tracks ∙ (tracks_left file infos lefts (first ∷ others) h.each).1
-
-pub there_is : {A : Type 0} (xs : List A) (k : ℕ) → k < length xs → (x : A) × (slice_get xs k ≡ Some x)
-there_is [] k lt = absurd (omega (arith, lt))
-there_is (x ∷ xs) zero lt = (x, refl)
-there_is (x ∷ xs) (suc k) lt = there_is xs k (omega (arith, lt))
 
 -- What is to come gets less with a turn.
 pub turn_less : (file : List ℕ) (infos : List TrackInfo) (s : Schedule) (lefts : List (List SampleAt)) (comings : List Coming) (info : TrackInfo) (left : List SampleAt) → TurnTaken file infos s lefts comings info left → s.track < s.tracks

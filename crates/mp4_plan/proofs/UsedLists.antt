@@ -9,12 +9,12 @@ use Rattle.mp4_tables.specs.words.Timed.{padded}
 use Rattle.mp4_tables.specs.declared.sample.SampleAt.{SampleAt}
 use Rattle.mp4_tables.proofs.NamedKeys.{IsAmong, among_through}
 use Rattle.mp4_present.specs.format.Presentation.{IsGroup}
-use Rattle.mp4_plan.specs.format.Pieces.{TimedSample}
+use Rattle.mp4_content.specs.format.TimedSamples.{TimedSample}
 use Rattle.mp4_plan.specs.format.Normal.{in_key_order}
 use Rattle.mp4_plan.specs.format.SpellingLaws.{sample_keys}
 use Rattle.mp4_plan.specs.words.Gathering.{index_of}
 use Rattle.mp4_plan.specs.words.PlannerLaws.{indexes as indexes_of}
-use Rattle.mp4_plan.specs.words.Taken.{AreTaken}
+use Rattle.mp4_content.specs.words.TakenSamples.{AreTaken}
 use Rattle.mp4_plan.specs.words.UsedKeys.{IsKeyAt, used_from}
 use Rattle.mp4_plan.proofs.Maps.{KeysAbove}
 use Rattle.mp4_plan.specs.format.TableLaws.{IsKey}

@@ -3,7 +3,8 @@ use Rattle.mp4_boxes.proofs.Vectors.{v1n, p_normal, grouped_normal, hex}
 use Rattle.mp4_head.proofs.Vectors.{v1_head, p_track, p_media}
 use Rattle.mp4_present.specs.format.Presentation.{Sample, Presentation}
 use Rattle.mp4_present.proofs.Vectors.{p_presentation, p_samples, grouped_presentation, keyed_presentation, two_grouped_presentation, roll_description}
-use Rattle.mp4_plan.specs.format.Pieces.{TimedSample, Piece, cuts, pieces}
+use Rattle.mp4_content.specs.format.TimedSamples.{TimedSample}
+use Rattle.mp4_plan.specs.format.Pieces.{Piece, cuts, pieces}
 use Rattle.mp4_plan.specs.format.Normal.{normal}
 
 v1-normal : normal (record { movie = v1_head; tracks = [] }) ≡ v1n

@@ -1,8 +1,8 @@
 -- A writer that was made: what it is made of.
-use Rattle.std.proofs.Common.{◌≡◌, ◌+◌, ◌≤◌, ◌^◌, [], ◌++◌, length, ap, arith}
+use Rattle.std.proofs.Common.{◌≡◌, ◌≤◌, ◌^◌, [], ◌++◌, length, ap, arith}
 use Rattle.mp4_present.specs.words.Carried.{waiting}
 use Rattle.mp4_present.specs.words.Movies.{MovieSeen}
-use Rattle.mp4_present.specs.declared.without.Without.{Without}
+use Rattle.mp4_content.specs.declared.without.Without.{Without}
 use Rattle.mp4_plan.specs.words.DueTracks.{IsDueTree}
 use Rattle.mp4_plan.specs.words.MadeWriters.{IsMade}
 use Rattle.mp4_plan.specs.words.WriterWalks.{HaveRooms}

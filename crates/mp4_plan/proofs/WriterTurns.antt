@@ -1,8 +1,8 @@
 -- One turn of the writer, by what its steps promise.
 use Rattle.std.proofs.Common.{◌≡◌, ℕ, ◌+◌, ◌<◌, ◌≤◌, List, ◌++◌, length, take, drop, Some, sym, ap, subst, ◌∙◌, slice_set}
-use Rattle.mp4_present.specs.declared.without.Without.{Without}
-use Rattle.mp4_plan.specs.words.ComingLess.{ComesLess, track_reduction}
-use Rattle.mp4_present.specs.format.Reduced.{reduce, timescale_left}
+use Rattle.mp4_content.specs.declared.without.Without.{Without}
+use Rattle.mp4_content.specs.words.ComingLess.{ComesLess, track_reduction, reductions_of}
+use Rattle.mp4_content.specs.format.Reduced.{reduce, timescale_left}
 use Rattle.std.specs.Prelude.{Option, slice_get}
 use Rattle.mp4_boxes.specs.format.Bytes.{sum_of}
 use Rattle.mp4_head.specs.format.Tree.{TrackTree}
@@ -17,19 +17,19 @@ use Rattle.mp4_present.specs.words.OpenedMovie.{IsOpenedAs}
 use Rattle.mp4_present.specs.declared.out_buffer.OutBuffer.{OutBuffer}
 use Rattle.mp4_present.specs.declared.track_info.TrackInfo.{TrackInfo}
 use Rattle.mp4_present.specs.declared.walking.Walk.{Walk}
-use Rattle.mp4_plan.specs.words.GoneOn.{ComesMarked}
+use Rattle.mp4_content.specs.words.GoneOn.{ComesMarked}
 use Rattle.mp4_plan.specs.words.Gathering.{piece_from, piece_fed, samples_after, more_of, planned_of}
 use Rattle.mp4_plan.specs.format.Normal.{normal}
 use Rattle.mp4_plan.specs.words.CarriedSamples.{AreThere}
 use Rattle.mp4_plan.specs.words.Turns.{info_left, infos_left, turn_end, turned, Sticks}
 use Rattle.mp4_plan.specs.words.UsedKeys.{AreApart}
-use Rattle.mp4_plan.specs.words.Writers.{IsWriterOf, HasNoted, IsNoted, HaveCopied, reductions_of, turn_head, sequence_behind, turn_bytes}
+use Rattle.mp4_plan.specs.words.Writers.{IsWriterOf, HasNoted, IsNoted, HaveCopied, turn_head, sequence_behind, turn_bytes}
 use Rattle.mp4_plan.specs.words.DueTracks.{AreTimes, IsDueAt}
 use Rattle.mp4_plan.specs.declared.due_tracks.DueTracks.{DueTracks}
 use Rattle.mp4_plan.specs.declared.ends.End.{End}
 use Rattle.mp4_plan.specs.declared.moof_front.PieceHead.{PieceHead}
 use Rattle.mp4_plan.specs.declared.planner.Planned.{Planned}
-use Rattle.mp4_plan.specs.declared.reduced.Reductions.{Reductions}
+use Rattle.mp4_content.specs.declared.reduced.Reductions.{Reductions}
 use Rattle.mp4_plan.specs.declared.schedule.Schedule.{Schedule}
 use Rattle.mp4_plan.specs.declared.schedule.Turn.{Turn}
 use Rattle.mp4_plan.specs.declared.writer.Noted.{Noted}

@@ -1,9 +1,10 @@
 -- The writer from turn to turn: what was put and what waits are the head and the pieces so far, and the walks stand before the samples that are left.
 use Rattle.std.proofs.Common.{◌≡◌, ℕ, zero, suc, ◌+◌, ◌-◌, ◌^◌, ◌<◌, ◌≤◌, max, ◌==◌, Bool, true, false, List, [], ◌∷◌, ◌++◌, length, take, Some, None, refl, sym, ap, subst, ◌∙◌, append_assoc, append-nil, arith, slice_set}
-use Rattle.mp4_present.specs.declared.without.Without.{Without}
-use Rattle.mp4_plan.specs.words.ComingLess.{ComesLess, left_samples, track_reduction}
-use Rattle.mp4_present.specs.format.Reduced.{ReducesInRange, reduce, timescale_left}
-use Rattle.mp4_plan.proofs.ReducedTaken.{less_counted, less_below}
+use Rattle.mp4_content.specs.declared.without.Without.{Without}
+use Rattle.mp4_content.specs.words.ComingLess.{ComesLess, left_samples, track_reduction}
+use Rattle.mp4_content.specs.format.Reduced.{ReducesInRange, reduce, timescale_left}
+use Rattle.mp4_plan.proofs.Lefts.{less_counted, left_count, pieces_from, IsTurn}
+use Rattle.mp4_content.proofs.ReducedTaken.{less_below}
 use Rattle.std.specs.Prelude.{Option, option_map, if◌then◌else◌, map, slice_get, fold}
 use Rattle.std.specs.List.{AllByRecursion, AllZip, sum_by}
 use Rattle.mp4_boxes.proofs.Each.{each_dropped}
@@ -26,8 +27,9 @@ use Rattle.mp4_store.proofs.Known.{IsJoining, TakesPrefix-longer}
 use Rattle.mp4_plan.specs.words.PiecesComing.{Coming, coming_of}
 use Rattle.mp4_plan.specs.words.Gathering.{piece_from, piece_fed, samples_after, more_of, planned_of}
 use Rattle.mp4_plan.specs.format.Normal.{normal, pieces_bytes}
-use Rattle.mp4_plan.specs.format.Pieces.{TimedSample, Piece, pieces}
-use Rattle.mp4_plan.specs.words.Taken.{AreTaken}
+use Rattle.mp4_content.specs.format.TimedSamples.{TimedSample}
+use Rattle.mp4_plan.specs.format.Pieces.{Piece, pieces}
+use Rattle.mp4_content.specs.words.TakenSamples.{AreTaken}
 use Rattle.mp4_plan.specs.words.TurnLaws.{piece_if}
 use Rattle.mp4_plan.specs.words.Turns.{first_scale, info_left, infos_left, turn_end, turned, track_passed, wrapped, is_over}
 use Rattle.mp4_plan.specs.words.Writers.{AllCome, AllBegin, AreMarked, IsReady, firsts, first_dts, longest_piece, head_of_normal, turn_head, sequence_behind, turn_bytes}
@@ -44,13 +46,13 @@ use Rattle.mp4_plan.proofs.EachAt.{holds_with}
 use Rattle.mp4_plan.proofs.FirstTurn.{IsFirst, begins_at, first_turn}
 use Rattle.mp4_plan.proofs.FrontsPut.{stopped_at, stopped_behind}
 use Rattle.mp4_plan.proofs.NextSamples.{first_at, firsts_set}
-use Rattle.mp4_plan.proofs.Lefts.{left_count, pieces_from, IsTurn}
 use Rattle.mp4_plan.proofs.PieceCounts.{piece_bytes, piece_counts, piece_within, piece_gathers}
 use Rattle.mp4_plan.proofs.PieceWritten.{AreKeys, IsFew, turn_written, head_counts, bytes_of_two}
 use Rattle.mp4_plan.proofs.InfosLeft.{as_many_left, info_at, left_scales}
 use Rattle.mp4_plan.proofs.SkippedTurns.{finds_none, turns_skipped}
 use Rattle.mp4_plan.proofs.TakenFrom.{TrackFacts, track_facts, has_track, few_left, all_counted}
-use Rattle.mp4_plan.proofs.TurnTaken.{TurnTaken, turn_taken, turn_fits, there_is}
+use Rattle.mp4_plan.proofs.TurnTaken.{TurnTaken, turn_taken, turn_fits}
+use Rattle.mp4_content.proofs.AtPlaces.{there_is}
 
 -- ---- lists
 

@@ -14,19 +14,19 @@ use Rattle.mp4_frag.specs.words.OwnTrafs.{PlacedTraf, traf_steps}
 use Rattle.mp4_present.proofs.WayThrough.{same_steps}
 use Rattle.mp4_present.specs.declared.walking.loaded.Place.{Place}
 use Rattle.mp4_present.specs.declared.walking.loaded.Place.TheVariants.{Tables, Fragment}
-use Rattle.mp4_plan.specs.declared.reduced.Reduction.{Reduction}
+use Rattle.mp4_content.specs.declared.reduced.Reduction.{Reduction}
 use Rattle.mp4_present.specs.declared.walking.Due.{Due}
 use Rattle.mp4_present.specs.declared.walking.Mark.{Mark}
 use Rattle.mp4_present.specs.declared.walking.Walk.{Walk}
 use Rattle.mp4_present.proofs.GoneBack.{back_is, marked_before}
-use Rattle.mp4_plan.specs.words.ComingLess.{ComesLess, less}
-use Rattle.mp4_plan.specs.words.GoneOn.{ComesMarked, GoesPast, HasLoaded, Stays, WentOn}
+use Rattle.mp4_content.specs.words.ComingLess.{ComesLess, less}
+use Rattle.mp4_content.specs.words.GoneOn.{ComesMarked, GoesPast, HasLoaded, Stays, WentOn}
 use Rattle.mp4_plan.specs.words.WriterSteps.{AllFinishOn, AllWriteOn, CarriesAgain, CarriesInHand, CarriesOn, FinishesOn, MayAllFinish, MayAllWrite, MayFinish, MayWrite, WritesOn, again_steps, last_steps}
 use Rattle.mp4_plan.proofs.AllMay.{may_at}
 use Rattle.mp4_plan.proofs.ComeAt.{set_same, set_there, set_twice}
 use Rattle.mp4_plan.proofs.TrafsAhead.{again_less, ahead_of, between, held_some, last_more, last_of, not_before, one_place, steps_append, way_some}
-use Rattle.mp4_plan.proofs.ReducedTaken.{less_length}
-use Rattle.mp4_plan.proofs.WalksGone.{stays_holding, still_marked}
+use Rattle.mp4_content.proofs.ReducedTaken.{less_length}
+use Rattle.mp4_content.proofs.WalksGone.{stays_holding, still_marked}
 
 -- ---- tests
 

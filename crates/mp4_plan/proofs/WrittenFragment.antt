@@ -13,7 +13,8 @@ use Rattle.mp4_boxes.proofs.WrittenBoxes.{Content, written, placed, typed, lengt
 use Rattle.mp4_tables.specs.format.Groups.{GroupKey, Groups, groupings_of, index_at, key_rank, is_in_order, max_index}
 use Rattle.mp4_tables.proofs.NamedKeys.{IsAmong}
 use Rattle.mp4_present.specs.format.Presentation.{IsGroup}
-use Rattle.mp4_plan.specs.format.Pieces.{TimedSample, Piece}
+use Rattle.mp4_content.specs.format.TimedSamples.{TimedSample}
+use Rattle.mp4_plan.specs.format.Pieces.{Piece}
 use Rattle.mp4_plan.specs.format.Normal.{shared_by, first_time, first_description, piece_keys, longest_runs, tfhd_bytes, trun_bytes, sbgp_bytes, traf_bytes, moof_bytes, moof_length}
 use Rattle.mp4_plan.proofs.Maps.{Covers}
 use Rattle.mp4_plan.specs.format.TableLaws.{IsKey}

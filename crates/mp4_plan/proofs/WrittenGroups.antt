@@ -12,7 +12,7 @@ use Rattle.mp4_tables.specs.format.Groups.{GroupKey, Grouping, Groups, grouping_
 use Rattle.mp4_tables.specs.format.PlainSamples.{PlacedSample, with_groups}
 use Rattle.mp4_present.specs.format.Presentation.{Sample, IsParameter}
 use Rattle.mp4_present.specs.format.Denotes.{sample_of}
-use Rattle.mp4_plan.specs.format.Pieces.{TimedSample}
+use Rattle.mp4_content.specs.format.TimedSamples.{TimedSample}
 use Rattle.mp4_plan.specs.format.Normal.{key_bytes, put_run, longest_runs}
 use Rattle.mp4_plan.proofs.Maps.{made, made_again, Covers}
 use Rattle.mp4_plan.specs.format.TableLaws.{IsKey}

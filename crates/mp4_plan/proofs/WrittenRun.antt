@@ -12,7 +12,7 @@ use Rattle.mp4_boxes.proofs.Columns.{FitColumns, columns_again, length-column_by
 use Rattle.mp4_frag.specs.format.Fragments.{SampleRun, run_rows, sample_run_of, column, decode_time_of}
 use Rattle.mp4_head.proofs.Again.{signed_again}
 use Rattle.mp4_head.proofs.WrittenLeaves.{alone_again}
-use Rattle.mp4_plan.specs.format.Pieces.{TimedSample}
+use Rattle.mp4_content.specs.format.TimedSamples.{TimedSample}
 use Rattle.mp4_plan.specs.format.Normal.{Shared, common, row_flags, row_values, trun_row}
 use Rattle.mp4_plan.proofs.RunRows.{FitsRow, run_flags, row_read, row_fits, run_rows_again}
 

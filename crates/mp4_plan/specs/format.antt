@@ -6,8 +6,5 @@ pub mod TableLaws
 pub mod HeadLaws
 pub mod Laws
 pub mod Held
-pub mod ReducedLaws
-pub mod CoveringLaws
-pub mod Agreeing
-pub mod ReducedTimes
 pub mod TurnCount
+pub mod ReducedNormal

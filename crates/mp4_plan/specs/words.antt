@@ -3,7 +3,6 @@ pub mod Gathering
 pub mod PlanBegun
 pub mod PlannerLaws
 pub mod Sizes
-pub mod ComingLess
 pub mod Turns
 pub mod Writers
 pub mod Spelling
@@ -15,15 +14,12 @@ pub mod DueTracks
 pub mod Stretches
 pub mod HandsFed
 pub mod WriterSteps
-pub mod LeftTimes
-pub mod Measuring
-pub mod GoneOn
 pub mod PutPieces
 pub mod Counting
 pub mod ReducedWalks
 pub mod OwnRooms
-pub mod Loading
 pub mod MadeWriters
 pub mod CarriedPieces
 pub mod CarriedSamples
 pub mod WriterWalks
+pub mod LeftRefusals

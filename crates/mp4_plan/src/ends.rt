@@ -2,7 +2,7 @@
 ghost use Rattle.std.specs.Prelude.{◌≡◌};
 ghost use Rattle.mp4_plan.specs.words.Ends.{first_goes, goes_in, has_ended};
 
-use crate::reduced::Reduction;
+use mp4_content::Reduction;
 use mp4_tables::SampleAt;
 
 /// Where a piece ends.

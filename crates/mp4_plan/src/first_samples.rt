@@ -2,7 +2,7 @@
 ghost use Rattle.std.specs.Prelude.{◌≡◌, ◌-◌, ◌<◌, ◌≤◌, List, length, Some, IfOk, IfErr, OnOk};
 ghost use Rattle.mp4_boxes.specs.declared.refusal.Refusal.TheVariants as refusals;
 ghost use Rattle.mp4_tables.specs.declared.sample.SampleAt.{SampleAt};
-ghost use Rattle.mp4_present.specs.declared.without.Without.{Without};
+ghost use Rattle.mp4_content.specs.declared.without.Without.{Without};
 ghost use Rattle.mp4_present.specs.words.StoresRead.{IsUnchanged, OnlyReads, Refused};
 ghost use Rattle.mp4_plan.specs.words.WriterWalks.{AllStart, HaveRooms, StepsOfAll, StepsToWrite, WhereAllCome};
 ghost use Rattle.mp4_plan.specs.words.MadeWriters.{AreWalksStill};
@@ -10,9 +10,9 @@ ghost use Rattle.mp4_present.specs.declared.walking.Walk.{Walk};
 ghost use Rattle.mp4_present.specs.words.Movies.{RefusesLoad};
 ghost use Rattle.mp4_plan.specs.words.Writers.{RefusesMemory, AreMarked, AreWalksOf, AllCome, first_dts, firsts};
 
-use crate::reduced::Reductions;
 use crate::track_pieces::next_marked;
 use mp4_boxes::{Refusal, Steps};
+use mp4_content::Reductions;
 use mp4_present::{Movie, Walk};
 use mp4_store::Store;
 use mp4_tables::SampleAt;

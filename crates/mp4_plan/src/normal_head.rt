@@ -1,57 +1,35 @@
 //! The head of the normal form, and how long all of it is.
-ghost use Rattle.std.specs.Prelude.{◌≡◌, ℕ, ◌+◌, ◌-◌, ◌<◌, ◌≤◌, min, List, length, map, true, IfOk, IfErr, OnOk};
+ghost use Rattle.std.specs.Prelude.{◌≡◌, ℕ, ◌+◌, ◌-◌, ◌<◌, ◌≤◌, min, List, length, IfOk, IfErr, OnOk};
 ghost use Rattle.mp4_boxes.specs.declared.refusal.Refusal.TheVariants as refusals;
-ghost use Rattle.mp4_head.specs.words.Seen.{movie_seen, tracks_seen};
 ghost use Rattle.mp4_present.specs.format.Presentation.{movie_length};
-ghost use Rattle.mp4_present.specs.format.Reduced.{reduce, reduce_movie_head, reduce_track_head};
-ghost use Rattle.mp4_plan.specs.format.ReducedTimes.{ReducesInLimits};
-ghost use Rattle.mp4_plan.specs.words.Measuring.{measuring_steps};
-ghost use Rattle.mp4_present.specs.words.PayloadsLeft.{AreMediaLeft, leaves_payloads};
-ghost use Rattle.mp4_present.specs.declared.without.Without.{Without};
-ghost use Rattle.mp4_plan.specs.words.LeftTimes.{NamesLong, RefusesLeft};
+ghost use Rattle.mp4_content.specs.format.Reduced.{reduce};
+ghost use Rattle.mp4_content.specs.format.ReducedTimes.{ReducesInLimits};
+ghost use Rattle.mp4_content.specs.words.Measuring.{measuring_steps};
+ghost use Rattle.mp4_content.specs.declared.without.Without.{Without};
+ghost use Rattle.mp4_content.specs.words.LeftTimes.{NamesLong};
+ghost use Rattle.mp4_plan.specs.words.LeftRefusals.{RefusesLeft};
 ghost use Rattle.mp4_present.specs.format.Denotes.{FileTree, presentation_of};
 ghost use Rattle.mp4_present.specs.words.OpenedMovie.{IsOpenedAs};
 ghost use Rattle.mp4_present.specs.words.StoresRead.{IsUnchanged, OnlyReads, Refused};
 ghost use Rattle.mp4_present.specs.words.WalkSteps.{walks_steps};
 ghost use Rattle.mp4_plan.specs.format.Normal.{normal};
-ghost use Rattle.mp4_plan.specs.words.MadeWriters.{OverOpened};
+ghost use Rattle.mp4_content.specs.words.Opened.{OverOpened};
 ghost use Rattle.mp4_plan.specs.words.Turns.{movie_turns};
-ghost use Rattle.mp4_plan.specs.words.Writers.{RefusesMemory, RefusesPlan, head_of_normal};
+ghost use Rattle.mp4_plan.specs.words.Writers.{RefusesMemory, head_of_normal};
+ghost use Rattle.mp4_content.specs.words.Opened.{RefusesPlan};
 ghost use Rattle.mp4_plan.specs.words.PutPieces.{IsHeadLeft};
 
-use crate::measures::measure;
 use crate::piece_totals::pieces_len;
-use crate::reduced_head::reduce_head;
-use crate::reduced_lengths::length_left;
-use mp4_boxes::{Memory, Refusal, Steps};
-use mp4_head::{MovieHead, head_bytes, head_len};
-use mp4_present::{MediaLeft, Movie, Without, payloads_left, put_payloads_left};
+use mp4_boxes::{Refusal, Steps};
+use mp4_content::{Without, head_left, length_left, measure, payloads_left};
+use mp4_head::{head_bytes, head_len};
+use mp4_present::Movie;
 use mp4_store::Store;
 use std::alloc::Global;
 use std::sync::ledger::Ledger;
 
 /// The most bytes of `ftyp` and `moov`.
 const MOST_HEAD: u128 = (1 << 30) + 24;
-
-// What is left of the head of a movie, of which this is left of the payloads.
-fn head_left<'a>(
-    alloc: Global,
-    head: MovieHead<'a>,
-    leaving: Without,
-    lefts: &'a Vec<MediaLeft>,
-) -> Result<MovieHead<'a>, Memory>
-    requires { leaves_payloads leaving ≡ true
-        → AreMediaLeft leaving head.tracks.items lefts.now.items }
-    ensures movie { IfOk result
-        (λ left. movie_seen left ≡ reduce_movie_head leaving (movie_seen head.entry)) }
-    ensures tracks { IfOk result
-        (λ left. tracks_seen left ≡ map (reduce_track_head leaving) (tracks_seen head.entry)) }
-{
-    let mut left = head;
-    put_payloads_left(alloc, &mut left, leaving, lefts)?;
-    reduce_head(&mut left, leaving);
-    Ok(left)
-}
 
 /// The bytes of `ftyp` and `moov`, where this is the length of the longest track.
 pub(crate) fn head_of(

@@ -1,24 +1,25 @@
 //! What all pieces of a movie come to: the most samples of one, and the bytes of all.
 ghost use Rattle.std.specs.Prelude.{◌≡◌, ◌+◌, ◌*◌, ◌-◌, ◌^◌, ◌<◌, ◌≤◌, max, min, length, Some, IfOk, OnOk};
 ghost use Rattle.mp4_tables.specs.words.Keys.{keys_seen};
-ghost use Rattle.mp4_present.specs.format.Reduced.{reduce};
+ghost use Rattle.mp4_content.specs.format.Reduced.{reduce};
 ghost use Rattle.mp4_present.specs.format.Denotes.{presentation_of};
 ghost use Rattle.mp4_present.specs.words.StoresRead.{IsUnchanged, OnlyReads, Refused};
 ghost use Rattle.mp4_present.specs.words.WalkSteps.{walks_steps};
 ghost use Rattle.mp4_plan.specs.format.Pieces.{pieces};
-ghost use Rattle.mp4_plan.specs.words.MadeWriters.{OverOpened};
-ghost use Rattle.mp4_plan.specs.words.Measuring.{OverReduced};
+ghost use Rattle.mp4_content.specs.words.Opened.{OverOpened};
+ghost use Rattle.mp4_content.specs.words.Measuring.{OverReduced};
 ghost use Rattle.mp4_plan.specs.words.Turns.{movie_turns};
-ghost use Rattle.mp4_plan.specs.words.Writers.{RefusesPlan, ArePiecesLong, longest_piece, planned_length};
+ghost use Rattle.mp4_content.specs.words.Opened.{RefusesPlan};
+ghost use Rattle.mp4_plan.specs.words.Writers.{ArePiecesLong, longest_piece, planned_length};
 
 use crate::counting::count_turn;
 use crate::ends::Portion;
 use crate::moof_sizes::sizes_of;
 use crate::plan_walks::PlanWalks;
 use crate::planner::Planned;
-use crate::reduced::Reductions;
 use crate::track_pieces::plan_turn;
 use mp4_boxes::{Refusal, Steps};
+use mp4_content::Reductions;
 use mp4_present::Movie;
 use mp4_store::Store;
 use mp4_tables::Keys;

@@ -1,9 +1,9 @@
 //! The walks over all pieces of a movie, before the first turn.
 use crate::due_tracks::DueTracks;
 use crate::first_samples::{first_time, peek_each, walks_of};
-use crate::reduced::Reductions;
 use crate::schedule::Schedule;
 use mp4_boxes::{Refusal, Steps};
+use mp4_content::Reductions;
 use mp4_present::{Movie, Walk};
 use mp4_store::Store;
 use mp4_tables::SampleAt;
@@ -24,11 +24,11 @@ impl PlanWalks {
     ghost use Rattle.std.specs.Prelude.{◌≡◌, ◌+◌, ◌≤◌, length, IfOk, MatchResult, OnOk};
     ghost use Rattle.mp4_present.specs.words.StoresRead.{IsUnchanged, OnlyReads, Refused};
     ghost use Rattle.mp4_present.specs.words.WalkSteps.{walks_steps};
-    ghost use Rattle.mp4_plan.specs.words.MadeWriters.{OverOpened};
-    ghost use Rattle.mp4_plan.specs.words.Measuring.{OverReduced};
+    ghost use Rattle.mp4_content.specs.words.Opened.{OverOpened};
+    ghost use Rattle.mp4_content.specs.words.Measuring.{OverReduced};
     ghost use Rattle.mp4_plan.specs.words.PlanBegun.{AreAllToCome, BeginsPlan};
     ghost use Rattle.mp4_plan.specs.words.WriterSteps.{AllTakeOn};
-    ghost use Rattle.mp4_plan.specs.words.Writers.{RefusesPlan};
+    ghost use Rattle.mp4_content.specs.words.Opened.{RefusesPlan};
 
     /// Before the first turn of what is left of a movie.
     pub(crate) fn begin<S: Store, L: Ledger>(

@@ -5,7 +5,8 @@ ghost use Rattle.mp4_plan.specs.words.DueTracks.{cut_at};
 use crate::due_tracks::{DueTracks, NEVER, due_at};
 use crate::ends::{End, has_ended};
 use mp4_boxes::{Refusal, Steps};
-use mp4_present::{TrackInfo, Without};
+use mp4_content::Without;
+use mp4_present::TrackInfo;
 use mp4_tables::SampleAt;
 use std::sync::ledger::Ledger;
 
@@ -62,7 +63,7 @@ fn cut_at(next: Option<u64>) -> u128
 impl Schedule {
     ghost use Rattle.std.specs.Prelude.{◌≡◌, ◌+◌, ◌-◌, ◌*◌, ◌^◌, ◌<◌, ◌≤◌, ◌⊎◌, List, length, option_map, Option, slice_get, slice_set, Some, None, IfSome, MatchOption, IfErr, OnOk};
     ghost use Rattle.std.specs.List.{sum_by};
-    ghost use Rattle.mp4_present.specs.format.Reduced.{timescale_left};
+    ghost use Rattle.mp4_content.specs.format.Reduced.{timescale_left};
     ghost use Rattle.mp4_present.specs.declared.track_info.TrackInfo.{TrackInfo};
     ghost use Rattle.mp4_plan.specs.words.Turns.{turns_left, track_passed, first_scale, infos_left, turn_end, turned, IsSomeLeft, Sticks};
     ghost use Rattle.mp4_plan.specs.words.DueTracks.{AreTimes, FindsMore, IsDueAt, IsDueHere, IsDueTree, Skips};

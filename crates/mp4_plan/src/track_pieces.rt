@@ -1,17 +1,17 @@
 //! Samples of a track, taken piece by piece.
 ghost use Rattle.std.specs.Prelude.{◌≡◌, ◌+◌, ◌-◌, ◌*◌, ◌^◌, ◌<◌, ◌≤◌, List, length, take, None, slice_get, IfOk, OnOk, MatchResult};
 ghost use Rattle.mp4_present.specs.words.Loaded.{AreLast};
-ghost use Rattle.mp4_present.specs.words.SamplesComing.{Comes};
 ghost use Rattle.mp4_present.specs.words.Movies.{IsWalkOf, HasSome, mark_of};
 ghost use Rattle.mp4_present.specs.words.StoresRead.{IsUnchanged};
-ghost use Rattle.mp4_present.specs.words.TrackWalks.{TakesSteps, WhereComes};
+ghost use Rattle.mp4_present.specs.words.TrackWalks.{TakesSteps};
 ghost use Rattle.mp4_plan.specs.words.Gathering.{count_of, more_of, planned_of, piece_from, piece_fed, samples_after};
-ghost use Rattle.mp4_plan.specs.words.GoneOn.{ComesMarked, WentOn};
+ghost use Rattle.mp4_content.specs.words.GoneOn.{ComesMarked, WentOn};
 ghost use Rattle.mp4_plan.specs.words.WriterSteps.{FinishesOn, WritesOn};
-ghost use Rattle.mp4_plan.specs.words.HandsFed.{stop_of, HandFed, HandNoted, KeepsOn, Notes};
-ghost use Rattle.mp4_plan.specs.words.ComingLess.{ComesLess, less};
+ghost use Rattle.mp4_plan.specs.words.HandsFed.{stop_of, HandFed, HandNoted, Notes};
+ghost use Rattle.mp4_content.specs.words.GoneOn.{KeepsOn};
+ghost use Rattle.mp4_content.specs.words.ComingLess.{ComesLess, less};
 ghost use Rattle.mp4_plan.specs.words.Stretches.{JoinsOn};
-ghost use Rattle.mp4_plan.specs.words.Loading.{OnlyLoads};
+ghost use Rattle.mp4_content.specs.words.Loading.{OnlyLoads};
 ghost use Rattle.mp4_plan.specs.words.ReducedWalks.{HasBounds, HasRows, MayNote, WhereLess, WhereMayWrite};
 ghost use Rattle.mp4_tables.specs.declared.sample.SampleAt.{SampleAt};
 
@@ -19,9 +19,9 @@ use crate::at_most::Limited;
 use crate::ends::{Portion, first_goes};
 use crate::noted_rows::{PieceNotes, Row};
 use crate::planner::{Planned, Planner};
-use crate::reduced::{Reduced, Reduction, reduced_sample};
 use crate::stretches::Stretches;
 use mp4_boxes::{Refusal, Steps};
+use mp4_content::{Reduced, Reduction, peek_sample, reduced_sample};
 use mp4_present::{Loaded, Movie, Place, Walk};
 use mp4_store::Store;
 use mp4_tables::{SampleAt, Samples};
@@ -29,32 +29,6 @@ use std::sync::ledger::Ledger;
 
 /// The most samples of a presentation.
 pub(crate) const MOST_SAMPLES: u32 = 1 << 24;
-
-/// The next sample of a walk, which stays the next.
-pub(crate) fn peek_sample<S: Store, L: Ledger>(
-    walk: &mut Walk,
-    movie: &Movie,
-    store: &mut S,
-    steps: &mut Steps<L>,
-) -> Result<Option<SampleAt>, Refusal>
-    requires { IsWalkOf movie.now walk.old }
-    ensures loads { OnlyLoads movie.now walk.old walk.new S.Store store.old store.new result }
-    ensures went { OnOk result (WentOn movie.now walk.old walk.new steps.old steps.new) }
-    ensures coming { WhereComes S.Store store.old movie.now walk.old
-        (λ file tree t samples. IfOk result (λ next. Comes file tree t movie.now walk.new samples
-        × (next ≡ slice_get samples 0))) }
-    ensures some { IfOk result (λ next. (next ≡ None → ⊥) → HasSome movie.now walk.new) }
-    ensures unchanged { WhereComes S.Store store.old movie.now walk.old
-        (λ file tree t samples. IsUnchanged result) }
-    ensures work { TakesSteps S.Store store.old movie.now walk.old walk.new result steps.old
-        steps.new }
-{
-    let mut next = walk.in_hand(movie).peek();
-    while next.is_none() && walk.load(movie, store, steps)? {
-        next = walk.in_hand(movie).peek();
-    }
-    Ok(next)
-}
 
 // What is left of a sample, where there is one.
 fn reduced_next(reduction: Reduction, next: Option<SampleAt>) -> Option<SampleAt>

@@ -77,33 +77,12 @@ pub mod WayThrough
 pub mod OpenedDenotes
 pub mod PassedOn
 pub mod GoneBack
-pub mod Differing
-pub mod SamplesReduced
-pub mod TrackEdges
-pub mod FieldValues
-pub mod ComparisonValues
-pub mod ComparisonHeads
-pub mod ComparisonGroups
-pub mod ComparisonWhole
-pub mod ComparisonKeys
-pub mod ComparisonTurned
-pub mod ComparisonPlaces
-pub mod ComparisonComplete
-pub mod ComparisonVectors
 mod NextSample
 pub mod FaultGaps
 pub mod Refusals
 pub mod GapsTold
-mod KeysOfBoth
-mod SamplesDiffer
-mod PairsCompared
-mod PairsPassed
-mod TracksCompared
-mod FilesCompared
 pub mod TrafsNoted
 pub mod JudgeVectors
-pub mod Zeroed
-pub mod OwnPayloads
 pub mod PartsKept
 pub mod PartsLast
 pub mod RunsPassed
@@ -116,7 +95,3 @@ pub mod JudgedTrees
 pub mod RunsFail
 pub mod TrafFails
 pub mod JudgedRefused
-pub mod FirstBoxes
-pub mod RatesPlaces
-pub mod RatesAtEnd
-pub mod RatesShort

@@ -2,13 +2,6 @@ pub mod Presentation
 pub mod Denotes
 pub mod ByBytes
 pub mod Stands
-pub mod Zeros
-pub mod BitRates
-pub mod Reduced
-pub mod Differences
-pub mod Comparison
-pub mod ComparisonLaws
-pub mod CompleteLaws
 pub mod FaultNumbers
 pub mod Judge
 pub mod JudgeLaws

@@ -113,8 +113,9 @@ pub fn read_bytes<S: Store>(
     Ok(bytes)
 }
 
-/// Reads to the front of the room, of which the length stays.
-pub(crate) fn read_front<S: Store>(
+/// Reads so many bytes of the file from the place `at` on to the front of the room, of which the
+/// length stays.
+pub fn read_front<S: Store>(
     store: &mut S,
     at: u64,
     room: &mut [u8],

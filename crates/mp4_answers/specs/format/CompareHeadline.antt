@@ -6,11 +6,11 @@ use Rattle.mp4_present.specs.format.Denotes.{Denotes}
 use Rattle.mp4_head.specs.format.Head.{Kept}
 use Rattle.mp4_present.specs.format.Presentation.{Track, Presentation, sample_total}
 use Rattle.mp4_present.specs.format.Judge.{judge}
-use Rattle.mp4_present.specs.format.Reduced.{reduce}
-use Rattle.mp4_present.specs.format.Comparison.{differences}
-use Rattle.mp4_present.specs.declared.comparing.differences.Difference.{Difference}
-use Rattle.mp4_present.specs.declared.without.Without.{Without}
-use Rattle.mp4_plan.specs.format.CoveringLaws.{Covers}
+use Rattle.mp4_content.specs.format.Reduced.{reduce}
+use Rattle.mp4_content.specs.format.Comparison.{differences}
+use Rattle.mp4_content.specs.declared.comparing.differences.Difference.{Difference}
+use Rattle.mp4_content.specs.declared.without.Without.{Without}
+use Rattle.mp4_content.specs.format.CoveringLaws.{Covers}
 use Rattle.mp4_answers.specs.declared.commands.compare.Listing.{Listing}
 use Rattle.mp4_answers.specs.declared.commands.compare.Listing.TheVariants as listings
 use Rattle.mp4_answers.specs.declared.jobs.Syntax.{Syntax}

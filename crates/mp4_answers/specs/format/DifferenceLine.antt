@@ -2,17 +2,17 @@
 -- the other.
 use Rattle.std.specs.Prelude.{ℕ, ◌==◌, Bool, true, false, if◌then◌else◌, List, [], ◌++◌, Option, Some, None, codes, decimal}
 use Rattle.std.specs.Fmt.{signed_decimal}
-use Rattle.mp4_present.specs.declared.comparing.differences.Subject.{Subject}
-use Rattle.mp4_present.specs.declared.comparing.differences.Subject.TheVariants as subjects
-use Rattle.mp4_present.specs.declared.comparing.differences.Entries.{Entries}
-use Rattle.mp4_present.specs.declared.comparing.differences.Entries.TheVariants as entries
-use Rattle.mp4_present.specs.declared.comparing.differences.Part.{Part}
-use Rattle.mp4_present.specs.declared.comparing.differences.Part.TheVariants as parts
-use Rattle.mp4_present.specs.declared.comparing.differences.Field.{Field}
-use Rattle.mp4_present.specs.declared.comparing.differences.Field.TheVariants as fields
-use Rattle.mp4_present.specs.declared.comparing.differences.Value.{Value}
-use Rattle.mp4_present.specs.declared.comparing.differences.Value.TheVariants as values
-use Rattle.mp4_present.specs.declared.comparing.differences.Difference.{Difference}
+use Rattle.mp4_content.specs.declared.comparing.differences.Subject.{Subject}
+use Rattle.mp4_content.specs.declared.comparing.differences.Subject.TheVariants as subjects
+use Rattle.mp4_content.specs.declared.comparing.differences.Entries.{Entries}
+use Rattle.mp4_content.specs.declared.comparing.differences.Entries.TheVariants as entries
+use Rattle.mp4_content.specs.declared.comparing.differences.Part.{Part}
+use Rattle.mp4_content.specs.declared.comparing.differences.Part.TheVariants as parts
+use Rattle.mp4_content.specs.declared.comparing.differences.Field.{Field}
+use Rattle.mp4_content.specs.declared.comparing.differences.Field.TheVariants as fields
+use Rattle.mp4_content.specs.declared.comparing.differences.Value.{Value}
+use Rattle.mp4_content.specs.declared.comparing.differences.Value.TheVariants as values
+use Rattle.mp4_content.specs.declared.comparing.differences.Difference.{Difference}
 use Rattle.mp4_answers.specs.format.Texts.{hex_digits, type_text, space, line_feed}
 
 -- ---- the way

@@ -2,16 +2,16 @@
 -- bytes, types and lines as strings.
 use Rattle.std.specs.Prelude.{ℕ, ◌==◌, ◌||◌, ◌&&◌, not, Bool, true, if◌then◌else◌, List, [], ◌∷◌, ◌++◌, length, flat_map, Option, Some, None, codes, decimal}
 use Rattle.std.specs.Fmt.{signed_decimal}
-use Rattle.mp4_present.specs.declared.comparing.differences.Subject.{Subject}
-use Rattle.mp4_present.specs.declared.comparing.differences.Subject.TheVariants as subjects
-use Rattle.mp4_present.specs.declared.comparing.differences.Part.{Part}
-use Rattle.mp4_present.specs.declared.comparing.differences.Part.TheVariants as parts
-use Rattle.mp4_present.specs.declared.comparing.differences.Field.{Field}
-use Rattle.mp4_present.specs.declared.comparing.differences.Field.TheVariants as fields
-use Rattle.mp4_present.specs.declared.comparing.differences.Value.{Value}
-use Rattle.mp4_present.specs.declared.comparing.differences.Value.TheVariants as values
-use Rattle.mp4_present.specs.declared.comparing.differences.Difference.{Difference}
-use Rattle.mp4_present.specs.declared.without.Without.{Without}
+use Rattle.mp4_content.specs.declared.comparing.differences.Subject.{Subject}
+use Rattle.mp4_content.specs.declared.comparing.differences.Subject.TheVariants as subjects
+use Rattle.mp4_content.specs.declared.comparing.differences.Part.{Part}
+use Rattle.mp4_content.specs.declared.comparing.differences.Part.TheVariants as parts
+use Rattle.mp4_content.specs.declared.comparing.differences.Field.{Field}
+use Rattle.mp4_content.specs.declared.comparing.differences.Field.TheVariants as fields
+use Rattle.mp4_content.specs.declared.comparing.differences.Value.{Value}
+use Rattle.mp4_content.specs.declared.comparing.differences.Value.TheVariants as values
+use Rattle.mp4_content.specs.declared.comparing.differences.Difference.{Difference}
+use Rattle.mp4_content.specs.declared.without.Without.{Without}
 use Rattle.mp4_answers.specs.declared.text.tally.Kind.{Kind}
 use Rattle.mp4_answers.specs.declared.text.tally.Kind.TheVariants as kinds
 use Rattle.mp4_answers.specs.format.Texts.{hex_digits, type_text, line_feed}

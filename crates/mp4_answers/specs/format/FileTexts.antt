@@ -5,7 +5,7 @@ use Rattle.serde_json.specs.Written.{compact_text}
 use Rattle.mp4_head.specs.format.Head.{TrackHead}
 use Rattle.mp4_present.specs.format.Judge.{judge}
 use Rattle.mp4_present.specs.format.Presentation.{Track, Presentation, heads}
-use Rattle.mp4_present.specs.declared.without.Without.{Without}
+use Rattle.mp4_content.specs.declared.without.Without.{Without}
 use Rattle.mp4_answers.specs.format.Text.{text}
 use Rattle.mp4_answers.specs.format.Texts.{line_feed, sample_listing, sample_data, show_value}
 use Rattle.mp4_answers.specs.declared.jobs.Form.{Form}

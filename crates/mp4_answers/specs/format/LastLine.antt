@@ -2,14 +2,14 @@
 -- be left out for two files to be the same.
 use Rattle.std.specs.Prelude.{ℕ, ◌==◌, ◌&&◌, not, Bool, true, if◌then◌else◌, List, [], ◌∷◌, ◌++◌, length, Option, Some, None, codes, decimal}
 use Rattle.std.specs.List.{count_by}
-use Rattle.mp4_present.specs.declared.comparing.differences.Subject.{Subject}
-use Rattle.mp4_present.specs.declared.comparing.differences.Subject.TheVariants as subjects
-use Rattle.mp4_present.specs.declared.comparing.differences.Entries.{Entries}
-use Rattle.mp4_present.specs.declared.comparing.differences.Entries.TheVariants as entries
-use Rattle.mp4_present.specs.declared.comparing.differences.Field.{Field}
-use Rattle.mp4_present.specs.declared.comparing.differences.Field.TheVariants as fields
-use Rattle.mp4_present.specs.declared.comparing.differences.Difference.{Difference}
-use Rattle.mp4_present.specs.declared.without.Without.{Without}
+use Rattle.mp4_content.specs.declared.comparing.differences.Subject.{Subject}
+use Rattle.mp4_content.specs.declared.comparing.differences.Subject.TheVariants as subjects
+use Rattle.mp4_content.specs.declared.comparing.differences.Entries.{Entries}
+use Rattle.mp4_content.specs.declared.comparing.differences.Entries.TheVariants as entries
+use Rattle.mp4_content.specs.declared.comparing.differences.Field.{Field}
+use Rattle.mp4_content.specs.declared.comparing.differences.Field.TheVariants as fields
+use Rattle.mp4_content.specs.declared.comparing.differences.Difference.{Difference}
+use Rattle.mp4_content.specs.declared.without.Without.{Without}
 use Rattle.mp4_answers.specs.declared.text.tally.Kind.{Kind}
 use Rattle.mp4_answers.specs.declared.text.tally.Kind.TheVariants as kinds
 use Rattle.mp4_answers.specs.format.Texts.{space, line_feed}

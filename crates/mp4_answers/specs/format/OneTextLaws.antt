@@ -1,6 +1,6 @@
 -- The laws of how many texts a job may put of a file: one.
 use Rattle.std.specs.Prelude.{◌≡◌, ℕ, List}
-use Rattle.mp4_present.specs.declared.without.Without.{Without}
+use Rattle.mp4_content.specs.declared.without.Without.{Without}
 use Rattle.mp4_answers.specs.declared.box_names.Name.{Name}
 use Rattle.mp4_answers.specs.declared.jobs.Form.{Form}
 use Rattle.mp4_answers.specs.declared.jobs.Syntax.{Syntax}

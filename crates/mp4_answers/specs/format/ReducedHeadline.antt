@@ -2,10 +2,10 @@
 use Rattle.std.specs.Prelude.{◌≡◌, ℕ, List, Ok}
 use Rattle.mp4_present.specs.format.Presentation.{Presentation}
 use Rattle.mp4_present.specs.format.Judge.{judge}
-use Rattle.mp4_present.specs.format.Reduced.{reduce}
-use Rattle.mp4_present.specs.declared.without.Without.{Without}
+use Rattle.mp4_content.specs.format.Reduced.{reduce}
+use Rattle.mp4_content.specs.declared.without.Without.{Without}
 use Rattle.mp4_plan.specs.format.Normal.{normal}
-use Rattle.mp4_plan.specs.format.ReducedTimes.{ReducesInLimits}
+use Rattle.mp4_content.specs.format.ReducedTimes.{ReducesInLimits}
 
 -- the file is judged to be a presentation, of which what is left is within the limits, and these
 -- bytes are the normal form of that

@@ -11,7 +11,7 @@ use Rattle.mp4_head.specs.format.Tree.{TrackTree}
 use Rattle.mp4_present.specs.format.ByBytes.{OpensWithin, LooksByBytes}
 use Rattle.mp4_present.specs.format.Denotes.{FileTree, Denotes}
 use Rattle.mp4_present.specs.format.Presentation.{Presentation, sample_total}
-use Rattle.mp4_present.specs.declared.without.Without.{Without}
+use Rattle.mp4_content.specs.declared.without.Without.{Without}
 use Rattle.mp4_plan.specs.format.TurnCount.{most_turns}
 use Rattle.mp4_answers.specs.format.Headline.{DenotesNothing}
 

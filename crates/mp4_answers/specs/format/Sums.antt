@@ -2,8 +2,8 @@
 use Rattle.std.specs.Prelude.{◌≡◌, ◌⊎◌, ℕ, List, [], Result, IfOk}
 use Rattle.sha2.specs.Sha256.{sha256}
 use Rattle.mp4_boxes.specs.declared.refusal.Refusal.{Refusal}
-use Rattle.mp4_present.specs.declared.without.Without.{Without}
-use Rattle.mp4_plan.specs.format.ReducedTimes.{ReducedFaultStands}
+use Rattle.mp4_content.specs.declared.without.Without.{Without}
+use Rattle.mp4_content.specs.format.ReducedTimes.{ReducedFaultStands}
 use Rattle.mp4_answers.specs.format.Answers.{IsFaultOf}
 use Rattle.mp4_answers.specs.format.ReducedHeadline.{HasReducedForm}
 use Rattle.mp4_answers.specs.format.Run.{Run, Honest, Answered}

@@ -3,8 +3,8 @@ use Rattle.std.specs.Prelude.{◌≡◌, ◌⊎◌, ℕ, List, ◌∷◌, ◌++�
 use Rattle.sha2.specs.Sha256.{sha256}
 use Rattle.mp4_head.specs.format.Head.{Kept, Media, TrackHead}
 use Rattle.mp4_present.specs.format.Presentation.{Sample, Track, Presentation, Valid}
-use Rattle.mp4_present.specs.format.Reduced.{reduce}
-use Rattle.mp4_present.specs.declared.without.Without.{Without}
+use Rattle.mp4_content.specs.format.Reduced.{reduce}
+use Rattle.mp4_content.specs.declared.without.Without.{Without}
 use Rattle.mp4_answers.specs.format.Text.{text}
 
 -- Where the same is left of two presentations, they have the same text.

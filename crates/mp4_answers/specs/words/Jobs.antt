@@ -1,6 +1,6 @@
 -- How many steps and looks a job may take.
 use Rattle.std.specs.Prelude.{ℕ, List}
-use Rattle.mp4_plan.specs.format.ReducedLaws.{nothing}
+use Rattle.mp4_content.specs.format.ReducedLaws.{nothing}
 use Rattle.mp4_answers.specs.format.Steps.{WorksWithin, WalksWithin, FindsWithin, TurnsWithin}
 use Rattle.mp4_answers.specs.declared.jobs.Job.{Job}
 use Rattle.mp4_answers.specs.declared.jobs.Job.TheVariants as jobs

@@ -11,11 +11,11 @@ use Rattle.mp4_head.specs.format.Tree.{TrackTree, track_head_of}
 use Rattle.mp4_head.specs.words.Seen.{track_seen}
 use Rattle.mp4_head.specs.declared.heads.TrackHead.{TrackHead}
 use Rattle.mp4_present.specs.format.Denotes.{FileTree, file_parts, presentation_of, track_of}
-use Rattle.mp4_present.specs.format.Reduced.{reduce, reduce_track}
+use Rattle.mp4_content.specs.format.Reduced.{reduce, reduce_track}
 use Rattle.mp4_present.specs.words.Joined.{IsBelow}
 use Rattle.mp4_present.specs.words.Loaded.{left_in_hand}
 use Rattle.mp4_present.specs.words.HandCarried.{OfHand}
-use Rattle.mp4_present.specs.words.PayloadsLeft.{track_payloads_left}
+use Rattle.mp4_content.specs.words.PayloadsLeft.{track_payloads_left}
 use Rattle.mp4_present.specs.words.Movies.{MovieSeen, IsWalkOf}
 use Rattle.mp4_present.specs.words.OpenedMovie.{IsOpenedAs}
 use Rattle.mp4_present.specs.words.SamplesComing.{Comes, track_samples}
@@ -25,7 +25,7 @@ use Rattle.mp4_present.specs.words.WalkSteps.{MayTake, walk_steps, walks_steps}
 use Rattle.mp4_present.specs.declared.out_buffer.OutBuffer.{OutBuffer}
 use Rattle.mp4_present.specs.declared.track_info.TrackInfo.{TrackInfo}
 use Rattle.mp4_present.specs.declared.walking.Walk.{Walk}
-use Rattle.mp4_present.specs.declared.without.Without.{Without}
+use Rattle.mp4_content.specs.declared.without.Without.{Without}
 use Rattle.mp4_answers.specs.format.Text.{sample_text, track_text}
 use Rattle.mp4_answers.specs.words.Telling.{TellsText}
 use Rattle.mp4_answers.specs.words.ToldSamples.{told_sample}

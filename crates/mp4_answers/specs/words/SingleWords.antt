@@ -1,7 +1,7 @@
 -- Words of `--without`, one by one.
 use Rattle.std.specs.Prelude.{◌&&◌, ◌||◌, not, false, true, List, [], ◌∷◌}
-use Rattle.mp4_plan.specs.format.ReducedLaws.{nothing}
-use Rattle.mp4_present.specs.declared.without.Without.{Without}
+use Rattle.mp4_content.specs.format.ReducedLaws.{nothing}
+use Rattle.mp4_content.specs.declared.without.Without.{Without}
 
 -- all that can be left out
 abbrev pub everything : Without

@@ -9,9 +9,9 @@ use Rattle.mp4_tables.specs.format.Groups.{GroupKey}
 use Rattle.mp4_tables.specs.words.Keys.{key_place, keys_seen}
 use Rattle.mp4_tables.specs.declared.keys.Keys.{Keys}
 use Rattle.mp4_tables.specs.declared.sample.SampleAt.{SampleAt}
-use Rattle.mp4_present.specs.words.Differing.{cto_left, flags_left, index_in, lasts_left}
-use Rattle.mp4_present.specs.declared.edges.Edges.{Edges}
-use Rattle.mp4_present.specs.declared.without.Without.{Without}
+use Rattle.mp4_content.specs.words.Differing.{cto_left, flags_left, index_in, lasts_left}
+use Rattle.mp4_content.specs.declared.edges.Edges.{Edges}
+use Rattle.mp4_content.specs.declared.without.Without.{Without}
 use Rattle.mp4_plan.specs.format.Normal.{in_key_order}
 use Rattle.mp4_answers.specs.format.Text.{group_text}
 use Rattle.mp4_answers.specs.format.Texts.{hex_digits, hex_text, space, line_feed}

@@ -4,14 +4,14 @@ use Rattle.mp4_boxes.specs.declared.refusal.Refusal.{Refusal}
 use Rattle.mp4_store.specs.declared.store.Store.{Ghosts as Store}
 use Rattle.mp4_store.specs.declared.sink.Sink.{Ghosts as Sink}
 use Rattle.mp4_present.specs.format.Denotes.{FileTree}
-use Rattle.mp4_present.specs.words.Compared.{files_differ, WhereOpenedBoth}
-use Rattle.mp4_present.specs.words.Differing.{RefusedBoth, RefusesSample}
+use Rattle.mp4_content.specs.words.Compared.{files_differ, WhereOpenedBoth}
+use Rattle.mp4_content.specs.words.Differing.{RefusedBoth, RefusesSample}
 use Rattle.mp4_present.specs.words.Movies.{MovieSeen}
 use Rattle.mp4_present.specs.words.Opening.{RefusesOpen}
 use Rattle.mp4_present.specs.words.StoresRead.{OnlyReads}
 use Rattle.mp4_present.specs.words.WalkSteps.{walks_steps}
-use Rattle.mp4_present.specs.declared.comparing.differences.Difference.{Difference}
-use Rattle.mp4_present.specs.declared.without.Without.{Without}
+use Rattle.mp4_content.specs.declared.comparing.differences.Difference.{Difference}
+use Rattle.mp4_content.specs.declared.without.Without.{Without}
 use Rattle.mp4_answers.specs.declared.commands.compare.Failure.{Failure}
 use Rattle.mp4_answers.specs.words.Compares.{PutsAnswer, RefusesBoth, RefusesCompare}
 use Rattle.mp4_answers.specs.words.StoreAndSink.{NoPutFails}

@@ -1,8 +1,8 @@
 -- What a command put at Ok over any store, also over one that changes while it is read.
 use Rattle.std.specs.Prelude.{ℕ, List}
 use Rattle.mp4_present.specs.words.Movies.{MovieSeen}
-use Rattle.mp4_present.specs.declared.without.Without.{Without}
-use Rattle.mp4_plan.specs.format.ReducedLaws.{nothing}
+use Rattle.mp4_content.specs.declared.without.Without.{Without}
+use Rattle.mp4_content.specs.format.ReducedLaws.{nothing}
 use Rattle.mp4_plan.specs.words.PutPieces.{IsHeadLeft, IsPutWhole}
 use Rattle.mp4_answers.specs.declared.jobs.Job.{Job}
 use Rattle.mp4_answers.specs.declared.jobs.Job.TheVariants as jobs

@@ -6,7 +6,7 @@ ghost use Rattle.mp4_answers.specs.format.DifferenceObject.{last_object};
 ghost use Rattle.mp4_answers.specs.words.Compares.{side_of, says_nothing, is_silent, AddsLines, AddsLast, IsCounted, AreSome, IsEnough, IsTried, IsShrunk, IsSameWith, IsFoundOf, IsSaid, ListsFront, PutsAnswer, PutsFound, PutsSame, WalksTimes, RefusesAnswer};
 ghost use Rattle.mp4_present.specs.words.StoresRead.{IsUnchanged, WhereBothHonest};
 ghost use Rattle.mp4_answers.specs.words.StoreAndSink.{NoPutFails};
-ghost use Rattle.mp4_present.specs.words.Compared.{OfFiles, WhereOpenedBoth};
+ghost use Rattle.mp4_content.specs.words.Compared.{OfFiles, WhereOpenedBoth};
 ghost use Rattle.mp4_answers.specs.words.TwoFiles.{ComparesBoth, OfBoth, ReadsBoth, WalksOnce};
 
 use crate::commands::guesses::guess;
@@ -17,7 +17,8 @@ use crate::text::difference_lines::say_difference;
 use crate::text::tally::say_last;
 use crate::without_words::{EVERYTHING, WORDS, less_word};
 use mp4_boxes::{Refusal, Steps};
-use mp4_present::{Difference, Differences, Movies, Without, compare, compare_all, open_movie};
+use mp4_content::{Difference, Differences, Movies, Without, compare, compare_all};
+use mp4_present::open_movie;
 use mp4_store::{Sink, Store};
 use std::alloc::{AllocError, Global};
 use std::sync::ledger::Ledger;

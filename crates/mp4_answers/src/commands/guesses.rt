@@ -1,9 +1,10 @@
 //! Which words may leave out all of some differences.
 ghost use Rattle.std.specs.Prelude.{◌≡◌, ◌||◌};
-ghost use Rattle.mp4_plan.specs.format.CoveringLaws.{Covers};
+ghost use Rattle.mp4_content.specs.format.CoveringLaws.{Covers};
 
 use crate::text::tally::{Kind, count_of_kind};
-use mp4_present::{Difference, Entries, Field, Part, Subject, TrackInfo, Value, Without};
+use mp4_content::{Difference, Entries, Field, Part, Subject, Value, Without};
+use mp4_present::TrackInfo;
 
 // Whether there is a difference of a kind.
 fn has(kind: Kind, all: &[Difference]) -> bool {

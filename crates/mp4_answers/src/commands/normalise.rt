@@ -4,7 +4,7 @@ ghost use Rattle.mp4_answers.specs.format.Answers.{Normalised};
 ghost use Rattle.mp4_answers.specs.format.Run.{KeepsFile, run_of};
 ghost use Rattle.mp4_answers.specs.format.Steps.{WorksWithin, TurnsWithin, TakesEach};
 ghost use Rattle.mp4_answers.specs.words.WholePut.{PutsWhole};
-ghost use Rattle.mp4_plan.specs.format.ReducedLaws.{nothing};
+ghost use Rattle.mp4_content.specs.format.ReducedLaws.{nothing};
 ghost use Rattle.mp4_present.specs.words.StoresRead.{WhereHonest};
 
 use crate::commands::perform::perform_blank;

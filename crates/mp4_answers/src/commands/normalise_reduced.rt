@@ -7,8 +7,9 @@ ghost use Rattle.mp4_answers.specs.words.WholePut.{PutsWhole};
 ghost use Rattle.mp4_present.specs.words.StoresRead.{WhereHonest};
 
 use mp4_boxes::{Refusal, Steps};
+use mp4_content::Without;
 use mp4_plan::write_reduced;
-use mp4_present::{Without, open_movie};
+use mp4_present::open_movie;
 use mp4_store::{Sink, Store};
 use std::alloc::Global;
 use std::sync::ledger::Ledger;

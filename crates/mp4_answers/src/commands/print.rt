@@ -10,8 +10,8 @@ ghost use Rattle.mp4_present.specs.words.Movies.{IsWalkOf};
 ghost use Rattle.mp4_present.specs.words.OutBuffers.{OnlyCopies};
 ghost use Rattle.mp4_present.specs.words.StoresRead.{IsUnchanged, OnlyReads, Refused, WhereHonest};
 ghost use Rattle.mp4_present.specs.words.TrackWalks.{WhereMayTake};
-ghost use Rattle.mp4_present.specs.format.Reduced.{reduce_track_head};
-ghost use Rattle.mp4_present.specs.words.PayloadsLeft.{keeping_payloads};
+ghost use Rattle.mp4_content.specs.format.Reduced.{reduce_track_head};
+ghost use Rattle.mp4_content.specs.words.PayloadsLeft.{keeping_payloads};
 ghost use Rattle.mp4_answers.specs.format.Answers.{Printed};
 ghost use Rattle.mp4_answers.specs.format.Run.{KeepsFile, run_of};
 ghost use Rattle.mp4_answers.specs.format.Steps.{FindsWithin, TakesEach, WalksWithin};
@@ -27,10 +27,9 @@ use crate::text::named_lines::{number, put_all_named};
 use crate::text::sample_texts::{LONGEST, SampleStyle, write_sample};
 use crate::text::tally::say_words;
 use mp4_boxes::{Memory, Refusal, Steps};
+use mp4_content::{Without, edges_of, payloads_left, put_payloads_left};
 use mp4_head::TrackHead;
-use mp4_present::{
-    Movie, OutBuffer, Stretch, Walk, Without, open_movie, payloads_left, put_payloads_left,
-};
+use mp4_present::{Movie, OutBuffer, Stretch, Walk, open_movie};
 use mp4_store::{Sink, Store};
 use mp4_tables::{Keys, SampleAt, Samples};
 use std::alloc::{AllocError, Global};
@@ -230,7 +229,7 @@ fn put_samples<S: Store, K: Sink, L: Ledger>(
         RefusesCarry }
 {
     let movie = of.movie;
-    let edges = walk.edges(of.leaving, movie, store, steps)?;
+    let edges = edges_of(walk, of.leaving, movie, store, steps)?;
     let style = SampleStyle::new(of.leaving, keys, edges);
     let of = Styled {
         movie,

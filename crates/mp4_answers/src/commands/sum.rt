@@ -9,7 +9,7 @@ use crate::commands::hash_sink::HashSink;
 use crate::commands::normalise_reduced::normalise_reduced;
 use crate::text::digits::DIGEST;
 use mp4_boxes::{Refusal, Steps};
-use mp4_present::Without;
+use mp4_content::Without;
 use mp4_store::Store;
 use std::alloc::Global;
 use std::sync::ledger::Ledger;

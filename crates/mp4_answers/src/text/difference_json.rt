@@ -1,6 +1,6 @@
 //! A difference, and what is said of all, as objects of JSON.
 ghost use Rattle.std.specs.Prelude.{◌≡◌, ◌≤◌, [], ◌∷◌, ◌++◌, ◌&&◌, ◌==◌, not, true, IfOk, OnOk};
-ghost use Rattle.mp4_present.specs.declared.comparing.differences.Field.TheVariants as fields;
+ghost use Rattle.mp4_content.specs.declared.comparing.differences.Field.TheVariants as fields;
 ghost use Rattle.mp4_answers.specs.format.DifferenceLine.{difference_text};
 ghost use Rattle.mp4_answers.specs.format.LastLine.{count_of_kind};
 ghost use Rattle.mp4_answers.specs.format.DifferenceObject.{count_member, count_members, difference_object, enough_value, escaped, field_steps, json_value, kinds_by_name, last_object, leaving_list, line_members, of_member, part_steps, subject_steps, total_members, totals_front, type_string, value_members, word_list, word_step};
@@ -13,7 +13,7 @@ use crate::text::json_text::push_printable;
 use crate::text::line::Line;
 use crate::text::tally::{Kind, count_of_kind, kind_name, kind_of_difference};
 use mp4_boxes::FourCc;
-use mp4_present::{Difference, Entries, Field, Part, Subject, Value, Without};
+use mp4_content::{Difference, Entries, Field, Part, Subject, Value, Without};
 use mp4_tables::GroupKey;
 use std::alloc::AllocError;
 

@@ -2,13 +2,13 @@
 ghost use Rattle.std.specs.Prelude.{◌≡◌, ◌≤◌, ◌++◌, OnOk, decimal};
 ghost use Rattle.std.specs.Fmt.{signed_decimal};
 ghost use Rattle.mp4_answers.specs.format.Texts.{hex_digits, type_text, line_feed};
-ghost use Rattle.mp4_present.specs.declared.comparing.differences.Field.TheVariants as fields;
+ghost use Rattle.mp4_content.specs.declared.comparing.differences.Field.TheVariants as fields;
 ghost use Rattle.mp4_answers.specs.format.DifferenceLine.{byte_text, difference_line, difference_text, digits_of, entries_name, entry_name, entry_number, field_name, field_text, is_numbered, part_text, subject_text, value_text};
 
 use crate::text::digits::{write_digits, write_hex};
 use crate::text::line::Line;
 use mp4_boxes::FourCc;
-use mp4_present::{Difference, Entries, Field, Part, Subject, Value};
+use mp4_content::{Difference, Entries, Field, Part, Subject, Value};
 use mp4_tables::GroupKey;
 use std::alloc::AllocError;
 

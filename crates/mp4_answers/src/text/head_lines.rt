@@ -1,8 +1,8 @@
 //! The lines of heads: of a movie, of its tracks, of their media.
 ghost use Rattle.std.specs.Prelude.{◌≡◌, ◌++◌, if◌then◌else◌, [], map, decimal};
 ghost use Rattle.mp4_head.specs.words.Seen.{media_seen, movie_seen, track_seen};
-ghost use Rattle.mp4_present.specs.format.Reduced.{reduce_media, reduce_movie_head, reduce_track_head};
-ghost use Rattle.mp4_present.specs.words.PayloadsLeft.{keeping_payloads};
+ghost use Rattle.mp4_content.specs.format.Reduced.{reduce_media, reduce_movie_head, reduce_track_head};
+ghost use Rattle.mp4_content.specs.words.PayloadsLeft.{keeping_payloads};
 ghost use Rattle.mp4_answers.specs.format.Text.{head_lines, media_lines, movie_lines, track_lines};
 ghost use Rattle.mp4_answers.specs.words.Telling.{Tells, said_line, media_front, movie_front, track_front};
 
@@ -11,8 +11,9 @@ use crate::text::named_lines::{Named, Said, number, put_all_named, put_edits, sa
 use crate::text::payload_lines::{put_boxes, put_kept, put_kept_boxes, put_payload, put_payloads};
 use crate::text::text_parts::{LINE_FEED, put_parts};
 use mp4_boxes::Refusal;
+use mp4_content::Without;
 use mp4_head::{Edit, Media, MovieHead, TrackHead};
-use mp4_present::{OutBuffer, Without};
+use mp4_present::OutBuffer;
 use mp4_store::Sink;
 
 // A time; 0 where times are left out.

@@ -3,7 +3,7 @@ ghost use Rattle.std.specs.Prelude.{◌≡◌, ◌+◌, ◌*◌, ◌/◌, ◌<�
 ghost use Rattle.sha2.specs.Sha256.{sha256};
 ghost use Rattle.mp4_boxes.specs.format.Children.{is_among};
 ghost use Rattle.mp4_head.specs.words.Seen.{kept_seen};
-ghost use Rattle.mp4_present.specs.format.Reduced.{metadata_kinds, reduce_kept};
+ghost use Rattle.mp4_content.specs.format.Reduced.{metadata_kinds, reduce_kept};
 ghost use Rattle.mp4_answers.specs.format.Texts.{hex_text};
 ghost use Rattle.mp4_answers.specs.format.Text.{dump_line, dump_lines, is_plain_type, kept_lines, payload_lines, shown_byte, spelled_type};
 ghost use Rattle.mp4_answers.specs.words.Telling.{Tells};
@@ -11,8 +11,9 @@ ghost use Rattle.mp4_answers.specs.words.Telling.{Tells};
 use crate::text::digits::{DIGEST, hex_digit, write_byte, write_bytes, write_digits};
 use crate::text::text_parts::{LINE_FEED, SPACE, put_parts};
 use mp4_boxes::{FourCc, Refusal};
+use mp4_content::Without;
 use mp4_head::Kept;
-use mp4_present::{OutBuffer, Without};
+use mp4_present::OutBuffer;
 use mp4_store::Sink;
 use sha2::{Digest, Sha256};
 

@@ -1,7 +1,7 @@
 //! The line of a sample in the text of a presentation.
 ghost use Rattle.std.specs.Prelude.{◌≡◌, ◌+◌, ◌<◌, ◌≤◌, ◌++◌, length, take, drop};
 ghost use Rattle.mp4_tables.specs.words.Keys.{key_place, key_seen, keys_seen};
-ghost use Rattle.mp4_present.specs.words.Differing.{cto_left, flags_left, index_in, lasts_left};
+ghost use Rattle.mp4_content.specs.words.Differing.{cto_left, flags_left, index_in, lasts_left};
 ghost use Rattle.mp4_plan.specs.format.Normal.{in_key_order, put_key};
 ghost use Rattle.mp4_answers.specs.format.Text.{group_text};
 ghost use Rattle.mp4_answers.specs.words.ToldSamples.{told_end, told_flags, told_indexes, told_line};
@@ -9,7 +9,7 @@ ghost use Rattle.mp4_answers.specs.words.ToldSamples.{told_end, told_flags, told
 use crate::text::digits::{DIGEST, write_byte, write_hex, write_short_digits};
 use crate::text::named_lines::write_signed;
 use crate::text::payload_lines::{write_bytes_in_hex, write_type};
-use mp4_present::{Edges, Without};
+use mp4_content::{Edges, Without};
 use mp4_tables::{GroupKey, Keys, SampleAt};
 
 /// At least as many bytes as a line has.
@@ -66,7 +66,7 @@ fn in_order(keys: &Keys) -> Keys
 impl SampleStyle {
     ghost use Rattle.std.specs.Prelude.{◌≡◌};
     ghost use Rattle.mp4_tables.specs.words.Keys.{key_place, key_seen, keys_seen};
-    ghost use Rattle.mp4_present.specs.words.Differing.{cto_left, flags_left, index_in, lasts_left};
+    ghost use Rattle.mp4_content.specs.words.Differing.{cto_left, flags_left, index_in, lasts_left};
     ghost use Rattle.mp4_answers.specs.words.ToldSamples.{IsStyle};
 
     /// For a track with these edges whose samples are grouped by these keys.

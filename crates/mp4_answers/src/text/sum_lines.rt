@@ -5,7 +5,7 @@ use crate::text::json_text::name_json;
 use crate::text::plain_names::push_plain;
 use crate::text::tally::say_words;
 use crate::without_words::leaving_of;
-use mp4_present::Without;
+use mp4_content::Without;
 use std::alloc::{AllocError, Global};
 use std::str;
 

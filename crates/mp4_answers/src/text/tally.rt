@@ -3,7 +3,7 @@ ghost use Rattle.std.specs.Prelude.{◌≡◌, [], ◌∷◌, ◌++◌, ◌&&◌
 ghost use Rattle.mp4_answers.specs.format.LastLine.{all_kinds, count_of_kind, count_text, counts_text, enough_text, kind_name, kind_of_difference, kind_of_entries, last_line, leaving_text, total_end, total_front, words_text};
 
 use crate::text::difference_lines::{end_line, say, say_counted};
-use mp4_present::{Difference, Entries, Field, Subject, Without};
+use mp4_content::{Difference, Entries, Field, Subject, Without};
 use std::alloc::AllocError;
 
 /// What a difference is of, in the order in which the kinds are told of.

@@ -7,7 +7,8 @@ use Rattle.mp4_boxes.specs.format.Layout.{tfhd, tfdt, trun, sbgp, fields, row, d
 use Rattle.mp4_tables.specs.format.Groups.{GroupKey, key_rank, same_key, index_at}
 use Rattle.mp4_head.specs.format.Writing.{head_bytes}
 use Rattle.mp4_present.specs.format.Presentation.{Presentation, heads, movie_length}
-use Rattle.mp4_plan.specs.format.Pieces.{TimedSample, Piece, pieces}
+use Rattle.mp4_content.specs.format.TimedSamples.{TimedSample}
+use Rattle.mp4_plan.specs.format.Pieces.{Piece, pieces}
 
 -- the bytes of the piece's samples
 abbrev pub piece_data : Piece → List ℕ

@@ -6,7 +6,8 @@ use Rattle.mp4_boxes.specs.format.Bytes.{sum_of}
 use Rattle.mp4_head.specs.format.Head.{TrackHead}
 use Rattle.mp4_head.specs.format.Tree.{are_distinct}
 use Rattle.mp4_present.specs.format.Presentation.{Track, Presentation, heads}
-use Rattle.mp4_plan.specs.format.Pieces.{TimedSample, timed, is_sync, cuts, fragment_by_number, fragment_by_time, Piece, track_pieces, pieces}
+use Rattle.mp4_content.specs.format.TimedSamples.{TimedSample, timed}
+use Rattle.mp4_plan.specs.format.Pieces.{is_sync, cuts, fragment_by_number, fragment_by_time, Piece, track_pieces, pieces}
 use Rattle.mp4_plan.specs.format.Normal.{first_time, first_description}
 
 -- ---- numbers that rise

@@ -7,7 +7,8 @@ use Rattle.mp4_tables.specs.format.Repeated.{repeated}
 use Rattle.mp4_tables.specs.format.Groups.{GroupKey, key_rank, same_key}
 use Rattle.mp4_frag.specs.format.Fragments.{column}
 use Rattle.mp4_present.specs.format.Presentation.{Presentation, Valid}
-use Rattle.mp4_plan.specs.format.Pieces.{TimedSample, Piece, pieces}
+use Rattle.mp4_content.specs.format.TimedSamples.{TimedSample}
+use Rattle.mp4_plan.specs.format.Pieces.{Piece, pieces}
 use Rattle.mp4_plan.specs.format.Normal.{tfhd_bytes, trun_bytes, piece_keys, longest_runs}
 
 -- ---- columns

@@ -10,7 +10,7 @@ use Rattle.mp4_present.specs.words.Movies.{MovieSeen}
 use Rattle.mp4_present.specs.words.OutBuffers.{OnlyCopies, TakesAlong}
 use Rattle.mp4_present.specs.declared.out_buffer.OutBuffer.{OutBuffer}
 use Rattle.mp4_present.specs.declared.walking.Walk.{Walk}
-use Rattle.mp4_plan.specs.words.ReducedWalks.{KeepsWalk}
+use Rattle.mp4_content.specs.words.Loading.{KeepsWalk}
 
 -- The walk stays one over its track, and at Ok so many bytes were taken along. Nothing else is done
 -- with the store and the sink, and it is refused only for what carrying along is.

@@ -16,10 +16,10 @@ use Rattle.mp4_present.specs.words.OpenedMovie.{IsOpenedAs}
 use Rattle.mp4_present.specs.words.TrackWalks.{WhereMarkMayTake}
 use Rattle.mp4_present.specs.words.WalkSteps.{MayTake, TakesOn}
 use Rattle.mp4_present.specs.declared.out_buffer.OutBuffer.{OutBuffer}
-use Rattle.mp4_plan.specs.declared.reduced.Reduction.{Reduction}
+use Rattle.mp4_content.specs.declared.reduced.Reduction.{Reduction}
 use Rattle.mp4_present.specs.declared.walking.Walk.{Walk}
-use Rattle.mp4_plan.specs.words.ComingLess.{ComesLess}
-use Rattle.mp4_plan.specs.words.GoneOn.{ComesMarked}
+use Rattle.mp4_content.specs.words.ComingLess.{ComesLess}
+use Rattle.mp4_content.specs.words.GoneOn.{ComesMarked}
 use Rattle.mp4_plan.specs.words.HandsFed.{BytesCarried, sizes_of}
 use Rattle.mp4_plan.specs.words.Stretches.{Tells}
 use Rattle.mp4_plan.specs.words.WriterSteps.{CarriesInHand, CarriesOn, MayFinish}

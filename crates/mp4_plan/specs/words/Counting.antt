@@ -8,9 +8,9 @@ use Rattle.mp4_present.specs.words.Loaded.{left_in_hand}
 use Rattle.mp4_present.specs.words.Movies.{MovieSeen, InHandOf}
 use Rattle.mp4_present.specs.declared.walking.loaded.Loaded.{Loaded}
 use Rattle.mp4_present.specs.declared.walking.loaded.Place.{Place}
-use Rattle.mp4_plan.specs.declared.reduced.Reduction.{Reduction}
+use Rattle.mp4_content.specs.declared.reduced.Reduction.{Reduction}
 use Rattle.mp4_present.specs.declared.walking.Walk.{Walk}
-use Rattle.mp4_plan.specs.words.ComingLess.{ComesLess, less}
+use Rattle.mp4_content.specs.words.ComingLess.{ComesLess, less}
 use Rattle.mp4_plan.specs.words.Gathering.{count_of, piece_fed, piece_from, samples_after}
 use Rattle.mp4_plan.specs.declared.ends.End.{End}
 

@@ -1,22 +1,18 @@
 -- What becomes of the samples in hand: they are taken into a piece and noted, and their bytes taken
 -- along.
-use Rattle.std.specs.Prelude.{◌≡◌, ℕ, ◌+◌, ◌-◌, ◌<◌, if◌then◌else◌, List, [], ◌∷◌, ◌++◌, length, take, drop, map, Option, Some, None}
+use Rattle.std.specs.Prelude.{◌≡◌, ℕ, ◌+◌, ◌<◌, if◌then◌else◌, List, [], ◌∷◌, ◌++◌, length, take, drop, map, Option, Some, None}
 use Rattle.std.proofs.Common.{◌∙◌, refl, sym, ap, append_assoc, length-append, zero-add, add_assoc}
 use Rattle.mp4_boxes.specs.format.Bytes.{sum_of}
 use Rattle.mp4_tables.specs.declared.sample.SampleAt.{SampleAt}
-use Rattle.mp4_head.specs.format.Tree.{TrackTree}
 use Rattle.mp4_present.specs.words.Carried.{BytesGoOn}
-use Rattle.mp4_present.specs.format.Denotes.{FileTree}
 use Rattle.mp4_present.specs.words.Joined.{sample_bytes}
 use Rattle.mp4_present.specs.words.Loaded.{left_in_hand}
 use Rattle.mp4_present.specs.words.Movies.{MovieSeen, InHandOf}
-use Rattle.mp4_present.specs.words.OpenedMovie.{IsOpenedAs}
-use Rattle.mp4_present.specs.words.WalkSteps.{steps_to, MayTake, TakesOn}
 use Rattle.mp4_present.specs.declared.walking.loaded.Loaded.{Loaded}
-use Rattle.mp4_plan.specs.declared.reduced.Reduction.{Reduction}
+use Rattle.mp4_content.specs.declared.reduced.Reduction.{Reduction}
 use Rattle.mp4_present.specs.declared.walking.loaded.Place.{Place}
 use Rattle.mp4_present.specs.declared.walking.Walk.{Walk}
-use Rattle.mp4_plan.specs.words.ComingLess.{less}
+use Rattle.mp4_content.specs.words.ComingLess.{less}
 use Rattle.mp4_plan.specs.words.Ends.{goes_in}
 use Rattle.mp4_plan.specs.words.Gathering.{Planning, description_in, count_of, more_of, piece_fed, samples_after}
 use Rattle.mp4_plan.specs.words.Stretches.{JoinsOn}
@@ -109,12 +105,3 @@ abbrev pub HandNoted : Reduction → MovieSeen → Walk → ℕ → Planning →
 HandNoted l m w room before after stop place rows told told_after =
     (fed : HandFed l m w room before after stop place)
     × (take (length fed.done) rows ≡ map row_seen fed.done) × JoinsOn told told_after fed.done
-
--- A walk that goes on from this place of what it has in hand took the steps to there, and may take
--- the others.
-abbrev pub KeepsOn : MovieSeen → Walk → Place → Type 0
-KeepsOn m w place =
-    (file : List ℕ) (tree : FileTree) (t : TrackTree) (n old : ℕ) → IsOpenedAs file m tree
-    → MayTake file tree t w n
-    → TakesOn file tree t n (record w { place = place }) old
-    (old + (steps_to place - steps_to w.place))

@@ -1,29 +1,21 @@
 -- What planning and writing leave of a store and of a sink. `S` and `K` are what bounds say of
 -- their types.
-use Rattle.std.specs.Prelude.{◌≡◌, ℕ, ◌+◌, ◌*◌, ◌≤◌, List, [], ◌++◌, length, Result, IsTrue, OnOk, IfErr}
+use Rattle.std.specs.Prelude.{◌≡◌, ℕ, ◌+◌, ◌*◌, ◌≤◌, List, [], ◌++◌, length, Result, OnOk, IfErr}
 use Rattle.mp4_boxes.specs.declared.refusal.Refusal.{Refusal}
 use Rattle.mp4_boxes.specs.declared.refusal.Refusal.TheVariants as refusals
-use Rattle.mp4_store.specs.declared.store.Store.{Ghosts as Store}
 use Rattle.mp4_present.specs.format.Denotes.{FileTree, presentation_of}
 use Rattle.mp4_present.specs.words.Carried.{waiting}
 use Rattle.mp4_present.specs.words.Movies.{MovieSeen}
-use Rattle.mp4_present.specs.words.OpenedMovie.{IsOpenedAs}
-use Rattle.mp4_present.specs.declared.without.Without.{Without}
+use Rattle.mp4_content.specs.declared.without.Without.{Without}
 use Rattle.mp4_present.specs.declared.walking.Walk.{Walk}
 use Rattle.mp4_plan.specs.format.Held as memory
-use Rattle.mp4_plan.specs.format.ReducedTimes.{ReducesInLimits}
-use Rattle.mp4_plan.specs.words.LeftTimes.{NamesLong}
+use Rattle.mp4_content.specs.format.ReducedTimes.{ReducesInLimits}
+use Rattle.mp4_content.specs.words.LeftTimes.{NamesLong}
 use Rattle.mp4_plan.specs.words.OwnRooms.{own_rooms}
 use Rattle.mp4_plan.specs.words.PutPieces.{IsHeadLeft}
 use Rattle.mp4_plan.specs.words.Writers.{AreWalksOf, IsWriterOf}
 use Rattle.mp4_plan.specs.declared.writer.TheConstants.{MOST_WAITING, PIECE}
 use Rattle.mp4_plan.specs.declared.writer.Writer.{Writer}
-
--- over an honest store that has the file from which the movie was opened: this is true of it
-abbrev pub OverOpened : {X : Type 0} → Store X → X → MovieSeen → (List ℕ → FileTree → Type 0)
-    → Type 0
-OverOpened S store m P = IsTrue (S.is_honest store) → (tree : FileTree)
-    → IsOpenedAs (S.file store) m tree → P (S.file store) tree
 
 -- at Ok, and where a put failed, what is left has a normal form; a fault is that of the first track
 -- for which it has none, and then nothing was put

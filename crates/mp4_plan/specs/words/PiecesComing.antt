@@ -2,7 +2,8 @@
 -- order of pieces on.
 use Rattle.std.specs.Prelude.{◌≡◌, ◌<◌, ℕ, zero, suc, ◌+◌, ◌*◌, nat_le, ◌&&◌, Bool, false, if◌then◌else◌, List, [], ◌∷◌, ◌++◌, map, flat_map, drop, Option, Some, None}
 use Rattle.mp4_present.specs.format.Presentation.{Track, Presentation}
-use Rattle.mp4_plan.specs.format.Pieces.{TimedSample, timed, is_sync, cuts_after, Piece, by_description, pieces}
+use Rattle.mp4_content.specs.format.TimedSamples.{TimedSample, timed}
+use Rattle.mp4_plan.specs.format.Pieces.{is_sync, cuts_after, Piece, by_description, pieces}
 use Rattle.mp4_plan.specs.declared.ends.End.{End}
 use Rattle.mp4_plan.specs.declared.ends.End.TheVariants.{Sync, Before}
 use Rattle.mp4_plan.specs.declared.schedule.Schedule.{Schedule}

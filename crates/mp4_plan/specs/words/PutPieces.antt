@@ -9,9 +9,9 @@ use Rattle.mp4_head.specs.format.Writing as written
 use Rattle.mp4_head.specs.words.Found.{SaysHead}
 use Rattle.mp4_head.specs.words.Seen.{movie_seen, tracks_seen}
 use Rattle.mp4_head.specs.declared.heads.MovieHead.{MovieHead}
-use Rattle.mp4_present.specs.format.Reduced.{reduce_movie_head, reduce_track_head}
+use Rattle.mp4_content.specs.format.Reduced.{reduce_movie_head, reduce_track_head}
 use Rattle.mp4_present.specs.words.Movies.{MovieSeen, moov_box}
-use Rattle.mp4_present.specs.declared.without.Without.{Without}
+use Rattle.mp4_content.specs.declared.without.Without.{Without}
 use Rattle.mp4_present.specs.declared.track_info.TrackInfo.{TrackInfo}
 use Rattle.mp4_plan.specs.words.Sizes.{moof_sizes}
 use Rattle.mp4_plan.specs.words.Spelling.{moof_front, run_rows}

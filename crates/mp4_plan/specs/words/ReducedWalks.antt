@@ -1,27 +1,21 @@
 -- A walk of which something is left out, said of the store that it reads. `S` is what a bound says
 -- of the store's type.
-use Rattle.std.specs.Prelude.{◌≡◌, ◌<◌, ◌≤◌, ℕ, ◌*◌, ◌^◌, List, length, map, take, slice_index, IsTrue, Result, OnOk}
+use Rattle.std.specs.Prelude.{◌≡◌, ◌<◌, ◌≤◌, ℕ, ◌*◌, ◌^◌, List, length, map, take, slice_index, IsTrue}
 use Rattle.mp4_store.specs.declared.store.Store.{Ghosts as Store}
 use Rattle.mp4_tables.specs.declared.sample.SampleAt.{SampleAt}
 use Rattle.mp4_head.specs.format.Tree.{TrackTree}
 use Rattle.mp4_present.specs.format.Denotes.{FileTree}
 use Rattle.mp4_present.specs.words.Movies.{MovieSeen, IsWalkOf}
 use Rattle.mp4_present.specs.words.OpenedMovie.{IsOpenedAs}
-use Rattle.mp4_plan.specs.declared.reduced.Reduction.{Reduction}
+use Rattle.mp4_content.specs.declared.reduced.Reduction.{Reduction}
 use Rattle.mp4_present.specs.declared.walking.Walk.{Walk}
-use Rattle.mp4_plan.specs.words.ComingLess.{ComesLess}
+use Rattle.mp4_content.specs.words.ComingLess.{ComesLess}
 use Rattle.mp4_plan.specs.words.Stretches.{JoinsOn}
 use Rattle.mp4_plan.specs.words.Taken.{row_seen}
 use Rattle.mp4_plan.specs.words.WriterSteps.{MayWrite}
 use Rattle.mp4_plan.specs.declared.stretches.Stretches.{Stretches}
 use Rattle.mp4_plan.specs.declared.planner.Planned.{Planned}
 use Rattle.mp4_plan.specs.declared.noted_rows.Row.{Row}
-
--- it stays a walk over its track, and keeps its room
-pub record KeepsWalk {T E : Type 0} (m : MovieSeen) (w w_after : Walk) (result : Result T E)
-    : Type 0 where
-  pub walk : OnOk result (IsWalkOf m w_after)
-  pub room : length w_after.bytes.items ≡ length w.bytes.items
 
 -- over an honest store that has the file from which the movie was opened: it is so of what is left
 -- of the samples that the walk has still to come

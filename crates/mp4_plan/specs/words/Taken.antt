@@ -1,16 +1,12 @@
 -- Samples of a file as they are handed out, as those of a presentation; and how a piece of them is
 -- spelled.
-use Rattle.std.specs.Prelude.{◌≡◌, ℕ, ◌^◌, ◌≤◌, true, List, ◌∷◌, ◌++◌, length, map, codes, None, take, drop}
-use Rattle.std.specs.List.{AllByRecursion, AllZip, list_any}
-use Rattle.mp4_boxes.specs.format.Bytes.{AreBytes}
+use Rattle.std.specs.Prelude.{◌≡◌, ℕ, ◌^◌, ◌≤◌, List, ◌∷◌, ◌++◌, length, map, codes, None, take, drop}
+use Rattle.std.specs.List.{AllByRecursion}
 use Rattle.mp4_boxes.specs.format.Written.{header_bytes}
-use Rattle.mp4_store.specs.words.Device.{range}
-use Rattle.mp4_tables.specs.format.Groups.{GroupKey, same_key}
-use Rattle.mp4_tables.specs.words.Timed.{indexes}
+use Rattle.mp4_tables.specs.format.Groups.{GroupKey}
 use Rattle.mp4_tables.specs.declared.sample.SampleAt.{SampleAt}
 use Rattle.mp4_present.specs.words.Joined.{sample_bytes}
-use Rattle.mp4_present.specs.format.Presentation.{IsGroup, IsParameter}
-use Rattle.mp4_plan.specs.format.Pieces.{TimedSample}
+use Rattle.mp4_content.specs.format.TimedSamples.{TimedSample}
 use Rattle.mp4_plan.specs.format.Normal.{first_time, first_description, piece_bytes}
 use Rattle.mp4_plan.specs.words.Gathering.{gather_all, more_of, planned_of}
 use Rattle.mp4_plan.specs.words.Sizes.{moof_sizes}
@@ -21,26 +17,7 @@ use Rattle.mp4_plan.specs.declared.ends.End.{End}
 use Rattle.mp4_plan.specs.declared.moof_front.PieceHead.{PieceHead}
 use Rattle.mp4_plan.specs.declared.planner.Planned.{Planned}
 use Rattle.mp4_plan.specs.declared.noted_rows.Row.{Row}
-
--- A sample of a track with these keys is this one of a presentation: it says the same, and its
--- bytes lie in the file where it says.
-pub record IsTaken (file : List ℕ) (keys : List GroupKey) (a : SampleAt) (s : TimedSample)
-    : Type 0 where
-  pub time : a.dts ≡ s.time
-  pub duration : a.duration ≡ s.sample.duration
-  pub offset : a.cto ≡ s.sample.offset
-  pub flags : a.flags ≡ s.sample.flags
-  pub description : a.description ≡ s.sample.description
-  pub size : a.size ≡ length s.sample.bytes
-  pub bytes : range file a.at a.size ≡ s.sample.bytes
-  pub groups : a.groups ≡ indexes keys s.sample.groups
-  -- its groups are of the keys of the track
-  pub named : AllByRecursion (λ (group : GroupKey × ℕ). list_any (same_key group.0) keys ≡ true)
-      s.sample.groups
-  pub are_groups : AllByRecursion IsGroup s.sample.groups
-
-abbrev pub AreTaken : List ℕ → List GroupKey → List SampleAt → List TimedSample → Type 0
-AreTaken file keys taken samples = AllZip (IsTaken file keys) taken samples
+use Rattle.mp4_content.specs.words.TakenSamples.{AreTaken, IsNamed}
 
 -- what is noted of a sample
 abbrev pub row_seen : SampleAt → Row
@@ -66,12 +43,6 @@ head_of sequence id samples = record {
   time = first_time samples;
   description = first_description samples;
 }
-
--- a key with a type of four bytes, and a parameter of 32 bits
-pub record IsNamed (key : GroupKey) : Type 0 where
-  pub kind_length : length key.kind ≡ 4
-  pub kind : AreBytes key.kind
-  pub parameter : IsParameter key.parameter
 
 -- What is written of some samples, by what was gathered and noted of them, and then their bytes, is
 -- the piece of the normal form.

@@ -2,7 +2,8 @@
 -- lost.
 use Rattle.std.specs.Prelude.{◌≡◌, ℕ, zero, suc, ◌<◌, ◌≤◌, ◌==◌, ◌&&◌, not, Bool, true, List, [], ◌∷◌, ◌++◌, length, take, drop, Option, Some, None}
 use Rattle.std.specs.List.{AllByRecursion, prefix_len}
-use Rattle.mp4_plan.specs.format.Pieces.{TimedSample, Piece}
+use Rattle.mp4_content.specs.format.TimedSamples.{TimedSample}
+use Rattle.mp4_plan.specs.format.Pieces.{Piece}
 use Rattle.mp4_plan.specs.format.Normal.{first_description}
 use Rattle.mp4_plan.specs.words.PiecesComing.{Coming, stops, rest, end_of_first, end_of_other, pieces_left}
 use Rattle.mp4_plan.specs.words.Turns.{track_passed}

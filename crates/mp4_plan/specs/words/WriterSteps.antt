@@ -9,9 +9,9 @@ use Rattle.mp4_present.specs.words.GoingBack.{IsMarkInHand, back_steps}
 use Rattle.mp4_present.specs.words.Movies.{MovieSeen, mark_of}
 use Rattle.mp4_present.specs.words.SamplesComing.{Comes, own_trafs}
 use Rattle.mp4_present.specs.words.WalkSteps.{MayTake, trafs_steps, walk_steps, walks_steps}
-use Rattle.mp4_plan.specs.declared.reduced.Reduction.{Reduction}
+use Rattle.mp4_content.specs.declared.reduced.Reduction.{Reduction}
 use Rattle.mp4_present.specs.declared.walking.Walk.{Walk}
-use Rattle.mp4_plan.specs.words.GoneOn.{ComesMarked, HasLoaded, Stays, GoesPast}
+use Rattle.mp4_content.specs.words.GoneOn.{ComesMarked, HasLoaded, Stays, GoesPast}
 
 -- each of these walks, one for each track, may take some steps, and all may take so many together
 abbrev pub MayAll : (TrackTree → Walk → ℕ → Type 0) → List TrackTree → List Walk → ℕ → Type 0

@@ -9,19 +9,19 @@ use Rattle.mp4_head.specs.format.Tree.{TrackTree}
 use Rattle.mp4_present.specs.format.Denotes.{FileTree}
 use Rattle.mp4_present.specs.words.Movies.{MovieSeen, mark_of}
 use Rattle.mp4_present.specs.words.OpenedMovie.{IsOpenedAs}
-use Rattle.mp4_present.specs.declared.without.Without.{Without}
+use Rattle.mp4_content.specs.declared.without.Without.{Without}
 use Rattle.mp4_present.specs.declared.track_info.TrackInfo.{TrackInfo}
 use Rattle.mp4_present.specs.declared.walking.Walk.{Walk}
 use Rattle.mp4_plan.specs.format.Held as memory
-use Rattle.mp4_plan.specs.words.ComingLess.{ComesLess, left_samples, track_reduction}
-use Rattle.mp4_plan.specs.words.MadeWriters.{OverOpened}
+use Rattle.mp4_content.specs.words.ComingLess.{ComesLess, left_samples, track_reduction, reductions_of}
+use Rattle.mp4_content.specs.words.Opened.{OverOpened}
 use Rattle.mp4_plan.specs.words.ReducedWalks.{HasBounds}
 use Rattle.mp4_plan.specs.words.OwnRooms.{own_rooms}
 use Rattle.mp4_plan.specs.words.UsedKeys.{AreApart}
 use Rattle.mp4_plan.specs.words.WriterSteps.{AllFinishOn, AllTakeOn, AllWriteOn, MayAllBegin, MayAllFinish, MayAllTake, MayAllWrite, WriteAllBegin}
-use Rattle.mp4_plan.specs.words.Writers.{AllBegin, AllCome, AreMarked, AreWalksOf, IsNoted, IsWriterOf, reductions_of}
+use Rattle.mp4_plan.specs.words.Writers.{AllBegin, AllCome, AreMarked, AreWalksOf, IsNoted, IsWriterOf}
 use Rattle.mp4_plan.specs.declared.planner.Planned.{Planned}
-use Rattle.mp4_plan.specs.declared.reduced.Reduction.{Reduction}
+use Rattle.mp4_content.specs.declared.reduced.Reduction.{Reduction}
 use Rattle.mp4_plan.specs.declared.schedule.Turn.{Turn}
 use Rattle.mp4_plan.specs.declared.writer.Noted.{Noted}
 use Rattle.mp4_plan.specs.declared.writer.Writer.{Writer}

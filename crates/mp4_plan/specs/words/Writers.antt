@@ -1,7 +1,6 @@
 -- A writer of the normal form of a movie.
 use Rattle.std.specs.Prelude.{◌≡◌, ℕ, ◌+◌, ◌-◌, ◌^◌, ◌≤◌, max, min, nat_lt, if◌then◌else◌, List, [], ◌∷◌, ◌++◌, length, take, drop, map, fold, Option, Some, None, slice_get, slice_set}
 use Rattle.std.specs.List.{AllByRecursion}
-use Rattle.mp4_store.specs.words.Device.{HasRisen}
 use Rattle.mp4_boxes.specs.declared.refusal.Refusal.{Refusal}
 use Rattle.mp4_boxes.specs.declared.refusal.Refusal.TheVariants as refusals
 use Rattle.mp4_boxes.specs.format.Written.{header_length}
@@ -9,8 +8,8 @@ use Rattle.mp4_head.specs.format.Tree.{TrackTree}
 use Rattle.mp4_head.specs.format.Writing as written
 use Rattle.mp4_tables.specs.format.Groups.{GroupKey}
 use Rattle.mp4_present.specs.words.Carried.{waiting}
-use Rattle.mp4_present.specs.format.Reduced.{ReducesInRange, reduce}
-use Rattle.mp4_present.specs.declared.without.Without.{Without}
+use Rattle.mp4_content.specs.format.Reduced.{ReducesInRange, reduce}
+use Rattle.mp4_content.specs.declared.without.Without.{Without}
 use Rattle.mp4_present.specs.format.Denotes.{FileTree, presentation_of}
 use Rattle.mp4_present.specs.words.Joined.{sample_bytes}
 use Rattle.mp4_present.specs.words.SamplesComing.{traf_total}
@@ -18,9 +17,9 @@ use Rattle.mp4_present.specs.words.Movies.{MovieSeen, IsWalkOf, mark_of}
 use Rattle.mp4_present.specs.format.Presentation.{Presentation, heads, movie_length}
 use Rattle.mp4_present.specs.declared.walking.Walk.{Walk}
 use Rattle.mp4_tables.specs.declared.sample.SampleAt.{SampleAt}
-use Rattle.mp4_plan.specs.words.ComingLess.{ComesLess, left_samples, track_reduction}
+use Rattle.mp4_content.specs.words.ComingLess.{ComesLess, left_samples, track_reduction, reductions_of}
 use Rattle.mp4_plan.specs.words.DueTracks.{IsDueTree}
-use Rattle.mp4_plan.specs.words.GoneOn.{ComesMarked}
+use Rattle.mp4_content.specs.words.GoneOn.{ComesMarked}
 use Rattle.mp4_plan.specs.words.OwnRooms.{own_rooms}
 use Rattle.mp4_plan.specs.words.Sizes.{moof_sizes}
 use Rattle.mp4_plan.specs.format.Pieces.{Piece, pieces}
@@ -31,7 +30,6 @@ use Rattle.mp4_plan.specs.words.Taken.{piece_front, row_seen}
 use Rattle.mp4_plan.specs.declared.moof_front.PieceHead.{PieceHead}
 use Rattle.mp4_plan.specs.declared.planner.Planned.{Planned}
 use Rattle.mp4_plan.specs.words.Gathering.{planned_of, piece_fed, piece_from}
-use Rattle.mp4_plan.specs.declared.reduced.Reduction.{Reduction}
 use Rattle.mp4_plan.specs.declared.schedule.Turn.{Turn}
 use Rattle.mp4_plan.specs.declared.writer.Noted.{Noted}
 use Rattle.mp4_plan.specs.declared.writer.Writer.{Writer}
@@ -57,13 +55,6 @@ RefusesMemory refusals.Memory = Unit {0}
 RefusesMemory refusals.StoreChanged = Unit {0}
 RefusesMemory _ = ⊥
 
--- Why a movie is not planned. The numbers are counts of failed reads, before and after.
-abbrev pub RefusesPlan : ℕ → ℕ → Refusal → Type 0
-RefusesPlan reads reads_after refusals.Memory = Unit {0}
-RefusesPlan reads reads_after refusals.StoreFailed = HasRisen reads reads_after
-RefusesPlan reads reads_after refusals.StoreChanged = Unit {0}
-RefusesPlan reads reads_after _ = ⊥
-
 -- what a piece of so many samples says once, of which the first is this one
 abbrev pub turn_head : ℕ → ℕ → ℕ → Option SampleAt → Option PieceHead
 turn_head sequence id count None = None
@@ -86,10 +77,6 @@ AllCome l file tree m (t ∷ trees) (w ∷ walks) (samples ∷ more) =
     ComesLess (track_reduction l tree t) file tree t m w samples
     × AllCome l file tree m trees walks more
 AllCome l file tree m _ _ _ = ⊥
-
--- by what the samples of each track are left
-abbrev pub reductions_of : Without → FileTree → List Reduction
-reductions_of l tree = map (track_reduction l tree) tree.movie.tracks
 
 -- for each track a walk from its first sample on
 abbrev pub AllBegin : Without → List ℕ → FileTree → MovieSeen → List Walk → Type 0

@@ -142,6 +142,13 @@ fn due_first(start: u64, time: u128) -> u64
 }
 
 impl Walk {
+    /// The place of its track among those of the movie.
+    pub fn track(&self) -> usize
+        ensures { result ≡ self.now.track }
+    {
+        self.track
+    }
+
     /// The samples left of what is in memory: of the tables, or of a `traf`.
     pub fn in_hand<'a>(&'a self, movie: &'a Movie) -> Loaded<'a>
         requires { IsWalkOf movie.now self.now }

@@ -33,8 +33,8 @@ impl Walk {
         sample
     }
 
-    // The next sample of the track, which is taken. Where it has none, the store has changed.
-    pub(crate) fn next_sample<S: Store, L: Ledger>(
+    /// The next sample of the track, which is taken. Where it has none, the store has changed.
+    pub fn next_sample<S: Store, L: Ledger>(
         &mut self,
         movie: &Movie,
         store: &mut S,

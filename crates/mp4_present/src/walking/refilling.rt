@@ -13,9 +13,9 @@ use mp4_tables::Samples;
 use std::sync::ledger::Ledger;
 
 impl Walk {
-    // Reads the next `traf` where nothing is left in hand: the same samples come. Where there is
-    // none, the store has changed.
-    pub(crate) fn refill<S: Store, L: Ledger>(
+    /// Reads the next `traf` where nothing is left in hand: the same samples come. Where there is
+    /// none, the store has changed.
+    pub fn refill<S: Store, L: Ledger>(
         &mut self,
         movie: &Movie,
         store: &mut S,

@@ -2,7 +2,7 @@
 use mp4_answers::box_names::Name;
 use mp4_answers::commands::compare::Listing;
 use mp4_answers::jobs::{Job, VerdictStyle};
-use mp4_present::Without;
+use mp4_content::Without;
 use std::alloc::AllocError;
 
 /// What is read: standard input, the file of this name, or those that a list names, one after the

@@ -15,7 +15,7 @@ use mp4_answers::box_names::Name;
 use mp4_answers::commands::compare::{Lines, Listing};
 use mp4_answers::jobs::{Form, Job, Syntax, VerdictStyle};
 use mp4_answers::without_words::{leaving_both, leaving_of};
-use mp4_present::Without;
+use mp4_content::Without;
 use std::alloc::{AllocError, Global};
 
 // What may be wrong with words that clap accepts.

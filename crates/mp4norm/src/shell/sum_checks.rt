@@ -12,7 +12,7 @@ use mp4_answers::text::digits::DIGEST;
 use mp4_answers::text::fault_text::{fault_line, status};
 use mp4_answers::text::sum_lines::{ListedSum, listed_sum, push_name};
 use mp4_boxes::Refusal;
-use mp4_present::Without;
+use mp4_content::Without;
 use mp4_store::{IoSink, Sink};
 use std::alloc::{AllocError, Global};
 use std::sync::ledger::Ledger;

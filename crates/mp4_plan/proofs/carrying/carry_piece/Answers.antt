@@ -5,12 +5,12 @@ use Rattle.mp4_present.proofs.Carrying.{GoOnBy-none, GoOnBy-then}
 use Rattle.mp4_present.proofs.WalkPlaces.{kept_on}
 use Rattle.mp4_plan.proofs.HandsCarried.{carried_none}
 use Rattle.mp4_plan.proofs.PieceCarried.{hand_carried, carried_all, next_carried, hand_fails, hand_there, front_carried, no_bytes_left, none_left_to_carry}
-use Rattle.mp4_plan.proofs.HandsTaken.{hand_kept}
+use Rattle.mp4_content.proofs.WalksOn.{hand_kept}
 use Rattle.mp4_present.specs.words.SamplesComing.{Comes}
 use Rattle.mp4_present.specs.words.Movies.{InHandOf}
 use Rattle.mp4_present.proofs.WayThrough.{takes_none}
-use Rattle.mp4_plan.proofs.CourseSteps.{hand_keeps, keeps_before, loads_before, most_before, fails_before, as_many}
-use Rattle.mp4_plan.proofs.WalksGone.{went_none, went_kept, went_loaded}
+use Rattle.mp4_content.proofs.CourseSteps.{hand_keeps, keeps_before, loads_before, most_before, fails_before, as_many}
+use Rattle.mp4_content.proofs.WalksGone.{went_none, went_kept, went_loaded}
 use Rattle.mp4_plan.proofs.carrying.carry_piece.Goals as goal
 use Rattle.mp4_plan.proofs.carrying.carry_piece.Goals.{else-left-eq0-via-then-left-eq0+else-left-eq0-2, else-left-eq0-via-else-left-eq0, then-left-eq0-3-via-then-left-eq0-3, then-left-eq0-3-via-else-left-eq0-3+in_ok-load+then-not-branch}
 

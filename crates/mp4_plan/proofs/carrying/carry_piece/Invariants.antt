@@ -4,7 +4,7 @@ use Rattle.mp4_present.specs.words.Carried.{GoOnBy, waiting}
 use Rattle.mp4_present.specs.words.Movies.{IsWalkOf}
 use Rattle.mp4_plan.proofs.PieceCarried.{CarriesOn}
 use Rattle.mp4_present.proofs.WayThrough.{TakesBefore}
-use Rattle.mp4_plan.specs.words.GoneOn.{WentOn}
+use Rattle.mp4_content.specs.words.GoneOn.{WentOn}
 use Rattle.mp4_plan.proofs.carrying.carry_piece.Given as goal
 
 -- the walk goes on, and the bytes of the samples before are taken along

@@ -1,8 +1,8 @@
 use Rattle.mp4_present.specs.declared.walking.loaded.Loaded.TheVariants as hands
 use Rattle.mp4_present.specs.declared.walking.loaded.Place.TheVariants as places
 use Rattle.mp4_present.proofs.WalkPlaces.{kept_on}
-use Rattle.mp4_plan.proofs.HandsTaken.{hand_kept}
-use Rattle.mp4_plan.proofs.CourseSteps.{hand_keeps}
+use Rattle.mp4_content.proofs.WalksOn.{hand_kept}
+use Rattle.mp4_content.proofs.CourseSteps.{hand_keeps}
 use Rattle.mp4_plan.proofs.counting.count_hand.Goals as goal
 
 pub returns-in-Tables-clause-place : goal.returns-in-Tables-clause-place

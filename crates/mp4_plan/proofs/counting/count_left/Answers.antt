@@ -1,9 +1,9 @@
 use Rattle.std.proofs.Common.{rules, ◌≡◌, true, sym, subst, List, slice_get}
 use Rattle.mp4_tables.specs.declared.sample.SampleAt.{SampleAt}
-use Rattle.mp4_present.specs.format.Reduced.{keeps_samples}
+use Rattle.mp4_content.specs.format.Reduced.{keeps_samples}
 use Rattle.mp4_plan.specs.words.Counting.{StopsAt}
 use Rattle.mp4_plan.specs.words.Ends.{goes_in}
-use Rattle.mp4_plan.proofs.ReducedTaken.{all_kept}
+use Rattle.mp4_content.proofs.ReducedTaken.{all_kept}
 use Rattle.mp4_plan.proofs.counting.count_left.Goals as goal
 
 pub returns-then-keeps_samples-clause-counts : goal.returns-then-keeps_samples-clause-counts

@@ -4,7 +4,7 @@ use Rattle.mp4_present.specs.words.Movies.{InHandOf}
 use Rattle.mp4_present.proofs.WayThrough.{takes_none}
 use Rattle.mp4_plan.specs.words.Ends.{goes_in}
 use Rattle.mp4_plan.proofs.HandsCounted.{counts_new, hand_counted, count_ended, count_full, count_empty, next_counted, none_counted}
-use Rattle.mp4_plan.proofs.CourseSteps.{keeps_before, loads_before, most_before, fails_before}
+use Rattle.mp4_content.proofs.CourseSteps.{keeps_before, loads_before, most_before, fails_before}
 use Rattle.mp4_plan.proofs.counting.count_piece.Goals as goal
 
 pub loop-sample-init : goal.loop-sample-init

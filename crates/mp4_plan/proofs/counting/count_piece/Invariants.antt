@@ -1,5 +1,5 @@
 use Rattle.std.specs.Prelude.{IsTrue}
-use Rattle.std.proofs.Common.{◌≡◌, ◌-◌, ◌≤◌, length}
+use Rattle.std.proofs.Common.{◌≡◌, ◌≤◌, length}
 use Rattle.mp4_present.specs.words.Movies.{IsWalkOf}
 use Rattle.mp4_present.proofs.WayThrough.{TakesBefore}
 use Rattle.mp4_plan.specs.words.Ends.{goes_in}

@@ -1,9 +1,9 @@
 use Rattle.std.proofs.Common.{rules, arith, ◌<◌, length, slice_set, ◌∙◌}
 use Rattle.std.proofs.lemmas.Option.{slice_get-get_or}
 use Rattle.std.proofs.lemmas.Result.{err_from_is_err_and}
-use Rattle.mp4_plan.specs.words.ComingLess.{track_reduction}
+use Rattle.mp4_content.specs.words.ComingLess.{track_reduction}
 use Rattle.mp4_plan.proofs.AllTake.{one_takes, one_stops}
-use Rattle.mp4_plan.proofs.CarriedParts.{read_at}
+use Rattle.mp4_content.proofs.AtPlaces.{read_at}
 use Rattle.mp4_plan.proofs.NextSamples.{noted_more, noted_all, come_length, rooms_set}
 use Rattle.mp4_plan.proofs.Planning.{comes_there, reduced_there, same_come, walks_set}
 use Rattle.mp4_plan.specs.words.WriterSteps.{MayWrite}

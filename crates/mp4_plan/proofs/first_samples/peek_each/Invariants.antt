@@ -1,9 +1,10 @@
 use Rattle.std.proofs.Common.{◌≡◌, ◌≤◌, ℕ, List, length, take}
 use Rattle.mp4_tables.specs.declared.sample.SampleAt.{SampleAt}
 use Rattle.mp4_plan.specs.words.WriterSteps.{MayAllTake, AllTakeOn, MayAllWrite, AllWriteOn}
-use Rattle.mp4_plan.specs.words.MadeWriters.{OverOpened}
-use Rattle.mp4_plan.specs.words.Writers.{AreMarked, AreWalksOf, AllCome, firsts, reductions_of}
-use Rattle.mp4_present.specs.declared.without.Without.{Without}
+use Rattle.mp4_content.specs.words.Opened.{OverOpened}
+use Rattle.mp4_plan.specs.words.Writers.{AreMarked, AreWalksOf, AllCome, firsts}
+use Rattle.mp4_content.specs.words.ComingLess.{reductions_of}
+use Rattle.mp4_content.specs.declared.without.Without.{Without}
 use Rattle.mp4_plan.specs.format.Held.{rooms}
 use Rattle.mp4_plan.proofs.first_samples.peek_each.Given as goal
 

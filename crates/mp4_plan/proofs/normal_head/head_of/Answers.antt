@@ -3,8 +3,8 @@ use Rattle.mp4_head.specs.format.Writing.{head_bytes}
 use Rattle.mp4_head.specs.words.Seen.{movie_seen, tracks_seen}
 use Rattle.mp4_present.specs.format.Denotes.{presentation_of}
 use Rattle.mp4_present.specs.format.Presentation.{movie_length}
-use Rattle.mp4_present.specs.format.Reduced.{reduce}
-use Rattle.mp4_plan.proofs.HeadLess as less
+use Rattle.mp4_content.specs.format.Reduced.{reduce}
+use Rattle.mp4_plan.proofs.NormalHead as less
 use Rattle.mp4_plan.proofs.HeadLimit.{moov_fits}
 use Rattle.mp4_plan.proofs.normal_head.head_of.Goals as goal
 

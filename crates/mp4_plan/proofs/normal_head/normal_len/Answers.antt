@@ -3,8 +3,8 @@ use Rattle.std.specs.Prelude.{IfOk}
 use Rattle.mp4_present.specs.format.Denotes.{presentation_of}
 use Rattle.mp4_present.specs.format.Presentation.{Presentation}
 use Rattle.mp4_plan.specs.format.Normal.{normal}
-use Rattle.mp4_plan.specs.format.ReducedLaws.{nothing}
-use Rattle.mp4_plan.proofs.Reducing.{nothing_reduces}
+use Rattle.mp4_content.specs.format.ReducedLaws.{nothing}
+use Rattle.mp4_content.proofs.Reducing.{nothing_reduces}
 use Rattle.mp4_plan.proofs.LeftRefused.{planned_left}
 use Rattle.mp4_plan.proofs.normal_head.normal_len.Goals as goal
 

@@ -1,8 +1,8 @@
 use Rattle.mp4_present.specs.format.Denotes.{presentation_of}
 use Rattle.mp4_present.specs.format.Presentation.{movie_length}
-use Rattle.mp4_present.specs.format.Reduced.{reduce}
-use Rattle.mp4_plan.proofs.HeadLess as less
-use Rattle.mp4_plan.proofs.HeadLess.{less_long}
+use Rattle.mp4_content.specs.format.Reduced.{reduce}
+use Rattle.mp4_plan.proofs.NormalHead as less
+use Rattle.mp4_plan.proofs.NormalHead.{less_long}
 use Rattle.mp4_plan.proofs.normal_head.reduced_len.Goals as goal
 
 pub returns-clause-length : goal.returns-clause-length

@@ -1,14 +1,14 @@
-use Rattle.mp4_present.specs.declared.without.Without.{Without}
+use Rattle.mp4_content.specs.declared.without.Without.{Without}
 use Rattle.std.proofs.Common.{rules, ◌⊎◌, List, Option, ◌<◌, slice_set, get_or, length, arith, ap, sym, subst, refl, ◌∙◌, slice_get}
 use Rattle.std.proofs.lemmas.Result.{err_from_is_err_and}
 use Rattle.std.proofs.lemmas.Option.{slice_get_read}
 use Rattle.mp4_tables.specs.words.Keys.{keys_seen}
 use Rattle.mp4_present.specs.declared.track_info.TrackInfo.{TrackInfo}
 use Rattle.mp4_present.specs.words.WalkSteps.{walks_steps}
-use Rattle.mp4_plan.specs.words.ComingLess.{track_reduction}
+use Rattle.mp4_content.specs.words.ComingLess.{track_reduction}
 use Rattle.mp4_plan.specs.declared.planner.Planned.{Planned}
 use Rattle.mp4_plan.proofs.AllTake.{one_takes, one_stops}
-use Rattle.mp4_plan.proofs.CarriedParts.{read_at}
+use Rattle.mp4_content.proofs.AtPlaces.{read_at}
 use Rattle.mp4_plan.proofs.PieceCounts.{piece_counts}
 use Rattle.mp4_plan.proofs.Planning.{reduced_there, walks_set}
 use Rattle.mp4_plan.proofs.PlannedTurns.{Adds, kept_there, has_turn, no_more, turn_leads, length_first, length_end, length_next, length_skips}

@@ -4,8 +4,9 @@ use Rattle.mp4_present.specs.format.Denotes.{FileTree, presentation_of}
 use Rattle.mp4_present.specs.words.OpenedMovie.{IsOpenedAs}
 use Rattle.mp4_plan.specs.words.Turns.{IsSomeLeft, infos_left, movie_turns, turns_left}
 use Rattle.mp4_plan.specs.words.DueTracks.{IsDueAt}
-use Rattle.mp4_plan.specs.words.Writers.{AreWalksOf, reductions_of}
-use Rattle.mp4_present.specs.format.Reduced.{ReducesInRange}
+use Rattle.mp4_plan.specs.words.Writers.{AreWalksOf}
+use Rattle.mp4_content.specs.words.ComingLess.{reductions_of}
+use Rattle.mp4_content.specs.format.Reduced.{ReducesInRange}
 use Rattle.mp4_plan.proofs.PlannedTurns.{IsLength}
 use Rattle.mp4_present.specs.words.WalkSteps.{walks_steps}
 use Rattle.mp4_plan.specs.words.WriterSteps.{AllTakeOn}

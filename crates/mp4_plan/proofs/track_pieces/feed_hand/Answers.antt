@@ -2,8 +2,9 @@ use Rattle.std.proofs.Common.{ap, ◌∙◌}
 use Rattle.mp4_present.proofs.WalkPlaces.{kept_on}
 use Rattle.mp4_plan.specs.declared.planner.Planned.{Planned}
 use Rattle.mp4_plan.proofs.PlannerSteps.{planned_counts}
-use Rattle.mp4_plan.proofs.HandsTaken.{fed_stops, fed_counts, hand_kept}
-use Rattle.mp4_plan.proofs.CourseSteps.{hand_keeps}
+use Rattle.mp4_plan.proofs.HandsTaken.{fed_stops, fed_counts}
+use Rattle.mp4_content.proofs.WalksOn.{hand_kept}
+use Rattle.mp4_content.proofs.CourseSteps.{hand_keeps}
 use Rattle.mp4_plan.proofs.track_pieces.feed_hand.Goals as goal
 
 pub returns-clause-place : goal.returns-clause-place

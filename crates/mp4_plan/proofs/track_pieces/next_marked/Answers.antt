@@ -1,8 +1,8 @@
 use Rattle.std.proofs.Common.{◌≡◌, length, refl, ap, ◌∙◌}
 use Rattle.std.proofs.lemmas.Result.{err_from_is_err_and}
 use Rattle.mp4_present.specs.words.Movies.{mark_of}
-use Rattle.mp4_plan.specs.words.ComingLess.{less}
-use Rattle.mp4_plan.proofs.WalksGone.{as_many_left, marked_ahead, marked_is, to_come_is}
+use Rattle.mp4_content.specs.words.ComingLess.{less}
+use Rattle.mp4_content.proofs.WalksGone.{as_many_left, marked_ahead, marked_is, to_come_is}
 use Rattle.mp4_plan.proofs.WritingSteps.{writes_next}
 use Rattle.mp4_plan.proofs.track_pieces.next_marked.Goals as goal
 

@@ -5,8 +5,9 @@ use Rattle.mp4_present.specs.declared.walking.loaded.Place.TheVariants as places
 use Rattle.mp4_plan.specs.words.Stretches.{JoinsOn}
 use Rattle.mp4_present.proofs.WalkPlaces.{kept_on}
 use Rattle.mp4_plan.proofs.HandSteps.{notes_take, notes_left, notes_seen, notes_joined}
-use Rattle.mp4_plan.proofs.HandsTaken.{fed_stops, fed_counts, hand_kept}
-use Rattle.mp4_plan.proofs.CourseSteps.{hand_keeps}
+use Rattle.mp4_plan.proofs.HandsTaken.{fed_stops, fed_counts}
+use Rattle.mp4_content.proofs.WalksOn.{hand_kept}
+use Rattle.mp4_content.proofs.CourseSteps.{hand_keeps}
 use Rattle.mp4_plan.proofs.track_pieces.note_hand.Goals as goal
 
 pub returns-in-Tables-clause-place : goal.returns-in-Tables-clause-place

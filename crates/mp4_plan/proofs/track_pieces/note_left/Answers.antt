@@ -1,9 +1,9 @@
 use Rattle.std.proofs.Common.{rules, ◌≡◌, ◌-◌, true, sym, subst, List, take}
 use Rattle.mp4_tables.specs.declared.sample.SampleAt.{SampleAt}
-use Rattle.mp4_present.specs.format.Reduced.{keeps_samples}
+use Rattle.mp4_content.specs.format.Reduced.{keeps_samples}
 use Rattle.mp4_plan.specs.words.Gathering.{count_of}
 use Rattle.mp4_plan.specs.words.Stretches.{JoinsOn}
-use Rattle.mp4_plan.proofs.ReducedTaken.{all_kept}
+use Rattle.mp4_content.proofs.ReducedTaken.{all_kept}
 use Rattle.mp4_plan.proofs.track_pieces.note_left.Goals as goal
 
 pub returns-then-keeps_samples-clause-noted : goal.returns-then-keeps_samples-clause-noted

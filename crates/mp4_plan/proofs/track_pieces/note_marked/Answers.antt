@@ -1,11 +1,11 @@
 use Rattle.std.proofs.Common.{rules, ◌<◌, length, drop, refl, sym, ap, subst, ◌∙◌, arith}
 use Rattle.std.proofs.lemmas.Result.{err_from_is_err_and}
 use Rattle.mp4_present.specs.words.Movies.{mark_of}
-use Rattle.mp4_plan.specs.words.ComingLess.{ComesLess, less}
+use Rattle.mp4_content.specs.words.ComingLess.{ComesLess, less}
 use Rattle.mp4_plan.specs.declared.planner.Planned.{Planned}
 use Rattle.mp4_plan.proofs.PieceCounts.{piece_counts, piece_within}
-use Rattle.mp4_plan.proofs.ReducedTaken.{less_length}
-use Rattle.mp4_plan.proofs.WalksGone.{comes_marked, to_come_is}
+use Rattle.mp4_content.proofs.ReducedTaken.{less_length}
+use Rattle.mp4_content.proofs.WalksGone.{comes_marked, to_come_is}
 use Rattle.mp4_plan.proofs.WritingSteps.{finishes_noted}
 use Rattle.mp4_plan.proofs.track_pieces.note_marked.Goals as goal
 use Rattle.mp4_plan.proofs.track_pieces.note_marked.Goals.{then-planned-eq0-via-then-planned-eq0, then-planned-eq0-via-else-planned-eq0+then-planned-left}

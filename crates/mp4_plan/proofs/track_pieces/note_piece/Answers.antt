@@ -7,8 +7,8 @@ use Rattle.mp4_plan.proofs.PieceFed.{hand_fed, hand_ended, hand_full, hand_noted
 use Rattle.mp4_plan.proofs.PlannerSteps.{planned_counts}
 use Rattle.mp4_plan.specs.declared.planner.Planned.{Planned}
 use Rattle.mp4_present.proofs.WayThrough.{takes_none}
-use Rattle.mp4_plan.proofs.CourseSteps.{keeps_before, loads_before, most_before, fails_before}
-use Rattle.mp4_plan.proofs.WalksGone.{went_none, went_kept, went_loaded, went_ended}
+use Rattle.mp4_content.proofs.CourseSteps.{keeps_before, loads_before, most_before, fails_before}
+use Rattle.mp4_content.proofs.WalksGone.{went_none, went_kept, went_loaded, went_ended}
 use Rattle.mp4_plan.proofs.track_pieces.note_piece.Goals as goal
 
 pub loop-planner-init : goal.loop-planner-init

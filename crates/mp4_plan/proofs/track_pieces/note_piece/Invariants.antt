@@ -1,10 +1,10 @@
 use Rattle.std.specs.Prelude.{IsTrue}
-use Rattle.std.proofs.Common.{◌≡◌, ◌-◌, ◌≤◌, length}
+use Rattle.std.proofs.Common.{◌≡◌, ◌≤◌, length}
 use Rattle.mp4_present.specs.words.Movies.{IsWalkOf}
 use Rattle.mp4_plan.specs.words.Gathering.{count_of, piece_from}
 use Rattle.mp4_plan.proofs.PieceFed.{FeedsOn, NotesOn, JoinsFor}
 use Rattle.mp4_present.proofs.WayThrough.{TakesBefore}
-use Rattle.mp4_plan.specs.words.GoneOn.{WentOn}
+use Rattle.mp4_content.specs.words.GoneOn.{WentOn}
 use Rattle.mp4_plan.proofs.track_pieces.note_piece.Given as goal
 
 -- the walk goes on, and the piece is fed and noted

@@ -5,7 +5,7 @@ use Rattle.mp4_plan.specs.words.Gathering.{Planning, planned_of, piece_from}
 use Rattle.mp4_plan.proofs.PieceFed.{hand_fed, hand_ended, hand_full, next_fed, none_fed, feeds_new}
 use Rattle.mp4_plan.proofs.HandsTaken.{few_more}
 use Rattle.mp4_present.proofs.WayThrough.{takes_none}
-use Rattle.mp4_plan.proofs.CourseSteps.{keeps_before, loads_before, most_before, fails_before}
+use Rattle.mp4_content.proofs.CourseSteps.{keeps_before, loads_before, most_before, fails_before}
 use Rattle.mp4_plan.proofs.track_pieces.plan_piece.Goals as goal
 
 pub loop-planner-init : goal.loop-planner-init

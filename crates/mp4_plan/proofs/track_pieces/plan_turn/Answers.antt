@@ -2,7 +2,7 @@ use Rattle.std.proofs.Common.{List, sym, ap, subst, ◌∙◌}
 use Rattle.std.specs.Prelude.{slice_get}
 use Rattle.std.proofs.lemmas.Result.{err_from_is_err_and}
 use Rattle.mp4_tables.specs.declared.sample.SampleAt.{SampleAt}
-use Rattle.mp4_plan.specs.words.ComingLess.{ComesLess}
+use Rattle.mp4_content.specs.words.ComingLess.{ComesLess}
 use Rattle.mp4_present.proofs.WayThrough.{takes_none}
 use Rattle.mp4_plan.specs.words.Gathering.{Planning, planned_of, piece_from, samples_after}
 use Rattle.mp4_plan.proofs.NextSamples.{none_goes}

@@ -1,5 +1,5 @@
 use Rattle.std.proofs.Common.{sym, ◌∙◌}
-use Rattle.mp4_plan.proofs.ReducedTaken.{first_less, none_less}
+use Rattle.mp4_content.proofs.ReducedTaken.{first_less, none_less}
 use Rattle.mp4_plan.proofs.track_pieces.reduced_next.Goals as goal
 
 pub returns-in-Some-clause-is : goal.returns-in-Some-clause-is

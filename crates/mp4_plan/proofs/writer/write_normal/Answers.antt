@@ -4,8 +4,8 @@ use Rattle.mp4_store.specs.words.Device.{TakesPrefix}
 use Rattle.mp4_present.specs.format.Denotes.{presentation_of}
 use Rattle.mp4_present.specs.format.Presentation.{Presentation}
 use Rattle.mp4_plan.specs.format.Normal.{normal}
-use Rattle.mp4_plan.specs.format.ReducedLaws.{nothing}
-use Rattle.mp4_plan.proofs.Reducing.{nothing_reduces}
+use Rattle.mp4_content.specs.format.ReducedLaws.{nothing}
+use Rattle.mp4_content.proofs.Reducing.{nothing_reduces}
 use Rattle.mp4_plan.proofs.LeftRefused.{copied_left}
 use Rattle.mp4_plan.proofs.writer.write_normal.Goals as goal
 

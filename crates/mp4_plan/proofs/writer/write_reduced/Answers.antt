@@ -4,9 +4,9 @@ use Rattle.std.specs.Prelude.{OnOk, OnErr}
 use Rattle.mp4_store.specs.words.Device.{TakesPrefix}
 use Rattle.mp4_store.proofs.Known.{TakesPrefix-nothing}
 use Rattle.mp4_present.specs.format.Denotes.{presentation_of}
-use Rattle.mp4_present.specs.declared.without.Without.{Without}
-use Rattle.mp4_present.specs.format.Reduced.{reduce}
-use Rattle.mp4_plan.specs.format.ReducedTimes.{ReducesInLimits}
+use Rattle.mp4_content.specs.declared.without.Without.{Without}
+use Rattle.mp4_content.specs.format.Reduced.{reduce}
+use Rattle.mp4_content.specs.format.ReducedTimes.{ReducesInLimits}
 use Rattle.mp4_present.proofs.WalkCopied.{on_ok}
 use Rattle.mp4_plan.specs.format.Normal.{normal}
 use Rattle.mp4_plan.specs.words.Writers.{IsReady}

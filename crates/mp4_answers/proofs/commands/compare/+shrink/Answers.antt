@@ -1,7 +1,7 @@
 use Rattle.std.proofs.Common.{rules, ◌≡◌, ◌∷◌, length}
 use Rattle.std.proofs.lemmas.Result.{err_from_is_err_and}
 use Rattle.mp4_present.specs.words.WalkSteps.{walks_steps}
-use Rattle.mp4_present.specs.words.Compared.{files_differ}
+use Rattle.mp4_content.specs.words.Compared.{files_differ}
 use Rattle.mp4_answers.specs.words.Compares.{IsShrunk}
 use Rattle.mp4_answers.specs.words.TwoFiles.{OfBoth}
 use Rattle.mp4_answers.proofs.ComparedFiles.{one_of_more, one_more_time}

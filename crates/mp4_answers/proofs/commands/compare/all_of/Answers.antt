@@ -1,5 +1,5 @@
 use Rattle.std.proofs.Common.{rules, inl, inr}
-use Rattle.mp4_present.specs.words.Compared.{files_differ}
+use Rattle.mp4_content.specs.words.Compared.{files_differ}
 use Rattle.mp4_answers.proofs.ComparedFiles.{listed_front}
 use Rattle.mp4_answers.proofs.commands.compare.all_of.Goals.{else-not-is_whole-via-then-not-is_whole+else-len-le-MOST, else-not-is_whole-via-else-not-is_whole}
 use Rattle.mp4_answers.proofs.commands.compare.all_of.Goals as goal

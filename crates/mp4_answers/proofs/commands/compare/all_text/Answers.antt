@@ -1,7 +1,7 @@
 use Rattle.std.proofs.Common.{rules, ◌≡◌, ℕ, nat_le, length, take, sym, ap, ◌∙◌, arith}
 use Rattle.std.proofs.lemmas.Result.{err_from_is_err_and}
 use Rattle.mp4_present.specs.words.WalkSteps.{walks_steps}
-use Rattle.mp4_present.specs.words.Compared.{files_differ}
+use Rattle.mp4_content.specs.words.Compared.{files_differ}
 use Rattle.mp4_answers.proofs.ComparedFiles.{empty_listed, listing_walks, one_of_times, some_listed}
 use Rattle.mp4_answers.specs.format.CompareHeadline.{most_counted, most_walks}
 use Rattle.mp4_answers.proofs.ComparedTexts.{counted_listed}

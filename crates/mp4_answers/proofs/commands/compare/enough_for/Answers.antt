@@ -1,7 +1,7 @@
 use Rattle.std.proofs.Common.{◌+◌, length, arith}
 use Rattle.std.proofs.lemmas.Result.{err_from_is_err_and}
 use Rattle.mp4_present.specs.words.WalkSteps.{walks_steps}
-use Rattle.mp4_present.specs.words.Compared.{files_differ}
+use Rattle.mp4_content.specs.words.Compared.{files_differ}
 use Rattle.mp4_answers.specs.format.CompareHeadline.{word_count}
 use Rattle.mp4_answers.specs.words.SingleWords.{single_words}
 use Rattle.mp4_answers.proofs.ComparedFiles.{few_times_of, walks_joined}

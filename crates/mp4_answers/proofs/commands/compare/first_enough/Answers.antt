@@ -1,7 +1,7 @@
 use Rattle.std.proofs.Common.{arith}
 use Rattle.std.proofs.lemmas.Result.{err_from_is_err_and}
 use Rattle.mp4_present.specs.words.WalkSteps.{walks_steps}
-use Rattle.mp4_present.specs.words.Compared.{files_differ}
+use Rattle.mp4_content.specs.words.Compared.{files_differ}
 use Rattle.mp4_answers.specs.words.SingleWords.{everything}
 use Rattle.mp4_answers.proofs.ComparedFiles.{one_of_times, two_walks}
 use Rattle.mp4_answers.proofs.ComparedTexts.{none_found, some_found}

@@ -1,4 +1,4 @@
-use Rattle.mp4_present.specs.words.Compared.{files_differ}
+use Rattle.mp4_content.specs.words.Compared.{files_differ}
 use Rattle.mp4_answers.proofs.ComparedTexts.{same_none, same_some}
 use Rattle.mp4_answers.proofs.commands.compare.is_enough.Goals as goal
 

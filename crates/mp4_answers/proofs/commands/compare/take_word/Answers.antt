@@ -1,6 +1,6 @@
 use Rattle.std.proofs.Common.{sym, ◌∙◌}
 use Rattle.std.proofs.lemmas.Result.{err_from_is_err_and}
-use Rattle.mp4_present.specs.words.Compared.{files_differ}
+use Rattle.mp4_content.specs.words.Compared.{files_differ}
 use Rattle.mp4_answers.proofs.ComparedTexts.{no_word_taken, word_kept, word_taken}
 use Rattle.mp4_answers.proofs.WordSets.{equal_words}
 use Rattle.mp4_answers.proofs.commands.compare.take_word.Goals as goal

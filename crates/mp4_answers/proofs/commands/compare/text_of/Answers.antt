@@ -1,6 +1,6 @@
 use Rattle.std.proofs.Common.{sym, ◌∙◌, arith}
 use Rattle.mp4_present.specs.words.WalkSteps.{walks_steps}
-use Rattle.mp4_present.specs.words.Compared.{files_differ}
+use Rattle.mp4_content.specs.words.Compared.{files_differ}
 use Rattle.mp4_answers.specs.format.CompareHeadline.{most_walks}
 use Rattle.mp4_answers.proofs.ComparedFiles.{first_said, one_of_times}
 use Rattle.mp4_answers.proofs.commands.compare.text_of.Goals as goal

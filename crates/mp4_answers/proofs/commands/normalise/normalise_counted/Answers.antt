@@ -1,6 +1,6 @@
 use Rattle.std.proofs.Common.{◌∙◌, arith}
 use Rattle.std.proofs.lemmas.Result.{err_from_is_err_and, on_ok_weaker}
-use Rattle.mp4_plan.specs.format.ReducedLaws.{nothing}
+use Rattle.mp4_content.specs.format.ReducedLaws.{nothing}
 use Rattle.mp4_answers.proofs.StepSums.{opened_least}
 use Rattle.mp4_answers.proofs.StepsTaken.{not_opened, written_within}
 use Rattle.mp4_answers.proofs.LooksTaken.{not_found, not_turned, turns_taken}

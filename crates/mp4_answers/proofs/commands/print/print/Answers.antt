@@ -2,9 +2,9 @@ use Rattle.std.proofs.Common.{arith, ap, subst, map, ◌∙◌, [], ◌++◌}
 use Rattle.std.proofs.lemmas.Result.{err_from_is_err_and, on_ok_weaker}
 use Rattle.mp4_head.specs.format.Head.{MovieHead}
 use Rattle.mp4_store.specs.words.Device.{TakesPrefix}
-use Rattle.mp4_present.specs.format.Reduced.{reduce_movie_head}
+use Rattle.mp4_content.specs.format.Reduced.{reduce_movie_head}
 use Rattle.mp4_present.specs.words.Carried.{BytesGoOn, waiting}
-use Rattle.mp4_present.specs.words.PayloadsLeft.{track_payloads_left}
+use Rattle.mp4_content.specs.words.PayloadsLeft.{track_payloads_left}
 use Rattle.mp4_present.proofs.WalkCopied.{on_err, on_ok}
 use Rattle.mp4_answers.specs.format.Answers.{IsFaultOf}
 use Rattle.mp4_answers.specs.format.FileTexts.{PrintsText}

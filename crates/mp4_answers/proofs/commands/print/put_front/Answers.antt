@@ -3,8 +3,8 @@ use Rattle.std.specs.Prelude.{flat_map}
 use Rattle.std.proofs.lemmas.List.{append-nil}
 use Rattle.std.proofs.lemmas.Result.{err_from_is_err_and}
 use Rattle.mp4_head.specs.words.Seen.{track_seen}
-use Rattle.mp4_present.specs.format.Reduced.{reduce_track_head}
-use Rattle.mp4_present.specs.words.PayloadsLeft.{keeping_payloads}
+use Rattle.mp4_content.specs.format.Reduced.{reduce_track_head}
+use Rattle.mp4_content.specs.words.PayloadsLeft.{keeping_payloads}
 use Rattle.mp4_answers.specs.format.Text.{head_lines, number_line, samples_heading}
 use Rattle.mp4_answers.specs.words.Telling.{said_line}
 use Rattle.mp4_answers.proofs.HeadTexts.{chain3, said_is}

@@ -3,7 +3,7 @@ use Rattle.std.specs.Prelude.{flat_map}
 use Rattle.std.proofs.lemmas.Result.{err_from_is_err_and}
 use Rattle.mp4_tables.specs.declared.keys.Keys.{Keys}
 use Rattle.mp4_store.proofs.Known.{TakesPrefix-nothing}
-use Rattle.mp4_present.specs.words.TrackEdges.{edges_left}
+use Rattle.mp4_content.specs.words.TrackEdges.{edges_left}
 use Rattle.mp4_present.proofs.WayThrough.{most_then}
 use Rattle.mp4_answers.specs.words.PrintedTracks.{TellsOn}
 use Rattle.mp4_answers.specs.words.ToldSamples.{IsStyle, told_sample}
@@ -37,4 +37,4 @@ returns-clause-told g c told tree t samples o k same lie place info at there key
 pub returns-clause-work : goal.returns-clause-work
 returns-clause-work g c told tree t n o may =
     let e = c.in_ok-edges.ensures in
-    most_then (g.S.Store.file c.args.store.now) tree t n _ _ _ c.edges.new.self (e.work told tree t n o may) (λ k more. (rw (e.store.honesty, e.store.file) at c.put_walk.ensures.work) told tree t k o more)
+    most_then (g.S.Store.file c.args.store.now) tree t n _ _ _ c.edges_of.new.walk (e.work told tree t n o may) (λ k more. (rw (e.store.honesty, e.store.file) at c.put_walk.ensures.work) told tree t k o more)

@@ -4,7 +4,7 @@ use Rattle.mp4_head.specs.format.Tree.{track_head_of}
 use Rattle.mp4_head.specs.words.Seen.{track_seen}
 use Rattle.mp4_present.specs.format.Denotes.{FileTree}
 use Rattle.mp4_present.specs.words.Carried.{waiting}
-use Rattle.mp4_present.specs.words.PayloadsLeft.{track_payloads_left}
+use Rattle.mp4_content.specs.words.PayloadsLeft.{track_payloads_left}
 use Rattle.mp4_present.specs.words.OpenedMovie.{IsOpenedAs}
 use Rattle.mp4_answers.specs.words.PrintedTracks.{AreWalks}
 use Rattle.mp4_answers.proofs.PrintedTracks.{TracksTold}

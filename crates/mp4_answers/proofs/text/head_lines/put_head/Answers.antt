@@ -2,8 +2,8 @@ use Rattle.std.proofs.Common.{[], ◌++◌, codes, refl}
 use Rattle.std.specs.Prelude.{flat_map}
 use Rattle.std.proofs.lemmas.Result.{err_from_is_err_and}
 use Rattle.mp4_head.specs.words.Seen.{track_seen}
-use Rattle.mp4_present.specs.format.Reduced.{reduce_track_head}
-use Rattle.mp4_present.specs.words.PayloadsLeft.{keeping_payloads}
+use Rattle.mp4_content.specs.format.Reduced.{reduce_track_head}
+use Rattle.mp4_content.specs.words.PayloadsLeft.{keeping_payloads}
 use Rattle.mp4_answers.specs.format.Text.{head_lines, media_lines, payload_lines, track_lines}
 use Rattle.mp4_answers.proofs.HeadTexts.{chain3, map_unless}
 use Rattle.mp4_answers.proofs.Told.{told_last, told_more, told_none, told_stops}

@@ -2,8 +2,8 @@ use Rattle.std.proofs.Common.{[], ◌++◌, codes, refl}
 use Rattle.std.specs.Prelude.{flat_map}
 use Rattle.std.proofs.lemmas.Result.{err_from_is_err_and}
 use Rattle.mp4_head.specs.words.Seen.{media_seen}
-use Rattle.mp4_present.specs.format.Reduced.{reduce_media}
-use Rattle.mp4_present.specs.words.PayloadsLeft.{keeping_payloads}
+use Rattle.mp4_content.specs.format.Reduced.{reduce_media}
+use Rattle.mp4_content.specs.words.PayloadsLeft.{keeping_payloads}
 use Rattle.mp4_answers.specs.format.Text.{kept_lines, media_lines, payload_lines}
 use Rattle.mp4_answers.specs.words.Telling.{said_line}
 use Rattle.mp4_answers.proofs.HeadTexts.{chain5, lines_are, media_is}

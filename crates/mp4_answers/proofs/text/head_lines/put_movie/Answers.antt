@@ -2,7 +2,7 @@ use Rattle.std.proofs.Common.{ℕ, List, [], ◌++◌, codes, refl}
 use Rattle.std.specs.Prelude.{flat_map}
 use Rattle.std.proofs.lemmas.Result.{err_from_is_err_and}
 use Rattle.mp4_head.specs.words.Seen.{movie_seen}
-use Rattle.mp4_present.specs.format.Reduced.{reduce_movie_head}
+use Rattle.mp4_content.specs.format.Reduced.{reduce_movie_head}
 use Rattle.mp4_answers.specs.format.Text.{kept_lines, movie_lines}
 use Rattle.mp4_answers.specs.words.Telling.{movie_front, said_line}
 use Rattle.mp4_answers.proofs.HeadTexts.{chain3, lines_are, movie_is}

@@ -2,8 +2,8 @@ use Rattle.std.proofs.Common.{ℕ, List, [], ◌++◌, codes, decimal, refl}
 use Rattle.std.specs.Prelude.{flat_map}
 use Rattle.std.proofs.lemmas.Result.{err_from_is_err_and}
 use Rattle.mp4_head.specs.words.Seen.{edit_seen, track_seen}
-use Rattle.mp4_present.specs.format.Reduced.{reduce_track_head}
-use Rattle.mp4_present.specs.words.PayloadsLeft.{keeping_payloads}
+use Rattle.mp4_content.specs.format.Reduced.{reduce_track_head}
+use Rattle.mp4_content.specs.words.PayloadsLeft.{keeping_payloads}
 use Rattle.mp4_answers.specs.format.Text.{edit_line, kept_lines, track_lines}
 use Rattle.mp4_answers.specs.format.Texts.{line_feed}
 use Rattle.mp4_answers.specs.words.Telling.{said_line, track_front}

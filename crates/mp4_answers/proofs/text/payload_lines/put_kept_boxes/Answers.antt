@@ -1,7 +1,7 @@
 use Rattle.std.proofs.Common.{[], ◌∷◌, ◌∙◌, flat_map, sym, codes}
 use Rattle.std.proofs.lemmas.Result.{err_from_is_err_and}
 use Rattle.mp4_head.specs.words.Seen.{kept_seen}
-use Rattle.mp4_present.specs.format.Reduced.{reduce_kept}
+use Rattle.mp4_content.specs.format.Reduced.{reduce_kept}
 use Rattle.mp4_answers.specs.format.Text.{kept_lines}
 use Rattle.mp4_answers.proofs.Told.{flat_all, flat_next, flat_rest, kept_apart, told_all, told_more, told_none, told_stops}
 use Rattle.mp4_answers.proofs.text.payload_lines.put_kept_boxes.Goals as goal

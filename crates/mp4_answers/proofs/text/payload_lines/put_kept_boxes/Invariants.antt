@@ -1,6 +1,6 @@
 use Rattle.std.proofs.Common.{[], ◌∷◌, flat_map, take, codes}
 use Rattle.mp4_head.specs.words.Seen.{kept_seen}
-use Rattle.mp4_present.specs.format.Reduced.{reduce_kept}
+use Rattle.mp4_content.specs.format.Reduced.{reduce_kept}
 use Rattle.mp4_answers.specs.format.Text.{kept_lines}
 use Rattle.mp4_answers.proofs.Told.{ToldSoFar}
 use Rattle.mp4_answers.proofs.text.payload_lines.put_kept_boxes.Given as goal

@@ -1,7 +1,7 @@
 use Rattle.std.proofs.Common.{◌≡◌, ◌<◌, ℕ, Some, Option, slice_get}
 use Rattle.mp4_tables.specs.declared.sample.SampleAt.{SampleAt}
 use Rattle.mp4_present.specs.declared.track_info.TrackInfo.{TrackInfo}
-use Rattle.mp4_present.specs.format.Reduced.{timescale_left}
+use Rattle.mp4_content.specs.format.Reduced.{timescale_left}
 use Rattle.mp4_plan.specs.words.DueTracks.{IsDue, IsDueTree, leaf}
 use Rattle.mp4_plan.proofs.schedule.Schedule.begin.Given as goal
 

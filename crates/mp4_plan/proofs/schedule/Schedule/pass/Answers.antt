@@ -1,13 +1,13 @@
 use Rattle.std.proofs.Common.{rules, arith, ◌≡◌, sym, subst, ap, ◌∙◌, inl, inr, slice_set, get_or}
 use Rattle.mp4_present.specs.declared.track_info.TrackInfo.{TrackInfo}
-use Rattle.mp4_present.specs.format.Reduced.{timescale_left}
+use Rattle.mp4_content.specs.format.Reduced.{timescale_left}
 use Rattle.mp4_plan.specs.words.Turns.{info_left, infos_left}
 use Rattle.mp4_plan.proofs.InfosLeft.{as_many_left, info_of}
 use Rattle.mp4_plan.specs.words.DueTracks.{AreTimes, IsDue, Skips}
 use Rattle.mp4_plan.specs.declared.schedule.Schedule.{Schedule}
 use Rattle.mp4_plan.specs.declared.due_tracks.DueTracks.{DueTracks}
 use Rattle.std.proofs.lemmas.Result.{err_from_is_err_and}
-use Rattle.mp4_plan.proofs.CarriedParts.{read_at}
+use Rattle.mp4_content.proofs.AtPlaces.{read_at}
 use Rattle.mp4_plan.proofs.DueTurns.{skips_keep, turn_keeps, turned_keeps, times_set, times_first}
 use Rattle.mp4_plan.proofs.schedule.Schedule.pass.Goals.{then-track-gt0, else-track-gt0}
 use Rattle.mp4_plan.proofs.schedule.Schedule.pass.Goals as goal

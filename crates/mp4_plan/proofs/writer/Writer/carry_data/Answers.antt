@@ -1,11 +1,11 @@
 use Rattle.std.proofs.Common.{refl, sym, ap, subst, slice_set, drop}
 use Rattle.std.proofs.lemmas.Result.{err_from_is_err_and}
 use Rattle.mp4_present.specs.declared.walking.Walk.{Walk}
-use Rattle.mp4_plan.specs.words.GoneOn.{ComesMarked}
-use Rattle.mp4_plan.specs.words.ComingLess.{ComesLess, track_reduction}
+use Rattle.mp4_content.specs.words.GoneOn.{ComesMarked}
+use Rattle.mp4_content.specs.words.ComingLess.{ComesLess, track_reduction}
 use Rattle.mp4_plan.specs.words.WriterSteps.{MayFinish}
-use Rattle.mp4_plan.specs.declared.reduced.Reduction.{Reduction}
-use Rattle.mp4_plan.proofs.CarriedParts.{read_at}
+use Rattle.mp4_content.specs.declared.reduced.Reduction.{Reduction}
+use Rattle.mp4_content.proofs.AtPlaces.{read_at}
 use Rattle.mp4_plan.proofs.WritingSteps.{all_carried, all_carried_most}
 use Rattle.mp4_plan.proofs.writer.Writer.carry_data.Goals as goal
 

@@ -11,7 +11,8 @@ use Rattle.mp4_plan.specs.words.PutPieces.{PutPiece}
 use Rattle.mp4_plan.specs.words.Spelling.{moof_front, run_rows}
 use Rattle.mp4_plan.specs.words.Taken.{row_seen}
 use Rattle.mp4_plan.specs.words.UsedKeys.{AreApart, groups_bytes}
-use Rattle.mp4_plan.proofs.CarriedParts.{parts_are, read_at, noted_with}
+use Rattle.mp4_plan.proofs.CarriedParts.{parts_are, noted_with}
+use Rattle.mp4_content.proofs.AtPlaces.{read_at}
 use Rattle.mp4_plan.proofs.PiecesPut.{none_follow, piece_follows}
 use Rattle.mp4_plan.proofs.PartsPut.{go_five, stop_one, stop_two, stop_three, stop_four, stop_five}
 use Rattle.mp4_plan.proofs.FrontsPut.{front_as}

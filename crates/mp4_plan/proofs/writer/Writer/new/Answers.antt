@@ -1,5 +1,5 @@
 use Rattle.std.proofs.Common.{refl}
-use Rattle.mp4_plan.specs.format.ReducedLaws.{nothing}
+use Rattle.mp4_content.specs.format.ReducedLaws.{nothing}
 use Rattle.mp4_plan.proofs.LeftRefused.{planned_left}
 use Rattle.mp4_plan.proofs.writer.Writer.new.Goals as goal
 

@@ -4,9 +4,9 @@ use Rattle.std.proofs.lemmas.Option.{slice_get_read}
 use Rattle.std.proofs.lemmas.Result.{err_from_is_err_and}
 use Rattle.mp4_present.specs.words.Movies.{IsWalkOf, mark_of}
 use Rattle.mp4_present.proofs.WalkPlaces.{of_got}
-use Rattle.mp4_plan.specs.words.ComingLess.{ComesLess, track_reduction}
-use Rattle.mp4_plan.specs.words.GoneOn.{ComesMarked}
-use Rattle.mp4_plan.specs.declared.reduced.Reduction.{Reduction}
+use Rattle.mp4_content.specs.words.ComingLess.{ComesLess, track_reduction}
+use Rattle.mp4_content.specs.words.GoneOn.{ComesMarked}
+use Rattle.mp4_content.specs.declared.reduced.Reduction.{Reduction}
 use Rattle.mp4_present.specs.declared.walking.Walk.{Walk}
 use Rattle.mp4_plan.specs.words.Gathering.{Planning, planned_of, piece_from}
 use Rattle.mp4_plan.specs.words.Stretches.{Tells}
@@ -14,12 +14,11 @@ use Rattle.mp4_plan.specs.words.Writers.{turn_head}
 use Rattle.mp4_plan.specs.words.WriterSteps.{MayWrite}
 use Rattle.mp4_plan.specs.declared.planner.Planned.{Planned}
 use Rattle.mp4_plan.proofs.AllMay.{one_ends}
-use Rattle.mp4_plan.proofs.CarriedParts.{read_at}
+use Rattle.mp4_content.proofs.AtPlaces.{read_at, there_is}
 use Rattle.mp4_plan.proofs.ComeAt.{set_same}
 use Rattle.mp4_plan.proofs.NextSamples.{none_goes, some_goes, no_head, no_rows}
 use Rattle.mp4_plan.proofs.PlannerSteps.{fed_none}
-use Rattle.mp4_plan.proofs.TurnTaken.{there_is}
-use Rattle.mp4_plan.proofs.WalksGone.{still_marked}
+use Rattle.mp4_content.proofs.WalksGone.{still_marked}
 use Rattle.mp4_plan.proofs.WritingSteps.{all_noted, none_noted}
 use Rattle.mp4_plan.proofs.writer.Writer.note_turn.Goals as goal
 

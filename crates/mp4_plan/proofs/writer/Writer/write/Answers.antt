@@ -4,7 +4,7 @@ use Rattle.std.specs.Vec.{with_items}
 use Rattle.std.proofs.lemmas.List.{with_items_is}
 use Rattle.std.proofs.lemmas.Result.{err_from_is_err_and}
 use Rattle.mp4_present.specs.words.Carried.{waiting}
-use Rattle.mp4_plan.specs.words.ComingLess.{left_samples}
+use Rattle.mp4_content.specs.words.ComingLess.{left_samples}
 use Rattle.mp4_plan.specs.words.PutPieces.{PiecesFollow}
 use Rattle.mp4_plan.specs.words.DueTracks.{AreTimes, FindsMore, IsDueAt}
 use Rattle.mp4_tables.specs.declared.sample.SampleAt.{SampleAt}
@@ -14,8 +14,8 @@ use Rattle.mp4_present.proofs.WalkCopied.{put_unchanged, on_ok, on_err, if_err}
 use Rattle.std.specs.Prelude.{Option, Some, slice_get, slice_set}
 use Rattle.mp4_plan.specs.words.Turns.{Sticks, infos_left, movie_turns, turn_end, turned}
 use Rattle.mp4_plan.specs.format.Held.{rooms}
-use Rattle.mp4_plan.specs.declared.reduced.Reductions.{Reductions}
-use Rattle.mp4_plan.proofs.CarriedParts.{read_at}
+use Rattle.mp4_content.specs.declared.reduced.Reductions.{Reductions}
+use Rattle.mp4_content.proofs.AtPlaces.{read_at}
 use Rattle.mp4_plan.proofs.PieceWritten.{IsFew}
 use Rattle.mp4_plan.proofs.PiecesPut.{all_follow, fewer_to_come, first_put, follow_then, no_more, still_fits, sum_fits}
 use Rattle.mp4_plan.proofs.TurnTaken.{turns_end}
@@ -24,8 +24,8 @@ use Rattle.mp4_plan.proofs.WriterTurns.{note_lacks, carry_stops, carry_lacks, pa
 use Rattle.mp4_plan.proofs.LooksOn.{begins_within, looks_on, looks_within}
 use Rattle.mp4_plan.proofs.SkippedTurns.{either}
 use Rattle.mp4_plan.proofs.StepsOn.{all_written, write_then_stop, turn_then, turn_then_stop}
-use Rattle.mp4_present.specs.format.Reduced.{timescale_left}
-use Rattle.mp4_present.specs.declared.without.Without.{Without}
+use Rattle.mp4_content.specs.format.Reduced.{timescale_left}
+use Rattle.mp4_content.specs.declared.without.Without.{Without}
 use Rattle.mp4_plan.proofs.writer.Writer.write.Goals as goal
 
 pub returns-in_err-carry-clause-prefix : goal.returns-in_err-carry-clause-prefix

@@ -5,7 +5,7 @@ use Rattle.mp4_present.specs.declared.track_info.TrackInfo.{TrackInfo}
 use Rattle.mp4_plan.specs.words.PutPieces.{PiecesFollow}
 use Rattle.mp4_plan.specs.words.Turns.{IsSomeLeft, infos_left, movie_turns, turns_left}
 use Rattle.mp4_plan.specs.words.DueTracks.{IsDueAt}
-use Rattle.mp4_plan.specs.words.MadeWriters.{OverOpened}
+use Rattle.mp4_content.specs.words.Opened.{OverOpened}
 use Rattle.mp4_plan.specs.words.Writers.{IsWriterOf, IsReady}
 use Rattle.mp4_plan.specs.format.Held.{held_bytes}
 use Rattle.mp4_plan.proofs.WritesOn.{WritesOn}

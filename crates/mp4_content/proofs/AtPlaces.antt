@@ -1,0 +1,22 @@
+-- What stands at a place of a list.
+use Rattle.std.proofs.Common.{◌≡◌, ℕ, zero, suc, ◌+◌, ◌<◌, List, [], ◌∷◌, ◌++◌, length, take, Some, refl, ap, ◌∙◌, arith}
+use Rattle.std.specs.Prelude.{slice_get, slice_index_or}
+
+-- what stands at a place is what was read there
+pub read_at : {A : Type 0} (xs : List A) (k : ℕ) (x y : A) → slice_get xs k ≡ Some x → y ≡ slice_index_or xs k y → y ≡ x
+read_at [] k x y is e = absurd cc
+read_at (z ∷ xs) zero x y is e = let same : z ≡ x = cc in e ∙ same
+read_at (z ∷ xs) (suc k) x y is e = read_at xs k x y is e
+
+pub taken_next : {A : Type 0} (xs : List A) (k : ℕ) (x : A) → slice_get xs k ≡ Some x → take (k + 1) xs ≡ take k xs ++ x ∷ []
+taken_next {A} xs k x is = let one : k + 1 ≡ suc k = omega arith in ap (λ n. take n xs) one ∙ by xs k is
+  where
+    by : (ys : List A) (k : ℕ) → slice_get ys k ≡ Some x → take (suc k) ys ≡ take k ys ++ x ∷ []
+    by [] k e = absurd cc
+    by (y ∷ ys) zero e = let same : y ≡ x = cc in ap (λ z. z ∷ []) same
+    by (y ∷ ys) (suc k) e = ap (λ zs. y ∷ zs) (by ys k e)
+
+pub there_is : {A : Type 0} (xs : List A) (k : ℕ) → k < length xs → (x : A) × (slice_get xs k ≡ Some x)
+there_is [] k lt = absurd (omega (arith, lt))
+there_is (x ∷ xs) zero lt = (x, refl)
+there_is (x ∷ xs) (suc k) lt = there_is xs k (omega (arith, lt))

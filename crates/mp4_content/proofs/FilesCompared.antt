@@ -1,0 +1,222 @@
+-- Files that are compared track by track.
+use Rattle.std.proofs.Common.{◌≡◌, ℕ, zero, suc, ◌+◌, ◌<◌, ◌≤◌, min, Bool, true, List, [], ◌∷◌, ◌++◌, length, take, drop, Option, Some, None, sym, ap, subst, ◌∙◌, arith, append_assoc}
+use Rattle.std.specs.List.{slice_get}
+use Rattle.std.specs.Prelude.{map, Result, Ok, Err, IfOk}
+use Rattle.std.proofs.lemmas.List.{append-nil, length-map}
+use Rattle.mp4_boxes.specs.format.Bytes.{sum_of}
+use Rattle.mp4_head.specs.format.Tree.{TrackTree, head_of, track_head_of}
+use Rattle.mp4_head.specs.format.Head as heads
+use Rattle.mp4_head.specs.words.Found.{SaysHead}
+use Rattle.mp4_head.specs.words.Seen.{head_seen, movie_seen, track_seen}
+use Rattle.mp4_head.specs.declared.heads.MovieHead.{MovieHead}
+use Rattle.mp4_head.specs.declared.heads.TrackHead.{TrackHead}
+use Rattle.mp4_head.proofs.ReadAgain.{said_of}
+use Rattle.mp4_content.specs.format.Comparison as whole
+use Rattle.mp4_content.specs.format.Differences.{numbers_differ, each_differ, head_differences, movie_differences}
+use Rattle.mp4_present.specs.format.Denotes.{FileTree, file_parts, track_of}
+use Rattle.mp4_present.specs.format.Presentation.{Sample, Track}
+use Rattle.mp4_content.specs.format.Reduced.{start_left, first_offset, reduce_track, reduce_track_head, reduce_movie_head}
+use Rattle.mp4_content.specs.words.Compared.{TakesFront, samples_differ, tracks_differ, files_differ}
+use Rattle.mp4_content.specs.words.Differing.{as_list, is_none_yet}
+use Rattle.mp4_present.specs.words.Movies.{MovieSeen, moov_box}
+use Rattle.mp4_present.specs.words.OpenedMovie.{IsOpenedAs, IsInfoOf}
+use Rattle.mp4_present.specs.words.WalkSteps.{walk_steps, walks_steps}
+use Rattle.mp4_content.specs.declared.comparing.differences.Difference.{Difference}
+use Rattle.mp4_content.specs.declared.comparing.differences.Subject.TheVariants as subjects
+use Rattle.mp4_content.specs.declared.comparing.differences.Field.TheVariants as fields
+use Rattle.mp4_content.specs.declared.without.Without.{Without}
+use Rattle.mp4_present.specs.declared.track_info.TrackInfo.{TrackInfo}
+use Rattle.mp4_content.proofs.SamplesReduced.{reduced_length}
+use Rattle.mp4_present.proofs.TrafTaken.{zipped_at}
+use Rattle.mp4_present.proofs.TracksPassed.{zip_length}
+use Rattle.mp4_content.proofs.TracksCompared.{GrowsTo, grows_none, grows_more, grows_front, grows_part, grows_all, each_next, each_over}
+
+-- an answer that is more
+pub if_ok : {T E : Type 0} (P Q : T → Type 0) (r : Result T E) → ((x : T) → P x → Q x) → IfOk r P → IfOk r Q
+if_ok P Q (Ok x) f h = f x h
+if_ok P Q (Err e) f h = tt
+
+-- ---- the heads of two tracks
+
+-- what was found of them is what differs between the tracks apart from their samples
+heads_differ : (l : Without) (number k : ℕ) (file other : List ℕ) (m n : MovieSeen) (tree other_tree : FileTree) (t u : TrackTree) (info other_info : TrackInfo) (head other_head : TrackHead) → IsOpenedAs file m tree → IsOpenedAs other n other_tree
+    → slice_get tree.movie.tracks k ≡ Some t → slice_get other_tree.movie.tracks k ≡ Some u → slice_get m.tracks k ≡ Some info → slice_get n.tracks k ≡ Some other_info → track_seen head ≡ track_head_of t → track_seen other_head ≡ track_head_of u
+    → (head_differences (subjects.Track number) (reduce_track_head l (track_seen head)) (reduce_track_head l (track_seen other_head)) ++ numbers_differ (subjects.Track number) fields.Start (start_left l info.start) (start_left l other_info.start)
+    ++ numbers_differ (subjects.Track number) fields.Samples info.samples other_info.samples)
+    ++ samples_differ l number file tree t other other_tree u ≡ tracks_differ l number file tree t other other_tree u
+heads_differ l number k file other m n tree other_tree t u info other_info head other_head o p at bt it jt e f =
+    let of = subjects.Track number in
+    let left_many = λ (samples : List Sample). reduced_length l (length samples) (first_offset samples) 0 samples in
+    let x = zipped_at (IsInfoOf file tree) tree.movie.tracks m.tracks k t info o.tracks at it in
+    let y = zipped_at (IsInfoOf other other_tree) other_tree.movie.tracks n.tracks k u other_info p.tracks bt jt in
+    let count = x.samples ∙ sym (left_many (track_of file (file_parts tree) t).samples) in
+    let other_count = y.samples ∙ sym (left_many (track_of other (file_parts other_tree) u).samples) in
+    λ i. (head_differences of (reduce_track_head l (e i)) (reduce_track_head l (f i)) ++ numbers_differ of fields.Start (start_left l (x.start i)) (start_left l (y.start i)) ++ numbers_differ of fields.Samples (count i) (other_count i)) ++ samples_differ l number file tree t other other_tree u
+
+-- Two tracks whose heads were compared: their samples are left.
+pub track_begun : (l : Without) (number k : ℕ) (file other : List ℕ) (m n : MovieSeen) (tree other_tree : FileTree) (t u : TrackTree) (info other_info : TrackInfo) (head other_head : TrackHead) → IsOpenedAs file m tree → IsOpenedAs other n other_tree
+    → slice_get tree.movie.tracks k ≡ Some t → slice_get other_tree.movie.tracks k ≡ Some u → slice_get m.tracks k ≡ Some info → slice_get n.tracks k ≡ Some other_info → track_seen head ≡ track_head_of t → track_seen other_head ≡ track_head_of u
+    → (found : List Difference) → found ≡ head_differences (subjects.Track number) (reduce_track_head l (track_seen head)) (reduce_track_head l (track_seen other_head)) ++ numbers_differ (subjects.Track number) fields.Start (start_left l info.start) (start_left l other_info.start)
+    ++ numbers_differ (subjects.Track number) fields.Samples info.samples other_info.samples
+    → tracks_differ l number file tree t other other_tree u ≡ found ++ samples_differ l number file tree t other other_tree u
+track_begun l number k file other m n tree other_tree t u info other_info head other_head o p at bt it jt e f found is =
+    sym (ap (λ (ds : List Difference). ds ++ samples_differ l number file tree t other other_tree u) is ∙ heads_differ l number k file other m n tree other_tree t u info other_info head other_head o p at bt it jt e f)
+
+-- ---- a list of two parts
+
+-- the first part was not taken whole
+pub first_part : (before next whole more rest : List Difference) → whole ≡ more ++ rest → TakesFront before next more → TakesFront before next whole
+first_part before next whole more rest e p = grows_part before before next whole whole more rest (grows_none before whole) e p
+
+-- the first was, and some of the second
+pub second_part : (before mid next whole more rest : List Difference) → whole ≡ more ++ rest → mid ≡ before ++ more → TakesFront mid next rest → TakesFront before next whole
+second_part before mid next whole more rest e f p = grows_part before mid next whole rest rest [] (grows_more before before mid whole whole more rest (grows_none before whole) e f) (sym (append-nil rest)) p
+
+-- or all of it
+pub both_parts : (before mid next whole more rest : List Difference) → whole ≡ more ++ rest → mid ≡ before ++ more → next ≡ mid ++ rest → next ≡ before ++ whole
+both_parts before mid next whole more rest e f h = h ∙ ap (λ (ds : List Difference). ds ++ rest) f ∙ append_assoc before more rest ∙ ap (λ (ds : List Difference). before ++ ds) (sym e)
+
+-- ---- the heads of two movies
+
+-- as many tracks are known as the movie has
+pub infos_all : (file : List ℕ) (m : MovieSeen) (tree : FileTree) → IsOpenedAs file m tree → length m.tracks ≡ length tree.movie.tracks
+infos_all file m tree o = sym (zip_length (IsInfoOf file tree) tree.movie.tracks m.tracks o.tracks)
+
+said : (file : List ℕ) (m : MovieSeen) (tree : FileTree) (head : MovieHead) → IsOpenedAs file m tree → SaysHead (moov_box m) head → head_seen head ≡ head_of tree.movie
+said file m tree head o says = (said_of (moov_box m) head tree.movie says (sym o.moov) o.is_tree.movie).0
+
+pub heads_all : (file : List ℕ) (m : MovieSeen) (tree : FileTree) (head : MovieHead) → IsOpenedAs file m tree → SaysHead (moov_box m) head → length head.tracks.items ≡ length tree.movie.tracks
+heads_all file m tree head o says =
+    sym (length-map head.tracks.items track_seen) ∙ ap (λ (h : heads.Head). length h.tracks) (said file m tree head o says) ∙ length-map tree.movie.tracks track_head_of
+
+get_mapped : {A B : Type 0} (f : A → B) (xs : List A) (k : ℕ) (x : A) → slice_get xs k ≡ Some x → slice_get (map f xs) k ≡ Some (f x)
+get_mapped f [] k x e = absurd cc
+get_mapped f (y ∷ xs) zero x e = let same : y ≡ x = cc in ap (λ z. Some (f z)) same
+get_mapped f (y ∷ xs) (suc k) x e = get_mapped f xs k x e
+
+some_same : {A : Type 0} (x y : A) → ◌≡◌ {A = Option A} (Some x) (Some y) → x ≡ y
+some_same x y e = cc
+
+-- the head of a track that was read is its own
+pub head_own : (file : List ℕ) (m : MovieSeen) (tree : FileTree) (head : MovieHead) (k : ℕ) (t : TrackTree) (h : TrackHead) → IsOpenedAs file m tree → SaysHead (moov_box m) head → slice_get tree.movie.tracks k ≡ Some t → slice_get head.tracks.items k ≡ Some h → track_seen h ≡ track_head_of t
+head_own file m tree head k t h o says at there =
+    some_same (track_seen h) (track_head_of t) (sym (get_mapped track_seen head.tracks.items k h there) ∙ ap (λ (x : heads.Head). slice_get x.tracks k) (said file m tree head o says) ∙ get_mapped track_head_of tree.movie.tracks k t at)
+
+-- the tracks of the presentation, behind what was left out
+abbrev tracks_left : Without → List ℕ → FileTree → List Track
+tracks_left l file tree = map (reduce_track l) (map (track_of file (file_parts tree)) tree.movie.tracks)
+
+tracks_many : (l : Without) (file : List ℕ) (tree : FileTree) → length (tracks_left l file tree) ≡ length tree.movie.tracks
+tracks_many l file tree = length-map (map (track_of file (file_parts tree)) tree.movie.tracks) (reduce_track l) ∙ length-map tree.movie.tracks (track_of file (file_parts tree))
+
+abbrev tracks_from : Without → List ℕ → FileTree → List ℕ → FileTree → ℕ → List Difference
+tracks_from l file tree other other_tree k = each_differ whole.track_differences (k + 1) (drop k (tracks_left l file tree)) (drop k (tracks_left l other other_tree))
+
+-- Two movies whose heads were compared: their tracks are left.
+pub movie_begun : (l : Without) (file other : List ℕ) (m n : MovieSeen) (tree other_tree : FileTree) (head other_head : MovieHead) → IsOpenedAs file m tree → IsOpenedAs other n other_tree → SaysHead (moov_box m) head → SaysHead (moov_box n) other_head
+    → (found : List Difference)
+    → found ≡ movie_differences (reduce_movie_head l (movie_seen head)) (reduce_movie_head l (movie_seen other_head)) ++ numbers_differ subjects.Movie fields.Tracks (length head.tracks.items) (length other_head.tracks.items)
+    → files_differ l file tree other other_tree ≡ found ++ tracks_from l file tree other other_tree 0
+movie_begun l file other m n tree other_tree head other_head o p says other_says found is =
+    let first = ap (λ (h : heads.Head). h.movie) (said file m tree head o says) in
+    let second = ap (λ (h : heads.Head). h.movie) (said other n other_tree other_head p other_says) in
+    let count = heads_all file m tree head o says ∙ sym (tracks_many l file tree) in
+    let other_count = heads_all other n other_tree other_head p other_says ∙ sym (tracks_many l other other_tree) in
+    sym (ap (λ (ds : List Difference). ds ++ tracks_from l file tree other other_tree 0) is
+    ∙ (λ i. (movie_differences (reduce_movie_head l (first i)) (reduce_movie_head l (second i)) ++ numbers_differ subjects.Movie fields.Tracks (count i) (other_count i)) ++ tracks_from l file tree other other_tree 0))
+
+-- ---- track after track
+
+after_got : {A : Type 0} (xs : List A) (k : ℕ) (x : A) → slice_get xs k ≡ Some x → drop k xs ≡ x ∷ drop (suc k) xs
+after_got [] k x e = absurd cc
+after_got (y ∷ xs) zero x e = let same : y ≡ x = cc in ap (λ z. z ∷ xs) same
+after_got (y ∷ xs) (suc k) x e = after_got xs k x e
+
+behind_got : {A : Type 0} (xs : List A) (k : ℕ) (x : A) → slice_get xs k ≡ Some x → drop k xs ≡ x ∷ drop (k + 1) xs
+behind_got xs k x e = let one : suc k ≡ k + 1 = omega arith in after_got xs k x e ∙ ap (λ n. x ∷ drop n xs) one
+
+-- what differs of the tracks from a place on begins with what differs there
+track_next : (l : Without) (file : List ℕ) (tree : FileTree) (other : List ℕ) (other_tree : FileTree) (k : ℕ) (t u : TrackTree) → slice_get tree.movie.tracks k ≡ Some t → slice_get other_tree.movie.tracks k ≡ Some u
+    → tracks_from l file tree other other_tree k ≡ tracks_differ l (k + 1) file tree t other other_tree u ++ tracks_from l file tree other other_tree (k + 1)
+track_next l file tree other other_tree k t u at bt =
+    let xs = tracks_left l file tree in
+    let ys = tracks_left l other other_tree in
+    let x = reduce_track l (track_of file (file_parts tree) t) in
+    let y = reduce_track l (track_of other (file_parts other_tree) u) in
+    each_next whole.track_differences k xs ys (drop (k + 1) xs) (drop (k + 1) ys) x y
+    (behind_got xs k x (get_mapped (reduce_track l) (map (track_of file (file_parts tree)) tree.movie.tracks) k (track_of file (file_parts tree) t) (get_mapped (track_of file (file_parts tree)) tree.movie.tracks k t at)))
+    (behind_got ys k y (get_mapped (reduce_track l) (map (track_of other (file_parts other_tree)) other_tree.movie.tracks) k (track_of other (file_parts other_tree) u) (get_mapped (track_of other (file_parts other_tree)) other_tree.movie.tracks k u bt)))
+
+-- how many steps the walks over the tracks of two files from a place on may take
+abbrev steps_left : FileTree → FileTree → ℕ → ℕ
+steps_left tree other k = sum_of (walk_steps tree) (drop k tree.movie.tracks) + sum_of (walk_steps other) (drop k other.movie.tracks)
+
+-- the tracks of two files in front of a place were compared
+pub record FilesGo (l : Without) (file : List ℕ) (tree : FileTree) (other : List ℕ) (other_tree : FileTree) (k : ℕ) (before now : List Difference) (old new : ℕ) : Type 0 where
+  pub grows : GrowsTo before now (files_differ l file tree other other_tree) (tracks_from l file tree other other_tree k)
+  pub takes : new + steps_left tree other_tree k ≤ old + (walks_steps tree + walks_steps other_tree)
+
+module _ (l : Without) (file : List ℕ) (tree : FileTree) (other : List ℕ) (other_tree : FileTree) (before : List Difference) (old : ℕ) where
+  -- before the first
+  pub files_first : (now found : List Difference) → files_differ l file tree other other_tree ≡ found ++ tracks_from l file tree other other_tree 0 → now ≡ before ++ found → FilesGo l file tree other other_tree 0 before now old old
+  files_first now found e f = record { grows = grows_more before before now _ _ found (tracks_from l file tree other other_tree 0) (grows_none before _) e f; takes = omega arith }
+
+  module _ (k : ℕ) (now : List Difference) (mid : ℕ) (h : FilesGo l file tree other other_tree k before now old mid) where
+    module _ (t u : TrackTree) (at : slice_get tree.movie.tracks k ≡ Some t) (bt : slice_get other_tree.movie.tracks k ≡ Some u) where
+      steps_next : steps_left tree other_tree k ≡ (walk_steps tree t + walk_steps other_tree u) + steps_left tree other_tree (k + 1)
+      steps_next =
+          let first = ap (sum_of (walk_steps tree)) (behind_got tree.movie.tracks k t at) in
+          let second = ap (sum_of (walk_steps other_tree)) (behind_got other_tree.movie.tracks k u bt) in
+          omega (arith, first, second)
+
+      -- one more
+      pub files_next : (next : List Difference) (new : ℕ) → next ≡ now ++ tracks_differ l (k + 1) file tree t other other_tree u → new ≤ mid + (walk_steps tree t + walk_steps other_tree u) → FilesGo l file tree other other_tree (k + 1) before next old new
+      files_next next new e work =
+          let all = h.takes in
+          record { grows = grows_more before now next _ _ _ _ h.grows (track_next l file tree other other_tree k t u at bt) e; takes = omega (arith, all, steps_next, work) }
+
+      -- no further difference was taken
+      pub files_stop : (next : List Difference) → TakesFront now next (tracks_differ l (k + 1) file tree t other other_tree u) → TakesFront before next (files_differ l file tree other other_tree)
+      files_stop next p = grows_part before now next _ _ _ _ h.grows (track_next l file tree other other_tree k t u at bt) p
+
+      pub files_most : (new : ℕ) → new ≤ mid + (walk_steps tree t + walk_steps other_tree u) → new ≤ old + (walks_steps tree + walks_steps other_tree)
+      files_most new work = let all = h.takes in omega (arith, all, steps_next, work)
+
+    -- all were compared
+    pub files_all : min (length tree.movie.tracks) (length other_tree.movie.tracks) ≤ k → now ≡ before ++ files_differ l file tree other other_tree
+    files_all le =
+        let count = sym (tracks_many l file tree) in
+        let other_count = sym (tracks_many l other other_tree) in
+        grows_all before now _ _ h.grows (each_over whole.track_differences k (tracks_left l file tree) (tracks_left l other other_tree) (subst (λ (j : ℕ). min j (length (tracks_left l other other_tree)) ≤ k) count (subst (λ (j : ℕ). min (length tree.movie.tracks) j ≤ k) other_count le)))
+
+    pub files_front : TakesFront before now (files_differ l file tree other other_tree)
+    files_front = grows_front before now _ _ h.grows
+
+    pub files_work : mid ≤ old + (walks_steps tree + walks_steps other_tree)
+    files_work = let all = h.takes in omega (arith, all)
+
+-- a place below one of two numbers that are the same
+pub below : (k m n : ℕ) → m ≡ n → k < m → k < n
+below k m n e lt = omega (arith, e, lt)
+
+-- the shortest of four, of which each two have one length
+pub all_over : (m n a b i j k : ℕ) → m ≡ i → n ≡ j → a ≡ i → b ≡ j → min (min (min m n) a) b ≤ k → min i j ≤ k
+all_over m n a b i j k e f g h le =
+    let small : min (min (min i j) i) j ≤ k = subst (λ (x : ℕ). min (min (min i j) i) x ≤ k) h (subst (λ (x : ℕ). min (min (min i j) x) b ≤ k) g (subst (λ (x : ℕ). min (min (min i x) a) b ≤ k) f (subst (λ (x : ℕ). min (min (min x n) a) b ≤ k) e le))) in
+    omega (arith, small)
+
+-- ---- the first difference
+
+-- the one that was taken, where no further one was, or none
+pub first_is : (first : Option Difference) (all : Bool) (list : List Difference) → all ≡ is_none_yet first → (all ≡ true → as_list first ≡ list) → TakesFront [] (as_list first) list → first ≡ slice_get list 0
+first_is None all list e whole p = ap (λ (ds : List Difference). slice_get ds 0) (whole e)
+first_is (Some d) all [] e whole p = absurd (no_front p.0 p.1)
+  where
+    no_front : (n : ℕ) → ◌≡◌ {A = List Difference} (d ∷ []) (take n []) → ⊥
+    no_front zero f = absurd cc
+    no_front (suc n) f = absurd cc
+first_is (Some d) all (x ∷ list) e whole p = by p.0 p.1
+  where
+    by : (n : ℕ) → ◌≡◌ {A = List Difference} (d ∷ []) (take n (x ∷ list)) → ◌≡◌ {A = Option Difference} (Some d) (Some x)
+    by zero f = absurd cc
+    by (suc n) f = let same : d ≡ x = cc in ap (λ (z : Difference). Some z) same

@@ -1,0 +1,115 @@
+-- What is left of all samples of a track together, as it is measured in a walk.
+use Rattle.std.proofs.Common.{◌≡◌, ℕ, suc, ◌+◌, ◌-◌, ◌^◌, ◌<◌, ◌≤◌, min, Bool, true, false, List, [], ◌∷◌, refl, sym, ap, subst, ◌∙◌, arith, ◌++◌, rules}
+use Rattle.std.specs.Prelude.{◌&&◌, Some, None, drop, slice_get, nat_lt, ℤ, pos, negsuc, FitsSigned}
+use Rattle.std.specs.Int.{w32}
+use Rattle.std.specs.List.{AllByRecursion}
+use Rattle.mp4_frag.specs.words.OwnTrafs.{PlacedTraf}
+use Rattle.mp4_head.specs.format.Tree.{TrackTree}
+use Rattle.mp4_tables.specs.format.Groups.{GroupKey}
+use Rattle.mp4_tables.specs.declared.sample.SampleAt.{SampleAt}
+use Rattle.mp4_present.specs.format.Presentation.{Sample, total_duration}
+use Rattle.mp4_content.specs.format.Reduced.{duration_left, offset_left, reduce_from}
+use Rattle.mp4_present.specs.format.Denotes.{FileTree}
+use Rattle.mp4_present.specs.words.HandCarried.{OfHand}
+use Rattle.mp4_present.specs.words.Loaded.{left_in_hand}
+use Rattle.mp4_present.specs.words.Movies.{MovieSeen}
+use Rattle.mp4_present.specs.words.SamplesComing.{Comes, StandsBefore, samples_behind}
+use Rattle.mp4_present.specs.declared.walking.loaded.Loaded.{Loaded}
+use Rattle.mp4_present.specs.declared.walking.Walk.{Walk}
+use Rattle.mp4_present.proofs.WalkCopied.{hand_one}
+use Rattle.mp4_content.specs.format.TimedSamples.{timed_from}
+use Rattle.mp4_content.specs.words.Measuring.{is_near, no_total, total_from, total_with}
+use Rattle.mp4_content.specs.words.TakenSamples.{AreTaken}
+use Rattle.mp4_content.specs.declared.measures.Total.{Total}
+use Rattle.mp4_content.specs.declared.reduced.Reduction.{Reduction}
+use Rattle.mp4_content.proofs.ReducedTaken.{AreNumbered}
+
+-- ---- an offset that fits
+
+below : (n : ℕ) → nat_lt n (2 ^ 31) ≡ true → n < 2 ^ 31
+below n e = search rules
+
+not_below : (n : ℕ) → n < 2 ^ 31 → nat_lt n (2 ^ 31) ≡ true
+not_below n lt = search rules
+
+pub near_fits : (z : ℤ) → is_near z ≡ true → FitsSigned w32 z
+near_fits (pos n) e = let lt = below n e in omega (arith, lt)
+near_fits (negsuc n) e = let lt = below n e in omega (arith, lt)
+
+pub fits_near : (z : ℤ) → FitsSigned w32 z → is_near z ≡ true
+fits_near (pos n) h = not_below n (omega (arith, h))
+fits_near (negsuc n) h = not_below n (omega (arith, h))
+
+-- ---- samples
+
+-- those that were added before, and then others
+pub total_append : (r : Reduction) (total : Total) (xs ys : List SampleAt) → total_from r total (xs ++ ys) ≡ total_from r (total_from r total xs) ys
+total_append r total [] ys = refl
+total_append r total (x ∷ xs) ys = total_append r (total_with r total x) xs ys
+
+-- one more, and none
+pub one_added : (r : Reduction) (total next : Total) (samples rest : List SampleAt) (s : SampleAt) → Some s ≡ slice_get samples 0 → rest ≡ drop 1 samples → next ≡ total_with r total s → total_from r total samples ≡ total_from r next rest
+one_added r total next [] rest s is left e = absurd cc
+one_added r total next (x ∷ samples) rest s is left e =
+    let same : x ≡ s = cc in
+    (λ i. total_from r (total_with r total (same i)) samples) ∙ (λ i. total_from r (sym e i) (sym left i))
+
+pub none_added : (r : Reduction) (total : Total) (samples : List SampleAt) → None ≡ slice_get samples 0 → total_from r total samples ≡ total
+none_added r total [] is = refl
+none_added r total (x ∷ samples) is = absurd cc
+
+-- what a walk has added so far, of all samples that it had to come
+pub record HasAdded (r : Reduction) (file : List ℕ) (tree : FileTree) (t : TrackTree) (total : Total) (w : Walk) (all : List SampleAt) : Type 0 where
+  pub earlier : List PlacedTraf
+  pub later : List PlacedTraf
+  pub stands : StandsBefore file tree t earlier later w
+  pub added : total_from r no_total all ≡ total_from r total (samples_behind tree t earlier later)
+
+-- all samples in hand are added
+pub hand_added : (r : Reduction) (file : List ℕ) (tree : FileTree) (t : TrackTree) (m : MovieSeen) (total next : Total) (w now : Walk) (all to_come : List SampleAt) → total_from r no_total all ≡ total_from r total to_come → (k : Comes file tree t m w to_come)
+    → (x : OfHand m w (λ hand. next ≡ total_from r total (left_in_hand hand))) → ((earlier later : List PlacedTraf) → StandsBefore file tree t earlier later w → StandsBefore file tree t earlier later now) → HasAdded r file tree t next now all
+hand_added r file tree t m total next w now all to_come h k x on =
+    let rest = samples_behind tree t k.0 k.1 in
+    let both : to_come ≡ left_in_hand x.0 ++ rest = k.3.2 ∙ ap (λ (y : Loaded). left_in_hand y ++ rest) (hand_one m w k.2 x.0 k.3.1 x.1) in
+    record {
+      earlier = k.0;
+      later = k.1;
+      stands = on k.0 k.1 k.3.0;
+      added = h ∙ ap (total_from r total) both ∙ total_append r total (left_in_hand x.0) rest ∙ ap (λ (y : Total). total_from r y rest) (sym x.2);
+    }
+
+both : (a b : Bool) → (a && b) ≡ true → (a ≡ true) × (b ≡ true)
+both true b e = (refl, e)
+both false b e = absurd cc
+
+module _ (r : Reduction) (file : List ℕ) (keys : List GroupKey) where
+  pub total_lasts : (total : Total) (number time place : ℕ) (taken : List SampleAt) (samples : List Sample) → total.duration ≤ 2 ^ 64 - 1 → AreNumbered place taken → AreTaken file keys taken (timed_from number time samples)
+      → (total_from r total taken).duration ≡ min (total.duration + total_duration (reduce_from r.leaving r.samples r.offset place samples)) (2 ^ 64 - 1)
+  total_lasts total number time place [] [] le n h = omega (arith, le)
+  total_lasts total number time place [] (s ∷ samples) le n h = absurd h
+  total_lasts total number time place (a ∷ taken) [] le n h = absurd h
+  total_lasts total number time place (a ∷ taken) (s ∷ samples) le n h =
+      let next : place + 1 ≡ suc place = omega arith in
+      let d : duration_left r.leaving r.samples a.number a.duration ≡ duration_left r.leaving r.samples place s.duration = λ i. duration_left r.leaving r.samples (n.0 i) (h.0.duration i) in
+      let more = total_lasts (total_with r total a) (number + 1) (time + s.duration) (suc place) taken samples (omega arith) (subst (λ k. AreNumbered k taken) next n.1) h.1 in
+      omega (arith, le, d, more)
+
+  abbrev AreNear : List Sample → Type 0
+  AreNear samples = AllByRecursion (λ (s : Sample). FitsSigned w32 (offset_left r.leaving r.offset s.offset)) samples
+
+  pub total_near : (total : Total) (number time : ℕ) (taken : List SampleAt) (samples : List Sample) → AreTaken file keys taken (timed_from number time samples) → (total_from r total taken).is_near ≡ true → (total.is_near ≡ true) × AreNear samples
+  total_near total number time [] [] h e = (e, tt)
+  total_near total number time [] (s ∷ samples) h e = absurd h
+  total_near total number time (a ∷ taken) [] h e = absurd h
+  total_near total number time (a ∷ taken) (s ∷ samples) h e =
+      let more = total_near (total_with r total a) (number + 1) (time + s.duration) taken samples h.1 e in
+      let here = both total.is_near (is_near (offset_left r.leaving r.offset a.cto)) more.0 in
+      (here.0, (subst (λ (z : ℤ). FitsSigned w32 (offset_left r.leaving r.offset z)) h.0.offset (near_fits (offset_left r.leaving r.offset a.cto) here.1), more.1))
+
+  pub near_total : (total : Total) (number time : ℕ) (taken : List SampleAt) (samples : List Sample) → AreTaken file keys taken (timed_from number time samples) → total.is_near ≡ true → AreNear samples → (total_from r total taken).is_near ≡ true
+  near_total total number time [] [] h e near = e
+  near_total total number time [] (s ∷ samples) h e near = absurd h
+  near_total total number time (a ∷ taken) [] h e near = absurd h
+  near_total total number time (a ∷ taken) (s ∷ samples) h e near =
+      let here = fits_near (offset_left r.leaving r.offset a.cto) (subst (λ (z : ℤ). FitsSigned w32 (offset_left r.leaving r.offset z)) (sym h.0.offset) near.0) in
+      near_total (total_with r total a) (number + 1) (time + s.duration) taken samples h.1 (λ i. e i && here i) near.1

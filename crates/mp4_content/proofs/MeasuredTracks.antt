@@ -1,0 +1,115 @@
+-- Tracks that are measured one after the other.
+use Rattle.std.proofs.Common.{◌≡◌, ℕ, zero, suc, ◌+◌, ◌<◌, ◌≤◌, true, false, if◌then◌else◌, List, [], ◌∷◌, ◌++◌, length, take, map, Some, refl, sym, ap, subst, ◌∙◌, arith}
+use Rattle.std.specs.Prelude.{slice_get, slice_index_or}
+use Rattle.std.proofs.lemmas.List.{take_all, map-append}
+use Rattle.mp4_boxes.specs.format.Bytes.{sum_of}
+use Rattle.mp4_head.specs.format.Tree.{TrackTree}
+use Rattle.mp4_present.specs.format.Denotes.{FileTree}
+use Rattle.mp4_present.specs.words.Movies.{MovieSeen}
+use Rattle.mp4_present.specs.words.OpenedMovie.{IsInfoOf, IsOpenedAs}
+use Rattle.mp4_present.specs.words.SamplesComing.{track_samples}
+use Rattle.mp4_present.specs.words.WalkSteps.{walk_steps, walks_steps}
+use Rattle.mp4_present.specs.declared.track_info.TrackInfo.{TrackInfo}
+use Rattle.mp4_content.specs.declared.without.Without.{Without}
+use Rattle.mp4_present.proofs.Counts.{sum-append}
+use Rattle.mp4_present.proofs.TracksPassed.{zip_length}
+use Rattle.mp4_content.specs.words.ComingLess.{asks_first, plain_reduction, reduction_by, track_reduction, reductions_of}
+use Rattle.mp4_content.specs.words.Measuring.{AreTotals, no_total, total_from, track_total}
+use Rattle.mp4_content.specs.declared.measures.Total.{Total}
+use Rattle.mp4_content.specs.declared.reduced.Reduction.{Reduction}
+use Rattle.mp4_present.proofs.TrafTaken.{zipped_at}
+use Rattle.mp4_content.proofs.AtPlaces.{read_at, taken_next, there_is}
+use Rattle.mp4_content.proofs.SamplesTaken.{as_many}
+
+totals_behind : (l : Without) (tree : FileTree) (ts : List TrackTree) (infos : List TrackInfo) (xs : List Total) (t : TrackTree) (info : TrackInfo) (x : Total) → AreTotals l tree ts infos xs → x ≡ track_total l tree t info → AreTotals l tree (ts ++ t ∷ []) (infos ++ info ∷ []) (xs ++ x ∷ [])
+totals_behind l tree [] [] [] t info x h e = (e, tt)
+totals_behind l tree [] [] (y ∷ xs) t info x h e = absurd h
+totals_behind l tree [] (y ∷ infos) xs t info x h e = absurd h
+totals_behind l tree (u ∷ ts) [] xs t info x h e = absurd h
+totals_behind l tree (u ∷ ts) (y ∷ infos) [] t info x h e = absurd h
+totals_behind l tree (u ∷ ts) (y ∷ infos) (z ∷ xs) t info x h e = (h.0, totals_behind l tree ts infos xs t info x h.1 e)
+
+module _ (l : Without) (file : List ℕ) (m : MovieSeen) (tree : FileTree) (o : IsOpenedAs file m tree) where
+  -- the first tracks were measured
+  pub record AreSoFar (k : ℕ) (reductions : List Reduction) (totals : List Total) : Type 0 where
+    pub by : reductions ≡ map (track_reduction l tree) (take k tree.movie.tracks)
+    pub all : AreTotals l tree (take k tree.movie.tracks) (take k m.tracks) totals
+
+  pub so_far_none : AreSoFar 0 [] []
+  so_far_none = record { by = refl; all = tt }
+
+  -- the track at a place, and its numbers
+  pub record IsAt (k : ℕ) : Type 0 where
+    pub t : TrackTree
+    pub info : TrackInfo
+    pub is_tree : slice_get tree.movie.tracks k ≡ Some t
+    pub is_info : slice_get m.tracks k ≡ Some info
+
+  pub is_at : (k : ℕ) → k < length m.tracks → IsAt k
+  is_at k lt =
+      let many = zip_length (IsInfoOf file tree) tree.movie.tracks m.tracks o.tracks in
+      let t = there_is tree.movie.tracks k (omega (arith, lt, many)) in
+      let info = there_is m.tracks k lt in
+      record { t = t.0; info = info.0; is_tree = t.1; is_info = info.1 }
+
+  -- and one more
+  pub so_far_more : (k : ℕ) (reductions : List Reduction) (totals : List Total) (r : Reduction) (x : Total) (a : IsAt k) → AreSoFar k reductions totals → r ≡ track_reduction l tree a.t → x ≡ track_total l tree a.t a.info → AreSoFar (k + 1) (reductions ++ r ∷ []) (totals ++ x ∷ [])
+  so_far_more k reductions totals r x a h e f =
+      let next = taken_next tree.movie.tracks k a.t a.is_tree in
+      record {
+        by = (λ i. h.by i ++ e i ∷ []) ∙ sym (map-append (track_reduction l tree) (take k tree.movie.tracks) (a.t ∷ [])) ∙ ap (map (track_reduction l tree)) (sym next);
+        all = subst (λ (ts : List TrackTree). AreTotals l tree ts (take (k + 1) m.tracks) (totals ++ x ∷ [])) (sym next)
+            (subst (λ (infos : List TrackInfo). AreTotals l tree (take k tree.movie.tracks ++ a.t ∷ []) infos (totals ++ x ∷ [])) (sym (taken_next m.tracks k a.info a.is_info)) (totals_behind l tree (take k tree.movie.tracks) (take k m.tracks) totals a.t a.info x h.all f));
+      }
+
+  -- all of them
+  pub so_far_all : (k : ℕ) (reductions : List Reduction) (totals : List Total) → AreSoFar k reductions totals → length m.tracks ≤ k → (reductions ≡ reductions_of l tree) × AreTotals l tree tree.movie.tracks m.tracks totals
+  so_far_all k reductions totals h le =
+      let many = zip_length (IsInfoOf file tree) tree.movie.tracks m.tracks o.tracks in
+      let trees = take_all k tree.movie.tracks (omega (arith, le, many)) in
+      let infos = take_all k m.tracks le in (
+        h.by ∙ ap (map (track_reduction l tree)) trees,
+        subst (λ (ts : List TrackTree). AreTotals l tree ts m.tracks totals) trees (subst (λ (is : List TrackInfo). AreTotals l tree (take k tree.movie.tracks) is totals) infos h.all),
+      )
+
+  -- in so many steps
+  pub steps_more : (k old before now : ℕ) (a : IsAt k) → before ≤ old + sum_of (walk_steps tree) (take k tree.movie.tracks) → now ≤ before + walk_steps tree a.t → now ≤ old + sum_of (walk_steps tree) (take (k + 1) tree.movie.tracks)
+  steps_more k old before now a h e =
+      let next = ap (sum_of (walk_steps tree)) (taken_next tree.movie.tracks k a.t a.is_tree) ∙ sum-append (walk_steps tree) (take k tree.movie.tracks) (a.t ∷ []) in
+      omega (arith, h, e, next)
+
+  take_fewer : {A : Type 0} (f : A → ℕ) (xs : List A) (k : ℕ) → sum_of f (take k xs) ≤ sum_of f xs
+  take_fewer f xs zero = omega arith
+  take_fewer f [] (suc k) = omega arith
+  take_fewer f (x ∷ xs) (suc k) = let more = take_fewer f xs k in omega (arith, more)
+
+  pub steps_within : (k old now : ℕ) → now ≤ old + sum_of (walk_steps tree) (take k tree.movie.tracks) → now ≤ old + walks_steps tree
+  steps_within k old now h = let fewer = take_fewer (walk_steps tree) tree.movie.tracks k in omega (arith, h, fewer)
+
+-- a track has as many samples as opening counted
+pub counted_by : (file : List ℕ) (m : MovieSeen) (tree : FileTree) → IsOpenedAs file m tree → (k : ℕ) (t : TrackTree) → slice_get tree.movie.tracks k ≡ Some t → (d : TrackInfo) → d ≡ slice_index_or m.tracks k d → (slice_index_or m.tracks k d).samples ≡ length (track_samples tree t)
+counted_by file m tree o k t is d e =
+    let many = zip_length (IsInfoOf file tree) tree.movie.tracks m.tracks o.tracks in
+    let lt = got_within tree.movie.tracks k t is in
+    let info = there_is m.tracks k (omega (arith, lt, many)) in
+    let same : d ≡ info.0 = read_at m.tracks k info.0 d info.1 e in
+    let of = zipped_at (IsInfoOf file tree) tree.movie.tracks m.tracks k t info.0 o.tracks is info.1 in
+    ap (λ (x : TrackInfo). x.samples) (sym e ∙ same) ∙ of.samples ∙ sym (as_many file tree t)
+  where
+    got_within : {A : Type 0} (xs : List A) (k : ℕ) (x : A) → slice_get xs k ≡ Some x → k < length xs
+    got_within [] k x e = absurd cc
+    got_within (y ∷ xs) zero x e = omega arith
+    got_within (y ∷ xs) (suc k) x e = let less = got_within xs k x e in omega (arith, less)
+
+-- what is measured, and what needn't be
+pub asked_reduction : (l : Without) (tree : FileTree) (t : TrackTree) → asks_first l ≡ true → reduction_by l (length (track_samples tree t)) (slice_get (track_samples tree t) 0) ≡ track_reduction l tree t
+asked_reduction l tree t e = λ i. if sym e i then reduction_by l (length (track_samples tree t)) (slice_get (track_samples tree t) 0) else plain_reduction l
+
+pub asked_total : (l : Without) (tree : FileTree) (t : TrackTree) (info : TrackInfo) → asks_first l ≡ true → total_from (track_reduction l tree t) no_total (track_samples tree t) ≡ track_total l tree t info
+asked_total l tree t info e = λ i. if sym e i then total_from (track_reduction l tree t) no_total (track_samples tree t) else record { duration = info.duration; is_near = true }
+
+pub plain_is : (l : Without) (tree : FileTree) (t : TrackTree) → asks_first l ≡ false → plain_reduction l ≡ track_reduction l tree t
+plain_is l tree t e = λ i. if sym e i then reduction_by l (length (track_samples tree t)) (slice_get (track_samples tree t) 0) else plain_reduction l
+
+pub counted_total : (l : Without) (tree : FileTree) (t : TrackTree) (info : TrackInfo) → asks_first l ≡ false → record { duration = info.duration; is_near = true } ≡ track_total l tree t info
+counted_total l tree t info e = λ i. if sym e i then total_from (track_reduction l tree t) no_total (track_samples tree t) else record { duration = info.duration; is_near = true }

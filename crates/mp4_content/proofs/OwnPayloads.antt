@@ -1,0 +1,145 @@
+-- What is left of payloads of heads, in memory of its own: one entry after the other.
+use Rattle.std.proofs.Common.{◌≡◌, ℕ, zero, suc, ◌+◌, ◌<◌, ◌≤◌, Bool, true, false, if◌then◌else◌, List, [], ◌∷◌, ◌++◌, length, take, map, Some, refl, sym, ap, subst, ◌∙◌, arith, slice_set}
+use Rattle.std.specs.Prelude.{⊤, ◌&&◌, ◌||◌, slice_get, slice_index_or}
+use Rattle.std.specs.List.{AllZip}
+use Rattle.std.proofs.lemmas.List.{map-append, take_all}
+use Rattle.mp4_head.specs.format.Head.{Kept, TrackHead}
+use Rattle.mp4_content.specs.format.BitRates.{unrated}
+use Rattle.mp4_content.specs.format.Reduced.{is_picture, plain_picture, reduce_descriptions}
+use Rattle.mp4_content.specs.words.PayloadsLeft.{description_left, leaves_payloads, track_payloads_left}
+use Rattle.mp4_content.specs.declared.without.Without.{Without}
+
+next_taken : {A : Type 0} (xs : List A) (k : ℕ) (x : A) → slice_get xs k ≡ Some x → take (suc k) xs ≡ take k xs ++ x ∷ []
+next_taken [] k x e = absurd cc
+next_taken (y ∷ ys) zero x e = let same : y ≡ x = cc in ap (λ z. z ∷ []) same
+next_taken (y ∷ ys) (suc k) x e = ap (λ zs. y ∷ zs) (next_taken ys k x e)
+
+-- one more is put behind the first ones
+pub put_next : {A B : Type 0} (seen : A → B) (all : List B) (now : List A) (k : ℕ) (x : A) → map seen now ≡ take k all → slice_get all k ≡ Some (seen x) → map seen (now ++ x ∷ []) ≡ take (k + 1) all
+put_next seen all now k x h e =
+    let n : suc k ≡ k + 1 = omega arith in
+    map-append seen now (x ∷ []) ∙ ap (λ xs. xs ++ seen x ∷ []) h ∙ sym (next_taken all k (seen x) e) ∙ ap (λ i. take i all) n
+
+pub put_all : {A B : Type 0} (seen : A → B) (all : List B) (now : List A) (k : ℕ) → map seen now ≡ take k all → length all ≤ k → map seen now ≡ all
+put_all seen all now k h le = h ∙ take_all k all le
+
+pub there_is : {A : Type 0} (xs : List A) (k : ℕ) (d x : A) → k < length xs → x ≡ slice_index_or xs k d → slice_get xs k ≡ Some x
+there_is [] k d x lt e = absurd (omega (arith, lt))
+there_is (y ∷ ys) zero d x lt e = ap (λ z. Some z) (sym e)
+there_is (y ∷ ys) (suc k) d x lt e = there_is ys k d x (omega (arith, lt)) e
+
+-- entries of a list that are mapped
+pub mapped_at : {A B : Type 0} (f : A → B) (xs : List A) (k : ℕ) (x : A) → slice_get xs k ≡ Some x → slice_get (map f xs) k ≡ Some (f x)
+mapped_at f [] k x e = absurd cc
+mapped_at f (y ∷ ys) zero x e = let same : y ≡ x = cc in ap (λ z. Some (f z)) same
+mapped_at f (y ∷ ys) (suc k) x e = mapped_at f ys k x e
+
+pub mapped_length : {A B : Type 0} (f : A → B) (xs : List A) → length (map f xs) ≡ length xs
+mapped_length f [] = refl
+mapped_length f (x ∷ xs) = let more = mapped_length f xs in omega (arith, more)
+
+map_same : {A : Type 0} (f : A → A) → ((x : A) → f x ≡ x) → (xs : List A) → map f xs ≡ xs
+map_same f same [] = refl
+map_same f same (x ∷ xs) = λ i. same x i ∷ map_same f same xs i
+
+map_both : {A : Type 0} (f g : A → A) (xs : List A) → map (λ x. f (g x)) xs ≡ map f (map g xs)
+map_both f g [] = refl
+map_both f g (x ∷ xs) = ap (λ ys. f (g x) ∷ ys) (map_both f g xs)
+
+-- all of them
+left_by : (labels picture rates : Bool) (f g : Kept → Kept) (entries : List Kept) → map (λ k. if labels && picture then f (if rates then g k else k) else (if rates then g k else k)) entries
+    ≡ (if labels then (if picture then map f (if rates then map g entries else entries) else (if rates then map g entries else entries)) else (if rates then map g entries else entries))
+left_by true true true f g entries = map_both f g entries
+left_by true true false f g entries = refl
+left_by true false true f g entries = refl
+left_by true false false f g entries = map_same (λ k. k) (λ k. refl) entries
+left_by false picture true f g entries = refl
+left_by false picture false f g entries = map_same (λ k. k) (λ k. refl) entries
+
+pub entries_left : (l : Without) (handler : List ℕ) (entries : List Kept) → map (description_left l handler) entries ≡ reduce_descriptions l handler entries
+entries_left l handler entries = left_by l.labels (is_picture handler) l.bitrates plain_picture (unrated handler) entries
+
+-- ---- two lists, one entry after the other
+
+pub zip_next : {A B : Type 0} (R : A → B → Type 0) (xs : List A) (ys : List B) (k : ℕ) (x : A) (y : B) → AllZip R (take k xs) ys → slice_get xs k ≡ Some x → R x y → AllZip R (take (k + 1) xs) (ys ++ y ∷ [])
+zip_next {A = A} {B = B} R xs ys k x y h e r = let n : suc k ≡ k + 1 = omega arith in subst (λ i. AllZip R (take i xs) (ys ++ y ∷ [])) n (subst (λ zs. AllZip R zs (ys ++ y ∷ [])) (sym (next_taken xs k x e)) (behind (take k xs) ys h))
+  where
+    behind : (us : List A) (vs : List B) → AllZip R us vs → AllZip R (us ++ x ∷ []) (vs ++ y ∷ [])
+    behind [] [] h = (r, tt)
+    behind [] (b ∷ vs) h = absurd h
+    behind (a ∷ us) [] h = absurd h
+    behind (a ∷ us) (b ∷ vs) h = (h.0, behind us vs h.1)
+
+pub zip_at : {A B : Type 0} (R : A → B → Type 0) (xs : List A) (ys : List B) (k : ℕ) (x : A) (y : B) → AllZip R xs ys → slice_get xs k ≡ Some x → slice_get ys k ≡ Some y → R x y
+zip_at R [] [] k x y h e f = absurd cc
+zip_at R [] (b ∷ ys) k x y h e f = absurd h
+zip_at R (a ∷ xs) [] k x y h e f = absurd h
+zip_at R (a ∷ xs) (b ∷ ys) zero x y h e f = let p : a ≡ x = cc in let q : b ≡ y = cc in subst (λ z. R z y) p (subst (R a) q h.0)
+zip_at R (a ∷ xs) (b ∷ ys) (suc k) x y h e f = zip_at R xs ys k x y h.1 e f
+
+pub zip_many : {A B : Type 0} (R : A → B → Type 0) (xs : List A) (ys : List B) → AllZip R xs ys → length xs ≡ length ys
+zip_many R [] [] h = refl
+zip_many R [] (b ∷ ys) h = absurd h
+zip_many R (a ∷ xs) [] h = absurd h
+zip_many R (a ∷ xs) (b ∷ ys) h = let more = zip_many R xs ys h.1 in omega (arith, more)
+
+-- ---- entries that are changed one after the other
+
+-- those before a place are changed, and the others are as they were
+abbrev pub ChangedTo : {A B : Type 0} → (A → B) → (B → B) → List A → List A → ℕ → Type 0
+ChangedTo seen f [] [] k = ⊤
+ChangedTo seen f (x ∷ old) (y ∷ now) zero = y ∷ now ≡ x ∷ old
+ChangedTo seen f (x ∷ old) (y ∷ now) (suc k) = (seen y ≡ f (seen x)) × ChangedTo seen f old now k
+ChangedTo seen f _ _ k = ⊥
+
+module _ {A B : Type 0} (seen : A → B) (f : B → B) where
+  pub changed_none : (old now : List A) → now ≡ old → ChangedTo seen f old now 0
+  changed_none [] [] e = tt
+  changed_none [] (y ∷ now) e = absurd cc
+  changed_none (x ∷ old) [] e = absurd cc
+  changed_none (x ∷ old) (y ∷ now) e = e
+
+  -- the next one is as it was
+  pub unchanged_next : (old now : List A) (k : ℕ) (x : A) → ChangedTo seen f old now k → slice_get now k ≡ Some x → slice_get old k ≡ Some x
+  unchanged_next [] [] k x h e = e
+  unchanged_next [] (y ∷ now) k x h e = absurd h
+  unchanged_next (z ∷ old) [] k x h e = absurd h
+  unchanged_next (z ∷ old) (y ∷ now) zero x h e = ap (λ zs. slice_get zs 0) (sym h) ∙ e
+  unchanged_next (z ∷ old) (y ∷ now) (suc k) x h e = unchanged_next old now k x h.1 e
+
+  one_changed : (old now : List A) (k : ℕ) (was is : A) → ChangedTo seen f old now k → slice_get now k ≡ Some was → seen is ≡ f (seen was) → ChangedTo seen f old (slice_set now k is) (suc k)
+  one_changed [] [] k was is h at e = absurd cc
+  one_changed [] (y ∷ now) k was is h at e = absurd h
+  one_changed (x ∷ old) [] k was is h at e = absurd h
+  one_changed (x ∷ old) (y ∷ now) zero was is h at e =
+      let first : y ≡ x = cc in
+      let same : y ≡ was = cc in
+      let rest : now ≡ old = cc in
+      (e ∙ ap (λ z. f (seen z)) (sym same ∙ first), changed_none old now rest)
+  one_changed (x ∷ old) (y ∷ now) (suc k) was is h at e = (h.0, one_changed old now k was is h.1 at e)
+
+  pub changed_one : (old now : List A) (k : ℕ) (was is : A) → ChangedTo seen f old now k → slice_get now k ≡ Some was → seen is ≡ f (seen was) → ChangedTo seen f old (slice_set now k is) (k + 1)
+  changed_one old now k was is h at e = let n : suc k ≡ k + 1 = omega arith in subst (λ i. ChangedTo seen f old (slice_set now k is) i) n (one_changed old now k was is h at e)
+
+  pub changed_all : (old now : List A) (k : ℕ) → ChangedTo seen f old now k → length old ≤ k → map seen now ≡ map f (map seen old)
+  changed_all [] [] k h le = refl
+  changed_all [] (y ∷ now) k h le = absurd h
+  changed_all (x ∷ old) [] k h le = absurd h
+  changed_all (x ∷ old) (y ∷ now) zero h le = absurd (omega (arith, le))
+  changed_all (x ∷ old) (y ∷ now) (suc k) h le = λ i. h.0 i ∷ changed_all old now k h.1 (omega (arith, le)) i
+
+-- none is changed
+pub changed_to_same : {A B : Type 0} (seen : A → B) (f : B → B) → ((y : B) → f y ≡ y) → (xs : List A) → map seen xs ≡ map f (map seen xs)
+changed_to_same seen f same xs = sym (map_same f same (map seen xs))
+
+none_of_both : (a b : Bool) → (a || b) ≡ false → (a ≡ false) × (b ≡ false)
+none_of_both true b e = absurd cc
+none_of_both false b e = (refl, e)
+
+-- where payloads stay, all does
+pub payloads_stay : (l : Without) → leaves_payloads l ≡ false → (t : TrackHead) → track_payloads_left l t ≡ t
+payloads_stay l e t = let h = none_of_both l.labels l.bitrates e in rw (h.0, h.1) refl
+
+-- where descriptions stay
+pub descriptions_stay : (l : Without) → leaves_payloads l ≡ false → (handler : List ℕ) (ds : List Kept) → reduce_descriptions l handler ds ≡ ds
+descriptions_stay l e handler ds = let h = none_of_both l.labels l.bitrates e in rw (h.0, h.1) refl

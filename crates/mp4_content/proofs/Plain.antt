@@ -1,0 +1,268 @@
+-- What is left of payloads without labels: once more it is the same, no longer, and well formed.
+use Rattle.std.proofs.Common.{◌≡◌, ℕ, zero, suc, ◌≤◌, Bool, true, false, if◌then◌else◌, List, [], ◌∷◌, length, take, refl, sym, ap, ◌∙◌, arith, length-append}
+use Rattle.std.specs.Prelude.{◌||◌, nat_le, map, codes, bytes_eq}
+use Rattle.std.specs.List.{AllByRecursion, flat_map}
+use Rattle.std.proofs.lemmas.List.{length-take-le}
+use Rattle.mp4_boxes.specs.format.Bytes.{AreBytes, field}
+use Rattle.mp4_boxes.proofs.Each.{each_value}
+use Rattle.mp4_boxes.proofs.OfBytes.{bytes_taken}
+use Rattle.mp4_head.specs.format.Head.{Kept, IsDescription, handler_type}
+use Rattle.mp4_head.specs.format.Writing.{kept_bytes}
+use Rattle.mp4_head.proofs.HeadLengths.{length_any}
+use Rattle.mp4_content.specs.declared.without.Without.{Without}
+use Rattle.mp4_content.specs.format.BitRates.{unrated, unrated_descriptions, unrated_payload}
+use Rattle.mp4_content.specs.format.Reduced.{reduce_descriptions, plain_handler, plain_picture, plain_descriptions, is_picture}
+use Rattle.mp4_content.specs.format.Zeros.{zeroed}
+use Rattle.mp4_content.proofs.Zeroed.{zeroed_length}
+use Rattle.mp4_content.specs.format.ReducedLaws.{both}
+use Rattle.mp4_content.proofs.Unrated.{names_and_rates, unrated_good, unrated_short, unrated_twice}
+use Rattle.mp4_content.proofs.ZeroedAgain.{zeroed_taken, zeroed_twice, zeroed_turned, zeroed_byte}
+
+-- ---- `hdlr`
+
+take_again : (n : ℕ) (bytes : List ℕ) → take n (take n bytes) ≡ take n bytes
+take_again zero bytes = refl
+take_again (suc n) [] = refl
+take_again (suc n) (b ∷ bytes) = ap (λ bs. b ∷ bs) (take_again n bytes)
+
+pub handler_twice : (h : List ℕ) → plain_handler (plain_handler h) ≡ plain_handler h
+handler_twice h =
+    let first = take 24 h in
+    let once = zeroed 12 12 first in
+    let same : take 24 (zeroed 4 4 once) ≡ zeroed 4 4 once =
+    zeroed_taken 24 4 4 once ∙ ap (zeroed 4 4) (zeroed_taken 24 12 12 first ∙ ap (zeroed 12 12) (take_again 24 h)) in
+    ap (λ bs. zeroed 4 4 (zeroed 12 12 bs)) same
+    ∙ ap (zeroed 4 4) (zeroed_turned 12 12 4 4 once ∙ ap (zeroed 4 4) (zeroed_twice 12 12 first))
+    ∙ zeroed_twice 4 4 once
+
+-- it names the same type
+pub type_same : (h : List ℕ) → handler_type (plain_handler h) ≡ handler_type h
+type_same [] = refl
+type_same (a ∷ []) = refl
+type_same (a ∷ b ∷ []) = refl
+type_same (a ∷ b ∷ c ∷ []) = refl
+type_same (a ∷ b ∷ c ∷ d ∷ []) = refl
+type_same (a ∷ b ∷ c ∷ d ∷ e ∷ []) = refl
+type_same (a ∷ b ∷ c ∷ d ∷ e ∷ f ∷ []) = refl
+type_same (a ∷ b ∷ c ∷ d ∷ e ∷ f ∷ g ∷ []) = refl
+type_same (a ∷ b ∷ c ∷ d ∷ e ∷ f ∷ g ∷ h ∷ []) = refl
+type_same (a ∷ b ∷ c ∷ d ∷ e ∷ f ∷ g ∷ h ∷ i ∷ []) = refl
+type_same (a ∷ b ∷ c ∷ d ∷ e ∷ f ∷ g ∷ h ∷ i ∷ j ∷ []) = refl
+type_same (a ∷ b ∷ c ∷ d ∷ e ∷ f ∷ g ∷ h ∷ i ∷ j ∷ k ∷ []) = refl
+type_same (a ∷ b ∷ c ∷ d ∷ e ∷ f ∷ g ∷ h ∷ i ∷ j ∷ k ∷ l ∷ rest) = refl
+
+pub picture_same : (h : List ℕ) → is_picture (plain_handler h) ≡ is_picture h
+picture_same h = ap (λ kind. bytes_eq kind (codes "vide")) (type_same h)
+
+handler_length : (h : List ℕ) → length (plain_handler h) ≡ length (take 24 h)
+handler_length h = zeroed_length 4 4 (zeroed 12 12 (take 24 h)) ∙ zeroed_length 12 12 (take 24 h)
+
+taken_shorter : (n : ℕ) (bytes : List ℕ) → length (take n bytes) ≤ length bytes
+taken_shorter zero bytes = omega arith
+taken_shorter (suc n) [] = omega arith
+taken_shorter (suc n) (b ∷ bytes) = let more = taken_shorter n bytes in omega (arith, more)
+
+pub handler_shorter : (h : List ℕ) → length (plain_handler h) ≤ length h
+handler_shorter h = let same = handler_length h in let few = taken_shorter 24 h in omega (arith, same, few)
+
+pub handler_room : (h : List ℕ) → 24 ≤ length h → 24 ≤ length (plain_handler h)
+handler_room h room = let same = handler_length h in let all = length-take-le 24 h room in omega (arith, same, all)
+
+pub handler_bytes : (h : List ℕ) → AreBytes h → AreBytes (plain_handler h)
+handler_bytes h are = zeroed_byte 4 4 (zeroed 12 12 (take 24 h)) (zeroed_byte 12 12 (take 24 h) (bytes_taken 24 h are))
+
+-- ---- sample descriptions
+
+-- what is left by two words
+abbrev pub reduce_by : Bool → Bool → List ℕ → List Kept → List Kept
+reduce_by labels rates h ds = if labels then plain_descriptions h (if rates then unrated_descriptions h ds else ds) else (if rates then unrated_descriptions h ds else ds)
+
+abbrev plain : Bool → List ℕ → List ℕ
+plain whole payload = if whole then zeroed 42 32 payload else payload
+
+plain_length : (v : Bool) (payload : List ℕ) → length (plain v payload) ≡ length payload
+plain_length true payload = zeroed_length 42 32 payload
+plain_length false payload = refl
+
+plain_twice : (v : Bool) (payload : List ℕ) → plain v (plain v payload) ≡ plain v payload
+plain_twice true payload = zeroed_twice 42 32 payload
+plain_twice false payload = refl
+
+pub picture_twice : (k : Kept) → plain_picture (plain_picture k) ≡ plain_picture k
+picture_twice k =
+    let v = nat_le 78 (length k.payload) in
+    let same : nat_le 78 (length (plain v k.payload)) ≡ v = ap (λ n. nat_le 78 n) (plain_length v k.payload) in
+    λ i. record k { payload = (ap (λ w. plain w (plain v k.payload)) same ∙ plain_twice v k.payload) i }
+
+map_twice : {A : Type 0} (f : A → A) → ((x : A) → f (f x) ≡ f x) → (xs : List A) → map f (map f xs) ≡ map f xs
+map_twice f one [] = refl
+map_twice f one (x ∷ xs) = λ i. one x i ∷ map_twice f one xs i
+
+by_kind_twice : (v : Bool) (ds : List Kept) → (if v then map plain_picture (if v then map plain_picture ds else ds) else (if v then map plain_picture ds else ds)) ≡ (if v then map plain_picture ds else ds)
+by_kind_twice true ds = map_twice plain_picture picture_twice ds
+by_kind_twice false ds = refl
+
+-- descriptions of a track with this handler
+module _ (h : List ℕ) where
+  plain_again : (ds : List Kept) → plain_descriptions h (plain_descriptions h ds) ≡ plain_descriptions h ds
+  plain_again ds = by_kind_twice (is_picture h) ds
+
+  unrated_again : (ds : List Kept) → unrated_descriptions h (unrated_descriptions h ds) ≡ unrated_descriptions h ds
+  unrated_again ds = map_twice (unrated h) (unrated_twice h) ds
+
+  turned_each : is_picture h ≡ true → (ds : List Kept) → map plain_picture (map (unrated h) ds) ≡ map (unrated h) (map plain_picture ds)
+  turned_each e [] = refl
+  turned_each e (d ∷ ds) = λ i. names_and_rates h d e i ∷ turned_each e ds i
+
+  -- in any order
+  pub plain_turned : (ds : List Kept) → plain_descriptions h (unrated_descriptions h ds) ≡ unrated_descriptions h (plain_descriptions h ds)
+  plain_turned ds = by (is_picture h) refl
+    where
+      by : (v : Bool) → is_picture h ≡ v → (if v then map plain_picture (map (unrated h) ds) else map (unrated h) ds) ≡ map (unrated h) (if v then map plain_picture ds else ds)
+      by true e = turned_each e ds
+      by false e = refl
+
+  abbrev left_by : Bool → Bool → List Kept → List Kept
+  left_by labels rates ds = reduce_by labels rates h ds
+
+  abbrev plain_if : Bool → List Kept → List Kept
+  plain_if v ds = if v then plain_descriptions h ds else ds
+
+  abbrev unrated_if : Bool → List Kept → List Kept
+  unrated_if v ds = if v then unrated_descriptions h ds else ds
+
+  turned_if : (b c : Bool) (ds : List Kept) → unrated_if b (plain_if c ds) ≡ plain_if c (unrated_if b ds)
+  turned_if true true ds = sym (plain_turned ds)
+  turned_if true false ds = refl
+  turned_if false c ds = refl
+
+  plain_or : (a c : Bool) (ds : List Kept) → plain_if a (plain_if c ds) ≡ plain_if (a || c) ds
+  plain_or true true ds = plain_again ds
+  plain_or true false ds = refl
+  plain_or false c ds = refl
+
+  unrated_or : (b d : Bool) (ds : List Kept) → unrated_if b (unrated_if d ds) ≡ unrated_if (b || d) ds
+  unrated_or true true ds = unrated_again ds
+  unrated_or true false ds = refl
+  unrated_or false d ds = refl
+
+  left_twice : (a b c d : Bool) (ds : List Kept) → left_by a b (left_by c d ds) ≡ left_by (a || c) (b || d) ds
+  left_twice a b c d ds = ap (plain_if a) (turned_if b c (unrated_if d ds)) ∙ plain_or a c (unrated_if b (unrated_if d ds)) ∙ ap (plain_if (a || c)) (unrated_or b d ds)
+
+  -- a plain handler names the same type
+  left_same : (a b : Bool) (ds : List Kept) → reduce_by a b (plain_handler h) ds ≡ left_by a b ds
+  left_same a b ds =
+      let rates : (b : Bool) → (if b then unrated_descriptions (plain_handler h) ds else ds) ≡ unrated_if b ds = λ b. ap (λ (kind : List ℕ). if b then map (λ (k : Kept). record k { payload = unrated_payload kind k.payload }) ds else ds) (type_same h) in
+      λ i. if a then (if picture_same h i then map plain_picture (rates b i) else rates b i) else rates b i
+
+-- left out by one of two words, or by both
+pub descriptions_twice : (l m : Without) (h : List ℕ) (ds : List Kept) → reduce_descriptions l (if m.labels then plain_handler h else h) (reduce_descriptions m h ds) ≡ reduce_descriptions (both l m) h ds
+descriptions_twice l m h ds = by m.labels ∙ left_twice h l.labels l.bitrates m.labels m.bitrates ds
+  where
+    by : (v : Bool) → reduce_by l.labels l.bitrates (if v then plain_handler h else h) (reduce_descriptions m h ds) ≡ left_by h l.labels l.bitrates (reduce_descriptions m h ds)
+    by true = left_same h l.labels l.bitrates (reduce_descriptions m h ds)
+    by false = refl
+
+-- as many, no longer
+map_many : {A B : Type 0} (f : A → B) (xs : List A) → length (map f xs) ≡ length xs
+map_many f [] = refl
+map_many f (x ∷ xs) = let more = map_many f xs in omega (arith, more)
+
+plain_many : (h : List ℕ) (ds : List Kept) → length (plain_descriptions h ds) ≡ length ds
+plain_many h ds = by (is_picture h)
+  where
+    by : (v : Bool) → length (if v then map plain_picture ds else ds) ≡ length ds
+    by true = map_many plain_picture ds
+    by false = refl
+
+pub descriptions_many : (l : Without) (h : List ℕ) (ds : List Kept) → length (reduce_descriptions l h ds) ≡ length ds
+descriptions_many l h ds = by l.labels l.bitrates
+  where
+    by : (a b : Bool) → length (reduce_by a b h ds) ≡ length ds
+    by true true = plain_many h (unrated_descriptions h ds) ∙ map_many (unrated h) ds
+    by true false = plain_many h ds
+    by false true = map_many (unrated h) ds
+    by false false = refl
+
+box_less : (k : Kept) (payload : List ℕ) → length payload ≤ length k.payload → length (kept_bytes (record k { payload = payload })) ≤ length (kept_bytes k)
+box_less k payload few =
+    let now = length_any k.kind payload in
+    let was = length_any k.kind k.payload in
+    omega (arith, few, now, was)
+
+picture_less : (k : Kept) → length (kept_bytes (plain_picture k)) ≤ length (kept_bytes k)
+picture_less k = let same = plain_length (nat_le 78 (length k.payload)) k.payload in box_less k (plain_picture k).payload (omega (arith, same))
+
+unrated_less : (h : List ℕ) (k : Kept) → length (kept_bytes (unrated h k)) ≤ length (kept_bytes k)
+unrated_less h k = box_less k (unrated h k).payload (unrated_short (handler_type h) k.payload)
+
+map_less : (f : Kept → Kept) → ((k : Kept) → length (kept_bytes (f k)) ≤ length (kept_bytes k)) → (ds : List Kept) → length (flat_map kept_bytes (map f ds)) ≤ length (flat_map kept_bytes ds)
+map_less f less [] = omega arith
+map_less f less (d ∷ ds) =
+    let one = less d in
+    let more = map_less f less ds in
+    let now = length-append (kept_bytes (f d)) (flat_map kept_bytes (map f ds)) in
+    let was = length-append (kept_bytes d) (flat_map kept_bytes ds) in
+    omega (arith, one, more, now, was)
+
+plain_less : (h : List ℕ) (ds : List Kept) → length (flat_map kept_bytes (plain_descriptions h ds)) ≤ length (flat_map kept_bytes ds)
+plain_less h ds = by (is_picture h)
+  where
+    by : (v : Bool) → length (flat_map kept_bytes (if v then map plain_picture ds else ds)) ≤ length (flat_map kept_bytes ds)
+    by true = map_less plain_picture picture_less ds
+    by false = omega arith
+
+pub descriptions_less : (l : Without) (h : List ℕ) (ds : List Kept) → length (flat_map kept_bytes (reduce_descriptions l h ds)) ≤ length (flat_map kept_bytes ds)
+descriptions_less l h ds = by l.labels l.bitrates
+  where
+    by : (a b : Bool) → length (flat_map kept_bytes (reduce_by a b h ds)) ≤ length (flat_map kept_bytes ds)
+    by true true = let one = plain_less h (unrated_descriptions h ds) in let two = map_less (unrated h) (unrated_less h) ds in omega (arith, one, two)
+    by true false = plain_less h ds
+    by false true = map_less (unrated h) (unrated_less h) ds
+    by false false = omega arith
+
+-- well formed
+reference_same : (v : Bool) (payload : List ℕ) → 8 ≤ length payload → field (plain v payload) 6 2 ≡ field payload 6 2
+reference_same false payload room = refl
+reference_same true [] room = refl
+reference_same true (a ∷ []) room = refl
+reference_same true (a ∷ b ∷ []) room = refl
+reference_same true (a ∷ b ∷ c ∷ []) room = refl
+reference_same true (a ∷ b ∷ c ∷ d ∷ []) room = refl
+reference_same true (a ∷ b ∷ c ∷ d ∷ e ∷ []) room = refl
+reference_same true (a ∷ b ∷ c ∷ d ∷ e ∷ f ∷ []) room = refl
+reference_same true (a ∷ b ∷ c ∷ d ∷ e ∷ f ∷ g ∷ []) room = refl
+reference_same true (a ∷ b ∷ c ∷ d ∷ e ∷ f ∷ g ∷ h ∷ rest) room = refl
+
+plain_bytes : (v : Bool) (payload : List ℕ) → AreBytes payload → AreBytes (plain v payload)
+plain_bytes true payload are = zeroed_byte 42 32 payload are
+plain_bytes false payload are = are
+
+picture_good : (k : Kept) → IsDescription k → IsDescription (plain_picture k)
+picture_good k h =
+    let v = nat_le 78 (length k.payload) in
+    let same = plain_length v k.payload in
+    let room = h.room in
+    record {
+      kind_length = h.kind_length;
+      kind = h.kind;
+      bytes = plain_bytes v k.payload h.bytes;
+      room = omega (arith, same, room);
+      data_reference = reference_same v k.payload h.room ∙ h.data_reference;
+    }
+
+mapped_good : (v : Bool) (ds : List Kept) → AllByRecursion IsDescription ds → AllByRecursion IsDescription (if v then map plain_picture ds else ds)
+mapped_good true ds h = each_value IsDescription IsDescription plain_picture picture_good ds h
+mapped_good false ds h = h
+
+pub descriptions_good : (l : Without) (h : List ℕ) (ds : List Kept) → AllByRecursion IsDescription ds → AllByRecursion IsDescription (reduce_descriptions l h ds)
+descriptions_good l h ds all = by l.labels l.bitrates
+  where
+    rates : AllByRecursion IsDescription (unrated_descriptions h ds)
+    rates = each_value IsDescription IsDescription (unrated h) (unrated_good h) ds all
+
+    by : (a b : Bool) → AllByRecursion IsDescription (reduce_by a b h ds)
+    by true true = mapped_good (is_picture h) (unrated_descriptions h ds) rates
+    by true false = mapped_good (is_picture h) ds all
+    by false true = rates
+    by false false = all

@@ -1,0 +1,394 @@
+-- What is left of samples that are handed out.
+use Rattle.std.proofs.Common.{◌≡◌, ℕ, zero, suc, ◌+◌, ◌-◌, ◌^◌, ◌<◌, ◌≤◌, min, Bool, true, false, if◌then◌else◌, List, [], ◌∷◌, ◌++◌, length, take, drop, refl, sym, ap, subst, ◌∙◌, arith, ne_eqb, ◌⊎◌, inl, inr}
+use Rattle.std.proofs.lemmas.Bool.{cond-false}
+use Rattle.std.proofs.lemmas.List.{map-append}
+use Rattle.mp4_boxes.specs.format.Bytes.{sum_of}
+use Rattle.std.specs.Prelude.{◌&&◌, ◌||◌, ◌==◌, not, Option, Some, None, slice_get, ℤ, pos, negsuc, ◌-ℤ◌, FitsSigned}
+use Rattle.std.specs.Int.{w32}
+use Rattle.std.specs.List.{AllByRecursion, list_any}
+use Rattle.mp4_store.specs.words.Device.{range}
+use Rattle.mp4_tables.specs.format.Groups.{GroupKey, Groups, same_key}
+use Rattle.mp4_tables.specs.format.PlainSamples.{PlacedSample}
+use Rattle.mp4_tables.specs.words.Timed.{indexes}
+use Rattle.mp4_tables.specs.words.Timed as given
+use Rattle.mp4_tables.specs.declared.sample.SampleAt.{SampleAt}
+use Rattle.mp4_present.specs.words.Joined.{IsBelow, sample_bytes}
+use Rattle.mp4_present.specs.format.Presentation.{Sample, Track, IsGroup, end_time, max_time, total_duration}
+use Rattle.mp4_content.specs.format.TimedSamples.{TimedSample, timed_from, timed}
+use Rattle.mp4_content.specs.format.Reduced.{HasNearOffsets, duration_left, is_at_end, keeps_samples, offset_left, start_left, sync_flag, reduce_from, reduce_sample, reduce_samples, reduce_track}
+use Rattle.mp4_content.specs.declared.without.Without.{Without}
+use Rattle.mp4_content.specs.words.ComingLess.{asks_first, begun_time, less, moved_time, near_offset, offset_near, plain_reduction, reduce_at, reduction_by, reduction_of}
+use Rattle.mp4_content.specs.words.TakenSamples.{IsTaken, AreTaken}
+use Rattle.mp4_content.specs.declared.reduced.Reduction.{Reduction}
+use Rattle.mp4_content.proofs.TimedSamples.{length-timed_from}
+use Rattle.mp4_content.proofs.ReducedSamples.{by_case}
+
+no_indexes : (keys : List GroupKey) → indexes keys [] ≡ 0 ∷ 0 ∷ 0 ∷ 0 ∷ []
+no_indexes [] = refl
+no_indexes (a ∷ []) = refl
+no_indexes (a ∷ b ∷ []) = refl
+no_indexes (a ∷ b ∷ c ∷ []) = refl
+no_indexes (a ∷ b ∷ c ∷ d ∷ keys) = refl
+
+groups_less : (b : Bool) (keys : List GroupKey) (taken : List ℕ) (groups : Groups) → taken ≡ indexes keys groups → (if b then 0 ∷ 0 ∷ 0 ∷ 0 ∷ [] else taken) ≡ indexes keys (if b then [] else groups)
+groups_less true keys taken groups e = sym (no_indexes keys)
+groups_less false keys taken groups e = e
+
+-- what is left of a sample of so many with this number, where the first has this offset, at this time
+abbrev pub reduce_timed : Without → ℕ → ℤ → ℕ → ℕ → TimedSample → TimedSample
+reduce_timed l count first n time s = record { sample = reduce_sample l count first n s.sample; number = s.number; time = time }
+
+-- the samples have the numbers from this one on
+abbrev pub AreNumbered : ℕ → List SampleAt → Type 0
+AreNumbered n [] = Unit {0}
+AreNumbered n (s ∷ samples) = (s.number ≡ n) × AreNumbered (n + 1) samples
+
+pub timed_numbered : (keys : List GroupKey) (number dts : ℕ) (placed : List PlacedSample) → AreNumbered number (given.timed keys number dts placed)
+timed_numbered keys number dts [] = tt
+timed_numbered keys number dts (s ∷ placed) = (refl, timed_numbered keys (number + 1) (dts + s.duration) placed)
+
+-- an offset that fits is left as it is
+pub near_is : (z : ℤ) → FitsSigned w32 z → near_offset z ≡ z
+near_is (pos n) h = ap pos (let few : n < 2 ^ 31 = omega (arith, h) in omega (arith, few))
+near_is (negsuc n) h = ap negsuc (let few : n < 2 ^ 31 = omega (arith, h) in omega (arith, few))
+
+pub near_same : (l : Without) (first offset : ℤ) → FitsSigned w32 (offset_left l first offset) → offset_near l first offset ≡ offset_left l first offset
+near_same l first offset = by l.timing l.origins
+  where
+    by : (t o : Bool) → FitsSigned w32 (if t then pos 0 else if o then offset -ℤ first else offset) → (if t then pos 0 else if o then near_offset (offset -ℤ first) else offset) ≡ (if t then pos 0 else if o then offset -ℤ first else offset)
+    by true o h = refl
+    by false true h = near_is (offset -ℤ first) h
+    by false false h = refl
+
+-- ---- when what is left of samples is due
+
+-- by whether timing, ends and origins are left out, and whether the sample is the first
+abbrev moved_by : Bool → Bool → Bool → Bool → ℕ → ℕ → ℕ → ℕ → ℕ
+moved_by t e o later start duration place time =
+    if t then place else (if e && later then min ((if o then time - start else time) - duration + 1) (2 ^ 64 - 1) else (if o then time - start else time))
+
+-- one sample later
+next_by : (t e o last : Bool) (start duration place time d due : ℕ) → due ≡ moved_by t e o true start duration place time → (t ≡ false → o ≡ true → start ≤ time)
+    → (t ≡ false → e ≡ true → (last ≡ false) × (duration ≤ (if o then time - start else time))) → time + d < 2 ^ 64 - 1
+    → due + (if t then 1 else if e && last then 1 else d) ≡ moved_by t e o true start duration (place + 1) (time + d)
+next_by true e o last start duration place time d due is h k few = ap (λ n. n + 1) is
+next_by false false true last start duration place time d due is h k few = let le = h refl refl in omega (arith, is, le)
+next_by false false false last start duration place time d due is h k few = ap (λ n. n + d) is
+next_by false true o true start duration place time d due is h k few = let no = (k refl refl).0 in absurd cc
+next_by false true true false start duration place time d due is h k few = let le = h refl refl in let less = (k refl refl).1 in omega (arith, is, le, less, few)
+next_by false true false false start duration place time d due is h k few = let less = (k refl refl).1 in omega (arith, is, less, few)
+
+-- behind the first
+second_by : (t e o : Bool) (start duration time d : ℕ) → (t ≡ false → o ≡ true → start ≡ time) → (t ≡ false → e ≡ true → duration ≡ d) → time + d < 2 ^ 64 - 1
+    → (if t then 0 else if o then 0 else time) + (if t then 1 else if e && true then 1 else d) ≡ moved_by t e o true start duration 1 (time + d)
+second_by true e o start duration time d h k few = refl
+second_by false false true start duration time d h k few = let same = h refl refl in omega (arith, same)
+second_by false false false start duration time d h k few = refl
+second_by false true true start duration time d h k few = let same = h refl refl in let long = k refl refl in omega (arith, same, long, few)
+second_by false true false start duration time d h k few = let long = k refl refl in omega (arith, long, few)
+
+-- the first itself
+first_by : (t e o : Bool) (start duration time : ℕ) → (t ≡ false → o ≡ true → start ≡ time) → moved_by t e o false start duration 0 time ≡ (if t then 0 else if o then 0 else time)
+first_by true e o start duration time h = refl
+first_by false false true start duration time h = let same = h refl refl in omega (arith, same)
+first_by false false false start duration time h = refl
+first_by false true true start duration time h = let same = h refl refl in omega (arith, same)
+first_by false true false start duration time h = refl
+
+module _ (r : Reduction) where
+  abbrev l : Without
+  l = r.leaving
+
+  one_taken : (file : List ℕ) (keys : List GroupKey) (place time : ℕ) (a : SampleAt) (s : TimedSample) → a.number ≡ place → (reduce_at r a).dts ≡ time → FitsSigned w32 (offset_left l r.offset s.sample.offset) → IsTaken file keys a s
+      → IsTaken file keys (reduce_at r a) (reduce_timed l r.samples r.offset place time s)
+  one_taken file keys place time a s n e near h = record {
+    time = e;
+    duration = (λ i. duration_left l r.samples (n i) (h.duration i));
+    offset = ap (λ (z : ℤ). offset_near l r.offset z) h.offset ∙ near_same l r.offset s.sample.offset near;
+    flags = ap (λ flags. if l.flags then sync_flag flags else flags) h.flags;
+    description = h.description;
+    size = h.size;
+    bytes = h.bytes;
+    groups = groups_less l.groups keys a.groups s.sample.groups h.groups;
+    named = by_case (AllByRecursion (λ (group : GroupKey × ℕ). list_any (same_key group.0) keys ≡ true)) l.groups [] s.sample.groups tt h.named;
+    are_groups = by_case (AllByRecursion IsGroup) l.groups [] s.sample.groups tt h.are_groups;
+  }
+
+  -- offsets that are left fit
+  abbrev AreNear : List Sample → Type 0
+  AreNear samples = AllByRecursion (λ (s : Sample). FitsSigned w32 (offset_left l r.offset s.offset)) samples
+
+  -- what is known of samples that are to come, behind the first
+  record IsMoved (place time : ℕ) (samples : List Sample) : Type 0 where
+    start : l.timing ≡ false → l.origins ≡ true → r.start ≤ time
+    many : l.timing ≡ false → l.ends ≡ true → r.samples ≡ place + length samples
+    long : l.timing ≡ false → l.ends ≡ true → r.duration ≤ begun_time r time
+    few : time + total_duration samples < 2 ^ 64 - 1
+
+  later : (n : ℕ) → not (suc n == 0) ≡ true
+  later n = ap not (ne_eqb (suc n) 0 (λ e. omega (arith, e)))
+
+  not_last : (n count more : ℕ) → count ≡ suc n + suc (suc more) → is_at_end count (suc n) ≡ false
+  not_last n count more e =
+      let first : (suc n == 0) ≡ false = ne_eqb (suc n) 0 (λ q. omega (arith, q)) in
+      let last : (suc (suc n) == count) ≡ false = ne_eqb (suc (suc n)) count (λ q. omega (arith, q, e)) in
+      λ i. first i || last i
+
+  begun_more : (o : Bool) (start time d duration : ℕ) → duration ≤ (if o then time - start else time) → duration ≤ (if o then time + d - start else time + d)
+  begun_more true start time d duration h = omega (arith, h)
+  begun_more false start time d duration h = omega (arith, h)
+
+  moved_on : (place time : ℕ) (s x : Sample) (samples : List Sample) → IsMoved (suc place) time (s ∷ x ∷ samples) → IsMoved (suc (suc place)) (time + s.duration) (x ∷ samples)
+  moved_on place time s x samples m =
+      let few = m.few in
+      record {
+        start = λ t o. let le = m.start t o in omega (arith, le);
+        many = λ t o. let many = m.many t o in omega (arith, many);
+        long = λ t o. begun_more l.origins r.start time s.duration r.duration (m.long t o);
+        few = omega (arith, few);
+      }
+
+  due_next : (place time due : ℕ) (s x : Sample) (samples : List Sample) → due ≡ moved_by l.timing l.ends l.origins true r.start r.duration (suc place) time → IsMoved (suc place) time (s ∷ x ∷ samples)
+      → due + duration_left l r.samples (suc place) s.duration ≡ moved_by l.timing l.ends l.origins true r.start r.duration (suc (suc place)) (time + s.duration)
+  due_next place time due s x samples e m =
+      let few = m.few in
+      let next : suc place + 1 ≡ suc (suc place) = omega arith in
+      next_by l.timing l.ends l.origins (is_at_end r.samples (suc place)) r.start r.duration (suc place) time s.duration due e m.start
+      (λ t o. let many = m.many t o in (not_last place r.samples (length samples) (omega (arith, many)), m.long t o)) (omega (arith, few))
+      ∙ ap (λ k. moved_by l.timing l.ends l.origins true r.start r.duration k (time + s.duration)) next
+
+  due_here : (place time due : ℕ) (a : SampleAt) → a.number ≡ suc place → a.dts ≡ time → due ≡ moved_by l.timing l.ends l.origins true r.start r.duration (suc place) time → (reduce_at r a).dts ≡ due
+  due_here place time due a n t e = (λ i. moved_by l.timing l.ends l.origins (not (n i == 0)) r.start r.duration (n i) (t i)) ∙ ap (λ b. moved_by l.timing l.ends l.origins b r.start r.duration (suc place) time) (later place) ∙ sym e
+
+  rest_taken : (file : List ℕ) (keys : List GroupKey) (number time due place : ℕ) (taken : List SampleAt) (samples : List Sample) → due ≡ moved_by l.timing l.ends l.origins true r.start r.duration (suc place) time → IsMoved (suc place) time samples → AreNear samples
+      → AreNumbered (suc place) taken → AreTaken file keys taken (timed_from number time samples) → AreTaken file keys (less r taken) (timed_from number due (reduce_from l r.samples r.offset (suc place) samples))
+  rest_taken file keys number time due place [] [] e m near n h = h
+  rest_taken file keys number time due place [] (s ∷ samples) e m near n h = absurd h
+  rest_taken file keys number time due place (a ∷ taken) [] e m near n h = absurd h
+  rest_taken file keys number time due place (a ∷ []) (s ∷ []) e m near n h = (one_taken file keys (suc place) due a (record { sample = s; number = number; time = time }) n.0 (due_here place time due a n.0 h.0.time e) near.0 h.0, tt)
+  rest_taken file keys number time due place (a ∷ b ∷ taken) (s ∷ []) e m near n h = absurd h.1
+  rest_taken file keys number time due place (a ∷ []) (s ∷ x ∷ samples) e m near n h = absurd h.1
+  rest_taken file keys number time due place (a ∷ b ∷ taken) (s ∷ x ∷ samples) e m near n h =
+      let next : suc place + 1 ≡ suc (suc place) = omega arith in (
+        one_taken file keys (suc place) due a (record { sample = s; number = number; time = time }) n.0 (due_here place time due a n.0 h.0.time e) near.0 h.0,
+        rest_taken file keys (number + 1) (time + s.duration) (due + duration_left l r.samples (suc place) s.duration) (suc place) (b ∷ taken) (x ∷ samples) (due_next place time due s x samples e m) (moved_on place time s x samples m) near.1
+            (subst (λ k. AreNumbered k (b ∷ taken)) next n.1) h.1,
+      )
+
+  -- what is known of all samples of a track
+  record IsFor (start : ℕ) (s : Sample) (samples : List Sample) : Type 0 where
+    begins : l.timing ≡ false → l.origins ≡ true → r.start ≡ start
+    many : l.timing ≡ false → l.ends ≡ true → r.samples ≡ suc (length samples)
+    long : l.timing ≡ false → l.ends ≡ true → r.duration ≡ s.duration
+    few : start + total_duration (s ∷ samples) < 2 ^ 64 - 1
+
+  begun_first : (o : Bool) (start time d duration : ℕ) → (o ≡ true → start ≡ time) → duration ≡ d → duration ≤ (if o then time + d - start else time + d)
+  begun_first true start time d duration h is = let same = h refl in omega (arith, same, is)
+  begun_first false start time d duration h is = omega (arith, is)
+
+  whole_taken : (file : List ℕ) (keys : List GroupKey) (start : ℕ) (a : SampleAt) (taken : List SampleAt) (s : Sample) (samples : List Sample) → IsFor start s samples → AreNear (s ∷ samples) → AreNumbered 0 (a ∷ taken)
+      → AreTaken file keys (a ∷ taken) (timed_from 1 start (s ∷ samples)) → AreTaken file keys (less r (a ∷ taken)) (timed_from 1 (start_left l start) (reduce_from l r.samples r.offset 0 (s ∷ samples)))
+  whole_taken file keys start a taken s samples f near n h =
+      let few = f.few in
+      let here = (λ i. moved_by l.timing l.ends l.origins (not (n.0 i == 0)) r.start r.duration (n.0 i) (h.0.time i)) ∙ first_by l.timing l.ends l.origins r.start r.duration start f.begins in
+      let due = second_by l.timing l.ends l.origins r.start r.duration start s.duration f.begins f.long (omega (arith, few)) in (
+        one_taken file keys 0 (start_left l start) a (record { sample = s; number = 1; time = start }) n.0 here near.0 h.0,
+        rest_taken file keys 2 (start + s.duration) (start_left l start + duration_left l r.samples 0 s.duration) 0 taken samples due
+            (record {
+              start = λ t o. let same = f.begins t o in omega (arith, same);
+              many = λ t o. let many = f.many t o in omega (arith, many);
+              long = λ t o. begun_first l.origins r.start start s.duration r.duration (f.begins t) (f.long t o);
+              few = omega (arith, few);
+            }) near.1 n.1 h.1,
+      )
+
+  -- their bytes are the same
+  pub bytes_stay : (file : List ℕ) (taken : List SampleAt) → sample_bytes file (less r taken) ≡ sample_bytes file taken
+  bytes_stay file [] = refl
+  bytes_stay file (a ∷ taken) = ap (λ bytes. range file a.at a.size ++ bytes) (bytes_stay file taken)
+
+-- ---- all samples of a track
+
+as_many_taken : (file : List ℕ) (keys : List GroupKey) (taken : List SampleAt) (samples : List TimedSample) → AreTaken file keys taken samples → length samples ≡ length taken
+as_many_taken file keys [] [] z = refl
+as_many_taken file keys [] (s ∷ samples) z = absurd z
+as_many_taken file keys (a ∷ taken) [] z = absurd z
+as_many_taken file keys (a ∷ taken) (s ∷ samples) z = ap suc (as_many_taken file keys taken samples z.1)
+
+-- where what is left doesn't depend on the first sample, it is the same whatever that is
+any_duration : (l : Without) (count n duration : ℕ) → asks_first l ≡ false → duration_left l 0 n duration ≡ duration_left l count n duration
+any_duration l count n duration none = by l.timing l.ends l.origins none
+  where
+    by : (t e o : Bool) → ((e || o) && not t) ≡ false → (if t then 1 else if e && is_at_end 0 n then 1 else duration) ≡ (if t then 1 else if e && is_at_end count n then 1 else duration)
+    by true e o h = refl
+    by false true o h = absurd cc
+    by false false o h = refl
+
+any_offset : (l : Without) (first offset : ℤ) → asks_first l ≡ false → offset_left l (pos 0) offset ≡ offset_left l first offset
+any_offset l first offset none = by l.timing l.ends l.origins none
+  where
+    by : (t e o : Bool) → ((e || o) && not t) ≡ false → (if t then pos 0 else if o then offset -ℤ pos 0 else offset) ≡ (if t then pos 0 else if o then offset -ℤ first else offset)
+    by true e o h = refl
+    by false true o h = absurd cc
+    by false false true h = absurd cc
+    by false false false h = refl
+
+pub any_samples : (l : Without) (count : ℕ) (first : ℤ) (n : ℕ) (samples : List Sample) → asks_first l ≡ false → reduce_from l 0 (pos 0) n samples ≡ reduce_from l count first n samples
+any_samples l count first n [] none = refl
+any_samples l count first n (s ∷ samples) none = λ i. record s {
+  duration = any_duration l count n s.duration none i;
+  offset = any_offset l first s.offset none i;
+  flags = if l.flags then sync_flag s.flags else s.flags;
+  groups = if l.groups then [] else s.groups;
+} ∷ any_samples l count first (suc n) samples none i
+
+-- the offsets that are left of samples
+pub near_left : (l : Without) (count : ℕ) (first : ℤ) (n : ℕ) (samples : List Sample) → AllByRecursion (λ (s : Sample). FitsSigned w32 s.offset) (reduce_from l count first n samples) → AllByRecursion (λ (s : Sample). FitsSigned w32 (offset_left l first s.offset)) samples
+near_left l count first n [] h = tt
+near_left l count first n (s ∷ samples) h = (h.0, near_left l count first (suc n) samples h.1)
+
+pub left_near : (l : Without) (count : ℕ) (first : ℤ) (n : ℕ) (samples : List Sample) → AllByRecursion (λ (s : Sample). FitsSigned w32 (offset_left l first s.offset)) samples → AllByRecursion (λ (s : Sample). FitsSigned w32 s.offset) (reduce_from l count first n samples)
+left_near l count first n [] h = tt
+left_near l count first n (s ∷ samples) h = (h.0, left_near l count first (suc n) samples h.1)
+
+asked : (l : Without) → l.timing ≡ false → (l.ends ≡ true) ⊎ (l.origins ≡ true) → asks_first l ≡ true
+asked l t (inl e) = λ i. (e i || l.origins) && not (t i)
+asked l t (inr o) = by l.ends
+  where
+    by : (b : Bool) → ((b || l.origins) && not l.timing) ≡ true
+    by true = λ i. true && not (t i)
+    by false = λ i. o i && not (t i)
+
+not_both : {A : Type 0} (b : Bool) → b ≡ true → b ≡ false → A
+not_both true e f = absurd cc
+not_both false e f = absurd cc
+
+-- What is left of samples that are handed out is what is left of those of the presentation.
+pub reduced_are_taken : (l : Without) (file : List ℕ) (keys : List GroupKey) (taken : List SampleAt) (t : Track) → AreNumbered 0 taken → end_time t ≤ max_time → HasNearOffsets (reduce_track l t) → AreTaken file keys taken (timed t)
+    → AreTaken file keys (less (reduction_of l taken) taken) (timed (reduce_track l t))
+reduced_are_taken l file keys taken t n few near h = by taken t.samples n few near h
+  where
+    by : (ts : List SampleAt) (samples : List Sample) → AreNumbered 0 ts → t.start + total_duration samples ≤ max_time → AllByRecursion (λ (s : Sample). FitsSigned w32 s.offset) (reduce_samples l samples) → AreTaken file keys ts (timed_from 1 t.start samples)
+        → AreTaken file keys (less (reduction_of l ts) ts) (timed_from 1 (start_left l t.start) (reduce_samples l samples))
+    by [] [] n few near h = tt
+    by [] (s ∷ samples) n few near h = absurd h
+    by (a ∷ ts) [] n few near h = absurd h
+    by (a ∷ ts) (s ∷ samples) n few near h = at (asks_first l) refl
+      where
+        many : length ts ≡ length samples
+        many = sym (as_many_taken file keys ts (timed_from 2 (t.start + s.duration) samples) h.1) ∙ length-timed_from 2 (t.start + s.duration) samples
+
+        at : (b : Bool) → asks_first l ≡ b → AreTaken file keys (less (if b then reduction_by l (length (a ∷ ts)) (Some a) else plain_reduction l) (a ∷ ts)) (timed_from 1 (start_left l t.start) (reduce_samples l (s ∷ samples)))
+        at true e =
+            let r = reduction_by l (length (a ∷ ts)) (Some a) in
+            let count : length (a ∷ ts) ≡ length (s ∷ samples) = ap suc many in
+            let same : reduce_from l (length (a ∷ ts)) a.cto 0 (s ∷ samples) ≡ reduce_samples l (s ∷ samples) = λ i. reduce_from l (count i) (h.0.offset i) 0 (s ∷ samples) in
+            subst (λ (ss : List Sample). AreTaken file keys (less r (a ∷ ts)) (timed_from 1 (start_left l t.start) ss)) same
+            (whole_taken r file keys t.start a ts s samples
+            (record { begins = λ _ _. h.0.time; many = λ _ _. count; long = λ _ _. h.0.duration; few = omega (arith, few) })
+            (near_left l (length (a ∷ ts)) a.cto 0 (s ∷ samples) (subst (AllByRecursion (λ (s : Sample). FitsSigned w32 s.offset)) (sym same) near)) n h)
+        at false e =
+            let r = plain_reduction l in
+            let same = any_samples l (length (s ∷ samples)) s.offset 0 (s ∷ samples) e in
+            subst (λ (ss : List Sample). AreTaken file keys (less r (a ∷ ts)) (timed_from 1 (start_left l t.start) ss)) same
+            (whole_taken r file keys t.start a ts s samples
+            (record {
+              begins = λ t o. not_both (asks_first l) (asked l t (inr o)) e;
+              many = λ t o. not_both (asks_first l) (asked l t (inl o)) e;
+              long = λ t o. not_both (asks_first l) (asked l t (inl o)) e;
+              few = omega (arith, few);
+            })
+            (near_left l 0 (pos 0) 0 (s ∷ samples) (subst (AllByRecursion (λ (s : Sample). FitsSigned w32 s.offset)) (sym same) near)) n h)
+
+-- by what they are left
+pub left_by : (l : Without) (taken : List SampleAt) → (reduction_of l taken).leaving ≡ l
+left_by l taken = by (asks_first l) (slice_get taken 0)
+  where
+    by : (b : Bool) (first : Option SampleAt) → (if b then reduction_by l (length taken) first else plain_reduction l).leaving ≡ l
+    by true None = refl
+    by true (Some s) = refl
+    by false first = refl
+
+pub samples_by : (l : Without) (file : List ℕ) (keys : List GroupKey) (time : ℕ) (taken : List SampleAt) (samples : List Sample) → AreTaken file keys taken (timed_from 1 time samples) → reduce_from l (reduction_of l taken).samples (reduction_of l taken).offset 0 samples ≡ reduce_samples l samples
+samples_by l file keys time [] [] h = refl
+samples_by l file keys time [] (s ∷ samples) h = absurd h
+samples_by l file keys time (a ∷ taken) [] h = absurd h
+samples_by l file keys time (a ∷ taken) (s ∷ samples) h = by (asks_first l) refl
+  where
+    many : length taken ≡ length samples
+    many = sym (as_many_taken file keys taken (timed_from 2 (time + s.duration) samples) h.1) ∙ length-timed_from 2 (time + s.duration) samples
+
+    by : (b : Bool) → asks_first l ≡ b → (let r = if b then reduction_by l (length (a ∷ taken)) (Some a) else plain_reduction l in reduce_from l r.samples r.offset 0 (s ∷ samples)) ≡ reduce_samples l (s ∷ samples)
+    by true e = λ i. reduce_from l (suc (many i)) (h.0.offset i) 0 (s ∷ samples)
+    by false e = any_samples l (length (s ∷ samples)) s.offset 0 (s ∷ samples) e
+
+-- what is left of the first
+pub first_less : (r : Reduction) (s : SampleAt) (samples : List SampleAt) → Some s ≡ slice_get samples 0 → Some (reduce_at r s) ≡ slice_get (less r samples) 0
+first_less r s [] e = absurd cc
+first_less r s (x ∷ samples) e = let same : s ≡ x = cc in ap (λ (y : SampleAt). Some (reduce_at r y)) same
+
+pub none_less : (r : Reduction) (samples : List SampleAt) → ◌≡◌ {A = Option SampleAt} None (slice_get samples 0) → ◌≡◌ {A = Option SampleAt} None (slice_get (less r samples) 0)
+none_less r [] e = refl
+none_less r (x ∷ samples) e = absurd cc
+
+-- ---- samples that stay
+
+none_kept : (a b c d e : Bool) → (not a && not b && not c && not d && not e) ≡ true → (a ≡ false) × (b ≡ false) × (c ≡ false) × (d ≡ false) × (e ≡ false)
+none_kept true b c d e h = absurd cc
+none_kept false true c d e h = absurd cc
+none_kept false false true d e h = absurd cc
+none_kept false false false true e h = absurd cc
+none_kept false false false false true h = absurd cc
+none_kept false false false false false h = (refl, refl, refl, refl, refl)
+
+pub all_kept : (r : Reduction) → keeps_samples r.leaving ≡ true → (samples : List SampleAt) → less r samples ≡ samples
+all_kept r e [] = refl
+all_kept r e (s ∷ samples) = λ i. one i ∷ all_kept r e samples i
+  where
+    one : reduce_at r s ≡ s
+    one =
+        let l = r.leaving in
+        let none = none_kept l.flags l.groups l.ends l.origins l.timing e in
+        let moved : moved_time r s.number s.dts ≡ s.dts = (λ i. if none.2 i && not (s.number == 0) then min (begun_time r s.dts - r.duration + 1) (2 ^ 64 - 1) else begun_time r s.dts) ∙ cond-false l.origins (s.dts - r.start) s.dts none.3 in
+        let offset : offset_near l r.offset s.cto ≡ s.cto = cond-false l.timing (pos 0) (if l.origins then near_offset (s.cto -ℤ r.offset) else s.cto) none.4 ∙ cond-false l.origins (near_offset (s.cto -ℤ r.offset)) s.cto none.3 in
+        let duration : duration_left l r.samples s.number s.duration ≡ s.duration = cond-false l.timing 1 (if l.ends && is_at_end r.samples s.number then 1 else s.duration) none.4 ∙ (λ i. if none.2 i && is_at_end r.samples s.number then 1 else s.duration) in
+        λ i. record s {
+          dts = (cond-false l.timing s.number (moved_time r s.number s.dts) none.4 ∙ moved) i;
+          duration = duration i;
+          cto = offset i;
+          flags = cond-false l.flags (sync_flag s.flags) s.flags none.0 i;
+          groups = cond-false l.groups (0 ∷ 0 ∷ 0 ∷ 0 ∷ []) s.groups none.1 i;
+        }
+
+module _ (r : Reduction) where
+  -- they are as many
+  pub less_length : (samples : List SampleAt) → length (less r samples) ≡ length samples
+  less_length [] = refl
+  less_length (s ∷ samples) = let more = less_length samples in omega (arith, more)
+
+  -- as long
+  pub less_sizes : (samples : List SampleAt) → sum_of (λ (s : SampleAt). s.size) (less r samples) ≡ sum_of (λ (s : SampleAt). s.size) samples
+  less_sizes [] = refl
+  less_sizes (s ∷ samples) = ap (λ n. s.size + n) (less_sizes samples)
+
+  -- and lie where those do of which they are left
+  pub less_below : (n : ℕ) (samples : List SampleAt) → AllByRecursion (IsBelow n) samples → AllByRecursion (IsBelow n) (less r samples)
+  less_below n [] h = tt
+  less_below n (s ∷ samples) h = (h.0, less_below n samples h.1)
+
+  pub above_less : (n : ℕ) (samples : List SampleAt) → AllByRecursion (IsBelow n) (less r samples) → AllByRecursion (IsBelow n) samples
+  above_less n [] h = tt
+  above_less n (s ∷ samples) h = (h.0, above_less n samples h.1)
+
+  pub less_append : (xs ys : List SampleAt) → less r (xs ++ ys) ≡ less r xs ++ less r ys
+  less_append xs ys = map-append (reduce_at r) xs ys
+
+  pub less_drop : (n : ℕ) (samples : List SampleAt) → drop n (less r samples) ≡ less r (drop n samples)
+  less_drop zero samples = refl
+  less_drop (suc n) [] = refl
+  less_drop (suc n) (s ∷ samples) = less_drop n samples
+
+  pub less_take : (n : ℕ) (samples : List SampleAt) → take n (less r samples) ≡ less r (take n samples)
+  less_take zero samples = refl
+  less_take (suc n) [] = refl
+  less_take (suc n) (s ∷ samples) = ap (λ xs. reduce_at r s ∷ xs) (less_take n samples)

@@ -1,0 +1,9 @@
+use Rattle.std.proofs.Common.{◌≡◌, ◌++◌, take, true}
+use Rattle.mp4_content.proofs.comparing.hand_over.Given as goal
+
+-- those in front of this place are taken
+abbrev pub invariant-loop-k : goal.invariant-loop-k
+invariant-loop-k g l = record {
+  goes : g.D.Differences.is_open l.seen ≡ true;
+  taken : g.D.Differences.taken l.seen ≡ g.D.Differences.taken l.fn.seen ++ take l.k l.found;
+}

@@ -1,0 +1,30 @@
+use Rattle.std.proofs.Common.{get_or, rules, List, true, ◌≡◌, ◌<◌, length, ap, sym, ◌∙◌}
+use Rattle.mp4_present.specs.declared.track_info.TrackInfo.{TrackInfo}
+use Rattle.mp4_content.proofs.AtPlaces.{read_at}
+use Rattle.mp4_content.proofs.MeasuredTracks.{counted_total, is_at, plain_is, so_far_all, so_far_more}
+use Rattle.mp4_content.specs.declared.measures.Total.{Total}
+use Rattle.mp4_content.proofs.measures.measure_at_once.Goals as goal
+
+pub loop-track-preserved : goal.loop-track-preserved
+loop-track-preserved c =
+    let i = c.loop-track.invariant in
+    let l = c.args.leaving in
+    let m = c.args.movie.now in
+    let k = c.loop-track.track in
+    let lt : k < length m.tracks = search rules in
+    record {
+      many = search rules;
+      measured = λ none file tree o.
+          let a = is_at l file m tree o k lt in
+          let at = rw c.tracks-tracks.ensures at c.index-tracks-track.is in
+          let info = read_at m.tracks k a.info c.index-tracks-track.result a.is_info at in
+          let lasts = ap (λ (ts : List TrackInfo). (get_or ts k c.index-tracks-track.result).duration) c.tracks-tracks.ensures ∙ ap (λ (x : TrackInfo). x.duration) (sym at ∙ info) in
+          let total : ◌≡◌ {A = Total} (record { duration = (get_or c.tracks-tracks.result.now k c.index-tracks-track.result).duration; is_near = true }) (record { duration = a.info.duration; is_near = true }) = λ i. record { duration = lasts i; is_near = true } in
+          rw (c.in_ok-push.ensures.items, c.in_ok-push-2.ensures.items)
+          (so_far_more l file m tree o k c.loop-track.of_tracks.items c.loop-track.totals.items _ _ a (i.measured none file tree o) (c.plain.ensures ∙ plain_is l tree a.t none) (total ∙ counted_total l tree a.t a.info none));
+    }
+
+pub returns-clause-measured : goal.returns-clause-measured
+returns-clause-measured c none file tree o =
+    let r = so_far_all c.args.leaving file c.args.movie.now tree o c.loop-track.track c.loop-track.of_tracks.items c.loop-track.totals.items (c.loop-track.invariant.measured none file tree o) (search rules) in
+    record { reductions = r.0; totals = r.1 }

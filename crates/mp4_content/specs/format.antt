@@ -1,0 +1,12 @@
+pub mod Zeros
+pub mod BitRates
+pub mod Reduced
+pub mod Agreeing
+pub mod Differences
+pub mod Comparison
+pub mod ComparisonLaws
+pub mod CompleteLaws
+pub mod ReducedTimes
+pub mod ReducedLaws
+pub mod CoveringLaws
+pub mod TimedSamples

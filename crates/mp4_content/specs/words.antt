@@ -1,0 +1,15 @@
+pub mod ComingLess
+pub mod Differing
+pub mod Windows
+pub mod Compared
+pub mod GoneOn
+pub mod HeadsLeft
+pub mod Opened
+pub mod LeftTimes
+pub mod Loading
+pub mod Measuring
+pub mod PayloadsLeft
+pub mod SamePairs
+pub mod TakenSamples
+pub mod TrackEdges
+pub mod TwoStores

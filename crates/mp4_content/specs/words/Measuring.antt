@@ -1,0 +1,68 @@
+-- What is left of all samples of a track together, found in a walk over them.
+use Rattle.std.specs.Prelude.{◌≡◌, ℕ, ◌+◌, ◌-◌, ◌^◌, ◌&&◌, nat_lt, min, Bool, true, if◌then◌else◌, List, [], ◌∷◌, ℤ, pos, negsuc}
+use Rattle.mp4_store.specs.declared.store.Store.{Ghosts as Store}
+use Rattle.mp4_tables.specs.declared.sample.SampleAt.{SampleAt}
+use Rattle.mp4_head.specs.format.Tree.{TrackTree}
+use Rattle.mp4_present.specs.format.Denotes.{FileTree, presentation_of}
+use Rattle.mp4_content.specs.format.Reduced.{ReducesInRange, duration_left, offset_left}
+use Rattle.mp4_present.specs.words.Movies.{MovieSeen}
+use Rattle.mp4_present.specs.words.SamplesComing.{track_samples}
+use Rattle.mp4_present.specs.words.WalkSteps.{walks_steps}
+use Rattle.mp4_present.specs.declared.track_info.TrackInfo.{TrackInfo}
+use Rattle.mp4_content.specs.declared.without.Without.{Without}
+use Rattle.mp4_content.specs.words.ComingLess.{asks_first, track_reduction, reductions_of}
+use Rattle.mp4_content.specs.words.Opened.{OverOpened}
+use Rattle.mp4_content.specs.declared.measures.Measures.{Measures}
+use Rattle.mp4_content.specs.declared.measures.Total.{Total}
+use Rattle.mp4_content.specs.declared.reduced.Reduction.{Reduction}
+use Rattle.mp4_content.specs.declared.reduced.Reductions.{Reductions}
+
+-- an offset fits its field
+abbrev pub is_near : ℤ → Bool
+is_near (pos n) = nat_lt n (2 ^ 31)
+is_near (negsuc n) = nat_lt n (2 ^ 31)
+
+abbrev pub no_total : Total
+no_total = record { duration = 0; is_near = true }
+
+-- with one more sample
+abbrev pub total_with : Reduction → Total → SampleAt → Total
+total_with r total s = record {
+  duration = min (total.duration + duration_left r.leaving r.samples s.number s.duration)
+      (2 ^ 64 - 1);
+  is_near = total.is_near && is_near (offset_left r.leaving r.offset s.cto);
+}
+
+-- with some more
+abbrev pub total_from : Reduction → Total → List SampleAt → Total
+total_from r total [] = total
+total_from r total (s ∷ samples) = total_from r (total_with r total s) samples
+
+-- what is left of a track: by its samples, or where they needn't be asked as opening counted
+abbrev pub track_total : Without → FileTree → TrackTree → TrackInfo → Total
+track_total l tree t info = if asks_first l
+    then total_from (track_reduction l tree t) no_total (track_samples tree t)
+    else record { duration = info.duration; is_near = true }
+
+abbrev pub AreTotals : Without → FileTree → List TrackTree → List TrackInfo → List Total → Type 0
+AreTotals l tree [] [] [] = Unit {0}
+AreTotals l tree (t ∷ trees) (info ∷ infos) (total ∷ totals) =
+    (total ≡ track_total l tree t info) × AreTotals l tree trees infos totals
+AreTotals l tree _ _ _ = ⊥
+
+-- all tracks are measured
+pub record AreMeasured (l : Without) (tree : FileTree) (m : MovieSeen) (x : Measures) : Type 0 where
+  pub reductions : x.reductions.of_tracks.items ≡ reductions_of l tree
+  pub totals : AreTotals l tree tree.movie.tracks m.tracks x.totals.items
+
+-- in at most so many steps
+abbrev pub measuring_steps : Without → FileTree → ℕ
+measuring_steps l tree = if asks_first l then walks_steps tree else 0
+
+-- over an honest store that has the file from which the movie was opened, where the samples of its
+-- tracks are left by these, and the offsets that are left fit: it is so of it
+abbrev pub OverReduced : {X : Type 0} → Store X → X → MovieSeen → Reductions
+    → (List ℕ → FileTree → Type 0) → Type 0
+OverReduced S store m r P = OverOpened S store m (λ file tree.
+    r.of_tracks.items ≡ reductions_of r.leaving tree
+    → ReducesInRange r.leaving (presentation_of file tree) → P file tree)

@@ -1,0 +1,264 @@
+//! Two opened files, compared by what they say.
+ghost use Rattle.std.specs.Prelude.{◌≡◌, ◌+◌, ◌<◌, ◌≤◌, ℕ, ◌++◌, take, true, slice_get, IfOk};
+ghost use Rattle.mp4_content.specs.words.Compared.{WhereOpenedBoth, HaveTracks, OfFiles, WhereTracks, OfSamples, OfTracks, TakesFront, TracksWork};
+ghost use Rattle.mp4_content.specs.words.Differing.{RefusesSample, RefusedBoth};
+ghost use Rattle.mp4_content.specs.words.HeadsLeft.{begun_differ};
+ghost use Rattle.mp4_content.specs.words.TwoStores.{HandsOver, OnlyReadsBoth};
+ghost use Rattle.mp4_present.specs.words.StoresRead.{OnlyReads, IsUnchanged};
+ghost use Rattle.mp4_present.specs.words.WalkSteps.{walks_steps};
+
+pub mod bytes;
+pub mod differences;
+pub mod entries;
+pub mod fields;
+pub mod heads;
+pub mod movies;
+pub mod pairing;
+pub mod same_pairs;
+pub mod samples;
+pub mod tracks;
+
+use crate::comparing::differences::{Difference, Differences, Field, Subject};
+use crate::comparing::fields::compare_numbers;
+use crate::comparing::heads::{movie_differences, track_differences};
+use crate::comparing::movies::Movies;
+use crate::comparing::same_pairs::{Pause, pass_same};
+use crate::comparing::samples::{Next, begin_pairs, compare_pair, refill_both};
+use crate::comparing::tracks::Tracks;
+use crate::without::Without;
+use mp4_boxes::{Memory, Refusal, Steps};
+use mp4_present::TrackInfo;
+use mp4_store::Store;
+use std::alloc::Global;
+use std::sync::ledger::Ledger;
+
+// What was found goes to whoever takes it, and whether a further difference is taken.
+fn hand_over<D: Differences>(found: &[Difference], seen: &mut D) -> bool
+    requires { D.is_open seen.old ≡ true }
+    ensures all { result ≡ true → D.taken seen.new ≡ D.taken seen.old ++ found.now }
+    ensures front { (n : ℕ) × (D.taken seen.new ≡ D.taken seen.old ++ take n found.now) }
+    ensures goes { result ≡ D.is_open seen.new }
+{
+    for k in 0..found.len() {
+        let difference = found[k];
+        if !seen.take(difference) {
+            return false;
+        }
+    }
+    true
+}
+
+// Compares the samples of two tracks: what differs is handed over until no more is taken.
+fn compare_track_samples<S: Store, T: Store, D: Differences, L: Ledger>(
+    alloc: Global,
+    tracks: Tracks,
+    left: &mut S,
+    right: &mut T,
+    seen: &mut D,
+    steps: &mut Steps<L>,
+) -> Result<bool, Refusal>
+    requires tracks { HaveTracks tracks.place tracks.movies.now.left tracks.movies.now.right }
+    requires goes { D.is_open seen.old ≡ true }
+    ensures stores { OnlyReadsBoth S.Store left.old left.new T.Store right.old right.new result }
+    ensures handed { HandsOver D.Differences seen.old seen.new result (OfSamples S.Store left.old
+        tracks.entry.movies.now.left T.Store right.old tracks.entry.movies.now.right
+        tracks.entry.place tracks.entry.leaving) }
+    ensures unchanged { WhereTracks S.Store left.old tracks.entry.movies.now.left T.Store
+        right.old tracks.entry.movies.now.right tracks.entry.place
+        (λ tree t other u. IsUnchanged result) }
+    ensures work { TracksWork S.Store left.old tracks.entry.movies.now.left T.Store right.old
+        tracks.entry.movies.now.right tracks.entry.place steps.old steps.new }
+    ensures refusal { RefusedBoth S.Store left.old left.new T.Store right.old right.new result
+        RefusesSample }
+{
+    let (by, mut sides) = begin_pairs(alloc, tracks, left, right, steps)?;
+    let Tracks { movies, place, .. } = tracks;
+    let samples = movies.left.tracks()[place].samples;
+    let count = samples.min(movies.right.tracks()[place].samples);
+    let mut pause = Pause::new();
+    let mut number = 0;
+    while number < count {
+        let most = count - number;
+        let passed = pass_same(&by, movies, &mut sides, most, &mut pause, steps);
+        number += passed.count;
+        if number < count {
+            if passed.is_used_up {
+                let _same = refill_both(movies, &mut sides, left, right, steps)?;
+            } else {
+                number += 1;
+                let next = Next {
+                    movies,
+                    by: &by,
+                    number,
+                };
+                let found = compare_pair(alloc, next, &mut sides, left, right, steps)?;
+                if !hand_over(found.as_slice(), seen) {
+                    return Ok(false);
+                }
+            }
+        }
+    }
+    Ok(true)
+}
+
+// Compares two tracks by their heads, their starts and their numbers of samples.
+fn compare_track_heads(
+    alloc: Global,
+    tracks: Tracks,
+    of: Subject,
+    info: &TrackInfo,
+    other: &TrackInfo,
+) -> Result<Vec<Difference>, Memory>
+    ensures { IfOk result (λ found. found.items ≡ begun_differ tracks.entry.leaving of
+        tracks.entry.left.now info.now tracks.entry.right.now other.now) }
+{
+    let leaving = tracks.leaving;
+    let mut found = track_differences(alloc, leaving, of, tracks.left, tracks.right)?;
+    let start = leaving.start(info.start);
+    compare_numbers(
+        of,
+        Field::Start,
+        start,
+        leaving.start(other.start),
+        &mut found,
+    )?;
+    let samples = u64::from(info.samples);
+    let others = u64::from(other.samples);
+    compare_numbers(of, Field::Samples, samples, others, &mut found)?;
+    Ok(found)
+}
+
+// Compares two tracks: what differs is handed over until no more is taken.
+fn compare_tracks<S: Store, T: Store, D: Differences, L: Ledger>(
+    alloc: Global,
+    tracks: Tracks,
+    left: &mut S,
+    right: &mut T,
+    seen: &mut D,
+    steps: &mut Steps<L>,
+) -> Result<bool, Refusal>
+    requires tracks { HaveTracks tracks.place tracks.movies.now.left tracks.movies.now.right }
+    requires goes { D.is_open seen.old ≡ true }
+    ensures stores { OnlyReadsBoth S.Store left.old left.new T.Store right.old right.new result }
+    ensures handed { HandsOver D.Differences seen.old seen.new result (OfTracks S.Store left.old
+        tracks.entry.movies.now.left tracks.entry.left.now T.Store right.old
+        tracks.entry.movies.now.right tracks.entry.right.now tracks.entry.place
+        tracks.entry.leaving) }
+    ensures unchanged { WhereTracks S.Store left.old tracks.entry.movies.now.left T.Store
+        right.old tracks.entry.movies.now.right tracks.entry.place
+        (λ tree t other u. IsUnchanged result) }
+    ensures work { TracksWork S.Store left.old tracks.entry.movies.now.left T.Store right.old
+        tracks.entry.movies.now.right tracks.entry.place steps.old steps.new }
+    ensures refusal { RefusedBoth S.Store left.old left.new T.Store right.old right.new result
+        RefusesSample }
+{
+    let Tracks { movies, place, .. } = tracks;
+    let info = movies.left.tracks()[place];
+    let other = movies.right.tracks()[place];
+    let of = Subject::Track(place as u64 + 1);
+    let found = compare_track_heads(alloc, tracks, of, &info, &other)?;
+    if !hand_over(found.as_slice(), seen) {
+        return Ok(false);
+    }
+    compare_track_samples(alloc, tracks, left, right, seen, steps)
+}
+
+/// Compares two opened files by what they say, without what is left out, and hands each difference
+/// over: the movies, the number of their tracks, and then track by track the heads, the start, the
+/// number of samples, and the samples. True where all was compared, false where no further
+/// difference was taken.
+pub fn compare_all<S: Store, T: Store, D: Differences, L: Ledger>(
+    alloc: Global,
+    movies: &Movies,
+    left: &mut S,
+    right: &mut T,
+    leaving: Without,
+    seen: &mut D,
+    steps: &mut Steps<L>,
+) -> Result<bool, Refusal>
+    requires { D.is_open seen.old ≡ true }
+    ensures left { OnlyReads S.Store left.old left.new result }
+    ensures right { OnlyReads T.Store right.old right.new result }
+    ensures goes { IfOk result (λ all. all ≡ D.is_open seen.new) }
+    ensures all { IfOk result (λ all. all ≡ true → OfFiles S.Store left.old
+        movies.now.left T.Store right.old movies.now.right leaving
+        (λ found. D.taken seen.new ≡ D.taken seen.old ++ found)) }
+    ensures front { OfFiles S.Store left.old movies.now.left T.Store right.old movies.now.right
+        leaving (TakesFront (D.taken seen.old) (D.taken seen.new)) }
+    ensures unchanged { WhereOpenedBoth S.Store left.old movies.now.left T.Store right.old
+        movies.now.right (λ tree other. IsUnchanged result) }
+    ensures work { WhereOpenedBoth S.Store left.old movies.now.left T.Store right.old
+        movies.now.right
+        (λ tree other. steps.new ≤ steps.old + (walks_steps tree + walks_steps other)) }
+    ensures refusal { RefusedBoth S.Store left.old left.new T.Store right.old right.new result
+        RefusesSample }
+{
+    let head = movies.left.head(alloc)?;
+    let other_head = movies.right.head(alloc)?;
+    let found = movie_differences(alloc, leaving, &head, &other_head)?;
+    if !hand_over(found.as_slice(), seen) {
+        return Ok(false);
+    }
+    let count = movies.left.tracks().len().min(movies.right.tracks().len());
+    for track in 0..count.min(head.tracks.len()).min(other_head.tracks.len()) {
+        let first = &head.tracks[track];
+        let second = &other_head.tracks[track];
+        let tracks = Tracks {
+            movies,
+            place: track,
+            left: first,
+            right: second,
+            leaving,
+        };
+        if !compare_tracks(alloc, tracks, left, right, seen, steps)? {
+            return Ok(false);
+        }
+    }
+    Ok(true)
+}
+
+// The first difference that comes.
+#[derive(Drop)]
+struct FirstDifference {
+    first: Option<Difference>,
+}
+
+impl Differences for FirstDifference {
+    ghost use Rattle.mp4_content.specs.words.Differing.{as_list, is_none_yet};
+
+    ghost taken = { λ s. as_list s.first };
+
+    ghost is_open = { λ s. is_none_yet s.first };
+
+    fn take(&mut self, difference: Difference) -> bool {
+        self.first = Some(difference);
+        false
+    }
+}
+
+/// The first difference between two opened files, without what is left out; none where they say
+/// the same.
+pub fn compare<S: Store, T: Store, L: Ledger>(
+    alloc: Global,
+    movies: &Movies,
+    left: &mut S,
+    right: &mut T,
+    leaving: Without,
+    steps: &mut Steps<L>,
+) -> Result<Option<Difference>, Refusal>
+    ensures left { OnlyReads S.Store left.old left.new result }
+    ensures right { OnlyReads T.Store right.old right.new result }
+    ensures first { IfOk result (λ first. OfFiles S.Store left.old movies.now.left T.Store
+        right.old movies.now.right leaving (λ found. first ≡ slice_get found 0)) }
+    ensures unchanged { WhereOpenedBoth S.Store left.old movies.now.left T.Store right.old
+        movies.now.right (λ tree other. IsUnchanged result) }
+    ensures work { WhereOpenedBoth S.Store left.old movies.now.left T.Store right.old
+        movies.now.right
+        (λ tree other. steps.new ≤ steps.old + (walks_steps tree + walks_steps other)) }
+    ensures refusal { RefusedBoth S.Store left.old left.new T.Store right.old right.new result
+        RefusesSample }
+{
+    let mut seen = FirstDifference { first: None };
+    let _all = compare_all(alloc, movies, left, right, leaving, &mut seen, steps)?;
+    Ok(seen.first)
+}

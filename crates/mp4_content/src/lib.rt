@@ -1,0 +1,70 @@
+//! What is left of a presentation where something of it doesn't count, and in what two of them
+//! differ (ISO/IEC 14496-12, 8.1 to 8.9).
+//!
+//! - [`Without`] says what of a presentation doesn't count ([`reduced_laws`], [`covering_laws`]).
+//! - [`compare`] names the first [`Difference`] between two opened files, the two [`Movies`];
+//!   [`compare_all`] hands each to a [`Differences`] ([`comparing_laws`], [`complete_laws`]).
+//! - [`measure`] finds what the samples of each track are left by, its [`Reduction`]. [`Reduced`]
+//!   hands out what is left of samples, one after the other; [`reduced_sample`] is that of one.
+//! - [`payloads_left`] and [`head_left`] are what is left of a head, [`length_left`] how long what
+//!   is left is. Without edits, ends or origins a track may have no normal form, which is a fault.
+//! - [`edges_of`] says where a track begins and ends; [`peek_sample`] looks at the next sample.
+//!
+//! A comparison holds two windows of at most 65,536 bytes, and a walk over a track of each file.
+//! What is measured is some 40 bytes a track.
+//!
+//! ```rust
+//! use mp4_boxes::Steps;
+//! use mp4_content::{Field, Movies, Without, compare};
+//! use mp4_present::open_movie;
+//! use mp4_store::MemStore;
+//!
+//! // A movie without tracks, of 25 ticks a second: `moov` with an `mvhd` of version 0.
+//! let mut bytes = [0; 116];
+//! bytes[..16].copy_from_slice(b"\0\0\0\x74moov\0\0\0\x6Cmvhd");
+//! bytes[31] = 25;
+//! let mut other = bytes;
+//! other[27] = 1; // made a second later
+//! let (mut left, mut right) = (MemStore::new(&bytes), MemStore::new(&other));
+//! let mut steps = Steps::<Brand>::new(Blank::new(1));
+//! let mut looks = Steps::<Brand>::new(Blank::new(1));
+//! let movies = Movies {
+//!     left: open_movie(rt.alloc(), &mut left, &mut steps, &mut looks)?,
+//!     right: open_movie(rt.alloc(), &mut right, &mut steps, &mut looks)?,
+//! };
+//! let all = Without::NOTHING;
+//! let times = Without { times: true, ..all };
+//! let first = compare(rt.alloc(), &movies, &mut left, &mut right, all, &mut steps)?;
+//! assert_eq!(rt; first.map(|found| found.field), Some(Field::Modification));
+//! let first = compare(rt.alloc(), &movies, &mut left, &mut right, times, &mut steps)?;
+//! assert_eq!(rt; first, None);
+//! ```
+#![tactic(auto)]
+
+mod bit_rates;
+mod comparing;
+pub mod comparing_laws;
+pub mod complete_laws;
+pub mod covering_laws;
+mod edges;
+mod file_window;
+mod measures;
+mod own_payloads;
+mod peeking;
+mod reduced;
+mod reduced_head;
+pub mod reduced_laws;
+mod reduced_lengths;
+mod without;
+
+pub use comparing::differences::{Difference, Differences, Entries, Field, Part, Subject, Value};
+pub use comparing::movies::Movies;
+pub use comparing::{compare, compare_all};
+pub use edges::{Edges, edges_of};
+pub use measures::{Measures, Total, measure};
+pub use own_payloads::{BoxLeft, MediaLeft, payloads_left, put_payloads_left};
+pub use peeking::peek_sample;
+pub use reduced::{Reduced, Reduction, Reductions, reduced_sample};
+pub use reduced_head::head_left;
+pub use reduced_lengths::length_left;
+pub use without::Without;

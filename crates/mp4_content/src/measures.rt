@@ -1,0 +1,228 @@
+//! What samples of a movie's tracks are left by, and what is left of them together.
+ghost use Rattle.std.specs.Prelude.{◌≡◌, ℕ, ◌+◌, ◌<◌, ◌≤◌, List, length, false, true, slice_get, IfOk, OnOk};
+ghost use Rattle.mp4_head.specs.format.Tree.{TrackTree};
+ghost use Rattle.mp4_present.specs.format.Denotes.{FileTree};
+ghost use Rattle.mp4_present.specs.words.HandCarried.{OfHand, StaysBefore};
+ghost use Rattle.mp4_present.specs.words.Loaded.{left_in_hand};
+ghost use Rattle.mp4_present.specs.words.Movies.{IsWalkOf, RefusesLoad};
+ghost use Rattle.mp4_present.specs.words.OpenedMovie.{IsOpenedAs};
+ghost use Rattle.mp4_present.specs.words.SamplesComing.{track_samples};
+ghost use Rattle.mp4_present.specs.words.StoresRead.{IsUnchanged, OnlyReads, Refused};
+ghost use Rattle.mp4_present.specs.words.TrackWalks.{WhereComes, WhereMayTake, WhereTrack};
+ghost use Rattle.mp4_present.specs.words.WalkSteps.{MayTake, TakesOn, walk_steps, walks_steps};
+ghost use Rattle.mp4_content.specs.words.ComingLess.{asks_first, reduction_by};
+ghost use Rattle.mp4_content.specs.words.Opened.{OverOpened};
+ghost use Rattle.mp4_content.specs.words.Measuring.{AreMeasured, is_near, measuring_steps, no_total, total_from, total_with};
+ghost use Rattle.mp4_content.specs.words.Opened.{RefusesPlan};
+
+use crate::peeking::peek_sample;
+use crate::reduced::{Reduction, Reductions, asks_first};
+use crate::without::Without;
+use mp4_boxes::{Refusal, Steps};
+use mp4_present::{Movie, Walk};
+use mp4_store::Store;
+use mp4_tables::{SampleAt, Samples};
+use std::alloc::{AllocError, Global};
+use std::sync::ledger::Ledger;
+
+/// What is left of samples of a track together: how long they last, as far as 64 bits go, and
+/// whether each composition offset fits its field.
+#[derive(Clone, Copy, Debug, PartialEq, Eq)]
+pub struct Total {
+    pub duration: u64,
+    pub is_near: bool,
+}
+
+/// For each track what its samples are left by, and what is left of them together.
+#[derive(Drop)]
+pub struct Measures {
+    pub reductions: Reductions,
+    pub totals: Vec<Total>,
+}
+
+// Whether a composition offset fits its field.
+fn is_near(offset: i64) -> bool
+    ensures { result ≡ is_near offset }
+{
+    offset <= i64::from(i32::MAX) && offset >= i64::from(i32::MIN)
+}
+
+// With one more sample.
+fn total_with(reduction: Reduction, total: Total, sample: &SampleAt) -> Total
+    ensures { result ≡ total_with reduction total sample.now }
+{
+    let leaving = reduction.leaving;
+    let duration = leaving.duration(reduction.samples, sample.number, sample.duration);
+    let offset = leaving.offset(reduction.offset, sample.cto);
+    Total {
+        duration: total.duration.saturating_add(u64::from(duration)),
+        is_near: total.is_near && is_near(offset),
+    }
+}
+
+// Adds all samples in hand, which are taken.
+fn add_hand<L: Ledger>(
+    walk: &mut Walk,
+    reduction: Reduction,
+    movie: &Movie,
+    total: &mut Total,
+    steps: &mut Steps<L>,
+)
+    requires { IsWalkOf movie.now walk.old }
+    ensures walk { StaysBefore movie.now walk.old walk.new }
+    ensures added { OfHand movie.now walk.old (λ hand.
+        total.new ≡ total_from reduction total.old (left_in_hand hand)) }
+    ensures grows { steps.old ≤ steps.new }
+    ensures work { (file : List ℕ) (tree : FileTree) (t : TrackTree) (n : ℕ)
+        → IsOpenedAs file movie.now tree → MayTake file tree t walk.old n
+        → TakesOn file tree t n walk.new steps.old steps.new }
+{
+    let place = {
+        let mut hand = walk.in_hand(movie);
+        while let Some(sample) = hand.next() {
+            *total = total_with(reduction, *total, &sample);
+        }
+        hand.place()
+    };
+    walk.keep(place, steps);
+}
+
+// What is left of all samples that a walk has still to come.
+fn total_of<S: Store, L: Ledger>(
+    walk: &mut Walk,
+    reduction: Reduction,
+    movie: &Movie,
+    store: &mut S,
+    steps: &mut Steps<L>,
+) -> Result<Total, Refusal>
+    requires { IsWalkOf movie.now walk.old }
+    ensures store { OnlyReads S.Store store.old store.new result }
+    ensures total { WhereComes S.Store store.old movie.now walk.old (λ file tree t samples.
+        IfOk result (λ total. total ≡ total_from reduction no_total samples)) }
+    ensures unchanged { WhereComes S.Store store.old movie.now walk.old (λ file tree t samples.
+        IsUnchanged result) }
+    ensures grows { OnOk result (steps.old ≤ steps.new) }
+    ensures work { WhereMayTake S.Store store.old movie.now walk.old
+        (λ file tree t n. steps.new ≤ steps.old + n) }
+    ensures refusal { Refused S.Store store.old store.new result RefusesLoad }
+{
+    let mut total = Total {
+        duration: 0,
+        is_near: true,
+    };
+    add_hand(walk, reduction, movie, &mut total, steps);
+    while walk.load(movie, store, steps)? {
+        add_hand(walk, reduction, movie, &mut total, steps);
+    }
+    Ok(total)
+}
+
+// Measures the samples of the track at this place, one after the other.
+fn measure_track<S: Store, L: Ledger>(
+    alloc: Global,
+    track: usize,
+    leaving: Without,
+    movie: &Movie,
+    store: &mut S,
+    steps: &mut Steps<L>,
+) -> Result<(Reduction, Total), Refusal>
+    requires { track < length movie.now.tracks }
+    ensures store { OnlyReads S.Store store.old store.new result }
+    ensures measured { WhereTrack S.Store store.old movie.now track (λ file tree t.
+        IfOk result (λ found. (found.0 ≡ reduction_by leaving (length (track_samples tree t))
+        (slice_get (track_samples tree t) 0))
+        × (found.1 ≡ total_from found.0 no_total (track_samples tree t)))) }
+    ensures unchanged { WhereTrack S.Store store.old movie.now track (λ file tree t.
+        IsUnchanged result) }
+    ensures work { WhereTrack S.Store store.old movie.now track (λ file tree t.
+        steps.new ≤ steps.old + walk_steps tree t) }
+    ensures grows { OnOk result (steps.old ≤ steps.new) }
+    ensures refusal { Refused S.Store store.old store.new result RefusesPlan }
+{
+    let mut walk = movie.walk(alloc, track)?;
+    let first = peek_sample(&mut walk, movie, store, steps)?;
+    let samples = movie.tracks()[track].samples;
+    let reduction = Reduction::by_first(leaving, samples, first);
+    let total = total_of(&mut walk, reduction, movie, store, steps)?;
+    Ok((reduction, total))
+}
+
+// Measures all tracks by their samples.
+fn measure_all<S: Store, L: Ledger>(
+    alloc: Global,
+    movie: &Movie,
+    store: &mut S,
+    leaving: Without,
+    steps: &mut Steps<L>,
+) -> Result<Measures, Refusal>
+    ensures store { OnlyReads S.Store store.old store.new result }
+    ensures many { IfOk result
+        (λ all. length all.reductions.of_tracks.items ≡ length movie.now.tracks) }
+    ensures leaving { IfOk result (λ all. all.reductions.leaving ≡ leaving) }
+    ensures measured { asks_first leaving ≡ true → OverOpened S.Store store.old movie.now
+        (λ file tree. IfOk result (AreMeasured leaving tree movie.now)) }
+    ensures unchanged { OverOpened S.Store store.old movie.now (λ file tree. IsUnchanged result) }
+    ensures work { OverOpened S.Store store.old movie.now
+        (λ file tree. steps.new ≤ steps.old + walks_steps tree) }
+    ensures grows { OnOk result (steps.old ≤ steps.new) }
+    ensures refusal { Refused S.Store store.old store.new result RefusesPlan }
+{
+    let mut of_tracks = Vec::new(alloc);
+    let mut totals = Vec::new(alloc);
+    for track in 0..movie.tracks().len() {
+        let found = measure_track(alloc, track, leaving, movie, store, steps)?;
+        of_tracks.push(found.0)?;
+        totals.push(found.1)?;
+    }
+    let reductions = Reductions { leaving, of_tracks };
+    Ok(Measures { reductions, totals })
+}
+
+// What all tracks come to whose samples needn't be asked: as long as opening counted.
+fn measure_at_once(alloc: Global, movie: &Movie, leaving: Without) -> Result<Measures, AllocError>
+    ensures many { IfOk result
+        (λ all. length all.reductions.of_tracks.items ≡ length movie.now.tracks) }
+    ensures leaving { IfOk result (λ all. all.reductions.leaving ≡ leaving) }
+    ensures measured { asks_first leaving ≡ false → (file : List ℕ) (tree : FileTree)
+        → IsOpenedAs file movie.now tree → IfOk result (AreMeasured leaving tree movie.now) }
+{
+    let mut of_tracks = Vec::new(alloc);
+    let mut totals = Vec::new(alloc);
+    let tracks = movie.tracks();
+    for track in 0..tracks.len() {
+        of_tracks.push(Reduction::plain(leaving))?;
+        totals.push(Total {
+            duration: tracks[track].duration,
+            is_near: true,
+        })?;
+    }
+    let reductions = Reductions { leaving, of_tracks };
+    Ok(Measures { reductions, totals })
+}
+
+/// Measures all tracks: where what is left depends on the first sample of a track, or on its last,
+/// its samples are walked over.
+pub fn measure<S: Store, L: Ledger>(
+    alloc: Global,
+    movie: &Movie,
+    store: &mut S,
+    leaving: Without,
+    steps: &mut Steps<L>,
+) -> Result<Measures, Refusal>
+    ensures store { OnlyReads S.Store store.old store.new result }
+    ensures many { IfOk result
+        (λ all. length all.reductions.of_tracks.items ≡ length movie.now.tracks) }
+    ensures leaving { IfOk result (λ all. all.reductions.leaving ≡ leaving) }
+    ensures measured { OverOpened S.Store store.old movie.now
+        (λ file tree. IfOk result (AreMeasured leaving tree movie.now)) }
+    ensures unchanged { OverOpened S.Store store.old movie.now (λ file tree. IsUnchanged result) }
+    ensures work { OverOpened S.Store store.old movie.now
+        (λ file tree. steps.new ≤ steps.old + measuring_steps leaving tree) }
+    ensures grows { OnOk result (steps.old ≤ steps.new) }
+    ensures refusal { Refused S.Store store.old store.new result RefusesPlan }
+{
+    if asks_first(leaving) {
+        return measure_all(alloc, movie, store, leaving, steps);
+    }
+    Ok(measure_at_once(alloc, movie, leaving)?)
+}

@@ -1,0 +1,224 @@
+//! Samples of which something doesn't count.
+ghost use Rattle.std.specs.Prelude.{◌≡◌, ◌||◌, if◌then◌else◌, [], ◌∷◌};
+ghost use Rattle.mp4_content.specs.format.Reduced.{sync_flag};
+ghost use Rattle.mp4_content.specs.words.ComingLess.{asks_first, begun_time, moved_time, near_offset, offset_near, plain_reduction, reduce_at, reduction_by};
+
+use crate::without::Without;
+use mp4_tables::{SampleAt, Samples};
+
+/// What samples of a track are left by: what is left out, and where ends or origins are, how many
+/// samples the track has, and when the first is due, how long it lasts, and its composition offset.
+#[derive(Clone, Copy, Debug, PartialEq, Eq)]
+pub struct Reduction {
+    pub leaving: Without,
+    pub samples: u32,
+    pub start: u64,
+    pub duration: u32,
+    pub offset: i32,
+}
+
+/// What is left out of a movie, and for each track what its samples are left by.
+#[derive(Drop)]
+pub struct Reductions {
+    pub leaving: Without,
+    pub of_tracks: Vec<Reduction>,
+}
+
+/// Whether what is left of samples depends on the first of them, or on how many there are.
+pub(crate) fn asks_first(leaving: Without) -> bool
+    ensures { result ≡ asks_first leaving }
+{
+    (leaving.ends || leaving.origins) && !leaving.timing
+}
+
+impl Reduction {
+    /// Where what is left doesn't depend on them.
+    pub fn plain(leaving: Without) -> Reduction
+        ensures { result ≡ plain_reduction leaving }
+    {
+        Reduction {
+            leaving,
+            samples: 0,
+            start: 0,
+            duration: 0,
+            offset: 0,
+        }
+    }
+
+    /// Where it does, and this is the first of so many.
+    pub fn by_first(leaving: Without, samples: u32, first: Option<SampleAt>) -> Reduction
+        ensures { result ≡ reduction_by leaving samples first }
+    {
+        match first {
+            Some(first) => Reduction {
+                leaving,
+                samples,
+                start: first.dts,
+                duration: first.duration,
+                offset: first.cto,
+            },
+            None => Reduction::plain(leaving),
+        }
+    }
+
+    // When a sample is due that is due at this time, where the track begins at 0, if it does.
+    fn begun(self, time: u64) -> u64
+        ensures { result ≡ begun_time self time }
+    {
+        if self.leaving.origins {
+            time.saturating_sub(self.start)
+        } else {
+            time
+        }
+    }
+
+    // The same, where the first sample lasts 1 too, if it does.
+    fn moved(self, number: u32, time: u64) -> u64
+        ensures { result ≡ moved_time self number time }
+    {
+        let begun = self.begun(time);
+        if self.leaving.ends && number != 0 {
+            return begun
+                .saturating_sub(u64::from(self.duration))
+                .saturating_add(1);
+        }
+        begun
+    }
+
+    // The same; without timing by how many samples come before it.
+    #[inline(always)]
+    fn due(self, number: u32, time: u64) -> u64
+        ensures { result ≡ (if self.leaving.timing then number else moved_time self number time) }
+    {
+        if self.leaving.timing {
+            u64::from(number)
+        } else {
+            self.moved(number, time)
+        }
+    }
+
+    // What is left of a composition offset, as far as 32 bits go.
+    #[inline(always)]
+    fn near(self, offset: i32) -> i32
+        ensures { result ≡ offset_near self.leaving self.offset offset }
+    {
+        if self.leaving.timing {
+            return 0;
+        }
+        if self.leaving.origins {
+            return near_offset(i64::from(offset) - i64::from(self.offset));
+        }
+        offset
+    }
+
+    // What is left of the flags of a sample.
+    #[inline(always)]
+    fn flags(self, flags: u32) -> u32
+        ensures { result ≡ (if self.leaving.flags then sync_flag flags else flags) }
+    {
+        if self.leaving.flags {
+            flags / 0x1_0000 % 2 * 0x1_0000
+        } else {
+            flags
+        }
+    }
+
+    // What is left of its index at each key.
+    #[inline(always)]
+    fn groups(self, groups: [u16; 4]) -> [u16; 4]
+        ensures { result ≡ (if self.leaving.groups then 0 ∷ 0 ∷ 0 ∷ 0 ∷ [] else groups) }
+    {
+        if self.leaving.groups { [0; 4] } else { groups }
+    }
+
+    // Whether what is left of a sample may last another time than the sample.
+    fn moves_durations(self) -> bool
+        ensures { result ≡ self.leaving.timing || self.leaving.ends }
+    {
+        self.leaving.timing || self.leaving.ends
+    }
+}
+
+// A composition offset, as far as 32 bits go.
+fn near_offset(offset: i64) -> i32
+    ensures { result ≡ near_offset offset }
+{
+    if offset > i64::from(i32::MAX) {
+        return i32::MAX;
+    }
+    if offset < i64::from(i32::MIN) {
+        return i32::MIN;
+    }
+    offset as i32
+}
+
+/// What is left of a sample: of its flags the bit sample_is_non_sync_sample (8.8.3.1) where flags
+/// are left out, index 0 at each key where groups are, and of its times what `Without` says.
+#[inline(always)]
+pub fn reduced_sample(reduction: Reduction, sample: SampleAt) -> SampleAt
+    ensures { result ≡ reduce_at reduction sample }
+{
+    let leaving = reduction.leaving;
+    SampleAt {
+        dts: reduction.due(sample.number, sample.dts),
+        duration: leaving.duration(reduction.samples, sample.number, sample.duration),
+        cto: reduction.near(sample.cto),
+        flags: reduction.flags(sample.flags),
+        groups: reduction.groups(sample.groups),
+        ..sample
+    }
+}
+
+/// What is left of the samples still to come.
+#[derive(Drop)]
+pub struct Reduced<C> {
+    pub inner: C,
+    pub reduction: Reduction,
+}
+
+impl<C: Samples> Samples for Reduced<C> {
+    ghost use Rattle.std.specs.Prelude.{◌≡◌};
+    ghost use Rattle.std.proofs.Common.{◌∙◌, refl};
+    ghost use Rattle.mp4_present.specs.words.Loaded.{AreLast, last_all, last_of_last};
+    ghost use Rattle.mp4_content.specs.words.ComingLess.{less};
+
+    ghost rest = { λ s. less s.reduction (C.rest s.inner) };
+
+    ghost follows = { λ s t. C.follows s.inner t.inner × (t.reduction ≡ s.reduction)
+        × AreLast (C.rest s.inner) (C.rest t.inner) };
+
+    #[inline(always)]
+    fn peek(&self) -> Option<SampleAt> {
+        let sample = self.inner.peek()?;
+        Some(reduced_sample(self.reduction, sample))
+    }
+
+    #[inline(always)]
+    fn next(&mut self) -> Option<SampleAt> {
+        let sample = self.inner.next()?;
+        Some(reduced_sample(self.reduction, sample))
+    }
+
+    #[inline(always)]
+    fn pass(&mut self, sample: &SampleAt) {
+        if self.reduction.moves_durations() {
+            // What is left of the sample may not say how long it lasts.
+            let _ = self.inner.next();
+        } else {
+            self.inner.pass(sample);
+        }
+    }
+
+    #[inline(always)]
+    fn pass_non_sync(&mut self, description: u32, most: u32) -> u32 {
+        self.inner.pass_non_sync(description, most)
+    }
+
+    ghost follows_itself = { λ s. (C.follows_itself s.inner, refl, last_all (C.rest s.inner)) };
+
+    ghost follows_on = { λ s t u p q. (
+      C.follows_on s.inner t.inner u.inner p.0 q.0,
+      q.1 ∙ p.1,
+      last_of_last (C.rest s.inner) (C.rest t.inner) (C.rest u.inner) p.2 q.2,
+    ) };
+}

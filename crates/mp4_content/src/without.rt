@@ -1,0 +1,124 @@
+//! What doesn't count where presentations are compared by the rest.
+
+/// What is left out of a presentation (`reduce` in `specs/format/Reduced.antt`).
+#[derive(Clone, Copy, Debug, PartialEq, Eq)]
+pub struct Without {
+    /// Creation and modification times of the movie, its tracks and their media (8.2.2, 8.3.2,
+    /// 8.4.2): they are 0.
+    pub times: bool,
+    /// Edit lists (8.6.6).
+    pub edits: bool,
+    /// All flags of samples but sample_is_non_sync_sample (8.8.3.1).
+    pub flags: bool,
+    /// Descriptions of sample groups and the samples' indexes of them (8.9).
+    pub groups: bool,
+    /// Kept boxes `udta`, `meta` and `iods` of the movie and its tracks.
+    pub metadata: bool,
+    /// Bit rates and sizes of buffers in sample descriptions: `btrt` (8.5.2.2), and the fields of
+    /// `esds` that say them (ISO/IEC 14496-1, 7.2.6.6).
+    pub bitrates: bool,
+    /// Durations of the first and of the last sample of a track (8.6.1.2, 8.8.8): they are 1.
+    pub ends: bool,
+    /// Where a track begins: it begins at 0, and from each composition offset (8.6.1.3) that of the
+    /// track's first sample is taken.
+    pub origins: bool,
+    /// Names for people: those of handlers (8.4.3), and of compressors (12.1.3).
+    pub labels: bool,
+    /// When samples are decoded and shown: a track begins at 0, each duration (8.6.1.2, 8.8.8) is
+    /// 1, each composition offset (8.6.1.3) 0, and the timescales (8.2.2, 8.4.2) are 1,000.
+    pub timing: bool,
+}
+
+impl Without {
+    ghost use Rattle.std.specs.Prelude.{◌≡◌, if◌then◌else◌};
+    ghost use Rattle.mp4_content.specs.format.Reduced.{duration_left, keeps_samples, offset_left, start_left, timescale_left};
+    ghost use Rattle.mp4_content.specs.words.PayloadsLeft.{leaves_payloads};
+    ghost use Rattle.mp4_content.specs.words.TrackEdges.{keeps_edges};
+
+    /// Nothing is left out.
+    pub const NOTHING: Without = Without {
+        times: false,
+        edits: false,
+        flags: false,
+        groups: false,
+        metadata: false,
+        bitrates: false,
+        ends: false,
+        origins: false,
+        labels: false,
+        timing: false,
+    };
+
+    // A time; 0 where times don't count.
+    pub(crate) fn time(self, time: u64) -> u64
+        ensures { result ≡ (if self.times then 0 else time) }
+    {
+        if self.times { 0 } else { time }
+    }
+
+    /// A timescale, of a movie or of media; 1,000 where timing doesn't count.
+    pub fn timescale(self, timescale: u32) -> u32
+        ensures { result ≡ timescale_left self timescale }
+    {
+        if self.timing { 1000 } else { timescale }
+    }
+
+    /// When a track begins; 0 where timing doesn't count, or where tracks begin.
+    pub fn start(self, start: u64) -> u64
+        ensures { result ≡ start_left self start }
+    {
+        if self.timing || self.origins {
+            0
+        } else {
+            start
+        }
+    }
+
+    /// How long the sample of this number lasts, from 0, one of so many; 1 where timing doesn't
+    /// count, or where it is the first or the last and these don't.
+    pub fn duration(self, samples: u32, number: u32, duration: u32) -> u32
+        ensures { result ≡ duration_left self samples number duration }
+    {
+        let is_at_end = number == 0 || u64::from(number) + 1 == u64::from(samples);
+        if self.timing || (self.ends && is_at_end) {
+            return 1;
+        }
+        duration
+    }
+
+    /// A composition offset of a track whose first sample has the other one: less that where it
+    /// doesn't count where tracks begin, and 0 where timing doesn't.
+    pub fn offset(self, first: i32, offset: i32) -> i64
+        ensures { result ≡ offset_left self first offset }
+    {
+        if self.timing {
+            return 0;
+        }
+        if self.origins {
+            return i64::from(offset) - i64::from(first);
+        }
+        i64::from(offset)
+    }
+
+    /// Whether samples stay as they are.
+    pub fn keeps_samples(self) -> bool
+        ensures { result ≡ keeps_samples self }
+    {
+        !self.flags && !self.groups && !self.ends && !self.origins && !self.timing
+    }
+
+    // Whether samples of one duration and one offset have these left, wherever they stand in their
+    // tracks.
+    pub(crate) fn keeps_edges(self) -> bool
+        ensures { result ≡ keeps_edges self }
+    {
+        !self.ends && !self.origins
+    }
+
+    // Whether payloads of media are left out, or parts of them.
+    pub(crate) fn leaves_payloads(self) -> bool
+        ensures { result ≡ leaves_payloads self }
+    {
+        self.labels || self.bitrates
+    }
+}

@@ -1,5 +1,0 @@
-use Rattle.mp4_plan.proofs.Covering.{same_without_more}
-use Rattle.mp4_plan.proofs.covering_laws.same_without_more.Goals as goal
-
-pub returns : goal.returns
-returns c = same_without_more

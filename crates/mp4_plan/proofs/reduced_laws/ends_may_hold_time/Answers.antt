@@ -1,5 +1,0 @@
-use Rattle.mp4_plan.proofs.TooLong.{ends_may_hold_time}
-use Rattle.mp4_plan.proofs.reduced_laws.ends_may_hold_time.Goals as goal
-
-pub returns : goal.returns
-returns c = ends_may_hold_time

@@ -1,5 +1,0 @@
-use Rattle.mp4_plan.proofs.Reducing.{nothing_reduces}
-use Rattle.mp4_plan.proofs.reduced_laws.nothing_reduces.Goals as goal
-
-pub returns : goal.returns
-returns c = nothing_reduces

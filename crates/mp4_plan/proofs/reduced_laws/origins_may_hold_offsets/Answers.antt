@@ -1,5 +1,0 @@
-use Rattle.mp4_plan.proofs.TooLong.{origins_may_hold_offsets}
-use Rattle.mp4_plan.proofs.reduced_laws.origins_may_hold_offsets.Goals as goal
-
-pub returns : goal.returns
-returns c = origins_may_hold_offsets

@@ -1,5 +1,0 @@
-use Rattle.mp4_plan.proofs.Agreed.{reduce_is_exact}
-use Rattle.mp4_plan.proofs.reduced_laws.reduce_is_exact.Goals as goal
-
-pub returns : goal.returns
-returns c = reduce_is_exact

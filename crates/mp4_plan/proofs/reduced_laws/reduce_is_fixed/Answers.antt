@@ -1,5 +1,0 @@
-use Rattle.mp4_plan.proofs.Reducing.{reduce_is_fixed}
-use Rattle.mp4_plan.proofs.reduced_laws.reduce_is_fixed.Goals as goal
-
-pub returns : goal.returns
-returns c = reduce_is_fixed

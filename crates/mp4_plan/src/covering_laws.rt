@@ -1,8 +1,0 @@
-//! Laws of leaving out more.
-
-ghost use Rattle.mp4_plan.specs.format.CoveringLaws.{SameWithoutMore};
-
-/// What is the same without some things is the same without these and more.
-pub fn same_without_more()
-    ensures { SameWithoutMore }
-{}

@@ -1,5 +1,0 @@
-use Rattle.mp4_present.proofs.ComparisonTurned.{swapped_files_swap_values}
-use Rattle.mp4_present.proofs.comparing_laws.swapped_files_swap_values.Goals as goal
-
-pub returns : goal.returns
-returns c = swapped_files_swap_values

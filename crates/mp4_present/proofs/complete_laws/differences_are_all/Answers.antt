@@ -1,5 +1,0 @@
-use Rattle.mp4_present.proofs.ComparisonComplete.{differences_are_all}
-use Rattle.mp4_present.proofs.complete_laws.differences_are_all.Goals as goal
-
-pub returns : goal.returns
-returns c = differences_are_all
