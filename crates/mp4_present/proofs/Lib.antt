@@ -120,3 +120,5 @@ pub mod FirstBoxes
 pub mod RatesPlaces
 pub mod RatesAtEnd
 pub mod RatesShort
+pub mod TracksFound
+pub mod NotedTracks

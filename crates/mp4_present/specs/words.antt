@@ -40,4 +40,5 @@ pub mod TablesChecked
 pub mod OpeningWork
 pub mod LoadedTaken
 pub mod OwnTrafs
+pub mod TrackPlaces
 pub mod SamePairs

@@ -25,12 +25,12 @@ pub struct Edges {
 impl Walk {
     /// The edges of the track, of a walk that stands before its first sample. Where the origins of
     /// tracks are left out, the first sample comes to be in hand, and the same samples come.
-    pub fn edges<S: Store, L: Ledger>(
+    pub fn edges<S: Store, L: Ledger, M: Ledger>(
         &mut self,
         leaving: Without,
         movie: &Movie,
         store: &mut S,
-        steps: &mut Steps<L>,
+        steps: &mut Steps<L, M>,
     ) -> Result<Edges, Refusal>
         requires { IsWalkOf movie.now self.old }
         ensures walk { IsWalkStill movie.now self.old self.new result }
@@ -42,10 +42,11 @@ impl Walk {
             → IfOk result (λ edges. edges ≡ edges_left leaving samples)) }
         ensures unchanged { WhereComes S.Store store.old movie.now self.old (λ file tree t samples.
             samples ≡ track_samples tree t → IsUnchanged result) }
-        ensures grows { steps.old ≤ steps.new }
-        ensures work { TakesSteps S.Store store.old movie.now self.old self.new result steps.old
-            steps.new }
+        ensures grows { steps.old.passed ≤ steps.new.passed }
+        ensures work { TakesSteps S.Store store.old movie.now self.old self.new result
+            steps.old.passed steps.new.passed }
         ensures refusal { Refused S.Store store.old store.new result RefusesLoad }
+        ensures looks { steps.new.looks ≡ steps.old.looks }
     {
         let samples = movie.tracks()[self.track].samples;
         if !leaving.origins || samples == 0 {
