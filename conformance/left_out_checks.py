@@ -245,7 +245,7 @@ def of_fragments():
     short = refuses('payload.len() < head_size(bits)', 'Kind::ShortBox')
     described = refuses('lacks_description(state, judged.inherited.description, passed)',
                         'tfhd.fault(Kind::BadDescriptionIndex)')
-    groups = '    let keys = check_groups(traf, passed.count, state.keys, steps)?;\n'
+    groups = '    let keys = check_groups(traf, passed.count, state.keys, &mut steps.passed)?;\n'
     gap = ('    if let Some(tfdt) = heads.time {\n        if is_late(state, time, passed) {\n'
            '            return Err(tfdt.fault(Kind::Gap));\n        }\n    }\n')
     return [
@@ -284,8 +284,8 @@ def of_fragments():
              '        left = left.saturating_sub(size);\n',
              'SampleOutsideFile before OffsetTooLarge in trun',
              'late-sample-outside-before-a-large-offset'),
-        Edit('mp4_frag/check', 'find_track(tracks, head.id, at.file.places, looks) else {',
-             'find_track(tracks, head.id, at.file.places, looks).or(Some(0)) else {',
+        Edit('mp4_frag/check', 'tracking.find(tracks, head.id, steps) else {',
+             'tracking.find(tracks, head.id, steps).or(Some(0)) else {',
              'UnknownTrack: no track', 'narrow-tfhd-of-no-track', 'unknown-track-without-runs'),
         Edit('tables_pass', 'trexes.get(&track.id).copied()',
              'trexes.get(&track.id).or(trexes.get(&8)).copied()', 'UnknownTrack: no trex',

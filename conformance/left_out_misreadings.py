@@ -10,7 +10,7 @@ ORDER = 'if !are_ordered(payload, rows, 0 < chunks.rows.count, steps) {'
 
 
 def of_fragments():
-    groups = 'check_groups(traf, passed.count, state.keys, steps)?;'
+    groups = 'check_groups(traf, passed.count, state.keys, &mut steps.passed)?;'
     return [
         Edit('mp4_frag/check', f'let keys = {groups}',
              f'let keys = if passed.count == 0 {{\n        state.keys\n    }} else {{\n'

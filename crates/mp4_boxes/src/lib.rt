@@ -59,6 +59,6 @@ pub use refusal::{Memory, Refusal};
 pub use rule::Rule;
 pub use sequence::Children;
 pub use spelling::Header;
-pub use steps::{Steps, Ticket};
+pub use steps::{Count, Steps, Ticket};
 pub use view::BoxView;
 pub use writing::header;

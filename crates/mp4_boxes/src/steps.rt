@@ -1,4 +1,4 @@
-//! A counter of steps that takes no bytes at run time: what a contract on work speaks of.
+//! Counters of work that take no bytes at run time: what a contract on work speaks of.
 ghost use Rattle.std.specs.Prelude.{◌≡◌, ◌+◌, ◌<◌};
 
 use std::marker::Model;
@@ -20,14 +20,14 @@ impl Ticket {
     }
 }
 
-/// How many steps were taken. It takes no bytes, and only `tick` and `add` change it.
+/// A count that takes no bytes at run time; only `tick` and `add` change it.
 #[derive(Drop)]
-pub struct Steps<L: Ledger> {
+pub struct Count<L: Ledger> {
     book: Book<L>,
     share: Share<L>,
 }
 
-impl<L: Ledger> Model for Steps<L> {
+impl<L: Ledger> Model for Count<L> {
     ghost use Rattle.std.specs.Prelude.{ℕ, ◌<◌};
 
     ghost Value = { ℕ };
@@ -37,19 +37,19 @@ impl<L: Ledger> Model for Steps<L> {
     ghost invariant = { λ s. 0 < s.share.parts };
 }
 
-impl<L: Ledger> Steps<L> {
-    /// No step was taken yet.
-    pub fn new(blank: Blank) -> Steps<L>
+impl<L: Ledger> Count<L> {
+    /// Nothing was counted yet.
+    pub fn new(blank: Blank) -> Count<L>
         requires name { blank.name ≡ L.name }
         requires parts { blank.parts ≡ L.parts }
         requires some { 0 < L.parts }
         ensures none { result ≡ 0 }
     {
         let (book, share) = blank.open();
-        Steps { book, share }
+        Count { book, share }
     }
 
-    /// One more step, and leave to read one row for it.
+    /// One more, and leave to read one row for it.
     pub fn tick(&mut self) -> Ticket
         ensures one_more { self.new ≡ self.old + 1 }
     {
@@ -57,10 +57,58 @@ impl<L: Ledger> Steps<L> {
         Ticket { counted: () }
     }
 
-    /// So many more steps at once.
+    /// So many more at once.
     pub fn add(&mut self, steps: u64)
         ensures more { self.new ≡ self.old + steps }
     {
         self.book.add(&mut self.share, steps);
+    }
+}
+
+/// What a call did, by two counts. It takes no bytes at run time.
+#[derive(Drop)]
+pub struct Steps<L: Ledger, M: Ledger> {
+    /// The steps: each passes a row of a table, a `traf`, a run or a sample.
+    pub passed: Count<L>,
+    /// The looks: each finds a track by its ID, or is a turn of a writer.
+    pub looks: Count<M>,
+}
+
+impl<L: Ledger, M: Ledger> Steps<L, M> {
+    /// No step was taken yet, and no look.
+    pub fn new(steps: Blank, looks: Blank) -> Steps<L, M>
+        requires names { (steps.name ≡ L.name) × (looks.name ≡ M.name) }
+        requires parts { (steps.parts ≡ L.parts) × (looks.parts ≡ M.parts) }
+        requires some { (0 < L.parts) × (0 < M.parts) }
+        ensures none { (result.passed ≡ 0) × (result.looks ≡ 0) }
+    {
+        Steps {
+            passed: Count::new(steps),
+            looks: Count::new(looks),
+        }
+    }
+
+    /// One more step, and leave to read one row for it.
+    pub fn tick(&mut self) -> Ticket
+        ensures one_more { self.new.passed ≡ self.old.passed + 1 }
+        ensures looks { self.new.looks ≡ self.old.looks }
+    {
+        self.passed.tick()
+    }
+
+    /// So many more steps at once.
+    pub fn add(&mut self, steps: u64)
+        ensures more { self.new.passed ≡ self.old.passed + steps }
+        ensures looks { self.new.looks ≡ self.old.looks }
+    {
+        self.passed.add(steps);
+    }
+
+    /// One more look.
+    pub fn look(&mut self)
+        ensures one_more { self.new.looks ≡ self.old.looks + 1 }
+        ensures passed { self.new.passed ≡ self.old.passed }
+    {
+        let _leave = self.looks.tick();
     }
 }

@@ -23,12 +23,12 @@ pub struct Edges {
 
 /// The edges of a track, of a walk over it that stands before its first sample. Where the origins
 /// of tracks are left out, the first sample comes to be in hand, and the same samples come.
-pub fn edges_of<S: Store, L: Ledger>(
+pub fn edges_of<S: Store, L: Ledger, M: Ledger>(
     walk: &mut Walk,
     leaving: Without,
     movie: &Movie,
     store: &mut S,
-    steps: &mut Steps<L>,
+    steps: &mut Steps<L, M>,
 ) -> Result<Edges, Refusal>
     requires { IsWalkOf movie.now walk.old }
     ensures walk { IsWalkStill movie.now walk.old walk.new result }
@@ -40,10 +40,11 @@ pub fn edges_of<S: Store, L: Ledger>(
         → IfOk result (λ edges. edges ≡ edges_left leaving samples)) }
     ensures unchanged { WhereComes S.Store store.old movie.now walk.old (λ file tree t samples.
         samples ≡ track_samples tree t → IsUnchanged result) }
-    ensures grows { steps.old ≤ steps.new }
-    ensures work { TakesSteps S.Store store.old movie.now walk.old walk.new result steps.old
-        steps.new }
+    ensures grows { steps.old.passed ≤ steps.new.passed }
+    ensures work { TakesSteps S.Store store.old movie.now walk.old walk.new result
+        steps.old.passed steps.new.passed }
     ensures refusal { Refused S.Store store.old store.new result RefusesLoad }
+    ensures looks { steps.new.looks ≡ steps.old.looks }
 {
     let track = walk.track();
     let samples = movie.tracks()[track].samples;

@@ -61,21 +61,22 @@ fn total_with(reduction: Reduction, total: Total, sample: &SampleAt) -> Total
 }
 
 // Adds all samples in hand, which are taken.
-fn add_hand<L: Ledger>(
+fn add_hand<L: Ledger, M: Ledger>(
     walk: &mut Walk,
     reduction: Reduction,
     movie: &Movie,
     total: &mut Total,
-    steps: &mut Steps<L>,
+    steps: &mut Steps<L, M>,
 )
     requires { IsWalkOf movie.now walk.old }
     ensures walk { StaysBefore movie.now walk.old walk.new }
     ensures added { OfHand movie.now walk.old (λ hand.
         total.new ≡ total_from reduction total.old (left_in_hand hand)) }
-    ensures grows { steps.old ≤ steps.new }
+    ensures grows { steps.old.passed ≤ steps.new.passed }
     ensures work { (file : List ℕ) (tree : FileTree) (t : TrackTree) (n : ℕ)
         → IsOpenedAs file movie.now tree → MayTake file tree t walk.old n
-        → TakesOn file tree t n walk.new steps.old steps.new }
+        → TakesOn file tree t n walk.new steps.old.passed steps.new.passed }
+    ensures looks { steps.new.looks ≡ steps.old.looks }
 {
     let place = {
         let mut hand = walk.in_hand(movie);
@@ -88,12 +89,12 @@ fn add_hand<L: Ledger>(
 }
 
 // What is left of all samples that a walk has still to come.
-fn total_of<S: Store, L: Ledger>(
+fn total_of<S: Store, L: Ledger, M: Ledger>(
     walk: &mut Walk,
     reduction: Reduction,
     movie: &Movie,
     store: &mut S,
-    steps: &mut Steps<L>,
+    steps: &mut Steps<L, M>,
 ) -> Result<Total, Refusal>
     requires { IsWalkOf movie.now walk.old }
     ensures store { OnlyReads S.Store store.old store.new result }
@@ -101,10 +102,11 @@ fn total_of<S: Store, L: Ledger>(
         IfOk result (λ total. total ≡ total_from reduction no_total samples)) }
     ensures unchanged { WhereComes S.Store store.old movie.now walk.old (λ file tree t samples.
         IsUnchanged result) }
-    ensures grows { OnOk result (steps.old ≤ steps.new) }
+    ensures grows { OnOk result (steps.old.passed ≤ steps.new.passed) }
     ensures work { WhereMayTake S.Store store.old movie.now walk.old
-        (λ file tree t n. steps.new ≤ steps.old + n) }
+        (λ file tree t n. steps.new.passed ≤ steps.old.passed + n) }
     ensures refusal { Refused S.Store store.old store.new result RefusesLoad }
+    ensures looks { steps.new.looks ≡ steps.old.looks }
 {
     let mut total = Total {
         duration: 0,
@@ -118,13 +120,13 @@ fn total_of<S: Store, L: Ledger>(
 }
 
 // Measures the samples of the track at this place, one after the other.
-fn measure_track<S: Store, L: Ledger>(
+fn measure_track<S: Store, L: Ledger, M: Ledger>(
     alloc: Global,
     track: usize,
     leaving: Without,
     movie: &Movie,
     store: &mut S,
-    steps: &mut Steps<L>,
+    steps: &mut Steps<L, M>,
 ) -> Result<(Reduction, Total), Refusal>
     requires { track < length movie.now.tracks }
     ensures store { OnlyReads S.Store store.old store.new result }
@@ -135,9 +137,10 @@ fn measure_track<S: Store, L: Ledger>(
     ensures unchanged { WhereTrack S.Store store.old movie.now track (λ file tree t.
         IsUnchanged result) }
     ensures work { WhereTrack S.Store store.old movie.now track (λ file tree t.
-        steps.new ≤ steps.old + walk_steps tree t) }
-    ensures grows { OnOk result (steps.old ≤ steps.new) }
+        steps.new.passed ≤ steps.old.passed + walk_steps tree t) }
+    ensures grows { OnOk result (steps.old.passed ≤ steps.new.passed) }
     ensures refusal { Refused S.Store store.old store.new result RefusesPlan }
+    ensures looks { steps.new.looks ≡ steps.old.looks }
 {
     let mut walk = movie.walk(alloc, track)?;
     let first = peek_sample(&mut walk, movie, store, steps)?;
@@ -148,12 +151,12 @@ fn measure_track<S: Store, L: Ledger>(
 }
 
 // Measures all tracks by their samples.
-fn measure_all<S: Store, L: Ledger>(
+fn measure_all<S: Store, L: Ledger, M: Ledger>(
     alloc: Global,
     movie: &Movie,
     store: &mut S,
     leaving: Without,
-    steps: &mut Steps<L>,
+    steps: &mut Steps<L, M>,
 ) -> Result<Measures, Refusal>
     ensures store { OnlyReads S.Store store.old store.new result }
     ensures many { IfOk result
@@ -163,9 +166,10 @@ fn measure_all<S: Store, L: Ledger>(
         (λ file tree. IfOk result (AreMeasured leaving tree movie.now)) }
     ensures unchanged { OverOpened S.Store store.old movie.now (λ file tree. IsUnchanged result) }
     ensures work { OverOpened S.Store store.old movie.now
-        (λ file tree. steps.new ≤ steps.old + walks_steps tree) }
-    ensures grows { OnOk result (steps.old ≤ steps.new) }
+        (λ file tree. steps.new.passed ≤ steps.old.passed + walks_steps tree) }
+    ensures grows { OnOk result (steps.old.passed ≤ steps.new.passed) }
     ensures refusal { Refused S.Store store.old store.new result RefusesPlan }
+    ensures looks { steps.new.looks ≡ steps.old.looks }
 {
     let mut of_tracks = Vec::new(alloc);
     let mut totals = Vec::new(alloc);
@@ -202,12 +206,12 @@ fn measure_at_once(alloc: Global, movie: &Movie, leaving: Without) -> Result<Mea
 
 /// Measures all tracks: where what is left depends on the first sample of a track, or on its last,
 /// its samples are walked over.
-pub fn measure<S: Store, L: Ledger>(
+pub fn measure<S: Store, L: Ledger, M: Ledger>(
     alloc: Global,
     movie: &Movie,
     store: &mut S,
     leaving: Without,
-    steps: &mut Steps<L>,
+    steps: &mut Steps<L, M>,
 ) -> Result<Measures, Refusal>
     ensures store { OnlyReads S.Store store.old store.new result }
     ensures many { IfOk result
@@ -217,9 +221,10 @@ pub fn measure<S: Store, L: Ledger>(
         (λ file tree. IfOk result (AreMeasured leaving tree movie.now)) }
     ensures unchanged { OverOpened S.Store store.old movie.now (λ file tree. IsUnchanged result) }
     ensures work { OverOpened S.Store store.old movie.now
-        (λ file tree. steps.new ≤ steps.old + measuring_steps leaving tree) }
-    ensures grows { OnOk result (steps.old ≤ steps.new) }
+        (λ file tree. steps.new.passed ≤ steps.old.passed + measuring_steps leaving tree) }
+    ensures grows { OnOk result (steps.old.passed ≤ steps.new.passed) }
     ensures refusal { Refused S.Store store.old store.new result RefusesPlan }
+    ensures looks { steps.new.looks ≡ steps.old.looks }
 {
     if asks_first(leaving) {
         return measure_all(alloc, movie, store, leaving, steps);

@@ -19,10 +19,10 @@ pub record MoofLooked (all left : List Box) (tracks first looks : ℕ) : Type 0 
   pub trafs : ℕ
   pub said : trafs + how_many left ≡ how_many all
   pub boxes : trafs + length left ≤ length all
-  pub some : looks ≡ first + trafs
+  pub some : first + trafs ≤ looks
   pub most : looks ≤ first + tracks * trafs
 
-pub looked_traf : (all left later : List Box) (b : Box) (tracks first looks more : ℕ) → MoofLooked all left tracks first looks → left ≡ b ∷ later → bytes_eq b.kind (codes "traf") ≡ true → more ≡ looks + 1 → more ≤ looks + tracks → MoofLooked all later tracks first more
+pub looked_traf : (all left later : List Box) (b : Box) (tracks first looks more : ℕ) → MoofLooked all left tracks first looks → left ≡ b ∷ later → bytes_eq b.kind (codes "traf") ≡ true → looks + 1 ≤ more → more ≤ looks + tracks → MoofLooked all later tracks first more
 looked_traf all left later b tracks first looks more h e k one each =
     let kept : of_kind (codes "traf") (b ∷ later) ≡ b ∷ of_kind (codes "traf") later = rw (turned (codes "traf") b.kind ∙ k) refl in
     let same : how_many left ≡ suc (how_many later) = ap how_many e ∙ ap (λ (bs : List Box). length bs) kept in
@@ -42,7 +42,7 @@ trafs_said moof = many (of_kind (codes "traf") (children_of moof))
     many (b ∷ trafs) = ap suc (many trafs)
 
 -- behind the last box
-pub looked_one : (all left : List Box) (moof : Box) (tracks first looks : ℕ) → MoofLooked all left tracks first looks → left ≡ [] → all ≡ children_of moof → looks ≡ first + length (moof_says moof).trafs
+pub looked_one : (all left : List Box) (moof : Box) (tracks first looks : ℕ) → MoofLooked all left tracks first looks → left ≡ [] → all ≡ children_of moof → first + length (moof_says moof).trafs ≤ looks
 looked_one all left moof tracks first looks h e same =
     let said = h.said in
     let some = h.some in

@@ -159,12 +159,6 @@ moof_cost_said all left moof first whole steps room h none same =
     let said = h.said in
     omega (arith, said, ap trafs_among none, ap trafs_among same, trafs_said (of_kind (codes "traf") (children_of moof)))
 
--- before it, no more than it says
-pub moof_cost_so_far : (all left : List Box) (moof : Box) (first whole steps room : ℕ) → MoofCost all left first whole steps room → all ≡ children_of moof → steps + room ≤ first + whole + fragment_rows (moof_says moof)
-moof_cost_so_far all left moof first whole steps room h same =
-    let said = h.said in
-    omega (arith, said, ap trafs_among same, trafs_said (of_kind (codes "traf") (children_of moof)))
-
 pub moof_cost_ended : (all left boxes : List Box) (moof : Box) (first whole steps room : ℕ) → MoofCost all left first whole steps room → all ≡ boxes → Tiles (box_container moof) boxes
     → 2 * steps + 2 * room ≤ 2 * first + 2 * whole + length moof.payload
 moof_cost_ended all left boxes moof first whole steps room h same tiles = let most = h.most in omega (arith, most, trafs_fit all boxes moof same tiles)

@@ -9,8 +9,6 @@ use Rattle.mp4_boxes.specs.format.FirstFault.{Test, first_failed, naming, leaf_t
 use Rattle.mp4_boxes.specs.declared.rule.Rule.TheVariants as rules
 use Rattle.mp4_boxes.specs.declared.fault.Fault.{Fault}
 use Rattle.mp4_boxes.specs.declared.fault.Kind.TheVariants.{UnknownTrack, BadDescriptionIndex, Gap}
-use Rattle.mp4_boxes.specs.declared.refusal.Refusal.{Refusal}
-use Rattle.mp4_boxes.specs.declared.refusal.Refusal.TheVariants as refusals
 use Rattle.mp4_tables.specs.words.Keys.{keys_seen}
 use Rattle.mp4_frag.specs.words.Finding.{track_with}
 use Rattle.mp4_frag.specs.words.FragmentTests.{runs_tests, traf_groups_tests}
@@ -20,7 +18,7 @@ use Rattle.mp4_frag.specs.words.GroupsJudged.{groups_in}
 use Rattle.mp4_frag.specs.words.Passing.{is_late_at}
 use Rattle.mp4_frag.specs.words.RunsJudged.{children_of, runs_in, runs_total}
 use Rattle.mp4_frag.specs.words.TrafFaults.{traf_in, IsOnly}
-use Rattle.mp4_frag.specs.words.TrafTests.{time_tests, late_tests, lacks, known_tests, trex_tests, track_tests, traf_fault, RefusedFirst}
+use Rattle.mp4_frag.specs.words.TrafTests.{time_tests, late_tests, lacks, known_tests, trex_tests, track_tests, traf_fault}
 use Rattle.mp4_frag.specs.declared.heads.Inherited.{Inherited}
 use Rattle.mp4_frag.specs.declared.sample_runs.Judged.{Judged}
 use Rattle.mp4_frag.specs.declared.state.TrackState.{TrackState}
@@ -109,12 +107,3 @@ late_first t time n times d e l = rw (e, l) refl
 pub late_none : (t : TrackState) (time : Option ℕ) (n : ℕ) (times : List Box) → is_late_at t time n ≡ false → first_failed (late_tests t time n times) ≡ None
 late_none t time n [] l = refl
 late_none t time n (d ∷ times) l = rw l refl
-
--- what is named of the `traf`s of a `moof` is named of the `moof`
-pub named_as : (P Q : Option Fault → Type 0) → ((o : Option Fault) → P o → Q o) → (r : Refusal) → RefusedFirst P r → RefusedFirst Q r
-named_as P Q on (refusals.Fault f) h = on (Some f) h
-named_as P Q on refusals.Memory h = tt
-named_as P Q on refusals.StoreFailed h = tt
-named_as P Q on refusals.WriteFailed h = tt
-named_as P Q on refusals.StoreChanged h = tt
-named_as P Q on refusals.NoSuchTrack h = tt

@@ -9,6 +9,7 @@ pub mod WalkBound
 pub mod SaidSamples
 pub mod TracksMoved
 pub mod MoofPassed
+pub mod MoofExcludes
 pub mod OwnTrexes
 pub mod TrafPassed
 pub mod HeadsFound
@@ -16,7 +17,7 @@ pub mod GroupsPassed
 pub mod NamesKept
 pub mod RunsPassed
 pub mod BoxesMoved
-pub mod TracksFound
+pub mod TracksSearched
 pub mod TrafsTied
 pub mod TrafsJudged
 pub mod Bounds
@@ -44,4 +45,3 @@ pub mod DurationsKept
 pub mod OwnTied
 pub mod OwnNoted
 pub mod OwnParts
-pub mod ChecksStopped

@@ -36,7 +36,7 @@ traf_kept : (b : Box) (boxes : List Box) → bytes_eq b.kind (codes "traf") ≡ 
 traf_kept b boxes e = rw (turned (codes "traf") b.kind ∙ e) refl
 
 -- the same `traf` by what was known first
-known_first : (L moof : ℕ) (before ends : ℤ) (first tracks : List TrackState) (boxes : List Box) → ((id : ℕ) → trex_among tracks id ≡ trex_among first id) → IsTrafSound L moof before tracks boxes ends → IsTrafSound L moof before first boxes ends
+pub known_first : (L moof : ℕ) (before ends : ℤ) (first tracks : List TrackState) (boxes : List Box) → ((id : ℕ) → trex_among tracks id ≡ trex_among first id) → IsTrafSound L moof before tracks boxes ends → IsTrafSound L moof before first boxes ends
 known_first L moof before ends first tracks boxes same t = record { leaves = t.leaves; trex = t.trex; known = sym (same (track_fragment_of boxes).id) ∙ t.known; places = t.places; groups = t.groups; end = t.end }
 
 -- a `traf`

@@ -1,5 +1,5 @@
 -- The `traf`s of a `moof` are noted one by one, each at its track.
-use Rattle.std.proofs.Common.{◌≡◌, ℕ, zero, suc, ◌+◌, ◌<◌, ◌≤◌, ◌==◌, ◌&&◌, nat_lt, max, Bool, true, false, cond, List, [], ◌∷◌, length, map, slice_set, slice_index_or, Option, Some, None, refl, sym, ap, subst, ◌∙◌, arith}
+use Rattle.std.proofs.Common.{◌≡◌, ℕ, zero, suc, ◌+◌, ◌<◌, ◌==◌, ◌&&◌, nat_lt, max, Bool, true, false, cond, List, [], ◌∷◌, length, map, slice_set, slice_index_or, Option, Some, None, refl, sym, ap, subst, ◌∙◌, arith}
 use Rattle.std.specs.Prelude.{ℤ, pos, filter, find, unwrap_or, option_map, IfSome, if◌then◌else◌, codes, bytes_eq, slice_get}
 use Rattle.std.specs.List.{AllByRecursion}
 use Rattle.std.proofs.lemmas.Bool.{eqb-true}
@@ -11,14 +11,14 @@ use Rattle.mp4_frag.specs.format.Fragments.{TrackFragment, track_fragment_of}
 use Rattle.mp4_frag.specs.format.FragmentSamples.{trex_for, no_trex, base_of, has_samples, part_samples}
 use Rattle.mp4_frag.specs.words.Judged.{AreTrexesOf, IsTrafSound, part_with, end_with, tree_of}
 use Rattle.mp4_frag.specs.words.Noted.{with_note, noted_at, noted_if, note_if, ids_of, IsNotable}
-use Rattle.mp4_frag.specs.words.OwnTrafs.{OwnSeen, own_seen, AreApart, PlacedTraf, placed_with, trex_by, placed_after, placed_in, data_end, is_own, own_in, note_of, longest_of, with_notes, noted_in}
+use Rattle.mp4_frag.specs.words.OwnTrafs.{OwnSeen, AreApart, PlacedTraf, placed_with, trex_by, placed_after, placed_in, data_end, is_own, own_in, note_of, longest_of, with_notes, noted_in}
 use Rattle.mp4_frag.specs.words.Reading.{IsHead, as_traf}
 use Rattle.mp4_frag.specs.words.RunsJudged.{children_of, runs_total}
+use Rattle.mp4_frag.specs.words.Tracking.{WhereNoted}
 use Rattle.mp4_frag.specs.words.Walks.{head_of, trex_among}
 use Rattle.mp4_frag.specs.declared.check.PassedTraf.{PassedTraf}
 use Rattle.mp4_frag.specs.declared.heads.Head.{Head}
 use Rattle.mp4_frag.specs.declared.next_traf.OwnTraf.{OwnTraf}
-use Rattle.mp4_frag.specs.declared.next_traf.OwnTrafs.{OwnTrafs}
 use Rattle.mp4_frag.specs.declared.state.TrackState.{TrackState}
 use Rattle.mp4_frag.specs.declared.trex.Trex.{Trex}
 use Rattle.mp4_frag.proofs.Comings.{turned}
@@ -129,23 +129,53 @@ placed_from trexes moof before trafs = placed_after trexes moof before trafs (ma
 traf_kept : (b : Box) (boxes : List Box) → bytes_eq b.kind (codes "traf") ≡ true → of_kind (codes "traf") (b ∷ boxes) ≡ b ∷ of_kind (codes "traf") boxes
 traf_kept b boxes e = rw (turned (codes "traf") b.kind ∙ e) refl
 
+-- ---- where it is told what is noted
+
+pub noted_with : (a b : Option (List OwnSeen)) (P Q : List OwnSeen → List OwnSeen → Type 0) → ((xs ys : List OwnSeen) → P xs ys → Q xs ys) → WhereNoted a b P → WhereNoted a b Q
+noted_with a None P Q f h = tt
+noted_with None (Some ys) P Q f h = absurd h
+noted_with (Some xs) (Some ys) P Q f h = f xs ys h
+
+noted_both : (a b : Option (List OwnSeen)) (P Q : List OwnSeen → List OwnSeen → Type 0) → WhereNoted a b P → WhereNoted a b Q → WhereNoted a b (λ xs ys. P xs ys × Q xs ys)
+noted_both a None P Q p q = tt
+noted_both None (Some ys) P Q p q = absurd p
+noted_both (Some xs) (Some ys) P Q p q = (p, q)
+
+noted_then : (a b c : Option (List OwnSeen)) (P Q R : List OwnSeen → List OwnSeen → Type 0) → ((xs ys zs : List OwnSeen) → P xs ys → Q ys zs → R xs zs) → WhereNoted a b P → WhereNoted b c Q → WhereNoted a c R
+noted_then a b None P Q R f p q = tt
+noted_then a None (Some zs) P Q R f p q = absurd q
+noted_then None (Some ys) (Some zs) P Q R f p q = absurd p
+noted_then (Some xs) (Some ys) (Some zs) P Q R f p q = f xs ys zs p q
+
+-- as many tracks have notes
+at_long : (place : ℕ) (note : OwnTraf) (owns : List OwnSeen) → length (noted_at place note owns) ≡ length owns
+at_long place note [] = refl
+at_long zero note (o ∷ owns) = refl
+at_long (suc place) note (o ∷ owns) = ap suc (at_long place note owns)
+
+if_long : (place : ℕ) (note : Option OwnTraf) (owns : List OwnSeen) → length (noted_if place note owns) ≡ length owns
+if_long place None owns = refl
+if_long place (Some note) owns = at_long place note owns
+
 -- Of all boxes these are left; those passed are noted.
-pub record NotesSeen (moof : ℕ) (first : List TrackState) (all left : List Box) (before : ℤ) (tracks : List TrackState) (owns now : List OwnSeen) : Type 0 where
+pub record NotesSeen (moof : ℕ) (first : List TrackState) (all left : List Box) (before : ℤ) (tracks : List TrackState) (owns now : Option (List OwnSeen)) : Type 0 where
   pub ids : ids_of tracks ≡ ids_of first
-  pub each : length now ≡ length owns
-  pub notes : (trexes : List Trex) → AreTrexesOf trexes first → AreApart first → length owns ≡ length first
-      → noted_all (placed_from trexes moof before (of_kind (codes "traf") left)) first now ≡ noted_all (placed_from trexes moof (pos moof) (of_kind (codes "traf") all)) first owns
+  pub each : WhereNoted owns now (λ os ns. length ns ≡ length os)
+  pub notes : (trexes : List Trex) → AreTrexesOf trexes first → AreApart first
+      → WhereNoted owns now
+      (λ os ns. length os ≡ length first → noted_all (placed_from trexes moof before (of_kind (codes "traf") left)) first ns ≡ noted_all (placed_from trexes moof (pos moof) (of_kind (codes "traf") all)) first os)
   pub ends : (trexes : List Trex) → AreTrexesOf trexes first → data_end trexes moof before (of_kind (codes "traf") left) ≡ data_end trexes moof (pos moof) (of_kind (codes "traf") all)
 
 -- another box
-pub notes_other : (moof : ℕ) (first : List TrackState) (all left later : List Box) (b : Box) (before : ℤ) (tracks : List TrackState) (owns now : List OwnSeen) → NotesSeen moof first all left before tracks owns now → left ≡ b ∷ later → bytes_eq b.kind (codes "traf") ≡ false
+pub notes_other : (moof : ℕ) (first : List TrackState) (all left later : List Box) (b : Box) (before : ℤ) (tracks : List TrackState) (owns now : Option (List OwnSeen)) → NotesSeen moof first all left before tracks owns now → left ≡ b ∷ later → bytes_eq b.kind (codes "traf") ≡ false
     → NotesSeen moof first all later before tracks owns now
 notes_other moof first all left later b before tracks owns now s e k =
     let kept : of_kind (codes "traf") left ≡ of_kind (codes "traf") later = ap (of_kind (codes "traf")) e ∙ rw (turned (codes "traf") b.kind ∙ k) refl in
     record {
       ids = s.ids;
       each = s.each;
-      notes = λ trexes defaults apart long. ap (λ (bs : List Box). noted_all (placed_from trexes moof before bs) first now) (sym kept) ∙ s.notes trexes defaults apart long;
+      notes = λ trexes defaults apart.
+          subst (λ (bs : List Box). WhereNoted owns now (λ os ns. length os ≡ length first → noted_all (placed_from trexes moof before bs) first ns ≡ noted_all (placed_from trexes moof (pos moof) (of_kind (codes "traf") all)) first os)) kept (s.notes trexes defaults apart);
       ends = λ trexes defaults. ap (data_end trexes moof before) (sym kept) ∙ s.ends trexes defaults;
     }
 
@@ -154,11 +184,11 @@ one_trex : (x y : Trex) → ◌≡◌ {A = Option Trex} (Some x) (Some y) → x 
 one_trex x y e = cc
 
 -- a `traf`
-pub notes_traf : (L moof : ℕ) (first : List TrackState) (all left later : List Box) (b : Box) (before ends : ℤ) (tracks new : List TrackState) (owns now next : List OwnSeen) (p : PassedTraf)
+pub notes_traf : (L moof : ℕ) (first : List TrackState) (all left later : List Box) (b : Box) (before ends : ℤ) (tracks new : List TrackState) (owns now next : Option (List OwnSeen)) (p : PassedTraf)
     → NotesSeen moof first all left before tracks owns now → left ≡ b ∷ later → bytes_eq b.kind (codes "traf") ≡ true
-    → ((id : ℕ) → trex_among tracks id ≡ trex_among first id) → IsTrafSound L moof before tracks (children_of b) ends → IsNotable moof before b tracks p → ids_of new ≡ ids_of tracks → next ≡ noted_if p.track p.own now → length next ≡ length now
+    → ((id : ℕ) → trex_among tracks id ≡ trex_among first id) → IsTrafSound L moof before tracks (children_of b) ends → IsNotable moof before b tracks p → ids_of new ≡ ids_of tracks → WhereNoted now next (λ ns os. os ≡ noted_if p.track p.own ns)
     → NotesSeen moof first all later ends new owns next
-notes_traf L moof first all left later b before ends tracks new owns now next p s e k same sound n ids noted each =
+notes_traf L moof first all left later b before ends tracks new owns now next p s e k same sound n ids noted =
     let boxes = children_of b in
     let traf = track_fragment_of boxes in
     let kept : of_kind (codes "traf") left ≡ b ∷ of_kind (codes "traf") later = ap (of_kind (codes "traf")) e ∙ traf_kept b later k in
@@ -168,16 +198,20 @@ notes_traf L moof first all left later b before ends tracks new owns now next p 
     let end : (trexes : List Trex) → AreTrexesOf trexes first → ends ≡ end_with moof before (trex_by trexes boxes) traf = λ trexes defaults. sound.end ∙ ap (λ (x : Trex). end_with moof before x traf) (trex ∙ by trexes defaults) in
     record {
       ids = ids ∙ s.ids;
-      each = each ∙ s.each;
-      notes = λ trexes defaults apart long.
+      each = noted_then owns now next (λ os ns. length ns ≡ length os) (λ ns os. os ≡ noted_if p.track p.own ns) (λ os ns. length ns ≡ length os) (λ xs ys zs long is. ap (λ (os : List OwnSeen). length os) is ∙ if_long p.track p.own ys ∙ long) s.each noted;
+      notes = λ trexes defaults apart.
           let q = placed_with moof before (trex_by trexes boxes) b boxes in
           let behind = placed_from trexes moof (end_with moof before (trex_by trexes boxes) traf) (of_kind (codes "traf") later) in
           let note : p.own ≡ note_if q = n.note ∙ ap (λ (x : Trex). note_if (placed_with moof before x b boxes)) (by trexes defaults) in
-          ap (λ (at : ℤ). noted_all (placed_from trexes moof at (of_kind (codes "traf") later)) first next) (end trexes defaults)
-          ∙ ap (noted_all behind first) (noted ∙ ap (λ (o : Option OwnTraf). noted_if p.track o now) note)
-          ∙ noted_where behind q p.track first now (has_samples q.part) refl apart (s.each ∙ long) (ap (λ (ns : List ℕ). slice_get ns p.track) (sym s.ids) ∙ n.there)
-          ∙ ap (λ (bs : List Box). noted_all (placed_from trexes moof before bs) first now) (sym kept)
-          ∙ s.notes trexes defaults apart long;
+          let So = λ (os ns : List OwnSeen). length os ≡ length first → noted_all (placed_from trexes moof before (of_kind (codes "traf") left)) first ns ≡ noted_all (placed_from trexes moof (pos moof) (of_kind (codes "traf") all)) first os in
+          noted_then owns now next (λ os ns. (length ns ≡ length os) × So os ns) (λ ns os. os ≡ noted_if p.track p.own ns)
+          (λ os ns. length os ≡ length first → noted_all (placed_from trexes moof ends (of_kind (codes "traf") later)) first ns ≡ noted_all (placed_from trexes moof (pos moof) (of_kind (codes "traf") all)) first os)
+          (λ xs ys zs so is long.
+          ap (λ (at : ℤ). noted_all (placed_from trexes moof at (of_kind (codes "traf") later)) first zs) (end trexes defaults)
+          ∙ ap (noted_all behind first) (is ∙ ap (λ (o : Option OwnTraf). noted_if p.track o ys) note)
+          ∙ noted_where behind q p.track first ys (has_samples q.part) refl apart (so.0 ∙ long) (ap (λ (is : List ℕ). slice_get is p.track) (sym s.ids) ∙ n.there)
+          ∙ ap (λ (bs : List Box). noted_all (placed_from trexes moof before bs) first ys) (sym kept)
+          ∙ so.1 long) (noted_both owns now (λ os ns. length ns ≡ length os) So s.each (s.notes trexes defaults apart)) noted;
       ends = λ trexes defaults.
           ap (λ (at : ℤ). data_end trexes moof at (of_kind (codes "traf") later)) (end trexes defaults)
           ∙ ap (data_end trexes moof before) (sym kept)
@@ -185,7 +219,7 @@ notes_traf L moof first all left later b before ends tracks new owns now next p 
     }
 
 -- the data of the last one ends behind the last box
-pub data_ended : (trexes : List Trex) (moof : Box) (first : List TrackState) (all left : List Box) (before : ℤ) (tracks : List TrackState) (owns now : List OwnSeen) → NotesSeen moof.offset first all left before tracks owns now → left ≡ []
+pub data_ended : (trexes : List Trex) (moof : Box) (first : List TrackState) (all left : List Box) (before : ℤ) (tracks : List TrackState) (owns now : Option (List OwnSeen)) → NotesSeen moof.offset first all left before tracks owns now → left ≡ []
     → all ≡ children_of moof → AreTrexesOf trexes first → before ≡ data_end trexes moof.offset (pos moof.offset) (of_kind (codes "traf") (children_of moof))
 data_ended trexes moof first all left before tracks owns now s e same defaults =
     ap (λ (bs : List Box). data_end trexes moof.offset before (of_kind (codes "traf") bs)) (sym e)
@@ -193,28 +227,17 @@ data_ended trexes moof first all left before tracks owns now s e same defaults =
     ∙ ap (λ (bs : List Box). data_end trexes moof.offset (pos moof.offset) (of_kind (codes "traf") bs)) same
 
 -- behind the last box
-pub notes_ended : (trexes : List Trex) (moof : Box) (first : List TrackState) (all left : List Box) (before : ℤ) (tracks : List TrackState) (owns now : List OwnSeen) → NotesSeen moof.offset first all left before tracks owns now → left ≡ []
-    → all ≡ children_of moof → AreTrexesOf trexes first → AreApart first → length owns ≡ length first → now ≡ noted_in trexes (tree_of moof) first owns
-notes_ended trexes moof first all left before tracks owns now s e same defaults apart long =
-    sym (none_noted first now)
-    ∙ ap (λ (bs : List Box). noted_all (placed_from trexes moof.offset before (of_kind (codes "traf") bs)) first now) (sym e)
-    ∙ s.notes trexes defaults apart long
-    ∙ ap (λ (bs : List Box). noted_all (placed_from trexes moof.offset (pos moof.offset) (of_kind (codes "traf") bs)) first owns) same
-    ∙ noted_in_is trexes moof first owns
-
--- ---- the note of one
-
--- at its place
-pub noted_set : (k : ℕ) (owns : List OwnTrafs) (d new : OwnTrafs) (note : OwnTraf) → k < length owns → own_seen new ≡ with_note note (own_seen (slice_index_or owns k d)) → map own_seen (slice_set owns k new) ≡ noted_at k note (map own_seen owns)
-noted_set k [] d new note lt e = absurd (omega arith)
-noted_set zero (o ∷ owns) d new note lt e = ap (λ (x : OwnSeen). x ∷ map own_seen owns) e
-noted_set (suc k) (o ∷ owns) d new note lt e = ap (λ (os : List OwnSeen). own_seen o ∷ os) (noted_set k owns d new note (omega arith) e)
-
--- where the track has no notes
-pub noted_beyond : (k : ℕ) (owns : List OwnTrafs) (note : OwnTraf) → length owns ≤ k → map own_seen owns ≡ noted_at k note (map own_seen owns)
-noted_beyond k [] note le = refl
-noted_beyond zero (o ∷ owns) note le = absurd (omega arith)
-noted_beyond (suc k) (o ∷ owns) note le = ap (λ (os : List OwnSeen). own_seen o ∷ os) (noted_beyond k owns note (omega arith))
+pub notes_ended : (trexes : List Trex) (moof : Box) (first : List TrackState) (all left : List Box) (before : ℤ) (tracks : List TrackState) (owns now : Option (List OwnSeen)) → NotesSeen moof.offset first all left before tracks owns now → left ≡ []
+    → all ≡ children_of moof → AreTrexesOf trexes first → AreApart first → WhereNoted owns now (λ os ns. length os ≡ length first → ns ≡ noted_in trexes (tree_of moof) first os)
+notes_ended trexes moof first all left before tracks owns now s e same defaults apart =
+    noted_with owns now (λ os ns. length os ≡ length first → noted_all (placed_from trexes moof.offset before (of_kind (codes "traf") left)) first ns ≡ noted_all (placed_from trexes moof.offset (pos moof.offset) (of_kind (codes "traf") all)) first os)
+    (λ os ns. length os ≡ length first → ns ≡ noted_in trexes (tree_of moof) first os)
+    (λ os ns so long.
+    sym (none_noted first ns)
+    ∙ ap (λ (bs : List Box). noted_all (placed_from trexes moof.offset before (of_kind (codes "traf") bs)) first ns) (sym e)
+    ∙ so long
+    ∙ ap (λ (bs : List Box). noted_all (placed_from trexes moof.offset (pos moof.offset) (of_kind (codes "traf") bs)) first os) same
+    ∙ noted_in_is trexes moof first os) (s.notes trexes defaults apart)
 
 -- the IDs of tracks with another state of one of them
 pub ids_set : (k : ℕ) (tracks : List TrackState) (d new : TrackState) → k < length tracks → new.id ≡ (slice_index_or tracks k d).id → ids_of (slice_set tracks k new) ≡ ids_of tracks

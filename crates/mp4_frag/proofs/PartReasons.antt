@@ -1,17 +1,19 @@
 -- What of the part of a `traf` is not as it should be where the `traf` is refused.
-use Rattle.std.proofs.Common.{◌≡◌, ℕ, ◌<◌, ◌==◌, ◌&&◌, not, nat_lt, Bool, true, false, List, [], ◌∷◌, length, refl, sym, ap, ◌∙◌, rules, arith}
-use Rattle.std.specs.Prelude.{ℤ, codes, unwrap_or, flat_map}
+use Rattle.std.proofs.Common.{◌≡◌, ℕ, ◌<◌, ◌==◌, ◌&&◌, not, nat_lt, Bool, true, false, List, [], ◌∷◌, length, Option, Some, None, refl, sym, ap, ◌∙◌, rules, arith}
+use Rattle.std.specs.Prelude.{ℤ, codes, unwrap_or, option_map, flat_map, ◌||◌}
 use Rattle.std.specs.List.{list_all}
-use Rattle.std.proofs.lemmas.Bool.{and_parts}
+use Rattle.std.proofs.lemmas.Bool.{and_parts, ltb-true}
 use Rattle.mp4_boxes.specs.format.Box.{Box}
 use Rattle.mp4_boxes.specs.format.Children.{of_kind}
 use Rattle.mp4_tables.specs.format.Groups.{maps_of}
 use Rattle.mp4_tables.specs.format.PlainSamples.{PlacedSample}
 use Rattle.mp4_frag.specs.format.Fragments.{TrackFragment, track_fragment_of}
-use Rattle.mp4_frag.specs.format.FragmentSamples.{part_samples, base_of}
+use Rattle.mp4_frag.specs.format.FragmentSamples.{part_samples, has_samples, is_on_time, base_of}
 use Rattle.mp4_frag.specs.words.Judged.{part_with}
+use Rattle.mp4_frag.specs.words.Passing.{is_late_at}
 use Rattle.mp4_frag.specs.words.Reading.{inheritance}
 use Rattle.mp4_frag.specs.words.RunsJudged.{runs_total}
+use Rattle.mp4_frag.specs.declared.state.TrackState.{TrackState}
 use Rattle.mp4_frag.specs.declared.trex.Trex.{Trex}
 use Rattle.mp4_frag.proofs.TracksMoved.{IsTested, part_tested}
 use Rattle.mp4_frag.proofs.TrafPassed.{runs_count}
@@ -55,3 +57,24 @@ pub lacks_description : (test : ℕ → Bool) (moof : ℕ) (before : ℤ) (trex 
 lacks_description test moof before trex boxes some e =
     let count = part_counts moof before trex boxes in
     first_fails test (inheritance (track_fragment_of boxes) trex).description (part_samples (part_with moof before trex (track_fragment_of boxes))) (one_description moof before trex (track_fragment_of boxes)) (omega (arith, some, count)) e
+
+-- ---- times
+
+late_by : (state : TrackState) (time : Option ℕ) (n : ℕ) → is_late_at state time n ≡ true → (0 < state.count) × (nat_lt 0 n ≡ true) × (unwrap_or (option_map (λ t. t == state.time) time) true ≡ false)
+late_by state None n e = absurd cc
+late_by state (Some t) n e =
+    let first = and_parts (nat_lt 0 n) (nat_lt 0 state.count && not (t == state.time)) e in
+    let second = and_parts (nat_lt 0 state.count) (not (t == state.time)) first.1 in
+    (ltb-true 0 state.count second.0, first.0, turned (t == state.time) second.1)
+  where
+    turned : (v : Bool) → not v ≡ true → v ≡ false
+    turned true e = absurd cc
+    turned false e = refl
+
+-- a late `traf` is not on time
+pub not_on_time : (moof : ℕ) (before : ℤ) (trex : Trex) (boxes : List Box) (state : TrackState) → is_late_at state (track_fragment_of boxes).decode_time (runs_total (of_kind (codes "trun") boxes)) ≡ true
+    → (0 < state.count) × (is_on_time state.time (part_with moof before trex (track_fragment_of boxes)) ≡ false)
+not_on_time moof before trex boxes state e =
+    let r = late_by state (track_fragment_of boxes).decode_time (runs_total (of_kind (codes "trun") boxes)) e in
+    let has : has_samples (part_with moof before trex (track_fragment_of boxes)) ≡ true = ap (nat_lt 0) (part_counts moof before trex boxes) ∙ r.1 in
+    (r.0, (λ i. not (has i) || r.2 i))

@@ -13,6 +13,7 @@ pub mod RunsJudged
 pub mod FragmentTests
 pub mod GroupsJudged
 pub mod Finding
+pub mod Tracking
 pub mod Durations
 pub mod CheckWork
 pub mod OwnTrafs

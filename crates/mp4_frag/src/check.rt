@@ -1,15 +1,15 @@
 //! A `moof`, checked behind what came before it (ISO/IEC 14496-12, 8.8).
-ghost use Rattle.std.specs.Prelude.{List, pos, nat_lt, not, ◌&&◌, ◌≡◌, ◌+◌, ◌*◌, ◌^◌, ◌<◌, ◌≤◌, ◌==◌, [], min, length, map, None, Some, option_map, codes, if◌then◌else◌, IfOk, IfErr, OnOk, OnErr};
+ghost use Rattle.std.specs.Prelude.{ℕ, List, pos, nat_lt, not, ◌&&◌, ◌≡◌, ◌+◌, ◌*◌, ◌^◌, ◌<◌, ◌≤◌, ◌==◌, [], length, None, Some, option_map, codes, if◌then◌else◌, IfOk, OnOk, MatchResult};
 ghost use Rattle.mp4_boxes.specs.format.Box.{Tiles, box_container};
 ghost use Rattle.mp4_boxes.specs.declared.rule.Rule.TheVariants as rules;
 ghost use Rattle.mp4_boxes.specs.words.View.{box_seen};
 ghost use Rattle.mp4_tables.specs.format.Groups.{groupings_of, keys_after};
 ghost use Rattle.mp4_tables.specs.words.Keys.{keys_seen};
-ghost use Rattle.mp4_frag.specs.words.CheckWork.{TrafWork, TrafLooks, MoofWork, MoofLooks, IfMemory, StopsWithin};
+ghost use Rattle.mp4_frag.specs.words.CheckWork.{TrafWork, TrafLooks, MoofWork, MoofLooks};
 ghost use Rattle.mp4_boxes.specs.format.FirstFault.{FirstNamed, leaf_tests, naming};
-ghost use Rattle.mp4_frag.specs.words.TrafTests.{ListsBoxes, NamesOne, NamesFirstOf, MoofFirst, FrontFirst, TrafsFirst, time_tests, traf_fault};
+ghost use Rattle.mp4_frag.specs.words.TrafTests.{ListsBoxes, NamesOne, NamesFirst, MoofFirst, FrontFirst, TrafsFirst, time_tests, traf_fault};
 ghost use Rattle.mp4_frag.specs.words.FragmentTests.{runs_tests, traf_groups_tests};
-ghost use Rattle.mp4_frag.specs.words.Finding.{ArePlacesOf};
+ghost use Rattle.mp4_frag.specs.words.FragmentsSeen.{moof_seen};
 ghost use Rattle.mp4_frag.specs.words.GroupsJudged.{groups_in, AreGroupsSound};
 ghost use Rattle.mp4_frag.specs.words.Passing.{IsNearer, IsUpTo, EndsNear, IsPassed, AreBounded, is_late_at, state_with};
 ghost use Rattle.mp4_boxes.specs.format.Children.{of_kind};
@@ -17,26 +17,28 @@ ghost use Rattle.mp4_boxes.specs.format.Layout.{IsSound, tfdt as tfdt_leaf, tfhd
 ghost use Rattle.std.specs.List.{AllByRecursion};
 ghost use Rattle.mp4_frag.specs.words.Reading.{IsBaseIn, IsHead};
 ghost use Rattle.mp4_frag.specs.words.RunsJudged.{children_of, HoldsChildren, only_list, runs_in, AreRunsPassed};
-ghost use Rattle.mp4_frag.specs.words.Judged.{AreTrexesOf, AreTrafsPassed, IsAccepted, IsSoundFront, IsSoundMoof, IsTrafPassed, IsMoofMovedOn, KeepRoom, tree_of};
+ghost use Rattle.mp4_frag.specs.words.Judged.{AreTrexesOf, AreTrafsPassed, IsAcceptable, IsAccepted, IsSoundFront, IsSoundMoof, IsTrafPassed, IsMoofMovedOn, KeepRoom, tree_of};
 ghost use Rattle.mp4_tables.specs.format.TableRules.{is_index};
 ghost use Rattle.mp4_frag.specs.declared.trex.Trex.{Trex};
 ghost use Rattle.mp4_frag.specs.words.States.{HasRoom, IsRoomFor};
-ghost use Rattle.mp4_frag.specs.words.TrafFaults.{HoldsBoxes, RefusesNotes, traf_in};
-ghost use Rattle.mp4_frag.specs.words.OwnTrafs.{AreApart, data_end, own_seen, noted_in};
+ghost use Rattle.mp4_frag.specs.words.TrafFaults.{HoldsBoxes, traf_in};
+ghost use Rattle.mp4_frag.specs.words.OwnTrafs.{AreApart, data_end, noted_in};
 ghost use Rattle.mp4_frag.specs.words.Noted.{IsNotable, ids_of, noted_if};
+ghost use Rattle.mp4_frag.specs.words.Tracking.{WhereNoted};
 ghost use Rattle.mp4_boxes.specs.declared.fault.Fault.{Fault};
 ghost use Rattle.mp4_frag.specs.format.FragmentRows.{group_rows};
 ghost use Rattle.mp4_frag.specs.declared.state.TrackState.{TrackState};
 
 use crate::groups::check_group;
 use crate::heads::{Head, base_of, read_head, what_is_inherited};
-use crate::next_traf::{OwnTraf, OwnTrafs};
+use crate::next_traf::OwnTraf;
 use crate::sample_runs::{Judged, Passed, check_run};
 use crate::state::TrackState;
 use crate::tfdt::read_time;
-use crate::track_search::{TrackPlaces, find_track};
+use crate::tracking::{OneByOne, Tracking};
+use crate::view::FragView;
 use mp4_boxes::{
-    BoxView, Children, Fault, FourCc, Kind, Memory, Refusal, Rule, Steps, check_children, children,
+    BoxView, Children, Count, Fault, FourCc, Kind, Rule, Steps, check_children, children,
 };
 use mp4_tables::Keys;
 use std::sync::ledger::Ledger;
@@ -116,7 +118,7 @@ fn check_runs<L: Ledger>(
     traf: BoxView,
     judged: Judged,
     room: &mut u32,
-    steps: &mut Steps<L>,
+    steps: &mut Count<L>,
 ) -> Result<Passed, Fault>
     requires few { room.old ≤ 2 ^ 24 }
     requires base { IsNearer judged.base }
@@ -158,7 +160,7 @@ fn check_groups<L: Ledger>(
     traf: BoxView,
     n: u32,
     keys: Keys,
-    steps: &mut Steps<L>,
+    steps: &mut Count<L>,
 ) -> Result<Keys, Fault>
     ensures sound { IfOk result
         (λ k. AreGroupsSound n (keys_seen keys) [] (groups_in (box_seen traf.entry))) }
@@ -231,19 +233,11 @@ fn moved_on(state: TrackState, time: Option<u64>, passed: Passed, keys: Keys) ->
     }
 }
 
-/// What is known of a file when a `moof` of it is checked: how long the file is, and the places of
-/// its tracks by their IDs.
+// Where a `traf` stands: in a `moof` at this place of a file of so many bytes, where the data of
+// the `traf` before ends there.
 #[derive(Clone, Copy)]
-pub struct FileTracks<'a> {
-    pub len: u64,
-    pub places: &'a TrackPlaces,
-}
-
-// Where a `traf` stands: in a `moof` at this place of a file, where the data of the `traf` before
-// ends there.
-#[derive(Clone, Copy)]
-struct Standing<'a> {
-    file: FileTracks<'a>,
+struct Standing {
+    file_len: u64,
     moof: u64,
     before: i128,
 }
@@ -276,30 +270,33 @@ fn note_of(traf: BoxView, base: i128, count: u32) -> Option<OwnTraf>
 }
 
 // Checks a `traf` that stands there: it passes, and the tracks and the room are those behind it; or
-// its first fault is named, at a step for each row, run and sample, and at most one look.
-fn check_traf<L: Ledger, M: Ledger>(
+// its first fault is named, at a step for each row, run and sample, and the looks that
+// its track takes.
+fn check_traf<T: Tracking, L: Ledger, M: Ledger>(
     traf: BoxView,
     at: Standing,
     tracks: &mut [TrackState],
+    tracking: &T,
     room: &mut u32,
-    steps: &mut Steps<L>,
-    looks: &mut Steps<M>,
+    steps: &mut Steps<L, M>,
 ) -> Result<PassedTraf, Fault>
     requires room { IsRoomFor tracks.old room.old }
     requires near { IsUpTo (2 ^ 98) at.before }
-    requires places { ArePlacesOf (ids_of tracks.old) at.file.places.now }
-    ensures passed { IfOk result (λ p. IsTrafPassed at.entry.file.len at.entry.moof at.entry.before
+    requires knows { T.knows tracking.now (ids_of tracks.old) }
+    ensures passed { IfOk result (λ p. IsTrafPassed at.file_len at.moof at.before
         (box_seen traf.entry)
         tracks.old tracks.new room.old room.new p.ends) }
     ensures kept { IfOk result (λ p. KeepRoom tracks.old tracks.new room.old room.new) }
     ensures own { IfOk result
-        (IsNotable at.entry.moof at.entry.before (box_seen traf.entry) tracks.old) }
+        (IsNotable at.moof at.before (box_seen traf.entry) tracks.old) }
     ensures ids { IfOk result (λ p. ids_of tracks.new ≡ ids_of tracks.old) }
     ensures exact { NamesOne
-        (traf_fault at.entry.file.len at.entry.moof at.entry.before tracks.old room.old
+        (traf_fault at.file_len at.moof at.before tracks.old room.old
         (box_seen traf.entry)) result }
-    ensures work { TrafWork (box_seen traf.entry) steps.old steps.new room.old room.new result }
-    ensures looks { TrafLooks (min 1 (length tracks.old)) looks.old looks.new result }
+    ensures work { TrafWork (box_seen traf.entry) steps.old.passed steps.new.passed
+        room.old room.new result }
+    ensures looks { TrafLooks (T.most (length tracks.old)) steps.old.looks
+        steps.new.looks result }
     ensures many { length tracks.new ≡ length tracks.old }
 {
     let heads = check_boxes(traf)?;
@@ -307,7 +304,7 @@ fn check_traf<L: Ledger, M: Ledger>(
         return Err(traf.fault(Kind::MissingBox));
     };
     let head = head_of(tfhd)?;
-    let Some(k) = find_track(tracks, head.id, at.file.places, looks) else {
+    let Some(k) = tracking.find(tracks, head.id, steps) else {
         return Err(tfhd.fault(Kind::UnknownTrack));
     };
     let state = tracks[k];
@@ -316,15 +313,15 @@ fn check_traf<L: Ledger, M: Ledger>(
     };
     let time = time_of(traf, heads.time)?;
     let judged = Judged {
-        file_len: at.file.len,
+        file_len: at.file_len,
         base: base_of(head, at.moof, at.before),
         inherited: what_is_inherited(head, trex),
     };
-    let passed = check_runs(traf, judged, room, steps)?;
+    let passed = check_runs(traf, judged, room, &mut steps.passed)?;
     if lacks_description(state, judged.inherited.description, passed) {
         return Err(tfhd.fault(Kind::BadDescriptionIndex));
     }
-    let keys = check_groups(traf, passed.count, state.keys, steps)?;
+    let keys = check_groups(traf, passed.count, state.keys, &mut steps.passed)?;
     if let Some(tfdt) = heads.time {
         if is_late(state, time, passed) {
             return Err(tfdt.fault(Kind::Gap));
@@ -338,160 +335,197 @@ fn check_traf<L: Ledger, M: Ledger>(
     })
 }
 
-// Notes a `traf` that passed, if it has samples and its track has notes.
-fn note_traf(own: &mut [OwnTrafs], passed: PassedTraf) -> Result<(), Memory>
-    ensures noted { OnOk result (map own_seen own.new
-        ≡ noted_if passed.track passed.own (map own_seen own.old)) }
-    ensures each { length own.new ≡ length own.old }
-    ensures some { OnErr result (0 < length own.old) }
+// Notes a `traf` that passed, if it has samples.
+fn note_traf<T: Tracking>(tracking: &mut T, passed: PassedTraf)
+    ensures knows { (ids : List ℕ) → T.knows tracking.old ids → T.knows tracking.new ids }
+    ensures noted { WhereNoted (T.noted tracking.old) (T.noted tracking.new)
+        (λ owns now. now ≡ noted_if passed.track passed.own owns) }
 {
     if let Some(traf) = passed.own {
-        if passed.track < own.len() {
-            own[passed.track].note(traf)?;
-        }
+        tracking.note(passed.track, traf);
     }
-    Ok(())
 }
 
-// The boxes of a `moof` of a file, or the first of them.
+// The boxes of a `moof` of a file of so many bytes, or the first of them.
 struct MoofBoxes<'a> {
     moof: BoxView<'a>,
     boxes: Children<'a>,
-    file: FileTracks<'a>,
+    file_len: u64,
 }
 
 // Checks the `traf`s among the boxes of a `moof` in file order, behind what came before it: all
-// pass, and the tracks, the notes and the room are those behind them; or the first that has a fault
-// is refused. The answer is where the data of the last one ends.
-fn check_trafs<'a, L: Ledger, M: Ledger>(
+// pass, and the tracks, what is noted and the room are those behind them; or the first that has a
+// fault is refused. The answer is where the data of the last one ends.
+fn check_trafs<'a, T: Tracking, L: Ledger, M: Ledger>(
     all: MoofBoxes<'a>,
     tracks: &mut [TrackState],
-    own: &mut [OwnTrafs],
+    tracking: &mut T,
     room: &mut u32,
-    steps: &mut Steps<L>,
-    looks: &mut Steps<M>,
-) -> Result<i128, Refusal>
+    steps: &mut Steps<L, M>,
+) -> Result<i128, Fault>
     requires boxes { Tiles (box_container (box_seen all.moof)) all.boxes }
     requires room { IsRoomFor tracks.old room.old }
-    requires places { ArePlacesOf (ids_of tracks.old) all.file.places.now }
-    ensures passed { OnOk result (AreTrafsPassed all.entry.file.len (box_seen all.entry.moof)
+    requires knows { T.knows tracking.old (ids_of tracks.old) }
+    ensures passed { OnOk result (AreTrafsPassed all.entry.file_len (box_seen all.entry.moof)
         tracks.old tracks.new room.old room.new) }
-    ensures refusal { IfErr result (RefusesNotes (length own.old)) }
-    ensures exact { NamesFirstOf (TrafsFirst all.entry.file.len (box_seen all.entry.moof).offset
+    ensures exact { NamesFirst (TrafsFirst all.entry.file_len (box_seen all.entry.moof).offset
         (pos (box_seen all.entry.moof).offset) tracks.old room.old
         (of_kind (codes "traf") (children_of (box_seen all.entry.moof)))) result }
     ensures own { OnOk result ((trexes : List Trex) → AreTrexesOf trexes tracks.old
-        → AreApart tracks.old → length own.old ≡ length tracks.old → map own_seen own.new
-        ≡ noted_in trexes (tree_of (box_seen all.entry.moof)) tracks.old (map own_seen own.old)) }
+        → AreApart tracks.old → WhereNoted (T.noted tracking.old) (T.noted tracking.new)
+        (λ owns now. length owns ≡ length tracks.old
+        → now ≡ noted_in trexes (tree_of (box_seen all.entry.moof)) tracks.old owns)) }
+    ensures each { OnOk result (WhereNoted (T.noted tracking.old) (T.noted tracking.new)
+        (λ owns now. length now ≡ length owns)) }
+    ensures knows { (ids : List ℕ) → T.knows tracking.old ids → T.knows tracking.new ids }
     ensures ends { IfOk result (λ ends. (trexes : List Trex) → AreTrexesOf trexes tracks.old
         → ends ≡ data_end trexes (box_seen all.entry.moof).offset
         (pos (box_seen all.entry.moof).offset)
         (of_kind (codes "traf") (children_of (box_seen all.entry.moof)))) }
-    ensures each { length own.new ≡ length own.old }
-    ensures work { MoofWork (box_seen all.entry.moof) steps.old steps.new room.old room.new result }
-    ensures looks { MoofLooks (box_seen all.entry.moof) (min 1 (length tracks.old))
-        looks.old looks.new result }
-    ensures stops { IfMemory result
-        (StopsWithin (box_seen all.entry.moof) (min 1 (length tracks.old))
-        steps.old steps.new looks.old looks.new) }
+    ensures work { MoofWork (box_seen all.entry.moof) steps.old.passed steps.new.passed
+        room.old room.new result }
+    ensures looks { MoofLooks (box_seen all.entry.moof) (T.most (length tracks.old))
+        steps.old.looks steps.new.looks result }
 {
-    let MoofBoxes { moof, boxes, file } = all;
+    let MoofBoxes {
+        moof,
+        boxes,
+        file_len,
+    } = all;
     let mut before = i128::from(moof.offset());
     for child in boxes {
         if child.kind() == TRAF {
             steps.tick();
             let at = Standing {
-                file,
+                file_len,
                 moof: moof.offset(),
                 before,
             };
-            let passed = check_traf(child, at, tracks, room, steps, looks)?;
-            note_traf(own, passed)?;
+            let passed = check_traf(child, at, tracks, tracking, room, steps)?;
+            note_traf(tracking, passed);
             before = passed.ends;
         }
     }
     Ok(before)
 }
 
-/// Checks a `moof` of a file behind what came before it. The tracks move on by its
-/// samples, and the room for samples falls by their number. Each `traf` with samples is noted at
-/// the place of its track, as far as there are notes; a caller that wants none gives an empty list.
-/// After a refusal all of these may have any values. The answer is where the data of the last
-/// `traf` ends, or the place of the `moof` without one. A step is taken for each `traf`, run, row
-/// and sample, and one look for each `traf`.
-pub fn check_moof<L: Ledger, M: Ledger>(
-    moof: BoxView,
-    file: FileTracks,
+/// Checks a `moof` of a file of so many bytes behind what came before it. The tracks move on by its
+/// samples, and the room for samples falls by their number. The companion finds the track of each
+/// `traf`, and notes each `traf` with samples. After a fault all of these may have any values. A
+/// step is taken for each `traf`, run, row and sample, and for each `traf` one look at least, and
+/// no more than the companion says.
+pub fn check_moof_by<'a, T: Tracking, L: Ledger, M: Ledger>(
+    moof: BoxView<'a>,
+    file_len: u64,
     tracks: &mut [TrackState],
-    own: &mut [OwnTrafs],
+    tracking: &mut T,
     room: &mut u32,
-    steps: &mut Steps<L>,
-    looks: &mut Steps<M>,
-) -> Result<i128, Refusal>
+    steps: &mut Steps<L, M>,
+) -> Result<FragView<'a>, Fault>
     requires room { IsRoomFor tracks.old room.old }
-    requires places { ArePlacesOf (ids_of tracks.old) file.places.now }
+    requires knows { T.knows tracking.old (ids_of tracks.old) }
     ensures sound { OnOk result ((trexes : List Trex) → AreTrexesOf trexes tracks.old
-        → IsSoundMoof file.entry.len trexes tracks.old (tree_of (box_seen moof.entry))) }
-    ensures accepted { OnOk result (IsAccepted file.entry.len (box_seen moof.entry)
+        → IsSoundMoof file_len trexes tracks.old (tree_of (box_seen moof.entry))) }
+    ensures accepted { OnOk result (IsAccepted file_len (box_seen moof.entry)
         tracks.old tracks.new room.old room.new) }
-    ensures refusal { IfErr result (RefusesNotes (length own.old)) }
-    ensures exact { NamesFirstOf
-        (MoofFirst file.entry.len tracks.old room.old (box_seen moof.entry))
-        result }
+    ensures view { IfOk result (λ v. moof_seen v ≡ box_seen moof.entry) }
+    ensures exact { NamesFirst
+        (MoofFirst file_len tracks.old room.old (box_seen moof.entry)) result }
+    ensures only { MatchResult result
+        (λ _. IsAcceptable file_len tracks.old room.old (box_seen moof.entry))
+        (λ _. IsAcceptable file_len tracks.old room.old (box_seen moof.entry) → ⊥) }
     ensures moved { OnOk result
         (IsMoofMovedOn (box_seen moof.entry) tracks.old tracks.new room.old room.new) }
     ensures own { OnOk result ((trexes : List Trex) → AreTrexesOf trexes tracks.old
-        → AreApart tracks.old → length own.old ≡ length tracks.old → map own_seen own.new
-        ≡ noted_in trexes (tree_of (box_seen moof.entry)) tracks.old (map own_seen own.old)) }
-    ensures ends { IfOk result (λ ends. (trexes : List Trex) → AreTrexesOf trexes tracks.old
-        → ends ≡ data_end trexes (box_seen moof.entry).offset (pos (box_seen moof.entry).offset)
-        (of_kind (codes "traf") (children_of (box_seen moof.entry)))) }
-    ensures each { length own.new ≡ length own.old }
-    ensures work { MoofWork (box_seen moof.entry) steps.old steps.new room.old room.new result }
-    ensures looks { MoofLooks (box_seen moof.entry) (min 1 (length tracks.old))
-        looks.old looks.new result }
-    ensures stops { IfMemory result (StopsWithin (box_seen moof.entry) (min 1 (length tracks.old))
-        steps.old steps.new looks.old looks.new) }
+        → AreApart tracks.old → WhereNoted (T.noted tracking.old) (T.noted tracking.new)
+        (λ owns now. length owns ≡ length tracks.old
+        → now ≡ noted_in trexes (tree_of (box_seen moof.entry)) tracks.old owns)) }
+    ensures each { OnOk result (WhereNoted (T.noted tracking.old) (T.noted tracking.new)
+        (λ owns now. length now ≡ length owns)) }
+    ensures knows { (ids : List ℕ) → T.knows tracking.old ids → T.knows tracking.new ids }
+    ensures work { MoofWork (box_seen moof.entry) steps.old.passed steps.new.passed
+        room.old room.new result }
+    ensures looks { MoofLooks (box_seen moof.entry) (T.most (length tracks.old))
+        steps.old.looks steps.new.looks result }
 {
     let boxes = check_children(moof, Rule::MovieFragment)?;
-    let all = MoofBoxes { moof, boxes, file };
-    check_trafs(all, tracks, own, room, steps, looks)
+    let all = MoofBoxes {
+        moof,
+        boxes,
+        file_len,
+    };
+    let _ends = check_trafs(all, tracks, tracking, room, steps)?;
+    Ok(FragView::again(moof))
+}
+
+/// Checks a `moof` of a file of so many bytes behind what came before it. The tracks move on by its
+/// samples, and the room for samples falls by their number. After a fault all of these may have any
+/// values. A step is taken for each `traf`, run, row and sample; the track of each `traf` is
+/// searched among all, at a look for each that is passed.
+pub fn check_moof<'a, L: Ledger, M: Ledger>(
+    moof: BoxView<'a>,
+    file_len: u64,
+    tracks: &mut [TrackState],
+    room: &mut u32,
+    steps: &mut Steps<L, M>,
+) -> Result<FragView<'a>, Fault>
+    requires room { IsRoomFor tracks.old room.old }
+    ensures sound { OnOk result ((trexes : List Trex) → AreTrexesOf trexes tracks.old
+        → IsSoundMoof file_len trexes tracks.old (tree_of (box_seen moof.entry))) }
+    ensures accepted { OnOk result (IsAccepted file_len (box_seen moof.entry)
+        tracks.old tracks.new room.old room.new) }
+    ensures view { IfOk result (λ v. moof_seen v ≡ box_seen moof.entry) }
+    ensures exact { NamesFirst
+        (MoofFirst file_len tracks.old room.old (box_seen moof.entry)) result }
+    ensures only { MatchResult result
+        (λ _. IsAcceptable file_len tracks.old room.old (box_seen moof.entry))
+        (λ _. IsAcceptable file_len tracks.old room.old (box_seen moof.entry) → ⊥) }
+    ensures moved { OnOk result
+        (IsMoofMovedOn (box_seen moof.entry) tracks.old tracks.new room.old room.new) }
+    ensures work { MoofWork (box_seen moof.entry) steps.old.passed steps.new.passed
+        room.old room.new result }
+    ensures looks { MoofLooks (box_seen moof.entry) (length tracks.old)
+        steps.old.looks steps.new.looks result }
+{
+    check_moof_by(moof, file_len, tracks, &mut OneByOne, room, steps)
 }
 
 /// Moves tracks on by the first boxes of a `moof`, up to a place, where the rest may hold boxes
-/// that it has to have. The room for samples falls by their number. The answer is where the data of
-/// the last of its `traf`s ends, or the place of the `moof` without one.
-pub fn check_front<L: Ledger, M: Ledger>(
+/// that it has to have. The room for samples falls by their number. The companion finds the track
+/// of each `traf`. The answer is where the data of the last of its `traf`s ends, or the place of
+/// the `moof` without one.
+pub fn check_front<T: Tracking, L: Ledger, M: Ledger>(
     front: BoxView,
-    file: FileTracks,
+    file_len: u64,
     tracks: &mut [TrackState],
+    tracking: &mut T,
     room: &mut u32,
-    steps: &mut Steps<L>,
-    looks: &mut Steps<M>,
-) -> Result<i128, Refusal>
+    steps: &mut Steps<L, M>,
+) -> Result<i128, Fault>
     requires room { IsRoomFor tracks.old room.old }
-    requires places { ArePlacesOf (ids_of tracks.old) file.places.now }
+    requires knows { T.knows tracking.old (ids_of tracks.old) }
     ensures sound { OnOk result ((trexes : List Trex) → AreTrexesOf trexes tracks.old
-        → IsSoundFront file.entry.len trexes (tree_of (box_seen front.entry))) }
+        → IsSoundFront file_len trexes (tree_of (box_seen front.entry))) }
     ensures moved { OnOk result
         (IsMoofMovedOn (box_seen front.entry) tracks.old tracks.new room.old room.new) }
     ensures ends { IfOk result (λ ends. (trexes : List Trex) → AreTrexesOf trexes tracks.old
         → ends ≡ data_end trexes (box_seen front.entry).offset (pos (box_seen front.entry).offset)
         (of_kind (codes "traf") (children_of (box_seen front.entry)))) }
-    ensures refusal { IfErr result (RefusesNotes 0) }
-    ensures exact { NamesFirstOf
-        (FrontFirst file.entry.len tracks.old room.old (box_seen front.entry)) result }
-    ensures work { MoofWork (box_seen front.entry) steps.old steps.new room.old room.new result }
-    ensures looks { MoofLooks (box_seen front.entry) (min 1 (length tracks.old))
-        looks.old looks.new result }
+    ensures exact { NamesFirst
+        (FrontFirst file_len tracks.old room.old (box_seen front.entry)) result }
+    ensures knows { (ids : List ℕ) → T.knows tracking.old ids → T.knows tracking.new ids }
+    ensures work { MoofWork (box_seen front.entry) steps.old.passed steps.new.passed
+        room.old room.new result }
+    ensures looks { MoofLooks (box_seen front.entry) (T.most (length tracks.old))
+        steps.old.looks steps.new.looks result }
 {
     let boxes = children(front.payload(), front.payload_offset(), front.kind())?;
     let all = MoofBoxes {
         moof: front,
         boxes,
-        file,
+        file_len,
     };
-    check_trafs(all, tracks, &mut [], room, steps, looks)
+    check_trafs(all, tracks, tracking, room, steps)
 }
 
 /// Where the runs of a `traf` with this `tfhd` are counted from, in a `moof` at this place, where

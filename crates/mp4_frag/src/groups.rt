@@ -12,7 +12,7 @@ ghost use Rattle.mp4_frag.specs.words.GroupsJudged.{AreNamed, WhereNamed, NamesO
 ghost use Rattle.mp4_boxes.specs.format.FirstFault.{FirstNamed};
 ghost use Rattle.mp4_frag.specs.words.FragmentTests.{name_tests, one_group_tests};
 
-use mp4_boxes::{Kind, Steps, Ticket, u32_at};
+use mp4_boxes::{Count, Kind, Ticket, u32_at};
 use mp4_tables::{Group, GroupKey, Keys, read_group};
 use std::sync::ledger::Ledger;
 
@@ -60,7 +60,7 @@ fn row_of(_ticket: Ticket, payload: &[u8], group: Group, k: u32) -> (u32, u32)
 }
 
 // How many samples the rows count, if each index is one.
-fn count_samples<L: Ledger>(payload: &[u8], group: Group, steps: &mut Steps<L>) -> Option<u64>
+fn count_samples<L: Ledger>(payload: &[u8], group: Group, steps: &mut Count<L>) -> Option<u64>
     requires { group.rows + 8 * group.count ≤ length payload.now }
     ensures indexes { is_some result
         ≡ list_all (λ run. nat_le run.1 max_index) (group_runs payload.now group) }
@@ -85,7 +85,7 @@ pub(crate) fn check_group<L: Ledger>(
     n: u32,
     keys: &mut Keys,
     named: &mut [bool; 4],
-    steps: &mut Steps<L>,
+    steps: &mut Count<L>,
 ) -> Result<(), Kind>
     ensures sound { OnOk result (WhereNamed (keys_seen keys.old) named.old
         (λ first before. IsGroupSound n first before payload.now)) }

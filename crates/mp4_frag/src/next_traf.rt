@@ -1,10 +1,4 @@
-//! Which `traf`s of a file have samples of a track (ISO/IEC 14496-12, 8.8.6).
-use mp4_boxes::Memory;
-use std::alloc::Global;
-
-// For how many more the list of a track gets room at least.
-const LEAST_GROWTH: usize = 4;
-
+//! What is noted of a `traf` that has samples of a track (ISO/IEC 14496-12, 8.8.6).
 /// A `traf` that has samples: where its payload lies in the file, and where its runs are counted
 /// from. With the `trex` of its track, that is all that its samples take from elsewhere.
 #[derive(Clone, Copy, Debug, PartialEq, Eq)]
@@ -12,60 +6,4 @@ pub struct OwnTraf {
     pub at: u64,
     pub len: usize,
     pub base: i128,
-}
-
-/// The `traf`s that have samples of a track, in file order, and how long the payload of the longest
-/// is. It takes 32 bytes for each, and has room for an eighth more, or for four.
-#[derive(Drop)]
-pub struct OwnTrafs {
-    trafs: Vec<OwnTraf>,
-    longest: usize,
-}
-
-impl OwnTrafs {
-    ghost use Rattle.std.specs.Prelude.{◌≡◌, ◌+◌, ◌^◌, ◌<◌, [], slice_get, OnOk, IfSome};
-    ghost use Rattle.mp4_frag.specs.words.OwnTrafs.{own_seen};
-    ghost use Rattle.mp4_frag.specs.words.Noted.{with_note};
-
-    /// None was passed.
-    pub fn new(alloc: Global) -> OwnTrafs
-        ensures { own_seen result ≡ record { trafs = []; longest = 0 } }
-    {
-        OwnTrafs {
-            trafs: Vec::new(alloc),
-            longest: 0,
-        }
-    }
-
-    /// One more was passed.
-    pub(crate) fn note(&mut self, traf: OwnTraf) -> Result<(), Memory>
-        ensures { OnOk result (own_seen self.new ≡ with_note traf (own_seen self.old)) }
-    {
-        let len = self.trafs.len();
-        if len == self.trafs.capacity() {
-            let Ok(()) = self.trafs.reserve_exact(LEAST_GROWTH.max(len / 8)) else {
-                return Err(Memory);
-            };
-        }
-        let Ok(()) = self.trafs.push(traf) else {
-            return Err(Memory);
-        };
-        self.longest = self.longest.max(traf.len);
-        Ok(())
-    }
-
-    /// The one at this place among them.
-    pub fn get(&self, place: usize) -> Option<OwnTraf>
-        ensures traf { result ≡ slice_get (own_seen self.now).trafs place }
-        ensures next { IfSome result (λ traf. place + 1 < 2 ^ 64) }
-    {
-        self.trafs.as_slice().get(place).copied()
-    }
-
-    /// How long the payload of the longest is.
-    pub fn longest(&self) -> usize
-        ensures { result ≡ (own_seen self.now).longest }
-    {
-        self.longest
-    }
 }

@@ -10,7 +10,7 @@ ghost use Rattle.mp4_frag.specs.words.FragmentTests.{one_run_tests};
 use crate::heads::Inherited;
 use crate::run_rows::{Row, row_at, row_size};
 use crate::trun::{Run, read_run};
-use mp4_boxes::{Kind, Steps, Ticket};
+use mp4_boxes::{Count, Kind, Ticket};
 use std::sync::ledger::Ledger;
 
 /// Samples that were passed: where their data ends, how many there are, how long they last, and how
@@ -120,7 +120,7 @@ fn take_samples<L: Ledger>(
     run: Run,
     behind: u64,
     judged: Judged,
-    steps: &mut Steps<L>,
+    steps: &mut Count<L>,
 ) -> Samples
     requires rows { HasRows payload.now run }
     requires within { behind ≤ judged.file_len }
@@ -162,7 +162,7 @@ fn pass_samples<L: Ledger>(
     run: Run,
     at: i128,
     judged: Judged,
-    steps: &mut Steps<L>,
+    steps: &mut Count<L>,
 ) -> Samples
     requires rows { HasRows payload.now run }
     requires near { IsNear at }
@@ -194,7 +194,7 @@ pub(crate) fn check_run<L: Ledger>(
     judged: Judged,
     passed: Passed,
     room: &mut u32,
-    steps: &mut Steps<L>,
+    steps: &mut Count<L>,
 ) -> Result<Passed, Kind>
     requires few { passed.count + room.old ≤ 2 ^ 24 }
     requires passed { IsPassed passed }

@@ -84,19 +84,20 @@ fn carry_hand<S: Store, K: Sink>(
 
 // Takes the bytes of the next samples of a walk along, so many samples with so many bytes. Where
 // these are not as many, the store has changed.
-fn carry_piece<S: Store, K: Sink, L: Ledger>(
+fn carry_piece<S: Store, K: Sink, L: Ledger, M: Ledger>(
     walk: &mut Walk,
     load: Load,
     carrier: &mut OutBuffer,
     movie: &Movie,
     store: &mut S,
     sink: &mut K,
-    steps: &mut Steps<L>,
+    steps: &mut Steps<L, M>,
 ) -> Result<(), Refusal>
     requires { IsWalkOf movie.now walk.old }
     ensures piece { CarriesPiece movie.now walk.old walk.new S.Store store.old store.new
         K.Sink sink.old sink.new carrier.old carrier.new load.bytes result }
-    ensures went { OnOk result (WentOn movie.now walk.old walk.new steps.old steps.new) }
+    ensures went { OnOk result
+        (WentOn movie.now walk.old walk.new steps.old.passed steps.new.passed) }
     ensures put { WhereComes S.Store store.old movie.now walk.old (λ file tree t samples.
         Carries K.Sink sink.old sink.new carrier.old carrier.new result
         (sample_bytes file (take load.samples samples))) }
@@ -104,8 +105,9 @@ fn carry_piece<S: Store, K: Sink, L: Ledger>(
         OnOk result (Comes file tree t movie.now walk.new (drop load.samples samples))) }
     ensures unchanged { WhereComes S.Store store.old movie.now walk.old (λ file tree t samples.
         AreThere file load.samples load.bytes samples → IsUnchanged result) }
-    ensures work { TakesSteps S.Store store.old movie.now walk.old walk.new result steps.old
-        steps.new }
+    ensures work { TakesSteps S.Store store.old movie.now walk.old walk.new result
+        steps.old.passed steps.new.passed }
+    ensures looks { steps.new.looks ≡ steps.old.looks }
 {
     let mut left = load;
     loop {
@@ -126,14 +128,14 @@ fn carry_piece<S: Store, K: Sink, L: Ledger>(
 
 // Takes the bytes of a piece along that a walk has passed since its mark, a place of what is in
 // hand. Then it goes on from the farther one of the places before the next sample.
-fn carry_in_hand<S: Store, K: Sink, L: Ledger>(
+fn carry_in_hand<S: Store, K: Sink, L: Ledger, M: Ledger>(
     walk: &mut Walk,
     load: Load,
     carrier: &mut OutBuffer,
     movie: &Movie,
     store: &mut S,
     sink: &mut K,
-    steps: &mut Steps<L>,
+    steps: &mut Steps<L, M>,
 ) -> Result<(), Refusal>
     requires { HasMarkInHand movie.now walk.old }
     ensures piece { CarriesPiece movie.now walk.old walk.new S.Store store.old store.new
@@ -148,10 +150,11 @@ fn carry_in_hand<S: Store, K: Sink, L: Ledger>(
     ensures unchanged { (l : Reduction) → WhereMarkedLess S.Store store.old movie.now l walk.old
         load.samples (λ file tree t samples. AreThere file load.samples load.bytes samples
         → IsUnchanged result) }
-    ensures grows { OnOk result (steps.old ≤ steps.new) }
-    ensures work { StepsInHand S.Store store.old movie.now walk.old walk.new result steps.old
-        steps.new }
+    ensures grows { OnOk result (steps.old.passed ≤ steps.new.passed) }
+    ensures work { StepsInHand S.Store store.old movie.now walk.old walk.new result
+        steps.old.passed steps.new.passed }
     ensures on { OnOk result (walk.old.mark.next ≤ walk.new.next) }
+    ensures looks { steps.new.looks ≡ steps.old.looks }
 {
     walk.turn_back();
     carry_piece(walk, load, carrier, movie, store, sink, steps)?;
@@ -161,14 +164,14 @@ fn carry_in_hand<S: Store, K: Sink, L: Ledger>(
 
 // Takes the bytes of a piece along that a walk has passed since its mark: it goes back there, and
 // copies them.
-fn carry_again<S: Store, K: Sink, L: Ledger>(
+fn carry_again<S: Store, K: Sink, L: Ledger, M: Ledger>(
     walk: &mut Walk,
     load: Load,
     carrier: &mut OutBuffer,
     movie: &Movie,
     store: &mut S,
     sink: &mut K,
-    steps: &mut Steps<L>,
+    steps: &mut Steps<L, M>,
 ) -> Result<(), Refusal>
     requires { IsWalkOf movie.now walk.old }
     ensures piece { CarriesPiece movie.now walk.old walk.new S.Store store.old store.new
@@ -183,10 +186,11 @@ fn carry_again<S: Store, K: Sink, L: Ledger>(
     ensures unchanged { (l : Reduction) → WhereMarkedLess S.Store store.old movie.now l walk.old
         load.samples (λ file tree t samples. AreThere file load.samples load.bytes samples
         → IsUnchanged result) }
-    ensures grows { OnOk result (steps.old ≤ steps.new) }
-    ensures work { StepsAgain S.Store store.old movie.now walk.old walk.new result steps.old
-        steps.new }
+    ensures grows { OnOk result (steps.old.passed ≤ steps.new.passed) }
+    ensures work { StepsAgain S.Store store.old movie.now walk.old walk.new result
+        steps.old.passed steps.new.passed }
     ensures ahead { OnOk result (GoesPast movie.now walk.old.mark.next walk.new) }
+    ensures looks { steps.new.looks ≡ steps.old.looks }
 {
     walk.go_back(movie, store, steps)?;
     carry_piece(walk, load, carrier, movie, store, sink, steps)
@@ -194,14 +198,14 @@ fn carry_again<S: Store, K: Sink, L: Ledger>(
 
 // Takes the bytes of a piece along that a walk has passed since its mark, from the stretches where
 // these are all.
-fn carry_marked<S: Store, K: Sink, L: Ledger>(
+fn carry_marked<S: Store, K: Sink, L: Ledger, M: Ledger>(
     walk: &mut Walk,
     noted: NotedBytes<'_>,
     carrier: &mut OutBuffer,
     movie: &Movie,
     store: &mut S,
     sink: &mut K,
-    steps: &mut Steps<L>,
+    steps: &mut Steps<L, M>,
 ) -> Result<(), Refusal>
     requires { IsWalkOf movie.now walk.old }
     ensures piece { CarriesPiece movie.now walk.old walk.new S.Store store.old store.new
@@ -218,10 +222,11 @@ fn carry_marked<S: Store, K: Sink, L: Ledger>(
         noted.entry.load.samples noted.entry.stretches.now (λ file tree t samples.
         AreThere file noted.entry.load.samples noted.entry.load.bytes samples
         → IsUnchanged result) }
-    ensures grows { OnOk result (steps.old ≤ steps.new) }
-    ensures work { StepsMarked S.Store store.old movie.now walk.old walk.new result steps.old
-        steps.new }
+    ensures grows { OnOk result (steps.old.passed ≤ steps.new.passed) }
+    ensures work { StepsMarked S.Store store.old movie.now walk.old walk.new result
+        steps.old.passed steps.new.passed }
     ensures on { OnOk result (walk.old.mark.next ≤ walk.new.next) }
+    ensures looks { steps.new.looks ≡ steps.old.looks }
 {
     if noted.stretches.are_all() {
         noted
@@ -236,7 +241,7 @@ fn carry_marked<S: Store, K: Sink, L: Ledger>(
 
 /// Takes the bytes of a piece along that a walk has noted since its mark, from the stretches where
 /// these are all. Then it looks for the next sample, gives what is left of it, and marks its place.
-pub(crate) fn carry_noted<S: Store, K: Sink, L: Ledger>(
+pub(crate) fn carry_noted<S: Store, K: Sink, L: Ledger, M: Ledger>(
     walk: &mut Walk,
     reduction: Reduction,
     noted: NotedBytes<'_>,
@@ -244,7 +249,7 @@ pub(crate) fn carry_noted<S: Store, K: Sink, L: Ledger>(
     movie: &Movie,
     store: &mut S,
     sink: &mut K,
-    steps: &mut Steps<L>,
+    steps: &mut Steps<L, M>,
 ) -> Result<Option<SampleAt>, Refusal>
     requires { IsWalkOf movie.now walk.old }
     ensures piece { CarriesPiece movie.now walk.old walk.new S.Store store.old store.new
@@ -261,11 +266,12 @@ pub(crate) fn carry_noted<S: Store, K: Sink, L: Ledger>(
         noted.entry.load.samples noted.entry.stretches.now (λ file tree t samples.
         AreThere file noted.entry.load.samples noted.entry.load.bytes samples
         → IsUnchanged result) }
-    ensures grows { OnOk result (steps.old ≤ steps.new) }
+    ensures grows { OnOk result (steps.old.passed ≤ steps.new.passed) }
     ensures work { WhereMayFinish S.Store store.old movie.now reduction walk.old
         noted.entry.load.samples (λ file tree t n. MatchResult result
-        (λ _. WritesOn file tree movie.now t n walk.new steps.old steps.new)
-        (λ _. steps.new ≤ steps.old + n)) }
+        (λ _. WritesOn file tree movie.now t n walk.new steps.old.passed steps.new.passed)
+        (λ _. steps.new.passed ≤ steps.old.passed + n)) }
+    ensures looks { steps.new.looks ≡ steps.old.looks }
 {
     let left = walk.to_come().saturating_sub(noted.load.samples);
     carry_marked(walk, noted, carrier, movie, store, sink, steps)?;

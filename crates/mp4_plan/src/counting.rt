@@ -150,13 +150,13 @@ fn count_hand(
 
 // Passes the samples of a walk that go into a piece with this description, and counts them.
 // Where they are more than 2^24, the store has changed.
-fn count_piece<S: Store, L: Ledger>(
+fn count_piece<S: Store, L: Ledger, M: Ledger>(
     walk: &mut Walk,
     portion: Portion,
     description: u32,
     movie: &Movie,
     store: &mut S,
-    steps: &mut Steps<L>,
+    steps: &mut Steps<L, M>,
 ) -> Result<Counted, Refusal>
     requires { IsWalkOf movie.now walk.old }
     ensures loads { OnlyLoads movie.now walk.old walk.new S.Store store.old store.new result }
@@ -167,9 +167,10 @@ fn count_piece<S: Store, L: Ledger>(
     ensures unchanged { WhereLess S.Store store.old movie.now portion.reduction walk.old
         (λ file tree t samples. length samples ≤ MOST_SAMPLES → IsUnchanged result) }
     ensures few { IfOk result (λ c. c.count ≤ MOST_SAMPLES) }
-    ensures grows { OnOk result (steps.old ≤ steps.new) }
-    ensures work { TakesSteps S.Store store.old movie.now walk.old walk.new result steps.old
-        steps.new }
+    ensures grows { OnOk result (steps.old.passed ≤ steps.new.passed) }
+    ensures work { TakesSteps S.Store store.old movie.now walk.old walk.new result
+        steps.old.passed steps.new.passed }
+    ensures looks { steps.new.looks ≡ steps.old.looks }
 {
     let mut count = 0;
     loop {
@@ -200,13 +201,13 @@ fn count_piece<S: Store, L: Ledger>(
 
 /// Counts the samples of the piece of a turn, which may have none, of a walk of which this sample
 /// is the next. Where they are more than 2^24, the store has changed.
-pub(crate) fn count_turn<S: Store, L: Ledger>(
+pub(crate) fn count_turn<S: Store, L: Ledger, M: Ledger>(
     walk: &mut Walk,
     portion: Portion,
     next: &mut Option<SampleAt>,
     movie: &Movie,
     store: &mut S,
-    steps: &mut Steps<L>,
+    steps: &mut Steps<L, M>,
 ) -> Result<u32, Refusal>
     requires { IsWalkOf movie.now walk.old }
     ensures loads { OnlyLoads movie.now walk.old walk.new S.Store store.old store.new result }
@@ -218,9 +219,10 @@ pub(crate) fn count_turn<S: Store, L: Ledger>(
     ensures unchanged { WhereLess S.Store store.old movie.now portion.reduction walk.old
         (λ file tree t samples. length samples ≤ MOST_SAMPLES → IsUnchanged result) }
     ensures few { IfOk result (λ n. n ≤ MOST_SAMPLES) }
-    ensures grows { OnOk result (steps.old ≤ steps.new) }
-    ensures work { TakesSteps S.Store store.old movie.now walk.old walk.new result steps.old
-        steps.new }
+    ensures grows { OnOk result (steps.old.passed ≤ steps.new.passed) }
+    ensures work { TakesSteps S.Store store.old movie.now walk.old walk.new result
+        steps.old.passed steps.new.passed }
+    ensures looks { steps.new.looks ≡ steps.old.looks }
 {
     let Some(first) = *next else {
         return Ok(0);

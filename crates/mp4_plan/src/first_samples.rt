@@ -34,13 +34,13 @@ pub(crate) fn walks_of(alloc: Global, movie: &Movie) -> Result<Vec<Walk>, Refusa
 }
 
 /// Notes what is left of the next sample of each walk.
-pub(crate) fn peek_each<S: Store, L: Ledger>(
+pub(crate) fn peek_each<S: Store, L: Ledger, M: Ledger>(
     walks: &mut [Walk],
     nexts: &mut [Option<SampleAt>],
     reductions: &Reductions,
     movie: &Movie,
     store: &mut S,
-    steps: &mut Steps<L>,
+    steps: &mut Steps<L, M>,
 ) -> Result<(), Refusal>
     requires walks { AreWalksOf movie.now walks.old }
     requires nexts { length nexts.old ≡ length walks.old }
@@ -56,11 +56,12 @@ pub(crate) fn peek_each<S: Store, L: Ledger>(
     ensures unchanged { (l : Without) → WhereAllCome S.Store store.old movie.now l
         reductions.now.of_tracks.items walks.old (λ file tree lefts. IsUnchanged result) }
     ensures refusal { Refused S.Store store.old store.new result RefusesLoad }
-    ensures grows { OnOk result (steps.old ≤ steps.new) }
-    ensures work { StepsOfAll S.Store store.old movie.now walks.old walks.new result steps.old
-        steps.new }
-    ensures writes { StepsToWrite S.Store store.old movie.now walks.old walks.new result steps.old
-        steps.new }
+    ensures grows { OnOk result (steps.old.passed ≤ steps.new.passed) }
+    ensures work { StepsOfAll S.Store store.old movie.now walks.old walks.new result
+        steps.old.passed steps.new.passed }
+    ensures writes { StepsToWrite S.Store store.old movie.now walks.old walks.new result
+        steps.old.passed steps.new.passed }
+    ensures looks { steps.new.looks ≡ steps.old.looks }
 {
     for k in 0..walks.len() {
         let reduction = reductions.of_tracks[k];

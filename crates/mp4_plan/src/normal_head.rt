@@ -63,8 +63,7 @@ pub fn reduced_len<S: Store, L: Ledger, M: Ledger>(
     movie: &Movie,
     store: &mut S,
     leaving: Without,
-    steps: &mut Steps<L>,
-    looks: &mut Steps<M>,
+    steps: &mut Steps<L, M>,
 ) -> Result<u64, Refusal>
     ensures store { OnlyReads S.Store store.old store.new result }
     ensures length { OverOpened S.Store store.old movie.now (λ file tree.
@@ -75,14 +74,15 @@ pub fn reduced_len<S: Store, L: Ledger, M: Ledger>(
         (λ file tree. IfErr result (NamesLong leaving file tree)) }
     ensures unchanged { OverOpened S.Store store.old movie.now (λ file tree. IsUnchanged result) }
     ensures refusal { Refused S.Store store.old store.new result (RefusesLeft leaving) }
-    ensures grows { OnOk result (steps.old ≤ steps.new) }
+    ensures grows { OnOk result (steps.old.passed ≤ steps.new.passed) }
     ensures work { OverOpened S.Store store.old movie.now
-        (λ file tree. steps.new ≤ steps.old + (measuring_steps leaving tree + walks_steps tree)) }
-    ensures turns { looks.new ≤ looks.old + movie_turns movie.now }
+        (λ file tree. steps.new.passed
+        ≤ steps.old.passed + (measuring_steps leaving tree + walks_steps tree)) }
+    ensures turns { steps.new.looks ≤ steps.old.looks + movie_turns movie.now }
 {
     let measures = measure(alloc, movie, store, leaving, steps)?;
     length_left(alloc, movie, leaving, measures.totals.as_slice())?;
-    let len = pieces_len(alloc, movie, store, &measures.reductions, steps, looks)?;
+    let len = pieces_len(alloc, movie, store, &measures.reductions, steps)?;
     let read = movie.head(alloc)?;
     let lefts = payloads_left(alloc, leaving, read.tracks.as_slice())?;
     let head = head_left(alloc, read, leaving, &lefts)?;
@@ -94,18 +94,17 @@ pub fn normal_len<S: Store, L: Ledger, M: Ledger>(
     alloc: Global,
     movie: &Movie,
     store: &mut S,
-    steps: &mut Steps<L>,
-    looks: &mut Steps<M>,
+    steps: &mut Steps<L, M>,
 ) -> Result<u64, Refusal>
     ensures store { OnlyReads S.Store store.old store.new result }
     ensures length { OverOpened S.Store store.old movie.now (λ file tree.
         IfOk result (λ len. len ≡ length (normal (presentation_of file tree)))) }
     ensures unchanged { OverOpened S.Store store.old movie.now (λ file tree. IsUnchanged result) }
     ensures refusal { Refused S.Store store.old store.new result RefusesPlan }
-    ensures grows { OnOk result (steps.old ≤ steps.new) }
+    ensures grows { OnOk result (steps.old.passed ≤ steps.new.passed) }
     ensures work { OverOpened S.Store store.old movie.now
-        (λ file tree. steps.new ≤ steps.old + walks_steps tree) }
-    ensures turns { looks.new ≤ looks.old + movie_turns movie.now }
+        (λ file tree. steps.new.passed ≤ steps.old.passed + walks_steps tree) }
+    ensures turns { steps.new.looks ≤ steps.old.looks + movie_turns movie.now }
 {
-    reduced_len(alloc, movie, store, Without::NOTHING, steps, looks)
+    reduced_len(alloc, movie, store, Without::NOTHING, steps)
 }

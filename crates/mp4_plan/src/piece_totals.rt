@@ -52,8 +52,7 @@ pub(crate) fn longest_piece<S: Store, L: Ledger, M: Ledger>(
     movie: &Movie,
     store: &mut S,
     reductions: &Reductions,
-    steps: &mut Steps<L>,
-    looks: &mut Steps<M>,
+    steps: &mut Steps<L, M>,
 ) -> Result<u32, Refusal>
     requires reductions { length reductions.now.of_tracks.items ≡ length movie.now.tracks }
     ensures store { OnlyReads S.Store store.old store.new result }
@@ -64,15 +63,15 @@ pub(crate) fn longest_piece<S: Store, L: Ledger, M: Ledger>(
     ensures unchanged { OverReduced S.Store store.old movie.now reductions.now
         (λ file tree. IsUnchanged result) }
     ensures refusal { Refused S.Store store.old store.new result RefusesPlan }
-    ensures grows { OnOk result (steps.old ≤ steps.new) }
+    ensures grows { OnOk result (steps.old.passed ≤ steps.new.passed) }
     ensures work { OverOpened S.Store store.old movie.now
-        (λ file tree. steps.new ≤ steps.old + walks_steps tree) }
-    ensures turns { looks.new ≤ looks.old + movie_turns movie.now }
+        (λ file tree. steps.new.passed ≤ steps.old.passed + walks_steps tree) }
+    ensures turns { steps.new.looks ≤ steps.old.looks + movie_turns movie.now }
 {
     let tracks = movie.tracks();
     let mut plan = PlanWalks::begin(alloc, movie, store, reductions, steps)?;
     let mut longest: u32 = 0;
-    while let Some(turn) = plan.schedule.turn(tracks, looks) {
+    while let Some(turn) = plan.schedule.turn(tracks, steps) {
         let walk = &mut plan.walks[turn.track];
         let next = &mut plan.nexts[turn.track];
         let reduction = reductions.of_tracks[turn.track];
@@ -95,8 +94,7 @@ pub(crate) fn pieces_len<S: Store, L: Ledger, M: Ledger>(
     movie: &Movie,
     store: &mut S,
     reductions: &Reductions,
-    steps: &mut Steps<L>,
-    looks: &mut Steps<M>,
+    steps: &mut Steps<L, M>,
 ) -> Result<u64, Refusal>
     requires reductions { length reductions.now.of_tracks.items ≡ length movie.now.tracks }
     ensures store { OnlyReads S.Store store.old store.new result }
@@ -106,15 +104,15 @@ pub(crate) fn pieces_len<S: Store, L: Ledger, M: Ledger>(
     ensures unchanged { OverReduced S.Store store.old movie.now reductions.now
         (λ file tree. IsUnchanged result) }
     ensures refusal { Refused S.Store store.old store.new result RefusesPlan }
-    ensures grows { OnOk result (steps.old ≤ steps.new) }
+    ensures grows { OnOk result (steps.old.passed ≤ steps.new.passed) }
     ensures work { OverOpened S.Store store.old movie.now
-        (λ file tree. steps.new ≤ steps.old + walks_steps tree) }
-    ensures turns { looks.new ≤ looks.old + movie_turns movie.now }
+        (λ file tree. steps.new.passed ≤ steps.old.passed + walks_steps tree) }
+    ensures turns { steps.new.looks ≤ steps.old.looks + movie_turns movie.now }
 {
     let tracks = movie.tracks();
     let mut plan = PlanWalks::begin(alloc, movie, store, reductions, steps)?;
     let mut len = 0;
-    while let Some(turn) = plan.schedule.turn(tracks, looks) {
+    while let Some(turn) = plan.schedule.turn(tracks, steps) {
         let walk = &mut plan.walks[turn.track];
         let next = &mut plan.nexts[turn.track];
         let reduction = reductions.of_tracks[turn.track];

@@ -31,12 +31,12 @@ impl PlanWalks {
     ghost use Rattle.mp4_content.specs.words.Opened.{RefusesPlan};
 
     /// Before the first turn of what is left of a movie.
-    pub(crate) fn begin<S: Store, L: Ledger>(
+    pub(crate) fn begin<S: Store, L: Ledger, M: Ledger>(
         alloc: Global,
         movie: &Movie,
         store: &mut S,
         reductions: &Reductions,
-        steps: &mut Steps<L>,
+        steps: &mut Steps<L, M>,
     ) -> Result<PlanWalks, Refusal>
         requires reductions { length reductions.now.of_tracks.items ≡ length movie.now.tracks }
         ensures store { OnlyReads S.Store store.old store.new result }
@@ -47,10 +47,12 @@ impl PlanWalks {
         ensures unchanged { OverReduced S.Store store.old movie.now reductions.now
             (λ file tree. IsUnchanged result) }
         ensures refusal { Refused S.Store store.old store.new result RefusesPlan }
-        ensures grows { OnOk result (steps.old ≤ steps.new) }
+        ensures grows { OnOk result (steps.old.passed ≤ steps.new.passed) }
         ensures work { OverOpened S.Store store.old movie.now (λ file tree. MatchResult result
-            (λ p. AllTakeOn file tree (walks_steps tree) p.walks.items steps.old steps.new)
-            (λ _. steps.new ≤ steps.old + walks_steps tree)) }
+            (λ p. AllTakeOn file tree (walks_steps tree) p.walks.items
+            steps.old.passed steps.new.passed)
+            (λ _. steps.new.passed ≤ steps.old.passed + walks_steps tree)) }
+        ensures looks { steps.new.looks ≡ steps.old.looks }
     {
         let tracks = movie.tracks();
         let mut walks = walks_of(alloc, movie)?;

@@ -99,7 +99,11 @@ impl Schedule {
     }
 
     /// Whose turn it is. Each turn is a look, which is counted.
-    pub(crate) fn turn<M: Ledger>(&self, tracks: &[TrackInfo], looks: &mut Steps<M>) -> Option<Turn>
+    pub(crate) fn turn<L: Ledger, M: Ledger>(
+        &self,
+        tracks: &[TrackInfo],
+        steps: &mut Steps<L, M>,
+    ) -> Option<Turn>
         requires { self.now.tracks ≡ length tracks.now }
         ensures track { IfSome result (λ t. (t.track ≡ self.now.track)
             × (self.now.track < self.now.tracks)) }
@@ -107,13 +111,14 @@ impl Schedule {
             → slice_get tracks.now self.now.track ≡ Some info
             → t.end ≡ turn_end self.now (timescale_left self.now.leaving info.timescale)) }
         ensures none { result ≡ None → self.now.tracks ≤ self.now.track }
-        ensures looks { MatchOption result (looks.new ≡ looks.old)
-            (λ t. looks.new ≡ looks.old + 1) }
+        ensures looks { MatchOption result (steps.new.looks ≡ steps.old.looks)
+            (λ t. steps.new.looks ≡ steps.old.looks + 1) }
+        ensures passed { steps.new.passed ≡ steps.old.passed }
     {
         if self.track >= self.tracks {
             return None;
         }
-        looks.tick();
+        steps.look();
         let scale = self.leaving.timescale(tracks[self.track].timescale);
         let end = if self.track == 0 {
             End::Sync {

@@ -43,16 +43,17 @@ fn reduced_next(reduction: Reduction, next: Option<SampleAt>) -> Option<SampleAt
 }
 
 /// What is left of the next sample of a walk, which stays the next.
-pub(crate) fn next_sample<S: Store, L: Ledger>(
+pub(crate) fn next_sample<S: Store, L: Ledger, M: Ledger>(
     walk: &mut Walk,
     reduction: Reduction,
     movie: &Movie,
     store: &mut S,
-    steps: &mut Steps<L>,
+    steps: &mut Steps<L, M>,
 ) -> Result<Option<SampleAt>, Refusal>
     requires { IsWalkOf movie.now walk.old }
     ensures loads { OnlyLoads movie.now walk.old walk.new S.Store store.old store.new result }
-    ensures went { OnOk result (WentOn movie.now walk.old walk.new steps.old steps.new) }
+    ensures went { OnOk result
+        (WentOn movie.now walk.old walk.new steps.old.passed steps.new.passed) }
     ensures coming { WhereLess S.Store store.old movie.now reduction walk.old
         (λ file tree t samples. IfOk result (λ next.
         ComesLess reduction file tree t movie.now walk.new samples
@@ -60,8 +61,9 @@ pub(crate) fn next_sample<S: Store, L: Ledger>(
     ensures some { IfOk result (λ next. (next ≡ None → ⊥) → HasSome movie.now walk.new) }
     ensures unchanged { WhereLess S.Store store.old movie.now reduction walk.old
         (λ file tree t samples. IsUnchanged result) }
-    ensures work { TakesSteps S.Store store.old movie.now walk.old walk.new result steps.old
-        steps.new }
+    ensures work { TakesSteps S.Store store.old movie.now walk.old walk.new result
+        steps.old.passed steps.new.passed }
+    ensures looks { steps.new.looks ≡ steps.old.looks }
 {
     let next = peek_sample(walk, movie, store, steps)?;
     Ok(reduced_next(reduction, next))
@@ -69,12 +71,12 @@ pub(crate) fn next_sample<S: Store, L: Ledger>(
 
 /// What is left of the next sample of a walk, which stays the next, and is marked. As many samples
 /// are to come as at its mark before.
-pub(crate) fn next_marked<S: Store, L: Ledger>(
+pub(crate) fn next_marked<S: Store, L: Ledger, M: Ledger>(
     walk: &mut Walk,
     reduction: Reduction,
     movie: &Movie,
     store: &mut S,
-    steps: &mut Steps<L>,
+    steps: &mut Steps<L, M>,
 ) -> Result<Option<SampleAt>, Refusal>
     requires { IsWalkOf movie.now walk.old }
     ensures loads { OnlyLoads movie.now walk.old walk.new S.Store store.old store.new result }
@@ -85,11 +87,12 @@ pub(crate) fn next_marked<S: Store, L: Ledger>(
         × (next ≡ slice_get samples 0))) }
     ensures unchanged { WhereLess S.Store store.old movie.now reduction walk.old
         (λ file tree t samples. IsUnchanged result) }
-    ensures grows { OnOk result (steps.old ≤ steps.new) }
-    ensures work { TakesSteps S.Store store.old movie.now walk.old walk.new result steps.old
-        steps.new }
+    ensures grows { OnOk result (steps.old.passed ≤ steps.new.passed) }
+    ensures work { TakesSteps S.Store store.old movie.now walk.old walk.new result
+        steps.old.passed steps.new.passed }
     ensures writes { WhereMayWrite S.Store store.old movie.now walk.old (λ file tree t n.
-        OnOk result (WritesOn file tree movie.now t n walk.new steps.old steps.new)) }
+        OnOk result (WritesOn file tree movie.now t n walk.new steps.old.passed steps.new.passed)) }
+    ensures looks { steps.new.looks ≡ steps.old.looks }
 {
     let left = walk.to_come();
     let next = next_sample(walk, reduction, movie, store, steps)?;
@@ -221,12 +224,12 @@ fn note_hand(
 }
 
 /// Plans the next piece of a walk.
-pub(crate) fn plan_piece<S: Store, L: Ledger>(
+pub(crate) fn plan_piece<S: Store, L: Ledger, M: Ledger>(
     walk: &mut Walk,
     portion: Portion,
     movie: &Movie,
     store: &mut S,
-    steps: &mut Steps<L>,
+    steps: &mut Steps<L, M>,
 ) -> Result<Planned, Refusal>
     requires { IsWalkOf movie.now walk.old }
     ensures loads { OnlyLoads movie.now walk.old walk.new S.Store store.old store.new result }
@@ -238,9 +241,10 @@ pub(crate) fn plan_piece<S: Store, L: Ledger>(
     ensures unchanged { WhereLess S.Store store.old movie.now portion.reduction walk.old
         (λ file tree t samples. length samples ≤ MOST_SAMPLES → IsUnchanged result) }
     ensures bounds { IfOk result (HasBounds MOST_SAMPLES) }
-    ensures grows { OnOk result (steps.old ≤ steps.new) }
-    ensures work { TakesSteps S.Store store.old movie.now walk.old walk.new result steps.old
-        steps.new }
+    ensures grows { OnOk result (steps.old.passed ≤ steps.new.passed) }
+    ensures work { TakesSteps S.Store store.old movie.now walk.old walk.new result
+        steps.old.passed steps.new.passed }
+    ensures looks { steps.new.looks ≡ steps.old.looks }
 {
     let mut planner = Planner::new(portion.end);
     loop {
@@ -260,13 +264,13 @@ pub(crate) fn plan_piece<S: Store, L: Ledger>(
 
 /// Plans the piece of a turn, which may have no samples, of a walk of which this sample is the
 /// next.
-pub(crate) fn plan_turn<S: Store, L: Ledger>(
+pub(crate) fn plan_turn<S: Store, L: Ledger, M: Ledger>(
     walk: &mut Walk,
     portion: Portion,
     next: &mut Option<SampleAt>,
     movie: &Movie,
     store: &mut S,
-    steps: &mut Steps<L>,
+    steps: &mut Steps<L, M>,
 ) -> Result<Planned, Refusal>
     requires { IsWalkOf movie.now walk.old }
     ensures loads { OnlyLoads movie.now walk.old walk.new S.Store store.old store.new result }
@@ -279,9 +283,10 @@ pub(crate) fn plan_turn<S: Store, L: Ledger>(
     ensures unchanged { WhereLess S.Store store.old movie.now portion.reduction walk.old
         (λ file tree t samples. length samples ≤ MOST_SAMPLES → IsUnchanged result) }
     ensures bounds { IfOk result (HasBounds MOST_SAMPLES) }
-    ensures grows { OnOk result (steps.old ≤ steps.new) }
-    ensures work { TakesSteps S.Store store.old movie.now walk.old walk.new result steps.old
-        steps.new }
+    ensures grows { OnOk result (steps.old.passed ≤ steps.new.passed) }
+    ensures work { TakesSteps S.Store store.old movie.now walk.old walk.new result
+        steps.old.passed steps.new.passed }
+    ensures looks { steps.new.looks ≡ steps.old.looks }
 {
     if !first_goes(&portion.end, next) {
         return Ok(Planner::new(portion.end).piece());
@@ -293,17 +298,18 @@ pub(crate) fn plan_turn<S: Store, L: Ledger>(
 
 // Plans the next piece of a walk, and notes its samples in the rows, and where their
 // bytes lie. Where there is no room for the rows, the store has changed.
-fn note_piece<S: Store, L: Ledger>(
+fn note_piece<S: Store, L: Ledger, M: Ledger>(
     walk: &mut Walk,
     portion: Portion,
     notes: &mut PieceNotes,
     movie: &Movie,
     store: &mut S,
-    steps: &mut Steps<L>,
+    steps: &mut Steps<L, M>,
 ) -> Result<Planned, Refusal>
     requires { MayNote movie.now walk.old notes.old.rows.items }
     ensures loads { OnlyLoads movie.now walk.old walk.new S.Store store.old store.new result }
-    ensures went { OnOk result (WentOn movie.now walk.old walk.new steps.old steps.new) }
+    ensures went { OnOk result
+        (WentOn movie.now walk.old walk.new steps.old.passed steps.new.passed) }
     ensures planned { WhereLess S.Store store.old movie.now portion.reduction walk.old
         (λ file tree t samples. IfOk result (λ p.
         (p ≡ planned_of (piece_fed (piece_from portion.end) samples).gathered)
@@ -319,8 +325,9 @@ fn note_piece<S: Store, L: Ledger>(
         → IsUnchanged result) }
     ensures room { length notes.new.rows.items ≡ length notes.old.rows.items }
     ensures bounds { IfOk result (HasBounds (length notes.old.rows.items)) }
-    ensures work { TakesSteps S.Store store.old movie.now walk.old walk.new result steps.old
-        steps.new }
+    ensures work { TakesSteps S.Store store.old movie.now walk.old walk.new result
+        steps.old.passed steps.new.passed }
+    ensures looks { steps.new.looks ≡ steps.old.looks }
 {
     let mut planner = Planner::new(portion.end);
     let rows = notes.rows.as_mut_slice();
@@ -352,13 +359,13 @@ fn note_piece<S: Store, L: Ledger>(
 /// Plans the next piece of a walk that has marked where it stands, before a sample that goes into
 /// it, and notes its samples. Where it has none, or more than are to come, or there is no room for
 /// the rows, the store has changed.
-pub(crate) fn note_marked<S: Store, L: Ledger>(
+pub(crate) fn note_marked<S: Store, L: Ledger, M: Ledger>(
     walk: &mut Walk,
     portion: Portion,
     notes: &mut PieceNotes,
     movie: &Movie,
     store: &mut S,
-    steps: &mut Steps<L>,
+    steps: &mut Steps<L, M>,
 ) -> Result<Planned, Refusal>
     requires { MayNote movie.now walk.old notes.old.rows.items }
     ensures loads { OnlyLoads movie.now walk.old walk.new S.Store store.old store.new result }
@@ -379,10 +386,12 @@ pub(crate) fn note_marked<S: Store, L: Ledger>(
     ensures some { IfOk result (λ p. 0 < p.count) }
     ensures room { length notes.new.rows.items ≡ length notes.old.rows.items }
     ensures bounds { IfOk result (HasBounds (length notes.old.rows.items)) }
-    ensures grows { OnOk result (steps.old ≤ steps.new) }
+    ensures grows { OnOk result (steps.old.passed ≤ steps.new.passed) }
     ensures work { WhereMayWrite S.Store store.old movie.now walk.old (λ file tree t n.
         MatchResult result (λ p. FinishesOn portion.reduction file tree movie.now p.count t n
-        walk.new steps.old steps.new) (λ r. steps.new ≤ steps.old + n)) }
+        walk.new steps.old.passed steps.new.passed)
+        (λ r. steps.new.passed ≤ steps.old.passed + n)) }
+    ensures looks { steps.new.looks ≡ steps.old.looks }
 {
     let left = walk.to_come();
     let planned = note_piece(walk, portion, notes, movie, store, steps)?;

@@ -153,8 +153,7 @@ impl Writer {
         movie: &Movie,
         store: &mut S,
         leaving: Without,
-        steps: &mut Steps<L>,
-        looks: &mut Steps<M>,
+        steps: &mut Steps<L, M>,
     ) -> Result<Writer, Refusal>
         ensures made { IfOk result (IsMade movie.now leaving) }
         ensures store { OnlyReads S.Store store.old store.new result }
@@ -167,18 +166,18 @@ impl Writer {
         ensures fault { OverOpened S.Store store.old movie.now
             (λ file tree. IfErr result (NamesLong leaving file tree)) }
         ensures refusal { Refused S.Store store.old store.new result (RefusesLeft leaving) }
-        ensures grows { OnOk result (steps.old ≤ steps.new) }
+        ensures grows { OnOk result (steps.old.passed ≤ steps.new.passed) }
         ensures work { OverOpened S.Store store.old movie.now
-            (λ file tree. steps.new ≤ steps.old
+            (λ file tree. steps.new.passed ≤ steps.old.passed
             + (measuring_steps leaving tree + walks_steps tree)) }
         ensures may { OverOpened S.Store store.old movie.now (λ file tree.
             IfOk result (λ w. WriteAllBegin file tree movie.now w.walks.items)) }
-        ensures turns { looks.new ≤ looks.old + movie_turns movie.now }
+        ensures turns { steps.new.looks ≤ steps.old.looks + movie_turns movie.now }
     {
         let measures = measure(alloc, movie, store, leaving, steps)?;
         let mehd = length_left(alloc, movie, leaving, measures.totals.as_slice())?;
         let reductions = measures.reductions;
-        let longest = longest_piece(alloc, movie, store, &reductions, steps, looks)?;
+        let longest = longest_piece(alloc, movie, store, &reductions, steps)?;
         let due = DueTracks::new(alloc, movie.tracks().len())?;
         Ok(Writer {
             reductions,
@@ -199,8 +198,7 @@ impl Writer {
         alloc: Global,
         movie: &Movie,
         store: &mut S,
-        steps: &mut Steps<L>,
-        looks: &mut Steps<M>,
+        steps: &mut Steps<L, M>,
     ) -> Result<Writer, Refusal>
         ensures made { IfOk result (IsMade movie.now Without.NOTHING) }
         ensures store { OnlyReads S.Store store.old store.new result }
@@ -209,24 +207,24 @@ impl Writer {
         ensures unchanged { OverOpened S.Store store.old movie.now
             (λ file tree. IsUnchanged result) }
         ensures refusal { Refused S.Store store.old store.new result RefusesPlan }
-        ensures grows { OnOk result (steps.old ≤ steps.new) }
+        ensures grows { OnOk result (steps.old.passed ≤ steps.new.passed) }
         ensures work { OverOpened S.Store store.old movie.now
-            (λ file tree. steps.new ≤ steps.old + walks_steps tree) }
+            (λ file tree. steps.new.passed ≤ steps.old.passed + walks_steps tree) }
         ensures may { OverOpened S.Store store.old movie.now (λ file tree.
             IfOk result (λ w. WriteAllBegin file tree movie.now w.walks.items)) }
-        ensures turns { looks.new ≤ looks.old + movie_turns movie.now }
+        ensures turns { steps.new.looks ≤ steps.old.looks + movie_turns movie.now }
     {
-        Writer::reduced(alloc, movie, store, Without::NOTHING, steps, looks)
+        Writer::reduced(alloc, movie, store, Without::NOTHING, steps)
     }
 
     // Plans the piece of a turn, and notes its samples. If it has some, it has these numbers.
-    fn note_turn<S: Store, L: Ledger>(
+    fn note_turn<S: Store, L: Ledger, M: Ledger>(
         &mut self,
         turn: &Turn,
         numbers: PieceNumbers,
         movie: &Movie,
         store: &mut S,
-        steps: &mut Steps<L>,
+        steps: &mut Steps<L, M>,
     ) -> Result<Noted, Refusal>
         requires writer { IsWriterOf movie.now self.old }
         requires track { turn.now.track < length movie.now.tracks }
@@ -243,9 +241,10 @@ impl Writer {
         ensures planned { IfOk result (IsPlanned (length self.old.notes.rows.items)) }
         ensures track { IfOk result (λ n. n.track ≡ turn.now.track) }
         ensures refusal { Refused S.Store store.old store.new result RefusesLoad }
-        ensures grows { OnOk result (steps.old ≤ steps.new) }
+        ensures grows { OnOk result (steps.old.passed ≤ steps.new.passed) }
         ensures work { StepsToNote S.Store store.old movie.now turn.now.track self.old self.new
-            result steps.old steps.new }
+            result steps.old.passed steps.new.passed }
+        ensures looks { steps.new.looks ≡ steps.old.looks }
     {
         self.notes.stretches.clear();
         let first = self.nexts[turn.track];
@@ -272,13 +271,13 @@ impl Writer {
 
     // Takes the bytes of a track's samples along that were noted, as many as were planned, and
     // looks for the next one.
-    fn carry_data<S: Store, K: Sink, L: Ledger>(
+    fn carry_data<S: Store, K: Sink, L: Ledger, M: Ledger>(
         &mut self,
         noted: &Noted,
         movie: &Movie,
         store: &mut S,
         sink: &mut K,
-        steps: &mut Steps<L>,
+        steps: &mut Steps<L, M>,
     ) -> Result<(), Refusal>
         requires writer { IsWriterOf movie.now self.old }
         requires track { noted.now.track < length movie.now.tracks }
@@ -300,9 +299,10 @@ impl Writer {
             → IsUnchanged result) }
         ensures refusal { RefusedByBoth S.Store store.old store.new K.Sink sink.old sink.new result
             RefusesCarry }
-        ensures grows { OnOk result (steps.old ≤ steps.new) }
+        ensures grows { OnOk result (steps.old.passed ≤ steps.new.passed) }
         ensures work { StepsToCarry S.Store store.old movie.now noted.now self.old self.new result
-            steps.old steps.new }
+            steps.old.passed steps.new.passed }
+        ensures looks { steps.new.looks ≡ steps.old.looks }
     {
         let Noted { track, planned, .. } = *noted;
         let bytes = NotedBytes {
@@ -327,13 +327,13 @@ impl Writer {
 
     // Takes the piece of a turn along whose samples were noted, where it has some: its front and
     // rows, and the bytes of its samples.
-    fn carry_turn<S: Store, K: Sink, L: Ledger>(
+    fn carry_turn<S: Store, K: Sink, L: Ledger, M: Ledger>(
         &mut self,
         noted: &Noted,
         movie: &Movie,
         store: &mut S,
         sink: &mut K,
-        steps: &mut Steps<L>,
+        steps: &mut Steps<L, M>,
     ) -> Result<(), Refusal>
         requires may { MayCarry movie.now self.old noted.now.track noted.now.planned }
         requires none { noted.now.head ≡ None → noted.now.planned.count ≡ 0 }
@@ -357,9 +357,10 @@ impl Writer {
             → IsUnchanged result) }
         ensures refusal { RefusedByBoth S.Store store.old store.new K.Sink sink.old sink.new result
             RefusesCarry }
-        ensures grows { OnOk result (steps.old ≤ steps.new) }
+        ensures grows { OnOk result (steps.old.passed ≤ steps.new.passed) }
         ensures work { StepsToCarry S.Store store.old movie.now noted.now self.old self.new result
-            steps.old steps.new }
+            steps.old.passed steps.new.passed }
+        ensures looks { steps.new.looks ≡ steps.old.looks }
     {
         let Some(head) = noted.head else {
             return Ok(());
@@ -385,8 +386,7 @@ impl Writer {
         movie: &Movie,
         store: &mut S,
         sink: &mut K,
-        steps: &mut Steps<L>,
-        looks: &mut Steps<M>,
+        steps: &mut Steps<L, M>,
     ) -> Result<(), Refusal>
         requires { IsWriterOf movie.now self.old }
         ensures held { held_bytes self.new ≡ held_bytes self.old }
@@ -405,11 +405,11 @@ impl Writer {
             (waiting self.old.carrier ++ self.old.head.items)) }
         ensures refusal { RefusedByBoth S.Store store.old store.new K.Sink sink.old sink.new result
             RefusesCarry }
-        ensures grows { OnOk result (steps.old ≤ steps.new) }
+        ensures grows { OnOk result (steps.old.passed ≤ steps.new.passed) }
         ensures work { OverOpened S.Store store.old movie.now (λ file tree. (n : ℕ)
             → MayAllWrite file tree movie.now self.old.walks.items n
-            → steps.new ≤ steps.old + n) }
-        ensures turns { looks.new ≤ looks.old + movie_turns movie.now }
+            → steps.new.passed ≤ steps.old.passed + n) }
+        ensures turns { steps.new.looks ≤ steps.old.looks + movie_turns movie.now }
     {
         let tracks = movie.tracks();
         self.carrier.carry(self.head.as_slice(), sink)?;
@@ -421,7 +421,7 @@ impl Writer {
         schedule.begin(tracks, self.nexts.as_slice(), &mut self.due);
         let mut sequence: u32 = 1;
         let mut bytes: u128 = 0;
-        while let Some(turn) = schedule.turn(tracks, looks) {
+        while let Some(turn) = schedule.turn(tracks, steps) {
             let track = turn.track;
             let numbers = PieceNumbers {
                 sequence,
@@ -455,8 +455,7 @@ pub fn write_reduced<S: Store, K: Sink, L: Ledger, M: Ledger>(
     store: &mut S,
     sink: &mut K,
     leaving: Without,
-    steps: &mut Steps<L>,
-    looks: &mut Steps<M>,
+    steps: &mut Steps<L, M>,
 ) -> Result<(), Refusal>
     ensures devices { OnlyCopies S.Store store.old store.new K.Sink sink.old sink.new result }
     ensures bytes { OverOpened S.Store store.old movie.now (λ file tree.
@@ -472,14 +471,15 @@ pub fn write_reduced<S: Store, K: Sink, L: Ledger, M: Ledger>(
         × IsPutWhole movie.now (K.takes sink.old sink.new) head) }
     ensures refusal { RefusedByBoth S.Store store.old store.new K.Sink sink.old sink.new result
         (RefusesLeftCopy leaving (K.takes sink.old sink.new)) }
-    ensures grows { OnOk result (steps.old ≤ steps.new) }
+    ensures grows { OnOk result (steps.old.passed ≤ steps.new.passed) }
     ensures work { OverOpened S.Store store.old movie.now
-        (λ file tree. steps.new
-        ≤ steps.old + (measuring_steps leaving tree + walks_steps tree + writing_steps tree)) }
-    ensures turns { looks.new ≤ looks.old + 2 * movie_turns movie.now }
+        (λ file tree. steps.new.passed
+        ≤ steps.old.passed
+        + (measuring_steps leaving tree + walks_steps tree + writing_steps tree)) }
+    ensures turns { steps.new.looks ≤ steps.old.looks + 2 * movie_turns movie.now }
 {
-    let mut writer = Writer::reduced(alloc, movie, store, leaving, steps, looks)?;
-    writer.write(movie, store, sink, steps, looks)
+    let mut writer = Writer::reduced(alloc, movie, store, leaving, steps)?;
+    writer.write(movie, store, sink, steps)
 }
 
 /// Puts the normal form of a movie: it is planned, all memory that writing it needs is taken, and
@@ -489,8 +489,7 @@ pub fn write_normal<S: Store, K: Sink, L: Ledger, M: Ledger>(
     movie: &Movie,
     store: &mut S,
     sink: &mut K,
-    steps: &mut Steps<L>,
-    looks: &mut Steps<M>,
+    steps: &mut Steps<L, M>,
 ) -> Result<(), Refusal>
     ensures devices { OnlyCopies S.Store store.old store.new K.Sink sink.old sink.new result }
     ensures bytes { OverOpened S.Store store.old movie.now (λ file tree.
@@ -504,10 +503,11 @@ pub fn write_normal<S: Store, K: Sink, L: Ledger, M: Ledger>(
         × IsPutWhole movie.now (K.takes sink.old sink.new) head) }
     ensures refusal { RefusedByBoth S.Store store.old store.new K.Sink sink.old sink.new result
         (RefusesCopy (K.takes sink.old sink.new)) }
-    ensures grows { OnOk result (steps.old ≤ steps.new) }
+    ensures grows { OnOk result (steps.old.passed ≤ steps.new.passed) }
     ensures work { OverOpened S.Store store.old movie.now
-        (λ file tree. steps.new ≤ steps.old + (walks_steps tree + writing_steps tree)) }
-    ensures turns { looks.new ≤ looks.old + 2 * movie_turns movie.now }
+        (λ file tree. steps.new.passed
+        ≤ steps.old.passed + (walks_steps tree + writing_steps tree)) }
+    ensures turns { steps.new.looks ≤ steps.old.looks + 2 * movie_turns movie.now }
 {
-    write_reduced(alloc, movie, store, sink, Without::NOTHING, steps, looks)
+    write_reduced(alloc, movie, store, sink, Without::NOTHING, steps)
 }

@@ -27,8 +27,7 @@ use Rattle.mp4_present.specs.declared.opening.Found.{Found}
 use Rattle.mp4_present.specs.format.Denotes.{Denotes, FileTree, IsFileTree, IsSoundFile, IsConsistent, sample_of, plain_of, placed_of, first_due, track_of, file_parts, presentation_of}
 use Rattle.mp4_present.specs.words.Measured.{IsMeasured, AreMeasured, IsMeasure}
 use Rattle.mp4_present.specs.words.OpenedMovie.{IsInfoBy, AreInfosBy, IsInfoOf, IsOpenedAs, kept_of, plain_seen}
-use Rattle.mp4_frag.specs.words.OwnTrafs.{own_seen}
-use Rattle.mp4_present.specs.words.OwnTrafs.{AreOwn}
+use Rattle.mp4_present.specs.words.OwnTrafs.{own_seen, AreOwn}
 use Rattle.mp4_present.specs.words.PassedMoofs.{IsBegun, IsPassed}
 use Rattle.mp4_present.specs.words.Passing.{seen_behind}
 use Rattle.mp4_present.specs.format.Presentation.{Track, IsInTime, total_duration, end_time, movie_length, normal_moov_length, max_moov}

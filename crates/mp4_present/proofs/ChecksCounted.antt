@@ -1,19 +1,14 @@
 -- The steps of the checks of all `moof`s of a file.
-use Rattle.std.proofs.Common.{◌≡◌, ℕ, ◌+◌, ◌≤◌, true, List, ◌∷◌, ◌++◌, Some, None, length, refl, sym, ap, subst, ◌∙◌, arith}
+use Rattle.std.proofs.Common.{◌≡◌, ℕ, ◌+◌, true, List, ◌∷◌, ◌++◌, Some, None, length, refl, sym, ap, subst, ◌∙◌, arith}
 use Rattle.std.proofs.Math.Nat.{le_refl}
-use Rattle.std.specs.Prelude.{codes, bytes_eq, Err}
+use Rattle.std.specs.Prelude.{codes, bytes_eq}
 use Rattle.mp4_boxes.specs.format.Box.{Box, file_container}
 use Rattle.mp4_boxes.specs.format.Children.{Holds, of_kind}
-use Rattle.mp4_boxes.specs.declared.refusal.Refusal.{Refusal}
-use Rattle.mp4_boxes.specs.declared.refusal.Refusal.TheVariants as refusals
 use Rattle.mp4_boxes.specs.declared.rule.Rule.TheVariants.{File}
 use Rattle.mp4_boxes.proofs.Among.{of_kind-split}
-use Rattle.mp4_frag.specs.format.FragmentRows.{fragment_rows, fragment_length, moof_says}
-use Rattle.mp4_frag.specs.words.CheckWork.{IfMemory}
-use Rattle.mp4_frag.specs.words.TrafFaults.{RefusesNotes}
 use Rattle.mp4_present.specs.words.Movies.{IsWhole}
 use Rattle.mp4_present.specs.words.Outline.{AreFrom, IsNextFragment, box_at, longest}
-use Rattle.mp4_present.specs.words.WalkSteps.{moof_steps, boxes_steps, ChecksAll, ChecksWithin, IfNoFault}
+use Rattle.mp4_present.specs.words.WalkSteps.{moof_steps, boxes_steps, ChecksAll, ChecksWithin}
 use Rattle.mp4_present.specs.declared.reading.TopBox.{TopBox}
 use Rattle.mp4_present.proofs.FragmentPass.{Left, left_next, next_boxes, whole_file}
 use Rattle.mp4_present.proofs.MoofsPassed.{IsRead, read_is}
@@ -41,9 +36,6 @@ checks_all file at old new left none all h =
 one_less : (w rest all before after old : ℕ) → after ≡ before + w → before + (w + rest) ≡ old + all → after + rest ≡ old + all
 one_less w rest all before after old a h = omega (arith, a, h)
 
-some_less : (w rest all before after old : ℕ) → after ≤ before + w → before + (w + rest) ≡ old + all → after ≤ old + all
-some_less w rest all before after old a h = omega (arith, a, h)
-
 -- the boxes behind the next `moof`: it was the first `moof` of those before
 pub next_left : (file : List ℕ) (at : ℕ) (top : TopBox) (w : IsWhole (length file) top) (boxes : List Box) (a : AreFrom file at boxes) → IsNextFragment file at boxes (Some top)
     → (m : Box) (bytes : List ℕ) (len : ℕ) → IsRead file top m bytes len
@@ -68,26 +60,3 @@ next_checked file at top all w boxes a next m bytes len r before after start che
     let l = next_left file at top w boxes a next m bytes len r in
     let sum = subst (λ (bs : List Box). before + boxes_steps bs ≡ start + boxes_steps (of_kind (codes "moof") all)) l.2 h in
     (l.0, (l.1, one_less (moof_steps m) (boxes_steps (of_kind (codes "moof") l.0)) _ before after start check sum))
-
--- some of one more was checked
-pub next_stopped : (file : List ℕ) (at : ℕ) (top : TopBox) (all : List Box) (w : IsWhole (length file) top) (boxes : List Box) (a : AreFrom file at boxes) → IsNextFragment file at boxes (Some top)
-    → (m : Box) (bytes : List ℕ) (len : ℕ) → IsRead file top m bytes len → (before after start : ℕ) → after ≤ before + moof_steps m
-    → before + boxes_steps (of_kind (codes "moof") boxes) ≡ start + boxes_steps (of_kind (codes "moof") all) → after ≤ start + boxes_steps (of_kind (codes "moof") all)
-next_stopped file at top all w boxes a next m bytes len r before after start check h =
-    let l = next_left file at top w boxes a next m bytes len r in
-    let sum = subst (λ (bs : List Box). before + boxes_steps bs ≡ start + boxes_steps (of_kind (codes "moof") all)) l.2 h in
-    some_less (moof_steps m) (boxes_steps (of_kind (codes "moof") l.0)) _ before after start check sum
-
--- the steps of one that was not checked to its end
-pub stopped_steps : (m : Box) (before after : ℕ) → after ≤ before + (fragment_rows (moof_says m) + fragment_length (moof_says m)) → after ≤ before + moof_steps m
-unfolding moof_steps
-stopped_steps m before after h = h
-
--- a check that stops has found a fault, or there was no memory: then this is so
-pub if_stopped : (T A : Type 0) (P Q : Type 0) (owns : ℕ) (r : Refusal) → RefusesNotes owns r → IfMemory {T = T} (Err r) Q → (Q → P) → IfNoFault {A = A} (Err r) P
-if_stopped T A P Q owns (refusals.Fault f) w q p = tt
-if_stopped T A P Q owns refusals.Memory w q p = p q
-if_stopped T A P Q owns refusals.StoreFailed w q p = absurd w
-if_stopped T A P Q owns refusals.StoreChanged w q p = absurd w
-if_stopped T A P Q owns refusals.WriteFailed w q p = absurd w
-if_stopped T A P Q owns refusals.NoSuchTrack w q p = absurd w

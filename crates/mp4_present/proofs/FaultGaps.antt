@@ -4,7 +4,6 @@ use Rattle.std.specs.Prelude.{IsTrue, Contains, IfSome, suc}
 use Rattle.std.proofs.lemmas.List.Elements.{Contains-append_right}
 use Rattle.mp4_boxes.specs.declared.refusal.Refusal.{Refusal}
 use Rattle.mp4_boxes.specs.declared.refusal.Refusal.TheVariants as refusals
-use Rattle.mp4_frag.specs.words.TrafFaults.{RefusesNotes}
 use Rattle.mp4_present.specs.words.NumbersTold.{StepsFit}
 use Rattle.mp4_present.specs.words.Refusing.{MeetsFault, RefusesSearch}
 use Rattle.mp4_present.specs.words.Reading.{RefusesPayload}
@@ -20,15 +19,7 @@ not_read honest top room reads reads_after refusals.StoreChanged n w = λ told. 
 not_read honest top room reads reads_after refusals.WriteFailed n w = w
 not_read honest top room reads reads_after refusals.NoSuchTrack n w = w
 
--- one was not checked to its end
-pub meets : (owns : ℕ) (r : Refusal) → RefusesNotes owns r → MeetsFault r
-meets owns (refusals.Fault f) w = tt
-meets owns refusals.Memory w = tt
-meets owns refusals.StoreFailed w = w
-meets owns refusals.StoreChanged w = w
-meets owns refusals.WriteFailed w = w
-meets owns refusals.NoSuchTrack w = w
-
+-- one that was not checked to its end
 pub not_searched : (honest : Bool) (reads reads_after : ℕ) (r : Refusal) → MeetsFault r → RefusesSearch honest reads reads_after r
 not_searched honest reads reads_after (refusals.Fault f) w = tt
 not_searched honest reads reads_after refusals.Memory w = tt

@@ -12,7 +12,7 @@ use Rattle.mp4_boxes.specs.declared.fault.Fault.{Fault}
 use Rattle.mp4_boxes.specs.declared.refusal.Refusal.{Refusal}
 use Rattle.mp4_boxes.specs.declared.refusal.Refusal.TheVariants as refusals
 use Rattle.mp4_frag.specs.format.Fragments.{FragmentTree}
-use Rattle.mp4_frag.specs.words.TrafTests.{RefusedFirst}
+use Rattle.mp4_present.specs.words.TablesFirst.{RefusedFirst}
 use Rattle.mp4_frag.specs.declared.state.TrackState.{TrackState}
 use Rattle.mp4_head.specs.format.FirstFault.{fault_within, depth, head_or_fault, movie_tree_of}
 use Rattle.mp4_head.specs.format.Tree.{MovieTree, first_of}

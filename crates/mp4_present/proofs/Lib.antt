@@ -95,3 +95,5 @@ pub mod JudgedTrees
 pub mod RunsFail
 pub mod TrafFails
 pub mod JudgedRefused
+pub mod TracksFound
+pub mod NotedTracks

@@ -13,7 +13,7 @@ use Rattle.mp4_boxes.proofs.Among.{of_kind-split}
 use Rattle.mp4_frag.specs.format.Fragments.{FragmentTree}
 use Rattle.mp4_frag.specs.words.Judged.{AreTrexesOf, IsSoundMoof, AreMovedOn, tree_of}
 use Rattle.mp4_frag.specs.words.RunsJudged.{children_of}
-use Rattle.mp4_frag.specs.words.TrafTests.{MoofFirst, RefusedFirst}
+use Rattle.mp4_frag.specs.words.TrafTests.{MoofFirst}
 use Rattle.mp4_frag.specs.declared.state.TrackState.{TrackState}
 use Rattle.mp4_frag.specs.declared.trex.Trex.{Trex}
 use Rattle.mp4_head.specs.format.Tree.{MovieTree}
@@ -112,16 +112,6 @@ all_judged file movie boxes at most states whole room u n = record {
   passed = all_passed file movie boxes at most states room u.0 n;
   judged = u.1 ∙ ap (λ (bs : List Box). and_then (moofs_or_fault (length file) movie (record { parts = parts_behind movie u.0.fragments; room = room }) bs) (λ more. Ok (u.0.fragments ++ more))) n ∙ ap (λ (fs : List FragmentTree). Ok fs) (append-nil u.0.fragments);
 }
-
--- one that is refused
-pub refused_judged : (file : List ℕ) (movie : MovieTree) (whole : ℕ) (moofs : List Box) (IsFirst : Option Fault → Type 0) (r : Refusal)
-    → ((f : Fault) → IsFirst (Some f) → moofs_or_fault (length file) movie (record { parts = []; room = whole }) moofs ≡ Err f) → RefusedFirst IsFirst r → RefusesMoofs file movie whole moofs r
-refused_judged file movie whole moofs IsFirst (refusals.Fault f) by h = by f h
-refused_judged file movie whole moofs IsFirst refusals.Memory by h = tt
-refused_judged file movie whole moofs IsFirst refusals.StoreFailed by h = tt
-refused_judged file movie whole moofs IsFirst refusals.StoreChanged by h = tt
-refused_judged file movie whole moofs IsFirst refusals.WriteFailed by h = tt
-refused_judged file movie whole moofs IsFirst refusals.NoSuchTrack by h = tt
 
 -- a read that failed names no fault
 pub unread_judged : (file : List ℕ) (movie : MovieTree) (whole : ℕ) (moofs : List Box) (room : ℕ) (top : TopBox) (reads reads_after : ℕ) (r : Refusal) → RefusesPayload room top reads reads_after r → RefusesMoofs file movie whole moofs r

@@ -10,7 +10,7 @@ use Rattle.mp4_boxes.specs.declared.refusal.Refusal.TheVariants as refusals
 use Rattle.mp4_tables.specs.format.FirstFault.{table_tests}
 use Rattle.mp4_tables.specs.words.Leaves.{boxes_of}
 use Rattle.mp4_tables.proofs.LeafLists.{boxes_are}
-use Rattle.mp4_frag.specs.words.TrafTests.{RefusedFirst}
+use Rattle.mp4_present.specs.words.TablesFirst.{RefusedFirst}
 use Rattle.mp4_frag.proofs.FirstRun.{in_front, behind_all}
 use Rattle.mp4_frag.specs.declared.trex.Trex.{Trex}
 use Rattle.mp4_head.specs.format.Tree.{TrackTree, stbl_of}

@@ -4,7 +4,7 @@ use Rattle.std.specs.Prelude.{slice_index_or}
 use Rattle.std.specs.BTreeMap.{BTreeMap, get, Updates}
 use Rattle.std.specs.Ordering.{nat_cmp}
 use Rattle.std.proofs.Math.Seq.{drop-cons}
-use Rattle.mp4_frag.proofs.TracksFound.{same_at}
+use Rattle.mp4_present.proofs.TracksFound.{same_at}
 use Rattle.mp4_frag.specs.format.FragmentSamples.{trex_for}
 use Rattle.mp4_frag.specs.declared.trex.Trex.{Trex}
 

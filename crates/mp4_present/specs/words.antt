@@ -33,3 +33,4 @@ pub mod TablesChecked
 pub mod OpeningWork
 pub mod LoadedTaken
 pub mod OwnTrafs
+pub mod TrackPlaces

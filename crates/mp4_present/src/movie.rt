@@ -1,8 +1,9 @@
 //! A file that was opened: the bytes of its `moov`, and plain numbers.
+use crate::own_trafs::OwnTrafs;
 use crate::reading::TopBox;
 use crate::track_info::TrackInfo;
 use mp4_boxes::{BoxView, FourCc, Memory};
-use mp4_frag::{OwnTraf, OwnTrafs, TrackState, Trex};
+use mp4_frag::{OwnTraf, TrackState, Trex};
 use mp4_head::{MovieHead, read_head};
 use mp4_tables::{Tables, TablesAt};
 use std::alloc::Global;
@@ -48,7 +49,7 @@ pub struct Movie {
 impl Model for Movie {
     ghost use Rattle.std.specs.Prelude.{map};
     ghost use Rattle.mp4_present.specs.words.Movies.{MovieSeen, IsMovie};
-    ghost use Rattle.mp4_frag.specs.words.OwnTrafs.{own_seen};
+    ghost use Rattle.mp4_present.specs.words.OwnTrafs.{own_seen};
 
     ghost Value = { MovieSeen };
 

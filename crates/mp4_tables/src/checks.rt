@@ -16,7 +16,7 @@ use crate::places::{BytesAt, ChunksAt, OffsetsAt, RowsAt, SizesAt, TablesAt};
 use crate::size_checks::read_sizes;
 use crate::stts_rows::{are_below, counts_are};
 use crate::sync_samples::are_numbers;
-use mp4_boxes::{BoxView, Fault, FourCc, Kind, Steps};
+use mp4_boxes::{BoxView, Fault, FourCc, Kind, Count};
 use std::sync::ledger::Ledger;
 
 const STCO: FourCc = FourCc(*b"stco");
@@ -28,7 +28,7 @@ pub(crate) fn read_durations<L: Ledger>(
     stbl: BoxView,
     limits: Limits,
     n: u32,
-    steps: &mut Steps<L>,
+    steps: &mut Count<L>,
 ) -> Result<RowsAt, Fault>
     requires tables { HasTables (box_seen stbl) }
     requires sizes { SizesKnown (box_seen stbl) n }
@@ -58,7 +58,7 @@ pub(crate) fn read_offsets<L: Ledger>(
     stbl: BoxView,
     limits: Limits,
     n: u32,
-    steps: &mut Steps<L>,
+    steps: &mut Count<L>,
 ) -> Result<Option<OffsetsAt>, Fault>
     requires tables { HasTables (box_seen stbl) }
     requires sizes { SizesKnown (box_seen stbl) n }
@@ -132,7 +132,7 @@ pub(crate) fn read_chunk_rows<L: Ledger>(
     limits: Limits,
     chunks: ChunksAt,
     n: u32,
-    steps: &mut Steps<L>,
+    steps: &mut Count<L>,
 ) -> Result<RowsAt, Fault>
     requires tables { HasTables (box_seen stbl) }
     requires sizes { SizesKnown (box_seen stbl) n }
@@ -162,7 +162,7 @@ pub(crate) fn read_sync<L: Ledger>(
     stbl: BoxView,
     limits: Limits,
     n: u32,
-    steps: &mut Steps<L>,
+    steps: &mut Count<L>,
 ) -> Result<Option<RowsAt>, Fault>
     requires tables { HasTables (box_seen stbl) }
     requires sizes { SizesKnown (box_seen stbl) n }
@@ -213,7 +213,7 @@ pub(crate) fn check_places<L: Ledger>(
     sizes: SizesAt,
     chunks: ChunksAt,
     rows: RowsAt,
-    steps: &mut Steps<L>,
+    steps: &mut Count<L>,
 ) -> Result<(), Fault>
     requires tables { HasTables (box_seen stbl) }
     requires sizes { SizesRead limits (box_seen stbl) sizes }
@@ -235,7 +235,7 @@ pub(crate) fn check_places<L: Ledger>(
 pub(crate) fn read_tables<L: Ledger>(
     stbl: BoxView,
     limits: Limits,
-    steps: &mut Steps<L>,
+    steps: &mut Count<L>,
 ) -> Result<TablesAt, Fault>
     requires { HasTables (box_seen stbl) }
     ensures tables { IfOk result (TablesRead limits (box_seen stbl.entry)) }

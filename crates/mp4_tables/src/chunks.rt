@@ -10,7 +10,7 @@ ghost use Rattle.mp4_tables.specs.words.TablesComing.{are_described as described
 
 use crate::places::{ChunkPlace, ChunksAt, RowPlace, RowsAt};
 use crate::table_rows::{chunk_row_at, offset_at};
-use mp4_boxes::{Steps, Ticket};
+use mp4_boxes::{Count, Ticket};
 use std::sync::ledger::Ledger;
 
 // Before the first row.
@@ -61,7 +61,7 @@ pub(crate) fn are_ordered<L: Ledger>(
     payload: &[u8],
     rows: RowsAt,
     has_chunks: bool,
-    steps: &mut Steps<L>,
+    steps: &mut Count<L>,
 ) -> bool
     requires { HaveRoom 12 payload.now rows }
     ensures same { result ≡ is_chunk_order (map (λ row. row.first) (chunk_rows_at payload.now rows))
@@ -97,7 +97,7 @@ pub(crate) fn chunk_counts_are<L: Ledger>(
     rows: RowsAt,
     chunks: ChunksAt,
     n: u32,
-    steps: &mut Steps<L>,
+    steps: &mut Count<L>,
 ) -> bool
     requires room { HaveRoom 12 payload.now rows }
     requires offsets { HaveRoom (offset_width chunks.is_wide) payload.now chunks.rows }
@@ -139,7 +139,7 @@ pub(crate) fn are_described<L: Ledger>(
     rows: RowsAt,
     chunks: ChunksAt,
     descriptions: u32,
-    steps: &mut Steps<L>,
+    steps: &mut Count<L>,
 ) -> bool
     requires room { HaveRoom 12 payload.now rows }
     requires offsets { HaveRoom (offset_width chunks.is_wide) payload.now chunks.rows }

@@ -9,7 +9,7 @@ ghost use Rattle.mp4_tables.specs.words.Stops.{StopsIn};
 use crate::chunks::{first_chunk, pass_sample};
 use crate::places::{ChunksAt, RowsAt, SizesAt};
 use crate::sizes::checked_size_at;
-use mp4_boxes::Steps;
+use mp4_boxes::Count;
 use std::sync::ledger::Ledger;
 
 // Whether so many bytes at a place lie in a file of this length.
@@ -27,7 +27,7 @@ pub(crate) fn lie_within<L: Ledger>(
     rows: RowsAt,
     chunks: ChunksAt,
     file_len: u64,
-    steps: &mut Steps<L>,
+    steps: &mut Count<L>,
 ) -> bool
     requires sizes { HaveSizes payload.now sizes.form sizes.rows }
     requires room { HaveRoom 12 payload.now rows }

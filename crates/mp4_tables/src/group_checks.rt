@@ -14,7 +14,7 @@ use crate::keys::{GroupKey, Keys};
 use crate::leaves::{Limits, children_of, place_in, version_of};
 use crate::places::{GroupsAt, RowsAt};
 use crate::stts_rows::{are_below, counts_are_within};
-use mp4_boxes::{BoxView, Fault, FourCc, Kind, Steps};
+use mp4_boxes::{BoxView, Fault, FourCc, Kind, Count};
 use std::sync::ledger::Ledger;
 
 // An `sgpd`: what follows its grouping type is kept unread.
@@ -69,7 +69,7 @@ fn read_next<L: Ledger>(
     leaf: BoxView,
     groups: GroupsAt,
     n: u32,
-    steps: &mut Steps<L>,
+    steps: &mut Count<L>,
 ) -> Result<GroupsAt, Fault>
     requires tables { HasTables (box_seen stbl) }
     requires child { IsChild (box_seen stbl) (box_seen leaf) }
@@ -104,7 +104,7 @@ fn read_child<L: Ledger>(
     child: BoxView,
     groups: GroupsAt,
     n: u32,
-    steps: &mut Steps<L>,
+    steps: &mut Count<L>,
 ) -> Result<GroupsAt, Fault>
     requires tables { HasTables (box_seen stbl) }
     requires child { IsChild (box_seen stbl) (box_seen child) }
@@ -146,7 +146,7 @@ pub(crate) fn read_groups<L: Ledger>(
     stbl: BoxView,
     limits: Limits,
     n: u32,
-    steps: &mut Steps<L>,
+    steps: &mut Count<L>,
 ) -> Result<GroupsAt, Fault>
     requires tables { HasTables (box_seen stbl) }
     requires sizes { SizesKnown (box_seen stbl) n }

@@ -9,7 +9,7 @@ ghost use Rattle.mp4_tables.specs.words.Stops.{StopsIn};
 use crate::places::{RowsAt, RunPlace};
 use crate::table_rows::run_at;
 use crate::totals::times;
-use mp4_boxes::{Steps, Ticket};
+use mp4_boxes::{Count, Ticket};
 use std::sync::ledger::Ledger;
 
 // Before the first row.
@@ -25,7 +25,7 @@ fn total_within<L: Ledger>(
     payload: &[u8],
     rows: RowsAt,
     n: u32,
-    steps: &mut Steps<L>,
+    steps: &mut Count<L>,
 ) -> Option<u64>
     requires { HaveRoom 8 payload.now rows }
     ensures some { IfSome result (λ sum. (sum ≡ total (runs_at payload.now rows)) × (sum ≤ n)) }
@@ -50,7 +50,7 @@ pub(crate) fn counts_are<L: Ledger>(
     payload: &[u8],
     rows: RowsAt,
     n: u32,
-    steps: &mut Steps<L>,
+    steps: &mut Count<L>,
 ) -> bool
     requires { HaveRoom 8 payload.now rows }
     ensures same { result ≡ (total (runs_at payload.now rows) == n) }
@@ -67,7 +67,7 @@ pub(crate) fn counts_are_within<L: Ledger>(
     payload: &[u8],
     rows: RowsAt,
     n: u32,
-    steps: &mut Steps<L>,
+    steps: &mut Count<L>,
 ) -> bool
     requires { HaveRoom 8 payload.now rows }
     ensures same { IsTrue result ↔ (total (runs_at payload.now rows) ≤ n) }
@@ -84,7 +84,7 @@ pub(crate) fn are_below<L: Ledger>(
     payload: &[u8],
     rows: RowsAt,
     bound: u32,
-    steps: &mut Steps<L>,
+    steps: &mut Count<L>,
 ) -> bool
     requires { HaveRoom 8 payload.now rows }
     ensures cost { steps.new ≤ steps.old + rows.count }

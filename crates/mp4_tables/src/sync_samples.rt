@@ -7,7 +7,7 @@ ghost use Rattle.mp4_tables.specs.words.Stops.{StopsIn};
 
 use crate::places::{RowsAt, SyncPlace};
 use crate::table_rows::number_at;
-use mp4_boxes::{Steps, Ticket};
+use mp4_boxes::{Count, Ticket};
 use std::sync::ledger::Ledger;
 
 // Whether the numbers rise, from 1 to `n`.
@@ -16,7 +16,7 @@ pub(crate) fn are_numbers<L: Ledger>(
     payload: &[u8],
     rows: RowsAt,
     n: u32,
-    steps: &mut Steps<L>,
+    steps: &mut Count<L>,
 ) -> bool
     requires { HaveRoom 4 payload.now rows }
     ensures same { result ≡ is_sync_order n (numbers_at 4 payload.now rows) }

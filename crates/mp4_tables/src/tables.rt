@@ -47,13 +47,13 @@ impl<'a> Tables<'a> {
     /// `keys` becomes the keys that the tables name. The steps of tables that it accepts are one
     /// for each row of `stts`, `stsc`, `stss` and a signed `ctts`, two for each row of an unsigned
     /// `ctts` and of an `sbgp`, six for each chunk and two for each sample, no more and no fewer.
-    pub fn check<L: Ledger>(
+    pub fn check<L: Ledger, M: Ledger>(
         stbl: BoxView<'a>,
         file_len: u64,
         descriptions: u32,
         room: u32,
         keys: &mut Keys,
-        steps: &mut Steps<L>,
+        steps: &mut Steps<L, M>,
     ) -> Result<Tables<'a>, Fault>
         requires { HasTables (box_seen stbl) }
         ensures payload { IfOk result (λ t. t.payload ≡ (box_seen stbl.entry).payload) }
@@ -68,19 +68,22 @@ impl<'a> Tables<'a> {
         ensures exact { FirstNamed (table_tests room
             (record { file_length = file_len; descriptions = descriptions })
             (boxes_of (box_seen stbl.entry))) result }
-        ensures passed { IfOk result (λ t. steps.new ≤ steps.old + 6 * rows_in t.at
+        ensures passed { IfOk result (λ t. steps.new.passed ≤ steps.old.passed + 6 * rows_in t.at
             + 2 * t.at.sizes.rows.count) }
-        ensures within { IfOk result (λ t. steps.new ≤ steps.old
+        ensures within { IfOk result (λ t. steps.new.passed ≤ steps.old.passed
             + 4 * length (box_seen stbl.entry).payload + 2 * t.at.sizes.rows.count) }
-        ensures work { steps.new ≤ steps.old + 4 * length (box_seen stbl.entry).payload + 2 * room }
-        ensures counted { IfOk result (λ t. steps.new ≡ steps.old + check_steps t.at) }
+        ensures work { steps.new.passed ≤ steps.old.passed
+            + 4 * length (box_seen stbl.entry).payload + 2 * room }
+        ensures counted { IfOk result (λ t. steps.new.passed
+            ≡ steps.old.passed + check_steps t.at) }
+        ensures looks { steps.new.looks ≡ steps.old.looks }
     {
         let limits = Limits {
             file_len,
             descriptions,
             room,
         };
-        let at = read_tables(stbl, limits, steps)?;
+        let at = read_tables(stbl, limits, &mut steps.passed)?;
         *keys = at.groups.keys;
         Ok(Tables {
             payload: stbl.payload(),
@@ -98,21 +101,22 @@ impl<'a> Tables<'a> {
 
     /// What the samples come to together. It passes each row of `stts` once, and each size, a step
     /// each.
-    pub fn totals<L: Ledger>(&self, steps: &mut Steps<L>) -> Totals
+    pub fn totals<L: Ledger, M: Ledger>(&self, steps: &mut Steps<L, M>) -> Totals
         ensures duration { result.duration
             ≡ min (sum_of (λ (s : SampleAt). s.duration) (samples_of (tables_seen self.now)))
             (2 ^ 64 - 1) }
         ensures bytes { result.bytes
             ≡ min (sum_of (λ (s : SampleAt). s.size) (samples_of (tables_seen self.now)))
             (2 ^ 64 - 1) }
-        ensures work { steps.new ≤ steps.old + self.now.at.durations.count
+        ensures work { steps.new.passed ≤ steps.old.passed + self.now.at.durations.count
             + self.now.at.sizes.rows.count }
-        ensures counted { steps.new ≡ steps.old + self.now.at.durations.count
+        ensures counted { steps.new.passed ≡ steps.old.passed + self.now.at.durations.count
             + self.now.at.sizes.rows.count }
+        ensures looks { steps.new.looks ≡ steps.old.looks }
     {
         Totals {
-            duration: sum_of_values(self.payload, self.at.durations, steps),
-            bytes: sum_of_sizes(self.payload, self.at.sizes, steps),
+            duration: sum_of_values(self.payload, self.at.durations, &mut steps.passed),
+            bytes: sum_of_sizes(self.payload, self.at.sizes, &mut steps.passed),
         }
     }
 

@@ -7,7 +7,7 @@ ghost use Rattle.mp4_tables.specs.words.Rows.{HaveRoom, HaveSizes, runs_at, size
 use crate::places::{RowsAt, SizesAt};
 use crate::sizes::checked_size_at;
 use crate::table_rows::run_at;
-use mp4_boxes::Steps;
+use mp4_boxes::Count;
 use std::sync::ledger::Ledger;
 
 /// What the samples of a track's tables come to: the sum of their durations, in units of the
@@ -28,7 +28,7 @@ pub(crate) fn times(count: u32, value: u32) -> u64
 }
 
 // The sum of the values that rows stand for, as far as 64 bits go.
-pub(crate) fn sum_of_values<L: Ledger>(payload: &[u8], rows: RowsAt, steps: &mut Steps<L>) -> u64
+pub(crate) fn sum_of_values<L: Ledger>(payload: &[u8], rows: RowsAt, steps: &mut Count<L>) -> u64
     requires { HaveRoom 8 payload.now rows }
     ensures sum { result ≡ min (sum_of (λ (x : ℕ). x) (repeated (runs_at payload.now rows)))
         (2 ^ 64 - 1) }
@@ -43,7 +43,7 @@ pub(crate) fn sum_of_values<L: Ledger>(payload: &[u8], rows: RowsAt, steps: &mut
 }
 
 // The sum of all sizes, as far as 64 bits go.
-pub(crate) fn sum_of_sizes<L: Ledger>(payload: &[u8], sizes: SizesAt, steps: &mut Steps<L>) -> u64
+pub(crate) fn sum_of_sizes<L: Ledger>(payload: &[u8], sizes: SizesAt, steps: &mut Count<L>) -> u64
     requires { HaveSizes payload.now sizes.form sizes.rows }
     ensures sum { result ≡ min (sum_of (λ (x : ℕ). x) (sizes_at payload.now sizes)) (2 ^ 64 - 1) }
     ensures cost { steps.new ≡ steps.old + sizes.rows.count }

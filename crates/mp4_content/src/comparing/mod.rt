@@ -49,13 +49,13 @@ fn hand_over<D: Differences>(found: &[Difference], seen: &mut D) -> bool
 }
 
 // Compares the samples of two tracks: what differs is handed over until no more is taken.
-fn compare_track_samples<S: Store, T: Store, D: Differences, L: Ledger>(
+fn compare_track_samples<S: Store, T: Store, D: Differences, L: Ledger, M: Ledger>(
     alloc: Global,
     tracks: Tracks,
     left: &mut S,
     right: &mut T,
     seen: &mut D,
-    steps: &mut Steps<L>,
+    steps: &mut Steps<L, M>,
 ) -> Result<bool, Refusal>
     requires tracks { HaveTracks tracks.place tracks.movies.now.left tracks.movies.now.right }
     requires goes { D.is_open seen.old ≡ true }
@@ -67,9 +67,10 @@ fn compare_track_samples<S: Store, T: Store, D: Differences, L: Ledger>(
         right.old tracks.entry.movies.now.right tracks.entry.place
         (λ tree t other u. IsUnchanged result) }
     ensures work { TracksWork S.Store left.old tracks.entry.movies.now.left T.Store right.old
-        tracks.entry.movies.now.right tracks.entry.place steps.old steps.new }
+        tracks.entry.movies.now.right tracks.entry.place steps.old.passed steps.new.passed }
     ensures refusal { RefusedBoth S.Store left.old left.new T.Store right.old right.new result
         RefusesSample }
+    ensures looks { steps.new.looks ≡ steps.old.looks }
 {
     let (by, mut sides) = begin_pairs(alloc, tracks, left, right, steps)?;
     let Tracks { movies, place, .. } = tracks;
@@ -129,13 +130,13 @@ fn compare_track_heads(
 }
 
 // Compares two tracks: what differs is handed over until no more is taken.
-fn compare_tracks<S: Store, T: Store, D: Differences, L: Ledger>(
+fn compare_tracks<S: Store, T: Store, D: Differences, L: Ledger, M: Ledger>(
     alloc: Global,
     tracks: Tracks,
     left: &mut S,
     right: &mut T,
     seen: &mut D,
-    steps: &mut Steps<L>,
+    steps: &mut Steps<L, M>,
 ) -> Result<bool, Refusal>
     requires tracks { HaveTracks tracks.place tracks.movies.now.left tracks.movies.now.right }
     requires goes { D.is_open seen.old ≡ true }
@@ -148,9 +149,10 @@ fn compare_tracks<S: Store, T: Store, D: Differences, L: Ledger>(
         right.old tracks.entry.movies.now.right tracks.entry.place
         (λ tree t other u. IsUnchanged result) }
     ensures work { TracksWork S.Store left.old tracks.entry.movies.now.left T.Store right.old
-        tracks.entry.movies.now.right tracks.entry.place steps.old steps.new }
+        tracks.entry.movies.now.right tracks.entry.place steps.old.passed steps.new.passed }
     ensures refusal { RefusedBoth S.Store left.old left.new T.Store right.old right.new result
         RefusesSample }
+    ensures looks { steps.new.looks ≡ steps.old.looks }
 {
     let Tracks { movies, place, .. } = tracks;
     let info = movies.left.tracks()[place];
@@ -167,14 +169,14 @@ fn compare_tracks<S: Store, T: Store, D: Differences, L: Ledger>(
 /// over: the movies, the number of their tracks, and then track by track the heads, the start, the
 /// number of samples, and the samples. True where all was compared, false where no further
 /// difference was taken.
-pub fn compare_all<S: Store, T: Store, D: Differences, L: Ledger>(
+pub fn compare_all<S: Store, T: Store, D: Differences, L: Ledger, M: Ledger>(
     alloc: Global,
     movies: &Movies,
     left: &mut S,
     right: &mut T,
     leaving: Without,
     seen: &mut D,
-    steps: &mut Steps<L>,
+    steps: &mut Steps<L, M>,
 ) -> Result<bool, Refusal>
     requires { D.is_open seen.old ≡ true }
     ensures left { OnlyReads S.Store left.old left.new result }
@@ -189,9 +191,11 @@ pub fn compare_all<S: Store, T: Store, D: Differences, L: Ledger>(
         movies.now.right (λ tree other. IsUnchanged result) }
     ensures work { WhereOpenedBoth S.Store left.old movies.now.left T.Store right.old
         movies.now.right
-        (λ tree other. steps.new ≤ steps.old + (walks_steps tree + walks_steps other)) }
+        (λ tree other. steps.new.passed ≤ steps.old.passed
+        + (walks_steps tree + walks_steps other)) }
     ensures refusal { RefusedBoth S.Store left.old left.new T.Store right.old right.new result
         RefusesSample }
+    ensures looks { steps.new.looks ≡ steps.old.looks }
 {
     let head = movies.left.head(alloc)?;
     let other_head = movies.right.head(alloc)?;
@@ -238,13 +242,13 @@ impl Differences for FirstDifference {
 
 /// The first difference between two opened files, without what is left out; none where they say
 /// the same.
-pub fn compare<S: Store, T: Store, L: Ledger>(
+pub fn compare<S: Store, T: Store, L: Ledger, M: Ledger>(
     alloc: Global,
     movies: &Movies,
     left: &mut S,
     right: &mut T,
     leaving: Without,
-    steps: &mut Steps<L>,
+    steps: &mut Steps<L, M>,
 ) -> Result<Option<Difference>, Refusal>
     ensures left { OnlyReads S.Store left.old left.new result }
     ensures right { OnlyReads T.Store right.old right.new result }
@@ -254,9 +258,11 @@ pub fn compare<S: Store, T: Store, L: Ledger>(
         movies.now.right (λ tree other. IsUnchanged result) }
     ensures work { WhereOpenedBoth S.Store left.old movies.now.left T.Store right.old
         movies.now.right
-        (λ tree other. steps.new ≤ steps.old + (walks_steps tree + walks_steps other)) }
+        (λ tree other. steps.new.passed ≤ steps.old.passed
+        + (walks_steps tree + walks_steps other)) }
     ensures refusal { RefusedBoth S.Store left.old left.new T.Store right.old right.new result
         RefusesSample }
+    ensures looks { steps.new.looks ≡ steps.old.looks }
 {
     let mut seen = FirstDifference { first: None };
     let _all = compare_all(alloc, movies, left, right, leaving, &mut seen, steps)?;

@@ -235,18 +235,20 @@ pub(crate) struct Passed {
 // Passes the next pairs of samples in hand that are the same, so many at most. Never inlined: what
 // it holds would be made ready where it isn't to be tried, too.
 #[inline(never)]
-fn pass_now<L: Ledger>(
+fn pass_now<L: Ledger, M: Ledger>(
     by: &Pairing,
     movies: &Movies,
     sides: &mut Sides,
     most: u32,
-    steps: &mut Steps<L>,
+    steps: &mut Steps<L, M>,
 ) -> Passed
     requires left { IsWalkOf movies.now.left sides.old.left.walk }
     requires right { IsWalkOf movies.now.right sides.old.right.walk }
     ensures most { result.count ≤ most }
     ensures passed { PassesSame by.now movies.now.left sides.old.left sides.new.left
-        movies.now.right sides.old.right sides.new.right result.count steps.old steps.new }
+        movies.now.right sides.old.right sides.new.right result.count steps.old.passed
+        steps.new.passed }
+    ensures looks { steps.new.looks ≡ steps.old.looks }
 {
     let (count, is_used_up, place, other) = {
         let mut x = sides.left.walk.in_hand(&movies.left);
@@ -263,20 +265,22 @@ fn pass_now<L: Ledger>(
 }
 
 // The same where the pause is over. A side is used up only where some were passed.
-pub(crate) fn pass_same<L: Ledger>(
+pub(crate) fn pass_same<L: Ledger, M: Ledger>(
     by: &Pairing,
     movies: &Movies,
     sides: &mut Sides,
     most: u32,
     pause: &mut Pause,
-    steps: &mut Steps<L>,
+    steps: &mut Steps<L, M>,
 ) -> Passed
     requires left { IsWalkOf movies.now.left sides.old.left.walk }
     requires right { IsWalkOf movies.now.right sides.old.right.walk }
     ensures most { result.count ≤ most }
     ensures some { IsTrue result.is_used_up → 0 < result.count }
     ensures passed { PassesSame by.now movies.now.left sides.old.left sides.new.left
-        movies.now.right sides.old.right sides.new.right result.count steps.old steps.new }
+        movies.now.right sides.old.right sides.new.right result.count steps.old.passed
+        steps.new.passed }
+    ensures looks { steps.new.looks ≡ steps.old.looks }
 {
     let none = Passed {
         count: 0,

@@ -221,13 +221,13 @@ pub(crate) struct Next<'a> {
 
 // What differs between the next samples of both tracks, which are taken: both sides go on, and
 // what they may take of steps is less by those that were taken.
-pub(crate) fn compare_pair<S: Store, T: Store, L: Ledger>(
+pub(crate) fn compare_pair<S: Store, T: Store, L: Ledger, M: Ledger>(
     alloc: Global,
     next: Next,
     sides: &mut Sides,
     left: &mut S,
     right: &mut T,
-    steps: &mut Steps<L>,
+    steps: &mut Steps<L, M>,
 ) -> Result<Vec<Difference>, Refusal>
     requires sides { BothStand S.Store left.old next.movies.now.left sides.old.left T.Store
         right.old next.movies.now.right sides.old.right }
@@ -242,9 +242,10 @@ pub(crate) fn compare_pair<S: Store, T: Store, L: Ledger>(
         T.Store right.old next.entry.movies.now.right sides.old.right (IsUnchanged result) }
     ensures work { BothWork S.Store left.old next.entry.movies.now.left sides.old.left
         sides.new.left T.Store right.old next.entry.movies.now.right sides.old.right
-        sides.new.right result steps.old steps.new }
+        sides.new.right result steps.old.passed steps.new.passed }
     ensures refusal { RefusedBoth S.Store left.old left.new T.Store right.old right.new result
         RefusesSample }
+    ensures looks { steps.new.looks ≡ steps.old.looks }
 {
     let Next { movies, by, number } = next;
     let x = sides.left.walk.next_sample(&movies.left, left, steps)?;
@@ -261,12 +262,12 @@ pub(crate) fn compare_pair<S: Store, T: Store, L: Ledger>(
 }
 
 // Both sides have a sample in hand, where they have not come to the end: the same samples come.
-pub(crate) fn refill_both<S: Store, T: Store, L: Ledger>(
+pub(crate) fn refill_both<S: Store, T: Store, L: Ledger, M: Ledger>(
     movies: &Movies,
     sides: &mut Sides,
     left: &mut S,
     right: &mut T,
-    steps: &mut Steps<L>,
+    steps: &mut Steps<L, M>,
 ) -> Result<(), Refusal>
     requires sides { BothStand S.Store left.old movies.now.left sides.old.left T.Store right.old
         movies.now.right sides.old.right }
@@ -280,10 +281,11 @@ pub(crate) fn refill_both<S: Store, T: Store, L: Ledger>(
     ensures unchanged { WhereBothLie S.Store left.old movies.now.left sides.old.left T.Store
         right.old movies.now.right sides.old.right (IsUnchanged result) }
     ensures work { BothWork S.Store left.old movies.now.left sides.old.left sides.new.left
-        T.Store right.old movies.now.right sides.old.right sides.new.right result steps.old
-        steps.new }
+        T.Store right.old movies.now.right sides.old.right sides.new.right result steps.old.passed
+        steps.new.passed }
     ensures refusal { RefusedBoth S.Store left.old left.new T.Store right.old right.new result
         RefusesSample }
+    ensures looks { steps.new.looks ≡ steps.old.looks }
 {
     sides.left.walk.refill(&movies.left, left, steps)?;
     sides.right.walk.refill(&movies.right, right, steps)?;
@@ -291,12 +293,12 @@ pub(crate) fn refill_both<S: Store, T: Store, L: Ledger>(
 }
 
 // Two tracks before their first samples: what these are compared by, and both sides.
-pub(crate) fn begin_pairs<S: Store, T: Store, L: Ledger>(
+pub(crate) fn begin_pairs<S: Store, T: Store, L: Ledger, M: Ledger>(
     alloc: Global,
     tracks: Tracks,
     left: &mut S,
     right: &mut T,
-    steps: &mut Steps<L>,
+    steps: &mut Steps<L, M>,
 ) -> Result<(Pairing, Sides), Refusal>
     requires { HaveTracks tracks.place tracks.movies.now.left tracks.movies.now.right }
     ensures stores { OnlyReadsBoth S.Store left.old left.new T.Store right.old right.new result }
@@ -308,14 +310,15 @@ pub(crate) fn begin_pairs<S: Store, T: Store, L: Ledger>(
         tracks.entry.movies.now.right tracks.entry.place (λ tree t other u. IfOk result (λ begun.
         HaveBegun tracks.entry.leaving begun.0 (S.file left.old) tree t
         tracks.entry.movies.now.left begun.1.left.walk (T.file right.old) other u
-        tracks.entry.movies.now.right begun.1.right.walk steps.old steps.new)) }
+        tracks.entry.movies.now.right begun.1.right.walk steps.old.passed steps.new.passed)) }
     ensures unchanged { WhereTracks S.Store left.old tracks.entry.movies.now.left T.Store
         right.old tracks.entry.movies.now.right tracks.entry.place
         (λ tree t other u. IsUnchanged result) }
     ensures work { TracksWork S.Store left.old tracks.entry.movies.now.left T.Store right.old
-        tracks.entry.movies.now.right tracks.entry.place steps.old steps.new }
+        tracks.entry.movies.now.right tracks.entry.place steps.old.passed steps.new.passed }
     ensures refusal { RefusedBoth S.Store left.old left.new T.Store right.old right.new result
         RefusesSample }
+    ensures looks { steps.new.looks ≡ steps.old.looks }
 {
     let movies = tracks.movies;
     let mut left_side = Side::new(alloc, &movies.left, tracks.place)?;

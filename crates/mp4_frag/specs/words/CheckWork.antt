@@ -1,10 +1,8 @@
 -- What the check of a `moof` costs: steps, by what its boxes say and by its bytes, and looks at
 -- tracks.
-use Rattle.std.specs.Prelude.{◌≡◌, ℕ, ◌+◌, ◌*◌, ◌≤◌, length, Result, IfOk, Err}
+use Rattle.std.specs.Prelude.{◌≡◌, ℕ, ◌+◌, ◌*◌, ◌≤◌, length, Option, Result, IfOk, IfSome}
 use Rattle.mp4_boxes.specs.format.Box.{Box}
-use Rattle.mp4_boxes.specs.declared.refusal.Refusal.{Refusal}
-use Rattle.mp4_boxes.specs.declared.refusal.Refusal.TheVariants as refusals
-use Rattle.mp4_frag.specs.format.FragmentRows.{traf_rows, fragment_rows, fragment_length, moof_says}
+use Rattle.mp4_frag.specs.format.FragmentRows.{traf_rows, fragment_rows, moof_says}
 use Rattle.mp4_frag.specs.words.TrafFaults.{traf_in}
 
 -- the steps of a `traf`, beside the one that its `moof` takes for it, and the samples that it takes
@@ -24,24 +22,19 @@ pub record MoofWork {T E : Type 0} (moof : Box) (steps more room less : ℕ) (re
       (λ view. 2 * more + 2 * less ≤ 2 * steps + 2 * room + length moof.payload)
   pub most : 2 * more ≤ 2 * steps + 2 * room + length moof.payload
 
--- the track of a `traf` is found at one look; `tracks` is 1, or 0 where there is none
-pub record TrafLooks {T E : Type 0} (tracks looks more : ℕ) (result : Result T E) : Type 0 where
-  pub one : IfOk result (λ at. more ≡ looks + 1)
+-- looks to find a track: one at least if it is found, and no more than it may take
+pub record FindLooks {T : Type 0} (tracks looks more : ℕ) (found : Option T) : Type 0 where
+  pub some : IfSome found (λ place. looks + 1 ≤ more)
   pub most : more ≤ looks + tracks
 
--- that of each `traf` of a `moof`; a `traf` has the 8 bytes of its header
+-- so for the track of a `traf`
+pub record TrafLooks {T E : Type 0} (tracks looks more : ℕ) (result : Result T E) : Type 0 where
+  pub some : IfOk result (λ at. looks + 1 ≤ more)
+  pub most : more ≤ looks + tracks
+
+-- and for those of all `traf`s of a `moof`; a `traf` has the 8 bytes of its header
 pub record MoofLooks {T E : Type 0} (moof : Box) (tracks looks more : ℕ) (result : Result T E)
     : Type 0 where
-  pub one : IfOk result (λ view. more ≡ looks + length (moof_says moof).trafs)
+  pub some : IfOk result (λ view. looks + length (moof_says moof).trafs ≤ more)
   pub each : IfOk result (λ view. more ≤ looks + tracks * length (moof_says moof).trafs)
   pub most : 8 * more ≤ 8 * looks + tracks * length moof.payload
-
--- it is so where there was no memory
-abbrev pub IfMemory : {T : Type 0} → Result T Refusal → Type 0 → Type 0
-IfMemory (Err refusals.Memory) P = P
-IfMemory _ P = Unit {0}
-
--- a check that stops before the end of its `moof` takes no more than all of its boxes say
-pub record StopsWithin (moof : Box) (tracks steps more looks later : ℕ) : Type 0 where
-  pub checked : more ≤ steps + (fragment_rows (moof_says moof) + fragment_length (moof_says moof))
-  pub looked : later ≤ looks + tracks * length (moof_says moof).trafs

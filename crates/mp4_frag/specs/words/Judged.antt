@@ -219,6 +219,15 @@ pub record AreTrafsPassed (file_length : ℕ) (moof : Box) (old new : List Track
   pub moved : IsMoofMovedOn moof old new room less
   pub kept : KeepRoom old new room less
 
+-- a `moof` that may be accepted behind these tracks, where there is room for so many samples: it is
+-- sound, and each of its parts is due
+pub record IsAcceptable (file_length : ℕ) (tracks : List TrackState) (room : ℕ) (moof : Box)
+    : Type 0 where
+  pub sound : IsSoundMoof file_length (own_trexes tracks) tracks (tree_of moof)
+  pub after : List TrackState
+  pub less : ℕ
+  pub moved : IsMoofMovedOn moof tracks after room less
+
 -- it was accepted, and the tracks moved on
 pub record IsAccepted (file_length : ℕ) (moof : Box) (old new : List TrackState) (room less : ℕ)
     : Type 0 where

@@ -12,19 +12,15 @@ use Rattle.mp4_frag.specs.words.Judged.{part_with, end_with}
 use Rattle.mp4_frag.specs.words.RunsJudged.{children_of}
 use Rattle.mp4_frag.specs.words.TrafFaults.{traf_in}
 use Rattle.mp4_frag.specs.declared.next_traf.OwnTraf.{OwnTraf}
-use Rattle.mp4_frag.specs.declared.next_traf.OwnTrafs.{OwnTrafs}
 use Rattle.mp4_frag.specs.declared.state.TrackState.{TrackState}
 use Rattle.mp4_frag.specs.declared.trex.Trex.{Trex}
 
 -- ---- notes
 
--- what a clause sees of the notes of a track
+-- what is noted of a track: its `traf`s with samples, and how long the longest payload of them is
 pub record OwnSeen : Type 0 where
   pub trafs : List OwnTraf
   pub longest : ℕ
-
-abbrev pub own_seen : OwnTrafs → OwnSeen
-own_seen own = record { trafs = own.trafs.items; longest = own.longest }
 
 -- no two tracks have one ID
 abbrev pub AreApart : List TrackState → Type 0

@@ -1,10 +1,8 @@
 -- What is wrong with a `traf` where a fault is named, behind what is known of the tracks.
-use Rattle.std.specs.Prelude.{◌≡◌, ℕ, ◌<◌, ◌==◌, List, [], ◌∷◌, Some, find, codes}
+use Rattle.std.specs.Prelude.{◌≡◌, ℕ, ◌==◌, List, [], ◌∷◌, Some, find, codes}
 use Rattle.mp4_boxes.specs.format.Box.{Box, box_container}
 use Rattle.mp4_boxes.specs.format.Children.{of_kind, Holds}
 use Rattle.mp4_boxes.specs.format.Layout.{tfhd, IsReadable}
-use Rattle.mp4_boxes.specs.declared.refusal.Refusal.{Refusal}
-use Rattle.mp4_boxes.specs.declared.refusal.Refusal.TheVariants as refusals
 use Rattle.mp4_boxes.specs.declared.rule.Rule.TheVariants as rules
 use Rattle.mp4_frag.specs.format.Fragments.{TrackFragment, track_fragment_of}
 use Rattle.mp4_frag.specs.words.RunsJudged.{children_of}
@@ -34,10 +32,3 @@ pub record HasHead (b h : Box) : Type 0 where
   pub holds : HoldsBoxes b
   pub only : IsOnly (codes "tfhd") b h
   pub readable : IsReadable tfhd h.payload
-
--- Why a `moof` is refused, apart from which fault it has: one is met; or there was no memory for a
--- note, where so many tracks have notes.
-abbrev pub RefusesNotes : ℕ → Refusal → Type 0
-RefusesNotes owns (refusals.Fault f) = Unit {0}
-RefusesNotes owns refusals.Memory = 0 < owns
-RefusesNotes owns _ = ⊥

@@ -9,8 +9,6 @@ use Rattle.mp4_boxes.specs.declared.rule.Rule.{Rule}
 use Rattle.mp4_boxes.specs.declared.rule.Rule.TheVariants as rules
 use Rattle.mp4_boxes.specs.declared.fault.Fault.{Fault}
 use Rattle.mp4_boxes.specs.declared.fault.Kind.TheVariants.{UnknownTrack, BadDescriptionIndex, Gap}
-use Rattle.mp4_boxes.specs.declared.refusal.Refusal.{Refusal}
-use Rattle.mp4_boxes.specs.declared.refusal.Refusal.TheVariants as refusals
 use Rattle.mp4_tables.specs.words.Keys.{keys_seen}
 use Rattle.mp4_tables.specs.format.TableRules.{is_index}
 use Rattle.mp4_frag.specs.format.FragmentSamples.{base_of}
@@ -125,11 +123,7 @@ FrontFirst file_length tracks room front o =
     × TrafsFirst file_length front.offset (pos front.offset) tracks room
     (of_kind (codes "traf") (children_of front)) o)
 
--- An answer names the first fault, and is Ok where there is none; want of memory says nothing.
-abbrev pub RefusedFirst : (Option Fault → Type 0) → Refusal → Type 0
-RefusedFirst IsFirst (refusals.Fault f) = IsFirst (Some f)
-RefusedFirst IsFirst _ = Unit {0}
-
-pub record NamesFirstOf {T : Type 0} (IsFirst : Option Fault → Type 0) (result : Result T Refusal)
+-- an answer names the first fault, and is Ok where there is none
+pub record NamesFirst {T : Type 0} (IsFirst : Option Fault → Type 0) (result : Result T Fault)
     : Type 0 where
-  pub names : MatchResult result (λ _. IsFirst None) (RefusedFirst IsFirst)
+  pub names : MatchResult result (λ _. IsFirst None) (λ f. IsFirst (Some f))

@@ -10,7 +10,7 @@ use Rattle.mp4_tables.specs.format.Tables.{tables_of}
 use Rattle.mp4_frag.specs.format.Fragments.{FragmentTree}
 use Rattle.mp4_frag.specs.format.FragmentSamples.{trex_for, duration_of, keys_behind, bytes_of}
 use Rattle.mp4_frag.specs.words.Judged.{TrackSeen, track_seen}
-use Rattle.mp4_frag.specs.words.OwnTrafs.{own_seen}
+use Rattle.mp4_present.specs.words.OwnTrafs.{own_seen, AreOwn}
 use Rattle.mp4_frag.specs.declared.trex.Trex.{Trex}
 use Rattle.mp4_head.specs.format.Tree.{TrackTree, stbl_of, track_head_of, trexes_of}
 use Rattle.mp4_present.specs.format.Presentation.{Track, Presentation, IsWithinLimits, max_samples, movie_length, total_duration}
@@ -18,7 +18,6 @@ use Rattle.mp4_present.specs.format.Denotes.{FileTree, Denotes, IsFileTree, IsSo
 use Rattle.mp4_present.specs.format.Stands.{table_total}
 use Rattle.mp4_present.specs.words.Movies.{MovieSeen, moov_box, table_bytes}
 use Rattle.mp4_present.specs.words.Outline.{longest}
-use Rattle.mp4_present.specs.words.OwnTrafs.{AreOwn}
 use Rattle.mp4_frag.specs.declared.state.TrackState.{TrackState}
 use Rattle.mp4_head.specs.declared.heads.TrackHead.{TrackHead}
 use Rattle.mp4_present.specs.declared.opening.Found.{Found}

@@ -2,11 +2,10 @@
 use Rattle.std.specs.Prelude.{◌≡◌, ℕ, ◌+◌, ◌^◌, ◌≤◌, List, length, map, Result}
 use Rattle.mp4_boxes.specs.declared.refusal.Refusal.{Refusal}
 use Rattle.mp4_frag.specs.declared.state.TrackState.{TrackState}
-use Rattle.mp4_frag.specs.declared.next_traf.OwnTrafs.{OwnTrafs}
-use Rattle.mp4_frag.specs.words.OwnTrafs.{own_seen}
+use Rattle.mp4_present.specs.declared.own_trafs.OwnTrafs.{OwnTrafs}
+use Rattle.mp4_present.specs.words.OwnTrafs.{own_seen, none_noted}
 use Rattle.mp4_head.specs.declared.heads.TrackHead.{TrackHead}
 use Rattle.mp4_present.specs.words.OpenedMovie.{AreInfosBy}
-use Rattle.mp4_present.specs.words.OwnTrafs.{none_noted}
 use Rattle.mp4_present.specs.words.ToOpen.{LooksAtMoofs, LooksToOpen, PassesNoting, WorksToOpen, ids_of}
 use Rattle.mp4_present.specs.format.ByBytes.{OpensWithin}
 use Rattle.mp4_present.specs.words.WalkSteps.{ChecksWithin, IfNoFault}

@@ -1,5 +1,5 @@
 -- Which `traf`s of a file have samples of a track.
-use Rattle.std.specs.Prelude.{◌≡◌, ℕ, List, [], map, flat_map}
+use Rattle.std.specs.Prelude.{◌≡◌, ℕ, cond, List, [], map, flat_map, Option, Some, None}
 use Rattle.std.specs.List.{AllZip}
 use Rattle.mp4_boxes.specs.format.Box.{Box}
 use Rattle.mp4_frag.specs.format.Fragments.{FragmentTree}
@@ -7,6 +7,16 @@ use Rattle.mp4_frag.specs.words.OwnTrafs.{OwnSeen, PlacedTraf, own_in, note_of, 
 use Rattle.mp4_frag.specs.declared.state.TrackState.{TrackState}
 use Rattle.mp4_head.specs.format.Tree.{TrackTree, MovieTree, track_head_of, trexes_of}
 use Rattle.mp4_present.specs.words.PassedMoofs.{IsPassed}
+use Rattle.mp4_present.specs.declared.own_trafs.OwnTrafs.{OwnTrafs}
+use Rattle.mp4_present.specs.declared.track_places.NotedTracks.{NotedTracks}
+
+-- what a clause sees of the notes of a track
+abbrev pub own_seen : OwnTrafs → OwnSeen
+own_seen own = record { trafs = own.trafs.items; longest = own.longest }
+
+-- what is noted of each track, where there was memory for it
+abbrev pub told_of : NotedTracks → Option (List OwnSeen)
+told_of t = cond t.is_refused None (Some (map own_seen t.own.items))
 
 -- nothing is noted of a track before the first `moof`
 abbrev pub none_noted : OwnSeen

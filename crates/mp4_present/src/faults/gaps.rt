@@ -1,13 +1,13 @@
 //! Numbers of a fault in a fragment; and the time that is due where one begins at another (ISO/IEC
 //! 14496-12, 8.8.12).
-ghost use Rattle.std.specs.Prelude.{◌≡◌, ◌+◌, ◌-◌, ◌*◌, ◌^◌, ◌≤◌, ◌==◌, min, length, take, find, IfOk, IfErr, IfSome, OnOk};
+ghost use Rattle.std.specs.Prelude.{ℕ, List, ◌≡◌, ◌+◌, ◌-◌, ◌*◌, ◌^◌, ◌≤◌, ◌==◌, min, length, take, find, IfOk, IfErr, IfSome, OnOk};
 ghost use Rattle.std.specs.List.{AllByRecursion};
 ghost use Rattle.mp4_boxes.specs.format.Bytes.{field};
 ghost use Rattle.mp4_boxes.specs.format.Box.{Box};
 ghost use Rattle.mp4_boxes.specs.words.View.{box_seen};
 ghost use Rattle.mp4_frag.specs.format.Fragments.{decode_time_of};
 ghost use Rattle.mp4_present.specs.format.FaultNumbers.{IsChildOf, SaysTime};
-ghost use Rattle.mp4_frag.specs.words.Finding.{ArePlacesOf};
+ghost use Rattle.mp4_present.specs.words.TrackPlaces.{ArePlacesOf};
 ghost use Rattle.mp4_frag.specs.words.Noted.{ids_of};
 ghost use Rattle.mp4_frag.specs.words.States.{HaveRoom};
 ghost use Rattle.mp4_frag.specs.declared.state.TrackState.{TrackState};
@@ -24,8 +24,9 @@ use crate::faults::places::outside_in_fragment;
 use crate::opening::fragments::Known;
 use crate::opening::outline::Outline;
 use crate::reading::{TopBox, read_payload};
+use crate::track_places::NotedTracks;
 use mp4_boxes::{BoxView, Fault, FourCc, Kind, Refusal, Steps, TopHeader, children, u64_at};
-use mp4_frag::{FileTracks, TrackPlaces, TrackState, base_in, check_front, check_moof};
+use mp4_frag::{TrackState, base_in, check_front, check_moof_by};
 use mp4_store::Store;
 use std::alloc::Global;
 use std::sync::ledger::Ledger;
@@ -39,14 +40,14 @@ struct Reached {
     room: u32,
 }
 
-// A place in a `moof` that was reached: the bytes behind the header of the `moof`, and what is
-// known of the file.
+// A place in a `moof` that was reached: the bytes behind the header of the `moof`, and how long the
+// file is.
 #[derive(Clone, Copy)]
 struct Sought<'a> {
     reached: Reached,
     bytes: &'a [u8],
     place: u64,
-    file: FileTracks<'a>,
+    file_len: u64,
 }
 
 /// The child in which a place of the file lies.
@@ -155,25 +156,25 @@ fn time_in_traf(traf: BoxView, place: u64) -> Option<(u32, u64)>
 fn gap_in<L: Ledger, M: Ledger>(
     sought: Sought,
     states: &mut [TrackState],
-    steps: &mut Steps<L>,
-    looks: &mut Steps<M>,
+    tracks: &mut NotedTracks,
+    steps: &mut Steps<L, M>,
 ) -> Result<Option<FaultNumbers>, Refusal>
     requires fills { Fills (length sought.bytes.now) sought.reached.moof }
     requires room { (sought.reached.room ≤ 2 ^ 24) × HaveRoom sought.reached.room states.old }
-    requires places { ArePlacesOf (ids_of states.old) sought.file.places.now }
-    ensures finds { FindsOf sought.entry.file.len sought.entry.reached.moof sought.entry.bytes.now
+    requires places { ArePlacesOf (ids_of states.old) tracks.old.places }
+    ensures finds { FindsOf sought.entry.file_len sought.entry.reached.moof sought.entry.bytes.now
         states.old sought.entry.reached.room sought.entry.place result }
-    ensures work { 2 * steps.new
-        ≤ 2 * steps.old + 2 * sought.entry.reached.room + length sought.entry.bytes.now }
-    ensures looks { 8 * looks.new
-        ≤ 8 * looks.old + min 1 (length states.old) * length sought.entry.bytes.now }
+    ensures work { 2 * steps.new.passed
+        ≤ 2 * steps.old.passed + 2 * sought.entry.reached.room + length sought.entry.bytes.now }
+    ensures looks { 8 * steps.new.looks
+        ≤ 8 * steps.old.looks + min 1 (length states.old) * length sought.entry.bytes.now }
     ensures refusal { IfErr result MeetsFault }
 {
     let Sought {
         reached,
         bytes,
         place,
-        file,
+        file_len,
     } = sought;
     let Reached { moof: top, room } = reached;
     let Some(traf) = child_at(top.view(bytes), place) else {
@@ -186,7 +187,7 @@ fn gap_in<L: Ledger, M: Ledger>(
         return Ok(None);
     };
     let mut room = room;
-    check_front(front, file, states, &mut room, steps, looks)?;
+    check_front(front, file_len, states, tracks, &mut room, steps)?;
     let Some(state) = state_with(states, track) else {
         return Ok(None);
     };
@@ -201,25 +202,25 @@ fn gap_in<L: Ledger, M: Ledger>(
 fn outside_in<L: Ledger, M: Ledger>(
     sought: Sought,
     states: &mut [TrackState],
-    steps: &mut Steps<L>,
-    looks: &mut Steps<M>,
+    tracks: &mut NotedTracks,
+    steps: &mut Steps<L, M>,
 ) -> Result<Option<FaultNumbers>, Refusal>
     requires fills { Fills (length sought.bytes.now) sought.reached.moof }
     requires room { (sought.reached.room ≤ 2 ^ 24) × HaveRoom sought.reached.room states.old }
-    requires places { ArePlacesOf (ids_of states.old) sought.file.places.now }
-    ensures finds { FindsOf sought.entry.file.len sought.entry.reached.moof sought.entry.bytes.now
+    requires places { ArePlacesOf (ids_of states.old) tracks.old.places }
+    ensures finds { FindsOf sought.entry.file_len sought.entry.reached.moof sought.entry.bytes.now
         states.old sought.entry.reached.room sought.entry.place result }
-    ensures work { 2 * steps.new
-        ≤ 2 * steps.old + 2 * sought.entry.reached.room + length sought.entry.bytes.now }
-    ensures looks { 8 * looks.new
-        ≤ 8 * looks.old + min 1 (length states.old) * length sought.entry.bytes.now }
+    ensures work { 2 * steps.new.passed
+        ≤ 2 * steps.old.passed + 2 * sought.entry.reached.room + length sought.entry.bytes.now }
+    ensures looks { 8 * steps.new.looks
+        ≤ 8 * steps.old.looks + min 1 (length states.old) * length sought.entry.bytes.now }
     ensures refusal { IfErr result MeetsFault }
 {
     let Sought {
         reached,
         bytes,
         place,
-        file,
+        file_len,
     } = sought;
     let Reached { moof: top, room } = reached;
     let Some(traf) = child_at(top.view(bytes), place) else {
@@ -232,9 +233,9 @@ fn outside_in<L: Ledger, M: Ledger>(
         return Ok(None);
     };
     let mut room = room;
-    let before = check_front(front, file, states, &mut room, steps, looks)?;
+    let before = check_front(front, file_len, states, tracks, &mut room, steps)?;
     let base = base_in(tfhd, top.offset, before)?;
-    Ok(outside_in_fragment(traf, base, states, file.len))
+    Ok(outside_in_fragment(traf, base, states, file_len))
 }
 
 // What is told of a fault of this kind where the named box stands at a place in this `moof`.
@@ -242,18 +243,18 @@ fn numbers_in_moof<L: Ledger, M: Ledger>(
     kind: Kind,
     sought: Sought,
     states: &mut [TrackState],
-    steps: &mut Steps<L>,
-    looks: &mut Steps<M>,
+    tracks: &mut NotedTracks,
+    steps: &mut Steps<L, M>,
 ) -> Result<Option<FaultNumbers>, Refusal>
     requires fills { Fills (length sought.bytes.now) sought.reached.moof }
     requires room { (sought.reached.room ≤ 2 ^ 24) × HaveRoom sought.reached.room states.old }
-    requires places { ArePlacesOf (ids_of states.old) sought.file.places.now }
-    ensures finds { FindsOf sought.entry.file.len sought.entry.reached.moof sought.entry.bytes.now
+    requires places { ArePlacesOf (ids_of states.old) tracks.old.places }
+    ensures finds { FindsOf sought.entry.file_len sought.entry.reached.moof sought.entry.bytes.now
         states.old sought.entry.reached.room sought.entry.place result }
-    ensures work { 2 * steps.new
-        ≤ 2 * steps.old + 2 * sought.entry.reached.room + length sought.entry.bytes.now }
-    ensures looks { 8 * looks.new
-        ≤ 8 * looks.old + min 1 (length states.old) * length sought.entry.bytes.now }
+    ensures work { 2 * steps.new.passed
+        ≤ 2 * steps.old.passed + 2 * sought.entry.reached.room + length sought.entry.bytes.now }
+    ensures looks { 8 * steps.new.looks
+        ≤ 8 * steps.old.looks + min 1 (length states.old) * length sought.entry.bytes.now }
     ensures refusal { IfErr result MeetsFault }
 {
     match kind {
@@ -261,18 +262,17 @@ fn numbers_in_moof<L: Ledger, M: Ledger>(
             let moof = sought.reached.moof.view(sought.bytes);
             Ok(counts_in_fragment(moof, sought.place))
         }
-        Kind::SampleOutsideFile => outside_in(sought, states, steps, looks),
-        _ => gap_in(sought, states, steps, looks),
+        Kind::SampleOutsideFile => outside_in(sought, states, tracks, steps),
+        _ => gap_in(sought, states, tracks, steps),
     }
 }
 
-// A place that is looked for in the `moof`s of a file: where the parts of the file lie, the places
-// of the tracks by their IDs, and how many samples there is room for before the first `moof`.
+// A place that is looked for in the `moof`s of a file: where the parts of the file lie, and how
+// many samples there is room for before the first `moof`.
 #[derive(Clone, Copy)]
 struct Search<'a> {
     place: u64,
     outline: &'a Outline,
-    places: &'a TrackPlaces,
     room: u32,
 }
 
@@ -281,12 +281,12 @@ fn pass_until<S: Store, L: Ledger, M: Ledger>(
     search: Search,
     store: &mut S,
     states: &mut [TrackState],
+    tracks: &mut NotedTracks,
     bytes: &mut [u8],
-    steps: &mut Steps<L>,
-    looks: &mut Steps<M>,
+    steps: &mut Steps<L, M>,
 ) -> Result<Option<Reached>, Refusal>
     requires room { (search.room ≤ 2 ^ 24) × HaveRoom search.room states.old }
-    requires places { ArePlacesOf (ids_of states.old) search.places.now }
+    requires places { ArePlacesOf (ids_of states.old) tracks.old.places }
     requires outline { HasOutline (S.is_honest store.old) (S.file store.old) search.outline.now }
     requires whole { AllByRecursion (IsWhole (length (S.file store.old)))
         search.outline.now.moofs.items }
@@ -294,13 +294,16 @@ fn pass_until<S: Store, L: Ledger, M: Ledger>(
     ensures store { OnlyReads S.Store store.old store.new result }
     ensures bytes { length bytes.new ≡ length bytes.old }
     ensures ids { OnOk result (ids_of states.new ≡ ids_of states.old) }
+    ensures places { (ids : List ℕ) → ArePlacesOf ids tracks.old.places
+        → ArePlacesOf ids tracks.new.places }
     ensures reached { IfOk result (λ found. IfSome found
         (IsReached (length (S.file store.old)) states.new)) }
     ensures next { IfOk result (λ found. IfSome found (λ r. WhereHonest S.Store store.old (λ file.
         IsBehind file states.old search.entry.room (length bytes.old) r states.new
-        steps.old steps.new looks.old looks.new))) }
+        steps.old.passed steps.new.passed steps.old.looks steps.new.looks))) }
     ensures work { WhereHonest S.Store store.old (λ file. PassesWithin file
-        (min 1 (length states.old)) steps.old steps.new looks.old looks.new) }
+        (min 1 (length states.old)) steps.old.passed steps.new.passed
+        steps.old.looks steps.new.looks) }
     ensures refusal { RefusedOf S.Store store.old store.new result
         (λ honest file. RefusesSearch honest) }
 {
@@ -308,13 +311,8 @@ fn pass_until<S: Store, L: Ledger, M: Ledger>(
     let Search {
         place,
         outline,
-        places,
         room,
     } = search;
-    let file = FileTracks {
-        len: file_len,
-        places,
-    };
     let mut room = room;
     for top in &outline.moofs {
         if place < top.header.end {
@@ -322,7 +320,7 @@ fn pass_until<S: Store, L: Ledger, M: Ledger>(
         }
         let len = read_payload(store, *top, bytes)?;
         let moof = top.view(&bytes[..len]);
-        check_moof(moof, file, states, &mut [], &mut room, steps, looks)?;
+        check_moof_by(moof, file_len, states, tracks, &mut room, steps)?;
     }
     Ok(None)
 }
@@ -333,8 +331,7 @@ pub(crate) fn numbers_in_fragments<S: Store, L: Ledger, M: Ledger>(
     store: &mut S,
     known: Known,
     fault: &Fault,
-    steps: &mut Steps<L>,
-    looks: &mut Steps<M>,
+    steps: &mut Steps<L, M>,
 ) -> Result<Option<FaultNumbers>, Refusal>
     requires room { (known.plain.now.room ≤ 2 ^ 24)
         × HaveRoom known.plain.now.room known.plain.now.states.items }
@@ -345,24 +342,23 @@ pub(crate) fn numbers_in_fragments<S: Store, L: Ledger, M: Ledger>(
     ensures told { TellsBehind S.Store store.old known.entry.plain.now fault.now.offset result }
     ensures work { WhereHonest S.Store store.old (λ file. PassesWithin file
         (min 1 (length known.entry.plain.now.states.items))
-        steps.old steps.new looks.old looks.new) }
+        steps.old.passed steps.new.passed steps.old.looks steps.new.looks) }
     ensures refusal { RefusedOf S.Store store.old store.new result
         (λ honest file. RefusesSearch honest) }
 {
     let mut states = Vec::new(alloc);
     let Known { outline, plain } = known;
     states.extend_from_slice(plain.states.as_slice())?;
-    let places = TrackPlaces::new(alloc, states.as_slice())?;
+    let mut tracks = NotedTracks::found(alloc, states.as_slice())?;
     let states = states.as_mut_slice();
     let mut bytes = vec![in alloc; 0u8; outline.longest as usize]?;
     let bytes = bytes.as_mut_slice();
     let search = Search {
         place: fault.offset,
         outline,
-        places: &places,
         room: plain.room,
     };
-    let Some(reached) = pass_until(search, store, states, bytes, steps, looks)? else {
+    let Some(reached) = pass_until(search, store, states, &mut tracks, bytes, steps)? else {
         return Ok(None);
     };
     let len = read_payload(store, reached.moof, bytes)?;
@@ -371,11 +367,8 @@ pub(crate) fn numbers_in_fragments<S: Store, L: Ledger, M: Ledger>(
         reached,
         bytes: &bytes[..len],
         place: fault.offset,
-        file: FileTracks {
-            len: file_len,
-            places: &places,
-        },
+        file_len,
     };
-    let told = numbers_in_moof(fault.kind, sought, states, steps, looks)?;
+    let told = numbers_in_moof(fault.kind, sought, states, &mut tracks, steps)?;
     Ok(told)
 }

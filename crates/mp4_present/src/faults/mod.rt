@@ -65,8 +65,7 @@ fn numbers_behind<S: Store, L: Ledger, M: Ledger>(
     refused: RefusedFile,
     store: &mut S,
     moov: &[u8],
-    steps: &mut Steps<L>,
-    looks: &mut Steps<M>,
+    steps: &mut Steps<L, M>,
 ) -> Result<Option<FaultNumbers>, Refusal>
     requires fills { Fills (length moov.now) refused.outline.now.moov }
     requires bytes { WhereHonest S.Store store.old (λ file.
@@ -77,7 +76,7 @@ fn numbers_behind<S: Store, L: Ledger, M: Ledger>(
     ensures store { OnlyReads S.Store store.old store.new result }
     ensures told { TellsOf S.Store store.old refused.entry.fault.now.offset result }
     ensures work { WhereHonest S.Store store.old (λ file.
-        SearchesWithin file steps.old steps.new looks.old looks.new) }
+        SearchesWithin file steps.old.passed steps.new.passed steps.old.looks steps.new.looks) }
     ensures refusal { RefusedOf S.Store store.old store.new result
         (λ honest file. RefusesSearch honest) }
 {
@@ -92,7 +91,7 @@ fn numbers_behind<S: Store, L: Ledger, M: Ledger>(
         outline,
         plain: &plain,
     };
-    let told = numbers_in_fragments(alloc, store, known, fault, steps, looks)?;
+    let told = numbers_in_fragments(alloc, store, known, fault, steps)?;
     Ok(told)
 }
 
@@ -101,13 +100,12 @@ fn numbers_in<S: Store, L: Ledger, M: Ledger>(
     alloc: Global,
     fault: &Fault,
     store: &mut S,
-    steps: &mut Steps<L>,
-    looks: &mut Steps<M>,
+    steps: &mut Steps<L, M>,
 ) -> Result<Option<FaultNumbers>, Refusal>
     ensures store { OnlyReads S.Store store.old store.new result }
     ensures told { TellsOf S.Store store.old fault.now.offset result }
     ensures work { WhereHonest S.Store store.old (λ file.
-        SearchesWithin file steps.old steps.new looks.old looks.new) }
+        SearchesWithin file steps.old.passed steps.new.passed steps.old.looks steps.new.looks) }
     ensures refusal { RefusedOf S.Store store.old store.new result
         (λ honest file. RefusesSearch honest) }
 {
@@ -118,7 +116,7 @@ fn numbers_in<S: Store, L: Ledger, M: Ledger>(
         fault,
         outline: &outline,
     };
-    let told = numbers_behind(alloc, refused, store, moov.as_slice(), steps, looks)?;
+    let told = numbers_behind(alloc, refused, store, moov.as_slice(), steps)?;
     Ok(told)
 }
 
@@ -128,17 +126,16 @@ pub fn fault_numbers<S: Store, L: Ledger, M: Ledger>(
     alloc: Global,
     fault: &Fault,
     store: &mut S,
-    steps: &mut Steps<L>,
-    looks: &mut Steps<M>,
+    steps: &mut Steps<L, M>,
 ) -> Result<Option<FaultNumbers>, Refusal>
     ensures honesty { S.is_honest store.new ≡ S.is_honest store.old }
     ensures file { S.file store.new ≡ S.file store.old }
     ensures told { IfOk result (λ told. IfSome told (λ n. IsTrue (S.is_honest store.old)
         → Tells (S.file store.old) fault.now.offset n)) }
     ensures within { IsTrue (S.is_honest store.old)
-        → OpensWithin (S.file store.old) steps.old steps.new }
+        → OpensWithin (S.file store.old) steps.old.passed steps.new.passed }
     ensures looks { IsTrue (S.is_honest store.old)
-        → LooksByBytes (S.file store.old) looks.old looks.new }
+        → LooksByBytes (S.file store.old) steps.old.looks steps.new.looks }
     ensures reads { IfOk result (λ told. IfSome told
         (λ _. S.read_failures store.new ≡ S.read_failures store.old)) }
     ensures refusal { IfErr result
@@ -149,7 +146,7 @@ pub fn fault_numbers<S: Store, L: Ledger, M: Ledger>(
         Kind::Gap | Kind::CountMismatch | Kind::SampleOutsideFile => {}
         _ => return Ok(None),
     }
-    match numbers_in(alloc, fault, store, steps, looks) {
+    match numbers_in(alloc, fault, store, steps) {
         Ok(told) => Ok(told),
         Err(Refusal::Fault(_)) => Ok(None),
         Err(refusal) => Err(refusal),

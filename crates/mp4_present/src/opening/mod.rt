@@ -26,10 +26,11 @@ use crate::opening::fragments::{Known, check_fragments};
 use crate::opening::limit_checks::{check_limits, duration_of};
 use crate::opening::outline::{Outline, read_outline};
 use crate::opening::tables_pass::{PlainTracks, check_tables};
+use crate::own_trafs::OwnTrafs;
 use crate::reading::read_bytes;
 use crate::track_info::TrackInfo;
 use mp4_boxes::{Refusal, Steps};
-use mp4_frag::{OwnTrafs, TrackState};
+use mp4_frag::TrackState;
 use mp4_head::{MovieHead, TrackHead, read_head};
 use mp4_store::Store;
 use std::alloc::Global;
@@ -86,8 +87,7 @@ fn find<S: Store, L: Ledger, M: Ledger>(
     store: &mut S,
     outline: &Outline,
     moov: &[u8],
-    steps: &mut Steps<L>,
-    looks: &mut Steps<M>,
+    steps: &mut Steps<L, M>,
 ) -> Result<Found, Refusal>
     requires moov { Fills (length moov.now) outline.now.moov
         × WhereHonest S.Store store.old (λ file. IsPayloadIn file outline.now moov.now) }
@@ -99,9 +99,9 @@ fn find<S: Store, L: Ledger, M: Ledger>(
         × IsOpenedAs file (kept_of outline.now moov.now (length file) f) t) }
     ensures ids { WhereRead S.Store store.old result (λ file f. HasTracks file f.tracks.items) }
     ensures work { WhereHonest S.Store store.old (λ file.
-        ChecksFile file result steps.old steps.new looks.old looks.new) }
+        ChecksFile file result steps.old.passed steps.new.passed steps.old.looks steps.new.looks) }
     ensures least { OnOk result (WhereHonest S.Store store.old (λ file.
-        TakesToOpen file steps.old steps.new)) }
+        TakesToOpen file steps.old.passed steps.new.passed)) }
     ensures refusal { RefusedOf S.Store store.old store.new result
         (λ honest file. RefusesSearch honest) }
     ensures exact { WhereHonest S.Store store.old (λ file. NamesBehindTop file result) }
@@ -109,18 +109,17 @@ fn find<S: Store, L: Ledger, M: Ledger>(
     let view = outline.moov.view(moov);
     let head = read_head(alloc, view)?;
     let plain = check_tables(alloc, view, &head, store.len(), steps)?;
-    let mut own = Vec::new(alloc);
     let known = Known {
         outline,
         plain: &plain,
     };
-    let states = check_fragments(alloc, store, known, &mut own, steps, looks)?;
-    let mehd = check_limits(view, &head, states.as_slice())?;
-    let tracks = infos_of(alloc, &head, states.as_slice())?;
+    let passed = check_fragments(alloc, store, known, steps)?;
+    let mehd = check_limits(view, &head, passed.states.as_slice())?;
+    let tracks = infos_of(alloc, &head, passed.states.as_slice())?;
     Ok(Found {
         plain,
         tracks,
-        own,
+        own: passed.own,
         mehd,
     })
 }
@@ -131,8 +130,7 @@ fn find<S: Store, L: Ledger, M: Ledger>(
 pub fn open_movie<S: Store, L: Ledger, M: Ledger>(
     alloc: Global,
     store: &mut S,
-    steps: &mut Steps<L>,
-    looks: &mut Steps<M>,
+    steps: &mut Steps<L, M>,
 ) -> Result<Movie, Refusal>
     ensures store { OnlyReads S.Store store.old store.new result }
     ensures opened { WhereRead S.Store store.old result IsOpened }
@@ -142,13 +140,14 @@ pub fn open_movie<S: Store, L: Ledger, M: Ledger>(
     ensures ids { WhereRead S.Store store.old result (λ file m. HasTracks file m.tracks) }
     ensures only { (p : Presentation) → WhereHonest S.Store store.old (λ file. Denotes file p
         → Refused S.Store store.old store.new result RefusesDenoted) }
-    ensures work { WhereHonest S.Store store.old (λ file. WorksToOpen file result steps.old
-        steps.new) }
-    ensures within { WhereHonest S.Store store.old (λ file. OpensWithin file steps.old steps.new) }
+    ensures work { WhereHonest S.Store store.old (λ file. WorksToOpen file result steps.old.passed
+        steps.new.passed) }
+    ensures within { WhereHonest S.Store store.old (λ file.
+        OpensWithin file steps.old.passed steps.new.passed) }
     ensures least { OnOk result (WhereHonest S.Store store.old (λ file.
-        TakesToOpen file steps.old steps.new)) }
-    ensures looks { WhereHonest S.Store store.old (λ file. LooksToOpen file result looks.old
-        looks.new) }
+        TakesToOpen file steps.old.passed steps.new.passed)) }
+    ensures looks { WhereHonest S.Store store.old (λ file. LooksToOpen file result steps.old.looks
+        steps.new.looks) }
     ensures refusal { RefusedOf S.Store store.old store.new result RefusesOpen }
     ensures exact { WhereHonest S.Store store.old (λ file. NamesJudged file result) }
 {
@@ -161,7 +160,7 @@ pub fn open_movie<S: Store, L: Ledger, M: Ledger>(
         tracks,
         own,
         mehd,
-    } = find(alloc, store, &outline, moov.as_slice(), steps, looks)?;
+    } = find(alloc, store, &outline, moov.as_slice(), steps)?;
     let PlainTracks {
         tables,
         states,

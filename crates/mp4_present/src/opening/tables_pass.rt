@@ -110,13 +110,13 @@ impl PlainTracks {
 
     // Checks the tables of one more track: they are among those that are plain, and its steps are
     // as many as its tables have.
-    fn push<L: Ledger>(
+    fn push<L: Ledger, M: Ledger>(
         &mut self,
         moov: BoxView,
         track: &TrackHead,
         trexes: &BTreeMap<u32, Trex>,
         file_len: u64,
-        steps: &mut Steps<L>,
+        steps: &mut Steps<L, M>,
     ) -> Result<(), Refusal>
         requires inside { HasTablesIn (box_seen moov) track.now }
         requires read { (t : TrackTree) × IsTrackOf t track.now }
@@ -126,11 +126,12 @@ impl PlainTracks {
             → OneMoreSaid file_len (box_seen moov.entry).payload all
             track.now self.old self.new) }
         ensures work { ChecksTables track.now (length (box_seen moov.entry).payload) self.old.room
-            self.new.room result steps.old steps.new }
+            self.new.room result steps.old.passed steps.new.passed }
         ensures least { OnOk result ((t : TrackTree) → IsTrackOf t track.now
-            → steps.old + least_table_steps t ≤ steps.new) }
+            → steps.old.passed + least_table_steps t ≤ steps.new.passed) }
         ensures refusal { IfErr result MeetsFault }
         ensures exact { NamesOfTrack file_len self.old.room track.now result }
+        ensures looks { steps.new.looks ≡ steps.old.looks }
     {
         let mut keys = Keys::new();
         let stbl = track.stbl;
@@ -151,12 +152,12 @@ impl PlainTracks {
 }
 
 /// Checks the tables of each track of a movie.
-pub(crate) fn check_tables<L: Ledger>(
+pub(crate) fn check_tables<L: Ledger, M: Ledger>(
     alloc: Global,
     moov: BoxView,
     head: &MovieHead,
     file_len: u64,
-    steps: &mut Steps<L>,
+    steps: &mut Steps<L, M>,
 ) -> Result<PlainTracks, Refusal>
     requires inside { HaveTablesIn (box_seen moov) head.now.tracks.items }
     requires read { (trees : List TrackTree) × AreTracksOf trees head.now.tracks.items }
@@ -165,13 +166,14 @@ pub(crate) fn check_tables<L: Ledger>(
     ensures says { IfOk result (λ p. WhereTrees head.now.tracks.items (λ trees.
         HaveTables file_len (box_seen moov.entry).payload head.now.trexes.items trees p)) }
     ensures work { IfNoFault result (WhereTrees head.now.tracks.items (λ trees.
-        steps.new ≤ steps.old + sum_of table_steps trees)) }
+        steps.new.passed ≤ steps.old.passed + sum_of table_steps trees)) }
     ensures least { OnOk result (WhereTrees head.now.tracks.items (λ trees.
-        steps.old + sum_of least_table_steps trees ≤ steps.new)) }
-    ensures within { steps.new ≤ steps.old + 5 * 2 ^ 24
+        steps.old.passed + sum_of least_table_steps trees ≤ steps.new.passed)) }
+    ensures within { steps.new.passed ≤ steps.old.passed + 5 * 2 ^ 24
         + 6 * (length head.now.tracks.items * length (box_seen moov.entry).payload) }
     ensures refusal { IfErr result MeetsFault }
     ensures exact { NamesOfTracks file_len head.now.tracks.items result }
+    ensures looks { steps.new.looks ≡ steps.old.looks }
 {
     let trexes = trexes_by_id(alloc, &head.trexes)?;
     let mut plain = PlainTracks::none(alloc);

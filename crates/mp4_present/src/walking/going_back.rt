@@ -97,13 +97,19 @@ impl Walk {
 
     // Takes the samples of the `traf` in the room into hand again, before which this was due. How
     // many they are, and when the next is due behind them, is known.
-    fn take_again<L: Ledger>(&mut self, before: Due, movie: &Movie, steps: &mut Steps<L>)
+    fn take_again<L: Ledger, M: Ledger>(
+        &mut self,
+        before: Due,
+        movie: &Movie,
+        steps: &mut Steps<L, M>,
+    )
         requires movie { GoesOn movie.now self.old }
         requires traf { HasTraf self.old }
         ensures same { self.new ≡ record self.old { place = self.new.place; before = Some before } }
         ensures hand { HasInHand movie.now self.old self.new before }
         ensures taken { TakesAgain movie.now self.old self.new before }
-        ensures work { steps.new ≡ steps.old + steps_to self.new.place }
+        ensures work { steps.new.passed ≡ steps.old.passed + steps_to self.new.place }
+        ensures looks { steps.new.looks ≡ steps.old.looks }
     {
         let info = movie.tracks()[self.track];
         let (base, trex) = (self.traf.base, movie.trex_of(self.track));
@@ -117,12 +123,12 @@ impl Walk {
 
     // Reads the `traf` of the mark again, where this was due, and takes its samples into hand. The
     // mark is given up for one before these.
-    fn read_again<S: Store, L: Ledger>(
+    fn read_again<S: Store, L: Ledger, M: Ledger>(
         &mut self,
         before: Due,
         movie: &Movie,
         store: &mut S,
-        steps: &mut Steps<L>,
+        steps: &mut Steps<L, M>,
     ) -> Result<(), Refusal>
         requires walk { IsWalkOf movie.now self.old }
         requires marked { self.old.mark.before ≡ Some before }
@@ -130,11 +136,12 @@ impl Walk {
         ensures room { length self.new.bytes.items ≡ length self.old.bytes.items }
         ensures again { OnOk result (HasReadAgain movie.now self.old self.new before) }
         ensures taken { ReadsMarked S.Store store.old movie.now self.old self.new before result
-            steps.old steps.new }
-        ensures idle { OnErr result (steps.new ≡ steps.old) }
-        ensures grows { steps.old ≤ steps.new }
+            steps.old.passed steps.new.passed }
+        ensures idle { OnErr result (steps.new.passed ≡ steps.old.passed) }
+        ensures grows { steps.old.passed ≤ steps.new.passed }
         ensures length { KnowsLength S.Store store.old movie.now result }
         ensures refusal { Refused S.Store store.old store.new result RefusesLoad }
+        ensures looks { steps.new.looks ≡ steps.old.looks }
     {
         let mark = self.mark;
         if store.len() != movie.file_len {
@@ -153,20 +160,21 @@ impl Walk {
     }
 
     // Passes so many samples in hand. Where there are fewer, the store has changed.
-    fn pass<L: Ledger>(
+    fn pass<L: Ledger, M: Ledger>(
         &mut self,
         count: u32,
         movie: &Movie,
-        steps: &mut Steps<L>,
+        steps: &mut Steps<L, M>,
     ) -> Result<(), Refusal>
         requires { IsWalkOf movie.now self.old }
         ensures passed { OnOk result
-            (PassesInHand movie.now self.old self.new count steps.old steps.new) }
+            (PassesInHand movie.now self.old self.new count steps.old.passed steps.new.passed) }
         ensures enough { OfHand movie.now self.old
             (λ hand. count ≤ length (left_in_hand hand) → IsOk result) }
         ensures same { KeepsRest self.old self.new }
-        ensures grows { steps.old ≤ steps.new }
-        ensures fewer { IfErr result (FindsFewer steps.old steps.new) }
+        ensures grows { steps.old.passed ≤ steps.new.passed }
+        ensures fewer { IfErr result (FindsFewer steps.old.passed steps.new.passed) }
+        ensures looks { steps.new.looks ≡ steps.old.looks }
     {
         let place = {
             let mut hand = self.in_hand(movie);
@@ -183,11 +191,11 @@ impl Walk {
     /// taken; else the `traf` is read again, and its samples before the mark are passed: they were
     /// counted when it was loaded, and are not counted again. It takes no memory. Where the store
     /// has another length, or fewer samples before the mark, the answer is StoreChanged.
-    pub fn go_back<S: Store, L: Ledger>(
+    pub fn go_back<S: Store, L: Ledger, M: Ledger>(
         &mut self,
         movie: &Movie,
         store: &mut S,
-        steps: &mut Steps<L>,
+        steps: &mut Steps<L, M>,
     ) -> Result<(), Refusal>
         requires { IsWalkOf movie.now self.old }
         ensures store { OnlyReads S.Store store.old store.new result }
@@ -198,17 +206,19 @@ impl Walk {
             (λ file tree t samples. MatchResult result
             (λ _. Comes file tree t movie.now self.new samples)
             (λ r. r ≡ refusals.StoreChanged → ⊥)) }
-        ensures grows { steps.old ≤ steps.new }
+        ensures grows { steps.old.passed ≤ steps.new.passed }
         ensures work { WhereMarkMayTake S.Store store.old movie.now self.old
             (λ file tree t begun n. MatchResult result
-            (λ _. TakesOn file tree t (n + back_steps begun self.old) self.new steps.old steps.new)
-            (λ _. steps.new ≤ steps.old + back_steps begun self.old)) }
+            (λ _. TakesOn file tree t (n + back_steps begun self.old) self.new
+            steps.old.passed steps.new.passed)
+            (λ _. steps.new.passed ≤ steps.old.passed + back_steps begun self.old)) }
         ensures still { is_at_hand self.old ≡ true → IsOk result × (store.new ≡ store.old)
-            × (steps.new ≡ steps.old) × (self.new ≡ back_at_mark self.old) }
+            × (steps.new.passed ≡ steps.old.passed) × (self.new ≡ back_at_mark self.old) }
         ensures length { is_at_hand self.old ≡ false
             → (length (S.file store.old) ≡ movie.now.file_len → ⊥)
             → result ≡ Err refusals.StoreChanged }
         ensures refusal { Refused S.Store store.old store.new result RefusesLoad }
+        ensures looks { steps.new.looks ≡ steps.old.looks }
     {
         let mark = self.mark;
         let Some(before) = self.again_from() else {

@@ -166,9 +166,11 @@ impl Walk {
     }
 
     /// The walk goes on from a place of what is in hand. The steps to there are counted.
-    pub fn keep<L: Ledger>(&mut self, place: Place, steps: &mut Steps<L>)
+    pub fn keep<L: Ledger, M: Ledger>(&mut self, place: Place, steps: &mut Steps<L, M>)
         ensures place { self.new ≡ record self.old { place = place } }
-        ensures work { steps.new ≡ steps.old + (steps_to place - steps_to self.old.place) }
+        ensures work { steps.new.passed
+            ≡ steps.old.passed + (steps_to place - steps_to self.old.place) }
+        ensures looks { steps.new.looks ≡ steps.old.looks }
     {
         steps.add(place.passed().saturating_sub(self.place.passed()));
         self.place = place;
@@ -177,10 +179,10 @@ impl Walk {
     // Takes the samples of the `traf` in the room into hand, and says whether there are any. Where
     // there are more than are left, the store has changed. All of its samples are in hand then, and
     // as many less are left.
-    pub(crate) fn take<L: Ledger>(
+    pub(crate) fn take<L: Ledger, M: Ledger>(
         &mut self,
         movie: &Movie,
-        steps: &mut Steps<L>,
+        steps: &mut Steps<L, M>,
     ) -> Result<bool, Refusal>
         requires movie { GoesOn movie.now self.old }
         requires traf { HasTraf self.old }
@@ -190,11 +192,12 @@ impl Walk {
         ensures keeps { KeepsRoom self.old self.new }
         ensures taken { TakesNextTraf movie.now self.old self.new result }
         ensures some { IfOk result (λ some. IsTrue some → HasSome movie.now self.new) }
-        ensures grows { steps.old ≤ steps.new }
-        ensures work { MatchResult result (λ _. steps.new ≤ steps.old
+        ensures grows { steps.old.passed ≤ steps.new.passed }
+        ensures work { MatchResult result (λ _. steps.new.passed ≤ steps.old.passed
             + traf_steps (traf_box self.old) + steps_to self.new.place)
-            (λ _. steps.new ≡ steps.old) }
+            (λ _. steps.new.passed ≡ steps.old.passed) }
         ensures refusal { IfErr result (λ r. r ≡ refusals.StoreChanged) }
+        ensures looks { steps.new.looks ≡ steps.old.looks }
     {
         let info = movie.tracks()[self.track];
         let (base, trex) = (self.traf.base, movie.trex_of(self.track));
@@ -220,11 +223,11 @@ impl Walk {
     /// where there is none. It takes no memory. Where the store has another length, or other
     /// samples than it had when the movie was opened, so far as their number shows it, the answer
     /// is StoreChanged.
-    pub fn load<S: Store, L: Ledger>(
+    pub fn load<S: Store, L: Ledger, M: Ledger>(
         &mut self,
         movie: &Movie,
         store: &mut S,
-        steps: &mut Steps<L>,
+        steps: &mut Steps<L, M>,
     ) -> Result<bool, Refusal>
         requires { IsWalkOf movie.now self.old }
         ensures store { OnlyReads S.Store store.old store.new result }
@@ -238,12 +241,13 @@ impl Walk {
             → left_in_hand hand ≡ []
             → IfOk result (λ more. more ≡ false → Comes file tree t movie.now self.new [])) }
         ensures answer { IfOk result (IsLoaded movie.now self.old self.new) }
-        ensures grows { steps.old ≤ steps.new }
-        ensures work { TakesSteps S.Store store.old movie.now self.old self.new result steps.old
-            steps.new }
+        ensures grows { steps.old.passed ≤ steps.new.passed }
+        ensures work { TakesSteps S.Store store.old movie.now self.old self.new result
+            steps.old.passed steps.new.passed }
         ensures length { (length (S.file store.old) ≡ movie.now.file_len → ⊥)
             → result ≡ Err refusals.StoreChanged }
         ensures refusal { Refused S.Store store.old store.new result RefusesLoad }
+        ensures looks { steps.new.looks ≡ steps.old.looks }
     {
         if store.len() != movie.file_len {
             return Err(Refusal::StoreChanged);

@@ -16,13 +16,18 @@ use std::sync::ledger::Ledger;
 
 impl Walk {
     // The next sample in hand, which is taken; none where nothing is left in hand.
-    fn take_in_hand<L: Ledger>(&mut self, movie: &Movie, steps: &mut Steps<L>) -> Option<SampleAt>
+    fn take_in_hand<L: Ledger, M: Ledger>(
+        &mut self,
+        movie: &Movie,
+        steps: &mut Steps<L, M>,
+    ) -> Option<SampleAt>
         requires { IsWalkOf movie.now self.old }
         ensures walk { IsWalkOf movie.now self.new }
         ensures takes { TakesNext movie.now self.old self.new result }
         ensures some { HasSome movie.now self.old → result ≡ None → ⊥ }
-        ensures work { TakesOnIn movie.now self.old self.new steps.old steps.new }
+        ensures work { TakesOnIn movie.now self.old self.new steps.old.passed steps.new.passed }
         ensures track { self.new.track ≡ self.old.track }
+        ensures looks { steps.new.looks ≡ steps.old.looks }
     {
         let (sample, place) = {
             let mut hand = self.in_hand(movie);
@@ -34,11 +39,11 @@ impl Walk {
     }
 
     /// The next sample of the track, which is taken. Where it has none, the store has changed.
-    pub fn next_sample<S: Store, L: Ledger>(
+    pub fn next_sample<S: Store, L: Ledger, M: Ledger>(
         &mut self,
         movie: &Movie,
         store: &mut S,
-        steps: &mut Steps<L>,
+        steps: &mut Steps<L, M>,
     ) -> Result<SampleAt, Refusal>
         requires { IsWalkOf movie.now self.old }
         ensures walk { OnOk result (IsWalkOf movie.now self.new) }
@@ -47,9 +52,10 @@ impl Walk {
             IfOk result (TakesFirst file tree t movie.now self.new samples)) }
         ensures unchanged { WhereComes S.Store store.old movie.now self.old (λ file tree t samples.
             (samples ≡ [] → ⊥) → IsUnchanged result) }
-        ensures work { TakesSteps S.Store store.old movie.now self.old self.new result steps.old
-            steps.new }
+        ensures work { TakesSteps S.Store store.old movie.now self.old self.new result
+            steps.old.passed steps.new.passed }
         ensures refusal { Refused S.Store store.old store.new result RefusesLoad }
+        ensures looks { steps.new.looks ≡ steps.old.looks }
     {
         if let Some(sample) = self.take_in_hand(movie, steps) {
             return Ok(sample);

@@ -15,11 +15,11 @@ use std::sync::ledger::Ledger;
 impl Walk {
     /// Reads the next `traf` where nothing is left in hand: the same samples come. Where there is
     /// none, the store has changed.
-    pub fn refill<S: Store, L: Ledger>(
+    pub fn refill<S: Store, L: Ledger, M: Ledger>(
         &mut self,
         movie: &Movie,
         store: &mut S,
-        steps: &mut Steps<L>,
+        steps: &mut Steps<L, M>,
     ) -> Result<(), Refusal>
         requires { IsWalkOf movie.now self.old }
         ensures walk { IsWalkStill movie.now self.old self.new result }
@@ -29,10 +29,11 @@ impl Walk {
             OnOk result (Comes file tree t movie.now self.new samples)) }
         ensures unchanged { WhereComes S.Store store.old movie.now self.old (λ file tree t samples.
             (samples ≡ [] → ⊥) → IsUnchanged result) }
-        ensures grows { steps.old ≤ steps.new }
-        ensures work { TakesSteps S.Store store.old movie.now self.old self.new result steps.old
-            steps.new }
+        ensures grows { steps.old.passed ≤ steps.new.passed }
+        ensures work { TakesSteps S.Store store.old movie.now self.old self.new result
+            steps.old.passed steps.new.passed }
         ensures refusal { Refused S.Store store.old store.new result RefusesLoad }
+        ensures looks { steps.new.looks ≡ steps.old.looks }
     {
         if self.in_hand(movie).peek().is_some() {
             return Ok(());

@@ -27,14 +27,14 @@ const PIECE: usize = 65_536;
 
 // Takes the bytes of all samples in hand along, and says how many are left of so many. Where these
 // samples have more bytes, the store has changed. The walk then stands behind them.
-fn carry_hand<S: Store, K: Sink, L: Ledger>(
+fn carry_hand<S: Store, K: Sink, L: Ledger, M: Ledger>(
     movie: &Movie,
     walk: &mut Walk,
     bytes: u64,
     carrier: &mut OutBuffer,
     store: &mut S,
     sink: &mut K,
-    steps: &mut Steps<L>,
+    steps: &mut Steps<L, M>,
 ) -> Result<u64, Refusal>
     requires { IsWalkOf movie.now walk.old }
     ensures walk { OnOk result (StaysBefore movie.now walk.old walk.new) }
@@ -42,10 +42,11 @@ fn carry_hand<S: Store, K: Sink, L: Ledger>(
         carrier.old carrier.new bytes result }
     ensures store { OnlyCopies S.Store store.old store.new K.Sink sink.old sink.new result }
     ensures unchanged { KeepsHand S.Store store.old movie.now walk.old bytes result }
-    ensures grows { steps.old ≤ steps.new }
-    ensures work { HandWork movie.now walk.old walk.new result steps.old steps.new }
+    ensures grows { steps.old.passed ≤ steps.new.passed }
+    ensures work { HandWork movie.now walk.old walk.new result steps.old.passed steps.new.passed }
     ensures refusal { RefusedByBoth S.Store store.old store.new K.Sink sink.old sink.new result
         RefusesCarry }
+    ensures looks { steps.new.looks ≡ steps.old.looks }
 {
     let mut left = bytes;
     let place = {
@@ -68,13 +69,13 @@ impl Movie {
     /// other. All memory is taken before the first byte is put. Where the samples aren't as many
     /// any more as when the movie was opened, or have fewer or more bytes, the answer is
     /// StoreChanged.
-    pub fn copy_track<S: Store, K: Sink, L: Ledger>(
+    pub fn copy_track<S: Store, K: Sink, L: Ledger, M: Ledger>(
         &self,
         alloc: Global,
         track: usize,
         store: &mut S,
         sink: &mut K,
-        steps: &mut Steps<L>,
+        steps: &mut Steps<L, M>,
     ) -> Result<(), Refusal>
         requires { track < length self.now.tracks }
         ensures store { OnlyReads S.Store store.old store.new result }
@@ -89,11 +90,12 @@ impl Movie {
             → PutsMany (K.takes sink.old sink.new) info.bytes) }
         ensures unchanged { WhereTrack S.Store store.old self.now track
             (λ file tree t. IsUnchanged result) }
-        ensures grows { steps.old ≤ steps.new }
+        ensures grows { steps.old.passed ≤ steps.new.passed }
         ensures work { WhereTrack S.Store store.old self.now track
-            (λ file tree t. steps.new ≤ steps.old + walk_steps tree t) }
+            (λ file tree t. steps.new.passed ≤ steps.old.passed + walk_steps tree t) }
         ensures refusal { RefusedByBoth S.Store store.old store.new K.Sink sink.old sink.new result
             (RefusesCopy (K.takes sink.old sink.new)) }
+        ensures looks { steps.new.looks ≡ steps.old.looks }
     {
         let mut walk = self.walk(alloc, track)?;
         let mut carrier = OutBuffer::new(alloc, PIECE)?;

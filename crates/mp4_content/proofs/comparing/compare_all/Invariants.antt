@@ -13,6 +13,7 @@ invariant-loop-track g l = record {
   file_right : g.T.Store.file l.right ≡ g.T.Store.file l.fn.right;
   reads_right : g.T.Store.read_failures l.right ≡ g.T.Store.read_failures l.fn.right;
   goes : g.D.Differences.is_open l.seen ≡ true;
+  looks : l.steps.looks ≡ l.fn.steps.looks;
   going : WhereBothOpened (g.S.Store.is_honest l.fn.left) (g.S.Store.file l.fn.left) l.movies.left (g.T.Store.is_honest l.fn.right) (g.T.Store.file l.fn.right) l.movies.right
-      (λ tree other. FilesGo l.leaving (g.S.Store.file l.fn.left) tree (g.T.Store.file l.fn.right) other l.track (g.D.Differences.taken l.fn.seen) (g.D.Differences.taken l.seen) l.fn.steps l.steps);
+      (λ tree other. FilesGo l.leaving (g.S.Store.file l.fn.left) tree (g.T.Store.file l.fn.right) other l.track (g.D.Differences.taken l.fn.seen) (g.D.Differences.taken l.seen) l.fn.steps.passed l.steps.passed);
 }

@@ -30,13 +30,14 @@ loop-number-init g c =
       file_right = e.stores.right.file;
       reads_right = e.stores.right.reads;
       goes = c.requires.goes;
+      looks = search rules;
       walk = e.sides.left.walk;
       walk_right = e.sides.right.walk;
       shows = e.sides.left.shows;
       shows_right = e.sides.right.shows;
       going = λ told told_right tree other o p t u at bt.
-          pairs_first c.in_ok-by.by (g.S.Store.file c.args.left.now) tree t c.args.tracks.movies.now.left (g.T.Store.file c.args.right.now) other u c.args.tracks.movies.now.right (g.D.Differences.taken c.args.seen.now) c.args.steps.now c.args.tracks.leaving
-          c.in_ok-by.sides.left.walk c.in_ok-by.sides.right.walk c.begin_pairs.new.steps (e.begun told told_right tree other o p t u at bt);
+          pairs_first c.in_ok-by.by (g.S.Store.file c.args.left.now) tree t c.args.tracks.movies.now.left (g.T.Store.file c.args.right.now) other u c.args.tracks.movies.now.right (g.D.Differences.taken c.args.seen.now) c.args.steps.now.passed c.args.tracks.leaving
+          c.in_ok-by.sides.left.walk c.in_ok-by.sides.right.walk c.begin_pairs.new.steps.passed (e.begun told told_right tree other o p t u at bt);
     }
 
 pub loop-number-preserved-then-passed : goal.loop-number-preserved-then-passed
@@ -49,6 +50,7 @@ loop-number-preserved-then-passed g c = record {
   file_right = search rules;
   reads_right = search rules;
   goes = search rules;
+  looks = search rules;
   walk = search rules;
   walk_right = search rules;
   shows = search rules;
@@ -64,11 +66,11 @@ loop-number-preserved-then-passed g c = record {
       let now = g.D.Differences.taken c.loop-number.seen in
       let passed = c.pass_same-passed in
       let number = c.loop-number.number + passed.result.count in
-      let h = pairs_pass by file tree t left right_file other u right before c.args.steps.now c.loop-number.number passed.result.count c.loop-number.sides.left passed.new.sides.left c.loop-number.sides.right passed.new.sides.right now c.loop-number.steps passed.new.steps
+      let h = pairs_pass by file tree t left right_file other u right before c.args.steps.now.passed c.loop-number.number passed.result.count c.loop-number.sides.left passed.new.sides.left c.loop-number.sides.right passed.new.sides.right now c.loop-number.steps.passed passed.new.steps.passed
       o p (i.shows told) (i.shows_right told_right) passed.ensures.passed (i.going told told_right tree other o p t u at bt) in
       let w = passed.new.sides.left.walk in
       let v = passed.new.sides.right.walk in
-      pairs_moved by file tree t left right_file other u right before c.args.steps.now number w v c.refill_both.new.sides.left.walk c.refill_both.new.sides.right.walk now passed.new.steps c.refill_both.new.steps h
+      pairs_moved by file tree t left right_file other u right before c.args.steps.now.passed number w v c.refill_both.new.sides.left.walk c.refill_both.new.sides.right.walk now passed.new.steps.passed c.refill_both.new.steps.passed h
       ((rw (i.honesty, i.file, i.honesty_right, i.file_right) at c.in_ok-_same.ensures.coming) told told_right tree other o p t u _ _ h.comes h.comes_right)
       (λ q r hx hy. (rw (i.honesty, i.file, i.honesty_right, i.file_right) at c.in_ok-_same.ensures.work) told told_right tree other o p t u q r hx hy);
 }
@@ -89,7 +91,7 @@ returns-in_err-_same-clause-handed g c =
           let now = g.D.Differences.taken c.loop-number.seen in
           let passed = c.pass_same-passed in
           let number = c.loop-number.number + passed.result.count in
-          let h = pairs_pass by file tree t left right_file other u right before c.args.steps.now c.loop-number.number passed.result.count c.loop-number.sides.left passed.new.sides.left c.loop-number.sides.right passed.new.sides.right now c.loop-number.steps passed.new.steps
+          let h = pairs_pass by file tree t left right_file other u right before c.args.steps.now.passed c.loop-number.number passed.result.count c.loop-number.sides.left passed.new.sides.left c.loop-number.sides.right passed.new.sides.right now c.loop-number.steps.passed passed.new.steps.passed
           o p (i.shows told) (i.shows_right told_right) passed.ensures.passed (i.going told told_right tree other o p t u at bt) in
           let info = c.index-tracks-place.result in
           let other_info = c.index-tracks-place-2.result in
@@ -114,7 +116,7 @@ returns-in_err-_same-clause-unchanged g c told told_right tree other o p t u at 
     let now = g.D.Differences.taken c.loop-number.seen in
     let passed = c.pass_same-passed in
     let number = c.loop-number.number + passed.result.count in
-    let h = pairs_pass by file tree t left right_file other u right before c.args.steps.now c.loop-number.number passed.result.count c.loop-number.sides.left passed.new.sides.left c.loop-number.sides.right passed.new.sides.right now c.loop-number.steps passed.new.steps
+    let h = pairs_pass by file tree t left right_file other u right before c.args.steps.now.passed c.loop-number.number passed.result.count c.loop-number.sides.left passed.new.sides.left c.loop-number.sides.right passed.new.sides.right now c.loop-number.steps.passed passed.new.steps.passed
     o p (i.shows told) (i.shows_right told_right) passed.ensures.passed (i.going told told_right tree other o p t u at bt) in
     let info = c.index-tracks-place.result in
     let other_info = c.index-tracks-place-2.result in
@@ -140,12 +142,12 @@ returns-in_err-_same-clause-work g c told told_right tree other o p t u at bt =
     let now = g.D.Differences.taken c.loop-number.seen in
     let passed = c.pass_same-passed in
     let number = c.loop-number.number + passed.result.count in
-    let h = pairs_pass by file tree t left right_file other u right before c.args.steps.now c.loop-number.number passed.result.count c.loop-number.sides.left passed.new.sides.left c.loop-number.sides.right passed.new.sides.right now c.loop-number.steps passed.new.steps
+    let h = pairs_pass by file tree t left right_file other u right before c.args.steps.now.passed c.loop-number.number passed.result.count c.loop-number.sides.left passed.new.sides.left c.loop-number.sides.right passed.new.sides.right now c.loop-number.steps.passed passed.new.steps.passed
     o p (i.shows told) (i.shows_right told_right) passed.ensures.passed (i.going told told_right tree other o p t u at bt) in
     let w = passed.new.sides.left.walk in
     let v = passed.new.sides.right.walk in
     let e = err_from_is_err_and c.from_residual-in_err-_same.result c.from_residual-in_err-_same.ensures.1 in
-    pairs_most by file tree t left right_file other u right before c.args.steps.now number w v now passed.new.steps c.refill_both.new.steps h
+    pairs_most by file tree t left right_file other u right before c.args.steps.now.passed number w v now passed.new.steps.passed c.refill_both.new.steps.passed h
     (λ q r hx hy. (rw (i.honesty, i.file, i.honesty_right, i.file_right) at c.in_err-_same.ensures.work) told told_right tree other o p t u q r hx hy)
 
 pub loop-number-preserved-else-passed : goal.loop-number-preserved-else-passed
@@ -158,6 +160,7 @@ loop-number-preserved-else-passed g c = record {
   file_right = search rules;
   reads_right = search rules;
   goes = search rules;
+  looks = search rules;
   walk = search rules;
   walk_right = search rules;
   shows = search rules;
@@ -173,12 +176,12 @@ loop-number-preserved-else-passed g c = record {
       let now = g.D.Differences.taken c.loop-number.seen in
       let passed = c.pass_same-passed in
       let number = c.loop-number.number + passed.result.count in
-      let h = pairs_pass by file tree t left right_file other u right before c.args.steps.now c.loop-number.number passed.result.count c.loop-number.sides.left passed.new.sides.left c.loop-number.sides.right passed.new.sides.right now c.loop-number.steps passed.new.steps
+      let h = pairs_pass by file tree t left right_file other u right before c.args.steps.now.passed c.loop-number.number passed.result.count c.loop-number.sides.left passed.new.sides.left c.loop-number.sides.right passed.new.sides.right now c.loop-number.steps.passed passed.new.steps.passed
       o p (i.shows told) (i.shows_right told_right) passed.ensures.passed (i.going told told_right tree other o p t u at bt) in
       let w = passed.new.sides.left.walk in
       let v = passed.new.sides.right.walk in
-      pairs_next by file tree t left right_file other u right before c.args.steps.now number w v c.compare_pair.new.sides.left.walk c.compare_pair.new.sides.right.walk now
-      (g.D.Differences.taken c.hand_over.new.seen) c.in_ok-found.found.items passed.new.steps c.compare_pair.new.steps h
+      pairs_next by file tree t left right_file other u right before c.args.steps.now.passed number w v c.compare_pair.new.sides.left.walk c.compare_pair.new.sides.right.walk now
+      (g.D.Differences.taken c.hand_over.new.seen) c.in_ok-found.found.items passed.new.steps.passed c.compare_pair.new.steps.passed h
       ((rw (i.honesty, i.file, i.honesty_right, i.file_right) at c.in_ok-found.ensures.found) told told_right tree other o p t u _ _ h.comes h.comes_right) ((rw c.as_slice.ensures.value at c.if-not-hand_over.ensures.all) refl)
       (λ q r hx hy. (rw (i.honesty, i.file, i.honesty_right, i.file_right) at c.in_ok-found.ensures.work) told told_right tree other o p t u q r hx hy);
 }
@@ -198,14 +201,15 @@ loop-number-preserved g c =
       file_right = i.file_right;
       reads_right = i.reads_right;
       goes = i.goes;
+      looks = search rules;
       walk = e.walk;
       walk_right = e.walk_right;
       shows = λ told. subst (λ (w : FileWindow). Shows file w) (sym e.window) (i.shows told);
       shows_right = λ told. subst (λ (w : FileWindow). Shows right_file w) (sym e.window_right) (i.shows_right told);
       going = λ told told_right tree other o p t u at bt.
           pairs_pass c.in_ok-by.by file tree t c.args.tracks.movies.now.left right_file other u c.args.tracks.movies.now.right (g.D.Differences.taken c.args.seen.now)
-          c.args.steps.now c.loop-number.number c.pass_same-passed.result.count c.loop-number.sides.left c.pass_same-passed.new.sides.left c.loop-number.sides.right c.pass_same-passed.new.sides.right
-          (g.D.Differences.taken c.loop-number.seen) c.loop-number.steps c.pass_same-passed.new.steps o p (i.shows told) (i.shows_right told_right) e (i.going told told_right tree other o p t u at bt);
+          c.args.steps.now.passed c.loop-number.number c.pass_same-passed.result.count c.loop-number.sides.left c.pass_same-passed.new.sides.left c.loop-number.sides.right c.pass_same-passed.new.sides.right
+          (g.D.Differences.taken c.loop-number.seen) c.loop-number.steps.passed c.pass_same-passed.new.steps.passed o p (i.shows told) (i.shows_right told_right) e (i.going told told_right tree other o p t u at bt);
     }
 
 pub returns-in_err-found-clause-handed : goal.returns-in_err-found-clause-handed
@@ -224,7 +228,7 @@ returns-in_err-found-clause-handed g c =
           let now = g.D.Differences.taken c.loop-number.seen in
           let passed = c.pass_same-passed in
           let number = c.loop-number.number + passed.result.count in
-          let h = pairs_pass by file tree t left right_file other u right before c.args.steps.now c.loop-number.number passed.result.count c.loop-number.sides.left passed.new.sides.left c.loop-number.sides.right passed.new.sides.right now c.loop-number.steps passed.new.steps
+          let h = pairs_pass by file tree t left right_file other u right before c.args.steps.now.passed c.loop-number.number passed.result.count c.loop-number.sides.left passed.new.sides.left c.loop-number.sides.right passed.new.sides.right now c.loop-number.steps.passed passed.new.steps.passed
           o p (i.shows told) (i.shows_right told_right) passed.ensures.passed (i.going told told_right tree other o p t u at bt) in
           let info = c.index-tracks-place.result in
           let other_info = c.index-tracks-place-2.result in
@@ -249,7 +253,7 @@ returns-in_err-found-clause-unchanged g c told told_right tree other o p t u at 
     let now = g.D.Differences.taken c.loop-number.seen in
     let passed = c.pass_same-passed in
     let number = c.loop-number.number + passed.result.count in
-    let h = pairs_pass by file tree t left right_file other u right before c.args.steps.now c.loop-number.number passed.result.count c.loop-number.sides.left passed.new.sides.left c.loop-number.sides.right passed.new.sides.right now c.loop-number.steps passed.new.steps
+    let h = pairs_pass by file tree t left right_file other u right before c.args.steps.now.passed c.loop-number.number passed.result.count c.loop-number.sides.left passed.new.sides.left c.loop-number.sides.right passed.new.sides.right now c.loop-number.steps.passed passed.new.steps.passed
     o p (i.shows told) (i.shows_right told_right) passed.ensures.passed (i.going told told_right tree other o p t u at bt) in
     let info = c.index-tracks-place.result in
     let other_info = c.index-tracks-place-2.result in
@@ -275,12 +279,12 @@ returns-in_err-found-clause-work g c told told_right tree other o p t u at bt =
     let now = g.D.Differences.taken c.loop-number.seen in
     let passed = c.pass_same-passed in
     let number = c.loop-number.number + passed.result.count in
-    let h = pairs_pass by file tree t left right_file other u right before c.args.steps.now c.loop-number.number passed.result.count c.loop-number.sides.left passed.new.sides.left c.loop-number.sides.right passed.new.sides.right now c.loop-number.steps passed.new.steps
+    let h = pairs_pass by file tree t left right_file other u right before c.args.steps.now.passed c.loop-number.number passed.result.count c.loop-number.sides.left passed.new.sides.left c.loop-number.sides.right passed.new.sides.right now c.loop-number.steps.passed passed.new.steps.passed
     o p (i.shows told) (i.shows_right told_right) passed.ensures.passed (i.going told told_right tree other o p t u at bt) in
     let w = passed.new.sides.left.walk in
     let v = passed.new.sides.right.walk in
     let e = err_from_is_err_and c.from_residual-in_err-found.result c.from_residual-in_err-found.ensures.1 in
-    pairs_most by file tree t left right_file other u right before c.args.steps.now number w v now passed.new.steps c.compare_pair.new.steps h
+    pairs_most by file tree t left right_file other u right before c.args.steps.now.passed number w v now passed.new.steps.passed c.compare_pair.new.steps.passed h
     (λ q r hx hy. (rw (i.honesty, i.file, i.honesty_right, i.file_right) at c.in_err-found.ensures.work) told told_right tree other o p t u q r hx hy)
 
 pub returns-then-not-hand_over-clause-handed : goal.returns-then-not-hand_over-clause-handed
@@ -299,7 +303,7 @@ returns-then-not-hand_over-clause-handed g c =
           let now = g.D.Differences.taken c.loop-number.seen in
           let passed = c.pass_same-passed in
           let number = c.loop-number.number + passed.result.count in
-          let h = pairs_pass by file tree t left right_file other u right before c.args.steps.now c.loop-number.number passed.result.count c.loop-number.sides.left passed.new.sides.left c.loop-number.sides.right passed.new.sides.right now c.loop-number.steps passed.new.steps
+          let h = pairs_pass by file tree t left right_file other u right before c.args.steps.now.passed c.loop-number.number passed.result.count c.loop-number.sides.left passed.new.sides.left c.loop-number.sides.right passed.new.sides.right now c.loop-number.steps.passed passed.new.steps.passed
           o p (i.shows told) (i.shows_right told_right) passed.ensures.passed (i.going told told_right tree other o p t u at bt) in
           let w = passed.new.sides.left.walk in
           let v = passed.new.sides.right.walk in
@@ -312,8 +316,8 @@ returns-then-not-hand_over-clause-handed g c =
           let begun = (c.in_ok-by.ensures.begun told told_right tree other o p t u at bt).edges in
           let are = pairs_are c.args.tracks.leaving c.args.tracks.place by file right_file left right tree other t u info other_info (c.in_ok-by.ensures.pairing info other_info there there_right) o p at bt there there_right begun.left begun.right in
           subst (TakesFront before (g.D.Differences.taken c.hand_over.new.seen)) are
-          (pairs_stop by file tree t left right_file other u right before c.args.steps.now number w v c.compare_pair.new.sides.left.walk c.compare_pair.new.sides.right.walk now
-          (g.D.Differences.taken c.hand_over.new.seen) c.in_ok-found.found.items passed.new.steps h
+          (pairs_stop by file tree t left right_file other u right before c.args.steps.now.passed number w v c.compare_pair.new.sides.left.walk c.compare_pair.new.sides.right.walk now
+          (g.D.Differences.taken c.hand_over.new.seen) c.in_ok-found.found.items passed.new.steps.passed h
           ((rw (i.honesty, i.file, i.honesty_right, i.file_right) at c.in_ok-found.ensures.found) told told_right tree other o p t u _ _ h.comes h.comes_right) (rw c.as_slice.ensures.value at c.hand_over.ensures.front));
     }
 
@@ -329,12 +333,12 @@ returns-then-not-hand_over-clause-work g c told told_right tree other o p t u at
     let now = g.D.Differences.taken c.loop-number.seen in
     let passed = c.pass_same-passed in
     let number = c.loop-number.number + passed.result.count in
-    let h = pairs_pass by file tree t left right_file other u right before c.args.steps.now c.loop-number.number passed.result.count c.loop-number.sides.left passed.new.sides.left c.loop-number.sides.right passed.new.sides.right now c.loop-number.steps passed.new.steps
+    let h = pairs_pass by file tree t left right_file other u right before c.args.steps.now.passed c.loop-number.number passed.result.count c.loop-number.sides.left passed.new.sides.left c.loop-number.sides.right passed.new.sides.right now c.loop-number.steps.passed passed.new.steps.passed
     o p (i.shows told) (i.shows_right told_right) passed.ensures.passed (i.going told told_right tree other o p t u at bt) in
     let w = passed.new.sides.left.walk in
     let v = passed.new.sides.right.walk in
-    pairs_most by file tree t left right_file other u right before c.args.steps.now number w v now passed.new.steps c.compare_pair.new.steps h
-    (λ q r hx hy. both_most file tree t c.compare_pair.new.sides.left.walk right_file other u c.compare_pair.new.sides.right.walk _ passed.new.steps c.compare_pair.new.steps
+    pairs_most by file tree t left right_file other u right before c.args.steps.now.passed number w v now passed.new.steps.passed c.compare_pair.new.steps.passed h
+    (λ q r hx hy. both_most file tree t c.compare_pair.new.sides.left.walk right_file other u c.compare_pair.new.sides.right.walk _ passed.new.steps.passed c.compare_pair.new.steps.passed
     ((rw (i.honesty, i.file, i.honesty_right, i.file_right) at c.in_ok-found.ensures.work) told told_right tree other o p t u q r hx hy))
 
 pub returns-clause-handed : goal.returns-clause-handed
@@ -362,7 +366,7 @@ returns-clause-handed g c =
           let begun = (c.in_ok-by.ensures.begun told told_right tree other o p t u at bt).edges in
           let are = pairs_are c.args.tracks.leaving c.args.tracks.place by file right_file left right tree other t u info other_info (c.in_ok-by.ensures.pairing info other_info there there_right) o p at bt there there_right begun.left begun.right in
           let le : min info.samples other_info.samples ≤ c.loop-number.number = search rules in
-          pairs_all by file tree t left right_file other u right before c.args.steps.now c.loop-number.number w v now c.loop-number.steps h
+          pairs_all by file tree t left right_file other u right before c.args.steps.now.passed c.loop-number.number w v now c.loop-number.steps.passed h
           (min_over info.samples other_info.samples _ _ c.loop-number.number (count_is file left tree t c.args.tracks.place info o at there) (count_is right_file right other u c.args.tracks.place other_info p bt there_right) le)
           ∙ ap (λ (ds : List Difference). before ++ ds) are;
       front = λ told told_right tree other o p t u at bt.
@@ -399,4 +403,4 @@ returns-clause-work g c told told_right tree other o p t u at bt =
     let now = g.D.Differences.taken c.loop-number.seen in
     let w = c.loop-number.sides.left.walk in
     let v = c.loop-number.sides.right.walk in
-    pairs_work by file tree t left right_file other u right before c.args.steps.now c.loop-number.number w v now c.loop-number.steps h
+    pairs_work by file tree t left right_file other u right before c.args.steps.now.passed c.loop-number.number w v now c.loop-number.steps.passed h

@@ -17,13 +17,14 @@ invariant-loop-number g l = record {
   file_right : g.T.Store.file l.right ≡ g.T.Store.file l.fn.right;
   reads_right : g.T.Store.read_failures l.right ≡ g.T.Store.read_failures l.fn.right;
   goes : g.D.Differences.is_open l.seen ≡ true;
+  looks : l.steps.looks ≡ l.fn.steps.looks;
   walk : IsWalkOf l.movies.left l.sides.left.walk;
   walk_right : IsWalkOf l.movies.right l.sides.right.walk;
   shows : IsTrue (g.S.Store.is_honest l.fn.left) → Shows (g.S.Store.file l.fn.left) l.sides.left.window;
   shows_right : IsTrue (g.T.Store.is_honest l.fn.right) → Shows (g.T.Store.file l.fn.right) l.sides.right.window;
   going : WhereBothOpened (g.S.Store.is_honest l.fn.left) (g.S.Store.file l.fn.left) l.movies.left (g.T.Store.is_honest l.fn.right) (g.T.Store.file l.fn.right) l.movies.right
       (λ tree other. AtTracks l.place tree other (λ t u.
-      PairsGo l.by (g.S.Store.file l.fn.left) tree t l.movies.left (g.T.Store.file l.fn.right) other u l.movies.right l.number l.sides.left.walk l.sides.right.walk (g.D.Differences.taken l.fn.seen) (g.D.Differences.taken l.seen) l.fn.steps l.steps));
+      PairsGo l.by (g.S.Store.file l.fn.left) tree t l.movies.left (g.T.Store.file l.fn.right) other u l.movies.right l.number l.sides.left.walk l.sides.right.walk (g.D.Differences.taken l.fn.seen) (g.D.Differences.taken l.seen) l.fn.steps.passed l.steps.passed));
 }
 
 abbrev pub decreases-loop-number : goal.decreases-loop-number

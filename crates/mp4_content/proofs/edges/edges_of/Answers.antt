@@ -40,7 +40,7 @@ returns-in_default-clause-unchanged g c told tree t samples o h all e =
 
 pub returns-in_default-clause-work : goal.returns-in_default-clause-work
 returns-in_default-clause-work g c told tree t n o h =
-    takes_most (g.S.Store.file c.args.store.now) tree t n c.args.steps.now _ c.refill.new.self (c.in_ok-refill.ensures.work told tree t n o h)
+    takes_most (g.S.Store.file c.args.store.now) tree t n c.args.steps.now.passed _ c.refill.new.self (c.in_ok-refill.ensures.work told tree t n o h)
 
 pub returns-clause-edges : goal.returns-clause-edges
 returns-clause-edges g c told tree t samples o h all =

@@ -15,8 +15,9 @@ invariant-loop-track g l = record {
   honesty : g.S.Store.is_honest l.store ≡ g.S.Store.is_honest l.fn.store;
   file : g.S.Store.file l.store ≡ g.S.Store.file l.fn.store;
   reads : g.S.Store.read_failures l.store ≡ g.S.Store.read_failures l.fn.store;
-  grows : l.fn.steps ≤ l.steps;
+  looks : l.steps.looks ≡ l.fn.steps.looks;
+  grows : l.fn.steps.passed ≤ l.steps.passed;
   measured : asks_first l.leaving ≡ true → IsTrue (g.S.Store.is_honest l.fn.store) → (tree : FileTree) (o : IsOpenedAs (g.S.Store.file l.fn.store) l.movie tree)
       → AreSoFar l.leaving (g.S.Store.file l.fn.store) l.movie tree o l.track l.of_tracks.items l.totals.items;
-  work : IsTrue (g.S.Store.is_honest l.fn.store) → (tree : FileTree) → IsOpenedAs (g.S.Store.file l.fn.store) l.movie tree → l.steps ≤ l.fn.steps + sum_of (walk_steps tree) (take l.track tree.movie.tracks);
+  work : IsTrue (g.S.Store.is_honest l.fn.store) → (tree : FileTree) → IsOpenedAs (g.S.Store.file l.fn.store) l.movie tree → l.steps.passed ≤ l.fn.steps.passed + sum_of (walk_steps tree) (take l.track tree.movie.tracks);
 }

@@ -18,9 +18,10 @@ invariant-loop-walk g l =
       honesty : g.S.Store.is_honest l.store ≡ g.S.Store.is_honest l.fn.store;
       file : g.S.Store.file l.store ≡ g.S.Store.file l.fn.store;
       reads : g.S.Store.read_failures l.store ≡ g.S.Store.read_failures l.fn.store;
-      grows : l.fn.steps ≤ l.steps;
+      looks : l.steps.looks ≡ l.fn.steps.looks;
+      grows : l.fn.steps.passed ≤ l.steps.passed;
       takes : IsTrue (g.S.Store.is_honest l.fn.store) → (tree : FileTree) (t : TrackTree) (n : ℕ) → IsOpenedAs (g.S.Store.file l.fn.store) l.movie tree → MayTake (g.S.Store.file l.fn.store) tree t l.fn.walk n
-          → TakesOn (g.S.Store.file l.fn.store) tree t n l.walk l.fn.steps l.steps;
+          → TakesOn (g.S.Store.file l.fn.store) tree t n l.walk l.fn.steps.passed l.steps.passed;
       added : IsTrue (g.S.Store.is_honest l.fn.store) → (tree : FileTree) (t : TrackTree) (samples : List SampleAt) → IsOpenedAs (g.S.Store.file l.fn.store) l.movie tree → Comes (g.S.Store.file l.fn.store) tree t l.movie l.fn.walk samples
           → HasAdded l.reduction (g.S.Store.file l.fn.store) tree t l.total l.walk samples;
     }

@@ -15,10 +15,11 @@ loop-walk-init g c = record {
   honesty = refl;
   file = refl;
   reads = refl;
+  looks = refl;
   first = (c.in_hand.result, (c.in_hand.ensures.hand, c.peek-next.ensures));
   coming = λ told tree t samples o h. h;
-  went = went_none c.args.movie.now c.args.walk.now c.args.steps.now;
-  takes = λ told tree t n o h. takes_none (g.S.Store.file c.args.store.now) tree t n c.args.steps.now c.args.walk.now h;
+  went = went_none c.args.movie.now c.args.walk.now c.args.steps.now.passed;
+  takes = λ told tree t n o h. takes_none (g.S.Store.file c.args.store.now) tree t n c.args.steps.now.passed c.args.walk.now h;
 }
 
 pub returns-in_err-load-clause-unchanged : goal.returns-in_err-load-clause-unchanged
@@ -39,6 +40,7 @@ loop-walk-preserved g c =
       honesty = e.store.honesty ∙ i.honesty;
       file = e.store.file ∙ i.file;
       reads = e.store.reads ∙ i.reads;
+      looks = e.looks ∙ i.looks;
       first = (c.in_hand-in-loop-walk.result, (c.in_hand-in-loop-walk.ensures.hand, c.peek-next-in-loop-walk.ensures));
       coming = λ told tree t samples o h.
           let k = i.coming told tree t samples o h in

@@ -16,10 +16,11 @@ invariant-loop-walk g l = record {
   honesty : g.S.Store.is_honest l.store ≡ g.S.Store.is_honest l.fn.store;
   file : g.S.Store.file l.store ≡ g.S.Store.file l.fn.store;
   reads : g.S.Store.read_failures l.store ≡ g.S.Store.read_failures l.fn.store;
+  looks : l.steps.looks ≡ l.fn.steps.looks;
   first : (hand : Loaded) × (InHandOf l.movie l.walk hand × (l.next ≡ slice_get (left_in_hand hand) 0));
   coming : IsTrue (g.S.Store.is_honest l.fn.store) → StillComes (g.S.Store.file l.fn.store) l.movie l.fn.walk l.walk;
-  went : WentOn l.movie l.fn.walk l.walk l.fn.steps l.steps;
-  takes : IsTrue (g.S.Store.is_honest l.fn.store) → TakesBefore (g.S.Store.file l.fn.store) l.movie l.fn.walk l.walk l.fn.steps l.steps;
+  went : WentOn l.movie l.fn.walk l.walk l.fn.steps.passed l.steps.passed;
+  takes : IsTrue (g.S.Store.is_honest l.fn.store) → TakesBefore (g.S.Store.file l.fn.store) l.movie l.fn.walk l.walk l.fn.steps.passed l.steps.passed;
 }
 
 abbrev pub decreases-loop-walk : goal.decreases-loop-walk

@@ -1,11 +1,6 @@
-use Rattle.std.proofs.Common.{◌^◌, ◌<◌, ◌∙◌, List, Ok, inl, inr, refl, ap, pos, rules}
-use Rattle.std.specs.Prelude.{codes}
+use Rattle.std.proofs.Common.{◌^◌, ◌<◌, ◌∙◌, List, Ok, inl, inr, refl, ap, rules}
 use Rattle.std.proofs.lemmas.Result.{err_from_is_err_and, on_ok_weaker, MatchResult-weaker}
 use Rattle.mp4_boxes.specs.format.Box.{Box}
-use Rattle.mp4_boxes.specs.format.Children.{of_kind}
-use Rattle.mp4_frag.specs.words.RunsJudged.{children_of}
-use Rattle.mp4_frag.specs.words.TrafTests.{FrontFirst, TrafsFirst}
-use Rattle.mp4_frag.proofs.FirstTraf.{named_as}
 use Rattle.mp4_frag.proofs.HeadsFound.{holds_boxes}
 use Rattle.mp4_boxes.specs.words.View.{box_seen}
 use Rattle.mp4_frag.proofs.TrafsJudged.{passed_front}
@@ -13,9 +8,9 @@ use Rattle.mp4_frag.proofs.check.check_front.Goals as goal
 
 pub returns-clause-sound : goal.returns-clause-sound
 returns-clause-sound g c =
-    let short : c.args.file.len < 2 ^ 64 = search rules in
+    let short : c.args.file_len < 2 ^ 64 = search rules in
     let here = rw (c.payload.ensures, c.payload_offset.ensures, c.kind.ensures) at c.in_ok-boxes.ensures.tiles in
-    on_ok_weaker c.check_trafs.result (λ p. passed_front c.args.file.len (box_seen c.args.front) c.in_ok-boxes.boxes _ _ _ _ short p (record { front = here.front; full = here.full })) c.check_trafs.ensures.passed
+    on_ok_weaker c.check_trafs.result (λ p. passed_front c.args.file_len (box_seen c.args.front) c.in_ok-boxes.boxes _ _ _ _ short p (record { front = here.front; full = here.full })) c.check_trafs.ensures.passed
 
 -- ---- the first fault
 
@@ -31,7 +26,4 @@ returns-clause-exact g c =
     let here = rw (c.payload.ensures, c.payload_offset.ensures, c.kind.ensures) at c.in_ok-boxes.ensures.tiles in
     let same = holds_boxes front c.in_ok-boxes.boxes (record { front = here.front; full = here.full }) in
     let read = (rw (c.payload.ensures, c.payload_offset.ensures, c.kind.ensures) at c.in_ok-boxes.ensures.exact.same) ∙ ap (λ (boxes : List Box). Ok boxes) same in
-    record {
-      names = MatchResult-weaker c.check_trafs.result c.check_trafs.ensures.exact.names (λ p h. inr (read, h))
-          (named_as (TrafsFirst c.args.file.len front.offset (pos front.offset) c.args.tracks.now c.args.room.now (of_kind (codes "traf") (children_of front))) (FrontFirst c.args.file.len c.args.tracks.now c.args.room.now front) (λ o h. inr (read, h)));
-    }
+    record { names = MatchResult-weaker c.check_trafs.result c.check_trafs.ensures.exact.names (λ p h. inr (read, h)) (λ f h. inr (read, h)) }

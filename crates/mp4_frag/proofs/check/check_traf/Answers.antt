@@ -44,14 +44,14 @@ check_runs-requires-clause-base g c =
 
 pub moved_on-requires-clause-room : goal.moved_on-requires-clause-room
 moved_on-requires-clause-room g c =
-    let before : HasRoom c.args.room.now c.index-tracks-k.result = rw (c.index-tracks-k.is) (has_room c.args.room.now c.in-Some-find_track.k c.args.tracks.now _ c.in-Some-find_track.ensures.inside c.requires.room.each) in
+    let before : HasRoom c.args.room.now c.index-tracks-k.result = rw (c.index-tracks-k.is) (has_room c.args.room.now c.in-Some-find.k c.args.tracks.now _ c.in-Some-find.ensures.inside c.requires.room.each) in
     let room = before.few in
     let taken = c.in_ok-passed.ensures.taken in
     record { few = omega arith; time = before.time; bytes = before.bytes }
 
 pub returns-clause-kept : goal.returns-clause-kept
 returns-clause-kept g c =
-    let before : HasRoom c.args.room.now c.index-tracks-k.result = rw (c.index-tracks-k.is) (has_room c.args.room.now c.in-Some-find_track.k c.args.tracks.now _ c.in-Some-find_track.ensures.inside c.requires.room.each) in
+    let before : HasRoom c.args.room.now c.index-tracks-k.result = rw (c.index-tracks-k.is) (has_room c.args.room.now c.in-Some-find.k c.args.tracks.now _ c.in-Some-find.ensures.inside c.requires.room.each) in
     let room = before.few in
     let count = c.moved_on.ensures.count in
     let taken = c.in_ok-passed.ensures.taken in
@@ -60,11 +60,11 @@ returns-clause-kept g c =
     let with : HasRoom c.check_runs.new.room c.moved_on.result = record { few = few; time = c.moved_on.ensures.room.time; bytes = c.moved_on.ensures.room.bytes } in
     record {
       few = less;
-      each = room_with c.check_runs.new.room c.in-Some-find_track.k c.args.tracks.now c.moved_on.result with
+      each = room_with c.check_runs.new.room c.in-Some-find.k c.args.tracks.now c.moved_on.result with
           (less_room c.args.room.now c.check_runs.new.room c.args.tracks.now less c.requires.room.each);
       same = λ id.
-          trex_same c.args.tracks.now c.in-Some-find_track.k _ c.moved_on.result id c.in-Some-find_track.ensures.inside (c.moved_on.ensures.same.0 ∙ ap (λ t. t.id) c.index-tracks-k.is) (c.moved_on.ensures.same.1 ∙ ap (λ t. t.trex) c.index-tracks-k.is);
-      ids = ids_set c.in-Some-find_track.k c.args.tracks.now _ c.moved_on.result c.in-Some-find_track.ensures.inside (c.moved_on.ensures.same.0 ∙ ap (λ (t : TrackState). t.id) c.index-tracks-k.is);
+          trex_same c.args.tracks.now c.in-Some-find.k _ c.moved_on.result id c.in-Some-find.ensures.inside (c.moved_on.ensures.same.0 ∙ ap (λ t. t.id) c.index-tracks-k.is) (c.moved_on.ensures.same.1 ∙ ap (λ t. t.trex) c.index-tracks-k.is);
+      ids = ids_set c.in-Some-find.k c.args.tracks.now _ c.moved_on.result c.in-Some-find.ensures.inside (c.moved_on.ensures.same.0 ∙ ap (λ (t : TrackState). t.id) c.index-tracks-k.is);
     }
 
 pub returns-clause-passed : goal.returns-clause-passed
@@ -74,8 +74,8 @@ returns-clause-passed g c =
     let before : to_z w128 (of_z w128 c.args.at.before) ≡ c.args.at.before = search rules in
     let kept : to_z w128 (of_z w128 c.in_ok-passed.passed.at) ≡ c.in_ok-passed.passed.at = search rules in
     let head : of_kind (codes "tfhd") boxes ≡ box_seen c.in-Some.tfhd ∷ [] = sym c.in_ok-heads.ensures.head ∙ ap (λ (o : Option BoxView). only_list (option_map box_seen o)) c.in-Some.is in
-    let known : trex_among c.args.tracks.now c.in_ok-head.head.id ≡ Some c.in-Some-trex.trex = found_trex c.args.tracks.now c.in_ok-head.head.id c.in-Some-find_track.k _ c.in-Some-trex.trex
-    c.in-Some-find_track.ensures.inside c.in-Some-find_track.ensures.there.found (ap (λ t. t.trex) (sym c.index-tracks-k.is) ∙ c.in-Some-trex.is) in
+    let known : trex_among c.args.tracks.now c.in_ok-head.head.id ≡ Some c.in-Some-trex.trex = found_trex c.args.tracks.now c.in_ok-head.head.id c.in-Some-find.k _ c.in-Some-trex.trex
+    c.in-Some-find.ensures.inside c.in-Some-find.ensures.there.found (ap (λ t. t.trex) (sym c.index-tracks-k.is) ∙ c.in-Some-trex.is) in
     let m = c.moved_on.ensures in
     let late : is_late_at c.index-tracks-k.result c.in_ok-time.time c.in_ok-passed.passed.count ≡ false =
     elim c.match-heads-2.branch [
@@ -86,22 +86,22 @@ returns-clause-passed g c =
     ] in
     record {
       holds = c.in_ok-heads.ensures.holds;
-      sound = rw kept (traf_sound c.args.at.file.len c.args.at.moof c.in_ok-passed.passed.count c.args.at.before c.base_of.result c.in_ok-passed.passed.at c.args.tracks.now boxes (box_seen c.in-Some.tfhd) c.in_ok-head.head c.in-Some-trex.trex
+      sound = rw kept (traf_sound c.args.at.file_len c.args.at.moof c.in_ok-passed.passed.count c.args.at.before c.base_of.result c.in_ok-passed.passed.at c.args.tracks.now boxes (box_seen c.in-Some.tfhd) c.in_ok-head.head c.in-Some-trex.trex
           c.what_is_inherited.result (keys_seen c.index-tracks-k.result.keys)
           head c.in_ok-head.ensures.head known c.in_ok-time.ensures.sound (rw before at c.base_of.ensures.is) c.what_is_inherited.ensures (rw same at c.in_ok-passed.ensures.runs.sound) (rw same at c.in_ok-passed.ensures.runs.end) c.in_ok-passed.ensures.runs.count c.in_ok-keys.ensures.sound);
       bound = λ n big near.
           let base : IsUpTo n c.base_of.result = (rw before at c.base_of.ensures.bound) n big near in
           rw kept ((rw same at c.in_ok-passed.ensures.bound) n big base);
-      moved = traf_moved c.args.at.moof c.in_ok-passed.passed.count c.in_ok-passed.passed.duration c.in_ok-passed.passed.bytes c.in-Some-find_track.k c.args.room.now c.check_runs.new.room c.args.at.before c.args.tracks.now _ c.index-tracks-k.result c.moved_on.result boxes (box_seen c.in-Some.tfhd)
+      moved = traf_moved c.args.at.moof c.in_ok-passed.passed.count c.in_ok-passed.passed.duration c.in_ok-passed.passed.bytes c.in-Some-find.k c.args.room.now c.check_runs.new.room c.args.at.before c.args.tracks.now _ c.index-tracks-k.result c.moved_on.result boxes (box_seen c.in-Some.tfhd)
           c.in_ok-head.head c.in-Some-trex.trex c.what_is_inherited.result c.in_ok-keys.keys c.in_ok-time.time
           head c.in_ok-head.ensures.head
-          c.in-Some-find_track.ensures.inside c.in-Some-find_track.ensures.there.found c.in-Some-find_track.ensures.there.first c.index-tracks-k.is c.in-Some-trex.is c.what_is_inherited.ensures c.in_ok-passed.ensures.runs.count c.in_ok-passed.ensures.runs.lasting c.in_ok-passed.ensures.runs.filling
+          c.in-Some-find.ensures.inside c.in-Some-find.ensures.there.found c.in-Some-find.ensures.there.first c.index-tracks-k.is c.in-Some-trex.is c.what_is_inherited.ensures c.in_ok-passed.ensures.runs.count c.in_ok-passed.ensures.runs.lasting c.in_ok-passed.ensures.runs.filling
           c.in_ok-keys.ensures.sound c.in_ok-keys.ensures.keys (sym c.if-lacks_description.ensures) late c.in_ok-time.ensures.time m.none m.some c.in_ok-passed.ensures.taken;
     }
 
 pub returns-clause-ids : goal.returns-clause-ids
 returns-clause-ids g c =
-    ids_set c.in-Some-find_track.k c.args.tracks.now _ c.moved_on.result c.in-Some-find_track.ensures.inside (c.moved_on.ensures.same.0 ∙ ap (λ (t : TrackState). t.id) c.index-tracks-k.is)
+    ids_set c.in-Some-find.k c.args.tracks.now _ c.moved_on.result c.in-Some-find.ensures.inside (c.moved_on.ensures.same.0 ∙ ap (λ (t : TrackState). t.id) c.index-tracks-k.is)
 
 pub returns-clause-own : goal.returns-clause-own
 returns-clause-own g c =
@@ -109,17 +109,17 @@ returns-clause-own g c =
     let twice : to_z w128 (of_z w128 (to_z w128 (of_z w128 c.base_of.result))) ≡ c.base_of.result = search rules in
     let before : to_z w128 (of_z w128 c.args.at.before) ≡ c.args.at.before = search rules in
     let head : of_kind (codes "tfhd") (children_of (box_seen c.args.traf)) ≡ box_seen c.in-Some.tfhd ∷ [] = sym c.in_ok-heads.ensures.head ∙ ap (λ (o : Option BoxView). only_list (option_map box_seen o)) c.in-Some.is in
-    let known : trex_among c.args.tracks.now c.in_ok-head.head.id ≡ Some c.in-Some-trex.trex = found_trex c.args.tracks.now c.in_ok-head.head.id c.in-Some-find_track.k _ c.in-Some-trex.trex
-    c.in-Some-find_track.ensures.inside c.in-Some-find_track.ensures.there.found (ap (λ t. t.trex) (sym c.index-tracks-k.is) ∙ c.in-Some-trex.is) in
-    traf_notable c.args.at.moof c.in_ok-passed.passed.count c.in-Some-find_track.k c.args.at.before c.base_of.result _ c.args.tracks.now (box_seen c.args.traf) (box_seen c.in-Some.tfhd) c.in_ok-head.head c.in-Some-trex.trex c.note_of.result
-    head c.in_ok-head.ensures.head known c.in-Some-find_track.ensures.inside c.in-Some-find_track.ensures.there.found (rw before at c.base_of.ensures.is) c.in_ok-passed.ensures.runs.count (rw twice at c.note_of.ensures)
+    let known : trex_among c.args.tracks.now c.in_ok-head.head.id ≡ Some c.in-Some-trex.trex = found_trex c.args.tracks.now c.in_ok-head.head.id c.in-Some-find.k _ c.in-Some-trex.trex
+    c.in-Some-find.ensures.inside c.in-Some-find.ensures.there.found (ap (λ t. t.trex) (sym c.index-tracks-k.is) ∙ c.in-Some-trex.is) in
+    traf_notable c.args.at.moof c.in_ok-passed.passed.count c.in-Some-find.k c.args.at.before c.base_of.result _ c.args.tracks.now (box_seen c.args.traf) (box_seen c.in-Some.tfhd) c.in_ok-head.head c.in-Some-trex.trex c.note_of.result
+    head c.in_ok-head.ensures.head known c.in-Some-find.ensures.inside c.in-Some-find.ensures.there.found (rw before at c.base_of.ensures.is) c.in_ok-passed.ensures.runs.count (rw twice at c.note_of.ensures)
 
 -- ---- the first fault
 
 pub returns-in_err-heads-clause-exact : goal.returns-in_err-heads-clause-exact
 returns-in_err-heads-clause-exact g c =
     let p = err_from_is_err_and c.from_residual.result c.from_residual.ensures.1 in
-    record { names = rw (p.1, p.2) (list_first c.args.at.file.len c.args.at.moof c.args.at.before c.args.tracks.now c.args.room.now (box_seen c.args.traf) c.in_err-heads.field-0.0 c.in_err-heads.ensures.exact.names) }
+    record { names = rw (p.1, p.2) (list_first c.args.at.file_len c.args.at.moof c.args.at.before c.args.tracks.now c.args.room.now (box_seen c.args.traf) c.in_err-heads.field-0.0 c.in_err-heads.ensures.exact.names) }
 
 pub returns-in_default-clause-exact : goal.returns-in_default-clause-exact
 returns-in_default-clause-exact g c =
@@ -130,39 +130,39 @@ pub returns-in_err-head-clause-exact : goal.returns-in_err-head-clause-exact
 returns-in_err-head-clause-exact g c =
     let p = err_from_is_err_and c.from_residual-in_err-head.result c.from_residual-in_err-head.ensures.1 in
     let head = sym c.in_ok-heads.ensures.head ∙ ap (λ (o : Option BoxView). only_list (option_map box_seen o)) c.in-Some.is in
-    record { names = rw (p.1, p.2) (head_first c.args.at.file.len c.args.at.moof c.args.at.before c.args.tracks.now c.args.room.now (box_seen c.args.traf) (box_seen c.in-Some.tfhd) c.in_ok-heads.ensures.exact.names head c.in_err-head.field-0.0 c.in_err-head.ensures.exact.names) }
+    record { names = rw (p.1, p.2) (head_first c.args.at.file_len c.args.at.moof c.args.at.before c.args.tracks.now c.args.room.now (box_seen c.args.traf) (box_seen c.in-Some.tfhd) c.in_ok-heads.ensures.exact.names head c.in_err-head.field-0.0 c.in_err-head.ensures.exact.names) }
 
-pub returns-in_default-find_track-clause-exact : goal.returns-in_default-find_track-clause-exact
-returns-in_default-find_track-clause-exact g c =
+pub returns-in_default-find-clause-exact : goal.returns-in_default-find-clause-exact
+returns-in_default-find-clause-exact g c =
     let head = sym c.in_ok-heads.ensures.head ∙ ap (λ (o : Option BoxView). only_list (option_map box_seen o)) c.in-Some.is in
-    let none = ap (λ (t : TrackFragment). track_with t.id c.args.tracks.now) (sym (same_head (box_seen c.args.traf) (box_seen c.in-Some.tfhd) c.in_ok-head.head head c.in_ok-head.ensures.head)) ∙ c.in_default-find_track.ensures.none refl in
+    let none = ap (λ (t : TrackFragment). track_with t.id c.args.tracks.now) (sym (same_head (box_seen c.args.traf) (box_seen c.in-Some.tfhd) c.in_ok-head.head head c.in_ok-head.ensures.head)) ∙ c.in_default-find.ensures.none refl in
     record {
       names =
-          rw c.fault-in_default-find_track.ensures (behind_head c.args.at.file.len c.args.at.moof c.args.at.before c.args.tracks.now c.args.room.now (box_seen c.args.traf) (box_seen c.in-Some.tfhd) c.in_ok-heads.ensures.exact.names head (Some (fault_of UnknownTrack (box_seen c.in-Some.tfhd)))
-          c.in_ok-head.ensures.exact.names (no_track_first c.args.at.file.len c.args.at.moof c.args.at.before c.args.room.now (box_seen c.args.traf) (box_seen c.in-Some.tfhd) _ none));
+          rw c.fault-in_default-find.ensures (behind_head c.args.at.file_len c.args.at.moof c.args.at.before c.args.tracks.now c.args.room.now (box_seen c.args.traf) (box_seen c.in-Some.tfhd) c.in_ok-heads.ensures.exact.names head (Some (fault_of UnknownTrack (box_seen c.in-Some.tfhd)))
+          c.in_ok-head.ensures.exact.names (no_track_first c.args.at.file_len c.args.at.moof c.args.at.before c.args.room.now (box_seen c.args.traf) (box_seen c.in-Some.tfhd) _ none));
     }
 
 pub returns-in_default-trex-clause-exact : goal.returns-in_default-trex-clause-exact
 returns-in_default-trex-clause-exact g c =
     let head = sym c.in_ok-heads.ensures.head ∙ ap (λ (o : Option BoxView). only_list (option_map box_seen o)) c.in-Some.is in
-    let found = ap (λ (t : TrackFragment). track_with t.id c.args.tracks.now) (sym (same_head (box_seen c.args.traf) (box_seen c.in-Some.tfhd) c.in_ok-head.head head c.in_ok-head.ensures.head)) ∙ c.in-Some-find_track.ensures.there.found
-    ∙ got c.in-Some-find_track.k c.args.tracks.now _ c.in-Some-find_track.ensures.inside ∙ ap (λ (t : TrackState). Some t) (sym c.index-tracks-k.is) in
+    let found = ap (λ (t : TrackFragment). track_with t.id c.args.tracks.now) (sym (same_head (box_seen c.args.traf) (box_seen c.in-Some.tfhd) c.in_ok-head.head head c.in_ok-head.ensures.head)) ∙ c.in-Some-find.ensures.there.found
+    ∙ got c.in-Some-find.k c.args.tracks.now _ c.in-Some-find.ensures.inside ∙ ap (λ (t : TrackState). Some t) (sym c.index-tracks-k.is) in
     record {
       names =
-          rw c.fault-in_default-trex.ensures (behind_head c.args.at.file.len c.args.at.moof c.args.at.before c.args.tracks.now c.args.room.now (box_seen c.args.traf) (box_seen c.in-Some.tfhd) c.in_ok-heads.ensures.exact.names head (Some (fault_of UnknownTrack (box_seen c.in-Some.tfhd)))
-          c.in_ok-head.ensures.exact.names (no_trex_first c.args.at.file.len c.args.at.moof c.args.at.before c.args.room.now (box_seen c.args.traf) (box_seen c.in-Some.tfhd) _ c.index-tracks-k.result found c.in_default-trex.is));
+          rw c.fault-in_default-trex.ensures (behind_head c.args.at.file_len c.args.at.moof c.args.at.before c.args.tracks.now c.args.room.now (box_seen c.args.traf) (box_seen c.in-Some.tfhd) c.in_ok-heads.ensures.exact.names head (Some (fault_of UnknownTrack (box_seen c.in-Some.tfhd)))
+          c.in_ok-head.ensures.exact.names (no_trex_first c.args.at.file_len c.args.at.moof c.args.at.before c.args.room.now (box_seen c.args.traf) (box_seen c.in-Some.tfhd) _ c.index-tracks-k.result found c.in_default-trex.is));
     }
 
 pub returns-in_err-time-clause-exact : goal.returns-in_err-time-clause-exact
 returns-in_err-time-clause-exact g c =
     let p = err_from_is_err_and c.from_residual-in_err-time.result c.from_residual-in_err-time.ensures.1 in
     let head = sym c.in_ok-heads.ensures.head ∙ ap (λ (o : Option BoxView). only_list (option_map box_seen o)) c.in-Some.is in
-    let found = ap (λ (t : TrackFragment). track_with t.id c.args.tracks.now) (sym (same_head (box_seen c.args.traf) (box_seen c.in-Some.tfhd) c.in_ok-head.head head c.in_ok-head.ensures.head)) ∙ c.in-Some-find_track.ensures.there.found
-    ∙ got c.in-Some-find_track.k c.args.tracks.now _ c.in-Some-find_track.ensures.inside ∙ ap (λ (t : TrackState). Some t) (sym c.index-tracks-k.is) in
+    let found = ap (λ (t : TrackFragment). track_with t.id c.args.tracks.now) (sym (same_head (box_seen c.args.traf) (box_seen c.in-Some.tfhd) c.in_ok-head.head head c.in_ok-head.ensures.head)) ∙ c.in-Some-find.ensures.there.found
+    ∙ got c.in-Some-find.k c.args.tracks.now _ c.in-Some-find.ensures.inside ∙ ap (λ (t : TrackState). Some t) (sym c.index-tracks-k.is) in
     record {
-      names = rw (p.1, p.2) (behind_head c.args.at.file.len c.args.at.moof c.args.at.before c.args.tracks.now c.args.room.now (box_seen c.args.traf) (box_seen c.in-Some.tfhd) c.in_ok-heads.ensures.exact.names head (Some c.in_err-time.field-0.0) c.in_ok-head.ensures.exact.names
-          (some_track c.args.at.file.len c.args.at.moof c.args.at.before c.args.room.now (box_seen c.args.traf) (box_seen c.in-Some.tfhd) _ c.index-tracks-k.result c.in-Some-trex.trex found c.in-Some-trex.is
-          ∙ time_first (judged_by c.args.at.file.len (inheritance (traf_in (box_seen c.args.traf)) c.in-Some-trex.trex) (base_of c.args.at.moof c.args.at.before (traf_in (box_seen c.args.traf)))) c.args.room.now (box_seen c.args.traf) (box_seen c.in-Some.tfhd)
+      names = rw (p.1, p.2) (behind_head c.args.at.file_len c.args.at.moof c.args.at.before c.args.tracks.now c.args.room.now (box_seen c.args.traf) (box_seen c.in-Some.tfhd) c.in_ok-heads.ensures.exact.names head (Some c.in_err-time.field-0.0) c.in_ok-head.ensures.exact.names
+          (some_track c.args.at.file_len c.args.at.moof c.args.at.before c.args.room.now (box_seen c.args.traf) (box_seen c.in-Some.tfhd) _ c.index-tracks-k.result c.in-Some-trex.trex found c.in-Some-trex.is
+          ∙ time_first (judged_by c.args.at.file_len (inheritance (traf_in (box_seen c.args.traf)) c.in-Some-trex.trex) (base_of c.args.at.moof c.args.at.before (traf_in (box_seen c.args.traf)))) c.args.room.now (box_seen c.args.traf) (box_seen c.in-Some.tfhd)
           c.index-tracks-k.result c.in_err-time.field-0.0 c.in_err-time.ensures.exact.names));
     }
 
@@ -172,13 +172,13 @@ returns-in_err-passed-clause-exact g c =
     let head = sym c.in_ok-heads.ensures.head ∙ ap (λ (o : Option BoxView). only_list (option_map box_seen o)) c.in-Some.is in
     let same : to_z w128 (of_z w128 c.base_of.result) ≡ c.base_of.result = search rules in
     let before : to_z w128 (of_z w128 c.args.at.before) ≡ c.args.at.before = search rules in
-    let o = opened c.args.at.moof c.in-Some-find_track.k c.args.at.before c.base_of.result c.args.tracks.now _ c.index-tracks-k.result (box_seen c.args.traf) (box_seen c.in-Some.tfhd) c.in_ok-head.head c.in-Some-trex.trex c.what_is_inherited.result c.in_ok-heads.ensures.holds head
+    let o = opened c.args.at.moof c.in-Some-find.k c.args.at.before c.base_of.result c.args.tracks.now _ c.index-tracks-k.result (box_seen c.args.traf) (box_seen c.in-Some.tfhd) c.in_ok-head.head c.in-Some-trex.trex c.what_is_inherited.result c.in_ok-heads.ensures.holds head
     c.in_ok-head.ensures.head
-    c.in-Some-find_track.ensures.inside c.in-Some-find_track.ensures.there.found c.index-tracks-k.is c.in-Some-trex.is (rw before at c.base_of.ensures.is) c.what_is_inherited.ensures in
-    let known = known_first c.args.at.file.len c.args.at.moof c.args.room.now c.args.at.before c.base_of.result c.args.tracks.now (box_seen c.args.traf) (box_seen c.in-Some.tfhd) c.index-tracks-k.result c.in-Some-trex.trex c.what_is_inherited.result o in
-    let judged = judged_by c.args.at.file.len c.what_is_inherited.result c.base_of.result in
+    c.in-Some-find.ensures.inside c.in-Some-find.ensures.there.found c.index-tracks-k.is c.in-Some-trex.is (rw before at c.base_of.ensures.is) c.what_is_inherited.ensures in
+    let known = known_first c.args.at.file_len c.args.at.moof c.args.room.now c.args.at.before c.base_of.result c.args.tracks.now (box_seen c.args.traf) (box_seen c.in-Some.tfhd) c.index-tracks-k.result c.in-Some-trex.trex c.what_is_inherited.result o in
+    let judged = judged_by c.args.at.file_len c.what_is_inherited.result c.base_of.result in
     record {
-      names = rw (p.1, p.2) (behind_head c.args.at.file.len c.args.at.moof c.args.at.before c.args.tracks.now c.args.room.now (box_seen c.args.traf) (box_seen c.in-Some.tfhd) c.in_ok-heads.ensures.exact.names head (Some c.in_err-passed.field-0.0) c.in_ok-head.ensures.exact.names (known
+      names = rw (p.1, p.2) (behind_head c.args.at.file_len c.args.at.moof c.args.at.before c.args.tracks.now c.args.room.now (box_seen c.args.traf) (box_seen c.in-Some.tfhd) c.in_ok-heads.ensures.exact.names head (Some c.in_err-passed.field-0.0) c.in_ok-head.ensures.exact.names (known
           ∙ runs_then judged c.args.room.now (box_seen c.args.traf) (box_seen c.in-Some.tfhd) c.index-tracks-k.result c.in_err-passed.field-0.0 c.in_ok-time.ensures.exact.names ((rw same at c.in_err-passed.ensures.exact) c.in_ok-heads.ensures.holds.tiles).names));
     }
 
@@ -187,15 +187,15 @@ returns-then-lacks_description-clause-exact g c =
     let head = sym c.in_ok-heads.ensures.head ∙ ap (λ (o : Option BoxView). only_list (option_map box_seen o)) c.in-Some.is in
     let same : to_z w128 (of_z w128 c.base_of.result) ≡ c.base_of.result = search rules in
     let before : to_z w128 (of_z w128 c.args.at.before) ≡ c.args.at.before = search rules in
-    let o = opened c.args.at.moof c.in-Some-find_track.k c.args.at.before c.base_of.result c.args.tracks.now _ c.index-tracks-k.result (box_seen c.args.traf) (box_seen c.in-Some.tfhd) c.in_ok-head.head c.in-Some-trex.trex c.what_is_inherited.result c.in_ok-heads.ensures.holds head
+    let o = opened c.args.at.moof c.in-Some-find.k c.args.at.before c.base_of.result c.args.tracks.now _ c.index-tracks-k.result (box_seen c.args.traf) (box_seen c.in-Some.tfhd) c.in_ok-head.head c.in-Some-trex.trex c.what_is_inherited.result c.in_ok-heads.ensures.holds head
     c.in_ok-head.ensures.head
-    c.in-Some-find_track.ensures.inside c.in-Some-find_track.ensures.there.found c.index-tracks-k.is c.in-Some-trex.is (rw before at c.base_of.ensures.is) c.what_is_inherited.ensures in
-    let known = known_first c.args.at.file.len c.args.at.moof c.args.room.now c.args.at.before c.base_of.result c.args.tracks.now (box_seen c.args.traf) (box_seen c.in-Some.tfhd) c.index-tracks-k.result c.in-Some-trex.trex c.what_is_inherited.result o in
-    let judged = judged_by c.args.at.file.len c.what_is_inherited.result c.base_of.result in
+    c.in-Some-find.ensures.inside c.in-Some-find.ensures.there.found c.index-tracks-k.is c.in-Some-trex.is (rw before at c.base_of.ensures.is) c.what_is_inherited.ensures in
+    let known = known_first c.args.at.file_len c.args.at.moof c.args.room.now c.args.at.before c.base_of.result c.args.tracks.now (box_seen c.args.traf) (box_seen c.in-Some.tfhd) c.index-tracks-k.result c.in-Some-trex.trex c.what_is_inherited.result o in
+    let judged = judged_by c.args.at.file_len c.what_is_inherited.result c.base_of.result in
     record {
       names =
           rw c.fault-then-lacks_description.ensures
-          (behind_head c.args.at.file.len c.args.at.moof c.args.at.before c.args.tracks.now c.args.room.now (box_seen c.args.traf) (box_seen c.in-Some.tfhd) c.in_ok-heads.ensures.exact.names head (Some (fault_of BadDescriptionIndex (box_seen c.in-Some.tfhd)))
+          (behind_head c.args.at.file_len c.args.at.moof c.args.at.before c.args.tracks.now c.args.room.now (box_seen c.args.traf) (box_seen c.in-Some.tfhd) c.in_ok-heads.ensures.exact.names head (Some (fault_of BadDescriptionIndex (box_seen c.in-Some.tfhd)))
           c.in_ok-head.ensures.exact.names (known
           ∙ description_then judged c.args.room.now (box_seen c.args.traf) (box_seen c.in-Some.tfhd) c.index-tracks-k.result c.in_ok-time.ensures.exact.names ((rw same at c.in_ok-passed.ensures.exact) c.in_ok-heads.ensures.holds.tiles).names
           (ap (λ m. lacks c.index-tracks-k.result c.what_is_inherited.result.description m) (sym c.in_ok-passed.ensures.runs.count) ∙ sym c.if-lacks_description.ensures)));
@@ -207,13 +207,13 @@ returns-in_err-keys-clause-exact g c =
     let head = sym c.in_ok-heads.ensures.head ∙ ap (λ (o : Option BoxView). only_list (option_map box_seen o)) c.in-Some.is in
     let same : to_z w128 (of_z w128 c.base_of.result) ≡ c.base_of.result = search rules in
     let before : to_z w128 (of_z w128 c.args.at.before) ≡ c.args.at.before = search rules in
-    let o = opened c.args.at.moof c.in-Some-find_track.k c.args.at.before c.base_of.result c.args.tracks.now _ c.index-tracks-k.result (box_seen c.args.traf) (box_seen c.in-Some.tfhd) c.in_ok-head.head c.in-Some-trex.trex c.what_is_inherited.result c.in_ok-heads.ensures.holds head
+    let o = opened c.args.at.moof c.in-Some-find.k c.args.at.before c.base_of.result c.args.tracks.now _ c.index-tracks-k.result (box_seen c.args.traf) (box_seen c.in-Some.tfhd) c.in_ok-head.head c.in-Some-trex.trex c.what_is_inherited.result c.in_ok-heads.ensures.holds head
     c.in_ok-head.ensures.head
-    c.in-Some-find_track.ensures.inside c.in-Some-find_track.ensures.there.found c.index-tracks-k.is c.in-Some-trex.is (rw before at c.base_of.ensures.is) c.what_is_inherited.ensures in
-    let known = known_first c.args.at.file.len c.args.at.moof c.args.room.now c.args.at.before c.base_of.result c.args.tracks.now (box_seen c.args.traf) (box_seen c.in-Some.tfhd) c.index-tracks-k.result c.in-Some-trex.trex c.what_is_inherited.result o in
-    let judged = judged_by c.args.at.file.len c.what_is_inherited.result c.base_of.result in
+    c.in-Some-find.ensures.inside c.in-Some-find.ensures.there.found c.index-tracks-k.is c.in-Some-trex.is (rw before at c.base_of.ensures.is) c.what_is_inherited.ensures in
+    let known = known_first c.args.at.file_len c.args.at.moof c.args.room.now c.args.at.before c.base_of.result c.args.tracks.now (box_seen c.args.traf) (box_seen c.in-Some.tfhd) c.index-tracks-k.result c.in-Some-trex.trex c.what_is_inherited.result o in
+    let judged = judged_by c.args.at.file_len c.what_is_inherited.result c.base_of.result in
     record {
-      names = rw (p.1, p.2) (behind_head c.args.at.file.len c.args.at.moof c.args.at.before c.args.tracks.now c.args.room.now (box_seen c.args.traf) (box_seen c.in-Some.tfhd) c.in_ok-heads.ensures.exact.names head (Some c.in_err-keys.field-0.0) c.in_ok-head.ensures.exact.names (known
+      names = rw (p.1, p.2) (behind_head c.args.at.file_len c.args.at.moof c.args.at.before c.args.tracks.now c.args.room.now (box_seen c.args.traf) (box_seen c.in-Some.tfhd) c.in_ok-heads.ensures.exact.names head (Some c.in_err-keys.field-0.0) c.in_ok-head.ensures.exact.names (known
           ∙ groups_then judged c.args.room.now (box_seen c.args.traf) (box_seen c.in-Some.tfhd) c.index-tracks-k.result c.in_err-keys.field-0.0 c.in_ok-time.ensures.exact.names ((rw same at c.in_ok-passed.ensures.exact) c.in_ok-heads.ensures.holds.tiles).names
           (ap (λ m. lacks c.index-tracks-k.result c.what_is_inherited.result.description m) (sym c.in_ok-passed.ensures.runs.count)
           ∙ sym c.if-lacks_description.ensures)
@@ -225,15 +225,15 @@ returns-then-is_late-clause-exact g c =
     let head = sym c.in_ok-heads.ensures.head ∙ ap (λ (o : Option BoxView). only_list (option_map box_seen o)) c.in-Some.is in
     let same : to_z w128 (of_z w128 c.base_of.result) ≡ c.base_of.result = search rules in
     let before : to_z w128 (of_z w128 c.args.at.before) ≡ c.args.at.before = search rules in
-    let o = opened c.args.at.moof c.in-Some-find_track.k c.args.at.before c.base_of.result c.args.tracks.now _ c.index-tracks-k.result (box_seen c.args.traf) (box_seen c.in-Some.tfhd) c.in_ok-head.head c.in-Some-trex.trex c.what_is_inherited.result c.in_ok-heads.ensures.holds head
+    let o = opened c.args.at.moof c.in-Some-find.k c.args.at.before c.base_of.result c.args.tracks.now _ c.index-tracks-k.result (box_seen c.args.traf) (box_seen c.in-Some.tfhd) c.in_ok-head.head c.in-Some-trex.trex c.what_is_inherited.result c.in_ok-heads.ensures.holds head
     c.in_ok-head.ensures.head
-    c.in-Some-find_track.ensures.inside c.in-Some-find_track.ensures.there.found c.index-tracks-k.is c.in-Some-trex.is (rw before at c.base_of.ensures.is) c.what_is_inherited.ensures in
-    let known = known_first c.args.at.file.len c.args.at.moof c.args.room.now c.args.at.before c.base_of.result c.args.tracks.now (box_seen c.args.traf) (box_seen c.in-Some.tfhd) c.index-tracks-k.result c.in-Some-trex.trex c.what_is_inherited.result o in
-    let judged = judged_by c.args.at.file.len c.what_is_inherited.result c.base_of.result in
+    c.in-Some-find.ensures.inside c.in-Some-find.ensures.there.found c.index-tracks-k.is c.in-Some-trex.is (rw before at c.base_of.ensures.is) c.what_is_inherited.ensures in
+    let known = known_first c.args.at.file_len c.args.at.moof c.args.room.now c.args.at.before c.base_of.result c.args.tracks.now (box_seen c.args.traf) (box_seen c.in-Some.tfhd) c.index-tracks-k.result c.in-Some-trex.trex c.what_is_inherited.result o in
+    let judged = judged_by c.args.at.file_len c.what_is_inherited.result c.base_of.result in
     let there = sym c.in_ok-heads.ensures.time ∙ ap (λ (o : Option BoxView). only_list (option_map box_seen o)) c.in-Some-time.is in
     record {
       names =
-          rw c.fault-then-is_late.ensures (behind_head c.args.at.file.len c.args.at.moof c.args.at.before c.args.tracks.now c.args.room.now (box_seen c.args.traf) (box_seen c.in-Some.tfhd) c.in_ok-heads.ensures.exact.names head (Some (fault_of Gap (box_seen c.in-Some-time.tfdt)))
+          rw c.fault-then-is_late.ensures (behind_head c.args.at.file_len c.args.at.moof c.args.at.before c.args.tracks.now c.args.room.now (box_seen c.args.traf) (box_seen c.in-Some.tfhd) c.in_ok-heads.ensures.exact.names head (Some (fault_of Gap (box_seen c.in-Some-time.tfdt)))
           c.in_ok-head.ensures.exact.names (known
           ∙ rest_then judged c.args.room.now (box_seen c.args.traf) (box_seen c.in-Some.tfhd) c.index-tracks-k.result (Some (fault_of Gap (box_seen c.in-Some-time.tfdt))) c.in_ok-time.ensures.exact.names ((rw same at c.in_ok-passed.ensures.exact) c.in_ok-heads.ensures.holds.tiles).names
           (ap (λ m. lacks c.index-tracks-k.result c.what_is_inherited.result.description m) (sym c.in_ok-passed.ensures.runs.count)
@@ -247,11 +247,11 @@ returns-clause-exact g c =
     let head = sym c.in_ok-heads.ensures.head ∙ ap (λ (o : Option BoxView). only_list (option_map box_seen o)) c.in-Some.is in
     let same : to_z w128 (of_z w128 c.base_of.result) ≡ c.base_of.result = search rules in
     let before : to_z w128 (of_z w128 c.args.at.before) ≡ c.args.at.before = search rules in
-    let o = opened c.args.at.moof c.in-Some-find_track.k c.args.at.before c.base_of.result c.args.tracks.now _ c.index-tracks-k.result (box_seen c.args.traf) (box_seen c.in-Some.tfhd) c.in_ok-head.head c.in-Some-trex.trex c.what_is_inherited.result c.in_ok-heads.ensures.holds head
+    let o = opened c.args.at.moof c.in-Some-find.k c.args.at.before c.base_of.result c.args.tracks.now _ c.index-tracks-k.result (box_seen c.args.traf) (box_seen c.in-Some.tfhd) c.in_ok-head.head c.in-Some-trex.trex c.what_is_inherited.result c.in_ok-heads.ensures.holds head
     c.in_ok-head.ensures.head
-    c.in-Some-find_track.ensures.inside c.in-Some-find_track.ensures.there.found c.index-tracks-k.is c.in-Some-trex.is (rw before at c.base_of.ensures.is) c.what_is_inherited.ensures in
-    let known = known_first c.args.at.file.len c.args.at.moof c.args.room.now c.args.at.before c.base_of.result c.args.tracks.now (box_seen c.args.traf) (box_seen c.in-Some.tfhd) c.index-tracks-k.result c.in-Some-trex.trex c.what_is_inherited.result o in
-    let judged = judged_by c.args.at.file.len c.what_is_inherited.result c.base_of.result in
+    c.in-Some-find.ensures.inside c.in-Some-find.ensures.there.found c.index-tracks-k.is c.in-Some-trex.is (rw before at c.base_of.ensures.is) c.what_is_inherited.ensures in
+    let known = known_first c.args.at.file_len c.args.at.moof c.args.room.now c.args.at.before c.base_of.result c.args.tracks.now (box_seen c.args.traf) (box_seen c.in-Some.tfhd) c.index-tracks-k.result c.in-Some-trex.trex c.what_is_inherited.result o in
+    let judged = judged_by c.args.at.file_len c.what_is_inherited.result c.base_of.result in
     let boxes = children_of (box_seen c.args.traf) in
     let fine : is_late_at c.index-tracks-k.result c.in_ok-time.time c.in_ok-passed.passed.count ≡ false =
     elim c.match-heads-2.branch [
@@ -261,7 +261,7 @@ returns-clause-exact g c =
           ap (λ (o : Option ℕ). is_late_at c.index-tracks-k.result o c.in_ok-passed.passed.count) (sym c.in_ok-time.ensures.time ∙ none)
     ] in
     record {
-      names = behind_head c.args.at.file.len c.args.at.moof c.args.at.before c.args.tracks.now c.args.room.now (box_seen c.args.traf) (box_seen c.in-Some.tfhd) c.in_ok-heads.ensures.exact.names head None c.in_ok-head.ensures.exact.names (known
+      names = behind_head c.args.at.file_len c.args.at.moof c.args.at.before c.args.tracks.now c.args.room.now (box_seen c.args.traf) (box_seen c.in-Some.tfhd) c.in_ok-heads.ensures.exact.names head None c.in_ok-head.ensures.exact.names (known
           ∙ rest_then judged c.args.room.now (box_seen c.args.traf) (box_seen c.in-Some.tfhd) c.index-tracks-k.result None c.in_ok-time.ensures.exact.names ((rw same at c.in_ok-passed.ensures.exact) c.in_ok-heads.ensures.holds.tiles).names
           (ap (λ m. lacks c.index-tracks-k.result c.what_is_inherited.result.description m) (sym c.in_ok-passed.ensures.runs.count)
           ∙ sym c.if-lacks_description.ensures) (subst (λ m. first_failed (traf_groups_tests m (keys_seen c.index-tracks-k.result.keys) [] (groups_in (box_seen c.args.traf))) ≡ None) c.in_ok-passed.ensures.runs.count (c.in_ok-keys.ensures.exact c.in_ok-heads.ensures.holds.tiles).names)

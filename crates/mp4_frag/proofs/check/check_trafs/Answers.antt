@@ -1,14 +1,11 @@
 use Rattle.std.proofs.Common.{◌≡◌, ◌≤◌, ◌∙◌, sym, to_z, of_z, rules, arith}
-use Rattle.std.proofs.lemmas.List.{length-map}
 use Rattle.std.proofs.lemmas.Result.{err_from_is_err_and}
 use Rattle.std.specs.Int.{w128}
 use Rattle.mp4_boxes.specs.words.View.{box_seen}
 use Rattle.mp4_frag.proofs.HeadsFound.{holds_boxes}
-use Rattle.mp4_frag.proofs.ChecksStopped.{taken_traf, taken_other, stops_within}
 use Rattle.mp4_frag.proofs.Costs.{moof_cost_traf, moof_cost_said, moof_cost_ended, moof_cost_fault}
 use Rattle.mp4_frag.proofs.CheckLooks.{looked_traf, looked_one, looked_each, looked_ended, looked_fault}
 use Rattle.mp4_frag.proofs.MoofPassed.{moof_traf, moof_ended, moves_traf, moves_first, moves_none, moves_ended}
-use Rattle.mp4_frag.specs.words.OwnTrafs.{own_seen}
 use Rattle.mp4_frag.proofs.OwnNoted.{data_ended, notes_other, notes_traf, notes_ended}
 use Rattle.mp4_frag.proofs.check.check_trafs.Goals as goal
 
@@ -27,7 +24,7 @@ loop-child-preserved g c =
       search rules,
       i.9,
       notes_other _ _ _ _ _ (box_seen c.in-Some.child) _ _ _ _ i.10 c.in-Some.ensures.steps other,
-      taken_other _ _ _ (box_seen c.in-Some.child) _ _ i.11 c.in-Some.ensures.steps other,
+      i.11,
     )
 
 pub loop-child-preserved-then-eq : goal.loop-child-preserved-then-eq
@@ -42,20 +39,19 @@ loop-child-preserved-then-eq g c =
     let is_traf = rw c.kind.ensures at (sym c.if-eq.ensures) in
     let there = c.offset-then-eq.ensures in
     let sound = rw there at r.passed.sound in
-    let noted = c.in_ok-note_traf.ensures in
-    let each = length-map c.note_traf.new.own own_seen ∙ noted.each ∙ sym (length-map c.loop-child.own own_seen) in (
+    let noted = c.note_traf.ensures in (
       tt,
       tt,
       fits,
       r.kept.each,
-      rw kept (moof_traf c.args.all.file.len _ _ _ _ _ (box_seen c.in-Some.child) _ ends _ _ i.4 c.in-Some.ensures.steps is_traf r.passed.holds sound r.passed.bound r.kept.same),
-      rw kept (moves_traf c.args.all.file.len _ _ _ _ _ _ (box_seen c.in-Some.child) _ ends _ _ _ _ i.5 c.in-Some.ensures.steps is_traf r.passed.holds sound (rw there at r.passed.moved) (rw there at r.exact.names)),
+      rw kept (moof_traf c.args.all.file_len _ _ _ _ _ (box_seen c.in-Some.child) _ ends _ _ i.4 c.in-Some.ensures.steps is_traf r.passed.holds sound r.passed.bound r.kept.same),
+      rw kept (moves_traf c.args.all.file_len _ _ _ _ _ _ (box_seen c.in-Some.child) _ ends _ _ _ _ i.5 c.in-Some.ensures.steps is_traf r.passed.holds sound (rw there at r.passed.moved) (rw there at r.exact.names)),
       moof_cost_traf _ _ _ (box_seen c.in-Some.child) _ _ _ _ _ _ i.6 c.in-Some.ensures.steps is_traf (let t = r.work.cost in omega (arith, t)) (let t = r.work.within in omega (arith, t)),
       r.ids ∙ i.7,
-      looked_traf _ _ _ (box_seen c.in-Some.child) _ _ _ _ i.8 c.in-Some.ensures.steps is_traf r.looks.one (rw i.9 at r.looks.most),
+      looked_traf _ _ _ (box_seen c.in-Some.child) _ _ _ _ i.8 c.in-Some.ensures.steps is_traf (let t = r.looks.some in let k = c.tick.ensures.looks in omega (arith, t, k)) (let t = rw i.9 at r.looks.most in let k = c.tick.ensures.looks in omega (arith, t, k)),
       r.many ∙ i.9,
-      rw kept (notes_traf c.args.all.file.len _ _ _ _ _ (box_seen c.in-Some.child) _ ends _ _ _ _ _ c.in_ok-passed.passed i.10 c.in-Some.ensures.steps is_traf i.4.same sound (rw there at r.own) r.ids noted.noted each),
-      taken_traf _ _ _ (box_seen c.in-Some.child) _ _ _ _ _ _ _ i.11 c.in-Some.ensures.steps is_traf (rw there at r.passed.moved),
+      rw kept (notes_traf c.args.all.file_len _ _ _ _ _ (box_seen c.in-Some.child) _ ends _ _ _ _ _ c.in_ok-passed.passed i.10 c.in-Some.ensures.steps is_traf i.4.same sound (rw there at r.own) r.ids noted.noted),
+      λ ids knows. noted.knows ids (i.11 ids knows),
     )
 
 pub returns-clause-passed : goal.returns-clause-passed
@@ -82,7 +78,7 @@ returns-clause-looks g c =
     let same = c.into_iter-child-iterator.ensures.into_iter_gives ∙ all in
     let h = c.loop-child.invariant.8 in
     record {
-      one = looked_one _ _ (box_seen c.args.all.moof) _ _ _ h c.in-None.ensures.steps.0 same;
+      some = looked_one _ _ (box_seen c.args.all.moof) _ _ _ h c.in-None.ensures.steps.0 same;
       each = looked_each _ _ (box_seen c.args.all.moof) _ _ _ h same;
       most = looked_ended _ _ _ (box_seen c.args.all.moof) _ _ _ h c.into_iter-child-iterator.ensures.into_iter_gives c.requires.boxes;
     }
@@ -98,49 +94,13 @@ pub returns-in_err-passed-clause-looks : goal.returns-in_err-passed-clause-looks
 returns-in_err-passed-clause-looks g c =
     let p = err_from_is_err_and c.from_residual.result c.from_residual.ensures.1 in
     let most = looked_fault _ _ _ _ (box_seen c.in-Some.child) (box_seen c.args.all.moof) _ _ _ _ c.loop-child.invariant.8 c.in-Some.ensures.steps c.into_iter-child-iterator.ensures.into_iter_gives c.requires.boxes
-    (rw c.loop-child.invariant.9 at c.in_err-passed.ensures.looks.most) in
-    rw p.1 (record { one = tt; each = tt; most = most })
+    (let t = rw c.loop-child.invariant.9 at c.in_err-passed.ensures.looks.most in let k = c.tick.ensures.looks in omega (arith, t, k)) in
+    rw p.1 (record { some = tt; each = tt; most = most })
 
 pub returns-clause-own : goal.returns-clause-own
-returns-clause-own g c trexes defaults apart long =
+returns-clause-own g c trexes defaults apart =
     let all = holds_boxes (box_seen c.args.all.moof) _ c.requires.boxes in
-    notes_ended trexes (box_seen c.args.all.moof) c.args.tracks.now _ _ _ _ _ _ c.loop-child.invariant.10 c.in-None.ensures.steps.0 (c.into_iter-child-iterator.ensures.into_iter_gives ∙ all) defaults apart (length-map c.args.own.now own_seen ∙ long)
-
-pub returns-in_err-note_traf-clause-refusal : goal.returns-in_err-note_traf-clause-refusal
-returns-in_err-note_traf-clause-refusal g c =
-    let p = err_from_is_err_and c.from_residual-in_err-note_traf.result c.from_residual-in_err-note_traf.ensures.1 in
-    rw (p.1, p.2) (omega (arith, c.in_err-note_traf.ensures.some, c.loop-child.invariant.10.each, length-map c.loop-child.own own_seen, length-map c.args.own.now own_seen))
-
-pub returns-in_err-note_traf-clause-work : goal.returns-in_err-note_traf-clause-work
-returns-in_err-note_traf-clause-work g c =
-    let p = err_from_is_err_and c.from_residual-in_err-note_traf.result c.from_residual-in_err-note_traf.ensures.1 in
-    let most = moof_cost_fault _ _ _ _ (box_seen c.in-Some.child) (box_seen c.args.all.moof) _ _ _ _ _ c.loop-child.invariant.6 c.in-Some.ensures.steps c.into_iter-child-iterator.ensures.into_iter_gives c.requires.boxes
-    (let t = c.in_ok-passed.ensures.work.most in omega (arith, t)) in
-    rw p.1 (record { cost = tt; within = tt; most = most })
-
-pub returns-in_err-note_traf-clause-looks : goal.returns-in_err-note_traf-clause-looks
-returns-in_err-note_traf-clause-looks g c =
-    let p = err_from_is_err_and c.from_residual-in_err-note_traf.result c.from_residual-in_err-note_traf.ensures.1 in
-    let most = looked_fault _ _ _ _ (box_seen c.in-Some.child) (box_seen c.args.all.moof) _ _ _ _ c.loop-child.invariant.8 c.in-Some.ensures.steps c.into_iter-child-iterator.ensures.into_iter_gives c.requires.boxes
-    (rw c.loop-child.invariant.9 at c.in_ok-passed.ensures.looks.most) in
-    rw p.1 (record { one = tt; each = tt; most = most })
-
-pub returns-in_err-passed-clause-stops : goal.returns-in_err-passed-clause-stops
-returns-in_err-passed-clause-stops g c =
-    let p = err_from_is_err_and c.from_residual.result c.from_residual.ensures.1 in
-    rw (p.1, p.2) tt
-
-pub returns-in_err-note_traf-clause-stops : goal.returns-in_err-note_traf-clause-stops
-returns-in_err-note_traf-clause-stops g c =
-    let i = c.loop-child.invariant in
-    let r = c.in_ok-passed.ensures in
-    let p = err_from_is_err_and c.from_residual-in_err-note_traf.result c.from_residual-in_err-note_traf.ensures.1 in
-    let all = holds_boxes (box_seen c.args.all.moof) _ c.requires.boxes in
-    let is_traf = rw c.kind.ensures at (sym c.if-eq.ensures) in
-    let taken = taken_traf _ _ _ (box_seen c.in-Some.child) _ _ _ _ _ _ _ i.11 c.in-Some.ensures.steps is_traf r.passed.moved in
-    let cost = moof_cost_traf _ _ _ (box_seen c.in-Some.child) _ _ _ _ _ _ i.6 c.in-Some.ensures.steps is_traf (let t = r.work.cost in omega (arith, t)) (let t = r.work.within in omega (arith, t)) in
-    let looked = looked_traf _ _ _ (box_seen c.in-Some.child) _ _ _ _ i.8 c.in-Some.ensures.steps is_traf r.looks.one (rw i.9 at r.looks.most) in
-    rw (p.1, p.2) (stops_within _ _ (box_seen c.args.all.moof) _ _ _ _ _ _ _ taken cost looked (c.into_iter-child-iterator.ensures.into_iter_gives ∙ all))
+    notes_ended trexes (box_seen c.args.all.moof) c.args.tracks.now _ _ _ _ _ _ c.loop-child.invariant.10 c.in-None.ensures.steps.0 (c.into_iter-child-iterator.ensures.into_iter_gives ∙ all) defaults apart
 
 pub returns-clause-ends : goal.returns-clause-ends
 returns-clause-ends g c trexes defaults =
@@ -154,14 +114,9 @@ returns-in_err-passed-clause-exact g c =
     let p = err_from_is_err_and c.from_residual.result c.from_residual.ensures.1 in
     let all = holds_boxes (box_seen c.args.all.moof) _ c.requires.boxes in
     record {
-      names = rw (p.1, p.2) (moves_first c.args.all.file.len _ _ _ _ _ _ _ (box_seen c.in-Some.child) _ _ _ c.in_err-passed.field-0.0 c.loop-child.invariant.5 c.in-Some.ensures.steps (rw c.kind.ensures at (sym c.if-eq.ensures))
+      names = rw (p.1, p.2) (moves_first c.args.all.file_len _ _ _ _ _ _ _ (box_seen c.in-Some.child) _ _ _ c.in_err-passed.field-0.0 c.loop-child.invariant.5 c.in-Some.ensures.steps (rw c.kind.ensures at (sym c.if-eq.ensures))
           (c.into_iter-child-iterator.ensures.into_iter_gives ∙ all) (rw c.offset-then-eq.ensures at c.in_err-passed.ensures.exact.names));
     }
-
-pub returns-in_err-note_traf-clause-exact : goal.returns-in_err-note_traf-clause-exact
-returns-in_err-note_traf-clause-exact g c =
-    let p = err_from_is_err_and c.from_residual-in_err-note_traf.result c.from_residual-in_err-note_traf.ensures.1 in
-    record { names = rw (p.1, p.2) tt }
 
 pub returns-clause-exact : goal.returns-clause-exact
 returns-clause-exact g c =

@@ -1,9 +1,7 @@
-use Rattle.std.proofs.Common.{◌≡◌, ◌≤◌, min, length, map}
+use Rattle.std.proofs.Common.{◌≡◌, ◌≤◌, ℕ, List, length}
 use Rattle.mp4_boxes.specs.words.View.{box_seen}
 use Rattle.mp4_frag.specs.words.Noted.{ids_of}
-use Rattle.mp4_frag.specs.words.OwnTrafs.{own_seen}
 use Rattle.mp4_frag.specs.words.States.{HaveRoom}
-use Rattle.mp4_frag.proofs.ChecksStopped.{MoofTaken}
 use Rattle.mp4_frag.proofs.Costs.{MoofCost}
 use Rattle.mp4_frag.proofs.CheckLooks.{MoofLooked}
 use Rattle.mp4_frag.proofs.MoofPassed.{MoofSeen, MovesSeen}
@@ -17,11 +15,11 @@ invariant-loop-child g l =
     × (goal.iterator-loop-child g).is_finite l.child-iterator
     × (l.room ≤ l.fn.room)
     × HaveRoom l.room l.tracks
-    × MoofSeen l.fn.all.file.len (box_seen l.fn.all.moof).offset l.fn.tracks l.initial.child-iterator l.child-iterator l.before l.tracks
-    × MovesSeen l.fn.all.file.len (box_seen l.fn.all.moof).offset l.fn.tracks l.fn.room l.initial.child-iterator l.child-iterator l.before l.tracks l.room
-    × MoofCost l.initial.child-iterator l.child-iterator l.fn.steps l.fn.room l.steps l.room
+    × MoofSeen l.fn.all.file_len (box_seen l.fn.all.moof).offset l.fn.tracks l.initial.child-iterator l.child-iterator l.before l.tracks
+    × MovesSeen l.fn.all.file_len (box_seen l.fn.all.moof).offset l.fn.tracks l.fn.room l.initial.child-iterator l.child-iterator l.before l.tracks l.room
+    × MoofCost l.initial.child-iterator l.child-iterator l.fn.steps.passed l.fn.room l.steps.passed l.room
     × (ids_of l.tracks ≡ ids_of l.fn.tracks)
-    × MoofLooked l.initial.child-iterator l.child-iterator (min 1 (length l.fn.tracks)) l.fn.looks l.looks
+    × MoofLooked l.initial.child-iterator l.child-iterator (g.T.Tracking.most (length l.fn.tracks)) l.fn.steps.looks l.steps.looks
     × (length l.tracks ≡ length l.fn.tracks)
-    × NotesSeen (box_seen l.fn.all.moof).offset l.fn.tracks l.initial.child-iterator l.child-iterator l.before l.tracks (map own_seen l.fn.own) (map own_seen l.own)
-    × MoofTaken l.initial.child-iterator l.child-iterator l.fn.room l.room
+    × NotesSeen (box_seen l.fn.all.moof).offset l.fn.tracks l.initial.child-iterator l.child-iterator l.before l.tracks (g.T.Tracking.noted l.fn.tracking) (g.T.Tracking.noted l.tracking)
+    × ((ids : List ℕ) → g.T.Tracking.knows l.fn.tracking ids → g.T.Tracking.knows l.tracking ids)

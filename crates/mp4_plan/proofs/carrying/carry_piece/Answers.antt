@@ -25,13 +25,14 @@ loop-left-init g c = record {
   honesty = refl;
   file = refl;
   reads = refl;
+  looks = refl;
   puts = refl;
   buffer = refl;
   few = omega arith;
   many = GoOnBy-none _ (g.met.K.Sink.takes_nothing _) _ _ (omega arith);
   carried = λ told tree t samples o h. (samples, (h, carried_none _ _ (g.met.K.Sink.takes_nothing _) _ _ _));
-  went = went_none c.args.movie.now c.args.walk.now c.args.steps.now;
-  takes = λ told tree t n o h. takes_none (g.S.Store.file c.args.store.now) tree t n c.args.steps.now c.args.walk.now h;
+  went = went_none c.args.movie.now c.args.walk.now c.args.steps.now.passed;
+  takes = λ told tree t n o h. takes_none (g.S.Store.file c.args.store.now) tree t n c.args.steps.now.passed c.args.walk.now h;
 }
 
 pub returns-then-left-eq0-2-clause-put : goal.returns-then-left-eq0-2-clause-put
@@ -85,6 +86,7 @@ loop-left-preserved g c =
       honesty = l.store.honesty ∙ e.devices.honesty ∙ i.honesty;
       file = l.store.file ∙ e.devices.file ∙ i.file;
       reads = search rules;
+      looks = search rules;
       puts = e.devices.puts ∙ i.puts;
       buffer = e.room ∙ i.buffer;
       few = (let few = i.few in let fewer = e.many.0 in omega (arith, few, fewer));
@@ -224,10 +226,10 @@ returns-then-left-eq0-3-clause-work g c told tree t n o h =
     let on = hand_keeps m c.loop-left.walk c.in_hand-hand.result c.carry_hand.new.hand c.place-place.result c.in_hand-hand.ensures.movie i.walk c.in_hand-hand.ensures.hand e.later c.place-place.ensures in
     let kept = keeps_before file m c.args.walk.now c.loop-left.walk _ _ (i.takes told) c.place-place.result c.keep.new.self _ on c.keep.ensures.place c.keep.ensures.work in
     elim c.then-left-eq0-3.branch [
-      | then-left-eq0-3-via-then-left-eq0-3 w ↦ as_many _ _ _ w.steps-is (most_before file m c.args.walk.now c.keep.new.self _ _ kept tree t n o h)
+      | then-left-eq0-3-via-then-left-eq0-3 w ↦ as_many _ _ _ (λ i. (w.steps-is i).passed) (most_before file m c.args.walk.now c.keep.new.self _ _ kept tree t n o h)
       | then-left-eq0-3-via-else-left-eq0-3+in_ok-load+then-not-branch w ↦
           (let all = loads_before file m c.args.walk.now c.keep.new.self _ _ kept w.load.new.self _ ((rw (e.devices.honesty, i.honesty, e.devices.file, i.file) at w.in_ok-load.ensures.work) told) in
-          as_many _ _ _ w.steps-is (most_before file m c.args.walk.now w.load.new.self _ _ all tree t n o h))
+          as_many _ _ _ (λ i. (w.steps-is i).passed) (most_before file m c.args.walk.now w.load.new.self _ _ all tree t n o h))
     ]
 
 pub returns-then-left-eq0-2-clause-went : goal.returns-then-left-eq0-2-clause-went

@@ -15,14 +15,15 @@ invariant-loop-left g l = record {
   honesty : g.S.Store.is_honest l.store ≡ g.S.Store.is_honest l.fn.store;
   file : g.S.Store.file l.store ≡ g.S.Store.file l.fn.store;
   reads : g.S.Store.read_failures l.store ≡ g.S.Store.read_failures l.fn.store;
+  looks : l.steps.looks ≡ l.fn.steps.looks;
   puts : g.K.Sink.put_failures l.sink ≡ g.K.Sink.put_failures l.fn.sink;
   buffer : vec_len l.carrier.buffer ≡ vec_len l.fn.carrier.buffer;
   few : l.left.bytes ≤ l.fn.load.bytes;
   many : GoOnBy (g.K.Sink.takes l.fn.sink l.sink) (waiting l.fn.carrier) (waiting l.carrier) (l.fn.load.bytes - l.left.bytes);
   carried : IsTrue (g.S.Store.is_honest l.fn.store)
       → CarriesOn (g.S.Store.file l.fn.store) l.movie l.fn.walk l.walk (g.K.Sink.takes l.fn.sink l.sink) (waiting l.fn.carrier) (waiting l.carrier) l.fn.load l.left;
-  went : WentOn l.movie l.fn.walk l.walk l.fn.steps l.steps;
-  takes : IsTrue (g.S.Store.is_honest l.fn.store) → TakesBefore (g.S.Store.file l.fn.store) l.movie l.fn.walk l.walk l.fn.steps l.steps;
+  went : WentOn l.movie l.fn.walk l.walk l.fn.steps.passed l.steps.passed;
+  takes : IsTrue (g.S.Store.is_honest l.fn.store) → TakesBefore (g.S.Store.file l.fn.store) l.movie l.fn.walk l.walk l.fn.steps.passed l.steps.passed;
 }
 
 abbrev pub decreases-loop-left : goal.decreases-loop-left

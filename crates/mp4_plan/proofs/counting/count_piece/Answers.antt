@@ -14,9 +14,10 @@ loop-sample-init g c = record {
   honesty = refl;
   file = refl;
   reads = refl;
+  looks = refl;
   few = omega arith;
   counts = λ told. counts_new c.args.portion.reduction (g.S.Store.file c.args.store.now) c.args.movie.now c.args.walk.now (goes_in c.args.portion.end c.args.description);
-  takes = λ told tree t n o h. takes_none (g.S.Store.file c.args.store.now) tree t n c.args.steps.now c.args.walk.now h;
+  takes = λ told tree t n o h. takes_none (g.S.Store.file c.args.store.now) tree t n c.args.steps.now.passed c.args.walk.now h;
   grows = omega arith;
 }
 
@@ -99,6 +100,7 @@ loop-sample-preserved g c =
       honesty = l.store.honesty ∙ i.honesty;
       file = l.store.file ∙ i.file;
       reads = l.store.reads ∙ i.reads;
+      looks = search rules;
       few = (let most = c.count_hand-hand.ensures.counted.few in let within = i.few in omega (arith, most, within));
       counts = λ told.
           let file = g.S.Store.file c.args.store.now in

@@ -14,10 +14,11 @@ invariant-loop-sample g l = record {
   honesty : g.S.Store.is_honest l.store ≡ g.S.Store.is_honest l.fn.store;
   file : g.S.Store.file l.store ≡ g.S.Store.file l.fn.store;
   reads : g.S.Store.read_failures l.store ≡ g.S.Store.read_failures l.fn.store;
+  looks : l.steps.looks ≡ l.fn.steps.looks;
   few : l.count ≤ 16777216;
   counts : IsTrue (g.S.Store.is_honest l.fn.store) → CountsOn l.portion.reduction (g.S.Store.file l.fn.store) l.movie l.fn.walk l.walk (goes_in l.portion.end l.description) l.count;
-  takes : IsTrue (g.S.Store.is_honest l.fn.store) → TakesBefore (g.S.Store.file l.fn.store) l.movie l.fn.walk l.walk l.fn.steps l.steps;
-  grows : l.fn.steps ≤ l.steps;
+  takes : IsTrue (g.S.Store.is_honest l.fn.store) → TakesBefore (g.S.Store.file l.fn.store) l.movie l.fn.walk l.walk l.fn.steps.passed l.steps.passed;
+  grows : l.fn.steps.passed ≤ l.steps.passed;
 }
 
 abbrev pub decreases-loop-sample : goal.decreases-loop-sample

@@ -18,10 +18,11 @@ invariant-loop-k g l = record {
   honesty : g.S.Store.is_honest l.store ≡ g.S.Store.is_honest l.fn.store;
   file : g.S.Store.file l.store ≡ g.S.Store.file l.fn.store;
   reads : g.S.Store.read_failures l.store ≡ g.S.Store.read_failures l.fn.store;
+  looks : l.steps.looks ≡ l.fn.steps.looks;
   shown : (leaving : Without) → OverOpened g.S.Store l.fn.store l.movie (λ file tree. (lefts : List (List SampleAt)) → l.reductions.of_tracks.items ≡ reductions_of leaving tree → AllCome leaving file tree l.movie tree.movie.tracks l.fn.walks lefts
       → AllCome leaving file tree l.movie tree.movie.tracks l.walks lefts × (take l.k l.nexts ≡ firsts (take l.k lefts)));
-  takes : OverOpened g.S.Store l.fn.store l.movie (λ file tree. (n : ℕ) → MayAllTake file tree tree.movie.tracks l.fn.walks n → AllTakeOn file tree n l.walks l.fn.steps l.steps);
+  takes : OverOpened g.S.Store l.fn.store l.movie (λ file tree. (n : ℕ) → MayAllTake file tree tree.movie.tracks l.fn.walks n → AllTakeOn file tree n l.walks l.fn.steps.passed l.steps.passed);
   marked : (lefts : List (List SampleAt)) → AreMarked l.fn.walks lefts → AreMarked l.walks lefts;
-  writes : OverOpened g.S.Store l.fn.store l.movie (λ file tree. (n : ℕ) → MayAllWrite file tree l.movie l.fn.walks n → AllWriteOn file tree l.movie n l.walks l.fn.steps l.steps);
-  grows : l.fn.steps ≤ l.steps;
+  writes : OverOpened g.S.Store l.fn.store l.movie (λ file tree. (n : ℕ) → MayAllWrite file tree l.movie l.fn.walks n → AllWriteOn file tree l.movie n l.walks l.fn.steps.passed l.steps.passed);
+  grows : l.fn.steps.passed ≤ l.steps.passed;
 }

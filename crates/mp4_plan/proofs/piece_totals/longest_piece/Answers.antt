@@ -36,7 +36,7 @@ loop-turn-init g c =
           longest_first l (g.S.Store.file c.args.store.now) tree m plan.schedule plan.walks.items plan.nexts.items plan.schedule.from o near begun.come begun.shown begun.from s.tracks s.first s.left (s.track, refl, s.next),
       λ told tree o. e.work told tree o,
       b.nexts,
-      begins_within m.tracks plan.schedule c.args.looks.now s.tracks s.left s.track,
+      rw e.looks (begins_within m.tracks plan.schedule c.args.steps.now.looks s.tracks s.left s.track),
       b.due,
       λ some lt. (let first = s.track in absurd (omega (arith, some, first))),
       e.grows,
@@ -105,12 +105,12 @@ loop-turn-preserved g c =
           let lt : k < length walks = search rules in
           let there = slice_get_read walks (length walks) k c.index_mut-walk.result.now refl lt c.index_mut-walk.ensures.value in
           all_then file tree walks (slice_set walks k c.count_turn.new.walk) (walks_steps tree) _ _ _ (i.7 told tree o)
-          (λ rest h. one_takes file tree tree.movie.tracks walks k c.index_mut-walk.result.now c.count_turn.new.walk rest _ _ h there (λ t own may. (rw (i.5, i.2) at p.work) told tree t own o may)),
+          (λ rest h. one_takes file tree tree.movie.tracks walks k c.index_mut-walk.result.now c.count_turn.new.walk rest _ _ h there (λ t own may. (rw (i.5, i.2, c.in-Some.ensures.passed) at p.work) told tree t own o may)),
       search rules,
-      looks_on s c.pass.new.self c.args.looks.now _ _ (movie_turns m) i.9 c.in-Some.ensures.looks c.in_ok-pass.ensures.less,
+      looks_on s c.pass.new.self c.args.steps.now.looks _ _ (movie_turns m) i.9 (p.looks ∙ c.in-Some.ensures.looks) c.in_ok-pass.ensures.less,
       due_next,
       c.in_ok-pass.ensures.some,
-      (let more = p.grows in let so = i.12 in omega (arith, more, so)),
+      (let more = p.grows in let so = i.12 in let same = c.in-Some.ensures.passed in omega (arith, more, so, same)),
       c.in_ok-pass.ensures.leaving ∙ i.13,
     )
 
@@ -154,7 +154,7 @@ returns-in_err-count-clause-work g c told tree o =
     let k = c.in-Some.turn.track in
     let lt : k < length walks = search rules in
     let there = slice_get_read walks (length walks) k c.index_mut-walk.result.now refl lt c.index_mut-walk.ensures.value in
-    all_then_stop file tree walks (walks_steps tree) _ _ _ (i.7 told tree o) (λ rest h. one_stops file tree tree.movie.tracks walks k c.index_mut-walk.result.now rest _ _ h there (λ t own may. (rw (i.5, i.2) at c.in_err-count.ensures.work) told tree t own o may))
+    all_then_stop file tree walks (walks_steps tree) _ _ _ (i.7 told tree o) (λ rest h. one_stops file tree tree.movie.tracks walks k c.index_mut-walk.result.now rest _ _ h there (λ t own may. (rw (i.5, i.2, c.in-Some.ensures.passed) at c.in_err-count.ensures.work) told tree t own o may))
 
 pub returns-in_err-pass-clause-work : goal.returns-in_err-pass-clause-work
 returns-in_err-pass-clause-work g c told tree o =
@@ -166,17 +166,17 @@ returns-in_err-pass-clause-work g c told tree o =
     let there = slice_get_read walks (length walks) k c.index_mut-walk.result.now refl lt c.index_mut-walk.ensures.value in
     let p = c.in_ok-count.ensures in
     let on = all_then file tree walks (slice_set walks k c.count_turn.new.walk) (walks_steps tree) _ _ _ (i.7 told tree o)
-    (λ rest h. one_takes file tree tree.movie.tracks walks k c.index_mut-walk.result.now c.count_turn.new.walk rest _ _ h there (λ t own may. (rw (i.5, i.2) at p.work) told tree t own o may)) in
+    (λ rest h. one_takes file tree tree.movie.tracks walks k c.index_mut-walk.result.now c.count_turn.new.walk rest _ _ h there (λ t own may. (rw (i.5, i.2, c.in-Some.ensures.passed) at p.work) told tree t own o may)) in
     all_taken file tree (slice_set walks k c.count_turn.new.walk) (walks_steps tree) _ _ on
 
 pub returns-clause-work : goal.returns-clause-work
-returns-clause-work g c told tree o = all_taken (g.S.Store.file c.args.store.now) tree c.loop-turn.plan.walks.items (walks_steps tree) _ _ (c.loop-turn.invariant.7 told tree o)
+returns-clause-work g c told tree o = rw c.in_default.ensures.passed (all_taken (g.S.Store.file c.args.store.now) tree c.loop-turn.plan.walks.items (walks_steps tree) _ _ (c.loop-turn.invariant.7 told tree o))
 
 pub returns-in_err-count-clause-turns : goal.returns-in_err-count-clause-turns
-returns-in_err-count-clause-turns g c = looks_within c.loop-turn.plan.schedule c.args.looks.now _ _ (movie_turns c.args.movie.now) c.loop-turn.invariant.9 c.in-Some.ensures.looks c.in-Some.ensures.track.1 c.loop-turn.invariant.11
+returns-in_err-count-clause-turns g c = looks_within c.loop-turn.plan.schedule c.args.steps.now.looks _ _ (movie_turns c.args.movie.now) c.loop-turn.invariant.9 (c.in_err-count.ensures.looks ∙ c.in-Some.ensures.looks) c.in-Some.ensures.track.1 c.loop-turn.invariant.11
 
 pub returns-in_err-pass-clause-turns : goal.returns-in_err-pass-clause-turns
-returns-in_err-pass-clause-turns g c = looks_within c.loop-turn.plan.schedule c.args.looks.now _ _ (movie_turns c.args.movie.now) c.loop-turn.invariant.9 c.in-Some.ensures.looks c.in-Some.ensures.track.1 c.loop-turn.invariant.11
+returns-in_err-pass-clause-turns g c = looks_within c.loop-turn.plan.schedule c.args.steps.now.looks _ _ (movie_turns c.args.movie.now) c.loop-turn.invariant.9 (c.in_ok-count.ensures.looks ∙ c.in-Some.ensures.looks) c.in-Some.ensures.track.1 c.loop-turn.invariant.11
 
 pub returns-clause-turns : goal.returns-clause-turns
 returns-clause-turns g c =

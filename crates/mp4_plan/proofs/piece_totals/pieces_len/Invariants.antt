@@ -22,9 +22,9 @@ invariant-loop-turn g l =
     × (g.S.Store.is_honest l.store ≡ g.S.Store.is_honest l.fn.store)
     × (IsTrue (g.S.Store.is_honest l.fn.store) → (tree : FileTree) → IsOpenedAs (g.S.Store.file l.fn.store) l.movie tree → l.reductions.of_tracks.items ≡ reductions_of l.reductions.leaving tree → ReducesInRange l.reductions.leaving (presentation_of (g.S.Store.file l.fn.store) tree)
     → IsLength l.reductions.leaving (g.S.Store.file l.fn.store) tree l.movie l.plan.schedule l.plan.walks.items l.plan.nexts.items l.len)
-    × (IsTrue (g.S.Store.is_honest l.fn.store) → (tree : FileTree) → IsOpenedAs (g.S.Store.file l.fn.store) l.movie tree → AllTakeOn (g.S.Store.file l.fn.store) tree (walks_steps tree) l.plan.walks.items l.fn.steps l.steps)
-    × (length l.plan.nexts.items ≡ length l.movie.tracks) × (l.looks + turns_left l.plan.schedule ≤ l.fn.looks + movie_turns l.movie)
-    × IsDueAt (infos_left l.reductions.leaving l.movie.tracks) l.plan.nexts.items l.plan.schedule l.plan.due × IsSomeLeft l.plan.schedule × (l.fn.steps ≤ l.steps)
+    × (IsTrue (g.S.Store.is_honest l.fn.store) → (tree : FileTree) → IsOpenedAs (g.S.Store.file l.fn.store) l.movie tree → AllTakeOn (g.S.Store.file l.fn.store) tree (walks_steps tree) l.plan.walks.items l.fn.steps.passed l.steps.passed)
+    × (length l.plan.nexts.items ≡ length l.movie.tracks) × (l.steps.looks + turns_left l.plan.schedule ≤ l.fn.steps.looks + movie_turns l.movie)
+    × IsDueAt (infos_left l.reductions.leaving l.movie.tracks) l.plan.nexts.items l.plan.schedule l.plan.due × IsSomeLeft l.plan.schedule × (l.fn.steps.passed ≤ l.steps.passed)
     × (l.plan.schedule.leaving ≡ l.reductions.leaving)
 
 abbrev pub decreases-loop-turn : goal.decreases-loop-turn

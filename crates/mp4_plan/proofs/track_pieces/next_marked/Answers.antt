@@ -38,5 +38,5 @@ returns-clause-writes g c told tree t n o h =
     let r = (e.coming told tree t (less c.args.reduction h.samples) o (record { samples = h.samples; comes = h.comes; is_left = refl })).0 in
     let k = e.work told tree t h.own o h.may in
     let many : c.to_come-left.result ≡ length r.samples = c.to_come-left.ensures ∙ to_come_is c.args.walk.now (length h.samples) h.marked ∙ as_many_left c.args.reduction h.samples r.samples r.is_left in
-    writes_next file m tree o t c.args.walk.now now n c.args.steps.now _ r.samples h e.went.grows (marked_ahead m c.args.walk.now c.next_sample.new.walk now c.to_come-left.result c.mark.ensures.mark e.went.ahead)
+    writes_next file m tree o t c.args.walk.now now n c.args.steps.now.passed _ r.samples h e.went.grows (marked_ahead m c.args.walk.now c.next_sample.new.walk now c.to_come-left.result c.mark.ensures.mark e.went.ahead)
     (k.0, c.mark.ensures.may file tree t k.0 k.1, k.2) (c.mark.ensures.coming file tree t m r.samples r.comes) (marked_is c.next_sample.new.walk now c.to_come-left.result c.mark.ensures.mark ∙ ap (mark_of now) many)

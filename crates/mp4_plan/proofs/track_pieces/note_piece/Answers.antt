@@ -18,13 +18,14 @@ loop-planner-init g c = record {
   honesty = refl;
   file = refl;
   reads = refl;
+  looks = refl;
   few = search rules;
   rows = ap length c.as_mut_slice-rows.ensures.value;
   fed = λ told. feeds_new c.args.portion.reduction (g.S.Store.file c.args.store.now) c.args.movie.now c.args.walk.now c.args.portion.end c.new-planner.result c.new-planner.ensures;
   noted = λ told. notes_new c.args.portion.reduction (g.S.Store.file c.args.store.now) c.args.movie.now c.args.walk.now c.args.portion.end c.new-planner.result c.as_mut_slice-rows.result.now c.new-planner.ensures;
   joined = λ told. joins_new c.args.portion.reduction (g.S.Store.file c.args.store.now) c.args.movie.now c.args.walk.now c.args.portion.end c.new-planner.result c.args.notes.now.stretches c.new-planner.ensures;
-  went = went_none c.args.movie.now c.args.walk.now c.args.steps.now;
-  takes = λ told tree t n o h. takes_none (g.S.Store.file c.args.store.now) tree t n c.args.steps.now c.args.walk.now h;
+  went = went_none c.args.movie.now c.args.walk.now c.args.steps.now.passed;
+  takes = λ told tree t n o h. takes_none (g.S.Store.file c.args.store.now) tree t n c.args.steps.now.passed c.args.walk.now h;
 }
 
 pub returns-in-Ended-clause-planned : goal.returns-in-Ended-clause-planned
@@ -60,6 +61,7 @@ loop-planner-preserved g c =
       honesty = l.store.honesty ∙ i.honesty;
       file = l.store.file ∙ i.file;
       reads = l.store.reads ∙ i.reads;
+      looks = search rules;
       few = search rules;
       rows = search rules;
       fed = λ told.

@@ -15,13 +15,14 @@ invariant-loop-planner g l = record {
   honesty : g.S.Store.is_honest l.store ≡ g.S.Store.is_honest l.fn.store;
   file : g.S.Store.file l.store ≡ g.S.Store.file l.fn.store;
   reads : g.S.Store.read_failures l.store ≡ g.S.Store.read_failures l.fn.store;
+  looks : l.steps.looks ≡ l.fn.steps.looks;
   few : count_of l.planner.gathered ≤ length l.rows;
   rows : length l.rows ≡ length l.fn.notes.rows.items;
   fed : IsTrue (g.S.Store.is_honest l.fn.store) → FeedsOn l.portion.reduction (g.S.Store.file l.fn.store) l.movie l.fn.walk l.walk (piece_from l.fn.portion.end) l.planner;
   noted : IsTrue (g.S.Store.is_honest l.fn.store) → NotesOn l.portion.reduction (g.S.Store.file l.fn.store) l.movie l.fn.walk l.planner l.rows;
   joined : IsTrue (g.S.Store.is_honest l.fn.store) → JoinsFor l.portion.reduction (g.S.Store.file l.fn.store) l.movie l.fn.walk l.planner l.fn.notes.stretches l.stretches;
-  went : WentOn l.movie l.fn.walk l.walk l.fn.steps l.steps;
-  takes : IsTrue (g.S.Store.is_honest l.fn.store) → TakesBefore (g.S.Store.file l.fn.store) l.movie l.fn.walk l.walk l.fn.steps l.steps;
+  went : WentOn l.movie l.fn.walk l.walk l.fn.steps.passed l.steps.passed;
+  takes : IsTrue (g.S.Store.is_honest l.fn.store) → TakesBefore (g.S.Store.file l.fn.store) l.movie l.fn.walk l.walk l.fn.steps.passed l.steps.passed;
 }
 
 abbrev pub decreases-loop-planner : goal.decreases-loop-planner

@@ -15,9 +15,10 @@ loop-planner-init g c = record {
   honesty = refl;
   file = refl;
   reads = refl;
+  looks = refl;
   few = search rules;
   fed = λ told. feeds_new c.args.portion.reduction (g.S.Store.file c.args.store.now) c.args.movie.now c.args.walk.now c.args.portion.end c.new-planner.result c.new-planner.ensures;
-  takes = λ told tree t n o h. takes_none (g.S.Store.file c.args.store.now) tree t n c.args.steps.now c.args.walk.now h;
+  takes = λ told tree t n o h. takes_none (g.S.Store.file c.args.store.now) tree t n c.args.steps.now.passed c.args.walk.now h;
   grows = omega arith;
 }
 
@@ -54,6 +55,7 @@ loop-planner-preserved g c =
       honesty = l.store.honesty ∙ i.honesty;
       file = l.store.file ∙ i.file;
       reads = l.store.reads ∙ i.reads;
+      looks = search rules;
       few = c.feed_hand-hand.ensures.few;
       fed = λ told.
           let file = g.S.Store.file c.args.store.now in

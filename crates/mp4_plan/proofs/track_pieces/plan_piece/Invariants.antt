@@ -14,10 +14,11 @@ invariant-loop-planner g l = record {
   honesty : g.S.Store.is_honest l.store ≡ g.S.Store.is_honest l.fn.store;
   file : g.S.Store.file l.store ≡ g.S.Store.file l.fn.store;
   reads : g.S.Store.read_failures l.store ≡ g.S.Store.read_failures l.fn.store;
+  looks : l.steps.looks ≡ l.fn.steps.looks;
   few : count_of l.planner.gathered ≤ 16777216;
   fed : IsTrue (g.S.Store.is_honest l.fn.store) → FeedsOn l.portion.reduction (g.S.Store.file l.fn.store) l.movie l.fn.walk l.walk (piece_from l.fn.portion.end) l.planner;
-  takes : IsTrue (g.S.Store.is_honest l.fn.store) → TakesBefore (g.S.Store.file l.fn.store) l.movie l.fn.walk l.walk l.fn.steps l.steps;
-  grows : l.fn.steps ≤ l.steps;
+  takes : IsTrue (g.S.Store.is_honest l.fn.store) → TakesBefore (g.S.Store.file l.fn.store) l.movie l.fn.walk l.walk l.fn.steps.passed l.steps.passed;
+  grows : l.fn.steps.passed ≤ l.steps.passed;
 }
 
 abbrev pub decreases-loop-planner : goal.decreases-loop-planner

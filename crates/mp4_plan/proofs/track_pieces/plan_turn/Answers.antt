@@ -22,7 +22,7 @@ returns-then-not-first_goes-clause-planned g c told tree t samples o h first =
     )
 
 pub returns-then-not-first_goes-clause-work : goal.returns-then-not-first_goes-clause-work
-returns-then-not-first_goes-clause-work g c told tree t n o h = takes_none (g.S.Store.file c.args.store.now) tree t n c.args.steps.now c.args.walk.now h
+returns-then-not-first_goes-clause-work g c told tree t n o h = takes_none (g.S.Store.file c.args.store.now) tree t n c.args.steps.now.passed c.args.walk.now h
 
 pub returns-in_err-planned-clause-unchanged : goal.returns-in_err-planned-clause-unchanged
 returns-in_err-planned-clause-unchanged g c told tree t samples o h few =

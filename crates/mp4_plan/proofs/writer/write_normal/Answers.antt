@@ -1,4 +1,4 @@
-use Rattle.std.proofs.Common.{subst, refl}
+use Rattle.std.proofs.Common.{subst, refl, arith}
 use Rattle.std.specs.Prelude.{OnOk, OnErr}
 use Rattle.mp4_store.specs.words.Device.{TakesPrefix}
 use Rattle.mp4_present.specs.format.Denotes.{presentation_of}
@@ -21,3 +21,6 @@ returns-clause-prefix g c = λ told tree o.
 
 pub returns-clause-refusal : goal.returns-clause-refusal
 returns-clause-refusal g c = copied_left nothing c.write_reduced.result (g.K.Sink.takes c.args.sink.now c.write_reduced.new.sink) _ _ _ _ refl c.write_reduced.ensures.refusal
+
+pub returns-clause-work : goal.returns-clause-work
+returns-clause-work g c told tree o = let most = c.write_reduced.ensures.work told tree o in omega (arith, most)

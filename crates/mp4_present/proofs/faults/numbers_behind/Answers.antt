@@ -33,7 +33,7 @@ returns-in_err-plain-clause-work g c =
     let moov = c.args.moov.now in
     let b = box_seen c.view-view.result in
     let r : IsRead honest file outline moov b = record { outline = c.requires.outline; is = c.view-view.ensures; fills = c.requires.fills; bytes = c.requires.bytes } in
-    λ told. record { steps = tables_open honest file outline moov b c.in_ok-head.head r c.in_ok-head.ensures.head told _ _ c.in_err-plain.ensures.within; looks = none_looks _ _ }
+    λ told. record { steps = tables_open honest file outline moov b c.in_ok-head.head r c.in_ok-head.ensures.head told _ _ c.in_err-plain.ensures.within; looks = rw c.check_tables.ensures.looks (none_looks _ _) }
 
 pub returns-in_err-told-clause-work : goal.returns-in_err-told-clause-work
 returns-in_err-told-clause-work g c =
@@ -50,7 +50,7 @@ returns-in_err-told-clause-work g c =
     let work = c.in_err-told.ensures.work told in
     record {
       steps = moofs_open honest file outline moov b head r says told _ _ _ c.in_ok-plain.ensures.within work.steps;
-      looks = looks_open honest file outline moov b head r says told _ _ (rw many at work.looks);
+      looks = looks_open honest file outline moov b head r says told _ _ (rw (many, c.check_tables.ensures.looks) at work.looks);
     }
 
 pub returns-clause-work : goal.returns-clause-work
@@ -68,7 +68,7 @@ returns-clause-work g c =
     let work = c.in_ok-told.ensures.work told in
     record {
       steps = moofs_open honest file outline moov b head r says told _ _ _ c.in_ok-plain.ensures.within work.steps;
-      looks = looks_open honest file outline moov b head r says told _ _ (rw many at work.looks);
+      looks = looks_open honest file outline moov b head r says told _ _ (rw (many, c.check_tables.ensures.looks) at work.looks);
     }
 
 pub returns-clause-told : goal.returns-clause-told

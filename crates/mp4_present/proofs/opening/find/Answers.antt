@@ -45,15 +45,15 @@ returns-clause-movie g c =
     let moov = c.args.moov.now in
     let head = c.in_ok-head.head in
     let plain = c.in_ok-plain.plain in
-    let states = c.in_ok-states.states in
+    let states = c.in_ok-passed.passed.states in
     λ told.
     let own = have honest file outline moov b head plain r says bytes _ c.len.ensures c.in_ok-plain.ensures.says told in
     let begin = begun honest file outline moov b head plain r says bytes _ c.len.ensures c.in_ok-plain.ensures.says told in
-    let kept = c.in_ok-states.ensures.own told _ _ begin in
+    let kept = c.in_ok-passed.ensures.own told _ _ begin in
     let passed = kept.0 in
     let within = rw c.as_slice.ensures.value at c.in_ok-mehd.ensures.within in
     let w = within _ (measure honest file outline moov b head plain r says told own begin states.items passed) in
-    let found : Found = record { plain = plain; tracks = c.in_ok-tracks.tracks; own = c.check_fragments.new.own; mehd = c.in_ok-mehd.mehd } in
+    let found : Found = record { plain = plain; tracks = c.in_ok-tracks.tracks; own = c.in_ok-passed.passed.own; mehd = c.in_ok-mehd.mehd } in
     (_, opened_as honest file outline moov b head plain r says told own begin states.items passed found (length file) refl w.0 w.1 w.2 (rw c.as_slice-2.ensures.value at c.in_ok-tracks.ensures.infos.infos) kept.1 refl)
 
 pub returns-clause-ids : goal.returns-clause-ids
@@ -81,12 +81,12 @@ returns-in_err-plain-clause-work g c =
     λ told. record {
       work = rw (p.1, p.2) (λ tree is. handed_on Found _ _ _ (tables_counted honest file outline moov b c.in_ok-head.head r c.in_ok-head.ensures.head told tree is _ _) c.in_err-plain.ensures.work);
       within = tables_open honest file outline moov b c.in_ok-head.head r c.in_ok-head.ensures.head told _ _ c.in_err-plain.ensures.within;
-      looks = record { said = λ tree is. if_no_fault _ _ (none_taken _ _); within = none_looks _ _ };
+      looks = rw c.check_tables.ensures.looks (record { said = λ tree is. if_no_fault _ _ (none_taken _ _); within = none_looks _ _ });
     }
 
-pub returns-in_err-states-clause-work : goal.returns-in_err-states-clause-work
-returns-in_err-states-clause-work g c =
-    let p = err_from_is_err_and c.from_residual-in_err-states.result c.from_residual-in_err-states.ensures.1 in
+pub returns-in_err-passed-clause-work : goal.returns-in_err-passed-clause-work
+returns-in_err-passed-clause-work g c =
+    let p = err_from_is_err_and c.from_residual-in_err-passed.result c.from_residual-in_err-passed.ensures.1 in
     let honest = g.S.Store.is_honest c.args.store.now in
     let file = g.S.Store.file c.args.store.now in
     let outline = c.args.outline.now in
@@ -97,9 +97,9 @@ returns-in_err-states-clause-work g c =
     let says = c.in_ok-head.ensures.head in
     let many : length c.in_ok-plain.plain.states.items ≡ length head.tracks.items = search rules in
     λ told. record {
-      work = rw (p.1, p.2) (λ tree is. handed_on Found _ _ _ (moofs_counted honest file outline moov b c.in_ok-head.head r c.in_ok-head.ensures.head told tree is _ _ _ c.in_ok-plain.ensures.work) (c.in_err-states.ensures.work told).work);
-      within = moofs_open honest file outline moov b head r says told _ _ _ c.in_ok-plain.ensures.within (c.in_err-states.ensures.work told).within;
-      looks = rw (p.1, p.2) (let l = (c.in_err-states.ensures.work told).looks in
+      work = rw (p.1, p.2) (λ tree is. handed_on Found _ _ _ (moofs_counted honest file outline moov b c.in_ok-head.head r c.in_ok-head.ensures.head told tree is _ _ _ c.in_ok-plain.ensures.work) (c.in_err-passed.ensures.work told).work);
+      within = moofs_open honest file outline moov b head r says told _ _ _ c.in_ok-plain.ensures.within (c.in_err-passed.ensures.work told).within;
+      looks = rw (p.1, p.2) (let l = rw c.check_tables.ensures.looks at (c.in_err-passed.ensures.work told).looks in
           record {
             said = λ tree is. handed_on Found _ _ _ (looks_counted honest file outline moov b head r says told tree is _ _ _) l.said;
             within = looks_open honest file outline moov b head r says told _ _ (rw many at l.within);
@@ -118,9 +118,9 @@ returns-in_err-mehd-clause-work g c =
     let says = c.in_ok-head.ensures.head in
     let many : length c.in_ok-plain.plain.states.items ≡ length head.tracks.items = search rules in
     λ told. record {
-      work = λ tree is. if_no_fault _ _ (moofs_counted honest file outline moov b c.in_ok-head.head r c.in_ok-head.ensures.head told tree is _ _ _ c.in_ok-plain.ensures.work (c.in_ok-states.ensures.work told).work);
-      within = moofs_open honest file outline moov b head r says told _ _ _ c.in_ok-plain.ensures.within (c.in_ok-states.ensures.work told).within;
-      looks = let l = (c.in_ok-states.ensures.work told).looks in
+      work = λ tree is. if_no_fault _ _ (moofs_counted honest file outline moov b c.in_ok-head.head r c.in_ok-head.ensures.head told tree is _ _ _ c.in_ok-plain.ensures.work (c.in_ok-passed.ensures.work told).work);
+      within = moofs_open honest file outline moov b head r says told _ _ _ c.in_ok-plain.ensures.within (c.in_ok-passed.ensures.work told).within;
+      looks = let l = rw c.check_tables.ensures.looks at (c.in_ok-passed.ensures.work told).looks in
           record {
             said = λ tree is. if_no_fault _ _ (looks_counted honest file outline moov b head r says told tree is _ _ _ l.said);
             within = looks_open honest file outline moov b head r says told _ _ (rw many at l.within);
@@ -139,9 +139,9 @@ returns-in_err-tracks-clause-work g c =
     let says = c.in_ok-head.ensures.head in
     let many : length c.in_ok-plain.plain.states.items ≡ length head.tracks.items = search rules in
     λ told. record {
-      work = λ tree is. if_no_fault _ _ (moofs_counted honest file outline moov b c.in_ok-head.head r c.in_ok-head.ensures.head told tree is _ _ _ c.in_ok-plain.ensures.work (c.in_ok-states.ensures.work told).work);
-      within = moofs_open honest file outline moov b head r says told _ _ _ c.in_ok-plain.ensures.within (c.in_ok-states.ensures.work told).within;
-      looks = let l = (c.in_ok-states.ensures.work told).looks in
+      work = λ tree is. if_no_fault _ _ (moofs_counted honest file outline moov b c.in_ok-head.head r c.in_ok-head.ensures.head told tree is _ _ _ c.in_ok-plain.ensures.work (c.in_ok-passed.ensures.work told).work);
+      within = moofs_open honest file outline moov b head r says told _ _ _ c.in_ok-plain.ensures.within (c.in_ok-passed.ensures.work told).within;
+      looks = let l = rw c.check_tables.ensures.looks at (c.in_ok-passed.ensures.work told).looks in
           record {
             said = λ tree is. if_no_fault _ _ (looks_counted honest file outline moov b head r says told tree is _ _ _ l.said);
             within = looks_open honest file outline moov b head r says told _ _ (rw many at l.within);
@@ -160,9 +160,9 @@ returns-clause-work g c =
     let says = c.in_ok-head.ensures.head in
     let many : length c.in_ok-plain.plain.states.items ≡ length head.tracks.items = search rules in
     λ told. record {
-      work = λ tree is. moofs_counted honest file outline moov b c.in_ok-head.head r c.in_ok-head.ensures.head told tree is _ _ _ c.in_ok-plain.ensures.work (c.in_ok-states.ensures.work told).work;
-      within = moofs_open honest file outline moov b head r says told _ _ _ c.in_ok-plain.ensures.within (c.in_ok-states.ensures.work told).within;
-      looks = let l = (c.in_ok-states.ensures.work told).looks in
+      work = λ tree is. moofs_counted honest file outline moov b c.in_ok-head.head r c.in_ok-head.ensures.head told tree is _ _ _ c.in_ok-plain.ensures.work (c.in_ok-passed.ensures.work told).work;
+      within = moofs_open honest file outline moov b head r says told _ _ _ c.in_ok-plain.ensures.within (c.in_ok-passed.ensures.work told).within;
+      looks = let l = rw c.check_tables.ensures.looks at (c.in_ok-passed.ensures.work told).looks in
           record {
             said = λ tree is. looks_counted honest file outline moov b head r says told tree is _ _ _ l.said;
             within = looks_open honest file outline moov b head r says told _ _ (rw many at l.within);
@@ -175,7 +175,7 @@ returns-clause-least g c =
     let file = g.S.Store.file c.args.store.now in
     let b = box_seen c.view-view.result in
     let r : IsRead honest file c.args.outline.now c.args.moov.now b = record { outline = c.requires.outline; is = c.view-view.ensures; fills = c.requires.moov.0; bytes = c.requires.moov.1 } in
-    λ told tree is. all_taken honest file c.args.outline.now c.args.moov.now b c.in_ok-head.head r c.in_ok-head.ensures.head told tree is _ _ _ c.in_ok-plain.ensures.least (c.in_ok-states.ensures.least told)
+    λ told tree is. all_taken honest file c.args.outline.now c.args.moov.now b c.in_ok-head.head r c.in_ok-head.ensures.head told tree is _ _ _ c.in_ok-plain.ensures.least (c.in_ok-passed.ensures.least told)
 
 pub returns-in_err-head-clause-exact : goal.returns-in_err-head-clause-exact
 returns-in_err-head-clause-exact g c =
@@ -203,9 +203,9 @@ returns-in_err-plain-clause-exact g c =
     let named = (c.in_err-plain.ensures.exact file (sym c.len.ensures) says.has.tree.tracks (tracks_read b head says)).names in
     rw (p.1, p.2) (λ told known e. record { names = tables_refused honest file outline moov b r told known e head says sound c.in_err-plain.field-0.0 named })
 
-pub returns-in_err-states-clause-exact : goal.returns-in_err-states-clause-exact
-returns-in_err-states-clause-exact g c =
-    let p = err_from_is_err_and c.from_residual-in_err-states.result c.from_residual-in_err-states.ensures.1 in
+pub returns-in_err-passed-clause-exact : goal.returns-in_err-passed-clause-exact
+returns-in_err-passed-clause-exact g c =
+    let p = err_from_is_err_and c.from_residual-in_err-passed.result c.from_residual-in_err-passed.ensures.1 in
     let honest = g.S.Store.is_honest c.args.store.now in
     let file = g.S.Store.file c.args.store.now in
     let outline = c.args.outline.now in
@@ -221,7 +221,7 @@ returns-in_err-states-clause-exact g c =
     rw (p.1, p.2) (λ told known e.
     let own = have honest file outline moov b head plain r says bytes _ c.len.ensures c.in_ok-plain.ensures.says told in
     let begin = begun honest file outline moov b head plain r says bytes _ c.len.ensures c.in_ok-plain.ensures.says told in
-    record { names = moofs_refused honest file outline moov b r told known e head says sound tables plain.room own.room c.in_err-states.field-0.0 ((c.in_err-states.ensures.exact told).names says.has.tree _ begin) })
+    record { names = moofs_refused honest file outline moov b r told known e head says sound tables plain.room own.room c.in_err-passed.field-0.0 ((c.in_err-passed.ensures.exact told).names says.has.tree _ begin) })
 
 pub returns-in_err-mehd-clause-exact : goal.returns-in_err-mehd-clause-exact
 returns-in_err-mehd-clause-exact g c =
@@ -238,12 +238,12 @@ returns-in_err-mehd-clause-exact g c =
     let sound = (c.in_ok-head.ensures.exact 0).names in
     let plain = c.in_ok-plain.plain in
     let tables = (c.in_ok-plain.ensures.exact file (sym c.len.ensures) says.has.tree.tracks (tracks_read b head says)).names in
-    let states = c.in_ok-states.states in
+    let states = c.in_ok-passed.passed.states in
     let fails = rw c.as_slice.ensures.value at c.in_err-mehd.ensures.fault in
     rw (q.1, q.2) (λ told known e.
     let own = have honest file outline moov b head plain r says bytes _ c.len.ensures c.in_ok-plain.ensures.says told in
     let begin = begun honest file outline moov b head plain r says bytes _ c.len.ensures c.in_ok-plain.ensures.says told in
-    let passes : PassesMoofs file says.has.tree (r.outline told).0 plain.room states.items = (c.in_ok-states.ensures.exact told).names says.has.tree (r.outline told).0 begin in
+    let passes : PassesMoofs file says.has.tree (r.outline told).0 plain.room states.items = (c.in_ok-passed.ensures.exact told).names says.has.tree (r.outline told).0 begin in
     record {
       names = limit_refused honest file outline moov b r told known e head says sound tables plain.room own.room states.items passes c.in_err-mehd.field-0.0
           (fails _ (measure honest file outline moov b head plain r says told own begin states.items passes.passed));
@@ -263,12 +263,12 @@ returns-clause-exact g c =
     let sound = (c.in_ok-head.ensures.exact 0).names in
     let plain = c.in_ok-plain.plain in
     let tables = (c.in_ok-plain.ensures.exact file (sym c.len.ensures) says.has.tree.tracks (tracks_read b head says)).names in
-    let states = c.in_ok-states.states in
+    let states = c.in_ok-passed.passed.states in
     let within = rw c.as_slice.ensures.value at c.in_ok-mehd.ensures.within in
     λ told known e.
     let own = have honest file outline moov b head plain r says bytes _ c.len.ensures c.in_ok-plain.ensures.says told in
     let begin = begun honest file outline moov b head plain r says bytes _ c.len.ensures c.in_ok-plain.ensures.says told in
-    let passes : PassesMoofs file says.has.tree (r.outline told).0 plain.room states.items = (c.in_ok-states.ensures.exact told).names says.has.tree (r.outline told).0 begin in
+    let passes : PassesMoofs file says.has.tree (r.outline told).0 plain.room states.items = (c.in_ok-passed.ensures.exact told).names says.has.tree (r.outline told).0 begin in
     let w = within _ (measure honest file outline moov b head plain r says told own begin states.items passes.passed) in
     record { names = (_, judged_as honest file outline moov b r told known e head says sound tables plain.room own.room states.items passes w.0 w.2, denoted honest file outline moov b head plain r says told own begin states.items passes.passed w.0 w.2) }
 

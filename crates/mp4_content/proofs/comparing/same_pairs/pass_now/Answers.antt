@@ -29,7 +29,7 @@ returns-clause-passed g c =
         same_come by left.window right.window file other tree other_tree t u m n left.walk right.walk a b count xs ys c.in_hand-x.ensures.hand c.in_hand-y.ensures.hand h k e.same,
       );
       takes = λ file other tree other_tree t u k l o q hx hy.
-          both_take file tree t _ other other_tree u _ k l _ c.keep.new.steps _
+          both_take file tree t _ other other_tree u _ k l _ c.keep.new.steps.passed _
           (hand_goes_on file m tree t left.walk a p.new.left c.place.result k _ _ o c.in_hand-x.ensures.movie c.requires.left c.in_hand-x.ensures.hand e.later c.place.ensures c.keep.ensures.work hx)
           (hand_goes_on other n other_tree u right.walk b p.new.right c.place-2.result l _ _ q c.in_hand-y.ensures.movie c.requires.right c.in_hand-y.ensures.hand e.right_later c.place-2.ensures c.keep-2.ensures.work hy);
     })

@@ -12,7 +12,7 @@ pub returns-in_err-edges-clause-work : goal.returns-in_err-edges-clause-work
 returns-in_err-edges-clause-work g c told told_right tree other o p t u at bt =
     let first = c.in_ok-left_side.ensures.may (g.S.Store.file c.args.left.now) tree t o at in
     let second = c.in_ok-right_side.ensures.may (g.T.Store.file c.args.right.now) other u p bt in
-    most_within _ _ c.args.steps.now _ (most_of_both _ _ _ _ first.2 second.2) (first_most first.0 second.0 c.args.steps.now _ (c.in_err-edges.ensures.work told tree t first.0 o first.1))
+    most_within _ _ c.args.steps.now.passed _ (most_of_both _ _ _ _ first.2 second.2) (first_most first.0 second.0 c.args.steps.now.passed _ (c.in_err-edges.ensures.work told tree t first.0 o first.1))
 
 pub returns-in_err-others-clause-unchanged : goal.returns-in_err-others-clause-unchanged
 returns-in_err-others-clause-unchanged g c told told_right tree other o p t u at bt =
@@ -25,8 +25,8 @@ returns-in_err-others-clause-work g c told told_right tree other o p t u at bt =
     let right_file = g.T.Store.file c.args.right.now in
     let first = c.in_ok-left_side.ensures.may file tree t o at in
     let second = c.in_ok-right_side.ensures.may right_file other u p bt in
-    most_within _ _ c.args.steps.now _ (most_of_both _ _ _ _ first.2 second.2)
-    (second_most file tree t c.edges_of.new.walk right_file other u c.in_ok-right_side.right_side.walk first.0 second.0 c.args.steps.now _ _ (c.in_ok-edges.ensures.work told tree t first.0 o first.1) (c.in_err-others.ensures.work told_right other u second.0 p second.1))
+    most_within _ _ c.args.steps.now.passed _ (most_of_both _ _ _ _ first.2 second.2)
+    (second_most file tree t c.edges_of.new.walk right_file other u c.in_ok-right_side.right_side.walk first.0 second.0 c.args.steps.now.passed _ _ (c.in_ok-edges.ensures.work told tree t first.0 o first.1) (c.in_err-others.ensures.work told_right other u second.0 p second.1))
 
 pub returns-in_err-by-clause-work : goal.returns-in_err-by-clause-work
 returns-in_err-by-clause-work g c told told_right tree other o p t u at bt =
@@ -34,9 +34,9 @@ returns-in_err-by-clause-work g c told told_right tree other o p t u at bt =
     let right_file = g.T.Store.file c.args.right.now in
     let first = c.in_ok-left_side.ensures.may file tree t o at in
     let second = c.in_ok-right_side.ensures.may right_file other u p bt in
-    most_within _ _ c.args.steps.now _ (most_of_both _ _ _ _ first.2 second.2)
-    (both_most file tree t c.edges_of.new.walk right_file other u c.edges_of-2.new.walk _ c.args.steps.now _
-    (both_take file tree t c.edges_of.new.walk right_file other u c.edges_of-2.new.walk first.0 second.0 c.args.steps.now _ _ (c.in_ok-edges.ensures.work told tree t first.0 o first.1) (c.in_ok-others.ensures.work told_right other u second.0 p second.1)))
+    most_within _ _ c.args.steps.now.passed _ (most_of_both _ _ _ _ first.2 second.2)
+    (both_most file tree t c.edges_of.new.walk right_file other u c.edges_of-2.new.walk _ c.args.steps.now.passed _
+    (both_take file tree t c.edges_of.new.walk right_file other u c.edges_of-2.new.walk first.0 second.0 c.args.steps.now.passed _ _ (c.in_ok-edges.ensures.work told tree t first.0 o first.1) (c.in_ok-others.ensures.work told_right other u second.0 p second.1)))
 
 pub returns-clause-begun : goal.returns-clause-begun
 returns-clause-begun g c told told_right tree other o p t u at bt =
@@ -54,8 +54,8 @@ returns-clause-begun g c told told_right tree other o p t u at bt =
       };
       comes = c.in_ok-edges.ensures.coming told tree t _ o come;
       comes_right = c.in_ok-others.ensures.coming told_right other u _ p come_right;
-      takes = both_within file tree t c.edges_of.new.walk right_file other u c.edges_of-2.new.walk _ _ c.args.steps.now _ (most_of_both _ _ _ _ first.2 second.2)
-          (both_take file tree t c.edges_of.new.walk right_file other u c.edges_of-2.new.walk first.0 second.0 c.args.steps.now _ _ (c.in_ok-edges.ensures.work told tree t first.0 o first.1) (c.in_ok-others.ensures.work told_right other u second.0 p second.1));
+      takes = both_within file tree t c.edges_of.new.walk right_file other u c.edges_of-2.new.walk _ _ c.args.steps.now.passed _ (most_of_both _ _ _ _ first.2 second.2)
+          (both_take file tree t c.edges_of.new.walk right_file other u c.edges_of-2.new.walk first.0 second.0 c.args.steps.now.passed _ _ (c.in_ok-edges.ensures.work told tree t first.0 o first.1) (c.in_ok-others.ensures.work told_right other u second.0 p second.1));
     }
 
 pub returns-clause-work : goal.returns-clause-work
@@ -64,6 +64,6 @@ returns-clause-work g c told told_right tree other o p t u at bt =
     let right_file = g.T.Store.file c.args.right.now in
     let first = c.in_ok-left_side.ensures.may file tree t o at in
     let second = c.in_ok-right_side.ensures.may right_file other u p bt in
-    most_within _ _ c.args.steps.now _ (most_of_both _ _ _ _ first.2 second.2)
-    (both_most file tree t c.edges_of.new.walk right_file other u c.edges_of-2.new.walk _ c.args.steps.now _
-    (both_take file tree t c.edges_of.new.walk right_file other u c.edges_of-2.new.walk first.0 second.0 c.args.steps.now _ _ (c.in_ok-edges.ensures.work told tree t first.0 o first.1) (c.in_ok-others.ensures.work told_right other u second.0 p second.1)))
+    most_within _ _ c.args.steps.now.passed _ (most_of_both _ _ _ _ first.2 second.2)
+    (both_most file tree t c.edges_of.new.walk right_file other u c.edges_of-2.new.walk _ c.args.steps.now.passed _
+    (both_take file tree t c.edges_of.new.walk right_file other u c.edges_of-2.new.walk first.0 second.0 c.args.steps.now.passed _ _ (c.in_ok-edges.ensures.work told tree t first.0 o first.1) (c.in_ok-others.ensures.work told_right other u second.0 p second.1)))

@@ -15,7 +15,7 @@ returns-in_err-x-clause-unchanged g c told told_right tree other o p t u xs ys h
 pub returns-in_err-x-clause-work : goal.returns-in_err-x-clause-work
 returns-in_err-x-clause-work g c told told_right tree other o p t u n m hx hy =
     let e = err_from_is_err_and c.from_residual.result c.from_residual.ensures.1 in
-    rw e.1 (first_most n m c.args.steps.now _ (c.in_err-x.ensures.work told tree t n o hx))
+    rw e.1 (first_most n m c.args.steps.now.passed _ (c.in_err-x.ensures.work told tree t n o hx))
 
 pub returns-in_err-y-clause-unchanged : goal.returns-in_err-y-clause-unchanged
 returns-in_err-y-clause-unchanged g c told told_right tree other o p t u xs ys hx hy lx ly =
@@ -25,7 +25,7 @@ returns-in_err-y-clause-unchanged g c told told_right tree other o p t u xs ys h
 pub returns-in_err-y-clause-work : goal.returns-in_err-y-clause-work
 returns-in_err-y-clause-work g c told told_right tree other o p t u n m hx hy =
     let e = err_from_is_err_and c.from_residual-in_err-y.result c.from_residual-in_err-y.ensures.1 in
-    rw e.1 (second_most (g.S.Store.file c.args.left.now) tree t c.next_sample.new.self (g.T.Store.file c.args.right.now) other u c.args.sides.now.right.walk n m c.args.steps.now _ _ (c.in_ok-x.ensures.work told tree t n o hx) (c.in_err-y.ensures.work told_right other u m p hy))
+    rw e.1 (second_most (g.S.Store.file c.args.left.now) tree t c.next_sample.new.self (g.T.Store.file c.args.right.now) other u c.args.sides.now.right.walk n m c.args.steps.now.passed _ _ (c.in_ok-x.ensures.work told tree t n o hx) (c.in_err-y.ensures.work told_right other u m p hy))
 
 pub returns-in_err-compare_samples-clause-found : goal.returns-in_err-compare_samples-clause-found
 returns-in_err-compare_samples-clause-found g c told told_right tree other o p t u xs ys hx hy =
@@ -37,8 +37,8 @@ returns-in_err-compare_samples-clause-work g c told told_right tree other o p t 
     let e = err_from_is_err_and c.from_residual-in_err-compare_samples.result c.from_residual-in_err-compare_samples.ensures.1 in
     let file = g.S.Store.file c.args.left.now in
     let right_file = g.T.Store.file c.args.right.now in
-    rw e.1 (both_most file tree t c.next_sample.new.self right_file other u c.next_sample-2.new.self _ c.args.steps.now _
-    (both_take file tree t c.next_sample.new.self right_file other u c.next_sample-2.new.self n m c.args.steps.now _ _ (c.in_ok-x.ensures.work told tree t n o hx) (c.in_ok-y.ensures.work told_right other u m p hy)))
+    rw e.1 (both_most file tree t c.next_sample.new.self right_file other u c.next_sample-2.new.self _ c.args.steps.now.passed _
+    (both_take file tree t c.next_sample.new.self right_file other u c.next_sample-2.new.self n m c.args.steps.now.passed _ _ (c.in_ok-x.ensures.work told tree t n o hx) (c.in_ok-y.ensures.work told_right other u m p hy)))
 
 pub returns-in_err-compare_bytes-clause-unchanged : goal.returns-in_err-compare_bytes-clause-unchanged
 returns-in_err-compare_bytes-clause-unchanged g c told told_right tree other o p t u xs ys hx hy lx ly =
@@ -52,8 +52,8 @@ returns-in_err-compare_bytes-clause-work g c told told_right tree other o p t u 
     let e = err_from_is_err_and c.from_residual-in_err-compare_bytes.result c.from_residual-in_err-compare_bytes.ensures.1 in
     let file = g.S.Store.file c.args.left.now in
     let right_file = g.T.Store.file c.args.right.now in
-    rw e.1 (both_most file tree t c.next_sample.new.self right_file other u c.next_sample-2.new.self _ c.args.steps.now _
-    (both_take file tree t c.next_sample.new.self right_file other u c.next_sample-2.new.self n m c.args.steps.now _ _ (c.in_ok-x.ensures.work told tree t n o hx) (c.in_ok-y.ensures.work told_right other u m p hy)))
+    rw e.1 (both_most file tree t c.next_sample.new.self right_file other u c.next_sample-2.new.self _ c.args.steps.now.passed _
+    (both_take file tree t c.next_sample.new.self right_file other u c.next_sample-2.new.self n m c.args.steps.now.passed _ _ (c.in_ok-x.ensures.work told tree t n o hx) (c.in_ok-y.ensures.work told_right other u m p hy)))
 
 pub returns-clause-found : goal.returns-clause-found
 returns-clause-found g c told told_right tree other o p t u xs ys hx hy =
@@ -71,4 +71,4 @@ returns-clause-found g c told told_right tree other o p t u xs ys hx hy =
 pub returns-clause-work : goal.returns-clause-work
 returns-clause-work g c told told_right tree other o p t u n m hx hy =
     rw (c.in_ok-compare_bytes.ensures.walk, c.in_ok-compare_bytes.ensures.right_walk)
-    (both_take (g.S.Store.file c.args.left.now) tree t c.next_sample.new.self (g.T.Store.file c.args.right.now) other u c.next_sample-2.new.self n m c.args.steps.now _ _ (c.in_ok-x.ensures.work told tree t n o hx) (c.in_ok-y.ensures.work told_right other u m p hy))
+    (both_take (g.S.Store.file c.args.left.now) tree t c.next_sample.new.self (g.T.Store.file c.args.right.now) other u c.next_sample-2.new.self n m c.args.steps.now.passed _ _ (c.in_ok-x.ensures.work told tree t n o hx) (c.in_ok-y.ensures.work told_right other u m p hy))

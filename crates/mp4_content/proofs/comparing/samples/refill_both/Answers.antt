@@ -10,7 +10,7 @@ returns-in_err-refill-clause-unchanged g c told told_right tree other o p t u xs
 pub returns-in_err-refill-clause-work : goal.returns-in_err-refill-clause-work
 returns-in_err-refill-clause-work g c told told_right tree other o p t u n m hx hy =
     let e = err_from_is_err_and c.from_residual.result c.from_residual.ensures.1 in
-    rw e.1 (first_most n m c.args.steps.now _ (c.in_err-refill.ensures.work told tree t n o hx))
+    rw e.1 (first_most n m c.args.steps.now.passed _ (c.in_err-refill.ensures.work told tree t n o hx))
 
 pub returns-in_err-refill-2-clause-unchanged : goal.returns-in_err-refill-2-clause-unchanged
 returns-in_err-refill-2-clause-unchanged g c told told_right tree other o p t u xs ys hx hy lx ly =
@@ -20,7 +20,7 @@ returns-in_err-refill-2-clause-unchanged g c told told_right tree other o p t u 
 pub returns-in_err-refill-2-clause-work : goal.returns-in_err-refill-2-clause-work
 returns-in_err-refill-2-clause-work g c told told_right tree other o p t u n m hx hy =
     let e = err_from_is_err_and c.from_residual-in_err-refill-2.result c.from_residual-in_err-refill-2.ensures.1 in
-    rw e.1 (second_most (g.S.Store.file c.args.left.now) tree t c.refill.new.self (g.T.Store.file c.args.right.now) other u c.args.sides.now.right.walk n m c.args.steps.now _ _ (c.in_ok-refill.ensures.work told tree t n o hx) (c.in_err-refill-2.ensures.work told_right other u m p hy))
+    rw e.1 (second_most (g.S.Store.file c.args.left.now) tree t c.refill.new.self (g.T.Store.file c.args.right.now) other u c.args.sides.now.right.walk n m c.args.steps.now.passed _ _ (c.in_ok-refill.ensures.work told tree t n o hx) (c.in_err-refill-2.ensures.work told_right other u m p hy))
 
 pub returns-clause-coming : goal.returns-clause-coming
 returns-clause-coming g c told told_right tree other o p t u xs ys hx hy =
@@ -28,4 +28,4 @@ returns-clause-coming g c told told_right tree other o p t u xs ys hx hy =
 
 pub returns-clause-work : goal.returns-clause-work
 returns-clause-work g c told told_right tree other o p t u n m hx hy =
-    both_take (g.S.Store.file c.args.left.now) tree t c.refill.new.self (g.T.Store.file c.args.right.now) other u c.refill-2.new.self n m c.args.steps.now _ _ (c.in_ok-refill.ensures.work told tree t n o hx) (c.in_ok-refill-2.ensures.work told_right other u m p hy)
+    both_take (g.S.Store.file c.args.left.now) tree t c.refill.new.self (g.T.Store.file c.args.right.now) other u c.refill-2.new.self n m c.args.steps.now.passed _ _ (c.in_ok-refill.ensures.work told tree t n o hx) (c.in_ok-refill-2.ensures.work told_right other u m p hy)

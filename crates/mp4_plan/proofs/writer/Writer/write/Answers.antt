@@ -90,7 +90,7 @@ loop-turn-init g c =
           (rw walks shown.1) (rw walks marked) (nexts ∙ shown.0) (rw c.as_slice.ensures.value at c.in_ok-carry.ensures.bytes);
       within = λ told tree o n may. rw walks (e.writes told tree o n (rw c.as_mut_slice-walks.ensures.value may));
       some = search rules;
-      looks = begins_within c.args.movie.now.tracks c.new-schedule.result c.args.looks.now (rw c.tracks-tracks.ensures at c.new-schedule.ensures.tracks) (rw c.tracks-tracks.ensures at c.new-schedule.ensures.left) c.new-schedule.ensures.starts.0;
+      looks = rw e.looks (begins_within c.args.movie.now.tracks c.new-schedule.result c.args.steps.now.looks (rw c.tracks-tracks.ensures at c.new-schedule.ensures.tracks) (rw c.tracks-tracks.ensures at c.new-schedule.ensures.left) c.new-schedule.ensures.starts.0);
       due = λ told tree o ready.
           subst (λ (l : Without). IsDueAt (infos_left l c.args.movie.now.tracks) (with_items w.nexts c.peek_each.new.nexts).items c.new-schedule.result c.begin.new.due) c.new-schedule.ensures.leaving
           (subst (λ (xs : List (Option SampleAt)). IsDueAt (infos_left c.new-schedule.result.leaving c.args.movie.now.tracks) xs c.new-schedule.result c.begin.new.due) c.as_slice-3.ensures.value (rw c.tracks-tracks.ensures at c.begin.ensures));
@@ -328,11 +328,11 @@ loop-turn-preserved g c =
       within = λ told tree o n may.
           let w = c.loop-turn.self in
           turn_then (g.S.Store.file c.args.store.now) tree c.args.movie.now w.reductions.of_tracks.items w.walks.items c.note_turn.new.self.walks.items c.in-Some.turn.track c.in_ok-noted.noted.planned.count n _ _ _ (i.within told tree o n may)
-          ((rw (i.honesty, i.file) at c.in_ok-noted.ensures.work) told tree o) c.carry_turn.new.self.walks.items _
+          ((rw (i.honesty, i.file, c.in-Some.ensures.passed) at c.in_ok-noted.ensures.work) told tree o) c.carry_turn.new.self.walks.items _
           (rw c.in_ok-noted.ensures.writer.reductions at ((rw (c.in_ok-noted.ensures.track, c.in_ok-noted.ensures.store.honesty, c.in_ok-noted.ensures.store.file, i.honesty, i.file) at c.in_ok-carry_turn.ensures.work) told tree o));
       some = c.in_ok-pass.ensures.some;
-      looks = looks_on c.loop-turn.schedule c.pass.new.self c.args.looks.now _ _ (movie_turns c.args.movie.now) i.looks c.in-Some.ensures.looks c.in_ok-pass.ensures.less;
-      grows = (let noted = c.in_ok-noted.ensures.grows in let carried = c.in_ok-carry_turn.ensures.grows in let so = i.grows in omega (arith, noted, carried, so));
+      looks = looks_on c.loop-turn.schedule c.pass.new.self c.args.steps.now.looks _ _ (movie_turns c.args.movie.now) i.looks (c.in_ok-carry_turn.ensures.looks ∙ c.in_ok-noted.ensures.looks ∙ c.in-Some.ensures.looks) c.in_ok-pass.ensures.less;
+      grows = (let noted = c.in_ok-noted.ensures.grows in let carried = c.in_ok-carry_turn.ensures.grows in let so = i.grows in let same = c.in-Some.ensures.passed in omega (arith, noted, carried, so, same));
     }
 
 pub returns-clause-bytes : goal.returns-clause-bytes
@@ -371,14 +371,14 @@ returns-in_err-peek_each-clause-work g c told tree o n may = c.in_err-peek_each.
 pub returns-in_err-noted-clause-work : goal.returns-in_err-noted-clause-work
 returns-in_err-noted-clause-work g c told tree o n may =
     let i = c.loop-turn.invariant in
-    write_then_stop (g.S.Store.file c.args.store.now) tree c.args.movie.now c.loop-turn.self.walks.items n _ _ _ (i.within told tree o n may) ((rw (i.honesty, i.file) at c.in_err-noted.ensures.work) told tree o)
+    write_then_stop (g.S.Store.file c.args.store.now) tree c.args.movie.now c.loop-turn.self.walks.items n _ _ _ (i.within told tree o n may) ((rw (i.honesty, i.file, c.in-Some.ensures.passed) at c.in_err-noted.ensures.work) told tree o)
 
 pub returns-in_err-carry_turn-clause-work : goal.returns-in_err-carry_turn-clause-work
 returns-in_err-carry_turn-clause-work g c told tree o n may =
     let i = c.loop-turn.invariant in
     let w = c.loop-turn.self in
     turn_then_stop (g.S.Store.file c.args.store.now) tree c.args.movie.now w.reductions.of_tracks.items w.walks.items c.note_turn.new.self.walks.items c.in-Some.turn.track c.in_ok-noted.noted.planned.count n _ _ _ (i.within told tree o n may)
-    ((rw (i.honesty, i.file) at c.in_ok-noted.ensures.work) told tree o) _
+    ((rw (i.honesty, i.file, c.in-Some.ensures.passed) at c.in_ok-noted.ensures.work) told tree o) _
     (rw c.in_ok-noted.ensures.writer.reductions at ((rw (c.in_ok-noted.ensures.track, c.in_ok-noted.ensures.store.honesty, c.in_ok-noted.ensures.store.file, i.honesty, i.file) at c.in_err-carry_turn.ensures.work) told tree o))
 
 pub returns-in_err-pass-clause-work : goal.returns-in_err-pass-clause-work
@@ -388,11 +388,11 @@ returns-in_err-pass-clause-work g c told tree o n may =
     let w = c.loop-turn.self in
     all_written file tree c.args.movie.now c.carry_turn.new.self.walks.items n _ _
     (turn_then file tree c.args.movie.now w.reductions.of_tracks.items w.walks.items c.note_turn.new.self.walks.items c.in-Some.turn.track c.in_ok-noted.noted.planned.count n _ _ _ (i.within told tree o n may)
-    ((rw (i.honesty, i.file) at c.in_ok-noted.ensures.work) told tree o) c.carry_turn.new.self.walks.items _
+    ((rw (i.honesty, i.file, c.in-Some.ensures.passed) at c.in_ok-noted.ensures.work) told tree o) c.carry_turn.new.self.walks.items _
     (rw c.in_ok-noted.ensures.writer.reductions at ((rw (c.in_ok-noted.ensures.track, c.in_ok-noted.ensures.store.honesty, c.in_ok-noted.ensures.store.file, i.honesty, i.file) at c.in_ok-carry_turn.ensures.work) told tree o)))
 
 pub returns-clause-work : goal.returns-clause-work
-returns-clause-work g c told tree o n may = all_written (g.S.Store.file c.args.store.now) tree c.args.movie.now c.loop-turn.self.walks.items n _ _ (c.loop-turn.invariant.within told tree o n may)
+returns-clause-work g c told tree o n may = rw c.in_default.ensures.passed (all_written (g.S.Store.file c.args.store.now) tree c.args.movie.now c.loop-turn.self.walks.items n _ _ (c.loop-turn.invariant.within told tree o n may))
 
 pub overflow_add-bytes : goal.overflow_add-bytes
 overflow_add-bytes g c =
@@ -419,7 +419,7 @@ returns-then-not-are_all-clause-unchanged g c told tree o ready e =
     c.are_all.ensures.missing c.if-not-are_all.true (all.0, all.1 ∙ ap (λ (infos : List TrackInfo). sum_by (λ (x : TrackInfo). x.bytes) infos) (sym c.tracks-tracks.ensures))
 
 pub returns-then-not-are_all-clause-work : goal.returns-then-not-are_all-clause-work
-returns-then-not-are_all-clause-work g c told tree o n may = all_written (g.S.Store.file c.args.store.now) tree c.args.movie.now c.loop-turn.self.walks.items n _ _ (c.loop-turn.invariant.within told tree o n may)
+returns-then-not-are_all-clause-work g c told tree o n may = rw c.in_default.ensures.passed (all_written (g.S.Store.file c.args.store.now) tree c.args.movie.now c.loop-turn.self.walks.items n _ _ (c.loop-turn.invariant.within told tree o n may))
 
 pub returns-clause-whole : goal.returns-clause-whole
 returns-clause-whole g c =
@@ -433,13 +433,15 @@ returns-clause-whole g c =
     c.flush.ensures.bytes
 
 pub returns-in_err-noted-clause-turns : goal.returns-in_err-noted-clause-turns
-returns-in_err-noted-clause-turns g c = looks_within c.loop-turn.schedule c.args.looks.now _ _ (movie_turns c.args.movie.now) c.loop-turn.invariant.looks c.in-Some.ensures.looks c.in-Some.ensures.track.1 c.loop-turn.invariant.some
+returns-in_err-noted-clause-turns g c = looks_within c.loop-turn.schedule c.args.steps.now.looks _ _ (movie_turns c.args.movie.now) c.loop-turn.invariant.looks (c.in_err-noted.ensures.looks ∙ c.in-Some.ensures.looks) c.in-Some.ensures.track.1 c.loop-turn.invariant.some
 
 pub returns-in_err-carry_turn-clause-turns : goal.returns-in_err-carry_turn-clause-turns
-returns-in_err-carry_turn-clause-turns g c = looks_within c.loop-turn.schedule c.args.looks.now _ _ (movie_turns c.args.movie.now) c.loop-turn.invariant.looks c.in-Some.ensures.looks c.in-Some.ensures.track.1 c.loop-turn.invariant.some
+returns-in_err-carry_turn-clause-turns g c = looks_within c.loop-turn.schedule c.args.steps.now.looks _ _ (movie_turns c.args.movie.now) c.loop-turn.invariant.looks
+    (c.in_err-carry_turn.ensures.looks ∙ c.in_ok-noted.ensures.looks ∙ c.in-Some.ensures.looks) c.in-Some.ensures.track.1 c.loop-turn.invariant.some
 
 pub returns-in_err-pass-clause-turns : goal.returns-in_err-pass-clause-turns
-returns-in_err-pass-clause-turns g c = looks_within c.loop-turn.schedule c.args.looks.now _ _ (movie_turns c.args.movie.now) c.loop-turn.invariant.looks c.in-Some.ensures.looks c.in-Some.ensures.track.1 c.loop-turn.invariant.some
+returns-in_err-pass-clause-turns g c = looks_within c.loop-turn.schedule c.args.steps.now.looks _ _ (movie_turns c.args.movie.now) c.loop-turn.invariant.looks
+    (c.in_ok-carry_turn.ensures.looks ∙ c.in_ok-noted.ensures.looks ∙ c.in-Some.ensures.looks) c.in-Some.ensures.track.1 c.loop-turn.invariant.some
 
 pub returns-then-not-are_all-clause-turns : goal.returns-then-not-are_all-clause-turns
 returns-then-not-are_all-clause-turns g c =

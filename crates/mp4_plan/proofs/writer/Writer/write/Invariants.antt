@@ -33,11 +33,11 @@ invariant-loop-turn g l = record {
       (λ file tree. IsReady file tree l.movie l.fn.self
       → WritesOn l.fn.self.reductions.leaving file tree l.movie l.schedule l.sequence l.bytes l.self.walks.items l.self.nexts.items (length l.self.notes.rows.items) (g.K.Sink.takes l.fn.sink l.sink) (waiting l.self.carrier));
   within : OverOpened g.S.Store l.fn.store l.movie
-      (λ file tree. (n : ℕ) → MayAllWrite file tree l.movie l.fn.self.walks.items n → AllWriteOn file tree l.movie n l.self.walks.items l.fn.steps l.steps);
+      (λ file tree. (n : ℕ) → MayAllWrite file tree l.movie l.fn.self.walks.items n → AllWriteOn file tree l.movie n l.self.walks.items l.fn.steps.passed l.steps.passed);
   due : OverOpened g.S.Store l.fn.store l.movie (λ file tree. IsReady file tree l.movie l.fn.self → IsDueAt (infos_left l.fn.self.reductions.leaving l.movie.tracks) l.self.nexts.items l.schedule l.self.due);
   some : IsSomeLeft l.schedule;
-  looks : l.looks + turns_left l.schedule ≤ l.fn.looks + movie_turns l.movie;
-  grows : l.fn.steps ≤ l.steps;
+  looks : l.steps.looks + turns_left l.schedule ≤ l.fn.steps.looks + movie_turns l.movie;
+  grows : l.fn.steps.passed ≤ l.steps.passed;
 }
 
 abbrev pub decreases-loop-turn : goal.decreases-loop-turn

@@ -7,4 +7,4 @@ pub returns-in-CountMismatch-clause-finds : goal.returns-in-CountMismatch-clause
 returns-in-CountMismatch-clause-finds g c =
     let a = c.args.sought in
     let moof = moof_read a.reached.moof a.bytes.now in
-    some_so (IsPlain a.file.len) (FindsIn a.file.len moof c.args.states.now a.reached.room a.place) c.counts_in_fragment.result (λ n f. finds_plain a.file.len moof c.args.states.now a.reached.room a.place n f) (c.counts_in_fragment.ensures a.file.len)
+    some_so (IsPlain a.file_len) (FindsIn a.file_len moof c.args.states.now a.reached.room a.place) c.counts_in_fragment.result (λ n f. finds_plain a.file_len moof c.args.states.now a.reached.room a.place n f) (c.counts_in_fragment.ensures a.file_len)

@@ -2,7 +2,7 @@ use Rattle.std.proofs.Common.{◌≡◌, ◌∙◌, rules, min, length, refl}
 use Rattle.std.specs.Prelude.{IsTrue}
 use Rattle.std.proofs.lemmas.Result.{err_from_is_err_and}
 use Rattle.mp4_boxes.specs.words.View.{box_seen}
-use Rattle.mp4_present.proofs.FaultGaps.{not_read, meets, not_searched, left_before}
+use Rattle.mp4_present.proofs.FaultGaps.{not_read, left_before}
 use Rattle.mp4_present.proofs.FragmentPass.{left_first, left_next, next_moof, next_whole, stands_behind, top_at}
 use Rattle.mp4_present.proofs.LooksCounted.{none_looked, all_looked, looks_before, next_looks, refused_looks}
 use Rattle.mp4_present.proofs.MoofBytes.{none_fit, next_fits, all_fit, refused_fits}
@@ -20,6 +20,8 @@ loop-top-init g c =
         reads = refl;
         states = search rules;
         ids = refl;
+        places = c.requires.places;
+        knows = λ ids h. h;
         few = search rules;
         longest = search rules;
         whole = rw c.deref-top-items.ensures.value c.requires.whole;
@@ -52,8 +54,8 @@ returns-in_err-len-clause-refusal g c =
     (λ told. let l = i.left told in rw i.longest (left_next file _ _ top l whole.0 ((coming told).0 l.boxes l.are_from)).short)
     (rw i.reads at c.in_err-len.ensures.refusal))
 
-pub returns-in_err-check_moof-clause-work : goal.returns-in_err-check_moof-clause-work
-returns-in_err-check_moof-clause-work g c =
+pub returns-in_err-check_moof_by-clause-work : goal.returns-in_err-check_moof_by-clause-work
+returns-in_err-check_moof_by-clause-work g c =
     let at = c.loop-top.invariant.0 in
     let i = c.loop-top.invariant.1 in
     let file = g.S.Store.file c.args.store.now in
@@ -72,15 +74,10 @@ returns-in_err-check_moof-clause-work g c =
       of_bytes = c.in_ok-len.ensures.room;
     } in
     record {
-      steps = refused_fits file at top whole.0 (let l = i.left told in stands_behind file at top l.boxes ((coming told).0 l.boxes l.are_from)) (box_seen c.view-moof.result) c.read_payload.new.room c.in_ok-len.len r _ _ _ _ c.check_moof.ensures.work.most (i.fit told);
+      steps = refused_fits file at top whole.0 (let l = i.left told in stands_behind file at top l.boxes ((coming told).0 l.boxes l.are_from)) (box_seen c.view-moof.result) c.read_payload.new.room c.in_ok-len.len r _ _ _ _ c.check_moof_by.ensures.work.most (i.fit told);
       looks = refused_looks file at top whole.0 (let l = i.left told in stands_behind file at top l.boxes ((coming told).0 l.boxes l.are_from)) (box_seen c.view-moof.result) c.read_payload.new.room c.in_ok-len.len r
-          (min 1 (length c.args.states.now)) _ _ _ (rw many at c.check_moof.ensures.looks.most) (i.looks told);
+          (min 1 (length c.args.states.now)) _ _ _ (rw many at c.check_moof_by.ensures.looks.most) (i.looks told);
     }
-
-pub returns-in_err-check_moof-clause-refusal : goal.returns-in_err-check_moof-clause-refusal
-returns-in_err-check_moof-clause-refusal g c =
-    let p = err_from_is_err_and c.from_residual-in_err-check_moof.result c.from_residual-in_err-check_moof.ensures.1 in
-    rw (p.1, p.2) (not_searched (g.S.Store.is_honest c.args.store.now) _ _ c.in_err-check_moof.field-0.0 (meets _ c.in_err-check_moof.field-0.0 c.in_err-check_moof.ensures.refusal))
 
 pub loop-top-preserved : goal.loop-top-preserved
 loop-top-preserved g c =
@@ -99,7 +96,9 @@ loop-top-preserved g c =
         file = search rules;
         reads = search rules;
         states = search rules;
-        ids = c.in_ok-check_moof.ensures.accepted.kept.ids ∙ i.ids;
+        ids = c.in_ok-check_moof_by.ensures.accepted.kept.ids ∙ i.ids;
+        places = rw c.in_ok-check_moof_by.ensures.accepted.kept.ids (c.check_moof_by.ensures.knows _ i.places);
+        knows = λ ids h. c.check_moof_by.ensures.knows ids (i.knows ids h);
         few = search rules;
         longest = search rules;
         whole = whole.1;
@@ -116,7 +115,7 @@ loop-top-preserved g c =
             } in
             next_passed file movie boxes at c.args.search.outline.now.longest c.args.states.now c.loop-top.states c.args.search.room c.loop-top.room b u top whole.0 ((coming told).0 u.left.boxes u.left.are_from)
             (box_seen c.view-moof.result) c.read_payload.new.room c.in_ok-len.len c.len-file_len.result r c.len-file_len.ensures
-            c.check_moof.new.tracks c.check_moof.new.room c.in_ok-check_moof.ensures.sound c.in_ok-check_moof.ensures.moved;
+            c.check_moof_by.new.tracks c.check_moof_by.new.room c.in_ok-check_moof_by.ensures.sound c.in_ok-check_moof_by.ensures.moved;
         looks = λ told.
             let r : IsRead file top (box_seen c.view-moof.result) c.read_payload.new.room c.in_ok-len.len = record {
               is = c.view-moof.ensures;
@@ -126,7 +125,7 @@ loop-top-preserved g c =
               of_bytes = c.in_ok-len.ensures.room;
             } in
             next_looks file at top whole.0 (let l = i.left told in stands_behind file at top l.boxes ((coming told).0 l.boxes l.are_from)) (box_seen c.view-moof.result) c.read_payload.new.room c.in_ok-len.len r
-            (min 1 (length c.args.states.now)) _ _ _ (rw many at c.check_moof.ensures.looks.most) (i.looks told);
+            (min 1 (length c.args.states.now)) _ _ _ (rw many at c.check_moof_by.ensures.looks.most) (i.looks told);
         fit = λ told.
             let r : IsRead file top (box_seen c.view-moof.result) c.read_payload.new.room c.in_ok-len.len = record {
               is = c.view-moof.ensures;
@@ -135,7 +134,7 @@ loop-top-preserved g c =
               read = (rw (i.honesty, i.file) at c.in_ok-len.ensures.bytes) told;
               of_bytes = c.in_ok-len.ensures.room;
             } in
-            next_fits file at top whole.0 (let l = i.left told in stands_behind file at top l.boxes ((coming told).0 l.boxes l.are_from)) (box_seen c.view-moof.result) c.read_payload.new.room c.in_ok-len.len r _ _ _ _ _ c.in_ok-check_moof.ensures.work.within (i.fit told);
+            next_fits file at top whole.0 (let l = i.left told in stands_behind file at top l.boxes ((coming told).0 l.boxes l.are_from)) (box_seen c.view-moof.result) c.read_payload.new.room c.in_ok-len.len r _ _ _ _ _ c.in_ok-check_moof_by.ensures.work.within (i.fit told);
       },
     )
 
@@ -177,6 +176,3 @@ returns-then-place-top-clause-next g c =
       left = left_before _ _ _ _ _ _ (let l = i.left told in stands_behind file at top l.boxes ((coming told).0 l.boxes l.are_from)) (i.fit told);
       looked = looks_before _ _ _ _ _ _ (let l = i.left told in stands_behind file at top l.boxes ((coming told).0 l.boxes l.are_from)) (i.looks told);
     }
-
-pub check_moof-requires-clause-places : goal.check_moof-requires-clause-places
-check_moof-requires-clause-places g c = rw c.loop-top.invariant.1.ids c.requires.places

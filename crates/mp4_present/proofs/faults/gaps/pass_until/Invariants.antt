@@ -2,6 +2,7 @@ use Rattle.std.proofs.Common.{◌≡◌, ◌^◌, ◌≤◌, List, min, length, 
 use Rattle.std.specs.List.{AllByRecursion}
 use Rattle.mp4_present.specs.words.Movies.{IsWhole}
 use Rattle.mp4_present.specs.words.Outline.{AreMoofsFrom}
+use Rattle.mp4_present.specs.words.TrackPlaces.{ArePlacesOf}
 use Rattle.std.specs.Prelude.{IsTrue}
 use Rattle.mp4_boxes.specs.format.Box.{Box}
 use Rattle.mp4_frag.specs.words.Noted.{ids_of}
@@ -23,12 +24,14 @@ invariant-loop-top g l =
       reads : g.S.Store.read_failures l.store ≡ g.S.Store.read_failures l.fn.store;
       states : HaveRoom l.room l.states;
       ids : ids_of l.states ≡ ids_of l.fn.states;
+      places : ArePlacesOf (ids_of l.states) l.tracks.places;
+      knows : (ids : List ℕ) → ArePlacesOf ids l.fn.tracks.places → ArePlacesOf ids l.tracks.places;
       few : l.room ≤ 2 ^ 24;
       longest : length l.bytes ≡ l.search.outline.now.longest;
       whole : AllByRecursion (IsWhole (length (g.S.Store.file l.fn.store))) (drop l.top-index l.top-items);
       to_come : IsTrue (g.S.Store.is_honest l.fn.store) → AreMoofsFrom (g.S.Store.file l.fn.store) next (drop l.top-index l.top-items);
       left : IsTrue (g.S.Store.is_honest l.fn.store) → Left (g.S.Store.file l.fn.store) next l.search.outline.now.longest;
       so : IsTrue (g.S.Store.is_honest l.fn.store) → (movie : MovieTree) (boxes : List Box) → IsBegun (g.S.Store.file l.fn.store) movie boxes l.fn.states l.fn.search.room → IsUnderWay (g.S.Store.file l.fn.store) movie boxes next l.search.outline.now.longest l.states l.room;
-      looks : IsTrue (g.S.Store.is_honest l.fn.store) → LooksFit (length (g.S.Store.file l.fn.store)) next (min 1 (length l.fn.states)) l.fn.looks l.looks;
-      fit : IsTrue (g.S.Store.is_honest l.fn.store) → MoofsFit (length (g.S.Store.file l.fn.store)) next l.room l.fn.steps l.steps;
+      looks : IsTrue (g.S.Store.is_honest l.fn.store) → LooksFit (length (g.S.Store.file l.fn.store)) next (min 1 (length l.fn.states)) l.fn.steps.looks l.steps.looks;
+      fit : IsTrue (g.S.Store.is_honest l.fn.store) → MoofsFit (length (g.S.Store.file l.fn.store)) next l.room l.fn.steps.passed l.steps.passed;
     }

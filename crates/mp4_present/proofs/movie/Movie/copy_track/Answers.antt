@@ -78,6 +78,7 @@ loop-carrier-init g c =
           subst (λ (i : TrackInfo). (c.in_ok-left.left ≤ i.bytes) × GoOnBy (g.K.Sink.takes c.args.sink.now c.carry_hand.new.sink) [] (waiting c.carry_hand.new.carrier) (i.bytes - c.in_ok-left.left)) (same_info info other (sym info_at ∙ at))
           (rw c.in_ok-carrier.ensures.empty at e.taken.left.many);
       grows = e.grows;
+      looks = c.carry_hand.ensures.looks;
       takes = λ told tree t o is.
           let may = c.in_ok-walk.ensures.may file tree t o is in
           takes_within file tree t may.0 (walk_steps tree t) _ _ c.carry_hand.new.walk may.2 (e.work file tree t may.0 o may.1);
@@ -136,6 +137,7 @@ loop-carrier-preserved g c =
           let loaded = l.grows in
           let carried = e.grows in
           omega (arith, before, loaded, carried);
+      looks = c.carry_hand-in-loop-carrier.ensures.looks ∙ c.load.ensures.looks ∙ i.looks;
       takes = λ told tree t o is.
           let loads = takes_then file tree t (walk_steps tree t) _ _ _ c.loop-carrier.walk c.load.new.self (i.takes told tree t o is) (λ k may. (rw (i.honesty, i.file) at l.work) told tree t k o may) in
           takes_then file tree t (walk_steps tree t) _ _ _ c.load.new.self c.carry_hand-in-loop-carrier.new.walk loads (λ k may. e.work file tree t k o may);

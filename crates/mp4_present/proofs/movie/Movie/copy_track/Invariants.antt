@@ -23,9 +23,10 @@ invariant-loop-carrier g l =
       going : IsTrue (g.S.Store.is_honest l.fn.store) → (tree : FileTree) (t : TrackTree) → IsOpenedAs (g.S.Store.file l.fn.store) l.self tree → slice_get tree.movie.tracks l.track ≡ Some t
           → TrackGoesOn (g.S.Store.file l.fn.store) tree t (g.K.Sink.takes l.fn.sink l.sink) (waiting l.carrier) l.walk (track_samples tree t) l.left;
       many : (info : TrackInfo) → slice_get l.self.tracks l.track ≡ Some info → (l.left ≤ info.bytes) × GoOnBy (g.K.Sink.takes l.fn.sink l.sink) [] (waiting l.carrier) (info.bytes - l.left);
-      grows : l.fn.steps ≤ l.steps;
+      grows : l.fn.steps.passed ≤ l.steps.passed;
+      looks : l.steps.looks ≡ l.fn.steps.looks;
       takes : IsTrue (g.S.Store.is_honest l.fn.store) → (tree : FileTree) (t : TrackTree) → IsOpenedAs (g.S.Store.file l.fn.store) l.self tree → slice_get tree.movie.tracks l.track ≡ Some t
-          → TakesOn (g.S.Store.file l.fn.store) tree t (walk_steps tree t) l.walk l.fn.steps l.steps;
+          → TakesOn (g.S.Store.file l.fn.store) tree t (walk_steps tree t) l.walk l.fn.steps.passed l.steps.passed;
     }
 
 abbrev pub decreases-loop-carrier : goal.decreases-loop-carrier

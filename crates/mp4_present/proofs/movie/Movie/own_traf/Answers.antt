@@ -1,5 +1,6 @@
 use Rattle.std.proofs.Common.{arith, ◌≡◌, ◌<◌, ◌∙◌, length, sym, ap, slice_get, Some}
-use Rattle.mp4_frag.specs.words.OwnTrafs.{OwnSeen, own_seen}
+use Rattle.mp4_frag.specs.words.OwnTrafs.{OwnSeen}
+use Rattle.mp4_present.specs.words.OwnTrafs.{own_seen}
 use Rattle.mp4_present.specs.words.Movies.{MovieSeen}
 use Rattle.mp4_present.proofs.OwnPlaced.{got, got_mapped, length_mapped}
 use Rattle.mp4_present.proofs.movie.Movie.own_traf.Goals as goal

@@ -1,6 +1,6 @@
 use Rattle.std.proofs.Common.{arith, min, ◌≡◌, ◌<◌, ◌∙◌, length, sym, ap, slice_get, Some}
 use Rattle.mp4_present.specs.words.Movies.{MovieSeen, own_room, room_of}
-use Rattle.mp4_frag.specs.words.OwnTrafs.{own_seen}
+use Rattle.mp4_present.specs.words.OwnTrafs.{own_seen}
 use Rattle.mp4_present.proofs.OwnPlaced.{got, got_mapped, length_mapped}
 use Rattle.mp4_present.proofs.movie.Movie.room_for.Goals as goal
 

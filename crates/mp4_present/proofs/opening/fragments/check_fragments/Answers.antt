@@ -1,9 +1,7 @@
-use Rattle.std.proofs.Common.{rules, List, take, drop, map, ◌++◌, ◌≡◌, ◌∙◌, length, ap, subst}
+use Rattle.std.proofs.Common.{rules, List, take, drop, map, ◌++◌, ◌≡◌, ◌∙◌, length, subst}
 use Rattle.std.proofs.lemmas.Simd.{splat_is_map}
-use Rattle.mp4_frag.specs.declared.next_traf.OwnTrafs.{OwnTrafs}
-use Rattle.mp4_frag.specs.words.OwnTrafs.{own_seen}
+use Rattle.mp4_present.specs.words.OwnTrafs.{own_seen, AreOwnBehind, none_noted}
 use Rattle.mp4_frag.specs.declared.state.TrackState.{TrackState}
-use Rattle.mp4_present.specs.words.OwnTrafs.{AreOwnBehind, none_noted}
 use Rattle.mp4_present.specs.words.PassedMoofs.{IsBegun}
 use Rattle.mp4_present.proofs.MoofBytes.{written_back}
 use Rattle.std.proofs.lemmas.Result.{err_from_is_err_and}
@@ -16,22 +14,18 @@ returns-clause-own g c =
     let states = c.pass_fragments.new.states in
     let many : length states ≡ s0.len = search rules in
     let s : states ≡ take s0.len (states ++ drop (length states) s0.items) = written_back states _ s0.len many in
-    let o0 = c.begin_own.new.own in
-    let owns = c.pass_fragments.new.own in
-    let long : length owns ≡ o0.len = search rules in
-    let o : owns ≡ take o0.len (owns ++ drop (length owns) o0.items) = written_back owns _ o0.len long in
     let start = c.as_mut_slice-all.result.now in
     let old : c.args.known.plain.now.states.items ≡ start = search rules in
-    let own : c.as_mut_slice-own.result.now ≡ o0.items = search rules in
-    let each : length start ≡ c.len.result = search rules in
-    let first : map own_seen c.as_mut_slice-own.result.now ≡ map (λ _. none_noted) start = ap (map own_seen) own ∙ c.in_ok-begin_own.ensures ∙ splat_is_map start c.len.result none_noted each in
+    let noted = c.in_ok-tracks.tracks.own.items in
+    let each : length start ≡ length c.as_slice-2.result.now = search rules in
+    let first : map own_seen noted ≡ map (λ _. none_noted) start = c.in_ok-tracks.ensures.own ∙ splat_is_map start (length c.as_slice-2.result.now) none_noted each in
+    let owns = c.pass_fragments.new.tracks.own.items in
     let room = c.args.known.plain.now.room in
     λ told movie boxes b.
     let file = g.S.Store.file c.args.store.now in
     let begun : IsBegun file movie boxes start room = subst (λ (xs : List TrackState). IsBegun file movie boxes xs room) old b in
     let noted = c.in_ok-pass_fragments.ensures.own told first movie boxes begun in
-    subst (λ (os : List OwnTrafs). AreOwnBehind file movie boxes (take s0.len (states ++ drop (length states) s0.items)) (map own_seen os)) o
-    (subst (λ (xs : List TrackState). AreOwnBehind file movie boxes xs (map own_seen owns)) s noted)
+    subst (λ (xs : List TrackState). AreOwnBehind file movie boxes xs (map own_seen owns)) s noted
 
 pub returns-clause-exact : goal.returns-clause-exact
 returns-clause-exact g c =

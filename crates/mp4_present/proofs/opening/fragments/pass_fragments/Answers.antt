@@ -1,22 +1,23 @@
 use Rattle.std.proofs.Common.{◌≡◌, rules, min, length, map, refl, sym, ◌∙◌}
-use Rattle.std.specs.Prelude.{ℤ, IsTrue, codes}
+use Rattle.std.specs.Prelude.{IsTrue, codes}
 use Rattle.mp4_boxes.specs.format.Children.{of_kind}
-use Rattle.mp4_frag.specs.words.TrafTests.{MoofFirst}
 use Rattle.std.proofs.lemmas.Result.{err_from_is_err_and}
 use Rattle.mp4_present.proofs.FragmentPass.{last_moof, left_first, left_next, next_moof, next_whole, stands_behind, top_at}
-use Rattle.mp4_frag.specs.words.OwnTrafs.{own_seen}
+use Rattle.mp4_present.specs.words.OwnTrafs.{own_seen}
 use Rattle.mp4_present.proofs.TrafsNoted.{owns_first, owns_next, all_noted}
-use Rattle.mp4_present.proofs.FaultGaps.{not_read, meets, not_searched}
+use Rattle.mp4_present.proofs.FaultGaps.{not_read}
 use Rattle.mp4_present.proofs.MoofsPassed.{IsRead, under_way_first, all_passed, next_passed}
-use Rattle.mp4_present.proofs.MoofsJudged.{judged_first, judged_next, judged_refused, all_judged, refused_judged, unread_judged}
+use Rattle.mp4_present.proofs.MoofsJudged.{judged_first, judged_next, judged_refused, all_judged, unread_judged}
 use Rattle.mp4_boxes.specs.words.View.{box_seen}
-use Rattle.mp4_present.proofs.ChecksCounted.{steps_first, next_checked, next_stopped, stopped_steps, if_stopped, checks_all, checks_done}
+use Rattle.mp4_present.proofs.ChecksCounted.{steps_first, next_checked, checks_all, checks_done}
+use Rattle.mp4_present.proofs.NotedTracks.{told_both}
+use Rattle.std.proofs.lemmas.List.{length-map}
+use Rattle.mp4_frag.specs.words.Judged.{tree_of}
+use Rattle.mp4_frag.specs.words.OwnTrafs.{noted_in}
 use Rattle.mp4_present.proofs.WalkWork.{checked_all}
 use Rattle.mp4_present.proofs.LooksCounted.{looks_first, looks_done, next_looked, none_looked, all_looked, next_looks, refused_looks}
 use Rattle.mp4_present.proofs.MoofBytes.{none_fit, next_fits, all_fit, refused_fits}
 use Rattle.mp4_present.proofs.TablesWork.{if_no_fault}
-use Rattle.mp4_present.specs.words.ToOpen.{LooksWithin}
-use Rattle.mp4_present.specs.words.WalkSteps.{ChecksWithin}
 use Rattle.mp4_present.proofs.opening.fragments.pass_fragments.Goals as goal
 
 pub loop-top-init : goal.loop-top-init
@@ -37,8 +38,10 @@ loop-top-init g c =
         so = λ told movie boxes b. let o = c.requires.outline told in under_way_first file movie boxes o.0 outline c.args.states.now c.args.start.room o.1 o.3 b;
         first = λ told movie boxes b. let o = c.requires.outline told in judged_first file movie boxes o.0 outline c.args.states.now c.args.start.room o.1 o.3 b;
         each = c.requires.rooms.1;
+        told = c.requires.tracks.1;
         ids = refl;
-        own = λ told movie boxes b own. let o = c.requires.outline told in owns_first file movie boxes o.0 outline c.args.states.now c.args.start.room (map own_seen c.args.own.now) o.1 o.3 b own;
+        places = c.requires.tracks.0;
+        own = λ told movie boxes b own. let o = c.requires.outline told in owns_first file movie boxes o.0 outline c.args.states.now c.args.start.room (map own_seen c.args.tracks.now.own.items) o.1 o.3 b own;
         work = λ told. steps_first file _;
         looked = λ told. looks_first file _ _;
         looks = λ told. none_looked _ _ _ _;
@@ -71,7 +74,9 @@ loop-top-preserved g c =
     let top = top_at items k in
     let whole = next_whole items k c.loop-top-test.true (length file) i.whole in
     let coming = λ (told : IsTrue (g.S.Store.is_honest c.args.store.now)). next_moof items k c.loop-top-test.true file at (i.to_come told) in
-    let many : length c.loop-top.states ≡ length c.args.states.now = search rules in (
+    let many : length c.loop-top.states ≡ length c.args.states.now = search rules in
+    let same = told_both c.loop-top.tracks c.check_moof_by.new.tracking (λ owns now. length now ≡ length owns) i.told c.if-tracks.false c.in_ok-check_moof_by.ensures.each in
+    let each = sym (length-map c.check_moof_by.new.tracking.own.items own_seen) ∙ same ∙ length-map c.loop-top.tracks.own.items own_seen ∙ i.each in (
       top.header.end,
       record {
         honesty = search rules;
@@ -94,7 +99,7 @@ loop-top-preserved g c =
             } in
             next_passed file movie boxes at c.args.start.outline.now.longest c.args.states.now c.loop-top.states c.args.start.room c.loop-top.room b u top whole.0 ((coming told).0 u.left.boxes u.left.are_from)
             (box_seen c.view-moof.result) c.read_payload.new.room c.in_ok-len.len c.len-file_len.result r c.len-file_len.ensures
-            c.check_moof.new.tracks c.check_moof.new.room c.in_ok-check_moof.ensures.sound c.in_ok-check_moof.ensures.moved;
+            c.check_moof_by.new.tracks c.check_moof_by.new.room c.in_ok-check_moof_by.ensures.sound c.in_ok-check_moof_by.ensures.moved;
         first = λ told movie boxes b.
             let u = i.first told movie boxes b in
             let r : IsRead file top (box_seen c.view-moof.result) c.read_payload.new.room c.in_ok-len.len = record {
@@ -106,9 +111,11 @@ loop-top-preserved g c =
             } in
             judged_next file movie boxes at c.args.start.outline.now.longest c.args.states.now c.loop-top.states c.args.start.room c.loop-top.room b u top whole.0 ((coming told).0 u.0.left.boxes u.0.left.are_from)
             (box_seen c.view-moof.result) c.read_payload.new.room c.in_ok-len.len c.len-file_len.result r c.len-file_len.ensures
-            c.check_moof.new.tracks c.check_moof.new.room c.in_ok-check_moof.ensures.sound c.in_ok-check_moof.ensures.moved c.in_ok-check_moof.ensures.exact.names;
-        each = search rules;
-        ids = c.in_ok-check_moof.ensures.accepted.kept.ids ∙ i.ids;
+            c.check_moof_by.new.tracks c.check_moof_by.new.room c.in_ok-check_moof_by.ensures.sound c.in_ok-check_moof_by.ensures.moved c.in_ok-check_moof_by.ensures.exact.names;
+        each = each;
+        told = c.if-tracks.false;
+        ids = c.in_ok-check_moof_by.ensures.accepted.kept.ids ∙ i.ids;
+        places = rw c.in_ok-check_moof_by.ensures.accepted.kept.ids (c.check_moof_by.ensures.knows _ i.places);
         own = λ told movie boxes b own.
             let u = i.own told movie boxes b own in
             let r : IsRead file top (box_seen c.view-moof.result) c.read_payload.new.room c.in_ok-len.len = record {
@@ -118,10 +125,11 @@ loop-top-preserved g c =
               read = (rw (i.honesty, i.file) at c.in_ok-len.ensures.bytes) told;
               of_bytes = c.in_ok-len.ensures.room;
             } in
-            owns_next file movie boxes at c.args.start.outline.now.longest c.args.states.now c.loop-top.states c.args.start.room c.loop-top.room (map own_seen c.loop-top.own) b u top whole.0 ((coming told).0 u.0.left.boxes u.0.left.are_from)
+            owns_next file movie boxes at c.args.start.outline.now.longest c.args.states.now c.loop-top.states c.args.start.room c.loop-top.room (map own_seen c.loop-top.tracks.own.items) b u top whole.0 ((coming told).0 u.0.left.boxes u.0.left.are_from)
             (box_seen c.view-moof.result) c.read_payload.new.room c.in_ok-len.len c.len-file_len.result r c.len-file_len.ensures
-            c.check_moof.new.tracks c.check_moof.new.room (map own_seen c.check_moof.new.own) c.in_ok-check_moof.ensures.sound c.in_ok-check_moof.ensures.moved
-            (λ trexes defaults apart. c.in_ok-check_moof.ensures.own trexes defaults apart (i.each ∙ sym many));
+            c.check_moof_by.new.tracks c.check_moof_by.new.room (map own_seen c.check_moof_by.new.tracking.own.items) c.in_ok-check_moof_by.ensures.sound c.in_ok-check_moof_by.ensures.moved
+            (λ trexes defaults apart. told_both c.loop-top.tracks c.check_moof_by.new.tracking (λ owns now. length owns ≡ length c.loop-top.states → now ≡ noted_in trexes (tree_of (box_seen c.view-moof.result)) c.loop-top.states owns) i.told c.if-tracks.false
+            (c.in_ok-check_moof_by.ensures.own trexes defaults apart) (length-map c.loop-top.tracks.own.items own_seen ∙ i.each ∙ sym many));
         work = λ told all h.
             let u = i.work told all h in
             let r : IsRead file top (box_seen c.view-moof.result) c.read_payload.new.room c.in_ok-len.len = record {
@@ -131,7 +139,7 @@ loop-top-preserved g c =
               read = (rw (i.honesty, i.file) at c.in_ok-len.ensures.bytes) told;
               of_bytes = c.in_ok-len.ensures.room;
             } in
-            let e = c.in_ok-check_moof.ensures in
+            let e = c.in_ok-check_moof_by.ensures in
             next_checked file at top all whole.0 u.0 u.1.0 ((coming told).0 u.0 u.1.0) (box_seen c.view-moof.result) c.read_payload.new.room c.in_ok-len.len r
             _ _ _ (checked_all _ _ _ _ _ _ _ (box_seen c.view-moof.result) refl e.moved e.work.cost) u.1.1;
         looked = λ told all h.
@@ -144,7 +152,7 @@ loop-top-preserved g c =
               of_bytes = c.in_ok-len.ensures.room;
             } in
             next_looked file at top all whole.0 u.0 u.1.0 ((coming told).0 u.0 u.1.0) (box_seen c.view-moof.result) c.read_payload.new.room c.in_ok-len.len r
-            (min 1 (length c.args.states.now)) _ _ _ (rw many at c.in_ok-check_moof.ensures.looks.each) u.1.1;
+            (min 1 (length c.args.states.now)) _ _ _ (rw many at c.in_ok-check_moof_by.ensures.looks.each) u.1.1;
         looks = λ told.
             let r : IsRead file top (box_seen c.view-moof.result) c.read_payload.new.room c.in_ok-len.len = record {
               is = c.view-moof.ensures;
@@ -154,7 +162,7 @@ loop-top-preserved g c =
               of_bytes = c.in_ok-len.ensures.room;
             } in
             next_looks file at top whole.0 (let l = i.left told in stands_behind file at top l.boxes ((coming told).0 l.boxes l.are_from)) (box_seen c.view-moof.result) c.read_payload.new.room c.in_ok-len.len r
-            (min 1 (length c.args.states.now)) _ _ _ (rw many at c.check_moof.ensures.looks.most) (i.looks told);
+            (min 1 (length c.args.states.now)) _ _ _ (rw many at c.check_moof_by.ensures.looks.most) (i.looks told);
         fit = λ told.
             let r : IsRead file top (box_seen c.view-moof.result) c.read_payload.new.room c.in_ok-len.len = record {
               is = c.view-moof.ensures;
@@ -163,14 +171,9 @@ loop-top-preserved g c =
               read = (rw (i.honesty, i.file) at c.in_ok-len.ensures.bytes) told;
               of_bytes = c.in_ok-len.ensures.room;
             } in
-            next_fits file at top whole.0 (let l = i.left told in stands_behind file at top l.boxes ((coming told).0 l.boxes l.are_from)) (box_seen c.view-moof.result) c.read_payload.new.room c.in_ok-len.len r _ _ _ _ _ c.in_ok-check_moof.ensures.work.within (i.fit told);
+            next_fits file at top whole.0 (let l = i.left told in stands_behind file at top l.boxes ((coming told).0 l.boxes l.are_from)) (box_seen c.view-moof.result) c.read_payload.new.room c.in_ok-len.len r _ _ _ _ _ c.in_ok-check_moof_by.ensures.work.within (i.fit told);
       },
     )
-
-pub returns-in_err-check_moof-clause-refusal : goal.returns-in_err-check_moof-clause-refusal
-returns-in_err-check_moof-clause-refusal g c =
-    let p = err_from_is_err_and c.from_residual-in_err-check_moof.result c.from_residual-in_err-check_moof.ensures.1 in
-    rw (p.1, p.2) (not_searched (g.S.Store.is_honest c.args.store.now) _ _ c.in_err-check_moof.field-0.0 (meets _ c.in_err-check_moof.field-0.0 c.in_err-check_moof.ensures.refusal))
 
 pub returns-clause-passed : goal.returns-clause-passed
 returns-clause-passed g c = λ told movie boxes b.
@@ -186,7 +189,7 @@ returns-clause-own g c = λ told own movie boxes b.
     let i = c.loop-top.invariant.1 in
     let u = i.own told movie boxes b own in
     let file = g.S.Store.file c.args.store.now in
-    all_noted file movie boxes at c.args.start.outline.now.longest c.loop-top.states c.loop-top.room (map own_seen c.loop-top.own) u (last_moof file at c.deref-top-items.result.now c.loop-top.top-index c.loop-top-test.false (i.to_come told) u.0.left.boxes u.0.left.are_from)
+    all_noted file movie boxes at c.args.start.outline.now.longest c.loop-top.states c.loop-top.room (map own_seen c.loop-top.tracks.own.items) u (last_moof file at c.deref-top-items.result.now c.loop-top.top-index c.loop-top-test.false (i.to_come told) u.0.left.boxes u.0.left.are_from)
 
 pub returns-clause-work : goal.returns-clause-work
 returns-clause-work g c =
@@ -210,9 +213,9 @@ returns-in_err-len-clause-work g c =
       looks = record { said = if_no_fault _ _ (looks_done _ _ _ _ _ (c.loop-top.invariant.1.looked told)); within = all_looked _ _ _ _ _ (c.loop-top.invariant.1.looks told) };
     }
 
-pub returns-in_err-check_moof-clause-work : goal.returns-in_err-check_moof-clause-work
-returns-in_err-check_moof-clause-work g c =
-    let p = err_from_is_err_and c.from_residual-in_err-check_moof.result c.from_residual-in_err-check_moof.ensures.1 in
+pub returns-in_err-check_moof_by-clause-work : goal.returns-in_err-check_moof_by-clause-work
+returns-in_err-check_moof_by-clause-work g c =
+    let p = err_from_is_err_and c.from_residual-in_err-check_moof_by.result c.from_residual-in_err-check_moof_by.ensures.1 in
     let at = c.loop-top.invariant.0 in
     let i = c.loop-top.invariant.1 in
     let file = g.S.Store.file c.args.store.now in
@@ -223,8 +226,6 @@ returns-in_err-check_moof-clause-work g c =
     let coming = λ (told : IsTrue (g.S.Store.is_honest c.args.store.now)). next_moof items k c.loop-top-test.true file at (i.to_come told) in
     let many : length c.loop-top.states ≡ length c.args.states.now = search rules in
     let moof = box_seen c.view-moof.result in
-    let refused = c.in_err-check_moof.ensures.refusal in
-    let stops = c.in_err-check_moof.ensures.stops in
     rw (p.1, p.2) (λ told.
     let r : IsRead file top moof c.read_payload.new.room c.in_ok-len.len = record {
       is = c.view-moof.ensures;
@@ -233,24 +234,50 @@ returns-in_err-check_moof-clause-work g c =
       read = (rw (i.honesty, i.file) at c.in_ok-len.ensures.bytes) told;
       of_bytes = c.in_ok-len.ensures.room;
     } in
+    let stands = let l = i.left told in stands_behind file at top l.boxes ((coming told).0 l.boxes l.are_from) in
     record {
-      work = if_stopped ℤ (Unit {0}) (ChecksWithin file _ _) _ _ _ refused stops (λ s all h.
-          let u = i.work told all h in
-          next_stopped file at top all whole.0 u.0 u.1.0 ((coming told).0 u.0 u.1.0) moof c.read_payload.new.room c.in_ok-len.len r
-          _ _ _ (stopped_steps moof _ _ s.checked) u.1.1);
-      within = refused_fits file at top whole.0 (let l = i.left told in stands_behind file at top l.boxes ((coming told).0 l.boxes l.are_from)) moof c.read_payload.new.room c.in_ok-len.len r _ _ _ _ c.check_moof.ensures.work.most (i.fit told);
+      work = tt;
+      within = refused_fits file at top whole.0 stands moof c.read_payload.new.room c.in_ok-len.len r _ _ _ _ c.check_moof_by.ensures.work.most (i.fit told);
       looks = record {
-        said = if_stopped ℤ (Unit {0}) (LooksWithin file _ _ _) _ _ _ refused stops (λ s. looks_done file top.header.end _ _ _ (λ all h.
-            let u = i.looked told all h in
-            next_looked file at top all whole.0 u.0 u.1.0 ((coming told).0 u.0 u.1.0) moof c.read_payload.new.room c.in_ok-len.len r
-            (min 1 (length c.args.states.now)) _ _ _ (rw many at s.looked) u.1.1));
-        within = refused_looks file at top whole.0 (let l = i.left told in stands_behind file at top l.boxes ((coming told).0 l.boxes l.are_from)) moof c.read_payload.new.room c.in_ok-len.len r
-            (min 1 (length c.args.states.now)) _ _ _ (rw many at c.check_moof.ensures.looks.most) (i.looks told);
+        said = tt;
+        within = refused_looks file at top whole.0 stands moof c.read_payload.new.room c.in_ok-len.len r (min 1 (length c.args.states.now)) _ _ _ (rw many at c.check_moof_by.ensures.looks.most) (i.looks told);
       };
     })
 
-pub check_moof-requires-clause-places : goal.check_moof-requires-clause-places
-check_moof-requires-clause-places g c = rw c.loop-top.invariant.1.ids c.requires.places
+pub returns-then-tracks-clause-work : goal.returns-then-tracks-clause-work
+returns-then-tracks-clause-work g c =
+    let at = c.loop-top.invariant.0 in
+    let i = c.loop-top.invariant.1 in
+    let file = g.S.Store.file c.args.store.now in
+    let items = c.deref-top-items.result.now in
+    let k = c.loop-top.top-index in
+    let top = top_at items k in
+    let whole = next_whole items k c.loop-top-test.true (length file) i.whole in
+    let coming = λ (told : IsTrue (g.S.Store.is_honest c.args.store.now)). next_moof items k c.loop-top-test.true file at (i.to_come told) in
+    let many : length c.loop-top.states ≡ length c.args.states.now = search rules in
+    let moof = box_seen c.view-moof.result in
+    let e = c.in_ok-check_moof_by.ensures in
+    λ told.
+    let r : IsRead file top moof c.read_payload.new.room c.in_ok-len.len = record {
+      is = c.view-moof.ensures;
+      fills = c.in_ok-len.ensures.fills.0;
+      within = c.in_ok-len.ensures.fills.1;
+      read = (rw (i.honesty, i.file) at c.in_ok-len.ensures.bytes) told;
+      of_bytes = c.in_ok-len.ensures.room;
+    } in
+    let stands = let l = i.left told in stands_behind file at top l.boxes ((coming told).0 l.boxes l.are_from) in
+    record {
+      work = checks_done file top.header.end _ _ (λ all h.
+          let u = i.work told all h in
+          next_checked file at top all whole.0 u.0 u.1.0 ((coming told).0 u.0 u.1.0) moof c.read_payload.new.room c.in_ok-len.len r _ _ _ (checked_all _ _ _ _ _ _ _ moof refl e.moved e.work.cost) u.1.1);
+      within = all_fit _ _ _ _ _ (next_fits file at top whole.0 stands moof c.read_payload.new.room c.in_ok-len.len r _ _ _ _ _ e.work.within (i.fit told));
+      looks = record {
+        said = looks_done file top.header.end _ _ _ (λ all h.
+            let u = i.looked told all h in
+            next_looked file at top all whole.0 u.0 u.1.0 ((coming told).0 u.0 u.1.0) moof c.read_payload.new.room c.in_ok-len.len r (min 1 (length c.args.states.now)) _ _ _ (rw many at e.looks.each) u.1.1);
+        within = all_looked _ _ _ _ _ (next_looks file at top whole.0 stands moof c.read_payload.new.room c.in_ok-len.len r (min 1 (length c.args.states.now)) _ _ _ (rw many at c.check_moof_by.ensures.looks.most) (i.looks told));
+      };
+    }
 
 pub returns-in_err-len-clause-exact : goal.returns-in_err-len-clause-exact
 returns-in_err-len-clause-exact g c =
@@ -261,9 +288,9 @@ returns-in_err-len-clause-exact g c =
           unread_judged file movie c.args.start.room (of_kind (codes "moof") boxes) _ (top_at c.deref-top-items.result.now c.loop-top.top-index) _ _ c.in_err-len.field-0.0 c.in_err-len.ensures.refusal;
     })
 
-pub returns-in_err-check_moof-clause-exact : goal.returns-in_err-check_moof-clause-exact
-returns-in_err-check_moof-clause-exact g c =
-    let p = err_from_is_err_and c.from_residual-in_err-check_moof.result c.from_residual-in_err-check_moof.ensures.1 in
+pub returns-in_err-check_moof_by-clause-exact : goal.returns-in_err-check_moof_by-clause-exact
+returns-in_err-check_moof_by-clause-exact g c =
+    let p = err_from_is_err_and c.from_residual-in_err-check_moof_by.result c.from_residual-in_err-check_moof_by.ensures.1 in
     let at = c.loop-top.invariant.0 in
     let i = c.loop-top.invariant.1 in
     let file = g.S.Store.file c.args.store.now in
@@ -282,10 +309,10 @@ returns-in_err-check_moof-clause-exact g c =
             read = (rw (i.honesty, i.file) at c.in_ok-len.ensures.bytes) told;
             of_bytes = c.in_ok-len.ensures.room;
           } in
-          refused_judged file movie c.args.start.room (of_kind (codes "moof") boxes) (MoofFirst c.len-file_len.result c.loop-top.states c.loop-top.room (box_seen c.view-moof.result)) c.in_err-check_moof.field-0.0
-          (judged_refused file movie boxes at c.args.start.outline.now.longest c.args.states.now c.loop-top.states c.args.start.room c.loop-top.room b u top whole.0 ((coming told).0 u.0.left.boxes u.0.left.are_from)
-          (box_seen c.view-moof.result) c.read_payload.new.room c.in_ok-len.len c.len-file_len.result r c.len-file_len.ensures)
-          c.in_err-check_moof.ensures.exact.names;
+          judged_refused file movie boxes at c.args.start.outline.now.longest c.args.states.now c.loop-top.states c.args.start.room c.loop-top.room b u top whole.0 ((coming told).0 u.0.left.boxes u.0.left.are_from)
+          (box_seen c.view-moof.result) c.read_payload.new.room c.in_ok-len.len c.len-file_len.result r c.len-file_len.ensures
+          c.in_err-check_moof_by.field-0.0
+          c.in_err-check_moof_by.ensures.exact.names;
     })
 
 pub returns-clause-exact : goal.returns-clause-exact

@@ -1,4 +1,4 @@
-use Rattle.std.proofs.Common.{◌≡◌, ℕ, ◌^◌, ◌≤◌, List, min, length, map, drop}
+use Rattle.std.proofs.Common.{◌≡◌, false, ℕ, ◌^◌, ◌≤◌, List, min, length, map, drop}
 use Rattle.std.specs.List.{AllByRecursion}
 use Rattle.mp4_present.specs.words.Movies.{IsWhole}
 use Rattle.mp4_present.specs.words.Outline.{AreMoofsFrom}
@@ -10,8 +10,8 @@ use Rattle.mp4_present.proofs.MoofsJudged.{JudgedUnderWay}
 use Rattle.std.specs.Prelude.{IsTrue}
 use Rattle.mp4_frag.specs.words.States.{HaveRoom}
 use Rattle.mp4_frag.specs.words.Noted.{ids_of}
-use Rattle.mp4_frag.specs.words.OwnTrafs.{own_seen}
-use Rattle.mp4_present.specs.words.OwnTrafs.{none_noted}
+use Rattle.mp4_present.specs.words.OwnTrafs.{own_seen, none_noted}
+use Rattle.mp4_present.specs.words.TrackPlaces.{ArePlacesOf}
 use Rattle.mp4_present.proofs.TrafsNoted.{OwnsUnderWay}
 use Rattle.mp4_present.proofs.FragmentPass.{Left}
 use Rattle.mp4_present.proofs.ChecksCounted.{StepsLeft}
@@ -36,12 +36,14 @@ invariant-loop-top g l =
       so : IsTrue (g.S.Store.is_honest l.fn.store) → (movie : MovieTree) (boxes : List Box) → IsBegun (g.S.Store.file l.fn.store) movie boxes l.fn.states l.fn.start.room → IsUnderWay (g.S.Store.file l.fn.store) movie boxes next l.start.outline.now.longest l.states l.room;
       first : IsTrue (g.S.Store.is_honest l.fn.store) → (movie : MovieTree) (boxes : List Box) → IsBegun (g.S.Store.file l.fn.store) movie boxes l.fn.states l.fn.start.room
           → JudgedUnderWay (g.S.Store.file l.fn.store) movie boxes next l.start.outline.now.longest l.states l.fn.start.room l.room;
-      each : length l.own ≡ length l.fn.states;
+      each : length l.tracks.own.items ≡ length l.fn.states;
+      told : l.tracks.is_refused ≡ false;
       ids : ids_of l.states ≡ ids_of l.fn.states;
-      own : IsTrue (g.S.Store.is_honest l.fn.store) → (movie : MovieTree) (boxes : List Box) → IsBegun (g.S.Store.file l.fn.store) movie boxes l.fn.states l.fn.start.room → map own_seen l.fn.own ≡ map (λ _. none_noted) l.fn.states
-          → OwnsUnderWay (g.S.Store.file l.fn.store) movie boxes next l.start.outline.now.longest l.states l.room (map own_seen l.own);
-      work : IsTrue (g.S.Store.is_honest l.fn.store) → StepsLeft (g.S.Store.file l.fn.store) next l.fn.steps l.steps;
-      looked : IsTrue (g.S.Store.is_honest l.fn.store) → LooksLeft (g.S.Store.file l.fn.store) next (min 1 (length l.fn.states)) l.fn.looks l.looks;
-      looks : IsTrue (g.S.Store.is_honest l.fn.store) → LooksFit (length (g.S.Store.file l.fn.store)) next (min 1 (length l.fn.states)) l.fn.looks l.looks;
-      fit : IsTrue (g.S.Store.is_honest l.fn.store) → MoofsFit (length (g.S.Store.file l.fn.store)) next l.room l.fn.steps l.steps;
+      places : ArePlacesOf (ids_of l.states) l.tracks.places;
+      own : IsTrue (g.S.Store.is_honest l.fn.store) → (movie : MovieTree) (boxes : List Box) → IsBegun (g.S.Store.file l.fn.store) movie boxes l.fn.states l.fn.start.room → map own_seen l.fn.tracks.own.items ≡ map (λ _. none_noted) l.fn.states
+          → OwnsUnderWay (g.S.Store.file l.fn.store) movie boxes next l.start.outline.now.longest l.states l.room (map own_seen l.tracks.own.items);
+      work : IsTrue (g.S.Store.is_honest l.fn.store) → StepsLeft (g.S.Store.file l.fn.store) next l.fn.steps.passed l.steps.passed;
+      looked : IsTrue (g.S.Store.is_honest l.fn.store) → LooksLeft (g.S.Store.file l.fn.store) next (min 1 (length l.fn.states)) l.fn.steps.looks l.steps.looks;
+      looks : IsTrue (g.S.Store.is_honest l.fn.store) → LooksFit (length (g.S.Store.file l.fn.store)) next (min 1 (length l.fn.states)) l.fn.steps.looks l.steps.looks;
+      fit : IsTrue (g.S.Store.is_honest l.fn.store) → MoofsFit (length (g.S.Store.file l.fn.store)) next l.room l.fn.steps.passed l.steps.passed;
     }

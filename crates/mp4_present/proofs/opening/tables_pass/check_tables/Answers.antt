@@ -1,4 +1,4 @@
-use Rattle.std.proofs.Common.{ℕ, ◌≤◌, [], length, drop, subst, rules}
+use Rattle.std.proofs.Common.{◌∙◌, refl, ℕ, ◌≤◌, [], length, drop, subst, rules}
 use Rattle.mp4_boxes.specs.words.View.{box_seen}
 use Rattle.mp4_present.specs.words.Plain.{HasTablesIn, HaveTablesIn}
 use Rattle.mp4_present.proofs.PlainLists.{from_next, next_of}
@@ -19,6 +19,7 @@ loop-track-init g c = (
   λ trees a. search rules,
   none_fit _ _ _ (c.none-plain.ensures.plain []).few,
   tables_first _ _ _ _ _ (c.none-plain.ensures.says c.args.file_len (box_seen c.args.moov).payload c.args.head.now.trexes.items),
+  refl,
 )
 
 pub push-requires-clause-read : goal.push-requires-clause-read
@@ -34,6 +35,7 @@ loop-track-preserved g c =
       next_taken _ _ _ _ _ c.track-item.result c.loop-track-test.true c.track-item.is c.in_ok-push.ensures.least i.4,
       next_fit _ _ _ _ _ _ _ i.5 c.in_ok-push.ensures.work.less,
       tables_next _ _ _ _ _ _ c.track-item.result c.loop-track-test.true c.track-item.is i.6 c.push.new.self i.2 (c.in_ok-push.ensures.says c.args.head.now.trexes.items (rw c.deref.ensures.value at c.in_ok-trexes.ensures)) (λ file e t own. (c.in_ok-push.ensures.exact file e t own).names),
+      c.push.ensures.looks ∙ i.7,
     )
 
 pub returns-clause-says : goal.returns-clause-says
@@ -42,7 +44,7 @@ returns-clause-says g c = rw c.deref-track-items.ensures.value at (passed_all _ 
 pub returns-in_err-push-clause-work : goal.returns-in_err-push-clause-work
 returns-in_err-push-clause-work g c =
     let p = err_from_is_err_and c.from_residual-in_err-push.result c.from_residual-in_err-push.ensures.1 in
-    let done = rw c.deref-track-items.ensures.value at (next_done c.deref-track-items.result.now c.loop-track.track-index c.args.steps.now c.loop-track.steps c.push.new.steps c.track-item.result c.loop-track-test.true c.track-item.is c.loop-track.invariant.3) in
+    let done = rw c.deref-track-items.ensures.value at (next_done c.deref-track-items.result.now c.loop-track.track-index c.args.steps.now.passed c.loop-track.steps.passed c.push.new.steps.passed c.track-item.result c.loop-track-test.true c.track-item.is c.loop-track.invariant.3) in
     rw (p.1, p.2) (handed_on PlainTracks _ _ c.in_err-push.field-0.0 done c.in_err-push.ensures.work.said)
 
 pub returns-clause-work : goal.returns-clause-work

@@ -17,7 +17,7 @@ pub returns-in_err-load-clause-work : goal.returns-in_err-load-clause-work
 returns-in_err-load-clause-work g c told tree t n o h =
     let p = err_from_is_err_and c.from_residual.result c.from_residual.ensures.1 in
     let file = g.S.Store.file c.args.store.now in
-    rw p.1 (most_then file tree t n c.args.steps.now _ _ c.take_in_hand.new.self (c.take_in_hand.ensures.work file tree t n o h) (λ q may. c.in_err-load.ensures.work told tree t q o may))
+    rw p.1 (most_then file tree t n c.args.steps.now.passed _ _ c.take_in_hand.new.self (c.take_in_hand.ensures.work file tree t n o h) (λ q may. c.in_err-load.ensures.work told tree t q o may))
 
 pub returns-then-not-branch-clause-unchanged : goal.returns-then-not-branch-clause-unchanged
 returns-then-not-branch-clause-unchanged g c told tree t samples o h some e =
@@ -28,8 +28,8 @@ returns-then-not-branch-clause-unchanged g c told tree t samples o h some e =
 pub returns-then-not-branch-clause-work : goal.returns-then-not-branch-clause-work
 returns-then-not-branch-clause-work g c told tree t n o h =
     let file = g.S.Store.file c.args.store.now in
-    takes_most file tree t n c.args.steps.now _ c.load.new.self
-    (takes_then file tree t n c.args.steps.now _ _ c.take_in_hand.new.self c.load.new.self (c.take_in_hand.ensures.work file tree t n o h) (λ q may. c.in_ok-load.ensures.work told tree t q o may))
+    takes_most file tree t n c.args.steps.now.passed _ c.load.new.self
+    (takes_then file tree t n c.args.steps.now.passed _ _ c.take_in_hand.new.self c.load.new.self (c.take_in_hand.ensures.work file tree t n o h) (λ q may. c.in_ok-load.ensures.work told tree t q o may))
 
 pub returns-in-Some-take_in_hand-clause-next : goal.returns-in-Some-take_in_hand-clause-next
 returns-in-Some-take_in_hand-clause-next g c told tree t samples o h =
@@ -42,8 +42,8 @@ returns-in-Some-take_in_hand-clause-next g c told tree t samples o h =
 pub returns-in-Some-take_in_hand-clause-work : goal.returns-in-Some-take_in_hand-clause-work
 returns-in-Some-take_in_hand-clause-work g c told tree t n o h =
     let file = g.S.Store.file c.args.store.now in
-    takes_then file tree t n c.args.steps.now _ _ c.load.new.self c.take_in_hand-2.new.self
-    (takes_then file tree t n c.args.steps.now _ _ c.take_in_hand.new.self c.load.new.self (c.take_in_hand.ensures.work file tree t n o h) (λ q may. c.in_ok-load.ensures.work told tree t q o may))
+    takes_then file tree t n c.args.steps.now.passed _ _ c.load.new.self c.take_in_hand-2.new.self
+    (takes_then file tree t n c.args.steps.now.passed _ _ c.take_in_hand.new.self c.load.new.self (c.take_in_hand.ensures.work file tree t n o h) (λ q may. c.in_ok-load.ensures.work told tree t q o may))
     (λ q may. c.take_in_hand-2.ensures.work file tree t q o may)
 
 pub returns-in-None-clause-unchanged : goal.returns-in-None-clause-unchanged
@@ -53,7 +53,7 @@ returns-in-None-clause-unchanged g c told tree t samples o h some e =
 pub returns-in-None-clause-work : goal.returns-in-None-clause-work
 returns-in-None-clause-work g c told tree t n o h =
     let file = g.S.Store.file c.args.store.now in
-    takes_most file tree t n c.args.steps.now _ c.take_in_hand-2.new.self
-    (takes_then file tree t n c.args.steps.now _ _ c.load.new.self c.take_in_hand-2.new.self
-    (takes_then file tree t n c.args.steps.now _ _ c.take_in_hand.new.self c.load.new.self (c.take_in_hand.ensures.work file tree t n o h) (λ q may. c.in_ok-load.ensures.work told tree t q o may))
+    takes_most file tree t n c.args.steps.now.passed _ c.take_in_hand-2.new.self
+    (takes_then file tree t n c.args.steps.now.passed _ _ c.load.new.self c.take_in_hand-2.new.self
+    (takes_then file tree t n c.args.steps.now.passed _ _ c.take_in_hand.new.self c.load.new.self (c.take_in_hand.ensures.work file tree t n o h) (λ q may. c.in_ok-load.ensures.work told tree t q o may))
     (λ q may. c.take_in_hand-2.ensures.work file tree t q o may))

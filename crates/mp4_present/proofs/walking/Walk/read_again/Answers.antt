@@ -37,7 +37,7 @@ returns-clause-taken g c told tree t earlier later next begun o h =
     let steps = ap traf_steps (box_again file m tree t earlier next later begun w c.args.before o h _ held) in
     let way = e.hand.way in
     let work = e.work in
-    subst (λ (v : Walk). TakesMarked file tree t earlier next later m begun v c.args.steps.now c.take_again.new.steps) (sym c.mark.ensures.mark)
+    subst (λ (v : Walk). TakesMarked file tree t earlier next later m begun v c.args.steps.now.passed c.take_again.new.steps.passed) (sym c.mark.ensures.mark)
     (record {
       takes = takes_marked file tree t m earlier next later now (mark_of now w.mark.to_come) true (e.taken file tree t earlier later next o held h.behind);
       traf = traf;

@@ -14,4 +14,5 @@ returns-clause-takes g c file tree t samples comes =
 
 pub returns-clause-work : goal.returns-clause-work
 returns-clause-work g c file tree t n o may =
-    rw c.keep.ensures.place (hand_goes_on file c.args.movie.now tree t c.args.self.now c.in_hand-hand.result _ c.place.result n c.args.steps.now c.keep.new.steps o c.in_hand-hand.ensures.movie c.requires c.in_hand-hand.ensures.hand c.next-sample.ensures.later c.place.ensures c.keep.ensures.work may)
+    rw c.keep.ensures.place (hand_goes_on file c.args.movie.now tree t c.args.self.now c.in_hand-hand.result _ c.place.result n c.args.steps.now.passed c.keep.new.steps.passed o
+    c.in_hand-hand.ensures.movie c.requires c.in_hand-hand.ensures.hand c.next-sample.ensures.later c.place.ensures c.keep.ensures.work may)

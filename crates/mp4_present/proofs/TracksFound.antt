@@ -5,7 +5,8 @@ use Rattle.std.specs.BTreeMap.{BTreeMap, get, is_at, Updates}
 use Rattle.std.specs.Ordering.{nat_cmp}
 use Rattle.std.proofs.Math.Seq.{drop-cons}
 use Rattle.std.proofs.lemmas.List.{length-map}
-use Rattle.mp4_frag.specs.words.Finding.{IsFirstWith, place_from, track_with}
+use Rattle.mp4_frag.specs.words.Finding.{IsFirstWith, track_with}
+use Rattle.mp4_present.specs.words.TrackPlaces.{place_from}
 use Rattle.mp4_frag.specs.words.Noted.{ids_of}
 use Rattle.mp4_frag.specs.declared.state.TrackState.{TrackState}
 

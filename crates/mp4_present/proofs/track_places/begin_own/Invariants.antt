@@ -1,8 +1,7 @@
 use Rattle.std.proofs.Common.{◌≡◌, map}
 use Rattle.std.specs.Prelude.{replicate}
-use Rattle.mp4_frag.specs.words.OwnTrafs.{own_seen}
-use Rattle.mp4_present.specs.words.OwnTrafs.{none_noted}
-use Rattle.mp4_present.proofs.opening.fragments.begin_own.Given as goal
+use Rattle.mp4_present.specs.words.OwnTrafs.{own_seen, none_noted}
+use Rattle.mp4_present.proofs.track_places.begin_own.Given as goal
 
 -- nothing is noted of the tracks so far
 abbrev pub invariant-loop : goal.invariant-loop

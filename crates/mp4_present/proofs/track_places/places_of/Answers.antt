@@ -1,7 +1,7 @@
 use Rattle.std.proofs.Common.{◌≡◌, ℕ, ◌+◌, ◌-◌, ◌<◌, length, subst, rules}
 use Rattle.mp4_frag.specs.words.Noted.{ids_of}
-use Rattle.mp4_frag.proofs.TracksFound.{ArePlacesFrom, track_more}
-use Rattle.mp4_frag.proofs.track_search.TrackPlaces.new.Goals as goal
+use Rattle.mp4_present.proofs.TracksFound.{ArePlacesFrom, track_more}
+use Rattle.mp4_present.proofs.track_places.places_of.Goals as goal
 
 pub loop-step-preserved : goal.loop-step-preserved
 loop-step-preserved c =

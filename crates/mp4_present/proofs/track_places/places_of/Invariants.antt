@@ -1,7 +1,7 @@
 use Rattle.std.proofs.Common.{◌-◌, length}
 use Rattle.mp4_frag.specs.words.Noted.{ids_of}
-use Rattle.mp4_frag.proofs.TracksFound.{ArePlacesFrom}
-use Rattle.mp4_frag.proofs.track_search.TrackPlaces.new.Given as goal
+use Rattle.mp4_present.proofs.TracksFound.{ArePlacesFrom}
+use Rattle.mp4_present.proofs.track_places.places_of.Given as goal
 
 -- the last tracks are in the map
 abbrev pub invariant-loop-step : goal.invariant-loop-step
