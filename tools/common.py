@@ -2,6 +2,7 @@
 said by the conformance suite's own module."""
 import glob
 import os
+import re
 import sys
 
 TOP = os.path.dirname(os.path.dirname(os.path.abspath(__file__)))
@@ -31,5 +32,12 @@ def sources(*rooms):
 
 
 def pages():
-    """The pages that are written by hand: README.md, and those of docs/."""
-    return ['README.md', *(it for it in found('docs/**/*.md') if it != 'docs/DEFINITIONS.md')]
+    """README.md, and the pages of docs/."""
+    return ['README.md', *found('docs/**/*.md')]
+
+
+def is_used(name, body):
+    """Whether an imported name of specs/ or proofs/ stands in a text: an operator does where all its parts do."""
+    word = r'(?<![\w-]){}(?![\w-])'
+    return all(re.search(word.format(re.escape(part)), body) if re.match(r'\w', part) else part in body
+               for part in name.split('◌') if part)
