@@ -1,7 +1,7 @@
 """Files on which a close reading of the format's description shows: what is easily misread.
 
 `misreadings` says which misreadings; edits of the program for others are in
-`left_out_misreadings.py`.
+`left_out_misreadings.edit`.
 """
 from .boxes import KEPT, Box, full, i32, i64, numbers, sbgp, u8, u16, u32, u64
 from .edits import added, fields, moved, name_of, put, removed, renamed, replaced, rows
