@@ -41,16 +41,20 @@ URL = full(b'dref', 0, struct.pack('>I', 1), full(b'url ', 1))
 
 
 # Codings that other tools copy without looking at the data: JPEG pictures of 64 by 64, MP3 sound.
-PICTURE = box(b'jpeg', bytes(6), struct.pack('>H', 1), bytes(16), struct.pack('>2H3IH32s2H', 64, 64, 0x480000, 0x480000, 0, 1, b'', 24, 0xffff))
+PICTURE = box(b'jpeg', bytes(6), struct.pack('>H', 1), bytes(16),
+              struct.pack('>2H3IH32s2H', 64, 64, 0x480000, 0x480000, 0, 1, b'', 24, 0xffff))
 SOUND = box(b'.mp3', bytes(6), struct.pack('>H', 1), bytes(8), struct.pack('>2H2HI', 2, 16, 0, 0, 48000 << 16))
 
 
 def mvhd(scale):
-    return full(b'mvhd', 0, struct.pack('>4I', 0, 0, scale, 0), struct.pack('>IH10x', 0x10000, 0x100), MATRIX, bytes(24), struct.pack('>I', 99))
+    return full(b'mvhd', 0, struct.pack('>4I', 0, 0, scale, 0), struct.pack('>IH10x', 0x10000, 0x100), MATRIX, bytes(24),
+                struct.pack('>I', 99))
 
 
 def trak(number, kind, scale, tables):
-    tkhd = full(b'tkhd', 7, struct.pack('>5I', 0, 0, number, 0, 0), bytes(8), struct.pack('>4h', 0, 0, 0x100 if kind == b'soun' else 0, 0), MATRIX, struct.pack('>2I', 0, 0))
+    volume = 0x100 if kind == b'soun' else 0
+    tkhd = full(b'tkhd', 7, struct.pack('>5I', 0, 0, number, 0, 0), bytes(8), struct.pack('>4h', 0, 0, volume, 0), MATRIX,
+                struct.pack('>2I', 0, 0))
     mdhd = full(b'mdhd', 0, struct.pack('>4I', 0, 0, scale, 0), struct.pack('>2H', 0x55c4, 0))
     hdlr = full(b'hdlr', 0, bytes(4), kind, bytes(12), b'\0')
     header = full(b'smhd', 0, bytes(4)) if kind == b'soun' else full(b'vmhd', 1, bytes(8))
@@ -99,7 +103,9 @@ def plain(path, scale, tracks, total):
 
 def large(path):
     count, size = 250, 8_000_000
-    tables = lambda at: [table(b'stts', 1, [count, 512]), table(b'stss', 1, [1]), table(b'stsc', 1, [1, 1, 1]), stsz([size] * count), co64([at + size * n for n in range(count)])]
+    tables = lambda at: [
+        table(b'stts', 1, [count, 512]), table(b'stss', 1, [1]), table(b'stsc', 1, [1, 1, 1]), stsz([size] * count),
+        co64([at + size * n for n in range(count)])]
     plain(path, 1000, lambda at: [trak(1, b'vide', 12800, tables(at))], count * size)
 
 
@@ -119,7 +125,10 @@ def small(path, count=5_000_000, duration=500):
     rows = [it for n in range(count) for it in (1, duration + n % 3)]
     offsets = [it for n in range(count) for it in (1, 1000 + n % 2)]
     keys = range(1, count, 250)
-    tables = lambda begin: [table(b'stts', count, rows), table(b'ctts', count, offsets), table(b'stss', len(keys), list(keys)), table(b'stsc', 2, [1, each, 1, len(places), count - each * (len(places) - 1), 1]), stsz(sizes), co64([begin + place for place in places])]
+    chunks = [1, each, 1, len(places), count - each * (len(places) - 1), 1]
+    tables = lambda begin: [
+        table(b'stts', count, rows), table(b'ctts', count, offsets), table(b'stss', len(keys), list(keys)),
+        table(b'stsc', 2, chunks), stsz(sizes), co64([begin + place for place in places])]
     plain(path, 1000, lambda begin: [trak(1, b'vide', 12800, tables(begin))], at)
 
 
@@ -142,7 +151,8 @@ def fragments(path, count=20_000, each=30, stride=1):
 def tracks(path):
     """Chunks of the three tracks in turn, one for each half second of an hour."""
     source = random.Random(3)
-    kinds = [(b'vide', 12800, 512, 13, (1000, 12000)), (b'soun', 48000, 1024, 24, (300, 500)), (b'soun', 44100, 1024, 22, (200, 400))]
+    kinds = [(b'vide', 12800, 512, 13, (1000, 12000)), (b'soun', 48000, 1024, 24, (300, 500)),
+             (b'soun', 44100, 1024, 22, (200, 400))]
     chunks = 7200
     sizes, places, at = [[], [], []], [[], [], []], 0
     for _ in range(chunks):
@@ -154,8 +164,10 @@ def tracks(path):
     def boxes(begin):
         made = []
         for k, (kind, scale, duration, each, _) in enumerate(kinds):
-            sync = [table(b'stss', len(range(1, chunks * each, 50)), list(range(1, chunks * each, 50)))] if kind == b'vide' else []
-            made.append(trak(k + 1, kind, scale, [table(b'stts', 1, [chunks * each, duration])] + sync + [table(b'stsc', 1, [1, each, 1]), stsz(sizes[k]), co64([begin + place for place in places[k]])]))
+            keys = list(range(1, chunks * each, 50))
+            made.append(trak(k + 1, kind, scale, [
+                table(b'stts', 1, [chunks * each, duration]), *([table(b'stss', len(keys), keys)] if kind == b'vide' else []),
+                table(b'stsc', 1, [1, each, 1]), stsz(sizes[k]), co64([begin + place for place in places[k]])]))
         return made
     plain(path, 1000, boxes, at)
 
@@ -199,7 +211,7 @@ def differences(path):
     small(path.removesuffix('.mp4') + '.other', 300_000, 600)
 
 
-MAKERS = {'large': large, 'small': small, 'fragments': fragments, 'tracks': tracks, 'heads': heads, 'parts': parts, 'verdicts': verdicts, 'differences': differences}
+MAKERS = {make.__name__: make for make in (large, small, fragments, tracks, heads, parts, verdicts, differences)}
 
 
 def make(folder, name):

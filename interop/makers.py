@@ -9,6 +9,9 @@ TOP = os.path.dirname(os.path.dirname(os.path.abspath(__file__)))
 sys.path.insert(0, os.path.join(TOP, 'conformance'))
 from trials import Room, Tally, options, other, printed, read, run, text
 
+# For the scripts of this folder.
+__all__ = ['Tally', 'other', 'run', 'text']
+
 # Seconds that a program may take to make a file.
 LIMIT = 600
 QUIET = ['ffmpeg', '-v', 'error', '-y', '-nostdin']

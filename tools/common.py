@@ -9,6 +9,7 @@ TOP = os.path.dirname(os.path.dirname(os.path.abspath(__file__)))
 sys.path.insert(0, os.path.join(TOP, 'conformance'))
 from trials import Room, Tally, options, other, printed, read, run, text
 
+__all__ = ['Room', 'Tally', 'options', 'other', 'printed', 'read', 'run', 'text']
 ROOMS = ('src', 'specs', 'proofs')
 
 
