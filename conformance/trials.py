@@ -2,6 +2,7 @@
 a folder, and read the words that they are given."""
 import argparse
 import os
+import re
 import shutil
 import subprocess
 import sys
@@ -76,6 +77,15 @@ def read(*names):
 
 def text(*names):
     return read(*names).decode()
+
+
+def blocks(*names):
+    """The blocks of a file of cases: each a line, and the text that stands below it, four columns
+    further in. It ends with a line feed, unless two dots stand behind it. Lines in front are a comment."""
+    for block in re.split(r'^(?=[^\s#])', text(*names), flags=re.M)[1:]:
+        line, _, inside = block.partition('\n')
+        inside = re.sub('^    ', '', inside, flags=re.M)
+        yield line, inside[:-3] if inside.endswith('..\n') else inside
 
 
 def run(*words, given=b'', limit=LIMIT, **how):
