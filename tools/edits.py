@@ -13,6 +13,8 @@ A file of edits has lines of a word, a colon and a text; other lines are comment
 
 Lines with the same word, one behind the other, are the lines of one text.
 """
+from __future__ import annotations
+
 import os
 import re
 
@@ -26,10 +28,10 @@ class Edit:
     """An edit: its file and its name; pairs of an old and a new text, each with the file that it is
     of; and what else is said of it, by words of lines."""
 
-    def __init__(self, path, name=None):
+    def __init__(self, path: str, name: str | None = None):
         self.path, self.name, self.pairs, self.said = path, name, [], {}
 
-    def applied(self):
+    def applied(self) -> tuple:
         """The texts of the files that it changes, by their paths; the pieces that it changes, each
         a path, the text of the file before it and its place there; or why it can't be applied."""
         texts, pieces = {}, []
@@ -48,7 +50,7 @@ class Edit:
         return texts, pieces, None if pieces else "it has no pair of 'old:' and 'new:'"
 
 
-def edits_in(path):
+def edits_in(path: str) -> list[Edit]:
     """The edits of a file."""
     is_suite = path.startswith('conformance/')
     front = '' if is_suite else os.path.dirname(os.path.dirname(path)) + '/'
@@ -72,5 +74,5 @@ def edits_in(path):
     return edits
 
 
-def edits_of_suite():
+def edits_of_suite() -> list[Edit]:
     return [edit for path in found('conformance/left_out_*.edit') for edit in edits_in(path)]

@@ -4,7 +4,10 @@
 but in `taking`, which `conformance/misreadings` uses: there one misreading is taken for right, and
 some answer of each file that stands here must be another one.
 """
+from __future__ import annotations
+
 import contextlib
+from collections.abc import Iterator
 
 # Of each misreading what is taken for right, and names of files that tell.
 MISREADINGS = {
@@ -61,14 +64,14 @@ MISREADINGS = {
 _TAKEN = set()
 
 
-def taken(name):
+def taken(name: str) -> bool:
     """Whether a misreading is taken for right now."""
     assert name in MISREADINGS, name
     return name in _TAKEN
 
 
 @contextlib.contextmanager
-def taking(name):
+def taking(name: str) -> Iterator:
     """Takes a misreading for right."""
     _TAKEN.add(name)
     try:
