@@ -4,11 +4,9 @@ from __future__ import annotations
 
 import argparse
 import os
-import re
 import shutil
 import subprocess
 import sys
-from collections.abc import Iterator
 
 TOP = os.path.dirname(os.path.dirname(os.path.realpath(__file__)))
 # Seconds that one run may take.
@@ -80,15 +78,6 @@ def read(*names) -> bytes:
 
 def text(*names) -> str:
     return read(*names).decode()
-
-
-def blocks(*names) -> Iterator:
-    """The blocks of a file of cases: each a line, and the text that stands below it, four columns
-    further in. It ends with a line feed, unless two dots stand behind it. Lines in front are a comment."""
-    for block in re.split(r'^(?=[^\s#])', text(*names), flags=re.M)[1:]:
-        line, _, inside = block.partition('\n')
-        inside = re.sub('^    ', '', inside, flags=re.M)
-        yield line, inside[:-3] if inside.endswith('..\n') else inside
 
 
 def run(*words, given: bytes = b'', limit: int = LIMIT, **how) -> tuple:

@@ -3,6 +3,8 @@ from __future__ import annotations
 
 import json
 import os
+import re
+from collections.abc import Iterator
 
 FOLDER = os.path.dirname(os.path.dirname(os.path.abspath(__file__)))
 
@@ -10,6 +12,16 @@ FOLDER = os.path.dirname(os.path.dirname(os.path.abspath(__file__)))
 def bytes_of(folder: str, name: str) -> bytes:
     with open(os.path.join(FOLDER, folder, name), 'rb') as file:
         return file.read()
+
+
+def blocks(name: str) -> Iterator:
+    """The blocks of a file of cases: each a line, and the text that stands below it, four columns
+    further in. It ends with a line feed, unless two dots stand behind it. Lines in front are a
+    comment."""
+    for block in re.split(r'^(?=[^\s#])', bytes_of('.', name).decode(), flags=re.M)[1:]:
+        line, _, inside = block.partition('\n')
+        inside = re.sub('^    ', '', inside, flags=re.M)
+        yield line, inside[:-3] if inside.endswith('..\n') else inside
 
 
 def names() -> list[str]:
