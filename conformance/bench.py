@@ -92,7 +92,7 @@ def in_parts(parts: list[bytes]) -> dict:
     return {'list': '\n'.join(files).encode(), **files}
 
 
-def stripped() -> tuple[bytes, ...]:
+def stripped() -> tuple[bytes, bytes]:
     """What is said of plain.mp4 without `hdlr`, and the copy."""
     return strips.stripped(PLAIN, [strips.Name(b'hdlr')])[1:]
 
@@ -127,7 +127,7 @@ def status_of(said: bytes) -> int:
     return 3 if said.startswith(b'failed') else 1 if said else 0
 
 
-def refusal_of(asked) -> str:
+def refusal_of(asked: list) -> str | None:
     """The line by which `normalise` refuses a file, if it does."""
     answer, = {it.answer.error for it in asked if it.command == 'normalise'}
     return answer

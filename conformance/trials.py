@@ -97,7 +97,8 @@ def printed(*words, **how) -> str:
     return output.decode()
 
 
-def options(help_text: str, *names, epilog: str = COUNTS, **others):
+def options(help_text: str, *names, epilog: str | None = COUNTS,
+            **others) -> argparse.Namespace:
     """The words that a script is given, of which `program` has to be one that can be run.
 
     `names` are those that are due, `others` what argparse has to know of each option; the epilog

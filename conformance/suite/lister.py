@@ -113,12 +113,12 @@ def walked(data: bytes, found: list[tuple], path: str = '') -> Iterator:
             yield from walked(data, held, below(path, name))
 
 
-def all_boxes(data: bytes, length=None) -> Iterator | None:
+def all_boxes(data: bytes, length: int | None = None) -> Iterator | None:
     """The same of a file."""
     return walked(data, headers(data, 0, len(data) if length is None else length, is_file=True))
 
 
-def listed(data: bytes, length=None) -> tuple[str, ...]:
+def listed(data: bytes, length: int | None = None) -> tuple[str, str | None]:
     """The list of boxes as text, or the line that refuses it."""
     try:
         lines = [f"{'  ' * depth(path)}{printed(kind)} {place} {end - place}\n"

@@ -55,7 +55,7 @@ def box(data: bytes, path: str, kind: bytes, place: int, inner: int, end: int) -
     return made
 
 
-def listed(data: bytes) -> tuple[str, ...]:
+def listed(data: bytes) -> tuple[str, str | None]:
     """The objects of all boxes that are listed, or the line that refuses the file."""
     try:
         found = [box(data, path, *header) for path, header in lister.all_boxes(data)]

@@ -146,7 +146,7 @@ class Track:
 class Movie:
     """What a file denotes."""
 
-    def __init__(self, data: bytes, length=None):
+    def __init__(self, data: bytes, length: int | None = None):
         self.data = data
         top = nodes(data, 0, len(data) if length is None else length, is_file=True)
         (self.moov,) = [box for box in top if box.kind == 'moov']
@@ -312,7 +312,7 @@ def read_fragment(moof: Node, movie: Movie) -> None:
             base = end
 
 
-def read_track_fragment(traf: Node, moof_place: int, base: int, movie: Movie) -> tuple[int, ...]:
+def read_track_fragment(traf: Node, moof_place: int, base: int, movie: Movie) -> tuple[int, int]:
     """Adds the samples of a `traf` to its track; answers where its data ends, and their number."""
     head = traf.one('tfhd')
     track, flags = movie.track(head.number(4)), head.flags()
