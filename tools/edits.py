@@ -51,10 +51,9 @@ class Edit:
 
 
 def edits_in(path: str) -> list[Edit]:
-    """The edits of a file."""
-    is_suite = path.startswith('conformance/')
-    front = '' if is_suite else os.path.dirname(os.path.dirname(path)) + '/'
-    edits, file, last = [] if is_suite else [Edit(path)], None, None
+    """The edits of a file; what stands before the first `edit:` is one without a name."""
+    front = '' if path.startswith('conformance/') else os.path.dirname(os.path.dirname(path)) + '/'
+    edits, file, last = [Edit(path)], None, None
     for line in text(path).split('\n'):
         match = LINE.fullmatch(line)
         word, value = match.groups('') if match else (None, None)
@@ -62,16 +61,16 @@ def edits_in(path: str) -> list[Edit]:
             file = front + value.strip()
         elif word == 'edit':
             edits.append(Edit(path, value))
-        elif word == 'old' and last != word:
-            edits[-1].pairs.append([file, value, None])
-        elif word == 'new' and last != word:
-            edits[-1].pairs[-1][2] = value
         elif word in ('old', 'new'):
-            edits[-1].pairs[-1][1 if word == 'old' else 2] += '\n' + value
+            pairs, at = edits[-1].pairs, 1 if word == 'old' else 2
+            if not pairs or last != word and pairs[-1][at] is not None:
+                pairs.append([file, None, None])
+            before = pairs[-1][at]
+            pairs[-1][at] = value if before is None else f'{before}\n{value}'
         elif word:
             edits[-1].said.setdefault(word, []).append(value)
         last = word
-    return edits
+    return edits if front or edits[0].pairs else edits[1:]
 
 
 def edits_of_suite() -> list[Edit]:
