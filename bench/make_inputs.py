@@ -12,26 +12,29 @@
 
 The files hold made-up data in correct boxes (ISO/IEC 14496-12); nothing needs to be installed.
 """
+from __future__ import annotations
+
 import os
 import random
 import struct
 import sys
+from collections.abc import Callable
 
 sys.path.insert(0, os.path.join(os.path.dirname(os.path.abspath(__file__)), '..', 'conformance'))
 from trials import options
 
 
-def box(kind, *parts):
+def box(kind: bytes, *parts) -> bytes:
     payload = b''.join(parts)
     return struct.pack('>I4s', 8 + len(payload), kind) + payload
 
 
-def full(kind, flags, *parts, version=0):
+def full(kind: bytes, flags: int, *parts, version: int = 0) -> bytes:
     """A box with a version and flags."""
     return box(kind, struct.pack('>I', version << 24 | flags), *parts)
 
 
-def numbers(*values):
+def numbers(*values) -> bytes:
     """Numbers of 32 bits."""
     return struct.pack(f'>{len(values)}I', *values)
 
@@ -41,16 +44,20 @@ URL = full(b'dref', 0, struct.pack('>I', 1), full(b'url ', 1))
 
 
 # Codings that other tools copy without looking at the data: JPEG pictures of 64 by 64, MP3 sound.
-PICTURE = box(b'jpeg', bytes(6), struct.pack('>H', 1), bytes(16), struct.pack('>2H3IH32s2H', 64, 64, 0x480000, 0x480000, 0, 1, b'', 24, 0xffff))
+PICTURE = box(b'jpeg', bytes(6), struct.pack('>H', 1), bytes(16),
+              struct.pack('>2H3IH32s2H', 64, 64, 0x480000, 0x480000, 0, 1, b'', 24, 0xffff))
 SOUND = box(b'.mp3', bytes(6), struct.pack('>H', 1), bytes(8), struct.pack('>2H2HI', 2, 16, 0, 0, 48000 << 16))
 
 
-def mvhd(scale):
-    return full(b'mvhd', 0, struct.pack('>4I', 0, 0, scale, 0), struct.pack('>IH10x', 0x10000, 0x100), MATRIX, bytes(24), struct.pack('>I', 99))
+def mvhd(scale: int) -> bytes:
+    return full(b'mvhd', 0, struct.pack('>4I', 0, 0, scale, 0), struct.pack('>IH10x', 0x10000, 0x100), MATRIX, bytes(24),
+                struct.pack('>I', 99))
 
 
-def trak(number, kind, scale, tables):
-    tkhd = full(b'tkhd', 7, struct.pack('>5I', 0, 0, number, 0, 0), bytes(8), struct.pack('>4h', 0, 0, 0x100 if kind == b'soun' else 0, 0), MATRIX, struct.pack('>2I', 0, 0))
+def trak(number: int, kind: bytes, scale: int, tables: list[bytes]) -> bytes:
+    volume = 0x100 if kind == b'soun' else 0
+    tkhd = full(b'tkhd', 7, struct.pack('>5I', 0, 0, number, 0, 0), bytes(8), struct.pack('>4h', 0, 0, volume, 0), MATRIX,
+                struct.pack('>2I', 0, 0))
     mdhd = full(b'mdhd', 0, struct.pack('>4I', 0, 0, scale, 0), struct.pack('>2H', 0x55c4, 0))
     hdlr = full(b'hdlr', 0, bytes(4), kind, bytes(12), b'\0')
     header = full(b'smhd', 0, bytes(4)) if kind == b'soun' else full(b'vmhd', 1, bytes(8))
@@ -58,15 +65,15 @@ def trak(number, kind, scale, tables):
     return box(b'trak', tkhd, box(b'mdia', mdhd, hdlr, box(b'minf', header, box(b'dinf', URL), box(b'stbl', stsd, *tables))))
 
 
-def table(kind, count, rows):
+def table(kind: bytes, count: int, rows: list) -> bytes:
     return full(kind, 0, numbers(count, *rows))
 
 
-def stsz(sizes):
+def stsz(sizes: list) -> bytes:
     return full(b'stsz', 0, numbers(0, len(sizes), *sizes))
 
 
-def co64(places):
+def co64(places: list[int]) -> bytes:
     return full(b'co64', 0, numbers(len(places)), struct.pack('>%dQ' % len(places), *places))
 
 
@@ -78,7 +85,7 @@ TREX = full(b'trex', 0, numbers(1, 1, 512, 0, 0x10000))
 FTYP = box(b'ftyp', b'isom', bytes(4), b'isommp41')
 
 
-def put_data(file, total):
+def put_data(file, total: int) -> None:
     """So many bytes that don't repeat soon."""
     block = random.Random(1).randbytes(1 << 20)
     while total > 0:
@@ -86,7 +93,7 @@ def put_data(file, total):
         total -= len(block)
 
 
-def plain(path, scale, tracks, total):
+def plain(path: str, scale: int, tracks: Callable, total: int) -> None:
     """A plain file: `tracks` says the trak boxes for data that begins at a place."""
     length = len(box(b'moov', mvhd(scale), *tracks(0)))
     begin = len(FTYP) + length + 16
@@ -97,13 +104,15 @@ def plain(path, scale, tracks, total):
         put_data(file, total)
 
 
-def large(path):
+def large(path: str) -> None:
     count, size = 250, 8_000_000
-    tables = lambda at: [table(b'stts', 1, [count, 512]), table(b'stss', 1, [1]), table(b'stsc', 1, [1, 1, 1]), stsz([size] * count), co64([at + size * n for n in range(count)])]
+    tables = lambda at: [
+        table(b'stts', 1, [count, 512]), table(b'stss', 1, [1]), table(b'stsc', 1, [1, 1, 1]), stsz([size] * count),
+        co64([at + size * n for n in range(count)])]
     plain(path, 1000, lambda at: [trak(1, b'vide', 12800, tables(at))], count * size)
 
 
-def chunk_places(sizes, each):
+def chunk_places(sizes: list[int], each: int) -> tuple:
     """Where chunks of so many samples begin, one behind the other, and where the last ends."""
     places, at = [], 0
     for n in range(0, len(sizes), each):
@@ -112,18 +121,21 @@ def chunk_places(sizes, each):
     return places, at
 
 
-def small(path, count=5_000_000, duration=500):
+def small(path: str, count: int = 5_000_000, duration: int = 500) -> None:
     source, each = random.Random(2), 30
     sizes = [20 + source.randrange(181) for _ in range(count)]
     places, at = chunk_places(sizes, each)
     rows = [it for n in range(count) for it in (1, duration + n % 3)]
     offsets = [it for n in range(count) for it in (1, 1000 + n % 2)]
     keys = range(1, count, 250)
-    tables = lambda begin: [table(b'stts', count, rows), table(b'ctts', count, offsets), table(b'stss', len(keys), list(keys)), table(b'stsc', 2, [1, each, 1, len(places), count - each * (len(places) - 1), 1]), stsz(sizes), co64([begin + place for place in places])]
+    chunks = [1, each, 1, len(places), count - each * (len(places) - 1), 1]
+    tables = lambda begin: [
+        table(b'stts', count, rows), table(b'ctts', count, offsets), table(b'stss', len(keys), list(keys)),
+        table(b'stsc', 2, chunks), stsz(sizes), co64([begin + place for place in places])]
     plain(path, 1000, lambda begin: [trak(1, b'vide', 12800, tables(begin))], at)
 
 
-def fragments(path, count=20_000, each=30, stride=1):
+def fragments(path: str, count: int = 20_000, each: int = 30, stride: int = 1) -> None:
     """Fragments of so many samples. Each `stride` of them have the same bytes, and one sync sample, the first."""
     size = 500
     with open(path, 'wb') as file:
@@ -139,10 +151,11 @@ def fragments(path, count=20_000, each=30, stride=1):
             file.write(box(b'mdat', bytes([n // stride % 251]) * (each * size)))
 
 
-def tracks(path):
+def tracks(path: str) -> None:
     """Chunks of the three tracks in turn, one for each half second of an hour."""
     source = random.Random(3)
-    kinds = [(b'vide', 12800, 512, 13, (1000, 12000)), (b'soun', 48000, 1024, 24, (300, 500)), (b'soun', 44100, 1024, 22, (200, 400))]
+    kinds = [(b'vide', 12800, 512, 13, (1000, 12000)), (b'soun', 48000, 1024, 24, (300, 500)),
+             (b'soun', 44100, 1024, 22, (200, 400))]
     chunks = 7200
     sizes, places, at = [[], [], []], [[], [], []], 0
     for _ in range(chunks):
@@ -154,17 +167,19 @@ def tracks(path):
     def boxes(begin):
         made = []
         for k, (kind, scale, duration, each, _) in enumerate(kinds):
-            sync = [table(b'stss', len(range(1, chunks * each, 50)), list(range(1, chunks * each, 50)))] if kind == b'vide' else []
-            made.append(trak(k + 1, kind, scale, [table(b'stts', 1, [chunks * each, duration])] + sync + [table(b'stsc', 1, [1, each, 1]), stsz(sizes[k]), co64([begin + place for place in places[k]])]))
+            keys = list(range(1, chunks * each, 50))
+            made.append(trak(k + 1, kind, scale, [
+                table(b'stts', 1, [chunks * each, duration]), *([table(b'stss', len(keys), keys)] if kind == b'vide' else []),
+                table(b'stsc', 1, [1, each, 1]), stsz(sizes[k]), co64([begin + place for place in places[k]])]))
         return made
     plain(path, 1000, boxes, at)
 
 
-def heads(path):
+def heads(path: str) -> None:
     plain(path, 1000, lambda begin: [trak(k + 1, b'vide', 12800, NO_SAMPLES) for k in range(1000)], 0)
 
 
-def parts(path):
+def parts(path: str) -> None:
     fragments(path, 10_000)
     folder = path + '.parts'
     os.makedirs(folder, exist_ok=True)
@@ -183,7 +198,7 @@ def parts(path):
         file.write('\n'.join(map(os.path.abspath, names)))
 
 
-def verdicts(path):
+def verdicts(path: str) -> None:
     small(path, 100)
     folder = path + '.links'
     os.makedirs(folder, exist_ok=True)
@@ -194,15 +209,15 @@ def verdicts(path):
         file.write(''.join(name + '\0' for name in names))
 
 
-def differences(path):
+def differences(path: str) -> None:
     small(path, 300_000)
     small(path.removesuffix('.mp4') + '.other', 300_000, 600)
 
 
-MAKERS = {'large': large, 'small': small, 'fragments': fragments, 'tracks': tracks, 'heads': heads, 'parts': parts, 'verdicts': verdicts, 'differences': differences}
+MAKERS = {make.__name__: make for make in (large, small, fragments, tracks, heads, parts, verdicts, differences)}
 
 
-def make(folder, name):
+def make(folder: str, name: str) -> str:
     """Makes a file, if it isn't there; its path."""
     path = os.path.join(folder, name + '.mp4')
     os.makedirs(folder, exist_ok=True)

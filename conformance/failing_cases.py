@@ -2,8 +2,11 @@
 
 What is due is the suite's own: answers that are stored, or its own reading of the file.
 """
+from __future__ import annotations
+
 import hashlib
 import re
+from collections.abc import Iterator
 from dataclasses import dataclass, field
 
 from bench import OLD, Line, in_parts
@@ -48,11 +51,12 @@ class Case(Line):
         self.last_line = self.said[self.said.rfind(b'\n', 0, -1) + 1:]
 
 
-def case(name, line, files=(), status=0, said=b'', put=b'', **more):
+def case(name: str, line: str, files: dict | tuple = (), status: int = 0, said: bytes = b'',
+         put: bytes | None = b'', **more) -> Case:
     return Case(line, status, said, put, name=name, files=dict(files), **more)
 
 
-def of(name, line, data, due, **more):
+def of(name: str, line: str, data: bytes, due: bytes | None, **more) -> Case:
     """A command on `in.mp4`, which stands behind it; NEW gets what is due if one is made."""
     command, _, options = line.partition(' ')
     line = f'{command} in.mp4 {options}'
@@ -61,7 +65,7 @@ def of(name, line, data, due, **more):
     return case(name, line, {'in.mp4': data}, put=due, **more)
 
 
-def spread():
+def spread() -> bytes:
     """Free space before the `moov` and before each `moof`."""
     file = whole(True)
     for kind, number in (('moov', 0), ('moof', 0), ('moof', 1)):
@@ -70,7 +74,7 @@ def spread():
     return file.spelled()
 
 
-def stuffed():
+def stuffed() -> bytes:
     """Free space at the front of each `moof`: a `traf` of it is then read by itself."""
     file = whole(True)
     for number in range(2):
@@ -78,25 +82,25 @@ def stuffed():
     return file.spelled()
 
 
-def grown():
+def grown() -> bytes:
     """A file with a long user data box in its `moov`."""
     file = whole(True)
     fields('moov/udta', LONG)(file)
     return file.spelled()
 
 
-def stripped(name, data, options='', **due):
+def stripped(name: str, data: bytes, options: str = '', **due) -> Case:
     _, said, copy = strips.stripped(data, DROPPED)
     return of(name, f'strip {DROP} {options}', data, copy, said=said, **due)
 
 
-def foreign(name, data, options=''):
+def foreign(name: str, data: bytes, options: str = '') -> Case:
     status, said, copy = strips.stripped(data, [strips.Foreign()], options == '--lossy')
     return of(name, f'strip --foreign {options}', data, copy or None, status=status,
               said=re.escape(said))
 
 
-def of_one_file():
+def of_one_file() -> Iterator:
     """Each command, with and without its options, on files of the suite."""
     yield case('plain', '', put=BOXES, given=PLAIN)
     yield of('plain', 'boxes', PLAIN, BOXES)
@@ -131,7 +135,7 @@ def of_one_file():
              refused=b'refused: Gap in tfdt at %d\n' % (GAP.rindex(b'tfdt') - 4))
 
 
-def that_replace():
+def that_replace() -> Iterator:
     """Where NEW is there, or isn't."""
     for there in (OLD, None):
         yield of(f'plain over {there}', 'normalise --replace', PLAIN, NORMAL, there=there)
@@ -145,7 +149,7 @@ def that_replace():
              said=b'failed: no such track\n', there=OLD)
 
 
-def of_two_files():
+def of_two_files() -> Iterator:
     """Comparisons: of the same, of others, of all there is, with standard input."""
     last = b'1 difference: bytes 1; no words of --without make them the same\n'
     compare = 'compare a.mp4 b.mp4'
@@ -170,7 +174,7 @@ def of_two_files():
     yield case('far fragments', compare, {'a.mp4': data, 'b.mp4': data}, long=('read',))
 
 
-def of_many_files():
+def of_many_files() -> Iterator:
     """Verdicts, a line each."""
     one, two, more = b'in.mp4: accepted\n', b'cut.mp4: ' + CUT_SAID, b'more.mp4: accepted\n'
     parsed, cut = objects.verdict('in.mp4', b''), objects.verdict('cut.mp4', CUT_LINE)
@@ -187,7 +191,7 @@ def of_many_files():
                put=(more + two + one).replace(b'\n', b'\0'), given=b'more.mp4\0cut.mp4\0in.mp4')
 
 
-def of_sums_and_texts():
+def of_sums_and_texts() -> Iterator:
     """Sums; the text of what a file says, put and made."""
     due = hashlib.sha256(NORMAL).hexdigest().encode() + b'  in.mp4\n'
     header, text = b'# mp4norm sum: normal form 1, without nothing\n', answers.text(PLAIN)
@@ -199,7 +203,7 @@ def of_sums_and_texts():
     yield case('to a file', 'print in.mp4 --out new', {'in.mp4': PLAIN}, made=text)
 
 
-def of_lists():
+def of_lists() -> Iterator:
     """Commands on a list of files that are read as one."""
     form, shown = bytes_of('wanted', 'two-fragments.normal.mp4'), answers.shown(TWO)
     files = in_parts(lister.cut_before(TWO, b'moof'))
@@ -214,7 +218,7 @@ def of_lists():
     yield case('a list in a pipe', 'show @-', parts, given=files['list'], put=shown)
 
 
-def that_are_long():
+def that_are_long() -> Iterator:
     """Commands on files that take many calls."""
     data, calls = long.with_long_pieces(), ('read', 'write')
     far, many = long.with_far_fragments(), long.with_many_samples()
@@ -226,7 +230,7 @@ def that_are_long():
     yield of('many samples', 'samples --track 1', many, answers.lines(many), long=('write',))
 
 
-def all_cases():
+def all_cases() -> Iterator:
     for part in (of_one_file, that_replace, of_two_files, of_many_files, of_sums_and_texts,
                  of_lists, that_are_long):
         yield from part()

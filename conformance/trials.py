@@ -1,5 +1,7 @@
 """What all scripts have in common: they run programs, count what is as it should be, keep files in
 a folder, and read the words that they are given."""
+from __future__ import annotations
+
 import argparse
 import os
 import shutil
@@ -13,7 +15,7 @@ LIMIT = 60
 COUNTS = "The last line is 'N passed, M failed'; the exit status is 0 only if all passed."
 
 
-def other(got, due):
+def other(got, due) -> str:
     """What is wrong with something that is other than due."""
     return '' if got == due else f'{got!r:.300}, not {due!r:.300}'
 
@@ -24,7 +26,7 @@ class Tally:
     def __init__(self):
         self.passed = self.failed = 0
 
-    def note(self, name, *wrong):
+    def note(self, name: str, *wrong) -> None:
         """Counts one thing, of which something may be wrong."""
         wrong = [it for it in wrong if it]
         if wrong:
@@ -33,7 +35,7 @@ class Tally:
         else:
             self.passed += 1
 
-    def end(self):
+    def end(self) -> None:
         """Prints the counts and ends the script, with status 0 only if all passed."""
         print(f'{self.passed} passed, {self.failed} failed', flush=True)
         sys.exit(0 if self.passed and not self.failed else 1)
@@ -42,16 +44,16 @@ class Tally:
 class Room:
     """A folder, and files in it."""
 
-    def __init__(self, folder):
+    def __init__(self, folder: str):
         self.folder = folder
 
-    def path(self, name):
+    def path(self, name: bytes | str) -> str:
         return os.path.join(self.folder, os.fsdecode(name))
 
-    def read(self, name):
+    def read(self, name: str) -> bytes:
         return read(self.path(name))
 
-    def write(self, name, content, rights=None):
+    def write(self, name: bytes | str, content: bytes | str, rights: int | None = None) -> None:
         """Writes a file, and makes its folder."""
         path = self.path(name)
         os.makedirs(os.path.dirname(path), exist_ok=True)
@@ -60,7 +62,7 @@ class Room:
         if rights is not None:
             os.chmod(path, rights)
 
-    def remove(self, *names):
+    def remove(self, *names) -> None:
         for path in map(self.path, names):
             if os.path.isdir(path) and not os.path.islink(path):
                 shutil.rmtree(path)
@@ -68,17 +70,17 @@ class Room:
                 os.remove(path)
 
 
-def read(*names):
+def read(*names) -> bytes:
     """The bytes of a file; its path begins at the top of this repository."""
     with open(os.path.join(TOP, *names), 'rb') as file:
         return file.read()
 
 
-def text(*names):
+def text(*names) -> str:
     return read(*names).decode()
 
 
-def run(*words, given=b'', limit=LIMIT, **how):
+def run(*words, given: bytes = b'', limit: int = LIMIT, **how) -> tuple:
     """Status, standard error and standard output of a program, which reads what is given."""
     if 'stdin' not in how:
         how['input'] = given
@@ -87,7 +89,7 @@ def run(*words, given=b'', limit=LIMIT, **how):
     return ran.returncode, ran.stderr or b'', ran.stdout or b''
 
 
-def printed(*words, **how):
+def printed(*words, **how) -> str:
     """What a program that has to succeed puts to standard output, as text."""
     status, error, output = run(*words, **how)
     if status:
@@ -95,7 +97,8 @@ def printed(*words, **how):
     return output.decode()
 
 
-def options(help_text, *names, epilog=COUNTS, **others):
+def options(help_text: str, *names, epilog: str | None = COUNTS,
+            **others) -> argparse.Namespace:
     """The words that a script is given, of which `program` has to be one that can be run.
 
     `names` are those that are due, `others` what argparse has to know of each option; the epilog

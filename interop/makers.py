@@ -9,6 +9,9 @@ TOP = os.path.dirname(os.path.dirname(os.path.abspath(__file__)))
 sys.path.insert(0, os.path.join(TOP, 'conformance'))
 from trials import Room, Tally, options, other, printed, read, run, text
 
+# For the scripts of this folder.
+__all__ = ['Tally', 'other', 'run', 'text']
+
 # Seconds that a program may take to make a file.
 LIMIT = 600
 QUIET = ['ffmpeg', '-v', 'error', '-y', '-nostdin']
@@ -55,7 +58,7 @@ TUNE = """audiotestsrc {0} num-buffers={1} samplesperbuffer=1024
     ! audio/x-raw,rate=48000,channels=1 ! voaacenc ! aacparse ! queue ! m."""
 
 
-def asked(help_text):
+def asked(help_text: str) -> tuple[str, str]:
     """The program that the words of a script name, and the folder where files are made."""
     words = options(help_text, 'program', folder={'help': 'where the files are made (kept)'})
     folder = os.path.abspath(words.folder or tempfile.mkdtemp())
@@ -63,18 +66,18 @@ def asked(help_text):
     return words.program, folder
 
 
-def ffmpeg(*words):
+def ffmpeg(*words) -> None:
     printed(*QUIET, *words, limit=LIMIT)
 
 
-def has_gstreamer():
+def has_gstreamer() -> bool:
     if shutil.which('gst-launch-1.0') is None:
         print('gst-launch-1.0 is not there: nothing of GStreamer')
         return False
     return True
 
 
-def gstreamer(path, words, is_live):
+def gstreamer(path: str, words: list[str], is_live: bool) -> None:
     """Pictures and tones, encoded and put together by GStreamer."""
     live = 'is-live=true' if is_live else 'is-live=false'
     printed('gst-launch-1.0', '-q', '-e', 'mp4mux', 'name=m', *words, '!', 'filesink',
@@ -82,14 +85,14 @@ def gstreamer(path, words, is_live):
             *TUNE.format(live, 140).split(), limit=LIMIT)
 
 
-def join(folder, name, inside):
+def join(folder: str, name: str, inside: str) -> str:
     """The segments in a folder behind their initialisation, in one file."""
     parts = sorted(it for it in os.listdir(inside) if it.endswith('.m4s'))
     Room(folder).write(name, b''.join(read(inside, it) for it in ['init.mp4', *parts]))
     return os.path.join(folder, name)
 
 
-def join_hls(folder, plain):
+def join_hls(folder: str, plain: str) -> str:
     """The segments of an HLS stream behind its initialisation."""
     inside = os.path.join(folder, 'hls')
     os.makedirs(inside, exist_ok=True)
@@ -99,7 +102,7 @@ def join_hls(folder, plain):
     return join(folder, 'hls.mp4', inside)
 
 
-def join_dash(folder, plain):
+def join_dash(folder: str, plain: str) -> str:
     """The segments of the pictures of a DASH stream behind their initialisation."""
     inside = os.path.join(folder, 'dash')
     os.makedirs(inside, exist_ok=True)

@@ -1,6 +1,9 @@
 """The columns of `samples`: the definition has their names, and so has each of the places below."""
+from __future__ import annotations
+
 import json
 import re
+from collections.abc import Iterator
 
 from common import text
 from suite import stored
@@ -8,19 +11,19 @@ from suite import stored
 TEXTS = 'crates/mp4_answers/specs/format/Texts.antt'
 
 
-def columns():
+def columns() -> list[str]:
     """The names, as the definition of what stands before the lines has them."""
     head = r'^listing_head forms\.Named =\s+codes "([^"]*)"'
     return re.search(head, text(TEXTS), re.M)[1].split()
 
 
-def behind(path, pattern):
+def behind(path: str, pattern: str) -> str:
     """What a pattern finds on a page whose line feeds are spaces; nothing where it finds nothing."""
     found = re.search(pattern, text(path).replace('\n', ' '))
     return found[1] if found else ''
 
 
-def listed(words):
+def listed(words: list[str] | str) -> list[str]:
     """The names of a list for people: each of its words is a column's, perhaps with more words."""
     cells = words.split(', ') if isinstance(words, str) else words
     names = columns()
@@ -30,13 +33,13 @@ def listed(words):
     return [it for name in found for it in (names[1:3] if name == 'times' else [name])]
 
 
-def rows_of(section):
+def rows_of(section: str) -> list[str]:
     """The second cells of the table of a section of docs/OUTPUT.md."""
     page = text('docs/OUTPUT.md').partition(f'\n## `{section}`\n')[2].partition('\n## ')[0]
     return re.findall(r'^\| \d+ \| (.*) \|$', page, re.M)
 
 
-def places():
+def places() -> Iterator:
     """Each place, the names there, and those that are due."""
     names, in_objects = columns(), sorted(columns())
     object_of_page = behind('docs/PYTHON.md', r'`samples FILE --track ID --json` \| `([^`]*)`')
@@ -61,7 +64,7 @@ def places():
     yield 'docs/PYTHON.md', list(json.loads(object_of_page or '{}')), in_objects
 
 
-def of_help(whole, own):
+def of_help(whole: str, own: str) -> Iterator:
     """The same of the program's help, and of that of `samples`."""
     said = re.search(r'^Columns of samples: (.*)$', whole, re.M)
     yield '--help, columns of samples', said[1].split() if said else [], columns()

@@ -1,28 +1,33 @@
 """What the scripts of this folder have in common; how they count, run programs and read files is
 said by the conformance suite's own module."""
+from __future__ import annotations
+
 import glob
 import os
+import re
 import sys
+from collections.abc import Iterator
 
 TOP = os.path.dirname(os.path.dirname(os.path.abspath(__file__)))
 sys.path.insert(0, os.path.join(TOP, 'conformance'))
 from trials import Room, Tally, options, other, printed, read, run, text
 
+__all__ = ['Room', 'Tally', 'options', 'other', 'printed', 'read', 'run', 'text']
 ROOMS = ('src', 'specs', 'proofs')
 
 
-def crates():
+def crates() -> list[str]:
     """The crates in the order in which they build on one another."""
     return [line.split(':')[0] for line in text('crates.txt').splitlines() if line.strip()]
 
 
-def found(pattern):
+def found(pattern: str) -> list[str]:
     """The files with such names, by their path from the top."""
     paths = glob.glob(os.path.join(TOP, pattern), recursive=True)
     return sorted(os.path.relpath(path, TOP) for path in paths if os.path.isfile(path))
 
 
-def sources(*rooms):
+def sources(*rooms) -> Iterator:
     """The path and the text of each source file in some rooms of the crates, or in all."""
     for room in rooms or ROOMS:
         for path in found(f'crates/*/{room}/**'):
@@ -30,6 +35,13 @@ def sources(*rooms):
                 yield path, text(path)
 
 
-def pages():
-    """The pages that are written by hand: README.md, and those of docs/."""
-    return ['README.md', *(it for it in found('docs/**/*.md') if it != 'docs/DEFINITIONS.md')]
+def pages() -> list[str]:
+    """README.md, and the pages of docs/."""
+    return ['README.md', *found('docs/**/*.md')]
+
+
+def is_used(name: str, body: str) -> bool:
+    """Whether an imported name of specs/ or proofs/ stands in a text: an operator does where all its parts do."""
+    word = r'(?<![\w-]){}(?![\w-])'
+    return all(re.search(word.format(re.escape(part)), body) if re.match(r'\w', part) else part in body
+               for part in name.split('◌') if part)

@@ -1,44 +1,77 @@
-"""Edits of crates that the prover has to refuse: those of crates/*/edits/ and crates/*/must-fail/.
+"""Edits of sources that each make a wrong program, for the prover (crates/*/edits/ and must-fail/)
+and for the suite (conformance/left_out_*.edit).
 
-An edit is a file with a line 'file: PATH' and then pairs of lines 'old: TEXT' and 'new: TEXT';
-each old text stands in that file of its crate exactly once, behind the pairs before it, and the
-new text is another one.
+A file of edits has lines of a word, a colon and a text; other lines are comments:
+
+    file: PATH     what the edits below it change; that of a crate's edit begins at its crate
+    edit: NAME     begins an edit of the suite: what it takes out; a crate's file is one edit
+    old: TEXT      stands in that file exactly once, behind the pairs before it
+    new: TEXT      what stands in its place
+    cases: NAME..  of the suite's edits: cases of which each must fail
+    run: SCRIPT PART: PATTERN    or a part of a script, and a pattern of a run of it that must fail
+    joins: WORD    edits with the same word share a build; others with a script are alone
+
+Lines with the same word, one behind the other, are the lines of one text.
 """
+from __future__ import annotations
+
 import os
+import re
 
-from common import TOP, text
+from common import TOP, found, text
 
-
-def why_not_once(path, source, old, new):
-    """Why a text can't be put in place of another, or nothing."""
-    count = source.count(old)
-    if count != 1:
-        return f'an old text stands in {path} {count} times'
-    return f'an old text of {path} and its new one are the same' if new == old else None
+LINE = re.compile(r'(file|edit|old|new|cases|run|joins):(?: (.*))?')
+SOURCES = re.compile(r'crates/\w+/(src|specs|proofs)/')
 
 
-def applied(edit):
-    """The texts of the files that an edit changes, by their path from the top; the pieces that it
-    changes, each a path, the text of the file before it and its place there; or why it can't be
-    applied."""
-    crate = os.path.dirname(os.path.dirname(edit))
-    path, old, texts, pieces = None, None, {}, []
-    for line in text(edit).split('\n'):
-        if line.startswith('file: '):
-            path = f"{crate}/{line[len('file: '):].strip()}"
-            is_source = path.split('/')[2] in ('src', 'specs', 'proofs')
-            if not is_source or not os.path.isfile(f'{TOP}/{path}'):
+class Edit:
+    """An edit: its file and its name; pairs of an old and a new text, each with the file that it is
+    of; and what else is said of it, by words of lines."""
+
+    def __init__(self, path: str, name: str | None = None):
+        self.path, self.name, self.pairs, self.said = path, name, [], {}
+
+    def applied(self) -> tuple:
+        """The texts of the files that it changes, by their paths; the pieces that it changes, each
+        a path, the text of the file before it and its place there; or why it can't be applied."""
+        texts, pieces = {}, []
+        for path, old, new in self.pairs:
+            if not path or not old or new is None:
+                return {}, [], "it lacks a line 'file:', 'old:' or 'new:'"
+            if not SOURCES.match(path) or not os.path.isfile(os.path.join(TOP, path)):
                 return {}, [], f'there is no file {path} in src/, specs/ or proofs/'
-        elif line.startswith('old: '):
-            old = line[len('old: '):]
-        elif line.startswith('new:'):
-            if not path or not old:
-                return {}, [], "a 'new:' line has no 'file:' or 'old:' line before it"
-            new = line[len('new:'):].removeprefix(' ')
             before = texts.setdefault(path, text(path))
-            why = why_not_once(path, before, old, new)
-            if why:
-                return {}, [], why
+            if before.count(old) != 1:
+                return {}, [], f'an old text stands in {path} {before.count(old)} times'
+            if new == old:
+                return {}, [], f'an old text of {path} and its new one are the same'
             pieces.append((path, before, before.index(old)))
-            texts[path], old = before.replace(old, new), None
-    return texts, pieces, None if pieces else "it has no pair of 'old:' and 'new:'"
+            texts[path] = before.replace(old, new)
+        return texts, pieces, None if pieces else "it has no pair of 'old:' and 'new:'"
+
+
+def edits_in(path: str) -> list[Edit]:
+    """The edits of a file; what stands before the first `edit:` is one without a name."""
+    front = '' if path.startswith('conformance/') else os.path.dirname(os.path.dirname(path)) + '/'
+    edits, file, last = [Edit(path)], None, None
+    for line in text(path).split('\n'):
+        match = LINE.fullmatch(line)
+        word, value = match.groups('') if match else (None, None)
+        if word == 'file':
+            file = front + value.strip()
+        elif word == 'edit':
+            edits.append(Edit(path, value))
+        elif word in ('old', 'new'):
+            pairs, at = edits[-1].pairs, 1 if word == 'old' else 2
+            if not pairs or last != word and pairs[-1][at] is not None:
+                pairs.append([file, None, None])
+            before = pairs[-1][at]
+            pairs[-1][at] = value if before is None else f'{before}\n{value}'
+        elif word:
+            edits[-1].said.setdefault(word, []).append(value)
+        last = word
+    return edits if front or edits[0].pairs else edits[1:]
+
+
+def edits_of_suite() -> list[Edit]:
+    return [edit for path in found('conformance/left_out_*.edit') for edit in edits_in(path)]

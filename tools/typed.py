@@ -4,6 +4,8 @@ A shell runs on a terminal of its own, in a folder with some files, with the com
 repository and no other settings. There `mp4norm` is a function that prints its words. So what the
 key put there is seen in the words that the function got.
 """
+from __future__ import annotations
+
 import os
 import pty
 import select
@@ -49,14 +51,14 @@ source '{FOLDER}/mp4norm.fish'
 class Terminal:
     """A shell on a terminal."""
 
-    def __init__(self, words, folder, environment):
+    def __init__(self, words: list[str], folder: str, environment: dict):
         self.process, self.end = pty.fork()
         if self.process == 0:
             os.chdir(folder)
             os.execvpe(words[0], words, environment)
         self.read(READY)
 
-    def read(self, mark=None):
+    def read(self, mark: bytes | None = None) -> bytes:
         """What is printed up to a mark; without one, until nothing more comes."""
         got, last = b'', time.monotonic() + (LIMIT if mark else PAUSE)
         while time.monotonic() < last and not (mark and mark in got):
@@ -68,20 +70,20 @@ class Terminal:
                 last = last if mark else time.monotonic() + PAUSE
         return got
 
-    def close(self):
+    def close(self) -> None:
         os.kill(self.process, signal.SIGKILL)
         os.close(self.end)
         os.waitpid(self.process, 0)
 
 
-def words_of(said):
+def words_of(said: bytes) -> list[str]:
     """The words that the function got, or what was printed in place of them."""
     if BEGIN not in said or END not in said:
         return [said.decode(errors='replace')]
     return said.partition(BEGIN)[2].partition(END)[0].decode(errors='replace')[1:-1].split('><')
 
 
-def completed(shell, lines):
+def completed(shell: str, lines: list[str]) -> list[list[str]] | None:
     """Of each line the words that the function gets behind it and the key; nothing without the shell."""
     words, settings, script = SHELLS[shell]
     if not shutil.which(words[0]):

@@ -1,4 +1,7 @@
 """What is wanted of each command on a file."""
+from __future__ import annotations
+
+from collections.abc import Sequence
 from . import lister, normal, objects, printer, reader
 
 # A track that no file of this suite has.
@@ -9,35 +12,35 @@ TO_FILES = ('extract', 'normalise')
 
 # ---- what commands put of a file that is accepted
 
-def movie(data, words=()):
+def movie(data: bytes, words: Sequence = ()):
     """What a file denotes without some words."""
     return reader.Movie(data).leave_out(words)
 
 
-def form(data, words=()):
+def form(data: bytes, words: Sequence = ()) -> bytes:
     """The normal form of what is left of a file."""
     return normal.normal_form(movie(data, words))
 
 
-def text(data, words=()):
+def text(data: bytes, words: Sequence = ()) -> bytes:
     """What `print` puts."""
     return printer.text(movie(data, words))
 
 
-def boxes(data):
+def boxes(data: bytes) -> bytes:
     return lister.listed(data)[0].encode()
 
 
-def shown(data):
+def shown(data: bytes) -> bytes:
     return reader.shown(movie(data)).encode()
 
 
-def lines(data, track=1):
+def lines(data: bytes, track: int = 1) -> bytes:
     """What `samples` puts."""
     return reader.lines_of(movie(data).track(track)).encode()
 
 
-def extracted(data, track=1):
+def extracted(data: bytes, track: int = 1) -> bytes:
     found = movie(data)
     return reader.extracted(found, found.track(track))
 
@@ -47,10 +50,10 @@ def extracted(data, track=1):
 class Answer:
     """Exit status, the line on standard error (none: nothing), and the bytes that are written."""
 
-    def __init__(self, status, error=None, written=b''):
+    def __init__(self, status: int, error: str | None = None, written: bytes = b''):
         self.status, self.error, self.written = status, error, written
 
-    def said(self):
+    def said(self) -> bytes:
         """All of standard error."""
         return (self.error + '\n').encode() if self.error else b''
 
@@ -58,10 +61,10 @@ class Answer:
 class Asked:
     """A command, with the track that it is asked of, and the answer that is wanted."""
 
-    def __init__(self, command, track, answer):
+    def __init__(self, command: str, track: int | None, answer: Answer):
         self.command, self.track, self.answer = command, track, answer
 
-    def words(self, path, out='-'):
+    def words(self, path: str, out: str = '-') -> list[str]:
         """The words behind the program's name; `boxes-input` has none and reads standard input."""
         if self.command == 'boxes-input':
             return []
@@ -71,11 +74,11 @@ class Asked:
         return [self.command, path, *track, *(['--out', out] if self.command in TO_FILES else [])]
 
 
-def done(command, written, track=None):
+def done(command: str, written: bytes, track: int | None = None) -> Asked:
     return Asked(command, track, Answer(0, None, written))
 
 
-def of_boxes(data):
+def of_boxes(data: bytes) -> list[Asked]:
     """The answers of the commands that list boxes: of standard input, of a file, as JSON."""
     asked = []
     for found, commands in ((lister.listed(data), ('boxes-input', 'boxes')),
@@ -86,14 +89,14 @@ def of_boxes(data):
     return asked
 
 
-def of_refused(line):
+def of_refused(line: str) -> list[Asked]:
     """Four commands refuse with the same line."""
     answer = Answer(1, line)
     return [Asked('show', None, answer), Asked('samples', 1, answer),
             Asked('extract', 1, answer), Asked('normalise', None, answer)]
 
 
-def of_accepted(data):
+def of_accepted(data: bytes) -> list[Asked]:
     """The answers of four commands, by a reader of this suite's own."""
     found = movie(data)
     if reader.is_misread(found):

@@ -2,7 +2,10 @@
 
 A file is built as a tree of boxes, so that a case knows where it put the box that it breaks.
 """
+from __future__ import annotations
+
 import struct
+from collections.abc import Callable, Sequence
 
 
 # The boxes that are kept whole, by what they stand in: content that isn't read.
@@ -13,37 +16,37 @@ KEPT = {
 }
 
 
-def u8(number):
+def u8(number: int) -> bytes:
     return struct.pack('>B', number)
 
 
-def u16(number):
+def u16(number: int) -> bytes:
     return struct.pack('>H', number)
 
 
-def u32(number):
+def u32(number: int) -> bytes:
     return struct.pack('>I', number)
 
 
-def i32(number):
+def i32(number: int) -> bytes:
     """Four bytes; of any number, since places are not yet right when lengths are asked for."""
     return u32(number % 2**32)
 
 
-def u64(number):
+def u64(number: int) -> bytes:
     return struct.pack('>Q', number)
 
 
-def i64(number):
+def i64(number: int) -> bytes:
     return struct.pack('>q', number)
 
 
-def full(version, flags=0):
+def full(version: int, flags: int = 0) -> bytes:
     """The first four bytes of a full box."""
     return u32(version << 24 | flags)
 
 
-def numbers(*row):
+def numbers(*row) -> bytes:
     """Numbers of four bytes."""
     return b''.join(map(i32, row))
 
@@ -55,7 +58,8 @@ class Box:
     called again when all boxes have their places, and must give as many bytes as before.
     """
 
-    def __init__(self, kind, fields=b'', children=(), wide=False):
+    def __init__(self, kind: str, fields: bytes | Callable = b'', children: Sequence = (),
+                 wide: bool = False):
         self.kind = kind
         self.fields = fields
         self.children = list(children)
@@ -68,21 +72,21 @@ class Box:
         self.kept = None
         self.place = 0
 
-    def field_bytes(self):
+    def field_bytes(self) -> bytes:
         fields = bytearray(self.fields() if callable(self.fields) else self.fields)
         for at, new in self.patches:
             assert at + len(new) <= len(fields), (self.kind, at)
             fields[at:at + len(new)] = new
         return bytes(fields) if self.kept is None else bytes(fields[:self.kept])
 
-    def header_length(self):
+    def header_length(self) -> int:
         return 16 if self.wide else 8
 
-    def length(self):
+    def length(self) -> int:
         inner = sum(child.length() for child in self.children)
         return self.header_length() + len(self.field_bytes()) + inner
 
-    def settle(self, place):
+    def settle(self, place: int) -> int:
         """Gives this box and those in it their places; answers the place behind it."""
         self.place = place
         place += self.header_length() + len(self.field_bytes())
@@ -90,19 +94,19 @@ class Box:
             place = child.settle(place)
         return place
 
-    def header(self):
+    def header(self) -> bytes:
         size = self.length() if self.said is None else self.said
         if self.wide:
             return u32(1) + self.kind.encode('latin-1') + u64(size)
         return u32(size) + self.kind.encode('latin-1')
 
-    def spelled(self):
+    def spelled(self) -> bytes:
         return self.header() + self.payload()
 
-    def payload(self):
+    def payload(self) -> bytes:
         return self.field_bytes() + b''.join(map(Box.spelled, self.children))
 
-    def copied(self):
+    def copied(self) -> Box:
         """Another box like this one."""
         children = [child.copied() for child in self.children]
         copy = Box(self.kind, self.fields, children, self.wide)
@@ -113,13 +117,13 @@ class Box:
 class Raw(Box):
     """Bytes where a box is due."""
 
-    def __init__(self, content):
+    def __init__(self, content: bytes):
         super().__init__('none', content)
 
-    def header_length(self):
+    def header_length(self) -> int:
         return 0
 
-    def header(self):
+    def header(self) -> bytes:
         return b''
 
 
@@ -129,14 +133,14 @@ class Hole(Box):
     It stands in the file itself, or is the last box in all that it is in.
     """
 
-    def __init__(self, kind, size):
+    def __init__(self, kind: str, size: int):
         super().__init__(kind, wide=True)
         self.size = size
 
-    def length(self):
+    def length(self) -> int:
         return self.size
 
-    def settle(self, place):
+    def settle(self, place: int) -> int:
         self.place = place
         return place + self.size
 
@@ -146,26 +150,26 @@ class File:
 
     place = 0
 
-    def __init__(self, boxes):
+    def __init__(self, boxes: list[Box]):
         self.children = list(boxes)
 
-    def settle(self):
+    def settle(self) -> int:
         """Gives all boxes their places; answers the length of the file."""
         place = 0
         for box in self.children:
             place = box.settle(place)
         return place
 
-    def spelled(self):
+    def spelled(self) -> bytes:
         self.settle()
         return b''.join(box.spelled() for box in self.children)
 
-    def filled(self):
+    def filled(self) -> bytes:
         """All bytes, those of holes too."""
         self.settle()
         return b''.join(box.spelled().ljust(box.length(), b'\0') for box in self.children)
 
-    def write(self, path):
+    def write(self, path: str) -> None:
         """Makes the file on the disk, with its holes."""
         length = self.settle()
         with open(path, 'wb') as file:
@@ -174,7 +178,7 @@ class File:
                 file.write(box.spelled())
             file.truncate(length)
 
-    def at(self, path):
+    def at(self, path: str) -> Box | File:
         """The box at a path such as `moov/trak[1]/tkhd`; the empty path is the file itself."""
         found = self
         for step in filter(None, path.split('/')):
@@ -186,32 +190,32 @@ class File:
 
 # ---- boxes that count their rows
 
-def table(kind, rows, version=0):
+def table(kind: str, rows: Sequence, version: int = 0) -> Box:
     """A full box that counts its rows, each given as numbers of four bytes, or as it is spelled."""
     spelled = [row if isinstance(row, bytes) else numbers(*row) for row in rows]
     return Box(kind, full(version) + u32(len(rows)) + b''.join(spelled))
 
 
-def sbgp(kind, rows, parameter=None):
+def sbgp(kind: bytes, rows: Sequence, parameter: int | None = None) -> Box:
     """Groups of this type, with a parameter in version 1."""
     start = full(parameter is not None) + kind + (b'' if parameter is None else u32(parameter))
     return Box('sbgp', start + table('sbgp', rows).fields[4:])
 
 
-def stsz(sizes):
+def stsz(sizes: range | Sequence) -> Box:
     return Box('stsz', full(0) + u32(0) + u32(len(sizes)) + numbers(*sizes))
 
 
-def one_size(size, count):
+def one_size(size: int, count: int) -> Box:
     """The sizes of so many samples of one size."""
     return Box('stsz', full(0) + u32(size) + u32(count))
 
 
-def stz2(bits, count, sizes):
+def stz2(bits: int, count: int, sizes: bytes) -> Box:
     return Box('stz2', full(0) + u32(bits) + u32(count) + sizes)
 
 
-def no_samples():
+def no_samples() -> list[Box]:
     """Tables without samples."""
     return [Box('stts', bytes(8)), Box('stsc', bytes(8)), Box('stsz', bytes(12)),
             Box('stco', bytes(8))]

@@ -1,4 +1,7 @@
 """All files that are built when the suite runs."""
+from __future__ import annotations
+
+from collections.abc import Iterator
 from . import answers, close_cases, extras, faults, stored
 from .boxes import Box, File, Hole, stz2, table, u32
 from .extras import STBL, Extra, line_of
@@ -10,11 +13,11 @@ FAR = 5 * 2**30
 MOST = 2**24
 
 
-def form(is_wide):
+def form(is_wide: bool) -> str:
     return 'wide' if is_wide else 'narrow'
 
 
-def single_faults():
+def single_faults() -> Iterator:
     """A file for each fault in the order of checks, in both forms."""
     for is_wide in (False, True):
         for fault in faults.in_order(is_wide):
@@ -22,7 +25,7 @@ def single_faults():
                         fault.breaks, is_wide=is_wide)
 
 
-def neighbouring_faults():
+def neighbouring_faults() -> Iterator:
     """A file for each two neighbours in the order of checks, in both forms."""
     for is_wide in (False, True):
         for first, second in faults.neighbours(faults.in_order(is_wide)):
@@ -30,11 +33,11 @@ def neighbouring_faults():
                         first.kind, first.breaks, second.breaks, is_wide=is_wide)
 
 
-def all_extras():
+def all_extras() -> list[Extra]:
     return [*extras.all_extras(), *close_cases.all_extras()]
 
 
-def accepted_files():
+def accepted_files() -> Iterator:
     """The names and the bytes of accepted files of a few kilobytes, of which each two are compared:
     not those for a close reading, of which each is like one of these but for what it is for."""
     names = {case['file'] for case in stored.cases() if case['command'] != 'boxes'
@@ -46,13 +49,13 @@ def accepted_files():
             yield extra.name, extra.make()[0].spelled()
 
 
-def all_files():
+def all_files() -> Iterator:
     yield from all_extras()
     yield from single_faults()
     yield from neighbouring_faults()
 
 
-def alone():
+def alone() -> File:
     """The wide file's movie with one track alone."""
     movie = whole(True).at('moov')
     movie.children.remove(File([movie]).at('moov/trak[1]'))
@@ -67,7 +70,7 @@ def with_run_of(count):
     return File([*file.children, Box('moof', b'', [Box('mfhd'), traf])])
 
 
-def with_tables_of(count):
+def with_tables_of(count: int) -> File:
     """A track with tables of so many samples of no bytes and no duration, in one chunk."""
     file = alone()
     stbl = file.at(STBL)
@@ -98,7 +101,7 @@ def of_most_samples(make):
 FULL_FILES = [('most-samples', with_run_of), ('most-samples-in-tables', with_tables_of)]
 
 
-def with_hole(kind, before, size):
+def with_hole(kind: str, before: str, size: int) -> File:
     """The wide file with a box of so many bytes before the first of a type."""
     file = whole(True)
     kinds = [box.kind for box in file.children]
@@ -106,7 +109,7 @@ def with_hole(kind, before, size):
     return file
 
 
-def far_files():
+def far_files() -> list[tuple]:
     """Files whose movie or fragments lie far behind. Without the hole each is the wide file."""
     return [
         ('movie-behind-five-gigabytes', with_hole('free', 'moov', FAR)),
@@ -116,7 +119,7 @@ def far_files():
     ]
 
 
-def with_long_movie():
+def with_long_movie() -> File:
     """The wide file without fragments, and at its end a `moov` with user data of 2^30 bytes."""
     file = whole(True)
     movie = file.at('moov')
@@ -125,7 +128,7 @@ def with_long_movie():
     return file
 
 
-def large_files():
+def large_files() -> list[tuple]:
     """Files of more than 2^30 bytes that are refused: name, file, line."""
     too_long, both = with_long_movie(), with_long_movie()
     named = faults.long_edit('moov/trak[1]')(both)

@@ -1,5 +1,8 @@
 """Changes of one value of the wide file, and the line of `compare` that tells of each, written by
 hand."""
+from __future__ import annotations
+
+from collections.abc import Callable
 from . import entries
 from .boxes import Box, full, i32, numbers, u16, u32, u64
 from .edits import all_of, exchanged, fields, gone, longer, put, removed, renamed, rows
@@ -20,33 +23,33 @@ def whole(*changes):
     return file
 
 
-def second_description(file):
+def second_description(file) -> None:
     stsd = file.at(STBL + '/stsd')
     stsd.children.append(Box('mp4v', bytes(6) + u16(1) + b'less'))
     stsd.patches.append((4, u32(2)))
 
 
-def short_of_a_fragment(file):
+def short_of_a_fragment(file) -> None:
     del file.children[-2:]
 
 
-def durations(*found):
+def durations(*found) -> Callable:
     """Other durations in the tables of the second track, and the decode time behind them."""
     end = sum(count * duration for count, duration in found)
     return all_of(rows(SECOND + '/stts', *found), put('moof/traf[1]/tfdt', 4, u64(end)))
 
 
-def offsets(*found, stbl=STBL):
+def offsets(*found, stbl: str = STBL) -> Callable:
     """Other composition offsets in tables."""
     return rows(stbl + '/ctts', *((1, offset) for offset in found), version=1)
 
 
-def last_run(flags, *columns, moof='moof[1]'):
+def last_run(flags: int, *columns, moof: str = 'moof[1]') -> Callable:
     """The last run of the first track in a fragment, with these columns too."""
     return fields(moof + '/traf/trun[1]', full(1, 0x204 | flags) + numbers(1, 0x02000000, *columns))
 
 
-def moved_in(moof):
+def moved_in(moof: str) -> Callable:
     """The offsets of the first track in a fragment are 1000 more."""
     return all_of(put(moof + '/traf/trun', 20, i32(1000)), put(moof + '/traf/trun', 32, i32(744)),
                   last_run(0x800, 2, 1000, moof=moof))
@@ -56,7 +59,7 @@ LAST_LONGER = last_run(0x100, 1024, 2)
 MOVED = all_of(offsets(1000, 1256, 1256), moved_in('moof'), moved_in('moof[1]'))
 
 
-def one(change, line, words='', **others):
+def one(change: Callable, line: str, words: str = '', **others) -> tuple:
     """A change, its line, the words that leave it out, and other lines with some words."""
     return change, line, words.split(), others
 
@@ -146,7 +149,7 @@ CHANGES = [
 
 
 
-def fragments_alone(file):
+def fragments_alone(file) -> None:
     """The samples of the second track are those of fragments alone."""
     for kind in ('stts', 'ctts', 'stss', 'stsc', 'co64'):
         fields(f'{SECOND}/{kind}', bytes(8))(file)
@@ -154,7 +157,7 @@ def fragments_alone(file):
            fields(SECOND + '/sdtp', bytes(4)), removed(SECOND, 'sbgp'))(file)
 
 
-def tables_alone(file):
+def tables_alone(file) -> None:
     """All samples are those of tables."""
     del file.children[file.children.index(file.at('moof')):]
 

@@ -1,4 +1,6 @@
 """The clauses of the standard that tell of boxes, by their types."""
+from __future__ import annotations
+
 
 # The clauses of ISO/IEC 14496-12 (edition of 2015) that tell of boxes of these types.
 CLAUSES = {
@@ -25,7 +27,7 @@ MORE_CLAUSES = {
     '8.12.6': 'schi', '8.16.4': 'ssix', '8.14.3': 'strk', '4.2': 'iods uuid pssh tenc senc'}
 
 
-def clauses_of(table):
+def clauses_of(table: dict) -> dict:
     return {kind.encode(): clause for clause, kinds in table.items()
             for kind in (kinds.split(',') if ',' in kinds else kinds.split(' '))}
 

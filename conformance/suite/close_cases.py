@@ -1,8 +1,11 @@
 """Files on which a close reading of the format's description shows: what is easily misread.
 
 `misreadings` says which misreadings; edits of the program for others are in
-`left_out_misreadings.py`.
+`left_out_misreadings.edit`.
 """
+from __future__ import annotations
+
+from collections.abc import Callable
 from .boxes import KEPT, Box, full, i32, i64, numbers, sbgp, u8, u16, u32, u64
 from .edits import added, fields, moved, name_of, put, removed, renamed, replaced, rows
 from .extras import (CONTAINERS, DREF, ELST, FOUR, LATER, SECOND_STBL, STBL, STCO, STSC, STSZ, STTS,
@@ -22,12 +25,12 @@ SAID = {'tfhd': 0x00002b, 'trun': 0x000e01}
 OPENED = ('moov', 'moof', *[kind for path, kinds in INSIDE.items() if path for kind in kinds])
 
 
-def base_at(at):
+def base_at(at: int) -> Callable:
     """The boxes of a `traf` without runs, whose base is at this byte of the data box."""
     return lambda data, _: [Box('tfhd', lambda: full(0, 1) + u32(1) + u64(data.place + at))]
 
 
-def of_trafs_without_samples():
+def of_trafs_without_samples() -> list[Extra]:
     roll = sbgp(b'roll', ())
     return [
         fine('empty-run-moves-the-next-traf',
@@ -46,14 +49,14 @@ def of_trafs_without_samples():
     ]
 
 
-def keys_in_two_trafs(file):
+def keys_in_two_trafs(file) -> tuple:
     """Three keys more in a `traf` without samples, and one more in the next."""
     *others, named = [sbgp(kind, ()) for kind in FOUR]
     file.children += [moof_of(3, [head(0, 1), *others]), moof_of(3, [head(0, 1), named])]
     return named.kind, named
 
 
-def of_listed_boxes():
+def of_listed_boxes() -> list[Extra]:
     """Boxes of containers' types where the table has none: `boxes` doesn't look into them."""
     found = []
     for path in CONTAINERS:
@@ -72,7 +75,7 @@ def of_listed_boxes():
     ]
 
 
-def of_room_and_versions():
+def of_room_and_versions() -> list[Extra]:
     handler = full(0) + bytes(4) + b'vide' + bytes(12)
     return [
         fine('iloc-in-elng', 'it is kept, and may name places', fields(MDIA + '/elng', b'iloc')),
@@ -97,7 +100,7 @@ def of_room_and_versions():
     ]
 
 
-def of_chunks():
+def of_chunks() -> list[Extra]:
     one_place = rows(STCO, (0,))
     return [
         fine('chunk-rows-from-two-without-chunks',
@@ -120,7 +123,7 @@ def of_chunks():
     ]
 
 
-def of_emptied(named, *others):
+def of_emptied(named: Callable, *others) -> Callable:
     """Changes of a track without samples in its tables, of which the first says what is named."""
     def breaks(file):
         emptied(0)(file)
@@ -128,7 +131,7 @@ def of_emptied(named, *others):
     return breaks
 
 
-def chunk_at_the_end(behind):
+def chunk_at_the_end(behind: int) -> Callable:
     """Three chunks of a sample each; the second, of size 0, lies so many bytes behind the file."""
     def breaks(file):
         data, last = file.at('mdat'), file.children[-1]
@@ -141,13 +144,13 @@ def chunk_at_the_end(behind):
     return breaks
 
 
-def unknown_flags(kind):
+def unknown_flags(kind: str) -> dict:
     """The names of files with a flag that has no meaning in a type of box, and that flag."""
     flags = [1 << bit for bit in range(24)]
     return {f'{kind}-with-flag-{flag:06x}': flag for flag in flags if not KNOWN[kind] & flag}
 
 
-def of_flags():
+def of_flags() -> list[Extra]:
     found = [Extra(name, 'a flag that has no meaning here', 'BadFlags',
                    put(f'{TRAF}/{kind}', 1, u32(SAID[kind] | flag)[1:]))
              for kind in KNOWN for name, flag in unknown_flags(kind).items()]
@@ -162,7 +165,7 @@ def of_flags():
     ]
 
 
-def of_numbers():
+def of_numbers() -> list[Extra]:
     rate = u16(0xfffe) + u16(0x8000)
     return [
         fine('edits-of-negative-rates', 'both numbers of a rate have a sign', put(ELST, 16, rate)),
@@ -181,7 +184,7 @@ def of_numbers():
     ]
 
 
-def types_of(*types):
+def types_of(*types) -> list[Callable]:
     """Of each of the two tracks the type of its description and that of its handler."""
     changes = []
     for track, (entry, handler) in enumerate(types):
@@ -192,7 +195,7 @@ def types_of(*types):
     return changes
 
 
-def of_types():
+def of_types() -> list[Extra]:
     return [
         fine('types-with-quotes', 'quotes and backslashes are escaped in JSON',
              *types_of(('"\\"\\', b'a"b\\'), ('a/b\'', b'\\u00'))),
@@ -209,7 +212,7 @@ def of_types():
     ]
 
 
-def of_the_normal_form():
+def of_the_normal_form() -> list[Extra]:
     return [
         fine('second-track-begins-before-the-first', 'its early samples are in the first fragment',
              emptied(0), emptied(1), put(TFDT, 4, u32(9000)), put(LATER + '/tfdt', 4, u32(10536))),
@@ -218,18 +221,18 @@ def of_the_normal_form():
     ]
 
 
-def in_front(path, kind):
+def in_front(path: str, kind: str) -> Callable:
     """The first box of a type as the first of its container."""
     return moved(path, kind, 0)
 
 
-def turned(file):
+def turned(file) -> None:
     """The boxes of each container of the movie and of each `traf` in the other order."""
     for path in [path for path in CONTAINERS if path not in ('', 'moof')]:
         file.at(path).children.reverse()
 
 
-def of_order():
+def of_order() -> list[Extra]:
     """Two faults, of which the one that stands first in the file is named, also where the others'
     boxes have another place in other files."""
     no_id, no_scale = put(TKHD, 12, u32(0)), put(MDIA + '/mdhd', 12, u32(0))
@@ -260,7 +263,7 @@ def of_order():
     ]
 
 
-def all_extras():
+def all_extras() -> list[Extra]:
     return [*of_trafs_without_samples(), *of_listed_boxes(), *of_room_and_versions(),
             *of_chunks(), *of_flags(), *of_numbers(), *of_types(), *of_the_normal_form(),
             *of_order()]

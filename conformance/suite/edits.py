@@ -1,21 +1,24 @@
 """Changes of a file that is built: functions of the file. Each answers what a fault of it names,
 the type and the box (or bytes)."""
+from __future__ import annotations
+
+from collections.abc import Callable
 from .boxes import Raw, table
 
 
-def name_of(path):
+def name_of(path: str) -> str:
     """The type in a path's last step; `file` for the file itself."""
     return path.split('/')[-1].partition('[')[0] or 'file'
 
 
-def all_of(*changes):
+def all_of(*changes) -> Callable:
     """Several changes; the first says what is named."""
     def change(file):
         return [one(file) for one in changes][0]
     return change
 
 
-def naming(path, *changes):
+def naming(path: str, *changes) -> Callable:
     """Changes of which the fault names the box that stands at a path before them."""
     def change(file):
         box = file.at(path)
@@ -27,7 +30,7 @@ def naming(path, *changes):
 
 # ---- a box where it stands
 
-def changed(path, change):
+def changed(path: str, change: Callable) -> Callable:
     """A box that is changed where it stands; it is the one that is named."""
     def breaks(file):
         box = file.at(path)
@@ -36,59 +39,59 @@ def changed(path, change):
     return breaks
 
 
-def put(path, at, new):
+def put(path: str, at: int, new: bytes) -> Callable:
     """Other bytes in the fields of a box."""
     return changed(path, lambda box: box.patches.append((at, new)))
 
 
-def fields(path, new):
+def fields(path: str, new: bytes | Callable) -> Callable:
     """Other fields."""
     def change(box):
         box.fields, box.patches = new, []
     return changed(path, change)
 
 
-def rows(path, *others, version=0):
+def rows(path: str, *others, version: int = 0) -> Callable:
     """Other rows of a table."""
     return fields(path, table('', others, version).fields)
 
 
-def longer(path, more=b'x'):
+def longer(path: str, more: bytes = b'x') -> Callable:
     """Bytes behind the fields of a box."""
     def change(box):
         box.fields, box.patches = box.field_bytes() + more, []
     return changed(path, change)
 
 
-def renamed(path, kind):
+def renamed(path: str, kind: str) -> Callable:
     return changed(path, lambda box: setattr(box, 'kind', kind))
 
 
-def said(path, size):
+def said(path: str, size: int) -> Callable:
     """A box whose header says another size."""
     return changed(path, lambda box: setattr(box, 'said', size))
 
 
-def cut(path, length):
+def cut(path: str, length: int) -> Callable:
     """Fields cut short; nothing behind them."""
     def change(box):
         box.kept, box.children = length, []
     return changed(path, change)
 
 
-def cut_by_one(path):
+def cut_by_one(path: str) -> Callable:
     """A leaf that ends one byte early."""
     return changed(path, lambda box: setattr(box, 'kept', len(box.field_bytes()) - 1))
 
 
 # ---- boxes in a container
 
-def place_of(children, kind):
+def place_of(children, kind: str) -> int:
     """The place of the first box of a type."""
     return [child.kind for child in children].index(kind)
 
 
-def added(path, box, size=None, before=None):
+def added(path: str, box, size: int | None = None, before: str | None = None) -> Callable:
     """A box more, perhaps of another said size, at the end or before the first of a type."""
     def breaks(file):
         more, children = box.copied(), file.at(path).children
@@ -98,7 +101,7 @@ def added(path, box, size=None, before=None):
     return breaks
 
 
-def added_copy(path, kind, new_kind=None):
+def added_copy(path: str, kind: str, new_kind: str | None = None) -> Callable:
     """A box of a container for a second time, perhaps as another type."""
     def breaks(file):
         children = file.at(path).children
@@ -109,7 +112,7 @@ def added_copy(path, kind, new_kind=None):
     return breaks
 
 
-def added_bytes(path, content):
+def added_bytes(path: str, content: bytes) -> Callable:
     """Bytes at the end of a container that are no whole header."""
     def breaks(file):
         more = Raw(content)
@@ -118,7 +121,7 @@ def added_bytes(path, content):
     return breaks
 
 
-def removed(path, *kinds):
+def removed(path: str, *kinds) -> Callable:
     """A container without all boxes of some types."""
     def breaks(file):
         container = file.at(path)
@@ -127,7 +130,7 @@ def removed(path, *kinds):
     return breaks
 
 
-def replaced(path, *new):
+def replaced(path: str, *new) -> Callable:
     """Other boxes in the place of one, or none."""
     def breaks(file):
         container, copies = file.at(path.rpartition('/')[0]), [box.copied() for box in new]
@@ -137,12 +140,12 @@ def replaced(path, *new):
     return breaks
 
 
-def gone(path):
+def gone(path: str) -> Callable:
     """A box less."""
     return replaced(path)
 
 
-def moved(path, kind, place):
+def moved(path: str, kind: str, place: int | None) -> Callable:
     """The first box of a type at another place of its container."""
     def breaks(file):
         children = file.at(path).children
@@ -152,7 +155,7 @@ def moved(path, kind, place):
     return breaks
 
 
-def exchanged(path, first, second):
+def exchanged(path: str, first: str, second: str) -> Callable:
     """Two neighbours in the other order."""
     def breaks(file):
         children = file.at(path).children

@@ -1,5 +1,8 @@
 """Sample descriptions that say bit rates, or nearly, and what is left of each without these,
 written by hand."""
+from __future__ import annotations
+
+from collections.abc import Iterator
 from .boxes import Box, u16, u32, u64
 
 # Bytes that each description begins with, and rates of an `esds`: some, others, none.
@@ -7,49 +10,50 @@ FRONT = bytes(6) + u16(1)
 RATES, OTHERS, NONE = bytes(range(1, 12)), bytes(range(21, 32)), bytes(11)
 
 
-def box(kind, *parts):
+def box(kind: str, *parts) -> bytes:
     return Box(kind, b''.join(parts)).spelled()
 
 
-def pictures(*parts):
+def pictures(*parts) -> bytes:
     return FRONT + bytes(70) + b''.join(parts)
 
 
-def sound(version, *parts):
+def sound(version: int, *parts) -> bytes:
     """A description of sound of a version of QuickTime; of others the fields of version 0."""
     length = {1: 44, 2: 64}.get(version, 28)
     return FRONT + u16(version) + bytes(length - 10) + b''.join(parts)
 
 
-def other(*parts):
+def other(*parts) -> bytes:
     return FRONT + b''.join(parts)
 
 
-def btrt(first=1):
+def btrt(first: int = 1) -> bytes:
     return box('btrt', u32(first), u32(2), u32(3))
 
 
-def descriptor(tag, content, width=1, said=None):
+def descriptor(tag: int, content: bytes, width: int = 1, said=None) -> bytes:
     """A descriptor with its length in so many bytes, which may say another one."""
     length = len(content) if said is None else said
     digits = [length >> 7 * k & 0x7f | (0x80 if k else 0) for k in reversed(range(width))]
     return bytes([tag, *digits]) + content
 
 
-def decoder(rates, width=1, said=None, tag=4, more=descriptor(5, b'\x12\x10')):
+def decoder(rates: bytes, width: int = 1, said=None, tag: int = 4,
+            more: bytes = descriptor(5, b'\x12\x10')) -> bytes:
     return descriptor(tag, b'\x40\x15' + rates + more, width, said)
 
 
-def stream(inner, fields=b'\0', width=1, said=None, tag=3):
+def stream(inner: bytes, fields: bytes = b'\0', width: int = 1, said=None, tag: int = 3) -> bytes:
     """The payload of an `esds`: the fields are its flags, and what these say is there."""
     return bytes(4) + descriptor(tag, u16(1) + fields + inner, width, said)
 
 
-def esds(rates):
+def esds(rates: bytes) -> bytes:
     return box('esds', stream(decoder(rates)))
 
 
-def of_boxes():
+def of_boxes() -> Iterator:
     """Where boxes begin, and how they fill a description."""
     front, behind, rate = box('avcC', b'\1'), box('pasp', u64(1)), btrt()
     yield 'a btrt', b'vide', pictures(rate), pictures()
@@ -88,7 +92,7 @@ def of_boxes():
     yield 'pictures of sound', b'soun', pictures(rate), pictures(rate)
 
 
-def of_waves():
+def of_waves() -> Iterator:
     """A `wave` of QuickTime."""
     rate, some, none = btrt(), esds(RATES), esds(NONE)
     end = u32(8) + bytes(4)
@@ -105,7 +109,7 @@ def of_waves():
     yield 'a wave of text', b'text', other(box('wave', rate)), other(u32(28), b'wave')
 
 
-def of_streams():
+def of_streams() -> Iterator:
     """Descriptors of an `esds`: the payload, and whether it has rates."""
     for width in range(1, 6):
         yield f'lengths of {width}', lambda it: stream(decoder(it, width), width=width), width < 5
@@ -134,7 +138,7 @@ def of_streams():
         yield f'{length} bytes', lambda it: stream(decoder(it))[:length], False
 
 
-def of_esds():
+def of_esds() -> Iterator:
     """Each `esds` in sound, and some in pictures."""
     for name, made, has_rates in of_streams():
         some, left = (box('esds', made(it)) for it in (RATES, NONE if has_rates else RATES))
@@ -144,7 +148,7 @@ def of_esds():
     yield 'esds of text', b'text', *2 * (other(esds(RATES)),)
 
 
-def of_others():
+def of_others() -> Iterator:
     """Descriptions of tracks that have neither pictures nor sound."""
     rate = btrt()
     for kind in (b'text', b'sbtl', b'VIDE', bytes(4)):
@@ -159,7 +163,7 @@ def of_others():
     yield 'pictures of text', b'text', pictures(rate, bytes(4)), pictures(rate, bytes(4))
 
 
-def cases():
+def cases() -> Iterator:
     """Of each case its name, the type of the handler, the payload, what is left of it."""
     for found in (of_boxes, of_waves, of_esds, of_others):
         yield from found()

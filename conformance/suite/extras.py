@@ -1,5 +1,8 @@
 """Further files: more ways to have a fault, pairs of faults that the order's neighbours leave out,
 and files that are just within what is allowed."""
+from __future__ import annotations
+
+from collections.abc import Callable, Sequence
 from . import answers, lister
 from .boxes import KEPT, Box, full, no_samples, numbers, sbgp, stz2, u8, u16, u32, u64
 from .edits import (added, added_bytes, added_copy, all_of, changed, fields, longer, moved, name_of,
@@ -26,23 +29,23 @@ class Extra:
     """A file: its name, what it is for, the kind of its fault (none: it is accepted), its changes,
     of which the first says what the fault names."""
 
-    def __init__(self, name, reason, kind, *breaks, is_wide=False):
+    def __init__(self, name: str, reason: str, kind: str | None, *breaks, is_wide: bool = False):
         self.name, self.reason, self.kind = name, reason, kind
         self.breaks, self.is_wide = breaks, is_wide
 
-    def build(self):
+    def build(self) -> tuple:
         """The file, and what its fault names."""
         file = whole(self.is_wide)
         named = all_of(*self.breaks)(file) if self.breaks else None
         file.settle()
         return file, named
 
-    def make(self):
+    def make(self) -> tuple:
         """The file, and the line that refuses it, if one does."""
         file, named = self.build()
         return file, line_of(self.kind, named) if self.kind else None
 
-    def asked(self):
+    def asked(self) -> tuple:
         """The bytes of the file, and what is wanted of each command."""
         file, line = self.make()
         data = file.spelled()
@@ -50,47 +53,48 @@ class Extra:
         return data, answers.of_boxes(data) + wanted
 
 
-def line_of(kind, named):
+def line_of(kind: str, named: tuple) -> str:
     name, box = named
     return f"refused: {kind} in {lister.printed(name.encode('latin-1'))} at {box.place}"
 
 
-def fine(name, reason, *breaks, is_wide=False):
+def fine(name: str, reason: str, *breaks, is_wide: bool = False) -> Extra:
     """A file that is accepted."""
     return Extra(name, reason, None, *breaks, is_wide=is_wide)
 
 
-def without_descriptions(stbl):
+def without_descriptions(stbl: str) -> Callable:
     """A track whose `stsd` has no entry."""
     def change(box):
         box.fields, box.children = full(0) + u32(0), []
     return changed(stbl + '/stsd', change)
 
 
-def trex_of(number):
+def trex_of(number: int) -> Box:
     return Box('trex', full(0) + u32(number) + bytes(16))
 
 
-def groupings(path, *kinds, groups=((1, 1),), before=None):
+def groupings(path: str, *kinds, groups: Sequence = ((1, 1),),
+              before: str | None = None) -> Callable:
     """Groupings of these types more; the fault names the last."""
     def breaks(file):
         return [added(path, sbgp(kind, groups), before=before)(file) for kind in kinds][-1]
     return breaks
 
 
-def run(flags, count, *rest):
+def run(flags: int, count: int, *rest) -> Box:
     return Box('trun', full(0, flags) + numbers(count, *rest))
 
 
-def head(flags, track, *rest):
+def head(flags: int, track: int, *rest) -> Box:
     return Box('tfhd', full(0, flags) + numbers(track, *rest))
 
 
-def time_of(number):
+def time_of(number: int) -> Box:
     return Box('tfdt', full(0) + u32(number))
 
 
-def fragment(*boxes, named=0):
+def fragment(*boxes, named: int = 0) -> Callable:
     """A `moof` of a `traf` of these boxes at the end of the file; the fault names one of them."""
     def breaks(file):
         copies = [box.copied() for box in boxes]
@@ -99,14 +103,14 @@ def fragment(*boxes, named=0):
     return breaks
 
 
-def without_tracks(file):
+def without_tracks(file) -> tuple:
     """A movie of its header alone, without fragments."""
     movie = file.at('moov')
     movie.children = [child for child in movie.children if child.kind == 'mvhd']
     return removed('', 'moof')(file)
 
 
-def emptied(number):
+def emptied(number: int) -> Callable:
     """A track whose tables have no samples."""
     def breaks(file):
         stbl = file.at(f'moov/trak[{number}]/mdia/minf/stbl')
@@ -116,7 +120,7 @@ def emptied(number):
     return breaks
 
 
-def two_trafs(first, flags=0):
+def two_trafs(first: Callable, flags: int = 0) -> Callable:
     """A `moof` of a `traf` of the first track, whose boxes are made of the data box and the `moof`,
     and of one of the second track that has no place of its own but by these flags."""
     def breaks(file):
@@ -128,13 +132,13 @@ def two_trafs(first, flags=0):
     return breaks
 
 
-def run_at(count, at):
+def run_at(count: int, at: int) -> Callable:
     """The boxes of a `traf` whose run, of samples of four bytes, begins at this byte of data."""
     return lambda data, moof: [head(0x000010, 1, 4), Box('trun', lambda: (
         full(0, 1) + numbers(count, data.place + at - moof.place)))]
 
 
-def headers():
+def headers() -> list[Extra]:
     wide_free = Box('free', bytes(8), wide=True)
     cut_wide = u32(1) + b'free' + bytes(4)
     found = []
@@ -156,7 +160,7 @@ def headers():
     return found
 
 
-def pairs_of_headers():
+def pairs_of_headers() -> list[Extra]:
     """The same box has both faults, or a box has the one and the box behind it the other."""
     found = []
     for path in ('', 'moov', STBL, 'moof', TRAF):
@@ -207,7 +211,7 @@ def pairs_of_headers():
     ]
 
 
-def of_leaves():
+def of_leaves() -> list[Extra]:
     """Other values of the same faults."""
     entry = STBL + '/stsd/mp4v'
     return [
@@ -352,7 +356,7 @@ def of_leaves():
     ]
 
 
-def accepted():
+def accepted() -> list[Extra]:
     """Files that are just within what is allowed."""
     return [
         fine('narrow', 'the file that the cases break'),
@@ -433,5 +437,5 @@ def accepted():
     ]
 
 
-def all_extras():
+def all_extras() -> list[Extra]:
     return [*accepted(), *headers(), *pairs_of_headers(), *of_leaves()]

@@ -3,6 +3,9 @@
 Each makes a file with this fault alone. Two neighbours in the order, in one file, show that the
 first is named.
 """
+from __future__ import annotations
+
+from collections.abc import Callable, Iterator, Sequence
 from .boxes import KEPT, Box, Raw, i32, u8, u16, u32, u64
 from .edits import (added, added_bytes, added_copy, cut, cut_by_one, naming, name_of, put, removed,
                     renamed, said)
@@ -19,24 +22,25 @@ class Fault:
     only of what is inside.
     """
 
-    def __init__(self, name, kind, path, breaks, gone=None):
+    def __init__(self, name: str, kind: str, path: str, breaks: Callable, gone: str | None = None):
         self.name, self.kind, self.path, self.breaks, self.gone = name, kind, path, breaks, gone
 
-    def goes_with(self, other):
+    def goes_with(self, other: Fault) -> bool:
         """Whether both can be in one file, and be told from each other by the answer."""
         for one, two in ((self, other), (other, self)):
             if one.gone is not None and one.takes(two.path):
                 return False
         return (self.kind, self.path) != (other.kind, other.path)
 
-    def takes(self, path):
+    def takes(self, path: str) -> bool:
         """Whether this fault leaves nothing at a path."""
         if self.gone.endswith('/'):
             return path.startswith(self.gone)
         return (path + '/').startswith(self.gone + '/')
 
 
-def headers_in(path, unknown, singles, needed=(), others=()):
+def headers_in(path: str, unknown: str, singles: list[str], needed: Sequence = (),
+               others: Sequence = ()) -> list[Fault]:
     """Faults of a container: of headers, of types, of numbers of boxes.
 
     `others` are pairs of a box and a type of its group, of which only one may stand.
@@ -60,7 +64,7 @@ def headers_in(path, unknown, singles, needed=(), others=()):
                           f'{path}/{kind}') for kind in needed]
 
 
-def leaf(path, label, last_version, fields, rows=True):
+def leaf(path: str, label: str, last_version: int, fields: int, rows: bool = True) -> list[Fault]:
     """Faults of a leaf's front: its first four bytes, its version, its fields, its rows."""
     found = [
         Fault(f'{label}-of-three-bytes', 'ShortBox', path, cut(path, 3), path + '/'),
@@ -74,11 +78,11 @@ def leaf(path, label, last_version, fields, rows=True):
     return found
 
 
-def value(path, name, kind, at, new, gone=None):
+def value(path: str, name: str, kind: str, at: int, new: bytes, gone: str | None = None) -> Fault:
     return Fault(name, kind, path, put(path, at, new), gone)
 
 
-def of_movie(is_wide):
+def of_movie(is_wide: bool) -> list[Fault]:
     scale = 20 if is_wide else 12
     return [
         *headers_in('moov', 'tkhd', ['mvhd', 'mvex'], ['mvhd']),
@@ -94,7 +98,7 @@ def of_movie(is_wide):
     ]
 
 
-def of_track(is_wide):
+def of_track(is_wide: bool) -> list[Fault]:
     path, number = 'moov/trak', 20 if is_wide else 12
     return [
         *headers_in(path, 'mvhd', ['tkhd', 'edts', 'mdia'], ['mdia', 'tkhd']),
@@ -108,7 +112,7 @@ def of_track(is_wide):
     ]
 
 
-def of_media(is_wide, path):
+def of_media(is_wide: bool, path: str) -> list[Fault]:
     scale = 20 if is_wide else 12
     return [
         *headers_in(path, 'tkhd', ['mdhd', 'hdlr', 'minf'], ['hdlr', 'minf', 'mdhd']),
@@ -123,7 +127,7 @@ def of_media(is_wide, path):
     ]
 
 
-def counted_headers(path, entry, label):
+def counted_headers(path: str, entry: str, label: str) -> list[Fault]:
     """Faults of the headers of boxes that are counted."""
     inside = f'{path}/{entry}'
     return [
@@ -132,7 +136,7 @@ def counted_headers(path, entry, label):
     ]
 
 
-def of_references(path):
+def of_references(path: str) -> list[Fault]:
     entry = path + '/url '
     return [
         *leaf(path, 'dref', 0, 8, rows=False),
@@ -146,7 +150,7 @@ def of_references(path):
     ]
 
 
-def few_bytes(path):
+def few_bytes(path: str) -> Callable:
     """The boxes of a counting leaf are four bytes that are no header."""
     def breaks(file):
         box, more = file.at(path), Raw(bytes(4))
@@ -155,7 +159,7 @@ def few_bytes(path):
     return breaks
 
 
-def one_more_counted(path):
+def one_more_counted(path: str) -> Callable:
     """One box more is counted, and no bytes are left for it."""
     def breaks(file):
         box, more = file.at(path), Raw(b'')
@@ -165,7 +169,7 @@ def one_more_counted(path):
     return breaks
 
 
-def of_descriptions(is_wide, path):
+def of_descriptions(is_wide: bool, path: str) -> list[Fault]:
     sizes, places = ('stz2', 'co64') if is_wide else ('stsz', 'stco')
     other_sizes, other_places = ('stsz', 'stco') if is_wide else ('stz2', 'co64')
     singles = ['stsd', 'stts', 'stsc', sizes, places, 'ctts', 'stss', 'sdtp', 'cslg']
@@ -184,7 +188,7 @@ def of_descriptions(is_wide, path):
     ]
 
 
-def of_second_track(is_wide):
+def of_second_track(is_wide: bool) -> list[Fault]:
     """Faults of the second track's head; its own is that it has the ID of the first."""
     path, number = 'moov/trak[1]', 20 if is_wide else 12
     entry = path + '/mdia/minf/stbl/stsd/mp4a'
@@ -197,7 +201,7 @@ def of_second_track(is_wide):
     ]
 
 
-def of_tables(is_wide):
+def of_tables(is_wide: bool) -> list[Fault]:
     path, second = (f'moov/{trak}/mdia/minf/stbl' for trak in ('trak', 'trak[1]'))
     sizes = path + ('/stz2' if is_wide else '/stsz')
     five_bits = value(sizes, 'field-size-of-five-bits', 'BadValue', 7, u8(5), sizes + '/rows')
@@ -225,7 +229,7 @@ def of_tables(is_wide):
     ]
 
 
-def of_chunks(is_wide, path):
+def of_chunks(is_wide: bool, path: str) -> list[Fault]:
     places = path + ('/co64' if is_wide else '/stco')
     name, rows = name_of(places), path + '/stsc'
     return [
@@ -239,7 +243,7 @@ def of_chunks(is_wide, path):
     ]
 
 
-def of_groupings(is_wide, path, label):
+def of_groupings(is_wide: bool, path: str, label: str) -> list[Fault]:
     """Faults of an `sbgp`, and of a second one of its key."""
     rows = 16 if is_wide else 12
     own = label + 'sbgp'
@@ -251,7 +255,7 @@ def of_groupings(is_wide, path, label):
     ]
 
 
-def of_fragments(is_wide):
+def of_fragments(is_wide: bool) -> list[Fault]:
     path, head = 'moof/traf', 'moof/traf/tfhd'
     front, version, short = leaf(head, 'tfhd', 0, 24 if is_wide else 28, rows=False)
     return [
@@ -273,7 +277,7 @@ def of_fragments(is_wide):
     ]
 
 
-def of_run(is_wide, path):
+def of_run(is_wide: bool, path: str) -> list[Fault]:
     front, version, short, rows = leaf(path, 'trun', 1, 12)
     claim = u8(int(is_wide)) + u8(0) + u16(1) + u32(2**32 - 1)
     return [
@@ -290,7 +294,7 @@ def of_run(is_wide, path):
     ]
 
 
-def of_later_fragments(is_wide):
+def of_later_fragments(is_wide: bool) -> list[Fault]:
     return [
         value('moof/traf[1]/tfhd', 'second-tfhd-of-version-1', 'BadVersion', 0, u8(1)),
         value('moof/traf[1]/tfdt', 'gap-in-the-second-track', 'Gap', 4, time(is_wide, 1523)),
@@ -301,17 +305,17 @@ def of_later_fragments(is_wide):
     ]
 
 
-def long_edit(path):
+def long_edit(path: str) -> Callable:
     return naming(path + '/tkhd', put(path + '/edts/elst', 8, u64(1 << 63)))
 
 
-def of_edits():
+def of_edits() -> list[Fault]:
     """An edit of 2^63 units; version 0 has no room for it."""
     return [Fault(name, 'TimeTooLarge', path + '/tkhd', long_edit(path)) for name, path in (
         ('track-too-long', 'moov/trak'), ('second-track-too-long', 'moov/trak[1]'))]
 
 
-def in_order(is_wide):
+def in_order(is_wide: bool) -> list[Fault]:
     """All faults of a file, in the order in which they are looked for."""
     early = Fault('fragment-before-the-moov', 'FragmentBeforeMovie', 'moof-before',
                   added('', Box('moof'), before='moov'))
@@ -319,7 +323,7 @@ def in_order(is_wide):
             *of_fragments(is_wide), *(of_edits() if is_wide else [])]
 
 
-def neighbours(faults):
+def neighbours(faults: list[Fault]) -> Iterator:
     """Each fault with the next one that can be in one file with it and has another answer."""
     for place, first in enumerate(faults):
         for second in faults[place + 1:]:

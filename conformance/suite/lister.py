@@ -1,5 +1,8 @@
 """The boxes of a file as text, read from its headers alone; and the fault of the first header that
 has one."""
+from __future__ import annotations
+
+from collections.abc import Iterator
 from .misreadings import taken
 
 # Which boxes are looked into, by the path of their types; the empty path is the file.
@@ -21,12 +24,12 @@ FREE = ('free', 'skip', 'wide')
 class BadHeader(Exception):
     """A header that can't be read: the kind of its fault, the box that is named, and the place."""
 
-    def line(self):
+    def line(self) -> str:
         kind, name, place = self.args
         return f'refused: {kind} in {name} at {place}'
 
 
-def printed(kind):
+def printed(kind: bytes) -> str:
     """A type as it is printed."""
     if taken('types-are-not-in-hexadecimal'):
         return kind.decode('latin-1')
@@ -37,7 +40,7 @@ def printed(kind):
     return kind.hex()
 
 
-def header_at(data, place, end, container, is_file):
+def header_at(data: bytes, place: int, end: int, container: str, is_file: bool) -> tuple:
     """Type, first byte behind the header, and first byte behind the box."""
     left = end - place
     if left < 8:
@@ -57,7 +60,8 @@ def header_at(data, place, end, container, is_file):
     return kind, place + length, place + size
 
 
-def headers(data, place, end, container='file', is_file=False):
+def headers(data: bytes, place: int, end: int, container: str = 'file',
+            is_file: bool = False) -> list[tuple] | None:
     """All headers between two places: type, place, first byte of the content, end."""
     found = []
     while place < end:
@@ -67,14 +71,14 @@ def headers(data, place, end, container='file', is_file=False):
     return found
 
 
-def cut_before(data, of=None):
+def cut_before(data: bytes, of: bytes | None = None) -> list[bytes]:
     """A file in parts, of which each but the first begins with a box, or with one of a type."""
     found = headers(data, 0, len(data), is_file=True)
     cuts = [place for kind, place, _, _ in found if place and of in (None, kind)]
     return [data[start:end] for start, end in zip([0, *cuts], [*cuts, len(data)])]
 
 
-def opens(name, path):
+def opens(name: str, path: str) -> int | None:
     """Whether a box at this path is looked into, and at how many bytes behind its header."""
     if name in INSIDE.get(path, ()):
         return 0
@@ -87,17 +91,17 @@ def opens(name, path):
     return None
 
 
-def below(path, name):
+def below(path: str, name: str) -> str:
     """The path of what stands in a box."""
     return f'{path}/{name}' if path else name
 
 
-def depth(path):
+def depth(path: str) -> int:
     """How many containers what stands at a path lies in."""
     return path.count('/') + bool(path)
 
 
-def walked(data, found, path=''):
+def walked(data: bytes, found: list[tuple], path: str = '') -> Iterator:
     """The path and the header of each box that stands at this path, and of those in them."""
     for header in found:
         yield path, header
@@ -109,12 +113,12 @@ def walked(data, found, path=''):
             yield from walked(data, held, below(path, name))
 
 
-def all_boxes(data, length=None):
+def all_boxes(data: bytes, length: int | None = None) -> Iterator | None:
     """The same of a file."""
     return walked(data, headers(data, 0, len(data) if length is None else length, is_file=True))
 
 
-def listed(data, length=None):
+def listed(data: bytes, length: int | None = None) -> tuple[str, str | None]:
     """The list of boxes as text, or the line that refuses it."""
     try:
         lines = [f"{'  ' * depth(path)}{printed(kind)} {place} {end - place}\n"

@@ -1,5 +1,8 @@
 """Files that take many reads and many writes, that have many differences, or whose samples lie far
 away."""
+from __future__ import annotations
+
+from collections.abc import Iterator
 from .boxes import Box, File, Hole, full, numbers, one_size, sbgp, stsz, stz2, table, u32, u64
 from .edits import put, rows
 from .movies import (chunk_places, group_descriptions, moof_of, movie_extends, movie_header,
@@ -19,19 +22,19 @@ MANY = 90_000
 LONG = 2**22
 
 
-def pattern(length, first):
+def pattern(length: int, first: int) -> bytes:
     """Bytes that differ from place to place, by a period that no buffer has."""
     period = bytes(range(251))
     first %= 251
     return (period * (length // 251 + 2))[first:first + length]
 
 
-def groups(count):
+def groups(count: int) -> Box:
     """A row for each sample; every third sample has no group."""
     return sbgp(b'roll', [(1, k % 3) for k in range(count)])
 
 
-def long_track(number, data):
+def long_track(number: int, data: Box) -> Box:
     """Tables of samples in chunks of ten, with a sync sample every tenth."""
     start = PLAIN * SIZE * (number - 1)
     return with_tables(
@@ -45,7 +48,7 @@ def long_track(number, data):
         groups(PLAIN), plainly=True)
 
 
-def long_run(moof, data, start, count, size):
+def long_run(moof: Box, data: Box, start: int, count: int, size: int) -> Box:
     """A run with a size and flags for each sample; every tenth is a sync sample."""
     def fields():
         place = data.place + data.header_length() + start - moof.place
@@ -54,7 +57,7 @@ def long_run(moof, data, start, count, size):
     return Box('trun', fields)
 
 
-def long_fragment(number, count, size):
+def long_fragment(number: int, count: int, size: int) -> list[Box]:
     """A `moof` with samples of both tracks, and its `mdat`."""
     data, moof = Box('mdat', pattern(2 * count * size, number)), moof_of(number)
     due = DURATION * (PLAIN + count * (number - 1))
@@ -68,12 +71,12 @@ def long_fragment(number, count, size):
     return [moof, data]
 
 
-def long_movie(data):
+def long_movie(data: Box) -> Box:
     tracks = [long_track(number, data) for number in (1, 2)]
     return Box('moov', b'', [movie_header(True), *tracks, movie_extends(True)])
 
 
-def with_long_pieces():
+def with_long_pieces() -> bytes:
     """Two tracks whose pieces are longer than buffers, in tables and in fragments."""
     data = Box('mdat', pattern(2 * PLAIN * SIZE, 0))
     boxes = [Box('ftyp', b'isom' + bytes(4)), long_movie(data), data]
@@ -82,7 +85,7 @@ def with_long_pieces():
     return File(boxes).spelled()
 
 
-def with_far_fragments():
+def with_far_fragments() -> bytes:
     """Fragments that lie far from each other, so that no read has two of them."""
     data = Box('mdat', pattern(2 * PLAIN * SIZE, 0))
     boxes = [long_movie(data), data]
@@ -91,7 +94,7 @@ def with_far_fragments():
     return File(boxes).filled()
 
 
-def with_one_track(count, size, *tables):
+def with_one_track(count: int, size: int, *tables) -> File:
     """A track of so many samples of one size, in one chunk, with further tables."""
     data = Box('mdat', pattern(count * size, 0))
     sizes = one_size(size, count) if size else stsz([0] * count)
@@ -99,12 +102,12 @@ def with_one_track(count, size, *tables):
                         chunk_places(True, data, 0), *tables)
 
 
-def with_many_samples():
+def with_many_samples() -> bytes:
     """A track of many samples of one byte, so that its list of samples is long."""
     return with_one_track(MANY, 1).spelled()
 
 
-def with_long_samples():
+def with_long_samples() -> bytes:
     """Three samples that no buffer holds."""
     return with_one_track(3, LONG).spelled()
 
@@ -141,7 +144,7 @@ def with_overlaps(chunks, size):
 
 # ---- chunks, of which a sample does not lie in the file, and the numbers of that sample
 
-def with_chunks(sizes, chunk_rows, from_end):
+def with_chunks(sizes: Box, chunk_rows: list[tuple[int, ...]], from_end: list[int]) -> bytes:
     """A file whose tables are these: the box of sizes, rows of `stsc`, and where each chunk begins,
     counted from the end of the file."""
     data = Box('mdat', bytes(100))
@@ -172,7 +175,7 @@ CHUNKS = [
 ]
 
 
-def of_chunks():
+def of_chunks() -> Iterator:
     """Name, file, and the line of numbers."""
     for name, sizes, chunk_rows, from_end, behind, size in CHUNKS:
         data = with_chunks(sizes, chunk_rows, from_end)

@@ -1,4 +1,6 @@
 """The normal form of what a file denotes, by its description."""
+from __future__ import annotations
+
 from . import rates
 from .boxes import KEPT, Box, full, i32, no_samples, numbers, sbgp, u16, u32, u64
 from .misreadings import taken
@@ -7,22 +9,22 @@ from .misreadings import taken
 METADATA = ('udta', 'meta', 'iods')
 
 
-def spelled(boxes):
+def spelled(boxes: list[Box]) -> bytes:
     return b''.join(box.spelled() for box in boxes)
 
 
-def kept(boxes):
+def kept(boxes: list) -> list[Box]:
     """Boxes with the type and the content of these."""
     return [Box(box.kind, bytes(box.payload())) for box in boxes]
 
 
-def kept_in(container, place, left):
+def kept_in(container, place: str, left):
     """The kept boxes of a container, but those that are left out."""
     return container.all(*(kind for kind in KEPT[place]
                            if 'metadata' not in left or kind not in METADATA))
 
 
-def handler(track):
+def handler(track) -> bytes:
     """The payload of `hdlr`: without labels its name is gone, and what is reserved is 0."""
     payload = bytes(track.media.one('hdlr').payload())
     if 'labels' not in track.left:
@@ -34,7 +36,7 @@ def handler(track):
 COMPRESSOR_NAME, VISUAL_ENTRY = slice(42, 74), 78
 
 
-def descriptions(track):
+def descriptions(track) -> list[Box]:
     """The sample descriptions: without labels those of pictures name no compressor."""
     kind, entries = handler(track)[8:12], []
     for box in track.descriptions:
@@ -47,7 +49,7 @@ def descriptions(track):
     return entries
 
 
-def answer(movie):
+def answer(movie) -> tuple:
     """What `normalise` answers: the status, the line that refuses what is left, the normal
     form."""
     refusal = movie.refusal()
@@ -56,16 +58,16 @@ def answer(movie):
     return 0, b'', normal_form(movie)
 
 
-def normal_form(movie):
+def normal_form(movie) -> bytes:
     head = [file_type(), movie_box(movie)]
     return spelled(head) + b''.join(pieces(movie))
 
 
-def file_type():
+def file_type() -> Box:
     return Box('ftyp', b'iso6' + u32(0) + b'iso6mp41')
 
 
-def times_of(box, left):
+def times_of(box, left) -> bytes:
     """Creation and modification, each in eight bytes."""
     if 'times' in left:
         return bytes(16)
@@ -73,7 +75,7 @@ def times_of(box, left):
     return u64(box.number(4, width)) + u64(box.number(4 + width, width))
 
 
-def movie_header(movie):
+def movie_header(movie) -> Box:
     box = movie.header
     largest = max([track.id for track in movie.tracks], default=0)
     behind = box.inner + (32 if box.version() else 20)
@@ -83,7 +85,7 @@ def movie_header(movie):
     return Box('mvhd', fields + u32(min(largest + 1, 2**32 - 1)))
 
 
-def movie_box(movie):
+def movie_box(movie) -> Box:
     boxes = [movie_header(movie)] + kept(kept_in(movie.moov, 'moov', movie.left))
     boxes += [track_box(track) for track in movie.tracks]
     extends = [Box('mehd', full(1) + u64(movie.length()))]
@@ -93,7 +95,7 @@ def movie_box(movie):
     return Box('moov', b'', boxes + [Box('mvex', b'', extends)])
 
 
-def track_header(track):
+def track_header(track) -> Box:
     box = track.header
     behind = box.inner + (36 if track.long_times else 24)
     numbers, rest = box.data[behind + 8:behind + 14], box.data[behind + 16:behind + 60]
@@ -101,7 +103,7 @@ def track_header(track):
     return Box('tkhd', fields + numbers + bytes(2) + rest)
 
 
-def edits(track):
+def edits(track) -> list[Box]:
     if not track.edits:
         return []
     rows = b''
@@ -110,13 +112,13 @@ def edits(track):
     return [Box('edts', b'', [Box('elst', full(1) + u32(len(track.edits)) + rows)])]
 
 
-def track_box(track):
+def track_box(track) -> Box:
     boxes = [track_header(track)] + edits(track)
     boxes += kept(kept_in(track.trak, 'moov/trak', track.left))
     return Box('trak', b'', boxes + [media_box(track)])
 
 
-def media_box(track):
+def media_box(track) -> Box:
     box = track.media.one('mdhd')
     behind = box.inner + (32 if box.version() else 20)
     fields = full(1) + times_of(box, track.left) + u32(track.timescale) + u64(0)
@@ -128,14 +130,14 @@ def media_box(track):
     return Box('mdia', b'', boxes + [Box('minf', b'', inner)])
 
 
-def sample_table(track):
+def sample_table(track) -> Box:
     entries = kept(descriptions(track))
     boxes = [Box('stsd', full(0) + u32(len(entries)), entries)]
     groups = [] if 'groups' in track.left else kept(track.tables.all('sgpd'))
     return Box('stbl', b'', boxes + no_samples() + groups)
 
 
-def with_times(track):
+def with_times(track) -> list[tuple]:
     """Each sample with its decode time."""
     timed, time = [], track.start
     for sample in track.samples:
@@ -144,7 +146,7 @@ def with_times(track):
     return timed
 
 
-def first_fragments(track):
+def first_fragments(track) -> tuple:
     """The fragment of each sample of the first track, and the times at which they begin."""
     numbers, cuts = [], []
     for time, sample in with_times(track):
@@ -155,7 +157,7 @@ def first_fragments(track):
     return numbers, cuts
 
 
-def later_fragments(track, first, cuts):
+def later_fragments(track, first, cuts: list[int]) -> list[int]:
     """The fragment of each sample of another track: the last that has begun by its decode time."""
     numbers = []
     for time, _ in with_times(track):
@@ -166,7 +168,7 @@ def later_fragments(track, first, cuts):
     return numbers
 
 
-def pieces(movie):
+def pieces(movie) -> list[bytes]:
     """The `moof` and the `mdat` of each piece, in order of fragments and then of tracks."""
     if not movie.tracks:
         return []
@@ -183,7 +185,7 @@ def pieces(movie):
     return [piece(movie, number, *one[1:]) for number, one in enumerate(found, 1)]
 
 
-def pieces_of(track, numbers):
+def pieces_of(track, numbers: list[int]) -> list[tuple]:
     """The fragment, the track, the first decode time and the samples of each piece of a track."""
     found, last = [], None
     for number, (time, sample) in zip(numbers, with_times(track)):
@@ -194,12 +196,12 @@ def pieces_of(track, numbers):
     return found
 
 
-def shared(values):
+def shared(values: list[int]) -> int | None:
     """The value that all have, if they have one."""
     return values[0] if len(set(values)) == 1 else None
 
 
-def piece(movie, number, track, time, samples):
+def piece(movie, number: int, track, time: int, samples) -> bytes:
     columns = [(0x100, 0x8, [sample.duration for sample in samples]),
                (0x200, 0x10, [sample.size for sample in samples]),
                (0x400, 0x20, [sample.flags for sample in samples])]
@@ -229,7 +231,7 @@ def piece(movie, number, track, time, samples):
     return moof.spelled() + data.spelled()
 
 
-def groupings(samples):
+def groupings(samples) -> list[Box]:
     """An `sbgp` for each key at which some sample has an index."""
     keys = {key for sample in samples for key in sample.groups}
     boxes = []
@@ -247,7 +249,7 @@ def groupings(samples):
     return boxes
 
 
-def key_order(key):
+def key_order(key: tuple) -> tuple:
     """The order of grouping keys: by type, then none before a parameter, then by the parameter."""
     kind, parameter = key
     return kind, -1 if parameter is None else parameter

@@ -3,6 +3,8 @@
 What they say is worked out anew: boxes from their headers and from a table of what the profile has
 where, the steps to a value from the line of the difference, by the grammar of such lines.
 """
+from __future__ import annotations
+
 import json
 import re
 import uuid
@@ -30,12 +32,12 @@ EVERYWHERE = 'free skip wide'
 UUID = 16
 
 
-def text(value):
+def text(value: dict) -> str:
     """A value as JSON without spaces, keys in the order of their bytes."""
     return json.dumps(value, sort_keys=True, separators=(',', ':'))
 
 
-def allowed(path):
+def allowed(path: str) -> list[bytes]:
     """The types that may stand at a path."""
     return f'{PROFILE.get(path, "")} {EVERYWHERE}'.encode().split()
 
@@ -43,7 +45,7 @@ def allowed(path):
 # ---- boxes
 
 
-def box(data, path, kind, place, inner, end):
+def box(data: bytes, path: str, kind: bytes, place: int, inner: int, end: int) -> dict:
     made = {'depth': lister.depth(path), 'offset': place, 'size': end - place,
             'type': lister.printed(kind)}
     if kind not in allowed(path):
@@ -53,7 +55,7 @@ def box(data, path, kind, place, inner, end):
     return made
 
 
-def listed(data):
+def listed(data: bytes) -> tuple[str, str | None]:
     """The objects of all boxes that are listed, or the line that refuses the file."""
     try:
         found = [box(data, path, *header) for path, header in lister.all_boxes(data)]
@@ -65,7 +67,7 @@ def listed(data):
 # ---- verdicts
 
 
-def name_string(name):
+def name_string(name: bytes) -> bytes:
     """A name as a string of JSON: `"` and `\\` behind a backslash, control characters and bytes
     that are no UTF-8 as `\\u` and four digits."""
     made = '"'
@@ -85,7 +87,7 @@ REFUSED = re.compile(rb'refused: (\w+) in (.{4}|[0-9a-f]{8}) at (\d+)')
 STATUSES = {b'memory': 2, b'store': 3, b'store changed': 3, b'write': 3, b'no such track': 4}
 
 
-def verdict(name, said, end=b'\n'):
+def verdict(name: bytes | str, said: bytes, end: bytes = b'\n') -> bytes:
     """The object of a verdict; `said` is what `check` says, nothing of an accepted file."""
     name = name_string(name.encode() if isinstance(name, str) else name)
     if not said:
@@ -111,7 +113,7 @@ GROUP = re.compile(r'group (.{4}|[0-9a-f]{8})(?: (\d+))?:', re.DOTALL)
 TYPE = re.compile(r'type (.{4}|[0-9a-f]{8}) \| (.{4}|[0-9a-f]{8})', re.DOTALL)
 
 
-def steps_of(way):
+def steps_of(way: str) -> tuple:
     """The steps to a value, and of how many bytes it is one."""
     steps = []
     while step := STEP.match(way):
@@ -128,7 +130,7 @@ def steps_of(way):
     return [*steps, way], None
 
 
-def difference(kind, line):
+def difference(kind: str, line: str) -> str:
     """The object of a difference, from its kind and its line."""
     front, _, rest = line.rpartition(': type ')
     types = TYPE.fullmatch('type ' + rest) if front else None
@@ -145,7 +147,7 @@ def difference(kind, line):
     return text(made if of is None else {**made, 'of': of})
 
 
-def last(found, words, at_least=False):
+def last(found: list[tuple[str, ...]], words, at_least: bool = False) -> str:
     """The object that ends a list of all differences; `words` make the two the same."""
     counts = {}
     for kind, _ in found:

@@ -1,11 +1,13 @@
 """The bytes of a file on the disk, read where they are asked for."""
+from __future__ import annotations
+
 import os
 
 
 class OnDisk:
     """Bytes that are too many to hold: slices of them are."""
 
-    def __init__(self, path):
+    def __init__(self, path: str):
         self.file = open(path, 'rb')
         self.length = os.stat(path).st_size
 

@@ -1,4 +1,6 @@
 """What sample descriptions say of bit rates and buffers, which `--without bitrates` leaves out."""
+from __future__ import annotations
+
 from .boxes import Box
 
 # Where the boxes of a description begin: of pictures, and of sound by QuickTime's version.
@@ -11,7 +13,7 @@ RATES = slice(2, 13)
 LAST, FRONT = b'\0\0\0\x14btrt', 8
 
 
-def left(handler, data):
+def left(handler: bytes, data: bytes) -> bytes:
     """What is left of a description's payload; the handler is the type of its track's."""
     if handler == b'vide':
         return behind(data, PICTURES, ZEROS)
@@ -22,12 +24,12 @@ def left(handler, data):
     return data
 
 
-def behind(data, start, zeros=0):
+def behind(data: bytes, start: int, zeros: int = 0) -> bytes:
     """The payload with what is left of the boxes behind its fields."""
     return data[:start] + boxes_left(data[start:], zeros)
 
 
-def boxes_left(data, zeros=0, in_wave=False):
+def boxes_left(data: bytes, zeros: int = 0, in_wave: bool = False) -> bytes:
     """What is left of boxes; all of it where these and at most so many zero bytes don't fill
     it."""
     made, at = b'', 0
@@ -41,7 +43,7 @@ def boxes_left(data, zeros=0, in_wave=False):
     return made + data[at:] if is_filled else data
 
 
-def box_left(kind, payload, in_wave):
+def box_left(kind: bytes, payload: bytes, in_wave: bool) -> bytes:
     if kind == b'btrt':
         return b''
     if kind == b'esds':
@@ -51,7 +53,7 @@ def box_left(kind, payload, in_wave):
     return Box(kind.decode('latin-1'), payload).spelled()
 
 
-def without_rates(esds):
+def without_rates(esds: bytes) -> bytes:
     """The payload of an `esds` with zeros as rates, if its descriptors are well formed."""
     at, stream = descriptor(esds, 4, 3)
     flags = int.from_bytes(stream[at + 2:at + 3], 'big')
@@ -63,7 +65,7 @@ def without_rates(esds):
     return esds[:at + RATES.start] + bytes(11) + esds[at + RATES.stop:]
 
 
-def descriptor(data, at, tag):
+def descriptor(data: bytes, at: int, tag: int) -> tuple:
     """Where the content of a descriptor begins, and the data up to its end: no data where there is
     none, or it doesn't end within what there is."""
     length = 0

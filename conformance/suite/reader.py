@@ -3,7 +3,10 @@ denotes.
 
 It looks for no faults: it is for the wanted answers of files that are known to have none.
 """
+from __future__ import annotations
+
 import json
+from collections.abc import Iterator, Sequence
 from dataclasses import dataclass, field
 
 from . import lister
@@ -17,52 +20,52 @@ MOST_TIME, PLAIN_TIMESCALE = 2**63 - 1, 1000
 class Node:
     """A box that was read: its type, its place, its bytes."""
 
-    def __init__(self, data, header):
+    def __init__(self, data: bytes, header: tuple):
         kind, self.place, self.inner, self.end = header
         self.kind = kind.decode('latin-1')
         self.data = data
 
-    def payload(self):
+    def payload(self) -> bytes:
         return self.data[self.inner:self.end]
 
-    def number(self, at, length=4, signed=False):
+    def number(self, at: int, length: int = 4, signed: bool = False) -> int:
         start = self.inner + at
         return int.from_bytes(self.data[start:start + length], 'big', signed=signed)
 
-    def version(self):
+    def version(self) -> int:
         return self.number(0, 1)
 
-    def flags(self):
+    def flags(self) -> int:
         return self.number(1, 3)
 
-    def boxes(self, skipped=0):
+    def boxes(self, skipped: int = 0) -> list[Node]:
         """The boxes in it, behind so many bytes."""
         return nodes(self.data, self.inner + skipped, self.end)
 
-    def all(self, *kinds):
+    def all(self, *kinds) -> list[Node]:
         return [box for box in self.boxes() if box.kind in kinds]
 
-    def one(self, *kinds):
+    def one(self, *kinds) -> Node | None:
         found = self.all(*kinds)
         return found[0] if found else None
 
-    def rows(self, at, count, *widths):
+    def rows(self, at: int, count: int, *widths) -> list[list[int]]:
         """So many rows of numbers of these widths; a negative width is of a signed number."""
         starts = [at + sum(map(abs, widths[:k])) for k in range(len(widths))]
         length = sum(map(abs, widths))
         return [[self.number(start + length * row, abs(width), width < 0)
                  for start, width in zip(starts, widths)] for row in range(count)]
 
-    def table(self, *widths):
+    def table(self, *widths) -> list[list[int]]:
         """The rows that a full box counts."""
         return self.rows(8, self.number(4), *widths)
 
-    def scale(self):
+    def scale(self) -> int:
         """What stands behind creation and modification in version 0 or 1."""
         return self.number(20 if self.version() else 12)
 
 
-def nodes(data, start, end, is_file=False):
+def nodes(data: bytes, start: int, end: int, is_file: bool = False) -> list[Node]:
     return [Node(data, header) for header in lister.headers(data, start, end, '', is_file)]
 
 
@@ -77,7 +80,7 @@ class Sample:
     size: int
     groups: dict = field(default_factory=dict)
 
-    def leave_out(self, words, is_at_end, origin):
+    def leave_out(self, words, is_at_end: bool, origin: int) -> None:
         """The origin is the offset of the first sample."""
         if 'timing' in words or 'ends' in words and is_at_end:
             self.duration = 1
@@ -94,7 +97,7 @@ class Sample:
 class Track:
     """A track: the boxes that say it, and its samples."""
 
-    def __init__(self, trak):
+    def __init__(self, trak: Node):
         self.trak = trak
         self.header = trak.one('tkhd')
         self.media = trak.one('mdia')
@@ -110,16 +113,16 @@ class Track:
         # What is left out of it: words of `--without`.
         self.left = frozenset()
 
-    def duration(self):
+    def duration(self) -> int:
         return sum(sample.duration for sample in self.samples)
 
-    def length(self, movie_timescale):
+    def length(self, movie_timescale: int) -> int:
         """Its length in the movie's time scale."""
         if self.edits and all(edit[0] for edit in self.edits):
             return sum(edit[0] for edit in self.edits)
         return -(-self.duration() * movie_timescale // self.timescale)
 
-    def leave_out(self, words):
+    def leave_out(self, words) -> None:
         self.left = words
         if 'edits' in words:
             self.edits = []
@@ -132,7 +135,7 @@ class Track:
         for number, sample in enumerate(self.samples):
             sample.leave_out(words, number in ends, origin)
 
-    def fault(self, movie_timescale):
+    def fault(self, movie_timescale: int) -> str | None:
         """Why what is left has no normal form, if it has none."""
         if max(self.start + self.duration(), self.length(movie_timescale)) > MOST_TIME:
             return 'TimeTooLarge'
@@ -143,7 +146,7 @@ class Track:
 class Movie:
     """What a file denotes."""
 
-    def __init__(self, data, length=None):
+    def __init__(self, data: bytes, length: int | None = None):
         self.data = data
         top = nodes(data, 0, len(data) if length is None else length, is_file=True)
         (self.moov,) = [box for box in top if box.kind == 'moov']
@@ -159,10 +162,10 @@ class Movie:
         for moof in self.fragments:
             read_fragment(moof, self)
 
-    def length(self):
+    def length(self) -> int:
         return max([track.length(self.timescale) for track in self.tracks], default=0)
 
-    def leave_out(self, names):
+    def leave_out(self, names: Sequence) -> Movie:
         """Leaves out what these words of `--without`, and sets of them, name."""
         self.left = meant(names)
         if 'timing' in self.left:
@@ -171,7 +174,7 @@ class Movie:
             track.leave_out(self.left)
         return self
 
-    def refusal(self):
+    def refusal(self) -> str | None:
         """The line that refuses what is left, if it has no normal form."""
         for track in self.tracks:
             fault = track.fault(self.timescale)
@@ -179,22 +182,22 @@ class Movie:
                 return f'refused: {fault} in tkhd at {track.header.place}'
         return None
 
-    def keys(self, track):
+    def keys(self, track: Track) -> list[tuple]:
         """The grouping keys of a track, in the order in which the file first names them."""
         trafs = [traf for moof in self.fragments for traf in moof.all('traf')]
         own = [traf for traf in trafs if traf.one('tfhd').number(4) == track.id]
         boxes = [box for place in [track.tables] + own for box in place.all('sbgp')]
         return list(dict.fromkeys(map(key_of, boxes)))
 
-    def bytes_of(self, sample):
+    def bytes_of(self, sample: Sample) -> bytes:
         return bytes(self.data[sample.place:sample.place + sample.size])
 
-    def track(self, number):
+    def track(self, number: int) -> Track:
         found = [track for track in self.tracks if track.id == number]
         return found[0] if found else None
 
 
-def first_boxes(box):
+def first_boxes(box: Node) -> list[Node]:
     """The boxes that an `stsd` counts; bytes behind these are not looked at."""
     found, place = [], box.inner + 8
     while len(found) < box.number(4):
@@ -204,7 +207,7 @@ def first_boxes(box):
     return found
 
 
-def edits_of(trak):
+def edits_of(trak: Node) -> list[list[int]]:
     edits = trak.one('edts')
     rows = edits.one('elst') if edits else None
     if not rows:
@@ -217,7 +220,7 @@ def edits_of(trak):
     return found
 
 
-def sizes_of(tables):
+def sizes_of(tables: Node) -> list[int]:
     table = tables.one('stsz', 'stz2')
     count = table.number(8)
     if table.kind == 'stsz':
@@ -230,7 +233,7 @@ def sizes_of(tables):
     return [whole >> room - bits * (k + 1) & (1 << bits) - 1 for k in range(count)]
 
 
-def spread(table, default, count, width=4):
+def spread(table: Node | None, default: int, count: int, width: int = 4) -> list[int]:
     """The value of each sample, of rows that each count some samples."""
     values = []
     for repeated, value in table.table(4, width) if table else []:
@@ -238,7 +241,7 @@ def spread(table, default, count, width=4):
     return values + [default] * (count - len(values))
 
 
-def chunks_of(tables):
+def chunks_of(tables: Node) -> Iterator:
     """Of each chunk its place, the number of its samples, and their description."""
     table, rows = tables.one('stco', 'co64'), tables.one('stsc').table(4, 4, 4)
     for number, (place,) in enumerate(table.table(4 if table.kind == 'stco' else 8), 1):
@@ -246,12 +249,12 @@ def chunks_of(tables):
         yield place, count, description
 
 
-def flags_of(word):
+def flags_of(word: int) -> int:
     """Flags of a sample, without the bits that are reserved."""
     return word if taken('reserved-bits-stay') else word & 0x0FFFFFFF
 
 
-def plain_samples(tables):
+def plain_samples(tables: Node) -> list[Sample]:
     sizes = sizes_of(tables)
     count = len(sizes)
     durations = spread(tables.one('stts'), 0, count)
@@ -272,7 +275,7 @@ def plain_samples(tables):
     return samples
 
 
-def group(container, samples):
+def group(container: Node, samples: list[Sample]) -> None:
     """Gives samples the indexes that the `sbgp` of an `stbl` or a `traf` say."""
     for box in container.all('sbgp'):
         key, first = key_of(box), 0
@@ -284,7 +287,7 @@ def group(container, samples):
             first += count
 
 
-def key_of(box):
+def key_of(box: Node) -> tuple:
     """The grouping key of an `sbgp`: its type, and its parameter in version 1."""
     kind = bytes(box.data[box.inner + 4:box.inner + 8])
     if taken('parameter-zero-is-none') and box.version() == 0:
@@ -292,7 +295,7 @@ def key_of(box):
     return kind, box.number(8) if box.version() == 1 else None
 
 
-def optional(box, flags, at, *bits):
+def optional(box: Node, flags: int, at: int, *bits) -> tuple:
     """The fields of 4 bytes that flags say are there; nothing in place of one that isn't."""
     values = []
     for bit in bits:
@@ -301,7 +304,7 @@ def optional(box, flags, at, *bits):
     return values, at
 
 
-def read_fragment(moof, movie):
+def read_fragment(moof: Node, movie: Movie) -> None:
     base = moof.place
     for traf in moof.all('traf'):
         end, count = read_track_fragment(traf, moof.place, base, movie)
@@ -309,7 +312,7 @@ def read_fragment(moof, movie):
             base = end
 
 
-def read_track_fragment(traf, moof_place, base, movie):
+def read_track_fragment(traf: Node, moof_place: int, base: int, movie: Movie) -> tuple[int, int]:
     """Adds the samples of a `traf` to its track; answers where its data ends, and their number."""
     head = traf.one('tfhd')
     track, flags = movie.track(head.number(4)), head.flags()
@@ -332,7 +335,7 @@ def read_track_fragment(traf, moof_place, base, movie):
     return place, len(samples)
 
 
-def read_run(run, base, place, defaults, samples):
+def read_run(run: Node, base: int, place: int, defaults: list[int], samples: list[Sample]) -> int:
     """Adds the samples of a run; answers where its data ends."""
     flags, at = run.flags(), 8
     if flags & 1:
@@ -353,7 +356,7 @@ def read_run(run, base, place, defaults, samples):
     return place
 
 
-def is_misread(movie):
+def is_misread(movie: Movie) -> bool:
     """Whether a misreading that is taken for right refuses the file."""
     samples = [sample for track in movie.tracks for sample in track.samples]
     if taken('sample-begins-in-the-file'):
@@ -368,7 +371,7 @@ def is_misread(movie):
     return False
 
 
-def shown(movie):
+def shown(movie: Movie) -> str:
     """The line of JSON that `show` writes."""
     tracks = [{
         'bytes': sum(sample.size for sample in track.samples),
@@ -388,7 +391,7 @@ def shown(movie):
     return text + '\n'
 
 
-def lines_of(track):
+def lines_of(track: Track) -> str:
     """The lines that `samples` writes."""
     lines, time = [], track.start
     for number, sample in enumerate(track.samples, 1):
@@ -398,6 +401,6 @@ def lines_of(track):
     return ''.join(lines)
 
 
-def extracted(movie, track):
+def extracted(movie: Movie, track: Track) -> bytes:
     """The bytes that `extract` writes."""
     return b''.join(map(movie.bytes_of, track.samples))

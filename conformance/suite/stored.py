@@ -1,27 +1,41 @@
 """The stored files of this suite."""
+from __future__ import annotations
+
 import json
 import os
+import re
+from collections.abc import Iterator
 
 FOLDER = os.path.dirname(os.path.dirname(os.path.abspath(__file__)))
 
 
-def bytes_of(folder, name):
+def bytes_of(folder: str, name: str) -> bytes:
     with open(os.path.join(FOLDER, folder, name), 'rb') as file:
         return file.read()
 
 
-def names():
+def blocks(name: str) -> Iterator:
+    """The blocks of a file of cases: each a line, and the text that stands below it, four columns
+    further in. It ends with a line feed, unless two dots stand behind it. Lines in front are a
+    comment."""
+    for block in re.split(r'^(?=[^\s#])', bytes_of('.', name).decode(), flags=re.M)[1:]:
+        line, _, inside = block.partition('\n')
+        inside = re.sub('^    ', '', inside, flags=re.M)
+        yield line, inside[:-3] if inside.endswith('..\n') else inside
+
+
+def names() -> list[str]:
     """The names of all stored files, without their ending."""
     found = os.listdir(os.path.join(FOLDER, 'files'))
     return sorted(name.removesuffix('.mp4') for name in found)
 
 
-def cases():
+def cases() -> list[dict]:
     """The cases of cases.json."""
     return json.loads(bytes_of('.', 'cases.json'))
 
 
-def lengths_of(case, whole, step=1):
+def lengths_of(case: dict, whole: bytes, step: int = 1) -> range:
     """The numbers of first bytes that a case of cases.json is run on."""
     low, high = case.get('first_bytes', [len(whole), len(whole)])
     return range(low, high + 1, step)
@@ -48,7 +62,7 @@ EDITS = bytes_of('files', 'edits.mp4')
 COLUMNS = b'number decode_time composition_time duration flags description size\n'
 
 
-def objects():
+def objects() -> bytes:
     """The lines of plain.mp4's samples as JSON."""
     made = b''
     for row in SAMPLES.decode().splitlines():

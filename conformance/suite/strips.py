@@ -1,6 +1,9 @@
 """Copies in which some boxes are free space, made from a file's headers by the definition: of each
 box that is named, and that lies in no other such box, the four bytes of its type are `free`."""
+from __future__ import annotations
+
 import itertools
+from collections.abc import Iterator
 from uuid import UUID
 
 from . import lister, objects, stored
@@ -43,14 +46,14 @@ class Name:
     """A type of boxes, the container that they stand in, and of `uuid` boxes their 16 bytes, of
     which any will do if there are none; `word` is how it is given."""
 
-    def __init__(self, kind, container=None, uuid=None, word=None):
+    def __init__(self, kind: bytes, container: str | None = None, uuid=None, word=None):
         self.kind, self.container, self.uuid = kind, container, uuid
         front, end = f'{container}/' if container else '', f':{uuid}' if uuid else ''
         shown = lister.printed(kind)
         self.shown = front + shown + end
         self.word = word or front + (kind.hex() if set(',/') & set(shown) else shown) + end
 
-    def means(self, kind, container, uuid):
+    def means(self, kind: bytes, container: str, uuid) -> bool:
         return (self.kind == kind and self.container in (None, container)
                 and self.uuid in (None, uuid))
 
@@ -58,7 +61,7 @@ class Name:
 class Foreign:
     """All boxes that the profile refuses where they stand."""
 
-    def means(self, kind, container, _):
+    def means(self, kind: bytes, container: str, _: str | None) -> bool:
         path = next(it for it in objects.PROFILE if (it.rpartition('/')[2] or 'file') == container)
         return kind not in objects.allowed(path)
 
@@ -67,16 +70,16 @@ class Freed:
     """A box that becomes free space: the number of the first name that means it, its place, the
     type of its container, its own type, and of a `uuid` which it is."""
 
-    def __init__(self, data, box, number, container, has_time):
+    def __init__(self, data: bytes, box: tuple, number: int, container: str, has_time: bool):
         kind, self.place, _, _ = box
         self.number, self.container, self.kind = number, container, lister.printed(kind)
         self.uuid, self.has_time = uuid_of(data, box), has_time
 
-    def name(self):
+    def name(self) -> str:
         """How it is told where no word names it."""
         return f'{self.container}/{self.kind}' + (f' {self.uuid}' if self.uuid else '')
 
-    def loss(self):
+    def loss(self) -> str | None:
         """What is then so, if something is lost."""
         if self.uuid in UUIDS_OF_ENCRYPTION:
             return SEALED
@@ -88,7 +91,7 @@ class Freed:
         return None
 
 
-def uuid_of(data, box):
+def uuid_of(data: bytes, box: tuple) -> str | None:
     """Which `uuid` a box is, if it is one."""
     kind, _, inner, end = box
     if kind != b'uuid' or end - inner < 16:
@@ -96,7 +99,7 @@ def uuid_of(data, box):
     return str(UUID(bytes=bytes(data[inner:inner + 16])))
 
 
-def named_in(data, found, path, names):
+def named_in(data: bytes, found: list[tuple], path: str, names: list) -> Iterator:
     """The named boxes among some headers and in their boxes."""
     container = path.rpartition('/')[2] or 'file'
 
@@ -115,7 +118,7 @@ def named_in(data, found, path, names):
             yield from named_in(data, held, lister.below(path, name), names)
 
 
-def told(names, freed):
+def told(names: list, freed: list[Freed]) -> str:
     """What is said of boxes that were changed: for each name, and for those without a name."""
     said = ''
     for number, name in enumerate(names):
@@ -128,13 +131,13 @@ def told(names, freed):
     return said + ''.join(f'strip: {count} {name}\n' for name, count in groups.items())
 
 
-def losses(names, freed):
+def losses(names: list, freed: list[Freed]) -> dict:
     """What is lost with boxes that the profile refuses, a line each."""
     return {f'strip: warning: without {it.name()} {it.loss()}\n': None for it in freed
             if isinstance(names[it.number], Foreign) and it.loss()}
 
 
-def warned(names, freed):
+def warned(names: list, freed: list[Freed]) -> str:
     """What is warned of where a copy is made: a dropped `uuid` of encryption, and each loss."""
     dropped = any(isinstance(names[it.number], Name) and it.uuid in UUIDS_OF_ENCRYPTION
                   for it in freed)
@@ -144,7 +147,7 @@ def warned(names, freed):
     return ''.join([*warnings, *losses(names, freed)])
 
 
-def stripped(data, names, is_lossy=True):
+def stripped(data: bytes, names: list, is_lossy: bool = True) -> tuple:
     """Status, standard error and bytes that are due."""
     try:
         found = lister.headers(data, 0, len(data), is_file=True)
@@ -161,13 +164,13 @@ def stripped(data, names, is_lossy=True):
     return 0, (warned(names, freed) + told(names, freed)).encode(), bytes(copy)
 
 
-def kinds_in(data):
+def kinds_in(data: bytes) -> list[tuple]:
     """All pairs of a container and the type of a box in it."""
     return sorted({(path.rpartition('/')[2] or 'file', header[0])
                    for path, header in lister.all_boxes(data)})
 
 
-def with_strangers(file):
+def with_strangers(file) -> bytes:
     """Boxes of types that the profile doesn't have, before and behind those of each container: one
     with a size of eight bytes, one of eight bytes, one whose type isn't text, one that holds what
     looks like boxes."""
@@ -187,11 +190,11 @@ def with_strangers(file):
     return file.spelled()
 
 
-def all_names():
+def all_names() -> list[Name]:
     return [Name(b'uuid'), Name(b'prft'), Name(b'\xa9nam'), Name(b'a,/b')]
 
 
-def cases_of_kinds():
+def cases_of_kinds() -> Iterator:
     """Each box of the two files without a fault, by itself and with its container named."""
     for label, data in (('narrow', whole(False).spelled()), ('wide', whole(True).spelled()),
                         ('strangers', with_strangers(whole(True)))):
@@ -203,7 +206,7 @@ def cases_of_kinds():
                 yield f'{label} without {other}/{kind}', data, [Name(kind, other)]
 
 
-def cases_of_names():
+def cases_of_names() -> Iterator:
     """Several names at once, and names in each other's boxes."""
     data = with_strangers(whole(False))
     yield 'all strangers', data, all_names()
@@ -224,7 +227,7 @@ def cases_of_names():
     yield 'one box', u32(8) + b'uuid', [Name(b'uuid')]
 
 
-def cases_of_uuids(strangers):
+def cases_of_uuids(strangers: bytes) -> Iterator:
     """Boxes that are `uuid`, told apart by the 16 bytes that say which they are."""
     first, other = str(UUID(bytes=b'0123456789abcdef')), str(UUID(int=7))
     yield 'one uuid', strangers, [Name(b'uuid', uuid=first)]
@@ -245,7 +248,7 @@ def cases_of_uuids(strangers):
         yield f'encryption {name}', data, [Name(b'uuid', uuid=name)]
 
 
-def cases_of_open_sizes():
+def cases_of_open_sizes() -> Iterator:
     """The last box of a file goes on to its end."""
     for kind, content in itertools.product((b'uuid', b'mdat', b'moov'),
                                            (b'', b'some bytes', u32(8) + b'uuid')):
@@ -254,7 +257,7 @@ def cases_of_open_sizes():
             yield f'{kind} of size 0 with {content}', data, [Name(name)]
 
 
-def cases_of_faults():
+def cases_of_faults() -> Iterator:
     """Headers that can't be read, in containers that are looked into and in those that are not."""
     names = [Name(b'uuid'), Name(b'hdlr', 'minf')]
     for file in single_faults():
@@ -279,7 +282,7 @@ def cases_of_faults():
         yield f'{fault} in {outer}, named', data, [Name(outer), Name(b'mdat')]
 
 
-def cases():
+def cases() -> Iterator:
     """Names of cases, files, and the names of boxes."""
     for part in (cases_of_kinds, cases_of_names, cases_of_open_sizes, cases_of_faults):
         yield from part()
@@ -288,11 +291,11 @@ def cases():
 # ---- boxes that the profile refuses
 
 
-def uuid_box(name, more=b'more'):
+def uuid_box(name: str, more: bytes = b'more') -> Box:
     return Box('uuid', UUID(name).bytes + more)
 
 
-def foreign_files():
+def foreign_files() -> Iterator:
     """Files without a loss, by name: what else the suite has, and many boxes that are `uuid`."""
     for is_wide in (False, True):
         yield f'wide {is_wide}', whole(is_wide).spelled()
@@ -311,7 +314,7 @@ def foreign_files():
     yield 'many boxes that are uuid', file.spelled()
 
 
-def with_one(path, box, is_last):
+def with_one(path: str, box: Box, is_last: bool) -> bytes:
     """A file with one more box; if that comes first, the first `traf` has no time."""
     file = whole(False)
     holder = file.at(path) if path else file
@@ -321,7 +324,7 @@ def with_one(path, box, is_last):
     return file.spelled()
 
 
-def lossy_files():
+def lossy_files() -> Iterator:
     """One box with which something may be lost, in each container."""
     paths = [path.replace('moov/trak', 'moov/trak[1]') for path in objects.PROFILE]
     kinds = [*(kind for kinds, _, _ in LOSSES for kind in kinds), 'sinf', 'tenc', 'schm', 'stsh']
@@ -337,7 +340,7 @@ def lossy_files():
     yield 'several', file.spelled()
 
 
-def foreign_cases():
+def foreign_cases() -> Iterator:
     """Names of cases, files, and names of boxes; something is lost in those of `lossy_files`."""
     for label, data in foreign_files():
         yield label, data, [Foreign()]
