@@ -1,3 +1,4 @@
 pub mod Device
+pub mod Places
 pub mod Parts
 pub mod Windows

@@ -1,6 +1,6 @@
 //! Stores and sinks: real files, slow writers, bytes in memory, a store that reads ahead, and one
 //! of parts.
-ghost use Rattle.std.specs.Prelude.{◌<◌, false, replicate};
+ghost use Rattle.std.specs.Prelude.{◌<◌, None, false, replicate};
 
 use super::*;
 use std::fs::File;
@@ -93,6 +93,60 @@ fn a_file_cut_after_it_was_opened(rt: HostRuntime) -> Result<(), Fail> {
     assert_eq!(rt; store.read_at(4, &mut out), Ok(()));
     assert_eq!(rt; out, *b"4567");
     Ok(())
+}
+
+// The ten digits, read by place: at most so many at a time, and so many calls are interrupted first.
+#[derive(Drop)]
+struct Digits {
+    most: usize,
+    interrupted: u32,
+    fails: bool,
+}
+
+impl Placed for Digits {
+    ghost known = { λ _. None };
+
+    ghost is_sound = { λ _. false };
+
+    fn read_some(&mut self, out: &mut [u8], at: u64) -> io::Result<usize> {
+        if self.fails {
+            return Err(io::Error::from(io::ErrorKind::Other));
+        }
+        if self.interrupted > 0 {
+            self.interrupted -= 1;
+            return Err(io::Error::from(io::ErrorKind::Interrupted));
+        }
+        let left = &b"0123456789"[at.min(10) as usize..];
+        let count = left.len().min(out.len()).min(self.most);
+        out[..count].copy_from_slice(&left[..count]);
+        Ok(count)
+    }
+}
+
+#[test]
+fn reads_by_place_of_all_kinds(rt: HostRuntime) {
+    for (most, interrupted, fails, want) in [
+        (10, 0, false, Ok(())),
+        (1, 0, false, Ok(())),
+        (3, 5, false, Ok(())),
+        (0, 0, false, Err(StoreFailed)),
+        (10, 0, true, Err(StoreFailed)),
+    ] {
+        let digits = Digits {
+            most,
+            interrupted,
+            fails,
+        };
+        let mut store = FileStore::over(digits, 12);
+        let mut out = [0u8; 7];
+        assert!(rt; 12 <= store.len());
+        assert_eq!(rt; store.read_at(2, &mut out), want);
+        if want == Ok(()) {
+            assert_eq!(rt; out, *b"2345678");
+            // Two of these bytes are not there.
+            assert_eq!(rt; store.read_at(5, &mut out), Err(StoreFailed));
+        }
+    }
 }
 
 #[test]
