@@ -26,7 +26,7 @@ const TOO_LONG_INPUT: &str = "it has more than 1073741824 bytes, the most that a
 /// is honest where it is standard input: all reads are of the bytes that were read.
 #[derive(Drop)]
 pub(crate) enum Source<'a> {
-    File(BufferedStore<FileStore>, Watched),
+    File(BufferedStore<FileStore<File>>, Watched),
     Input(Vec<u8>),
     List(ListSource<'a>),
 }
@@ -149,13 +149,13 @@ impl<'a> Source<'a> {
 impl<'a> Store for Source<'a> {
     ghost use Rattle.mp4norm.specs.words.Sources.{honest_of, file_of, failures_of};
 
-    ghost is_honest = { honest_of ⟦<BufferedStore<FileStore> as Store>⟧
+    ghost is_honest = { honest_of ⟦<BufferedStore<FileStore<File>> as Store>⟧
         ⟦<BufferedStore<ListStore<'a>> as Store>⟧ };
 
-    ghost file = { file_of ⟦<BufferedStore<FileStore> as Store>⟧
+    ghost file = { file_of ⟦<BufferedStore<FileStore<File>> as Store>⟧
         ⟦<BufferedStore<ListStore<'a>> as Store>⟧ };
 
-    ghost read_failures = { failures_of ⟦<BufferedStore<FileStore> as Store>⟧
+    ghost read_failures = { failures_of ⟦<BufferedStore<FileStore<File>> as Store>⟧
         ⟦<BufferedStore<ListStore<'a>> as Store>⟧ };
 
     fn len(&self) -> u64 {
