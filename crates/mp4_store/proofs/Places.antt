@@ -1,10 +1,7 @@
 -- What is known of bytes that are read by place.
-use Rattle.std.proofs.Common.{◌≡◌, ◌∙◌, ℕ, ◌+◌, ◌-◌, ◌≤◌, ◌<◌, List, [], ◌++◌, Option, Some, None, Bool, true, nat_eq, length, take, drop, length-append, length-take, append-nil, sym, ap, refl, arith}
-use Rattle.std.proofs.lemmas.Bool.{eqb-true, false≢true}
+use Rattle.std.proofs.Common.{◌≡◌, ℕ, ◌-◌, List, Option, Some, None, length, length-append, length-take, append-nil, arith}
 use Rattle.std.proofs.lemmas.List.{length-replicate, take_all}
-use Rattle.std.specs.Prelude.{IsTrue, replicate}
-use Rattle.mp4_store.specs.words.Device.{range}
-use Rattle.mp4_store.specs.words.Places.{file_known, is_known}
+use Rattle.mp4_store.specs.words.Places.{file_known}
 
 pub length-known : (known : Option (List ℕ)) (size : ℕ) → length (file_known known size) ≡ size
 length-known None size = length-replicate size 0

@@ -1,5 +1,5 @@
 //! A store over a file of the file system, or over whatever else is read by place.
-ghost use Rattle.std.specs.Prelude.{◌≡◌, ◌+◌, ◌<◌, ◌^◌, ◌≤◌, List, ℕ, length, Some, true, false, IfOk, OnErr, IsTrue};
+ghost use Rattle.std.specs.Prelude.{◌≡◌, ◌+◌, ◌<◌, ◌^◌, ◌≤◌, List, ℕ, length, Some, true, false, OnErr, IsTrue};
 ghost use Rattle.mp4_store.specs.words.Device.{Counts, range};
 ghost use Rattle.mp4_store.specs.words.Places.{file_known, is_known};
 

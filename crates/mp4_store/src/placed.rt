@@ -1,5 +1,5 @@
 //! What is read by place.
-ghost use Rattle.std.specs.Prelude.{◌≡◌, ℕ, ◌<◌, ◌≤◌, List, length, take, Option, None, Some, Bool, IsTrue, false, IfOk, OnErr};
+ghost use Rattle.std.specs.Prelude.{◌≡◌, ℕ, ◌<◌, ◌≤◌, List, length, take, Option, None, Some, Bool, false, IfOk, OnErr};
 ghost use Rattle.mp4_store.specs.words.Device.{range};
 
 use std::fs::File;

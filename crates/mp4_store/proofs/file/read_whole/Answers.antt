@@ -1,6 +1,5 @@
-use Rattle.std.proofs.Common.{◌≡◌, ◌∙◌, ◌+◌, ◌-◌, length, length-drop, length-take, sym, arith}
+use Rattle.std.proofs.Common.{◌≡◌, ◌∙◌, ◌-◌, length, length-drop, length-take, sym, arith}
 use borrow.Rule.Slice.PartMut.{put_mid, same_len_mid}
-use Rattle.mp4_store.specs.words.Device.{range}
 use Rattle.mp4_store.proofs.Known.{range-add}
 use Rattle.mp4_store.proofs.Parts.{filled}
 use Rattle.mp4_store.proofs.file.read_whole.Goals as goal

@@ -1,0 +1,199 @@
+-- What the exports answer: in numbers, and by the window of a text that is put into a buffer.
+use Rattle.std.specs.Prelude.{◌≡◌, ◌⊎◌, ℕ, ◌+◌, ◌^◌, ◌/◌, ◌%◌, ◌==◌, nat_lt, List, ◌++◌, length, take, drop, Bool, if◌then◌else◌, Option, None, Some, option_map, Result, Ok, Err, OnErr}
+use Rattle.mp4_boxes.specs.format.Box.{file_container}
+use Rattle.mp4_boxes.specs.format.Bytes.{field}
+use Rattle.mp4_boxes.specs.declared.fault.Fault.{Fault}
+use Rattle.mp4_boxes.specs.declared.fault.Kind.{Kind}
+use Rattle.mp4_boxes.specs.declared.fault.Kind.TheVariants as kinds
+use Rattle.mp4_boxes.specs.declared.refusal.Refusal.{Refusal}
+use Rattle.mp4_boxes.specs.declared.refusal.Refusal.TheVariants as refusals
+use Rattle.mp4_boxes.specs.declared.rule.Rule.TheVariants.{File}
+use Rattle.mp4_content.specs.declared.without.Without.{Without}
+use Rattle.mp4_content.specs.format.ReducedTimes.{ReducedFaultStands}
+use Rattle.mp4_answers.specs.declared.jobs.Form.{Form}
+use Rattle.mp4_answers.specs.declared.jobs.Form.TheVariants as forms
+use Rattle.mp4_answers.specs.declared.jobs.Job.{Job}
+use Rattle.mp4_answers.specs.declared.jobs.Job.TheVariants as jobs
+use Rattle.mp4_answers.specs.declared.jobs.Syntax.{Syntax}
+use Rattle.mp4_answers.specs.declared.jobs.Syntax.TheVariants as syntaxes
+use Rattle.mp4_answers.specs.format.Answers.{IsFaultOf}
+use Rattle.mp4_answers.specs.format.BoxWalk.{under, FaultSeen}
+use Rattle.mp4_answers.specs.format.FileTexts.{ShowsLine, ListsSamples, HasData, LacksTrack, PrintsText}
+use Rattle.mp4_answers.specs.format.Headline.{HasNormalForm}
+use Rattle.mp4_answers.specs.format.ReducedHeadline.{HasReducedForm}
+use Rattle.mp4_answers.specs.format.Strips.{IsStripped, Halts}
+use Rattle.mp4_answers.specs.format.Sums.{HasSum}
+use Rattle.mp4_answers.specs.format.Texts.{BoxLines}
+use Rattle.mp4norm_c.specs.declared.answer.Answer.{Answer}
+
+-- ---- numbers
+
+-- the number of each kind of fault
+abbrev pub kind_number : Kind → ℕ
+kind_number kinds.ShortHeader = 1
+kind_number kinds.BadSize = 2
+kind_number kinds.Overrun = 3
+kind_number kinds.ShortBox = 4
+kind_number kinds.BoxNotInProfile = 5
+kind_number kinds.DuplicateBox = 6
+kind_number kinds.MissingBox = 7
+kind_number kinds.BadVersion = 8
+kind_number kinds.BadFlags = 9
+kind_number kinds.BadValue = 10
+kind_number kinds.OutsideData = 11
+kind_number kinds.CountMismatch = 12
+kind_number kinds.BadOrder = 13
+kind_number kinds.BadDescriptionIndex = 14
+kind_number kinds.SampleOutsideFile = 15
+kind_number kinds.UnknownTrack = 16
+kind_number kinds.Gap = 17
+kind_number kinds.OffsetTooLarge = 18
+kind_number kinds.ItemLocation = 19
+kind_number kinds.TooManySamples = 20
+kind_number kinds.TimeTooLarge = 21
+kind_number kinds.MovieTooLarge = 22
+kind_number kinds.FragmentBeforeMovie = 23
+
+-- an answer without a fault
+abbrev pub plain : ℕ → ℕ → Answer
+plain status len = record { status = status; kind = 0; box_type = 0; spare = 0; offset = 0; len = len }
+
+-- what was asked for is unknown: the file was not looked at
+abbrev pub usage : Answer
+usage = plain 64 0
+
+-- A result in numbers: how many bytes there are; or the fault; or the status of the program.
+abbrev pub told : Result ℕ Refusal → Answer
+told (Ok len) = plain 0 len
+told (Err (refusals.Fault f)) = record {
+  status = 1;
+  kind = kind_number f.kind;
+  box_type = field f.box_type 0 4;
+  spare = 0;
+  offset = f.offset;
+  len = 0;
+}
+told (Err refusals.Memory) = plain 2 0
+told (Err refusals.StoreFailed) = plain 3 0
+told (Err refusals.StoreChanged) = plain 3 0
+told (Err refusals.WriteFailed) = plain 3 0
+told (Err refusals.NoSuchTrack) = plain 4 0
+
+-- whether a flag is set
+abbrev pub has_flag : ℕ → ℕ → Bool
+has_flag flags bit = flags / 2 ^ bit % 2 == 1
+
+-- what these flags leave out; nothing known where another is set
+abbrev pub without_of : ℕ → Option Without
+without_of flags = if nat_lt flags (2 ^ 10) then Some (record {
+  times = has_flag flags 0;
+  edits = has_flag flags 1;
+  flags = has_flag flags 2;
+  groups = has_flag flags 3;
+  metadata = has_flag flags 4;
+  bitrates = has_flag flags 5;
+  ends = has_flag flags 6;
+  origins = has_flag flags 7;
+  labels = has_flag flags 8;
+  timing = has_flag flags 9;
+}) else None
+
+-- the form of a list of samples, and the syntax of a list of boxes
+abbrev pub form_of : ℕ → Option Form
+form_of n = if n == 0 then Some forms.Plain else (if n == 1 then Some forms.Named
+    else (if n == 2 then Some forms.Json else None))
+
+abbrev pub syntax_of : ℕ → Option Syntax
+syntax_of n = if n == 0 then Some syntaxes.Text
+    else (if n == 1 then Some syntaxes.Json else None)
+
+-- what is done, where that is known
+abbrev pub reduce_job : Option Without → Option Job
+reduce_job = option_map jobs.Reduce
+
+abbrev pub print_job : Option Without → Option Job
+print_job = option_map jobs.Print
+
+abbrev pub samples_job : ℕ → Option Form → Option Job
+samples_job track = option_map (λ form. jobs.Samples track form)
+
+abbrev pub boxes_job : Option Syntax → Option Job
+boxes_job = option_map jobs.Boxes
+
+-- ---- windows
+
+-- the window of a text: so many bytes of it, from a place on, as far as it goes
+abbrev pub window : ℕ → ℕ → List ℕ → List ℕ
+window from most text = take most (drop from text)
+
+-- a buffer that begins with these bytes, and goes on as it was
+abbrev pub laid_over : List ℕ → List ℕ → List ℕ
+laid_over bytes before = bytes ++ drop (length bytes) before
+
+-- The buffer begins with the window of the text, and goes on as it was; so many bytes that is.
+pub record IsWindow (from : ℕ) (before after text : List ℕ) (many : ℕ) : Type 0 where
+  pub bytes : after ≡ laid_over (window from (length before) text) before
+  pub count : many ≡ length (window from (length before) text)
+
+-- The window of such a text is put; or there is such a fault, or no memory, or the track isn't there,
+-- and the buffer is as it was. Over bytes in memory nothing else is answered.
+abbrev pub Windowed : (List ℕ → Type 0) → (Fault → Type 0) → Type 0 → ℕ → List ℕ → List ℕ
+    → Result ℕ Refusal → Type 0
+Windowed IsText IsFault Lacks from before after (Ok many) = (text : List ℕ) × IsText text
+    × IsWindow from before after text many
+Windowed IsText IsFault Lacks from before after (Err (refusals.Fault f)) = IsFault f
+    × (after ≡ before)
+Windowed IsText IsFault Lacks from before after (Err refusals.Memory) = after ≡ before
+Windowed IsText IsFault Lacks from before after (Err refusals.NoSuchTrack) = Lacks
+    × (after ≡ before)
+Windowed IsText IsFault Lacks from before after (Err refusals.StoreFailed) = ⊥
+Windowed IsText IsFault Lacks from before after (Err refusals.StoreChanged) = ⊥
+Windowed IsText IsFault Lacks from before after (Err refusals.WriteFailed) = ⊥
+
+-- the window of the text that a job puts of a file
+abbrev pub WindowOf : Job → List ℕ → ℕ → List ℕ → List ℕ → Result ℕ Refusal → Type 0
+WindowOf jobs.Normalise file = Windowed (HasNormalForm file) (IsFaultOf file) ⊥
+WindowOf (jobs.Reduce l) file = Windowed (HasReducedForm l file)
+    (λ f. IsFaultOf file f ⊎ ReducedFaultStands l file f) ⊥
+WindowOf (jobs.Print l) file = Windowed (PrintsText l file) (IsFaultOf file) ⊥
+WindowOf jobs.Show file = Windowed (ShowsLine file) (IsFaultOf file) ⊥
+WindowOf (jobs.Samples track form) file = Windowed (ListsSamples file track form)
+    (IsFaultOf file) (LacksTrack file track)
+WindowOf (jobs.Extract track) file = Windowed (HasData file track)
+    (IsFaultOf file) (LacksTrack file track)
+WindowOf (jobs.Boxes syntax) file = Windowed (BoxLines syntax file)
+    (FaultSeen (under File (file_container file))) ⊥
+WindowOf (jobs.Strip names) file = Windowed (IsStripped names.now file)
+    (λ f. Halts names.now f File 0 file) ⊥
+
+-- ---- what an export answers
+
+-- That of the job, in numbers; or what was asked for is unknown, and the buffer is as it was.
+abbrev pub Answers : Option Job → List ℕ → ℕ → List ℕ → List ℕ → Answer → Type 0
+Answers None file from before after a = (a ≡ usage) × (after ≡ before)
+Answers (Some job) file from before after a = (result : Result ℕ Refusal) × (a ≡ told result)
+    × WindowOf job file from before after result
+
+-- Over bytes in memory: a number of which this is true; or such a fault, or no memory.
+abbrev pub Found : (ℕ → Type 0) → (Fault → Type 0) → Result ℕ Refusal → Type 0
+Found IsAnswer IsFault (Ok n) = IsAnswer n
+Found IsAnswer IsFault (Err (refusals.Fault f)) = IsFault f
+Found IsAnswer IsFault (Err refusals.Memory) = Unit {0}
+Found IsAnswer IsFault (Err refusals.StoreFailed) = ⊥
+Found IsAnswer IsFault (Err refusals.StoreChanged) = ⊥
+Found IsAnswer IsFault (Err refusals.WriteFailed) = ⊥
+Found IsAnswer IsFault (Err refusals.NoSuchTrack) = ⊥
+
+-- whether the file has a normal form
+abbrev pub Checks : List ℕ → Answer → Type 0
+Checks file a = (result : Result ℕ Refusal) × (a ≡ told result)
+    × Found (λ n. (n ≡ 0) × (form : List ℕ) × HasNormalForm file form) (IsFaultOf file) result
+
+-- The digest of the normal form of what is left of the file, of 32 bytes; else the digest is as it
+-- was.
+abbrev pub Sums : Option Without → List ℕ → List ℕ → List ℕ → Answer → Type 0
+Sums None file before after a = (a ≡ usage) × (after ≡ before)
+Sums (Some l) file before after a = (result : Result ℕ Refusal) × (a ≡ told result)
+    × Found (λ n. (n ≡ 32) × HasSum l file after)
+    (λ f. (IsFaultOf file f ⊎ ReducedFaultStands l file f)) result
+    × (OnErr result (after ≡ before))

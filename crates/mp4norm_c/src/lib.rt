@@ -1,0 +1,144 @@
+//! The C interface: what MP4 files say, of bytes in memory.
+//!
+//! Each export looks at a file of which all bytes are in memory, and says in an [`Answer`] whether
+//! there is an answer. It keeps nothing, and may be called by several threads at once. What a text
+//! has from a place on is put into the caller's buffer; its rest stays as it was. What is asked for
+//! in numbers and is unknown is answered by status 64.
+#![tactic(auto)]
+
+mod answer;
+mod asked;
+mod looks;
+mod window;
+mod window_answers;
+
+pub use answer::{Answer, Digest};
+
+ghost use Rattle.std.specs.Prelude.{Some};
+ghost use Rattle.mp4_answers.specs.declared.jobs.Job.TheVariants as jobs;
+ghost use Rattle.mp4norm_c.specs.format.Exports.{Answers, Checks, Sums, boxes_job, form_of, print_job, reduce_job, samples_job, syntax_of, without_of};
+
+use crate::asked::{form_of, syntax_of, without_of};
+use crate::looks::{answer_check, answer_sum};
+use crate::window_answers::answer_window;
+use mp4_answers::Job;
+use std::alloc::Global;
+
+/// Whether a file has a normal form.
+#[unsafe(no_mangle)]
+pub extern "C" fn mp4norm_check(alloc: Global, file: &[u8], answer: &mut Answer)
+    ensures { Checks file.now answer.new }
+{
+    *answer = answer_check(alloc, file);
+}
+
+/// The SHA-256 of the normal form of what is left of a file. Without an answer the digest stays as
+/// it is.
+#[unsafe(no_mangle)]
+pub extern "C" fn mp4norm_sum(
+    alloc: Global,
+    file: &[u8],
+    words: u32,
+    digest: &mut Digest,
+    answer: &mut Answer,
+)
+    ensures { Sums (without_of words) file.now digest.old.bytes digest.new.bytes answer.new }
+{
+    *answer = answer_sum(alloc, file, without_of(words), digest);
+}
+
+/// The bytes of the normal form of what is left of a file, from the place `from` on.
+#[unsafe(no_mangle)]
+pub extern "C" fn mp4norm_normal_range(
+    alloc: Global,
+    file: &[u8],
+    words: u32,
+    from: u64,
+    out: &mut [u8],
+    answer: &mut Answer,
+)
+    ensures { Answers (reduce_job (without_of words)) file.now from out.old out.new answer.new }
+{
+    let job = without_of(words).map(|leaving| Job::Reduce { leaving });
+    *answer = answer_window(alloc, job, file, from, out);
+}
+
+/// The text of what is left of a file, as `print` has it, from the place `from` on.
+#[unsafe(no_mangle)]
+pub extern "C" fn mp4norm_print_range(
+    alloc: Global,
+    file: &[u8],
+    words: u32,
+    from: u64,
+    out: &mut [u8],
+    answer: &mut Answer,
+)
+    ensures { Answers (print_job (without_of words)) file.now from out.old out.new answer.new }
+{
+    let job = without_of(words).map(|leaving| Job::Print { leaving });
+    *answer = answer_window(alloc, job, file, from, out);
+}
+
+/// The line of JSON that `show` has of a file, from the place `from` on.
+#[unsafe(no_mangle)]
+pub extern "C" fn mp4norm_show_range(
+    alloc: Global,
+    file: &[u8],
+    from: u64,
+    out: &mut [u8],
+    answer: &mut Answer,
+)
+    ensures { Answers (Some jobs.Show) file.now from out.old out.new answer.new }
+{
+    *answer = answer_window(alloc, Some(Job::Show), file, from, out);
+}
+
+/// The list of the samples of the track with this ID, in a form (0: lines, 1: lines behind the
+/// names of their columns, 2: objects of JSON), from the place `from` on.
+#[unsafe(no_mangle)]
+pub extern "C" fn mp4norm_samples_range(
+    alloc: Global,
+    file: &[u8],
+    track: u32,
+    form: u32,
+    from: u64,
+    out: &mut [u8],
+    answer: &mut Answer,
+)
+    ensures { Answers (samples_job track (form_of form)) file.now from out.old out.new answer.new }
+{
+    let job = form_of(form).map(|form| Job::Samples { track, form });
+    *answer = answer_window(alloc, job, file, from, out);
+}
+
+/// The bytes of the samples of the track with this ID, from the place `from` on.
+#[unsafe(no_mangle)]
+pub extern "C" fn mp4norm_extract_range(
+    alloc: Global,
+    file: &[u8],
+    track: u32,
+    from: u64,
+    out: &mut [u8],
+    answer: &mut Answer,
+)
+    ensures { Answers (Some (jobs.Extract track)) file.now from out.old out.new answer.new }
+{
+    *answer = answer_window(alloc, Some(Job::Extract { track }), file, from, out);
+}
+
+/// The list of the boxes of a file, in a syntax (0: lines, 1: objects of JSON), from the place
+/// `from` on.
+#[unsafe(no_mangle)]
+pub extern "C" fn mp4norm_boxes_range(
+    alloc: Global,
+    file: &[u8],
+    syntax: u32,
+    from: u64,
+    out: &mut [u8],
+    answer: &mut Answer,
+)
+    ensures { Answers (boxes_job (syntax_of syntax)) file.now from out.old out.new answer.new }
+{
+    let job = syntax_of(syntax).map(|syntax| Job::Boxes { syntax });
+    *answer = answer_window(alloc, job, file, from, out);
+}
