@@ -6,9 +6,3 @@ use Rattle.mp4_store.specs.words.Places.{file_known}
 pub length-known : (known : Option (List ℕ)) (size : ℕ) → length (file_known known size) ≡ size
 length-known None size = length-replicate size 0
 length-known (Some list) size = rw (length-append, length-take, length-replicate) (omega arith)
-
--- the bytes that are known, where they are so many
-pub known_whole : (list : List ℕ) (size : ℕ) → length list ≡ size → file_known (Some list) size ≡ list
-known_whole list size e =
-    let none : size - length list ≡ 0 = omega (arith, e) in
-    rw (take_all size list (omega (arith, e)), none) (append-nil list)

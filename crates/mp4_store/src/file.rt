@@ -88,7 +88,8 @@ impl<F: Placed> Store for FileStore<F> {
     // A read that ends before `out` is full is a failure. Over bytes that are known, of which no
     // read fails, there is none.
     fn read_at(&mut self, at: u64, out: &mut [u8]) -> Result<(), StoreFailed>
-        requires { at + length out.old ≤ length (file_known (F.known self.old.placed) self.old.size) }
+        requires { at + length out.old
+            ≤ length (file_known (F.known self.old.placed) self.old.size) }
         ensures honesty { is_known (F.known self.new.placed) self.new.size
             ≡ is_known (F.known self.old.placed) self.old.size }
         ensures file { file_known (F.known self.new.placed) self.new.size

@@ -95,7 +95,8 @@ fn a_file_cut_after_it_was_opened(rt: HostRuntime) -> Result<(), Fail> {
     Ok(())
 }
 
-// The ten digits, read by place: at most so many at a time, and so many calls are interrupted first.
+// The ten digits, read by place: at most so many at a time, and so many calls are interrupted
+// first.
 #[derive(Drop)]
 struct Digits {
     most: usize,

@@ -41,7 +41,8 @@ full_window from most n text h =
     let none : most - length (window from most (take n text)) ≡ 0 = omega (arith, h) in
     rw (take-append-drop n text, none, append-nil) at more
 
-pub answered_window : (IsText : List ℕ → Type 0) (IsFault : Fault → Type 0) (Lacks Lacked : Type 0) (file : List ℕ) (s t : WindowSink) (result : Result (Unit {0}) Refusal) (from : ℕ) (before : List ℕ) → (Lacks → Lacked) → Keeps from before s [] → s.failed ≡ 0 → Answered (memory_run file s t) IsText IsFault Lacks result → Windowed IsText IsFault Lacked from before t.room.now (counted t.filled result)
+pub answered_window : (IsText : List ℕ → Type 0) (IsFault : Fault → Type 0) (Lacks Lacked : Type 0) (file : List ℕ) (s t : WindowSink) (result : Result (Unit {0}) Refusal) (from : ℕ) (before : List ℕ) → (Lacks → Lacked) → Keeps from before s [] → s.failed ≡ 0
+    → Answered (memory_run file s t) IsText IsFault Lacks result → Windowed IsText IsFault Lacked from before t.room.now (counted t.filled result)
 answered_window I F L M file s t (Ok done) from before l k z a =
     let put = a.1 refl in
     let kept = put.2.keeps from before [] k in
@@ -86,5 +87,6 @@ window_put (jobs.Boxes syntax) file s t r from before k z a = answered_window _ 
 window_put (jobs.Strip names) file s t r from before k z a = answered_window _ _ _ _ file s t r from before (λ l. l) k z a
 
 -- the same, of what is left behind the reference and of what is answered
-pub window_left : (job : Job) (file : List ℕ) (s t : WindowSink) (result : Result (Unit {0}) Refusal) (from : ℕ) (before after : List ℕ) (filled : ℕ) (told : Result ℕ Refusal) → Keeps from before s [] → s.failed ≡ 0 → Performed job (memory_run file s t) result → after ≡ t.room.now → filled ≡ t.filled → told ≡ counted filled result → WindowOf job file from before after told
+pub window_left : (job : Job) (file : List ℕ) (s t : WindowSink) (result : Result (Unit {0}) Refusal) (from : ℕ) (before after : List ℕ) (filled : ℕ) (told : Result ℕ Refusal) → Keeps from before s [] → s.failed ≡ 0 → Performed job (memory_run file s t) result → after ≡ t.room.now
+    → filled ≡ t.filled → told ≡ counted filled result → WindowOf job file from before after told
 window_left job file s t r from before after filled told k z a left many said = rw (left, said, many) (window_put job file s t r from before k z a)

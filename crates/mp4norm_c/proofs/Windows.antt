@@ -65,13 +65,15 @@ many_kept from before put piece k c e f =
     let many = length-window from (length before) put in
     rw (length-window from (length before) (put ++ piece), length-append) (omega (arith, many, e, f))
 
-pub bytes_kept : (from : ℕ) (before put piece : List ℕ) (k c : ℕ) → k ≡ min (length piece) (from - length put) → c ≡ min (length piece - k) (length before - length (window from (length before) put)) → window from (length before) put ++ take c (drop k piece) ≡ window from (length before) (put ++ piece)
+pub bytes_kept : (from : ℕ) (before put piece : List ℕ) (k c : ℕ) → k ≡ min (length piece) (from - length put) → c ≡ min (length piece - k) (length before - length (window from (length before) put))
+    → window from (length before) put ++ take c (drop k piece) ≡ window from (length before) (put ++ piece)
 bytes_kept from before put piece k c e f =
     let rest : drop k piece ≡ drop (from - length put) piece = rw e (drop-min (from - length put) piece) in
     let fits : c ≡ min (length (drop k piece)) (length before - length (window from (length before) put)) = rw length-drop f in
     rw (window-more from (length before) put piece, sym rest, fits) (ap (λ l. window from (length before) put ++ l) (take-min (length before - length (window from (length before) put)) (drop k piece)))
 
-pub laid_kept : (from : ℕ) (before put piece : List ℕ) (k c : ℕ) → k ≡ min (length piece) (from - length put) → c ≡ min (length piece - k) (length before - length (window from (length before) put)) → splice (laid_over (window from (length before) put) before) (length (window from (length before) put)) (length (window from (length before) put) + c) (take c (drop k piece)) ≡ laid_over (window from (length before) (put ++ piece)) before
+pub laid_kept : (from : ℕ) (before put piece : List ℕ) (k c : ℕ) → k ≡ min (length piece) (from - length put) → c ≡ min (length piece - k) (length before - length (window from (length before) put))
+    → splice (laid_over (window from (length before) put) before) (length (window from (length before) put)) (length (window from (length before) put) + c) (take c (drop k piece)) ≡ laid_over (window from (length before) (put ++ piece)) before
 laid_kept from before put piece k c e f =
     let w = window from (length before) put in
     let long : length (take c (drop k piece)) ≡ c = rw (length-take, length-drop) (omega (arith, f)) in

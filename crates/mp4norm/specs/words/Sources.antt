@@ -10,14 +10,16 @@ use Rattle.mp4norm.specs.declared.shell.sources.Source.{Source}
 use Rattle.mp4norm.specs.declared.shell.sources.Source.TheVariants as sources
 
 -- all reads of standard input are of the bytes that were read
-abbrev pub honest_of : Store (BufferedStore (FileStore File)) → Store (BufferedStore ListStore) → Source
+abbrev pub honest_of : Store (BufferedStore (FileStore File)) → Store (BufferedStore ListStore)
+    → Source
     → Bool
 honest_of S T (sources.File store watched) = S.is_honest store
 honest_of S T (sources.Input bytes) = true
 honest_of S T (sources.List list) = T.is_honest list.store
 
 -- these are its file
-abbrev pub file_of : Store (BufferedStore (FileStore File)) → Store (BufferedStore ListStore) → Source
+abbrev pub file_of : Store (BufferedStore (FileStore File)) → Store (BufferedStore ListStore)
+    → Source
     → List ℕ
 file_of S T (sources.File store watched) = S.file store
 file_of S T (sources.Input bytes) = bytes.items

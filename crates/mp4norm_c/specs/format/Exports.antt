@@ -56,7 +56,14 @@ kind_number kinds.FragmentBeforeMovie = 23
 
 -- an answer without a fault
 abbrev pub plain : ℕ → ℕ → Answer
-plain status len = record { status = status; kind = 0; box_type = 0; spare = 0; offset = 0; len = len }
+plain status len = record {
+  status = status;
+  kind = 0;
+  box_type = 0;
+  spare = 0;
+  offset = 0;
+  len = len;
+}
 
 -- what was asked for is unknown: the file was not looked at
 abbrev pub usage : Answer
@@ -135,8 +142,8 @@ pub record IsWindow (from : ℕ) (before after text : List ℕ) (many : ℕ) : T
   pub bytes : after ≡ laid_over (window from (length before) text) before
   pub count : many ≡ length (window from (length before) text)
 
--- The window of such a text is put; or there is such a fault, or no memory, or the track isn't there,
--- and the buffer is as it was. Over bytes in memory nothing else is answered.
+-- The window of such a text is put; or there is such a fault, or no memory, or the track isn't
+-- there, and the buffer is as it was. Over bytes in memory nothing else is answered.
 abbrev pub Windowed : (List ℕ → Type 0) → (Fault → Type 0) → Type 0 → ℕ → List ℕ → List ℕ
     → Result ℕ Refusal → Type 0
 Windowed IsText IsFault Lacks from before after (Ok many) = (text : List ℕ) × IsText text
