@@ -1,7 +1,5 @@
 -- The steps of opening a file, of planning and of writing are within the bound.
 use Rattle.std.proofs.Common.{◌≡◌, ℕ, zero, suc, ◌+◌, ◌*◌, ◌≤◌, Bool, true, false, if◌then◌else◌, List, [], ◌∷◌, Some, length, map, refl, sym, ap, subst, ◌∙◌, arith}
-use Rattle.std.proofs.Math.Nat.{mul-le-mul_right}
-use Rattle.std.proofs.lemmas.List.{length-map}
 use Rattle.std.specs.List.{AllByRecursion, slice_get}
 use Rattle.mp4_boxes.specs.format.Bytes.{sum_of}
 use Rattle.mp4_tables.specs.format.TableRules.{Fit}
@@ -14,7 +12,7 @@ use Rattle.mp4_frag.specs.format.FragmentRows.{fragment_rows, fragment_length}
 use Rattle.mp4_frag.specs.declared.trex.Trex.{Trex}
 use Rattle.mp4_frag.proofs.SaidSamples.{tree_said, parts_said}
 use Rattle.mp4_head.specs.format.Tree.{TrackTree, IsTrackTree, track_head_of, trexes_of}
-use Rattle.mp4_present.specs.format.Denotes.{FileTree, IsFileTree, IsSoundFile, IsConsistent, Denotes, plain_of, surroundings, file_parts, presentation_of, track_of}
+use Rattle.mp4_present.specs.format.Denotes.{FileTree, IsFileTree, IsSoundFile, IsConsistent, Denotes, plain_of, surroundings, file_parts, presentation_of}
 use Rattle.mp4_present.specs.format.Presentation.{Presentation, sample_total}
 use Rattle.mp4_present.specs.format.Stands.{table_total}
 use Rattle.mp4_present.specs.words.WalkSteps.{moof_steps, moofs_steps, trafs_steps, table_steps, opening_steps, least_table_steps, least_steps, table_way, walk_steps, walks_steps}
@@ -25,7 +23,7 @@ use Rattle.mp4_present.proofs.PartsOnce.{parts_once}
 use Rattle.mp4_plan.specs.words.WriterSteps.{track_writes, writing_steps}
 use Rattle.mp4_present.proofs.Counts.{parts_total, sum-append, sizes_few, fragments_total, total_is, all_belong}
 use Rattle.mp4_answers.specs.format.CompareHeadline.{most_walks}
-use Rattle.mp4_answers.specs.format.Steps.{row_total, most_steps}
+use Rattle.mp4_answers.specs.format.Steps.{row_total}
 
 -- ---- sums over tracks
 
@@ -89,38 +87,15 @@ few_steps : (v : Bool) (m o s f r more checks ways writes : ℕ) → o ≤ m →
 few_steps true m o s f r more checks ways writes own le c w x = omega (arith, own, le, c, w, x)
 few_steps false m o s f r more checks ways writes own le c w x = omega (arith, own, le, c, w, x)
 
-bounded : (v : Bool) (k m o s f r more checks ways writes : ℕ) → (k ≡ 0 → r + s ≡ 0) → (k ≡ 0 → o ≡ 0) → o ≤ m → m ≤ f + more → checks ≡ 7 * r + 3 * s → ways ≡ r + 3 * s + 2 * o → writes ≡ 2 * ways + 2 * o
-    → (checks + m) + ((if v then ways else 0) + ways + writes) ≤ 8 * ((k + 1) * ((s + f) + (r + more)))
-bounded true zero m o s f r more checks ways writes none idle own le c w x = let n = none refl in let i = idle refl in omega (arith, n, i, le, c, w, x)
-bounded false zero m o s f r more checks ways writes none idle own le c w x = let n = none refl in let i = idle refl in omega (arith, n, i, le, c, w, x)
-bounded true (suc k) m o s f r more checks ways writes none idle own le c w x =
-    let few = few_steps true m o s f r more checks ways writes own le c w x in
-    let two : 2 * ((s + f) + (r + more)) ≤ (suc k + 1) * ((s + f) + (r + more)) = mul-le-mul_right ((s + f) + (r + more)) (omega arith) in
-    omega (arith, few, two)
-bounded false (suc k) m o s f r more checks ways writes none idle own le c w x =
-    let few = few_steps false m o s f r more checks ways writes own le c w x in
-    let two : 2 * ((s + f) + (r + more)) ≤ (suc k + 1) * ((s + f) + (r + more)) = mul-le-mul_right ((s + f) + (r + more)) (omega arith) in
-    omega (arith, few, two)
+-- the steps of opening, planning and writing are within the bound
+abbrev pub IsWithin : Bool → FileTree → ℕ → Type 0
+IsWithin v tree samples = opening_steps tree + ((if v then walks_steps tree else 0) + walks_steps tree + writing_steps tree) ≤ (if v then 15 else 12) * (samples + row_total tree)
 
-none_of : (tracks : List TrackTree) → length tracks ≡ 0 → rows_of tracks + plain_total tracks ≡ 0
-none_of [] e = refl
-none_of (t ∷ tracks) e = absurd (omega (arith, e))
-
-idle_of : (tree : FileTree) (tracks : List TrackTree) → length tracks ≡ 0 → owns_total tree tracks ≡ 0
-idle_of tree [] e = refl
-idle_of tree (t ∷ tracks) e = absurd (omega (arith, e))
-
--- the steps of opening, planning and writing are within both bounds
-abbrev pub WithinBoth : Bool → FileTree → ℕ → ℕ → Type 0
-WithinBoth v tree tracks samples = (opening_steps tree + ((if v then walks_steps tree else 0) + walks_steps tree + writing_steps tree) ≤ most_steps tracks samples (row_total tree))
-    × (opening_steps tree + ((if v then walks_steps tree else 0) + walks_steps tree + writing_steps tree) ≤ (if v then 15 else 12) * (samples + row_total tree))
-
-tree_within : (v : Bool) (file : List ℕ) (tree : FileTree) → IsFileTree file tree → IsSoundFile tree → IsConsistent file tree → WithinBoth v tree (length (presentation_of file tree).tracks) (sample_total (presentation_of file tree))
+tree_within : (v : Bool) (file : List ℕ) (tree : FileTree) → IsFileTree file tree → IsSoundFile tree → IsConsistent file tree → IsWithin v tree (sample_total (presentation_of file tree))
 tree_within v file tree h s c =
     let tracks = tree.movie.tracks in
     let fragments = tree.fragments in
     let parts = file_parts tree in
-    let count : length (presentation_of file tree).tracks ≡ length tracks = length-map tracks (track_of file parts) in
     let total : sample_total (presentation_of file tree) ≡ plain_total tracks + fragments_total parts tracks =
     total_is file parts tracks h.movie.tracks c.tables ∙ ap (λ n. n + fragments_total parts tracks) (sym (plain_counted file tracks h.movie.tracks c.tables)) in
     let moofs = moofs_sum (trexes_of tree.movie) fragments h.fragments in
@@ -129,14 +104,12 @@ tree_within v file tree h s c =
     let own = owns_few file tree h s.movie in
     let m = moofs_steps fragments in
     let o = owns_total tree tracks in
-    let all = bounded v (length tracks) m o (plain_total tracks) (fragments_total parts tracks) (rows_of tracks) (fragment_rows_of fragments) (sum_of table_steps tracks) (walks_steps tree) (writing_steps tree)
-    (none_of tracks) (idle_of tree tracks) own few (checks_sum tracks) (ways_sum tree tracks) (writes_sum tree tracks) in
     let short = few_steps v m o (plain_total tracks) (fragments_total parts tracks) (rows_of tracks) (fragment_rows_of fragments) (sum_of table_steps tracks) (walks_steps tree) (writing_steps tree) own few (checks_sum tracks) (ways_sum tree tracks) (writes_sum tree tracks) in
-    subst (λ n. WithinBoth v tree n (sample_total (presentation_of file tree))) (sym count) (subst (λ n. WithinBoth v tree (length tracks) n) (sym total) (all, short))
+    subst (λ n. IsWithin v tree n) (sym total) short
 
 -- opening a file, planning and writing
-pub all_within : (v : Bool) (file : List ℕ) (p : Presentation) (d : Denotes file p) → WithinBoth v d.tree (length p.tracks) (sample_total p)
-all_within v file p d = subst (λ (q : Presentation). WithinBoth v d.tree (length q.tracks) (sample_total q)) (sym d.says) (tree_within v file d.tree d.is_tree d.is_sound d.is_consistent)
+pub all_within : (v : Bool) (file : List ℕ) (p : Presentation) (d : Denotes file p) → IsWithin v d.tree (sample_total p)
+all_within v file p d = subst (λ (q : Presentation). IsWithin v d.tree (sample_total q)) (sym d.says) (tree_within v file d.tree d.is_tree d.is_sound d.is_consistent)
 
 -- ---- a look, and a way over one track
 

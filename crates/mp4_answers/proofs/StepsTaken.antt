@@ -1,5 +1,5 @@
 -- The steps of `normalise`, by what its parts promise.
-use Rattle.std.proofs.Common.{◌≡◌, ℕ, ◌+◌, ◌*◌, ◌≤◌, List, length, Some, subst, arith}
+use Rattle.std.proofs.Common.{◌≡◌, ℕ, ◌+◌, ◌*◌, ◌≤◌, max, List, length, Some, subst, arith}
 use Rattle.std.specs.Prelude.{Bool, true, false, ◌||◌, ◌&&◌, not, if◌then◌else◌, Err, IsTrue, slice_get}
 use Rattle.mp4_head.specs.format.Tree.{TrackTree}
 use Rattle.mp4_boxes.specs.declared.refusal.Refusal.{Refusal}
@@ -12,17 +12,15 @@ use Rattle.mp4_present.specs.words.Opening.{RefusesOpen}
 use Rattle.mp4_present.specs.format.ByBytes.{OpensWithin}
 use Rattle.mp4_present.specs.words.WalkSteps.{IfNoFault, opening_steps, walk_steps, walks_steps}
 use Rattle.mp4_present.proofs.One.{file_tree_one}
-use Rattle.mp4_answers.specs.format.Steps.{WorksWithin, WalksWithin, row_total}
+use Rattle.mp4_answers.specs.format.Steps.{StepsByTracks, WorksWithin, WalksWithin, row_total}
 use Rattle.mp4_answers.specs.format.CompareHeadline.{ComparedWithin, most_walks}
 use Rattle.mp4_answers.proofs.RunParts.{denotes_nothing}
 use Rattle.mp4_answers.proofs.ShownLines.{denoted}
 use Rattle.mp4_content.specs.declared.without.Without.{Without}
 use Rattle.mp4_content.specs.words.Measuring.{measuring_steps}
 use Rattle.mp4_plan.specs.words.WriterSteps.{writing_steps}
+use Rattle.std.proofs.Math.Nat.{mul-le-mul_right}
 use Rattle.mp4_answers.proofs.StepSums.{all_within, often_looks, opened_looks, walked_looks, walks_looks}
-
-few_times : (k n : ℕ) → 8 * n ≤ 8 * ((k + 1) * n)
-few_times k n = let small : n ≤ (k + 1) * n = omega arith in omega (arith, small)
 
 eight_of : (v : Bool) (n : ℕ) → 8 * n ≤ (if v then 15 else 12) * n
 eight_of true n = omega arith
@@ -55,7 +53,6 @@ module _ (file : List ℕ) (old new : ℕ) where
   not_opened l honest reads reads_after r told refuses work within =
       let w = not_looked honest reads reads_after r told refuses work within in
       record {
-        denoted = λ p d. let own = w.denoted p d in let more = few_times (length p.tracks) (sample_total p + row_total d.tree) in omega (arith, own, more);
         few = λ p d. let own = w.denoted p d in let more = eight_of ((l.ends || l.origins) && not l.timing) (sample_total p + row_total d.tree) in omega (arith, own, more);
         refused = w.refused;
       }
@@ -65,15 +62,10 @@ module _ (file : List ℕ) (old new : ℕ) where
   opened_within l m tree behind o opening walks =
       let asks = (l.ends || l.origins) && not l.timing in
       record {
-        denoted = λ p d.
-            let same = file_tree_one file tree d.tree o.is_tree d.is_tree in
-            let own = subst (λ (t : FileTree). new ≤ old + (opening_steps t + (measuring_steps l t + walks_steps t + writing_steps t))) same (omega (arith, opening, walks)) in
-            let all = (all_within asks file p d).0 in
-            omega (arith, own, all);
         few = λ p d.
             let same = file_tree_one file tree d.tree o.is_tree d.is_tree in
             let own = subst (λ (t : FileTree). new ≤ old + (opening_steps t + (measuring_steps l t + walks_steps t + writing_steps t))) same (omega (arith, opening, walks)) in
-            let all = (all_within asks file p d).1 in
+            let all = all_within asks file p d in
             omega (arith, own, all);
         refused = λ nothing. absurd (nothing (presentation_of file tree) (denoted file m tree o));
       }
@@ -126,3 +118,21 @@ module _ (file : List ℕ) (old new : ℕ) where
 pub written_within : (l : Without) (file : List ℕ) (m : MovieSeen) (old behind new : ℕ) → ((tree : FileTree) × IsOpenedAs file m tree) → ((tree : FileTree) → IsFileTree file tree → behind ≤ old + opening_steps tree)
     → ((tree : FileTree) → IsOpenedAs file m tree → new ≤ behind + (measuring_steps l tree + walks_steps tree + writing_steps tree)) → WorksWithin l file old new
 written_within l file m old behind new opened opening write = opened_within file old new l m opened.0 behind opened.1 (opening opened.0 opened.1.is_tree) (write opened.0 opened.1)
+
+-- ---- by the tracks
+
+twice : (v : Bool) (k n : ℕ) → (if v then 15 else 12) * n ≤ 8 * ((max 1 k + 1) * n)
+twice v k n =
+    let most : (if v then 15 else 12) * n ≤ 16 * n = at_most v n in
+    let two : 2 * n ≤ (max 1 k + 1) * n = mul-le-mul_right n (omega arith) in
+    omega (arith, most, two)
+  where
+    at_most : (v : Bool) (n : ℕ) → (if v then 15 else 12) * n ≤ 16 * n
+    at_most true n = omega arith
+    at_most false n = omega arith
+
+pub steps_by_tracks : StepsByTracks
+steps_by_tracks l file old new w p d =
+    let few = w.few p d in
+    let more = twice ((l.ends || l.origins) && not l.timing) (length p.tracks) (sample_total p + row_total d.tree) in
+    omega (arith, few, more)

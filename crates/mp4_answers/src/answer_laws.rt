@@ -1,5 +1,6 @@
 //! Laws of what the commands answer, taken together.
 ghost use Rattle.mp4_answers.specs.format.OneTextLaws.{StripIsOne, ListOfBoxesIsOne, JudgedTextsAreOne};
+ghost use Rattle.mp4_answers.specs.format.Steps.{StepsByTracks};
 ghost use Rattle.mp4_answers.specs.format.SameAnswers.{AcceptedHasNoFault, NormalFormDenotesTheSame, NormalFormHasTheSameData, NormalFormListsTheSame, NormalFormShowsTheSame, SameIsSameBytes, SameStaysSame};
 
 /// `compare --without` says that two files are the same exactly if `normalise --without` of both
@@ -36,6 +37,11 @@ pub fn normal_form_has_the_same_data()
 /// No fault stands in a file that has a normal form.
 pub fn accepted_has_no_fault()
     ensures { AcceptedHasNoFault }
+{}
+
+/// What `normalise` takes is also within a bound by the number of tracks.
+pub fn steps_by_tracks()
+    ensures { StepsByTracks }
 {}
 
 /// A file has one copy in which the boxes of some names are free space.

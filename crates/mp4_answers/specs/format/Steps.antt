@@ -1,7 +1,7 @@
 -- How many steps and looks a whole run may take. A step is a row, a `traf`, a run or a sample that
 -- a check or a cursor passes. A look passes none of these: it finds the track of a `traf` by its
 -- ID, or is a turn.
-use Rattle.std.specs.Prelude.{ℕ, ◌+◌, ◌*◌, ◌≤◌, ◌||◌, ◌&&◌, not, if◌then◌else◌, List, length}
+use Rattle.std.specs.Prelude.{ℕ, ◌+◌, ◌*◌, ◌≤◌, ◌||◌, ◌&&◌, max, not, if◌then◌else◌, List, length}
 use Rattle.mp4_boxes.specs.format.Bytes.{sum_of}
 use Rattle.mp4_tables.specs.format.Tables.{tables_of}
 use Rattle.mp4_tables.specs.format.TableRows.{table_rows}
@@ -20,24 +20,25 @@ abbrev pub row_total : FileTree → ℕ
 row_total tree = sum_of (λ (t : TrackTree). table_rows (tables_of t.table)) tree.movie.tracks
     + sum_of (λ (f : FragmentTree). fragment_rows (fragment_of f)) tree.fragments
 
--- 8 for each sample and each row, times one more than there are tracks
-abbrev pub most_steps : ℕ → ℕ → ℕ → ℕ
-most_steps tracks samples rows = 8 * ((tracks + 1) * (samples + rows))
-
 -- The steps for each sample and each row where this is left out. Where it is ends or origins, each
 -- track is walked over once more: what is left of all its samples has to be known first.
 abbrev pub steps_each : Without → ℕ
 steps_each l = if (l.ends || l.origins) && not l.timing then 15 else 12
 
 -- The steps taken over a file to write the normal form of what is left of it. Where it denotes a
--- presentation: by the tracks, samples and rows of that; and 12 or 15 for each sample and each row,
--- however many tracks there are. Where it denotes nothing: by its bytes.
+-- presentation: 12 or 15 for each sample and each row, however many tracks there are. Where it
+-- denotes nothing: by its bytes.
 pub record WorksWithin (l : Without) (file : List ℕ) (old new : ℕ) : Type 0 where
-  pub denoted : (p : Presentation) → (d : Denotes file p)
-      → new ≤ old + most_steps (length p.tracks) (sample_total p) (row_total d.tree)
   pub few : (p : Presentation) → (d : Denotes file p)
       → new ≤ old + steps_each l * (sample_total p + row_total d.tree)
   pub refused : DenotesNothing file → OpensWithin file old new
+
+-- A law of it: by the tracks, of which one is counted where there is none, 8 times one more than
+-- they are, for each sample and each row.
+abbrev pub StepsByTracks : Type 0
+StepsByTracks = (l : Without) (file : List ℕ) (old new : ℕ) → WorksWithin l file old new
+    → (p : Presentation) (d : Denotes file p) → new
+    ≤ old + 8 * ((max 1 (length p.tracks) + 1) * (sample_total p + row_total d.tree))
 
 -- The steps of looking at a file, and of a walk over one of its tracks: 8 for each sample and each
 -- row, however many tracks there are.

@@ -18,7 +18,7 @@ use std::marker::Brand;
 use std::sync::ledger::{Blank, Ledger};
 
 /// As `normalise`, with the steps that it takes counted: one for each table row, `traf`, run and
-/// sample that is passed. At most 8 * (k + 1) for each sample and each row of a file with k tracks.
+/// sample that is passed. At most 12 for each sample and each row of a file.
 pub fn normalise_counted<S: Store, K: Sink, L: Ledger, M: Ledger>(
     alloc: Global,
     store: &mut S,
