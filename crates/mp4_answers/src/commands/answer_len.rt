@@ -20,13 +20,12 @@ fn data_len<S: Store, L: Ledger, M: Ledger>(
     alloc: Global,
     store: &mut S,
     id: u32,
-    steps: &mut Steps<L>,
-    looks: &mut Steps<M>,
+    steps: &mut Steps<L, M>,
 ) -> Result<u64, Refusal>
     ensures store { OnlyReads S.Store store.old store.new result }
     ensures length { WhereRead S.Store store.old result (λ file. AreLong (HasData file id)) }
 {
-    let movie = open_movie(alloc, store, steps, looks)?;
+    let movie = open_movie(alloc, store, steps)?;
     let place = track_with(movie.tracks(), id)?;
     Ok(movie.tracks()[place].bytes)
 }
@@ -35,14 +34,13 @@ fn data_len<S: Store, L: Ledger, M: Ledger>(
 fn form_len<S: Store, L: Ledger, M: Ledger>(
     alloc: Global,
     store: &mut S,
-    steps: &mut Steps<L>,
-    looks: &mut Steps<M>,
+    steps: &mut Steps<L, M>,
 ) -> Result<u64, Refusal>
     ensures store { OnlyReads S.Store store.old store.new result }
     ensures length { WhereRead S.Store store.old result (λ file. AreLong (HasNormalForm file)) }
 {
-    let movie = open_movie(alloc, store, steps, looks)?;
-    normal_len(alloc, &movie, store, steps, looks)
+    let movie = open_movie(alloc, store, steps)?;
+    normal_len(alloc, &movie, store, steps)
 }
 
 // How many bytes the normal form has of what is left of a file.
@@ -50,15 +48,14 @@ fn form_left_len<S: Store, L: Ledger, M: Ledger>(
     alloc: Global,
     store: &mut S,
     leaving: Without,
-    steps: &mut Steps<L>,
-    looks: &mut Steps<M>,
+    steps: &mut Steps<L, M>,
 ) -> Result<u64, Refusal>
     ensures store { OnlyReads S.Store store.old store.new result }
     ensures length { WhereRead S.Store store.old result
         (λ file. AreLong (HasReducedForm leaving file)) }
 {
-    let movie = open_movie(alloc, store, steps, looks)?;
-    reduced_len(alloc, &movie, store, leaving, steps, looks)
+    let movie = open_movie(alloc, store, steps)?;
+    reduced_len(alloc, &movie, store, leaving, steps)
 }
 
 /// How many bytes a job puts, of those that copy samples or boxes; 0 of the others, whose text is
@@ -67,17 +64,16 @@ pub fn text_len<S: Store, L: Ledger, M: Ledger>(
     alloc: Global,
     job: Job,
     store: &mut S,
-    steps: &mut Steps<L>,
-    looks: &mut Steps<M>,
+    steps: &mut Steps<L, M>,
 ) -> Result<u64, Refusal>
     ensures store { OnlyReads S.Store store.old store.new result }
     ensures length { WhereRead S.Store store.old result (HasLength job.entry) }
 {
     match job {
         Job::Strip { .. } => Ok(store.len()),
-        Job::Extract { track } => data_len(alloc, store, track, steps, looks),
-        Job::Normalise => form_len(alloc, store, steps, looks),
-        Job::Reduce { leaving } => form_left_len(alloc, store, leaving, steps, looks),
+        Job::Extract { track } => data_len(alloc, store, track, steps),
+        Job::Normalise => form_len(alloc, store, steps),
+        Job::Reduce { leaving } => form_left_len(alloc, store, leaving, steps),
         Job::Boxes { .. } | Job::Show | Job::Samples { .. } | Job::Print { .. } => Ok(0),
     }
 }

@@ -222,7 +222,7 @@ fn list_boxes<S: Store>(alloc: Global, store: &mut S, syntax: Syntax) -> Result<
 /// Puts a line for each box that is a box of the file or of a container of boxes: two spaces for
 /// each container that it stands in, its type, its place, its size; or an object of JSON. Every
 /// type is accepted. Where any header that is looked at is at fault, nothing is put.
-pub fn boxes<S: Store, K: Sink>(
+pub fn boxes_as<S: Store, K: Sink>(
     alloc: Global,
     store: &mut S,
     syntax: Syntax,
@@ -236,4 +236,14 @@ pub fn boxes<S: Store, K: Sink>(
     let text = list_boxes(alloc, store, syntax)?;
     sink.put(text.as_slice())?;
     Ok(())
+}
+
+/// Puts the lines of the boxes, as `boxes_as` does, in text.
+pub fn boxes<S: Store, K: Sink>(alloc: Global, store: &mut S, sink: &mut K) -> Result<(), Refusal>
+    ensures store { KeepsFile S.Store store.old store.new }
+    ensures answer { BoxesListed Syntax.Text
+        (run_of S.Store store.old store.new K.Sink sink.old sink.new)
+        result }
+{
+    boxes_as(alloc, store, Syntax::Text, sink)
 }

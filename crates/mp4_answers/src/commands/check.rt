@@ -18,17 +18,18 @@ use std::sync::ledger::{Blank, Ledger};
 pub fn check_counted<S: Store, L: Ledger, M: Ledger>(
     alloc: Global,
     store: &mut S,
-    steps: &mut Steps<L>,
-    looks: &mut Steps<M>,
+    steps: &mut Steps<L, M>,
 ) -> Result<(), Refusal>
     ensures store { KeepsFile S.Store store.old store.new }
     ensures answer { Judged (look_of S.Store store.old store.new) result }
-    ensures work { WhereHonest S.Store store.old (λ file. WalksWithin file steps.old steps.new) }
+    ensures work { WhereHonest S.Store store.old
+        (λ file. WalksWithin file steps.old.passed steps.new.passed) }
     ensures least { OnOk result (WhereHonest S.Store store.old (λ file.
-        TakesEach file steps.old steps.new)) }
-    ensures looks { WhereHonest S.Store store.old (λ file. FindsWithin file looks.old looks.new) }
+        TakesEach file steps.old.passed steps.new.passed)) }
+    ensures looks { WhereHonest S.Store store.old
+        (λ file. FindsWithin file steps.old.looks steps.new.looks) }
 {
-    open_movie(alloc, store, steps, looks)?;
+    open_movie(alloc, store, steps)?;
     Ok(())
 }
 
@@ -44,9 +45,8 @@ fn check_blank<S: Store, L: Ledger, M: Ledger>(
     ensures store { KeepsFile S.Store store.old store.new }
     ensures answer { Judged (look_of S.Store store.old store.new) result }
 {
-    let mut steps = Steps::<L>::new(steps);
-    let mut looks = Steps::<M>::new(looks);
-    check_counted(alloc, store, &mut steps, &mut looks)
+    let mut counted = Steps::<L, M>::new(steps, looks);
+    check_counted(alloc, store, &mut counted)
 }
 
 /// Judges a file as `normalise` does before it puts anything. So it answers what `normalise` would,

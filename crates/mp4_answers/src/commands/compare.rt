@@ -10,7 +10,6 @@ ghost use Rattle.mp4_content.specs.words.Compared.{OfFiles, WhereOpenedBoth};
 ghost use Rattle.mp4_answers.specs.words.TwoFiles.{ComparesBoth, OfBoth, ReadsBoth, WalksOnce};
 
 use crate::commands::guesses::guess;
-use crate::costs::Costs;
 use crate::jobs::Syntax;
 use crate::text::difference_json::{say_difference_object, say_last_object};
 use crate::text::difference_lines::say_difference;
@@ -249,13 +248,13 @@ fn same_text(
 }
 
 // What differs between two opened files: all, or more than is counted.
-fn all_of<S: Store, T: Store, L: Ledger>(
+fn all_of<S: Store, T: Store, L: Ledger, M: Ledger>(
     alloc: Global,
     movies: &Movies,
     left: &mut S,
     right: &mut T,
     leaving: Without,
-    steps: &mut Steps<L>,
+    steps: &mut Steps<L, M>,
 ) -> Result<Listed, Refusal>
     ensures stores { ReadsBoth S.Store left.old left.new T.Store right.old right.new result }
     ensures all { IfOk result
@@ -263,7 +262,9 @@ fn all_of<S: Store, T: Store, L: Ledger>(
         leaving (ListsFront found.all.items)) }
     ensures opened { WhereOpenedBoth S.Store left.old movies.now.left
         T.Store right.old movies.now.right
-        (λ tree other. IsUnchanged result × WalksOnce tree other steps.old steps.new) }
+        (λ tree other. IsUnchanged result
+        × WalksOnce tree other steps.old.passed steps.new.passed) }
+    ensures looks { steps.new.looks ≡ steps.old.looks }
 {
     let mut listed = Listed::new(alloc)?;
     if !listed.has_room() {
@@ -277,13 +278,13 @@ fn all_of<S: Store, T: Store, L: Ledger>(
 }
 
 // Whether two opened files are the same without this.
-fn is_enough<S: Store, T: Store, L: Ledger>(
+fn is_enough<S: Store, T: Store, L: Ledger, M: Ledger>(
     alloc: Global,
     movies: &Movies,
     left: &mut S,
     right: &mut T,
     leaving: Without,
-    steps: &mut Steps<L>,
+    steps: &mut Steps<L, M>,
 ) -> Result<bool, Refusal>
     ensures stores { ReadsBoth S.Store left.old left.new T.Store right.old right.new result }
     ensures enough { IfOk result
@@ -291,7 +292,9 @@ fn is_enough<S: Store, T: Store, L: Ledger>(
         (λ differ. IsSameWith leaving differ same)) }
     ensures opened { WhereOpenedBoth S.Store left.old movies.now.left
         T.Store right.old movies.now.right
-        (λ tree other. IsUnchanged result × WalksOnce tree other steps.old steps.new) }
+        (λ tree other. IsUnchanged result
+        × WalksOnce tree other steps.old.passed steps.new.passed) }
+    ensures looks { steps.new.looks ≡ steps.old.looks }
 {
     match compare(alloc, movies, left, right, leaving, steps)? {
         None => Ok(true),
@@ -301,13 +304,13 @@ fn is_enough<S: Store, T: Store, L: Ledger>(
 
 // Some words without which two opened files are the same, those that were given among them: those
 // that the differences ask for, or all.
-fn first_enough<S: Store, T: Store, L: Ledger>(
+fn first_enough<S: Store, T: Store, L: Ledger, M: Ledger>(
     alloc: Global,
     files: &Compared,
     left: &mut S,
     right: &mut T,
     all: &[Difference],
-    steps: &mut Steps<L>,
+    steps: &mut Steps<L, M>,
 ) -> Result<Option<Without>, Refusal>
     ensures stores { ReadsBoth S.Store left.old left.new T.Store right.old right.new result }
     ensures enough { IfOk result
@@ -316,7 +319,9 @@ fn first_enough<S: Store, T: Store, L: Ledger>(
         (λ differ. AreSome files.now.given differ first)) }
     ensures opened { WhereOpenedBoth S.Store left.old files.now.movies.left
         T.Store right.old files.now.movies.right
-        (λ tree other. IsUnchanged result × WalksTimes 2 tree other steps.old steps.new) }
+        (λ tree other. IsUnchanged result
+        × WalksTimes 2 tree other steps.old.passed steps.new.passed) }
+    ensures looks { steps.new.looks ≡ steps.old.looks }
 {
     let guessed = guess(files.given, all, files.movies.left.tracks());
     if is_enough(alloc, &files.movies, left, right, guessed, steps)? {
@@ -330,13 +335,13 @@ fn first_enough<S: Store, T: Store, L: Ledger>(
 
 // Takes a word away from those without which two opened files are the same, if it was not given and
 // the files are the same without the others too.
-fn take_word<S: Store, T: Store, L: Ledger>(
+fn take_word<S: Store, T: Store, L: Ledger, M: Ledger>(
     alloc: Global,
     files: &Compared,
     left: &mut S,
     right: &mut T,
     trial: Trial,
-    steps: &mut Steps<L>,
+    steps: &mut Steps<L, M>,
 ) -> Result<Without, Refusal>
     ensures stores { ReadsBoth S.Store left.old left.new T.Store right.old right.new result }
     ensures tried { IfOk result
@@ -345,7 +350,9 @@ fn take_word<S: Store, T: Store, L: Ledger>(
         (λ differ. IsTried trial.word files.now.given differ trial.leaving next)) }
     ensures opened { WhereOpenedBoth S.Store left.old files.now.movies.left
         T.Store right.old files.now.movies.right
-        (λ tree other. IsUnchanged result × WalksOnce tree other steps.old steps.new) }
+        (λ tree other. IsUnchanged result
+        × WalksOnce tree other steps.old.passed steps.new.passed) }
+    ensures looks { steps.new.looks ≡ steps.old.looks }
 {
     let less = less_word(files.given, trial.leaving, trial.word);
     if less == trial.leaving {
@@ -358,13 +365,13 @@ fn take_word<S: Store, T: Store, L: Ledger>(
 }
 
 // Takes away one after the other all of these words that can be.
-fn shrink<S: Store, T: Store, L: Ledger>(
+fn shrink<S: Store, T: Store, L: Ledger, M: Ledger>(
     alloc: Global,
     files: &Compared,
     left: &mut S,
     right: &mut T,
     from: Shrinking,
-    steps: &mut Steps<L>,
+    steps: &mut Steps<L, M>,
 ) -> Result<Without, Refusal>
     ensures stores { ReadsBoth S.Store left.old left.new T.Store right.old right.new result }
     ensures shrunk { IfOk result
@@ -374,7 +381,8 @@ fn shrink<S: Store, T: Store, L: Ledger>(
     ensures opened { WhereOpenedBoth S.Store left.old files.now.movies.left
         T.Store right.old files.now.movies.right
         (λ tree other. IsUnchanged result
-        × WalksTimes (length from.entry.words.now) tree other steps.old steps.new) }
+        × WalksTimes (length from.entry.words.now) tree other steps.old.passed steps.new.passed) }
+    ensures looks { steps.new.looks ≡ steps.old.looks }
 {
     let Some((word, more)) = from.words.split_first() else {
         return Ok(from.leaving);
@@ -393,13 +401,13 @@ fn shrink<S: Store, T: Store, L: Ledger>(
 
 // The words without which two opened files are the same, those that were given among them, and none
 // that can be taken away. No words where the files differ even without everything.
-fn enough_for<S: Store, T: Store, L: Ledger>(
+fn enough_for<S: Store, T: Store, L: Ledger, M: Ledger>(
     alloc: Global,
     files: &Compared,
     left: &mut S,
     right: &mut T,
     all: &[Difference],
-    steps: &mut Steps<L>,
+    steps: &mut Steps<L, M>,
 ) -> Result<Option<Without>, Refusal>
     ensures stores { ReadsBoth S.Store left.old left.new T.Store right.old right.new result }
     ensures enough { IfOk result
@@ -409,7 +417,8 @@ fn enough_for<S: Store, T: Store, L: Ledger>(
     ensures opened { WhereOpenedBoth S.Store left.old files.now.movies.left
         T.Store right.old files.now.movies.right
         (λ tree other. IsUnchanged result
-        × WalksTimes (2 + word_count) tree other steps.old steps.new) }
+        × WalksTimes (2 + word_count) tree other steps.old.passed steps.new.passed) }
+    ensures looks { steps.new.looks ≡ steps.old.looks }
 {
     let Some(first) = first_enough(alloc, files, left, right, all, steps)? else {
         return Ok(None);
@@ -423,13 +432,13 @@ fn enough_for<S: Store, T: Store, L: Ledger>(
 }
 
 // Compares two opened files, and gives the text of all differences; none where there are none.
-fn all_text<S: Store, T: Store, L: Ledger>(
+fn all_text<S: Store, T: Store, L: Ledger, M: Ledger>(
     alloc: Global,
     files: &Compared,
     left: &mut S,
     right: &mut T,
     lines: Lines,
-    steps: &mut Steps<L>,
+    steps: &mut Steps<L, M>,
 ) -> Result<Option<Vec<u8>>, Refusal>
     ensures stores { ReadsBoth S.Store left.old left.new T.Store right.old right.new result }
     ensures some { IfOk result (λ found. IfSome found (λ text. 0 < length text.items)) }
@@ -443,7 +452,9 @@ fn all_text<S: Store, T: Store, L: Ledger>(
         (λ differ. IsFoundOf (λ bytes. bytes.items) (All lines) files.now.given differ text)) }
     ensures opened { WhereOpenedBoth S.Store left.old files.now.movies.left
         T.Store right.old files.now.movies.right
-        (λ tree other. IsUnchanged result × WalksTimes most_walks tree other steps.old steps.new) }
+        (λ tree other. IsUnchanged result
+        × WalksTimes most_walks tree other steps.old.passed steps.new.passed) }
+    ensures looks { steps.new.looks ≡ steps.old.looks }
 {
     let listed = all_of(alloc, &files.movies, left, right, files.given, steps)?;
     if listed.is_empty() {
@@ -456,13 +467,13 @@ fn all_text<S: Store, T: Store, L: Ledger>(
 }
 
 // Compares two opened files, and gives what there is to say; nothing where they are the same.
-fn text_of<S: Store, T: Store, L: Ledger>(
+fn text_of<S: Store, T: Store, L: Ledger, M: Ledger>(
     alloc: Global,
     files: &Compared,
     left: &mut S,
     right: &mut T,
     listing: Listing,
-    steps: &mut Steps<L>,
+    steps: &mut Steps<L, M>,
 ) -> Result<Option<Vec<u8>>, Refusal>
     ensures stores { ReadsBoth S.Store left.old left.new T.Store right.old right.new result }
     ensures some { IfOk result (λ found. IfSome found (λ text. 0 < length text.items)) }
@@ -476,7 +487,9 @@ fn text_of<S: Store, T: Store, L: Ledger>(
         (λ differ. IsFoundOf (λ bytes. bytes.items) listing files.now.given differ text)) }
     ensures opened { WhereOpenedBoth S.Store left.old files.now.movies.left
         T.Store right.old files.now.movies.right
-        (λ tree other. IsUnchanged result × WalksTimes most_walks tree other steps.old steps.new) }
+        (λ tree other. IsUnchanged result
+        × WalksTimes most_walks tree other steps.old.passed steps.new.passed) }
+    ensures looks { steps.new.looks ≡ steps.old.looks }
 {
     let (movies, leaving) = (&files.movies, files.given);
     match listing {
@@ -541,7 +554,7 @@ pub fn compare_files<S: Store, T: Store, K: Sink, L: Ledger, M: Ledger>(
     right: &mut T,
     asked: Asked,
     sink: &mut K,
-    costs: &mut Costs<L, M>,
+    steps: &mut Steps<L, M>,
 ) -> Result<bool, Failure>
     ensures answer { ComparesBoth S.Store left.old left.new T.Store right.old right.new
         K.Sink sink.old sink.new asked.leaving (is_silent asked.listing) result }
@@ -552,17 +565,16 @@ pub fn compare_files<S: Store, T: Store, K: Sink, L: Ledger, M: Ledger>(
         (λ file other.
         PutsSuch (K.takes sink.old sink.new) (IsTold asked.listing asked.leaving file other))) }
     ensures work { WhereBothHonest S.Store left.old T.Store right.old
-        (λ file other. ComparesWithin file other costs.old.steps costs.new.steps) }
+        (λ file other. ComparesWithin file other steps.old.passed steps.new.passed) }
     ensures looks { WhereBothHonest S.Store left.old T.Store right.old
-        (λ file other. FindsBothWithin file other costs.old.looks costs.new.looks) }
+        (λ file other. FindsBothWithin file other steps.old.looks steps.new.looks) }
 {
-    let Costs { steps, looks } = costs;
     let Asked { leaving, listing } = asked;
-    let first = match open_movie(alloc, left, steps, looks) {
+    let first = match open_movie(alloc, left, steps) {
         Ok(first) => first,
         Err(refusal) => return Err(failed(Side::First, refusal)),
     };
-    let second = match open_movie(alloc, right, steps, looks) {
+    let second = match open_movie(alloc, right, steps) {
         Ok(second) => second,
         Err(refusal) => return Err(failed(Side::Second, refusal)),
     };

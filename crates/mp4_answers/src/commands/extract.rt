@@ -22,18 +22,19 @@ pub fn extract_counted<S: Store, K: Sink, L: Ledger, M: Ledger>(
     store: &mut S,
     id: u32,
     sink: &mut K,
-    steps: &mut Steps<L>,
-    looks: &mut Steps<M>,
+    steps: &mut Steps<L, M>,
 ) -> Result<(), Refusal>
     ensures store { KeepsFile S.Store store.old store.new }
     ensures answer { Extracted id (run_of S.Store store.old store.new K.Sink sink.old sink.new)
         result }
-    ensures work { WhereHonest S.Store store.old (λ file. WalksWithin file steps.old steps.new) }
+    ensures work { WhereHonest S.Store store.old
+        (λ file. WalksWithin file steps.old.passed steps.new.passed) }
     ensures least { OnOk result (WhereHonest S.Store store.old (λ file.
-        TakesEach file steps.old steps.new)) }
-    ensures looks { WhereHonest S.Store store.old (λ file. FindsWithin file looks.old looks.new) }
+        TakesEach file steps.old.passed steps.new.passed)) }
+    ensures looks { WhereHonest S.Store store.old
+        (λ file. FindsWithin file steps.old.looks steps.new.looks) }
 {
-    let movie = open_movie(alloc, store, steps, looks)?;
+    let movie = open_movie(alloc, store, steps)?;
     let track = track_with(movie.tracks(), id)?;
     movie.copy_track(alloc, track, store, sink, steps)
 }

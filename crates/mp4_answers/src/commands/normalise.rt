@@ -23,21 +23,21 @@ pub fn normalise_counted<S: Store, K: Sink, L: Ledger, M: Ledger>(
     alloc: Global,
     store: &mut S,
     sink: &mut K,
-    steps: &mut Steps<L>,
-    looks: &mut Steps<M>,
+    steps: &mut Steps<L, M>,
 ) -> Result<(), Refusal>
     ensures store { KeepsFile S.Store store.old store.new }
     ensures answer { Normalised (run_of S.Store store.old store.new K.Sink sink.old sink.new)
         result }
     ensures whole { OnOk result (PutsWhole nothing (K.takes sink.old sink.new)) }
     ensures work { WhereHonest S.Store store.old (λ file.
-        WorksWithin nothing file steps.old steps.new) }
+        WorksWithin nothing file steps.old.passed steps.new.passed) }
     ensures least { OnOk result (WhereHonest S.Store store.old (λ file.
-        TakesEach file steps.old steps.new)) }
-    ensures looks { WhereHonest S.Store store.old (λ file. TurnsWithin file looks.old looks.new) }
+        TakesEach file steps.old.passed steps.new.passed)) }
+    ensures looks { WhereHonest S.Store store.old
+        (λ file. TurnsWithin file steps.old.looks steps.new.looks) }
 {
-    let movie = open_movie(alloc, store, steps, looks)?;
-    write_normal(alloc, &movie, store, sink, steps, looks)
+    let movie = open_movie(alloc, store, steps)?;
+    write_normal(alloc, &movie, store, sink, steps)
 }
 
 /// Puts the normal form of what the file denotes: one canonical fragmented file. The whole file is

@@ -22,19 +22,19 @@ pub fn normalise_reduced<S: Store, K: Sink, L: Ledger, M: Ledger>(
     store: &mut S,
     sink: &mut K,
     leaving: Without,
-    steps: &mut Steps<L>,
-    looks: &mut Steps<M>,
+    steps: &mut Steps<L, M>,
 ) -> Result<(), Refusal>
     ensures store { KeepsFile S.Store store.old store.new }
     ensures answer { ReducedTo leaving (run_of S.Store store.old store.new K.Sink sink.old sink.new)
         result }
     ensures whole { OnOk result (PutsWhole leaving (K.takes sink.old sink.new)) }
     ensures work { WhereHonest S.Store store.old (λ file.
-        WorksWithin leaving file steps.old steps.new) }
+        WorksWithin leaving file steps.old.passed steps.new.passed) }
     ensures least { OnOk result (WhereHonest S.Store store.old (λ file.
-        TakesEach file steps.old steps.new)) }
-    ensures looks { WhereHonest S.Store store.old (λ file. TurnsWithin file looks.old looks.new) }
+        TakesEach file steps.old.passed steps.new.passed)) }
+    ensures looks { WhereHonest S.Store store.old
+        (λ file. TurnsWithin file steps.old.looks steps.new.looks) }
 {
-    let movie = open_movie(alloc, store, steps, looks)?;
-    write_reduced(alloc, &movie, store, sink, leaving, steps, looks)
+    let movie = open_movie(alloc, store, steps)?;
+    write_reduced(alloc, &movie, store, sink, leaving, steps)
 }

@@ -7,7 +7,7 @@ ghost use Rattle.mp4_answers.specs.words.WholePut.{JobPutsWhole};
 ghost use Rattle.mp4_present.specs.words.StoresRead.{WhereHonest};
 ghost use Rattle.mp4_answers.specs.words.StoreAndSink.{IsOf};
 
-use crate::commands::boxes::boxes;
+use crate::commands::boxes::boxes_as;
 use crate::commands::extract::extract_counted;
 use crate::commands::normalise::normalise_counted;
 use crate::commands::normalise_reduced::normalise_reduced;
@@ -28,8 +28,7 @@ pub fn perform<S: Store, K: Sink, L: Ledger, M: Ledger>(
     job: Job,
     store: &mut S,
     sink: &mut K,
-    steps: &mut Steps<L>,
-    looks: &mut Steps<M>,
+    steps: &mut Steps<L, M>,
 ) -> Result<(), Refusal>
     ensures store { KeepsFile S.Store store.old store.new }
     ensures answer { Performed job.entry
@@ -38,21 +37,19 @@ pub fn perform<S: Store, K: Sink, L: Ledger, M: Ledger>(
     ensures whole { OnOk result
         (JobPutsWhole job.entry (K.takes sink.old sink.new)) }
     ensures work { WhereHonest S.Store store.old
-        (λ file. JobWorksWithin job.entry file steps.old steps.new) }
+        (λ file. JobWorksWithin job.entry file steps.old.passed steps.new.passed) }
     ensures looks { WhereHonest S.Store store.old
-        (λ file. JobLooksWithin job.entry file looks.old looks.new) }
+        (λ file. JobLooksWithin job.entry file steps.old.looks steps.new.looks) }
 {
     match job {
-        Job::Boxes { syntax } => boxes(alloc, store, syntax, sink),
-        Job::Show => show_counted(alloc, store, sink, steps, looks),
-        Job::Samples { track, form } => samples_counted(
-            alloc, store, track, form, sink, steps, looks,
-        ),
-        Job::Extract { track } => extract_counted(alloc, store, track, sink, steps, looks),
+        Job::Boxes { syntax } => boxes_as(alloc, store, syntax, sink),
+        Job::Show => show_counted(alloc, store, sink, steps),
+        Job::Samples { track, form } => samples_counted(alloc, store, track, form, sink, steps),
+        Job::Extract { track } => extract_counted(alloc, store, track, sink, steps),
         Job::Strip { names } => strip(alloc, store, names, sink),
-        Job::Normalise => normalise_counted(alloc, store, sink, steps, looks),
-        Job::Print { leaving } => print(alloc, store, sink, leaving, steps, looks),
-        Job::Reduce { leaving } => normalise_reduced(alloc, store, sink, leaving, steps, looks),
+        Job::Normalise => normalise_counted(alloc, store, sink, steps),
+        Job::Print { leaving } => print(alloc, store, sink, leaving, steps),
+        Job::Reduce { leaving } => normalise_reduced(alloc, store, sink, leaving, steps),
     }
 }
 
@@ -74,7 +71,6 @@ pub(crate) fn perform_blank<S: Store, K: Sink, L: Ledger, M: Ledger>(
     ensures whole { OnOk result
         (JobPutsWhole job.entry (K.takes sink.old sink.new)) }
 {
-    let mut steps = Steps::<L>::new(steps);
-    let mut looks = Steps::<M>::new(looks);
-    perform(alloc, job, store, sink, &mut steps, &mut looks)
+    let mut counted = Steps::<L, M>::new(steps, looks);
+    perform(alloc, job, store, sink, &mut counted)
 }

@@ -135,13 +135,13 @@ struct Styled<'a> {
 }
 
 // Puts the lines of all samples in hand.
-fn put_hand<S: Store, K: Sink, L: Ledger>(
+fn put_hand<S: Store, K: Sink, L: Ledger, M: Ledger>(
     of: Styled,
     walk: &mut Walk,
     desk: &mut Desk,
     store: &mut S,
     sink: &mut K,
-    steps: &mut Steps<L>,
+    steps: &mut Steps<L, M>,
 ) -> Result<(), Refusal>
     requires walk { IsWalkOf of.movie.now walk.old }
     requires empty { waiting desk.old.window ≡ [] }
@@ -151,10 +151,12 @@ fn put_hand<S: Store, K: Sink, L: Ledger>(
     ensures told { OfHandLines S.Store store.old of.entry.movie.now walk.old of.entry.style.now
         (λ lines.
         TellsOn K.Sink sink.old sink.new desk.old.text desk.new.text lines result) }
-    ensures grows { steps.old ≤ steps.new }
-    ensures work { HandWork of.entry.movie.now walk.old walk.new result steps.old steps.new }
+    ensures grows { steps.old.passed ≤ steps.new.passed }
+    ensures work { HandWork of.entry.movie.now walk.old walk.new result
+        steps.old.passed steps.new.passed }
     ensures refusal { RefusedByBoth S.Store store.old store.new K.Sink sink.old sink.new result
         RefusesCarry }
+    ensures looks { steps.new.looks ≡ steps.old.looks }
 {
     let place = {
         let mut hand = walk.in_hand(of.movie);
@@ -168,13 +170,13 @@ fn put_hand<S: Store, K: Sink, L: Ledger>(
 }
 
 // Puts the lines of all samples of a walk.
-fn put_walk<S: Store, K: Sink, L: Ledger>(
+fn put_walk<S: Store, K: Sink, L: Ledger, M: Ledger>(
     of: Styled,
     walk: &mut Walk,
     desk: &mut Desk,
     store: &mut S,
     sink: &mut K,
-    steps: &mut Steps<L>,
+    steps: &mut Steps<L, M>,
 ) -> Result<(), Refusal>
     requires walk { IsWalkOf of.movie.now walk.old }
     requires empty { waiting desk.old.window ≡ [] }
@@ -183,11 +185,12 @@ fn put_walk<S: Store, K: Sink, L: Ledger>(
     ensures told { OfWalkLines S.Store store.old of.entry.movie.now walk.old of.entry.style.now
         (λ lines.
         TellsOn K.Sink sink.old sink.new desk.old.text desk.new.text lines result) }
-    ensures grows { steps.old ≤ steps.new }
+    ensures grows { steps.old.passed ≤ steps.new.passed }
     ensures work { WhereMayTake S.Store store.old of.entry.movie.now walk.old
-        (λ file tree t n. steps.new ≤ steps.old + n) }
+        (λ file tree t n. steps.new.passed ≤ steps.old.passed + n) }
     ensures refusal { RefusedByBoth S.Store store.old store.new K.Sink sink.old sink.new result
         RefusesCarry }
+    ensures looks { steps.new.looks ≡ steps.old.looks }
 {
     put_hand(of, walk, desk, store, sink, steps)?;
     while walk.load(of.movie, store, steps)? {
@@ -206,14 +209,14 @@ struct PrintedMovie<'a> {
 
 // Puts the lines of all samples of a track whose samples are grouped by these keys, of a walk that
 // stands before the first.
-fn put_samples<S: Store, K: Sink, L: Ledger>(
+fn put_samples<S: Store, K: Sink, L: Ledger, M: Ledger>(
     of: PrintedMovie,
     keys: Keys,
     walk: &mut Walk,
     desk: &mut Desk,
     store: &mut S,
     sink: &mut K,
-    steps: &mut Steps<L>,
+    steps: &mut Steps<L, M>,
 ) -> Result<(), Refusal>
     requires walk { IsWalkOf of.movie.now walk.old }
     requires empty { waiting desk.old.window ≡ [] }
@@ -222,11 +225,12 @@ fn put_samples<S: Store, K: Sink, L: Ledger>(
     ensures told { OfTrackLines S.Store store.old of.entry.movie.now walk.old of.entry.leaving keys
         (λ lines.
         TellsOn K.Sink sink.old sink.new desk.old.text desk.new.text lines result) }
-    ensures grows { steps.old ≤ steps.new }
+    ensures grows { steps.old.passed ≤ steps.new.passed }
     ensures work { WhereMayTake S.Store store.old of.entry.movie.now walk.old
-        (λ file tree t n. steps.new ≤ steps.old + n) }
+        (λ file tree t n. steps.new.passed ≤ steps.old.passed + n) }
     ensures refusal { RefusedByBoth S.Store store.old store.new K.Sink sink.old sink.new result
         RefusesCarry }
+    ensures looks { steps.new.looks ≡ steps.old.looks }
 {
     let movie = of.movie;
     let edges = edges_of(walk, of.leaving, movie, store, steps)?;
@@ -271,13 +275,13 @@ fn walks_of(alloc: Global, movie: &Movie) -> Result<Vec<Walk>, Memory>
 }
 
 // Puts all tracks. The walks are those over their samples, the last track's first.
-fn put_tracks<S: Store, K: Sink, L: Ledger>(
+fn put_tracks<S: Store, K: Sink, L: Ledger, M: Ledger>(
     of: PrintedMovie,
     walks: &mut Vec<Walk>,
     desk: &mut Desk,
     store: &mut S,
     sink: &mut K,
-    steps: &mut Steps<L>,
+    steps: &mut Steps<L, M>,
 ) -> Result<(), Refusal>
     requires walks { AreWalks of.movie.now 0 walks.old.items }
     requires empty { waiting desk.old.window ≡ [] }
@@ -285,10 +289,11 @@ fn put_tracks<S: Store, K: Sink, L: Ledger>(
     ensures told { WhereHeads S.Store store.old of.entry.movie.now of.entry.leaving
         of.entry.heads.now (λ file tree. TellsTracks
         of.entry.leaving file tree K.Sink sink.old sink.new desk.old.text desk.new.text result
-        steps.old steps.new) }
-    ensures grows { steps.old ≤ steps.new }
+        steps.old.passed steps.new.passed) }
+    ensures grows { steps.old.passed ≤ steps.new.passed }
     ensures refusal { RefusedByBoth S.Store store.old store.new K.Sink sink.old sink.new result
         RefusesCarry }
+    ensures looks { steps.new.looks ≡ steps.old.looks }
 {
     let PrintedMovie {
         movie,
@@ -321,18 +326,19 @@ pub fn print<S: Store, K: Sink, L: Ledger, M: Ledger>(
     store: &mut S,
     sink: &mut K,
     leaving: Without,
-    steps: &mut Steps<L>,
-    looks: &mut Steps<M>,
+    steps: &mut Steps<L, M>,
 ) -> Result<(), Refusal>
     ensures store { KeepsFile S.Store store.old store.new }
     ensures answer { Printed leaving (run_of S.Store store.old store.new K.Sink sink.old sink.new)
         result }
-    ensures work { WhereHonest S.Store store.old (λ file. WalksWithin file steps.old steps.new) }
+    ensures work { WhereHonest S.Store store.old
+        (λ file. WalksWithin file steps.old.passed steps.new.passed) }
     ensures least { OnOk result (WhereHonest S.Store store.old (λ file.
-        TakesEach file steps.old steps.new)) }
-    ensures looks { WhereHonest S.Store store.old (λ file. FindsWithin file looks.old looks.new) }
+        TakesEach file steps.old.passed steps.new.passed)) }
+    ensures looks { WhereHonest S.Store store.old
+        (λ file. FindsWithin file steps.old.looks steps.new.looks) }
 {
-    let movie = open_movie(alloc, store, steps, looks)?;
+    let movie = open_movie(alloc, store, steps)?;
     let head = movie.head(alloc)?;
     let tracks = head.tracks.as_slice();
     let lefts = payloads_left(alloc, leaving, tracks)?;

@@ -36,13 +36,13 @@ struct SampleText {
 }
 
 // Puts the lines of all samples in hand. The number is that of the next one.
-fn put_hand<K: Sink, L: Ledger>(
+fn put_hand<K: Sink, L: Ledger, M: Ledger>(
     text: &mut SampleText,
     number: &mut u64,
     movie: &Movie,
     walk: &mut Walk,
     sink: &mut K,
-    steps: &mut Steps<L>,
+    steps: &mut Steps<L, M>,
 ) -> Result<(), Refusal>
     requires { IsWalkOf movie.now walk.old }
     ensures walk { OnOk result (StaysBefore movie.now walk.old walk.new) }
@@ -51,8 +51,9 @@ fn put_hand<K: Sink, L: Ledger>(
         text.old.carrier text.new.carrier text.old.form number.old number.new
         (left_in_hand hand) result) }
     ensures puts { PutsOrFails K.Sink sink.old sink.new result }
-    ensures grows { steps.old ≤ steps.new }
-    ensures work { HandWork movie.now walk.old walk.new result steps.old steps.new }
+    ensures grows { steps.old.passed ≤ steps.new.passed }
+    ensures work { HandWork movie.now walk.old walk.new result steps.old.passed steps.new.passed }
+    ensures looks { steps.new.looks ≡ steps.old.looks }
 {
     let place = {
         let mut hand = walk.in_hand(movie);
@@ -65,13 +66,13 @@ fn put_hand<K: Sink, L: Ledger>(
 
 // Puts the lines of all samples of a walk: at Ok all of them, at Err a front of them. A store that
 // doesn't change is not taken as changed.
-fn put_walk<S: Store, K: Sink, L: Ledger>(
+fn put_walk<S: Store, K: Sink, L: Ledger, M: Ledger>(
     text: &mut SampleText,
     movie: &Movie,
     walk: &mut Walk,
     store: &mut S,
     sink: &mut K,
-    steps: &mut Steps<L>,
+    steps: &mut Steps<L, M>,
 ) -> Result<(), Refusal>
     requires { IsWalkOf movie.now walk.old }
     ensures store { OnlyReads S.Store store.old store.new result }
@@ -81,9 +82,10 @@ fn put_walk<S: Store, K: Sink, L: Ledger>(
         result) }
     ensures refusal { RefusedByBoth S.Store store.old store.new K.Sink sink.old sink.new result
         RefusesCarry }
-    ensures grows { steps.old ≤ steps.new }
+    ensures grows { steps.old.passed ≤ steps.new.passed }
     ensures work { WhereMayTake S.Store store.old movie.now walk.old
-        (λ file tree t n. steps.new ≤ steps.old + n) }
+        (λ file tree t n. steps.new.passed ≤ steps.old.passed + n) }
+    ensures looks { steps.new.looks ≡ steps.old.looks }
 {
     let mut number = 1;
     put_hand(text, &mut number, movie, walk, sink, steps)?;
@@ -93,7 +95,7 @@ fn put_walk<S: Store, K: Sink, L: Ledger>(
     text.carrier.flush(sink)
 }
 
-/// As `samples`, with the steps that it takes counted: at most 8 for each sample and each row
+/// As `samples_as`, with the steps that it takes counted: at most 8 for each sample and each row
 /// of the file, however many tracks it has.
 pub fn samples_counted<S: Store, K: Sink, L: Ledger, M: Ledger>(
     alloc: Global,
@@ -101,18 +103,19 @@ pub fn samples_counted<S: Store, K: Sink, L: Ledger, M: Ledger>(
     id: u32,
     form: Form,
     sink: &mut K,
-    steps: &mut Steps<L>,
-    looks: &mut Steps<M>,
+    steps: &mut Steps<L, M>,
 ) -> Result<(), Refusal>
     ensures store { KeepsFile S.Store store.old store.new }
     ensures answer { Listed id form (run_of S.Store store.old store.new K.Sink sink.old sink.new)
         result }
-    ensures work { WhereHonest S.Store store.old (λ file. WalksWithin file steps.old steps.new) }
+    ensures work { WhereHonest S.Store store.old
+        (λ file. WalksWithin file steps.old.passed steps.new.passed) }
     ensures least { OnOk result (WhereHonest S.Store store.old (λ file.
-        TakesEach file steps.old steps.new)) }
-    ensures looks { WhereHonest S.Store store.old (λ file. FindsWithin file looks.old looks.new) }
+        TakesEach file steps.old.passed steps.new.passed)) }
+    ensures looks { WhereHonest S.Store store.old
+        (λ file. FindsWithin file steps.old.looks steps.new.looks) }
 {
-    let movie = open_movie(alloc, store, steps, looks)?;
+    let movie = open_movie(alloc, store, steps)?;
     let track = track_with(movie.tracks(), id)?;
     let mut walk = movie.walk(alloc, track)?;
     let carrier = OutBuffer::new(alloc, ROOM)?;
@@ -124,7 +127,7 @@ pub fn samples_counted<S: Store, K: Sink, L: Ledger, M: Ledger>(
 /// Puts a line for each sample of the track with this ID: number, decode time, composition time,
 /// duration, flags, description index, size. The whole file is judged, and all memory is taken,
 /// before the first line is put.
-pub fn samples<S: Store, K: Sink>(
+pub fn samples_as<S: Store, K: Sink>(
     alloc: Global,
     store: &mut S,
     id: u32,
@@ -137,4 +140,18 @@ pub fn samples<S: Store, K: Sink>(
 {
     let job = Job::Samples { track: id, form };
     perform_blank::<S, K, Brand, Brand>(alloc, job, store, sink, Blank::new(1), Blank::new(1))
+}
+
+/// Puts the lines of the samples, as `samples_as` does, in the plain form.
+pub fn samples<S: Store, K: Sink>(
+    alloc: Global,
+    store: &mut S,
+    id: u32,
+    sink: &mut K,
+) -> Result<(), Refusal>
+    ensures store { KeepsFile S.Store store.old store.new }
+    ensures answer { Listed id Form.Plain
+        (run_of S.Store store.old store.new K.Sink sink.old sink.new) result }
+{
+    samples_as(alloc, store, id, Form::Plain, sink)
 }

@@ -22,17 +22,18 @@ use std::sync::ledger::{Blank, Ledger};
 fn movie_line<S: Store, L: Ledger, M: Ledger>(
     alloc: Global,
     store: &mut S,
-    steps: &mut Steps<L>,
-    looks: &mut Steps<M>,
+    steps: &mut Steps<L, M>,
 ) -> Result<String, Refusal>
     ensures answer { Reads S.Store store.old store.new result
         (λ file text. ShowsLine file (string_bytes text)) RefusesOpen }
-    ensures work { WhereHonest S.Store store.old (λ file. WalksWithin file steps.old steps.new) }
+    ensures work { WhereHonest S.Store store.old
+        (λ file. WalksWithin file steps.old.passed steps.new.passed) }
     ensures least { OnOk result (WhereHonest S.Store store.old (λ file.
-        TakesEach file steps.old steps.new)) }
-    ensures looks { WhereHonest S.Store store.old (λ file. FindsWithin file looks.old looks.new) }
+        TakesEach file steps.old.passed steps.new.passed)) }
+    ensures looks { WhereHonest S.Store store.old
+        (λ file. FindsWithin file steps.old.looks steps.new.looks) }
 {
-    let movie = open_movie(alloc, store, steps, looks)?;
+    let movie = open_movie(alloc, store, steps)?;
     let head = movie.head(alloc)?;
     let mut text = show_text(alloc, &head, movie.mehd(), movie.tracks())?;
     text.push('\n')?;
@@ -45,17 +46,18 @@ pub fn show_counted<S: Store, K: Sink, L: Ledger, M: Ledger>(
     alloc: Global,
     store: &mut S,
     sink: &mut K,
-    steps: &mut Steps<L>,
-    looks: &mut Steps<M>,
+    steps: &mut Steps<L, M>,
 ) -> Result<(), Refusal>
     ensures store { KeepsFile S.Store store.old store.new }
     ensures answer { Shown (run_of S.Store store.old store.new K.Sink sink.old sink.new) result }
-    ensures work { WhereHonest S.Store store.old (λ file. WalksWithin file steps.old steps.new) }
+    ensures work { WhereHonest S.Store store.old
+        (λ file. WalksWithin file steps.old.passed steps.new.passed) }
     ensures least { OnOk result (WhereHonest S.Store store.old (λ file.
-        TakesEach file steps.old steps.new)) }
-    ensures looks { WhereHonest S.Store store.old (λ file. FindsWithin file looks.old looks.new) }
+        TakesEach file steps.old.passed steps.new.passed)) }
+    ensures looks { WhereHonest S.Store store.old
+        (λ file. FindsWithin file steps.old.looks steps.new.looks) }
 {
-    let text = movie_line(alloc, store, steps, looks)?;
+    let text = movie_line(alloc, store, steps)?;
     sink.put(text.as_str().as_bytes())?;
     Ok(())
 }

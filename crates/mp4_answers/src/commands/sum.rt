@@ -20,18 +20,18 @@ pub fn sum_file<S: Store, L: Ledger, M: Ledger>(
     alloc: Global,
     store: &mut S,
     leaving: Without,
-    steps: &mut Steps<L>,
-    looks: &mut Steps<M>,
+    steps: &mut Steps<L, M>,
 ) -> Result<[u8; DIGEST], Refusal>
     ensures store { KeepsFile S.Store store.old store.new }
     ensures answer { Summed leaving (look_of S.Store store.old store.new) result }
     ensures work { WhereHonest S.Store store.old (λ file.
-        WorksWithin leaving file steps.old steps.new) }
+        WorksWithin leaving file steps.old.passed steps.new.passed) }
     ensures least { OnOk result (WhereHonest S.Store store.old (λ file.
-        TakesEach file steps.old steps.new)) }
-    ensures looks { WhereHonest S.Store store.old (λ file. TurnsWithin file looks.old looks.new) }
+        TakesEach file steps.old.passed steps.new.passed)) }
+    ensures looks { WhereHonest S.Store store.old
+        (λ file. TurnsWithin file steps.old.looks steps.new.looks) }
 {
     let mut sink = HashSink::new();
-    normalise_reduced(alloc, store, &mut sink, leaving, steps, looks)?;
+    normalise_reduced(alloc, store, &mut sink, leaving, steps)?;
     Ok(sink.digest())
 }

@@ -2,7 +2,7 @@ use Rattle.std.proofs.Common.{rules}
 use Rattle.std.proofs.lemmas.Result.{err_from_is_err_and}
 use Rattle.mp4_answers.specs.format.Run.{run_of}
 use Rattle.mp4_answers.proofs.BoxesPut.{tops_fail}
-use Rattle.mp4_answers.proofs.commands.boxes.boxes.Goals as goal
+use Rattle.mp4_answers.proofs.commands.boxes.boxes_as.Goals as goal
 
 pub returns-in_err-text-clause-answer : goal.returns-in_err-text-clause-answer
 returns-in_err-text-clause-answer g c =

@@ -82,18 +82,18 @@ returns-in-Err-open_movie-clause-looks g c = λ told right.
 
 pub returns-in-Err-text_of-clause-looks : goal.returns-in-Err-text_of-clause-looks
 returns-in-Err-text_of-clause-looks g c = λ told right.
-    finds_both _ _ _ _ _ (finds_taken _ c.in-Ok.first _ _ (c.in-Ok.ensures.movie told) (c.in-Ok.ensures.looks told).said)
-    (finds_taken _ c.in-Ok-open_movie.second _ _ (c.in-Ok-open_movie.ensures.movie right) (c.in-Ok-open_movie.ensures.looks right).said)
+    rw c.in-Err-text_of.ensures.looks (finds_both _ _ _ _ _ (finds_taken _ c.in-Ok.first _ _ (c.in-Ok.ensures.movie told) (c.in-Ok.ensures.looks told).said)
+    (finds_taken _ c.in-Ok-open_movie.second _ _ (c.in-Ok-open_movie.ensures.movie right) (c.in-Ok-open_movie.ensures.looks right).said))
 
 pub returns-in-Ok-put_found-clause-looks : goal.returns-in-Ok-put_found-clause-looks
 returns-in-Ok-put_found-clause-looks g c = λ told right.
-    finds_both _ _ _ _ _ (finds_taken _ c.in-Ok.first _ _ (c.in-Ok.ensures.movie told) (c.in-Ok.ensures.looks told).said)
-    (finds_taken _ c.in-Ok-open_movie.second _ _ (c.in-Ok-open_movie.ensures.movie right) (c.in-Ok-open_movie.ensures.looks right).said)
+    rw c.in-Ok-text_of.ensures.looks (finds_both _ _ _ _ _ (finds_taken _ c.in-Ok.first _ _ (c.in-Ok.ensures.movie told) (c.in-Ok.ensures.looks told).said)
+    (finds_taken _ c.in-Ok-open_movie.second _ _ (c.in-Ok-open_movie.ensures.movie right) (c.in-Ok-open_movie.ensures.looks right).said))
 
 pub returns-clause-looks : goal.returns-clause-looks
 returns-clause-looks g c = λ told right.
-    finds_both _ _ _ _ _ (finds_taken _ c.in-Ok.first _ _ (c.in-Ok.ensures.movie told) (c.in-Ok.ensures.looks told).said)
-    (finds_taken _ c.in-Ok-open_movie.second _ _ (c.in-Ok-open_movie.ensures.movie right) (c.in-Ok-open_movie.ensures.looks right).said)
+    rw c.in-Ok-text_of.ensures.looks (finds_both _ _ _ _ _ (finds_taken _ c.in-Ok.first _ _ (c.in-Ok.ensures.movie told) (c.in-Ok.ensures.looks told).said)
+    (finds_taken _ c.in-Ok-open_movie.second _ _ (c.in-Ok-open_movie.ensures.movie right) (c.in-Ok-open_movie.ensures.looks right).said))
 
 -- ---- what is said
 

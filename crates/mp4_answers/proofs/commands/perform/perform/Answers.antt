@@ -1,7 +1,7 @@
 use Rattle.mp4_answers.proofs.commands.perform.perform.Goals as goal
 
 pub returns-in-Boxes-clause-answer : goal.returns-in-Boxes-clause-answer
-returns-in-Boxes-clause-answer g c = rw c.in-Boxes.is c.boxes.ensures.answer
+returns-in-Boxes-clause-answer g c = rw c.in-Boxes.is c.boxes_as.ensures.answer
 
 pub returns-in-Show-clause-answer : goal.returns-in-Show-clause-answer
 returns-in-Show-clause-answer g c = rw c.in-Show.is c.show_counted.ensures.answer

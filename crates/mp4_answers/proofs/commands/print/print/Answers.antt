@@ -320,12 +320,12 @@ returns-in_err-put_movie-clause-looks g c = λ told.
 
 pub returns-in_err-put_tracks-clause-looks : goal.returns-in_err-put_tracks-clause-looks
 returns-in_err-put_tracks-clause-looks g c = λ told.
-    finds_taken _ c.in_ok-movie.movie _ _ (c.in_ok-movie.ensures.movie told) (c.in_ok-movie.ensures.looks told).said
+    rw c.in_err-put_tracks.ensures.looks (finds_taken _ c.in_ok-movie.movie _ _ (c.in_ok-movie.ensures.movie told) (c.in_ok-movie.ensures.looks told).said)
 
 pub returns-in_err-carry-2-clause-looks : goal.returns-in_err-carry-2-clause-looks
 returns-in_err-carry-2-clause-looks g c = λ told.
-    finds_taken _ c.in_ok-movie.movie _ _ (c.in_ok-movie.ensures.movie told) (c.in_ok-movie.ensures.looks told).said
+    rw c.in_ok-put_tracks.ensures.looks (finds_taken _ c.in_ok-movie.movie _ _ (c.in_ok-movie.ensures.movie told) (c.in_ok-movie.ensures.looks told).said)
 
 pub returns-clause-looks : goal.returns-clause-looks
 returns-clause-looks g c = λ told.
-    finds_taken _ c.in_ok-movie.movie _ _ (c.in_ok-movie.ensures.movie told) (c.in_ok-movie.ensures.looks told).said
+    rw c.in_ok-put_tracks.ensures.looks (finds_taken _ c.in_ok-movie.movie _ _ (c.in_ok-movie.ensures.movie told) (c.in_ok-movie.ensures.looks told).said)

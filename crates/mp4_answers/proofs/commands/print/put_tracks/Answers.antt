@@ -18,6 +18,7 @@ loop-track-init g c = record {
   honesty = refl;
   file = refl;
   reads = refl;
+  looks = refl;
   puts = refl;
   told = λ told tree o same. tracks_begin c.args.of.leaving (g.S.Store.file c.args.store.now) tree _ (g.met.K.Sink.takes_nothing _) _ _;
 }
@@ -53,6 +54,7 @@ loop-track-preserved g c =
       honesty = e.store.honesty ∙ i.honesty;
       file = e.store.file ∙ i.file;
       reads = e.store.reads ∙ i.reads;
+      looks = e.looks ∙ i.looks;
       puts = e.store.puts ∙ c.in_ok-put_front.ensures.puts ∙ i.puts;
       told = λ told tree o same.
           let t = track_there l file m tree known k o same head info h_at i_at in
@@ -60,8 +62,8 @@ loop-track-preserved g c =
           let may = popped.0.may file tree t.0 o t.1 in
           let few = may.2 in
           let walk = (rw (i.honesty, i.file) at e.work) told tree t.0 may.0 o may.1 in
-          track_next l file m tree known k o same head info h_at i_at joins sink c.loop-track.sink c.put_front.new.sink c.put_samples.new.sink held (waiting c.loop-track.desk.text) (waiting c.put_front.new.text) c.args.steps.now c.loop-track.steps (i.told told tree o same)
-          (rw c.start.ensures at c.in_ok-put_front.ensures.all) (waiting c.put_samples.new.desk.text) c.put_samples.new.steps lines.text.all (omega (arith, few, walk));
+          track_next l file m tree known k o same head info h_at i_at joins sink c.loop-track.sink c.put_front.new.sink c.put_samples.new.sink held (waiting c.loop-track.desk.text) (waiting c.put_front.new.text) c.args.steps.now.passed c.loop-track.steps.passed (i.told told tree o same)
+          (rw c.start.ensures at c.in_ok-put_front.ensures.all) (waiting c.put_samples.new.desk.text) c.put_samples.new.steps.passed lines.text.all (omega (arith, few, walk));
     }
 
 pub returns-in_err-put_front-clause-told : goal.returns-in_err-put_front-clause-told
@@ -91,11 +93,11 @@ returns-in_err-put_front-clause-told g c =
       lines = record {
         text = record {
           all = tt;
-          front = front_fails l file m tree known k o same head info h_at i_at joins sink c.loop-track.sink c.put_front.new.sink c.put_front.new.sink held (waiting c.loop-track.desk.text) held c.args.steps.now c.loop-track.steps h (rw c.start.ensures at e.front);
+          front = front_fails l file m tree known k o same head info h_at i_at joins sink c.loop-track.sink c.put_front.new.sink c.put_front.new.sink held (waiting c.loop-track.desk.text) held c.args.steps.now.passed c.loop-track.steps.passed h (rw c.start.ensures at e.front);
         };
         unchanged = put_unchanged _ _ c.in_err-put_front.field-0.0 e.refusal;
       };
-      steps = tracks_most l file tree k _ _ _ c.args.steps.now c.loop-track.steps h;
+      steps = tracks_most l file tree k _ _ _ c.args.steps.now.passed c.loop-track.steps.passed h;
     })
 
 pub returns-in_err-put_samples-clause-told : goal.returns-in_err-put_samples-clause-told
@@ -131,12 +133,12 @@ returns-in_err-put_samples-clause-told g c =
       lines = record {
         text = record {
           all = tt;
-          front = lines_fail l file m tree known k o same head info h_at i_at joins sink c.loop-track.sink c.put_front.new.sink c.put_samples.new.sink held (waiting c.loop-track.desk.text) (waiting c.put_front.new.text) c.args.steps.now c.loop-track.steps h
+          front = lines_fail l file m tree known k o same head info h_at i_at joins sink c.loop-track.sink c.put_front.new.sink c.put_samples.new.sink held (waiting c.loop-track.desk.text) (waiting c.put_front.new.text) c.args.steps.now.passed c.loop-track.steps.passed h
               (rw c.start.ensures at c.in_ok-put_front.ensures.all) lines.text.front;
         };
         unchanged = lines.unchanged;
       };
-      steps = track_most l file m tree known k o same head info h_at i_at (g.K.Sink.takes sink c.loop-track.sink) held (waiting c.loop-track.desk.text) c.args.steps.now c.loop-track.steps c.put_samples.new.steps h (omega (arith, few, walk));
+      steps = track_most l file m tree known k o same head info h_at i_at (g.K.Sink.takes sink c.loop-track.sink) held (waiting c.loop-track.desk.text) c.args.steps.now.passed c.loop-track.steps.passed c.put_samples.new.steps.passed h (omega (arith, few, walk));
     })
 
 pub returns-clause-told : goal.returns-clause-told
@@ -149,8 +151,8 @@ returns-clause-told g c told tree o same =
     let stop : min (length known) (length m.tracks) ≤ k = search rules in
     record {
       lines = record {
-        text = record { all = tracks_end c.args.of.leaving file m tree known k _ _ _ c.args.steps.now c.loop-track.steps o same (λ e f. omega (arith, e, f, stop)) h; front = tt };
+        text = record { all = tracks_end c.args.of.leaving file m tree known k _ _ _ c.args.steps.now.passed c.loop-track.steps.passed o same (λ e f. omega (arith, e, f, stop)) h; front = tt };
         unchanged = tt;
       };
-      steps = tracks_most c.args.of.leaving file tree k _ _ _ c.args.steps.now c.loop-track.steps h;
+      steps = tracks_most c.args.of.leaving file tree k _ _ _ c.args.steps.now.passed c.loop-track.steps.passed h;
     }

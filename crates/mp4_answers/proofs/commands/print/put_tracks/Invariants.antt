@@ -16,11 +16,12 @@ invariant-loop-track g l =
     record {
       walks : AreWalks l.of.movie.now l.track l.walks.items;
       empty : waiting l.desk.window ≡ [];
-      grows : l.fn.steps ≤ l.steps;
+      grows : l.fn.steps.passed ≤ l.steps.passed;
       honesty : g.S.Store.is_honest l.store ≡ g.S.Store.is_honest l.fn.store;
       file : g.S.Store.file l.store ≡ g.S.Store.file l.fn.store;
       reads : g.S.Store.read_failures l.store ≡ g.S.Store.read_failures l.fn.store;
+      looks : l.steps.looks ≡ l.fn.steps.looks;
       puts : g.K.Sink.put_failures l.sink ≡ g.K.Sink.put_failures l.fn.sink;
       told : IsTrue (g.S.Store.is_honest l.fn.store) → (tree : FileTree) → IsOpenedAs (g.S.Store.file l.fn.store) l.of.movie.now tree → map track_seen l.of.heads.now ≡ map (track_payloads_left l.of.leaving) (map track_head_of tree.movie.tracks)
-          → TracksTold l.of.leaving (g.S.Store.file l.fn.store) tree l.track (g.K.Sink.takes l.fn.sink l.sink) (waiting l.fn.desk.text) (waiting l.desk.text) l.fn.steps l.steps;
+          → TracksTold l.of.leaving (g.S.Store.file l.fn.store) tree l.track (g.K.Sink.takes l.fn.sink l.sink) (waiting l.fn.desk.text) (waiting l.desk.text) l.fn.steps.passed l.steps.passed;
     }

@@ -21,11 +21,12 @@ invariant-loop-of g l =
       honesty : g.S.Store.is_honest l.store ≡ g.S.Store.is_honest l.fn.store;
       file : g.S.Store.file l.store ≡ g.S.Store.file l.fn.store;
       reads : g.S.Store.read_failures l.store ≡ g.S.Store.read_failures l.fn.store;
+      looks : l.steps.looks ≡ l.fn.steps.looks;
       puts : g.K.Sink.put_failures l.sink ≡ g.K.Sink.put_failures l.fn.sink;
       empty : waiting l.desk.window ≡ [];
-      grows : l.fn.steps ≤ l.steps;
+      grows : l.fn.steps.passed ≤ l.steps.passed;
       takes : IsTrue (g.S.Store.is_honest l.fn.store) → (tree : FileTree) (t : TrackTree) (n : ℕ) → IsOpenedAs (g.S.Store.file l.fn.store) l.of.movie.now tree → MayTake (g.S.Store.file l.fn.store) tree t l.fn.walk n
-          → TakesOn (g.S.Store.file l.fn.store) tree t n l.walk l.fn.steps l.steps;
+          → TakesOn (g.S.Store.file l.fn.store) tree t n l.walk l.fn.steps.passed l.steps.passed;
       told : IsTrue (g.S.Store.is_honest l.fn.store) → (tree : FileTree) (t : TrackTree) (samples : List SampleAt) → IsOpenedAs (g.S.Store.file l.fn.store) l.of.movie.now tree → Comes (g.S.Store.file l.fn.store) tree t l.of.movie.now l.fn.walk samples
           → LieBelow (length (g.S.Store.file l.fn.store)) samples
           → WalkTold (told_sample l.of.style.now (g.S.Store.file l.fn.store)) (g.S.Store.file l.fn.store) tree t (g.K.Sink.takes l.fn.sink l.sink) (waiting l.fn.desk.text) (waiting l.desk.text) l.walk samples;

@@ -34,6 +34,7 @@ loop-text-init g c =
       honesty = refl;
       file = refl;
       reads = refl;
+      looks = e.looks;
       puts = e.puts;
       going = λ told tree t samples o k few.
           lines_next c.args.text.now.form file tree t c.args.movie.now g.met.K.Sink.takes_on sink sink _ held held c.args.walk.now 1 samples samples (going_none _ (g.met.K.Sink.takes_nothing sink) held (sample_at_lines c.args.text.now.form 1 samples)) refl few k e.lines.0 e.lines.1
@@ -68,6 +69,7 @@ loop-text-preserved g c =
       honesty = l.store.honesty ∙ i.honesty;
       file = l.store.file ∙ i.file;
       reads = l.store.reads ∙ i.reads;
+      looks = e.looks ∙ l.looks ∙ i.looks;
       puts = e.puts ∙ i.puts;
       going = λ told tree t samples o k few.
           let u = i.going told tree t samples o k few in

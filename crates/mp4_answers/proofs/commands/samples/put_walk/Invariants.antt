@@ -20,12 +20,13 @@ invariant-loop-text g l =
       honesty : g.S.Store.is_honest l.store ≡ g.S.Store.is_honest l.fn.store;
       file : g.S.Store.file l.store ≡ g.S.Store.file l.fn.store;
       reads : g.S.Store.read_failures l.store ≡ g.S.Store.read_failures l.fn.store;
+      looks : l.steps.looks ≡ l.fn.steps.looks;
       puts : g.K.Sink.put_failures l.sink ≡ g.K.Sink.put_failures l.fn.sink;
       going : IsTrue (g.S.Store.is_honest l.fn.store) → (tree : FileTree) (t : TrackTree) (samples : List SampleAt) → IsOpenedAs (g.S.Store.file l.fn.store) l.movie tree → Comes (g.S.Store.file l.fn.store) tree t l.movie l.fn.walk samples → length samples < 2 ^ 32
           → LinesGoOn l.fn.text.form (g.S.Store.file l.fn.store) tree t (g.K.Sink.takes l.fn.sink l.sink) (waiting l.fn.text.carrier) (waiting l.text.carrier) l.number l.walk samples;
-      grows : l.fn.steps ≤ l.steps;
+      grows : l.fn.steps.passed ≤ l.steps.passed;
       takes : IsTrue (g.S.Store.is_honest l.fn.store) → (tree : FileTree) (t : TrackTree) (n : ℕ) → IsOpenedAs (g.S.Store.file l.fn.store) l.movie tree → MayTake (g.S.Store.file l.fn.store) tree t l.fn.walk n
-          → TakesOn (g.S.Store.file l.fn.store) tree t n l.walk l.fn.steps l.steps;
+          → TakesOn (g.S.Store.file l.fn.store) tree t n l.walk l.fn.steps.passed l.steps.passed;
     }
 
 abbrev pub decreases-loop-text : goal.decreases-loop-text
