@@ -110,6 +110,11 @@ void mp4norm_check(const uint8_t *file, size_t file_len, struct mp4norm_answer *
 void mp4norm_sum(const uint8_t *file, size_t file_len, uint32_t words, struct mp4norm_digest *digest,
                  struct mp4norm_answer *answer);
 
+/* How many bytes the normal form has of what is left of a file, in answer->len. It takes as long as
+ * to put it, and less memory. Refusals as of mp4norm_sum. */
+void mp4norm_normal_len(const uint8_t *file, size_t file_len, uint32_t words,
+                        struct mp4norm_answer *answer);
+
 /* Each of the next calls puts the bytes of a text from the place `from` on into `out`, at most
  * out_len of them, and says in answer->len how many: fewer than out_len only at the text's end, 0
  * where `from` lies behind it. The rest of `out` stays as it was, and all of it where the status is

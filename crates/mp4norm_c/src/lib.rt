@@ -8,19 +8,19 @@
 
 mod answer;
 mod asked;
+mod counting;
 mod looks;
 mod window;
 mod window_answers;
 
-pub use answer::{Answer, Digest};
-
 ghost use Rattle.std.specs.Prelude.{Some};
 ghost use Rattle.mp4_answers.specs.declared.jobs.Job.TheVariants as jobs;
-ghost use Rattle.mp4norm_c.specs.format.Exports.{Answers, Checks, Sums, boxes_job, form_of, print_job, reduce_job, samples_job, syntax_of, without_of};
+ghost use Rattle.mp4norm_c.specs.format.Exports.{Answers, Checks, Measures, Sums, boxes_job, form_of, print_job, reduce_job, samples_job, syntax_of, without_of};
 
 use crate::asked::{form_of, syntax_of, without_of};
-use crate::looks::{answer_check, answer_sum};
+use crate::looks::{answer_check, answer_length, answer_sum};
 use crate::window_answers::answer_window;
+pub use answer::{Answer, Digest};
 use mp4_answers::Job;
 use std::alloc::Global;
 
@@ -30,6 +30,14 @@ pub extern "C" fn mp4norm_check(alloc: Global, file: &[u8], answer: &mut Answer)
     ensures { Checks file.now answer.new }
 {
     *answer = answer_check(alloc, file);
+}
+
+/// How many bytes the normal form has of what is left of a file. It takes as long as to put it.
+#[unsafe(no_mangle)]
+pub extern "C" fn mp4norm_normal_len(alloc: Global, file: &[u8], words: u32, answer: &mut Answer)
+    ensures { Measures (without_of words) file.now answer.new }
+{
+    *answer = answer_length(alloc, file, without_of(words));
 }
 
 /// The SHA-256 of the normal form of what is left of a file. Without an answer the digest stays as

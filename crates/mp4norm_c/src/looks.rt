@@ -1,12 +1,14 @@
 //! What is found of a file without a text.
-ghost use Rattle.mp4_answers.specs.format.Answers.{Judged};
+ghost use Rattle.mp4_answers.specs.format.Answers.{Judged, ReducedTo};
 ghost use Rattle.mp4_answers.specs.format.Sums.{Summed};
-ghost use Rattle.mp4norm_c.specs.format.Exports.{Checks, Sums};
+ghost use Rattle.mp4norm_c.specs.format.Exports.{Checks, Measures, Sums};
 ghost use Rattle.mp4_answers.specs.words.StoreAndSink.{IsOf};
+ghost use Rattle.mp4norm_c.specs.words.Counting.{count_run};
 ghost use Rattle.mp4norm_c.specs.words.Windows.{memory_look};
 
 use crate::answer::{Answer, Digest, plain, told};
-use mp4_answers::{check, sum_file};
+use crate::counting::CountSink;
+use mp4_answers::{check, normalise_reduced, sum_file};
 use mp4_boxes::{Refusal, Steps};
 use mp4_content::Without;
 use mp4_store::MemStore;
@@ -66,6 +68,46 @@ pub(crate) fn answer_sum(
             digest.bytes = bytes;
             plain(0, 32)
         }
+        Err(refusal) => told(Err(refusal)),
+    }
+}
+
+// Counts what is put of the normal form of what is left of bytes in memory; steps and looks are
+// counted in these ledgers, for nobody.
+fn counted<L: Ledger, M: Ledger>(
+    alloc: Global,
+    file: &[u8],
+    leaving: Without,
+    sink: &mut CountSink,
+    steps: Blank,
+    looks: Blank,
+) -> Result<(), Refusal>
+    requires steps { IsOf L.Ledger steps }
+    requires looks { IsOf M.Ledger looks }
+    ensures { ReducedTo leaving (count_run file.now sink.old sink.new) result }
+{
+    let mut store = MemStore::new(file);
+    let mut steps = Steps::<L, M>::new(steps, looks);
+    normalise_reduced(alloc, &mut store, sink, leaving, &mut steps)
+}
+
+/// How long the normal form is of what is left of a file.
+pub(crate) fn answer_length(alloc: Global, file: &[u8], leaving: Option<Without>) -> Answer
+    ensures { Measures leaving file.now result }
+{
+    let Some(leaving) = leaving else {
+        return plain(64, 0);
+    };
+    let mut sink = CountSink::new();
+    match counted::<Brand, Brand>(
+        alloc,
+        file,
+        leaving,
+        &mut sink,
+        Blank::new(1),
+        Blank::new(1),
+    ) {
+        Ok(()) => plain(0, sink.count()),
         Err(refusal) => told(Err(refusal)),
     }
 }

@@ -54,9 +54,7 @@ fn window_of(
     ensures { WindowOf job.entry file.now from out.old out.new result }
 {
     let mut sink = WindowSink::new(from, out);
-    let done = performed::<Brand, Brand>(
-        alloc, job, file, &mut sink, Blank::new(1), Blank::new(1),
-    );
+    let done = performed::<Brand, Brand>(alloc, job, file, &mut sink, Blank::new(1), Blank::new(1));
     counted(done, sink.filled())
 }
 

@@ -1,5 +1,5 @@
 -- What the exports answer: in numbers, and by the window of a text that is put into a buffer.
-use Rattle.std.specs.Prelude.{◌≡◌, ◌⊎◌, ℕ, ◌+◌, ◌^◌, ◌/◌, ◌%◌, ◌==◌, nat_lt, List, ◌++◌, length, take, drop, Bool, if◌then◌else◌, Option, None, Some, option_map, Result, Ok, Err, OnErr}
+use Rattle.std.specs.Prelude.{◌≡◌, ◌⊎◌, ℕ, ◌+◌, ◌^◌, ◌/◌, ◌%◌, ◌==◌, nat_lt, ◌-◌, min, List, ◌++◌, length, take, drop, Bool, if◌then◌else◌, Option, None, Some, option_map, Result, Ok, Err, OnErr}
 use Rattle.mp4_boxes.specs.format.Box.{file_container}
 use Rattle.mp4_boxes.specs.format.Bytes.{field}
 use Rattle.mp4_boxes.specs.declared.fault.Fault.{Fault}
@@ -204,3 +204,11 @@ Sums (Some l) file before after a = (result : Result ℕ Refusal) × (a ≡ told
     × Found (λ n. (n ≡ 32) × HasSum l file after)
     (λ f. (IsFaultOf file f ⊎ ReducedFaultStands l file f)) result
     × (OnErr result (after ≡ before))
+
+-- How many bytes the normal form has of what is left of the file, as far as 64 bits go.
+abbrev pub Measures : Option Without → List ℕ → Answer → Type 0
+Measures None file a = a ≡ usage
+Measures (Some l) file a = (result : Result ℕ Refusal) × (a ≡ told result)
+    × Found (λ n. (form : List ℕ) × HasReducedForm l file form
+    × (n ≡ min (length form) (2 ^ 64 - 1)))
+    (λ f. (IsFaultOf file f ⊎ ReducedFaultStands l file f)) result

@@ -67,14 +67,18 @@ counted filled (Err refusals.StoreChanged) = Err refusals.StoreChanged
 counted filled (Err refusals.WriteFailed) = Ok filled
 counted filled (Err refusals.NoSuchTrack) = Err refusals.NoSuchTrack
 
--- the run over these bytes, in which nothing is put
-abbrev pub memory_look : List ℕ → Run
-memory_look file = record {
+-- the run over these bytes, of which no read and no put fails
+abbrev pub quiet_run : List ℕ → (List ℕ → Type 0) → Run
+quiet_run file took = record {
   honest = true;
   file = file;
   reads = 0;
   reads_after = 0;
   puts = 0;
   puts_after = 0;
-  took = λ bytes. bytes ≡ [];
+  took = took;
 }
+
+-- such a run in which nothing is put
+abbrev pub memory_look : List ℕ → Run
+memory_look file = quiet_run file (λ bytes. bytes ≡ [])
