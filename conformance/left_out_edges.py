@@ -66,8 +66,8 @@ def of_explanations():
         edit('check_files', 'files.len() != 1 || list.is_some()', 'files.len() > 1',
              'the file of a list is not named where its fault is explained',
              'check --names-from - --explain'),
-        edit('run_compare', 'explain_refusal(rt, name, refusal, telling, &mut first, costs);',
-             'explain_refusal(rt, name, refusal, telling, &mut second, costs);',
+        edit('run_compare', 'explain_refusal(rt, name, refusal, telling, &mut first, steps);',
+             'explain_refusal(rt, name, refusal, telling, &mut second, steps);',
              'compare explains the fault of A in B', 'compare gap.mp4 plain.mp4'),
         edit('reports', '|| (!telling.brief && rt.stderr().is_terminal())', '',
              'on a terminal a failure stands alone', 'show none on a terminal'),
@@ -96,27 +96,25 @@ def of_help():
 
 # ---- verdicts and comparisons
 
-ONE_OF_WORDS = '        let answer = answer_of(rt, *input, manner, costs);'
-JUDGED = ('            check_counted(alloc, source, &mut costs.steps, &mut costs.looks)?;\n'
-          '            Ok(None)')
-LISTED = '    answer_of(rt, Input::File { name }, manner, costs)\n'
+ONE_OF_WORDS = '        let answer = answer_of(rt, *input, manner, steps);'
+JUDGED = '            check_counted(alloc, source, steps)?;\n            Ok(None)'
+LISTED = '    answer_of(rt, Input::File { name }, manner, steps)\n'
 PUT_LISTED = '        let is_file = true;'
-WORST = 'Ok(worst.max(check_list(rt, list, manner, lines, costs)?))'
+WORST = 'Ok(worst.max(check_list(rt, list, manner, lines, steps)?))'
 
 
 def of_verdicts():
     return together(
         'verdicts',
         Edit('check_files', JUDGED,
-             '            match check_counted(alloc, source, &mut costs.steps, '
-             '&mut costs.looks) {\n'
+             '            match check_counted(alloc, source, steps) {\n'
              '                Err(Refusal::StoreFailed) => Ok(None),\n'
              '                answer => {\n                    answer?;\n'
              '                    Ok(None)\n                }\n            }',
              'a failed read is told as accepted',
              r'failures check: check in.mp4, one: \d+ times read of in.mp4 rest'),
         Edit('check_files', LISTED,
-             '    match answer_of(rt, Input::File { name }, manner, costs) {\n'
+             '    match answer_of(rt, Input::File { name }, manner, steps) {\n'
              '        Err(Refusal::Memory) => Ok(None),\n        answer => answer,\n    }\n',
              'want of memory is told as accepted',
              r'failures check: check cut.mp4 --names-from list, a list: \d+ times alloc'),
@@ -124,7 +122,7 @@ def of_verdicts():
              'a file that changed is told as accepted',
              'changes in_checks: one that was accepted grows'),
         Edit('check_files', WORST,
-             'let listed = check_list(rt, list, manner, &mut sink, costs)?;\n'
+             'let listed = check_list(rt, list, manner, &mut sink, steps)?;\n'
              '    Ok(if list.is_empty() { worst } else { listed })',
              'the status of words is lost beside --names-from',
              "checks statuses: check cut.mp4 --names-from -: b'plain.mp4'"),

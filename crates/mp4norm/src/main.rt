@@ -12,11 +12,12 @@ ghost use Rattle.mp4_answers.specs.words.StoreAndSink.{IsOf};
 mod shell;
 
 pub use mp4_answers::{
-    Asked, Costs, Failure, Form, Job, Line, Lines, Listing, Name, Side, Syntax, VerdictStyle, Way,
-    answer_laws, boxes, check, check_counted, compare_files, count_named, extract, extract_counted,
-    fault_line, first_name, laws, normalise, normalise_counted, normalise_reduced, perform, print,
-    put_lines, put_verdict, samples, samples_counted, say_difference, show, show_counted,
-    show_text, status, strip, sum_file, text_laws, text_len, verdict_status, way_to,
+    Asked, Failure, Form, Job, Line, Lines, Listing, Name, Side, Syntax, VerdictStyle, Way,
+    answer_laws, boxes, boxes_as, check, check_counted, compare_files, count_named, extract,
+    extract_counted, fault_line, first_name, laws, normalise, normalise_counted, normalise_reduced,
+    perform, print, put_lines, put_verdict, samples, samples_as, samples_counted, say_difference,
+    show, show_counted, show_text, status, strip, sum_file, text_laws, text_len, verdict_status,
+    way_to,
 };
 use mp4_boxes::{Refusal, Steps};
 use mp4_store::{IoSink, Sink};
@@ -119,19 +120,19 @@ fn act<L: Ledger, M: Ledger>(
     requires steps { IsOf L.Ledger steps }
     requires looks { IsOf M.Ledger looks }
 {
-    let mut costs = Costs {
-        steps: Steps::<L>::new(steps),
-        looks: Steps::<M>::new(looks),
-    };
+    let mut counted = Steps::<L, M>::new(steps, looks);
     match action {
-        Action::Run { job, order } => end(rt, run(rt, job, order, &mut costs)),
+        Action::Run { job, order } => end(rt, run(rt, job, order, &mut counted)),
         Action::Strip { names, order } => {
             let names = names.as_slice();
             let job = Job::Strip { names };
-            end(rt, run(rt, job, order, &mut costs))
+            end(rt, run(rt, job, order, &mut counted))
         }
-        Action::CheckSums { list, how } => end_verdicts(rt, check_sums(rt, list, how, &mut costs)),
-        Action::Compare(comparison) => compare_named(rt, comparison, &mut costs),
+        Action::CheckSums { list, how } => end_verdicts(
+            rt,
+            check_sums(rt, list, how, &mut counted),
+        ),
+        Action::Compare(comparison) => compare_named(rt, comparison, &mut counted),
         Action::Check {
             files,
             list,
@@ -141,7 +142,7 @@ fn act<L: Ledger, M: Ledger>(
         } => {
             let files = files.as_slice();
             let manner = Manner::of(files, list, finding, style, telling);
-            end_verdicts(rt, check_all(rt, files, list, manner, &mut costs))
+            end_verdicts(rt, check_all(rt, files, list, manner, &mut counted))
         }
     }
 }

@@ -7,7 +7,6 @@ use crate::shell::run_command::explain_refusal;
 use crate::shell::sources::{Source, open, read_whole};
 use mp4_answers::commands::check::check_counted;
 use mp4_answers::commands::sum::sum_file;
-use mp4_answers::costs::Costs;
 use mp4_answers::jobs::{Syntax, VerdictStyle};
 use mp4_answers::text::digits::DIGEST;
 use mp4_answers::text::fault_text::{fault_line, status};
@@ -15,7 +14,7 @@ use mp4_answers::text::json_text::name_json;
 use mp4_answers::text::plain_names::push_plain;
 use mp4_answers::text::sum_lines::{push_header, sum_line, sum_object};
 use mp4_answers::text::verdicts::{first_name, put_verdict, verdict_status};
-use mp4_boxes::Refusal;
+use mp4_boxes::{Refusal, Steps};
 use mp4_store::{IoSink, Sink};
 use std::alloc::{AllocError, Global};
 use std::fs::File;
@@ -66,16 +65,16 @@ fn find<L: Ledger, M: Ledger>(
     alloc: Global,
     finding: Finding,
     source: &mut Source,
-    costs: &mut Costs<L, M>,
+    steps: &mut Steps<L, M>,
 ) -> Found {
     source.check_parts()?;
     match finding {
         Finding::Verdict => {
-            check_counted(alloc, source, &mut costs.steps, &mut costs.looks)?;
+            check_counted(alloc, source, steps)?;
             Ok(None)
         }
         Finding::Sum { leaving, .. } => {
-            let digest = sum_file(alloc, source, leaving, &mut costs.steps, &mut costs.looks)?;
+            let digest = sum_file(alloc, source, leaving, steps)?;
             Ok(Some(digest))
         }
     }
@@ -87,14 +86,14 @@ fn judged<L: Ledger, M: Ledger>(
     input: Input,
     manner: Manner,
     report: &mut Report,
-    costs: &mut Costs<L, M>,
+    steps: &mut Steps<L, M>,
 ) -> Found {
     let mut source = open(rt, input, report)?;
-    let answer = find(rt.alloc(), manner.finding, &mut source, costs);
+    let answer = find(rt.alloc(), manner.finding, &mut source, steps);
     let answer = source.settled(answer);
     if let Err(refusal) = &answer {
         let name = manner.is_named.then_some(input.name());
-        explain_refusal(rt, name, refusal, manner.telling, &mut source, costs);
+        explain_refusal(rt, name, refusal, manner.telling, &mut source, steps);
         if matches!(refusal, Refusal::StoreFailed) {
             report.concerns_part(rt, &source)?;
         }
@@ -107,10 +106,10 @@ pub(crate) fn answer_of<L: Ledger, M: Ledger>(
     rt: &HostRuntime,
     input: Input,
     manner: Manner,
-    costs: &mut Costs<L, M>,
+    steps: &mut Steps<L, M>,
 ) -> Found {
     let mut report = Report::new(manner.telling);
-    let answer = judged(rt, input, manner, &mut report, costs);
+    let answer = judged(rt, input, manner, &mut report, steps);
     if matches!(answer, Err(Refusal::StoreFailed)) {
         report.tell_input(rt, input.name());
     }
@@ -122,11 +121,11 @@ fn answer_of_listed<L: Ledger, M: Ledger>(
     rt: &HostRuntime,
     name: &[u8],
     manner: Manner,
-    costs: &mut Costs<L, M>,
+    steps: &mut Steps<L, M>,
 ) -> Found {
     let word = word_of(rt.alloc(), name)?;
     let name = word.as_str();
-    answer_of(rt, Input::File { name }, manner, costs)
+    answer_of(rt, Input::File { name }, manner, steps)
 }
 
 /// Reads a list whole. It may come through a pipe.
@@ -231,13 +230,13 @@ fn check_list<K: Sink, L: Ledger, M: Ledger>(
     list: &[u8],
     manner: Manner,
     lines: &mut Gathered<K>,
-    costs: &mut Costs<L, M>,
+    steps: &mut Steps<L, M>,
 ) -> Result<u8, Refusal> {
     let mut worst = 0;
     let mut left = list;
     while !left.is_empty() {
         let (name, rest) = first_name(left);
-        let answer = answer_of_listed(rt, name, manner, costs);
+        let answer = answer_of_listed(rt, name, manner, steps);
         let is_file = true;
         let named = GivenName { name, is_file };
         worst = put_named(rt, named, &answer, manner, lines)?.max(worst);
@@ -253,7 +252,7 @@ fn put_each<K: Sink, L: Ledger, M: Ledger>(
     list: &[u8],
     manner: Manner,
     lines: &mut Gathered<K>,
-    costs: &mut Costs<L, M>,
+    steps: &mut Steps<L, M>,
 ) -> Result<u8, Refusal> {
     if let Finding::Sum {
         leaving,
@@ -266,14 +265,14 @@ fn put_each<K: Sink, L: Ledger, M: Ledger>(
     }
     let mut worst = 0;
     for input in files {
-        let answer = answer_of(rt, *input, manner, costs);
+        let answer = answer_of(rt, *input, manner, steps);
         let named = GivenName {
             name: input.name().as_bytes(),
             is_file: matches!(input, Input::File { .. }),
         };
         worst = put_named(rt, named, &answer, manner, lines)?.max(worst);
     }
-    Ok(worst.max(check_list(rt, list, manner, lines, costs)?))
+    Ok(worst.max(check_list(rt, list, manner, lines, steps)?))
 }
 
 // The same, to standard output. Lines of sums are written together.
@@ -283,13 +282,13 @@ fn check_each<L: Ledger, M: Ledger>(
     list: &[u8],
     manner: Manner,
     report: &mut Report,
-    costs: &mut Costs<L, M>,
+    steps: &mut Steps<L, M>,
 ) -> Result<u8, Refusal> {
     let out = &mut rt.stdout();
     let gathers = matches!(manner.finding, Finding::Sum { .. }) && !manner.telling.explain;
     let sink = IoSink::new(Noted { out, report });
     let mut lines = Gathered::new(rt, sink, gathers)?;
-    let worst = put_each(rt, files, list, manner, &mut lines, costs);
+    let worst = put_each(rt, files, list, manner, &mut lines, steps);
     let put = lines.flush();
     let worst = worst?;
     put?;
@@ -304,7 +303,7 @@ pub(crate) fn check_all<L: Ledger, M: Ledger>(
     files: &[Input],
     list: Option<Input>,
     manner: Manner,
-    costs: &mut Costs<L, M>,
+    steps: &mut Steps<L, M>,
 ) -> Result<u8, Refusal> {
     let mut report = Report::new(manner.telling);
     let names = match (read_list(rt, list, &mut report), list) {
@@ -316,7 +315,7 @@ pub(crate) fn check_all<L: Ledger, M: Ledger>(
         (Err(refusal), _) => return Err(refusal),
     };
     let names = names.as_slice();
-    let worst = check_each(rt, files, names, manner, &mut report, costs);
+    let worst = check_each(rt, files, names, manner, &mut report, steps);
     if matches!(worst, Err(Refusal::WriteFailed)) {
         report.tell_output(rt, "-");
     }

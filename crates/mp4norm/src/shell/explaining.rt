@@ -5,9 +5,8 @@ ghost use Rattle.mp4_answers.specs.format.Texts.{line_feed};
 
 use crate::shell::file_names::shown;
 use mp4_answers::commands::box_path::{Way, number_at_top, step_line, way_to};
-use mp4_answers::costs::Costs;
 use mp4_answers::text::difference_lines::{say, say_counted};
-use mp4_boxes::{Fault, FourCc, Kind, Refusal};
+use mp4_boxes::{Fault, FourCc, Kind, Refusal, Steps};
 use mp4_present::{FaultNumbers, TrackInfo, fault_numbers, open_movie};
 use mp4_store::{Sink, Store};
 use std::alloc::{AllocError, Global};
@@ -201,12 +200,12 @@ fn numbers_of<S: Store, L: Ledger, M: Ledger>(
     alloc: Global,
     store: &mut S,
     fault: &Fault,
-    costs: &mut Costs<L, M>,
+    steps: &mut Steps<L, M>,
 ) -> Result<Option<FaultNumbers>, Refusal>
     ensures honesty { S.is_honest store.new ≡ S.is_honest store.old }
     ensures file { S.file store.new ≡ S.file store.old }
 {
-    match fault_numbers(alloc, fault, store, &mut costs.steps, &mut costs.looks) {
+    match fault_numbers(alloc, fault, store, steps) {
         Err(Refusal::Fault(_)) => Ok(None),
         told => told,
     }
@@ -246,13 +245,13 @@ fn find<S: Store, L: Ledger, M: Ledger>(
     alloc: Global,
     store: &mut S,
     fault: &Fault,
-    costs: &mut Costs<L, M>,
+    steps: &mut Steps<L, M>,
 ) -> Result<Found, Refusal>
     ensures honesty { S.is_honest store.new ≡ S.is_honest store.old }
     ensures file { S.file store.new ≡ S.file store.old }
 {
     let is_mp4 = begins_with_box(store)?;
-    let numbers = numbers_of(alloc, store, fault, costs)?;
+    let numbers = numbers_of(alloc, store, fault, steps)?;
     Ok(Found { is_mp4, numbers })
 }
 
@@ -321,13 +320,13 @@ pub(crate) fn explain<S: Store, K: Sink, L: Ledger, M: Ledger>(
     fault: &Fault,
     store: &mut S,
     sink: &mut K,
-    costs: &mut Costs<L, M>,
+    steps: &mut Steps<L, M>,
 ) -> Result<(), Refusal>
     ensures honesty { S.is_honest store.new ≡ S.is_honest store.old }
     ensures file { S.file store.new ≡ S.file store.old }
 {
     let way = whole_way(alloc, store, fault)?;
-    let found = find(alloc, store, fault, costs)?;
+    let found = find(alloc, store, fault, steps)?;
     let text = explanation(alloc, name, fault, way.as_slice(), found)?;
     sink.put(text.as_slice())?;
     Ok(())
@@ -341,12 +340,12 @@ pub(crate) fn explain_briefly<S: Store, K: Sink, L: Ledger, M: Ledger>(
     fault: &Fault,
     store: &mut S,
     sink: &mut K,
-    costs: &mut Costs<L, M>,
+    steps: &mut Steps<L, M>,
 ) -> Result<(), Refusal>
     ensures honesty { S.is_honest store.new ≡ S.is_honest store.old }
     ensures file { S.file store.new ≡ S.file store.old }
 {
-    let found = find(alloc, store, fault, costs)?;
+    let found = find(alloc, store, fault, steps)?;
     let text = brief_explanation(alloc, name, found)?;
     if !text.is_empty() {
         sink.put(text.as_slice())?;
@@ -373,12 +372,12 @@ pub(crate) fn name_tracks<S: Store, K: Sink, L: Ledger, M: Ledger>(
     alloc: Global,
     store: &mut S,
     sink: &mut K,
-    costs: &mut Costs<L, M>,
+    steps: &mut Steps<L, M>,
 ) -> Result<(), Refusal>
     ensures honesty { S.is_honest store.new ≡ S.is_honest store.old }
     ensures file { S.file store.new ≡ S.file store.old }
 {
-    let movie = open_movie(alloc, store, &mut costs.steps, &mut costs.looks)?;
+    let movie = open_movie(alloc, store, steps)?;
     sink.put(tracks_line(alloc, movie.tracks())?.as_slice())?;
     Ok(())
 }

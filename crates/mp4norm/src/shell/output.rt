@@ -2,9 +2,8 @@
 use crate::shell::reports::{Noted, Report};
 use crate::shell::sources::Source;
 use mp4_answers::commands::perform::perform;
-use mp4_answers::costs::Costs;
 use mp4_answers::jobs::Job;
-use mp4_boxes::Refusal;
+use mp4_boxes::{Refusal, Steps};
 use mp4_store::IoSink;
 use std::alloc::Global;
 use std::fs::File;
@@ -50,17 +49,10 @@ pub(crate) fn write<L: Ledger, M: Ledger>(
     job: Job,
     source: &mut Source,
     out: &mut Out,
-    costs: &mut Costs<L, M>,
+    steps: &mut Steps<L, M>,
     report: &mut Report,
 ) -> Result<(), Refusal> {
     let noted = Noted { out, report };
-    let answer = perform(
-        alloc,
-        job,
-        source,
-        &mut IoSink::new(noted),
-        &mut costs.steps,
-        &mut costs.looks,
-    );
+    let answer = perform(alloc, job, source, &mut IoSink::new(noted), steps);
     source.settled(answer)
 }

@@ -3,9 +3,8 @@ use crate::shell::output::{Out, write};
 use crate::shell::part_files::{Part, replaced};
 use crate::shell::reports::Report;
 use crate::shell::sources::Source;
-use mp4_answers::costs::Costs;
 use mp4_answers::jobs::Job;
-use mp4_boxes::Refusal;
+use mp4_boxes::{Refusal, Steps};
 use std::sync::ledger::Ledger;
 
 /// The cause where a new file isn't the one of its name any more.
@@ -31,14 +30,14 @@ pub(crate) fn replace<L: Ledger, M: Ledger>(
     rt: &HostRuntime,
     job: Job,
     source: &mut Source,
-    costs: &mut Costs<L, M>,
+    steps: &mut Steps<L, M>,
     name: &str,
     report: &mut Report,
 ) -> Result<(), Refusal> {
     report.outcome(replaced(rt, name), Refusal::WriteFailed)?;
     let part = Part::new(rt, name, report)?;
     let mut out = Out::Part(&part.file);
-    let answer = match write(rt.alloc(), job, source, &mut out, costs, report) {
+    let answer = match write(rt.alloc(), job, source, &mut out, steps, report) {
         Ok(()) => put_in_place(rt, &part, name, report),
         Err(refusal) => Err(refusal),
     };

@@ -9,9 +9,8 @@ use mp4_answers::box_names::Name;
 use mp4_answers::commands::answer_len::text_len;
 use mp4_answers::commands::strip::count_named;
 use mp4_answers::commands::strip_lines::{count_lines, find_told, losses, refusal_of, warnings};
-use mp4_answers::costs::Costs;
 use mp4_answers::jobs::Job;
-use mp4_boxes::Refusal;
+use mp4_boxes::{Refusal, Steps};
 use mp4_store::{IoSink, Sink};
 use std::io::Write;
 use std::sync::ledger::Ledger;
@@ -25,13 +24,13 @@ fn measure<'a, L: Ledger, M: Ledger>(
     job: Job,
     source: &mut Source,
     most: Option<u64>,
-    costs: &mut Costs<L, M>,
+    steps: &mut Steps<L, M>,
     report: &mut Report<'a>,
 ) -> Result<(), Refusal> {
     if most.is_none() && !report.counts() {
         return Ok(());
     }
-    let total = text_len(rt.alloc(), job, source, &mut costs.steps, &mut costs.looks);
+    let total = text_len(rt.alloc(), job, source, steps);
     let total = source.settled(total)?;
     match most {
         Some(most) if total > most => Err(report.too_long(most)),
@@ -48,16 +47,16 @@ fn write_to<'a, L: Ledger, M: Ledger>(
     job: Job,
     source: &mut Source,
     order: Order,
-    costs: &mut Costs<L, M>,
+    steps: &mut Steps<L, M>,
     report: &mut Report<'a>,
 ) -> Result<(), Refusal> {
-    measure(rt, job, source, order.most, costs, report)?;
+    measure(rt, job, source, order.most, steps, report)?;
     let mut out = match order.target {
         Target::Standard => Out::Standard(rt.stdout()),
         Target::New { name } => make(rt, name, report)?,
-        Target::Replaced { name } => return replace(rt, job, source, costs, name, report),
+        Target::Replaced { name } => return replace(rt, job, source, steps, name, report),
     };
-    write(rt.alloc(), job, source, &mut out, costs, report)
+    write(rt.alloc(), job, source, &mut out, steps, report)
 }
 
 // Copies a file without the boxes of some names, and says which these are. Where something is lost
@@ -67,7 +66,7 @@ fn strip_and_tell<'a, L: Ledger, M: Ledger>(
     names: &[Name],
     source: &mut Source,
     order: Order,
-    costs: &mut Costs<L, M>,
+    steps: &mut Steps<L, M>,
     report: &mut Report<'a>,
 ) -> Result<(), Refusal> {
     let alloc = rt.alloc();
@@ -88,7 +87,7 @@ fn strip_and_tell<'a, L: Ledger, M: Ledger>(
     let warnings = warnings(alloc, names, &found)?;
     let lines = count_lines(alloc, names, counts.as_slice(), &found)?;
     let job = Job::Strip { names };
-    write_to(rt, job, source, order, costs, report)?;
+    write_to(rt, job, source, order, steps, report)?;
     report.end();
     let mut errors = rt.stderr();
     let _ = errors.write_all(warnings.as_slice());
@@ -101,20 +100,20 @@ fn open_and_answer<'a, L: Ledger, M: Ledger>(
     rt: &'a HostRuntime,
     job: Job,
     order: Order,
-    costs: &mut Costs<L, M>,
+    steps: &mut Steps<L, M>,
     report: &mut Report<'a>,
 ) -> Result<(), Refusal> {
     let mut source = open(rt, order.input, report)?;
     let answer = match (source.check_parts(), job) {
         (Err(refusal), _) => source.settled(Err(refusal)),
         (Ok(()), Job::Strip { names }) => {
-            strip_and_tell(rt, names, &mut source, order, costs, report)
+            strip_and_tell(rt, names, &mut source, order, steps, report)
         }
-        (Ok(()), job) => write_to(rt, job, &mut source, order, costs, report),
+        (Ok(()), job) => write_to(rt, job, &mut source, order, steps, report),
     };
     report.end();
     if let Err(refusal) = &answer {
-        explain_refusal(rt, None, refusal, order.telling, &mut source, costs);
+        explain_refusal(rt, None, refusal, order.telling, &mut source, steps);
         if matches!(refusal, Refusal::StoreFailed) {
             report.concerns_part(rt, &source)?;
         }
@@ -131,7 +130,7 @@ pub(crate) fn explain_refusal<L: Ledger, M: Ledger>(
     refusal: &Refusal,
     telling: Telling,
     source: &mut Source,
-    costs: &mut Costs<L, M>,
+    steps: &mut Steps<L, M>,
 ) {
     if !tells_more(rt, telling) {
         return;
@@ -141,14 +140,14 @@ pub(crate) fn explain_refusal<L: Ledger, M: Ledger>(
     let _ = match refusal {
         Refusal::Fault(fault) if telling.explain => {
             let part = source.part_text(alloc, fault.offset);
-            let said = explain(alloc, name, fault, source, &mut errors, costs);
+            let said = explain(alloc, name, fault, source, &mut errors, steps);
             if let Ok(Some(part)) = part {
                 let _ = errors.put(part.as_slice());
             }
             said
         }
-        Refusal::Fault(fault) => explain_briefly(alloc, name, fault, source, &mut errors, costs),
-        Refusal::NoSuchTrack => name_tracks(alloc, source, &mut errors, costs),
+        Refusal::Fault(fault) => explain_briefly(alloc, name, fault, source, &mut errors, steps),
+        Refusal::NoSuchTrack => name_tracks(alloc, source, &mut errors, steps),
         _ => Ok(()),
     };
 }
@@ -160,10 +159,10 @@ pub(crate) fn run<L: Ledger, M: Ledger>(
     rt: &HostRuntime,
     job: Job,
     order: Order,
-    costs: &mut Costs<L, M>,
+    steps: &mut Steps<L, M>,
 ) -> Result<(), Refusal> {
     let mut report = Report::new(order.telling);
-    let answer = open_and_answer(rt, job, order, costs, &mut report);
+    let answer = open_and_answer(rt, job, order, steps, &mut report);
     match answer {
         Err(Refusal::StoreFailed) => report.tell_input(rt, order.input.name()),
         Err(Refusal::WriteFailed) => report.tell_output(rt, order.target.name()),

@@ -5,9 +5,8 @@ use crate::shell::reports::{Noted, Report};
 use crate::shell::run_command::explain_refusal;
 use crate::shell::sources::{Source, is_of_file, open};
 use mp4_answers::commands::compare::{Asked, Failure, Side, compare_files};
-use mp4_answers::costs::Costs;
 use mp4_answers::text::fault_text::{fault_line, status};
-use mp4_boxes::Refusal;
+use mp4_boxes::{Refusal, Steps};
 use mp4_store::IoSink;
 use std::alloc::{AllocError, Global};
 use std::io::Write;
@@ -84,7 +83,7 @@ fn answer_of<L: Ledger, M: Ledger>(
     first: &mut Source,
     second: &mut Source,
     report: &mut Report,
-    costs: &mut Costs<L, M>,
+    steps: &mut Steps<L, M>,
 ) -> Result<bool, Failure> {
     let asked = Asked {
         leaving: asked.leaving,
@@ -94,7 +93,7 @@ fn answer_of<L: Ledger, M: Ledger>(
     let mut sink = IoSink::new(Noted { out, report });
     let alloc = rt.alloc();
     let answer = match parts_of(first, second) {
-        Ok(()) => compare_files(alloc, first, second, asked, &mut sink, costs),
+        Ok(()) => compare_files(alloc, first, second, asked, &mut sink, steps),
         Err(failure) => Err(failure),
     };
     if is_settled(&answer) {
@@ -108,22 +107,22 @@ fn answer_of<L: Ledger, M: Ledger>(
 fn answer<L: Ledger, M: Ledger>(
     rt: &HostRuntime,
     asked: Comparison,
-    costs: &mut Costs<L, M>,
+    steps: &mut Steps<L, M>,
 ) -> Result<bool, Failure> {
     let (left, right, telling) = (asked.left, asked.right, asked.telling);
     let mut first = open_side(rt, left, telling, Side::First)?;
     let mut second = open_side(rt, right, telling, Side::Second)?;
     let mut report = Report::new(telling);
-    let answer = answer_of(rt, asked, &mut first, &mut second, &mut report, costs);
+    let answer = answer_of(rt, asked, &mut first, &mut second, &mut report, steps);
     if let Err(failure) = &answer {
         let refusal = &failure.refusal;
         tell_cause(rt, asked, failure, &first, &second, &report);
         if matches!(failure.side, Side::First) {
             let name = Some(left.name());
-            explain_refusal(rt, name, refusal, telling, &mut first, costs);
+            explain_refusal(rt, name, refusal, telling, &mut first, steps);
         } else {
             let name = Some(right.name());
-            explain_refusal(rt, name, refusal, telling, &mut second, costs);
+            explain_refusal(rt, name, refusal, telling, &mut second, steps);
         }
     }
     answer
@@ -160,9 +159,9 @@ fn tell(rt: &HostRuntime, left: Input, right: Input, failure: Failure) {
 pub(crate) fn compare_named<L: Ledger, M: Ledger>(
     rt: &HostRuntime,
     asked: Comparison,
-    costs: &mut Costs<L, M>,
+    steps: &mut Steps<L, M>,
 ) -> ExitCode {
-    match answer(rt, asked, costs) {
+    match answer(rt, asked, steps) {
         Ok(true) => ExitCode::SUCCESS,
         Ok(false) => ExitCode::from(DIFFER),
         Err(failure) => {

@@ -6,12 +6,11 @@ use crate::shell::file_names::word_of;
 use crate::shell::list_sources::tell_fault;
 use crate::shell::lists::{ListFault, first_line, without_return};
 use crate::shell::reports::{Noted, Report, tell_of};
-use mp4_answers::costs::Costs;
 use mp4_answers::jobs::{Syntax, VerdictStyle};
 use mp4_answers::text::digits::DIGEST;
 use mp4_answers::text::fault_text::{fault_line, status};
 use mp4_answers::text::sum_lines::{ListedSum, listed_sum, push_name};
-use mp4_boxes::Refusal;
+use mp4_boxes::{Refusal, Steps};
 use mp4_present::Without;
 use mp4_store::{IoSink, Sink};
 use std::alloc::{AllocError, Global};
@@ -60,7 +59,7 @@ fn sum_of<L: Ledger, M: Ledger>(
     rt: &HostRuntime,
     file: &ListedFile,
     how: SumCheck,
-    costs: &mut Costs<L, M>,
+    steps: &mut Steps<L, M>,
 ) -> Found {
     let word = word_of(rt.alloc(), file.name.as_slice())?;
     let input = input_of(word.as_str(), how.most_parts);
@@ -73,7 +72,7 @@ fn sum_of<L: Ledger, M: Ledger>(
         end: b'\n',
     };
     let manner = Manner::of(&[], Some(input), finding, style, how.telling);
-    answer_of(rt, input, manner, costs)
+    answer_of(rt, input, manner, steps)
 }
 
 // What is said of a file, and the status of that; nothing where it has its sum and that isn't told.
@@ -115,13 +114,13 @@ fn check_files<L: Ledger, M: Ledger>(
     files: &[ListedFile],
     how: SumCheck,
     report: &mut Report,
-    costs: &mut Costs<L, M>,
+    steps: &mut Steps<L, M>,
 ) -> Result<u8, Refusal> {
     let out = &mut rt.stdout();
     let mut sink = IoSink::new(Noted { out, report });
     let (mut worst, mut differ) = (0, 0);
     for file in files {
-        let found = sum_of(rt, file, how, costs);
+        let found = sum_of(rt, file, how, steps);
         let line = line_of(rt.alloc(), file, &found, how.quiet)?;
         if !line.is_empty() {
             sink.put(line.as_slice())?;
@@ -140,7 +139,7 @@ pub(crate) fn check_sums<L: Ledger, M: Ledger>(
     rt: &HostRuntime,
     list: Input,
     how: SumCheck,
-    costs: &mut Costs<L, M>,
+    steps: &mut Steps<L, M>,
 ) -> Result<u8, Refusal> {
     let mut report = Report::new(how.telling);
     let text = match read_list(rt, Some(list), &mut report) {
@@ -164,7 +163,7 @@ pub(crate) fn check_sums<L: Ledger, M: Ledger>(
         return Ok(NO_LIST);
     }
     let files = files.as_slice();
-    let worst = check_files(rt, files, how, &mut report, costs);
+    let worst = check_files(rt, files, how, &mut report, steps);
     if matches!(worst, Err(Refusal::WriteFailed)) {
         report.tell_output(rt, "-");
     }
