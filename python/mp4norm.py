@@ -1,4 +1,4 @@
-"""What MP4 files say, by the program mp4norm: show, samples, boxes, compare, normalise, check.
+"""What MP4 files say, by mp4norm: show, samples, boxes, compare, normalise, check, sum.
 
     import mp4norm
 
@@ -12,13 +12,21 @@ where it is given a name for what it writes.
 The program is the one that MP4NORM names in the environment; else `mp4norm` beside this module;
 else the one that was installed with it; else the one on the path. docs/PYTHON.md says which of its
 answers this module rests on.
+
+Where there is the C library, files are looked at in this process, and the program is run only for
+what the library doesn't have: `compare`, a new file, and files that aren't read into memory. It is
+the one that MP4NORM_LIBRARY names, and none where that is empty; else, unless MP4NORM is set, the
+one beside this module, or installed with it.
 """
 from __future__ import annotations
 
+import functools
 import json
 import os
 import re
 import shutil
+import stat
+import struct
 import subprocess
 import unicodedata
 from dataclasses import dataclass, fields
@@ -27,7 +35,7 @@ from typing import (Any, Dict, Iterable, List, Mapping, Optional, Sequence, Tupl
 
 __all__ = ["Box", "Comparison", "Difference", "Edit", "Error", "Failed", "Movie", "Refused",
            "Sample", "Track", "boxes", "check", "compare", "normalise", "program", "samples",
-           "show", "sum"]
+           "show", "sum", "uses"]
 
 Name = Union[str, "os.PathLike[str]"]
 File = Union[Name, bytes]
@@ -38,6 +46,20 @@ Made = TypeVar("Made")
 SAID = re.compile(r"(?:(.*): )?(?:refused: (\w+) in (.{4}|[0-9a-f]{8}) at (\d+)|failed: (.+))",
                   re.DOTALL)
 DIFFERENT, INVALID = 5, 64
+# As many bytes of a file are read into memory for the library; so many of a text are first asked
+# for.
+LONGEST, ROOM = 1 << 30, 1 << 16
+# What the library answers (include/mp4norm.h): status, kind, type of a box, spare, place, length.
+ANSWER = "=4I2Q"
+DONE, REFUSED, MEMORY, NO_TRACK = 0, 1, 2, 4
+# Kinds of fault, from number 1 on; and words that may be left out, from the lowest bit on.
+KINDS = ("ShortHeader BadSize Overrun ShortBox BoxNotInProfile DuplicateBox MissingBox BadVersion"
+         " BadFlags BadValue OutsideData CountMismatch BadOrder BadDescriptionIndex"
+         " SampleOutsideFile UnknownTrack Gap OffsetTooLarge ItemLocation TooManySamples"
+         " TimeTooLarge MovieTooLarge FragmentBeforeMovie").split()
+FLAGS = {word: 1 << bit for bit, word in enumerate(
+    "times edits flags groups metadata bitrates ends origins labels timing".split())}
+FLAGS.update({"packaging-1": 255, "media-1": 1023})
 
 
 class Error(Exception):
@@ -200,9 +222,15 @@ def program() -> str:
     return found
 
 
+def uses() -> str:
+    """What looks at files: `library`, in this process, or `program`."""
+    return "library" if _library() else "program"
+
+
 def show(file: File) -> Movie:
     """The movie and its tracks."""
-    told = json.loads(_run(["show"], [file]))
+    found = _text("show", file)
+    told = json.loads(_run(["show"], [file]) if found is None else found)
     for track in told["tracks"]:
         track["edits"] = [Edit(*edit) for edit in track["edits"]]
     told["tracks"] = [_made(Track, track) for track in told["tracks"]]
@@ -211,13 +239,18 @@ def show(file: File) -> Movie:
 
 def samples(file: File, track: int) -> List[Sample]:
     """All samples of the track with this ID, in decoding order."""
-    words = ["samples", "--json", "--track", str(track)]
-    return [_made(Sample, told) for told in _objects(_run(words, [file]))]
+    is_id = isinstance(track, int) and 0 < track < 1 << 32
+    found = _text("samples", file, track, 2) if is_id else None
+    if found is None:
+        found = _run(["samples", "--json", "--track", str(track)], [file])
+    return [_made(Sample, told) for told in _objects(found)]
 
 
 def boxes(file: File) -> List[Box]:
     """The boxes of the file, in their order, containers before what is in them."""
-    return [_made(Box, told) for told in _objects(_run(["boxes", "--json"], [file]))]
+    found = _text("boxes", file, 1)
+    found = _run(["boxes", "--json"], [file]) if found is None else found
+    return [_made(Box, told) for told in _objects(found)]
 
 
 def compare(a: File, b: File, without: Words = (), limit: int = 100) -> Comparison:
@@ -234,35 +267,165 @@ def normalise(file: File, new: Optional[Name] = None, without: Words = (),
               replace: bool = False) -> bytes:
     """The normal form. With `new` it goes to a file of that name, which must not be there unless
     it is to be replaced; then no bytes are returned."""
-    words = ["normalise", "--out", "-" if new is None else _word(new), *_without(without)]
+    left = _without(without)
+    flags = _flags(left)
+    if new is None and not replace and flags is not None:
+        found = _text("normal", file, flags)
+        if found is not None:
+            return found
+    words = ["normalise", "--out", "-" if new is None else _word(new), *left]
     return _run(words + ["--replace"] * replace, [file], new=new)
 
 
 def check(*files: Name) -> Dict[str, Optional[Error]]:
     """For the name of each file: None if it has a normal form, else what `normalise` would raise.
     There may be any number of files; each is opened and judged, whatever is wrong with others."""
-    return {name: _verdict(name, one) for name, one in _told(["check"], files)}
+    return {name: _verdict(name, one) for name, one in _told(["check"], files, 0)}
 
 
 def sum(*files: Name, without: Words = ()) -> Dict[str, Union[str, Error]]:
     """For the name of each file: the SHA-256 of its normal form, of what is left of it, in
     hexadecimal digits; or what `normalise` would raise. Files with the same content have the same
     sum. There may be any number of files."""
-    told = _told(["sum", *_without(without)], files)
+    left = _without(without)
+    told = _told(["sum", *left], files, _flags(left))
     return {name: _verdict(name, one) or one["sha256"] for name, one in told}
 
 
-def _told(words: Sequence[str], files: Iterable[Name]) -> List[Tuple[str, Dict[str, Any]]]:
-    """The names of these files, and what is told of each."""
+def _told(words: Sequence[str], files: Iterable[Name],
+          flags: Optional[int]) -> List[Tuple[str, Dict[str, Any]]]:
+    """The names of these files, and what is told of each: by the library, and of those that it
+    doesn't look at by the program."""
     names = [os.fspath(file) for file in files]
     if any("\0" in name for name in names):
         raise ValueError("embedded null byte")
+    found = {name: _looked(words[0], name, flags) for name in names}
+    rest = [name for name in names if found[name] is None]
+    found.update(_told_by_program(words, rest) if rest else ())
+    return [(name, found[name] or {}) for name in names]
+
+
+def _told_by_program(words: Sequence[str], names: List[str]) -> List[Tuple[str, Dict[str, Any]]]:
     listed = b"".join(os.fsencode(name) + b"\0" for name in names)
     done = _call([*words, "--json", "--names-from", "-"], listed)
     told = _objects(done.stdout)
     if len(told) != len(names):
         raise _error(done, names)
     return list(zip(names, told))
+
+
+def _library() -> Any:
+    """The library; None where there is none, and the program is run."""
+    named = os.environ.get("MP4NORM_LIBRARY")
+    if named is not None or os.environ.get("MP4NORM"):
+        return _loaded(named) if named else None
+    here = os.path.dirname(os.path.realpath(__file__))
+    for folder in (here, f"{here}/../../../lib", f"{here}/../../x86_64-linux-gnu"):
+        path = os.path.join(folder, "libmp4norm.so.0")
+        if os.path.isfile(path):
+            try:
+                return _loaded(path)
+            except Failed:
+                pass
+    return None
+
+
+@functools.lru_cache(maxsize=None)
+def _loaded(name: str) -> Any:
+    try:
+        import ctypes
+        return ctypes.CDLL(name)
+    except (ImportError, OSError) as error:
+        raise Failed(name, f"it can't be loaded: {error}") from None
+
+
+def _bytes_of(file: File) -> Optional[bytes]:
+    """The bytes of a file; None where the program has to look at it."""
+    if isinstance(file, bytes):
+        return file
+    name = os.fspath(file)
+    try:
+        os.fsencode(name).decode()
+        about = os.stat(name)
+        if not stat.S_ISREG(about.st_mode) or about.st_size > LONGEST:
+            return None
+        with open(name, "rb") as opened:
+            content = opened.read(about.st_size)
+    except UnicodeDecodeError:
+        return None
+    except OSError as error:
+        raise Failed(name, "store", (error.strerror or "").lower()) from None
+    return content if len(content) == about.st_size else None
+
+
+def _ask(library: Any, file: File, content: bytes, call: str, *words: Any) -> int:
+    """A call of the library, of the bytes of this file: the length that it answers."""
+    from ctypes import c_size_t, create_string_buffer
+    answer = create_string_buffer(struct.calcsize(ANSWER))
+    getattr(library, f"mp4norm_{call}")(content, c_size_t(len(content)), *words, answer)
+    status, kind, box, _, offset, length = struct.unpack(ANSWER, answer.raw)
+    if status == DONE:
+        return int(length)
+    name = _name(file)
+    if status == REFUSED:
+        code = box.to_bytes(4, "big")
+        is_plain = all(31 < byte < 127 for byte in code)
+        raise Refused(name, KINDS[kind - 1], code.decode() if is_plain else code.hex(), offset)
+    what = {MEMORY: "memory", NO_TRACK: "no such track"}
+    raise Failed(name, what.get(status, f"status {status} of the library"))
+
+
+def _text(call: str, file: File, *numbers: int) -> Optional[bytes]:
+    """All that a call of the library puts; None where the program has to be run."""
+    library = _library()
+    content = None if library is None else _bytes_of(file)
+    if content is None:
+        return None
+    from ctypes import c_size_t, c_uint32, c_uint64, create_string_buffer, string_at
+    room = ROOM + (len(content) if call == "normal" else 0)
+    found: List[bytes] = []
+    at = 0
+    while True:
+        out = create_string_buffer(room)
+        length = _ask(library, file, content, f"{call}_range", *map(c_uint32, numbers),
+                      c_uint64(at), out, c_size_t(room))
+        found.append(string_at(out, length))
+        at += length
+        if length < room:
+            return b"".join(found)
+        room *= 8
+
+
+def _looked(call: str, name: str, flags: Optional[int]) -> Optional[Dict[str, Any]]:
+    """What the library tells of a file, as an object of the program; None as of `_text`."""
+    library = _library()
+    try:
+        content = None if library is None or flags is None else _bytes_of(name)
+        if content is None:
+            return None
+        if call == "check":
+            _ask(library, name, content, call)
+            return {"status": DONE}
+        from ctypes import c_uint32, create_string_buffer
+        digest = create_string_buffer(32)
+        _ask(library, name, content, call, c_uint32(flags or 0), digest)
+        return {"sha256": digest.raw.hex()}
+    except Refused as error:
+        return {"refused": {"kind": error.kind, "box": error.box, "offset": error.offset}}
+    except Failed as error:
+        if error.file != name:
+            raise
+        return {"failed": error.what}
+
+
+def _flags(left: Sequence[str]) -> Optional[int]:
+    """These words as numbers of the library; None where there is one that it doesn't know."""
+    flags = 0
+    for word in left[1].split(",") if left else ():
+        if word not in FLAGS:
+            return None
+        flags |= FLAGS[word]
+    return flags
 
 
 def _is_program(name: str) -> bool:

@@ -1,8 +1,10 @@
 #!/usr/bin/env python3
 """Tries the module mp4norm.py, beside this file, on a program.
 
-usage: test_mp4norm.py PROGRAM
-       MP4NORM=PROGRAM python3 -m unittest discover -s python
+usage: test_mp4norm.py PROGRAM [--library LIBRARY]
+       MP4NORM=PROGRAM [MP4NORM_LIBRARY=LIBRARY] python3 -m unittest discover -s python
+
+With a C library (libmp4norm.so.0) the same tests are tried on files that are looked at in process.
 
 What is wanted was worked out by hand, or by the readers of the conformance suite. The example of
 docs/PYTHON.md is run too. The last line is 'N passed, M failed', of tests; the exit status is 0
@@ -453,6 +455,15 @@ class Texts(Case):
 class Programs(Case):
     """Which program is run, and what is made of a strange one."""
 
+    def setUp(self):
+        super().setUp()
+        library = os.environ.get('MP4NORM_LIBRARY')
+        if library is not None:
+            self.addCleanup(os.environ.__setitem__, 'MP4NORM_LIBRARY', library)
+        else:
+            self.addCleanup(os.environ.pop, 'MP4NORM_LIBRARY', None)
+        os.environ['MP4NORM_LIBRARY'] = ''
+
     def stub(self, name, script):
         self.write(name, b'#!/bin/sh\n' + script, 0o755)
         return os.path.realpath(name)
@@ -462,7 +473,7 @@ class Programs(Case):
         os.makedirs(folder, exist_ok=True)
         if not os.path.islink(f'{folder}/mp4norm.py'):
             shutil.copy(mp4norm.__file__, folder)
-        kept = {key: value for key, value in os.environ.items() if key != 'MP4NORM'}
+        kept = {key: value for key, value in os.environ.items() if not key.startswith('MP4NORM')}
         code = ('import mp4norm\ntry:\n    print(mp4norm.program())\n'
                 'except mp4norm.Failed as it:\n    print(type(it).__name__, it)')
         done = subprocess.run([sys.executable, '-B', '-c', code], text=True, check=True,
@@ -541,6 +552,70 @@ class Programs(Case):
         self.assertEqual(mp4norm.boxes('x'), [Box(0, 'free', 0, 8)])
 
 
+class Ways(Case):
+    """Which way is taken."""
+
+    def test_way(self):
+        self.assertEqual(mp4norm.uses(),
+                         'library' if os.environ.get('MP4NORM_LIBRARY') else 'program')
+        code = 'print(mp4norm.uses(), end="")'
+        for library, said in ((None, b'program'), ('', b'program')):
+            with self.subTest(library):
+                kept = {name: it for name, it in os.environ.items() if name != 'MP4NORM_LIBRARY'}
+                env = {**kept, **({} if library is None else {'MP4NORM_LIBRARY': library})}
+                words = [sys.executable, '-B', '-c', f'import mp4norm\n{code}']
+                done = subprocess.run(words, env={**env, 'PYTHONPATH': HERE}, check=False,
+                                      stdout=subprocess.PIPE)
+                self.assertEqual(done.stdout, said)
+
+    def test_no_library(self):
+        """A library that is named has to be one."""
+        self.write('no.so', b'none')
+        done = self.python('import os\nos.environ["MP4NORM_LIBRARY"] = "./no.so"\n'
+                           'try:\n    mp4norm.show("plain.mp4")\n'
+                           'except mp4norm.Failed as it:\n    print(it.file, it.what)')
+        self.assertTrue(done.stdout.startswith(b"./no.so it can't be loaded: "), done)
+        for call in ('check', 'sum'):
+            done = self.python('import os\nos.environ["MP4NORM_LIBRARY"] = "./no.so"\n'
+                               f'mp4norm.{call}("plain.mp4")')
+            self.assertIn(b"Failed: ./no.so: it can't be loaded", done.stderr)
+
+    @unittest.skipUnless(os.environ.get('MP4NORM_LIBRARY') or '--library' in sys.argv, 'no library')
+    def test_library_alone(self):
+        """What the library has wants no program; what it hasn't asks for one."""
+        before = os.environ['MP4NORM']
+        self.addCleanup(os.environ.__setitem__, 'MP4NORM', before)
+        os.environ['MP4NORM'] = './none'
+        for call in (mp4norm.show, mp4norm.boxes, mp4norm.normalise):
+            self.assertEqual(call('plain.mp4'), call(PLAIN))
+            self.refuses(FAULT, call, 'cut.mp4')
+            self.assertIn('no such file', self.fails('none.mp4', 'store', call, 'none.mp4').cause)
+        self.assertIsNone(mp4norm.check('plain.mp4')['plain.mp4'])
+        self.assertEqual(mp4norm.sum('plain.mp4')['plain.mp4'], hashlib.sha256(NORMAL).hexdigest())
+        self.fails('plain.mp4', 'no such track', mp4norm.samples, 'plain.mp4', 7)
+        for call, *more in ((mp4norm.compare, PLAIN), (mp4norm.normalise, 'new.mp4')):
+            with self.assertRaises(Failed) as caught:
+                call('plain.mp4', *more)
+            self.assertEqual(caught.exception.file, './none')
+
+    def test_long_texts(self):
+        """A text that is longer than what is first asked for."""
+        many = PLAIN + b'\0\0\0\x08free' * 20000
+        found = mp4norm.boxes(many)
+        self.assertEqual([(it.type, it.offset) for it in found[-20000:]],
+                         [('free', len(PLAIN) + 8 * number) for number in range(20000)])
+
+    def test_memory(self):
+        """What is longer than may be read into memory is looked at by the program."""
+        longest, mp4norm.LONGEST = mp4norm.LONGEST, 8
+        self.addCleanup(setattr, mp4norm, 'LONGEST', longest)
+        self.assertEqual(mp4norm.show('plain.mp4'), mp4norm.show(PLAIN))
+        found = mp4norm.check('plain.mp4', 'cut.mp4', 'none.mp4')
+        self.assertIsNone(found['plain.mp4'])
+        self.is_told(found['cut.mp4'], *FAULT)
+        self.is_told(found['none.mp4'], 'none.mp4', 'store')
+
+
 class Page(Case):
     """The example of docs/PYTHON.md."""
 
@@ -560,6 +635,9 @@ class Page(Case):
 
 
 def main():
+    if sys.argv[2:3] == ['--library'] and len(sys.argv) == 4:
+        os.environ['MP4NORM_LIBRARY'] = os.path.abspath(sys.argv.pop())
+        sys.argv.pop()
     if len(sys.argv) == 2 and not sys.argv[1].startswith('-'):
         os.environ['MP4NORM'] = sys.argv.pop()
     if len(sys.argv) > 1 or not os.environ.get('MP4NORM'):
