@@ -163,10 +163,10 @@ class Line:
 class Bench(Room, Tally):
     """Runs a program in a folder of its own, and counts."""
 
-    def __init__(self, program: str, folder: str):
+    def __init__(self, program: str, folder: str, status_only: bool = False):
         Room.__init__(self, folder)
         Tally.__init__(self)
-        self.program, self.made_library = program, None
+        self.program, self.made_library, self.status_only = program, None, status_only
         os.mkdir(folder)
 
     def begin(self) -> None:
@@ -268,6 +268,16 @@ class Bench(Room, Tally):
 
     # ---- what is due
 
+    def note(self, name: str, *wrong) -> None:
+        """Counts one thing, unless statuses alone count."""
+        if not self.status_only:
+            super().note(name, *wrong)
+
+    def has_status(self, name: str, got: tuple, status: int) -> None:
+        """Counts the status of an answer, where statuses alone count."""
+        if self.status_only:
+            super().note(name, other(got[0], status))
+
     def right(self, name: str, got: tuple, is_due: bool | bytes, *wrong) -> None:
         """Counts an answer that may be due, or not."""
         self.note(name, '' if is_due else shown(got), *wrong)
@@ -278,6 +288,7 @@ class Bench(Room, Tally):
         is_said = error.fullmatch(got[1]) if isinstance(error, re.Pattern) else error == got[1]
         due = status, getattr(error, 'pattern', error), output
         is_due = is_said and (got[0], got[2]) == (status, output)
+        self.has_status(name, got, status)
         self.note(name, '' if is_due else f'{shown(got)}, not {shown(due)}', *wrong)
 
     def asks(self, words: list[str] | str, status: int, error: bytes | re.Pattern = b'',
@@ -300,6 +311,7 @@ class Bench(Room, Tally):
     def refuses_words(self, words: list[str] | str, unmade: str = 'new') -> None:
         """Words that are wrong: that is said, and nothing is put or made."""
         got = self.run(words)
+        self.has_status(f'wrong words: {spelled(words)}', got, 64)
         is_due = got[0] == 64 and got[1].startswith(b'error: ') and not got[2]
         self.right(f'wrong words: {spelled(words)}', got, is_due, self.is_as(unmade, None))
 
@@ -320,9 +332,11 @@ def benched(text: str) -> Iterator:
     """A bench for the program that the words name, and what `--only` says; `text` is the script's
     help. Behind it the counts are printed."""
     only = {'default': '', 'metavar': 'WORD', 'help': 'only parts with this in their name'}
-    args = trials.options(text, 'program', only=only)
+    statuses = {'action': 'store_true', 'help': 'compare exit statuses alone, of runs that have one '
+                'that is due; for programs with words of their own'}
+    args = trials.options(text, 'program', only=only, status_only=statuses)
     with tempfile.TemporaryDirectory() as folder:
-        bench = Bench(args.program, os.path.join(folder, 'room'))
+        bench = Bench(args.program, os.path.join(folder, 'room'), args.status_only)
         yield bench, args.only
     bench.end()
 
@@ -348,4 +362,4 @@ def run_part(bench: Bench, part: Callable) -> None:
         part(bench)
     except Exception as fault:
         traceback.print_exc()
-        bench.note(f'{part.__name__} ended early', repr(fault))
+        Tally.note(bench, f'{part.__name__} ended early', repr(fault))
