@@ -35,7 +35,8 @@ void __wrap_free(void *block) {
     __real_free(block);
 }
 
-static const char *const NAMES[] = {"check", "sum", "normal_range", "print_range", "show_range", "samples_range"};
+static const char *const NAMES[] = {"check", "sum", "normal_range", "print_range", "show_range", "samples_range",
+                                    "normal_len"};
 static uint8_t file[ROOM], due[ROOM], out[ROOM], before[ROOM];
 static size_t len;
 static uint32_t track;
@@ -52,7 +53,8 @@ static struct mp4norm_answer call(size_t which, long at, uint8_t *put) {
     case 2: mp4norm_normal_range(file, len, 0, 0, put, ROOM, &answer); break;
     case 3: mp4norm_print_range(file, len, 0, 0, put, ROOM, &answer); break;
     case 4: mp4norm_show_range(file, len, 0, put, ROOM, &answer); break;
-    default: mp4norm_samples_range(file, len, track, MP4NORM_PLAIN, 0, put, ROOM, &answer);
+    case 5: mp4norm_samples_range(file, len, track, MP4NORM_PLAIN, 0, put, ROOM, &answer); break;
+    default: mp4norm_normal_len(file, len, 0, &answer);
     }
     refused = 0;
     return answer;

@@ -382,7 +382,9 @@ def _text(call: str, file: File, *numbers: int) -> Optional[bytes]:
     if content is None:
         return None
     from ctypes import c_size_t, c_uint32, c_uint64, create_string_buffer, string_at
-    room = ROOM + (len(content) if call == "normal" else 0)
+    # A normal form is seldom longer than its file by a quarter. Texts can be; each try goes over
+    # the file again.
+    room = ROOM + (len(content) * 5 // 4 if call == "normal" else 0)
     found: List[bytes] = []
     at = 0
     while True:
@@ -393,7 +395,7 @@ def _text(call: str, file: File, *numbers: int) -> Optional[bytes]:
         at += length
         if length < room:
             return b"".join(found)
-        room *= 8
+        room = at if call == "normal" else 4 * at
 
 
 def _looked(call: str, name: str, flags: Optional[int]) -> Optional[Dict[str, Any]]:
