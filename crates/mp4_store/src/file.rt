@@ -15,7 +15,7 @@ const MOST_TRIES: u32 = u32::MAX;
 /// A store over what is read by place, whose length is taken once: honest where its bytes are known
 /// and as many as that. What a file gives isn't known.
 #[derive(Drop)]
-pub struct FileStore<F: Placed> {
+pub struct FileStore<F> {
     placed: F,
     size: u64,
     failed: u64,
