@@ -16,7 +16,7 @@ use crate::places::{BytesAt, ChunksAt, OffsetsAt, RowsAt, SizesAt, TablesAt};
 use crate::size_checks::read_sizes;
 use crate::stts_rows::{are_below, counts_are};
 use crate::sync_samples::are_numbers;
-use mp4_boxes::{BoxView, Fault, FourCc, Kind, Count};
+use mp4_boxes::{BoxView, Count, Fault, FourCc, Kind};
 use std::sync::ledger::Ledger;
 
 const STCO: FourCc = FourCc(*b"stco");

@@ -14,7 +14,7 @@ use crate::keys::{GroupKey, Keys};
 use crate::leaves::{Limits, children_of, place_in, version_of};
 use crate::places::{GroupsAt, RowsAt};
 use crate::stts_rows::{are_below, counts_are_within};
-use mp4_boxes::{BoxView, Fault, FourCc, Kind, Count};
+use mp4_boxes::{BoxView, Count, Fault, FourCc, Kind};
 use std::sync::ledger::Ledger;
 
 // An `sgpd`: what follows its grouping type is kept unread.
