@@ -18,7 +18,12 @@ ROOMS = ('src', 'specs', 'proofs')
 
 def crates() -> list[str]:
     """The crates in the order in which they build on one another."""
-    return [line.split(':')[0] for line in text('crates.txt').splitlines() if line.strip()]
+    return [line.split(':')[0].split()[0] for line in text('crates.txt').splitlines() if line.strip()]
+
+
+def static_libraries() -> set[str]:
+    """Those on which no crate can stand."""
+    return {line.split()[0] for line in text('crates.txt').splitlines() if ' staticlib:' in line}
 
 
 def found(pattern: str) -> list[str]:

@@ -26,11 +26,10 @@
 //! let mut other = bytes;
 //! other[27] = 1; // made a second later
 //! let (mut left, mut right) = (MemStore::new(&bytes), MemStore::new(&other));
-//! let mut steps = Steps::<Brand>::new(Blank::new(1));
-//! let mut looks = Steps::<Brand>::new(Blank::new(1));
+//! let mut steps = Steps::<Brand, Brand>::new(Blank::new(1), Blank::new(1));
 //! let movies = Movies {
-//!     left: open_movie(rt.alloc(), &mut left, &mut steps, &mut looks)?,
-//!     right: open_movie(rt.alloc(), &mut right, &mut steps, &mut looks)?,
+//!     left: open_movie(rt.alloc(), &mut left, &mut steps)?,
+//!     right: open_movie(rt.alloc(), &mut right, &mut steps)?,
 //! };
 //! let all = Without::NOTHING;
 //! let times = Without { times: true, ..all };
