@@ -26,7 +26,8 @@ enum mp4norm_status {
     MP4NORM_MEMORY = 2,    /* an allocation was refused */
     MP4NORM_DEVICE = 3,    /* a read or write failed: never, of bytes in memory */
     MP4NORM_NO_TRACK = 4,  /* no track has this ID */
-    MP4NORM_USAGE = 64     /* words, a form or a syntax that is not known: the file was not looked at */
+    MP4NORM_DIFFER = 5,    /* the files differ: only a comparison answers this */
+    MP4NORM_USAGE = 64     /* words, a form, a syntax or a listing that is not known: no file was looked at */
 };
 
 /* Kinds of fault (docs/FORMAT.md says what each means). */
@@ -61,7 +62,7 @@ struct mp4norm_answer {
     uint32_t status;   /* of enum mp4norm_status */
     uint32_t kind;     /* of enum mp4norm_kind; 0 without a fault */
     uint32_t box_type; /* of the box at fault, its first byte highest: 0x6d6f6f76 is `moov`; `file` for the file */
-    uint32_t spare;    /* 0 */
+    uint32_t file;     /* of two files that are compared the one at fault: 0 is the first, 1 the second; else 0 */
     uint64_t offset;   /* the place in the file of that box's first byte */
     uint64_t len;      /* how many bytes were put, or are there */
 };
@@ -71,7 +72,7 @@ struct mp4norm_digest {
     uint8_t bytes[32];
 };
 
-/* What is left out of a file before it is normalised, printed or summed: the words behind --without
+/* What is left out of a file before it is normalised, printed, summed or compared: the words behind --without
  * (docs/COMPARING.md). Together by |; 0 leaves nothing out. */
 enum mp4norm_word {
     MP4NORM_TIMES = 1,      /* creation and modification times */
@@ -100,6 +101,30 @@ enum mp4norm_syntax {
     MP4NORM_LINES = 0, /* two spaces for each container, type, offset, size */
     MP4NORM_JSON = 1   /* an object of JSON a line */
 };
+
+/* What of a comparison is told. */
+enum mp4norm_listing {
+    MP4NORM_FIRST = 0, /* the first difference alone */
+    MP4NORM_ALL = 1    /* all differences, and a line or an object that counts them, as --all */
+};
+
+/* What is asked of a comparison. */
+struct mp4norm_comparison {
+    uint32_t words;   /* of enum mp4norm_word: what is left out of both files */
+    uint32_t listing; /* of enum mp4norm_listing */
+    uint32_t limit;   /* of all differences at most so many are listed, as --limit; they are counted all the same */
+    uint32_t syntax;  /* of enum mp4norm_syntax */
+};
+
+/* The version of a library, that of the program of the same sources. */
+struct mp4norm_version {
+    uint32_t major;
+    uint32_t minor;
+    uint32_t patch;
+};
+
+/* The version of the library that is called. */
+void mp4norm_version(struct mp4norm_version *version);
 
 /* Whether a file has a normal form: MP4NORM_DONE, MP4NORM_REFUSED or MP4NORM_MEMORY. */
 void mp4norm_check(const uint8_t *file, size_t file_len, struct mp4norm_answer *answer);
@@ -148,6 +173,21 @@ void mp4norm_extract_range(const uint8_t *file, size_t file_len, uint32_t track,
  * refused only for a header that is broken. */
 void mp4norm_boxes_range(const uint8_t *file, size_t file_len, uint32_t syntax, uint64_t from,
                          uint8_t *out, size_t out_len, struct mp4norm_answer *answer);
+
+/* Whether the same is left of two files: MP4NORM_DONE if it is, and MP4NORM_DIFFER if not. Then the line
+ * of the first difference, as `mp4norm compare`, is put into `out`, at most out_len bytes of it, which
+ * may be 0; answer->len says how many. MP4NORM_REFUSED if a file has no normal form: answer->file says
+ * which. The two may be the same bytes. MP4NORM_MEMORY too where there is no memory for what is said. */
+void mp4norm_compare(const uint8_t *file, size_t file_len, const uint8_t *other, size_t other_len,
+                     uint32_t words, uint8_t *out, size_t out_len, struct mp4norm_answer *answer);
+
+/* The same, of what is asked: all that `mp4norm compare` prints, as lines or as JSON, from the place
+ * `from` on, as the calls above put a text, at MP4NORM_DIFFER too. Of files of which the same is left
+ * there is a text only where all is told as JSON. It is made whole in memory: for up to 2^20
+ * differences. */
+void mp4norm_compare_range(const uint8_t *file, size_t file_len, const uint8_t *other,
+                           size_t other_len, const struct mp4norm_comparison *asked, uint64_t from,
+                           uint8_t *out, size_t out_len, struct mp4norm_answer *answer);
 
 #ifdef __cplusplus
 }

@@ -1,4 +1,4 @@
-"""What MP4 files say, by mp4norm: show, samples, boxes, compare, normalise, check, sum.
+"""What MP4 files say, by mp4norm: show, samples, columns, boxes, compare, normalise, check, sum.
 
     import mp4norm
 
@@ -14,9 +14,11 @@ else the one that was installed with it; else the one on the path. docs/PYTHON.m
 answers this module rests on.
 
 Where there is the C library, files are looked at in this process, and the program is run only for
-what the library doesn't have: `compare`, a new file, and files that aren't read into memory. It is
-the one that MP4NORM_LIBRARY names, and none where that is empty; else, unless MP4NORM is set, the
-one beside this module, or installed with it.
+what the library doesn't have: a new file, and files that aren't read into memory. It is the one
+that MP4NORM_LIBRARY names, and none where that is empty; else, unless MP4NORM is set, the one
+beside this module, or installed with it.
+
+In a clone of the repository both are those of its dist/.
 """
 from __future__ import annotations
 
@@ -28,14 +30,16 @@ import shutil
 import stat
 import struct
 import subprocess
+import tempfile
 import unicodedata
 from dataclasses import dataclass, fields
-from typing import (Any, Dict, Iterable, List, Mapping, Optional, Sequence, Tuple, Type, TypeVar,
-                    Union, cast)
+from fractions import Fraction
+from typing import (Any, Callable, Dict, Iterable, List, Mapping, Optional, Sequence, Tuple, Type,
+                    TypeVar, Union, cast)
 
 __all__ = ["Box", "Comparison", "Difference", "Edit", "Error", "Failed", "Movie", "Refused",
-           "Sample", "Track", "boxes", "check", "compare", "normalise", "program", "samples",
-           "show", "sum", "uses"]
+           "Sample", "Track", "boxes", "check", "columns", "compare", "normalise", "program",
+           "samples", "show", "sum", "uses"]
 
 Name = Union[str, "os.PathLike[str]"]
 File = Union[Name, bytes]
@@ -49,9 +53,13 @@ DIFFERENT, INVALID = 5, 64
 # As many bytes of a file are read into memory for the library; so many of a text are first asked
 # for.
 LONGEST, ROOM = 1 << 30, 1 << 16
-# What the library answers (include/mp4norm.h): status, kind, type of a box, spare, place, length.
-ANSWER = "=4I2Q"
+# What the library answers (include/mp4norm.h): status, kind, type of a box, which of two files,
+# place, length. And what it is asked of two: words, listing, limit, syntax; all, as JSON.
+ANSWER, ASKED = "=4I2Q", "=4I"
 DONE, REFUSED, MEMORY, NO_TRACK = 0, 1, 2, 4
+ALL, JSON = 1, 1
+# Where programs and libraries are, from the folder of this module: in a clone, and installed.
+PUBLISHED = "../dist/x86_64-linux"
 # Kinds of fault, from number 1 on; and words that may be left out, from the lowest bit on.
 KINDS = ("ShortHeader BadSize Overrun ShortBox BoxNotInProfile DuplicateBox MissingBox BadVersion"
          " BadFlags BadValue OutsideData CountMismatch BadOrder BadDescriptionIndex"
@@ -131,7 +139,8 @@ class Movie:
 
 @dataclass(frozen=True)
 class Sample:
-    """Times are in the track's timescale; `number` and `description` count from 1."""
+    """Times are in the track's timescale, which is so many units a second, and in seconds as exact
+    fractions (`float` makes them floats); `number` and `description` count from 1."""
 
     number: int
     decode_time: int
@@ -140,11 +149,27 @@ class Sample:
     flags: int
     description: int
     size: int
+    timescale: int = 1
 
     @property
     def sync(self) -> bool:
         """Whether the flags say that decoding can begin here."""
         return not self.flags >> 16 & 1
+
+    @property
+    def decode_seconds(self) -> Fraction:
+        """When it is decoded, in seconds."""
+        return Fraction(self.decode_time, self.timescale)
+
+    @property
+    def composition_seconds(self) -> Fraction:
+        """When it is shown, in seconds, before edits."""
+        return Fraction(self.composition_time, self.timescale)
+
+    @property
+    def duration_seconds(self) -> Fraction:
+        """How long it lasts, in seconds."""
+        return Fraction(self.duration, self.timescale)
 
 
 @dataclass(frozen=True)
@@ -212,9 +237,7 @@ class Comparison:
 
 def program() -> str:
     """The name of the program that is run; Failed if there is none."""
-    here = os.path.dirname(os.path.realpath(__file__))
-    beside = [os.path.join(here, "mp4norm"),
-              os.path.normpath(os.path.join(here, "..", "..", "..", "bin", "mp4norm"))]
+    beside = _beside("mp4norm", "../../../bin")
     found = os.environ.get("MP4NORM") or next((it for it in beside if _is_program(it)), None)
     found = found or shutil.which("mp4norm")
     if not found:
@@ -243,7 +266,23 @@ def samples(file: File, track: int) -> List[Sample]:
     found = _text("samples", file, track, 2) if is_id else None
     if found is None:
         found = _run(["samples", "--json", "--track", str(track)], [file])
-    return [_made(Sample, told) for told in _objects(found)]
+    told = _objects(found)
+    scales = [it.timescale for it in show(file).tracks if it.id == track] if told else [1]
+    if not scales:
+        raise Failed(_name(file), "store changed")
+    return [_made(Sample, {**one, "timescale": scales[0]}) for one in told]
+
+
+def columns(file: File, track: int) -> Dict[str, List[Any]]:
+    """The samples of the track with this ID by columns, each a list with a value for each sample,
+    as `pandas.DataFrame` takes them: what a `Sample` has but its timescale, then `sync`, and the
+    times in seconds as floats."""
+    found = samples(file, track)
+    names = [field.name for field in fields(Sample) if field.name != "timescale"] + ["sync"]
+    made = {name: [getattr(it, name) for it in found] for name in names}
+    for name in ("decode", "composition", "duration"):
+        made[f"{name}_seconds"] = [float(getattr(it, f"{name}_seconds")) for it in found]
+    return made
 
 
 def boxes(file: File) -> List[Box]:
@@ -255,9 +294,13 @@ def boxes(file: File) -> List[Box]:
 
 def compare(a: File, b: File, without: Words = (), limit: int = 100) -> Comparison:
     """Compares what the two say, but for what these words leave out (docs/COMPARING.md has them),
-    and lists at most `limit` of the differences. One of the two may be bytes."""
-    words = ["compare", "--json", "--all", "--limit", str(limit), *_without(without)]
-    *found, last = _objects(_run(words, [a, b], (0, DIFFERENT)))
+    and lists at most `limit` of the differences."""
+    left = _without(without)
+    text = _compared(a, b, _flags(left), limit)
+    if text is None:
+        words = ["compare", "--json", "--all", "--limit", str(limit), *left]
+        text = _run(words, [a, b], (0, DIFFERENT))
+    *found, last = _objects(text)
     differences = [_made(Difference, {**told, "at": tuple(told["at"])}) for told in found]
     return Comparison(last["differences"] == 0, last["differences"], last["at_least"],
                       last["kinds"], last["without"], differences)
@@ -319,15 +362,20 @@ def _library() -> Any:
     named = os.environ.get("MP4NORM_LIBRARY")
     if named is not None or os.environ.get("MP4NORM"):
         return _loaded(named) if named else None
-    here = os.path.dirname(os.path.realpath(__file__))
-    for folder in (here, f"{here}/../../../lib", f"{here}/../../x86_64-linux-gnu"):
-        path = os.path.join(folder, "libmp4norm.so.0")
+    for path in _beside("libmp4norm.so.0", "../../../lib", "../../x86_64-linux-gnu"):
         if os.path.isfile(path):
             try:
                 return _loaded(path)
             except Failed:
                 pass
     return None
+
+
+def _beside(name: str, *installed: str) -> List[str]:
+    """Where a file of this name can be: beside this module, installed with it, or in its clone."""
+    here = os.path.dirname(os.path.realpath(__file__))
+    return [os.path.normpath(os.path.join(here, folder, name))
+            for folder in (".", *installed, PUBLISHED)]
 
 
 @functools.lru_cache(maxsize=None)
@@ -358,15 +406,15 @@ def _bytes_of(file: File) -> Optional[bytes]:
     return content if len(content) == about.st_size else None
 
 
-def _ask(library: Any, file: File, content: bytes, call: str, *words: Any) -> int:
-    """A call of the library, of the bytes of this file: the length that it answers."""
-    from ctypes import c_size_t, create_string_buffer
+def _ask(library: Any, files: Sequence[File], call: str, *words: Any) -> int:
+    """A call of the library, of the bytes of these files: the length that it answers."""
+    from ctypes import create_string_buffer
     answer = create_string_buffer(struct.calcsize(ANSWER))
-    getattr(library, f"mp4norm_{call}")(content, c_size_t(len(content)), *words, answer)
-    status, kind, box, _, offset, length = struct.unpack(ANSWER, answer.raw)
-    if status == DONE:
+    getattr(library, f"mp4norm_{call}")(*words, answer)
+    status, kind, box, number, offset, length = struct.unpack(ANSWER, answer.raw)
+    if status in (DONE, DIFFERENT):
         return int(length)
-    name = _name(file)
+    name = _name(files[number])
     if status == REFUSED:
         code = box.to_bytes(4, "big")
         is_plain = all(31 < byte < 127 for byte in code)
@@ -375,27 +423,62 @@ def _ask(library: Any, file: File, content: bytes, call: str, *words: Any) -> in
     raise Failed(name, what.get(status, f"status {status} of the library"))
 
 
+def _given(content: bytes) -> Tuple[Any, Any]:
+    """The bytes of a file as a call takes them."""
+    from ctypes import c_size_t
+    return content, c_size_t(len(content))
+
+
+def _windows(ask: Callable[..., int], room: int, step: int) -> bytes:
+    """All of a text that a call puts from a place on: first into so much room, and then into so
+    many times what is there. Each call makes the text again."""
+    from ctypes import c_size_t, c_uint64, create_string_buffer, string_at
+    found: List[bytes] = []
+    at = 0
+    while True:
+        out = create_string_buffer(room)
+        length = ask(c_uint64(at), out, c_size_t(room))
+        found.append(string_at(out, length))
+        at += length
+        if length < room:
+            return b"".join(found)
+        room = step * at
+
+
 def _text(call: str, file: File, *numbers: int) -> Optional[bytes]:
     """All that a call of the library puts; None where the program has to be run."""
     library = _library()
     content = None if library is None else _bytes_of(file)
     if content is None:
         return None
-    from ctypes import c_size_t, c_uint32, c_uint64, create_string_buffer, string_at
-    # A normal form is seldom longer than its file by a quarter. Texts can be; each try goes over
-    # the file again.
-    room = ROOM + (len(content) * 5 // 4 if call == "normal" else 0)
-    found: List[bytes] = []
-    at = 0
-    while True:
-        out = create_string_buffer(room)
-        length = _ask(library, file, content, f"{call}_range", *map(c_uint32, numbers),
-                      c_uint64(at), out, c_size_t(room))
-        found.append(string_at(out, length))
-        at += length
-        if length < room:
-            return b"".join(found)
-        room = at if call == "normal" else 4 * at
+    from ctypes import c_uint32
+    words = _given(content) + tuple(map(c_uint32, numbers))
+
+    def ask(*window: Any) -> int:
+        return _ask(library, [file], f"{call}_range", *words, *window)
+
+    # A normal form is seldom longer than its file by a quarter. Texts can be.
+    is_normal = call == "normal"
+    return _windows(ask, ROOM + (len(content) * 5 // 4 if is_normal else 0), 1 if is_normal else 4)
+
+
+def _compared(a: File, b: File, flags: Optional[int], limit: int) -> Optional[bytes]:
+    """What the library tells of all differences, as JSON; None as of `_text`."""
+    library = _library()
+    # A library of before doesn't compare.
+    if (flags is None or not isinstance(limit, int) or not 0 <= limit < 1 << 32
+            or not hasattr(library, "mp4norm_compare_range")):
+        return None
+    contents = [_bytes_of(file) for file in (a, b)]
+    words = [word for content in contents if content is not None for word in _given(content)]
+    if None in contents:
+        return None
+    asked = struct.pack(ASKED, flags, ALL, limit, JSON)
+
+    def ask(*window: Any) -> int:
+        return _ask(library, [a, b], "compare_range", *words, asked, *window)
+
+    return _windows(ask, ROOM + 256 * min(limit, ROOM), 4)
 
 
 def _looked(call: str, name: str, flags: Optional[int]) -> Optional[Dict[str, Any]]:
@@ -406,11 +489,11 @@ def _looked(call: str, name: str, flags: Optional[int]) -> Optional[Dict[str, An
         if content is None:
             return None
         if call == "check":
-            _ask(library, name, content, call)
+            _ask(library, [name], call, *_given(content))
             return {"status": DONE}
         from ctypes import c_uint32, create_string_buffer
         digest = create_string_buffer(32)
-        _ask(library, name, content, call, c_uint32(flags or 0), digest)
+        _ask(library, [name], call, *_given(content), c_uint32(flags or 0), digest)
         return {"sha256": digest.raw.hex()}
     except Refused as error:
         return {"refused": {"kind": error.kind, "box": error.box, "offset": error.offset}}
@@ -492,10 +575,19 @@ def _call(words: Sequence[str], given: bytes) -> subprocess.CompletedProcess[byt
 def _run(words: Sequence[str], files: Sequence[File], fine: Sequence[int] = (0,),
          new: Optional[Name] = None) -> bytes:
     """What the program puts, if its status is one of these."""
-    contents = [file for file in files if isinstance(file, bytes)]
-    if len(contents) > 1:
-        raise ValueError("one file at most may be given as bytes")
-    done = _call([*words, "--explain", *map(_word, files)], b"".join(contents))
+    if len(files) == 2 and isinstance(files[0], bytes) and isinstance(files[1], bytes):
+        # One of them goes to standard input.
+        with tempfile.NamedTemporaryFile(prefix="mp4norm-") as other:
+            other.write(files[1])
+            other.flush()
+            try:
+                return _run(words, [files[0], other.name], fine)
+            except Error as error:
+                if error.file != other.name:
+                    raise
+                raise type(error)("-", *error.args[1:]) from None
+    given = next((file for file in files if isinstance(file, bytes)), b"")
+    done = _call([*words, "--explain", *map(_word, files)], given)
     if done.returncode not in fine:
         raise _error(done, [*files, *([] if new is None else [new])])
     return done.stdout

@@ -28,6 +28,8 @@ import tempfile
 import typing
 import unittest
 from contextlib import redirect_stdout
+from fractions import Fraction
+from unittest import mock
 
 sys.dont_write_bytecode = True
 HERE = os.path.dirname(os.path.realpath(__file__))
@@ -137,7 +139,22 @@ class Answers(Case):
                 (1024, 1024, 512, 0x10000, 1, 7))
         names = 'decode_time composition_time duration flags description size'.split()
         self.assertEqual(mp4norm.samples('plain.mp4', 1), [
-            Sample(number, **dict(zip(names, row))) for number, row in enumerate(rows, 1)])
+            Sample(number, **dict(zip(names, row)), timescale=12800)
+            for number, row in enumerate(rows, 1)])
+
+    def test_seconds(self):
+        """Times in seconds: exact as fractions, and as floats beside the other columns."""
+        found = mp4norm.samples('plain.mp4', 1)[1]
+        due = Fraction(1, 25)
+        self.assertEqual((found.decode_seconds, found.composition_seconds,
+                          found.duration_seconds), (due, due, due))
+        self.assertEqual(mp4norm.columns(PLAIN, 1), {
+            'number': [1, 2, 3], 'decode_time': [0, 512, 1024], 'composition_time': [0, 512, 1024],
+            'duration': [512, 512, 512], 'flags': [0, 65536, 65536], 'description': [1, 1, 1],
+            'size': [5, 0, 7], 'sync': [True, False, False], 'decode_seconds': [0, 0.04, 0.08],
+            'composition_seconds': [0, 0.04, 0.08], 'duration_seconds': [0.04, 0.04, 0.04]})
+        self.refuses(FAULT, mp4norm.columns, 'cut.mp4', 1)
+        self.fails('plain.mp4', 'no such track', mp4norm.columns, 'plain.mp4', 2)
         self.assertEqual([it.sync for it in mp4norm.samples(PLAIN, track=1)], [True, False, False])
 
     def test_boxes(self):
@@ -184,6 +201,18 @@ class Answers(Case):
         for words in ('times', ['times'], ('flags', 'times'), 'flags,times'):
             self.assertTrue(mp4norm.compare('plain.mp4', 'later.mp4', without=words))
         self.assertFalse(mp4norm.compare('plain.mp4', 'later.mp4', without=['flags']))
+
+    def test_bytes_of_both(self):
+        """Both files may be bytes; what is wrong with either is said of `-`."""
+        self.assertTrue(mp4norm.compare(PLAIN, PLAIN))
+        self.assertEqual(str(mp4norm.compare(PLAIN, LATER)),
+                         str(mp4norm.compare('plain.mp4', 'later.mp4')))
+        fault = ('-', *FAULT[1:])
+        self.refuses(fault, mp4norm.compare, PLAIN, CUT)
+        self.refuses(fault, mp4norm.compare, CUT, PLAIN)
+        with self.assertRaises(Refused) as caught:
+            mp4norm.compare(PLAIN, CUT)
+        self.assertEqual(pickle.loads(pickle.dumps(caught.exception)).file, '-')
 
     def test_limit(self):
         both = OTHER[:44] + b'\0\0\0\x0b' + OTHER[48:]
@@ -339,7 +368,9 @@ class Errors(Case):
             with self.assertRaises(Failed) as caught:
                 call(*words)
             self.assertIn('invalid value', caught.exception.what)
-        self.assertRaises(ValueError, mp4norm.compare, PLAIN, OTHER)
+        with self.assertRaises(Failed) as caught:
+            mp4norm.compare('plain.mp4', 'other.mp4', limit=1 << 32)
+        self.assertIn('invalid value', caught.exception.what)
         self.assertRaises(TypeError, mp4norm.show, 7)
 
     def test_copies(self):
@@ -593,10 +624,34 @@ class Ways(Case):
         self.assertIsNone(mp4norm.check('plain.mp4')['plain.mp4'])
         self.assertEqual(mp4norm.sum('plain.mp4')['plain.mp4'], hashlib.sha256(NORMAL).hexdigest())
         self.fails('plain.mp4', 'no such track', mp4norm.samples, 'plain.mp4', 7)
-        for call, *more in ((mp4norm.compare, PLAIN), (mp4norm.normalise, 'new.mp4')):
+        self.assertTrue(mp4norm.compare('plain.mp4', PLAIN))
+        self.assertFalse(mp4norm.compare('plain.mp4', 'later.mp4'))
+        self.compares(self.refuses, FAULT, 'cut.mp4')
+        with self.assertRaises(Failed) as caught:
+            mp4norm.normalise('plain.mp4', 'new.mp4')
+        self.assertEqual(caught.exception.file, './none')
+        # A library of before has no such call.
+        with mock.patch.object(mp4norm, '_library', return_value=object()):
             with self.assertRaises(Failed) as caught:
-                call('plain.mp4', *more)
-            self.assertEqual(caught.exception.file, './none')
+                mp4norm.compare('plain.mp4', PLAIN)
+        self.assertEqual(caught.exception.file, './none')
+
+    def test_clone(self):
+        """In a clone of the repository program and library are those of its dist/."""
+        for folder in ('clone/python', 'clone/dist/x86_64-linux'):
+            os.makedirs(folder)
+        shutil.copy(mp4norm.__file__, 'clone/python')
+        self.write('clone/dist/x86_64-linux/mp4norm', b'#!/bin/sh\n', 0o755)
+        code = 'import mp4norm\nprint(mp4norm.program(), mp4norm.uses())'
+        kept = {key: it for key, it in os.environ.items() if not key.startswith('MP4NORM')}
+        program = os.path.realpath('clone/dist/x86_64-linux/mp4norm')
+        for library in ('', os.environ.get('MP4NORM_LIBRARY')):
+            if library:
+                shutil.copy(library, 'clone/dist/x86_64-linux/libmp4norm.so.0')
+            done = subprocess.run([sys.executable, '-B', '-c', code], text=True, check=True,
+                                  env={**kept, 'PYTHONPATH': 'clone/python', 'PATH': ''},
+                                  stdout=subprocess.PIPE)
+            self.assertEqual(done.stdout, f'{program} {"library" if library else "program"}\n')
 
     def test_long_texts(self):
         """A text that is longer than what is first asked for."""
@@ -610,6 +665,7 @@ class Ways(Case):
         longest, mp4norm.LONGEST = mp4norm.LONGEST, 8
         self.addCleanup(setattr, mp4norm, 'LONGEST', longest)
         self.assertEqual(mp4norm.show('plain.mp4'), mp4norm.show(PLAIN))
+        self.assertTrue(mp4norm.compare('plain.mp4', PLAIN))
         found = mp4norm.check('plain.mp4', 'cut.mp4', 'none.mp4')
         self.assertIsNone(found['plain.mp4'])
         self.is_told(found['cut.mp4'], *FAULT)

@@ -9,7 +9,7 @@ pub struct Answer {
     pub status: u32,
     pub kind: u32,
     pub box_type: u32,
-    spare: u32,
+    pub file: u32,
     pub offset: u64,
     len: u64,
 }

@@ -11,6 +11,7 @@ use Rattle.mp4_boxes.specs.declared.rule.Rule.TheVariants.{File}
 use Rattle.mp4_boxes.proofs.Tiling.{header_is}
 use Rattle.mp4_answers.specs.declared.box_names.Name.{Name}
 use Rattle.mp4_answers.specs.format.BoxWalk.{rule_inside}
+use Rattle.mp4_answers.specs.format.Losses.{is_foreign, is_named_foreign}
 use Rattle.mp4_answers.specs.format.StripCounts.{none_of, first_meant, sums, Counts, none, meant, passed, entered}
 use Rattle.mp4_answers.specs.format.Strips.{is_top, is_named, means, payload_behind, uuid_at}
 use Rattle.mp4_answers.specs.words.CountedBoxes.{count_on, counts_on, CountsOn}
@@ -77,6 +78,21 @@ module _ (rule : Rule) (kind : List ℕ) (uuid : Option (List ℕ)) where
   none_counted (suc k) (n ∷ names) (c ∷ counts) le e =
       let parts = neither (means rule kind uuid n) (list_any (means rule kind uuid) (take k names)) e in
       rw parts.0 (ap (λ (cs : List ℕ). c ∷ cs) (none_counted k names counts (omega arith) parts.1))
+
+  -- and whether that name is that of foreign boxes
+  pub first_foreign : (k : ℕ) (names : List Name) (d : Name) → k < length names → means rule kind uuid (slice_index_or names k d) ≡ true → NoneBefore k names → is_named_foreign rule kind uuid names ≡ is_foreign (slice_index_or names k d)
+  first_foreign k [] d lt h e = absurd (omega arith)
+  first_foreign zero (n ∷ names) d lt h e = rw h refl
+  first_foreign (suc k) (n ∷ names) d lt h e =
+      let parts = neither (means rule kind uuid n) (list_any (means rule kind uuid) (take k names)) e in
+      rw parts.0 (first_foreign k names d (omega arith) h parts.1)
+
+  pub none_foreign : (k : ℕ) (names : List Name) → length names ≤ k → NoneBefore k names → is_named_foreign rule kind uuid names ≡ false
+  none_foreign k [] le e = refl
+  none_foreign zero (n ∷ names) le e = absurd (omega arith)
+  none_foreign (suc k) (n ∷ names) le e =
+      let parts = neither (means rule kind uuid n) (list_any (means rule kind uuid) (take k names)) e in
+      rw parts.0 (none_foreign k names (omega arith) parts.1)
 
 -- ---- one more box is walked over
 

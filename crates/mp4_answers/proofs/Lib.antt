@@ -15,6 +15,7 @@ pub mod Matched
 pub mod Normalised
 pub mod Summed
 mod WholePut
+pub mod Measured
 pub mod StepSums
 pub mod StepsTaken
 pub mod LooksTaken
@@ -23,6 +24,7 @@ pub mod StripWalks
 pub mod StripCopies
 pub mod StripLaws
 pub mod BoxCounts
+pub mod FirstLosses
 pub mod StripLeft
 pub mod StripFaults
 pub mod StripDenotes

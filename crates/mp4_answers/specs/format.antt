@@ -7,6 +7,7 @@ pub mod Ways
 pub mod Strips
 pub mod StripLaws
 pub mod StripCounts
+pub mod Losses
 pub mod BoxWalk
 pub mod ReducedHeadline
 pub mod DifferenceLine

@@ -12,5 +12,6 @@ pub mod TwoFiles
 pub mod ListedWalks
 pub mod StripSpans
 pub mod CountedBoxes
+pub mod FirstLosses
 pub mod AddedWays
 pub mod WholePut

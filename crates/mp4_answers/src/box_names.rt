@@ -1,5 +1,6 @@
 //! Which boxes are named.
 ghost use Rattle.std.specs.Prelude.{◌≡◌};
+ghost use Rattle.mp4_answers.specs.format.Losses.{is_foreign, is_named_foreign};
 ghost use Rattle.mp4_answers.specs.format.StripCounts.{first_meant};
 ghost use Rattle.mp4_answers.specs.format.Strips.{holder, is_in, is_uuid, means, is_named};
 ghost use Rattle.mp4_answers.specs.words.CountedBoxes.{counts_on};
@@ -108,10 +109,23 @@ pub(crate) fn is_named(names: &[Name], rule: Rule, own: FullType) -> bool
     names.iter().any(|name| means(name, rule, own))
 }
 
+// Whether the name is that of foreign boxes.
+fn is_foreign(name: &Name) -> bool
+    ensures { result ≡ is_foreign name.now }
+{
+    matches!(name, Name::Foreign)
+}
+
 /// Whether the first name that means boxes of this type under the rule is that of foreign boxes.
-pub(crate) fn is_named_foreign(names: &[Name], rule: Rule, own: FullType) -> bool {
-    let first = names.iter().find(|name| means(name, rule, own));
-    matches!(first, Some(Name::Foreign))
+pub(crate) fn is_named_foreign(names: &[Name], rule: Rule, own: FullType) -> bool
+    ensures { result ≡ is_named_foreign rule own.kind.0 own.uuid names.now }
+{
+    for k in 0..names.len() {
+        if means(&names[k], rule, own) {
+            return is_foreign(&names[k]);
+        }
+    }
+    false
 }
 
 /// Counts a box for the first name that means it.

@@ -7,8 +7,12 @@
 //! doesn't know.
 #![tactic(auto)]
 
+ghost use Rattle.std.specs.Prelude.{◌≡◌};
+ghost use Rattle.std.specs.Process.{exit_status};
+ghost use Rattle.mp4_answers.specs.format.Verdicts.{verdict_status};
 ghost use Rattle.mp4_answers.specs.words.StoreAndSink.{IsOf};
 
+mod running;
 mod shell;
 
 pub use mp4_answers::{
@@ -21,6 +25,7 @@ pub use mp4_answers::{
 };
 use mp4_boxes::{Refusal, Steps};
 use mp4_store::{IoSink, Sink};
+use running::ended;
 pub use shell::action::{
     Action, CommandFault, Comparison, Finding, Input, Order, SumCheck, Target, Telling,
 };
@@ -92,14 +97,10 @@ fn put_text(rt: &HostRuntime, text: &str) -> Result<(), Refusal> {
 }
 
 // Says what there is to say of an answer, and gives the status.
-fn end(rt: &HostRuntime, answer: Result<(), Refusal>) -> ExitCode {
-    let Err(refusal) = answer else {
-        return ExitCode::SUCCESS;
-    };
-    let mut errors = rt.stderr();
-    let _ = errors.write_all(fault_line(&refusal).as_bytes());
-    let _ = errors.write_all(b"\n");
-    ExitCode::from(status(&refusal))
+fn end(rt: &HostRuntime, answer: Result<(), Refusal>) -> ExitCode
+    ensures { exit_status result ≡ verdict_status answer }
+{
+    ended(&mut IoSink::new(rt.stderr()), &answer)
 }
 
 // The status of verdicts, or what there is to say where these could not be given.

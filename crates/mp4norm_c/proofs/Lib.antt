@@ -1,3 +1,4 @@
 pub mod Answered
+pub mod Comparing
 pub mod Found
 pub mod Windows

@@ -1,7 +1,6 @@
 //! What an export says, in numbers.
-ghost use Rattle.std.specs.Prelude.{◌≡◌, Err};
-ghost use Rattle.mp4_boxes.specs.declared.refusal.Refusal.TheVariants as refusals;
-ghost use Rattle.mp4norm_c.specs.format.Exports.{kind_number, plain, told};
+ghost use Rattle.std.specs.Prelude.{◌≡◌};
+ghost use Rattle.mp4norm_c.specs.format.Exports.{fault_told, kind_number, plain, told};
 
 use mp4_boxes::{Fault, Kind, Refusal, u32_at};
 
@@ -9,15 +8,16 @@ use mp4_boxes::{Fault, Kind, Refusal, u32_at};
 #[repr(C)]
 #[derive(Clone, Copy)]
 pub struct Answer {
-    /// 0: there is an answer; 1: the file is refused for a fault; 2: no memory was to be had; 4: no
-    /// track has this ID; 5: the files differ; 64: what was asked for is unknown.
+    /// 0: there is an answer; 1: a file is refused for a fault; 2: no memory was to be had; 4: no
+    /// track has this ID; 5: the files differ, which only a comparison says; 64: what was asked for
+    /// is unknown.
     pub status: u32,
     /// The number of the kind of fault, from 1 to 23; 0 without one.
     pub kind: u32,
     /// The type of the box that is named, its first byte highest; 0 without a fault.
     pub box_type: u32,
-    /// 0.
-    pub spare: u32,
+    /// Of two files that are compared the one at fault: 0 is the first, 1 the second. Else 0.
+    pub file: u32,
     /// The place of the first byte of that box.
     pub offset: u64,
     /// How many bytes there are.
@@ -70,21 +70,21 @@ pub(crate) fn plain(status: u32, len: u64) -> Answer
         status,
         kind: 0,
         box_type: 0,
-        spare: 0,
+        file: 0,
         offset: 0,
         len,
     }
 }
 
-// A fault in numbers.
-fn of_fault(fault: Fault) -> Answer
-    ensures { result ≡ told (Err (refusals.Fault fault)) }
+/// A fault in numbers, of the file with this number.
+pub(crate) fn of_fault(fault: Fault, file: u32) -> Answer
+    ensures { result ≡ fault_told file fault }
 {
     Answer {
         status: 1,
         kind: number_of(fault.kind),
         box_type: u32_at(&fault.box_type, 0),
-        spare: 0,
+        file,
         offset: fault.offset,
         len: 0,
     }
@@ -96,7 +96,7 @@ pub(crate) fn told(done: Result<u64, Refusal>) -> Answer
 {
     match done {
         Ok(len) => plain(0, len),
-        Err(Refusal::Fault(fault)) => of_fault(fault),
+        Err(Refusal::Fault(fault)) => of_fault(fault, 0),
         Err(Refusal::Memory) => plain(2, 0),
         Err(Refusal::NoSuchTrack) => plain(4, 0),
         Err(Refusal::StoreFailed | Refusal::StoreChanged | Refusal::WriteFailed) => plain(3, 0),

@@ -1,26 +1,29 @@
 //! The C interface: what MP4 files say, of bytes in memory.
 //!
-//! Each export looks at a file of which all bytes are in memory, and says in an [`Answer`] whether
-//! there is an answer. It keeps nothing, and may be called by several threads at once. What a text
-//! has from a place on is put into the caller's buffer; its rest stays as it was. What is asked for
-//! in numbers and is unknown is answered by status 64.
+//! Each export looks at a file, or at two, of which all bytes are in memory, and says in an
+//! [`Answer`] whether there is an answer. It keeps nothing, and may be called by several threads at
+//! once. What a text has from a place on is put into the caller's buffer; its rest stays as it was.
+//! What is asked for in numbers and is unknown is answered by status 64.
 #![tactic(auto)]
 
 mod answer;
 mod asked;
+mod compared;
 mod counting;
 mod looks;
 mod window;
 mod window_answers;
 
-ghost use Rattle.std.specs.Prelude.{Some};
+ghost use Rattle.std.specs.Prelude.{◌≡◌, Some};
 ghost use Rattle.mp4_answers.specs.declared.jobs.Job.TheVariants as jobs;
-ghost use Rattle.mp4norm_c.specs.format.Exports.{Answers, Checks, Measures, Sums, boxes_job, form_of, print_job, reduce_job, samples_job, syntax_of, without_of};
+ghost use Rattle.mp4norm_c.specs.format.Exports.{Answers, Checks, Compares, Measures, Sums, boxes_job, comparison_asked, first_asked, form_of, print_job, reduce_job, samples_job, syntax_of, version_here, without_of};
 
-use crate::asked::{form_of, syntax_of, without_of};
+use crate::asked::{comparison_asked, first_asked, form_of, syntax_of, without_of};
+use crate::compared::answer_compare;
 use crate::looks::{answer_check, answer_length, answer_sum};
 use crate::window_answers::answer_window;
 pub use answer::{Answer, Digest};
+pub use asked::{Comparison, Version};
 use mp4_answers::Job;
 use std::alloc::Global;
 
@@ -149,4 +152,50 @@ pub extern "C" fn mp4norm_boxes_range(
 {
     let job = syntax_of(syntax).map(|syntax| Job::Boxes { syntax });
     *answer = answer_window(alloc, job, file, from, out);
+}
+
+/// Whether the same is left of two files, and the line of the first difference, as `compare` has
+/// it.
+#[unsafe(no_mangle)]
+pub extern "C" fn mp4norm_compare(
+    alloc: Global,
+    file: &[u8],
+    other: &[u8],
+    words: u32,
+    out: &mut [u8],
+    answer: &mut Answer,
+)
+    ensures { Compares (first_asked words) file.now other.now 0 out.old out.new answer.new }
+{
+    *answer = answer_compare(alloc, first_asked(words), file, other, 0, out);
+}
+
+/// Whether the same is left of two files, and what `compare` says of them, from the place `from`
+/// on.
+#[unsafe(no_mangle)]
+pub extern "C" fn mp4norm_compare_range(
+    alloc: Global,
+    file: &[u8],
+    other: &[u8],
+    asked: &Comparison,
+    from: u64,
+    out: &mut [u8],
+    answer: &mut Answer,
+)
+    ensures { Compares (comparison_asked asked.now) file.now other.now from out.old out.new
+        answer.new }
+{
+    *answer = answer_compare(alloc, comparison_asked(*asked), file, other, from, out);
+}
+
+/// The version of this library, which is that of the program.
+#[unsafe(no_mangle)]
+pub extern "C" fn mp4norm_version(version: &mut Version)
+    ensures { version.new ≡ version_here }
+{
+    *version = Version {
+        major: 0,
+        minor: 2,
+        patch: 0,
+    };
 }

@@ -48,8 +48,8 @@ impl<'a> WindowSink<'a> {
         self.filled as u64
     }
 
-    // Keeps what belongs to the window. Whether all of it that lies behind its beginning had room.
-    fn keep(&mut self, piece: &[u8]) -> bool
+    /// Keeps what belongs to the window. Whether all of it that lies behind its beginning had room.
+    pub(crate) fn keep(&mut self, piece: &[u8]) -> bool
         ensures failed { self.new.failed ≡ self.old.failed }
         ensures kept { Kept self.old self.new piece.now }
         ensures full { result ≡ false → self.new.filled ≡ length self.new.room.now }

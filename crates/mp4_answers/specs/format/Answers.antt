@@ -78,3 +78,7 @@ Performed (jobs.Samples track form) r result = Listed track form r result
 Performed (jobs.Extract track) r result = Extracted track r result
 Performed (jobs.Boxes syntax) r result = BoxesListed syntax r result
 Performed (jobs.Strip names) r result = StrippedOf names.now r result
+
+-- why a job is refused
+abbrev pub RefusesJob : Job → Run → Refusal → Type 0
+RefusesJob job r e = Performed {A = Unit {0}} job r (Err e)

@@ -52,6 +52,12 @@ abbrev pub TakesEach : List ℕ → ℕ → ℕ → Type 0
 TakesEach file old new = (p : Presentation) → (d : Denotes file p)
     → old + (sample_total p + row_total d.tree) ≤ new
 
+-- and of two files, for each of both
+abbrev pub TakesEachOfBoth : List ℕ → List ℕ → ℕ → ℕ → Type 0
+TakesEachOfBoth file other old new = (p q : Presentation) → (d : Denotes file p)
+    → (e : Denotes other q)
+    → old + (sample_total p + row_total d.tree + (sample_total q + row_total e.tree)) ≤ new
+
 -- ---- looks
 
 -- at how many places of a file a track is looked for by its ID: each `traf`

@@ -1,7 +1,7 @@
 -- How many steps and looks a job may take.
 use Rattle.std.specs.Prelude.{ℕ, List}
 use Rattle.mp4_content.specs.format.ReducedLaws.{nothing}
-use Rattle.mp4_answers.specs.format.Steps.{WorksWithin, WalksWithin, FindsWithin, TurnsWithin}
+use Rattle.mp4_answers.specs.format.Steps.{WorksWithin, WalksWithin, FindsWithin, TakesEach, TurnsWithin}
 use Rattle.mp4_answers.specs.declared.jobs.Job.{Job}
 use Rattle.mp4_answers.specs.declared.jobs.Job.TheVariants as jobs
 
@@ -15,6 +15,12 @@ JobWorksWithin jobs.Normalise file old new = WorksWithin nothing file old new
 JobWorksWithin (jobs.Print l) file old new = WalksWithin file old new
 JobWorksWithin (jobs.Reduce l) file old new = WorksWithin l file old new
 JobWorksWithin (jobs.Strip names) file old new = Unit {0}
+
+-- at least one for each sample and row, where they are counted
+abbrev pub JobTakesEach : Job → List ℕ → ℕ → ℕ → Type 0
+JobTakesEach (jobs.Boxes syntax) file old new = Unit {0}
+JobTakesEach (jobs.Strip names) file old new = Unit {0}
+JobTakesEach _ file old new = TakesEach file old new
 
 -- the looks, where these are counted
 abbrev pub JobLooksWithin : Job → List ℕ → ℕ → ℕ → Type 0

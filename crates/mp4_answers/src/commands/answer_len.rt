@@ -1,8 +1,12 @@
 //! How many bytes a job puts.
+ghost use Rattle.std.specs.Prelude.{IfErr};
+ghost use Rattle.mp4_answers.specs.declared.jobs.Job.TheVariants as jobs;
+ghost use Rattle.mp4_answers.specs.format.Answers.{RefusesJob};
 ghost use Rattle.mp4_answers.specs.format.FileTexts.{HasData};
 ghost use Rattle.mp4_answers.specs.format.Headline.{HasNormalForm};
 ghost use Rattle.mp4_answers.specs.format.Lengths.{AreLong, HasLength};
 ghost use Rattle.mp4_answers.specs.format.ReducedHeadline.{HasReducedForm};
+ghost use Rattle.mp4_answers.specs.format.Run.{look_of};
 ghost use Rattle.mp4_present.specs.words.StoresRead.{OnlyReads, WhereRead};
 
 use crate::commands::tracks::track_with;
@@ -24,6 +28,8 @@ fn data_len<S: Store, L: Ledger, M: Ledger>(
 ) -> Result<u64, Refusal>
     ensures store { OnlyReads S.Store store.old store.new result }
     ensures length { WhereRead S.Store store.old result (λ file. AreLong (HasData file id)) }
+    ensures refusal { IfErr result
+        (RefusesJob (jobs.Extract id) (look_of S.Store store.old store.new)) }
 {
     let movie = open_movie(alloc, store, steps)?;
     let place = track_with(movie.tracks(), id)?;
@@ -38,6 +44,8 @@ fn form_len<S: Store, L: Ledger, M: Ledger>(
 ) -> Result<u64, Refusal>
     ensures store { OnlyReads S.Store store.old store.new result }
     ensures length { WhereRead S.Store store.old result (λ file. AreLong (HasNormalForm file)) }
+    ensures refusal { IfErr result
+        (RefusesJob jobs.Normalise (look_of S.Store store.old store.new)) }
 {
     let movie = open_movie(alloc, store, steps)?;
     normal_len(alloc, &movie, store, steps)
@@ -53,6 +61,8 @@ fn form_left_len<S: Store, L: Ledger, M: Ledger>(
     ensures store { OnlyReads S.Store store.old store.new result }
     ensures length { WhereRead S.Store store.old result
         (λ file. AreLong (HasReducedForm leaving file)) }
+    ensures refusal { IfErr result
+        (RefusesJob (jobs.Reduce leaving) (look_of S.Store store.old store.new)) }
 {
     let movie = open_movie(alloc, store, steps)?;
     reduced_len(alloc, &movie, store, leaving, steps)
@@ -68,6 +78,8 @@ pub fn text_len<S: Store, L: Ledger, M: Ledger>(
 ) -> Result<u64, Refusal>
     ensures store { OnlyReads S.Store store.old store.new result }
     ensures length { WhereRead S.Store store.old result (HasLength job.entry) }
+    ensures refusal { IfErr result
+        (RefusesJob job.entry (look_of S.Store store.old store.new)) }
 {
     match job {
         Job::Strip { .. } => Ok(store.len()),

@@ -1,6 +1,7 @@
 //! Two files, compared by what they say.
-ghost use Rattle.std.specs.Prelude.{◌≡◌, ◌+◌, ◌<◌, [], ◌∷◌, length, take, Some, true, false, IfOk, IfErr, IfSome, OnOk};
+ghost use Rattle.std.specs.Prelude.{◌≡◌, ◌+◌, ◌<◌, ◌≤◌, [], ◌∷◌, length, take, Some, true, false, IfOk, IfErr, IfSome, OnOk};
 ghost use Rattle.mp4_answers.specs.declared.commands.compare.Listing.TheVariants.{All};
+ghost use Rattle.mp4_answers.specs.format.Steps.{TakesEachOfBoth};
 ghost use Rattle.mp4_answers.specs.format.CompareHeadline.{IsVerdict, IsTold, difference_in, PutsSuch, ComparesWithin, FindsBothWithin, most_walks, word_count};
 ghost use Rattle.mp4_answers.specs.format.DifferenceObject.{last_object};
 ghost use Rattle.mp4_answers.specs.words.Compares.{side_of, says_nothing, is_silent, AddsLines, AddsLast, IsCounted, AreSome, IsEnough, IsTried, IsShrunk, IsSameWith, IsFoundOf, IsSaid, ListsFront, PutsAnswer, PutsFound, PutsSame, WalksTimes, RefusesAnswer};
@@ -264,6 +265,7 @@ fn all_of<S: Store, T: Store, L: Ledger, M: Ledger>(
         T.Store right.old movies.now.right
         (λ tree other. IsUnchanged result
         × WalksOnce tree other steps.old.passed steps.new.passed) }
+    ensures grows { OnOk result (steps.old.passed ≤ steps.new.passed) }
     ensures looks { steps.new.looks ≡ steps.old.looks }
 {
     let mut listed = Listed::new(alloc)?;
@@ -294,6 +296,7 @@ fn is_enough<S: Store, T: Store, L: Ledger, M: Ledger>(
         T.Store right.old movies.now.right
         (λ tree other. IsUnchanged result
         × WalksOnce tree other steps.old.passed steps.new.passed) }
+    ensures grows { OnOk result (steps.old.passed ≤ steps.new.passed) }
     ensures looks { steps.new.looks ≡ steps.old.looks }
 {
     match compare(alloc, movies, left, right, leaving, steps)? {
@@ -321,6 +324,7 @@ fn first_enough<S: Store, T: Store, L: Ledger, M: Ledger>(
         T.Store right.old files.now.movies.right
         (λ tree other. IsUnchanged result
         × WalksTimes 2 tree other steps.old.passed steps.new.passed) }
+    ensures grows { OnOk result (steps.old.passed ≤ steps.new.passed) }
     ensures looks { steps.new.looks ≡ steps.old.looks }
 {
     let guessed = guess(files.given, all, files.movies.left.tracks());
@@ -352,6 +356,7 @@ fn take_word<S: Store, T: Store, L: Ledger, M: Ledger>(
         T.Store right.old files.now.movies.right
         (λ tree other. IsUnchanged result
         × WalksOnce tree other steps.old.passed steps.new.passed) }
+    ensures grows { OnOk result (steps.old.passed ≤ steps.new.passed) }
     ensures looks { steps.new.looks ≡ steps.old.looks }
 {
     let less = less_word(files.given, trial.leaving, trial.word);
@@ -382,6 +387,7 @@ fn shrink<S: Store, T: Store, L: Ledger, M: Ledger>(
         T.Store right.old files.now.movies.right
         (λ tree other. IsUnchanged result
         × WalksTimes (length from.entry.words.now) tree other steps.old.passed steps.new.passed) }
+    ensures grows { OnOk result (steps.old.passed ≤ steps.new.passed) }
     ensures looks { steps.new.looks ≡ steps.old.looks }
 {
     let Some((word, more)) = from.words.split_first() else {
@@ -418,6 +424,7 @@ fn enough_for<S: Store, T: Store, L: Ledger, M: Ledger>(
         T.Store right.old files.now.movies.right
         (λ tree other. IsUnchanged result
         × WalksTimes (2 + word_count) tree other steps.old.passed steps.new.passed) }
+    ensures grows { OnOk result (steps.old.passed ≤ steps.new.passed) }
     ensures looks { steps.new.looks ≡ steps.old.looks }
 {
     let Some(first) = first_enough(alloc, files, left, right, all, steps)? else {
@@ -454,6 +461,7 @@ fn all_text<S: Store, T: Store, L: Ledger, M: Ledger>(
         T.Store right.old files.now.movies.right
         (λ tree other. IsUnchanged result
         × WalksTimes most_walks tree other steps.old.passed steps.new.passed) }
+    ensures grows { OnOk result (steps.old.passed ≤ steps.new.passed) }
     ensures looks { steps.new.looks ≡ steps.old.looks }
 {
     let listed = all_of(alloc, &files.movies, left, right, files.given, steps)?;
@@ -489,6 +497,7 @@ fn text_of<S: Store, T: Store, L: Ledger, M: Ledger>(
         T.Store right.old files.now.movies.right
         (λ tree other. IsUnchanged result
         × WalksTimes most_walks tree other steps.old.passed steps.new.passed) }
+    ensures grows { OnOk result (steps.old.passed ≤ steps.new.passed) }
     ensures looks { steps.new.looks ≡ steps.old.looks }
 {
     let (movies, leaving) = (&files.movies, files.given);
@@ -566,6 +575,8 @@ pub fn compare_files<S: Store, T: Store, K: Sink, L: Ledger, M: Ledger>(
         PutsSuch (K.takes sink.old sink.new) (IsTold asked.listing asked.leaving file other))) }
     ensures work { WhereBothHonest S.Store left.old T.Store right.old
         (λ file other. ComparesWithin file other steps.old.passed steps.new.passed) }
+    ensures least { OnOk result (WhereBothHonest S.Store left.old T.Store right.old
+        (λ file other. TakesEachOfBoth file other steps.old.passed steps.new.passed)) }
     ensures looks { WhereBothHonest S.Store left.old T.Store right.old
         (λ file other. FindsBothWithin file other steps.old.looks steps.new.looks) }
 {

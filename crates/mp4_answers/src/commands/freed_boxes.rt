@@ -1,6 +1,10 @@
 //! Boxes that become free space since the profile refuses them, and what is lost with them.
-ghost use Rattle.std.specs.Prelude.{◌<◌, ◌≤◌, length};
+ghost use Rattle.std.specs.Prelude.{◌≡◌, ◌<◌, ◌≤◌, length, None, OnOk};
+ghost use Rattle.mp4_boxes.specs.format.Children.{is_among};
+ghost use Rattle.mp4_answers.specs.format.Losses.{earlier, flag_kinds, holds_items, is_fragment, lost_with, loss_of, uuid_loss, IsFirstLost};
 ghost use Rattle.mp4_answers.specs.format.Run.{KeepsFile};
+ghost use Rattle.mp4_answers.specs.words.FirstLosses.{FindsFirst, KeepsTimeAt};
+ghost use Rattle.mp4_present.specs.words.StoresRead.{WhereHonest, WhereRead};
 
 use crate::box_names::{FullType, Name, holder, is_named, is_named_foreign};
 use crate::commands::box_headers::read_header;
@@ -48,31 +52,82 @@ impl Loss {
 }
 
 // What is lost with a `uuid`, in a fragment of a track that has a `tfdt` or not.
-fn loss_of_uuid(rule: Rule, uuid: Option<u128>, has_time: bool) -> Option<Loss> {
+fn loss_of_uuid(rule: Rule, uuid: Option<u128>, has_time: bool) -> Option<Loss>
+    ensures { result ≡ uuid_loss rule uuid has_time }
+{
     let uuid = uuid?;
     if OF_ENCRYPTION.contains(&uuid) {
         Some(Loss::Encryption)
-    } else if uuid == OF_TIME && rule == Rule::TrackFragment && !has_time {
+    } else if uuid == OF_TIME && is_fragment(rule) && !has_time {
         Some(Loss::Times)
     } else {
         None
     }
 }
 
+// Whether boxes of the type say flags or groups of samples, in another way than the profile reads.
+fn says_flags(rule: Rule, kind: FourCc) -> bool
+    ensures { result ≡ is_among (flag_kinds rule) kind.0 }
+{
+    let is = |name: &[u8; 4]| FourCc(*name) == kind;
+    match rule {
+        Rule::TrackFragment => is(b"sdtp") || is(b"subs") || is(b"sgpd") || is(b"csgp"),
+        Rule::SampleTable => {
+            is(b"stps") || is(b"stsh") || is(b"padb") || is(b"stdp") || is(b"subs") || is(b"csgp")
+        }
+        _ => false,
+    }
+}
+
+// Whether `meta` holds items there.
+fn holds_items(rule: Rule) -> bool
+    ensures { result ≡ holds_items rule }
+{
+    matches!(rule, Rule::File | Rule::MovieFragment | Rule::TrackFragment)
+}
+
+// Whether the boxes are those of a fragment of a track.
+fn is_fragment(rule: Rule) -> bool
+    ensures { result ≡ is_fragment rule }
+{
+    rule == Rule::TrackFragment
+}
+
 // What is lost with a box that the profile refuses where it stands.
-fn loss_of(rule: Rule, kind: FourCc, uuid: Option<u128>, has_time: bool) -> Option<Loss> {
-    match &kind.0 {
-        b"senc" | b"saiz" | b"saio" | b"pssh" => Some(Loss::Encryption),
-        b"uuid" => loss_of_uuid(rule, uuid, has_time),
-        b"sdtp" | b"subs" | b"sgpd" | b"csgp" if rule == Rule::TrackFragment => Some(Loss::Flags),
-        b"stps" | b"stsh" | b"padb" | b"stdp" | b"subs" | b"csgp" if rule == Rule::SampleTable => {
-            Some(Loss::Flags)
-        }
-        b"emsg" => Some(Loss::Events),
-        b"meta" if matches!(rule, Rule::File | Rule::MovieFragment | Rule::TrackFragment) => {
-            Some(Loss::Items)
-        }
-        _ => None,
+fn loss_of(rule: Rule, kind: FourCc, uuid: Option<u128>, has_time: bool) -> Option<Loss>
+    ensures { result ≡ loss_of rule kind.0 uuid has_time }
+{
+    let is = |name: &[u8; 4]| FourCc(*name) == kind;
+    if is(b"senc") || is(b"saiz") || is(b"saio") || is(b"pssh") {
+        Some(Loss::Encryption)
+    } else if is(b"uuid") {
+        loss_of_uuid(rule, uuid, has_time)
+    } else if says_flags(rule, kind) {
+        Some(Loss::Flags)
+    } else if is(b"emsg") {
+        Some(Loss::Events)
+    } else if is(b"meta") && holds_items(rule) {
+        Some(Loss::Items)
+    } else {
+        None
+    }
+}
+
+/// A box with which something is lost: its place in the file, its type, and what is lost.
+#[derive(Clone, Copy, PartialEq, Eq)]
+pub struct LostBox {
+    pub offset: u64,
+    pub kind: FourCc,
+    pub loss: Loss,
+}
+
+// The first of these that is one.
+fn earlier(one: Option<LostBox>, other: Option<LostBox>) -> Option<LostBox>
+    ensures { result ≡ earlier one other }
+{
+    match one {
+        Some(lost) => Some(lost),
+        None => other,
     }
 }
 
@@ -116,6 +171,8 @@ impl Group {
 pub struct Found {
     /// Those that the profile refuses and that have no other name, group by group.
     pub groups: Vec<Group>,
+    /// The first of them with which something is lost.
+    pub first_loss: Option<LostBox>,
     /// Whether others are `uuid` without which encrypted samples can't be read.
     pub has_encryption: bool,
     // So many boxes are kept before those of one group are put together.
@@ -124,16 +181,21 @@ pub struct Found {
 
 impl Found {
     /// Nothing is told.
-    pub fn none(alloc: Global) -> Found {
+    pub fn none(alloc: Global) -> Found
+        ensures { result.first_loss ≡ None }
+    {
         Found {
             groups: Vec::new(alloc),
+            first_loss: None,
             has_encryption: false,
             room: MANY,
         }
     }
 
     // Puts those of one group together.
-    fn merge(&mut self, alloc: Global) -> Result<(), AllocError> {
+    fn merge(&mut self, alloc: Global) -> Result<(), AllocError>
+        ensures { self.new.first_loss ≡ self.old.first_loss }
+    {
         self.groups.as_mut_slice().sort_unstable();
         let mut merged: Vec<Group> = Vec::new(alloc);
         for group in &self.groups {
@@ -147,7 +209,9 @@ impl Found {
         Ok(())
     }
 
-    fn add(&mut self, alloc: Global, group: Group) -> Result<(), AllocError> {
+    fn add(&mut self, alloc: Global, group: Group) -> Result<(), AllocError>
+        ensures { self.new.first_loss ≡ self.old.first_loss }
+    {
         self.groups.push(group)?;
         if self.groups.len() < self.room {
             return Ok(());
@@ -156,25 +220,14 @@ impl Found {
     }
 
     // Orders the groups by where the first box of each stands.
-    fn finish(&mut self, alloc: Global) -> Result<(), AllocError> {
+    fn finish(&mut self, alloc: Global) -> Result<(), AllocError>
+        ensures { self.new.first_loss ≡ self.old.first_loss }
+    {
         self.merge(alloc)?;
         self.groups
             .as_mut_slice()
             .sort_unstable_by_key(|group| group.offset);
         Ok(())
-    }
-
-    /// The place and the type of the first box with which something is lost.
-    pub(crate) fn first_loss(&self) -> Option<(u64, FourCc)> {
-        let mut first: Option<(u64, FourCc)> = None;
-        for group in &self.groups {
-            if let Some((offset, _)) = group.loss
-                && first.is_none_or(|found| offset < found.0)
-            {
-                first = Some((offset, group.kind()));
-            }
-        }
-        first
     }
 }
 
@@ -183,10 +236,12 @@ fn keeps_time<S: Store>(names: &[Name], span: BoxSpan, store: &mut S) -> Result<
     requires span { span.from ≤ span.end }
     requires within { span.end ≤ length (S.file store.old) }
     ensures store { KeepsFile S.Store store.old store.new }
+    ensures time { WhereRead S.Store store.old result
+        (λ file has. KeepsTimeAt names.now span.rule span.from span.end has file) }
 {
     let kind = FourCc(*b"tfdt");
     let time = FullType { kind, uuid: None };
-    if span.rule != Rule::TrackFragment || is_named(names, span.rule, time) {
+    if !is_fragment(span.rule) || is_named(names, span.rule, time) {
         return Ok(false);
     }
     let mut at = span.from;
@@ -209,6 +264,23 @@ struct Container {
     has_time: bool,
 }
 
+// What is lost with a named box at a place of a container, if it has no other name.
+fn lost_with(names: &[Name], within: Container, offset: u64, own: FullType) -> Option<LostBox>
+    ensures { result
+        ≡ lost_with names.now within.rule within.has_time offset own.kind.0 own.uuid }
+{
+    if !is_named_foreign(names, within.rule, own) {
+        return None;
+    }
+    let uuid = own.uuid.map(u128::from_be_bytes);
+    let loss = loss_of(within.rule, own.kind, uuid, within.has_time)?;
+    Some(LostBox {
+        offset,
+        kind: own.kind,
+        loss,
+    })
+}
+
 // Adds a named box at a place of a container.
 fn add_box(
     alloc: Global,
@@ -217,21 +289,24 @@ fn add_box(
     offset: u64,
     own: FullType,
     found: &mut Found,
-) -> Result<(), AllocError> {
-    let Container { rule, has_time } = within;
+) -> Result<(), AllocError>
+    ensures first { OnOk result (found.new.first_loss ≡ earlier found.old.first_loss
+        (lost_with names.now within.rule within.has_time offset own.kind.0 own.uuid)) }
+{
     let uuid = own.uuid.map(u128::from_be_bytes);
-    if !is_named_foreign(names, rule, own) {
+    let lost = lost_with(names, within, offset, own);
+    found.first_loss = earlier(found.first_loss, lost);
+    if !is_named_foreign(names, within.rule, own) {
         found.has_encryption |= uuid.is_some_and(|uuid| OF_ENCRYPTION.contains(&uuid));
         return Ok(());
     }
-    let loss = loss_of(rule, own.kind, uuid, has_time);
     let group = Group {
-        container: u32::from_be_bytes(holder(rule).0),
+        container: u32::from_be_bytes(holder(within.rule).0),
         kind: u32::from_be_bytes(own.kind.0),
         uuid,
         offset,
         count: 1,
-        loss: loss.map(|loss| (offset, loss)),
+        loss: lost.map(|lost| (offset, lost.loss)),
     };
     found.add(alloc, group)
 }
@@ -247,6 +322,9 @@ fn find_boxes<S: Store>(
     requires span { span.from ≤ span.end }
     requires within { span.end ≤ length (S.file store.old) }
     ensures store { KeepsFile S.Store store.old store.new }
+    ensures first { OnOk result (WhereHonest S.Store store.old
+        (FindsFirst names.now span.rule span.from span.end
+        found.old.first_loss found.new.first_loss)) }
 {
     let has_time = keeps_time(names, span, store)?;
     let within = Container {
@@ -281,6 +359,8 @@ pub(crate) fn find_freed<S: Store>(
     names: &[Name],
 ) -> Result<Found, Refusal>
     ensures store { KeepsFile S.Store store.old store.new }
+    ensures first { WhereRead S.Store store.old result
+        (λ file found. IsFirstLost names.now file found.first_loss) }
 {
     let mut found = Found::none(alloc);
     let span = whole_file(store.len());

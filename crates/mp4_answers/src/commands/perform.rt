@@ -2,7 +2,7 @@
 ghost use Rattle.std.specs.Prelude.{OnOk};
 ghost use Rattle.mp4_answers.specs.format.Answers.{Performed};
 ghost use Rattle.mp4_answers.specs.format.Run.{KeepsFile, run_of};
-ghost use Rattle.mp4_answers.specs.words.Jobs.{JobWorksWithin, JobLooksWithin};
+ghost use Rattle.mp4_answers.specs.words.Jobs.{JobWorksWithin, JobLooksWithin, JobTakesEach};
 ghost use Rattle.mp4_answers.specs.words.WholePut.{JobPutsWhole};
 ghost use Rattle.mp4_present.specs.words.StoresRead.{WhereHonest};
 ghost use Rattle.mp4_answers.specs.words.StoreAndSink.{IsOf};
@@ -38,6 +38,8 @@ pub fn perform<S: Store, K: Sink, L: Ledger, M: Ledger>(
         (JobPutsWhole job.entry (K.takes sink.old sink.new)) }
     ensures work { WhereHonest S.Store store.old
         (λ file. JobWorksWithin job.entry file steps.old.passed steps.new.passed) }
+    ensures least { OnOk result (WhereHonest S.Store store.old
+        (λ file. JobTakesEach job.entry file steps.old.passed steps.new.passed)) }
     ensures looks { WhereHonest S.Store store.old
         (λ file. JobLooksWithin job.entry file steps.old.looks steps.new.looks) }
 {

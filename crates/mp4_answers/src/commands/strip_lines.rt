@@ -1,4 +1,9 @@
 //! What is said of boxes that become free space.
+ghost use Rattle.std.specs.Prelude.{◌≡◌, option_map};
+ghost use Rattle.mp4_present.specs.words.StoresRead.{WhereRead};
+ghost use Rattle.mp4_answers.specs.format.Losses.{asks_which, refusal_with};
+ghost use Rattle.mp4_answers.specs.format.Run.{KeepsFile};
+ghost use Rattle.mp4_answers.specs.words.FirstLosses.{FindsIf};
 
 use crate::box_names::Name;
 use crate::commands::freed_boxes::{Found, Group, find_freed};
@@ -28,7 +33,9 @@ fn names_encryption(names: &[Name]) -> bool {
 }
 
 // Whether it is to be looked which boxes become free space, and not only how many.
-fn asks_which(names: &[Name]) -> bool {
+fn asks_which(names: &[Name]) -> bool
+    ensures { result ≡ asks_which names.now }
+{
     names.iter().any(|name| match name {
         Name::Type { kind, .. } => *kind == FourCc(*b"uuid"),
         Name::Uuid { .. } | Name::Foreign => true,
@@ -93,7 +100,11 @@ pub fn losses(alloc: Global, found: &Found) -> Result<Vec<u8>, AllocError> {
 }
 
 /// What is told of the boxes that become free space, where more than their numbers is.
-pub fn find_told<S: Store>(alloc: Global, store: &mut S, names: &[Name]) -> Result<Found, Refusal> {
+pub fn find_told<S: Store>(alloc: Global, store: &mut S, names: &[Name]) -> Result<Found, Refusal>
+    ensures store { KeepsFile S.Store store.old store.new }
+    ensures first { WhereRead S.Store store.old result (λ file found.
+        FindsIf (asks_which names.now) names.now file found.first_loss) }
+{
     if asks_which(names) {
         find_freed(alloc, store, names)
     } else {
@@ -145,8 +156,10 @@ pub fn count_lines(
 }
 
 /// Why nothing is put: something is lost with a box that the profile refuses.
-pub fn refusal_of(found: &Found) -> Option<Refusal> {
-    let (offset, kind) = found.first_loss()?;
-    let fault = Fault::new(Kind::BoxNotInProfile, kind, offset);
+pub fn refusal_of(found: &Found) -> Option<Refusal>
+    ensures { result ≡ option_map refusal_with found.now.first_loss }
+{
+    let lost = found.first_loss?;
+    let fault = Fault::new(Kind::BoxNotInProfile, lost.kind, lost.offset);
     Some(Refusal::Fault(fault))
 }

@@ -1,5 +1,5 @@
 //! Two opened files, compared by what they say.
-ghost use Rattle.std.specs.Prelude.{◌≡◌, ◌+◌, ◌<◌, ◌≤◌, ℕ, ◌++◌, take, true, slice_get, IfOk};
+ghost use Rattle.std.specs.Prelude.{◌≡◌, ◌+◌, ◌<◌, ◌≤◌, ℕ, ◌++◌, take, true, slice_get, IfOk, OnOk};
 ghost use Rattle.mp4_content.specs.words.Compared.{WhereOpenedBoth, HaveTracks, OfFiles, WhereTracks, OfSamples, OfTracks, TakesFront, TracksWork};
 ghost use Rattle.mp4_content.specs.words.Differing.{RefusesSample, RefusedBoth};
 ghost use Rattle.mp4_content.specs.words.HeadsLeft.{begun_differ};
@@ -70,6 +70,7 @@ fn compare_track_samples<S: Store, T: Store, D: Differences, L: Ledger, M: Ledge
         tracks.entry.movies.now.right tracks.entry.place steps.old.passed steps.new.passed }
     ensures refusal { RefusedBoth S.Store left.old left.new T.Store right.old right.new result
         RefusesSample }
+    ensures grows { OnOk result (steps.old.passed ≤ steps.new.passed) }
     ensures looks { steps.new.looks ≡ steps.old.looks }
 {
     let (by, mut sides) = begin_pairs(alloc, tracks, left, right, steps)?;
@@ -152,6 +153,7 @@ fn compare_tracks<S: Store, T: Store, D: Differences, L: Ledger, M: Ledger>(
         tracks.entry.movies.now.right tracks.entry.place steps.old.passed steps.new.passed }
     ensures refusal { RefusedBoth S.Store left.old left.new T.Store right.old right.new result
         RefusesSample }
+    ensures grows { OnOk result (steps.old.passed ≤ steps.new.passed) }
     ensures looks { steps.new.looks ≡ steps.old.looks }
 {
     let Tracks { movies, place, .. } = tracks;
@@ -195,6 +197,7 @@ pub fn compare_all<S: Store, T: Store, D: Differences, L: Ledger, M: Ledger>(
         + (walks_steps tree + walks_steps other)) }
     ensures refusal { RefusedBoth S.Store left.old left.new T.Store right.old right.new result
         RefusesSample }
+    ensures grows { OnOk result (steps.old.passed ≤ steps.new.passed) }
     ensures looks { steps.new.looks ≡ steps.old.looks }
 {
     let head = movies.left.head(alloc)?;
@@ -262,6 +265,7 @@ pub fn compare<S: Store, T: Store, L: Ledger, M: Ledger>(
         + (walks_steps tree + walks_steps other)) }
     ensures refusal { RefusedBoth S.Store left.old left.new T.Store right.old right.new result
         RefusesSample }
+    ensures grows { OnOk result (steps.old.passed ≤ steps.new.passed) }
     ensures looks { steps.new.looks ≡ steps.old.looks }
 {
     let mut seen = FirstDifference { first: None };

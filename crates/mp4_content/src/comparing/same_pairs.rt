@@ -248,6 +248,7 @@ fn pass_now<L: Ledger, M: Ledger>(
     ensures passed { PassesSame by.now movies.now.left sides.old.left sides.new.left
         movies.now.right sides.old.right sides.new.right result.count steps.old.passed
         steps.new.passed }
+    ensures grows { steps.old.passed ≤ steps.new.passed }
     ensures looks { steps.new.looks ≡ steps.old.looks }
 {
     let (count, is_used_up, place, other) = {
@@ -280,6 +281,7 @@ pub(crate) fn pass_same<L: Ledger, M: Ledger>(
     ensures passed { PassesSame by.now movies.now.left sides.old.left sides.new.left
         movies.now.right sides.old.right sides.new.right result.count steps.old.passed
         steps.new.passed }
+    ensures grows { steps.old.passed ≤ steps.new.passed }
     ensures looks { steps.new.looks ≡ steps.old.looks }
 {
     let none = Passed {

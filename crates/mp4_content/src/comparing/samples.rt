@@ -1,5 +1,5 @@
 //! Samples of two tracks, compared one by one.
-ghost use Rattle.std.specs.Prelude.{◌≡◌, ◌<◌, ◌++◌, length, IfOk, OnOk};
+ghost use Rattle.std.specs.Prelude.{◌≡◌, ◌<◌, ◌≤◌, ◌++◌, length, IfOk, OnOk};
 ghost use Rattle.mp4_tables.specs.words.Keys.{key_place, key_seen, keys_seen};
 ghost use Rattle.mp4_content.specs.words.Compared.{BothCome, BothWork, HaveTracks, IsPairingAt, PairFound, TracksWork, WhereBothLie, WhereTracks};
 ghost use Rattle.mp4_content.specs.words.Differing.{flags_left, lasts_left, cto_left, sample_values, index_in, group_differences, differences_at, sample_bytes_differ, RefusedBoth, RefusesSample};
@@ -245,6 +245,7 @@ pub(crate) fn compare_pair<S: Store, T: Store, L: Ledger, M: Ledger>(
         sides.new.right result steps.old.passed steps.new.passed }
     ensures refusal { RefusedBoth S.Store left.old left.new T.Store right.old right.new result
         RefusesSample }
+    ensures grows { OnOk result (steps.old.passed ≤ steps.new.passed) }
     ensures looks { steps.new.looks ≡ steps.old.looks }
 {
     let Next { movies, by, number } = next;
@@ -285,6 +286,7 @@ pub(crate) fn refill_both<S: Store, T: Store, L: Ledger, M: Ledger>(
         steps.new.passed }
     ensures refusal { RefusedBoth S.Store left.old left.new T.Store right.old right.new result
         RefusesSample }
+    ensures grows { OnOk result (steps.old.passed ≤ steps.new.passed) }
     ensures looks { steps.new.looks ≡ steps.old.looks }
 {
     sides.left.walk.refill(&movies.left, left, steps)?;
@@ -318,6 +320,7 @@ pub(crate) fn begin_pairs<S: Store, T: Store, L: Ledger, M: Ledger>(
         tracks.entry.movies.now.right tracks.entry.place steps.old.passed steps.new.passed }
     ensures refusal { RefusedBoth S.Store left.old left.new T.Store right.old right.new result
         RefusesSample }
+    ensures grows { OnOk result (steps.old.passed ≤ steps.new.passed) }
     ensures looks { steps.new.looks ≡ steps.old.looks }
 {
     let movies = tracks.movies;

@@ -1,5 +1,5 @@
 //! The samples of a track one by one, over its tables and each `moof`.
-ghost use Rattle.std.specs.Prelude.{◌≡◌, [], None, IfOk, OnOk};
+ghost use Rattle.std.specs.Prelude.{◌≡◌, ◌≤◌, [], None, IfOk, OnOk};
 ghost use Rattle.mp4_tables.specs.declared.sample.SampleAt.{SampleAt};
 ghost use Rattle.mp4_present.specs.words.NextSample.{TakesFirst};
 ghost use Rattle.mp4_present.specs.words.Movies.{IsWalkOf, HasSome, RefusesLoad};
@@ -27,6 +27,7 @@ impl Walk {
         ensures some { HasSome movie.now self.old → result ≡ None → ⊥ }
         ensures work { TakesOnIn movie.now self.old self.new steps.old.passed steps.new.passed }
         ensures track { self.new.track ≡ self.old.track }
+        ensures grows { steps.old.passed ≤ steps.new.passed }
         ensures looks { steps.new.looks ≡ steps.old.looks }
     {
         let (sample, place) = {
@@ -55,6 +56,7 @@ impl Walk {
         ensures work { TakesSteps S.Store store.old movie.now self.old self.new result
             steps.old.passed steps.new.passed }
         ensures refusal { Refused S.Store store.old store.new result RefusesLoad }
+        ensures grows { steps.old.passed ≤ steps.new.passed }
         ensures looks { steps.new.looks ≡ steps.old.looks }
     {
         if let Some(sample) = self.take_in_hand(movie, steps) {

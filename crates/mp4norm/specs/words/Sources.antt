@@ -1,6 +1,6 @@
 -- What is read, as a store: a file, the bytes of standard input, or the files of a list. `S`, `T`
 -- are what the bounds say of the stores over a file and over a list.
-use Rattle.std.specs.Prelude.{ℕ, List, Bool, true}
+use Rattle.std.specs.Prelude.{ℕ, List, Bool, true, false}
 use Rattle.std.specs.declared.fs.File.{File}
 use Rattle.mp4_store.specs.declared.buffered.BufferedStore.{BufferedStore}
 use Rattle.mp4_store.specs.declared.file.FileStore.{FileStore}
@@ -31,3 +31,8 @@ abbrev pub failures_of : Store (BufferedStore (FileStore File)) → Store (Buffe
 failures_of S T (sources.File store watched) = S.read_failures store
 failures_of S T (sources.Input bytes) = 0
 failures_of S T (sources.List list) = T.read_failures list.store
+
+-- a file, or one of a list, may be written to meanwhile
+abbrev pub may_change : Source → Bool
+may_change (sources.Input bytes) = false
+may_change _ = true

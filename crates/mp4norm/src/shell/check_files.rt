@@ -1,27 +1,23 @@
 //! Many files, judged or summed one after the other.
+use crate::running::{Found, find, found_status, settled};
 use crate::shell::action::{Finding, Input, Telling};
 use crate::shell::file_names::{shown, word_of};
 use crate::shell::gathered::Gathered;
 use crate::shell::reports::{Noted, Report, tell_of};
 use crate::shell::run_command::explain_refusal;
 use crate::shell::sources::{Source, open, read_whole};
-use mp4_answers::commands::check::check_counted;
-use mp4_answers::commands::sum::sum_file;
 use mp4_answers::jobs::{Syntax, VerdictStyle};
 use mp4_answers::text::digits::DIGEST;
-use mp4_answers::text::fault_text::{fault_line, status};
+use mp4_answers::text::fault_text::fault_line;
 use mp4_answers::text::json_text::name_json;
 use mp4_answers::text::plain_names::push_plain;
 use mp4_answers::text::sum_lines::{push_header, sum_line, sum_object};
-use mp4_answers::text::verdicts::{first_name, put_verdict, verdict_status};
+use mp4_answers::text::verdicts::{first_name, put_verdict};
 use mp4_boxes::{Refusal, Steps};
 use mp4_store::{IoSink, Sink};
 use std::alloc::{AllocError, Global};
 use std::fs::File;
 use std::sync::ledger::Ledger;
-
-/// What was found of a file: its sum, where that was asked for, or that it is accepted.
-pub(crate) type Found = Result<Option<[u8; DIGEST]>, Refusal>;
 
 // What is named by a word, or by a name of a list: and whether it is a file, and neither standard
 // input nor a list.
@@ -60,26 +56,6 @@ impl Manner {
     }
 }
 
-// Finds what is asked for of what is read.
-fn find<L: Ledger, M: Ledger>(
-    alloc: Global,
-    finding: Finding,
-    source: &mut Source,
-    steps: &mut Steps<L, M>,
-) -> Found {
-    source.check_parts()?;
-    match finding {
-        Finding::Verdict => {
-            check_counted(alloc, source, steps)?;
-            Ok(None)
-        }
-        Finding::Sum { leaving, .. } => {
-            let digest = sum_file(alloc, source, leaving, steps)?;
-            Ok(Some(digest))
-        }
-    }
-}
-
 // Judges what is read, and explains a fault where that is asked for.
 fn judged<L: Ledger, M: Ledger>(
     rt: &HostRuntime,
@@ -89,8 +65,11 @@ fn judged<L: Ledger, M: Ledger>(
     steps: &mut Steps<L, M>,
 ) -> Found {
     let mut source = open(rt, input, report)?;
-    let answer = find(rt.alloc(), manner.finding, &mut source, steps);
-    let answer = source.settled(answer);
+    let answer = match source.check_parts() {
+        Ok(()) => find(rt.alloc(), manner.finding, &mut source, steps),
+        Err(refusal) => Err(refusal),
+    };
+    let answer = settled(&source, answer);
     if let Err(refusal) = &answer {
         let name = manner.is_named.then_some(input.name());
         explain_refusal(rt, name, refusal, manner.telling, &mut source, steps);
@@ -158,17 +137,16 @@ fn named(alloc: Global, name: &[u8], style: VerdictStyle) -> Result<Vec<u8>, All
     Ok(plain)
 }
 
-// Puts the verdict on a file of this name, and gives its status.
+// Puts the verdict on a file of this name.
 fn put_answer<K: Sink>(
     alloc: Global,
     name: &[u8],
     answer: &Result<(), Refusal>,
     style: VerdictStyle,
     lines: &mut Gathered<K>,
-) -> Result<u8, Refusal> {
+) -> Result<(), Refusal> {
     let name = named(alloc, name, style)?;
-    put_verdict(alloc, name.as_slice(), answer, style, lines.sink()?)?;
-    Ok(verdict_status(answer))
+    put_verdict(alloc, name.as_slice(), answer, style, lines.sink()?)
 }
 
 // The name of a file in a line of its sum. Where it would name standard input or a list there, it
@@ -189,7 +167,7 @@ fn put_sum<K: Sink>(
     digest: &[u8; DIGEST],
     style: VerdictStyle,
     lines: &mut Gathered<K>,
-) -> Result<u8, Refusal> {
+) -> Result<(), Refusal> {
     let GivenName { name, is_file } = named;
     let line = match style.syntax {
         Syntax::Text => {
@@ -198,19 +176,18 @@ fn put_sum<K: Sink>(
         }
         Syntax::Json => sum_object(alloc, name, digest, style.end)?,
     };
-    lines.add(line.as_slice())?;
-    Ok(0)
+    lines.add(line.as_slice())
 }
 
-// Puts what was found of a file of this name, and gives its status. A file that has no sum is told
-// of on standard error, but in JSON.
+// Puts what was found of a file of this name. A file that has no sum is told of on standard error,
+// but in JSON.
 fn put_named<K: Sink>(
     rt: &HostRuntime,
     named: GivenName,
     found: &Found,
     manner: Manner,
     lines: &mut Gathered<K>,
-) -> Result<u8, Refusal> {
+) -> Result<(), Refusal> {
     let (alloc, style, name) = (rt.alloc(), manner.style, named.name);
     match (found, manner.finding) {
         (Ok(Some(digest)), _) => put_sum(alloc, named, digest, style, lines),
@@ -218,7 +195,7 @@ fn put_named<K: Sink>(
         (Err(refusal), Finding::Sum { .. }) if matches!(style.syntax, Syntax::Text) => {
             lines.flush()?;
             tell_of(rt, name, fault_line(refusal).as_bytes());
-            Ok(status(refusal))
+            Ok(())
         }
         (Err(refusal), _) => put_answer(alloc, name, &Err(*refusal), style, lines),
     }
@@ -239,7 +216,8 @@ fn check_list<K: Sink, L: Ledger, M: Ledger>(
         let answer = answer_of_listed(rt, name, manner, steps);
         let is_file = true;
         let named = GivenName { name, is_file };
-        worst = put_named(rt, named, &answer, manner, lines)?.max(worst);
+        put_named(rt, named, &answer, manner, lines)?;
+        worst = found_status(&answer).max(worst);
         left = rest;
     }
     Ok(worst)
@@ -270,7 +248,8 @@ fn put_each<K: Sink, L: Ledger, M: Ledger>(
             name: input.name().as_bytes(),
             is_file: matches!(input, Input::File { .. }),
         };
-        worst = put_named(rt, named, &answer, manner, lines)?.max(worst);
+        put_named(rt, named, &answer, manner, lines)?;
+        worst = found_status(&answer).max(worst);
     }
     Ok(worst.max(check_list(rt, list, manner, lines, steps)?))
 }

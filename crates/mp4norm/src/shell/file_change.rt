@@ -1,4 +1,7 @@
 //! Whether a file is as it was when it was opened.
+ghost use Rattle.std.specs.Prelude.{true, IfErr};
+ghost use Rattle.mp4norm.specs.format.Runs.{HasChanged};
+
 use mp4_boxes::Refusal;
 use std::fs::{File, Metadata};
 use std::io;
@@ -51,7 +54,9 @@ impl Watched {
     /// Whether the file has the length that it had, and was not written to. A change of the same
     /// length is not seen where it has the time of the change before it: times are of a clock that
     /// moves on some hundred times a second.
-    pub(crate) fn stays(&self) -> Result<(), Refusal> {
+    pub(crate) fn stays(&self) -> Result<(), Refusal>
+        ensures { IfErr result (HasChanged true) }
+    {
         match state_of(&self.file) {
             Ok(state) if state == self.first => Ok(()),
             Ok(_) => Err(Refusal::StoreChanged),

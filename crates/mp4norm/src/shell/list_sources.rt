@@ -1,4 +1,7 @@
 //! The files that a list names, opened as one.
+ghost use Rattle.std.specs.Prelude.{true, IfErr};
+ghost use Rattle.mp4norm.specs.format.Runs.{HasChanged};
+
 use crate::shell::file_change::State;
 use crate::shell::file_names::{shown, word_of};
 use crate::shell::lists::{ListFault, listed_names};
@@ -141,7 +144,9 @@ impl<'a> ListSource<'a> {
     }
 
     /// Whether all files are as they were.
-    pub(crate) fn stays(&self) -> Result<(), Refusal> {
+    pub(crate) fn stays(&self) -> Result<(), Refusal>
+        ensures { IfErr result (HasChanged true) }
+    {
         self.listed.stays(self.rt)
     }
 
@@ -154,7 +159,9 @@ impl<'a> ListSource<'a> {
 
 impl Listed {
     // Whether all files are as they were.
-    fn stays(&self, rt: &HostRuntime) -> Result<(), Refusal> {
+    fn stays(&self, rt: &HostRuntime) -> Result<(), Refusal>
+        ensures { IfErr result (HasChanged true) }
+    {
         for (path, state) in self.paths.iter().zip(self.states.iter()) {
             match look(rt, path.as_str()) {
                 Ok(now) if now == *state => {}

@@ -21,7 +21,6 @@ pub mod part_files;
 pub mod playlists;
 pub mod progress;
 pub mod references;
-pub mod replacing;
 pub mod reports;
 pub mod run_command;
 pub mod run_compare;

@@ -21,6 +21,9 @@ const OWNERS: u32 = 0o600;
 /// The rights that a program asks for a new file, of which the mask of the process takes some away.
 const ASKED: u32 = 0o666;
 
+/// The cause where a new file isn't the one of its name any more.
+const TAKEN: &str = "another file has taken the place of the new one";
+
 /// All bits that say who may read, write and run a file.
 const RIGHTS: u32 = 0o777;
 
@@ -167,7 +170,7 @@ impl Part {
     /// Gives the file the rights of the one of this name, or of a new one where there is none,
     /// waits until it has reached the disk, and gives it that name. False where another file has
     /// taken its place.
-    pub(crate) fn put_in_place(&self, rt: &HostRuntime, name: &str) -> io::Result<bool> {
+    fn put_in_place(&self, rt: &HostRuntime, name: &str) -> io::Result<bool> {
         self.file.sync_all()?;
         give_rights(rt, &self.file, replaced(rt, name)?)?;
         if !self.is_there(rt)? {
@@ -179,6 +182,19 @@ impl Part {
             let _ = folder.sync_all();
         }
         Ok(true)
+    }
+}
+
+/// Gives a new file its name. The cause is kept where that can't be done.
+pub(crate) fn put_in_place(
+    rt: &HostRuntime,
+    part: &Part,
+    name: &str,
+    report: &mut Report,
+) -> Result<(), Refusal> {
+    match report.outcome(part.put_in_place(rt, name), Refusal::WriteFailed)? {
+        true => Ok(()),
+        false => Err(report.failure(TAKEN, Refusal::WriteFailed)),
     }
 }
 

@@ -135,10 +135,9 @@ impl<'a> Report<'a> {
         failed
     }
 
-    /// The failure of an answer that would have more bytes than it may.
-    pub(crate) fn too_long(&mut self, most: u64) -> Refusal {
+    /// An answer would have more bytes than it may.
+    pub(crate) fn too_long(&mut self, most: u64) {
         self.cause = Some(Cause::TooLong(most));
-        Refusal::WriteFailed
     }
 
     /// Whether it is asked for to say how far the job has come.

@@ -1,14 +1,13 @@
 //! A command from what is read to where its answer goes.
-use crate::shell::action::{Order, Target, Telling};
+use crate::running::{loss_refusal, run_job, settled};
+use crate::shell::action::{Order, Telling};
 use crate::shell::explaining::{explain, explain_briefly, name_tracks};
-use crate::shell::output::{Out, make, write};
-use crate::shell::replacing::replace;
+use crate::shell::output::Outgoing;
 use crate::shell::reports::{Report, tells_more};
 use crate::shell::sources::{Source, open};
 use mp4_answers::box_names::Name;
-use mp4_answers::commands::answer_len::text_len;
 use mp4_answers::commands::strip::count_named;
-use mp4_answers::commands::strip_lines::{count_lines, find_told, losses, refusal_of, warnings};
+use mp4_answers::commands::strip_lines::{count_lines, find_told, losses, warnings};
 use mp4_answers::jobs::Job;
 use mp4_boxes::{Refusal, Steps};
 use mp4_store::{IoSink, Sink};
@@ -18,45 +17,17 @@ use std::sync::ledger::Ledger;
 /// What is said where nothing is put since something would be lost, with more words.
 const LOSSY: &[u8] = b"strip: with --lossy it is put all the same\n";
 
-// Finds how long the answer gets, where that is asked for, and refuses one that is too long.
-fn measure<'a, L: Ledger, M: Ledger>(
-    rt: &'a HostRuntime,
-    job: Job,
-    source: &mut Source,
-    most: Option<u64>,
-    steps: &mut Steps<L, M>,
-    report: &mut Report<'a>,
-) -> Result<(), Refusal> {
-    if most.is_none() && !report.counts() {
-        return Ok(());
-    }
-    let total = text_len(rt.alloc(), job, source, steps);
-    let total = source.settled(total)?;
-    match most {
-        Some(most) if total > most => Err(report.too_long(most)),
-        _ => {
-            report.begin(rt, total);
-            Ok(())
-        }
-    }
-}
-
-// Opens where the answer goes, once it is known that it isn't too long, and does the job.
+// Does the job, to where its answer goes.
 fn write_to<'a, L: Ledger, M: Ledger>(
     rt: &'a HostRuntime,
     job: Job,
     source: &mut Source,
-    order: Order,
+    order: Order<'a>,
     steps: &mut Steps<L, M>,
     report: &mut Report<'a>,
 ) -> Result<(), Refusal> {
-    measure(rt, job, source, order.most, steps, report)?;
-    let mut out = match order.target {
-        Target::Standard => Out::Standard(rt.stdout()),
-        Target::New { name } => make(rt, name, report)?,
-        Target::Replaced { name } => return replace(rt, job, source, steps, name, report),
-    };
-    write(rt.alloc(), job, source, &mut out, steps, report)
+    let mut out = Outgoing::new(rt, order.target, report);
+    run_job(rt.alloc(), job, order.most, source, &mut out, steps)
 }
 
 // Copies a file without the boxes of some names, and says which these are. Where something is lost
@@ -65,18 +36,16 @@ fn strip_and_tell<'a, L: Ledger, M: Ledger>(
     rt: &'a HostRuntime,
     names: &[Name],
     source: &mut Source,
-    order: Order,
+    order: Order<'a>,
     steps: &mut Steps<L, M>,
     report: &mut Report<'a>,
 ) -> Result<(), Refusal> {
     let alloc = rt.alloc();
     let counts = count_named(alloc, source, names);
-    let counts = source.settled(counts)?;
+    let counts = settled(source, counts)?;
     let found = find_told(alloc, source, names);
-    let found = source.settled(found)?;
-    if !order.lossy
-        && let Some(refusal) = refusal_of(&found)
-    {
+    let found = settled(source, found)?;
+    if let Some(refusal) = loss_refusal(&found, order.lossy) {
         let mut errors = rt.stderr();
         let _ = errors.write_all(losses(alloc, &found)?.as_slice());
         if order.telling.explain {
@@ -99,13 +68,13 @@ fn strip_and_tell<'a, L: Ledger, M: Ledger>(
 fn open_and_answer<'a, L: Ledger, M: Ledger>(
     rt: &'a HostRuntime,
     job: Job,
-    order: Order,
+    order: Order<'a>,
     steps: &mut Steps<L, M>,
     report: &mut Report<'a>,
 ) -> Result<(), Refusal> {
     let mut source = open(rt, order.input, report)?;
     let answer = match (source.check_parts(), job) {
-        (Err(refusal), _) => source.settled(Err(refusal)),
+        (Err(refusal), _) => settled(&source, Err(refusal)),
         (Ok(()), Job::Strip { names }) => {
             strip_and_tell(rt, names, &mut source, order, steps, report)
         }
@@ -155,10 +124,10 @@ pub(crate) fn explain_refusal<L: Ledger, M: Ledger>(
 /// Does a job from what is read to where its answer goes. What is wrong is explained where that is
 /// asked for: a fault, and which file can't be opened, read or written, with the system's cause.
 /// How far the job has come is said where that is.
-pub(crate) fn run<L: Ledger, M: Ledger>(
-    rt: &HostRuntime,
+pub(crate) fn run<'a, L: Ledger, M: Ledger>(
+    rt: &'a HostRuntime,
     job: Job,
-    order: Order,
+    order: Order<'a>,
     steps: &mut Steps<L, M>,
 ) -> Result<(), Refusal> {
     let mut report = Report::new(order.telling);

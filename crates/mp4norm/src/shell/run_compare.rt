@@ -1,20 +1,18 @@
 //! Comparing, from the names of two files to what is printed.
+use crate::running::{Kept, comparison_status, is_of_file};
 use crate::shell::action::{Comparison, Input, Telling};
 use crate::shell::file_names::push_shown;
 use crate::shell::reports::{Noted, Report};
 use crate::shell::run_command::explain_refusal;
-use crate::shell::sources::{Source, is_of_file, open};
+use crate::shell::sources::{Source, open};
 use mp4_answers::commands::compare::{Asked, Failure, Side, compare_files};
-use mp4_answers::text::fault_text::{fault_line, status};
+use mp4_answers::text::fault_text::fault_line;
 use mp4_boxes::{Refusal, Steps};
 use mp4_store::IoSink;
 use std::alloc::{AllocError, Global};
 use std::io::Write;
 use std::process::ExitCode;
 use std::sync::ledger::Ledger;
-
-/// The status where two files differ.
-const DIFFER: u8 = 5;
 
 // What comes of a step over the file of this side.
 fn on_side<R>(step: Result<R, Refusal>, side: Side) -> Result<R, Failure> {
@@ -161,12 +159,10 @@ pub(crate) fn compare_named<L: Ledger, M: Ledger>(
     asked: Comparison,
     steps: &mut Steps<L, M>,
 ) -> ExitCode {
-    match answer(rt, asked, steps) {
-        Ok(true) => ExitCode::SUCCESS,
-        Ok(false) => ExitCode::from(DIFFER),
-        Err(failure) => {
-            tell(rt, asked.left, asked.right, failure);
-            ExitCode::from(status(&failure.refusal))
-        }
+    let answer = answer(rt, asked, steps);
+    let status = comparison_status(&answer);
+    if let Err(failure) = answer {
+        tell(rt, asked.left, asked.right, failure);
     }
+    ExitCode::from(status)
 }

@@ -1,5 +1,6 @@
 //! What a command reads: a file, by place, or standard input, whole.
 
+use crate::running::Kept;
 use crate::shell::action::Input;
 use crate::shell::file_change::Watched;
 use crate::shell::file_names::push_shown;
@@ -84,11 +85,6 @@ pub(crate) fn open<'a>(
     }
 }
 
-/// Whether a refusal says something of the file, and not of what failed.
-pub(crate) fn is_of_file(refusal: &Refusal) -> bool {
-    matches!(refusal, Refusal::Fault(_) | Refusal::NoSuchTrack)
-}
-
 impl<'a> Source<'a> {
     /// Goes over the headers of the file's own boxes where it is of several parts: each part has to
     /// end with a box.
@@ -123,27 +119,6 @@ impl<'a> Source<'a> {
         text.extend_from_slice(b"\n")?;
         Ok(Some(text))
     }
-
-    /// Whether a file is as it was when it was opened, so far as its length and the times of its
-    /// last change tell.
-    pub(crate) fn stays(&self) -> Result<(), Refusal> {
-        match self {
-            Source::File(_, watched) => watched.stays(),
-            Source::Input(_) => Ok(()),
-            Source::List(list) => list.stays(),
-        }
-    }
-
-    /// An answer that says something of the file, if the file is still as it was; else that it has
-    /// changed. A failure stays as it is.
-    pub(crate) fn settled<T: Drop>(&self, answer: Result<T, Refusal>) -> Result<T, Refusal> {
-        let is_failed_list = matches!(self, Source::List(_))
-            && matches!(answer, Err(Refusal::StoreFailed));
-        if answer.is_ok() || answer.as_ref().is_err_and(is_of_file) || is_failed_list {
-            self.stays()?;
-        }
-        answer
-    }
 }
 
 impl<'a> Store for Source<'a> {
@@ -172,5 +147,24 @@ impl<'a> Store for Source<'a> {
             Source::Input(bytes) => MemStore::new(bytes.as_slice()).read_at(at, out),
             Source::List(list) => list.store.read_at(at, out),
         }
+    }
+}
+
+impl<'a> Kept for Source<'a> {
+    ghost use Rattle.mp4norm.specs.words.Sources.{may_change};
+
+    ghost may_change = { may_change };
+
+    // So far as a file's length and the times of its last change tell.
+    fn stays(&self) -> Result<(), Refusal> {
+        match self {
+            Source::File(_, watched) => watched.stays(),
+            Source::Input(_) => Ok(()),
+            Source::List(list) => list.stays(),
+        }
+    }
+
+    fn may_fail_changed(&self) -> bool {
+        matches!(self, Source::List(_))
     }
 }

@@ -1,6 +1,7 @@
 //! Lists of sums: whether each file that is named has the sum that stands there.
+use crate::running::{DIFFER, Found};
 use crate::shell::action::{Finding, Input, SumCheck};
-use crate::shell::check_files::{Found, Manner, answer_of, read_list};
+use crate::shell::check_files::{Manner, answer_of, read_list};
 use crate::shell::command_line::input_of;
 use crate::shell::file_names::word_of;
 use crate::shell::list_sources::tell_fault;
@@ -18,9 +19,6 @@ use std::sync::ledger::Ledger;
 
 /// The status of a list that can't be taken.
 const NO_LIST: u8 = 64;
-
-/// The status where a file has another sum.
-const DIFFER: u8 = 5;
 
 // A file of a list: its name, its sum, and what is left out of it.
 #[derive(Drop)]

@@ -1,5 +1,5 @@
 -- What the exports answer: in numbers, and by the window of a text that is put into a buffer.
-use Rattle.std.specs.Prelude.{◌≡◌, ◌⊎◌, ℕ, ◌+◌, ◌^◌, ◌/◌, ◌%◌, ◌==◌, nat_lt, ◌-◌, min, List, ◌++◌, length, take, drop, Bool, if◌then◌else◌, Option, None, Some, option_map, Result, Ok, Err, OnErr}
+use Rattle.std.specs.Prelude.{◌≡◌, ◌⊎◌, ℕ, ◌^◌, ◌/◌, ◌%◌, ◌==◌, nat_lt, ◌-◌, min, List, [], ◌++◌, length, take, drop, Bool, true, false, if◌then◌else◌, Option, None, Some, option_map, Result, Ok, Err, OnErr}
 use Rattle.mp4_boxes.specs.format.Box.{file_container}
 use Rattle.mp4_boxes.specs.format.Bytes.{field}
 use Rattle.mp4_boxes.specs.declared.fault.Fault.{Fault}
@@ -16,8 +16,13 @@ use Rattle.mp4_answers.specs.declared.jobs.Job.{Job}
 use Rattle.mp4_answers.specs.declared.jobs.Job.TheVariants as jobs
 use Rattle.mp4_answers.specs.declared.jobs.Syntax.{Syntax}
 use Rattle.mp4_answers.specs.declared.jobs.Syntax.TheVariants as syntaxes
+use Rattle.mp4_answers.specs.declared.commands.compare.Asked.{Asked}
+use Rattle.mp4_answers.specs.declared.commands.compare.Listing.{Listing}
+use Rattle.mp4_answers.specs.declared.commands.compare.Listing.TheVariants as listings
 use Rattle.mp4_answers.specs.format.Answers.{IsFaultOf}
 use Rattle.mp4_answers.specs.format.BoxWalk.{under, FaultSeen}
+use Rattle.mp4_answers.specs.format.CompareHeadline.{IsVerdict, IsTold}
+use Rattle.mp4_answers.specs.format.DifferenceObject.{last_object}
 use Rattle.mp4_answers.specs.format.FileTexts.{ShowsLine, ListsSamples, HasData, LacksTrack, PrintsText}
 use Rattle.mp4_answers.specs.format.Headline.{HasNormalForm}
 use Rattle.mp4_answers.specs.format.ReducedHeadline.{HasReducedForm}
@@ -25,6 +30,8 @@ use Rattle.mp4_answers.specs.format.Strips.{IsStripped, Halts}
 use Rattle.mp4_answers.specs.format.Sums.{HasSum}
 use Rattle.mp4_answers.specs.format.Texts.{BoxLines}
 use Rattle.mp4norm_c.specs.declared.answer.Answer.{Answer}
+use Rattle.mp4norm_c.specs.declared.asked.Comparison.{Comparison}
+use Rattle.mp4norm_c.specs.declared.asked.Version.{Version}
 
 -- ---- numbers
 
@@ -60,9 +67,20 @@ plain status len = record {
   status = status;
   kind = 0;
   box_type = 0;
-  spare = 0;
+  file = 0;
   offset = 0;
   len = len;
+}
+
+-- a fault in numbers, of the file with this number
+abbrev pub fault_told : ℕ → Fault → Answer
+fault_told file f = record {
+  status = 1;
+  kind = kind_number f.kind;
+  box_type = field f.box_type 0 4;
+  file = file;
+  offset = f.offset;
+  len = 0;
 }
 
 -- what was asked for is unknown: the file was not looked at
@@ -72,14 +90,7 @@ usage = plain 64 0
 -- A result in numbers: how many bytes there are; or the fault; or the status of the program.
 abbrev pub told : Result ℕ Refusal → Answer
 told (Ok len) = plain 0 len
-told (Err (refusals.Fault f)) = record {
-  status = 1;
-  kind = kind_number f.kind;
-  box_type = field f.box_type 0 4;
-  spare = 0;
-  offset = f.offset;
-  len = 0;
-}
+told (Err (refusals.Fault f)) = fault_told 0 f
 told (Err refusals.Memory) = plain 2 0
 told (Err refusals.StoreFailed) = plain 3 0
 told (Err refusals.StoreChanged) = plain 3 0
@@ -126,6 +137,32 @@ samples_job track = option_map (λ form. jobs.Samples track form)
 
 abbrev pub boxes_job : Option Syntax → Option Job
 boxes_job = option_map jobs.Boxes
+
+-- How two files are told of that differ: by the first difference, or by all, of which at most so
+-- many are listed; in this syntax.
+abbrev pub listing_of : ℕ → ℕ → Option Syntax → Option Listing
+listing_of number limit None = None
+listing_of number limit (Some syntax) = if number == 0 then Some (listings.First syntax)
+    else (if number == 1 then Some (listings.All (record { limit = limit; syntax = syntax }))
+    else None)
+
+-- what is asked of a comparison, where all of it is known
+abbrev pub asked_of : Option Without → Option Listing → Option Asked
+asked_of None listing = None
+asked_of (Some l) None = None
+asked_of (Some l) (Some listing) = Some (record { leaving = l; listing = listing })
+
+-- by the first difference as a line
+abbrev pub first_asked : ℕ → Option Asked
+first_asked words = asked_of (without_of words) (Some (listings.First syntaxes.Text))
+
+abbrev pub comparison_asked : Comparison → Option Asked
+comparison_asked c = asked_of (without_of c.words)
+    (listing_of c.listing c.limit (syntax_of c.syntax))
+
+-- this version
+abbrev pub version_here : Version
+version_here = record { major = 0; minor = 2; patch = 0 }
 
 -- ---- windows
 
@@ -212,3 +249,40 @@ Measures (Some l) file a = (result : Result ℕ Refusal) × (a ≡ told result)
     × Found (λ n. (form : List ℕ) × HasReducedForm l file form
     × (n ≡ min (length form) (2 ^ 64 - 1)))
     (λ f. (IsFaultOf file f ⊎ ReducedFaultStands l file f)) result
+
+-- ---- what comparing two files answers
+
+-- what is put of files that are the same: nothing, or as JSON of all differences that there are
+-- none
+abbrev pub same_in : Syntax → Without → List ℕ
+same_in syntaxes.Text l = []
+same_in syntaxes.Json l = last_object true [] (Some l)
+
+abbrev pub same_listed : Listing → Without → List ℕ
+same_listed (listings.First syntax) l = []
+same_listed (listings.All lines) l = same_in lines.syntax l
+
+abbrev pub same_text : Asked → List ℕ
+same_text asked = same_listed asked.listing asked.leaving
+
+-- The same is left of both, or not, and the window is put of what is said of that; or one of them
+-- has such a fault, or there is no memory, and the buffer is as it was. Over bytes in memory
+-- nothing else is answered.
+pub data Compared (asked : Asked) (file other : List ℕ) (from : ℕ) (before after : List ℕ)
+    (a : Answer) : Type 0 where
+  is_same : (many : ℕ) → a ≡ plain 0 many → IsVerdict asked.leaving file other true
+      → IsWindow from before after (same_text asked) many
+      → Compared asked file other from before after a
+  is_other : (text : List ℕ) (many : ℕ) → a ≡ plain 5 many
+      → IsVerdict asked.leaving file other false
+      → IsTold asked.listing asked.leaving file other text → IsWindow from before after text many
+      → Compared asked file other from before after a
+  first_refused : (f : Fault) → a ≡ fault_told 0 f → IsFaultOf file f → after ≡ before
+      → Compared asked file other from before after a
+  second_refused : (f : Fault) → a ≡ fault_told 1 f → IsFaultOf other f → after ≡ before
+      → Compared asked file other from before after a
+  no_memory : a ≡ plain 2 0 → after ≡ before → Compared asked file other from before after a
+
+abbrev pub Compares : Option Asked → List ℕ → List ℕ → ℕ → List ℕ → List ℕ → Answer → Type 0
+Compares None file other from before after a = (a ≡ usage) × (after ≡ before)
+Compares (Some asked) file other from before after a = Compared asked file other from before after a

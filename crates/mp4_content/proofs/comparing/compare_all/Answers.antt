@@ -1,4 +1,4 @@
-use Rattle.std.proofs.Common.{rules, refl, ◌≡◌, ◌<◌, ◌≤◌, length, min, slice_index_or}
+use Rattle.std.proofs.Common.{rules, refl, ◌≡◌, ◌<◌, ◌≤◌, length, min, slice_index_or, arith}
 use Rattle.std.proofs.lemmas.Result.{err_from_is_err_and}
 use Rattle.mp4_present.proofs.TrafTaken.{at_place}
 use Rattle.mp4_content.proofs.TracksCompared.{takes_nothing}
@@ -37,6 +37,7 @@ loop-track-init g c = record {
   reads_right = refl;
   goes = search rules;
   looks = search rules;
+  grows = omega arith;
   going = λ told told_right tree other o p.
       let file = g.S.Store.file c.args.left.now in
       let right_file = g.T.Store.file c.args.right.now in
@@ -168,6 +169,7 @@ loop-track-preserved g c = record {
   reads_right = search rules;
   goes = search rules;
   looks = search rules;
+  grows = let more = c.in_ok-compare_tracks.ensures.grows in omega (arith, more);
   going = λ told told_right tree other o p.
       let i = c.loop-track.invariant in
       let file = g.S.Store.file c.args.left.now in

@@ -1,4 +1,4 @@
-use Rattle.std.proofs.Common.{◌≡◌, true}
+use Rattle.std.proofs.Common.{◌≡◌, ◌≤◌, true}
 use Rattle.mp4_content.specs.words.Compared.{WhereBothOpened}
 use Rattle.mp4_content.proofs.FilesCompared.{FilesGo}
 use Rattle.mp4_content.proofs.comparing.compare_all.Given as goal
@@ -14,6 +14,7 @@ invariant-loop-track g l = record {
   reads_right : g.T.Store.read_failures l.right ≡ g.T.Store.read_failures l.fn.right;
   goes : g.D.Differences.is_open l.seen ≡ true;
   looks : l.steps.looks ≡ l.fn.steps.looks;
+  grows : l.fn.steps.passed ≤ l.steps.passed;
   going : WhereBothOpened (g.S.Store.is_honest l.fn.left) (g.S.Store.file l.fn.left) l.movies.left (g.T.Store.is_honest l.fn.right) (g.T.Store.file l.fn.right) l.movies.right
       (λ tree other. FilesGo l.leaving (g.S.Store.file l.fn.left) tree (g.T.Store.file l.fn.right) other l.track (g.D.Differences.taken l.fn.seen) (g.D.Differences.taken l.seen) l.fn.steps.passed l.steps.passed);
 }

@@ -18,6 +18,7 @@ invariant-loop-number g l = record {
   reads_right : g.T.Store.read_failures l.right ≡ g.T.Store.read_failures l.fn.right;
   goes : g.D.Differences.is_open l.seen ≡ true;
   looks : l.steps.looks ≡ l.fn.steps.looks;
+  grows : l.fn.steps.passed ≤ l.steps.passed;
   walk : IsWalkOf l.movies.left l.sides.left.walk;
   walk_right : IsWalkOf l.movies.right l.sides.right.walk;
   shows : IsTrue (g.S.Store.is_honest l.fn.left) → Shows (g.S.Store.file l.fn.left) l.sides.left.window;

@@ -1,9 +1,10 @@
-use Rattle.std.proofs.Common.{◌∙◌}
+use Rattle.std.proofs.Common.{arith, ◌∙◌}
 use Rattle.mp4_present.specs.words.Opening.{RefusesOpen}
 use Rattle.mp4_answers.proofs.ComparedFiles.{both_looked, both_walked, first_alone, together, verdict}
 use Rattle.mp4_answers.proofs.ComparedTexts.{told_of}
 use Rattle.mp4_answers.proofs.StepsTaken.{not_looked}
 use Rattle.mp4_answers.proofs.LooksTaken.{not_found, finds_taken, finds_first, finds_both}
+use Rattle.mp4_answers.proofs.StepSums.{opened_least}
 use Rattle.mp4_answers.proofs.commands.compare.compare_files.Goals as goal
 
 pub returns-in-Err-clause-work : goal.returns-in-Err-clause-work
@@ -64,6 +65,13 @@ returns-clause-work g c = λ told right.
     let next = c.in-Ok-open_movie.ensures in
     let walks = rw (left.store.honesty, left.store.file, next.store.honesty, next.store.file) at c.in-Ok-text_of.ensures.opened in
     both_walked _ _ _ _ _ _ _ _ (left.movie told) (next.movie right) (left.work told) (next.work right) (λ tree other o u. (walks told right tree other o u).1)
+
+pub returns-in-Ok-put_found-clause-least : goal.returns-in-Ok-put_found-clause-least
+returns-in-Ok-put_found-clause-least g c = λ told right p q d e.
+    let first = c.in-Ok.ensures.least told d.tree d.is_tree in
+    let second = c.in-Ok-open_movie.ensures.least right e.tree e.is_tree in
+    let grown = c.in-Ok-text_of.ensures.grows in
+    omega (arith, first, second, grown, opened_least _ p d, opened_least _ q e)
 
 -- ---- looks
 

@@ -1,0 +1,7 @@
+use Rattle.mp4norm.proofs.shell.sources.SourceKept.stays.Goals as goal
+
+pub returns-in-File : goal.returns-in-File
+returns-in-File c = rw c.in-File.is c.stays.ensures
+
+pub returns-in-List : goal.returns-in-List
+returns-in-List c = rw c.in-List.is c.stays-in-List.ensures

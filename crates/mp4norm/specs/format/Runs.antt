@@ -1,0 +1,120 @@
+-- What a run of the program comes to, over whatever it reads and writes.
+use Rattle.std.specs.Prelude.{◌≡◌, ◌⊎◌, ℕ, List, [], ◌∷◌, ◌++◌, ◌≤◌, Bool, true, false, IsTrue, if◌then◌else◌, Option, None, Some, option_map, Result, IsErrAnd, OnOk, Ok, Err}
+use Rattle.mp4_boxes.specs.declared.refusal.Refusal.{Refusal}
+use Rattle.mp4_boxes.specs.declared.refusal.Refusal.TheVariants as refusals
+use Rattle.mp4_store.specs.declared.store.Store.{Ghosts as Store}
+use Rattle.mp4_store.specs.declared.sink.Sink.{Ghosts as Sink}
+use Rattle.mp4_answers.specs.declared.commands.freed_boxes.LostBox.{LostBox}
+use Rattle.mp4_answers.specs.declared.jobs.Job.{Job}
+use Rattle.mp4_answers.specs.format.Answers.{Judged, Performed, RefusesJob}
+use Rattle.mp4_answers.specs.format.Lengths.{HasLength}
+use Rattle.mp4_answers.specs.format.Losses.{refusal_with}
+use Rattle.mp4_answers.specs.format.Run.{Run, look_of, run_of}
+use Rattle.mp4_answers.specs.format.Texts.{fault_line, status_of}
+use Rattle.mp4_answers.specs.format.Sums.{Summed}
+use Rattle.mp4_answers.specs.declared.commands.compare.Failure.{Failure}
+use Rattle.mp4norm.specs.declared.shell.action.Finding.{Finding}
+use Rattle.mp4norm.specs.declared.shell.action.Finding.TheVariants as findings
+
+-- ---- what is read
+
+-- a refusal says something of the file, and not of what failed
+abbrev pub is_of_file : Refusal → Bool
+is_of_file (refusals.Fault f) = true
+is_of_file refusals.NoSuchTrack = true
+is_of_file _ = false
+
+-- it is not as it was when it was opened, or that can't be told
+abbrev pub HasChanged : Bool → Refusal → Type 0
+HasChanged may_change refusals.StoreChanged = IsTrue may_change
+HasChanged may_change refusals.StoreFailed = IsTrue may_change
+HasChanged may_change _ = ⊥
+
+-- an answer stands, or what it was found of has changed
+abbrev pub IsSettled : {A : Type 0} → Bool → Result A Refusal → Result A Refusal → Type 0
+IsSettled may_change answer result = (result ≡ answer) ⊎ IsErrAnd result (HasChanged may_change)
+
+-- ---- where an answer goes
+
+-- it can't be opened or closed, or would get too long
+abbrev pub RefusesTarget : Bool → Refusal → Type 0
+RefusesTarget may_fail refusals.WriteFailed = IsTrue may_fail
+RefusesTarget may_fail refusals.Memory = IsTrue may_fail
+RefusesTarget may_fail _ = ⊥
+
+-- ---- a job, over a store and a sink, each as it is before and after it
+
+-- the answer of a job that was performed stands, or what is read has changed, or what is written
+-- can't be closed
+abbrev pub IsClosed : {A : Type 0} → Bool → Bool → Result A Refusal → Result A Refusal → Type 0
+IsClosed may_change may_fail answer result = IsSettled may_change answer result
+    ⊎ OnOk answer (IsErrAnd result (RefusesTarget may_fail))
+
+-- it was performed, between the opening and the closing of what is written
+abbrev pub WasPerformed : {X Y A : Type 0} → Store X → Sink Y → Bool → Bool → Job
+    → X → X → Y → Y → Result A Refusal → Type 0
+WasPerformed {Y = Y} {A = A} S K may_change may_fail job store after out ended result =
+    (opened : Y) × (whole : Y) × (answer : Result A Refusal) × K.takes out opened []
+    × Performed job (run_of S store after K opened whole) answer
+    × K.takes whole ended [] × IsClosed may_change may_fail answer result
+
+-- it is refused before anything is put: the length of its text can't be told, for the reason for
+-- which the job is refused
+abbrev pub WasMeasured : {X A : Type 0} → Store X → Bool → Job → X → X → Result A Refusal → Type 0
+WasMeasured S may_change job store after result = (e : Refusal)
+    × RefusesJob job (look_of S store after) e × IsSettled may_change (Err e) result
+
+abbrev pub RefusesMeasure : {X : Type 0} → Store X → Bool → Job → X → X → Refusal → Type 0
+RefusesMeasure S may_change job store after e =
+    WasMeasured {A = Unit {0}} S may_change job store after (Err e)
+
+-- or what is written can't be opened, or would get too long
+abbrev pub EndsJob : {X Y A : Type 0} → Store X → Sink Y → Bool → Bool → Job
+    → X → X → Y → Y → Result A Refusal → Type 0
+EndsJob S K may_change may_fail job store after out ended result =
+    WasPerformed S K may_change may_fail job store after out ended result
+    ⊎ (K.takes out ended [] × (WasMeasured S may_change job store after result
+    ⊎ IsErrAnd result (RefusesTarget may_fail)))
+
+-- the length of the text is known where there is a most
+abbrev pub IsMeasured : Option ℕ → Job → List ℕ → Option ℕ → Type 0
+IsMeasured None job file len = Unit {0}
+IsMeasured (Some most) job file None = ⊥
+IsMeasured (Some most) job file (Some n) = HasLength job file n
+
+abbrev pub IsNoLonger : Option ℕ → Option ℕ → Type 0
+IsNoLonger (Some n) (Some most) = n ≤ most
+IsNoLonger _ _ = Unit {0}
+
+-- the text has no more bytes than it may
+abbrev pub FitsIn : Option ℕ → Job → List ℕ → Type 0
+FitsIn None job file = Unit {0}
+FitsIn (Some most) job file = (n : ℕ) × HasLength job file n × (n ≤ most)
+
+-- ---- what is said of it
+
+-- a line on standard error, where there is no answer
+abbrev pub refusal_text : {A : Type 0} → Result A Refusal → List ℕ
+refusal_text (Ok done) = []
+refusal_text (Err r) = fault_line r ++ 10 ∷ []
+
+-- why no copy is made without boxes: something is lost with one, and that isn't allowed
+abbrev pub loss_refusal : Bool → Option LostBox → Option Refusal
+loss_refusal is_lossy lost = if is_lossy then None else option_map refusal_with lost
+
+-- ---- what is found of a file
+
+-- that it is accepted, or the sum of what is left of it
+abbrev pub IsFound : Finding → Run → Result (Option (List ℕ)) Refusal → Type 0
+IsFound findings.Verdict r (Ok None) = Judged {A = Unit {0}} r (Ok tt)
+IsFound findings.Verdict r (Ok (Some digest)) = ⊥
+IsFound findings.Verdict r (Err e) = Judged {A = Unit {0}} r (Err e)
+IsFound (findings.Sum l header) r (Ok None) = ⊥
+IsFound (findings.Sum l header) r (Ok (Some digest)) = Summed l r (Ok digest)
+IsFound (findings.Sum l header) r (Err e) = Summed l r (Err e)
+
+-- two files are the same or not, or that isn't known
+abbrev pub comparison_status : Result Bool Failure → ℕ
+comparison_status (Ok true) = 0
+comparison_status (Ok false) = 5
+comparison_status (Err f) = status_of f.refusal

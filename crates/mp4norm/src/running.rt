@@ -1,0 +1,239 @@
+//! The program over whatever it reads and writes: what it answers, and with which status it ends.
+//! The shell adds names, descriptors, clocks, and what is said beside an answer.
+ghost use Rattle.std.specs.Prelude.{◌≡◌, [], ◌∷◌, ◌++◌, Bool, IfErr, OnOk};
+ghost use Rattle.std.specs.Process.{exit_status};
+ghost use Rattle.mp4_store.specs.words.Device.{TakesPrefix};
+ghost use Rattle.mp4_present.specs.words.StoresRead.{OnlyReads, WhereHonest, WhereRead};
+ghost use Rattle.mp4_answers.specs.format.Run.{KeepsFile, look_of};
+ghost use Rattle.mp4_answers.specs.format.Texts.{fault_line};
+ghost use Rattle.mp4_answers.specs.format.Verdicts.{verdict_status};
+ghost use Rattle.mp4_answers.specs.words.WholePut.{JobPutsWhole};
+ghost use Rattle.mp4norm.specs.format.Runs.{comparison_status, is_of_file, loss_refusal, refusal_text, EndsJob, FitsIn, HasChanged, IsFound, IsMeasured, IsNoLonger, IsSettled, RefusesMeasure, RefusesTarget};
+
+use crate::shell::action::Finding;
+use mp4_answers::commands::answer_len::text_len;
+use mp4_answers::commands::check::check_counted;
+use mp4_answers::commands::compare::Failure;
+use mp4_answers::commands::freed_boxes::Found as Freed;
+use mp4_answers::commands::perform::perform;
+use mp4_answers::commands::strip_lines::refusal_of;
+use mp4_answers::commands::sum::sum_file;
+use mp4_answers::jobs::Job;
+use mp4_answers::text::digits::DIGEST;
+use mp4_answers::text::fault_text::{fault_line, status};
+use mp4_answers::text::verdicts::verdict_status;
+use mp4_boxes::{Refusal, Steps};
+use mp4_store::{Sink, Store, WriteFailed};
+use std::alloc::Global;
+use std::process::ExitCode;
+use std::sync::ledger::Ledger;
+
+/// What is read, of which it can be told whether it is as it was when it was opened.
+pub(crate) trait Kept: Store {
+    /// It may be another by now.
+    ghost may_change: { Self → Bool };
+
+    /// Whether it is as it was; a failure where it isn't, or where that can't be told.
+    fn stays(&self) -> Result<(), Refusal>
+        ensures { IfErr result (HasChanged (may_change self.now)) };
+
+    /// Whether a failed read may come from a change.
+    fn may_fail_changed(&self) -> bool;
+}
+
+/// Where an answer goes: opened before the first byte, and closed behind the last one. Neither puts
+/// anything.
+pub(crate) trait Outlet: Sink {
+    /// It may fail to open or to close.
+    ghost may_fail: { Self → Bool };
+
+    /// Whether it is to be told how many bytes come.
+    fn asks_length(&self) -> bool;
+
+    /// Opens it, with so many bytes to come, where that is known.
+    fn open(&mut self, len: Option<u64>) -> Result<(), Refusal>
+        ensures nothing { Self.takes self.old self.new [] }
+        ensures refusal { IfErr result (RefusesTarget (may_fail self.new)) };
+
+    /// Refuses an answer that has more bytes than it may.
+    fn refuse_length(&mut self, most: u64) -> Refusal
+        ensures nothing { Self.takes self.old self.new [] }
+        ensures refusal { RefusesTarget (may_fail self.new) result };
+
+    /// Closes it, with the whole answer in it.
+    fn close(&mut self) -> Result<(), Refusal>
+        ensures nothing { Self.takes self.old self.new [] }
+        ensures refusal { IfErr result (RefusesTarget (may_fail self.new)) };
+
+    /// Gives it up, since there is no answer.
+    fn give_up(&mut self)
+        ensures nothing { Self.takes self.old self.new [] };
+}
+
+/// Whether a refusal says something of the file, and not of what failed.
+pub(crate) fn is_of_file(refusal: &Refusal) -> bool
+    ensures { result ≡ is_of_file refusal.now }
+{
+    matches!(refusal, Refusal::Fault(_) | Refusal::NoSuchTrack)
+}
+
+// Whether an answer stands only if what was read is as it was.
+fn asks_again<S: Kept, T>(store: &S, answer: &Result<T, Refusal>) -> bool {
+    match answer {
+        Ok(_) => true,
+        Err(Refusal::StoreFailed) => store.may_fail_changed(),
+        Err(refusal) => is_of_file(refusal),
+    }
+}
+
+/// An answer that says something of the file, if the file is still as it was; else that it has
+/// changed. A failure stays as it is.
+pub(crate) fn settled<S: Kept, T: Drop>(store: &S, answer: Result<T, Refusal>) -> Result<T, Refusal>
+    ensures { IsSettled (S.may_change store.now) answer result }
+{
+    if asks_again(store, &answer) {
+        store.stays()?;
+    }
+    answer
+}
+
+// How many bytes the text has, where that is to be told, or may be too many.
+fn measured<S: Kept, L: Ledger, M: Ledger>(
+    alloc: Global,
+    job: Job,
+    most: Option<u64>,
+    is_told: bool,
+    store: &mut S,
+    steps: &mut Steps<L, M>,
+) -> Result<Option<u64>, Refusal>
+    ensures store { OnlyReads S.Store store.old store.new result }
+    ensures length { WhereRead S.Store store.old result (IsMeasured most job.entry) }
+    ensures refusal { IfErr result
+        (RefusesMeasure S.Store (S.may_change store.new) job.entry store.old store.new) }
+{
+    if most.is_none() && !is_told {
+        return Ok(None);
+    }
+    let total = text_len(alloc, job, store, steps);
+    let total = settled(store, total)?;
+    Ok(Some(total))
+}
+
+// Opens where the answer goes, unless that has more bytes than it may.
+fn open_for<K: Outlet>(out: &mut K, len: Option<u64>, most: Option<u64>) -> Result<(), Refusal>
+    ensures nothing { K.takes out.old out.new [] }
+    ensures short { OnOk result (IsNoLonger len most) }
+    ensures refusal { IfErr result (RefusesTarget (K.may_fail out.new)) }
+{
+    if let (Some(len), Some(most)) = (len, most)
+        && len > most
+    {
+        return Err(out.refuse_length(most));
+    }
+    out.open(len)
+}
+
+/// Does a job: measures its text, where that is asked for, opens what is written, does the job,
+/// looks whether what was read has changed, and closes what was written. No text is put that has
+/// more bytes than `most`.
+pub(crate) fn run_job<S: Kept, K: Outlet, L: Ledger, M: Ledger>(
+    alloc: Global,
+    job: Job,
+    most: Option<u64>,
+    store: &mut S,
+    out: &mut K,
+    steps: &mut Steps<L, M>,
+) -> Result<(), Refusal>
+    ensures store { KeepsFile S.Store store.old store.new }
+    ensures answer { EndsJob S.Store K.Sink (S.may_change store.new) (K.may_fail out.new)
+        job.entry store.old store.new out.old out.new result }
+    ensures whole { OnOk result (JobPutsWhole job.entry (K.takes out.old out.new)) }
+    ensures short { OnOk result (WhereHonest S.Store store.old (FitsIn most job.entry)) }
+{
+    let is_told = out.asks_length();
+    let len = measured(alloc, job, most, is_told, store, steps)?;
+    open_for(out, len, most)?;
+    let answer = perform(alloc, job, store, out, steps);
+    match settled(store, answer) {
+        Ok(()) => out.close(),
+        Err(refusal) => {
+            out.give_up();
+            Err(refusal)
+        }
+    }
+}
+
+/// Why no copy is made without boxes: something is lost with one, where that isn't allowed.
+pub(crate) fn loss_refusal(found: &Freed, is_lossy: bool) -> Option<Refusal>
+    ensures { result ≡ loss_refusal is_lossy found.now.first_loss }
+{
+    if is_lossy { None } else { refusal_of(found) }
+}
+
+// Puts the line of a refusal.
+fn put_refusal<E: Sink>(errors: &mut E, refusal: &Refusal) -> Result<(), WriteFailed>
+    ensures { TakesPrefix (E.takes errors.old errors.new) (fault_line refusal.now ++ 10 ∷ []) }
+{
+    errors.put(fault_line(refusal).as_bytes())?;
+    errors.put(b"\n")
+}
+
+/// Says why there is no answer, in a line, and gives the status that the program ends with.
+pub(crate) fn ended<E: Sink>(errors: &mut E, answer: &Result<(), Refusal>) -> ExitCode
+    ensures status { exit_status result ≡ verdict_status answer.now }
+    ensures line { TakesPrefix (E.takes errors.old errors.new) (refusal_text answer.now) }
+{
+    if let Err(refusal) = answer {
+        let _ = put_refusal(errors, refusal);
+    }
+    ExitCode::from(verdict_status(answer))
+}
+
+/// What was found of a file: its sum, where that was asked for, or that it is accepted.
+pub(crate) type Found = Result<Option<[u8; DIGEST]>, Refusal>;
+
+/// Finds what is asked for of what is read.
+pub(crate) fn find<S: Store, L: Ledger, M: Ledger>(
+    alloc: Global,
+    finding: Finding,
+    store: &mut S,
+    steps: &mut Steps<L, M>,
+) -> Found
+    ensures store { KeepsFile S.Store store.old store.new }
+    ensures answer { IsFound finding (look_of S.Store store.old store.new) result }
+{
+    match finding {
+        Finding::Verdict => {
+            check_counted(alloc, store, steps)?;
+            Ok(None)
+        }
+        Finding::Sum { leaving, .. } => {
+            let digest = sum_file(alloc, store, leaving, steps)?;
+            Ok(Some(digest))
+        }
+    }
+}
+
+/// The status of what was found of a file.
+pub(crate) fn found_status(found: &Found) -> u8
+    ensures { result ≡ verdict_status found.now }
+{
+    match found {
+        Ok(_) => 0,
+        Err(refusal) => status(refusal),
+    }
+}
+
+/// The status where two files differ, or one has another sum than it should.
+pub(crate) const DIFFER: u8 = 5;
+
+/// The status of a comparison: whether the files are the same, or why that isn't known.
+pub(crate) fn comparison_status(answer: &Result<bool, Failure>) -> u8
+    ensures { result ≡ comparison_status answer.now }
+{
+    match answer {
+        Ok(true) => 0,
+        Ok(false) => DIFFER,
+        Err(failure) => status(&failure.refusal),
+    }
+}

@@ -1,0 +1,116 @@
+-- What a comparison of bytes in memory comes to.
+use Rattle.std.proofs.Common.{◌≡◌, inl, inr, ℕ, List, Bool, true, false, refl, arith}
+use Rattle.std.specs.Prelude.{Result, Ok, Err, IfErr}
+use Rattle.mp4_boxes.specs.declared.refusal.Refusal.{Refusal}
+use Rattle.mp4_boxes.specs.declared.refusal.Refusal.TheVariants as refusals
+use Rattle.mp4_content.specs.declared.without.Without.{Without}
+use Rattle.mp4_present.specs.words.Opening.{RefusesOpen}
+use Rattle.mp4_answers.specs.declared.commands.compare.Asked.{Asked}
+use Rattle.mp4_answers.specs.declared.commands.compare.Failure.{Failure}
+use Rattle.mp4_answers.specs.declared.commands.compare.Listing.{Listing}
+use Rattle.mp4_answers.specs.declared.commands.compare.Listing.TheVariants as listings
+use Rattle.mp4_answers.specs.declared.commands.compare.Side.{Side}
+use Rattle.mp4_answers.specs.declared.commands.compare.Side.TheVariants as sides
+use Rattle.mp4_answers.specs.declared.jobs.Syntax.{Syntax}
+use Rattle.mp4_answers.specs.declared.jobs.Syntax.TheVariants as syntaxes
+use Rattle.mp4_answers.specs.format.CompareHeadline.{IsVerdict, IsTold, PutsSuch}
+use Rattle.mp4_answers.specs.words.Compares.{PutsAnswer, PutsSame, RefusesAnswer, RefusesBoth, RefusesCompare, is_silent, is_text}
+use Rattle.mp4norm_c.specs.declared.answer.Answer.{Answer}
+use Rattle.mp4norm_c.specs.format.Exports.{Compared, is_same, is_other, first_refused, second_refused, no_memory, IsWindow, plain, same_in, same_listed, same_text}
+use Rattle.mp4norm_c.specs.words.Comparing.{RefusesOne, RefusesRoom, RefusesTwo, failure_told, verdict_number}
+
+-- ---- why there is no answer, over bytes in memory
+
+one_refused : (refusal : Refusal) (file : List ℕ) → RefusesOpen true file 0 0 refusal → RefusesOne file refusal
+one_refused (refusals.Fault f) file w = w refl
+one_refused refusals.Memory file w = tt
+one_refused refusals.StoreFailed file w = absurd (omega (arith, w))
+one_refused refusals.StoreChanged file w = absurd (w refl)
+one_refused refusals.WriteFailed file w = absurd w
+one_refused refusals.NoSuchTrack file w = absurd w
+
+none_risen : (RefusesBoth true true 0 0 0 0 refusals.StoreFailed) → ⊥
+none_risen (inl w) = omega (arith, w)
+none_risen (inr w) = omega (arith, w)
+
+both_read : (refusal : Refusal) → RefusesBoth true true 0 0 0 0 refusal → ⊥
+both_read (refusals.Fault f) w = w
+both_read refusals.Memory w = w
+both_read refusals.StoreFailed w = none_risen w
+both_read refusals.StoreChanged w = w refl refl
+both_read refusals.WriteFailed w = w
+both_read refusals.NoSuchTrack w = w
+
+room_refused : (refusal : Refusal) (Took : List ℕ → Type 0) (puts puts_after : ℕ) → RefusesAnswer Took puts puts_after refusal → RefusesRoom refusal
+room_refused (refusals.Fault f) Took puts puts_after w = absurd w
+room_refused refusals.Memory Took puts puts_after w = tt
+room_refused refusals.StoreFailed Took puts puts_after w = absurd w
+room_refused refusals.StoreChanged Took puts puts_after w = absurd w
+room_refused refusals.WriteFailed Took puts puts_after w = tt
+room_refused refusals.NoSuchTrack Took puts puts_after w = absurd w
+
+module _ (file other : List ℕ) (Took : List ℕ → Type 0) (puts puts_after : ℕ) where
+  two_refused : (side : Side) (f : Failure) → f.side ≡ side → RefusesCompare (RefusesOpen true file 0 0) (RefusesOpen true other 0 0) (RefusesBoth true true 0 0 0 0) Took puts puts_after f → RefusesTwo file other f
+  two_refused sides.First f is why = let w = rw is at why in rw is (one_refused f.refusal file w.0)
+  two_refused sides.Second f is why = let w = rw is at why in rw is (one_refused f.refusal other w.0)
+  two_refused sides.Both f is why = let w = rw is at why in absurd (both_read f.refusal w.0)
+  two_refused sides.Neither f is why = let w = rw is at why in rw is (room_refused f.refusal Took puts puts_after w)
+
+  pub refused_two : (r : Result Bool Failure) → IfErr r (RefusesCompare (RefusesOpen true file 0 0) (RefusesOpen true other 0 0) (RefusesBoth true true 0 0 0 0) Took puts puts_after) → IfErr r (RefusesTwo file other)
+  refused_two (Ok same) why = tt
+  refused_two (Err f) why = two_refused f.side f refl why
+
+-- ---- what is put of files that are the same
+
+same_as_text : (syntax : Syntax) (l : Without) (Took : List ℕ → Type 0) → PutsSame l (is_text syntax) Took → Took (same_in syntax l)
+same_as_text syntaxes.Text l Took p = p
+same_as_text syntaxes.Json l Took p = p
+
+same_as_listed : (listing : Listing) (l : Without) (Took : List ℕ → Type 0) → PutsSame l (is_silent listing) Took → Took (same_listed listing l)
+same_as_listed (listings.First syntax) l Took p = p
+same_as_listed (listings.All lines) l Took p = same_as_text lines.syntax l Took p
+
+pub same_put : (asked : Asked) (Took : List ℕ → Type 0) (same : Bool) → PutsAnswer asked.leaving (is_silent asked.listing) Took same → same ≡ true → Took (same_text asked)
+same_put asked Took true p e = same_as_listed asked.listing asked.leaving Took p
+same_put asked Took false p e = cc
+
+-- ---- in numbers
+
+module _ (asked : Asked) (file other : List ℕ) (from : ℕ) (before after : List ℕ) (a : Answer) where
+  pub told_ok : (Took : List ℕ → Type 0) (text : List ℕ) (many : ℕ) (same : Bool) → ((bytes : List ℕ) → Took bytes → text ≡ bytes) → IsVerdict asked.leaving file other same → (same ≡ true → Took (same_text asked))
+      → (same ≡ false → PutsSuch Took (IsTold asked.listing asked.leaving file other)) → IsWindow from before after text many → a ≡ plain (verdict_number same) many → Compared asked file other from before after a
+  told_ok Took text many true taken v s d w e = is_same many e v (rw (taken (same_text asked) (s refl)) at w)
+  told_ok Took text many false taken v s d w e = let told = d refl in is_other told.0 many e v told.1 (rw (taken told.0 told.2) at w)
+
+  told_first : (refusal : Refusal) → a ≡ failure_told sides.First refusal → after ≡ before → RefusesOne file refusal → Compared asked file other from before after a
+  told_first (refusals.Fault f) e left w = first_refused f e w left
+  told_first refusals.Memory e left w = no_memory e left
+  told_first refusals.StoreFailed e left w = absurd w
+  told_first refusals.StoreChanged e left w = absurd w
+  told_first refusals.WriteFailed e left w = absurd w
+  told_first refusals.NoSuchTrack e left w = absurd w
+
+  told_second : (refusal : Refusal) → a ≡ failure_told sides.Second refusal → after ≡ before → RefusesOne other refusal → Compared asked file other from before after a
+  told_second (refusals.Fault f) e left w = second_refused f e w left
+  told_second refusals.Memory e left w = no_memory e left
+  told_second refusals.StoreFailed e left w = absurd w
+  told_second refusals.StoreChanged e left w = absurd w
+  told_second refusals.WriteFailed e left w = absurd w
+  told_second refusals.NoSuchTrack e left w = absurd w
+
+  told_neither : (refusal : Refusal) → a ≡ failure_told sides.Neither refusal → after ≡ before → RefusesRoom refusal → Compared asked file other from before after a
+  told_neither (refusals.Fault f) e left w = absurd w
+  told_neither refusals.Memory e left w = no_memory e left
+  told_neither refusals.StoreFailed e left w = absurd w
+  told_neither refusals.StoreChanged e left w = absurd w
+  told_neither refusals.WriteFailed e left w = no_memory e left
+  told_neither refusals.NoSuchTrack e left w = absurd w
+
+  told_side : (side : Side) (f : Failure) → f.side ≡ side → a ≡ failure_told f.side f.refusal → after ≡ before → RefusesTwo file other f → Compared asked file other from before after a
+  told_side sides.First f is e left why = told_first f.refusal (rw is at e) left (rw is at why)
+  told_side sides.Second f is e left why = told_second f.refusal (rw is at e) left (rw is at why)
+  told_side sides.Both f is e left why = absurd (rw is at why)
+  told_side sides.Neither f is e left why = told_neither f.refusal (rw is at e) left (rw is at why)
+
+  pub told_err : (f : Failure) → a ≡ failure_told f.side f.refusal → after ≡ before → RefusesTwo file other f → Compared asked file other from before after a
+  told_err f e left why = told_side f.side f refl e left why
