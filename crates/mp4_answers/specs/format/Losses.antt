@@ -34,7 +34,9 @@ encryption_uuids = 0xa2394f525a9b4f14a2446c427c648df4 ∷ 0x8974dbce7be74c5184f9
 abbrev pub time_uuid : ℕ
 time_uuid = 0x6d1d9b0542d544e680e2141daff757b2
 
--- boxes that say flags or groups of samples in another way than the profile reads
+-- boxes that say flags or groups of samples in another way than the profile reads: `stdp` (8.5.3),
+-- `stsh` (8.6.3), `sdtp` (8.6.4), `padb` (8.7.6), `subs` (8.7.7), `sgpd` (8.9.3), `csgp` (compact
+-- groups, 8.9.5), `stps` (partial sync samples, QuickTime)
 abbrev pub flag_kinds : Rule → List (List ℕ)
 flag_kinds rules.TrackFragment =
     codes "sdtp" ∷ codes "subs" ∷ codes "sgpd" ∷ codes "csgp" ∷ []
@@ -42,7 +44,7 @@ flag_kinds rules.SampleTable = codes "stps" ∷ codes "stsh" ∷ codes "padb" �
     ∷ codes "subs" ∷ codes "csgp" ∷ []
 flag_kinds _ = []
 
--- where `meta` holds items
+-- where `meta` (8.11.1) holds items
 abbrev pub holds_items : Rule → Bool
 holds_items rules.File = true
 holds_items rules.MovieFragment = true
@@ -61,7 +63,7 @@ uuid_loss rule (Some uuid) has_time =
     else if (uuid == time_uuid) && is_fragment rule && not has_time then Some losses.Times
     else None
 
--- with a box of this type under the rule
+-- with a box of this type under the rule; `emsg` holds an event (ISO/IEC 23009-1, 5.10.3.3)
 abbrev pub loss_of : Rule → List ℕ → Option ℕ → Bool → Option Loss
 loss_of rule kind uuid has_time =
     if is_among encryption_kinds kind then Some losses.Encryption
@@ -99,11 +101,12 @@ pub data HasBox (kind : List ℕ) (top : Bool) : List ℕ → Bool → Type 0 wh
       → bytes_eq h.kind kind ≡ false → HasBox kind top (drop h.size bytes) has
       → HasBox kind top bytes has
 
--- a fragment of a track keeps its `tfdt` (8.8.12), which tells when it begins
+-- where that is asked for, the bytes have a `tfdt`
 abbrev pub KeepsIf : Bool → Rule → List ℕ → Bool → Type 0
 KeepsIf true rule bytes has = HasBox (codes "tfdt") (is_top rule) bytes has
 KeepsIf false rule bytes has = has ≡ false
 
+-- a fragment of a track keeps its `tfdt` (8.8.12), which tells when it begins
 abbrev pub KeepsTime : List Name → Rule → List ℕ → Bool → Type 0
 KeepsTime names rule bytes has =
     KeepsIf (is_fragment rule && not (is_named names rule (codes "tfdt") None)) rule bytes has
@@ -146,7 +149,8 @@ IsFirstLost names file lost = FirstLost names rules.File false 0 file lost
 
 -- ---- what is told of it
 
--- a name without which nothing is lost that counts: which boxes it means shows by its type alone
+-- a name whose boxes are looked at one by one, since they differ in what is lost with them; those
+-- of any other name are only counted
 abbrev pub asks : Name → Bool
 asks (names.Type container kind) = bytes_eq kind.0 (codes "uuid")
 asks (names.Uuid container uuid) = true
