@@ -21,6 +21,13 @@ impl<W: Write> Calls<W> {
         Calls { writer, failed: 0 }
     }
 
+    /// The writer.
+    pub(crate) fn writer(&self) -> &W
+        ensures { result.now ≡ self.now.writer }
+    {
+        &self.writer
+    }
+
     /// One call: how many of the first bytes were taken; or `None` where it was interrupted, and
     /// may be made again.
     pub(crate) fn call(

@@ -1,15 +1,16 @@
 -- What a run of a job comes to, from what its parts do.
-use Rattle.std.proofs.Common.{◌≡◌, ◌∙◌, inl, inr, refl, ℕ, List, [], ◌++◌, sym, subst}
-use Rattle.std.specs.Prelude.{Bool, Option, None, Some, Result, Ok, Err, OnOk, OnErr, IsErrAnd}
+use Rattle.std.proofs.Common.{◌≡◌, ◌∙◌, ◌⊎◌, inl, inr, refl, ℕ, List, [], ◌++◌, sym, subst}
+use Rattle.std.specs.Prelude.{Bool, IsTrue, Option, None, Some, Result, Ok, Err, OnOk, OnErr, IsErrAnd}
 use Rattle.std.proofs.lemmas.List.{append-nil}
 use Rattle.mp4_boxes.specs.declared.refusal.Refusal.{Refusal}
-use Rattle.mp4_store.specs.words.Device.{TakesPrefix}
+use Rattle.mp4_store.specs.declared.store.Store.{Ghosts as Store}
+use Rattle.mp4_store.specs.words.Device.{HasRisen, TakesPrefix}
 use Rattle.mp4_store.proofs.Known.{IsJoining, TakesPrefix-then, TakesPrefix-whole}
 use Rattle.mp4_content.specs.declared.without.Without.{Without}
 use Rattle.mp4_answers.specs.declared.jobs.Job.{Job}
 use Rattle.mp4_answers.specs.declared.jobs.Job.TheVariants as jobs
 use Rattle.mp4_answers.specs.words.WholePut.{PutsWhole, JobPutsWhole}
-use Rattle.mp4norm.specs.format.Runs.{FitsIn, HasChanged, IsMeasured, IsNoLonger, IsSettled}
+use Rattle.mp4norm.specs.format.Runs.{FitsIn, HasChanged, IsLonger, IsMeasured, IsNoLonger, IsSettled, IsTooLong, RefusesLength, RefusesOpening, RefusesOutlet, Says}
 
 pub on_any : {T E P : Type 0} (r : Result T E) → P → OnOk r P
 on_any (Ok x) p = p
@@ -19,6 +20,17 @@ pub fits : (most len : Option ℕ) (job : Job) (file : List ℕ) → IsMeasured 
 fits None len job file h le = tt
 fits (Some most) None job file h le = absurd h
 fits (Some most) (Some n) job file h le = (n, h, le)
+
+too_long : (most len : Option ℕ) (job : Job) (file : List ℕ) → IsMeasured most job file len → IsLonger len most → IsTooLong most job file
+too_long None None job file h gt = absurd gt
+too_long None (Some n) job file h gt = absurd gt
+too_long (Some most) None job file h gt = absurd h
+too_long (Some most) (Some n) job file h gt = (n, h, gt)
+
+-- what is written can't be opened for a text of this length, which was measured
+pub not_opened : {X : Type 0} (S : Store X) (store : X) (most len : Option ℕ) (job : Job) (may_fail : Bool) (e : Refusal) → (IsTrue (S.is_honest store) → IsMeasured most job (S.file store) len) → RefusesOpening len most may_fail e → RefusesOutlet may_fail e ⊎ RefusesLength S most job store e
+not_opened S store most len job may_fail e measured (inl r) = inl r
+not_opened S store most len job may_fail e measured (inr (is, gt)) = inr (is, λ honest. too_long most len job (S.file store) (measured honest) gt)
 
 -- an answer stands that is Ok
 pub settled_ok : {A P : Type 0} (may_change : Bool) (answer result : Result A Refusal) (x : A) → IsSettled may_change answer result → result ≡ Ok x → OnOk answer P → P
@@ -60,3 +72,13 @@ between {takes = takes} joins a b c d first last text t = subst (λ (xs : List �
 pub put_behind : {Y : Type 0} {takes : Y → Y → List ℕ → Type 0} (joins : IsJoining takes) (a b c : Y) (xs ys : List ℕ) {T E : Type 0} (r : Result T E) → takes a b xs → OnOk r (takes b c ys) → OnErr r (TakesPrefix (takes b c) ys) → TakesPrefix (takes a c) (xs ++ ys)
 put_behind {takes = takes} joins a b c xs ys (Ok x) p q f = TakesPrefix-then joins a b c xs ys (xs ++ ys) p (TakesPrefix-whole (takes b c) ys q) refl
 put_behind joins a b c xs ys (Err e) p q f = TakesPrefix-then joins a b c xs ys (xs ++ ys) p f refl
+
+-- and that whole
+pub put_whole : {Y : Type 0} {takes : Y → Y → List ℕ → Type 0} (joins : IsJoining takes) (a b c : Y) (xs ys : List ℕ) {T E : Type 0} (r : Result T E) → takes a b xs → OnOk r (takes b c ys) → OnOk r (takes a c (xs ++ ys))
+put_whole joins a b c xs ys (Ok x) p q = joins a b c xs ys p q
+put_whole joins a b c xs ys (Err e) p q = tt
+
+-- a text was put whole, or a put failed
+pub says : {Y : Type 0} (takes : Y → Y → List ℕ → Type 0) (a b : Y) (text : List ℕ) (before after : ℕ) {T E : Type 0} (r : Result T E) → OnOk r (takes a b text) → OnErr r (HasRisen before after) → Says (takes a b) text before after
+says takes a b text before after (Ok x) p q = inl p
+says takes a b text before after (Err e) p q = inr q

@@ -1,14 +1,14 @@
 //! The program over whatever it reads and writes: what it answers, and with which status it ends.
 //! The shell adds names, descriptors, clocks, and what is said beside an answer.
-ghost use Rattle.std.specs.Prelude.{◌≡◌, [], ◌∷◌, ◌++◌, Bool, IfErr, OnOk};
+ghost use Rattle.std.specs.Prelude.{◌≡◌, [], ◌∷◌, ◌++◌, Bool, true, false, IfErr, MatchResult, OnErr, OnOk};
 ghost use Rattle.std.specs.Process.{exit_status};
-ghost use Rattle.mp4_store.specs.words.Device.{TakesPrefix};
+ghost use Rattle.mp4_store.specs.words.Device.{HasRisen, TakesPrefix};
 ghost use Rattle.mp4_present.specs.words.StoresRead.{OnlyReads, WhereHonest, WhereRead};
 ghost use Rattle.mp4_answers.specs.format.Run.{KeepsFile, look_of};
 ghost use Rattle.mp4_answers.specs.format.Texts.{fault_line};
 ghost use Rattle.mp4_answers.specs.format.Verdicts.{verdict_status};
 ghost use Rattle.mp4_answers.specs.words.WholePut.{JobPutsWhole};
-ghost use Rattle.mp4norm.specs.format.Runs.{comparison_status, is_of_file, loss_refusal, refusal_text, EndsJob, FitsIn, HasChanged, IsFound, IsMeasured, IsNoLonger, IsSettled, RefusesMeasure, RefusesTarget};
+ghost use Rattle.mp4norm.specs.format.Runs.{comparison_status, is_of_file, loss_refusal, refusal_text, EndsJob, FitsIn, HasChanged, IsFound, IsMeasured, IsNoLonger, IsSettled, RefusesMeasure, RefusesOpening, RefusesOutlet, Says};
 
 use crate::shell::action::Finding;
 use mp4_answers::commands::answer_len::text_len;
@@ -38,7 +38,7 @@ pub(crate) trait Kept: Store {
         ensures { IfErr result (HasChanged (may_change self.now)) };
 
     /// Whether a failed read may come from a change.
-    fn may_fail_changed(&self) -> bool;
+    fn fails_by_change(&self) -> bool;
 }
 
 /// Where an answer goes: opened before the first byte, and closed behind the last one. Neither puts
@@ -47,27 +47,34 @@ pub(crate) trait Outlet: Sink {
     /// It may fail to open or to close.
     ghost may_fail: { Self → Bool };
 
+    /// It was closed, and what it has is kept.
+    ghost is_closed: { Self → Bool };
+
     /// Whether it is to be told how many bytes come.
     fn asks_length(&self) -> bool;
 
     /// Opens it, with so many bytes to come, where that is known.
     fn open(&mut self, len: Option<u64>) -> Result<(), Refusal>
         ensures nothing { Self.takes self.old self.new [] }
-        ensures refusal { IfErr result (RefusesTarget (may_fail self.new)) };
+        ensures closed { is_closed self.new ≡ false }
+        ensures refusal { IfErr result (RefusesOutlet (may_fail self.new)) };
 
-    /// Refuses an answer that has more bytes than it may.
-    fn refuse_length(&mut self, most: u64) -> Refusal
+    /// Keeps for what is said that the answer has more bytes than it may.
+    fn note_length(&mut self, most: u64)
         ensures nothing { Self.takes self.old self.new [] }
-        ensures refusal { RefusesTarget (may_fail self.new) result };
+        ensures closed { is_closed self.new ≡ is_closed self.old };
 
     /// Closes it, with the whole answer in it.
     fn close(&mut self) -> Result<(), Refusal>
         ensures nothing { Self.takes self.old self.new [] }
-        ensures refusal { IfErr result (RefusesTarget (may_fail self.new)) };
+        ensures closed { MatchResult result (λ _. is_closed self.new ≡ true)
+            (λ _. is_closed self.new ≡ false) }
+        ensures refusal { IfErr result (RefusesOutlet (may_fail self.new)) };
 
     /// Gives it up, since there is no answer.
     fn give_up(&mut self)
-        ensures nothing { Self.takes self.old self.new [] };
+        ensures nothing { Self.takes self.old self.new [] }
+        ensures closed { is_closed self.new ≡ false };
 }
 
 /// Whether a refusal says something of the file, and not of what failed.
@@ -81,7 +88,7 @@ pub(crate) fn is_of_file(refusal: &Refusal) -> bool
 fn asks_again<S: Kept, T>(store: &S, answer: &Result<T, Refusal>) -> bool {
     match answer {
         Ok(_) => true,
-        Err(Refusal::StoreFailed) => store.may_fail_changed(),
+        Err(Refusal::StoreFailed) => store.fails_by_change(),
         Err(refusal) => is_of_file(refusal),
     }
 }
@@ -123,19 +130,22 @@ fn measured<S: Kept, L: Ledger, M: Ledger>(
 fn open_for<K: Outlet>(out: &mut K, len: Option<u64>, most: Option<u64>) -> Result<(), Refusal>
     ensures nothing { K.takes out.old out.new [] }
     ensures short { OnOk result (IsNoLonger len most) }
-    ensures refusal { IfErr result (RefusesTarget (K.may_fail out.new)) }
+    ensures closed { OnErr result (K.is_closed out.new ≡ true → K.is_closed out.old ≡ true) }
+    ensures refusal { IfErr result (RefusesOpening len most (K.may_fail out.new)) }
 {
     if let (Some(len), Some(most)) = (len, most)
         && len > most
     {
-        return Err(out.refuse_length(most));
+        out.note_length(most);
+        return Err(Refusal::WriteFailed);
     }
     out.open(len)
 }
 
 /// Does a job: measures its text, where that is asked for, opens what is written, does the job,
-/// looks whether what was read has changed, and closes what was written. No text is put that has
-/// more bytes than `most`.
+/// looks whether what was read has changed, and closes what was written: that stays only where the
+/// whole answer is in it. No text is put that has more bytes than `most`, and such a text alone is
+/// refused for its length.
 pub(crate) fn run_job<S: Kept, K: Outlet, L: Ledger, M: Ledger>(
     alloc: Global,
     job: Job,
@@ -145,10 +155,12 @@ pub(crate) fn run_job<S: Kept, K: Outlet, L: Ledger, M: Ledger>(
     steps: &mut Steps<L, M>,
 ) -> Result<(), Refusal>
     ensures store { KeepsFile S.Store store.old store.new }
-    ensures answer { EndsJob S.Store K.Sink (S.may_change store.new) (K.may_fail out.new)
+    ensures answer { EndsJob S.Store K.Sink most (S.may_change store.new) (K.may_fail out.new)
         job.entry store.old store.new out.old out.new result }
     ensures whole { OnOk result (JobPutsWhole job.entry (K.takes out.old out.new)) }
     ensures short { OnOk result (WhereHonest S.Store store.old (FitsIn most job.entry)) }
+    ensures closed { MatchResult result (λ _. K.is_closed out.new ≡ true)
+        (λ _. K.is_closed out.new ≡ true → K.is_closed out.old ≡ true) }
 {
     let is_told = out.asks_length();
     let len = measured(alloc, job, most, is_told, store, steps)?;
@@ -172,16 +184,22 @@ pub(crate) fn loss_refusal(found: &Freed, is_lossy: bool) -> Option<Refusal>
 
 // Puts the line of a refusal.
 fn put_refusal<E: Sink>(errors: &mut E, refusal: &Refusal) -> Result<(), WriteFailed>
-    ensures { TakesPrefix (E.takes errors.old errors.new) (fault_line refusal.now ++ 10 ∷ []) }
+    ensures line { TakesPrefix (E.takes errors.old errors.new) (fault_line refusal.now ++ 10 ∷ []) }
+    ensures whole { OnOk result (E.takes errors.old errors.new (fault_line refusal.now ++ 10 ∷ [])) }
+    ensures cause { OnErr result
+        (HasRisen (E.put_failures errors.old) (E.put_failures errors.new)) }
 {
     errors.put(fault_line(refusal).as_bytes())?;
     errors.put(b"\n")
 }
 
-/// Says why there is no answer, in a line, and gives the status that the program ends with.
+/// Says why there is no answer, in a line, as far as that can be put, and gives the status that the
+/// program ends with.
 pub(crate) fn ended<E: Sink>(errors: &mut E, answer: &Result<(), Refusal>) -> ExitCode
     ensures status { exit_status result ≡ verdict_status answer.now }
     ensures line { TakesPrefix (E.takes errors.old errors.new) (refusal_text answer.now) }
+    ensures said { Says (E.takes errors.old errors.new) (refusal_text answer.now)
+        (E.put_failures errors.old) (E.put_failures errors.new) }
 {
     if let Err(refusal) = answer {
         let _ = put_refusal(errors, refusal);

@@ -1,9 +1,10 @@
 -- What a run of the program comes to, over whatever it reads and writes.
-use Rattle.std.specs.Prelude.{◌≡◌, ◌⊎◌, ℕ, List, [], ◌∷◌, ◌++◌, ◌≤◌, Bool, true, false, IsTrue, if◌then◌else◌, Option, None, Some, option_map, Result, IsErrAnd, OnOk, Ok, Err}
+use Rattle.std.specs.Prelude.{◌≡◌, ◌⊎◌, ℕ, List, [], ◌∷◌, ◌++◌, ◌<◌, ◌≤◌, Bool, true, false, IsTrue, if◌then◌else◌, Option, None, Some, option_map, Result, IsErrAnd, OnOk, Ok, Err}
 use Rattle.mp4_boxes.specs.declared.refusal.Refusal.{Refusal}
 use Rattle.mp4_boxes.specs.declared.refusal.Refusal.TheVariants as refusals
 use Rattle.mp4_store.specs.declared.store.Store.{Ghosts as Store}
 use Rattle.mp4_store.specs.declared.sink.Sink.{Ghosts as Sink}
+use Rattle.mp4_store.specs.words.Device.{HasRisen}
 use Rattle.mp4_answers.specs.declared.commands.freed_boxes.LostBox.{LostBox}
 use Rattle.mp4_answers.specs.declared.jobs.Job.{Job}
 use Rattle.mp4_answers.specs.format.Answers.{Judged, Performed, RefusesJob}
@@ -36,11 +37,21 @@ IsSettled may_change answer result = (result ≡ answer) ⊎ IsErrAnd result (Ha
 
 -- ---- where an answer goes
 
--- it can't be opened or closed, or would get too long
-abbrev pub RefusesTarget : Bool → Refusal → Type 0
-RefusesTarget may_fail refusals.WriteFailed = IsTrue may_fail
-RefusesTarget may_fail refusals.Memory = IsTrue may_fail
-RefusesTarget may_fail _ = ⊥
+-- it can't be opened or closed
+abbrev pub RefusesOutlet : Bool → Refusal → Type 0
+RefusesOutlet may_fail refusals.WriteFailed = IsTrue may_fail
+RefusesOutlet may_fail refusals.Memory = IsTrue may_fail
+RefusesOutlet may_fail _ = ⊥
+
+-- a text of this length is longer than it may be
+abbrev pub IsLonger : Option ℕ → Option ℕ → Type 0
+IsLonger (Some n) (Some most) = most < n
+IsLonger _ _ = ⊥
+
+-- it can't be opened for a text of this length, or the text is too long
+abbrev pub RefusesOpening : Option ℕ → Option ℕ → Bool → Refusal → Type 0
+RefusesOpening len most may_fail e =
+    RefusesOutlet may_fail e ⊎ ((e ≡ refusals.WriteFailed) × IsLonger len most)
 
 -- ---- a job, over a store and a sink, each as it is before and after it
 
@@ -48,7 +59,7 @@ RefusesTarget may_fail _ = ⊥
 -- can't be closed
 abbrev pub IsClosed : {A : Type 0} → Bool → Bool → Result A Refusal → Result A Refusal → Type 0
 IsClosed may_change may_fail answer result = IsSettled may_change answer result
-    ⊎ OnOk answer (IsErrAnd result (RefusesTarget may_fail))
+    ⊎ OnOk answer (IsErrAnd result (RefusesOutlet may_fail))
 
 -- it was performed, between the opening and the closing of what is written
 abbrev pub WasPerformed : {X Y A : Type 0} → Store X → Sink Y → Bool → Bool → Job
@@ -68,13 +79,23 @@ abbrev pub RefusesMeasure : {X : Type 0} → Store X → Bool → Job → X → 
 RefusesMeasure S may_change job store after e =
     WasMeasured {A = Unit {0}} S may_change job store after (Err e)
 
--- or what is written can't be opened, or would get too long
-abbrev pub EndsJob : {X Y A : Type 0} → Store X → Sink Y → Bool → Bool → Job
+-- the text has more bytes than it may
+abbrev pub IsTooLong : Option ℕ → Job → List ℕ → Type 0
+IsTooLong None job file = ⊥
+IsTooLong (Some most) job file = (n : ℕ) × HasLength job file n × (most < n)
+
+-- that is why nothing is put
+abbrev pub RefusesLength : {X : Type 0} → Store X → Option ℕ → Job → X → Refusal → Type 0
+RefusesLength S most job store e = (e ≡ refusals.WriteFailed)
+    × (IsTrue (S.is_honest store) → IsTooLong most job (S.file store))
+
+-- or what is written can't be opened, or the text has more bytes than it may
+abbrev pub EndsJob : {X Y A : Type 0} → Store X → Sink Y → Option ℕ → Bool → Bool → Job
     → X → X → Y → Y → Result A Refusal → Type 0
-EndsJob S K may_change may_fail job store after out ended result =
+EndsJob S K most may_change may_fail job store after out ended result =
     WasPerformed S K may_change may_fail job store after out ended result
     ⊎ (K.takes out ended [] × (WasMeasured S may_change job store after result
-    ⊎ IsErrAnd result (RefusesTarget may_fail)))
+    ⊎ IsErrAnd result (λ e. RefusesOutlet may_fail e ⊎ RefusesLength S most job store e)))
 
 -- the length of the text is known where there is a most
 abbrev pub IsMeasured : Option ℕ → Job → List ℕ → Option ℕ → Type 0
@@ -92,6 +113,10 @@ FitsIn None job file = Unit {0}
 FitsIn (Some most) job file = (n : ℕ) × HasLength job file n × (n ≤ most)
 
 -- ---- what is said of it
+
+-- it was put whole, or a put failed
+abbrev pub Says : (List ℕ → Type 0) → List ℕ → ℕ → ℕ → Type 0
+Says Took text before after = Took text ⊎ HasRisen before after
 
 -- a line on standard error, where there is no answer
 abbrev pub refusal_text : {A : Type 0} → Result A Refusal → List ℕ

@@ -1,9 +1,12 @@
 //! Where the answer goes.
 
+ghost use Rattle.std.specs.Prelude.{IfErr, true};
+ghost use Rattle.mp4norm.specs.format.Runs.{RefusesOutlet};
+
 use crate::running::Outlet;
 use crate::shell::action::Target;
 use crate::shell::part_files::{Part, put_in_place, replaced};
-use crate::shell::reports::{Noted, Report};
+use crate::shell::reports::{Heard, Report};
 use mp4_boxes::Refusal;
 use mp4_store::{IoSink, Sink, WriteFailed};
 use std::fs::File;
@@ -34,31 +37,34 @@ impl Write for Out {
 
 /// What the command names, which is opened only once it is known that the answer isn't too long.
 #[derive(Drop)]
-pub(crate) struct Outgoing<'a, 'r> {
+pub(crate) struct Outgoing<'a, 'r, W: Write> {
     rt: &'a HostRuntime,
     target: Target<'a>,
     report: &'r mut Report<'a>,
-    out: Option<Out>,
+    // Where it is open.
+    sink: Option<IoSink<Heard<W>>>,
     failed: u64,
+    is_closed: bool,
 }
 
-impl<'a, 'r> Outgoing<'a, 'r> {
+impl<'a, 'r> Outgoing<'a, 'r, Out> {
     /// Not opened yet.
     pub(crate) fn new(
         rt: &'a HostRuntime,
         target: Target<'a>,
         report: &'r mut Report<'a>,
-    ) -> Outgoing<'a, 'r> {
+    ) -> Outgoing<'a, 'r, Out> {
         Outgoing {
             rt,
             target,
             report,
-            out: None,
+            sink: None,
             failed: 0,
+            is_closed: false,
         }
     }
 
-    // Opens it.
+    // Makes what is to be written.
     fn made(&mut self) -> Result<Out, Refusal> {
         let rt = self.rt;
         match self.target {
@@ -76,37 +82,61 @@ impl<'a, 'r> Outgoing<'a, 'r> {
     }
 }
 
-// A piece is written, and the cause kept where that fails.
-fn put_noted(out: &mut Option<Out>, report: &mut Report, piece: &[u8]) -> Result<(), WriteFailed> {
-    match out {
-        Some(out) => IoSink::new(Noted { out, report }).put(piece),
-        None => Err(WriteFailed),
+// The file that is to take the place of another, where that is open.
+fn part_of(sink: &Option<IoSink<Heard<Out>>>) -> Option<&Part> {
+    match sink {
+        Some(sink) => match &sink.get_ref().out {
+            Out::Part(part) => Some(part),
+            _ => None,
+        },
+        None => None,
     }
 }
 
-impl<'a, 'r> Sink for Outgoing<'a, 'r> {
-    // Nothing is known of the bytes of a file.
-    ghost takes = { λ s t bytes. Unit {0} };
+// Want of memory stays that; whatever else went wrong, the answer can't be written.
+fn of_outlet(refusal: Refusal) -> Refusal
+    ensures { RefusesOutlet true result }
+{
+    match refusal {
+        Refusal::Memory => Refusal::Memory,
+        _ => Refusal::WriteFailed,
+    }
+}
+
+impl<'a, 'r, W: Write> Sink for Outgoing<'a, 'r, W> {
+    ghost use Rattle.mp4norm.specs.words.Outgoing.{TakesOn, TakesOn-nil, TakesOn-trans};
+
+    ghost takes = { λ s t. TakesOn W.contents s.sink t.sink };
 
     ghost put_failures = { λ s. s.failed };
 
     fn put(&mut self, piece: &[u8]) -> Result<(), WriteFailed> {
-        let put = put_noted(&mut self.out, self.report, piece);
-        if put.is_err() {
-            self.failed = self.failed.saturating_add(1);
+        let put = match &mut self.sink {
+            Some(sink) => sink.put(piece),
+            None => Err(WriteFailed),
+        };
+        if put.is_ok() {
+            self.report.pass(piece.len());
+            return put;
+        }
+        self.failed = self.failed.saturating_add(1);
+        if let Some(sink) = &self.sink {
+            self.report.fails(sink.get_ref().error);
         }
         put
     }
 
-    ghost takes_nothing = { λ s. tt };
+    ghost takes_nothing = { λ s. TakesOn-nil _ s.sink };
 
-    ghost takes_on = { λ s t u xs ys p q. tt };
+    ghost takes_on = { λ s t u xs ys. TakesOn-trans _ s.sink t.sink u.sink xs ys };
 }
 
-impl<'a, 'r> Outlet for Outgoing<'a, 'r> {
+impl<'a, 'r> Outlet for Outgoing<'a, 'r, Out> {
     ghost use Rattle.std.specs.Prelude.{true};
 
     ghost may_fail = { λ s. true };
+
+    ghost is_closed = { λ s. s.is_closed };
 
     fn asks_length(&self) -> bool {
         self.report.counts()
@@ -116,39 +146,31 @@ impl<'a, 'r> Outlet for Outgoing<'a, 'r> {
         if let Some(len) = len {
             self.report.begin(self.rt, len);
         }
-        match self.made() {
-            Ok(out) => {
-                self.out = Some(out);
-                Ok(())
-            }
-            Err(Refusal::Memory) => Err(Refusal::Memory),
-            Err(_) => Err(Refusal::WriteFailed),
-        }
+        self.is_closed = false;
+        let out = self.made().map_err(of_outlet)?;
+        self.sink = Some(IoSink::new(Heard { out, error: None }));
+        Ok(())
     }
 
-    fn refuse_length(&mut self, most: u64) -> Refusal {
+    fn note_length(&mut self, most: u64) {
         self.report.too_long(most);
-        Refusal::WriteFailed
     }
 
     fn close(&mut self) -> Result<(), Refusal> {
-        let (Some(Out::Part(part)), Target::Replaced { name }) = (&self.out, self.target) else {
-            return Ok(());
-        };
-        match put_in_place(self.rt, part, name, self.report) {
-            Ok(()) => Ok(()),
-            Err(refusal) => {
-                part.take_away(self.rt);
-                match refusal {
-                    Refusal::Memory => Err(Refusal::Memory),
-                    _ => Err(Refusal::WriteFailed),
-                }
-            }
+        self.is_closed = false;
+        if let (Some(part), Target::Replaced { name }) = (part_of(&self.sink), self.target)
+            && let Err(refusal) = put_in_place(self.rt, part, name, self.report)
+        {
+            part.take_away(self.rt);
+            return Err(of_outlet(refusal));
         }
+        self.is_closed = true;
+        Ok(())
     }
 
     fn give_up(&mut self) {
-        if let Some(Out::Part(part)) = &self.out {
+        self.is_closed = false;
+        if let Some(part) = part_of(&self.sink) {
             part.take_away(self.rt);
         }
     }

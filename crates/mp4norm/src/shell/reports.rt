@@ -70,10 +70,17 @@ impl<'a> Report<'a> {
         }
     }
 
-    // So many bytes more were put.
-    fn pass(&mut self, count: usize) {
+    /// So many bytes more were put.
+    pub(crate) fn pass(&mut self, count: usize) {
         if let Some(progress) = &mut self.progress {
             progress.pass(count);
+        }
+    }
+
+    /// A put failed, with this error of the system where it gave one.
+    pub(crate) fn fails(&mut self, error: Option<ErrorKind>) {
+        if let Some(kind) = error {
+            self.cause = Some(Cause::Said(text_of(kind)));
         }
     }
 
@@ -228,7 +235,31 @@ pub(crate) fn tell_of(rt: &HostRuntime, name: &[u8], text: &[u8]) {
     let _ = errors.write_all(b"\n");
 }
 
-/// A writer, of which it is kept how far it has come, or a reader; and the cause if it fails.
+/// A writer, with the error of its last call that failed.
+#[derive(Drop)]
+pub(crate) struct Heard<W> {
+    pub(crate) out: W,
+    pub(crate) error: Option<ErrorKind>,
+}
+
+impl<W: Write> Write for Heard<W> {
+    // What the writer behind it holds, where that is known.
+    ghost contents = { λ heard. W.contents heard.out };
+
+    fn write(&mut self, piece: &[u8]) -> io::Result<usize> {
+        let written = self.out.write(piece);
+        if let Err(error) = &written {
+            self.error = Some(error.kind());
+        }
+        written
+    }
+
+    fn flush(&mut self) -> io::Result<()> {
+        self.out.flush()
+    }
+}
+
+/// A writer or a reader, and where the cause is kept if it fails.
 #[derive(Drop)]
 pub(crate) struct Noted<'a, 'r, W> {
     pub(crate) out: &'a mut W,
@@ -251,9 +282,8 @@ impl<'a, 'r, W: Write> Write for Noted<'a, 'r, W> {
 
     fn write(&mut self, piece: &[u8]) -> io::Result<usize> {
         let written = self.out.write(piece);
-        match &written {
-            Ok(count) => self.report.pass(*count),
-            Err(error) => self.report.cause = Some(Cause::Said(text_of(error.kind()))),
+        if let Err(error) = &written {
+            self.report.cause = Some(Cause::Said(text_of(error.kind())));
         }
         written
     }

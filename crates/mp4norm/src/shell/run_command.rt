@@ -2,7 +2,7 @@
 use crate::running::{loss_refusal, run_job, settled};
 use crate::shell::action::{Order, Telling};
 use crate::shell::explaining::{explain, explain_briefly, name_tracks};
-use crate::shell::output::Outgoing;
+use crate::shell::output::{Out, Outgoing};
 use crate::shell::reports::{Report, tells_more};
 use crate::shell::sources::{Source, open};
 use mp4_answers::box_names::Name;
@@ -26,7 +26,7 @@ fn write_to<'a, L: Ledger, M: Ledger>(
     steps: &mut Steps<L, M>,
     report: &mut Report<'a>,
 ) -> Result<(), Refusal> {
-    let mut out = Outgoing::new(rt, order.target, report);
+    let mut out = Outgoing::<Out>::new(rt, order.target, report);
     run_job(rt.alloc(), job, order.most, source, &mut out, steps)
 }
 

@@ -164,7 +164,7 @@ impl<'a> Kept for Source<'a> {
         }
     }
 
-    fn may_fail_changed(&self) -> bool {
+    fn fails_by_change(&self) -> bool {
         matches!(self, Source::List(_))
     }
 }

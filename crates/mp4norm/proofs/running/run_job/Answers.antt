@@ -8,3 +8,8 @@ returns-in-Ok-clause-whole g c =
 
 pub returns-in-Ok-clause-short : goal.returns-in-Ok-clause-short
 returns-in-Ok-clause-short g c = on_any c.close.result (λ told. fits c.args.most c.in_ok-len.len c.args.job _ (c.in_ok-len.ensures.length told) c.in_ok-open_for.ensures.short)
+
+pub returns-in_err-open_for-clause-answer : goal.returns-in_err-open_for-clause-answer
+returns-in_err-open_for-clause-answer g c =
+    let p = err_from_is_err_and c.from_residual-in_err-open_for.result c.from_residual-in_err-open_for.ensures.1 in
+    rw (p.1, p.2) (inr (c.open_for.ensures.nothing, inr (not_opened g.S.Store c.args.store.now c.args.most c.in_ok-len.len c.args.job g.world.M _ c.in_ok-len.ensures.length c.in_err-open_for.ensures.refusal)))
