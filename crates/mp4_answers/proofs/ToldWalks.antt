@@ -9,11 +9,11 @@ use Rattle.mp4_frag.specs.words.OwnTrafs.{PlacedTraf}
 use Rattle.mp4_head.specs.format.Tree.{TrackTree}
 use Rattle.mp4_present.specs.format.Denotes.{FileTree}
 use Rattle.mp4_present.specs.words.Carried.{BytesGoOn}
-use Rattle.mp4_present.specs.words.Loaded.{left_in_hand}
+use Rattle.mp4_present.specs.words.InHand.{left_in_hand}
 use Rattle.mp4_present.specs.words.Joined.{IsBelow}
 use Rattle.mp4_present.specs.words.Movies.{MovieSeen, InHandOf}
 use Rattle.mp4_present.specs.words.SamplesComing.{StandsBefore, Comes, samples_behind}
-use Rattle.mp4_present.specs.declared.walking.loaded.Loaded.{Loaded}
+use Rattle.mp4_present.specs.declared.walking.in_hand.InHand.{InHand}
 use Rattle.mp4_present.specs.declared.walking.Walk.{Walk}
 use Rattle.mp4_present.proofs.WalkCopied.{StandsOn, hand_one}
 use Rattle.mp4_answers.specs.words.PrintedTracks.{LieBelow}
@@ -60,7 +60,7 @@ module _ (f : SampleAt → List ℕ) where
     pub told : HandTold (length file) Took held held_after all (samples_behind tree t earlier later)
 
   module _ (file : List ℕ) (tree : FileTree) (t : TrackTree) (m : MovieSeen) {Y : Type 0} {takes : Y → Y → List ℕ → Type 0} (joins : IsJoining takes) (a b c : Y) (held held_b : List ℕ) (w : Walk) (all to_come : List SampleAt)
-      (h : HandTold (length file) (takes a b) held held_b all to_come) (k : Comes file tree t m w to_come) (x : Loaded) (i : InHandOf m w x) where
+      (h : HandTold (length file) (takes a b) held held_b all to_come) (k : Comes file tree t m w to_come) (x : InHand) (i : InHandOf m w x) where
     abbrev left : List SampleAt
     left = left_in_hand x
 
@@ -68,7 +68,7 @@ module _ (f : SampleAt → List ℕ) where
     rest = samples_behind tree t k.0 k.1
 
     both : to_come ≡ left ++ rest
-    both = k.3.2 ∙ ap (λ (y : Loaded). left_in_hand y ++ rest) (hand_one m w k.2 x k.3.1 i)
+    both = k.3.2 ∙ ap (λ (y : InHand). left_in_hand y ++ rest) (hand_one m w k.2 x k.3.1 i)
 
     both_lie : LieBelow (length file) (left ++ rest)
     both_lie = subst (LieBelow (length file)) both h.lie

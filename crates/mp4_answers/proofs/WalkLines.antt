@@ -9,9 +9,9 @@ use Rattle.mp4_head.specs.format.Tree.{TrackTree}
 use Rattle.mp4_present.specs.words.Carried.{BytesGoOn}
 use Rattle.mp4_present.specs.words.SamplesComing.{StandsBefore, Comes, samples_behind}
 use Rattle.mp4_present.specs.format.Denotes.{FileTree}
-use Rattle.mp4_present.specs.words.Loaded.{left_in_hand}
+use Rattle.mp4_present.specs.words.InHand.{left_in_hand}
 use Rattle.mp4_present.specs.words.Movies.{MovieSeen, InHandOf}
-use Rattle.mp4_present.specs.declared.walking.loaded.Loaded.{Loaded}
+use Rattle.mp4_present.specs.declared.walking.in_hand.InHand.{InHand}
 use Rattle.mp4_present.specs.declared.walking.Walk.{Walk}
 use Rattle.mp4_present.proofs.Carrying.{BytesGoOn-then, BytesGoOn-all, BytesGoOn-fails, BytesGoOn-front}
 use Rattle.mp4_present.proofs.WalkCopied.{StandsOn, hand_one}
@@ -29,8 +29,8 @@ pub record LinesGoOn (form : Form) (file : List ℕ) (tree : FileTree) (t : Trac
   pub count : number + length (samples_behind tree t earlier later) ≡ 1 + length all
 
 -- those in hand, and those behind
-coming_is : (file : List ℕ) (tree : FileTree) (t : TrackTree) (m : MovieSeen) (w : Walk) (to_come : List SampleAt) → (k : Comes file tree t m w to_come) → (x : Loaded) → InHandOf m w x → to_come ≡ left_in_hand x ++ samples_behind tree t k.0 k.1
-coming_is file tree t m w to_come k x i = k.3.2 ∙ ap (λ (y : Loaded). left_in_hand y ++ samples_behind tree t k.0 k.1) (hand_one m w k.2 x k.3.1 i)
+coming_is : (file : List ℕ) (tree : FileTree) (t : TrackTree) (m : MovieSeen) (w : Walk) (to_come : List SampleAt) → (k : Comes file tree t m w to_come) → (x : InHand) → InHandOf m w x → to_come ≡ left_in_hand x ++ samples_behind tree t k.0 k.1
+coming_is file tree t m w to_come k x i = k.3.2 ∙ ap (λ (y : InHand). left_in_hand y ++ samples_behind tree t k.0 k.1) (hand_one m w k.2 x k.3.1 i)
 
 -- there are fewer than 2^64
 fits : (number coming left rest all : ℕ) → number + coming ≡ 1 + all → all < 2 ^ 32 → coming ≡ left + rest → number + left < 2 ^ 64
@@ -41,7 +41,7 @@ left_over number next coming left rest all e c n = omega (arith, e, c, n)
 
 module _ (form : Form) (file : List ℕ) (tree : FileTree) (t : TrackTree) (m : MovieSeen) {Y : Type 0} {takes : Y → Y → List ℕ → Type 0} (joins : IsJoining takes) (a b c : Y) (held held_b : List ℕ) (w : Walk) (number : ℕ) (all to_come : List SampleAt)
     (g : Going (takes a b) held held_b (sample_at_lines form number to_come) (sample_at_lines form 1 all))
-    (count : number + length to_come ≡ 1 + length all) (few : length all < 2 ^ 32) (k : Comes file tree t m w to_come) (x : Loaded) (i : InHandOf m w x) where
+    (count : number + length to_come ≡ 1 + length all) (few : length all < 2 ^ 32) (k : Comes file tree t m w to_come) (x : InHand) (i : InHandOf m w x) where
   abbrev left : List SampleAt
   left = left_in_hand x
 

@@ -2,13 +2,13 @@
 use Rattle.std.proofs.Common.{◌≡◌, ℕ, ◌+◌, ◌-◌, ◌≤◌, List, refl, sym, subst, arith}
 use Rattle.mp4_head.specs.format.Tree.{TrackTree}
 use Rattle.mp4_present.specs.format.Denotes.{FileTree}
-use Rattle.mp4_present.specs.words.Loaded.{Follows, IsPlaceOf}
+use Rattle.mp4_present.specs.words.InHand.{Follows, IsPlaceOf}
 use Rattle.mp4_present.specs.words.Movies.{MovieSeen, IsMovie, IsWalkOf, InHandOf}
 use Rattle.mp4_present.specs.words.OpenedMovie.{IsOpenedAs}
 use Rattle.mp4_present.specs.words.WalkSteps.{steps_to, way_through, MayTake, TakesOn}
-use Rattle.mp4_present.specs.declared.walking.loaded.Loaded.{Loaded}
-use Rattle.mp4_present.specs.declared.walking.loaded.Place.{Place}
-use Rattle.mp4_present.specs.declared.walking.loaded.Place.TheVariants as places
+use Rattle.mp4_present.specs.declared.walking.in_hand.InHand.{InHand}
+use Rattle.mp4_present.specs.declared.walking.in_hand.Place.{Place}
+use Rattle.mp4_present.specs.declared.walking.in_hand.Place.TheVariants as places
 use Rattle.mp4_present.specs.declared.walking.Walk.{Walk}
 use Rattle.mp4_present.proofs.WalkPlaces.{kept_on}
 use Rattle.mp4_present.proofs.WayThrough.{no_farther, ahead, keeps_on, takes_then, takes_most, most_then, TakesBefore}
@@ -19,7 +19,7 @@ same_way t w (places.Tables p) = refl
 same_way t w (places.Fragment p) = refl
 
 -- a walk may go on from a later place of what it has in hand
-pub hand_keeps : (m : MovieSeen) (w : Walk) (a b : Loaded) (p : Place) → IsMovie m → IsWalkOf m w → InHandOf m w a → Follows a b → IsPlaceOf b p → KeepsOn m w p
+pub hand_keeps : (m : MovieSeen) (w : Walk) (a b : InHand) (p : Place) → IsMovie m → IsWalkOf m w → InHandOf m w a → Follows a b → IsPlaceOf b p → KeepsOn m w p
 hand_keeps m w a b p i is h f at file tree t n old o may =
     let on = ahead m t w a b p h f at in
     let within = subst (λ (k : ℕ). steps_to p ≤ k) (same_way t w p) (no_farther file m tree t (record w { place = p }) p o i may.stands.is_track (kept_on m w a b p is h f at).place) in

@@ -11,10 +11,10 @@ use Rattle.mp4_present.specs.format.Presentation.{Sample, total_duration}
 use Rattle.mp4_content.specs.format.Reduced.{duration_left, offset_left, reduce_from}
 use Rattle.mp4_present.specs.format.Denotes.{FileTree}
 use Rattle.mp4_present.specs.words.HandCarried.{OfHand}
-use Rattle.mp4_present.specs.words.Loaded.{left_in_hand}
+use Rattle.mp4_present.specs.words.InHand.{left_in_hand}
 use Rattle.mp4_present.specs.words.Movies.{MovieSeen}
 use Rattle.mp4_present.specs.words.SamplesComing.{Comes, StandsBefore, samples_behind}
-use Rattle.mp4_present.specs.declared.walking.loaded.Loaded.{Loaded}
+use Rattle.mp4_present.specs.declared.walking.in_hand.InHand.{InHand}
 use Rattle.mp4_present.specs.declared.walking.Walk.{Walk}
 use Rattle.mp4_present.proofs.WalkCopied.{hand_one}
 use Rattle.mp4_content.specs.format.TimedSamples.{timed_from}
@@ -70,7 +70,7 @@ pub hand_added : (r : Reduction) (file : List ℕ) (tree : FileTree) (t : TrackT
     → (x : OfHand m w (λ hand. next ≡ total_from r total (left_in_hand hand))) → ((earlier later : List PlacedTraf) → StandsBefore file tree t earlier later w → StandsBefore file tree t earlier later now) → HasAdded r file tree t next now all
 hand_added r file tree t m total next w now all to_come h k x on =
     let rest = samples_behind tree t k.0 k.1 in
-    let both : to_come ≡ left_in_hand x.0 ++ rest = k.3.2 ∙ ap (λ (y : Loaded). left_in_hand y ++ rest) (hand_one m w k.2 x.0 k.3.1 x.1) in
+    let both : to_come ≡ left_in_hand x.0 ++ rest = k.3.2 ∙ ap (λ (y : InHand). left_in_hand y ++ rest) (hand_one m w k.2 x.0 k.3.1 x.1) in
     record {
       earlier = k.0;
       later = k.1;

@@ -13,7 +13,7 @@ use Rattle.mp4_head.specs.format.Tree.{TrackTree}
 use Rattle.mp4_present.specs.format.Denotes.{FileTree}
 use Rattle.mp4_content.specs.format.Differences.{same_signed, differ, numbers_differ, signed, first_unequal, byte_at, each_differ}
 use Rattle.mp4_content.specs.words.Differing.{flags_left, lasts_left, cto_left, index_in, group_differences, differences_at, pair_differences}
-use Rattle.mp4_present.specs.words.Loaded.{left_in_hand, Follows, IsPlaceOf}
+use Rattle.mp4_present.specs.words.InHand.{left_in_hand, Follows, IsPlaceOf}
 use Rattle.mp4_present.specs.words.Movies.{MovieSeen, InHandOf}
 use Rattle.mp4_content.specs.words.SamePairs.{indexes_differ, IsSamePair, BeginSame, SaySame}
 use Rattle.mp4_present.specs.words.SamplesComing.{Comes, samples_behind}
@@ -26,8 +26,8 @@ use Rattle.mp4_content.specs.declared.comparing.differences.Subject.{Subject}
 use Rattle.mp4_content.specs.declared.comparing.differences.Subject.TheVariants as subjects
 use Rattle.mp4_content.specs.declared.edges.Edges.{Edges}
 use Rattle.mp4_content.specs.declared.file_window.FileWindow.{FileWindow}
-use Rattle.mp4_present.specs.declared.walking.loaded.Loaded.{Loaded}
-use Rattle.mp4_present.specs.declared.walking.loaded.Place.{Place}
+use Rattle.mp4_present.specs.declared.walking.in_hand.InHand.{InHand}
+use Rattle.mp4_present.specs.declared.walking.in_hand.Place.{Place}
 use Rattle.mp4_content.specs.declared.without.Without.{Without}
 use Rattle.mp4_present.specs.declared.walking.Walk.{Walk}
 use Rattle.mp4_content.proofs.Differing.{at_drop, nowhere_same}
@@ -137,19 +137,19 @@ module _ (by : Pairing) (w v : FileWindow) where
 abbrev behind : (file : List ℕ) (tree : FileTree) (t : TrackTree) (m : MovieSeen) (w : Walk) (samples : List SampleAt) → Comes file tree t m w samples → List SampleAt
 behind file tree t m w samples k = samples_behind tree t k.0 k.1
 
-module _ (file : List ℕ) (tree : FileTree) (t : TrackTree) (m : MovieSeen) (w : Walk) (a : Loaded) (samples : List SampleAt) (hand : InHandOf m w a) (k : Comes file tree t m w samples) where
+module _ (file : List ℕ) (tree : FileTree) (t : TrackTree) (m : MovieSeen) (w : Walk) (a : InHand) (samples : List SampleAt) (hand : InHandOf m w a) (k : Comes file tree t m w samples) where
   pub come_are : samples ≡ left_in_hand a ++ behind file tree t m w samples k
-  come_are = k.3.2 ∙ ap (λ (h : Loaded). left_in_hand h ++ behind file tree t m w samples k) (hand_one m w k.2 a k.3.1 hand)
+  come_are = k.3.2 ∙ ap (λ (h : InHand). left_in_hand h ++ behind file tree t m w samples k) (hand_one m w k.2 a k.3.1 hand)
 
   -- so many of those in hand are passed
-  pub come_later : (b : Loaded) (p : Place) (n : ℕ) → Follows a b → IsPlaceOf b p → left_in_hand b ≡ drop n (left_in_hand a) → n ≤ length (left_in_hand a) → Comes file tree t m (record w { place = p }) (drop n samples)
+  pub come_later : (b : InHand) (p : Place) (n : ℕ) → Follows a b → IsPlaceOf b p → left_in_hand b ≡ drop n (left_in_hand a) → n ≤ length (left_in_hand a) → Comes file tree t m (record w { place = p }) (drop n samples)
   come_later b p n later at rest le =
       let gone : drop n samples ≡ left_in_hand b ++ behind file tree t m w samples k =
       ap (λ (ss : List SampleAt). drop n ss) come_are ∙ drop-append-le n (left_in_hand a) (behind file tree t m w samples k) le ∙ ap (λ (ss : List SampleAt). ss ++ behind file tree t m w samples k) (sym rest) in
       (k.0, k.1, b, (kept_before file tree t k.0 k.1 w p k.3.0, hand_later m w a b p hand later at, gone))
 
 -- what begins alike in hand does so in all that comes
-pub same_come : (by : Pairing) (one two : FileWindow) (file other : List ℕ) (tree other_tree : FileTree) (t u : TrackTree) (m n : MovieSeen) (w v : Walk) (a b : Loaded) (count : ℕ) (xs ys : List SampleAt) → InHandOf m w a → InHandOf n v b → Comes file tree t m w xs → Comes other other_tree u n v ys
+pub same_come : (by : Pairing) (one two : FileWindow) (file other : List ℕ) (tree other_tree : FileTree) (t u : TrackTree) (m n : MovieSeen) (w v : Walk) (a b : InHand) (count : ℕ) (xs ys : List SampleAt) → InHandOf m w a → InHandOf n v b → Comes file tree t m w xs → Comes other other_tree u n v ys
     → BeginSame by one two count (left_in_hand a) (left_in_hand b) → BeginSame by one two count xs ys
 same_come by one two file other tree other_tree t u m n w v a b count xs ys ha hb k l h =
     let first = come_are file tree t m w a xs ha k in

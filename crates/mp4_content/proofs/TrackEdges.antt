@@ -7,14 +7,14 @@ use Rattle.mp4_tables.specs.declared.sample.SampleAt.{SampleAt}
 use Rattle.mp4_tables.proofs.SampleLists.{timed_length}
 use Rattle.mp4_head.specs.format.Tree.{TrackTree}
 use Rattle.mp4_present.specs.format.Denotes.{FileTree, file_parts, placed_of, sample_of}
-use Rattle.mp4_present.specs.words.Loaded.{left_in_hand}
+use Rattle.mp4_present.specs.words.InHand.{left_in_hand}
 use Rattle.mp4_present.specs.words.Movies.{MovieSeen, HasSome, InHandOf}
 use Rattle.mp4_present.specs.words.OpenedMovie.{IsOpenedAs, IsInfoOf}
 use Rattle.mp4_present.specs.words.SamplesComing.{Comes, samples_behind, track_samples}
 use Rattle.mp4_content.specs.words.TrackEdges.{first_cto, edges_left}
 use Rattle.mp4_content.specs.declared.edges.Edges.{Edges}
 use Rattle.mp4_present.specs.declared.track_info.TrackInfo.{TrackInfo}
-use Rattle.mp4_present.specs.declared.walking.loaded.Loaded.{Loaded}
+use Rattle.mp4_present.specs.declared.walking.in_hand.InHand.{InHand}
 use Rattle.mp4_present.specs.declared.walking.Walk.{Walk}
 use Rattle.mp4_content.specs.declared.without.Without.{Without}
 use Rattle.mp4_present.proofs.TrafTaken.{zipped_at}
@@ -63,7 +63,7 @@ edges_some l n samples offset e h f = let so = so_it_is l.origins h in (λ i. re
 -- ---- in hand
 
 -- the first in hand is the first that comes
-pub first_in_hand : (file : List ℕ) (tree : FileTree) (t : TrackTree) (m : MovieSeen) (w : Walk) (a : Loaded) (samples : List SampleAt) (s : SampleAt) → InHandOf m w a → ◌≡◌ {A = Option SampleAt} (Some s) (slice_get (left_in_hand a) 0) → Comes file tree t m w samples → s.cto ≡ first_cto samples
+pub first_in_hand : (file : List ℕ) (tree : FileTree) (t : TrackTree) (m : MovieSeen) (w : Walk) (a : InHand) (samples : List SampleAt) (s : SampleAt) → InHandOf m w a → ◌≡◌ {A = Option SampleAt} (Some s) (slice_get (left_in_hand a) 0) → Comes file tree t m w samples → s.cto ≡ first_cto samples
 first_in_hand file tree t m w a samples s hand first k = by (left_in_hand a) refl first
   where
     behind : List SampleAt
@@ -73,11 +73,11 @@ first_in_hand file tree t m w a samples s hand first k = by (left_in_hand a) ref
     by [] e n = absurd cc
     by (x ∷ left) e n =
         let same : s ≡ x = cc in
-        ap (λ (y : SampleAt). y.cto) same ∙ sym (ap first_cto (k.3.2 ∙ ap (λ (h : Loaded). left_in_hand h ++ behind) (hand_one m w k.2 a k.3.1 hand) ∙ ap (λ (ss : List SampleAt). ss ++ behind) e))
+        ap (λ (y : SampleAt). y.cto) same ∙ sym (ap first_cto (k.3.2 ∙ ap (λ (h : InHand). left_in_hand h ++ behind) (hand_one m w k.2 a k.3.1 hand) ∙ ap (λ (ss : List SampleAt). ss ++ behind) e))
 
 -- there is one, where some are in hand
-pub one_in_hand : (m : MovieSeen) (w : Walk) (a : Loaded) → InHandOf m w a → HasSome m w → ◌≡◌ {A = Option SampleAt} None (slice_get (left_in_hand a) 0) → ⊥
-one_in_hand m w a hand some none = by (left_in_hand a) (ap (λ (h : Loaded). length (left_in_hand h)) (hand_one m w some.0 a some.1 hand)) none
+pub one_in_hand : (m : MovieSeen) (w : Walk) (a : InHand) → InHandOf m w a → HasSome m w → ◌≡◌ {A = Option SampleAt} None (slice_get (left_in_hand a) 0) → ⊥
+one_in_hand m w a hand some none = by (left_in_hand a) (ap (λ (h : InHand). length (left_in_hand h)) (hand_one m w some.0 a some.1 hand)) none
   where
     by : (left : List SampleAt) → length (left_in_hand some.0) ≡ length left → ◌≡◌ {A = Option SampleAt} None (slice_get left 0) → ⊥
     by [] e n = let have = some.2 in absurd (omega (arith, have, e))

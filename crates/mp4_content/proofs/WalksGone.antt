@@ -9,7 +9,7 @@ use Rattle.mp4_frag.specs.words.Walks.{samples_in}
 use Rattle.mp4_present.specs.words.GoingBack.{HoldsSome}
 use Rattle.mp4_present.specs.words.Movies.{MovieSeen, HasSome, IsWalkOf, mark_of, all_in_traf, trex_at}
 use Rattle.mp4_present.specs.words.WalkSteps.{steps_to}
-use Rattle.mp4_present.specs.declared.walking.loaded.Place.{Place}
+use Rattle.mp4_present.specs.declared.walking.in_hand.Place.{Place}
 use Rattle.mp4_content.specs.declared.reduced.Reduction.{Reduction}
 use Rattle.mp4_present.specs.declared.walking.Mark.{Mark}
 use Rattle.mp4_present.specs.declared.walking.Walk.{Walk}

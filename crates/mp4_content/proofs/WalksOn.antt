@@ -8,14 +8,14 @@ use Rattle.mp4_head.specs.format.Tree.{TrackTree}
 use Rattle.mp4_present.specs.format.Denotes.{FileTree}
 use Rattle.mp4_present.proofs.WalkCopied.{kept_before}
 use Rattle.mp4_present.specs.words.SamplesComing.{Comes, Loads, StandsBefore, samples_behind}
-use Rattle.mp4_present.specs.words.Loaded.{Follows, IsPlaceOf, left_in_hand}
+use Rattle.mp4_present.specs.words.InHand.{Follows, IsPlaceOf, left_in_hand}
 use Rattle.mp4_present.specs.words.Movies.{MovieSeen, HandAt, InHandOf, tables_seen}
 use Rattle.mp4_tables.specs.words.TablesSeen.{CursorSeen as TableView}
 use Rattle.mp4_present.specs.words.OpenedMovie.{IsOpenedAs}
-use Rattle.mp4_present.specs.declared.walking.loaded.Loaded.{Loaded}
-use Rattle.mp4_present.specs.declared.walking.loaded.Loaded.TheVariants as hands
-use Rattle.mp4_present.specs.declared.walking.loaded.Place.{Place}
-use Rattle.mp4_present.specs.declared.walking.loaded.Place.TheVariants as places
+use Rattle.mp4_present.specs.declared.walking.in_hand.InHand.{InHand}
+use Rattle.mp4_present.specs.declared.walking.in_hand.InHand.TheVariants as hands
+use Rattle.mp4_present.specs.declared.walking.in_hand.Place.{Place}
+use Rattle.mp4_present.specs.declared.walking.in_hand.Place.TheVariants as places
 use Rattle.mp4_present.specs.declared.movie.TrackTables.{TrackTables}
 use Rattle.mp4_present.specs.declared.walking.Walk.{Walk}
 use Rattle.mp4_frag.specs.words.FragmentsSeen.{CursorSeen as TrafView}
@@ -25,13 +25,13 @@ abbrev pub StillComes : List ℕ → MovieSeen → Walk → Walk → Type 0
 StillComes file m begun w = (tree : FileTree) (t : TrackTree) (samples : List SampleAt) → IsOpenedAs file m tree → Comes file tree t m begun samples → Comes file tree t m w samples
 
 -- what a walk has in hand is one
-pub one_hand : (m : MovieSeen) (w : Walk) (a b : Loaded) → InHandOf m w a → InHandOf m w b → left_in_hand a ≡ left_in_hand b
+pub one_hand : (m : MovieSeen) (w : Walk) (a b : InHand) → InHandOf m w a → InHandOf m w b → left_in_hand a ≡ left_in_hand b
 one_hand m w a b g h = by w.place a b g h
   where
     some_is : (x y : TrackTables) → Some x ≡ Some y → x ≡ y
     some_is x y e = cc
 
-    by : (at : Place) (a b : Loaded) → HandAt m w at a → HandAt m w at b → left_in_hand a ≡ left_in_hand b
+    by : (at : Place) (a b : InHand) → HandAt m w at a → HandAt m w at b → left_in_hand a ≡ left_in_hand b
     by (places.Tables p) (hands.Tables a) (hands.Tables b) g h =
         ap (λ c. left_in_hand (hands.Tables c)) (g.2 ∙ ap (λ t. let c : TableView = record { tables = tables_seen m.moov t; place = p } in c) (some_is g.0 h.0 (sym g.1 ∙ h.1)) ∙ sym h.2)
     by (places.Fragment p) (hands.Fragment a) (hands.Fragment b) g h = ap (λ c. left_in_hand (hands.Fragment c)) (g ∙ sym h)
@@ -48,7 +48,7 @@ first_in : (xs ys : List SampleAt) (s : SampleAt) → slice_get xs 0 ≡ Some s 
 first_in [] ys s e = absurd cc
 first_in (x ∷ xs) ys s e = e
 
-module _ (file : List ℕ) (m : MovieSeen) (tree : FileTree) (t : TrackTree) (w : Walk) (samples : List SampleAt) (h : Comes file tree t m w samples) (hand : Loaded) (is_hand : InHandOf m w hand) where
+module _ (file : List ℕ) (m : MovieSeen) (tree : FileTree) (t : TrackTree) (w : Walk) (samples : List SampleAt) (h : Comes file tree t m w samples) (hand : InHand) (is_hand : InHandOf m w hand) where
   -- those in hand come first
   pub hand_first : samples ≡ left_in_hand hand ++ samples_behind tree t h.0 h.1
   hand_first = h.3.2 ∙ ap (λ (ss : List SampleAt). ss ++ samples_behind tree t h.0 h.1) (one_hand m w h.2 hand h.3.1 is_hand)
@@ -69,10 +69,10 @@ module _ (file : List ℕ) (m : MovieSeen) (tree : FileTree) (t : TrackTree) (w 
   all_behind z = sym (hand_first ∙ ap (λ (ss : List SampleAt). ss ++ samples_behind tree t h.0 h.1) z)
 
 -- nothing was peeked
-pub none_left : (hand : Loaded) (next : Option SampleAt) → next ≡ slice_get (left_in_hand hand) 0 → next ≡ None → left_in_hand hand ≡ []
+pub none_left : (hand : InHand) (next : Option SampleAt) → next ≡ slice_get (left_in_hand hand) 0 → next ≡ None → left_in_hand hand ≡ []
 none_left hand next e f = none_in (left_in_hand hand) (sym e ∙ f)
 
-module _ (file : List ℕ) (m : MovieSeen) (tree : FileTree) (t : TrackTree) (w next : Walk) (samples : List SampleAt) (h : Comes file tree t m w samples) (hand : Loaded) (is_hand : InHandOf m w hand) (none : left_in_hand hand ≡ []) where
+module _ (file : List ℕ) (m : MovieSeen) (tree : FileTree) (t : TrackTree) (w next : Walk) (samples : List SampleAt) (h : Comes file tree t m w samples) (hand : InHand) (is_hand : InHandOf m w hand) (none : left_in_hand hand ≡ []) where
   -- more was loaded
   pub loads_on : (more : Bool) → more ≡ true → Loads file tree t m (samples_behind tree t h.0 h.1) next more → Comes file tree t m next samples
   loads_on more e l = subst (λ (ss : List SampleAt). Comes file tree t m next ss) (all_behind file m tree t w samples h hand is_hand none) (subst (Loads file tree t m (samples_behind tree t h.0 h.1) next) e l)
@@ -95,7 +95,7 @@ by_test None v e f = refl
 by_test (Some s) v e f = absurd cc
 
 -- A walk that goes on from a later place has the later samples in hand.
-pub hand_kept : (m : MovieSeen) (w : Walk) (hand later : Loaded) (place : Place) → InHandOf m w hand → Follows hand later → IsPlaceOf later place → InHandOf m (record w { place = place }) later
+pub hand_kept : (m : MovieSeen) (w : Walk) (hand later : InHand) (place : Place) → InHandOf m w hand → Follows hand later → IsPlaceOf later place → InHandOf m (record w { place = place }) later
 hand_kept m w (hands.Tables a) (hands.Tables b) (places.Tables p) h f i = tables w.place h
   where
     tables : (at : Place) → HandAt m w at (hands.Tables a) → HandAt m w (places.Tables p) (hands.Tables b)
@@ -113,7 +113,7 @@ hand_kept m w (hands.Tables a) (hands.Tables b) (places.Fragment p) h f i = absu
 hand_kept m w (hands.Fragment a) (hands.Fragment b) (places.Tables p) h f i = absurd i
 
 -- a walk that goes on from a later place has the later samples to come
-pub kept_coming : (file : List ℕ) (m : MovieSeen) (tree : FileTree) (t : TrackTree) (w : Walk) (earlier later : List PlacedTraf) (hand left : Loaded) (place : Place) → StandsBefore file tree t earlier later w → InHandOf m w hand → Follows hand left
+pub kept_coming : (file : List ℕ) (m : MovieSeen) (tree : FileTree) (t : TrackTree) (w : Walk) (earlier later : List PlacedTraf) (hand left : InHand) (place : Place) → StandsBefore file tree t earlier later w → InHandOf m w hand → Follows hand left
     → IsPlaceOf left place → Comes file tree t m (record w { place = place }) (left_in_hand left ++ samples_behind tree t earlier later)
 kept_coming file m tree t w earlier later hand left place h is_hand follows at =
     (earlier, later, left, (kept_before file tree t earlier later w place h, hand_kept m w hand left place is_hand follows at, refl))

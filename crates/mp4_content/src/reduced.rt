@@ -179,7 +179,7 @@ pub struct Reduced<C> {
 impl<C: Samples> Samples for Reduced<C> {
     ghost use Rattle.std.specs.Prelude.{◌≡◌};
     ghost use Rattle.std.proofs.Common.{◌∙◌, refl};
-    ghost use Rattle.mp4_present.specs.words.Loaded.{AreLast, last_all, last_of_last};
+    ghost use Rattle.mp4_present.specs.words.InHand.{AreLast, last_all, last_of_last};
     ghost use Rattle.mp4_content.specs.words.ComingLess.{less};
 
     ghost rest = { λ s. less s.reduction (C.rest s.inner) };

@@ -6,12 +6,12 @@ use Rattle.std.proofs.lemmas.List.{drop-drop, length-drop}
 use Rattle.mp4_tables.specs.declared.sample.SampleAt.{SampleAt}
 use Rattle.mp4_head.specs.format.Tree.{TrackTree}
 use Rattle.mp4_present.specs.format.Denotes.{FileTree}
-use Rattle.mp4_present.specs.words.Loaded.{left_in_hand}
+use Rattle.mp4_present.specs.words.InHand.{left_in_hand}
 use Rattle.mp4_present.specs.words.Movies.{MovieSeen, InHandOf}
 use Rattle.mp4_present.specs.words.OpenedMovie.{IsOpenedAs}
 use Rattle.mp4_present.specs.words.SamplesComing.{samples_behind}
-use Rattle.mp4_present.specs.declared.walking.loaded.Loaded.{Loaded}
-use Rattle.mp4_present.specs.declared.walking.loaded.Place.{Place}
+use Rattle.mp4_present.specs.declared.walking.in_hand.InHand.{InHand}
+use Rattle.mp4_present.specs.declared.walking.in_hand.Place.{Place}
 use Rattle.mp4_content.specs.declared.reduced.Reduction.{Reduction}
 use Rattle.mp4_present.specs.declared.walking.Walk.{Walk}
 use Rattle.mp4_content.specs.words.ComingLess.{ComesLess, less}
@@ -163,7 +163,7 @@ module _ (leaving : Reduction) (file : List ℕ) (m : MovieSeen) (begun w now : 
   pub count_empty : next ≡ None → less leaving (left_in_hand h.later) ≡ []
   count_empty e = none_is (less leaving (left_in_hand h.later)) (sym e ∙ h.shown)
 
-module _ (leaving : Reduction) (file : List ℕ) (m : MovieSeen) (begun w next : Walk) (test : SampleAt → Bool) (n : ℕ) (hand : Loaded) (more : Bool) (on : CountsOn leaving file m begun w test n) (is_hand : InHandOf m w hand) (none : less leaving (left_in_hand hand) ≡ [])
+module _ (leaving : Reduction) (file : List ℕ) (m : MovieSeen) (begun w next : Walk) (test : SampleAt → Bool) (n : ℕ) (hand : InHand) (more : Bool) (on : CountsOn leaving file m begun w test n) (is_hand : InHandOf m w hand) (none : less leaving (left_in_hand hand) ≡ [])
     (loads : LoadsFor file m w next more) where
   -- more was loaded
   pub next_counted : more ≡ true → CountsOn leaving file m begun next test n

@@ -14,11 +14,11 @@ use Rattle.mp4_present.specs.words.Carried.{BytesGoOn}
 use Rattle.mp4_present.specs.words.Joined.{IsBelow, sample_bytes}
 use Rattle.mp4_present.specs.format.Denotes.{FileTree}
 use Rattle.mp4_present.specs.words.SamplesComing.{Comes, Loads, StandsBefore, samples_behind}
-use Rattle.mp4_present.specs.words.Loaded.{Follows, IsPlaceOf, left_in_hand}
+use Rattle.mp4_present.specs.words.InHand.{Follows, IsPlaceOf, left_in_hand}
 use Rattle.mp4_present.specs.words.Movies.{MovieSeen, InHandOf}
 use Rattle.mp4_present.specs.words.OpenedMovie.{IsOpenedAs}
-use Rattle.mp4_present.specs.declared.walking.loaded.Loaded.{Loaded}
-use Rattle.mp4_present.specs.declared.walking.loaded.Place.{Place}
+use Rattle.mp4_present.specs.declared.walking.in_hand.InHand.{InHand}
+use Rattle.mp4_present.specs.declared.walking.in_hand.Place.{Place}
 use Rattle.mp4_present.specs.declared.walking.Walk.{Walk}
 use Rattle.mp4_present.proofs.Carrying.{BytesGoOn-then}
 use Rattle.mp4_present.proofs.Counts.{sum-append}
@@ -68,7 +68,7 @@ carried_all file Took held held_b all rest load left none h =
     (subst (λ (ss : List SampleAt). BytesGoOn Took held held_b (sample_bytes file ss)) (sym front) h.bytes, sym back)
 
 -- the bytes of those in hand are taken along, and the walk goes on behind them
-pub hand_carried : (file : List ℕ) (m : MovieSeen) (begun w now : Walk) {Y : Type 0} {takes : Y → Y → List ℕ → Type 0} (joins : IsJoining takes) (a b c : Y) (held held_b held_c : List ℕ) (load left next : Load) (hand later : Loaded) (place : Place)
+pub hand_carried : (file : List ℕ) (m : MovieSeen) (begun w now : Walk) {Y : Type 0} {takes : Y → Y → List ℕ → Type 0} (joins : IsJoining takes) (a b c : Y) (held held_b held_c : List ℕ) (load left next : Load) (hand later : InHand) (place : Place)
     → CarriesOn file m begun w (takes a b) held held_b load left
     → InHandOf m w hand → Follows hand later → IsPlaceOf later place → BytesCarried file (takes b c) held_b held_c (left_in_hand hand) (left_in_hand later) left next → now ≡ record w { place = place }
     → CarriesOn file m begun now (takes a c) held held_c load next
@@ -92,10 +92,10 @@ LoadsFor file m w next more = (tree : FileTree) (t : TrackTree) (earlier later :
 -- then nothing comes, where nothing was
 abbrev pub EndsFor : List ℕ → MovieSeen → Walk → Walk → Bool → Type 0
 EndsFor file m w next more =
-    (tree : FileTree) (t : TrackTree) (earlier later : List PlacedTraf) → IsOpenedAs file m tree → StandsBefore file tree t earlier later w → (hand : Loaded) → InHandOf m w hand → left_in_hand hand ≡ [] → more ≡ false → Comes file tree t m next []
+    (tree : FileTree) (t : TrackTree) (earlier later : List PlacedTraf) → IsOpenedAs file m tree → StandsBefore file tree t earlier later w → (hand : InHand) → InHandOf m w hand → left_in_hand hand ≡ [] → more ≡ false → Comes file tree t m next []
 
 -- more was loaded
-pub next_carried : (file : List ℕ) (m : MovieSeen) (begun w next : Walk) (Took : List ℕ → Type 0) (held held_b : List ℕ) (load left : Load) (hand : Loaded) (more : Bool) → CarriesOn file m begun w Took held held_b load left → InHandOf m w hand
+pub next_carried : (file : List ℕ) (m : MovieSeen) (begun w next : Walk) (Took : List ℕ → Type 0) (held held_b : List ℕ) (load left : Load) (hand : InHand) (more : Bool) → CarriesOn file m begun w Took held held_b load left → InHandOf m w hand
     → left_in_hand hand ≡ [] → LoadsFor file m w next more → more ≡ true → CarriesOn file m begun next Took held held_b load left
 next_carried file m begun w next Took held held_b load left hand more on is_hand none loads e tree t samples o h =
     let u = on tree t samples o h in
@@ -116,7 +116,7 @@ pub front_carried : (file : List ℕ) (m : MovieSeen) (begun w : Walk) (Took : L
 front_carried file m begun w Took held held_b load left on tree t samples o h = let u = on tree t samples o h in carried_front file Took held held_b samples u.0 load left u.1.1
 
 -- the bytes of those in hand are not taken along whole
-pub hand_fails : (file : List ℕ) (m : MovieSeen) (begun w : Walk) {Y : Type 0} {takes : Y → Y → List ℕ → Type 0} (joins : IsJoining takes) (a b c : Y) (held held_b : List ℕ) (load left : Load) (hand : Loaded) → CarriesOn file m begun w (takes a b) held held_b load left → InHandOf m w hand
+pub hand_fails : (file : List ℕ) (m : MovieSeen) (begun w : Walk) {Y : Type 0} {takes : Y → Y → List ℕ → Type 0} (joins : IsJoining takes) (a b c : Y) (held held_b : List ℕ) (load left : Load) (hand : InHand) → CarriesOn file m begun w (takes a b) held held_b load left → InHandOf m w hand
     → TakesPrefix (takes b c) (held_b ++ sample_bytes file (take left.samples (left_in_hand hand)))
     → (tree : FileTree) (t : TrackTree) (samples : List SampleAt) → IsOpenedAs file m tree → Comes file tree t m begun samples → TakesPrefix (takes a c) (held ++ sample_bytes file (take load.samples samples))
 hand_fails file m begun w joins a b c held held_b load left hand on is_hand p tree t samples o h =
@@ -131,7 +131,7 @@ hand_fails file m begun w joins a b c held held_b load left hand on is_hand p tr
 -- ---- an honest store has not changed
 
 -- Those in hand lie in the file, and have no more bytes than are left.
-pub hand_there : (file : List ℕ) (m : MovieSeen) (begun w : Walk) (Took : List ℕ → Type 0) (held held_b : List ℕ) (load left : Load) (hand : Loaded) → CarriesOn file m begun w Took held held_b load left → InHandOf m w hand
+pub hand_there : (file : List ℕ) (m : MovieSeen) (begun w : Walk) (Took : List ℕ → Type 0) (held held_b : List ℕ) (load left : Load) (hand : InHand) → CarriesOn file m begun w Took held held_b load left → InHandOf m w hand
     → (tree : FileTree) (t : TrackTree) (samples : List SampleAt) → IsOpenedAs file m tree → Comes file tree t m begun samples → AreThere file load.samples load.bytes samples
     → AllByRecursion (IsBelow (length file)) (left_in_hand hand) × (sizes_of (take left.samples (left_in_hand hand)) ≤ left.bytes)
 hand_there file m begun w Took held held_b load left hand on is_hand tree t samples o h there =
@@ -163,7 +163,7 @@ no_bytes_left file m begun w Took held held_b load left on none tree t samples o
     omega (arith, all, before, sizes)
 
 -- nothing more comes, so none is left to be taken along
-pub none_left_to_carry : (file : List ℕ) (m : MovieSeen) (begun w next : Walk) (Took : List ℕ → Type 0) (held held_b : List ℕ) (load left : Load) (hand : Loaded) (more : Bool) → CarriesOn file m begun w Took held held_b load left → InHandOf m w hand
+pub none_left_to_carry : (file : List ℕ) (m : MovieSeen) (begun w next : Walk) (Took : List ℕ → Type 0) (held held_b : List ℕ) (load left : Load) (hand : InHand) (more : Bool) → CarriesOn file m begun w Took held held_b load left → InHandOf m w hand
     → left_in_hand hand ≡ [] → LoadsFor file m w next more → more ≡ false
     → (tree : FileTree) (t : TrackTree) (samples : List SampleAt) → IsOpenedAs file m tree → Comes file tree t m begun samples → AreThere file load.samples load.bytes samples → left.samples ≡ 0
 none_left_to_carry file m begun w next Took held held_b load left hand more on is_hand none loads e tree t samples o h there =

@@ -10,11 +10,11 @@ use Rattle.mp4_tables.specs.declared.sample.SampleAt.{SampleAt}
 use Rattle.mp4_head.specs.format.Tree.{TrackTree}
 use Rattle.mp4_present.specs.format.Denotes.{FileTree}
 use Rattle.mp4_present.specs.words.SamplesComing.{Comes, samples_behind}
-use Rattle.mp4_present.specs.words.Loaded.{left_in_hand}
+use Rattle.mp4_present.specs.words.InHand.{left_in_hand}
 use Rattle.mp4_present.specs.words.Movies.{MovieSeen, InHandOf}
 use Rattle.mp4_present.specs.words.OpenedMovie.{IsOpenedAs}
-use Rattle.mp4_present.specs.declared.walking.loaded.Loaded.{Loaded}
-use Rattle.mp4_present.specs.declared.walking.loaded.Place.{Place}
+use Rattle.mp4_present.specs.declared.walking.in_hand.InHand.{InHand}
+use Rattle.mp4_present.specs.declared.walking.in_hand.Place.{Place}
 use Rattle.mp4_present.specs.declared.walking.Walk.{Walk}
 use Rattle.mp4_plan.specs.words.Ends.{goes_in}
 use Rattle.mp4_plan.specs.words.Gathering.{Planning, description_in, gather, piece_from, count_of, more_of, piece_fed, samples_after}
@@ -97,12 +97,12 @@ feeds_new leaving file m w end p is tree t samples o c =
     subst (λ (q : Planning). Feeds leaving file tree t m w (piece_from end) q samples) (sym is) (record { few = omega arith; comes = c; same = (refl, refl) })
 
 -- the samples behind those in hand come behind later ones in hand
-pub raw_coming : (file : List ℕ) (m : MovieSeen) (tree : FileTree) (t : TrackTree) (w now : Walk) (place : Place) (rest : List SampleAt) (k : Comes file tree t m w rest) (later : Loaded) → InHandOf m (record w { place = place }) later → now ≡ record w { place = place }
+pub raw_coming : (file : List ℕ) (m : MovieSeen) (tree : FileTree) (t : TrackTree) (w now : Walk) (place : Place) (rest : List SampleAt) (k : Comes file tree t m w rest) (later : InHand) → InHandOf m (record w { place = place }) later → now ≡ record w { place = place }
     → Comes file tree t m now (left_in_hand later ++ samples_behind tree t k.0 k.1)
 raw_coming file m tree t w now place rest k later is_later is =
     subst (λ (w' : Walk). Comes file tree t m w' (left_in_hand later ++ samples_behind tree t k.0 k.1)) (sym is) (k.0, k.1, later, (kept_before file tree t k.0 k.1 w place k.3.0, is_later, refl))
 
-pub fed_coming : (leaving : Reduction) (file : List ℕ) (m : MovieSeen) (tree : FileTree) (t : TrackTree) (w now : Walk) (place : Place) (rest : List SampleAt) (k : ComesLess leaving file tree t m w rest) (later : Loaded) → InHandOf m (record w { place = place }) later
+pub fed_coming : (leaving : Reduction) (file : List ℕ) (m : MovieSeen) (tree : FileTree) (t : TrackTree) (w now : Walk) (place : Place) (rest : List SampleAt) (k : ComesLess leaving file tree t m w rest) (later : InHand) → InHandOf m (record w { place = place }) later
     → now ≡ record w { place = place }
     → ComesLess leaving file tree t m now (less leaving (left_in_hand later) ++ less leaving (samples_behind tree t k.comes.0 k.comes.1))
 fed_coming leaving file m tree t w now place rest k later is_later is = record {
@@ -112,7 +112,7 @@ fed_coming leaving file m tree t w now place rest k later is_later is = record {
 }
 
 -- what is left of those in hand, and of those behind them
-pub hand_less : (leaving : Reduction) (file : List ℕ) (m : MovieSeen) (tree : FileTree) (t : TrackTree) (w : Walk) (rest : List SampleAt) (k : ComesLess leaving file tree t m w rest) (hand : Loaded) → InHandOf m w hand
+pub hand_less : (leaving : Reduction) (file : List ℕ) (m : MovieSeen) (tree : FileTree) (t : TrackTree) (w : Walk) (rest : List SampleAt) (k : ComesLess leaving file tree t m w rest) (hand : InHand) → InHandOf m w hand
     → rest ≡ less leaving (left_in_hand hand) ++ less leaving (samples_behind tree t k.comes.0 k.comes.1)
 hand_less leaving file m tree t w rest k hand is_hand =
     k.is_left ∙ ap (less leaving) (hand_first file m tree t w k.samples k.comes hand is_hand) ∙ less_append leaving (left_in_hand hand) (samples_behind tree t k.comes.0 k.comes.1)
@@ -184,7 +184,7 @@ hand_full leaving file m begun w room start p q place on h tree t samples o c =
     omega (arith, counts, whole, more_with p xs behind, full)
 
 -- more was loaded
-pub next_fed : (leaving : Reduction) (file : List ℕ) (m : MovieSeen) (begun w next : Walk) (start p : Planning) (hand : Loaded) (more : Bool) → FeedsOn leaving file m begun w start p → InHandOf m w hand → less leaving (left_in_hand hand) ≡ [] → LoadsFor file m w next more → more ≡ true
+pub next_fed : (leaving : Reduction) (file : List ℕ) (m : MovieSeen) (begun w next : Walk) (start p : Planning) (hand : InHand) (more : Bool) → FeedsOn leaving file m begun w start p → InHandOf m w hand → less leaving (left_in_hand hand) ≡ [] → LoadsFor file m w next more → more ≡ true
     → FeedsOn leaving file m begun next start p
 next_fed leaving file m begun w next start p hand more on is_hand none loads e tree t samples o c =
     let u = on tree t samples o c in
@@ -192,7 +192,7 @@ next_fed leaving file m begun w next start p hand more on is_hand none loads e t
     record { few = u.few; comes = record { samples = k.samples; comes = loads_on file m tree t w next k.samples k.comes hand is_hand (nothing_left leaving (left_in_hand hand) none) more e (loads tree t k.comes.0 k.comes.1 o k.comes.3.0); is_left = k.is_left }; same = u.same }
 
 -- nothing was loaded
-pub none_fed : (leaving : Reduction) (file : List ℕ) (m : MovieSeen) (begun w next : Walk) (start p : Planning) (hand : Loaded) (more : Bool) → FeedsOn leaving file m begun w start p → InHandOf m w hand → less leaving (left_in_hand hand) ≡ [] → LoadsFor file m w next more → more ≡ false
+pub none_fed : (leaving : Reduction) (file : List ℕ) (m : MovieSeen) (begun w next : Walk) (start p : Planning) (hand : InHand) (more : Bool) → FeedsOn leaving file m begun w start p → InHandOf m w hand → less leaving (left_in_hand hand) ≡ [] → LoadsFor file m w next more → more ≡ false
     → EndsFor file m w next more → (tree : FileTree) (t : TrackTree) (samples : List SampleAt) → IsOpenedAs file m tree → ComesLess leaving file tree t m begun samples → HasFed leaving file tree t m next start p samples
 none_fed leaving file m begun w next start p hand more on is_hand none loads e ends tree t samples o c =
     let u = on tree t samples o c in

@@ -10,15 +10,15 @@ use Rattle.mp4_frag.specs.words.Walks.{samples_coming}
 use Rattle.mp4_head.specs.format.Tree.{TrackTree}
 use Rattle.mp4_present.specs.format.Denotes.{FileTree}
 use Rattle.mp4_present.specs.words.GoingBack.{HoldsSome}
-use Rattle.mp4_present.specs.words.Loaded.{left_in_hand}
+use Rattle.mp4_present.specs.words.InHand.{left_in_hand}
 use Rattle.mp4_present.specs.words.Movies.{MovieSeen, IsWalkOf, IsRest, HandAt, HasSome, all_in_traf, traf_box}
 use Rattle.mp4_present.specs.words.OpenedMovie.{IsOpenedAs}
 use Rattle.mp4_present.specs.words.SamplesComing.{Comes, HoldsLast, StandsBefore, count_behind, due_behind, samples_behind, track_keys}
 use Rattle.mp4_present.specs.words.WalkSteps.{trafs_steps, way_through}
-use Rattle.mp4_present.specs.declared.walking.loaded.Loaded.{Loaded}
-use Rattle.mp4_present.specs.declared.walking.loaded.Loaded.TheVariants as hands
-use Rattle.mp4_present.specs.declared.walking.loaded.Place.{Place}
-use Rattle.mp4_present.specs.declared.walking.loaded.Place.TheVariants.{Tables, Fragment}
+use Rattle.mp4_present.specs.declared.walking.in_hand.InHand.{InHand}
+use Rattle.mp4_present.specs.declared.walking.in_hand.InHand.TheVariants as hands
+use Rattle.mp4_present.specs.declared.walking.in_hand.Place.{Place}
+use Rattle.mp4_present.specs.declared.walking.in_hand.Place.TheVariants.{Tables, Fragment}
 use Rattle.mp4_present.specs.declared.track_info.TrackInfo.{TrackInfo}
 use Rattle.mp4_present.specs.declared.walking.Due.{Due}
 use Rattle.mp4_present.specs.declared.walking.Walk.{Walk}
@@ -131,7 +131,7 @@ module _ (file : List ℕ) (m : MovieSeen) (tree : FileTree) (o : IsOpenedAs fil
       by (Some c) (Fragment p) r e = refl
 
   -- of the `traf` that is in hand no more samples are left than it has
-  hand_few : (w : Walk) (d : Due) (info : TrackInfo) → slice_get m.tracks w.track ≡ Some info → (b : Option Due) (q : Place) (hand : Loaded) → b ≡ Some d → IsRest m w b q → HandAt m w q hand → length (left_in_hand hand) ≤ length (all_in_traf m w info d)
+  hand_few : (w : Walk) (d : Due) (info : TrackInfo) → slice_get m.tracks w.track ≡ Some info → (b : Option Due) (q : Place) (hand : InHand) → b ≡ Some d → IsRest m w b q → HandAt m w q hand → length (left_in_hand hand) ≤ length (all_in_traf m w info d)
   hand_few w d info at None q hand is r h = absurd cc
   hand_few w d info at (Some c) (Tables p) hand is r h = absurd r
   hand_few w d info at (Some c) (Fragment p) (hands.Tables v) is r h = absurd h

@@ -12,8 +12,8 @@ use Rattle.mp4_present.specs.words.SamplesComing.{Comes, StandsBefore}
 use Rattle.mp4_present.specs.words.WalkSteps.{MayTake, TakesOn, trafs_steps, steps_to, table_way, way_through}
 use Rattle.mp4_frag.specs.words.OwnTrafs.{PlacedTraf, traf_steps}
 use Rattle.mp4_present.proofs.WayThrough.{same_steps}
-use Rattle.mp4_present.specs.declared.walking.loaded.Place.{Place}
-use Rattle.mp4_present.specs.declared.walking.loaded.Place.TheVariants.{Tables, Fragment}
+use Rattle.mp4_present.specs.declared.walking.in_hand.Place.{Place}
+use Rattle.mp4_present.specs.declared.walking.in_hand.Place.TheVariants.{Tables, Fragment}
 use Rattle.mp4_content.specs.declared.reduced.Reduction.{Reduction}
 use Rattle.mp4_present.specs.declared.walking.Due.{Due}
 use Rattle.mp4_present.specs.declared.walking.Mark.{Mark}

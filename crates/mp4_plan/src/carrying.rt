@@ -5,7 +5,7 @@ ghost use Rattle.mp4_present.specs.words.Carried.{GoOnBy, RefusesCarry, waiting}
 ghost use Rattle.mp4_content.specs.declared.reduced.Reduction.{Reduction};
 ghost use Rattle.mp4_present.specs.words.HandCarried.{RefusedByBoth};
 ghost use Rattle.mp4_present.specs.words.SamplesComing.{Comes};
-ghost use Rattle.mp4_present.specs.words.Loaded.{Follows, left_in_hand};
+ghost use Rattle.mp4_present.specs.words.InHand.{Follows, left_in_hand};
 ghost use Rattle.mp4_present.specs.words.Joined.{IsBelow, sample_bytes};
 ghost use Rattle.mp4_present.specs.words.Movies.{IsWalkOf};
 ghost use Rattle.mp4_present.specs.words.OutBuffers.{Carries, OnlyCopies};
@@ -22,7 +22,7 @@ use crate::stretches::Stretches;
 use crate::track_pieces::next_sample;
 use mp4_boxes::{Refusal, Steps};
 use mp4_content::Reduction;
-use mp4_present::{Loaded, Movie, OutBuffer, Walk, next_stretch};
+use mp4_present::{InHand, Movie, OutBuffer, Walk, next_stretch};
 use mp4_store::{Sink, Store};
 use mp4_tables::SampleAt;
 use std::sync::ledger::Ledger;
@@ -45,7 +45,7 @@ pub(crate) struct NotedBytes<'a> {
 // Takes the bytes of samples in hand along, and says what is left then. Where they have more bytes
 // than are left, the store has changed.
 fn carry_hand<S: Store, K: Sink>(
-    hand: &mut Loaded,
+    hand: &mut InHand,
     load: Load,
     carrier: &mut OutBuffer,
     store: &mut S,

@@ -1,6 +1,6 @@
 //! How many samples the next piece of a walk has.
 ghost use Rattle.std.specs.Prelude.{◌≡◌, ◌+◌, ◌<◌, ◌≤◌, length, slice_get, IfOk, OnOk};
-ghost use Rattle.mp4_present.specs.words.Loaded.{AreLast};
+ghost use Rattle.mp4_present.specs.words.InHand.{AreLast};
 ghost use Rattle.mp4_present.specs.words.Movies.{IsWalkOf};
 ghost use Rattle.mp4_present.specs.words.StoresRead.{IsUnchanged};
 ghost use Rattle.mp4_present.specs.words.TrackWalks.{TakesSteps};
@@ -15,7 +15,7 @@ use crate::ends::{End, Portion, goes_in, has_ended};
 use crate::track_pieces::MOST_SAMPLES;
 use mp4_boxes::{Refusal, Steps};
 use mp4_content::{Reduced, Reduction};
-use mp4_present::{Loaded, Movie, Place, Walk};
+use mp4_present::{InHand, Movie, Place, Walk};
 use mp4_store::Store;
 use mp4_tables::{SampleAt, Samples};
 use std::sync::ledger::Ledger;
@@ -127,7 +127,7 @@ fn count_hand(
     ensures keeps { KeepsOn movie.now walk.now result.place }
 {
     match walk.in_hand(movie) {
-        Loaded::Tables(inner) => {
+        InHand::Tables(inner) => {
             let mut hand = Reduced { inner, reduction };
             let count = count_left(&mut hand, end, description, most);
             CountedHand {
@@ -136,7 +136,7 @@ fn count_hand(
                 place: Place::Tables(hand.inner.place()),
             }
         }
-        Loaded::Fragment(inner) => {
+        InHand::Fragment(inner) => {
             let mut hand = Reduced { inner, reduction };
             let count = count_left(&mut hand, end, description, most);
             CountedHand {

@@ -1,6 +1,6 @@
 //! Samples of a track, taken piece by piece.
 ghost use Rattle.std.specs.Prelude.{◌≡◌, ◌+◌, ◌-◌, ◌*◌, ◌^◌, ◌<◌, ◌≤◌, List, length, take, None, slice_get, IfOk, OnOk, MatchResult};
-ghost use Rattle.mp4_present.specs.words.Loaded.{AreLast};
+ghost use Rattle.mp4_present.specs.words.InHand.{AreLast};
 ghost use Rattle.mp4_present.specs.words.Movies.{IsWalkOf, HasSome, mark_of};
 ghost use Rattle.mp4_present.specs.words.StoresRead.{IsUnchanged};
 ghost use Rattle.mp4_present.specs.words.TrackWalks.{TakesSteps};
@@ -22,7 +22,7 @@ use crate::planner::{Planned, Planner};
 use crate::stretches::Stretches;
 use mp4_boxes::{Refusal, Steps};
 use mp4_content::{Reduced, Reduction, peek_sample, reduced_sample};
-use mp4_present::{Loaded, Movie, Place, Walk};
+use mp4_present::{InHand, Movie, Place, Walk};
 use mp4_store::Store;
 use mp4_tables::{SampleAt, Samples};
 use std::sync::ledger::Ledger;
@@ -204,7 +204,7 @@ fn note_hand(
     ensures keeps { KeepsOn movie.now walk.now result.place }
 {
     match walk.in_hand(movie) {
-        Loaded::Tables(inner) => {
+        InHand::Tables(inner) => {
             let mut hand = Reduced { inner, reduction };
             note_left(planner, &mut hand, rows, stretches);
             FedHand {
@@ -212,7 +212,7 @@ fn note_hand(
                 place: Place::Tables(hand.inner.place()),
             }
         }
-        Loaded::Fragment(inner) => {
+        InHand::Fragment(inner) => {
             let mut hand = Reduced { inner, reduction };
             note_left(planner, &mut hand, rows, stretches);
             FedHand {

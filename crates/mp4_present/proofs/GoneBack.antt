@@ -16,19 +16,19 @@ use Rattle.mp4_head.specs.format.Tree.{TrackTree}
 use Rattle.mp4_present.specs.words.SamplesComing.{StandsBefore, HoldsNext, HoldsLast, Comes, Takes, samples_behind, due_behind}
 use Rattle.mp4_present.specs.format.Denotes.{FileTree}
 use Rattle.mp4_present.specs.words.GoingBack.{GoesBackTo, HoldsMarked, IsMarkInHand, again_from, back_steps, set_back, turned_back}
-use Rattle.mp4_present.specs.words.Loaded.{AreLast, left_in_hand, Follows, IsPlaceOf}
+use Rattle.mp4_present.specs.words.InHand.{AreLast, left_in_hand, Follows, IsPlaceOf}
 use Rattle.mp4_present.specs.words.Movies.{MovieSeen, IsWalkOf, HasMarked, IsRest, StandsAt, HandAt, InHandOf, mark_of, traf_box, traf_bytes, trex_at, all_in_traf}
 use Rattle.mp4_present.specs.words.WalkSteps.{steps_to, trafs_steps, way_through, MayTake, TakesOn}
-use Rattle.mp4_present.specs.declared.walking.loaded.Loaded.{Loaded}
-use Rattle.mp4_present.specs.declared.walking.loaded.Loaded.TheVariants as hands
-use Rattle.mp4_present.specs.declared.walking.loaded.Place.{Place}
-use Rattle.mp4_present.specs.declared.walking.loaded.Place.TheVariants.{Tables, Fragment}
+use Rattle.mp4_present.specs.declared.walking.in_hand.InHand.{InHand}
+use Rattle.mp4_present.specs.declared.walking.in_hand.InHand.TheVariants as hands
+use Rattle.mp4_present.specs.declared.walking.in_hand.Place.{Place}
+use Rattle.mp4_present.specs.declared.walking.in_hand.Place.TheVariants.{Tables, Fragment}
 use Rattle.mp4_present.specs.declared.track_info.TrackInfo.{TrackInfo}
 use Rattle.mp4_present.specs.declared.walking.Due.{Due}
 use Rattle.mp4_present.specs.declared.walking.Mark.{Mark}
 use Rattle.mp4_present.specs.declared.walking.Walk.{Walk}
 use Rattle.mp4_present.proofs.HeldAgain.{held_as, held_bytes, stands_moved}
-use Rattle.mp4_present.proofs.TrafLoaded.{behind_split}
+use Rattle.mp4_present.proofs.TrafInHand.{behind_split}
 use Rattle.mp4_present.proofs.OwnPlaced.{lies_there}
 use Rattle.mp4_present.specs.words.OpenedMovie.{IsOpenedAs}
 use Rattle.mp4_present.proofs.WalkCopied.{hand_one}
@@ -36,7 +36,7 @@ use Rattle.mp4_present.proofs.WalkPlaces.{marked_here, stands_moved as place_mov
 
 -- ---- what a walk has marked matters for nothing else
 
-hand_marked : (m : MovieSeen) (w : Walk) (k : Mark) (q : Place) (hand : Loaded) → HandAt m w q hand → HandAt m (record w { mark = k }) q hand
+hand_marked : (m : MovieSeen) (w : Walk) (k : Mark) (q : Place) (hand : InHand) → HandAt m w q hand → HandAt m (record w { mark = k }) q hand
 hand_marked m w k (Tables q) (hands.Tables c) h = h
 hand_marked m w k (Fragment q) (hands.Fragment c) h = h
 hand_marked m w k (Tables q) (hands.Fragment c) h = absurd h
@@ -120,7 +120,7 @@ module _ (file : List ℕ) (m : MovieSeen) (tree : FileTree) (t : TrackTree) (be
       held = subst (λ (b : Option Due). HoldsLast file tree t earlier later (set_back w) b) (sym before_is) (held_back begun.before begun.place marked at refl);
     }
 
-    hand_back : (b : Option Due) (q : Place) (hand : Loaded) → HasMarked m w b q → AtHand b → begun.before ≡ b → HandAt m begun q hand → HandAt m (set_back w) q hand
+    hand_back : (b : Option Due) (q : Place) (hand : InHand) → HasMarked m w b q → AtHand b → begun.before ≡ b → HandAt m begun q hand → HandAt m (set_back w) q hand
     hand_back None (Tables p) (hands.Tables c) k at e h = (h.0, ap (slice_get m.tables) track_is ∙ h.1, h.2)
     hand_back (Some d) (Fragment p) (hands.Fragment c) k at e h =
         let bytes = sym (same_bytes d (Fragment p) k at e) in
@@ -209,7 +209,7 @@ module _ (file : List ℕ) (m : MovieSeen) (tree : FileTree) (t : TrackTree) (be
     begun_before : begun.before ≡ Some d
     begun_before = sym before_is ∙ b
 
-    begun_rest : (c : Option Due) (q : Place) (hand : Loaded) (info : TrackInfo) → c ≡ Some d → IsRest m begun c q → HandAt m begun q hand → slice_get m.tracks begun.track ≡ Some info → AreLast (all_in_traf m begun info d) (left_in_hand hand)
+    begun_rest : (c : Option Due) (q : Place) (hand : InHand) (info : TrackInfo) → c ≡ Some d → IsRest m begun c q → HandAt m begun q hand → slice_get m.tracks begun.track ≡ Some info → AreLast (all_in_traf m begun info d) (left_in_hand hand)
     begun_rest None q hand info e r h at = absurd (none_is d e)
     begun_rest (Some c) (Tables p) hand info e r h at = absurd r
     begun_rest (Some c) (Fragment p) (hands.Tables v) info e r h at = absurd h
@@ -221,7 +221,7 @@ module _ (file : List ℕ) (m : MovieSeen) (tree : FileTree) (t : TrackTree) (be
 
     module _ (samples : List SampleAt) (k : Comes file tree t m begun samples) (front : List PlacedTraf) (last : PlacedTraf) (is_last : k.0 ≡ front ++ last ∷ []) (first : Walk) (stands : StandsBefore file tree t (front ++ last ∷ []) k.1 first)
         (traf : first.traf ≡ begun.traf) (bytes : traf_bytes first ≡ traf_bytes begun) (track : first.track ≡ w.track)
-        (info : TrackInfo) (at : slice_get m.tracks w.track ≡ Some info) (all : Loaded) (is_all : InHandOf m first all) (whole : left_in_hand all ≡ all_in_traf m first info d)
+        (info : TrackInfo) (at : slice_get m.tracks w.track ≡ Some info) (all : InHand) (is_all : InHandOf m first all) (whole : left_in_hand all ≡ all_in_traf m first info d)
         (own : left_in_hand all ≡ samples_behind tree t front (last ∷ [])) (had : d.left ≡ length (samples_behind tree t front (last ∷ k.1))) where
       xs : List SampleAt
       xs = all_in_traf m begun info d
@@ -258,7 +258,7 @@ module _ (file : List ℕ) (m : MovieSeen) (tree : FileTree) (t : TrackTree) (be
       few_passed = let two = both in let left = first_left in omega (arith, two, left, sum)
 
       -- so the samples before the mark are passed, and those from it on are in hand
-      pub comes_again : (passed : Walk) (hand later_hand : Loaded) → InHandOf m first hand → InHandOf m passed later_hand → left_in_hand later_hand ≡ drop (d.left - length samples) (left_in_hand hand) → StandsBefore file tree t (front ++ last ∷ []) k.1 passed
+      pub comes_again : (passed : Walk) (hand later_hand : InHand) → InHandOf m first hand → InHandOf m passed later_hand → left_in_hand later_hand ≡ drop (d.left - length samples) (left_in_hand hand) → StandsBefore file tree t (front ++ last ∷ []) k.1 passed
           → Comes file tree t m passed samples
       comes_again passed hand later_hand is_hand is_later rest stands_later =
           let count : d.left - length samples ≡ min rest_is.0 (length (left_in_hand all)) = (let rest = rest_long in let two = both in let left = first_left in omega (arith, rest, two, left, sum)) in
@@ -295,14 +295,14 @@ pub takes_marked : (file : List ℕ) (tree : FileTree) (t : TrackTree) (m : Movi
     → Takes file tree t earlier next later m (record w { mark = k }) some
 takes_marked file tree t m earlier next later w k some h = (h.0, (stands_moved file tree t (earlier ++ next ∷ []) later w w.place k h.1.0, hand_marked m w k w.place h.0 h.1.1, h.1.2, h.1.3))
 
-pub hand_of_marked : (m : MovieSeen) (w : Walk) (k : Mark) (hand : Loaded) → InHandOf m w hand → InHandOf m (record w { mark = k }) hand
+pub hand_of_marked : (m : MovieSeen) (w : Walk) (k : Mark) (hand : InHand) → InHandOf m w hand → InHandOf m (record w { mark = k }) hand
 hand_of_marked m w k hand h = hand_marked m w k w.place hand h
 
 -- later samples of what was in hand are in hand at a later place
-pub hand_later : (m : MovieSeen) (w : Walk) (hand later : Loaded) (p : Place) → InHandOf m w hand → Follows hand later → IsPlaceOf later p → InHandOf m (record w { place = p }) later
+pub hand_later : (m : MovieSeen) (w : Walk) (hand later : InHand) (p : Place) → InHandOf m w hand → Follows hand later → IsPlaceOf later p → InHandOf m (record w { place = p }) later
 hand_later m w hand later p h f i = later_at w.place hand later p h f i
   where
-    later_at : (q : Place) (a b : Loaded) (p : Place) → HandAt m w q a → Follows a b → IsPlaceOf b p → HandAt m (record w { place = p }) p b
+    later_at : (q : Place) (a b : InHand) (p : Place) → HandAt m w q a → Follows a b → IsPlaceOf b p → HandAt m (record w { place = p }) p b
     later_at (Tables q) (hands.Tables a) (hands.Tables b) (Tables p) h f i = (h.0, h.1, (λ j. record { tables = (f.0 ∙ ap (λ (c : TableView). c.tables) h.2) j; place = sym i.0 j }))
     later_at (Fragment q) (hands.Fragment a) (hands.Fragment b) (Fragment p) h f i =
         λ j. record { payload = (f.0 ∙ ap (λ (c : TrafView). c.payload) h) j; place = sym i.0 j }

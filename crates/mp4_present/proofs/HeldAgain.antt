@@ -6,7 +6,7 @@ use Rattle.mp4_head.specs.format.Tree.{TrackTree}
 use Rattle.mp4_present.specs.words.SamplesComing.{HoldsNext, HoldsLast, StandsBefore}
 use Rattle.mp4_present.specs.format.Denotes.{FileTree}
 use Rattle.mp4_present.specs.words.Movies.{traf_bytes}
-use Rattle.mp4_present.specs.declared.walking.loaded.Place.{Place}
+use Rattle.mp4_present.specs.declared.walking.in_hand.Place.{Place}
 use Rattle.mp4_present.specs.declared.walking.Due.{Due}
 use Rattle.mp4_present.specs.declared.walking.Mark.{Mark}
 use Rattle.mp4_present.specs.declared.walking.Walk.{Walk}

@@ -63,7 +63,7 @@ pub mod Assembled
 pub mod DenotedOpens
 pub mod SamplesLie
 pub mod WalkCopied
-pub mod TrafLoaded
+pub mod TrafInHand
 pub mod OwnSums
 pub mod OwnPlaced
 pub mod WalkBegun

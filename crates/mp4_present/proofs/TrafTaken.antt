@@ -40,7 +40,7 @@ use Rattle.mp4_present.proofs.HeldAgain.{HoldSame, holds_as}
 use Rattle.mp4_present.proofs.KeysExtended.{distinct_keys}
 use Rattle.mp4_present.proofs.MoofSound.{moof_sound, kept_trexes}
 use Rattle.mp4_present.proofs.OwnPlaced.{StandsIn, all_placed, contains_in, its_moof, its_tree, of_part, one_placed, passed, placed_append}
-use Rattle.mp4_present.proofs.TrafLoaded.{behind_split, due_more}
+use Rattle.mp4_present.proofs.TrafInHand.{behind_split, due_more}
 use Rattle.mp4_present.proofs.WalkPlaces.{of_got}
 
 -- ---- a track at its place

@@ -17,14 +17,14 @@ use Rattle.mp4_head.specs.format.Tree.{TrackTree}
 use Rattle.mp4_present.specs.words.Carried.{BytesGoOn, RefusesPut, RefusesStretch}
 use Rattle.mp4_present.specs.words.SamplesComing.{StandsBefore, Comes, Loads, samples_behind, track_samples}
 use Rattle.mp4_present.specs.format.Denotes.{FileTree, file_parts, placed_of}
-use Rattle.mp4_present.specs.words.Loaded.{left_in_hand}
+use Rattle.mp4_present.specs.words.InHand.{left_in_hand}
 use Rattle.mp4_present.specs.words.Joined.{IsBelow, sample_bytes, sizes_of}
 use Rattle.mp4_present.specs.words.Movies.{MovieSeen, HandAt, InHandOf, tables_seen}
 use Rattle.mp4_present.specs.words.OpenedMovie.{IsOpenedAs, IsInfoOf}
-use Rattle.mp4_present.specs.declared.walking.loaded.Loaded.{Loaded}
-use Rattle.mp4_present.specs.declared.walking.loaded.Loaded.TheVariants as hands
-use Rattle.mp4_present.specs.declared.walking.loaded.Place.{Place}
-use Rattle.mp4_present.specs.declared.walking.loaded.Place.TheVariants.{Tables, Fragment}
+use Rattle.mp4_present.specs.declared.walking.in_hand.InHand.{InHand}
+use Rattle.mp4_present.specs.declared.walking.in_hand.InHand.TheVariants as hands
+use Rattle.mp4_present.specs.declared.walking.in_hand.Place.{Place}
+use Rattle.mp4_present.specs.declared.walking.in_hand.Place.TheVariants.{Tables, Fragment}
 use Rattle.mp4_present.specs.declared.movie.TrackTables.{TrackTables}
 use Rattle.mp4_present.specs.declared.walking.stretches.Stretch.{Stretch}
 use Rattle.mp4_present.specs.declared.track_info.TrackInfo.{TrackInfo}
@@ -42,7 +42,7 @@ use Rattle.mp4_present.proofs.WalkPlaces.{of_got}
 some_is : {A : Type 0} (x y : A) → ◌≡◌ {A = Option A} (Some x) (Some y) → x ≡ y
 some_is x y e = cc
 
-one_at : (m : MovieSeen) (w : Walk) (p : Place) (a b : Loaded) → HandAt m w p a → HandAt m w p b → a ≡ b
+one_at : (m : MovieSeen) (w : Walk) (p : Place) (a b : InHand) → HandAt m w p a → HandAt m w p b → a ≡ b
 one_at m w (Tables p) (hands.Tables x) (hands.Tables y) h k =
     let same : h.0 ≡ k.0 = some_is h.0 k.0 (sym h.1 ∙ k.1) in
     let view : TrackTables → TableView = λ t. record { tables = tables_seen m.moov t; place = p } in
@@ -54,7 +54,7 @@ one_at m w (Fragment p) (hands.Fragment x) (hands.Tables y) h k = absurd k
 one_at m w (Fragment p) (hands.Tables x) b h k = absurd h
 
 -- a walk has one thing in hand
-pub hand_one : (m : MovieSeen) (w : Walk) (a b : Loaded) → InHandOf m w a → InHandOf m w b → a ≡ b
+pub hand_one : (m : MovieSeen) (w : Walk) (a b : InHand) → InHandOf m w a → InHandOf m w b → a ≡ b
 hand_one m w a b h k = one_at m w w.place a b h k
 
 -- between which `traf`s a walk stands doesn't depend on its place in what is in hand
@@ -78,12 +78,12 @@ StandsOn w later_w = (file : List ℕ) (tree : FileTree) (t : TrackTree) (earlie
 -- what is in hand is carried along
 pub track_next : (file : List ℕ) (tree : FileTree) (t : TrackTree) (m : MovieSeen) {Y : Type 0} {takes : Y → Y → List ℕ → Type 0} (joins : IsJoining takes) (a b c : Y) (held_b held_c : List ℕ) (w later_w : Walk) (all to_come : List SampleAt) (bytes left : ℕ)
     → HandGoesOn file (takes a b) [] held_b all to_come → Comes file tree t m w to_come
-    → bytes ≡ sizes_of to_come → (y : Loaded) → InHandOf m w y → sizes_of (left_in_hand y) + left ≡ bytes
-    → (x : Loaded) → InHandOf m w x → BytesGoOn (takes b c) held_b held_c (sample_bytes file (left_in_hand x)) → StandsOn w later_w → TrackGoesOn file tree t (takes a c) held_c later_w all left
+    → bytes ≡ sizes_of to_come → (y : InHand) → InHandOf m w y → sizes_of (left_in_hand y) + left ≡ bytes
+    → (x : InHand) → InHandOf m w x → BytesGoOn (takes b c) held_b held_c (sample_bytes file (left_in_hand x)) → StandsOn w later_w → TrackGoesOn file tree t (takes a c) held_c later_w all left
 track_next file tree t m {takes = takes} joins a b c held_b held_c w later_w all to_come bytes left h k have y j sizes x i put on =
     let own_list = left_in_hand k.2 in
-    let own : BytesGoOn (takes b c) held_b held_c (sample_bytes file own_list) = subst (λ (z : Loaded). BytesGoOn (takes b c) held_b held_c (sample_bytes file (left_in_hand z))) (hand_one m w x k.2 i k.3.1) put in
-    let own_sizes : sizes_of own_list + left ≡ bytes = subst (λ (z : Loaded). sizes_of (left_in_hand z) + left ≡ bytes) (hand_one m w y k.2 j k.3.1) sizes in
+    let own : BytesGoOn (takes b c) held_b held_c (sample_bytes file own_list) = subst (λ (z : InHand). BytesGoOn (takes b c) held_b held_c (sample_bytes file (left_in_hand z))) (hand_one m w x k.2 i k.3.1) put in
+    let own_sizes : sizes_of own_list + left ≡ bytes = subst (λ (z : InHand). sizes_of (left_in_hand z) + left ≡ bytes) (hand_one m w y k.2 j k.3.1) sizes in
     let both = ap sizes_of k.3.2 ∙ sizes_of_two own_list (samples_behind tree t k.0 k.1) in
     record {
       earlier = k.0;
@@ -112,12 +112,12 @@ whole_bytes file Took held_b all to_come h = ap (sample_bytes file) (sym h.whole
 -- it isn't carried along whole
 pub track_fails : (file : List ℕ) (tree : FileTree) (t : TrackTree) (m : MovieSeen) {Y : Type 0} {takes : Y → Y → List ℕ → Type 0} (joins : IsJoining takes) (a b c : Y) (held_b : List ℕ) (w : Walk) (all to_come : List SampleAt) → HandGoesOn file (takes a b) [] held_b all to_come
     → Comes file tree t m w to_come
-    → (x : Loaded) → InHandOf m w x → TakesPrefix (takes b c) (held_b ++ sample_bytes file (left_in_hand x)) → TakesPrefix (takes a c) (sample_bytes file all)
+    → (x : InHand) → InHandOf m w x → TakesPrefix (takes b c) (held_b ++ sample_bytes file (left_in_hand x)) → TakesPrefix (takes a c) (sample_bytes file all)
 track_fails file tree t m {takes = takes} joins a b c held_b w all to_come h k x i p =
     let own = sample_bytes file (left_in_hand x) in
     let rest = sample_bytes file (samples_behind tree t k.0 k.1) in
     let two : sample_bytes file to_come ≡ own ++ rest =
-    ap (sample_bytes file) (k.3.2 ∙ ap (λ (y : Loaded). left_in_hand y ++ samples_behind tree t k.0 k.1) (hand_one m w k.2 x k.3.1 i)) ∙ bytes_of_two file (left_in_hand x) (samples_behind tree t k.0 k.1) in
+    ap (sample_bytes file) (k.3.2 ∙ ap (λ (y : InHand). left_in_hand y ++ samples_behind tree t k.0 k.1) (hand_one m w k.2 x k.3.1 i)) ∙ bytes_of_two file (left_in_hand x) (samples_behind tree t k.0 k.1) in
     let all_is : sample_bytes file all ≡ sample_bytes file h.done ++ (own ++ rest) = whole_bytes file (takes a b) held_b all to_come h ∙ ap (λ (bs : List ℕ). sample_bytes file h.done ++ bs) two in
     rw all_is (BytesGoOn-fails joins a b c [] held_b (sample_bytes file h.done) (own ++ rest) h.bytes (rw (← append_assoc held_b own rest) (TakesPrefix-longer (takes b c) (held_b ++ own) rest p)))
 
@@ -147,14 +147,14 @@ track_lies file m tree t k o is =
 
 -- what follows where those in hand do, and have no more bytes than are left
 pub in_hand_lies : (file : List ℕ) (tree : FileTree) (t : TrackTree) (m : MovieSeen) (Took : List ℕ → Type 0) (held_b : List ℕ) (w : Walk) (all to_come : List SampleAt) (n left : ℕ) (X : Type 0) → HandGoesOn file Took [] held_b all to_come → Comes file tree t m w to_come
-    → left ≡ sizes_of to_come → AllByRecursion (IsBelow n) all → (x : Loaded) → InHandOf m w x → (AllByRecursion (IsBelow n) (left_in_hand x) → sizes_of (left_in_hand x) ≤ left → X) → X
+    → left ≡ sizes_of to_come → AllByRecursion (IsBelow n) all → (x : InHand) → InHandOf m w x → (AllByRecursion (IsBelow n) (left_in_hand x) → sizes_of (left_in_hand x) ≤ left → X) → X
 in_hand_lies file tree t m Took held_b w all to_come n left X h k have lie x i then =
     let coming : AllByRecursion (IsBelow n) to_come = all_last (IsBelow n) h.done to_come (subst (λ (ss : List SampleAt). AllByRecursion (IsBelow n) ss) (sym h.whole) lie) in
     let own = all_first (IsBelow n) (left_in_hand k.2) (samples_behind tree t k.0 k.1) (subst (λ (ss : List SampleAt). AllByRecursion (IsBelow n) ss) k.3.2 coming) in
     let both = ap sizes_of k.3.2 ∙ sizes_of_two (left_in_hand k.2) (samples_behind tree t k.0 k.1) in
     let fits : sizes_of (left_in_hand k.2) ≤ left = omega (arith, have, both) in
     let same = hand_one m w k.2 x k.3.1 i in
-    then (subst (λ (y : Loaded). AllByRecursion (IsBelow n) (left_in_hand y)) same own) (subst (λ (y : Loaded). sizes_of (left_in_hand y) ≤ left) same fits)
+    then (subst (λ (y : InHand). AllByRecursion (IsBelow n) (left_in_hand y)) same own) (subst (λ (y : InHand). sizes_of (left_in_hand y) ≤ left) same fits)
 
 -- a stretch that lies in the file shows no change
 pub stretch_there : (file : List ℕ) (s : Stretch) (reads reads_after puts puts_after : ℕ) (r : Refusal) → s.at + s.len ≤ length file → RefusesStretch file s reads reads_after puts puts_after r → r ≡ refusals.StoreChanged → ⊥

@@ -7,11 +7,11 @@ use Rattle.mp4_tables.specs.words.TablesSeen.{CursorSeen as TableView}
 use Rattle.mp4_frag.specs.words.FragmentsSeen.{CursorSeen as TrafView}
 use Rattle.mp4_frag.specs.words.PlacesIn.{IsPlaceIn}
 use Rattle.mp4_frag.specs.words.Walks.{samples_coming}
-use Rattle.mp4_present.specs.words.Loaded.{AreLast, last_of_last, Follows, IsPlaceOf}
-use Rattle.mp4_present.specs.declared.walking.loaded.Loaded.{Loaded}
-use Rattle.mp4_present.specs.declared.walking.loaded.Loaded.TheVariants as hands
-use Rattle.mp4_present.specs.declared.walking.loaded.Place.{Place}
-use Rattle.mp4_present.specs.declared.walking.loaded.Place.TheVariants.{Tables, Fragment}
+use Rattle.mp4_present.specs.words.InHand.{AreLast, last_of_last, Follows, IsPlaceOf}
+use Rattle.mp4_present.specs.declared.walking.in_hand.InHand.{InHand}
+use Rattle.mp4_present.specs.declared.walking.in_hand.InHand.TheVariants as hands
+use Rattle.mp4_present.specs.declared.walking.in_hand.Place.{Place}
+use Rattle.mp4_present.specs.declared.walking.in_hand.Place.TheVariants.{Tables, Fragment}
 use Rattle.mp4_present.specs.declared.walking.Due.{Due}
 use Rattle.mp4_present.specs.declared.walking.Mark.{Mark}
 use Rattle.mp4_present.specs.declared.walking.Walk.{Walk}
@@ -126,7 +126,7 @@ begun m w p n i lt at none mark place =
 
 -- ---- how it goes on
 
-stands_on : (m : MovieSeen) (w : Walk) (q : Place) (a b : Loaded) (p : Place) → StandsAt m w q → HandAt m w q a → Follows a b → IsPlaceOf b p → StandsAt m w p
+stands_on : (m : MovieSeen) (w : Walk) (q : Place) (a b : InHand) (p : Place) → StandsAt m w q → HandAt m w q a → Follows a b → IsPlaceOf b p → StandsAt m w p
 stands_on m w (Tables q) (hands.Tables a) (hands.Tables b) (Tables p) s h f i =
     (h.0, h.1, subst (λ (v : TablesSeen). IsPlace v.payload v.at p) (f.0 ∙ ap (λ (c : TableView). c.tables) h.2) i.1)
 stands_on m w (Fragment q) (hands.Fragment a) (hands.Fragment b) (Fragment p) s h f i =
@@ -139,7 +139,7 @@ stands_on m w (Tables q) (hands.Tables a) (hands.Tables b) (Fragment p) s h f i 
 stands_on m w (Fragment q) (hands.Fragment a) (hands.Fragment b) (Tables p) s h f i = absurd i
 
 -- later samples of the last are the last
-rest_on : (m : MovieSeen) (w : Walk) (d : Option Due) (q : Place) (a b : Loaded) (p : Place) → IsRest m w d q → HandAt m w q a → Follows a b → IsPlaceOf b p → IsRest m w d p
+rest_on : (m : MovieSeen) (w : Walk) (d : Option Due) (q : Place) (a b : InHand) (p : Place) → IsRest m w d q → HandAt m w q a → Follows a b → IsPlaceOf b p → IsRest m w d p
 rest_on m w None (Tables q) (hands.Tables a) (hands.Tables b) (Tables p) r h f i = tt
 rest_on m w (Some d) (Fragment q) (hands.Fragment a) (hands.Fragment b) (Fragment p) r h f i = λ info at.
     let view : b ≡ traf_hand w p = λ j. record { payload = (f.0 ∙ ap (λ (c : TrafView). c.payload) h) j; place = sym i.0 j } in
@@ -156,7 +156,7 @@ rest_on m w None (Tables q) (hands.Tables a) (hands.Tables b) (Fragment p) r h f
 rest_on m w (Some d) (Fragment q) (hands.Fragment a) (hands.Fragment b) (Tables p) r h f i = absurd i
 
 -- a walk that goes on from a place of what was in hand
-pub kept_on : (m : MovieSeen) (w : Walk) (a b : Loaded) (p : Place) → IsWalkOf m w → InHandOf m w a → Follows a b → IsPlaceOf b p → IsWalkOf m (record w { place = p })
+pub kept_on : (m : MovieSeen) (w : Walk) (a b : InHand) (p : Place) → IsWalkOf m w → InHandOf m w a → Follows a b → IsPlaceOf b p → IsWalkOf m (record w { place = p })
 kept_on m w a b p i h f at = record {
   goes_on = record { movie = i.goes_on.movie; track = i.goes_on.track };
   place = stands_moved m w p w.mark p (stands_on m w w.place a b p i.place h f at);

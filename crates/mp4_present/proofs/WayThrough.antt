@@ -25,14 +25,14 @@ use Rattle.mp4_frag.specs.format.Fragments.{TrackFragment, track_fragment_of}
 use Rattle.mp4_head.specs.format.Tree.{TrackTree}
 use Rattle.mp4_present.specs.words.SamplesComing.{StandsBefore, HoldsNext, Takes, own_trafs}
 use Rattle.mp4_present.specs.format.Denotes.{FileTree}
-use Rattle.mp4_present.specs.words.Loaded.{Follows, IsPlaceOf}
+use Rattle.mp4_present.specs.words.InHand.{Follows, IsPlaceOf}
 use Rattle.mp4_present.specs.words.Movies.{MovieSeen, IsMovie, IsWalkOf, LieIn, StandsAt, HandAt, InHandOf, table_bytes, traf_box, traf_bytes}
 use Rattle.mp4_present.specs.words.OpenedMovie.{IsOpenedAs, AreTablesOf}
 use Rattle.mp4_present.specs.words.WalkSteps.{steps_to, trafs_steps, table_way, way_through, walk_steps, MayTake, TakesOn}
-use Rattle.mp4_present.specs.declared.walking.loaded.Loaded.{Loaded}
-use Rattle.mp4_present.specs.declared.walking.loaded.Loaded.TheVariants as hands
-use Rattle.mp4_present.specs.declared.walking.loaded.Place.{Place}
-use Rattle.mp4_present.specs.declared.walking.loaded.Place.TheVariants as places
+use Rattle.mp4_present.specs.declared.walking.in_hand.InHand.{InHand}
+use Rattle.mp4_present.specs.declared.walking.in_hand.InHand.TheVariants as hands
+use Rattle.mp4_present.specs.declared.walking.in_hand.Place.{Place}
+use Rattle.mp4_present.specs.declared.walking.in_hand.Place.TheVariants as places
 use Rattle.mp4_present.specs.declared.walking.Walk.{Walk}
 use Rattle.mp4_present.proofs.TrafTaken.{zipped_at}
 use Rattle.mp4_present.proofs.WalkCopied.{kept_before}
@@ -64,7 +64,7 @@ between : (a b c d : ℕ) → a ≡ b → a ≤ c → d ≡ c → b ≤ d
 between a b c d e h f = omega (arith, e, h, f)
 
 -- it is no nearer, and the way through all is the same
-ahead_at : (m : MovieSeen) (t : TrackTree) (w : Walk) (q : Place) (a b : Loaded) (p : Place) → HandAt m w q a → Follows a b → IsPlaceOf b p → (steps_to q ≤ steps_to p) × (way_through t w p ≡ way_through t w q)
+ahead_at : (m : MovieSeen) (t : TrackTree) (w : Walk) (q : Place) (a b : InHand) (p : Place) → HandAt m w q a → Follows a b → IsPlaceOf b p → (steps_to q ≤ steps_to p) × (way_through t w p ≡ way_through t w q)
 ahead_at m t w (places.Tables q) (hands.Tables a) (hands.Tables b) (places.Tables p) h f i =
     (between (passed a.place) (passed q) (passed b.place) (passed p) (ap (λ (c : TableView). passed c.place) h.2) f.1 (ap passed i.0), refl)
 ahead_at m t w (places.Fragment q) (hands.Fragment a) (hands.Fragment b) (places.Fragment p) h f i =
@@ -76,7 +76,7 @@ ahead_at m t w (places.Fragment q) (hands.Fragment a) (hands.Tables b) p h f i =
 ahead_at m t w (places.Tables q) (hands.Tables a) (hands.Tables b) (places.Fragment p) h f i = absurd i
 ahead_at m t w (places.Fragment q) (hands.Fragment a) (hands.Fragment b) (places.Tables p) h f i = absurd i
 
-pub ahead : (m : MovieSeen) (t : TrackTree) (w : Walk) (a b : Loaded) (p : Place) → InHandOf m w a → Follows a b → IsPlaceOf b p → (steps_to w.place ≤ steps_to p) × (way_through t w p ≡ way_through t w w.place)
+pub ahead : (m : MovieSeen) (t : TrackTree) (w : Walk) (a b : InHand) (p : Place) → InHandOf m w a → Follows a b → IsPlaceOf b p → (steps_to w.place ≤ steps_to p) × (way_through t w p ≡ way_through t w w.place)
 ahead m t w a b p h f i = ahead_at m t w w.place a b p h f i
 
 same_way : (t : TrackTree) (w : Walk) (p : Place) → way_through t (record w { place = p }) p ≡ way_through t w p
@@ -106,7 +106,7 @@ keeps_on file tree t w p n old new h up within way work =
     )
 
 -- so it does from a later place of what was in hand
-pub hand_goes_on : (file : List ℕ) (m : MovieSeen) (tree : FileTree) (t : TrackTree) (w : Walk) (a b : Loaded) (p : Place) (n old new : ℕ) → IsOpenedAs file m tree → IsMovie m → IsWalkOf m w → InHandOf m w a → Follows a b → IsPlaceOf b p
+pub hand_goes_on : (file : List ℕ) (m : MovieSeen) (tree : FileTree) (t : TrackTree) (w : Walk) (a b : InHand) (p : Place) (n old new : ℕ) → IsOpenedAs file m tree → IsMovie m → IsWalkOf m w → InHandOf m w a → Follows a b → IsPlaceOf b p
     → new ≡ old + (steps_to p - steps_to w.place) → MayTake file tree t w n → TakesOn file tree t n (record w { place = p }) old new
 hand_goes_on file m tree t w a b p n old new o i is h f at work may =
     let on = ahead m t w a b p h f at in

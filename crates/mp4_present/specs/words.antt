@@ -1,4 +1,4 @@
-pub mod Loaded
+pub mod InHand
 pub mod Movies
 pub mod Reading
 pub mod Refusing
@@ -31,6 +31,6 @@ pub mod WalkMarks
 pub mod FaultSearches
 pub mod TablesChecked
 pub mod OpeningWork
-pub mod LoadedTaken
+pub mod InHandTaken
 pub mod OwnTrafs
 pub mod TrackPlaces

@@ -13,7 +13,7 @@ use Rattle.mp4_head.specs.declared.heads.TrackHead.{TrackHead}
 use Rattle.mp4_present.specs.format.Denotes.{FileTree, file_parts, presentation_of, track_of}
 use Rattle.mp4_content.specs.format.Reduced.{reduce, reduce_track}
 use Rattle.mp4_present.specs.words.Joined.{IsBelow}
-use Rattle.mp4_present.specs.words.Loaded.{left_in_hand}
+use Rattle.mp4_present.specs.words.InHand.{left_in_hand}
 use Rattle.mp4_present.specs.words.HandCarried.{OfHand}
 use Rattle.mp4_content.specs.words.PayloadsLeft.{track_payloads_left}
 use Rattle.mp4_present.specs.words.Movies.{MovieSeen, IsWalkOf}

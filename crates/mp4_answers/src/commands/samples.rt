@@ -1,6 +1,6 @@
 //! The samples of a track, a line each.
 ghost use Rattle.std.specs.Prelude.{◌≡◌, ◌+◌, ◌≤◌, OnOk};
-ghost use Rattle.mp4_present.specs.words.Loaded.{left_in_hand};
+ghost use Rattle.mp4_present.specs.words.InHand.{left_in_hand};
 ghost use Rattle.mp4_present.specs.words.Movies.{IsWalkOf};
 ghost use Rattle.mp4_present.specs.words.Carried.{RefusesCarry};
 ghost use Rattle.mp4_present.specs.words.TrackWalks.{WhereMayTake};

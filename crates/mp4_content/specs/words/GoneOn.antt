@@ -11,7 +11,7 @@ use Rattle.mp4_present.specs.declared.walking.Walk.{Walk}
 use Rattle.mp4_content.specs.words.ComingLess.{ComesLess, less}
 use Rattle.mp4_present.specs.words.OpenedMovie.{IsOpenedAs}
 use Rattle.mp4_present.specs.words.WalkSteps.{steps_to, MayTake, TakesOn}
-use Rattle.mp4_present.specs.declared.walking.loaded.Place.{Place}
+use Rattle.mp4_present.specs.declared.walking.in_hand.Place.{Place}
 
 -- it has the same in hand
 pub record Stays (before after : Walk) : Type 0 where

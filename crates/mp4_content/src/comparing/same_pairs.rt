@@ -2,7 +2,7 @@
 //! bytes.
 ghost use Rattle.std.specs.Prelude.{◌≡◌, ◌<◌, ◌≤◌, [], drop, IsTrue};
 ghost use Rattle.mp4_content.specs.format.Reduced.{duration_left, offset_left};
-ghost use Rattle.mp4_present.specs.words.Loaded.{left_in_hand, Follows};
+ghost use Rattle.mp4_present.specs.words.InHand.{left_in_hand, Follows};
 ghost use Rattle.mp4_present.specs.words.Movies.{IsWalkOf};
 ghost use Rattle.mp4_content.specs.words.SamePairs.{indexes_differ, BeginSame, IsSamePair, PassesSame, SaySame, SayTimes};
 ghost use Rattle.mp4_content.specs.declared.comparing.differences.Subject.{Subject};
@@ -12,7 +12,7 @@ use crate::comparing::pairing::Pairing;
 use crate::comparing::samples::{Sides, flags_left, index_at};
 use crate::file_window::FileWindow;
 use mp4_boxes::Steps;
-use mp4_present::Loaded;
+use mp4_present::InHand;
 use mp4_tables::{SampleAt, Samples};
 use std::sync::ledger::Ledger;
 
@@ -164,9 +164,9 @@ fn pass_pairs<C: Samples, D: Samples>(
 // The same of what two walks have in hand.
 fn pass_in_hand(
     by: &Pairing,
-    left: &mut Loaded,
+    left: &mut InHand,
     left_window: &FileWindow,
-    right: &mut Loaded,
+    right: &mut InHand,
     right_window: &FileWindow,
     most: u32,
 ) -> u32
@@ -179,13 +179,13 @@ fn pass_in_hand(
     ensures right_later { Follows right.old right.new }
 {
     match left {
-        Loaded::Tables(x) => match right {
-            Loaded::Tables(y) => pass_pairs(by, x, left_window, y, right_window, most),
-            Loaded::Fragment(y) => pass_pairs(by, x, left_window, y, right_window, most),
+        InHand::Tables(x) => match right {
+            InHand::Tables(y) => pass_pairs(by, x, left_window, y, right_window, most),
+            InHand::Fragment(y) => pass_pairs(by, x, left_window, y, right_window, most),
         },
-        Loaded::Fragment(x) => match right {
-            Loaded::Tables(y) => pass_pairs(by, x, left_window, y, right_window, most),
-            Loaded::Fragment(y) => pass_pairs(by, x, left_window, y, right_window, most),
+        InHand::Fragment(x) => match right {
+            InHand::Tables(y) => pass_pairs(by, x, left_window, y, right_window, most),
+            InHand::Fragment(y) => pass_pairs(by, x, left_window, y, right_window, most),
         },
     }
 }

@@ -4,10 +4,10 @@ use Rattle.std.specs.List.{prefix_len}
 use Rattle.mp4_tables.specs.declared.sample.SampleAt.{SampleAt}
 use Rattle.mp4_head.specs.format.Tree.{TrackTree}
 use Rattle.mp4_present.specs.format.Denotes.{FileTree}
-use Rattle.mp4_present.specs.words.Loaded.{left_in_hand}
+use Rattle.mp4_present.specs.words.InHand.{left_in_hand}
 use Rattle.mp4_present.specs.words.Movies.{MovieSeen, InHandOf}
-use Rattle.mp4_present.specs.declared.walking.loaded.Loaded.{Loaded}
-use Rattle.mp4_present.specs.declared.walking.loaded.Place.{Place}
+use Rattle.mp4_present.specs.declared.walking.in_hand.InHand.{InHand}
+use Rattle.mp4_present.specs.declared.walking.in_hand.Place.{Place}
 use Rattle.mp4_content.specs.declared.reduced.Reduction.{Reduction}
 use Rattle.mp4_present.specs.declared.walking.Walk.{Walk}
 use Rattle.mp4_content.specs.words.ComingLess.{ComesLess, less}
@@ -28,9 +28,9 @@ StopsAt test most n next = (s : SampleAt) → next ≡ Some s → test s ≡ tru
 -- walk goes on from a place.
 pub record HandCounted (l : Reduction) (m : MovieSeen) (w : Walk) (test : SampleAt → Bool)
     (most n : ℕ) (next : Option SampleAt) (place : Place) : Type 0 where
-  pub hand : Loaded
+  pub hand : InHand
   pub is_hand : InHandOf m w hand
-  pub later : Loaded
+  pub later : InHand
   pub is_later : InHandOf m (record w { place = place }) later
   pub counts : CountsFirst test n (less l (left_in_hand hand)) (less l (left_in_hand later))
   pub shown : next ≡ slice_get (less l (left_in_hand later)) 0

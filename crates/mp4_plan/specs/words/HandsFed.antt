@@ -6,11 +6,11 @@ use Rattle.mp4_boxes.specs.format.Bytes.{sum_of}
 use Rattle.mp4_tables.specs.declared.sample.SampleAt.{SampleAt}
 use Rattle.mp4_present.specs.words.Carried.{BytesGoOn}
 use Rattle.mp4_present.specs.words.Joined.{sample_bytes}
-use Rattle.mp4_present.specs.words.Loaded.{left_in_hand}
+use Rattle.mp4_present.specs.words.InHand.{left_in_hand}
 use Rattle.mp4_present.specs.words.Movies.{MovieSeen, InHandOf}
-use Rattle.mp4_present.specs.declared.walking.loaded.Loaded.{Loaded}
+use Rattle.mp4_present.specs.declared.walking.in_hand.InHand.{InHand}
 use Rattle.mp4_content.specs.declared.reduced.Reduction.{Reduction}
-use Rattle.mp4_present.specs.declared.walking.loaded.Place.{Place}
+use Rattle.mp4_present.specs.declared.walking.in_hand.Place.{Place}
 use Rattle.mp4_present.specs.declared.walking.Walk.{Walk}
 use Rattle.mp4_content.specs.words.ComingLess.{less}
 use Rattle.mp4_plan.specs.words.Ends.{goes_in}
@@ -88,9 +88,9 @@ HasTaken room Empty before after all left = (after ≡ piece_fed before all)
 -- walk goes on from a place.
 pub record HandFed (l : Reduction) (m : MovieSeen) (w : Walk) (room : ℕ) (before after : Planning)
     (stop : Stop) (place : Place) : Type 0 where
-  pub hand : Loaded
+  pub hand : InHand
   pub is_hand : InHandOf m w hand
-  pub later : Loaded
+  pub later : InHand
   pub is_later : InHandOf m (record w { place = place }) later
   -- those that were taken
   pub done : List SampleAt

@@ -10,7 +10,7 @@ use Rattle.mp4_frag.specs.words.OwnTrafs.{PlacedTraf}
 use Rattle.mp4_head.specs.format.Tree.{TrackTree}
 use Rattle.mp4_present.specs.format.Denotes.{FileTree}
 use Rattle.mp4_present.specs.words.Carried.{waiting, BytesGoOn, GoOnBy}
-use Rattle.mp4_present.specs.words.Loaded.{left_in_hand}
+use Rattle.mp4_present.specs.words.InHand.{left_in_hand}
 use Rattle.mp4_present.specs.words.Joined.{IsBelow, sample_bytes, sizes_of}
 use Rattle.mp4_present.specs.words.Movies.{MovieSeen, IsWalkOf, InHandOf}
 use Rattle.mp4_present.specs.words.OpenedMovie.{IsOpenedAs}
@@ -18,7 +18,7 @@ use Rattle.mp4_present.specs.words.StoresRead.{IsUnchanged}
 use Rattle.mp4_present.specs.words.SamplesComing.{StandsBefore}
 use Rattle.mp4_present.specs.words.WalkSteps.{MayTake, TakesOn}
 use Rattle.mp4_present.specs.declared.out_buffer.OutBuffer.{OutBuffer}
-use Rattle.mp4_present.specs.declared.walking.loaded.Loaded.{Loaded}
+use Rattle.mp4_present.specs.declared.walking.in_hand.InHand.{InHand}
 use Rattle.mp4_present.specs.declared.walking.Walk.{Walk}
 
 -- The walk is one of this movie, and stands where it stood among its fragments.
@@ -30,8 +30,8 @@ pub record StaysBefore (m : MovieSeen) (w w_after : Walk) : Type 0 where
       → StandsBefore file tree t earlier later w → StandsBefore file tree t earlier later w_after
 
 -- it is so of the samples in hand
-abbrev pub OfHand : MovieSeen → Walk → (Loaded → Type 0) → Type 0
-OfHand m w P = (hand : Loaded) × InHandOf m w hand × P hand
+abbrev pub OfHand : MovieSeen → Walk → (InHand → Type 0) → Type 0
+OfHand m w P = (hand : InHand) × InHandOf m w hand × P hand
 
 -- over an honest store, the bytes of the samples in hand are taken along: at Ok all of them
 abbrev pub CarriesHand : {X Y T E : Type 0} → Store X → X → MovieSeen → Walk → Sink Y → Y → Y

@@ -18,11 +18,11 @@ use Rattle.mp4_frag.specs.declared.trex.Trex.{Trex}
 use Rattle.mp4_store.specs.words.Device.{HasRisen}
 use Rattle.mp4_boxes.specs.declared.refusal.Refusal.{Refusal}
 use Rattle.mp4_boxes.specs.declared.refusal.Refusal.TheVariants as refusals
-use Rattle.mp4_present.specs.words.Loaded.{left_in_hand, AreLast}
-use Rattle.mp4_present.specs.declared.walking.loaded.Loaded.{Loaded}
-use Rattle.mp4_present.specs.declared.walking.loaded.Loaded.TheVariants as hands
-use Rattle.mp4_present.specs.declared.walking.loaded.Place.{Place}
-use Rattle.mp4_present.specs.declared.walking.loaded.Place.TheVariants.{Tables, Fragment}
+use Rattle.mp4_present.specs.words.InHand.{left_in_hand, AreLast}
+use Rattle.mp4_present.specs.declared.walking.in_hand.InHand.{InHand}
+use Rattle.mp4_present.specs.declared.walking.in_hand.InHand.TheVariants as hands
+use Rattle.mp4_present.specs.declared.walking.in_hand.Place.{Place}
+use Rattle.mp4_present.specs.declared.walking.in_hand.Place.TheVariants.{Tables, Fragment}
 use Rattle.mp4_present.specs.declared.movie.TrackTables.{TrackTables}
 use Rattle.mp4_present.specs.declared.reading.TopBox.{TopBox}
 use Rattle.mp4_present.specs.declared.track_info.TrackInfo.{TrackInfo}
@@ -177,19 +177,19 @@ pub record IsWalkOf (m : MovieSeen) (w : Walk) : Type 0 where
   pub mark : IsMarkOf m w
 
 -- the samples in hand of a walk that stands at a place
-abbrev pub HandAt : MovieSeen → Walk → Place → Loaded → Type 0
+abbrev pub HandAt : MovieSeen → Walk → Place → InHand → Type 0
 HandAt m w (Tables p) (hands.Tables c) = (t : TrackTables) × (slice_get m.tables w.track ≡ Some t)
     × (c ≡ record { tables = tables_seen m.moov t; place = p })
 HandAt m w (Fragment p) (hands.Fragment c) = c ≡ traf_hand w p
 HandAt m w _ _ = ⊥
 
 -- what the walk has in hand
-abbrev pub InHandOf : MovieSeen → Walk → Loaded → Type 0
+abbrev pub InHandOf : MovieSeen → Walk → InHand → Type 0
 InHandOf m w hand = HandAt m w w.place hand
 
 -- it has a sample in hand
 abbrev pub HasSome : MovieSeen → Walk → Type 0
-HasSome m w = (hand : Loaded) × InHandOf m w hand × (0 < length (left_in_hand hand))
+HasSome m w = (hand : InHand) × InHandOf m w hand × (0 < length (left_in_hand hand))
 
 -- Why no further `traf` is loaded.
 abbrev pub RefusesLoad : ℕ → ℕ → Refusal → Type 0

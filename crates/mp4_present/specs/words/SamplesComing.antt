@@ -8,11 +8,11 @@ use Rattle.mp4_tables.specs.declared.sample.SampleAt.{SampleAt}
 use Rattle.mp4_frag.specs.format.FragmentSamples.{start_of, duration_of, keys_behind}
 use Rattle.mp4_head.specs.format.Tree.{TrackTree, track_head_of}
 use Rattle.mp4_present.specs.format.Denotes.{FileTree, plain_of, plain_keys, file_parts, parts_of_track, first_due, placed_of}
-use Rattle.mp4_present.specs.words.Loaded.{left_in_hand}
+use Rattle.mp4_present.specs.words.InHand.{left_in_hand}
 use Rattle.mp4_frag.specs.words.OwnTrafs.{PlacedTraf, placed_samples, note_of, longest_of, traf_payloads}
 use Rattle.mp4_present.specs.words.OwnTrafs.{own_of}
 use Rattle.mp4_present.specs.words.Movies.{MovieSeen, InHandOf, traf_bytes}
-use Rattle.mp4_present.specs.declared.walking.loaded.Loaded.{Loaded}
+use Rattle.mp4_present.specs.declared.walking.in_hand.InHand.{InHand}
 use Rattle.mp4_present.specs.declared.walking.Due.{Due}
 use Rattle.mp4_present.specs.declared.walking.Walk.{Walk}
 
@@ -88,7 +88,7 @@ pub record StandsBefore (file : List ℕ) (tree : FileTree) (t : TrackTree)
 -- the samples in hand, and then those of the `traf`s behind, are these
 abbrev pub Comes : List ℕ → FileTree → TrackTree → MovieSeen → Walk → List SampleAt → Type 0
 Comes file tree t m w samples =
-    (earlier later : List PlacedTraf) × (hand : Loaded)
+    (earlier later : List PlacedTraf) × (hand : InHand)
     × (StandsBefore file tree t earlier later w × InHandOf m w hand
     × (samples ≡ left_in_hand hand ++ samples_behind tree t earlier later))
 
@@ -96,7 +96,7 @@ Comes file tree t m w samples =
 abbrev pub Takes : List ℕ → FileTree → TrackTree → List PlacedTraf → PlacedTraf
     → List PlacedTraf → MovieSeen → Walk → Bool → Type 0
 Takes file tree t earlier next later m w some =
-    (hand : Loaded) × (StandsBefore file tree t (earlier ++ next ∷ []) later w × InHandOf m w hand
+    (hand : InHand) × (StandsBefore file tree t (earlier ++ next ∷ []) later w × InHandOf m w hand
     × (left_in_hand hand ≡ samples_behind tree t earlier (next ∷ []))
     × (some ≡ false → left_in_hand hand ≡ []))
 

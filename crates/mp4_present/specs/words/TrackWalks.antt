@@ -8,12 +8,12 @@ use Rattle.mp4_head.specs.format.Tree.{TrackTree}
 use Rattle.mp4_present.specs.format.Denotes.{FileTree}
 use Rattle.mp4_frag.specs.words.OwnTrafs.{traf_steps}
 use Rattle.mp4_present.specs.words.GoingBack.{GoesBackTo, HoldsSome, set_back}
-use Rattle.mp4_present.specs.words.Loaded.{left_in_hand}
+use Rattle.mp4_present.specs.words.InHand.{left_in_hand}
 use Rattle.mp4_present.specs.words.Movies.{MovieSeen, HasSome, InHandOf, IsRest, IsWalkOf, StandsAt, all_in_traf, mark_of, traf_box, traf_bytes}
 use Rattle.mp4_present.specs.words.OpenedMovie.{IsOpenedAs}
 use Rattle.mp4_present.specs.words.SamplesComing.{Comes, StandsBefore, Takes}
 use Rattle.mp4_present.specs.words.WalkSteps.{MayTake, TakesOn, steps_to, way_through}
-use Rattle.mp4_present.specs.declared.walking.loaded.Loaded.{Loaded}
+use Rattle.mp4_present.specs.declared.walking.in_hand.InHand.{InHand}
 use Rattle.mp4_present.specs.declared.track_info.TrackInfo.{TrackInfo}
 use Rattle.mp4_present.specs.declared.walking.Due.{Due}
 use Rattle.mp4_present.specs.declared.walking.Walk.{Walk}
@@ -81,7 +81,7 @@ pub record HasInHand (m : MovieSeen) (w w_after : Walk) (before : Due) : Type 0 
   pub place : StandsAt m w_after w_after.place
   pub rest : IsRest m w_after (Some before) w_after.place
   pub all : (info : TrackInfo) → slice_get m.tracks w.track ≡ Some info
-      → (hand : Loaded) × InHandOf m w_after hand
+      → (hand : InHand) × InHandOf m w_after hand
       × (left_in_hand hand ≡ all_in_traf m w info before)
   pub way : steps_to w_after.place ≤ traf_steps (traf_box w)
   pub through : (t : TrackTree) → way_through t w_after w_after.place
@@ -140,7 +140,7 @@ pub record IsReadAgain (m : MovieSeen) (w w_after : Walk) (before : Due) : Type 
   pub due : w_after.due ≡ w.mark.due
   pub left : w_after.left ≡ w.mark.left
   pub all : (info : TrackInfo) → slice_get m.tracks w.track ≡ Some info
-      → (hand : Loaded) × InHandOf m w_after hand
+      → (hand : InHand) × InHandOf m w_after hand
       × (left_in_hand hand ≡ all_in_traf m w_after info before)
   pub through : (t : TrackTree) → way_through t w_after w_after.place
       ≡ traf_steps (traf_box w_after)

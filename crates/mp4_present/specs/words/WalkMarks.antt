@@ -8,13 +8,13 @@ use Rattle.mp4_frag.specs.words.OwnTrafs.{PlacedTraf}
 use Rattle.mp4_head.specs.format.Tree.{TrackTree}
 use Rattle.mp4_present.specs.format.Denotes.{FileTree}
 use Rattle.mp4_present.specs.words.GoingBack.{HoldsMarked, StandsBehind}
-use Rattle.mp4_present.specs.words.Loaded.{left_in_hand}
+use Rattle.mp4_present.specs.words.InHand.{left_in_hand}
 use Rattle.mp4_present.specs.words.Movies.{MovieSeen, InHandOf, IsWalkOf}
 use Rattle.mp4_present.specs.words.OpenedMovie.{IsOpenedAs}
 use Rattle.mp4_present.specs.words.TrackWalks.{IsReadAgain, TakesMarked}
 use Rattle.mp4_present.specs.words.SamplesComing.{HoldsNext, StandsBefore, Takes}
 use Rattle.mp4_present.specs.words.WalkSteps.{MayTake, TakesOn}
-use Rattle.mp4_present.specs.declared.walking.loaded.Loaded.{Loaded}
+use Rattle.mp4_present.specs.declared.walking.in_hand.InHand.{InHand}
 use Rattle.mp4_present.specs.declared.walking.Due.{Due}
 use Rattle.mp4_present.specs.declared.walking.Walk.{Walk}
 
@@ -58,7 +58,7 @@ KnowsLength S store m result = (length (S.file store) ≡ m.file_len → ⊥)
 -- are left.
 pub record PassesInHand (m : MovieSeen) (w w_after : Walk) (count old new : ℕ) : Type 0 where
   pub walk : IsWalkOf m w_after
-  pub passed : (hand later : Loaded) × InHandOf m w hand × InHandOf m w_after later
+  pub passed : (hand later : InHand) × InHandOf m w hand × InHandOf m w_after later
       × (left_in_hand later ≡ drop count (left_in_hand hand)) × (count ≤ length (left_in_hand hand))
   pub stands : (file : List ℕ) (tree : FileTree) (t : TrackTree) (earlier later : List PlacedTraf)
       → StandsBefore file tree t earlier later w → StandsBefore file tree t earlier later w_after

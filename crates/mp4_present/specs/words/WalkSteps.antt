@@ -18,8 +18,8 @@ use Rattle.mp4_present.specs.format.Denotes.{FileTree, plain_of}
 use Rattle.mp4_present.specs.words.SamplesComing.{StandsBefore, own_trafs}
 use Rattle.mp4_present.specs.words.Movies.{traf_box}
 use Rattle.mp4_present.specs.declared.walking.Walk.{Walk}
-use Rattle.mp4_present.specs.declared.walking.loaded.Place.{Place}
-use Rattle.mp4_present.specs.declared.walking.loaded.Place.TheVariants as places
+use Rattle.mp4_present.specs.declared.walking.in_hand.Place.{Place}
+use Rattle.mp4_present.specs.declared.walking.in_hand.Place.TheVariants as places
 
 -- how many steps a cursor took to a place
 abbrev pub steps_to : Place → ℕ

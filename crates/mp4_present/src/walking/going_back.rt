@@ -7,7 +7,7 @@ ghost use Rattle.mp4_present.specs.words.SamplesComing.{Comes};
 ghost use Rattle.mp4_present.specs.format.Denotes.{FileTree};
 ghost use Rattle.mp4_present.specs.words.GoingBack.{GoesBackTo, again_from, back_steps, farther, IsMarkInHand, is_at_hand, is_mark_farther, set_back, turned_back};
 ghost use Rattle.mp4_present.specs.words.HandCarried.{OfHand};
-ghost use Rattle.mp4_present.specs.words.Loaded.{left_in_hand};
+ghost use Rattle.mp4_present.specs.words.InHand.{left_in_hand};
 ghost use Rattle.mp4_present.specs.words.Movies.{MovieSeen, GoesOn, IsRest, IsWalkOf, RefusesLoad, StandsAt, mark_of};
 ghost use Rattle.mp4_present.specs.words.WalkSteps.{MayTake, TakesOn, steps_to};
 ghost use Rattle.mp4_present.specs.words.WalkMarks.{FindsFewer, HasReadAgain, KeepsRest, KnowsLength, PassesInHand, ReadsMarked, TakesAgain};
@@ -16,7 +16,7 @@ ghost use Rattle.mp4_present.specs.words.TrackWalks.{HasInHand, HasTraf, IsAtMar
 
 use crate::movie::Movie;
 use crate::reading::read_range;
-use crate::walking::loaded::Place;
+use crate::walking::in_hand::Place;
 use crate::walking::{Due, Mark, Walk};
 use mp4_boxes::{Refusal, Steps};
 use mp4_frag::FragCursor;

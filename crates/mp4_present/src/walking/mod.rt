@@ -6,16 +6,16 @@ ghost use Rattle.mp4_present.specs.words.OpenedMovie.{IsOpenedAs};
 ghost use Rattle.mp4_present.specs.words.SamplesComing.{track_samples, samples_behind, Comes, Loads};
 ghost use Rattle.mp4_present.specs.words.WalkSteps.{steps_to, walk_steps, MayTake};
 ghost use Rattle.mp4_frag.specs.words.OwnTrafs.{traf_steps};
-ghost use Rattle.mp4_present.specs.words.Loaded.{left_in_hand};
+ghost use Rattle.mp4_present.specs.words.InHand.{left_in_hand};
 ghost use Rattle.mp4_present.specs.words.Movies.{IsMovie, GoesOn, IsWalkOf, InHandOf, HasSome, RefusesLoad, traf_box, mark_of, own_room};
 ghost use Rattle.mp4_present.specs.declared.track_info.TrackInfo.{TrackInfo};
-ghost use Rattle.mp4_present.specs.words.LoadedTaken.{TakesNextTraf};
+ghost use Rattle.mp4_present.specs.words.InHandTaken.{TakesNextTraf};
 ghost use Rattle.mp4_present.specs.words.StoresRead.{OnlyReads, Refused};
 ghost use Rattle.mp4_present.specs.words.TrackWalks.{CountsOff, HasInHand, HasTraf, IsLoaded, IsWalkStill, KeepsRoom, TakesSteps, WhereStands};
 ghost use Rattle.mp4_boxes.specs.declared.refusal.Refusal.TheVariants as refusals;
 
 pub mod going_back;
-pub mod loaded;
+pub mod in_hand;
 pub mod next_sample;
 pub mod refilling;
 pub mod stretches;
@@ -24,7 +24,7 @@ pub mod track_bytes;
 use crate::movie::Movie;
 use crate::opening::totals::in_64_bits;
 use crate::reading::read_range;
-use crate::walking::loaded::{Loaded, Place};
+use crate::walking::in_hand::{InHand, Place};
 use mp4_boxes::{Memory, Refusal, Steps};
 use mp4_frag::{FragCursor, OwnTraf};
 use mp4_store::Store;
@@ -150,17 +150,17 @@ impl Walk {
     }
 
     /// The samples left of what is in memory: of the tables, or of a `traf`.
-    pub fn in_hand<'a>(&'a self, movie: &'a Movie) -> Loaded<'a>
+    pub fn in_hand<'a>(&'a self, movie: &'a Movie) -> InHand<'a>
         requires { IsWalkOf movie.now self.now }
         ensures hand { InHandOf movie.entry.now self.entry.now result }
         ensures movie { IsMovie movie.entry.now }
     {
         match self.place {
             Place::Tables(place) => {
-                Loaded::Tables(TableCursor::at(&movie.tables_of(self.track), place))
+                InHand::Tables(TableCursor::at(&movie.tables_of(self.track), place))
             }
             Place::Fragment(place) => {
-                Loaded::Fragment(FragCursor::at(&self.bytes[..self.used], place))
+                InHand::Fragment(FragCursor::at(&self.bytes[..self.used], place))
             }
         }
     }
@@ -237,7 +237,7 @@ impl Walk {
             (λ more. Loads file tree t movie.now (samples_behind tree t earlier later) self.new
             more) (λ r. r ≡ refusals.StoreChanged → ⊥)) }
         ensures ended { WhereStands S.Store store.old movie.now self.old
-            (λ file tree t earlier later. (hand : Loaded) → InHandOf movie.now self.old hand
+            (λ file tree t earlier later. (hand : InHand) → InHandOf movie.now self.old hand
             → left_in_hand hand ≡ []
             → IfOk result (λ more. more ≡ false → Comes file tree t movie.now self.new [])) }
         ensures answer { IfOk result (IsLoaded movie.now self.old self.new) }

@@ -3,7 +3,7 @@ ghost use Rattle.std.specs.Prelude.{◌≡◌, ◌≤◌, [], None, IfOk, OnOk};
 ghost use Rattle.mp4_tables.specs.declared.sample.SampleAt.{SampleAt};
 ghost use Rattle.mp4_present.specs.words.NextSample.{TakesFirst};
 ghost use Rattle.mp4_present.specs.words.Movies.{IsWalkOf, HasSome, RefusesLoad};
-ghost use Rattle.mp4_present.specs.words.LoadedTaken.{TakesNext, TakesOnIn};
+ghost use Rattle.mp4_present.specs.words.InHandTaken.{TakesNext, TakesOnIn};
 ghost use Rattle.mp4_present.specs.words.StoresRead.{IsUnchanged, OnlyReads, Refused};
 ghost use Rattle.mp4_present.specs.words.TrackWalks.{TakesSteps, WhereComes};
 

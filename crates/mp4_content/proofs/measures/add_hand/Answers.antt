@@ -1,5 +1,5 @@
 use Rattle.std.proofs.Common.{◌∙◌, refl, rules, sym}
-use Rattle.mp4_present.specs.words.Loaded.{follows_itself, follows_on, left_in_hand}
+use Rattle.mp4_present.specs.words.InHand.{follows_itself, follows_on, left_in_hand}
 use Rattle.mp4_present.proofs.WalkCopied.{kept_before}
 use Rattle.mp4_present.proofs.WalkPlaces.{kept_on}
 use Rattle.mp4_present.proofs.WayThrough.{hand_goes_on}

@@ -1,14 +1,14 @@
 use Rattle.std.proofs.Common.{◌≡◌, length}
-use Rattle.mp4_present.specs.words.Loaded.{Follows, left_in_hand}
+use Rattle.mp4_present.specs.words.InHand.{Follows, left_in_hand}
 use Rattle.mp4_present.specs.words.Movies.{InHandOf}
-use Rattle.mp4_present.specs.declared.walking.loaded.Loaded.{Loaded}
+use Rattle.mp4_present.specs.declared.walking.in_hand.InHand.{InHand}
 use Rattle.mp4_content.specs.words.Measuring.{total_from}
 use Rattle.mp4_content.proofs.measures.add_hand.Given as goal
 
 -- the samples in hand are those of the walk, later, and those before were added
 abbrev pub invariant-loop-sample : goal.invariant-loop-sample
 invariant-loop-sample g l = record {
-  first : Loaded;
+  first : InHand;
   is : InHandOf l.movie l.fn.walk first;
   later : Follows first l.hand;
   added : total_from l.reduction l.fn.total (left_in_hand first) ≡ total_from l.reduction l.total (left_in_hand l.hand);

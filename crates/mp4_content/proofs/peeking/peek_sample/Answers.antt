@@ -1,6 +1,6 @@
 use Rattle.std.proofs.Common.{rules, ◌≡◌, None, refl, sym, ap, ◌∙◌}
 use Rattle.std.specs.Prelude.{slice_get}
-use Rattle.mp4_present.specs.words.Loaded.{left_in_hand}
+use Rattle.mp4_present.specs.words.InHand.{left_in_hand}
 use Rattle.std.proofs.lemmas.Result.{err_from_is_err_and}
 use Rattle.mp4_content.proofs.WalksOn.{none_left, loads_on, loads_none, ends_none, hand_none, peeked, by_test}
 use Rattle.mp4_present.proofs.WayThrough.{takes_none}

@@ -1,8 +1,8 @@
 use Rattle.std.specs.Prelude.{IsTrue, slice_get}
 use Rattle.std.proofs.Common.{◌≡◌, length}
-use Rattle.mp4_present.specs.words.Loaded.{left_in_hand}
+use Rattle.mp4_present.specs.words.InHand.{left_in_hand}
 use Rattle.mp4_present.specs.words.Movies.{IsWalkOf, InHandOf}
-use Rattle.mp4_present.specs.declared.walking.loaded.Loaded.{Loaded}
+use Rattle.mp4_present.specs.declared.walking.in_hand.InHand.{InHand}
 use Rattle.mp4_content.proofs.WalksOn.{StillComes}
 use Rattle.mp4_present.proofs.WayThrough.{TakesBefore}
 use Rattle.mp4_content.specs.words.GoneOn.{WentOn}
@@ -17,7 +17,7 @@ invariant-loop-walk g l = record {
   file : g.S.Store.file l.store ≡ g.S.Store.file l.fn.store;
   reads : g.S.Store.read_failures l.store ≡ g.S.Store.read_failures l.fn.store;
   looks : l.steps.looks ≡ l.fn.steps.looks;
-  first : (hand : Loaded) × (InHandOf l.movie l.walk hand × (l.next ≡ slice_get (left_in_hand hand) 0));
+  first : (hand : InHand) × (InHandOf l.movie l.walk hand × (l.next ≡ slice_get (left_in_hand hand) 0));
   coming : IsTrue (g.S.Store.is_honest l.fn.store) → StillComes (g.S.Store.file l.fn.store) l.movie l.fn.walk l.walk;
   went : WentOn l.movie l.fn.walk l.walk l.fn.steps.passed l.steps.passed;
   takes : IsTrue (g.S.Store.is_honest l.fn.store) → TakesBefore (g.S.Store.file l.fn.store) l.movie l.fn.walk l.walk l.fn.steps.passed l.steps.passed;

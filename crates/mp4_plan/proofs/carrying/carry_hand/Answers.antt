@@ -1,7 +1,7 @@
 use Rattle.std.proofs.Common.{◌∙◌, ◌-◌, refl, rules, length, arith}
 use Rattle.std.proofs.lemmas.Result.{err_from_is_err_and}
 use Rattle.mp4_present.specs.words.Carried.{waiting}
-use Rattle.mp4_present.specs.words.Loaded.{follows_itself, follows_on}
+use Rattle.mp4_present.specs.words.InHand.{follows_itself, follows_on}
 use Rattle.mp4_present.proofs.Carrying.{GoOnBy-none, GoOnBy-then}
 use Rattle.mp4_plan.proofs.HandsCarried.{carried_none, carried_more, carried_as, carried_front, stretch_fails, stretch_fits, next_below}
 use Rattle.mp4_present.proofs.WalkCopied.{stretch_there}

@@ -1,7 +1,7 @@
 use Rattle.std.specs.Prelude.{vec_len, IsTrue}
 use Rattle.std.proofs.Common.{◌≡◌, ◌-◌, ◌≤◌, length}
 use Rattle.mp4_present.specs.words.Carried.{GoOnBy, waiting}
-use Rattle.mp4_present.specs.words.Loaded.{Follows, left_in_hand}
+use Rattle.mp4_present.specs.words.InHand.{Follows, left_in_hand}
 use Rattle.mp4_plan.specs.words.HandsFed.{BytesCarried}
 use Rattle.mp4_plan.proofs.carrying.carry_hand.Given as goal
 

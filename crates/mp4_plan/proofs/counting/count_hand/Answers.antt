@@ -1,5 +1,5 @@
-use Rattle.mp4_present.specs.declared.walking.loaded.Loaded.TheVariants as hands
-use Rattle.mp4_present.specs.declared.walking.loaded.Place.TheVariants as places
+use Rattle.mp4_present.specs.declared.walking.in_hand.InHand.TheVariants as hands
+use Rattle.mp4_present.specs.declared.walking.in_hand.Place.TheVariants as places
 use Rattle.mp4_present.proofs.WalkPlaces.{kept_on}
 use Rattle.mp4_content.proofs.WalksOn.{hand_kept}
 use Rattle.mp4_content.proofs.CourseSteps.{hand_keeps}

@@ -1,7 +1,7 @@
 use Rattle.std.proofs.Common.{◌∙◌, ap, length, refl, rules}
 use Rattle.std.specs.Prelude.{flat_map}
 use Rattle.std.proofs.lemmas.Result.{err_from_is_err_and}
-use Rattle.mp4_present.specs.words.Loaded.{follows_itself, follows_on, left_in_hand}
+use Rattle.mp4_present.specs.words.InHand.{follows_itself, follows_on, left_in_hand}
 use Rattle.mp4_present.proofs.WalkCopied.{kept_before}
 use Rattle.mp4_present.proofs.WalkPlaces.{kept_on}
 use Rattle.mp4_present.proofs.WayThrough.{hand_goes_on}

@@ -1,9 +1,9 @@
 use Rattle.std.proofs.Common.{◌≡◌, [], length}
 use Rattle.std.specs.Prelude.{IsTrue}
 use Rattle.mp4_present.specs.words.Carried.{waiting}
-use Rattle.mp4_present.specs.words.Loaded.{Follows, left_in_hand}
+use Rattle.mp4_present.specs.words.InHand.{Follows, left_in_hand}
 use Rattle.mp4_present.specs.words.Movies.{InHandOf}
-use Rattle.mp4_present.specs.declared.walking.loaded.Loaded.{Loaded}
+use Rattle.mp4_present.specs.declared.walking.in_hand.InHand.{InHand}
 use Rattle.mp4_answers.specs.words.PrintedTracks.{LieBelow}
 use Rattle.mp4_answers.specs.words.ToldSamples.{told_sample}
 use Rattle.mp4_answers.proofs.ToldWalks.{HandTold}
@@ -18,7 +18,7 @@ invariant-loop-sample g l =
       reads : g.S.Store.read_failures l.store ≡ g.S.Store.read_failures l.fn.store;
       puts : g.K.Sink.put_failures l.sink ≡ g.K.Sink.put_failures l.fn.sink;
       empty : waiting l.desk.window ≡ [];
-      first : Loaded;
+      first : InHand;
       is : InHandOf l.of.movie.now l.fn.walk first;
       later : Follows first l.hand;
       told : IsTrue (g.S.Store.is_honest l.fn.store) → LieBelow (length (g.S.Store.file l.fn.store)) (left_in_hand first)

@@ -10,7 +10,7 @@ use Rattle.mp4_present.specs.words.SamplesComing.{own_trafs, samples_behind}
 use Rattle.mp4_frag.specs.declared.state.TrackState.{TrackState}
 use Rattle.mp4_present.specs.declared.track_info.TrackInfo.{TrackInfo}
 use Rattle.mp4_present.specs.declared.walking.Mark.{Mark}
-use Rattle.mp4_present.specs.declared.walking.loaded.Loaded.TheVariants as hands
+use Rattle.mp4_present.specs.declared.walking.in_hand.InHand.TheVariants as hands
 use Rattle.mp4_present.proofs.movie.Movie.walk.Goals as goal
 
 pub returns-clause-walk : goal.returns-clause-walk

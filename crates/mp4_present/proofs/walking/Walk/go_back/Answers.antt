@@ -3,10 +3,10 @@ use Rattle.std.proofs.lemmas.Result.{err_from_is_err_and}
 use Rattle.mp4_frag.specs.words.OwnTrafs.{traf_steps}
 use Rattle.mp4_present.specs.words.SamplesComing.{Comes}
 use Rattle.mp4_present.specs.words.GoingBack.{again_from}
-use Rattle.mp4_present.specs.words.Loaded.{left_in_hand}
+use Rattle.mp4_present.specs.words.InHand.{left_in_hand}
 use Rattle.mp4_present.specs.words.Movies.{IsWalkOf, mark_of, traf_box}
 use Rattle.mp4_present.specs.words.WalkSteps.{MayTake}
-use Rattle.mp4_present.specs.declared.walking.loaded.Loaded.{Loaded}
+use Rattle.mp4_present.specs.declared.walking.in_hand.InHand.{InHand}
 use Rattle.mp4_present.specs.declared.walking.Mark.{Mark}
 use Rattle.mp4_present.specs.declared.walking.Walk.{Walk}
 use Rattle.mp4_present.proofs.GoneBack.{at_hand, comes_back, may_back, walk_back, marked_before, holds_marked, count_holds, few_passed, comes_again, takes_again, back_is, same_box}
@@ -113,7 +113,7 @@ returns-in_err-pass-clause-back g c told tree t begun samples o h k =
     let few = few_passed file m tree t begun w (length samples) h c.requires d b samples k hm.0 hm.1 hm.2 first tk.takes.1.0 tk.traf tk.bytes c.in_ok-read_again.ensures.again.traf.track found.0 found.1 al.0 al.1 al.2 own hm.3.holds.left in
     let to_come = ap (λ (k : Mark). k.to_come) h.mark in
     let x = c.in_err-pass.ensures.enough in
-    let same = ap (λ (y : Loaded). length (left_in_hand y)) (hand_one m first x.0 al.0 x.1 al.1) in
+    let same = ap (λ (y : InHand). length (left_in_hand y)) (hand_one m first x.0 al.0 x.1 al.1) in
     absurd (cc (x.2 (omega (arith, few, to_come, same))))
 
 pub returns-in_err-pass-clause-work : goal.returns-in_err-pass-clause-work

@@ -4,11 +4,11 @@ use Rattle.std.proofs.lemmas.List.{with_items_is}
 use Rattle.mp4_tables.specs.declared.sample.SampleAt.{SampleAt}
 use Rattle.mp4_tables.specs.words.Keys.{keys_seen}
 use Rattle.mp4_frag.specs.words.Walks.{samples_in}
-use Rattle.mp4_present.specs.words.Loaded.{left_in_hand}
+use Rattle.mp4_present.specs.words.InHand.{left_in_hand}
 use Rattle.mp4_present.specs.words.Movies.{IsRest, trex_at}
 use Rattle.mp4_present.specs.words.WalkSteps.{TakesOn}
-use Rattle.mp4_present.specs.declared.walking.loaded.Loaded.{Loaded}
-use Rattle.mp4_present.proofs.TrafLoaded.{comes_next, ends_empty, fits, found_next, found_none, holds_next, later_is, no_samples, range_unchanged, there}
+use Rattle.mp4_present.specs.declared.walking.in_hand.InHand.{InHand}
+use Rattle.mp4_present.proofs.TrafInHand.{comes_next, ends_empty, fits, found_next, found_none, holds_next, later_is, no_samples, range_unchanged, there}
 use Rattle.mp4_present.proofs.TrafTaken.{gives_some}
 use Rattle.mp4_present.proofs.WalkCopied.{hand_one}
 use Rattle.mp4_present.proofs.WalkPlaces.{got, walk_past}
@@ -122,7 +122,7 @@ returns-then-branch-clause-answer g c =
     let at = ap (slice_get m.tracks) (sym e.keeps.track) ∙ found.1 in
     let al = e.hand.all found.0 at in
     let s = e.some c.if-branch.true in
-    let one = ap (λ (h : Loaded). length (left_in_hand h)) (hand_one m now s.0 al.0 s.1 al.1) in
+    let one = ap (λ (h : InHand). length (left_in_hand h)) (hand_one m now s.0 al.0 s.1 al.1) in
     let long = ap (λ (ss : List SampleAt). length ss) al.2 in
     let some = s.2 in
     let sum = e.counts.counted found.0 at in

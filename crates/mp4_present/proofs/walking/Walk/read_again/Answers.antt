@@ -3,13 +3,13 @@ use Rattle.std.proofs.lemmas.Result.{err_from_is_err_and}
 use Rattle.std.proofs.lemmas.List.{with_items_is}
 use Rattle.mp4_frag.specs.words.OwnTrafs.{traf_steps}
 use Rattle.mp4_present.specs.words.TrackWalks.{TakesMarked}
-use Rattle.mp4_present.specs.words.Loaded.{left_in_hand}
+use Rattle.mp4_present.specs.words.InHand.{left_in_hand}
 use Rattle.mp4_present.specs.words.Movies.{mark_of, traf_box, traf_bytes, all_in_traf, InHandOf}
 use Rattle.mp4_present.specs.words.WalkSteps.{way_through}
-use Rattle.mp4_present.specs.declared.walking.loaded.Loaded.{Loaded}
+use Rattle.mp4_present.specs.declared.walking.in_hand.InHand.{InHand}
 use Rattle.mp4_present.specs.declared.walking.Walk.{Walk}
 use Rattle.mp4_present.proofs.GoneBack.{there_again, fits_again, holds_again, bytes_again, traf_again, box_again, takes_marked, hand_of_marked, way_marked}
-use Rattle.mp4_present.proofs.TrafLoaded.{range_unchanged}
+use Rattle.mp4_present.proofs.TrafInHand.{range_unchanged}
 use Rattle.mp4_present.proofs.walking.Walk.read_again.Goals as goal
 
 pub returns-in_err-read_range-clause-taken : goal.returns-in_err-read_range-clause-taken
@@ -61,7 +61,7 @@ returns-clause-again g c =
         all = λ info at.
             let x = e.hand.all info at in
             let same = ap (λ (v : Walk). all_in_traf m v info c.args.before) (sym e.same) in
-            subst (λ (w : Walk). (hand : Loaded) × InHandOf m w hand × (left_in_hand hand ≡ all_in_traf m w info c.args.before)) (sym c.mark.ensures.mark)
+            subst (λ (w : Walk). (hand : InHand) × InHandOf m w hand × (left_in_hand hand ≡ all_in_traf m w info c.args.before)) (sym c.mark.ensures.mark)
             (x.0, hand_of_marked m now (mark_of now c.args.self.now.mark.to_come) x.0 x.1, x.2 ∙ same);
         through = λ t.
             subst (λ (w : Walk). way_through t w w.place ≡ traf_steps (traf_box w)) (sym c.mark.ensures.mark) (way_marked t now (mark_of now c.args.self.now.mark.to_come) now.place ∙ e.hand.through t);

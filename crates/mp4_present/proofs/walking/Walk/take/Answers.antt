@@ -5,7 +5,7 @@ use Rattle.mp4_boxes.specs.format.Bytes.{sum_of}
 use Rattle.mp4_frag.specs.words.Walks.{samples_coming}
 use Rattle.mp4_tables.specs.declared.sample.SampleAt.{SampleAt}
 use Rattle.mp4_present.specs.words.Movies.{traf_box, traf_bytes, traf_hand}
-use Rattle.mp4_present.specs.declared.walking.loaded.Loaded.TheVariants as hands
+use Rattle.mp4_present.specs.declared.walking.in_hand.InHand.TheVariants as hands
 use Rattle.mp4_present.proofs.TrafTaken.{few, stands_behind, taken, at_place, none_left, some_counted, all_taken, counted_left}
 use Rattle.mp4_present.proofs.WalkWork.{place_within}
 use Rattle.mp4_present.proofs.walking.Walk.take.Goals as goal

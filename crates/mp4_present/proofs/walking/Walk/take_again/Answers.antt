@@ -3,7 +3,7 @@ use Rattle.std.specs.Int.{w128}
 use Rattle.std.proofs.lemmas.Int.{to_z-of_z}
 use Rattle.mp4_frag.specs.words.Walks.{samples_coming}
 use Rattle.mp4_present.specs.words.Movies.{traf_box, traf_bytes, traf_hand}
-use Rattle.mp4_present.specs.declared.walking.loaded.Loaded.TheVariants as hands
+use Rattle.mp4_present.specs.declared.walking.in_hand.InHand.TheVariants as hands
 use Rattle.mp4_present.specs.declared.walking.Walk.{Walk}
 use Rattle.mp4_present.proofs.TrafTaken.{stands_again, taken, at_place, all_taken}
 use Rattle.mp4_present.proofs.WalkWork.{place_within}

@@ -5,7 +5,7 @@ use Rattle.mp4_tables.specs.declared.sample.SampleAt.{SampleAt}
 use Rattle.mp4_present.specs.words.Joined.{IsBelow}
 use Rattle.mp4_present.proofs.WalkCopied.{kept_before, stretch_there}
 use Rattle.std.proofs.lemmas.Result.{err_from_is_err_and}
-use Rattle.mp4_present.specs.words.Loaded.{follows_itself, follows_on, left_in_hand}
+use Rattle.mp4_present.specs.words.InHand.{follows_itself, follows_on, left_in_hand}
 use Rattle.mp4_present.specs.words.Carried.{waiting}
 use Rattle.mp4_present.proofs.Hands.{hand_none, hand_more, hand_all, hand_fails, hand_front}
 use Rattle.mp4_present.proofs.HandSizes.{sizes_more, sizes_fit, sizes_all}

@@ -2,10 +2,10 @@ use Rattle.std.proofs.Common.{ℕ, ◌≡◌, ◌-◌, ◌≤◌, length}
 use Rattle.std.specs.List.{AllByRecursion}
 use Rattle.std.specs.Prelude.{vec_len, IsTrue}
 use Rattle.mp4_present.specs.words.Carried.{waiting, GoOnBy}
-use Rattle.mp4_present.specs.words.Loaded.{Follows, left_in_hand}
+use Rattle.mp4_present.specs.words.InHand.{Follows, left_in_hand}
 use Rattle.mp4_present.specs.words.Joined.{IsBelow}
 use Rattle.mp4_present.specs.words.Movies.{InHandOf}
-use Rattle.mp4_present.specs.declared.walking.loaded.Loaded.{Loaded}
+use Rattle.mp4_present.specs.declared.walking.in_hand.InHand.{InHand}
 use Rattle.mp4_present.proofs.Hands.{HandGoesOn}
 use Rattle.mp4_present.proofs.HandSizes.{SizesGoOn}
 use Rattle.mp4_present.proofs.walking.track_bytes.carry_hand.Given as goal
@@ -19,7 +19,7 @@ invariant-loop-stretch g l =
       reads : g.S.Store.read_failures l.store ≡ g.S.Store.read_failures l.fn.store;
       puts : g.K.Sink.put_failures l.sink ≡ g.K.Sink.put_failures l.fn.sink;
       room : vec_len l.carrier.buffer ≡ vec_len l.fn.carrier.buffer;
-      first : Loaded;
+      first : InHand;
       is : InHandOf l.movie l.fn.walk first;
       later : Follows first l.hand;
       within : (n : ℕ) → AllByRecursion (IsBelow n) (left_in_hand first) → AllByRecursion (IsBelow n) (left_in_hand l.hand);

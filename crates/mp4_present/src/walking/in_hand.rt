@@ -28,27 +28,27 @@ impl Place {
 
 /// The samples left of the tables, or of the `traf` in hand.
 #[derive(Drop)]
-pub enum Loaded<'a> {
+pub enum InHand<'a> {
     Tables(TableCursor<'a>),
     Fragment(FragCursor<'a>),
 }
 
-impl<'a> Loaded<'a> {
-    ghost use Rattle.mp4_present.specs.words.Loaded.{IsPlaceOf};
+impl<'a> InHand<'a> {
+    ghost use Rattle.mp4_present.specs.words.InHand.{IsPlaceOf};
 
     /// Where it stands.
     pub fn place(&self) -> Place
         ensures { IsPlaceOf self.now result }
     {
         match self {
-            Loaded::Tables(cursor) => Place::Tables(cursor.place()),
-            Loaded::Fragment(cursor) => Place::Fragment(cursor.place()),
+            InHand::Tables(cursor) => Place::Tables(cursor.place()),
+            InHand::Fragment(cursor) => Place::Fragment(cursor.place()),
         }
     }
 }
 
-impl<'a> Samples for Loaded<'a> {
-    ghost use Rattle.mp4_present.specs.words.Loaded.{left_in_hand, Follows, follows_itself, follows_on};
+impl<'a> Samples for InHand<'a> {
+    ghost use Rattle.mp4_present.specs.words.InHand.{left_in_hand, Follows, follows_itself, follows_on};
 
     ghost rest = { left_in_hand };
 
@@ -57,31 +57,31 @@ impl<'a> Samples for Loaded<'a> {
     #[inline(always)]
     fn peek(&self) -> Option<SampleAt> {
         match self {
-            Loaded::Tables(cursor) => cursor.peek(),
-            Loaded::Fragment(cursor) => cursor.peek(),
+            InHand::Tables(cursor) => cursor.peek(),
+            InHand::Fragment(cursor) => cursor.peek(),
         }
     }
 
     #[inline(always)]
     fn next(&mut self) -> Option<SampleAt> {
         match self {
-            Loaded::Tables(cursor) => cursor.next(),
-            Loaded::Fragment(cursor) => cursor.next(),
+            InHand::Tables(cursor) => cursor.next(),
+            InHand::Fragment(cursor) => cursor.next(),
         }
     }
 
     #[inline(always)]
     fn pass(&mut self, sample: &SampleAt) {
         match self {
-            Loaded::Tables(cursor) => cursor.pass(sample),
-            Loaded::Fragment(cursor) => cursor.pass(sample),
+            InHand::Tables(cursor) => cursor.pass(sample),
+            InHand::Fragment(cursor) => cursor.pass(sample),
         }
     }
 
     fn pass_non_sync(&mut self, description: u32, most: u32) -> u32 {
         match self {
-            Loaded::Tables(cursor) => cursor.pass_non_sync(description, most),
-            Loaded::Fragment(cursor) => cursor.pass_non_sync(description, most),
+            InHand::Tables(cursor) => cursor.pass_non_sync(description, most),
+            InHand::Fragment(cursor) => cursor.pass_non_sync(description, most),
         }
     }
 

@@ -15,9 +15,9 @@ use Rattle.mp4_head.specs.format.Tree.{TrackTree, track_head_of}
 use Rattle.mp4_present.specs.format.Denotes.{FileTree, file_parts, first_due}
 use Rattle.mp4_present.specs.words.OpenedMovie.{IsOpenedAs}
 use Rattle.mp4_present.specs.words.OwnTrafs.{IsOwn}
-use Rattle.mp4_present.specs.words.Loaded.{left_in_hand}
+use Rattle.mp4_present.specs.words.InHand.{left_in_hand}
 use Rattle.mp4_present.specs.words.Movies.{MovieSeen, InHandOf}
-use Rattle.mp4_present.specs.declared.walking.loaded.Loaded.{Loaded}
+use Rattle.mp4_present.specs.declared.walking.in_hand.InHand.{InHand}
 use Rattle.mp4_present.specs.words.Reading.{RefusesRange}
 use Rattle.mp4_present.specs.words.SamplesComing.{track_keys, count_behind, due_behind, samples_behind, own_trafs, StandsBefore, Comes, HoldsNext, Takes}
 use Rattle.mp4_present.specs.declared.walking.Walk.{Walk}
@@ -130,6 +130,6 @@ pub some_left : (file : List ℕ) (tree : FileTree) (t : TrackTree) (earlier lat
 some_left file tree t earlier later w h none = h.left ∙ ap (λ ps. length (samples_behind tree t earlier ps)) none
 
 -- nothing is left in hand, and no sample behind it
-pub ends_empty : (file : List ℕ) (tree : FileTree) (t : TrackTree) (m : MovieSeen) (earlier later : List PlacedTraf) (hand : Loaded) (w : Walk) → samples_behind tree t earlier later ≡ [] → StandsBefore file tree t earlier later w → InHandOf m w hand
+pub ends_empty : (file : List ℕ) (tree : FileTree) (t : TrackTree) (m : MovieSeen) (earlier later : List PlacedTraf) (hand : InHand) (w : Walk) → samples_behind tree t earlier later ≡ [] → StandsBefore file tree t earlier later w → InHandOf m w hand
     → left_in_hand hand ≡ [] → Comes file tree t m w []
 ends_empty file tree t m earlier later hand w none h i z = (earlier, later, hand, (h, i, sym (ap (λ ss. ss ++ samples_behind tree t earlier later) z ∙ none)))

@@ -1,5 +1,5 @@
 use Rattle.mp4_tables.proofs.NonSyncPassed.{others_left}
-use Rattle.mp4_present.proofs.walking.loaded.LoadedSamples.pass_non_sync.Goals as goal
+use Rattle.mp4_present.proofs.walking.in_hand.InHandSamples.pass_non_sync.Goals as goal
 
 pub returns-in-Fragment-clause-later : goal.returns-in-Fragment-clause-later
 returns-in-Fragment-clause-later c =
