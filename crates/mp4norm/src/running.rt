@@ -184,8 +184,10 @@ pub(crate) fn loss_refusal(found: &Freed, is_lossy: bool) -> Option<Refusal>
 
 // Puts the line of a refusal.
 fn put_refusal<E: Sink>(errors: &mut E, refusal: &Refusal) -> Result<(), WriteFailed>
-    ensures line { TakesPrefix (E.takes errors.old errors.new) (fault_line refusal.now ++ 10 ∷ []) }
-    ensures whole { OnOk result (E.takes errors.old errors.new (fault_line refusal.now ++ 10 ∷ [])) }
+    ensures line { TakesPrefix (E.takes errors.old errors.new)
+        (fault_line refusal.now ++ 10 ∷ []) }
+    ensures whole { OnOk result
+        (E.takes errors.old errors.new (fault_line refusal.now ++ 10 ∷ [])) }
     ensures cause { OnErr result
         (HasRisen (E.put_failures errors.old) (E.put_failures errors.new)) }
 {

@@ -1,6 +1,6 @@
 //! Where the answer goes.
 
-ghost use Rattle.std.specs.Prelude.{IfErr, true};
+ghost use Rattle.std.specs.Prelude.{true};
 ghost use Rattle.mp4norm.specs.format.Runs.{RefusesOutlet};
 
 use crate::running::Outlet;
