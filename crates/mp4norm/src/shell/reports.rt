@@ -235,7 +235,7 @@ pub(crate) fn tell_of(rt: &HostRuntime, name: &[u8], text: &[u8]) {
     let _ = errors.write_all(b"\n");
 }
 
-/// A writer, with the error of its last call that failed.
+/// A writer, with the error of its last call, if that failed.
 #[derive(Drop)]
 pub(crate) struct Heard<W> {
     pub(crate) out: W,
@@ -248,9 +248,10 @@ impl<W: Write> Write for Heard<W> {
 
     fn write(&mut self, piece: &[u8]) -> io::Result<usize> {
         let written = self.out.write(piece);
-        if let Err(error) = &written {
-            self.error = Some(error.kind());
-        }
+        self.error = match &written {
+            Ok(_) => None,
+            Err(error) => Some(error.kind()),
+        };
         written
     }
 
