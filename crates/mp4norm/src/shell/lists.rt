@@ -1,6 +1,6 @@
 //! Lists of files: names, a line each, or an HLS media playlist (RFC 8216).
-ghost use Rattle.std.specs.Prelude.{◌≡◌, ◌<◌, length};
-ghost use Rattle.mp4norm.specs.format.Lists.{FirstLine, IsLineLength, without_return, is_name};
+ghost use Rattle.std.specs.Prelude.{◌≡◌, ◌<◌, false, length, true, IfErr, IfNone, IfOk, IfSome};
+ghost use Rattle.mp4norm.specs.format.Lists.{bytes_of, is_name, is_odd, names_of, without_return, AreNames, FirstLine, HasOdd, IsLineLength};
 
 use crate::shell::playlists::{is_playlist, playlist_names};
 use std::alloc::{AllocError, Global};
@@ -83,7 +83,10 @@ fn odd_of_list(list: &[u8]) -> Option<&'static str> {
 }
 
 // What is wrong with a name, where there are so many before it.
-fn odd_of_name(name: &[u8], count: u64, most: u64) -> Option<&'static str> {
+fn odd_of_name(name: &[u8], count: u64, most: u64) -> Option<&'static str>
+    ensures odd { IfSome result (λ _. is_odd most count name.now ≡ true) }
+    ensures fair { IfNone result (is_odd most count name.now ≡ false) }
+{
     if name.contains(&0) {
         return Some("the name has a zero byte");
     }
@@ -95,7 +98,11 @@ pub fn text_names(
     alloc: Global,
     list: &[u8],
     most: u64,
-) -> Result<Result<Vec<Vec<u8>>, ListFault>, AllocError> {
+) -> Result<Result<Vec<Vec<u8>>, ListFault>, AllocError>
+    ensures names { IfOk result (λ taken. IfOk taken (λ names.
+        AreNames most list.now (bytes_of names.items))) }
+    ensures odd { IfOk result (λ taken. IfErr taken (λ _. HasOdd most 0 (names_of list.now))) }
+{
     let mut names: Vec<Vec<u8>> = Vec::new(alloc);
     let mut left = list;
     let mut line = 0u64;

@@ -63,21 +63,19 @@ impl<'a, 'r> Outgoing<'a, 'r, Out> {
             is_closed: false,
         }
     }
+}
 
-    // Makes what is to be written.
-    fn made(&mut self) -> Result<Out, Refusal> {
-        let rt = self.rt;
-        match self.target {
-            Target::Standard => Ok(Out::Standard(rt.stdout())),
-            Target::New { name } => {
-                let made = File::create_new(rt, name);
-                Ok(Out::File(self.report.outcome(made, Refusal::WriteFailed)?))
-            }
-            Target::Replaced { name } => {
-                self.report
-                    .outcome(replaced(rt, name), Refusal::WriteFailed)?;
-                Ok(Out::Part(Part::new(rt, name, self.report)?))
-            }
+// Makes what is to be written.
+fn made(rt: &HostRuntime, target: Target, report: &mut Report) -> Result<Out, Refusal> {
+    match target {
+        Target::Standard => Ok(Out::Standard(rt.stdout())),
+        Target::New { name } => {
+            let made = File::create_new(rt, name);
+            Ok(Out::File(report.outcome(made, Refusal::WriteFailed)?))
+        }
+        Target::Replaced { name } => {
+            report.outcome(replaced(rt, name), Refusal::WriteFailed)?;
+            Ok(Out::Part(Part::new(rt, name, report)?))
         }
     }
 }
@@ -147,7 +145,7 @@ impl<'a, 'r> Outlet for Outgoing<'a, 'r, Out> {
             self.report.begin(self.rt, len);
         }
         self.is_closed = false;
-        let out = self.made().map_err(of_outlet)?;
+        let out = made(self.rt, self.target, self.report).map_err(of_outlet)?;
         self.sink = Some(IoSink::new(Heard { out, error: None }));
         Ok(())
     }

@@ -1,4 +1,6 @@
-use Rattle.mp4norm.proofs.JobRuns.{between, fits, job_puts_on, on_any, settled_ok}
+use Rattle.std.proofs.Common.{inr}
+use Rattle.std.proofs.lemmas.Result.{err_from_is_err_and}
+use Rattle.mp4norm.proofs.JobRuns.{between, fits, job_puts_on, not_opened, on_any, settled_ok}
 use Rattle.mp4norm.proofs.running.run_job.Goals as goal
 
 pub returns-in-Ok-clause-whole : goal.returns-in-Ok-clause-whole
@@ -12,4 +14,4 @@ returns-in-Ok-clause-short g c = on_any c.close.result (λ told. fits c.args.mos
 pub returns-in_err-open_for-clause-answer : goal.returns-in_err-open_for-clause-answer
 returns-in_err-open_for-clause-answer g c =
     let p = err_from_is_err_and c.from_residual-in_err-open_for.result c.from_residual-in_err-open_for.ensures.1 in
-    rw (p.1, p.2) (inr (c.open_for.ensures.nothing, inr (not_opened g.S.Store c.args.store.now c.args.most c.in_ok-len.len c.args.job g.world.M _ c.in_ok-len.ensures.length c.in_err-open_for.ensures.refusal)))
+    rw (p.1, p.2) (inr (c.open_for.ensures.nothing, inr (not_opened g.S.Store c.args.store.now c.args.most c.in_ok-len.len c.args.job _ _ c.in_ok-len.ensures.length c.in_err-open_for.ensures.refusal)))
