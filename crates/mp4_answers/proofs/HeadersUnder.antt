@@ -12,7 +12,7 @@ use Rattle.mp4_boxes.proofs.HeaderFronts.{header_there-take}
 use Rattle.mp4_boxes.proofs.Walking.{located_ok}
 use Rattle.mp4_store.specs.words.Device.{range}
 use Rattle.mp4_answers.specs.declared.box_names.Name.{Name}
-use Rattle.mp4_answers.specs.format.Strips.{Halts, here, RefusesHeaderUnder, RefusesWalk}
+use Rattle.mp4_answers.specs.format.Strips.{Halts, here, RefusesHeaderUnder, RefusesFind, RefusesWalk}
 use Rattle.mp4_answers.proofs.StripWalks.{take_range}
 
 pub length_range : (file : List ℕ) (at n : ℕ) → at + n ≤ length file → length (range file at n) ≡ n
@@ -56,3 +56,24 @@ refuses_inside names honest rule inner file from at end inside behind reads read
 refuses_inside names honest rule inner file from at end inside behind reads reads_after refusals.StoreChanged up so e = absurd e
 refuses_inside names honest rule inner file from at end inside behind reads reads_after refusals.WriteFailed up so e = absurd e
 refuses_inside names honest rule inner file from at end inside behind reads reads_after refusals.NoSuchTrack up so e = absurd e
+
+-- ---- the same where room is taken on the way
+
+pub walk_finds : (names : List Name) (honest : Bool) (rule : Rule) (at : ℕ) (bytes : List ℕ) (reads reads_after : ℕ) (r : Refusal) → RefusesWalk names honest rule at bytes reads reads_after r → RefusesFind names honest rule at bytes reads reads_after r
+walk_finds names honest rule at bytes reads reads_after (refusals.Fault f) e = e
+walk_finds names honest rule at bytes reads reads_after refusals.Memory e = tt
+walk_finds names honest rule at bytes reads reads_after refusals.StoreFailed e = e
+walk_finds names honest rule at bytes reads reads_after refusals.StoreChanged e = e
+walk_finds names honest rule at bytes reads reads_after refusals.WriteFailed e = e
+walk_finds names honest rule at bytes reads reads_after refusals.NoSuchTrack e = e
+
+pub find_inside : (names : List Name) (honest : Bool) (rule inner : Rule) (file : List ℕ) (from at end inside behind reads reads_after : ℕ) (r : Refusal)
+    → (IsTrue honest → (f : Fault) → Halts names f inner inside (range file inside (behind - inside)) → Halts names f rule at (range file at (end - at)))
+    → (IsTrue honest → (f : Fault) → Halts names f rule at (range file at (end - at)) → Halts names f rule from (range file from (end - from)))
+    → RefusesFind names honest inner inside (range file inside (behind - inside)) reads reads_after r → RefusesFind names honest rule from (range file from (end - from)) reads reads_after r
+find_inside names honest rule inner file from at end inside behind reads reads_after (refusals.Fault f) up so e = λ told. so told f (up told f (e told))
+find_inside names honest rule inner file from at end inside behind reads reads_after refusals.Memory up so e = tt
+find_inside names honest rule inner file from at end inside behind reads reads_after refusals.StoreFailed up so e = e
+find_inside names honest rule inner file from at end inside behind reads reads_after refusals.StoreChanged up so e = absurd e
+find_inside names honest rule inner file from at end inside behind reads reads_after refusals.WriteFailed up so e = absurd e
+find_inside names honest rule inner file from at end inside behind reads reads_after refusals.NoSuchTrack up so e = absurd e

@@ -34,6 +34,7 @@ pub mod BoxSpans
 pub mod ReducedNormalised
 pub mod ComparedFiles
 mod WordSets
+mod WordLists
 mod LeastWords
 pub mod ComparedTexts
 pub mod SameAnswers

@@ -1,5 +1,5 @@
 -- A copy of a whole file in which some boxes are free space: all of it is put, or the file is not judged.
-use Rattle.std.proofs.Common.{◌≡◌, inl, ℕ, ◌-◌, List, [], ◌++◌, length, take, sym, ap, subst, ◌∙◌, arith, Err}
+use Rattle.std.proofs.Common.{◌≡◌, inl, Bool, ℕ, ◌-◌, List, [], ◌++◌, length, take, sym, ap, subst, ◌∙◌, arith, Err}
 use Rattle.std.proofs.lemmas.List.{take_all, append-nil}
 use Rattle.mp4_store.specs.words.Device.{TakesPrefix, range}
 use Rattle.mp4_store.proofs.Known.{IsJoining}
@@ -11,7 +11,7 @@ use Rattle.mp4_present.proofs.Carrying.{BytesGoOn-all}
 use Rattle.mp4_answers.specs.format.Answers.{StrippedOf}
 use Rattle.mp4_answers.specs.format.Run.{Run, PutsNothing}
 use Rattle.mp4_answers.specs.declared.box_names.Name.{Name}
-use Rattle.mp4_answers.specs.format.Strips.{Strips, IsStripped, Halts, RefusesWalk}
+use Rattle.mp4_answers.specs.format.Strips.{Strips, IsStripped, Halts, RefusesFind, RefusesLook, RefusesWalk}
 use Rattle.mp4_answers.proofs.StripCopies.{front_fails}
 
 -- all bytes of a file
@@ -29,6 +29,10 @@ walk_fails A names r refusals.StoreFailed n w = (w, λ told. inl n)
 walk_fails A names r refusals.StoreChanged n w = absurd w
 walk_fails A names r refusals.WriteFailed n w = absurd w
 walk_fails A names r refusals.NoSuchTrack n w = absurd w
+
+-- a file that is not looked through
+pub look_fails : (names : List Name) (honest : Bool) (file : List ℕ) (reads reads_after : ℕ) (r : Refusal) → RefusesFind names honest File 0 (range file 0 (length file - 0)) reads reads_after r → RefusesLook names honest file reads reads_after r
+look_fails names honest file reads reads_after r w = subst (λ bs. RefusesFind names honest File 0 bs reads reads_after r) (whole_range file) w
 
 -- what waited at the end is put, behind what was
 pub all_put : {Y : Type 0} {takes : Y → Y → List ℕ → Type 0} (joins : IsJoining takes) (a b c : Y) (held held_b text : List ℕ) → held ≡ [] → BytesGoOn (takes a b) held held_b text → takes b c held_b → takes a c text

@@ -12,6 +12,7 @@ pub mod BoxWalk
 pub mod ReducedHeadline
 pub mod DifferenceLine
 pub mod LastLine
+pub mod WordLists
 pub mod DifferenceObject
 pub mod CompareHeadline
 pub mod FileTexts

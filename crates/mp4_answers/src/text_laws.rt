@@ -1,5 +1,6 @@
-//! Laws of the texts of what files say.
+//! Laws of the texts of what files say, and of what is left out of them.
 ghost use Rattle.mp4_answers.specs.format.TextLaws.{SameIsSameText, TextsTell};
+ghost use Rattle.mp4_answers.specs.format.WordLists.{ListsLeaveOut, WordsReadBack};
 
 /// Where the same is left of two presentations, they have the same text.
 pub fn same_is_same_text()
@@ -11,4 +12,15 @@ pub fn same_is_same_text()
 /// SHA-256.
 pub fn texts_tell()
     ensures { TextsTell }
+{}
+
+/// The words that are printed of what is left out, where anything is, are behind a space a list
+/// that leaves the same out.
+pub fn words_read_back()
+    ensures { WordsReadBack }
+{}
+
+/// Each list of words leaves something out.
+pub fn lists_leave_out()
+    ensures { ListsLeaveOut }
 {}

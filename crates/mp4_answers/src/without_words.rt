@@ -1,7 +1,8 @@
 //! What the words behind `--without` leave out.
 ghost use Rattle.std.specs.Prelude.{◌≡◌, ◌&&◌, ◌||◌, not};
 ghost use Rattle.mp4_content.specs.format.ReducedLaws.{both};
-ghost use Rattle.mp4_answers.specs.words.SingleWords.{everything, less_word, packaging};
+ghost use Rattle.mp4_answers.specs.format.WordLists.{leaving_of, word_meant};
+ghost use Rattle.mp4_answers.specs.words.SingleWords.{less_word};
 
 use crate::text::cutting::cut;
 use mp4_content::Without;
@@ -20,50 +21,85 @@ pub(crate) const EVERYTHING: Without = Without {
     timing: true,
 };
 
-/// What each word leaves out, by itself, in the order in which words are taken away that aren't
-/// needed: `timing` before `ends` and `origins`, which leave out less.
+// What each word leaves out, by itself.
+const TIMES: Without = Without {
+    times: true,
+    ..Without::NOTHING
+};
+
+const EDITS: Without = Without {
+    edits: true,
+    ..Without::NOTHING
+};
+
+const FLAGS: Without = Without {
+    flags: true,
+    ..Without::NOTHING
+};
+
+const GROUPS: Without = Without {
+    groups: true,
+    ..Without::NOTHING
+};
+
+const METADATA: Without = Without {
+    metadata: true,
+    ..Without::NOTHING
+};
+
+const BITRATES: Without = Without {
+    bitrates: true,
+    ..Without::NOTHING
+};
+
+const ENDS: Without = Without {
+    ends: true,
+    ..Without::NOTHING
+};
+
+const ORIGINS: Without = Without {
+    origins: true,
+    ..Without::NOTHING
+};
+
+const LABELS: Without = Without {
+    labels: true,
+    ..Without::NOTHING
+};
+
+const TIMING: Without = Without {
+    timing: true,
+    ..Without::NOTHING
+};
+
+/// The same, in the order in which words are taken away that aren't needed: `timing` before `ends`
+/// and `origins`, which leave out less.
 pub(crate) const WORDS: &[Without] = &[
-    Without {
-        times: true,
-        ..Without::NOTHING
-    },
-    Without {
-        edits: true,
-        ..Without::NOTHING
-    },
-    Without {
-        flags: true,
-        ..Without::NOTHING
-    },
-    Without {
-        groups: true,
-        ..Without::NOTHING
-    },
-    Without {
-        metadata: true,
-        ..Without::NOTHING
-    },
-    Without {
-        bitrates: true,
-        ..Without::NOTHING
-    },
-    Without {
-        labels: true,
-        ..Without::NOTHING
-    },
-    Without {
-        timing: true,
-        ..Without::NOTHING
-    },
-    Without {
-        ends: true,
-        ..Without::NOTHING
-    },
-    Without {
-        origins: true,
-        ..Without::NOTHING
-    },
+    TIMES, EDITS, FLAGS, GROUPS, METADATA, BITRATES, LABELS, TIMING, ENDS, ORIGINS,
 ];
+
+// What the set `packaging-1` leaves out: what changes when a file is packed another way. It never
+// changes, so that sums which were made with it stay right: other words would be `packaging-2`.
+const PACKAGING: Without = Without {
+    times: true,
+    edits: true,
+    flags: true,
+    groups: true,
+    metadata: true,
+    bitrates: true,
+    ends: true,
+    origins: true,
+    labels: false,
+    timing: false,
+};
+
+// What the set `media-1` leaves out: all that can be. This set never changes either, should there
+// be more words.
+const MEDIA: Without = Without {
+    labels: true,
+    timing: true,
+    ..PACKAGING
+};
 
 // Whether a word stays among others when one is taken away: if it is not that one, or was given.
 fn stays(is_in: bool, was_given: bool, is_taken: bool) -> bool
@@ -115,60 +151,50 @@ pub fn leaving_both(one: Without, other: Without) -> Without
     }
 }
 
-// Leaves out what changes when a file is packed another way. The set never changes, so that sums
-// which were made with it stay right: other words would be `packaging-2`.
-fn leave_out_packaging(leaving: &mut Without)
-    ensures { leaving.new ≡ both packaging leaving.old }
+// What a word leaves out, or a named set of words; none where it is neither.
+fn word_meant(word: &[u8]) -> Option<Without>
+    ensures { result ≡ word_meant word.now }
 {
-    leaving.times = true;
-    leaving.edits = true;
-    leaving.flags = true;
-    leaving.groups = true;
-    leaving.metadata = true;
-    leaving.bitrates = true;
-    leaving.ends = true;
-    leaving.origins = true;
-}
-
-// Leaves out all that can be. This set never changes either, should there be more words.
-fn leave_out_media(leaving: &mut Without)
-    ensures { leaving.new ≡ both everything leaving.old }
-{
-    leave_out_packaging(leaving);
-    leaving.labels = true;
-    leaving.timing = true;
-}
-
-// Leaves out what a word says, or the words of a named set; false where it is neither.
-fn leave_out(leaving: &mut Without, word: &[u8]) -> bool {
-    match word {
-        b"times" => leaving.times = true,
-        b"edits" => leaving.edits = true,
-        b"flags" => leaving.flags = true,
-        b"groups" => leaving.groups = true,
-        b"metadata" => leaving.metadata = true,
-        b"bitrates" => leaving.bitrates = true,
-        b"ends" => leaving.ends = true,
-        b"origins" => leaving.origins = true,
-        b"labels" => leaving.labels = true,
-        b"timing" => leaving.timing = true,
-        b"packaging-1" => leave_out_packaging(leaving),
-        b"media-1" => leave_out_media(leaving),
-        _ => return false,
+    let is = |name: &[u8]| *word == *name;
+    if is(b"times") {
+        Some(TIMES)
+    } else if is(b"edits") {
+        Some(EDITS)
+    } else if is(b"flags") {
+        Some(FLAGS)
+    } else if is(b"groups") {
+        Some(GROUPS)
+    } else if is(b"metadata") {
+        Some(METADATA)
+    } else if is(b"bitrates") {
+        Some(BITRATES)
+    } else if is(b"ends") {
+        Some(ENDS)
+    } else if is(b"origins") {
+        Some(ORIGINS)
+    } else if is(b"labels") {
+        Some(LABELS)
+    } else if is(b"timing") {
+        Some(TIMING)
+    } else if is(b"packaging-1") {
+        Some(PACKAGING)
+    } else if is(b"media-1") {
+        Some(MEDIA)
+    } else {
+        None
     }
-    true
 }
 
 /// What a list of words and named sets that are apart by commas leaves out; none where one is not
 /// known.
-pub fn leaving_of(list: &str) -> Option<Without> {
+pub fn leaving_of(list: &str) -> Option<Without>
+    ensures { result ≡ leaving_of list.now }
+{
     let mut leaving = Without::NOTHING;
     let mut left = list.as_bytes();
     loop {
         let (word, rest) = cut(left, b',');
-        if !leave_out(&mut leaving, word) {
-            return None;
-        }
+        leaving = leaving_both(leaving, word_meant(word)?);
         match rest {
             Some(rest) => left = rest,
             None => return Some(leaving),

@@ -134,3 +134,14 @@ RefusesWalk names honest rule at bytes reads reads_after (refusals.Fault f) = Is
 RefusesWalk names honest rule at bytes reads reads_after refusals.StoreFailed =
     HasRisen reads reads_after
 RefusesWalk names honest rule at bytes reads reads_after _ = ⊥
+
+-- why they are not, where room is taken on the way
+abbrev pub RefusesFind : List Name → Bool → Rule → ℕ → List ℕ → ℕ → ℕ → Refusal → Type 0
+RefusesFind names honest rule at bytes reads reads_after refusals.Memory = Unit {0}
+RefusesFind names honest rule at bytes reads reads_after r =
+    RefusesWalk names honest rule at bytes reads reads_after r
+
+-- why the boxes of a file are not looked through: a header that halts, a failed read, or no memory
+abbrev pub RefusesLook : List Name → Bool → List ℕ → ℕ → ℕ → Refusal → Type 0
+RefusesLook names honest file reads reads_after r =
+    RefusesFind names honest rules.File 0 file reads reads_after r

@@ -1,5 +1,5 @@
 -- Words of `--without`, one by one.
-use Rattle.std.specs.Prelude.{◌&&◌, ◌||◌, not, false, true, List, [], ◌∷◌}
+use Rattle.std.specs.Prelude.{◌&&◌, ◌||◌, not, true, List, [], ◌∷◌}
 use Rattle.mp4_content.specs.format.ReducedLaws.{nothing}
 use Rattle.mp4_content.specs.declared.without.Without.{Without}
 
@@ -17,10 +17,6 @@ everything = record {
   labels = true;
   timing = true;
 }
-
--- what the set `packaging-1` leaves out
-abbrev pub packaging : Without
-packaging = record everything { labels = false; timing = false }
 
 -- what each word leaves out, by itself, in the order in which words are taken away: `timing` before
 -- `ends` and `origins`, which leave out less

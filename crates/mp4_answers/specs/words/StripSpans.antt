@@ -10,7 +10,7 @@ use Rattle.mp4_store.specs.declared.store.Store.{Ghosts as Store}
 use Rattle.mp4_store.specs.words.Device.{range}
 use Rattle.mp4_present.specs.words.StoresRead.{WhereHonest}
 use Rattle.mp4_answers.specs.declared.box_names.Name.{Name}
-use Rattle.mp4_answers.specs.format.Strips.{is_top, uuid_at, Strips, RefusesHeaderUnder, RefusesHeaderAgain, RefusesWalk}
+use Rattle.mp4_answers.specs.format.Strips.{is_top, uuid_at, Strips, RefusesHeaderUnder, RefusesHeaderAgain, RefusesFind, RefusesWalk}
 
 -- ---- a header at a place, before an end
 
@@ -54,3 +54,8 @@ WhereStrips S store names rule from end P = WhereHonest S store
 abbrev pub RefusesWalkAt : List Name → Rule → ℕ → ℕ → Bool → List ℕ → ℕ → ℕ → Refusal → Type 0
 RefusesWalkAt names rule from end honest file reads reads_after r =
     RefusesWalk names honest rule from (range file from (end - from)) reads reads_after r
+
+-- why they are not, where room is taken on the way
+abbrev pub RefusesFindAt : List Name → Rule → ℕ → ℕ → Bool → List ℕ → ℕ → ℕ → Refusal → Type 0
+RefusesFindAt names rule from end honest file reads reads_after r =
+    RefusesFind names honest rule from (range file from (end - from)) reads reads_after r

@@ -2,9 +2,10 @@
 ghost use Rattle.std.specs.Prelude.{◌≡◌, ◌<◌, ◌≤◌, length, None, OnOk};
 ghost use Rattle.mp4_boxes.specs.format.Children.{is_among};
 ghost use Rattle.mp4_answers.specs.format.Losses.{earlier, flag_kinds, holds_items, is_fragment, lost_with, loss_of, uuid_loss, IsFirstLost};
-ghost use Rattle.mp4_answers.specs.format.Run.{KeepsFile};
+ghost use Rattle.mp4_answers.specs.format.Strips.{RefusesLook};
 ghost use Rattle.mp4_answers.specs.words.FirstLosses.{FindsFirst, KeepsTimeAt};
-ghost use Rattle.mp4_present.specs.words.StoresRead.{WhereHonest, WhereRead};
+ghost use Rattle.mp4_answers.specs.words.StripSpans.{RefusesFindAt, RefusesWalkAt};
+ghost use Rattle.mp4_present.specs.words.StoresRead.{OnlyReads, RefusedOf, WhereHonest, WhereRead};
 
 use crate::box_names::{FullType, Name, holder, is_named, is_named_foreign};
 use crate::commands::box_headers::read_header;
@@ -235,9 +236,11 @@ impl Found {
 fn keeps_time<S: Store>(names: &[Name], span: BoxSpan, store: &mut S) -> Result<bool, Refusal>
     requires span { span.from ≤ span.end }
     requires within { span.end ≤ length (S.file store.old) }
-    ensures store { KeepsFile S.Store store.old store.new }
+    ensures store { OnlyReads S.Store store.old store.new result }
     ensures time { WhereRead S.Store store.old result
         (λ file has. KeepsTimeAt names.now span.rule span.from span.end has file) }
+    ensures refusal { RefusedOf S.Store store.old store.new result
+        (RefusesWalkAt names.now span.rule span.from span.end) }
 {
     let kind = FourCc(*b"tfdt");
     let time = FullType { kind, uuid: None };
@@ -321,10 +324,12 @@ fn find_boxes<S: Store>(
 ) -> Result<(), Refusal>
     requires span { span.from ≤ span.end }
     requires within { span.end ≤ length (S.file store.old) }
-    ensures store { KeepsFile S.Store store.old store.new }
+    ensures store { OnlyReads S.Store store.old store.new result }
     ensures first { OnOk result (WhereHonest S.Store store.old
         (FindsFirst names.now span.rule span.from span.end
         found.old.first_loss found.new.first_loss)) }
+    ensures refusal { RefusedOf S.Store store.old store.new result
+        (RefusesFindAt names.now span.rule span.from span.end) }
 {
     let has_time = keeps_time(names, span, store)?;
     let within = Container {
@@ -358,9 +363,10 @@ pub(crate) fn find_freed<S: Store>(
     store: &mut S,
     names: &[Name],
 ) -> Result<Found, Refusal>
-    ensures store { KeepsFile S.Store store.old store.new }
+    ensures store { OnlyReads S.Store store.old store.new result }
     ensures first { WhereRead S.Store store.old result
         (λ file found. IsFirstLost names.now file found.first_loss) }
+    ensures refusal { RefusedOf S.Store store.old store.new result (RefusesLook names.now) }
 {
     let mut found = Found::none(alloc);
     let span = whole_file(store.len());

@@ -5,7 +5,7 @@ ghost use Rattle.mp4_present.specs.words.Carried.{RefusesCarry, RefusesRange};
 ghost use Rattle.mp4_answers.specs.format.Answers.{StrippedOf};
 ghost use Rattle.mp4_answers.specs.format.Run.{KeepsFile, run_of};
 ghost use Rattle.mp4_answers.specs.format.StripCounts.{Counts};
-ghost use Rattle.mp4_answers.specs.format.Strips.{freed};
+ghost use Rattle.mp4_answers.specs.format.Strips.{freed, RefusesLook};
 ghost use Rattle.mp4_answers.specs.words.CountedBoxes.{CountsOn};
 ghost use Rattle.mp4_boxes.specs.declared.rule.Rule.TheVariants.{File};
 ghost use Rattle.mp4_present.specs.words.HandCarried.{RefusedByBoth};
@@ -231,10 +231,11 @@ pub fn count_named<S: Store>(
     store: &mut S,
     names: &[Name],
 ) -> Result<Vec<u64>, Refusal>
-    ensures store { KeepsFile S.Store store.old store.new }
+    ensures store { OnlyReads S.Store store.old store.new result }
     ensures counts { WhereRead S.Store store.old result
         (λ file counts. Counts names.now File file counts.items) }
     ensures many { IfOk result (λ counts. length counts.items ≡ length names.now) }
+    ensures refusal { RefusedOf S.Store store.old store.new result (RefusesLook names.now) }
 {
     let mut counts = vec![in alloc; 0u64; names.len()]?;
     let span = whole_file(store.len());

@@ -1,8 +1,8 @@
 //! What is said of boxes that become free space.
 ghost use Rattle.std.specs.Prelude.{◌≡◌, option_map};
-ghost use Rattle.mp4_present.specs.words.StoresRead.{WhereRead};
+ghost use Rattle.mp4_present.specs.words.StoresRead.{OnlyReads, RefusedOf, WhereRead};
 ghost use Rattle.mp4_answers.specs.format.Losses.{asks_which, refusal_with};
-ghost use Rattle.mp4_answers.specs.format.Run.{KeepsFile};
+ghost use Rattle.mp4_answers.specs.format.Strips.{RefusesLook};
 ghost use Rattle.mp4_answers.specs.words.FirstLosses.{FindsIf};
 
 use crate::box_names::Name;
@@ -101,9 +101,10 @@ pub fn losses(alloc: Global, found: &Found) -> Result<Vec<u8>, AllocError> {
 
 /// What is told of the boxes that become free space, where more than their numbers is.
 pub fn find_told<S: Store>(alloc: Global, store: &mut S, names: &[Name]) -> Result<Found, Refusal>
-    ensures store { KeepsFile S.Store store.old store.new }
+    ensures store { OnlyReads S.Store store.old store.new result }
     ensures first { WhereRead S.Store store.old result (λ file found.
         FindsIf (asks_which names.now) names.now file found.first_loss) }
+    ensures refusal { RefusedOf S.Store store.old store.new result (RefusesLook names.now) }
 {
     if asks_which(names) {
         find_freed(alloc, store, names)

@@ -1,5 +1,6 @@
 //! Words in lists, and bytes that two hexadecimal digits spell.
-ghost use Rattle.std.specs.Prelude.{◌<◌, length, IfSome};
+ghost use Rattle.std.specs.Prelude.{◌<◌, length, option_map, IfSome};
+ghost use Rattle.mp4_answers.specs.format.WordLists.{IsCut};
 
 /// The byte that two hexadecimal digits spell.
 pub fn byte_of(high: u8, low: u8) -> Option<u8> {
@@ -10,7 +11,8 @@ pub fn byte_of(high: u8, low: u8) -> Option<u8> {
 
 /// What stands before the first such byte, and what stands behind it, if it is there.
 pub fn cut(word: &[u8], at: u8) -> (&[u8], Option<&[u8]>)
-    ensures { IfSome result.1 (λ rest. length rest.now < length word.now) }
+    ensures parts { IsCut at word.now result.0.now (option_map (λ rest. rest.now) result.1) }
+    ensures shorter { IfSome result.1 (λ rest. length rest.now < length word.now) }
 {
     for k in 0..word.len() {
         if word[k] == at {
