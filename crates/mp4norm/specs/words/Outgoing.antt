@@ -30,11 +30,18 @@ pub TakesOn-trans : {W : Type 0} (held : W → Option (List ℕ))
     (s t u : Option (IoSink (Heard W))) (xs ys : List ℕ)
     → TakesOn held s t xs → TakesOn held t u ys → TakesOn held s u (xs ++ ys)
 TakesOn-trans held None None None xs ys p q = rw (p, q) refl
-TakesOn-trans held None None (Some u) xs ys p (w, fresh, q) = (w, fresh, subst
-    (λ (zs : List ℕ). Appends (held w) (held u.calls.writer.out) (zs ++ ys)) (sym p) q)
+TakesOn-trans held None None (Some u) xs ys p (w, fresh, q) = (
+  w,
+  fresh,
+  subst
+      (λ (zs : List ℕ). Appends (held w) (held u.calls.writer.out) (zs ++ ys)) (sym p) q,
+)
 TakesOn-trans held None (Some t) None xs ys p q = absurd q
-TakesOn-trans held None (Some t) (Some u) xs ys (w, fresh, p) q = (w, fresh,
-    Appends-trans (held w) (held t.calls.writer.out) (held u.calls.writer.out) xs ys p q)
+TakesOn-trans held None (Some t) (Some u) xs ys (w, fresh, p) q = (
+  w,
+  fresh,
+  Appends-trans (held w) (held t.calls.writer.out) (held u.calls.writer.out) xs ys p q,
+)
 TakesOn-trans held (Some s) None u xs ys p q = absurd p
 TakesOn-trans held (Some s) (Some t) None xs ys p q = absurd q
 TakesOn-trans held (Some s) (Some t) (Some u) xs ys p q = Appends-trans

@@ -29,7 +29,8 @@ loop-left-preserved-in_ok-push c =
     let done = bytes_of c.loop-left.names.items in
     let all = named_first c.loop-left.left.now c.first_line.result.0.now c.first_line.result.1.now name done _ c.loop-left.invariant.0 lines c.without_return-name.ensures (sym c.is_name.ensures ∙ c.if-is_name.true) in
     let own : c.extend_from_slice.new.self.items ≡ name = c.in_ok-extend_from_slice.ensures.items ∙ ap (λ (ns : List ℕ). ns ++ name) c.new-bytes.ensures.items in
-    let held : bytes_of c.push.new.self.items ≡ done ++ name ∷ [] = ap bytes_of c.in_ok-push.ensures.items ∙ held_more c.loop-left.names.items c.extend_from_slice.new.self ∙ ap (λ (ns : List ℕ). done ++ ns ∷ []) own in
-    (all ∙ sym (append_assoc done (name ∷ []) (names_of c.first_line.result.1.now)) ∙ ap (λ (ns : List (List ℕ)). ns ++ names_of c.first_line.result.1.now) (sym held),
-    subst (λ (ns : List (List ℕ)). AreTaken c.args.most 0 ns) (sym held) (taken_more c.args.most 0 done name c.loop-left.invariant.1
-    (subst (λ (n : ℕ). is_odd c.args.most n name ≡ false) (omega (arith, c.len.ensures, held_count c.loop-left.names.items)) c.in_default.ensures.fair)))
+    let held : bytes_of c.push.new.self.items ≡ done ++ name ∷ [] = ap bytes_of c.in_ok-push.ensures.items ∙ held_more c.loop-left.names.items c.extend_from_slice.new.self ∙ ap (λ (ns : List ℕ). done ++ ns ∷ []) own in (
+      all ∙ sym (append_assoc done (name ∷ []) (names_of c.first_line.result.1.now)) ∙ ap (λ (ns : List (List ℕ)). ns ++ names_of c.first_line.result.1.now) (sym held),
+      subst (λ (ns : List (List ℕ)). AreTaken c.args.most 0 ns) (sym held) (taken_more c.args.most 0 done name c.loop-left.invariant.1
+          (subst (λ (n : ℕ). is_odd c.args.most n name ≡ false) (omega (arith, c.len.ensures, held_count c.loop-left.names.items)) c.in_default.ensures.fair)),
+    )
