@@ -1,5 +1,5 @@
 //! A store over a file of the file system, or over whatever else is read by place.
-ghost use Rattle.std.specs.Prelude.{◌≡◌, ◌+◌, ◌<◌, ◌^◌, ◌≤◌, List, ℕ, length, Some, true, false, OnErr, IsTrue};
+ghost use Rattle.std.specs.Prelude.{◌≡◌, ◌+◌, ◌<◌, ◌^◌, ◌≤◌, List, ℕ, length, Some, true, false, IfOk, OnErr, IsTrue};
 ghost use Rattle.mp4_store.specs.words.Device.{Counts, range};
 ghost use Rattle.mp4_store.specs.words.Places.{file_known, is_known};
 
@@ -25,7 +25,10 @@ pub struct FileStore<F> {
 impl FileStore<File> {
     /// Takes the length that the file or block device has now, by going to its end; later changes
     /// of it are not seen, but that a read past its end fails.
-    pub fn new(mut file: File) -> io::Result<FileStore<File>> {
+    pub fn new(mut file: File) -> io::Result<FileStore<File>>
+        ensures count { IfOk result
+            (λ store. ⟦<FileStore<File> as Store>⟧.read_failures store ≡ 0) }
+    {
         let size = file.seek(SeekFrom::End(0))?;
         Ok(FileStore::over(file, size))
     }
