@@ -1,3 +1,6 @@
+pub mod SumsRead
+pub mod LookedAt
+pub mod PlainNames
 pub mod Vectors
 pub mod TypeTexts
 pub mod Decimals

@@ -1,12 +1,22 @@
 -- The way to a place of a file.
-use Rattle.std.proofs.Common.{◌≡◌, inr, ℕ, ◌<◌, ◌≤◌, List, [], ◌∷◌, ◌++◌, refl, sym, ap, subst, ◌∙◌, append_assoc}
-use Rattle.std.specs.Prelude.{Option, codes}
+use Rattle.std.proofs.Common.{◌≡◌, ◌⊎◌, inl, inr, ℕ, ◌+◌, ◌-◌, ◌≤◌, true, List, [], ◌∷◌, ◌++◌, length, drop, Ok, Err, refl, sym, ap, subst, ◌∙◌, arith, append_assoc, length-drop}
+use Rattle.std.specs.Prelude.{Bool, IsTrue, Option, Result, codes}
 use Rattle.std.proofs.lemmas.List.{append-nil}
-use Rattle.mp4_boxes.specs.format.Box.{Box}
-use Rattle.mp4_present.specs.words.Reading.{IsTopHeader}
+use Rattle.mp4_boxes.specs.format.Box.{Box, Header, header_at}
+use Rattle.mp4_boxes.specs.format.BoxFaults.{header_there}
+use Rattle.mp4_boxes.specs.words.View.{top_header_seen}
+use Rattle.mp4_boxes.specs.declared.fault.Fault.{Fault}
+use Rattle.mp4_boxes.specs.declared.fault.Kind.{Kind}
+use Rattle.mp4_boxes.specs.declared.headers.TopHeader.{TopHeader}
+use Rattle.mp4_boxes.specs.declared.refusal.Refusal.{Refusal}
+use Rattle.mp4_boxes.specs.declared.refusal.Refusal.TheVariants as refusals
+use Rattle.mp4_boxes.proofs.Tiling.{header_is}
+use Rattle.mp4_store.specs.words.Device.{HasRisen}
+use Rattle.mp4_present.specs.words.Reading.{IsTopHeader, RefusesHeader}
 use Rattle.mp4_present.specs.declared.reading.TopBox.{TopBox}
+use Rattle.mp4_present.proofs.TopLevel.{read_there}
 use Rattle.mp4_answers.specs.format.BoxWalk.{top_seen}
-use Rattle.mp4_answers.specs.format.Ways.{IsChildAt, step_text, IsWay, IsWayIn, ends, goes}
+use Rattle.mp4_answers.specs.format.Ways.{HoldsFrom, here, behind, HoldsNone, IsChildAt, step_text, IsWay, IsWayIn, ends, goes}
 
 -- boxes that a loop has passed, before those that are left
 pub record Passed (all left : List Box) : Type 0 where
@@ -44,8 +54,58 @@ more_steps place b child number start middle more text c e w t = (
       ∙ append_assoc start (codes " / ") (step_text child.kind number ++ more),
 )
 
-pub top_goes : (file : List ℕ) (place : ℕ) (top : TopBox) (number : Option ℕ) (b : Box) (more text : List ℕ) → IsTopHeader file top.offset top.header
-    → top.offset ≤ place → place < top.header.end → b ≡ top_seen file top → IsWay place b more → text ≡ step_text top.header.kind.0 number ++ more
+-- ---- the file's own box that holds the place
+
+-- the header in front of those boxes
+first_of : (file : List ℕ) (place at : ℕ) (top : TopBox) → HoldsFrom file place at top → (h : TopHeader) × IsTopHeader file at h
+first_of file place at top (here a t same e from less) = (top.header, e)
+first_of file place at top (behind a h t e le x) = (h, e)
+
+-- no header stands at the end of the file
+no_header : (file : List ℕ) (at : ℕ) → length file ≤ at → (h : TopHeader) → IsTopHeader file at h → ⊥
+no_header file at le h e =
+    let is = header_is true (drop at file) (top_header_seen at h) (read_there file at h e) in
+    absurd (omega (arith, le, length-drop at file, is.length, is.inside, is.fits))
+
+header_one : (r : Result Header Kind) (h g : Header) → r ≡ Ok h → r ≡ Ok g → h ≡ g
+header_one r h g e f = cc
+
+-- two headers that were read at one place end at one place
+ends_same : (file : List ℕ) (at : ℕ) (h g : TopHeader) → IsTopHeader file at h → IsTopHeader file at g → h.end ≡ g.end
+ends_same file at h g e f =
+    let read = read_there file at h e in
+    let is = header_is true (drop at file) (top_header_seen at h) read in
+    let sizes : h.end - at ≡ g.end - at = ap (λ (x : Header). x.size) (header_one (header_at true (drop at file)) (top_header_seen at h) (top_header_seen at g) read (read_there file at g f)) in
+    omega (arith, sizes, is.length, is.inside)
+
+-- behind a box that ends before the place
+pub past_it : (file : List ℕ) (place at : ℕ) (h : TopHeader) (top : TopBox) → IsTopHeader file at h → h.end ≤ place → HoldsFrom file place at top → HoldsFrom file place h.end top
+past_it file place at h top e le (here a t same f from less) = absurd (let ends = ends_same file at h top.header e f in omega (arith, ends, le, less))
+past_it file place at h top e le (behind a g t f le' x) = subst (λ (n : ℕ). HoldsFrom file place n top) (ends_same file at g h f e) x
+
+-- at the end of the file there is none
+pub none_at_end : (file : List ℕ) (place at : ℕ) → length file ≤ at → (top : TopBox) → HoldsFrom file place at top → ⊥
+none_at_end file place at le top x = no_header file at le (first_of file place at top x).0 (first_of file place at top x).1
+
+-- nor where no header can be read
+pub none_unread : (file : List ℕ) (place at : ℕ) (f : Fault) → header_there true (length file - at) (drop at file) (codes "file") at ≡ Err f → (top : TopBox) → HoldsFrom file place at top → ⊥
+none_unread file place at f e top x = let read = (first_of file place at top x).1 in absurd cc
+
+pub top_goes : (file : List ℕ) (place : ℕ) (top : TopBox) (number : Option ℕ) (b : Box) (more text : List ℕ) → HoldsFrom file place 0 top
+    → b ≡ top_seen file top → IsWay place b more → text ≡ step_text top.header.kind.0 number ++ more
     → IsWayIn file place text
-top_goes file place top number b more text h from less same w e =
-    inr (top, h, from, less, number, more, subst (λ (x : Box). IsWay place x more) same w, e)
+top_goes file place top number b more text holds same w e =
+    inr (top, holds, (number, more, subst (λ (x : Box). IsWay place x more) same w, e))
+
+-- ---- reads that fail
+
+-- where a header is not read, a read failed or the place is held by none
+pub none_read : (honest : Bool) (file : List ℕ) (place at : ℕ) (reads reads_after : ℕ) (r : Refusal) → RefusesHeader honest file at reads reads_after r
+    → (IsTrue honest → (top : TopBox) → HoldsFrom file place 0 top → HoldsFrom file place at top)
+    → HasRisen reads reads_after ⊎ (IsTrue honest → HoldsNone file place)
+none_read honest file place at reads reads_after (refusals.Fault f) why on = inr (λ told top x. none_unread file place at f (why told) top (on told top x))
+none_read honest file place at reads reads_after refusals.Memory why on = absurd why
+none_read honest file place at reads reads_after refusals.NoSuchTrack why on = absurd why
+none_read honest file place at reads reads_after refusals.StoreChanged why on = absurd why
+none_read honest file place at reads reads_after refusals.StoreFailed why on = inl why
+none_read honest file place at reads reads_after refusals.WriteFailed why on = absurd why

@@ -22,6 +22,7 @@ pub mod Answers
 pub mod AnswerLaws
 pub mod Text
 pub mod TextLaws
+pub mod SumLines
 pub mod Sums
 pub mod SameAnswers
 pub mod OneTextLaws

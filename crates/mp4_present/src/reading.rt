@@ -2,7 +2,7 @@
 ghost use Rattle.std.specs.Prelude.{◌≡◌, ◌+◌, ◌<◌, ◌≤◌, length, take, IfOk, IfErr, OnOk, IsTrue};
 ghost use Rattle.mp4_boxes.specs.words.View.{box_seen};
 ghost use Rattle.mp4_boxes.specs.format.Bytes.{AreBytes};
-ghost use Rattle.mp4_store.specs.words.Device.{range};
+ghost use Rattle.mp4_store.specs.words.Device.{MayRise, range};
 ghost use Rattle.mp4_present.specs.words.Movies.{IsWhole, Fills};
 ghost use Rattle.mp4_present.specs.words.StoresRead.{OnlyReads, WhereHonest, WhereRead, Refused};
 ghost use Rattle.mp4_present.specs.words.Reading.{IsTopHeader, RefusesHeader, RefusesRead, RefusesFront, RefusesPayload, RefusesRange};
@@ -78,6 +78,7 @@ pub fn read_top_header<S: Store>(store: &mut S, at: u64) -> Result<TopHeader, Re
     ensures within { IfOk result (λ h. (at + h.header ≤ h.end) × (8 ≤ h.header)
         × (h.end ≤ length (S.file store.old))) }
     ensures reads { OnOk result (S.read_failures store.new ≡ S.read_failures store.old) }
+    ensures rise { MayRise (S.read_failures store.old) (S.read_failures store.new) }
     ensures refusal { IfErr result
         (RefusesHeader (S.is_honest store.old) (S.file store.old) at (S.read_failures store.old)
         (S.read_failures store.new)) }

@@ -4,24 +4,30 @@ use Rattle.std.specs.Prelude.{true, false, map, filter, Vec, ◌==◌}
 use Rattle.std.proofs.lemmas.List.{length-map, map-append}
 use Rattle.std.proofs.lemmas.Bool.Decides.{nat_tests}
 use Rattle.std.specs.declared.alloc.Global.{Global}
-use Rattle.mp4norm.specs.format.Lists.{FirstLine, IsLineLength, AreTaken, HasOdd, bytes_of, is_name, is_odd, lines_of, names_of, without_return}
+use Rattle.mp4norm.specs.format.Lists.{FirstLine, FirstPart, IsPartLength, AreTaken, HasOdd, bytes_of, is_name, is_odd, lines_of, names_of, parts_of, without_return}
 
 -- ---- a list is its first line and the lines behind
 
 differs : (a b : ℕ) → (a ≡ b → ⊥) → (a == b) ≡ false
 differs a b e = grind (arith, nat_tests)
 
-lines_first : (list : List ℕ) (n : ℕ) → 0 < length list → IsLineLength list n → lines_of list ≡ take n list ∷ lines_of (drop 1 (drop n list))
-lines_first [] n some h = absurd (omega (arith, some))
-lines_first (b ∷ bs) zero some (le, before, is) = let e : b ≡ 10 = is (omega arith) in rw e refl
-lines_first (b ∷ []) (suc zero) some (le, before, is) = rw (differs b 10 (before 0 (omega arith))) refl
-lines_first (b ∷ []) (suc (suc n)) some (le, before, is) = absurd (omega (arith, le))
-lines_first (b ∷ c ∷ bs) (suc n) some (le, before, is) =
-    let more = lines_first (c ∷ bs) n (omega arith) (omega (arith, le), (λ k lt. before (suc k) (omega (arith, lt))), λ lt. is (omega (arith, lt))) in
-    rw (differs b 10 (before 0 (omega arith)), more) refl
+same : (a : ℕ) → (a == a) ≡ true
+same a = grind (arith, nat_tests)
+
+parts_first : (end : ℕ) (list : List ℕ) (n : ℕ) → 0 < length list → IsPartLength end list n → parts_of end list ≡ take n list ∷ parts_of end (drop 1 (drop n list))
+parts_first end [] n some h = absurd (omega (arith, some))
+parts_first end (b ∷ bs) zero some (le, before, is) = let e : b ≡ end = is (omega arith) in rw (e, same end) refl
+parts_first end (b ∷ []) (suc zero) some (le, before, is) = rw (differs b end (before 0 (omega arith))) refl
+parts_first end (b ∷ []) (suc (suc n)) some (le, before, is) = absurd (omega (arith, le))
+parts_first end (b ∷ c ∷ bs) (suc n) some (le, before, is) =
+    let more = parts_first end (c ∷ bs) n (omega arith) (omega (arith, le), (λ k lt. before (suc k) (omega (arith, lt))), λ lt. is (omega (arith, lt))) in
+    rw (differs b end (before 0 (omega arith)), more) refl
+
+pub part_first : (end : ℕ) (list part rest : List ℕ) → 0 < length list → FirstPart end list part rest → parts_of end list ≡ part ∷ parts_of end rest
+part_first end list part rest some (n, l, e, f) = parts_first end list n some l ∙ rw (e, f) refl
 
 pub names_first : (list line rest : List ℕ) → 0 < length list → FirstLine list line rest → lines_of list ≡ line ∷ lines_of rest
-names_first list line rest some (n, l, e, f) = lines_first list n some l ∙ rw (e, f) refl
+names_first list line rest some first = part_first 10 list line rest some first
 
 -- ---- and its names those before, that of the line, and those behind
 

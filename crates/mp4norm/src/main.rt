@@ -12,6 +12,7 @@ ghost use Rattle.std.specs.Process.{exit_status};
 ghost use Rattle.mp4_answers.specs.format.Verdicts.{verdict_status};
 ghost use Rattle.mp4_answers.specs.words.StoreAndSink.{IsOf};
 
+mod judging;
 mod running;
 mod shell;
 

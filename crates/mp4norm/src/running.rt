@@ -47,6 +47,9 @@ pub(crate) trait Outlet: Sink {
     /// It may fail to open or to close.
     ghost may_fail: { Self → Bool };
 
+    /// It was opened, and neither closed nor given up.
+    ghost is_open: { Self → Bool };
+
     /// It was closed, and what it has is kept.
     ghost is_closed: { Self → Bool };
 
@@ -56,17 +59,20 @@ pub(crate) trait Outlet: Sink {
     /// Opens it, with so many bytes to come, where that is known.
     fn open(&mut self, len: Option<u64>) -> Result<(), Refusal>
         ensures nothing { Self.takes self.old self.new [] }
+        ensures open { OnErr result (is_open self.new ≡ false) }
         ensures closed { is_closed self.new ≡ false }
         ensures refusal { IfErr result (RefusesOutlet (may_fail self.new)) };
 
     /// Keeps for what is said that the answer has more bytes than it may.
     fn note_length(&mut self, most: u64)
         ensures nothing { Self.takes self.old self.new [] }
+        ensures open { is_open self.new ≡ is_open self.old }
         ensures closed { is_closed self.new ≡ is_closed self.old };
 
     /// Closes it, with the whole answer in it.
     fn close(&mut self) -> Result<(), Refusal>
         ensures nothing { Self.takes self.old self.new [] }
+        ensures open { is_open self.new ≡ false }
         ensures closed { MatchResult result (λ _. is_closed self.new ≡ true)
             (λ _. is_closed self.new ≡ false) }
         ensures refusal { IfErr result (RefusesOutlet (may_fail self.new)) };
@@ -74,6 +80,7 @@ pub(crate) trait Outlet: Sink {
     /// Gives it up, since there is no answer.
     fn give_up(&mut self)
         ensures nothing { Self.takes self.old self.new [] }
+        ensures open { is_open self.new ≡ false }
         ensures closed { is_closed self.new ≡ false };
 }
 
@@ -130,6 +137,7 @@ fn measured<S: Kept, L: Ledger, M: Ledger>(
 fn open_for<K: Outlet>(out: &mut K, len: Option<u64>, most: Option<u64>) -> Result<(), Refusal>
     ensures nothing { K.takes out.old out.new [] }
     ensures short { OnOk result (IsNoLonger len most) }
+    ensures open { OnErr result (K.is_open out.new ≡ true → K.is_open out.old ≡ true) }
     ensures closed { OnErr result (K.is_closed out.new ≡ true → K.is_closed out.old ≡ true) }
     ensures refusal { IfErr result (RefusesOpening len most (K.may_fail out.new)) }
 {
@@ -144,8 +152,8 @@ fn open_for<K: Outlet>(out: &mut K, len: Option<u64>, most: Option<u64>) -> Resu
 
 /// Does a job: measures its text, where that is asked for, opens what is written, does the job,
 /// looks whether what was read has changed, and closes what was written: that stays only where the
-/// whole answer is in it. No text is put that has more bytes than `most`, and such a text alone is
-/// refused for its length.
+/// whole answer is in it, and is given up else. No text is put that has more bytes than `most`, and
+/// such a text alone is refused for its length.
 pub(crate) fn run_job<S: Kept, K: Outlet, L: Ledger, M: Ledger>(
     alloc: Global,
     job: Job,
@@ -159,6 +167,7 @@ pub(crate) fn run_job<S: Kept, K: Outlet, L: Ledger, M: Ledger>(
         job.entry store.old store.new out.old out.new result }
     ensures whole { OnOk result (JobPutsWhole job.entry (K.takes out.old out.new)) }
     ensures short { OnOk result (WhereHonest S.Store store.old (FitsIn most job.entry)) }
+    ensures open { K.is_open out.new ≡ true → K.is_open out.old ≡ true }
     ensures closed { MatchResult result (λ _. K.is_closed out.new ≡ true)
         (λ _. K.is_closed out.new ≡ true → K.is_closed out.old ≡ true) }
 {

@@ -1,8 +1,10 @@
 -- How many steps and looks a whole run may take. A step is a row, a `traf`, a run or a sample that
 -- a check or a cursor passes. A look passes none of these: it finds the track of a `traf` by its
 -- ID, or is a turn.
-use Rattle.std.specs.Prelude.{ℕ, ◌+◌, ◌*◌, ◌≤◌, ◌||◌, ◌&&◌, max, not, if◌then◌else◌, List, length}
+use Rattle.std.specs.Prelude.{ℕ, ◌+◌, ◌*◌, ◌≤◌, ◌||◌, ◌&&◌, max, not, if◌then◌else◌, List, length, Result, Ok, Err}
 use Rattle.mp4_boxes.specs.format.Bytes.{sum_of}
+use Rattle.mp4_boxes.specs.declared.refusal.Refusal.{Refusal}
+use Rattle.mp4_boxes.specs.declared.refusal.Refusal.TheVariants as refusals
 use Rattle.mp4_tables.specs.format.Tables.{tables_of}
 use Rattle.mp4_tables.specs.format.TableRows.{table_rows}
 use Rattle.mp4_frag.specs.format.Fragments.{FragmentTree, fragment_of}
@@ -51,6 +53,14 @@ pub record WalksWithin (file : List ℕ) (old new : ℕ) : Type 0 where
 abbrev pub TakesEach : List ℕ → ℕ → ℕ → Type 0
 TakesEach file old new = (p : Presentation) → (d : Denotes file p)
     → old + (sample_total p + row_total d.tree) ≤ new
+
+-- The whole file was looked at before this answer: there is one, or no track has the ID, or a put
+-- failed, since nothing is put before. Any other refusal may come sooner.
+abbrev pub OnJudged : {A : Type 0} → Result A Refusal → Type 0 → Type 0
+OnJudged (Ok done) P = P
+OnJudged (Err refusals.NoSuchTrack) P = P
+OnJudged (Err refusals.WriteFailed) P = P
+OnJudged (Err _) P = Unit {0}
 
 -- and of two files, for each of both
 abbrev pub TakesEachOfBoth : List ℕ → List ℕ → ℕ → ℕ → Type 0

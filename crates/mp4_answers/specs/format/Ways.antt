@@ -2,7 +2,9 @@
 use Rattle.std.specs.Prelude.{◌≡◌, ◌⊎◌, ℕ, ◌+◌, ◌<◌, ◌≤◌, List, [], ◌∷◌, ◌++◌, Option, Some, None, codes, decimal}
 use Rattle.mp4_boxes.specs.format.Box.{Box, Tiles, box_container, counted_container, size}
 use Rattle.mp4_present.specs.words.Reading.{IsTopHeader}
+use Rattle.mp4_boxes.specs.declared.headers.TopHeader.{TopHeader}
 use Rattle.mp4_present.specs.declared.reading.TopBox.{TopBox}
+use Rattle.mp4_store.specs.words.Device.{HasRisen}
 use Rattle.mp4_answers.specs.format.BoxWalk.{top_seen}
 use Rattle.mp4_answers.specs.format.Texts.{type_text, space}
 
@@ -36,10 +38,28 @@ pub data IsWay (place : ℕ) : Box → List ℕ → Type 0 where
       → IsWay place child more
       → IsWay place b (codes " / " ++ (step_text child.kind number ++ more))
 
+-- of the file's own boxes, end to end from this place on, the one that holds the other place
+pub data HoldsFrom (file : List ℕ) (place : ℕ) : ℕ → TopBox → Type 0 where
+  here : (at : ℕ) (top : TopBox) → top.offset ≡ at → IsTopHeader file at top.header
+      → at ≤ place → place < top.header.end → HoldsFrom file place at top
+  behind : (at : ℕ) (h : TopHeader) (top : TopBox) → IsTopHeader file at h → h.end ≤ place
+      → HoldsFrom file place h.end top → HoldsFrom file place at top
+
+-- none does, as far as headers can be read
+abbrev pub HoldsNone : List ℕ → ℕ → Type 0
+HoldsNone file place = (top : TopBox) → HoldsFrom file place 0 top → ⊥
+
 -- the same from the file's own box on
+abbrev pub IsWayFrom : List ℕ → ℕ → TopBox → List ℕ → Type 0
+IsWayFrom file place top text = (number : Option ℕ) × (more : List ℕ)
+    × IsWay place (top_seen file top) more × (text ≡ step_text top.header.kind.0 number ++ more)
+
+-- from the one that holds the place; no way, where none does
 abbrev pub IsWayIn : List ℕ → ℕ → List ℕ → Type 0
-IsWayIn file place text =
-    (text ≡ []) ⊎ ((top : TopBox) × IsTopHeader file top.offset top.header × (top.offset ≤ place)
-    × (place < top.header.end)
-    × (number : Option ℕ) × (more : List ℕ) × IsWay place (top_seen file top) more
-    × (text ≡ step_text top.header.kind.0 number ++ more))
+IsWayIn file place text = ((text ≡ []) × HoldsNone file place)
+    ⊎ ((top : TopBox) × HoldsFrom file place 0 top × IsWayFrom file place top text)
+
+-- the same, or no way, since a read failed: by how many had failed before, and have after it
+abbrev pub IsWayRead : ℕ → ℕ → List ℕ → ℕ → List ℕ → Type 0
+IsWayRead reads reads_after file place text =
+    ((text ≡ []) × HasRisen reads reads_after) ⊎ IsWayIn file place text

@@ -1,11 +1,12 @@
 //! The way to a place of a file: the boxes in which it lies, from the file's own box on.
-ghost use Rattle.std.specs.Prelude.{◌≡◌, ◌<◌, ◌≤◌, ◌++◌, OnOk, IfSome, IsTrue, codes};
+ghost use Rattle.std.specs.Prelude.{◌≡◌, ◌⊎◌, ◌++◌, None, OnOk, IfSome, IsTrue, codes};
 ghost use Rattle.mp4_boxes.specs.words.View.{box_seen};
-ghost use Rattle.mp4_present.specs.words.Reading.{IsTopHeader};
+ghost use Rattle.mp4_present.specs.words.Reading.{RefusesRead};
+ghost use Rattle.mp4_store.specs.words.Device.{HasRisen, MayRise};
 ghost use Rattle.mp4_answers.specs.format.BoxWalk.{IsWithin, top_seen};
-ghost use Rattle.mp4_present.specs.words.StoresRead.{WhereHonest, WhereRead};
+ghost use Rattle.mp4_present.specs.words.StoresRead.{Refused, WhereHonest, WhereRead};
 ghost use Rattle.mp4_boxes.specs.format.Box.{Tiles, box_container, counted_container};
-ghost use Rattle.mp4_answers.specs.format.Ways.{HoldsPlace, IsHeld, step_text, IsWayIn};
+ghost use Rattle.mp4_answers.specs.format.Ways.{HoldsFrom, HoldsNone, HoldsPlace, IsHeld, IsWayRead, step_text};
 ghost use Rattle.mp4_answers.specs.format.Run.{KeepsFile};
 ghost use Rattle.mp4_answers.specs.words.AddedWays.{AddsWay};
 
@@ -140,15 +141,18 @@ fn push_way(text: &mut Vec<u8>, view: BoxView, rule: Rule, place: u64) -> Result
 fn top_at<S: Store>(store: &mut S, place: u64) -> Option<TopBox>
     ensures store { KeepsFile S.Store store.old store.new }
     ensures within { IfSome result (IsWithin (S.file store.old)) }
-    ensures header { IfSome result (λ found. WhereHonest S.Store store.old
-        (λ file. IsTopHeader file found.offset found.header)) }
-    ensures holds { IfSome result (λ found. (found.offset ≤ place)
-        × (place < found.header.end)) }
+    ensures holds { IfSome result (λ found. WhereHonest S.Store store.old
+        (λ file. HoldsFrom file place 0 found)) }
+    ensures reads { IfSome result (λ _. S.read_failures store.new ≡ S.read_failures store.old) }
+    ensures none { result ≡ None → HasRisen (S.read_failures store.old) (S.read_failures store.new)
+        ⊎ WhereHonest S.Store store.old (λ file. HoldsNone file place) }
 {
     let len = store.len();
     let mut at = 0;
     while at < len {
-        let header = read_top_header(store, at).ok()?;
+        let Ok(header) = read_top_header(store, at) else {
+            return None;
+        };
         if place < header.end {
             return Some(TopBox { offset: at, header });
         }
@@ -161,6 +165,7 @@ fn top_at<S: Store>(store: &mut S, place: u64) -> Option<TopBox>
 /// of each `moof`. The header of the one at this place may be cut short.
 pub fn number_at_top<S: Store>(store: &mut S, kind: FourCc, place: u64) -> Option<u64>
     ensures store { KeepsFile S.Store store.old store.new }
+    ensures rise { MayRise (S.read_failures store.old) (S.read_failures store.new) }
 {
     let len = store.len();
     let mut at = 0;
@@ -197,6 +202,7 @@ fn push_top_way<S: Store>(
     ensures store { KeepsFile S.Store store.old store.new }
     ensures way { OnOk result (WhereHonest S.Store store.old
         (λ file. AddsWay place (top_seen file top) text.old.items text.new.items)) }
+    ensures refusal { Refused S.Store store.old store.new result RefusesRead }
 {
     let header = top.header;
     if top.offset == place || rule_inside(Rule::File, header.kind).is_none() {
@@ -212,7 +218,9 @@ fn push_top_way<S: Store>(
 /// The way to a place of the file, as far as its boxes can be read.
 pub fn way_to<S: Store>(alloc: Global, store: &mut S, place: u64) -> Result<Way, Refusal>
     ensures store { KeepsFile S.Store store.old store.new }
-    ensures way { WhereRead S.Store store.old result (λ file w. IsWayIn file place w.text.items) }
+    ensures way { WhereRead S.Store store.old result (λ file w. IsWayRead
+        (S.read_failures store.old) (S.read_failures store.new) file place w.text.items) }
+    ensures refusal { Refused S.Store store.old store.new result RefusesRead }
 {
     let mut text = Vec::new(alloc);
     let Some(top) = top_at(store, place) else {

@@ -1,6 +1,5 @@
 //! The bytes of a track's samples.
-ghost use Rattle.std.specs.Prelude.{OnOk};
-ghost use Rattle.mp4_answers.specs.format.Steps.{WalksWithin, FindsWithin, TakesEach};
+ghost use Rattle.mp4_answers.specs.format.Steps.{WalksWithin, FindsWithin, TakesEach, OnJudged};
 ghost use Rattle.mp4_answers.specs.format.Answers.{Extracted};
 ghost use Rattle.mp4_answers.specs.format.Run.{KeepsFile, run_of};
 ghost use Rattle.mp4_present.specs.words.StoresRead.{WhereHonest};
@@ -29,7 +28,7 @@ pub fn extract_counted<S: Store, K: Sink, L: Ledger, M: Ledger>(
         result }
     ensures work { WhereHonest S.Store store.old
         (λ file. WalksWithin file steps.old.passed steps.new.passed) }
-    ensures least { OnOk result (WhereHonest S.Store store.old (λ file.
+    ensures least { OnJudged result (WhereHonest S.Store store.old (λ file.
         TakesEach file steps.old.passed steps.new.passed)) }
     ensures looks { WhereHonest S.Store store.old
         (λ file. FindsWithin file steps.old.looks steps.new.looks) }

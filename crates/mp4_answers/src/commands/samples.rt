@@ -5,7 +5,7 @@ ghost use Rattle.mp4_present.specs.words.Movies.{IsWalkOf};
 ghost use Rattle.mp4_present.specs.words.Carried.{RefusesCarry};
 ghost use Rattle.mp4_present.specs.words.TrackWalks.{WhereMayTake};
 ghost use Rattle.mp4_answers.specs.format.Texts.{sample_at_lines};
-ghost use Rattle.mp4_answers.specs.format.Steps.{WalksWithin, FindsWithin, TakesEach};
+ghost use Rattle.mp4_answers.specs.format.Steps.{WalksWithin, FindsWithin, TakesEach, OnJudged};
 ghost use Rattle.mp4_answers.specs.format.Answers.{Listed};
 ghost use Rattle.mp4_answers.specs.format.Run.{KeepsFile, run_of};
 ghost use Rattle.mp4_present.specs.words.HandCarried.{StaysBefore, OfHand, HandWork, RefusedByBoth};
@@ -110,7 +110,7 @@ pub fn samples_counted<S: Store, K: Sink, L: Ledger, M: Ledger>(
         result }
     ensures work { WhereHonest S.Store store.old
         (λ file. WalksWithin file steps.old.passed steps.new.passed) }
-    ensures least { OnOk result (WhereHonest S.Store store.old (λ file.
+    ensures least { OnJudged result (WhereHonest S.Store store.old (λ file.
         TakesEach file steps.old.passed steps.new.passed)) }
     ensures looks { WhereHonest S.Store store.old
         (λ file. FindsWithin file steps.old.looks steps.new.looks) }

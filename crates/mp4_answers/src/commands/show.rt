@@ -1,7 +1,7 @@
 //! A movie and its tracks, shown.
 ghost use Rattle.std.specs.Prelude.{string_bytes, OnOk};
 ghost use Rattle.mp4_present.specs.words.Opening.{RefusesOpen};
-ghost use Rattle.mp4_answers.specs.format.Steps.{TakesEach, WalksWithin, FindsWithin};
+ghost use Rattle.mp4_answers.specs.format.Steps.{TakesEach, WalksWithin, FindsWithin, OnJudged};
 ghost use Rattle.mp4_answers.specs.format.Answers.{Shown};
 ghost use Rattle.mp4_answers.specs.format.FileTexts.{ShowsLine};
 ghost use Rattle.mp4_answers.specs.format.Run.{KeepsFile, run_of};
@@ -52,7 +52,7 @@ pub fn show_counted<S: Store, K: Sink, L: Ledger, M: Ledger>(
     ensures answer { Shown (run_of S.Store store.old store.new K.Sink sink.old sink.new) result }
     ensures work { WhereHonest S.Store store.old
         (λ file. WalksWithin file steps.old.passed steps.new.passed) }
-    ensures least { OnOk result (WhereHonest S.Store store.old (λ file.
+    ensures least { OnJudged result (WhereHonest S.Store store.old (λ file.
         TakesEach file steps.old.passed steps.new.passed)) }
     ensures looks { WhereHonest S.Store store.old
         (λ file. FindsWithin file steps.old.looks steps.new.looks) }

@@ -1,9 +1,12 @@
 //! Words in lists, and bytes that two hexadecimal digits spell.
-ghost use Rattle.std.specs.Prelude.{◌<◌, length, option_map, IfSome};
+ghost use Rattle.std.specs.Prelude.{ℕ, ◌≡◌, ◌<◌, length, option_map, IfSome, Some};
+ghost use Rattle.mp4_answers.specs.format.SumLines.{Spells};
 ghost use Rattle.mp4_answers.specs.format.WordLists.{IsCut};
 
 /// The byte that two hexadecimal digits spell.
-pub fn byte_of(high: u8, low: u8) -> Option<u8> {
+pub fn byte_of(high: u8, low: u8) -> Option<u8>
+    ensures { (b : ℕ) → Spells high low b → result ≡ Some b }
+{
     let high = char::from(high).to_digit(16)?;
     let low = char::from(low).to_digit(16)?;
     Some((16 * high + low) as u8)

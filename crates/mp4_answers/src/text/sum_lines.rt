@@ -1,4 +1,9 @@
 //! Lines of sums, as `sha256sum` of the GNU coreutils writes them, and what a list of them says.
+ghost use Rattle.std.specs.Prelude.{◌≡◌, ◌≤◌, ℕ, List, ◌∷◌, ◌++◌, length, true, false, Some, IfOk, IfSome, IsSomeAnd, OnOk};
+ghost use Rattle.mp4_boxes.specs.format.Bytes.{AreBytes};
+ghost use Rattle.mp4_answers.specs.format.SumLines.{escape_said, escaped_byte, escaped_name, header_text, is_escaped, name_text, sum_of_name, sum_text, IsName};
+ghost use Rattle.mp4_answers.specs.format.Texts.{hex_text};
+
 use crate::text::cutting::{byte_of, cut};
 use crate::text::digits::{DIGEST, hex_digit};
 use crate::text::json_text::name_json;
@@ -15,17 +20,13 @@ const HEADER: &[u8] = b"# mp4norm sum: normal form ";
 /// The number of the normal form.
 const FORM: &[u8] = b"1";
 
-/// What stands before the words of what is left out.
-const WITHOUT: &[u8] = b", without";
-
-/// What stands there where nothing is.
-const NOTHING: &[u8] = b" nothing";
-
 /// How many digits a digest has.
 const DIGITS: usize = 2 * DIGEST;
 
 // Adds the digits of a digest.
-fn push_digest(text: &mut Vec<u8>, digest: &[u8; DIGEST]) -> Result<(), AllocError> {
+fn push_digest(text: &mut Vec<u8>, digest: &[u8; DIGEST]) -> Result<(), AllocError>
+    ensures { OnOk result (text.new.items ≡ text.old.items ++ hex_text digest.now) }
+{
     for byte in digest {
         text.push(hex_digit(*byte >> 4))?;
         text.push(hex_digit(*byte & 15))?;
@@ -33,29 +34,38 @@ fn push_digest(text: &mut Vec<u8>, digest: &[u8; DIGEST]) -> Result<(), AllocErr
     Ok(())
 }
 
-/// Adds the line that says of which normal form, and of what is left of files, the sums behind it
-/// are.
-pub fn push_header(text: &mut Vec<u8>, leaving: Without) -> Result<(), AllocError> {
-    text.extend_from_slice(HEADER)?;
-    text.extend_from_slice(FORM)?;
-    text.extend_from_slice(WITHOUT)?;
-    if leaving == Without::NOTHING {
-        text.extend_from_slice(NOTHING)?;
+/// The line that says of which normal form, and of what is left of files, the sums behind it are.
+pub fn header_line(alloc: Global, leaving: Without) -> Result<Vec<u8>, AllocError>
+    ensures { IfOk result (λ line. line.items ≡ header_text leaving) }
+{
+    let mut words = Vec::new(alloc);
+    say_words(&mut words, leaving)?;
+    let mut line = Vec::new(alloc);
+    line.extend_from_slice(HEADER)?;
+    line.extend_from_slice(FORM)?;
+    line.extend_from_slice(b", without")?;
+    if words.is_empty() {
+        line.extend_from_slice(b" nothing")?;
     } else {
-        say_words(text, leaving)?;
+        line.extend_from_slice(words.as_slice())?;
     }
-    text.extend_from_slice(b"\n")
+    line.extend_from_slice(b"\n")?;
+    Ok(line)
 }
 
 // Whether a name has a byte that a line of its own can't have.
-fn is_escaped(name: &[u8]) -> bool {
+fn is_escaped(name: &[u8]) -> bool
+    ensures { result ≡ is_escaped name.now }
+{
     name.iter()
         .any(|byte| matches!(*byte, b'\n' | b'\r' | b'\\'))
 }
 
 // Adds a name as it stands in a line that a line feed ends: behind a backslash, which stands at the
 // front of the line, `\n`, `\r` and `\\` are these bytes.
-fn push_escaped(text: &mut Vec<u8>, name: &[u8]) -> Result<(), AllocError> {
+fn push_escaped(text: &mut Vec<u8>, name: &[u8]) -> Result<(), AllocError>
+    ensures { OnOk result (text.new.items ≡ text.old.items ++ escaped_name name.now) }
+{
     for byte in name {
         match *byte {
             b'\n' => text.extend_from_slice(b"\\n")?,
@@ -69,12 +79,39 @@ fn push_escaped(text: &mut Vec<u8>, name: &[u8]) -> Result<(), AllocError> {
 
 /// Adds a name at the front of a line that a line feed ends, behind a backslash where it is
 /// escaped.
-pub fn push_name(text: &mut Vec<u8>, name: &[u8]) -> Result<(), AllocError> {
+pub fn push_name(text: &mut Vec<u8>, name: &[u8]) -> Result<(), AllocError>
+    ensures { OnOk result (text.new.items ≡ text.old.items ++ name_text name.now) }
+{
     if !is_escaped(name) {
         return text.extend_from_slice(name);
     }
     text.push(b'\\')?;
     push_escaped(text, name)
+}
+
+// Adds the line of a file of this name.
+fn push_sum(
+    line: &mut Vec<u8>,
+    name: &[u8],
+    digest: &[u8; DIGEST],
+    end: u8,
+) -> Result<(), AllocError>
+    ensures { OnOk result
+        (line.new.items ≡ line.old.items ++ sum_of_name name.now digest.now end) }
+{
+    let is_escaped = end != 0 && is_escaped(name);
+    if is_escaped {
+        line.push(b'\\')?;
+    }
+    push_digest(line, digest)?;
+    line.extend_from_slice(b"  ")?;
+    if is_escaped {
+        push_escaped(line, name)?;
+    } else {
+        line.extend_from_slice(name)?;
+    }
+    line.push(end)?;
+    Ok(())
 }
 
 /// The line of a file's sum, ended by this byte; where that is a line feed, with the name escaped.
@@ -83,22 +120,13 @@ pub fn sum_line(
     name: &[u8],
     digest: &[u8; DIGEST],
     end: u8,
-) -> Result<Vec<u8>, AllocError> {
+) -> Result<Vec<u8>, AllocError>
+    ensures { IfOk result (λ line. line.items ≡ sum_text name.now digest.now end) }
+{
     let mut plain = Vec::new(alloc);
     push_plain(&mut plain, name)?;
     let mut line = Vec::new(alloc);
-    let is_escaped = end != 0 && is_escaped(plain.as_slice());
-    if is_escaped {
-        line.push(b'\\')?;
-    }
-    push_digest(&mut line, digest)?;
-    line.extend_from_slice(b"  ")?;
-    if is_escaped {
-        push_escaped(&mut line, plain.as_slice())?;
-    } else {
-        line.extend_from_slice(plain.as_slice())?;
-    }
-    line.push(end)?;
+    push_sum(&mut line, plain.as_slice(), digest, end)?;
     Ok(line)
 }
 
@@ -133,7 +161,10 @@ pub enum ListedSum {
 }
 
 // The digest that digits spell.
-fn digest_of(digits: &[u8]) -> Option<[u8; DIGEST]> {
+fn digest_of(digits: &[u8]) -> Option<[u8; DIGEST]>
+    ensures { (digest : List ℕ) → AreBytes digest → length digest ≡ 32
+        → digits.now ≡ hex_text digest → result ≡ Some digest }
+{
     if digits.len() != DIGITS {
         return None;
     }
@@ -144,25 +175,49 @@ fn digest_of(digits: &[u8]) -> Option<[u8; DIGEST]> {
     Some(digest)
 }
 
+// The byte that an escape says; none where there is no such escape.
+fn escape_of(byte: u8) -> Option<u8>
+    ensures { result ≡ escape_said byte }
+{
+    match byte {
+        b'n' => Some(b'\n'),
+        b'r' => Some(b'\r'),
+        b'\\' => Some(b'\\'),
+        _ => None,
+    }
+}
+
+// The first byte of a name that is spelled so, and what is left behind it; none where an escape is
+// none.
+fn byte_at(first: u8, rest: &[u8], is_escaped: bool) -> Option<(u8, &[u8])>
+    ensures plain { is_escaped ≡ false → IsSomeAnd result
+        (λ said. (said.0 ≡ first) × (said.1.now ≡ rest.now)) }
+    ensures escaped { (b : ℕ) (more : List ℕ) → is_escaped ≡ true
+        → first ∷ rest.now ≡ escaped_byte b ++ more
+        → IsSomeAnd result (λ said. (said.0 ≡ b) × (said.1.now ≡ more)) }
+    ensures less { IfSome result (λ said. length said.1.now ≤ length rest.now) }
+{
+    if !is_escaped || first != b'\\' {
+        return Some((first, rest));
+    }
+    let (byte, more) = rest.split_first()?;
+    Some((escape_of(*byte)?, more))
+}
+
 // The name that stands in a line, escaped or not; none where an escape is none.
-fn name_of(alloc: Global, spelled: &[u8], is_escaped: bool) -> Result<Option<Vec<u8>>, AllocError> {
+fn name_of(alloc: Global, spelled: &[u8], is_escaped: bool) -> Result<Option<Vec<u8>>, AllocError>
+    ensures plain { is_escaped ≡ false → IfOk result (IsName spelled.now) }
+    ensures escaped { (name : List ℕ) → is_escaped ≡ true → spelled.now ≡ escaped_name name
+        → IfOk result (IsName name) }
+{
     let mut name = Vec::new(alloc);
     let mut left = spelled;
     while let Some((first, rest)) = left.split_first() {
-        left = rest;
-        match (*first, rest.split_first()) {
-            (b'\\', Some((escaped, more))) if is_escaped => {
-                left = more;
-                name.push(match *escaped {
-                    b'n' => b'\n',
-                    b'r' => b'\r',
-                    b'\\' => b'\\',
-                    _ => return Ok(None),
-                })?;
-            }
-            (b'\\', None) if is_escaped => return Ok(None),
-            (byte, _) => name.push(byte)?,
-        }
+        let Some((byte, more)) = byte_at(*first, rest, is_escaped) else {
+            return Ok(None);
+        };
+        name.push(byte)?;
+        left = more;
     }
     Ok(Some(name))
 }

@@ -3,16 +3,23 @@ use Rattle.std.specs.Prelude.{◌≡◌, ◌⊎◌, ℕ, ◌+◌, ◌-◌, ◌<�
 use Rattle.std.specs.List.{list_any}
 use Rattle.std.specs.declared.alloc.Global.{Global}
 
--- this is the place of the list's first line feed, or its length where it has none
-abbrev pub IsLineLength : List ℕ → ℕ → Type 0
-IsLineLength list n =
-    (n ≤ length list) × ((k : ℕ) → k < n → slice_index list k ≡ 10 → ⊥)
-    × (n < length list → slice_index list n ≡ 10)
+-- this is the place of the list's first byte of this value, or its length where it has none
+abbrev pub IsPartLength : ℕ → List ℕ → ℕ → Type 0
+IsPartLength end list n =
+    (n ≤ length list) × ((k : ℕ) → k < n → slice_index list k ≡ end → ⊥)
+    × (n < length list → slice_index list n ≡ end)
 
--- the first line of a list, and what is left behind its line feed
-abbrev pub FirstLine : List ℕ → List ℕ → List ℕ → Type 0
-FirstLine list line rest = (n : ℕ) × IsLineLength list n × (line ≡ take n list)
+-- the first part of a list whose parts end with such a byte, and what is left behind that
+abbrev pub FirstPart : ℕ → List ℕ → List ℕ → List ℕ → Type 0
+FirstPart end list part rest = (n : ℕ) × IsPartLength end list n × (part ≡ take n list)
     × (rest ≡ drop 1 (drop n list))
+
+-- lines end with a line feed
+abbrev pub IsLineLength : List ℕ → ℕ → Type 0
+IsLineLength list n = IsPartLength 10 list n
+
+abbrev pub FirstLine : List ℕ → List ℕ → List ℕ → Type 0
+FirstLine list line rest = FirstPart 10 list line rest
 
 -- a line without a carriage return at its end
 abbrev pub without_return : List ℕ → List ℕ
@@ -26,15 +33,23 @@ is_name (byte ∷ line) = not (byte == 35)
 
 -- ---- its names
 
--- the lines of a list; what stands behind its last line feed is one where it isn't empty
-abbrev pub put_first : ℕ → List (List ℕ) → List (List ℕ)
-put_first byte [] = (byte ∷ []) ∷ []
-put_first byte (line ∷ lines) = (byte ∷ line) ∷ lines
+-- the parts of a list; what stands behind its last such byte is one where it isn't empty
+abbrev pub put_before : ℕ → List (List ℕ) → List (List ℕ)
+put_before byte [] = (byte ∷ []) ∷ []
+put_before byte (part ∷ parts) = (byte ∷ part) ∷ parts
 
+abbrev pub parts_of : ℕ → List ℕ → List (List ℕ)
+parts_of end [] = []
+parts_of end (byte ∷ bytes) =
+    if byte == end then [] ∷ parts_of end bytes else put_before byte (parts_of end bytes)
+
+-- its lines
 abbrev pub lines_of : List ℕ → List (List ℕ)
-lines_of [] = []
-lines_of (byte ∷ bytes) =
-    if byte == 10 then [] ∷ lines_of bytes else put_first byte (lines_of bytes)
+lines_of list = parts_of 10 list
+
+-- names that are ended by zero bytes each
+abbrev pub ended_names : List ℕ → List (List ℕ)
+ended_names list = parts_of 0 list
 
 -- those of its lines that are names, each without a carriage return at its end
 abbrev pub names_of : List ℕ → List (List ℕ)

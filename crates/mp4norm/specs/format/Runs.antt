@@ -57,8 +57,8 @@ RefusesOpening len most may_fail e =
 
 -- the answer of a job that was performed stands, or what is read has changed, or what is written
 -- can't be closed
-abbrev pub IsClosed : {A : Type 0} → Bool → Bool → Result A Refusal → Result A Refusal → Type 0
-IsClosed may_change may_fail answer result = IsSettled may_change answer result
+abbrev pub StandsClosed : {A : Type 0} → Bool → Bool → Result A Refusal → Result A Refusal → Type 0
+StandsClosed may_change may_fail answer result = IsSettled may_change answer result
     ⊎ OnOk answer (IsErrAnd result (RefusesOutlet may_fail))
 
 -- it was performed, between the opening and the closing of what is written
@@ -67,7 +67,7 @@ abbrev pub WasPerformed : {X Y A : Type 0} → Store X → Sink Y → Bool → B
 WasPerformed {Y = Y} {A = A} S K may_change may_fail job store after out ended result =
     (opened : Y) × (whole : Y) × (answer : Result A Refusal) × K.takes out opened []
     × Performed job (run_of S store after K opened whole) answer
-    × K.takes whole ended [] × IsClosed may_change may_fail answer result
+    × K.takes whole ended [] × StandsClosed may_change may_fail answer result
 
 -- it is refused before anything is put: the length of its text can't be told, for the reason for
 -- which the job is refused

@@ -1,10 +1,22 @@
 -- What was put to what the command names, which is opened meanwhile.
-use Rattle.std.specs.Prelude.{◌≡◌, ℕ, List, [], ◌++◌, Option, None, Some}
+use Rattle.std.specs.Prelude.{◌≡◌, ℕ, List, [], ◌++◌, Bool, true, false, Option, None, Some}
 use Rattle.std.proofs.Common.{refl, subst, sym}
 use Rattle.std.specs.Io.KnownBytes.{Appends}
 use Rattle.std.proofs.KnownBytes.{Appends-nil, Appends-trans}
 use Rattle.mp4_store.specs.declared.io_sink.IoSink.{IoSink}
+use Rattle.mp4norm.specs.declared.shell.output.Stage.{Stage}
+use Rattle.mp4norm.specs.declared.shell.output.Stage.TheVariants as stages
 use Rattle.mp4norm.specs.declared.shell.reports.Heard.{Heard}
+
+-- it was opened, and neither closed nor given up
+abbrev pub stands_open : Stage → Bool
+stands_open stages.Open = true
+stands_open _ = false
+
+-- it was closed, with the whole answer in it
+abbrev pub stands_closed : Stage → Bool
+stands_closed stages.Closed = true
+stands_closed _ = false
 
 -- nothing is in what was just opened
 abbrev pub IsFresh : Option (List ℕ) → Type 0

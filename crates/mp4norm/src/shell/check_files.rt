@@ -1,5 +1,6 @@
 //! Many files, judged or summed one after the other.
-use crate::running::{Found, find, found_status, settled};
+use crate::judging::{Judge, judge_all};
+use crate::running::{Found, find, settled};
 use crate::shell::action::{Finding, Input, Telling};
 use crate::shell::file_names::{shown, word_of};
 use crate::shell::gathered::Gathered;
@@ -11,8 +12,8 @@ use mp4_answers::text::digits::DIGEST;
 use mp4_answers::text::fault_text::fault_line;
 use mp4_answers::text::json_text::name_json;
 use mp4_answers::text::plain_names::push_plain;
-use mp4_answers::text::sum_lines::{push_header, sum_line, sum_object};
-use mp4_answers::text::verdicts::{first_name, put_verdict};
+use mp4_answers::text::sum_lines::{header_line, sum_line, sum_object};
+use mp4_answers::text::verdicts::put_verdict;
 use mp4_boxes::{Refusal, Steps};
 use mp4_store::{IoSink, Sink};
 use std::alloc::{AllocError, Global};
@@ -201,57 +202,66 @@ fn put_named<K: Sink>(
     }
 }
 
-// Judges the files of a list, and gives the greatest status.
-fn check_list<K: Sink, L: Ledger, M: Ledger>(
-    rt: &HostRuntime,
-    list: &[u8],
+// Judges files one after the other, and puts what is found of each.
+#[derive(Drop)]
+struct FileJudge<'a, 'c, K, L: Ledger, M: Ledger> {
+    rt: &'a HostRuntime,
     manner: Manner,
-    lines: &mut Gathered<K>,
-    steps: &mut Steps<L, M>,
-) -> Result<u8, Refusal> {
-    let mut worst = 0;
-    let mut left = list;
-    while !left.is_empty() {
-        let (name, rest) = first_name(left);
-        let answer = answer_of_listed(rt, name, manner, steps);
-        let is_file = true;
-        let named = GivenName { name, is_file };
-        put_named(rt, named, &answer, manner, lines)?;
-        worst = found_status(&answer).max(worst);
-        left = rest;
-    }
-    Ok(worst)
+    lines: Gathered<'a, K>,
+    steps: &'c mut Steps<L, M>,
 }
 
-// Judges these files and then those of a list, and puts what is found of each.
-fn put_each<K: Sink, L: Ledger, M: Ledger>(
-    rt: &HostRuntime,
-    files: &[Input],
-    list: &[u8],
+impl<'a, 'c, K: Sink, L: Ledger, M: Ledger> Judge for FileJudge<'a, 'c, K, L, M> {
+    ghost use Rattle.std.specs.Prelude.{Unit};
+
+    ghost finds_word = { λ from to input found. Unit {0} };
+
+    ghost finds_name = { λ from to name found. Unit {0} };
+
+    fn judge_word(&mut self, input: Input) -> Result<Found, Refusal> {
+        let found = answer_of(self.rt, input, self.manner, self.steps);
+        let named = GivenName {
+            name: input.name().as_bytes(),
+            is_file: matches!(input, Input::File { .. }),
+        };
+        put_named(self.rt, named, &found, self.manner, &mut self.lines)?;
+        Ok(found)
+    }
+
+    fn judge_name(&mut self, name: &[u8]) -> Result<Found, Refusal> {
+        let found = answer_of_listed(self.rt, name, self.manner, self.steps);
+        let is_file = true;
+        let named = GivenName { name, is_file };
+        put_named(self.rt, named, &found, self.manner, &mut self.lines)?;
+        Ok(found)
+    }
+}
+
+// Puts what stands before the sums of files, where that is asked for.
+fn put_header<K: Sink>(
+    alloc: Global,
     manner: Manner,
     lines: &mut Gathered<K>,
-    steps: &mut Steps<L, M>,
-) -> Result<u8, Refusal> {
+) -> Result<(), Refusal> {
     if let Finding::Sum {
         leaving,
         header: true,
     } = manner.finding
     {
-        let mut header = Vec::new(rt.alloc());
-        push_header(&mut header, leaving)?;
+        let header = header_line(alloc, leaving)?;
         lines.add(header.as_slice())?;
     }
-    let mut worst = 0;
-    for input in files {
-        let answer = answer_of(rt, *input, manner, steps);
-        let named = GivenName {
-            name: input.name().as_bytes(),
-            is_file: matches!(input, Input::File { .. }),
-        };
-        put_named(rt, named, &answer, manner, lines)?;
-        worst = found_status(&answer).max(worst);
-    }
-    Ok(worst.max(check_list(rt, list, manner, lines, steps)?))
+    Ok(())
+}
+
+// Judges these files and then those of a list, and puts what is found of each.
+fn put_each<K: Sink, L: Ledger, M: Ledger>(
+    judge: &mut FileJudge<K, L, M>,
+    files: &[Input],
+    list: &[u8],
+) -> Result<u8, Refusal> {
+    put_header(judge.rt.alloc(), judge.manner, &mut judge.lines)?;
+    judge_all(files, list, judge)
 }
 
 // The same, to standard output. Lines of sums are written together.
@@ -266,9 +276,15 @@ fn check_each<L: Ledger, M: Ledger>(
     let out = &mut rt.stdout();
     let gathers = matches!(manner.finding, Finding::Sum { .. }) && !manner.telling.explain;
     let sink = IoSink::new(Noted { out, report });
-    let mut lines = Gathered::new(rt, sink, gathers)?;
-    let worst = put_each(rt, files, list, manner, &mut lines, steps);
-    let put = lines.flush();
+    let lines = Gathered::new(rt, sink, gathers)?;
+    let mut judge = FileJudge {
+        rt,
+        manner,
+        lines,
+        steps,
+    };
+    let worst = put_each(&mut judge, files, list);
+    let put = judge.lines.flush();
     let worst = worst?;
     put?;
     Ok(worst)

@@ -35,6 +35,16 @@ impl Write for Out {
     }
 }
 
+/// How far what is written has come: its opening is due, it is open, it was closed with the whole
+/// answer in it, or it was given up.
+#[derive(Clone, Copy, Debug, PartialEq, Eq)]
+enum Stage {
+    Due,
+    Open,
+    Closed,
+    GivenUp,
+}
+
 /// What the command names, which is opened only once it is known that the answer isn't too long.
 #[derive(Drop)]
 pub(crate) struct Outgoing<'a, 'r, W: Write> {
@@ -44,7 +54,7 @@ pub(crate) struct Outgoing<'a, 'r, W: Write> {
     // Where it is open.
     sink: Option<IoSink<Heard<W>>>,
     failed: u64,
-    is_closed: bool,
+    stage: Stage,
 }
 
 impl<'a, 'r> Outgoing<'a, 'r, Out> {
@@ -60,13 +70,13 @@ impl<'a, 'r> Outgoing<'a, 'r, Out> {
             report,
             sink: None,
             failed: 0,
-            is_closed: false,
+            stage: Stage::Due,
         }
     }
 }
 
 // Makes what is to be written.
-fn made(rt: &HostRuntime, target: Target, report: &mut Report) -> Result<Out, Refusal> {
+fn make_out(rt: &HostRuntime, target: Target, report: &mut Report) -> Result<Out, Refusal> {
     match target {
         Target::Standard => Ok(Out::Standard(rt.stdout())),
         Target::New { name } => {
@@ -131,10 +141,13 @@ impl<'a, 'r, W: Write> Sink for Outgoing<'a, 'r, W> {
 
 impl<'a, 'r> Outlet for Outgoing<'a, 'r, Out> {
     ghost use Rattle.std.specs.Prelude.{true};
+    ghost use Rattle.mp4norm.specs.words.Outgoing.{stands_closed, stands_open};
 
     ghost may_fail = { λ s. true };
 
-    ghost is_closed = { λ s. s.is_closed };
+    ghost is_open = { λ s. stands_open s.stage };
+
+    ghost is_closed = { λ s. stands_closed s.stage };
 
     fn asks_length(&self) -> bool {
         self.report.counts()
@@ -144,9 +157,10 @@ impl<'a, 'r> Outlet for Outgoing<'a, 'r, Out> {
         if let Some(len) = len {
             self.report.begin(self.rt, len);
         }
-        self.is_closed = false;
-        let out = made(self.rt, self.target, self.report).map_err(of_outlet)?;
+        self.stage = Stage::Due;
+        let out = make_out(self.rt, self.target, self.report).map_err(of_outlet)?;
         self.sink = Some(IoSink::new(Heard { out, error: None }));
+        self.stage = Stage::Open;
         Ok(())
     }
 
@@ -155,19 +169,19 @@ impl<'a, 'r> Outlet for Outgoing<'a, 'r, Out> {
     }
 
     fn close(&mut self) -> Result<(), Refusal> {
-        self.is_closed = false;
+        self.stage = Stage::GivenUp;
         if let (Some(part), Target::Replaced { name }) = (part_of(&self.sink), self.target)
             && let Err(refusal) = put_in_place(self.rt, part, name, self.report)
         {
             part.take_away(self.rt);
             return Err(of_outlet(refusal));
         }
-        self.is_closed = true;
+        self.stage = Stage::Closed;
         Ok(())
     }
 
     fn give_up(&mut self) {
-        self.is_closed = false;
+        self.stage = Stage::GivenUp;
         if let Some(part) = part_of(&self.sink) {
             part.take_away(self.rt);
         }

@@ -1,5 +1,6 @@
 //! Lists of sums: whether each file that is named has the sum that stands there.
-use crate::running::{DIFFER, Found};
+use crate::judging::{ListedFile, SumJudge, check_listed, sum_status};
+use crate::running::Found;
 use crate::shell::action::{Finding, Input, SumCheck};
 use crate::shell::check_files::{Manner, answer_of, read_list};
 use crate::shell::command_line::input_of;
@@ -8,8 +9,7 @@ use crate::shell::list_sources::tell_fault;
 use crate::shell::lists::{ListFault, first_line, without_return};
 use crate::shell::reports::{Noted, Report, tell_of};
 use mp4_answers::jobs::{Syntax, VerdictStyle};
-use mp4_answers::text::digits::DIGEST;
-use mp4_answers::text::fault_text::{fault_line, status};
+use mp4_answers::text::fault_text::fault_line;
 use mp4_answers::text::sum_lines::{ListedSum, listed_sum, push_name};
 use mp4_boxes::{Refusal, Steps};
 use mp4_content::Without;
@@ -19,14 +19,6 @@ use std::sync::ledger::Ledger;
 
 /// The status of a list that can't be taken.
 const NO_LIST: u8 = 64;
-
-// A file of a list: its name, its sum, and what is left out of it.
-#[derive(Drop)]
-struct ListedFile {
-    name: Vec<u8>,
-    digest: [u8; DIGEST],
-    leaving: Without,
-}
 
 // The files of a list, in their order; or which line can't be taken, and why.
 fn files_of(alloc: Global, list: &[u8]) -> Result<Result<Vec<ListedFile>, ListFault>, AllocError> {
@@ -73,12 +65,12 @@ fn sum_of<L: Ledger, M: Ledger>(
     answer_of(rt, input, manner, steps)
 }
 
-// What is said of a file, and the status of that; nothing where it has its sum and that isn't told.
-fn verdict_on(file: &ListedFile, found: &Found, is_quiet: bool) -> (Option<&'static str>, u8) {
+// What is said of a file; nothing where it has its sum and that isn't told, or none was found.
+fn verdict_on(file: &ListedFile, found: &Found, is_quiet: bool) -> Option<&'static str> {
     match found {
-        Ok(Some(digest)) if *digest == file.digest => ((!is_quiet).then_some("OK"), 0),
-        Ok(_) => (Some("FAILED"), DIFFER),
-        Err(refusal) => (None, status(refusal)),
+        Ok(_) if sum_status(&file.digest, found) != 0 => Some("FAILED"),
+        Ok(_) => (!is_quiet).then_some("OK"),
+        Err(_) => None,
     }
 }
 
@@ -90,7 +82,7 @@ fn line_of(
     is_quiet: bool,
 ) -> Result<Vec<u8>, AllocError> {
     let mut line = Vec::new(alloc);
-    let (said, _) = verdict_on(file, found, is_quiet);
+    let said = verdict_on(file, found, is_quiet);
     if said.is_none() && found.is_ok() {
         return Ok(line);
     }
@@ -105,8 +97,31 @@ fn line_of(
     Ok(line)
 }
 
-// Sums the files one after the other, and puts what is said of each. The status is the greatest of
-// those of files without a sum, else whether some file has another one.
+// Sums files one after the other, and puts what is said of each.
+#[derive(Drop)]
+struct SumChecker<'a, 'c, K, L: Ledger, M: Ledger> {
+    rt: &'a HostRuntime,
+    how: SumCheck,
+    sink: K,
+    steps: &'c mut Steps<L, M>,
+}
+
+impl<'a, 'c, K: Sink, L: Ledger, M: Ledger> SumJudge for SumChecker<'a, 'c, K, L, M> {
+    ghost use Rattle.std.specs.Prelude.{Unit};
+
+    ghost finds = { λ from to file found. Unit {0} };
+
+    fn judge_sum(&mut self, file: &ListedFile) -> Result<Found, Refusal> {
+        let found = sum_of(self.rt, file, self.how, self.steps);
+        let line = line_of(self.rt.alloc(), file, &found, self.how.quiet)?;
+        if !line.is_empty() {
+            self.sink.put(line.as_slice())?;
+        }
+        Ok(found)
+    }
+}
+
+// Sums the files, puts what is said of each, and gives the status.
 fn check_files<L: Ledger, M: Ledger>(
     rt: &HostRuntime,
     files: &[ListedFile],
@@ -115,20 +130,14 @@ fn check_files<L: Ledger, M: Ledger>(
     steps: &mut Steps<L, M>,
 ) -> Result<u8, Refusal> {
     let out = &mut rt.stdout();
-    let mut sink = IoSink::new(Noted { out, report });
-    let (mut worst, mut differ) = (0, 0);
-    for file in files {
-        let found = sum_of(rt, file, how, steps);
-        let line = line_of(rt.alloc(), file, &found, how.quiet)?;
-        if !line.is_empty() {
-            sink.put(line.as_slice())?;
-        }
-        match verdict_on(file, &found, how.quiet) {
-            (_, DIFFER) => differ = DIFFER,
-            (_, status) => worst = status.max(worst),
-        }
-    }
-    Ok(if worst > 0 { worst } else { differ })
+    let sink = IoSink::new(Noted { out, report });
+    let mut judge = SumChecker {
+        rt,
+        how,
+        sink,
+        steps,
+    };
+    check_listed(files, &mut judge)
 }
 
 /// Reads a list of sums whole, says of each file that it names whether it has its sum, and gives

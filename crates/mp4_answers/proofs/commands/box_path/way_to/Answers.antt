@@ -1,4 +1,4 @@
-use Rattle.std.proofs.Common.{rules, ◌≡◌, ℕ, List, ◌++◌, refl, ap, ◌∙◌}
+use Rattle.std.proofs.Common.{rules, ◌≡◌, inr, ℕ, List, ◌++◌, refl, ap, ◌∙◌}
 use Rattle.mp4_answers.specs.format.BoxWalk.{top_seen}
 use Rattle.mp4_answers.specs.format.Ways.{step_text}
 use Rattle.mp4_answers.proofs.WaysTo.{top_goes}
@@ -13,5 +13,5 @@ returns-clause-way g c = λ told.
     let w = way told in
     let number = c.number_at_top-number.result in
     let first : c.extend_from_slice.new.self.items ≡ step_text c.in-Some.top.header.kind.0 number = search rules in
-    top_goes file c.args.place c.in-Some.top number (top_seen file c.in-Some.top) w.0 c.push_top_way.new.text.items
-    (c.in-Some.ensures.header told) c.in-Some.ensures.holds.0 c.in-Some.ensures.holds.1 refl w.1 (w.2 ∙ ap (λ (xs : List ℕ). xs ++ w.0) first)
+    inr (top_goes file c.args.place c.in-Some.top number (top_seen file c.in-Some.top) w.0 c.push_top_way.new.text.items
+    (c.in-Some.ensures.holds told) refl w.1 (w.2 ∙ ap (λ (xs : List ℕ). xs ++ w.0) first))

@@ -1,5 +1,5 @@
 use Rattle.std.proofs.Common.{arith, ◌∙◌}
-use Rattle.std.proofs.lemmas.Result.{err_from_is_err_and, on_ok_weaker}
+use Rattle.std.proofs.lemmas.Result.{err_from_is_err_and}
 use Rattle.mp4_present.specs.words.SamplesComing.{track_samples}
 use Rattle.mp4_present.proofs.WalkCopied.{on_ok, on_err}
 use Rattle.mp4_present.specs.words.Joined.{sample_bytes}
@@ -8,6 +8,7 @@ use Rattle.mp4_answers.specs.format.FileTexts.{HasData, LacksTrack}
 use Rattle.mp4_answers.specs.format.Run.{run_of, Honest}
 use Rattle.mp4_answers.proofs.RunParts.{copy_answers, open_fails}
 use Rattle.mp4_answers.proofs.TrackTexts.{track_found, lacks, has_data}
+use Rattle.mp4_answers.proofs.LookedAt.{not_judged, on_judged}
 use Rattle.mp4_answers.proofs.StepSums.{opened_least}
 use Rattle.mp4_answers.proofs.StepsTaken.{not_looked, looked_within, walked_within}
 use Rattle.mp4_answers.proofs.LooksTaken.{not_found, finds_taken}
@@ -75,13 +76,23 @@ returns-clause-work g c = λ told.
     let walk = (rw (c.in_ok-movie.ensures.store.honesty, c.in_ok-movie.ensures.store.file) at c.copy_track.ensures.work) told o.0 f.t o.1 f.is_there in
     walked_within file _ _ c.in_ok-movie.movie o.0 _ c.in_ok-track.track f.t o.1 (c.in_ok-movie.ensures.work told o.0 o.1.is_tree) f.is_there walk
 
+pub returns-in_err-movie-clause-least : goal.returns-in_err-movie-clause-least
+returns-in_err-movie-clause-least g c =
+    let p = err_from_is_err_and c.from_residual.result c.from_residual.ensures.1 in
+    rw (p.1, p.2) (not_judged (Unit {0}) _ (g.S.Store.is_honest c.args.store.now) (g.S.Store.file c.args.store.now) (g.S.Store.read_failures c.args.store.now) (g.S.Store.read_failures c.open_movie.new.store) c.in_err-movie.field-0.0 c.in_err-movie.ensures.refusal)
+
+pub returns-in_err-track-clause-least : goal.returns-in_err-track-clause-least
+returns-in_err-track-clause-least g c = on_judged c.from_residual-in_err-track.result
+    (λ told p d.
+    let taken = c.in_ok-movie.ensures.least told d.tree d.is_tree in
+    omega (arith, taken, opened_least _ p d))
+
 pub returns-clause-least : goal.returns-clause-least
-returns-clause-least g c = on_ok_weaker c.copy_track.result
-    (λ put told p d.
+returns-clause-least g c = on_judged c.copy_track.result
+    (λ told p d.
     let taken = c.in_ok-movie.ensures.least told d.tree d.is_tree in
     let grown = c.copy_track.ensures.grows in
     omega (arith, taken, grown, opened_least _ p d))
-    c.copy_track.ensures.puts
 
 -- ---- looks
 

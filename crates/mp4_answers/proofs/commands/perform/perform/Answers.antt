@@ -1,3 +1,4 @@
+use Rattle.mp4_answers.proofs.LookedAt.{judged_ok}
 use Rattle.mp4_answers.proofs.commands.perform.perform.Goals as goal
 
 pub returns-in-Boxes-clause-answer : goal.returns-in-Boxes-clause-answer
@@ -26,3 +27,12 @@ returns-in-Normalise-clause-whole g c = rw c.in-Normalise.is c.normalise_counted
 
 pub returns-in-Reduce-clause-whole : goal.returns-in-Reduce-clause-whole
 returns-in-Reduce-clause-whole g c = rw c.in-Reduce.is c.normalise_reduced.ensures.whole
+
+pub returns-in-Show-clause-least : goal.returns-in-Show-clause-least
+returns-in-Show-clause-least g c = rw c.in-Show.is (judged_ok _ c.show_counted.result c.show_counted.ensures.least)
+
+pub returns-in-Samples-clause-least : goal.returns-in-Samples-clause-least
+returns-in-Samples-clause-least g c = rw c.in-Samples.is (judged_ok _ c.samples_counted.result c.samples_counted.ensures.least)
+
+pub returns-in-Extract-clause-least : goal.returns-in-Extract-clause-least
+returns-in-Extract-clause-least g c = rw c.in-Extract.is (judged_ok _ c.extract_counted.result c.extract_counted.ensures.least)

@@ -1,0 +1,71 @@
+-- Files that are judged one after the other.
+use Rattle.std.proofs.Common.{◌≡◌, ℕ, zero, suc, ◌+◌, ◌<◌, ◌≤◌, max, List, [], ◌∷◌, length, get_or, drop, refl, sym, ap, subst, ◌∙◌, arith}
+use Rattle.std.proofs.Math.Seq.{drop-cons}
+use Rattle.std.specs.Prelude.{Option, Result}
+use Rattle.mp4_boxes.specs.declared.refusal.Refusal.{Refusal}
+use Rattle.mp4_answers.specs.format.Verdicts.{verdict_status}
+use Rattle.mp4norm.specs.declared.judging.ListedFile.{ListedFile}
+use Rattle.mp4norm.specs.format.Lists.{ended_names}
+use Rattle.mp4norm.specs.format.Judging.{sum_status, JudgesEach, SumsEach}
+
+-- what is still to come makes up the whole with what was judged, whose greatest status this is
+abbrev pub GoesOn : {J A : Type 0} → (J → J → A → Result (Option (List ℕ)) Refusal → Type 0) → List A → J → List A → J → ℕ → Type 0
+GoesOn {J = J} Finds all from left at worst = (to : J) (status : ℕ) → JudgesEach Finds left at to status → JudgesEach Finds all from to (max status worst)
+
+max_none : (n : ℕ) → max n 0 ≡ n
+max_none n = omega arith
+
+max_more : (status worst own : ℕ) → max (max own status) worst ≡ max status (max own worst)
+max_more status worst own = omega arith
+
+pub goes_from : {J A : Type 0} (Finds : J → J → A → Result (Option (List ℕ)) Refusal → Type 0) (all : List A) (from : J) → GoesOn Finds all from all from 0
+goes_from Finds all from to status j = subst (λ (n : ℕ). JudgesEach Finds all from to n) (sym (max_none status)) j
+
+pub goes_on : {J A : Type 0} (Finds : J → J → A → Result (Option (List ℕ)) Refusal → Type 0) (all : List A) (from : J) (a : A) (more : List A) (at next : J) (worst own worse : ℕ) (found : Result (Option (List ℕ)) Refusal)
+    → Finds at next a found → own ≡ verdict_status found → worse ≡ max own worst → GoesOn Finds all from (a ∷ more) at worst → GoesOn Finds all from more next worse
+goes_on Finds all from a more at next worst own worse found f is e on to status j =
+    subst (λ (n : ℕ). JudgesEach Finds all from to n) (max_more status worst (verdict_status found) ∙ ap (λ (n : ℕ). max status (max n worst)) (sym is) ∙ ap (λ (n : ℕ). max status n) (sym e))
+    (on to (max (verdict_status found) status) (next, status, found, f, j, refl))
+
+pub goes_whole : {J A : Type 0} (Finds : J → J → A → Result (Option (List ℕ)) Refusal → Type 0) (all : List A) (from at : J) (worst : ℕ) → GoesOn Finds all from [] at worst → JudgesEach Finds all from at worst
+goes_whole Finds all from at worst on = let none : max 0 worst ≡ worst = omega arith in subst (λ (n : ℕ). JudgesEach Finds all from at n) none (on at 0 (refl, refl))
+
+-- the same of files that have a sum in a list
+abbrev pub SumsOn : {J : Type 0} → (J → J → ListedFile → Result (Option (List ℕ)) Refusal → Type 0) → List ListedFile → J → List ListedFile → J → ℕ → ℕ → Type 0
+SumsOn {J = J} Finds all from left at worst differ = (to : J) (refused others : ℕ) → SumsEach Finds left at to refused others → SumsEach Finds all from to (max refused worst) (max others differ)
+
+pub sums_on : {J : Type 0} (Finds : J → J → ListedFile → Result (Option (List ℕ)) Refusal → Type 0) (all : List ListedFile) (from : J) (file : ListedFile) (more : List ListedFile) (at next : J) (worst own worse differ other differs : ℕ) (found : Result (Option (List ℕ)) Refusal)
+    → Finds at next file found → own ≡ verdict_status found → worse ≡ max own worst → other ≡ sum_status file.digest found → differs ≡ max other differ → SumsOn Finds all from (file ∷ more) at worst differ → SumsOn Finds all from more next worse differs
+sums_on Finds all from file more at next worst own worse differ other differs found f is e is' e' on to refused others j =
+    let first = max_more refused worst (verdict_status found) ∙ ap (λ (n : ℕ). max refused (max n worst)) (sym is) ∙ ap (λ (n : ℕ). max refused n) (sym e) in
+    let second = max_more others differ (sum_status file.digest found) ∙ ap (λ (n : ℕ). max others (max n differ)) (sym is') ∙ ap (λ (n : ℕ). max others n) (sym e') in
+    let whole = on to (max (verdict_status found) refused) (max (sum_status file.digest found) others) (next, refused, others, found, f, j, refl, refl) in
+    subst (λ (n : ℕ). SumsEach Finds all from to n (max others differs)) first
+    (subst (λ (n : ℕ). SumsEach Finds all from to (max (max (verdict_status found) refused) worst) n) second whole)
+
+pub sums_whole : {J : Type 0} (Finds : J → J → ListedFile → Result (Option (List ℕ)) Refusal → Type 0) (all : List ListedFile) (from at : J) (worst differ : ℕ) → SumsOn Finds all from [] at worst differ → SumsEach Finds all from at worst differ
+sums_whole Finds all from at worst differ on =
+    let own = on at 0 0 (refl, refl, refl) in
+    let none : max 0 worst ≡ worst = omega arith in
+    let same : max 0 differ ≡ differ = omega arith in
+    subst (λ (n : ℕ). SumsEach Finds all from at n differ) none (subst (λ (n : ℕ). SumsEach Finds all from at (max 0 worst) n) same own)
+
+-- ---- what is left to judge
+
+pub none_ended : (list : List ℕ) → length list ≡ 0 → ended_names list ≡ []
+none_ended [] e = refl
+none_ended (b ∷ bs) e = absurd (omega (arith, e))
+
+pub left_at : {A : Type 0} (list : List A) (k : ℕ) (d a : A) → k < length list → a ≡ get_or list k d → drop k list ≡ a ∷ drop (k + 1) list
+left_at {A = A} list k d a lt is =
+    let next : suc k ≡ k + 1 = omega arith in
+    drop-cons list k d lt ∙ ap (λ (x : A). x ∷ drop (suc k) list) (sym is) ∙ ap (λ (n : ℕ). a ∷ drop n list) next
+
+pub all_dropped : {A : Type 0} (list : List A) (k : ℕ) → length list ≤ k → drop k list ≡ []
+all_dropped [] zero le = refl
+all_dropped [] (suc k) le = refl
+all_dropped (a ∷ list) zero le = absurd (omega (arith, le))
+all_dropped (a ∷ list) (suc k) le = all_dropped list k (let h : suc (length list) ≤ suc k = le in omega (arith, h))
+
+pub none_left : {A J : Type 0} (Goes : List A → J → ℕ → Type 0) (list : List A) (k : ℕ) → length list ≤ k → (at : J) (worst : ℕ) → Goes (drop k list) at worst → Goes [] at worst
+none_left Goes list k le at worst g = subst (λ (left : List _). Goes left at worst) (all_dropped list k le) g
