@@ -19,7 +19,7 @@ use mp4_answers::commands::perform::perform;
 use mp4_answers::commands::strip_lines::refusal_of;
 use mp4_answers::commands::sum::sum_file;
 use mp4_answers::jobs::Job;
-use mp4_answers::text::digits::DIGEST;
+use mp4_answers::digests::DIGEST;
 use mp4_answers::text::fault_text::{fault_line, status};
 use mp4_answers::text::verdicts::verdict_status;
 use mp4_boxes::{Refusal, Steps};

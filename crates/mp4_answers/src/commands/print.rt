@@ -21,7 +21,9 @@ ghost use Rattle.mp4_answers.specs.words.Telling.{Tells, TellsText};
 ghost use Rattle.mp4_answers.specs.words.ToldSamples.{RefusesDigest, told_sample};
 
 use crate::commands::hash_sink::HashSink;
-use crate::text::digits::DIGEST;
+use crate::digests::DIGEST;
+use crate::digests::messages::{BLOCK, Message, block_count, pad};
+use crate::digests::side_by_side::find_digests;
 use crate::text::head_lines::{put_head, put_heading, put_movie};
 use crate::text::named_lines::{number, put_all_named};
 use crate::text::sample_texts::{LONGEST, SampleStyle, write_sample};
@@ -39,11 +41,29 @@ use std::sync::ledger::Ledger;
 /// of two, so that each put fills whole pages.
 const ROOM: usize = 65_536;
 
+/// In how many bytes small samples are hashed side by side, and how many samples at most.
+const SIDES: usize = 262_144;
+const MOST: usize = 64;
+
+// No sample yet.
+const NO_SAMPLE: SampleAt = SampleAt {
+    dts: 0,
+    duration: 0,
+    cto: 0,
+    flags: 0,
+    description: 0,
+    at: 0,
+    size: 0,
+    groups: [0; 4],
+    number: 0,
+};
+
 // What waits for a sink, and room for bytes of samples.
 #[derive(Drop)]
 pub(crate) struct Desk {
     text: OutBuffer,
     window: OutBuffer,
+    sides: Vec<u8>,
 }
 
 impl Desk {
@@ -57,8 +77,14 @@ impl Desk {
         Ok(Desk {
             text: OutBuffer::new(alloc, ROOM)?,
             window: OutBuffer::new(alloc, ROOM)?,
+            sides: zeros(alloc, SIDES)?,
         })
     }
+}
+
+// So many bytes.
+fn zeros(alloc: Global, len: usize) -> Result<Vec<u8>, AllocError> {
+    Ok(vec![in alloc; 0u8; len]?)
 }
 
 // The first lines: the number of the form, and what is left out.
@@ -121,10 +147,129 @@ fn put_sample<S: Store, K: Sink>(
         RefusesCarry }
 {
     let digest = digest_of(&mut desk.window, store, sample)?;
-    let mut text = [0; LONGEST];
-    let start = write_sample(&mut text, LONGEST, style, sample, &digest);
-    let (_unused, line) = text.split_at(start);
-    desk.text.carry(line, sink)
+    put_line(style, sample, &digest, &mut desk.text, sink)
+}
+
+// Puts the line of a sample with this digest.
+fn put_line<K: Sink>(
+    style: &SampleStyle,
+    sample: &SampleAt,
+    digest: &[u8; DIGEST],
+    text: &mut OutBuffer,
+    sink: &mut K,
+) -> Result<(), Refusal> {
+    let mut line = [0; LONGEST];
+    let start = write_sample(&mut line, LONGEST, style, sample, digest);
+    let (_unused, line) = line.split_at(start);
+    text.carry(line, sink)
+}
+
+// Reads the bytes of a sample, and puts the padding behind them.
+fn read_message<S: Store>(
+    store: &mut S,
+    at: u64,
+    bytes: &mut [u8],
+    message: Message,
+) -> Result<(), Refusal> {
+    let Message { start, len } = message;
+    let size = store.len();
+    if at > size || len as u64 > size - at {
+        return Err(Refusal::StoreChanged);
+    }
+    if len > 0 {
+        store.read_at(at, &mut bytes[start..start + len])?;
+    }
+    pad(bytes, message);
+    Ok(())
+}
+
+// Reads the bytes of the first samples, as many as have room side by side, and says how many these
+// are, and why it stopped if a read failed.
+fn read_front<S: Store>(
+    samples: &[SampleAt],
+    store: &mut S,
+    bytes: &mut [u8],
+    messages: &mut [Message],
+) -> (usize, Result<(), Refusal>) {
+    let mut start = 0;
+    let mut count = 0;
+    while count < samples.len() && count < messages.len() {
+        let sample = samples[count];
+        let message = Message {
+            start,
+            len: sample.size as usize,
+        };
+        let blocks = block_count(message.len);
+        if blocks > (bytes.len() - start) / BLOCK {
+            break;
+        }
+        if let Err(refusal) = read_message(store, sample.at, bytes, message) {
+            return (count, Err(refusal));
+        }
+        messages[count] = message;
+        count += 1;
+        start += blocks * BLOCK;
+    }
+    (count, Ok(()))
+}
+
+// Puts the lines of the first samples, as many as have room side by side.
+fn put_front_samples<S: Store, K: Sink>(
+    style: &SampleStyle,
+    samples: &[SampleAt],
+    bytes: &mut [u8],
+    text: &mut OutBuffer,
+    store: &mut S,
+    sink: &mut K,
+) -> Result<usize, Refusal> {
+    let mut messages = [Message { start: 0, len: 0 }; MOST];
+    let (count, outcome) = read_front(samples, store, bytes, &mut messages);
+    let mut digests = [[0; DIGEST]; MOST];
+    find_digests(bytes, &messages[..count], &mut digests);
+    for k in 0..count {
+        put_line(style, &samples[k], &digests[k], text, sink)?;
+    }
+    outcome?;
+    Ok(count)
+}
+
+// Puts the lines of some samples.
+fn put_some<S: Store, K: Sink>(
+    style: &SampleStyle,
+    samples: &[SampleAt],
+    desk: &mut Desk,
+    store: &mut S,
+    sink: &mut K,
+) -> Result<(), Refusal> {
+    let mut rest = samples;
+    while rest.len() > 1 {
+        let count = put_front_samples(style, rest, desk.sides.as_mut_slice(), &mut desk.text, store, sink)?;
+        if count == 0 {
+            put_sample(style, &rest[0], desk, store, sink)?;
+            rest = &rest[1..];
+        } else {
+            rest = &rest[count..];
+        }
+    }
+    if rest.len() == 1 {
+        put_sample(style, &rest[0], desk, store, sink)?;
+    }
+    Ok(())
+}
+
+// Takes the next samples in hand, as many as come and have room.
+fn take_samples<H: Samples>(hand: &mut H, samples: &mut [SampleAt]) -> usize {
+    let mut count = 0;
+    while count < samples.len() {
+        match hand.next() {
+            Some(sample) => {
+                samples[count] = sample;
+                count += 1;
+            }
+            None => break,
+        }
+    }
+    count
 }
 
 // Samples of a movie, and how their lines are written.
@@ -138,6 +283,7 @@ struct Styled<'a> {
 fn put_hand<S: Store, K: Sink, L: Ledger, M: Ledger>(
     of: Styled,
     walk: &mut Walk,
+    samples: &mut [SampleAt; MOST],
     desk: &mut Desk,
     store: &mut S,
     sink: &mut K,
@@ -160,8 +306,10 @@ fn put_hand<S: Store, K: Sink, L: Ledger, M: Ledger>(
 {
     let place = {
         let mut hand = walk.in_hand(of.movie);
-        while let Some(sample) = hand.next() {
-            put_sample(of.style, &sample, desk, store, sink)?;
+        let mut count = take_samples(&mut hand, samples);
+        while count > 0 {
+            put_some(of.style, &samples[..count], desk, store, sink)?;
+            count = take_samples(&mut hand, samples);
         }
         hand.place()
     };
@@ -192,9 +340,10 @@ fn put_walk<S: Store, K: Sink, L: Ledger, M: Ledger>(
         RefusesCarry }
     ensures looks { steps.new.looks ≡ steps.old.looks }
 {
-    put_hand(of, walk, desk, store, sink, steps)?;
+    let mut samples = [NO_SAMPLE; MOST];
+    put_hand(of, walk, &mut samples, desk, store, sink, steps)?;
     while walk.load(of.movie, store, steps)? {
-        put_hand(of, walk, desk, store, sink, steps)?;
+        put_hand(of, walk, &mut samples, desk, store, sink, steps)?;
     }
     Ok(())
 }

@@ -7,7 +7,7 @@ use crate::shell::reports::{Noted, Report, tell_of};
 use crate::shell::run_command::explain_refusal;
 use crate::shell::sources::{Source, open, read_whole};
 use mp4_answers::jobs::{Syntax, VerdictStyle};
-use mp4_answers::text::digits::DIGEST;
+use mp4_answers::digests::DIGEST;
 use mp4_answers::text::fault_text::fault_line;
 use mp4_answers::text::json_text::name_json;
 use mp4_answers::text::plain_names::push_plain;

@@ -8,7 +8,7 @@ use crate::shell::list_sources::tell_fault;
 use crate::shell::lists::{ListFault, first_line, without_return};
 use crate::shell::reports::{Noted, Report, tell_of};
 use mp4_answers::jobs::{Syntax, VerdictStyle};
-use mp4_answers::text::digits::DIGEST;
+use mp4_answers::digests::DIGEST;
 use mp4_answers::text::fault_text::{fault_line, status};
 use mp4_answers::text::sum_lines::{ListedSum, listed_sum, push_name};
 use mp4_boxes::{Refusal, Steps};
