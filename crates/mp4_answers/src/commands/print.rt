@@ -1,5 +1,5 @@
 //! The text of what a file says.
-ghost use Rattle.std.specs.Prelude.{◌≡◌, ◌+◌, ◌<◌, ◌≤◌, ◌++◌, [], length, IfOk, OnOk, codes};
+ghost use Rattle.std.specs.Prelude.{◌≡◌, ◌+◌, ◌<◌, ◌≤◌, ◌++◌, [], flat_map, length, take, IfOk, OnErr, OnOk, codes};
 ghost use Rattle.sha2.specs.Sha256.{sha256};
 ghost use Rattle.mp4_head.specs.words.Seen.{track_seen};
 ghost use Rattle.mp4_store.specs.words.Device.{range};
@@ -7,7 +7,7 @@ ghost use Rattle.mp4_present.specs.words.Carried.{RefusesCarry, waiting};
 ghost use Rattle.mp4_present.specs.words.HandCarried.{HandWork, RefusedByBoth, StaysBefore};
 ghost use Rattle.mp4_present.specs.words.Joined.{IsBelow};
 ghost use Rattle.mp4_present.specs.words.Movies.{IsWalkOf};
-ghost use Rattle.mp4_present.specs.words.OutBuffers.{OnlyCopies};
+ghost use Rattle.mp4_present.specs.words.OutBuffers.{OnlyCopies, PutsFrontOf, TakesBytes};
 ghost use Rattle.mp4_present.specs.words.StoresRead.{IsUnchanged, OnlyReads, Refused, WhereHonest};
 ghost use Rattle.mp4_present.specs.words.TrackWalks.{WhereMayTake};
 ghost use Rattle.mp4_content.specs.format.Reduced.{reduce_track_head};
@@ -16,13 +16,15 @@ ghost use Rattle.mp4_answers.specs.format.Answers.{Printed};
 ghost use Rattle.mp4_answers.specs.format.Run.{KeepsFile, run_of};
 ghost use Rattle.mp4_answers.specs.format.Steps.{FindsWithin, TakesEach, WalksWithin};
 ghost use Rattle.mp4_answers.specs.format.Text.{front_lines, head_lines, number_line, samples_heading};
-ghost use Rattle.mp4_answers.specs.words.PrintedTracks.{AreWalks, OfHandLines, OfTrackLines, OfWalkLines, TellsOn, TellsTracks, WhereHeads};
+ghost use Rattle.mp4_answers.specs.words.PrintedTracks.{AreWalks, LieBelow, OfHandLines, OfTrackLines, OfWalkLines, TellsOn, TellsTracks, WhereHeads};
 ghost use Rattle.mp4_answers.specs.words.Telling.{Tells, TellsText};
-ghost use Rattle.mp4_answers.specs.words.ToldSamples.{RefusesDigest, told_sample};
+ghost use Rattle.mp4_answers.specs.words.SampleMessages.{told_lines};
+ghost use Rattle.mp4_answers.specs.words.ToldSamples.{RefusesDigest, told_line, told_sample};
 
 use crate::commands::hash_sink::HashSink;
+use crate::commands::sample_messages::{MOST, NO_SAMPLE, read_front, take_samples};
 use crate::digests::DIGEST;
-use crate::digests::messages::{BLOCK, Message, block_count, pad};
+use crate::digests::messages::Message;
 use crate::digests::side_by_side::find_digests;
 use crate::text::head_lines::{put_head, put_heading, put_movie};
 use crate::text::named_lines::{number, put_all_named};
@@ -41,24 +43,10 @@ use std::sync::ledger::Ledger;
 /// of two, so that each put fills whole pages.
 const ROOM: usize = 65_536;
 
-/// In how many bytes small samples are hashed side by side, and how many samples at most.
+/// In how many bytes samples are read side by side.
 const SIDES: usize = 262_144;
-const MOST: usize = 64;
 
-// No sample yet.
-const NO_SAMPLE: SampleAt = SampleAt {
-    dts: 0,
-    duration: 0,
-    cto: 0,
-    flags: 0,
-    description: 0,
-    at: 0,
-    size: 0,
-    groups: [0; 4],
-    number: 0,
-};
-
-// What waits for a sink, and room for bytes of samples.
+// What waits for a sink, room for bytes of a sample, and for those of samples side by side.
 #[derive(Drop)]
 pub(crate) struct Desk {
     text: OutBuffer,
@@ -157,63 +145,35 @@ fn put_line<K: Sink>(
     digest: &[u8; DIGEST],
     text: &mut OutBuffer,
     sink: &mut K,
-) -> Result<(), Refusal> {
+) -> Result<(), Refusal>
+    ensures { Tells K.Sink sink.old sink.new text.old text.new
+        (told_line style.now digest.now sample.now) result }
+{
     let mut line = [0; LONGEST];
     let start = write_sample(&mut line, LONGEST, style, sample, digest);
     let (_unused, line) = line.split_at(start);
     text.carry(line, sink)
 }
 
-// Reads the bytes of a sample, and puts the padding behind them.
-fn read_message<S: Store>(
-    store: &mut S,
-    at: u64,
-    bytes: &mut [u8],
-    message: Message,
-) -> Result<(), Refusal> {
-    let Message { start, len } = message;
-    let size = store.len();
-    if at > size || len as u64 > size - at {
-        return Err(Refusal::StoreChanged);
+// Puts the lines of some samples, whose digests are these.
+fn put_lines<K: Sink>(
+    style: &SampleStyle,
+    samples: &[SampleAt],
+    digests: &[[u8; DIGEST]],
+    text: &mut OutBuffer,
+    sink: &mut K,
+) -> Result<(), Refusal>
+    requires { length samples.now ≤ length digests.now }
+    ensures { Tells K.Sink sink.old sink.new text.old text.new
+        (told_lines style.now digests.now 0 samples.now) result }
+{
+    'lines: for k in 0..samples.len() {
+        put_line(style, &samples[k], &digests[k], text, sink)?;
     }
-    if len > 0 {
-        store.read_at(at, &mut bytes[start..start + len])?;
-    }
-    pad(bytes, message);
     Ok(())
 }
 
-// Reads the bytes of the first samples, as many as have room side by side, and says how many these
-// are, and why it stopped if a read failed.
-fn read_front<S: Store>(
-    samples: &[SampleAt],
-    store: &mut S,
-    bytes: &mut [u8],
-    messages: &mut [Message],
-) -> (usize, Result<(), Refusal>) {
-    let mut start = 0;
-    let mut count = 0;
-    while count < samples.len() && count < messages.len() {
-        let sample = samples[count];
-        let message = Message {
-            start,
-            len: sample.size as usize,
-        };
-        let blocks = block_count(message.len);
-        if blocks > (bytes.len() - start) / BLOCK {
-            break;
-        }
-        if let Err(refusal) = read_message(store, sample.at, bytes, message) {
-            return (count, Err(refusal));
-        }
-        messages[count] = message;
-        count += 1;
-        start += blocks * BLOCK;
-    }
-    (count, Ok(()))
-}
-
-// Puts the lines of the first samples, as many as have room side by side.
+// Puts the lines of the first samples, as many as have room side by side, and says how many.
 fn put_front_samples<S: Store, K: Sink>(
     style: &SampleStyle,
     samples: &[SampleAt],
@@ -221,16 +181,87 @@ fn put_front_samples<S: Store, K: Sink>(
     text: &mut OutBuffer,
     store: &mut S,
     sink: &mut K,
-) -> Result<usize, Refusal> {
+) -> Result<usize, Refusal>
+    ensures few { IfOk result (λ count. count ≤ length samples.now) }
+    ensures store { OnlyCopies S.Store store.old store.new K.Sink sink.old sink.new result }
+    ensures told { IfOk result (λ count. WhereHonest S.Store store.old (λ file.
+        TakesBytes K.Sink sink.old sink.new text.old text.new
+        (flat_map (told_sample style.now file) (take count samples.now)))) }
+    ensures front { OnErr result (WhereHonest S.Store store.old (λ file. PutsFrontOf K.Sink
+        sink.old sink.new text.old (flat_map (told_sample style.now file) samples.now))) }
+    ensures unchanged { LieBelow (length (S.file store.old)) samples.now → IsUnchanged result }
+    ensures refusal { RefusedByBoth S.Store store.old store.new K.Sink sink.old sink.new result
+        RefusesCarry }
+{
     let mut messages = [Message { start: 0, len: 0 }; MOST];
-    let (count, outcome) = read_front(samples, store, bytes, &mut messages);
     let mut digests = [[0; DIGEST]; MOST];
+    let (count, outcome) = read_front(samples, store, bytes, &mut messages);
     find_digests(bytes, &messages[..count], &mut digests);
-    for k in 0..count {
-        put_line(style, &samples[k], &digests[k], text, sink)?;
-    }
+    put_lines(style, &samples[..count], &digests, text, sink)?;
     outcome?;
     Ok(count)
+}
+
+// Puts the line of the first sample.
+fn put_first<S: Store, K: Sink>(
+    style: &SampleStyle,
+    samples: &[SampleAt],
+    desk: &mut Desk,
+    store: &mut S,
+    sink: &mut K,
+) -> Result<usize, Refusal>
+    requires some { 0 < length samples.now }
+    requires window { waiting desk.old.window ≡ [] }
+    ensures empty { OnOk result (waiting desk.new.window ≡ []) }
+    ensures some { IfOk result (λ count. 0 < count) }
+    ensures few { IfOk result (λ count. count ≤ length samples.now) }
+    ensures store { OnlyCopies S.Store store.old store.new K.Sink sink.old sink.new result }
+    ensures told { IfOk result (λ count. WhereHonest S.Store store.old (λ file.
+        TakesBytes K.Sink sink.old sink.new desk.old.text desk.new.text
+        (flat_map (told_sample style.now file) (take count samples.now)))) }
+    ensures front { OnErr result (WhereHonest S.Store store.old (λ file. PutsFrontOf K.Sink
+        sink.old sink.new desk.old.text (flat_map (told_sample style.now file) samples.now))) }
+    ensures unchanged { LieBelow (length (S.file store.old)) samples.now → IsUnchanged result }
+    ensures refusal { RefusedByBoth S.Store store.old store.new K.Sink sink.old sink.new result
+        RefusesCarry }
+{
+    put_sample(style, &samples[0], desk, store, sink)?;
+    Ok(1)
+}
+
+// Puts the lines of the first samples, and says of how many: side by side where more than one has
+// room, else one alone.
+fn put_next<S: Store, K: Sink>(
+    style: &SampleStyle,
+    samples: &[SampleAt],
+    desk: &mut Desk,
+    store: &mut S,
+    sink: &mut K,
+) -> Result<usize, Refusal>
+    requires some { 0 < length samples.now }
+    requires window { waiting desk.old.window ≡ [] }
+    ensures empty { OnOk result (waiting desk.new.window ≡ []) }
+    ensures some { IfOk result (λ count. 0 < count) }
+    ensures few { IfOk result (λ count. count ≤ length samples.now) }
+    ensures store { OnlyCopies S.Store store.old store.new K.Sink sink.old sink.new result }
+    ensures told { IfOk result (λ count. WhereHonest S.Store store.old (λ file.
+        TakesBytes K.Sink sink.old sink.new desk.old.text desk.new.text
+        (flat_map (told_sample style.now file) (take count samples.now)))) }
+    ensures front { OnErr result (WhereHonest S.Store store.old (λ file. PutsFrontOf K.Sink
+        sink.old sink.new desk.old.text (flat_map (told_sample style.now file) samples.now))) }
+    ensures unchanged { LieBelow (length (S.file store.old)) samples.now → IsUnchanged result }
+    ensures refusal { RefusedByBoth S.Store store.old store.new K.Sink sink.old sink.new result
+        RefusesCarry }
+{
+    if samples.len() == 1 {
+        return put_first(style, samples, desk, store, sink);
+    }
+    let bytes = desk.sides.as_mut_slice();
+    let count = put_front_samples(style, samples, bytes, &mut desk.text, store, sink)?;
+    if count > 0 {
+        return Ok(count);
+    }
+    put_first(style, samples, desk, store, sink)
 }
 
 // Puts the lines of some samples.
@@ -240,36 +271,23 @@ fn put_some<S: Store, K: Sink>(
     desk: &mut Desk,
     store: &mut S,
     sink: &mut K,
-) -> Result<(), Refusal> {
+) -> Result<(), Refusal>
+    requires { waiting desk.old.window ≡ [] }
+    ensures empty { OnOk result (waiting desk.new.window ≡ []) }
+    ensures store { OnlyCopies S.Store store.old store.new K.Sink sink.old sink.new result }
+    ensures told { WhereHonest S.Store store.old (λ file. TellsText K.Sink sink.old sink.new
+        desk.old.text desk.new.text (flat_map (told_sample style.now file) samples.now) result) }
+    ensures unchanged { LieBelow (length (S.file store.old)) samples.now → IsUnchanged result }
+    ensures refusal { RefusedByBoth S.Store store.old store.new K.Sink sink.old sink.new result
+        RefusesCarry }
+{
     let mut rest = samples;
-    while rest.len() > 1 {
-        let count = put_front_samples(style, rest, desk.sides.as_mut_slice(), &mut desk.text, store, sink)?;
-        if count == 0 {
-            put_sample(style, &rest[0], desk, store, sink)?;
-            rest = &rest[1..];
-        } else {
-            rest = &rest[count..];
-        }
-    }
-    if rest.len() == 1 {
-        put_sample(style, &rest[0], desk, store, sink)?;
+    while rest.len() > 0 {
+        let count = put_next(style, rest, desk, store, sink)?;
+        let (_unused, more) = rest.split_at(count);
+        rest = more;
     }
     Ok(())
-}
-
-// Takes the next samples in hand, as many as come and have room.
-fn take_samples<H: Samples>(hand: &mut H, samples: &mut [SampleAt]) -> usize {
-    let mut count = 0;
-    while count < samples.len() {
-        match hand.next() {
-            Some(sample) => {
-                samples[count] = sample;
-                count += 1;
-            }
-            None => break,
-        }
-    }
-    count
 }
 
 // Samples of a movie, and how their lines are written.
