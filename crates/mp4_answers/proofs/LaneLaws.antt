@@ -1,7 +1,7 @@
 -- Operations on vectors of four lanes, lane by lane.
-use Rattle.std.proofs.Common.{◌≡◌, ℕ, zero, suc, ◌+◌, ◌*◌, ◌<◌, ◌≤◌, ◌^◌, List, [], ◌∷◌, map, length, slice_index, slice_set, get_or, drop, take, refl, sym, ap, ◌∙◌, arith, w32, Fits}
-use Rattle.std.proofs.lemmas.List.{get_or-map, get_or_past, length-map, get_or-take, get_or-drop}
-use Rattle.std.proofs.lemmas.Simd.{get_or-zip2, length-zip2}
+use Rattle.std.proofs.Common.{◌≡◌, ℕ, zero, suc, ◌+◌, ◌*◌, ◌<◌, ◌^◌, List, [], ◌∷◌, length, slice_index, slice_set, drop, refl, ap, ◌∙◌, arith, w32, Fits}
+use Rattle.std.proofs.lemmas.List.{get_or-take, get_or-drop}
+use Rattle.std.proofs.lemmas.Simd.{get_or-zip2}
 use lib.Lanes.{zip2, Each1}
 use Rattle.std.specs.Prelude.{slice_index_or}
 use Rattle.sha2.specs.Sha256.{word_at}
@@ -50,5 +50,5 @@ slice_index-block_at bytes place k lt = get_or-take 64 (drop place bytes) k 0 lt
 pub word_at-block_at : (bytes : List ℕ) (place i : ℕ) → i < 16 → word_at (block_at bytes place) (4 * i) ≡ word_at bytes (place + 4 * i)
 word_at-block_at bytes place i lt =
     let at : (k : ℕ) → k < 4 → slice_index (block_at bytes place) (4 * i + k) ≡ slice_index bytes (place + 4 * i + k) =
-        λ k h. slice_index-block_at bytes place (4 * i + k) (omega arith) ∙ ap (slice_index bytes) (omega arith) in
+    λ k h. slice_index-block_at bytes place (4 * i + k) (omega arith) ∙ ap (slice_index bytes) (omega arith) in
     rw (slice_index-block_at bytes place (4 * i) (omega arith), at 1 (omega arith), at 2 (omega arith), at 3 (omega arith)) refl

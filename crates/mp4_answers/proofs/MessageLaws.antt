@@ -1,7 +1,7 @@
 -- Messages that are hashed in lanes: how they begin, go on by a block, and end.
-use Rattle.std.proofs.Common.{◌≡◌, ℕ, zero, suc, ◌+◌, ◌-◌, ◌*◌, ◌/◌, ◌<◌, ◌≤◌, List, [], ◌∷◌, length, take, drop, slice_index, slice_set, refl, sym, ap, subst, ◌∙◌, arith, inl, inr, length-drop}
-use Rattle.std.specs.Prelude.{◌⊎◌, slice_index_or}
-use Rattle.std.proofs.lemmas.List.{drop-drop, drop-take, take-take, length-take-le, length-map, get_or-set_same, get_or-set_other, ext_get_or}
+use Rattle.std.proofs.Common.{◌≡◌, ℕ, ◌+◌, ◌-◌, ◌*◌, ◌/◌, ◌<◌, ◌≤◌, List, [], length, take, drop, slice_index, refl, sym, ap, subst, ◌∙◌, arith, inl, inr, length-drop}
+use Rattle.std.specs.Prelude.{◌⊎◌}
+use Rattle.std.proofs.lemmas.List.{drop-drop, drop-take, take-take, length-take-le, get_or-set_same, get_or-set_other}
 use Rattle.std.proofs.lemmas.Bool.{cases_eq, cases_lt}
 use Rattle.sha2.specs.Sha256.{compress, digest_bytes, hash_after, initial_hash_256, padded_message, sha256}
 use Rattle.sha2.proofs.Absorbing256.{hash_after_next}
@@ -9,7 +9,7 @@ use Rattle.mp4_answers.specs.words.Lanes.{lane, block_at}
 use Rattle.mp4_answers.specs.words.Messages.{AreHeld, AreReady, Begins, BeginsState, GoesOn, HasDigest, IsFound, IsInLane, IsLane, IsReady, MovesOn, block_count, message_at, message_of, padded_of}
 use Rattle.mp4_answers.specs.declared.digests.side_by_side.Lanes.{Lanes}
 use Rattle.mp4_answers.specs.declared.digests.messages.Message.{Message}
-use Rattle.mp4_answers.proofs.LaneLaws.{by_lane, slice_index-lane}
+use Rattle.mp4_answers.proofs.LaneLaws.{by_lane}
 
 -- ---- one message
 
@@ -68,9 +68,9 @@ module _ (bytes : List ℕ) (messages : List Message) where
     pub told_stays : (k : ℕ) → IsFound bytes messages d k → IsFound bytes messages e k
     told_stays k found = elim (cases_eq left 1) [
       | inl last ↦ elim (cases_eq owner k) [
-          | inl same ↦ subst (IsFound bytes messages e) same (told_found last)
-          | inr other ↦ rw (told.0 last) (get_or-set_other d owner k (digest_bytes hash 8) [] (λ same. other (sym same)) ∙ found)
-        ]
+        | inl same ↦ subst (IsFound bytes messages e) same (told_found last)
+        | inr other ↦ rw (told.0 last) (get_or-set_other d owner k (digest_bytes hash 8) [] (λ same. other (sym same)) ∙ found)
+      ]
       | inr more ↦ rw (told.1 more) found
     ]
 

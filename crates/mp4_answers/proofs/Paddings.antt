@@ -4,7 +4,7 @@ use Rattle.std.proofs.lemmas.List.{append_assoc, drop-append-le, drop-take, leng
 use Rattle.std.proofs.lemmas.Simd.{length-replicate}
 use Rattle.std.specs.Int.{w64, to_be_bytes}
 use Rattle.sha2.specs.Sha256.{padded_message, padding}
-use Rattle.mp4_answers.specs.words.Messages.{IsReady, block_count, message_of, padded_of}
+use Rattle.mp4_answers.specs.words.Messages.{IsReady, block_count, message_of}
 use Rattle.mp4_answers.specs.declared.digests.messages.Message.{Message}
 
 module _ (a b c first bits : List ℕ) (m : Message) (fits : m.start + block_count m.len * 64 ≤ length a) (same : length c ≡ length a)

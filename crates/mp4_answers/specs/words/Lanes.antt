@@ -1,6 +1,5 @@
 -- Four messages side by side: the vectors of their states and words, and what stands in a lane.
-use Rattle.std.specs.Prelude.{◌≡◌, ℕ, ◌<◌, ◌+◌, ◌*◌, List, [], ◌∷◌, map, take, drop, slice_index}
-use Rattle.sha2.specs.Sha256.{word_at}
+use Rattle.std.specs.Prelude.{◌≡◌, ℕ, ◌<◌, List, map, take, drop, slice_index}
 
 -- each of the four lanes of a vector
 abbrev pub HasLanes : List ℕ → (ℕ → ℕ) → Type 0

@@ -149,9 +149,9 @@ fn put_line<K: Sink>(
     ensures { Tells K.Sink sink.old sink.new text.old text.new
         (told_line style.now digest.now sample.now) result }
 {
-    let mut line = [0; LONGEST];
-    let start = write_sample(&mut line, LONGEST, style, sample, digest);
-    let (_unused, line) = line.split_at(start);
+    let mut room = [0; LONGEST];
+    let start = write_sample(&mut room, LONGEST, style, sample, digest);
+    let (_unused, line) = room.split_at(start);
     text.carry(line, sink)
 }
 

@@ -1,5 +1,5 @@
 //! Samples that are read side by side, as messages of which the digests are found at once.
-ghost use Rattle.std.specs.Prelude.{◌≡◌, ℕ, ◌+◌, ◌*◌, ◌<◌, ◌≤◌, ◌++◌, [], List, length, take, IfErr, OnOk};
+ghost use Rattle.std.specs.Prelude.{◌≡◌, ◌+◌, ◌*◌, ◌<◌, ◌≤◌, ◌++◌, [], length, take, OnOk};
 ghost use Rattle.mp4_store.specs.words.Device.{range};
 ghost use Rattle.mp4_present.specs.words.StoresRead.{IsUnchanged, OnlyReads, Refused, WhereHonest};
 ghost use Rattle.mp4_answers.specs.words.Messages.{IsReady, block_count, message_of};

@@ -1,8 +1,8 @@
 //! The SHA-256 of many messages (FIPS 180-4), four of them at once: each has a lane of vectors, and
 //! where one ends the next takes its lane.
-ghost use Rattle.std.specs.Prelude.{◌≡◌, ℕ, ◌+◌, ◌-◌, ◌*◌, ◌/◌, ◌^◌, ◌<◌, ◌≤◌, IsTrue, IsFalse, List, [], ◌∷◌, length, slice_index, slice_index_or, slice_set};
-ghost use Rattle.sha2.specs.Sha256.{compress, digest_bytes, initial_hash_256, sha256};
-ghost use Rattle.mp4_answers.specs.words.Lanes.{HasLanes, lane, block_at};
+ghost use Rattle.std.specs.Prelude.{◌≡◌, ℕ, ◌+◌, ◌-◌, ◌*◌, ◌/◌, ◌^◌, ◌<◌, ◌≤◌, IsTrue, IsFalse, length, slice_index};
+ghost use Rattle.sha2.specs.Sha256.{digest_bytes, initial_hash_256};
+ghost use Rattle.mp4_answers.specs.words.Lanes.{lane};
 ghost use Rattle.mp4_answers.specs.words.Messages.{AreHeld, AreReady, Begins, BeginsState, HasDigest, IsFound, MovesOn, StayHeld, block_count, sum_of_four};
 
 use crate::digests::lanes::compress_four;

@@ -1,6 +1,6 @@
 //! Lines of sums, as `sha256sum` of the GNU coreutils writes them, and what a list of them says.
-use crate::text::cutting::{byte_of, cut};
 use crate::digests::DIGEST;
+use crate::text::cutting::{byte_of, cut};
 use crate::text::digits::hex_digit;
 use crate::text::json_text::name_json;
 use crate::text::plain_names::push_plain;

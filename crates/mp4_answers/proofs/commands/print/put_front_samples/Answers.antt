@@ -1,4 +1,4 @@
-use Rattle.std.proofs.Common.{◌≡◌, ◌∙◌, ◌++◌, ap, drop, flat_map, subst, sym, take}
+use Rattle.std.proofs.Common.{◌∙◌, ◌++◌, ap, drop, flat_map, subst, sym, take}
 use Rattle.std.proofs.lemmas.Result.{err_from_is_err_and}
 use Rattle.mp4_present.specs.words.Carried.{waiting}
 use Rattle.mp4_present.specs.words.OutBuffers.{TakesBytes}
@@ -17,7 +17,9 @@ returns-in_err-put_lines-clause-front g c =
     let file = g.S.Store.file c.args.store.now in
     let f = told_sample c.args.style.now file in
     let lines = front_lines_are c.args.style.now file _ _ _ samples count read.samples read.messages (read.bytes honest) c.find_digests.ensures.found in
-    front_of_more (g.K.Sink.takes c.args.sink.now c.put_lines.new.sink) (waiting c.args.text.now) (told_lines c.args.style.now c.find_digests.new.digests 0 (take count samples)) (flat_map f (drop count samples)) (flat_map f samples) (texts_apart f samples count ∙ ap (λ bs. bs ++ flat_map f (drop count samples)) (sym lines)) c.in_err-put_lines.ensures.front)
+    let told = told_lines c.args.style.now c.find_digests.new.digests 0 (take count samples) in
+    let rest = flat_map f (drop count samples) in
+    front_of_more (g.K.Sink.takes c.args.sink.now c.put_lines.new.sink) (waiting c.args.text.now) told rest (flat_map f samples) (texts_apart f samples count ∙ ap (λ bs. bs ++ rest) (sym lines)) c.in_err-put_lines.ensures.front)
 
 pub returns-in_err-outcome-clause-front : goal.returns-in_err-outcome-clause-front
 returns-in_err-outcome-clause-front g c =
@@ -29,7 +31,9 @@ returns-in_err-outcome-clause-front g c =
     let file = g.S.Store.file c.args.store.now in
     let f = told_sample c.args.style.now file in
     let lines = front_lines_are c.args.style.now file _ _ _ samples count read.samples read.messages (read.bytes honest) c.find_digests.ensures.found in
-    front_of_gone (g.K.Sink.takes c.args.sink.now c.put_lines.new.sink) (waiting c.args.text.now) _ (told_lines c.args.style.now c.find_digests.new.digests 0 (take count samples)) (flat_map f (drop count samples)) (flat_map f samples) (texts_apart f samples count ∙ ap (λ bs. bs ++ flat_map f (drop count samples)) (sym lines)) c.in_ok-put_lines.ensures.all)
+    let told = told_lines c.args.style.now c.find_digests.new.digests 0 (take count samples) in
+    let rest = flat_map f (drop count samples) in
+    front_of_gone (g.K.Sink.takes c.args.sink.now c.put_lines.new.sink) (waiting c.args.text.now) _ told rest (flat_map f samples) (texts_apart f samples count ∙ ap (λ bs. bs ++ rest) (sym lines)) c.in_ok-put_lines.ensures.all)
 
 pub returns-clause-told : goal.returns-clause-told
 returns-clause-told g c honest =

@@ -1,4 +1,4 @@
-use Rattle.std.proofs.Common.{◌++◌, ◌∙◌, append_assoc, ap, arith, drop, refl, sym}
+use Rattle.std.proofs.Common.{◌++◌, ◌∙◌, append_assoc, ap, arith, refl, sym}
 use Rattle.std.proofs.lemmas.List.{append-nil, drop_all}
 use Rattle.std.proofs.lemmas.Result.{err_from_is_err_and}
 use Rattle.mp4_answers.specs.words.SampleMessages.{told_lines}

@@ -1,4 +1,4 @@
-use Rattle.std.proofs.Common.{◌≡◌, ◌∙◌, [], flat_map, refl, subst, take, arith}
+use Rattle.std.proofs.Common.{◌≡◌, [], flat_map, refl, subst, take, arith}
 use Rattle.mp4_present.specs.words.Carried.{BytesGoOn, waiting}
 use Rattle.mp4_present.proofs.Carrying.{BytesGoOn-fails, BytesGoOn-then}
 use Rattle.mp4_answers.specs.words.ToldSamples.{told_sample}

@@ -2,7 +2,6 @@ use Rattle.std.proofs.Common.{◌∙◌, [], flat_map, subst, sym, take, drop}
 use Rattle.std.proofs.lemmas.List.{append-nil, take-append-drop}
 use Rattle.std.proofs.lemmas.Result.{err_from_is_err_and}
 use Rattle.mp4_boxes.proofs.Joined.{all_last}
-use Rattle.mp4_present.specs.words.Carried.{waiting}
 use Rattle.mp4_present.specs.words.Joined.{IsBelow}
 use Rattle.mp4_answers.specs.words.PrintedTracks.{LieBelow}
 use Rattle.mp4_answers.specs.words.ToldSamples.{told_sample}

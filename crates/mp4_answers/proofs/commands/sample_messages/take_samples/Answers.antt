@@ -1,4 +1,4 @@
-use Rattle.std.proofs.Common.{◌∙◌, arith, rules}
+use Rattle.std.proofs.Common.{◌∙◌, arith}
 use Rattle.std.proofs.lemmas.List.{length-set}
 use Rattle.mp4_answers.proofs.SampleLists.{one_taken}
 use Rattle.mp4_answers.proofs.commands.sample_messages.take_samples.Goals as goal

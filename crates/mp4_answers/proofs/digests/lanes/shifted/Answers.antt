@@ -1,4 +1,4 @@
-use Rattle.std.proofs.Common.{ℕ, ◌/◌, ◌^◌}
+use Rattle.std.proofs.Common.{◌/◌, ◌^◌}
 use Rattle.mp4_answers.proofs.LaneLaws.{of_one}
 use Rattle.mp4_answers.proofs.digests.lanes.shifted.Goals as goal
 

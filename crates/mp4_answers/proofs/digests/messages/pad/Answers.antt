@@ -1,4 +1,4 @@
-use Rattle.std.proofs.Common.{◌≡◌, ◌%◌, length, refl, arith}
+use Rattle.std.proofs.Common.{arith}
 use Rattle.mp4_answers.proofs.Paddings.{pad_is_ready, pad_stays}
 use Rattle.mp4_answers.proofs.digests.messages.pad.Goals as goal
 

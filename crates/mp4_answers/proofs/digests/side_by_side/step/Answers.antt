@@ -1,4 +1,3 @@
-use Rattle.std.proofs.Common.{arith}
 use Rattle.mp4_answers.proofs.MessageLaws.{step_held}
 use Rattle.mp4_answers.proofs.digests.side_by_side.step.Goals as goal
 

@@ -1,4 +1,4 @@
-use Rattle.std.proofs.Common.{◌≡◌, ◌<◌, length, arith, sym, ◌∙◌, slice_index}
+use Rattle.std.proofs.Common.{◌≡◌, length, arith, sym, ◌∙◌, slice_index}
 use Rattle.std.proofs.lemmas.List.{length-map, ext_get_or}
 use Rattle.mp4_answers.specs.words.Lanes.{lane}
 use Rattle.sha2.specs.Sha256.{initial_hash_256}
