@@ -93,7 +93,7 @@ fn place_after(place: usize, left: usize) -> usize
 // A lane that is free, or the number of lanes where none is.
 fn free_lane(lefts: [usize; 4]) -> usize
     ensures lane { result ≤ 4 }
-    ensures free { result < 4 → slice_index lefts result ≡ 0 }
+    ensures idle { result < 4 → slice_index lefts result ≡ 0 }
     ensures none { 4 ≤ result → (l : ℕ) → l < 4 → 0 < slice_index lefts l }
 {
     let [a, b, c, d] = lefts;
@@ -209,7 +209,7 @@ fn make_free(
     requires known { known ≤ length messages.now }
     requires room { length messages.now ≤ length digests.old }
     requires held { AreHeld bytes.now messages.now known state.old lanes.old digests.old }
-    ensures free { result < 4 }
+    ensures lane { result < 4 }
     ensures idle { slice_index lanes.new.lefts result ≡ 0 }
     ensures count { length digests.new ≡ length digests.old }
     ensures held { AreHeld bytes.now messages.now known state.new lanes.new digests.new }
@@ -225,7 +225,7 @@ fn make_free(
 // Whether a lane isn't free.
 fn is_busy(lefts: [usize; 4]) -> bool
     ensures busy { IsTrue result → 0 < sum_of_four lefts }
-    ensures free { IsFalse result → (l : ℕ) → l < 4 → slice_index lefts l ≡ 0 }
+    ensures idle { IsFalse result → (l : ℕ) → l < 4 → slice_index lefts l ≡ 0 }
 {
     let [a, b, c, d] = lefts;
     a > 0 || b > 0 || c > 0 || d > 0

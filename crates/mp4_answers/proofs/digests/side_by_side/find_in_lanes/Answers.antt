@@ -8,6 +8,6 @@ messages-preserved c =
     let free = c.make_free-l.ensures in
     record {
       held = begun_held c.args.bytes.now c.args.messages.now c.messages.k c.make_free-l.result c.make_free-l.new.state c.begin.new.state c.make_free-l.new.lanes c.begin.new.lanes c.make_free-l.new.digests
-          free.free free.idle (c.requires.ready c.messages.k (omega arith)) free.held c.begin.ensures.state c.begin.ensures.lanes;
+          free.lane free.idle (c.requires.ready c.messages.k (omega arith)) free.held c.begin.ensures.state c.begin.ensures.lanes;
       count = free.count ∙ i.count;
     }
