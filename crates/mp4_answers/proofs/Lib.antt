@@ -57,3 +57,9 @@ mod TextWords
 mod TextParts
 mod TextsTell
 pub mod Printed
+pub mod LaneLaws
+pub mod MessageLaws
+pub mod Paddings
+mod Rotations
+mod ShortForms
+pub mod SampleLists

@@ -1,6 +1,6 @@
 -- The texts of a walk's samples: hand after hand, from the first sample of the track to its last.
-use Rattle.std.proofs.Common.{◌≡◌, ℕ, List, [], ◌∷◌, ◌++◌, length, drop, refl, sym, ap, subst, ◌∙◌}
-use Rattle.std.specs.Prelude.{flat_map, Some, slice_get}
+use Rattle.std.proofs.Common.{◌≡◌, ℕ, List, [], ◌++◌, length, ap, subst, ◌∙◌}
+use Rattle.std.specs.Prelude.{flat_map}
 use Rattle.mp4_boxes.proofs.Joined.{all_first, all_last}
 use Rattle.mp4_store.specs.words.Device.{TakesPrefix}
 use Rattle.mp4_store.proofs.Known.{IsJoining}
@@ -22,7 +22,7 @@ use Rattle.mp4_answers.proofs.TextsGoOn.{text_next, text_fails}
 use Rattle.mp4_answers.proofs.Told.{flat_two}
 
 module _ (f : SampleAt → List ℕ) where
-  -- ---- samples in hand, one by one
+  -- ---- samples in hand, some at a time
 
   -- The texts of the first samples are put or wait; these are to come, and lie in the file as all do.
   pub record HandTold (n : ℕ) (Took : List ℕ → Type 0) (held held_after : List ℕ) (all to_come : List SampleAt) : Type 0 where
@@ -33,22 +33,19 @@ module _ (f : SampleAt → List ℕ) where
   hand_begun n Took nothing held all lie = record { lie = lie; goes = going_none Took nothing held (flat_map f all) }
 
   module _ (n : ℕ) {Y : Type 0} {takes : Y → Y → List ℕ → Type 0} (joins : IsJoining takes) (a b c : Y) (held held_b : List ℕ) (all : List SampleAt) where
-    pub sample_lies : (samples : List SampleAt) (s : SampleAt) → HandTold n (takes a b) held held_b all samples → Some s ≡ slice_get samples 0 → IsBelow n s
-    sample_lies [] s h is = absurd cc
-    sample_lies (x ∷ samples) s h is = let same : x ≡ s = cc in subst (IsBelow n) same h.lie.0
+    -- the next of them
+    module _ (these rest : List SampleAt) (h : HandTold n (takes a b) held held_b all (these ++ rest)) where
+      pub some_lie : LieBelow n these
+      some_lie = all_first (IsBelow n) these rest h.lie
 
-    pub sample_told : (samples samples_c : List SampleAt) (s : SampleAt) (held_c : List ℕ) → HandTold n (takes a b) held held_b all samples → Some s ≡ slice_get samples 0 → samples_c ≡ drop 1 samples → BytesGoOn (takes b c) held_b held_c (f s) → HandTold n (takes a c) held held_c all samples_c
-    sample_told [] samples_c s held_c h is left p = absurd cc
-    sample_told (x ∷ samples) samples_c s held_c h is left p =
-        let same : s ≡ x = cc in
-        subst (λ (ss : List SampleAt). HandTold n (takes a c) held held_c all ss) (sym left)
-        (record { lie = h.lie.1; goes = text_next joins a b c held held_b (flat_map f (x ∷ samples)) (flat_map f all) h.goes held_c (f x) (flat_map f samples) refl (subst (λ (y : SampleAt). BytesGoOn (takes b c) held_b held_c (f y)) same p) })
+      pub some_told : (held_c : List ℕ) → BytesGoOn (takes b c) held_b held_c (flat_map f these) → HandTold n (takes a c) held held_c all rest
+      some_told held_c p = record {
+        lie = all_last (IsBelow n) these rest h.lie;
+        goes = text_next joins a b c held held_b (flat_map f (these ++ rest)) (flat_map f all) h.goes held_c (flat_map f these) (flat_map f rest) (flat_two f these rest) p;
+      }
 
-    pub sample_fails : (samples : List SampleAt) (s : SampleAt) → HandTold n (takes a b) held held_b all samples → Some s ≡ slice_get samples 0 → TakesPrefix (takes b c) (held_b ++ f s) → TakesPrefix (takes a c) (held ++ flat_map f all)
-    sample_fails [] s h is p = absurd cc
-    sample_fails (x ∷ samples) s h is p =
-        let same : s ≡ x = cc in
-        text_fails joins a b c held held_b (flat_map f (x ∷ samples)) (flat_map f all) h.goes (f x) (flat_map f samples) refl (subst (λ (y : SampleAt). TakesPrefix (takes b c) (held_b ++ f y)) same p)
+      pub some_fail : TakesPrefix (takes b c) (held_b ++ flat_map f these) → TakesPrefix (takes a c) (held ++ flat_map f all)
+      some_fail p = text_fails joins a b c held held_b (flat_map f (these ++ rest)) (flat_map f all) h.goes (flat_map f these) (flat_map f rest) (flat_two f these rest) p
 
   -- ---- hand after hand
 

@@ -15,3 +15,6 @@ pub mod CountedBoxes
 pub mod FirstLosses
 pub mod AddedWays
 pub mod WholePut
+pub mod Lanes
+pub mod Messages
+pub mod SampleMessages

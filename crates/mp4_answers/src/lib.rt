@@ -41,6 +41,7 @@
 pub mod answer_laws;
 pub mod box_names;
 pub mod commands;
+pub mod digests;
 pub mod jobs;
 pub mod laws;
 pub mod text;

@@ -5,7 +5,7 @@ ghost use Rattle.mp4norm.specs.format.Lists.{ended_names};
 
 use crate::running::{DIFFER, Found, found_status};
 use crate::shell::action::Input;
-use mp4_answers::text::digits::DIGEST;
+use mp4_answers::digests::DIGEST;
 use mp4_answers::text::verdicts::first_name;
 use mp4_boxes::Refusal;
 use mp4_content::Without;

@@ -3,7 +3,7 @@ ghost use Rattle.std.specs.Prelude.{◌≡◌, ℕ, List, []};
 ghost use Rattle.sha2.specs.Hashers.{Holds256};
 ghost use Rattle.sha2.specs.Sha256.{sha256};
 
-use crate::text::digits::DIGEST;
+use crate::digests::DIGEST;
 use mp4_store::{Sink, WriteFailed};
 use sha2::{Digest, Sha256};
 

@@ -15,6 +15,7 @@ pub mod normalise;
 pub mod normalise_reduced;
 pub mod perform;
 pub mod print;
+pub mod sample_messages;
 pub mod samples;
 pub mod show;
 pub mod strip;

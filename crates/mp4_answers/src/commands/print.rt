@@ -1,5 +1,5 @@
 //! The text of what a file says.
-ghost use Rattle.std.specs.Prelude.{◌≡◌, ◌+◌, ◌<◌, ◌≤◌, ◌++◌, [], length, IfOk, OnOk, codes};
+ghost use Rattle.std.specs.Prelude.{◌≡◌, ◌+◌, ◌<◌, ◌≤◌, ◌++◌, [], flat_map, length, take, IfOk, OnErr, OnOk, codes};
 ghost use Rattle.sha2.specs.Sha256.{sha256};
 ghost use Rattle.mp4_head.specs.words.Seen.{track_seen};
 ghost use Rattle.mp4_store.specs.words.Device.{range};
@@ -7,7 +7,7 @@ ghost use Rattle.mp4_present.specs.words.Carried.{RefusesCarry, waiting};
 ghost use Rattle.mp4_present.specs.words.HandCarried.{HandWork, RefusedByBoth, StaysBefore};
 ghost use Rattle.mp4_present.specs.words.Joined.{IsBelow};
 ghost use Rattle.mp4_present.specs.words.Movies.{IsWalkOf};
-ghost use Rattle.mp4_present.specs.words.OutBuffers.{OnlyCopies};
+ghost use Rattle.mp4_present.specs.words.OutBuffers.{OnlyCopies, PutsFrontOf, TakesBytes};
 ghost use Rattle.mp4_present.specs.words.StoresRead.{IsUnchanged, OnlyReads, Refused, WhereHonest};
 ghost use Rattle.mp4_present.specs.words.TrackWalks.{WhereMayTake};
 ghost use Rattle.mp4_content.specs.format.Reduced.{reduce_track_head};
@@ -16,12 +16,16 @@ ghost use Rattle.mp4_answers.specs.format.Answers.{Printed};
 ghost use Rattle.mp4_answers.specs.format.Run.{KeepsFile, run_of};
 ghost use Rattle.mp4_answers.specs.format.Steps.{FindsWithin, TakesEach, WalksWithin};
 ghost use Rattle.mp4_answers.specs.format.Text.{front_lines, head_lines, number_line, samples_heading};
-ghost use Rattle.mp4_answers.specs.words.PrintedTracks.{AreWalks, OfHandLines, OfTrackLines, OfWalkLines, TellsOn, TellsTracks, WhereHeads};
+ghost use Rattle.mp4_answers.specs.words.PrintedTracks.{AreWalks, LieBelow, OfHandLines, OfTrackLines, OfWalkLines, TellsOn, TellsTracks, WhereHeads};
 ghost use Rattle.mp4_answers.specs.words.Telling.{Tells, TellsText};
-ghost use Rattle.mp4_answers.specs.words.ToldSamples.{RefusesDigest, told_sample};
+ghost use Rattle.mp4_answers.specs.words.SampleMessages.{told_lines};
+ghost use Rattle.mp4_answers.specs.words.ToldSamples.{RefusesDigest, told_line, told_sample};
 
 use crate::commands::hash_sink::HashSink;
-use crate::text::digits::DIGEST;
+use crate::commands::sample_messages::{MOST, NO_SAMPLE, read_front, take_samples};
+use crate::digests::DIGEST;
+use crate::digests::messages::Message;
+use crate::digests::side_by_side::find_digests;
 use crate::text::head_lines::{put_head, put_heading, put_movie};
 use crate::text::named_lines::{number, put_all_named};
 use crate::text::sample_texts::{LONGEST, SampleStyle, write_sample};
@@ -39,11 +43,15 @@ use std::sync::ledger::Ledger;
 /// of two, so that each put fills whole pages.
 const ROOM: usize = 65_536;
 
-// What waits for a sink, and room for bytes of samples.
+/// In how many bytes samples are read side by side.
+const SIDES: usize = 262_144;
+
+// What waits for a sink, room for bytes of a sample, and for those of samples side by side.
 #[derive(Drop)]
 pub(crate) struct Desk {
     text: OutBuffer,
     window: OutBuffer,
+    sides: Vec<u8>,
 }
 
 impl Desk {
@@ -57,8 +65,14 @@ impl Desk {
         Ok(Desk {
             text: OutBuffer::new(alloc, ROOM)?,
             window: OutBuffer::new(alloc, ROOM)?,
+            sides: zeros(alloc, SIDES)?,
         })
     }
+}
+
+// So many bytes.
+fn zeros(alloc: Global, len: usize) -> Result<Vec<u8>, AllocError> {
+    Ok(vec![in alloc; 0u8; len]?)
 }
 
 // The first lines: the number of the form, and what is left out.
@@ -121,10 +135,159 @@ fn put_sample<S: Store, K: Sink>(
         RefusesCarry }
 {
     let digest = digest_of(&mut desk.window, store, sample)?;
-    let mut text = [0; LONGEST];
-    let start = write_sample(&mut text, LONGEST, style, sample, &digest);
-    let (_unused, line) = text.split_at(start);
-    desk.text.carry(line, sink)
+    put_line(style, sample, &digest, &mut desk.text, sink)
+}
+
+// Puts the line of a sample with this digest.
+fn put_line<K: Sink>(
+    style: &SampleStyle,
+    sample: &SampleAt,
+    digest: &[u8; DIGEST],
+    text: &mut OutBuffer,
+    sink: &mut K,
+) -> Result<(), Refusal>
+    ensures { Tells K.Sink sink.old sink.new text.old text.new
+        (told_line style.now digest.now sample.now) result }
+{
+    let mut room = [0; LONGEST];
+    let start = write_sample(&mut room, LONGEST, style, sample, digest);
+    let (_unused, line) = room.split_at(start);
+    text.carry(line, sink)
+}
+
+// Puts the lines of some samples, whose digests are these.
+fn put_lines<K: Sink>(
+    style: &SampleStyle,
+    samples: &[SampleAt],
+    digests: &[[u8; DIGEST]],
+    text: &mut OutBuffer,
+    sink: &mut K,
+) -> Result<(), Refusal>
+    requires { length samples.now ≤ length digests.now }
+    ensures { Tells K.Sink sink.old sink.new text.old text.new
+        (told_lines style.now digests.now 0 samples.now) result }
+{
+    'lines: for k in 0..samples.len() {
+        put_line(style, &samples[k], &digests[k], text, sink)?;
+    }
+    Ok(())
+}
+
+// Puts the lines of the first samples, as many as have room side by side, and says how many.
+fn put_front_samples<S: Store, K: Sink>(
+    style: &SampleStyle,
+    samples: &[SampleAt],
+    bytes: &mut [u8],
+    text: &mut OutBuffer,
+    store: &mut S,
+    sink: &mut K,
+) -> Result<usize, Refusal>
+    ensures few { IfOk result (λ count. count ≤ length samples.now) }
+    ensures store { OnlyCopies S.Store store.old store.new K.Sink sink.old sink.new result }
+    ensures told { IfOk result (λ count. WhereHonest S.Store store.old (λ file.
+        TakesBytes K.Sink sink.old sink.new text.old text.new
+        (flat_map (told_sample style.now file) (take count samples.now)))) }
+    ensures front { OnErr result (WhereHonest S.Store store.old (λ file. PutsFrontOf K.Sink
+        sink.old sink.new text.old (flat_map (told_sample style.now file) samples.now))) }
+    ensures unchanged { LieBelow (length (S.file store.old)) samples.now → IsUnchanged result }
+    ensures refusal { RefusedByBoth S.Store store.old store.new K.Sink sink.old sink.new result
+        RefusesCarry }
+{
+    let mut messages = [Message { start: 0, len: 0 }; MOST];
+    let mut digests = [[0; DIGEST]; MOST];
+    let (count, outcome) = read_front(samples, store, bytes, &mut messages);
+    find_digests(bytes, &messages[..count], &mut digests);
+    put_lines(style, &samples[..count], &digests, text, sink)?;
+    outcome?;
+    Ok(count)
+}
+
+// Puts the line of the first sample.
+fn put_first<S: Store, K: Sink>(
+    style: &SampleStyle,
+    samples: &[SampleAt],
+    desk: &mut Desk,
+    store: &mut S,
+    sink: &mut K,
+) -> Result<usize, Refusal>
+    requires some { 0 < length samples.now }
+    requires window { waiting desk.old.window ≡ [] }
+    ensures empty { OnOk result (waiting desk.new.window ≡ []) }
+    ensures some { IfOk result (λ count. 0 < count) }
+    ensures few { IfOk result (λ count. count ≤ length samples.now) }
+    ensures store { OnlyCopies S.Store store.old store.new K.Sink sink.old sink.new result }
+    ensures told { IfOk result (λ count. WhereHonest S.Store store.old (λ file.
+        TakesBytes K.Sink sink.old sink.new desk.old.text desk.new.text
+        (flat_map (told_sample style.now file) (take count samples.now)))) }
+    ensures front { OnErr result (WhereHonest S.Store store.old (λ file. PutsFrontOf K.Sink
+        sink.old sink.new desk.old.text (flat_map (told_sample style.now file) samples.now))) }
+    ensures unchanged { LieBelow (length (S.file store.old)) samples.now → IsUnchanged result }
+    ensures refusal { RefusedByBoth S.Store store.old store.new K.Sink sink.old sink.new result
+        RefusesCarry }
+{
+    put_sample(style, &samples[0], desk, store, sink)?;
+    Ok(1)
+}
+
+// Puts the lines of the first samples, and says of how many: side by side where more than one has
+// room, else one alone.
+fn put_next<S: Store, K: Sink>(
+    style: &SampleStyle,
+    samples: &[SampleAt],
+    desk: &mut Desk,
+    store: &mut S,
+    sink: &mut K,
+) -> Result<usize, Refusal>
+    requires some { 0 < length samples.now }
+    requires window { waiting desk.old.window ≡ [] }
+    ensures empty { OnOk result (waiting desk.new.window ≡ []) }
+    ensures some { IfOk result (λ count. 0 < count) }
+    ensures few { IfOk result (λ count. count ≤ length samples.now) }
+    ensures store { OnlyCopies S.Store store.old store.new K.Sink sink.old sink.new result }
+    ensures told { IfOk result (λ count. WhereHonest S.Store store.old (λ file.
+        TakesBytes K.Sink sink.old sink.new desk.old.text desk.new.text
+        (flat_map (told_sample style.now file) (take count samples.now)))) }
+    ensures front { OnErr result (WhereHonest S.Store store.old (λ file. PutsFrontOf K.Sink
+        sink.old sink.new desk.old.text (flat_map (told_sample style.now file) samples.now))) }
+    ensures unchanged { LieBelow (length (S.file store.old)) samples.now → IsUnchanged result }
+    ensures refusal { RefusedByBoth S.Store store.old store.new K.Sink sink.old sink.new result
+        RefusesCarry }
+{
+    if samples.len() == 1 {
+        return put_first(style, samples, desk, store, sink);
+    }
+    let bytes = desk.sides.as_mut_slice();
+    let count = put_front_samples(style, samples, bytes, &mut desk.text, store, sink)?;
+    if count > 0 {
+        return Ok(count);
+    }
+    put_first(style, samples, desk, store, sink)
+}
+
+// Puts the lines of some samples.
+fn put_some<S: Store, K: Sink>(
+    style: &SampleStyle,
+    samples: &[SampleAt],
+    desk: &mut Desk,
+    store: &mut S,
+    sink: &mut K,
+) -> Result<(), Refusal>
+    requires { waiting desk.old.window ≡ [] }
+    ensures empty { OnOk result (waiting desk.new.window ≡ []) }
+    ensures store { OnlyCopies S.Store store.old store.new K.Sink sink.old sink.new result }
+    ensures told { WhereHonest S.Store store.old (λ file. TellsText K.Sink sink.old sink.new
+        desk.old.text desk.new.text (flat_map (told_sample style.now file) samples.now) result) }
+    ensures unchanged { LieBelow (length (S.file store.old)) samples.now → IsUnchanged result }
+    ensures refusal { RefusedByBoth S.Store store.old store.new K.Sink sink.old sink.new result
+        RefusesCarry }
+{
+    let mut rest = samples;
+    while rest.len() > 0 {
+        let count = put_next(style, rest, desk, store, sink)?;
+        let (_unused, more) = rest.split_at(count);
+        rest = more;
+    }
+    Ok(())
 }
 
 // Samples of a movie, and how their lines are written.
@@ -138,6 +301,7 @@ struct Styled<'a> {
 fn put_hand<S: Store, K: Sink, L: Ledger, M: Ledger>(
     of: Styled,
     walk: &mut Walk,
+    samples: &mut [SampleAt; MOST],
     desk: &mut Desk,
     store: &mut S,
     sink: &mut K,
@@ -160,8 +324,10 @@ fn put_hand<S: Store, K: Sink, L: Ledger, M: Ledger>(
 {
     let place = {
         let mut hand = walk.in_hand(of.movie);
-        while let Some(sample) = hand.next() {
-            put_sample(of.style, &sample, desk, store, sink)?;
+        let mut count = take_samples(&mut hand, samples);
+        while count > 0 {
+            put_some(of.style, &samples[..count], desk, store, sink)?;
+            count = take_samples(&mut hand, samples);
         }
         hand.place()
     };
@@ -192,9 +358,10 @@ fn put_walk<S: Store, K: Sink, L: Ledger, M: Ledger>(
         RefusesCarry }
     ensures looks { steps.new.looks ≡ steps.old.looks }
 {
-    put_hand(of, walk, desk, store, sink, steps)?;
+    let mut samples = [NO_SAMPLE; MOST];
+    put_hand(of, walk, &mut samples, desk, store, sink, steps)?;
     while walk.load(of.movie, store, steps)? {
-        put_hand(of, walk, desk, store, sink, steps)?;
+        put_hand(of, walk, &mut samples, desk, store, sink, steps)?;
     }
     Ok(())
 }

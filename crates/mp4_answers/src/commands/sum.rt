@@ -7,7 +7,7 @@ ghost use Rattle.mp4_present.specs.words.StoresRead.{WhereHonest};
 
 use crate::commands::hash_sink::HashSink;
 use crate::commands::normalise_reduced::normalise_reduced;
-use crate::text::digits::DIGEST;
+use crate::digests::DIGEST;
 use mp4_boxes::{Refusal, Steps};
 use mp4_content::Without;
 use mp4_store::Store;

@@ -3,9 +3,6 @@ ghost use Rattle.std.specs.Prelude.{◌≡◌, ◌+◌, ◌*◌, ◌/◌, ◌%�
 ghost use Rattle.mp4_answers.specs.format.Texts.{hex_digit, hex_digits};
 ghost use Rattle.mp4_answers.specs.words.Pairs.{pair};
 
-/// The length of a digest in bytes.
-pub const DIGEST: usize = 32;
-
 /// The two digits of each number below 100.
 const PAIRS: [u8; 200] = *b"\
     00010203040506070809101112131415161718192021222324252627282930313233343536373839\

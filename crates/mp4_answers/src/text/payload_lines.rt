@@ -1,6 +1,5 @@
 //! Payloads, spelled line by line, or told by their digests.
 ghost use Rattle.std.specs.Prelude.{◌≡◌, ◌+◌, ◌*◌, ◌/◌, ◌<◌, ◌≤◌, ◌==◌, ◌&&◌, ◌||◌, not, [], ◌∷◌, ◌++◌, length, drop, map, flat_map, codes};
-ghost use Rattle.sha2.specs.Sha256.{sha256};
 ghost use Rattle.mp4_boxes.specs.format.Children.{is_among};
 ghost use Rattle.mp4_head.specs.words.Seen.{kept_seen};
 ghost use Rattle.mp4_content.specs.format.Reduced.{metadata_kinds, reduce_kept};
@@ -8,14 +7,14 @@ ghost use Rattle.mp4_answers.specs.format.Texts.{hex_text};
 ghost use Rattle.mp4_answers.specs.format.Text.{dump_line, dump_lines, is_plain_type, kept_lines, payload_lines, shown_byte, spelled_type};
 ghost use Rattle.mp4_answers.specs.words.Telling.{Tells};
 
-use crate::text::digits::{DIGEST, hex_digit, write_byte, write_bytes, write_digits};
+use crate::digests::{DIGEST, digest};
+use crate::text::digits::{hex_digit, write_byte, write_bytes, write_digits};
 use crate::text::text_parts::{LINE_FEED, SPACE, put_parts};
 use mp4_boxes::{FourCc, Refusal};
 use mp4_content::Without;
 use mp4_head::Kept;
 use mp4_present::OutBuffer;
 use mp4_store::Sink;
-use sha2::{Digest, Sha256};
 
 /// The most bytes that are spelled; of a longer payload the digest is told.
 const MOST_SPELLED: usize = 4096;
@@ -111,15 +110,6 @@ fn put_dumps<K: Sink>(bytes: &[u8], carrier: &mut OutBuffer, sink: &mut K) -> Re
         left -= 1;
     }
     Ok(())
-}
-
-// The digest of some bytes.
-fn digest(bytes: &[u8]) -> [u8; DIGEST]
-    ensures { result ≡ sha256 bytes.now }
-{
-    let mut hasher = Sha256::new();
-    hasher.update(bytes);
-    hasher.finalize()
 }
 
 // Puts the length of a payload behind its name, and its bytes.

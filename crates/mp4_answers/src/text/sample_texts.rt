@@ -6,7 +6,8 @@ ghost use Rattle.mp4_plan.specs.format.Normal.{in_key_order, put_key};
 ghost use Rattle.mp4_answers.specs.format.Text.{group_text};
 ghost use Rattle.mp4_answers.specs.words.ToldSamples.{told_end, told_flags, told_indexes, told_line};
 
-use crate::text::digits::{DIGEST, write_byte, write_hex, write_short_digits};
+use crate::digests::DIGEST;
+use crate::text::digits::{write_byte, write_hex, write_short_digits};
 use crate::text::named_lines::write_signed;
 use crate::text::payload_lines::{write_bytes_in_hex, write_type};
 use mp4_content::{Edges, Without};

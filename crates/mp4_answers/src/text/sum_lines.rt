@@ -4,8 +4,9 @@ ghost use Rattle.mp4_boxes.specs.format.Bytes.{AreBytes};
 ghost use Rattle.mp4_answers.specs.format.SumLines.{escape_said, escaped_byte, escaped_name, header_text, is_escaped, name_text, sum_of_name, sum_text, IsName};
 ghost use Rattle.mp4_answers.specs.format.Texts.{hex_text};
 
+use crate::digests::DIGEST;
 use crate::text::cutting::{byte_of, cut};
-use crate::text::digits::{DIGEST, hex_digit};
+use crate::text::digits::hex_digit;
 use crate::text::json_text::name_json;
 use crate::text::plain_names::push_plain;
 use crate::text::tally::say_words;

@@ -1,6 +1,5 @@
-use Rattle.std.proofs.Common.{◌∙◌, ap, subst}
+use Rattle.std.proofs.Common.{ap, subst}
 use Rattle.std.specs.Prelude.{OnErr, OnOk}
-use Rattle.std.proofs.lemmas.List.{append-nil}
 use Rattle.std.proofs.lemmas.Result.{err_from_is_err_and}
 use Rattle.mp4_store.proofs.Known.{TakesPrefix-nothing}
 use Rattle.mp4_present.specs.words.OutBuffers.{PutsFrontOf, TakesBytes}
@@ -14,8 +13,8 @@ returns-in_err-digest-clause-told g c honest =
 
 pub returns-clause-told : goal.returns-clause-told
 returns-clause-told g c honest =
-    let line = c.split_at.ensures.back ∙ c.write_sample-start.ensures.written ∙ append-nil (told_line c.args.style.now c.in_ok-digest.digest c.args.sample.now) ∙ ap (λ ds. told_line c.args.style.now ds c.args.sample.now) (c.in_ok-digest.ensures.digest honest) in
+    let line = ap (λ ds. told_line c.args.style.now ds c.args.sample.now) (c.in_ok-digest.ensures.digest honest) in
     record {
-      all = subst (λ bs. OnOk c.carry.result (TakesBytes g.K.Sink c.args.sink.now c.carry.new.sink c.args.desk.now.text c.carry.new.self bs)) line c.carry.ensures.bytes;
-      front = subst (λ bs. OnErr c.carry.result (PutsFrontOf g.K.Sink c.args.sink.now c.carry.new.sink c.args.desk.now.text bs)) line c.carry.ensures.prefix;
+      all = subst (λ bs. OnOk c.put_line.result (TakesBytes g.K.Sink c.args.sink.now c.put_line.new.sink c.args.desk.now.text c.put_line.new.text bs)) line c.put_line.ensures.all;
+      front = subst (λ bs. OnErr c.put_line.result (PutsFrontOf g.K.Sink c.args.sink.now c.put_line.new.sink c.args.desk.now.text bs)) line c.put_line.ensures.front;
     }
