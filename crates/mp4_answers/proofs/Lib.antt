@@ -1,3 +1,4 @@
+pub mod ListedLines
 pub mod SumsRead
 pub mod LookedAt
 pub mod PlainNames

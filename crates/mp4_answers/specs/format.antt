@@ -23,6 +23,7 @@ pub mod AnswerLaws
 pub mod Text
 pub mod TextLaws
 pub mod SumLines
+pub mod ListedSums
 pub mod Sums
 pub mod SameAnswers
 pub mod OneTextLaws

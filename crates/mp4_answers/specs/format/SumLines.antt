@@ -1,5 +1,5 @@
 -- Lines of sums, as `sha256sum` of the GNU coreutils writes them.
-use Rattle.std.specs.Prelude.{◌≡◌, ℕ, zero, ◌<◌, ◌+◌, ◌*◌, ◌-◌, ◌==◌, ◌&&◌, ◌||◌, not, Bool, if◌then◌else◌, nat_le, List, [], ◌∷◌, ◌++◌, flat_map, codes, Option, Some, None, IsSomeAnd, Vec}
+use Rattle.std.specs.Prelude.{◌≡◌, ℕ, zero, ◌<◌, ◌+◌, ◌*◌, ◌-◌, ◌==◌, ◌&&◌, ◌||◌, not, Bool, true, false, if◌then◌else◌, nat_le, List, [], ◌∷◌, ◌++◌, flat_map, codes, Option, Some, None, IsSomeAnd, Vec}
 use Rattle.std.specs.List.{list_any}
 use Rattle.std.specs.declared.alloc.Global.{Global}
 use Rattle.mp4_content.specs.declared.without.Without.{Without}
@@ -46,6 +46,11 @@ escape_said b = if b == 110 then Some 10 else if b == 114 then Some 13
 -- a name was read, and it is this one
 abbrev pub IsName : List ℕ → Option (Vec ℕ Global) → Type 0
 IsName name read = IsSomeAnd read (λ v. v.items ≡ name)
+
+-- a name that is spelled so, escaped or not
+abbrev pub IsSpelled : Bool → List ℕ → List ℕ → Type 0
+IsSpelled true spelled name = spelled ≡ escaped_name name
+IsSpelled false spelled name = spelled ≡ name
 
 -- a name at the front of a line that a line feed ends
 abbrev pub name_text : List ℕ → List ℕ

@@ -1,8 +1,9 @@
 //! Lines of sums, as `sha256sum` of the GNU coreutils writes them, and what a list of them says.
-ghost use Rattle.std.specs.Prelude.{◌≡◌, ◌≤◌, ℕ, List, ◌∷◌, ◌++◌, length, true, false, Some, IfOk, IfSome, IsSomeAnd, OnOk};
+ghost use Rattle.std.specs.Prelude.{◌≡◌, ◌<◌, ◌≤◌, ℕ, List, ◌∷◌, ◌++◌, length, true, false, Some, IfOk, IfSome, IsSomeAnd, OnOk};
 ghost use Rattle.mp4_boxes.specs.format.Bytes.{AreBytes};
-ghost use Rattle.mp4_answers.specs.format.SumLines.{escape_said, escaped_byte, escaped_name, header_text, is_escaped, name_text, sum_of_name, sum_text, IsName};
-ghost use Rattle.mp4_answers.specs.format.Texts.{hex_text};
+ghost use Rattle.mp4_answers.specs.format.SumLines.{escape_said, escaped_byte, escaped_name, header_text, is_escaped, name_text, sum_of_name, sum_text, IsName, IsSpelled};
+ghost use Rattle.mp4_answers.specs.format.ListedSums.{SaysSum};
+ghost use Rattle.mp4_answers.specs.format.Texts.{hex_text, line_feed};
 
 use crate::digests::DIGEST;
 use crate::text::cutting::{byte_of, cut};
@@ -240,30 +241,62 @@ fn header_of(rest: &[u8]) -> ListedSum {
     }
 }
 
-/// What a line of a list says. A name is as the list has it, which is no word.
-pub fn listed_sum(alloc: Global, line: &[u8]) -> Result<ListedSum, AllocError> {
+// What stands behind two spaces, or behind a space and an asterisk.
+fn behind_mark(rest: &[u8]) -> Option<&[u8]>
+    ensures { (spelled : List ℕ) → rest.now ≡ 32 ∷ 32 ∷ spelled
+        → IsSomeAnd result (λ found. found.now ≡ spelled) }
+{
+    match rest {
+        [b' ', b' ' | b'*', spelled @ ..] => Some(spelled),
+        _ => None,
+    }
+}
+
+// The sum and the name that a line says behind its backslash, if it has one.
+fn sum_behind(alloc: Global, line: &[u8], is_escaped: bool) -> Result<ListedSum, AllocError>
+    ensures { (digest spelled name : List ℕ) → AreBytes digest → length digest ≡ 32
+        → 0 < length spelled → line.now ≡ hex_text digest ++ 32 ∷ 32 ∷ spelled
+        → IsSpelled is_escaped spelled name → IfOk result (SaysSum digest name) }
+{
     const NONE: &str = "no checksum";
-    if let Some(rest) = line.strip_prefix(HEADER) {
-        return Ok(header_of(rest));
-    }
-    if line.is_empty() || line[0] == b'#' {
-        return Ok(ListedSum::Passed);
-    }
-    let (is_escaped, line) = match line.strip_prefix(b"\\") {
-        Some(rest) => (true, rest),
-        None => (false, line),
-    };
     if line.len() < DIGITS + 3 {
         return Ok(ListedSum::Odd(NONE));
     }
     let (digits, rest) = line.split_at(DIGITS);
-    let spelled = match rest {
-        [b' ', b' ' | b'*', spelled @ ..] => spelled,
-        _ => return Ok(ListedSum::Odd(NONE)),
-    };
-    let (Some(digest), Some(name)) = (digest_of(digits), name_of(alloc, spelled, is_escaped)?)
-    else {
+    let Some(spelled) = behind_mark(rest) else {
         return Ok(ListedSum::Odd(NONE));
     };
-    Ok(ListedSum::Sum { digest, name })
+    let Some(digest) = digest_of(digits) else {
+        return Ok(ListedSum::Odd(NONE));
+    };
+    match name_of(alloc, spelled, is_escaped)? {
+        Some(name) => Ok(ListedSum::Sum { digest, name }),
+        None => Ok(ListedSum::Odd(NONE)),
+    }
+}
+
+// What a line that begins with a number sign says.
+fn remark_of(line: &[u8]) -> ListedSum {
+    match line.strip_prefix(HEADER) {
+        Some(rest) => header_of(rest),
+        None => ListedSum::Passed,
+    }
+}
+
+/// What a line of a list says. A name is as the list has it, which is no word. What `sum` writes of
+/// a file is read back: its digest, and its name.
+pub fn listed_sum(alloc: Global, line: &[u8]) -> Result<ListedSum, AllocError>
+    ensures { (digest name : List ℕ) → AreBytes digest → length digest ≡ 32 → 0 < length name
+        → line.now ++ line_feed ≡ sum_of_name name digest 10 → IfOk result (SaysSum digest name) }
+{
+    let Some((first, rest)) = line.split_first() else {
+        return Ok(ListedSum::Passed);
+    };
+    if *first == b'#' {
+        return Ok(remark_of(line));
+    }
+    if *first == b'\\' {
+        return sum_behind(alloc, rest, true);
+    }
+    sum_behind(alloc, line, false)
 }
