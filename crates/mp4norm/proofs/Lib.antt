@@ -1,2 +1,3 @@
 pub mod JobRuns
+pub mod Judged
 pub mod ListNames
