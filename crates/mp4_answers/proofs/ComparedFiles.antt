@@ -16,6 +16,7 @@ use Rattle.mp4_present.specs.words.Movies.{MovieSeen}
 use Rattle.mp4_present.specs.words.OpenedMovie.{IsOpenedAs}
 use Rattle.mp4_present.specs.words.WalkSteps.{opening_steps, walks_steps}
 use Rattle.mp4_content.specs.declared.comparing.differences.Difference.{Difference}
+use Rattle.mp4_content.specs.declared.without.Word.{Word}
 use Rattle.mp4_content.specs.declared.without.Without.{Without}
 use Rattle.mp4_content.proofs.ComparisonWhole.{no_difference_is_same}
 use Rattle.mp4_present.proofs.DenotedValid.{denoted_is_valid}
@@ -71,15 +72,15 @@ pub one_of_times : (old new a b times : ℕ) → 0 < times → new ≤ old + (a 
 one_of_times old new a b times some h = let most = mul-le-mul_right (a + b) some in omega (arith, h, most)
 
 -- one walk, of as many as there are words to be tried
-pub one_of_more : (old new a b : ℕ) (first : Without) (more tries : List Without) → tries ≡ first ∷ more → new ≤ old + (a + b) → new ≤ old + length tries * (a + b)
+pub one_of_more : (old new a b : ℕ) (first : Word) (more tries : List Word) → tries ≡ first ∷ more → new ≤ old + (a + b) → new ≤ old + length tries * (a + b)
 one_of_more old new a b first more tries e h =
-    let long : length tries ≡ suc (length more) = ap (λ (xs : List Without). length xs) e in
+    let long : length tries ≡ suc (length more) = ap (λ (xs : List Word). length xs) e in
     one_of_times old new a b (length tries) (omega (arith, long)) h
 
 -- one walk, and as many as there are others
-pub one_more_time : (old mid new a b : ℕ) (first : Without) (more tries : List Without) → tries ≡ first ∷ more → mid ≤ old + (a + b) → new ≤ mid + length more * (a + b) → new ≤ old + length tries * (a + b)
+pub one_more_time : (old mid new a b : ℕ) (first : Word) (more tries : List Word) → tries ≡ first ∷ more → mid ≤ old + (a + b) → new ≤ mid + length more * (a + b) → new ≤ old + length tries * (a + b)
 one_more_time old mid new a b first more tries e g h =
-    let long : length tries ≡ suc (length more) = ap (λ (xs : List Without). length xs) e in
+    let long : length tries ≡ suc (length more) = ap (λ (xs : List Word). length xs) e in
     subst (λ n. new ≤ old + n * (a + b)) (sym long) (one_walk_more old mid new a b (length more) g h)
 
 pub two_walks : (old mid new a b : ℕ) → mid ≤ old + (a + b) → new ≤ mid + (a + b) → new ≤ old + 2 * (a + b)

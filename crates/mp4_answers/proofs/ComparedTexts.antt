@@ -11,6 +11,7 @@ use Rattle.mp4_content.specs.words.Compared.{files_differ}
 use Rattle.mp4_present.specs.words.Movies.{MovieSeen}
 use Rattle.mp4_present.specs.words.OpenedMovie.{IsOpenedAs}
 use Rattle.mp4_content.specs.declared.comparing.differences.Difference.{Difference}
+use Rattle.mp4_content.specs.declared.without.Word.{Word}
 use Rattle.mp4_content.specs.declared.without.Without.{Without}
 use Rattle.mp4_content.proofs.ComparisonWhole.{no_difference_is_same}
 use Rattle.mp4_present.proofs.DenotedValid.{denoted_is_valid}
@@ -67,29 +68,29 @@ same_some l differ first d e some = subst (λ (f : Option Difference). IsSaid f 
 pub some_found : (given l : Without) (differ : Without → List Difference) (same : Bool) → Covers given l → same ≡ true → IsSameWith l differ same → AreSome given differ (Some l)
 some_found given l differ same c e h = (c, subst (IsSameWith l differ) e h)
 
-pub none_found : (given : Without) (differ : Without → List Difference) (same : Bool) → same ≡ false → IsSameWith everything differ same → AreSome given differ None
-none_found given differ same e h = subst (IsSameWith everything differ) e h
+pub none_found : (given l : Without) (differ : Without → List Difference) (same : Bool) → l ≡ everything → same ≡ false → IsSameWith l differ same → AreSome given differ None
+none_found given l differ same all e h = subst (λ (x : Without). differ x ≡ [] → ⊥) all (subst (IsSameWith l differ) e h)
 
 -- a word was taken away, or there was none to take, or it stays
-pub word_taken : (word given l less : Without) (differ : Without → List Difference) (same : Bool) → less ≡ less_word given l word → same ≡ true → IsSameWith less differ same → IsTried word given differ l less
+pub word_taken : (word : Word) (given l less : Without) (differ : Without → List Difference) (same : Bool) → less ≡ less_word given l word → same ≡ true → IsSameWith less differ same → IsTried word given differ l less
 word_taken word given l less differ same is e h = inl (is, λ none. subst (IsSameWith less differ) e h)
 
-pub no_word_taken : (word given l less : Without) (differ : Without → List Difference) → less ≡ less_word given l word → less ≡ l → IsTried word given differ l l
-no_word_taken word given l less differ is same = inl (sym same ∙ is, λ none. none)
+pub no_word_taken : (word : Word) (given l : Without) (differ : Without → List Difference) → less_word given l word ≡ l → IsTried word given differ l l
+no_word_taken word given l differ same = inl (sym same, λ none. none)
 
-pub word_kept : (word given l less : Without) (differ : Without → List Difference) (same : Bool) → less ≡ less_word given l word → same ≡ false → IsSameWith less differ same → IsTried word given differ l l
+pub word_kept : (word : Word) (given l less : Without) (differ : Without → List Difference) (same : Bool) → less ≡ less_word given l word → same ≡ false → IsSameWith less differ same → IsTried word given differ l l
 word_kept word given l less differ same is e h = inr (refl, subst (λ (m : Without). differ m ≡ [] → ⊥) is (subst (IsSameWith less differ) e h))
 
 -- no word is left to try, or one more was tried
-pub none_to_shrink : (words : List Without) (given : Without) (differ : Without → List Difference) (l : Without) → length words ≡ 0 → IsShrunk words given differ l l
+pub none_to_shrink : (words : List Word) (given : Without) (differ : Without → List Difference) (l : Without) → length words ≡ 0 → IsShrunk words given differ l l
 unfolding IsShrunk
 none_to_shrink [] given differ l e = refl
 none_to_shrink (w ∷ words) given differ l e = absurd (omega (arith, e))
 
-pub shrunk_on : (words : List Without) (given : Without) (differ : Without → List Difference) (l word : Without) (more : List Without) (next least : Without) → words ≡ word ∷ more → IsTried word given differ l next → IsShrunk more given differ next least
+pub shrunk_on : (words : List Word) (given : Without) (differ : Without → List Difference) (l : Without) (word : Word) (more : List Word) (next least : Without) → words ≡ word ∷ more → IsTried word given differ l next → IsShrunk more given differ next least
     → IsShrunk words given differ l least
 unfolding IsShrunk
-shrunk_on words given differ l word more next least e tried rest = subst (λ (xs : List Without). IsShrunk xs given differ l least) (sym e) (next, tried, rest)
+shrunk_on words given differ l word more next least e tried rest = subst (λ (xs : List Word). IsShrunk xs given differ l least) (sym e) (next, tried, rest)
 
 -- what is left of words that are enough, or none are
 pub none_enough : (given : Without) (differ : Without → List Difference) (first : Option Without) → first ≡ None → AreSome given differ first → IsEnough given differ None

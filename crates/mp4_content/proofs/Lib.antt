@@ -50,3 +50,4 @@ pub mod ReducedPassed
 pub mod TooLong
 pub mod WalksGone
 pub mod WalksOn
+pub mod Words

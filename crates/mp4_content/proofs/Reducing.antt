@@ -9,6 +9,7 @@ use Rattle.mp4_content.specs.format.Reduced.{metadata_kinds, sync_flag, plain_ha
 use Rattle.mp4_content.specs.declared.without.Without.{Without}
 use Rattle.mp4_content.proofs.Plain.{handler_twice, descriptions_twice}
 use Rattle.mp4_content.proofs.ReducedSamples.{left_many}
+use Rattle.mp4_content.specs.format.Words.{each, has}
 use Rattle.mp4_content.specs.format.ReducedLaws.{nothing, both, NothingReduces, ReducesOnce, ReducesInAnyOrder, ReduceIsFixed}
 
 -- ---- lists
@@ -160,18 +161,7 @@ or_turned false true = refl
 or_turned false false = refl
 
 pub both_turned : (l m : Without) → both l m ≡ both m l
-both_turned l m = λ i. record l {
-  times = or_turned l.times m.times i;
-  edits = or_turned l.edits m.edits i;
-  flags = or_turned l.flags m.flags i;
-  groups = or_turned l.groups m.groups i;
-  metadata = or_turned l.metadata m.metadata i;
-  bitrates = or_turned l.bitrates m.bitrates i;
-  ends = or_turned l.ends m.ends i;
-  origins = or_turned l.origins m.origins i;
-  labels = or_turned l.labels m.labels i;
-  timing = or_turned l.timing m.timing i;
-}
+both_turned l m = λ i. each (λ word. or_turned (has l word) (has m word) i)
 
 pub reduces_in_any_order : ReducesInAnyOrder
 reduces_in_any_order l m p =
@@ -182,18 +172,7 @@ or_same true = refl
 or_same false = refl
 
 both_same : (l : Without) → both l l ≡ l
-both_same l = λ i. record l {
-  times = or_same l.times i;
-  edits = or_same l.edits i;
-  flags = or_same l.flags i;
-  groups = or_same l.groups i;
-  metadata = or_same l.metadata i;
-  bitrates = or_same l.bitrates i;
-  ends = or_same l.ends i;
-  origins = or_same l.origins i;
-  labels = or_same l.labels i;
-  timing = or_same l.timing i;
-}
+both_same l = λ i. each (λ word. or_same (has l word) i)
 
 pub reduce_is_fixed : ReduceIsFixed
 reduce_is_fixed l p = reduces_once l l p ∙ ap (λ (words : Without). reduce words p) (both_same l)

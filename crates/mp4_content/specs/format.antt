@@ -1,5 +1,6 @@
 pub mod Zeros
 pub mod BitRates
+pub mod Words
 pub mod Reduced
 pub mod Agreeing
 pub mod Differences

@@ -6,7 +6,7 @@ ghost use Rattle.mp4_present.specs.words.StoresRead.{IsUnchanged, OnlyReads, Ref
 ghost use Rattle.mp4_content.specs.words.TrackEdges.{edges_left};
 ghost use Rattle.mp4_present.specs.words.TrackWalks.{IsWalkStill, TakesSteps, WhereComes};
 
-use crate::without::Without;
+use crate::without::{Without, Word};
 use mp4_boxes::{Refusal, Steps};
 use mp4_present::{Movie, Walk};
 use mp4_store::Store;
@@ -48,7 +48,7 @@ pub fn edges_of<S: Store, L: Ledger, M: Ledger>(
 {
     let track = walk.track();
     let samples = movie.tracks()[track].samples;
-    if !leaving.origins || samples == 0 {
+    if !leaving.has(Word::Origins) || samples == 0 {
         return Ok(Edges {
             samples,
             first_offset: 0,

@@ -1,7 +1,8 @@
 //! What is left of a presentation where something of it doesn't count, and in what two of them
 //! differ (ISO/IEC 14496-12, 8.1 to 8.9).
 //!
-//! - [`Without`] says what of a presentation doesn't count ([`reduced_laws`], [`covering_laws`]).
+//! - [`Without`] is a set of [`Word`]s, which say what of a presentation doesn't count
+//!   ([`reduced_laws`], [`covering_laws`]).
 //! - [`compare`] names the first [`Difference`] between two opened files, the two [`Movies`];
 //!   [`compare_all`] hands each to a [`Differences`] ([`comparing_laws`], [`complete_laws`]).
 //! - [`measure`] finds what the samples of each track are left by, its [`Reduction`]. [`Reduced`]
@@ -15,7 +16,7 @@
 //!
 //! ```rust
 //! use mp4_boxes::Steps;
-//! use mp4_content::{Field, Movies, Without, compare};
+//! use mp4_content::{Field, Movies, Without, Word, compare};
 //! use mp4_present::open_movie;
 //! use mp4_store::MemStore;
 //!
@@ -32,7 +33,7 @@
 //!     right: open_movie(rt.alloc(), &mut right, &mut steps)?,
 //! };
 //! let all = Without::NOTHING;
-//! let times = Without { times: true, ..all };
+//! let times = Without::each(|word| word == Word::Times);
 //! let first = compare(rt.alloc(), &movies, &mut left, &mut right, all, &mut steps)?;
 //! assert_eq!(rt; first.map(|found| found.field), Some(Field::Modification));
 //! let first = compare(rt.alloc(), &movies, &mut left, &mut right, times, &mut steps)?;
@@ -66,4 +67,4 @@ pub use peeking::peek_sample;
 pub use reduced::{Reduced, Reduction, Reductions, reduced_sample};
 pub use reduced_head::head_left;
 pub use reduced_lengths::length_left;
-pub use without::Without;
+pub use without::{Without, Word};

@@ -8,7 +8,7 @@ ghost use Rattle.mp4_content.specs.format.Zeros.{zeroed};
 ghost use Rattle.mp4_content.specs.words.PayloadsLeft.{AreMediaLeft, IsMediaLeft, box_left_seen, description_left, leaves_payloads, track_payloads_left};
 
 use crate::bit_rates::{is_type, unrated};
-use crate::without::Without;
+use crate::without::{Without, Word};
 use mp4_boxes::{FourCc, Memory};
 use mp4_head::{Kept, Media, MovieHead, TrackHead};
 use std::alloc::Global;
@@ -69,7 +69,7 @@ pub(crate) fn handler_left(
     ensures { IfOk result (λ left. left.items
         ≡ (if leaving.labels then plain_handler payload.now else payload.now)) }
 {
-    if leaving.labels {
+    if leaving.has(Word::Labels) {
         plain_handler(alloc, payload)
     } else {
         copied(alloc, payload)
@@ -93,7 +93,7 @@ fn rates_left(
     ensures { IfOk result (λ left. left.items ≡ (if leaving.bitrates
         then unrated_payload (handler_type handler.now) payload.now else payload.now)) }
 {
-    if leaving.bitrates {
+    if leaving.has(Word::Bitrates) {
         unrated(alloc, handler, payload)
     } else {
         copied(alloc, payload)
@@ -126,7 +126,7 @@ fn description_left(
         kind: kept.kind,
         payload,
     };
-    if leaving.labels && is_picture(handler) {
+    if leaving.has(Word::Labels) && is_picture(handler) {
         Ok(plain_picture(left))
     } else {
         Ok(left)

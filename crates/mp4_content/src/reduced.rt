@@ -3,7 +3,7 @@ ghost use Rattle.std.specs.Prelude.{◌≡◌, ◌||◌, if◌then◌else◌, []
 ghost use Rattle.mp4_content.specs.format.Reduced.{sync_flag};
 ghost use Rattle.mp4_content.specs.words.ComingLess.{asks_first, begun_time, moved_time, near_offset, offset_near, plain_reduction, reduce_at, reduction_by};
 
-use crate::without::Without;
+use crate::without::{Without, Word};
 use mp4_tables::{SampleAt, Samples};
 
 /// What samples of a track are left by: what is left out, and where ends or origins are, how many
@@ -28,7 +28,7 @@ pub struct Reductions {
 pub(crate) fn asks_first(leaving: Without) -> bool
     ensures { result ≡ asks_first leaving }
 {
-    (leaving.ends || leaving.origins) && !leaving.timing
+    (leaving.has(Word::Ends) || leaving.has(Word::Origins)) && !leaving.has(Word::Timing)
 }
 
 impl Reduction {
@@ -65,7 +65,7 @@ impl Reduction {
     fn begun(self, time: u64) -> u64
         ensures { result ≡ begun_time self time }
     {
-        if self.leaving.origins {
+        if self.leaving.has(Word::Origins) {
             time.saturating_sub(self.start)
         } else {
             time
@@ -77,7 +77,7 @@ impl Reduction {
         ensures { result ≡ moved_time self number time }
     {
         let begun = self.begun(time);
-        if self.leaving.ends && number != 0 {
+        if self.leaving.has(Word::Ends) && number != 0 {
             return begun
                 .saturating_sub(u64::from(self.duration))
                 .saturating_add(1);
@@ -90,7 +90,7 @@ impl Reduction {
     fn due(self, number: u32, time: u64) -> u64
         ensures { result ≡ (if self.leaving.timing then number else moved_time self number time) }
     {
-        if self.leaving.timing {
+        if self.leaving.has(Word::Timing) {
             u64::from(number)
         } else {
             self.moved(number, time)
@@ -102,10 +102,10 @@ impl Reduction {
     fn near(self, offset: i32) -> i32
         ensures { result ≡ offset_near self.leaving self.offset offset }
     {
-        if self.leaving.timing {
+        if self.leaving.has(Word::Timing) {
             return 0;
         }
-        if self.leaving.origins {
+        if self.leaving.has(Word::Origins) {
             return near_offset(i64::from(offset) - i64::from(self.offset));
         }
         offset
@@ -116,7 +116,7 @@ impl Reduction {
     fn flags(self, flags: u32) -> u32
         ensures { result ≡ (if self.leaving.flags then sync_flag flags else flags) }
     {
-        if self.leaving.flags {
+        if self.leaving.has(Word::Flags) {
             flags / 0x1_0000 % 2 * 0x1_0000
         } else {
             flags
@@ -128,14 +128,18 @@ impl Reduction {
     fn groups(self, groups: [u16; 4]) -> [u16; 4]
         ensures { result ≡ (if self.leaving.groups then 0 ∷ 0 ∷ 0 ∷ 0 ∷ [] else groups) }
     {
-        if self.leaving.groups { [0; 4] } else { groups }
+        if self.leaving.has(Word::Groups) {
+            [0; 4]
+        } else {
+            groups
+        }
     }
 
     // Whether what is left of a sample may last another time than the sample.
     fn moves_durations(self) -> bool
         ensures { result ≡ self.leaving.timing || self.leaving.ends }
     {
-        self.leaving.timing || self.leaving.ends
+        self.leaving.has(Word::Timing) || self.leaving.has(Word::Ends)
     }
 }
 

@@ -6,7 +6,7 @@ ghost use Rattle.mp4_content.specs.words.PayloadsLeft.{AreMediaLeft, keeping_pay
 ghost use Rattle.mp4_content.specs.format.Reduced.{metadata_kinds, reduce_kept, reduce_media, reduce_movie_head, reduce_track_head};
 
 use crate::own_payloads::{MediaLeft, put_payloads_left};
-use crate::without::Without;
+use crate::without::{Without, Word};
 use mp4_boxes::{FourCc, Memory};
 use mp4_head::{Kept, Media, MovieHead, TrackHead};
 use std::alloc::Global;
@@ -22,7 +22,7 @@ fn is_metadata(kind: FourCc) -> bool
 fn reduce_kept(kept: &mut Vec<Kept>, leaving: Without)
     ensures { map kept_seen kept.new.items ≡ reduce_kept leaving (map kept_seen kept.old.items) }
 {
-    if leaving.metadata {
+    if leaving.has(Word::Metadata) {
         kept.retain(|k| !is_metadata(k.kind));
     }
 }
@@ -32,7 +32,7 @@ fn reduce_media(media: &mut Media, leaving: Without)
     ensures { media_seen media.new
         ≡ reduce_media (keeping_payloads leaving) (media_seen media.old) }
 {
-    if leaving.times {
+    if leaving.has(Word::Times) {
         media.creation = 0;
         media.modification = 0;
     }
@@ -44,14 +44,14 @@ fn reduce_track(track: &mut TrackHead, leaving: Without)
     ensures { track_seen track.new
         ≡ reduce_track_head (keeping_payloads leaving) (track_seen track.old) }
 {
-    if leaving.times {
+    if leaving.has(Word::Times) {
         track.creation = 0;
         track.modification = 0;
     }
-    if leaving.edits {
+    if leaving.has(Word::Edits) {
         track.edits.clear();
     }
-    if leaving.groups {
+    if leaving.has(Word::Groups) {
         track.group_descriptions.clear();
     }
     reduce_kept(&mut track.kept, leaving);
@@ -74,7 +74,7 @@ fn reduce_head(head: &mut MovieHead, leaving: Without)
     ensures tracks { tracks_seen head.new
         ≡ map (reduce_track_head (keeping_payloads leaving)) (tracks_seen head.old) }
 {
-    if leaving.times {
+    if leaving.has(Word::Times) {
         head.creation = 0;
         head.modification = 0;
     }

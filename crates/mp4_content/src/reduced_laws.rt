@@ -2,6 +2,17 @@
 
 ghost use Rattle.mp4_content.specs.format.Agreeing.{ReduceIsExact};
 ghost use Rattle.mp4_content.specs.format.ReducedLaws.{EditsMayHoldTime, EndsMayHoldTime, NothingReduces, OriginsMayHoldOffsets, ReduceIsFixed, ReducedFaultIsOne, ReducedFaultRefuses, ReducedIsValid, ReducedStaysValid, ReducesInAnyOrder, ReducesOnce};
+ghost use Rattle.mp4_content.specs.format.Words.{EachHas, SameWords};
+
+/// A word is among those of which something is so exactly where it is so of it.
+pub fn each_has()
+    ensures { EachHas }
+{}
+
+/// Where the same words are left out, the same is left out.
+pub fn same_words()
+    ensures { SameWords }
+{}
 
 /// Leaving out nothing changes nothing.
 pub fn nothing_reduces()

@@ -11,7 +11,7 @@ ghost use Rattle.mp4_content.specs.words.LeftTimes.{NamesLong, RefusesLength, ch
 ghost use Rattle.mp4_content.specs.words.Measuring.{AreTotals};
 
 use crate::measures::Total;
-use crate::without::Without;
+use crate::without::{Without, Word};
 use mp4_boxes::{Fault, FourCc, Kind, Refusal};
 use mp4_head::{Edit, TrackHead};
 use mp4_present::{MOST_TIME, Movie, TrackInfo, length_of_edits, length_of_samples};
@@ -22,7 +22,7 @@ use std::alloc::Global;
 fn length_left_of(leaving: Without, edits: &[Edit], timescale: u32, own: u32, duration: u64) -> u128
     ensures { result ≡ left_length leaving (map edit_seen edits.now) timescale own duration }
 {
-    let by_edits = if leaving.edits {
+    let by_edits = if leaving.has(Word::Edits) {
         None
     } else {
         length_of_edits(edits)
@@ -49,7 +49,7 @@ fn checked_length(
     if end > MOST_TIME || length > MOST_TIME {
         return Err(Fault::new(Kind::TimeTooLarge, FourCc(*b"tkhd"), head.offset));
     }
-    if leaving.origins && !total.is_near {
+    if leaving.has(Word::Origins) && !total.is_near {
         return Err(Fault::new(Kind::OffsetTooLarge, FourCc(*b"tkhd"), head.offset));
     }
     Ok(length as u64)
@@ -79,7 +79,7 @@ fn longest_left(
 fn count_length(leaving: Without, edits: &[Edit], samples: u32) -> u64
     ensures { result ≡ count_length leaving (map edit_seen edits.now) samples }
 {
-    let by_edits = if leaving.edits {
+    let by_edits = if leaving.has(Word::Edits) {
         None
     } else {
         length_of_edits(edits)
@@ -120,11 +120,11 @@ pub fn length_left(
         → IfErr result (NamesLong leaving file tree) }
     ensures refusal { IfErr result (RefusesLength leaving) }
 {
-    if leaving.timing {
+    if leaving.has(Word::Timing) {
         let head = movie.head(alloc)?;
         return Ok(longest_by_count(leaving, head.tracks.as_slice(), movie.tracks()));
     }
-    if leaving.edits || leaving.ends || leaving.origins {
+    if leaving.has(Word::Edits) || leaving.has(Word::Ends) || leaving.has(Word::Origins) {
         let head = movie.head(alloc)?;
         let heads = head.tracks.as_slice();
         let tracks = movie.tracks();

@@ -1,37 +1,98 @@
 //! What doesn't count where presentations are compared by the rest.
 
-/// What is left out of a presentation (`reduce` in `specs/format/Reduced.antt`).
+/// A word that says what doesn't count.
 #[derive(Clone, Copy, Debug, PartialEq, Eq)]
-pub struct Without {
+pub enum Word {
     /// Creation and modification times of the movie, its tracks and their media (8.2.2, 8.3.2,
     /// 8.4.2): they are 0.
-    pub times: bool,
+    Times,
     /// Edit lists (8.6.6).
-    pub edits: bool,
+    Edits,
     /// All flags of samples but sample_is_non_sync_sample (8.8.3.1).
-    pub flags: bool,
+    Flags,
     /// Descriptions of sample groups and the samples' indexes of them (8.9).
-    pub groups: bool,
+    Groups,
     /// Kept boxes `udta`, `meta` and `iods` of the movie and its tracks.
-    pub metadata: bool,
+    Metadata,
     /// Bit rates and sizes of buffers in sample descriptions: `btrt` (8.5.2.2), and the fields of
     /// `esds` that say them (ISO/IEC 14496-1, 7.2.6.6).
-    pub bitrates: bool,
+    Bitrates,
     /// Durations of the first and of the last sample of a track (8.6.1.2, 8.8.8): they are 1.
-    pub ends: bool,
+    Ends,
     /// Where a track begins: it begins at 0, and from each composition offset (8.6.1.3) that of the
     /// track's first sample is taken.
-    pub origins: bool,
+    Origins,
     /// Names for people: those of handlers (8.4.3), and of compressors (12.1.3).
-    pub labels: bool,
+    Labels,
     /// When samples are decoded and shown: a track begins at 0, each duration (8.6.1.2, 8.8.8) is
     /// 1, each composition offset (8.6.1.3) 0, and the timescales (8.2.2, 8.4.2) are 1,000.
-    pub timing: bool,
+    Timing,
+}
+
+impl Word {
+    ghost use Rattle.std.specs.Prelude.{◌≡◌, ◌<◌};
+    ghost use Rattle.mp4_content.specs.format.Words.{word_name, word_number};
+
+    /// All words, in the order in which they are told of.
+    pub const ALL: &'static [Word] = &[
+        Word::Times,
+        Word::Edits,
+        Word::Flags,
+        Word::Groups,
+        Word::Metadata,
+        Word::Bitrates,
+        Word::Ends,
+        Word::Origins,
+        Word::Labels,
+        Word::Timing,
+    ];
+
+    /// Its place among all words, from 0.
+    pub fn number(self) -> u32
+        ensures value { result ≡ word_number self }
+        ensures small { result < 32 }
+    {
+        self as u32
+    }
+
+    /// What it is called.
+    pub fn name(self) -> &'static str
+        ensures { result.now ≡ word_name self }
+    {
+        match self {
+            Word::Times => "times",
+            Word::Edits => "edits",
+            Word::Flags => "flags",
+            Word::Groups => "groups",
+            Word::Metadata => "metadata",
+            Word::Bitrates => "bitrates",
+            Word::Ends => "ends",
+            Word::Origins => "origins",
+            Word::Labels => "labels",
+            Word::Timing => "timing",
+        }
+    }
+}
+
+/// The words of what is left out of a presentation (`reduce` in `specs/format/Reduced.antt`).
+#[derive(Clone, Copy, Debug, PartialEq, Eq)]
+pub struct Without {
+    times: bool,
+    edits: bool,
+    flags: bool,
+    groups: bool,
+    metadata: bool,
+    bitrates: bool,
+    ends: bool,
+    origins: bool,
+    labels: bool,
+    timing: bool,
 }
 
 impl Without {
     ghost use Rattle.std.specs.Prelude.{◌≡◌, if◌then◌else◌};
     ghost use Rattle.mp4_content.specs.format.Reduced.{duration_left, keeps_samples, offset_left, start_left, timescale_left};
+    ghost use Rattle.mp4_content.specs.format.Words.{has};
     ghost use Rattle.mp4_content.specs.words.PayloadsLeft.{leaves_payloads};
     ghost use Rattle.mp4_content.specs.words.TrackEdges.{keeps_edges};
 
@@ -48,6 +109,44 @@ impl Without {
         labels: false,
         timing: false,
     };
+
+    /// Whether a word is among them.
+    #[inline]
+    pub fn has(self, word: Word) -> bool
+        ensures { result ≡ has self word }
+    {
+        match word {
+            Word::Times => self.times,
+            Word::Edits => self.edits,
+            Word::Flags => self.flags,
+            Word::Groups => self.groups,
+            Word::Metadata => self.metadata,
+            Word::Bitrates => self.bitrates,
+            Word::Ends => self.ends,
+            Word::Origins => self.origins,
+            Word::Labels => self.labels,
+            Word::Timing => self.timing,
+        }
+    }
+
+    /// The words of which something is so.
+    pub fn each<F: Fn(Word) -> bool>(is_so: F) -> Without
+        requires { F.IsAlwaysCallable is_so }
+        ensures { (w : _) → F.post is_so w (has result w) }
+    {
+        Without {
+            times: is_so(Word::Times),
+            edits: is_so(Word::Edits),
+            flags: is_so(Word::Flags),
+            groups: is_so(Word::Groups),
+            metadata: is_so(Word::Metadata),
+            bitrates: is_so(Word::Bitrates),
+            ends: is_so(Word::Ends),
+            origins: is_so(Word::Origins),
+            labels: is_so(Word::Labels),
+            timing: is_so(Word::Timing),
+        }
+    }
 
     // A time; 0 where times don't count.
     pub(crate) fn time(self, time: u64) -> u64

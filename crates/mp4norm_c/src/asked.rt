@@ -3,7 +3,7 @@ ghost use Rattle.std.specs.Prelude.{◌≡◌, ◌<◌};
 ghost use Rattle.mp4norm_c.specs.format.Exports.{asked_of, comparison_asked, first_asked, form_of, has_flag, listing_of, syntax_of, without_of};
 
 use mp4_answers::{Asked, Form, Lines, Listing, Syntax};
-use mp4_content::Without;
+use mp4_content::{Without, Word};
 
 /// What is asked of a comparison.
 #[repr(C)]
@@ -40,21 +40,10 @@ fn has_flag(flags: u32, bit: u32) -> bool
 pub(crate) fn without_of(flags: u32) -> Option<Without>
     ensures { result ≡ without_of flags }
 {
-    if flags >= 1 << 10 {
+    if flags >> Word::ALL.len() != 0 {
         return None;
     }
-    Some(Without {
-        times: has_flag(flags, 0),
-        edits: has_flag(flags, 1),
-        flags: has_flag(flags, 2),
-        groups: has_flag(flags, 3),
-        metadata: has_flag(flags, 4),
-        bitrates: has_flag(flags, 5),
-        ends: has_flag(flags, 6),
-        origins: has_flag(flags, 7),
-        labels: has_flag(flags, 8),
-        timing: has_flag(flags, 9),
-    })
+    Some(Without::each(|word| has_flag(flags, word.number())))
 }
 
 /// The form of a list of samples; none where it is not known.

@@ -10,6 +10,7 @@ use Rattle.mp4_content.specs.format.Reduced.{reduce}
 use Rattle.mp4_content.specs.format.Comparison.{differences}
 use Rattle.mp4_content.specs.declared.comparing.differences.Difference.{Difference}
 use Rattle.mp4_content.specs.declared.without.Without.{Without}
+use Rattle.mp4_content.specs.format.Words.{all_words}
 use Rattle.mp4_content.specs.format.CoveringLaws.{Covers}
 use Rattle.mp4_answers.specs.declared.commands.compare.Listing.{Listing}
 use Rattle.mp4_answers.specs.declared.commands.compare.Listing.TheVariants as listings
@@ -93,7 +94,7 @@ PutsSuch Took IsText = (text : List ℕ) × IsText text × Took text
 
 -- how many words there are behind `--without`
 abbrev pub word_count : ℕ
-word_count = 10
+word_count = length all_words
 
 -- A file is walked over at most so many times: to list what differs; to find words that make the
 -- two the same, those that the differences ask for and then all; and without each of these words.

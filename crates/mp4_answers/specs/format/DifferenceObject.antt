@@ -11,7 +11,10 @@ use Rattle.mp4_content.specs.declared.comparing.differences.Field.TheVariants as
 use Rattle.mp4_content.specs.declared.comparing.differences.Value.{Value}
 use Rattle.mp4_content.specs.declared.comparing.differences.Value.TheVariants as values
 use Rattle.mp4_content.specs.declared.comparing.differences.Difference.{Difference}
+use Rattle.mp4_content.specs.declared.without.Word.{Word}
+use Rattle.mp4_content.specs.declared.without.Word.TheVariants as words
 use Rattle.mp4_content.specs.declared.without.Without.{Without}
+use Rattle.mp4_content.specs.format.Words.{has, word_name}
 use Rattle.mp4_answers.specs.declared.text.tally.Kind.{Kind}
 use Rattle.mp4_answers.specs.declared.text.tally.Kind.TheVariants as kinds
 use Rattle.mp4_answers.specs.format.Texts.{hex_digits, type_text, line_feed}
@@ -121,18 +124,21 @@ count_members first [] ds = []
 count_members first (kind ∷ more) ds = count_member first kind ds
     ++ count_members (first && (count_of_kind kind ds == 0)) more ds
 
--- the words that leave these out
-abbrev pub word_list : Bool → List (List ℕ × Bool) → List ℕ
-word_list first [] = []
-word_list first (word ∷ words) =
-    (if word.1 then (if first then codes "\"" else codes ",\"") ++ word.0 ++ quote else [])
-    ++ word_list (first && not word.1) words
+-- all words in the order of their bytes
+abbrev pub words_by_name : List Word
+words_by_name = words.Bitrates ∷ words.Edits ∷ words.Ends ∷ words.Flags ∷ words.Groups
+    ∷ words.Labels ∷ words.Metadata ∷ words.Origins ∷ words.Times ∷ words.Timing ∷ []
 
+-- those of some words that are left out
+abbrev pub word_list : Without → Bool → List Word → List ℕ
+word_list l first [] = []
+word_list l first (word ∷ more) =
+    (if has l word then (if first then codes "\"" else codes ",\"") ++ word_name word ++ quote
+    else []) ++ word_list l (first && not (has l word)) more
+
+-- the words that leave these out
 abbrev pub leaving_list : Without → List ℕ
-leaving_list l = word_list true ((codes "bitrates", l.bitrates) ∷ (codes "edits", l.edits)
-    ∷ (codes "ends", l.ends) ∷ (codes "flags", l.flags) ∷ (codes "groups", l.groups)
-    ∷ (codes "labels", l.labels) ∷ (codes "metadata", l.metadata) ∷ (codes "origins", l.origins)
-    ∷ (codes "times", l.times) ∷ (codes "timing", l.timing) ∷ [])
+leaving_list l = word_list l true words_by_name
 
 abbrev pub enough_value : Option Without → List ℕ
 enough_value (Some l) = codes "[" ++ leaving_list l ++ codes "]"

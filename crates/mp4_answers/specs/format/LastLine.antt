@@ -9,7 +9,9 @@ use Rattle.mp4_content.specs.declared.comparing.differences.Entries.TheVariants 
 use Rattle.mp4_content.specs.declared.comparing.differences.Field.{Field}
 use Rattle.mp4_content.specs.declared.comparing.differences.Field.TheVariants as fields
 use Rattle.mp4_content.specs.declared.comparing.differences.Difference.{Difference}
+use Rattle.mp4_content.specs.declared.without.Word.{Word}
 use Rattle.mp4_content.specs.declared.without.Without.{Without}
+use Rattle.mp4_content.specs.format.Words.{all_words, has, word_name}
 use Rattle.mp4_answers.specs.declared.text.tally.Kind.{Kind}
 use Rattle.mp4_answers.specs.declared.text.tally.Kind.TheVariants as kinds
 use Rattle.mp4_answers.specs.format.Texts.{space, line_feed}
@@ -97,18 +99,16 @@ counts_text first [] ds = []
 counts_text first (kind ∷ more) ds = count_text first kind ds
     ++ counts_text (first && (count_of_kind kind ds == 0)) more ds
 
--- the words that leave these out
-abbrev pub words_text : Bool → List (List ℕ × Bool) → List ℕ
-words_text first [] = []
-words_text first (word ∷ words) =
-    (if word.1 then (if first then codes " " else codes ",") ++ word.0 else [])
-    ++ words_text (first && not word.1) words
+-- those of some words that are left out; the first stands behind other words
+abbrev pub words_text : Without → Bool → List Word → List ℕ
+words_text l first [] = []
+words_text l first (word ∷ more) =
+    (if has l word then (if first then codes " " else codes ",") ++ word_name word else [])
+    ++ words_text l (first && not (has l word)) more
 
+-- the words that leave these out
 abbrev pub leaving_text : Without → List ℕ
-leaving_text l = words_text true ((codes "times", l.times) ∷ (codes "edits", l.edits)
-    ∷ (codes "flags", l.flags) ∷ (codes "groups", l.groups) ∷ (codes "metadata", l.metadata)
-    ∷ (codes "bitrates", l.bitrates) ∷ (codes "ends", l.ends) ∷ (codes "origins", l.origins)
-    ∷ (codes "labels", l.labels) ∷ (codes "timing", l.timing) ∷ [])
+leaving_text l = words_text l true all_words
 
 -- with which words the files are the same, or that there are none
 abbrev pub enough_text : Option Without → List ℕ

@@ -1,50 +1,48 @@
 -- Lists of words of `--without`: what they leave out.
-use Rattle.std.specs.Prelude.{◌≡◌, ℕ, ◌==◌, List, [], ◌∷◌, ◌++◌, true, false, if◌then◌else◌, Option, None, Some, codes, bytes_eq}
+use Rattle.std.specs.Prelude.{◌≡◌, ℕ, ◌==◌, Bool, List, [], ◌∷◌, ◌++◌, false, if◌then◌else◌, Option, None, Some, option_map, codes, bytes_eq}
 use Rattle.std.specs.List.{list_any}
+use Rattle.mp4_content.specs.declared.without.Word.{Word}
+use Rattle.mp4_content.specs.declared.without.Word.TheVariants as words
 use Rattle.mp4_content.specs.declared.without.Without.{Without}
+use Rattle.mp4_content.specs.format.Words.{all_words, each, word_name, word_number}
 use Rattle.mp4_content.specs.format.ReducedLaws.{both, nothing}
 use Rattle.mp4_answers.specs.format.LastLine.{leaving_text}
 
 -- ---- words
 
--- what changes when the same media are packed another way
-abbrev pub packaging : Without
-packaging = record {
-  times = true;
-  edits = true;
-  flags = true;
-  groups = true;
-  metadata = true;
-  bitrates = true;
-  ends = true;
-  origins = true;
-  labels = false;
-  timing = false;
-}
+-- the one of this name among some words
+abbrev pub named_in : List Word → List ℕ → Option Word
+named_in [] name = None
+named_in (word ∷ more) name =
+    if bytes_eq name (word_name word) then Some word else named_in more name
 
--- each word, and each named set of them, with what it leaves out
-abbrev pub known_words : List (List ℕ × Without)
-known_words = (codes "times", record nothing { times = true })
-    ∷ (codes "edits", record nothing { edits = true })
-    ∷ (codes "flags", record nothing { flags = true })
-    ∷ (codes "groups", record nothing { groups = true })
-    ∷ (codes "metadata", record nothing { metadata = true })
-    ∷ (codes "bitrates", record nothing { bitrates = true })
-    ∷ (codes "ends", record nothing { ends = true })
-    ∷ (codes "origins", record nothing { origins = true })
-    ∷ (codes "labels", record nothing { labels = true })
-    ∷ (codes "timing", record nothing { timing = true })
-    ∷ (codes "packaging-1", packaging)
-    ∷ (codes "media-1", record packaging { labels = true; timing = true }) ∷ []
+-- the words of the named sets: what changes when the same media are packed another way, and all
+-- that there were with these
+abbrev pub packaging : List Word
+packaging = words.Times ∷ words.Edits ∷ words.Flags ∷ words.Groups ∷ words.Metadata
+    ∷ words.Bitrates ∷ words.Ends ∷ words.Origins ∷ []
 
--- what the one of this name leaves out; none where it is not there
-abbrev pub meant_in : List (List ℕ × Without) → List ℕ → Option Without
-meant_in [] word = None
-meant_in (known ∷ more) word =
-    if bytes_eq word known.0 then Some known.1 else meant_in more word
+abbrev pub media : List Word
+media = packaging ++ words.Labels ∷ words.Timing ∷ []
+
+abbrev pub set_named : List ℕ → Option (List Word)
+set_named name = if bytes_eq name (codes "packaging-1") then Some packaging
+    else if bytes_eq name (codes "media-1") then Some media else None
+
+-- what some words leave out
+abbrev pub is_listed : List Word → Word → Bool
+is_listed listed word = list_any (λ one. word_number one == word_number word) listed
+
+abbrev pub only_these : List Word → Without
+only_these listed = each (is_listed listed)
+
+-- what a word leaves out, or a named set; none where the name is of neither
+abbrev pub meant_by : Option Word → Option (List Word) → Option Without
+meant_by (Some word) set = Some (only_these (word ∷ []))
+meant_by None set = option_map only_these set
 
 abbrev pub word_meant : List ℕ → Option Without
-word_meant word = meant_in known_words word
+word_meant name = meant_by (named_in all_words name) (set_named name)
 
 -- ---- lists of them
 

@@ -8,6 +8,7 @@ use Rattle.mp4_content.specs.format.Comparison.{differences}
 use Rattle.mp4_present.specs.format.Denotes.{FileTree}
 use Rattle.mp4_present.specs.words.WalkSteps.{walks_steps}
 use Rattle.mp4_content.specs.declared.comparing.differences.Difference.{Difference}
+use Rattle.mp4_content.specs.declared.without.Word.{Word}
 use Rattle.mp4_content.specs.declared.without.Without.{Without}
 use Rattle.mp4_content.specs.format.CoveringLaws.{Covers}
 use Rattle.mp4_answers.specs.format.CompareHeadline.{difference_in, last_in, listing_text, most_counted}
@@ -57,13 +58,13 @@ AreSome given differ None = differ everything ≡ [] → ⊥
 AreSome given differ (Some l) = Covers given l × (differ l ≡ [])
 
 -- One of the words was taken away, where nothing differs without the others; else it was not.
-abbrev pub IsTried : Without → Without → (Without → List Difference) → Without → Without → Type 0
+abbrev pub IsTried : Word → Without → (Without → List Difference) → Without → Without → Type 0
 IsTried word given differ l next =
     ((next ≡ less_word given l word) × (differ l ≡ [] → differ next ≡ []))
     ⊎ ((next ≡ l) × (differ (less_word given l word) ≡ [] → ⊥))
 
 -- the same of several, one after the other
-unfoldable pub IsShrunk : List Without → Without → (Without → List Difference) → Without → Without
+unfoldable pub IsShrunk : List Word → Without → (Without → List Difference) → Without → Without
     → Type 0
 IsShrunk [] given differ l least = least ≡ l
 IsShrunk (word ∷ words) given differ l least = (next : Without)

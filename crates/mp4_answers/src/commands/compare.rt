@@ -1,5 +1,5 @@
 //! Two files, compared by what they say.
-ghost use Rattle.std.specs.Prelude.{◌≡◌, ◌+◌, ◌<◌, ◌≤◌, [], ◌∷◌, length, take, Some, true, false, IfOk, IfErr, IfSome, OnOk};
+ghost use Rattle.std.specs.Prelude.{◌≡◌, ◌&&◌, not, ◌+◌, ◌<◌, ◌≤◌, [], ◌∷◌, length, take, Some, true, false, IfOk, IfErr, IfSome, OnOk};
 ghost use Rattle.mp4_answers.specs.declared.commands.compare.Listing.TheVariants.{All};
 ghost use Rattle.mp4_answers.specs.format.Steps.{TakesEachOfBoth};
 ghost use Rattle.mp4_answers.specs.format.CompareHeadline.{IsVerdict, IsTold, difference_in, PutsSuch, ComparesWithin, FindsBothWithin, most_walks, word_count};
@@ -7,6 +7,7 @@ ghost use Rattle.mp4_answers.specs.format.DifferenceObject.{last_object};
 ghost use Rattle.mp4_answers.specs.words.Compares.{side_of, says_nothing, is_silent, AddsLines, AddsLast, IsCounted, AreSome, IsEnough, IsTried, IsShrunk, IsSameWith, IsFoundOf, IsSaid, ListsFront, PutsAnswer, PutsFound, PutsSame, WalksTimes, RefusesAnswer};
 ghost use Rattle.mp4_present.specs.words.StoresRead.{IsUnchanged, WhereBothHonest};
 ghost use Rattle.mp4_answers.specs.words.StoreAndSink.{NoPutFails};
+ghost use Rattle.mp4_content.specs.format.Words.{has};
 ghost use Rattle.mp4_content.specs.words.Compared.{OfFiles, WhereOpenedBoth};
 ghost use Rattle.mp4_answers.specs.words.TwoFiles.{ComparesBoth, OfBoth, ReadsBoth, WalksOnce};
 
@@ -15,9 +16,9 @@ use crate::jobs::Syntax;
 use crate::text::difference_json::{say_difference_object, say_last_object};
 use crate::text::difference_lines::say_difference;
 use crate::text::tally::say_last;
-use crate::without_words::{EVERYTHING, WORDS, less_word};
+use crate::without_words::{TAKEN, everything, less_word};
 use mp4_boxes::{Refusal, Steps};
-use mp4_content::{Difference, Differences, Movies, Without, compare, compare_all};
+use mp4_content::{Difference, Differences, Movies, Without, Word, compare, compare_all};
 use mp4_present::open_movie;
 use mp4_store::{Sink, Store};
 use std::alloc::{AllocError, Global};
@@ -71,14 +72,14 @@ struct Compared {
 #[derive(Clone, Copy)]
 struct Trial {
     leaving: Without,
-    word: Without,
+    word: Word,
 }
 
 // Words without which two files are the same, and all that it is to be tried to take away.
 #[derive(Clone, Copy)]
 struct Shrinking<'a> {
     leaving: Without,
-    words: &'a [Without],
+    words: &'a [Word],
 }
 
 // A failure for a file.
@@ -331,10 +332,18 @@ fn first_enough<S: Store, T: Store, L: Ledger, M: Ledger>(
     if is_enough(alloc, &files.movies, left, right, guessed, steps)? {
         return Ok(Some(guessed));
     }
-    if is_enough(alloc, &files.movies, left, right, EVERYTHING, steps)? {
-        return Ok(Some(EVERYTHING));
+    let whole = everything();
+    if is_enough(alloc, &files.movies, left, right, whole, steps)? {
+        return Ok(Some(whole));
     }
     Ok(None)
+}
+
+// Whether a word is among the others, and was not given.
+fn can_take(given: Without, trial: Trial) -> bool
+    ensures { result ≡ has trial.leaving trial.word && not (has given trial.word) }
+{
+    trial.leaving.has(trial.word) && !given.has(trial.word)
 }
 
 // Takes a word away from those without which two opened files are the same, if it was not given and
@@ -359,10 +368,10 @@ fn take_word<S: Store, T: Store, L: Ledger, M: Ledger>(
     ensures grows { OnOk result (steps.old.passed ≤ steps.new.passed) }
     ensures looks { steps.new.looks ≡ steps.old.looks }
 {
-    let less = less_word(files.given, trial.leaving, trial.word);
-    if less == trial.leaving {
+    if !can_take(files.given, trial) {
         return Ok(trial.leaving);
     }
+    let less = less_word(files.given, trial.leaving, trial.word);
     if is_enough(alloc, &files.movies, left, right, less, steps)? {
         return Ok(less);
     }
@@ -432,7 +441,7 @@ fn enough_for<S: Store, T: Store, L: Ledger, M: Ledger>(
     };
     let from = Shrinking {
         leaving: first,
-        words: WORDS,
+        words: TAKEN,
     };
     let least = shrink(alloc, files, left, right, from, steps)?;
     Ok(Some(least))

@@ -1,9 +1,9 @@
 //! Which words may leave out all of some differences.
-ghost use Rattle.std.specs.Prelude.{◌≡◌, ◌||◌};
 ghost use Rattle.mp4_content.specs.format.CoveringLaws.{Covers};
 
 use crate::text::tally::{Kind, count_of_kind};
-use mp4_content::{Difference, Entries, Field, Part, Subject, Value, Without};
+use crate::without_words::leaving_both;
+use mp4_content::{Difference, Entries, Field, Part, Subject, Value, Without, Word};
 use mp4_present::TrackInfo;
 
 // Whether there is a difference of a kind.
@@ -138,13 +138,6 @@ fn asked_by(tracks: &[TrackInfo], all: &[Difference]) -> Asked {
     asked
 }
 
-// Whether something is left out, which was given or may be needed.
-fn is_left_out(was_given: bool, may_be_needed: bool) -> bool
-    ensures { (was_given || result) ≡ result }
-{
-    was_given || may_be_needed
-}
-
 /// A guess what has to be left out, beside what is left out already, for none of these differences
 /// to be left. It may be too much or too little: whether it is enough is for the caller to try. The
 /// tracks are those of one of the files.
@@ -154,20 +147,19 @@ pub(crate) fn guess(leaving: Without, all: &[Difference], tracks: &[TrackInfo]) 
     let has_detail = all.iter().any(|difference| is_detail(difference));
     let has_label = all.iter().any(|difference| is_label(difference));
     let asked = asked_by(tracks, all);
-    // Without all times nothing is left of where tracks begin and end.
-    let ends = asked.ends && !asked.timing;
-    let origins = asked.origins && !asked.timing;
     let timing = asked.timing || !is_through(tracks, asked.last);
-    Without {
-        times: is_left_out(leaving.times, has(Kind::Times, all)),
-        edits: is_left_out(leaving.edits, has(Kind::Edits, all)),
-        flags: is_left_out(leaving.flags, has(Kind::Flags, all)),
-        groups: is_left_out(leaving.groups, has(Kind::Groups, all)),
-        metadata: is_left_out(leaving.metadata, has(Kind::Kept, all)),
-        bitrates: is_left_out(leaving.bitrates, has_detail),
-        ends: is_left_out(leaving.ends, ends),
-        origins: is_left_out(leaving.origins, origins),
-        labels: is_left_out(leaving.labels, has_detail || has_label),
-        timing: is_left_out(leaving.timing, timing),
-    }
+    let needed = Without::each(|word| match word {
+        Word::Times => has(Kind::Times, all),
+        Word::Edits => has(Kind::Edits, all),
+        Word::Flags => has(Kind::Flags, all),
+        Word::Groups => has(Kind::Groups, all),
+        Word::Metadata => has(Kind::Kept, all),
+        Word::Bitrates => has_detail,
+        // Without all times nothing is left of where tracks begin and end.
+        Word::Ends => asked.ends && !asked.timing,
+        Word::Origins => asked.origins && !asked.timing,
+        Word::Labels => has_detail || has_label,
+        Word::Timing => timing,
+    });
+    leaving_both(leaving, needed)
 }

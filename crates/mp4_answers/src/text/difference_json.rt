@@ -1,9 +1,9 @@
 //! A difference, and what is said of all, as objects of JSON.
-ghost use Rattle.std.specs.Prelude.{◌≡◌, ◌≤◌, [], ◌∷◌, ◌++◌, ◌&&◌, ◌==◌, not, true, IfOk, OnOk};
+ghost use Rattle.std.specs.Prelude.{◌≡◌, ◌≤◌, ◌++◌, ◌&&◌, ◌==◌, true, IfOk, OnOk};
 ghost use Rattle.mp4_content.specs.declared.comparing.differences.Field.TheVariants as fields;
 ghost use Rattle.mp4_answers.specs.format.DifferenceLine.{difference_text};
 ghost use Rattle.mp4_answers.specs.format.LastLine.{count_of_kind};
-ghost use Rattle.mp4_answers.specs.format.DifferenceObject.{count_member, count_members, difference_object, enough_value, escaped, field_steps, json_value, kinds_by_name, last_object, leaving_list, line_members, of_member, part_steps, subject_steps, total_members, totals_front, type_string, value_members, word_list, word_step};
+ghost use Rattle.mp4_answers.specs.format.DifferenceObject.{count_member, count_members, difference_object, enough_value, escaped, field_steps, json_value, kinds_by_name, last_object, leaving_list, line_members, of_member, part_steps, subject_steps, total_members, totals_front, type_string, value_members, word_step};
 
 use crate::text::difference_lines::{
     digits_of, end_line, entries_name, entry_name, is_numbered, name_of, say, say_counted,
@@ -13,12 +13,26 @@ use crate::text::json_text::push_printable;
 use crate::text::line::Line;
 use crate::text::tally::{Kind, count_of_kind, kind_name, kind_of_difference};
 use mp4_boxes::FourCc;
-use mp4_content::{Difference, Entries, Field, Part, Subject, Value, Without};
+use mp4_content::{Difference, Entries, Field, Part, Subject, Value, Without, Word};
 use mp4_tables::GroupKey;
 use std::alloc::AllocError;
 
 // How many bytes there is room for before a line is made: few lines are longer.
 const LINE: usize = 128;
+
+// All words, in the order of their bytes.
+const BY_NAME: &[Word] = &[
+    Word::Bitrates,
+    Word::Edits,
+    Word::Ends,
+    Word::Flags,
+    Word::Groups,
+    Word::Labels,
+    Word::Metadata,
+    Word::Origins,
+    Word::Times,
+    Word::Timing,
+];
 
 // Adds a word as one more entry of a list.
 #[tactic(auto, unfolding(crate::specs::format::DifferenceObject::word_step))]
@@ -228,40 +242,21 @@ fn say_members(text: &mut Vec<u8>, all: &[Difference]) -> Result<(), AllocError>
     Ok(())
 }
 
-// Adds a word that leaves something out, if it does, and says whether none is added yet.
-fn say_left_out(
-    text: &mut Vec<u8>,
-    word: &str,
-    is_left_out: bool,
-    is_first: bool,
-) -> Result<bool, AllocError>
-    ensures text { OnOk result (text.new.items
-        ≡ text.old.items ++ word_list is_first ((word.now, is_left_out) ∷ [])) }
-    ensures first { IfOk result (λ first. first ≡ is_first && not is_left_out) }
-{
-    if !is_left_out {
-        return Ok(is_first);
-    }
-    say(text, if is_first { "\"" } else { ",\"" })?;
-    say(text, word)?;
-    say(text, "\"")?;
-    Ok(false)
-}
-
 // Adds the words that leave these out, in the order of their bytes.
 fn say_words(text: &mut Vec<u8>, leaving: Without) -> Result<(), AllocError>
     ensures { OnOk result (text.new.items ≡ text.old.items ++ leaving_list leaving) }
 {
-    let is_first = say_left_out(text, "bitrates", leaving.bitrates, true)?;
-    let is_first = say_left_out(text, "edits", leaving.edits, is_first)?;
-    let is_first = say_left_out(text, "ends", leaving.ends, is_first)?;
-    let is_first = say_left_out(text, "flags", leaving.flags, is_first)?;
-    let is_first = say_left_out(text, "groups", leaving.groups, is_first)?;
-    let is_first = say_left_out(text, "labels", leaving.labels, is_first)?;
-    let is_first = say_left_out(text, "metadata", leaving.metadata, is_first)?;
-    let is_first = say_left_out(text, "origins", leaving.origins, is_first)?;
-    let is_first = say_left_out(text, "times", leaving.times, is_first)?;
-    let _ = say_left_out(text, "timing", leaving.timing, is_first)?;
+    let mut is_first = true;
+    let mut left = BY_NAME;
+    while let Some((word, more)) = left.split_first() {
+        if leaving.has(*word) {
+            say(text, if is_first { "\"" } else { ",\"" })?;
+            say(text, word.name())?;
+            say(text, "\"")?;
+            is_first = false;
+        }
+        left = more;
+    }
     Ok(())
 }
 

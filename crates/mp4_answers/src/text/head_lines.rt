@@ -11,7 +11,7 @@ use crate::text::named_lines::{Named, Said, number, put_all_named, put_edits, sa
 use crate::text::payload_lines::{put_boxes, put_kept, put_kept_boxes, put_payload, put_payloads};
 use crate::text::text_parts::{LINE_FEED, put_parts};
 use mp4_boxes::Refusal;
-use mp4_content::Without;
+use mp4_content::{Without, Word};
 use mp4_head::{Edit, Media, MovieHead, TrackHead};
 use mp4_present::OutBuffer;
 use mp4_store::Sink;
@@ -20,7 +20,7 @@ use mp4_store::Sink;
 fn time_left(leaving: Without, time: u64) -> u64
     ensures { result ≡ (if leaving.times then 0 else time) }
 {
-    if leaving.times { 0 } else { time }
+    if leaving.has(Word::Times) { 0 } else { time }
 }
 
 // The values of a movie.
@@ -93,7 +93,11 @@ fn track_values(leaving: Without, head: &TrackHead) -> [Named; 9]
 fn edits_left<'a>(leaving: Without, edits: &'a [Edit]) -> &'a [Edit]
     ensures { result.now ≡ (if leaving.edits then [] else edits.now) }
 {
-    if leaving.edits { &edits[..0] } else { edits }
+    if leaving.has(Word::Edits) {
+        &edits[..0]
+    } else {
+        edits
+    }
 }
 
 // Puts what is left of the head of a track, but its media and group descriptions; payloads stay.
@@ -153,7 +157,7 @@ fn put_media<K: Sink>(
 fn groups_left<'a>(leaving: Without, payloads: &'a [&'a [u8]]) -> &'a [&'a [u8]]
     ensures { result.now ≡ (if leaving.groups then [] else payloads.now) }
 {
-    if leaving.groups {
+    if leaving.has(Word::Groups) {
         &payloads[..0]
     } else {
         payloads

@@ -11,7 +11,7 @@ use crate::digests::{DIGEST, digest};
 use crate::text::digits::{hex_digit, write_byte, write_bytes, write_digits};
 use crate::text::text_parts::{LINE_FEED, SPACE, put_parts};
 use mp4_boxes::{FourCc, Refusal};
-use mp4_content::Without;
+use mp4_content::{Without, Word};
 use mp4_head::Kept;
 use mp4_present::OutBuffer;
 use mp4_store::Sink;
@@ -258,7 +258,7 @@ pub(crate) fn put_boxes<K: Sink>(
 fn is_left(leaving: Without, kind: FourCc) -> bool
     ensures { result ≡ not leaving.metadata || not (is_among metadata_kinds kind.0) }
 {
-    !leaving.metadata || !is_metadata(kind)
+    !leaving.has(Word::Metadata) || !is_metadata(kind)
 }
 
 // Puts a kept box of a head; nothing, where it is metadata, which is left out.

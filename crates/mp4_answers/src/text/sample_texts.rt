@@ -10,7 +10,7 @@ use crate::digests::DIGEST;
 use crate::text::digits::{write_byte, write_hex, write_short_digits};
 use crate::text::named_lines::write_signed;
 use crate::text::payload_lines::{write_bytes_in_hex, write_type};
-use mp4_content::{Edges, Without};
+use mp4_content::{Edges, Without, Word};
 use mp4_tables::{GroupKey, Keys, SampleAt};
 
 /// At least as many bytes as a line has.
@@ -74,7 +74,7 @@ impl SampleStyle {
     pub(crate) fn new(leaving: Without, keys: Keys, edges: Edges) -> SampleStyle
         ensures { IsStyle leaving keys edges result }
     {
-        let order = if leaving.groups {
+        let order = if leaving.has(Word::Groups) {
             Keys::new()
         } else {
             in_order(&keys)
@@ -91,7 +91,7 @@ impl SampleStyle {
     fn flags(&self, flags: u32) -> u32
         ensures { result ≡ flags_left self.now.leaving flags }
     {
-        if self.leaving.flags {
+        if self.leaving.has(Word::Flags) {
             flags / 0x1_0000 % 2 * 0x1_0000
         } else {
             flags

@@ -1,9 +1,9 @@
 //! How many differences of which kind there are.
-ghost use Rattle.std.specs.Prelude.{◌≡◌, [], ◌∷◌, ◌++◌, ◌&&◌, ◌==◌, not, true, IfOk, OnOk};
-ghost use Rattle.mp4_answers.specs.format.LastLine.{all_kinds, count_of_kind, count_text, counts_text, enough_text, kind_name, kind_of_difference, kind_of_entries, last_line, leaving_text, total_end, total_front, words_text};
+ghost use Rattle.std.specs.Prelude.{◌≡◌, ◌++◌, ◌&&◌, ◌==◌, true, IfOk, OnOk};
+ghost use Rattle.mp4_answers.specs.format.LastLine.{all_kinds, count_of_kind, count_text, counts_text, enough_text, kind_name, kind_of_difference, kind_of_entries, last_line, leaving_text, total_end, total_front};
 
 use crate::text::difference_lines::{end_line, say, say_counted};
-use mp4_content::{Difference, Entries, Field, Subject, Without};
+use mp4_content::{Difference, Entries, Field, Subject, Without, Word};
 use std::alloc::AllocError;
 
 /// What a difference is of, in the order in which the kinds are told of.
@@ -114,39 +114,20 @@ fn say_counts(text: &mut Vec<u8>, all: &[Difference]) -> Result<(), AllocError>
     Ok(())
 }
 
-// Adds a word behind others, if it leaves something out, and says whether none is added yet.
-fn say_word(
-    text: &mut Vec<u8>,
-    word: &str,
-    is_left_out: bool,
-    is_first: bool,
-) -> Result<bool, AllocError>
-    ensures text { OnOk result (text.new.items
-        ≡ text.old.items ++ words_text is_first ((word.now, is_left_out) ∷ [])) }
-    ensures first { IfOk result (λ first. first ≡ is_first && not is_left_out) }
-{
-    if !is_left_out {
-        return Ok(is_first);
-    }
-    say(text, if is_first { " " } else { "," })?;
-    say(text, word)?;
-    Ok(false)
-}
-
 /// Adds the words that leave these out, a space before them and commas between them.
 pub(crate) fn say_words(text: &mut Vec<u8>, leaving: Without) -> Result<(), AllocError>
     ensures { OnOk result (text.new.items ≡ text.old.items ++ leaving_text leaving) }
 {
-    let is_first = say_word(text, "times", leaving.times, true)?;
-    let is_first = say_word(text, "edits", leaving.edits, is_first)?;
-    let is_first = say_word(text, "flags", leaving.flags, is_first)?;
-    let is_first = say_word(text, "groups", leaving.groups, is_first)?;
-    let is_first = say_word(text, "metadata", leaving.metadata, is_first)?;
-    let is_first = say_word(text, "bitrates", leaving.bitrates, is_first)?;
-    let is_first = say_word(text, "ends", leaving.ends, is_first)?;
-    let is_first = say_word(text, "origins", leaving.origins, is_first)?;
-    let is_first = say_word(text, "labels", leaving.labels, is_first)?;
-    let _ = say_word(text, "timing", leaving.timing, is_first)?;
+    let mut is_first = true;
+    let mut left = Word::ALL;
+    while let Some((word, more)) = left.split_first() {
+        if leaving.has(*word) {
+            say(text, if is_first { " " } else { "," })?;
+            say(text, word.name())?;
+            is_first = false;
+        }
+        left = more;
+    }
     Ok(())
 }
 

@@ -5,37 +5,16 @@ use Rattle.mp4_present.specs.format.Presentation.{Presentation, Valid}
 use Rattle.mp4_present.specs.format.Denotes.{Denotes}
 use Rattle.mp4_content.specs.format.Reduced.{reduce}
 use Rattle.mp4_content.specs.declared.without.Without.{Without}
+use Rattle.mp4_content.specs.format.Words.{each, has}
 use Rattle.mp4_content.specs.format.ReducedTimes.{ReducedFaultStands, ReducesInLimits}
 
 -- nothing is left out
 abbrev pub nothing : Without
-nothing = record {
-  times = false;
-  edits = false;
-  flags = false;
-  groups = false;
-  metadata = false;
-  bitrates = false;
-  ends = false;
-  origins = false;
-  labels = false;
-  timing = false;
-}
+nothing = each (λ word. false)
 
 -- what one of the two leaves out
 abbrev pub both : Without → Without → Without
-both l m = record {
-  times = l.times || m.times;
-  edits = l.edits || m.edits;
-  flags = l.flags || m.flags;
-  groups = l.groups || m.groups;
-  metadata = l.metadata || m.metadata;
-  bitrates = l.bitrates || m.bitrates;
-  ends = l.ends || m.ends;
-  origins = l.origins || m.origins;
-  labels = l.labels || m.labels;
-  timing = l.timing || m.timing;
-}
+both l m = each (λ word. has l word || has m word)
 
 -- Where nothing is left out, all stays.
 abbrev pub NothingReduces : Type 0

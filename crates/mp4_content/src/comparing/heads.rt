@@ -10,7 +10,7 @@ use crate::comparing::differences::{Difference, Entries, Field, Subject, Value};
 use crate::comparing::entries::{Entry, Spot, compare_lists, compare_payloads};
 use crate::comparing::fields::{compare_matrices, compare_numbers, compare_values, number, signed};
 use crate::own_payloads::{descriptions_left, handler_left};
-use crate::without::Without;
+use crate::without::{Without, Word};
 use mp4_boxes::{FourCc, Memory};
 use mp4_head::{Kept, Media, MovieHead, TrackHead};
 use std::alloc::Global;
@@ -26,7 +26,7 @@ fn is_metadata(kind: FourCc) -> bool
 fn is_left(leaving: Without, kind: FourCc) -> bool
     ensures { result ≡ not leaving.metadata || not (is_among metadata_kinds kind.0) }
 {
-    !leaving.metadata || !is_metadata(kind)
+    !leaving.has(Word::Metadata) || !is_metadata(kind)
 }
 
 // The kept boxes, without metadata where that is left out.
@@ -162,7 +162,7 @@ fn compare_handlers(
         ++ handlers_differ leaving of left.now right.now) }
 {
     let at = Spot::new(of, Entries::Handler, 1);
-    if !leaving.labels {
+    if !leaving.has(Word::Labels) {
         return compare_payloads(at, left, right, found);
     }
     let own = handler_left(alloc, leaving, left)?;
@@ -229,14 +229,14 @@ pub(crate) fn track_differences(
     compare_values(of, &values, &track_values(leaving, right), &mut found)?;
     compare_matrices(of, left.matrix, right.matrix, &mut found)?;
     compare_values(of, &size_values(left), &size_values(right), &mut found)?;
-    let edits = unless(leaving.edits, &left.edits);
-    let others = unless(leaving.edits, &right.edits);
+    let edits = unless(leaving.has(Word::Edits), &left.edits);
+    let others = unless(leaving.has(Word::Edits), &right.edits);
     compare_lists(of, Entries::Edits, edits, others, &mut found)?;
     compare_kept(alloc, leaving, of, &left.kept, &right.kept, &mut found)?;
     compare_media(alloc, leaving, of, &left.media, &right.media, &mut found)?;
     let list = Entries::GroupDescriptions;
-    let groups = unless(leaving.groups, &left.group_descriptions);
-    let others = unless(leaving.groups, &right.group_descriptions);
+    let groups = unless(leaving.has(Word::Groups), &left.group_descriptions);
+    let others = unless(leaving.has(Word::Groups), &right.group_descriptions);
     compare_lists(of, list, groups, others, &mut found)?;
     Ok(found)
 }

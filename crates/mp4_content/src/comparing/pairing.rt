@@ -6,7 +6,7 @@ ghost use Rattle.mp4_content.specs.words.TrackEdges.{keeps_edges};
 
 use crate::comparing::tracks::Tracks;
 use crate::edges::Edges;
-use crate::without::Without;
+use crate::without::{Without, Word};
 use mp4_boxes::Memory;
 use mp4_tables::{GroupKey, Keys};
 use std::alloc::Global;
@@ -53,7 +53,7 @@ fn joint_keys(
         else fold with_key [] (keys_seen left.now ++ keys_seen right.now))) }
 {
     let mut keys = Vec::new(alloc);
-    if !leaving.groups {
+    if !leaving.has(Word::Groups) {
         put_keys(&mut keys, left)?;
         put_keys(&mut keys, right)?;
     }

@@ -11,6 +11,7 @@ use crate::comparing::movies::Movies;
 use crate::comparing::pairing::Pairing;
 use crate::comparing::samples::{Sides, flags_left, index_at};
 use crate::file_window::FileWindow;
+use crate::without::Word;
 use mp4_boxes::Steps;
 use mp4_present::InHand;
 use mp4_tables::{SampleAt, Samples};
@@ -68,7 +69,7 @@ fn have_same_times(by: &Pairing, left: &SampleAt, right: &SampleAt) -> bool
     if by.is_plain && left.duration == right.duration && left.cto == right.cto {
         return true;
     }
-    if by.leaving.timing {
+    if by.leaving.has(Word::Timing) {
         return true;
     }
     have_same_times_left(

@@ -17,7 +17,7 @@ use crate::comparing::pairing::Pairing;
 use crate::comparing::tracks::Tracks;
 use crate::edges::{Edges, edges_of};
 use crate::file_window::FileWindow;
-use crate::without::Without;
+use crate::without::{Without, Word};
 use mp4_boxes::{Memory, Refusal, Steps};
 use mp4_present::{Movie, Walk};
 use mp4_store::Store;
@@ -29,7 +29,7 @@ use std::sync::ledger::Ledger;
 pub(crate) fn flags_left(leaving: Without, flags: u32) -> u32
     ensures { result ≡ flags_left leaving flags }
 {
-    if leaving.flags {
+    if leaving.has(Word::Flags) {
         flags / 0x1_0000 % 2 * 0x1_0000
     } else {
         flags

@@ -9,6 +9,7 @@ use Rattle.mp4_boxes.specs.declared.refusal.Refusal.{Refusal}
 use Rattle.mp4_boxes.specs.declared.refusal.Refusal.TheVariants as refusals
 use Rattle.mp4_boxes.specs.declared.rule.Rule.TheVariants.{File}
 use Rattle.mp4_content.specs.declared.without.Without.{Without}
+use Rattle.mp4_content.specs.format.Words.{all_words, each, word_number}
 use Rattle.mp4_content.specs.format.ReducedTimes.{ReducedFaultStands}
 use Rattle.mp4_answers.specs.declared.jobs.Form.{Form}
 use Rattle.mp4_answers.specs.declared.jobs.Form.TheVariants as forms
@@ -101,20 +102,10 @@ told (Err refusals.NoSuchTrack) = plain 4 0
 abbrev pub has_flag : ℕ → ℕ → Bool
 has_flag flags bit = flags / 2 ^ bit % 2 == 1
 
--- what these flags leave out; nothing known where another is set
+-- what these flags leave out, each at the number of its word; nothing known where another is set
 abbrev pub without_of : ℕ → Option Without
-without_of flags = if nat_lt flags (2 ^ 10) then Some (record {
-  times = has_flag flags 0;
-  edits = has_flag flags 1;
-  flags = has_flag flags 2;
-  groups = has_flag flags 3;
-  metadata = has_flag flags 4;
-  bitrates = has_flag flags 5;
-  ends = has_flag flags 6;
-  origins = has_flag flags 7;
-  labels = has_flag flags 8;
-  timing = has_flag flags 9;
-}) else None
+without_of flags = if nat_lt flags (2 ^ length all_words)
+    then Some (each (λ word. has_flag flags (word_number word))) else None
 
 -- the form of a list of samples, and the syntax of a list of boxes
 abbrev pub form_of : ℕ → Option Form

@@ -1,8 +1,8 @@
-use Rattle.std.proofs.Common.{arith}
+use Rattle.std.proofs.Common.{arith, subst, sym}
 use Rattle.std.proofs.lemmas.Result.{err_from_is_err_and}
 use Rattle.mp4_present.specs.words.WalkSteps.{walks_steps}
 use Rattle.mp4_content.specs.words.Compared.{files_differ}
-use Rattle.mp4_answers.specs.words.SingleWords.{everything}
+use Rattle.mp4_content.specs.format.CoveringLaws.{Covers}
 use Rattle.mp4_answers.proofs.ComparedFiles.{one_of_times, two_walks}
 use Rattle.mp4_answers.proofs.ComparedTexts.{none_found, some_found}
 use Rattle.mp4_answers.proofs.WordSets.{covers_all}
@@ -37,7 +37,8 @@ pub returns-then-branch-2-clause-enough : goal.returns-then-branch-2-clause-enou
 returns-then-branch-2-clause-enough g c = λ told right tree other o u.
     let is = c.in_ok-is_enough.ensures in
     let more = rw (is.stores.left.honesty, is.stores.left.file, is.stores.right.honesty, is.stores.right.file) at c.in_ok-is_enough-2.ensures.enough in
-    some_found c.args.files.now.given everything (λ l. files_differ l (g.S.Store.file c.args.left.now) tree (g.T.Store.file c.args.right.now) other) c.in_ok-is_enough-2.field-0 (covers_all c.args.files.now.given) c.if-branch-2.true (more told right tree other o u)
+    some_found c.args.files.now.given c.everything-whole.result (λ l. files_differ l (g.S.Store.file c.args.left.now) tree (g.T.Store.file c.args.right.now) other) c.in_ok-is_enough-2.field-0
+    (subst (Covers c.args.files.now.given) (sym c.everything-whole.ensures) (covers_all c.args.files.now.given)) c.if-branch-2.true (more told right tree other o u)
 
 pub returns-then-branch-2-clause-opened : goal.returns-then-branch-2-clause-opened
 returns-then-branch-2-clause-opened g c = λ told right tree other o u.
@@ -49,7 +50,7 @@ pub returns-clause-enough : goal.returns-clause-enough
 returns-clause-enough g c = λ told right tree other o u.
     let is = c.in_ok-is_enough.ensures in
     let more = rw (is.stores.left.honesty, is.stores.left.file, is.stores.right.honesty, is.stores.right.file) at c.in_ok-is_enough-2.ensures.enough in
-    none_found c.args.files.now.given (λ l. files_differ l (g.S.Store.file c.args.left.now) tree (g.T.Store.file c.args.right.now) other) c.in_ok-is_enough-2.field-0 c.if-branch-2.false (more told right tree other o u)
+    none_found c.args.files.now.given c.everything-whole.result (λ l. files_differ l (g.S.Store.file c.args.left.now) tree (g.T.Store.file c.args.right.now) other) c.in_ok-is_enough-2.field-0 c.everything-whole.ensures c.if-branch-2.false (more told right tree other o u)
 
 pub returns-clause-opened : goal.returns-clause-opened
 returns-clause-opened g c = λ told right tree other o u.

@@ -1,14 +1,14 @@
-use Rattle.std.proofs.Common.{sym, ◌∙◌}
+use Rattle.std.proofs.Common.{rules}
 use Rattle.std.proofs.lemmas.Result.{err_from_is_err_and}
 use Rattle.mp4_content.specs.words.Compared.{files_differ}
 use Rattle.mp4_answers.proofs.ComparedTexts.{no_word_taken, word_kept, word_taken}
-use Rattle.mp4_answers.proofs.WordSets.{equal_words}
+use Rattle.mp4_answers.proofs.WordSets.{none_to_less}
 use Rattle.mp4_answers.proofs.commands.compare.take_word.Goals as goal
 
-pub returns-then-eq-clause-tried : goal.returns-then-eq-clause-tried
-returns-then-eq-clause-tried g c = λ told right tree other o u.
-    no_word_taken c.args.trial.word c.args.files.now.given c.args.trial.leaving c.less_word-less.result (λ l. files_differ l (g.S.Store.file c.args.left.now) tree (g.T.Store.file c.args.right.now) other) c.less_word-less.ensures
-    (equal_words c.less_word-less.result c.args.trial.leaving (sym c.eq.ensures ∙ c.if-eq.true))
+pub returns-then-not-can_take-clause-tried : goal.returns-then-not-can_take-clause-tried
+returns-then-not-can_take-clause-tried g c = λ told right tree other o u.
+    no_word_taken c.args.trial.word c.args.files.now.given c.args.trial.leaving (λ l. files_differ l (g.S.Store.file c.args.left.now) tree (g.T.Store.file c.args.right.now) other)
+    (none_to_less c.args.files.now.given c.args.trial.leaving c.args.trial.word (search rules))
 
 pub returns-in_err-is_enough-clause-opened : goal.returns-in_err-is_enough-clause-opened
 returns-in_err-is_enough-clause-opened g c =

@@ -17,6 +17,8 @@ returns c =
     let edits = rw (
       c.unless-edits.ensures,
       c.unless-others.ensures,
+      c.has.ensures,
+      c.has-2.ensures,
       c.deref.ensures.value,
       c.deref-2.ensures.value,
       lists_seen edit_seen of lists.Edits (edit_differences of) _ (λ n x y. edit_seen_so of n (edit_seen x) (edit_seen y)) (if l.edits then [] else left.edits.items) (if l.edits then [] else right.edits.items),
@@ -26,6 +28,8 @@ returns c =
     let groups = rw (
       c.unless-groups.ensures,
       c.unless-others-2.ensures,
+      c.has-3.ensures,
+      c.has-4.ensures,
       c.deref-3.ensures.value,
       c.deref-4.ensures.value,
       lists_seen (λ p. p.now) of lists.GroupDescriptions (payload_differences of lists.GroupDescriptions) _ (λ n x y. refl) (if l.groups then [] else left.group_descriptions.items) (if l.groups then [] else right.group_descriptions.items),
