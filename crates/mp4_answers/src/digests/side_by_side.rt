@@ -285,7 +285,8 @@ fn find_in_turn(bytes: &[u8], messages: &[Message], digests: &mut [[u8; DIGEST]]
     }
 }
 
-// Whether lanes pay: whatever their order, none is alone for long.
+// Whether lanes pay: a block takes half again as many instructions in lanes of which one is used,
+// so no message may be longer than all others.
 fn lanes_pay(messages: &[Message]) -> bool {
     let mut total: usize = 0;
     let mut longest: usize = 0;
