@@ -212,8 +212,6 @@ struct FileJudge<'a, 'c, K, L: Ledger, M: Ledger> {
 }
 
 impl<'a, 'c, K: Sink, L: Ledger, M: Ledger> Judge for FileJudge<'a, 'c, K, L, M> {
-    ghost use Rattle.std.specs.Prelude.{Unit};
-
     ghost finds_word = { λ from to input found. Unit {0} };
 
     ghost finds_name = { λ from to name found. Unit {0} };

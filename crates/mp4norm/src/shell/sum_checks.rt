@@ -107,8 +107,6 @@ struct SumChecker<'a, 'c, K, L: Ledger, M: Ledger> {
 }
 
 impl<'a, 'c, K: Sink, L: Ledger, M: Ledger> SumJudge for SumChecker<'a, 'c, K, L, M> {
-    ghost use Rattle.std.specs.Prelude.{Unit};
-
     ghost finds = { λ from to file found. Unit {0} };
 
     fn judge_sum(&mut self, file: &ListedFile) -> Result<Found, Refusal> {
