@@ -23,7 +23,8 @@ static const char *const KINDS[] = {
     "UnknownTrack", "Gap", "OffsetTooLarge", "ItemLocation", "TooManySamples", "TimeTooLarge", "MovieTooLarge",
     "FragmentBeforeMovie"};
 static const char *const WORDS[] = {"times", "edits", "flags", "groups", "metadata",
-                                    "bitrates", "ends", "origins", "labels", "timing"};
+                                    "bitrates", "ends", "origins", "labels", "timing",
+                                    "roles"};
 enum { WORD_COUNT = sizeof WORDS / sizeof *WORDS };
 
 struct bytes {

@@ -7,12 +7,12 @@ from __future__ import annotations
 
 from collections.abc import Callable, Iterator
 from . import lister
-from .normal import descriptions, handler, kept_in, key_order
+from .normal import descriptions, handler, kept_in, key_order, roles
 
 # The words of `--without`, in their order, and the named sets of them.
 WORDS = ('times', 'edits', 'flags', 'groups', 'metadata', 'bitrates', 'ends', 'origins', 'labels',
-         'timing')
-SETS = {'packaging-1': WORDS[:8], 'media-1': WORDS}
+         'timing', 'roles')
+SETS = {'packaging-1': WORDS[:8], 'media-1': WORDS[:10]}
 # What is left out: nothing, each word, all of them, each named set.
 WORD_SETS = [(), *((word,) for word in WORDS), WORDS, *((name,) for name in SETS)]
 
@@ -192,10 +192,13 @@ def of_movie(movie) -> Iterator:
 
 def of_track(track) -> Iterator:
     fields = behind_times(track.header, 12, 16)
-    yield 'heads', 'flags', track.header.flags(), 6
+    flags, layer, group = roles(track)
+    yield 'heads', 'flags', flags, 6
     yield from times(track.header, track.left)
     yield 'heads', 'id', track.id, 0
-    yield from signed(fields, 2, layer=8, alternate_group=10, volume=12)
+    yield 'heads', 'layer', layer, 0
+    yield 'heads', 'alternate group', group, 0
+    yield from signed(fields, 2, volume=12)
     yield from matrix(fields)
     yield 'heads', 'width', fields(52, 4, False), 0
     yield 'heads', 'height', fields(56, 4, False), 0

@@ -95,12 +95,28 @@ def movie_box(movie) -> Box:
     return Box('moov', b'', boxes + [Box('mvex', b'', extends)])
 
 
+# Where a `tkhd` has what stands behind its times, ID and duration: 8 bytes before the layer.
+def behind_duration(track) -> int:
+    return track.header.inner + (36 if track.long_times else 24)
+
+
+def roles(track) -> tuple[int, int, int]:
+    """The flags of a track, its layer and its alternate group: without roles it is only said
+    whether it is enabled."""
+    flags, place = track.header.flags(), behind_duration(track) + 8
+    if 'roles' in track.left:
+        return flags & 1, 0, 0
+    layer, group = (int.from_bytes(track.header.data[at:at + 2], 'big', signed=True)
+                    for at in (place, place + 2))
+    return flags, layer, group
+
+
 def track_header(track) -> Box:
-    box = track.header
-    behind = box.inner + (36 if track.long_times else 24)
-    numbers, rest = box.data[behind + 8:behind + 14], box.data[behind + 16:behind + 60]
-    fields = full(1, box.flags()) + times_of(box, track.left) + u32(track.id) + bytes(4 + 8 + 8)
-    return Box('tkhd', fields + numbers + bytes(2) + rest)
+    box, behind = track.header, behind_duration(track)
+    flags, layer, group = roles(track)
+    volume, rest = box.data[behind + 12:behind + 14], box.data[behind + 16:behind + 60]
+    fields = full(1, flags) + times_of(box, track.left) + u32(track.id) + bytes(4 + 8 + 8)
+    return Box('tkhd', fields + u16(layer % 2**16) + u16(group % 2**16) + volume + bytes(2) + rest)
 
 
 def edits(track) -> list[Box]:

@@ -78,10 +78,11 @@ module _ (k m : Without) (timed : k.timing ≡ m.timing) where
 
   track_heads_agree : (a b : TrackHead) → a.media.descriptions ≡ b.media.descriptions → TrackHeadsAgree k a b → TrackHeadsAgree m a b → TrackHeadsAgree (common k m) a b
   track_heads_agree a b same g h = record {
-    flags = g.flags;
+    flags = either k.roles m.roles g.flags h.flags;
+    enabled = g.enabled;
     id = g.id;
-    layer = g.layer;
-    alternate_group = g.alternate_group;
+    layer = either k.roles m.roles g.layer h.layer;
+    alternate_group = either k.roles m.roles g.alternate_group h.alternate_group;
     volume = g.volume;
     matrix = g.matrix;
     width = g.width;

@@ -1,5 +1,5 @@
 -- Texts tell what they are of: heads, samples, tracks, and the whole.
-use Rattle.std.proofs.Common.{◌≡◌, ◌⊎◌, inl, inr, ℕ, zero, suc, ◌^◌, ◌<◌, ◌≤◌, ◌-◌, ltb, cond, Bool, true, false, List, [], ◌∷◌, ◌++◌, length, take, refl, sym, ap, subst, ◌∙◌, arith, append_assoc, codes, decimal}
+use Rattle.std.proofs.Common.{◌≡◌, ◌⊎◌, inl, inr, ℕ, zero, suc, ◌%◌, ◌^◌, ◌<◌, ◌≤◌, ◌-◌, ltb, cond, Bool, true, false, List, [], ◌∷◌, ◌++◌, length, take, refl, sym, ap, subst, ◌∙◌, arith, append_assoc, codes, decimal}
 use Rattle.std.specs.Prelude.{Contains, ◌&&◌, map, flat_map, filter, not, if◌then◌else◌, slice_index, ℤ, pos, negsuc, ◌-ℤ◌, FitsSigned}
 use Rattle.std.specs.Fmt.{signed_decimal}
 use Rattle.std.specs.Int.{w16, w32, w64}
@@ -674,14 +674,18 @@ told_media l m h = record {
   descriptions = each_weaker IsDescription IsToldBox told_description (reduce_descriptions l m.handler m.descriptions) (descriptions_good l m.handler m.descriptions h.descriptions);
 }
 
+role_small : (v : Bool) (n : ℤ) → FitsSigned w16 n → IsSmall (if v then pos 0 else n)
+role_small true n h = omega arith
+role_small false n h = small_16 n h
+
 told_head : (l : Without) (t : TrackHead) → IsTrackHead t → IsToldHead (reduce_track_head l t)
 told_head l t h = record {
-  flags = h.flags;
+  flags = below_if l.roles (t.flags % 2) t.flags (2 ^ 24) (omega arith) h.flags;
   creation = below_if l.times 0 t.creation (2 ^ 64) (omega arith) h.creation;
   modification = below_if l.times 0 t.modification (2 ^ 64) (omega arith) h.modification;
   id = let n = h.id in omega (arith, n);
-  layer = small_16 t.layer h.layer;
-  alternate_group = small_16 t.alternate_group h.alternate_group;
+  layer = role_small l.roles t.layer h.layer;
+  alternate_group = role_small l.roles t.alternate_group h.alternate_group;
   volume = small_16 t.volume h.volume;
   matrix = h.matrix.fits;
   width = let n = h.width in omega (arith, n);

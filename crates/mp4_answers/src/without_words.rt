@@ -21,6 +21,7 @@ pub(crate) const TAKEN: &[Word] = &[
     Word::Timing,
     Word::Ends,
     Word::Origins,
+    Word::Roles,
 ];
 
 // The words of `packaging-1`: what changes when a file is packed another way. They never change, so

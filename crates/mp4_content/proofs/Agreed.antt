@@ -206,10 +206,11 @@ module _ (l : Without) where
 
   track_head_to : (a b : TrackHead) → reduce_track_head l a ≡ reduce_track_head l b → TrackHeadsAgree l a b
   track_head_to a b e = record {
-    flags = ap (λ (x : TrackHead). x.flags) e;
+    flags = stays l.roles (λ n. n % 2) a.flags b.flags (ap (λ (x : TrackHead). x.flags) e);
+    enabled = less l.roles (λ n. n % 2) a.flags b.flags (ap (λ (x : TrackHead). x.flags) e);
     id = ap (λ (x : TrackHead). x.id) e;
-    layer = ap (λ (x : TrackHead). x.layer) e;
-    alternate_group = ap (λ (x : TrackHead). x.alternate_group) e;
+    layer = stays l.roles (λ n. pos 0) a.layer b.layer (ap (λ (x : TrackHead). x.layer) e);
+    alternate_group = stays l.roles (λ n. pos 0) a.alternate_group b.alternate_group (ap (λ (x : TrackHead). x.alternate_group) e);
     volume = ap (λ (x : TrackHead). x.volume) e;
     matrix = ap (λ (x : TrackHead). x.matrix) e;
     width = ap (λ (x : TrackHead). x.width) e;
@@ -225,10 +226,10 @@ module _ (l : Without) where
 
   track_head_from : (a b : TrackHead) → TrackHeadsAgree l a b → reduce_track_head l a ≡ reduce_track_head l b
   track_head_from a b h = λ i. record {
-    flags = h.flags i;
+    flags = same_less l.roles (λ n. n % 2) a.flags b.flags h.flags h.enabled i;
     id = h.id i;
-    layer = h.layer i;
-    alternate_group = h.alternate_group i;
+    layer = same_less l.roles (λ n. pos 0) a.layer b.layer h.layer refl i;
+    alternate_group = same_less l.roles (λ n. pos 0) a.alternate_group b.alternate_group h.alternate_group refl i;
     volume = h.volume i;
     matrix = h.matrix i;
     width = h.width i;

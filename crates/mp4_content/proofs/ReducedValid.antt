@@ -1,8 +1,8 @@
 -- What is left of what is valid is valid, where its tracks are not too long and their offsets fit.
-use Rattle.std.proofs.Common.{◌≡◌, ℕ, suc, ◌+◌, ◌*◌, ◌<◌, ◌≤◌, ◌^◌, Bool, true, false, if◌then◌else◌, List, [], ◌∷◌, ◌++◌, length, refl, sym, ap, subst, ◌∙◌, arith, length-append, ◌⊎◌, inl, inr}
+use Rattle.std.proofs.Common.{◌≡◌, ℕ, suc, ◌+◌, ◌*◌, ◌<◌, ◌≤◌, ◌^◌, ◌%◌, Bool, true, false, if◌then◌else◌, List, [], ◌∷◌, ◌++◌, length, refl, sym, ap, subst, ◌∙◌, arith, length-append, ◌⊎◌, inl, inr}
 use Rattle.std.specs.Prelude.{◌&&◌, not, map, filter, codes, ℤ, pos, ◌-ℤ◌, FitsSigned}
 use Rattle.std.specs.List.{AllByRecursion, flat_map}
-use Rattle.std.specs.Int.{div_ceil, w32}
+use Rattle.std.specs.Int.{div_ceil, w16, w32}
 use Rattle.mp4_boxes.specs.format.Bytes.{AreBytes, sum_of}
 use Rattle.mp4_boxes.specs.format.Children.{is_among}
 use Rattle.mp4_boxes.specs.format.Written.{box_bytes}
@@ -159,13 +159,13 @@ module _ (l : Without) where
 
   track_head_good : (t : TrackHead) → IsTrackHead t → IsTrackHead (reduce_track_head l t)
   track_head_good t h = record {
-    flags = h.flags;
+    flags = by_case (λ (n : ℕ). n < 2 ^ 24) l.roles (t.flags % 2) t.flags (omega arith) h.flags;
     creation = time_good t.creation h.creation;
     modification = time_good t.modification h.modification;
     id = h.id;
     id_not_0 = h.id_not_0;
-    layer = h.layer;
-    alternate_group = h.alternate_group;
+    layer = by_case (FitsSigned w16) l.roles (pos 0) t.layer (omega arith) h.layer;
+    alternate_group = by_case (FitsSigned w16) l.roles (pos 0) t.alternate_group (omega arith) h.alternate_group;
     volume = h.volume;
     matrix = h.matrix;
     width = h.width;

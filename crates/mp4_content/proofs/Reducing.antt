@@ -1,5 +1,5 @@
 -- To reduce by nothing changes nothing, and to reduce twice is to reduce once by the words of both.
-use Rattle.std.proofs.Common.{◌≡◌, ℕ, suc, Bool, true, false, if◌then◌else◌, List, [], ◌∷◌, length, refl, sym, ap, ◌∙◌, arith}
+use Rattle.std.proofs.Common.{◌≡◌, ℕ, suc, ◌%◌, Bool, true, false, if◌then◌else◌, List, [], ◌∷◌, length, refl, sym, ap, ◌∙◌, arith}
 use Rattle.std.specs.Prelude.{◌&&◌, ◌||◌, not, map, filter, ℤ, pos, ◌-ℤ◌}
 use Rattle.std.proofs.lemmas.Int.{ints}
 use Rattle.mp4_boxes.specs.format.Children.{is_among}
@@ -134,6 +134,9 @@ module _ (l m : Without) where
 
   track_head_twice : (t : TrackHead) → reduce_track_head l (reduce_track_head m t) ≡ reduce_track_head (both l m) t
   track_head_twice t = λ i. record t {
+    flags = less_twice l.roles m.roles (λ n. n % 2) (λ n. omega arith) t.flags i;
+    layer = less_twice l.roles m.roles (λ n. pos 0) (λ n. refl) t.layer i;
+    alternate_group = less_twice l.roles m.roles (λ n. pos 0) (λ n. refl) t.alternate_group i;
     creation = time_twice t.creation i;
     modification = time_twice t.modification i;
     edits = less_twice l.edits m.edits (λ edits. []) (λ edits. refl) t.edits i;

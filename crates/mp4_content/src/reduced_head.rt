@@ -48,6 +48,9 @@ fn reduce_track(track: &mut TrackHead, leaving: Without)
         track.creation = 0;
         track.modification = 0;
     }
+    track.flags = leaving.track_flags(track.flags);
+    track.layer = leaving.role(track.layer);
+    track.alternate_group = leaving.role(track.alternate_group);
     if leaving.has(Word::Edits) {
         track.edits.clear();
     }

@@ -27,6 +27,9 @@ pub enum Word {
     /// When samples are decoded and shown: a track begins at 0, each duration (8.6.1.2, 8.8.8) is
     /// 1, each composition offset (8.6.1.3) 0, and the timescales (8.2.2, 8.4.2) are 1,000.
     Timing,
+    /// What a player does with a track beside others: its flags but "track enabled" (8.3.2.3), its
+    /// layer and its alternate group (8.3.2): they are 0.
+    Roles,
 }
 
 impl Word {
@@ -45,6 +48,7 @@ impl Word {
         Word::Origins,
         Word::Labels,
         Word::Timing,
+        Word::Roles,
     ];
 
     /// Its place among all words, from 0.
@@ -70,6 +74,7 @@ impl Word {
             Word::Origins => "origins",
             Word::Labels => "labels",
             Word::Timing => "timing",
+            Word::Roles => "roles",
         }
     }
 }
@@ -87,11 +92,12 @@ pub struct Without {
     origins: bool,
     labels: bool,
     timing: bool,
+    roles: bool,
 }
 
 impl Without {
     ghost use Rattle.std.specs.Prelude.{◌≡◌, if◌then◌else◌};
-    ghost use Rattle.mp4_content.specs.format.Reduced.{duration_left, keeps_samples, offset_left, start_left, timescale_left};
+    ghost use Rattle.mp4_content.specs.format.Reduced.{duration_left, keeps_samples, offset_left, role_left, start_left, timescale_left, track_flags_left};
     ghost use Rattle.mp4_content.specs.format.Words.{has};
     ghost use Rattle.mp4_content.specs.words.PayloadsLeft.{leaves_payloads};
     ghost use Rattle.mp4_content.specs.words.TrackEdges.{keeps_edges};
@@ -108,6 +114,7 @@ impl Without {
         origins: false,
         labels: false,
         timing: false,
+        roles: false,
     };
 
     /// Whether a word is among them.
@@ -126,6 +133,7 @@ impl Without {
             Word::Origins => self.origins,
             Word::Labels => self.labels,
             Word::Timing => self.timing,
+            Word::Roles => self.roles,
         }
     }
 
@@ -145,6 +153,7 @@ impl Without {
             origins: is_so(Word::Origins),
             labels: is_so(Word::Labels),
             timing: is_so(Word::Timing),
+            roles: is_so(Word::Roles),
         }
     }
 
@@ -160,6 +169,20 @@ impl Without {
         ensures { result ≡ timescale_left self timescale }
     {
         if self.timing { 1000 } else { timescale }
+    }
+
+    /// The flags of a track; "track enabled" alone where roles don't count.
+    pub fn track_flags(self, flags: u32) -> u32
+        ensures { result ≡ track_flags_left self flags }
+    {
+        if self.roles { flags % 2 } else { flags }
+    }
+
+    /// The layer or the alternate group of a track; 0 where roles don't count.
+    pub fn role(self, role: i16) -> i16
+        ensures { result ≡ role_left self role }
+    {
+        if self.roles { 0 } else { role }
     }
 
     /// When a track begins; 0 where timing doesn't count, or where tracks begin.

@@ -13,7 +13,8 @@ everything = each (λ word. true)
 -- leave out less
 abbrev pub single_words : List Word
 single_words = words.Times ∷ words.Edits ∷ words.Flags ∷ words.Groups ∷ words.Metadata
-    ∷ words.Bitrates ∷ words.Labels ∷ words.Timing ∷ words.Ends ∷ words.Origins ∷ []
+    ∷ words.Bitrates ∷ words.Labels ∷ words.Timing ∷ words.Ends ∷ words.Origins
+    ∷ words.Roles ∷ []
 
 -- what is left out without one of the words, unless that one was given
 abbrev pub less_word : Without → Without → Word → Without

@@ -26,6 +26,15 @@ fn is_detail(difference: &Difference) -> bool {
     }
 }
 
+// Whether a difference is of what a player does with a track beside others.
+fn is_role(difference: &Difference) -> bool {
+    match (difference.field, difference.subject) {
+        (Field::Flags, Subject::Track(_)) => true,
+        (Field::Layer | Field::AlternateGroup, _) => true,
+        _ => false,
+    }
+}
+
 // By how much the composition offset of a sample differs.
 #[derive(Clone, Copy)]
 struct Shift {
@@ -146,6 +155,7 @@ pub(crate) fn guess(leaving: Without, all: &[Difference], tracks: &[TrackInfo]) 
 {
     let has_detail = all.iter().any(|difference| is_detail(difference));
     let has_label = all.iter().any(|difference| is_label(difference));
+    let has_role = all.iter().any(|difference| is_role(difference));
     let asked = asked_by(tracks, all);
     let timing = asked.timing || !is_through(tracks, asked.last);
     let needed = Without::each(|word| match word {
@@ -160,6 +170,7 @@ pub(crate) fn guess(leaving: Without, all: &[Difference], tracks: &[TrackInfo]) 
         Word::Origins => asked.origins && !asked.timing,
         Word::Labels => has_detail || has_label,
         Word::Timing => timing,
+        Word::Roles => has_role,
     });
     leaving_both(leaving, needed)
 }

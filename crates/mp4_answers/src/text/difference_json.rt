@@ -30,6 +30,7 @@ const BY_NAME: &[Word] = &[
     Word::Labels,
     Word::Metadata,
     Word::Origins,
+    Word::Roles,
     Word::Times,
     Word::Timing,
 ];

@@ -77,11 +77,14 @@ fn track_values(leaving: Without, head: &TrackHead) -> [Named; 9]
         ≡ track_front (reduce_track_head (keeping_payloads leaving) (track_seen head.now)) }
 {
     [
-        saying(b"flags", Said::Flags(head.flags)),
+        saying(b"flags", Said::Flags(leaving.track_flags(head.flags))),
         number(b"creation", time_left(leaving, head.creation)),
         number(b"modification", time_left(leaving, head.modification)),
-        signed(b"layer", i64::from(head.layer)),
-        signed(b"alternate_group", i64::from(head.alternate_group)),
+        signed(b"layer", i64::from(leaving.role(head.layer))),
+        signed(
+            b"alternate_group",
+            i64::from(leaving.role(head.alternate_group)),
+        ),
         signed(b"volume", i64::from(head.volume)),
         saying(b"matrix", Said::Matrix(head.matrix)),
         number(b"width", u64::from(head.width)),

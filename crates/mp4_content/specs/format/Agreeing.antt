@@ -51,10 +51,11 @@ pub record MediaAgree (l : Without) (a b : Media) : Type 0 where
       ≡ plain_descriptions b.handler (unrated_descriptions b.handler b.descriptions)
 
 pub record TrackHeadsAgree (l : Without) (a b : TrackHead) : Type 0 where
-  pub flags : a.flags ≡ b.flags
+  pub flags : l.roles ≡ false → a.flags ≡ b.flags
+  pub enabled : a.flags % 2 ≡ b.flags % 2
   pub id : a.id ≡ b.id
-  pub layer : a.layer ≡ b.layer
-  pub alternate_group : a.alternate_group ≡ b.alternate_group
+  pub layer : l.roles ≡ false → a.layer ≡ b.layer
+  pub alternate_group : l.roles ≡ false → a.alternate_group ≡ b.alternate_group
   pub volume : a.volume ≡ b.volume
   pub matrix : a.matrix ≡ b.matrix
   pub width : a.width ≡ b.width

@@ -122,8 +122,19 @@ reduce_media l m = record m {
   descriptions = reduce_descriptions l m.handler m.descriptions;
 }
 
+-- of a track's flags "track enabled" alone where roles don't count (8.3.2.3)
+abbrev pub track_flags_left : Without → ℕ → ℕ
+track_flags_left l flags = if l.roles then flags % 2 else flags
+
+-- a layer or an alternate group, which is 0 there (8.3.2)
+abbrev pub role_left : Without → ℤ → ℤ
+role_left l role = if l.roles then pos 0 else role
+
 abbrev pub reduce_track_head : Without → TrackHead → TrackHead
 reduce_track_head l t = record t {
+  flags = track_flags_left l t.flags;
+  layer = role_left l t.layer;
+  alternate_group = role_left l t.alternate_group;
   creation = if l.times then 0 else t.creation;
   modification = if l.times then 0 else t.modification;
   edits = if l.edits then [] else t.edits;

@@ -7,7 +7,8 @@ use Rattle.mp4_content.specs.declared.without.Without.{Without}
 -- all words, in the order in which they are told of
 abbrev pub all_words : List Word
 all_words = words.Times ∷ words.Edits ∷ words.Flags ∷ words.Groups ∷ words.Metadata
-    ∷ words.Bitrates ∷ words.Ends ∷ words.Origins ∷ words.Labels ∷ words.Timing ∷ []
+    ∷ words.Bitrates ∷ words.Ends ∷ words.Origins ∷ words.Labels ∷ words.Timing ∷ words.Roles
+    ∷ []
 
 -- the place of a word among these
 abbrev pub word_number : Word → ℕ
@@ -21,6 +22,7 @@ word_number words.Ends = 6
 word_number words.Origins = 7
 word_number words.Labels = 8
 word_number words.Timing = 9
+word_number words.Roles = 10
 
 -- what each word is called
 abbrev pub word_name : Word → List ℕ
@@ -34,6 +36,7 @@ word_name words.Ends = codes "ends"
 word_name words.Origins = codes "origins"
 word_name words.Labels = codes "labels"
 word_name words.Timing = codes "timing"
+word_name words.Roles = codes "roles"
 
 -- the word is among those that say what is left out
 abbrev pub has : Without → Word → Bool
@@ -47,6 +50,7 @@ has l words.Ends = l.ends
 has l words.Origins = l.origins
 has l words.Labels = l.labels
 has l words.Timing = l.timing
+has l words.Roles = l.roles
 
 -- the words of which this is so
 abbrev pub each : (Word → Bool) → Without
@@ -61,6 +65,7 @@ each is_so = record {
   origins = is_so words.Origins;
   labels = is_so words.Labels;
   timing = is_so words.Timing;
+  roles = is_so words.Roles;
 }
 
 -- ---- laws of them

@@ -93,12 +93,15 @@ fn track_values(leaving: Without, head: &TrackHead) -> [(Field, Value); 7]
     ensures { result ≡ track_values (reduce_track_head leaving (track_seen head.now)) }
 {
     [
-        number(Field::Flags, u64::from(head.flags)),
+        number(Field::Flags, u64::from(leaving.track_flags(head.flags))),
         number(Field::Creation, leaving.time(head.creation)),
         number(Field::Modification, leaving.time(head.modification)),
         number(Field::Id, u64::from(head.id)),
-        signed(Field::Layer, i64::from(head.layer)),
-        signed(Field::AlternateGroup, i64::from(head.alternate_group)),
+        signed(Field::Layer, i64::from(leaving.role(head.layer))),
+        signed(
+            Field::AlternateGroup,
+            i64::from(leaving.role(head.alternate_group)),
+        ),
         signed(Field::Volume, i64::from(head.volume)),
     ]
 }
