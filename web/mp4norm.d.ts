@@ -156,7 +156,7 @@ export interface Mp4File {
 
 /** The calls, each on bytes or on a file that is open. */
 export interface Mp4Norm {
-    /** As `0.2.0`. */
+    /** As `0.3.0`. */
     readonly version: string | undefined;
     /** Takes over the bytes of a file for more than one call: they are copied once. */
     open(bytes: Bytes): Mp4File;

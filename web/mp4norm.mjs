@@ -117,7 +117,7 @@ class Mp4Norm {
         return new Mp4File(this.#of, bytes);
     }
 
-    /** The version of mp4norm, as `0.2.0`; `undefined` of a module that can't tell. */
+    /** The version of mp4norm, as `0.3.0`; `undefined` of a module that can't tell. */
     get version() {
         return this.#of.version();
     }

@@ -195,7 +195,7 @@ pub extern "C" fn mp4norm_version(version: &mut Version)
 {
     *version = Version {
         major: 0,
-        minor: 2,
+        minor: 3,
         patch: 0,
     };
 }

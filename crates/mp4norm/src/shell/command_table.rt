@@ -4,7 +4,7 @@ use clap::{Arg, ArgAction, Command, value_parser};
 use std::alloc::{AllocError, Global};
 
 /// The program's version, and the number of the normal form.
-const VERSION: &str = "0.2.0, normal form 1";
+const VERSION: &str = "0.3.0, normal form 1";
 
 /// What stands behind the help of the whole program.
 const AFTER_HELP: &str = "\

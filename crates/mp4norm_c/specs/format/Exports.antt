@@ -153,7 +153,7 @@ comparison_asked c = asked_of (without_of c.words)
 
 -- this version
 abbrev pub version_here : Version
-version_here = record { major = 0; minor = 2; patch = 0 }
+version_here = record { major = 0; minor = 3; patch = 0 }
 
 -- ---- windows
 
