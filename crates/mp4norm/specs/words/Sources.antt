@@ -13,7 +13,7 @@ use Rattle.mp4norm.specs.declared.shell.sources.Source.TheVariants as sources
 
 -- all reads of standard input are of the bytes that were read
 abbrev pub honest_of : Store (BufferedStore (FileStore File)) → Store (NearStore (FileStore File))
-    → Store (BufferedStore ListStore) → Source
+    → Store (NearStore (BufferedStore ListStore)) → Source
     → Bool
 honest_of S N T (sources.File store watched) = S.is_honest store
 honest_of S N T (sources.Headers store watched) = N.is_honest store
@@ -22,7 +22,7 @@ honest_of S N T (sources.List list) = T.is_honest list.store
 
 -- these are its file
 abbrev pub file_of : Store (BufferedStore (FileStore File)) → Store (NearStore (FileStore File))
-    → Store (BufferedStore ListStore) → Source
+    → Store (NearStore (BufferedStore ListStore)) → Source
     → List ℕ
 file_of S N T (sources.File store watched) = S.file store
 file_of S N T (sources.Headers store watched) = N.file store
@@ -31,7 +31,7 @@ file_of S N T (sources.List list) = T.file list.store
 
 -- and none of its reads fails
 abbrev pub failures_of : Store (BufferedStore (FileStore File)) → Store (NearStore (FileStore File))
-    → Store (BufferedStore ListStore) → Source → ℕ
+    → Store (NearStore (BufferedStore ListStore)) → Source → ℕ
 failures_of S N T (sources.File store watched) = S.read_failures store
 failures_of S N T (sources.Headers store watched) = N.read_failures store
 failures_of S N T (sources.Input bytes) = 0

@@ -188,6 +188,13 @@ impl<S: Store> NearStore<S> {
         })
     }
 
+    /// The store below.
+    pub(crate) fn below(&self) -> &S
+        ensures { result.now ≡ self.now.0 }
+    {
+        &self.store
+    }
+
     // Gives bytes that were read with a header; `false` where they weren't.
     fn give(&mut self, at: u64, out: &mut [u8]) -> bool
         ensures same { self.new ≡ self.old }

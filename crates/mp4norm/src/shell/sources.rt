@@ -144,15 +144,15 @@ impl<'a> Store for Source<'a> {
 
     ghost is_honest = { honest_of ⟦<BufferedStore<FileStore<File>> as Store>⟧
         ⟦<NearStore<FileStore<File>> as Store>⟧
-        ⟦<BufferedStore<ListStore<'a>> as Store>⟧ };
+        ⟦<NearStore<BufferedStore<ListStore<'a>>> as Store>⟧ };
 
     ghost file = { file_of ⟦<BufferedStore<FileStore<File>> as Store>⟧
         ⟦<NearStore<FileStore<File>> as Store>⟧
-        ⟦<BufferedStore<ListStore<'a>> as Store>⟧ };
+        ⟦<NearStore<BufferedStore<ListStore<'a>>> as Store>⟧ };
 
     ghost read_failures = { failures_of ⟦<BufferedStore<FileStore<File>> as Store>⟧
         ⟦<NearStore<FileStore<File>> as Store>⟧
-        ⟦<BufferedStore<ListStore<'a>> as Store>⟧ };
+        ⟦<NearStore<BufferedStore<ListStore<'a>>> as Store>⟧ };
 
     fn len(&self) -> u64 {
         match self {
