@@ -1,3 +1,4 @@
 pub mod Actions
+pub mod NearBytes
 pub mod Outgoing
 pub mod Sources

@@ -5,7 +5,8 @@ ghost use Rattle.mp4norm.specs.format.Runs.{HasChanged};
 use crate::shell::file_change::State;
 use crate::shell::file_names::{shown, word_of};
 use crate::shell::lists::{ListFault, listed_names};
-use crate::shell::named_files::{ListStore, NamedFile, room_for};
+use crate::shell::named_files::{ListStore, NamedFile, front_of, room_for};
+use crate::shell::near_store::NearStore;
 use crate::shell::part_checks::check_parts;
 use crate::shell::reports::Report;
 use crate::shell::sources::read_whole;
@@ -30,7 +31,7 @@ struct Listed {
 #[derive(Drop)]
 pub(crate) struct ListSource<'a> {
     rt: &'a HostRuntime,
-    pub(crate) store: BufferedStore<ListStore<'a>>,
+    pub(crate) store: NearStore<BufferedStore<ListStore<'a>>>,
     listed: Listed,
 }
 
@@ -104,8 +105,7 @@ pub(crate) fn open_list<'a>(
         states: Vec::new(alloc),
         ends: Vec::new(alloc),
     };
-    let mut files = Vec::new(alloc);
-    let (mut end, mut held) = (0u64, 0u64);
+    let mut end = 0u64;
     for name in &listed.names {
         let path = path_of(alloc, folder, name.as_slice())?;
         let looked = look(rt, path.as_str());
@@ -116,14 +116,12 @@ pub(crate) fn open_list<'a>(
         end = end.saturating_add(state.len);
         listed.ends.push(end)?;
         listed.states.push(state)?;
-        let room = room_for(alloc, state.len, held)?;
-        held = held.saturating_add(room.len() as u64);
-        files.push(NamedFile::new(rt, path.clone()?, state, room))?;
         listed.paths.push(path)?;
     }
-    match ListStore::new(alloc, files)? {
+    match ListStore::new(alloc, listed.files(rt)?)? {
         Some(store) => {
             let store = BufferedStore::new(alloc, store)?;
+            let store = NearStore::new(alloc, store)?;
             report.concerns_none();
             Ok(ListSource { rt, store, listed })
         }
@@ -139,7 +137,7 @@ impl<'a> ListSource<'a> {
 
     /// The file of the list that could not be read last.
     pub(crate) fn trouble(&self) -> Option<&str> {
-        let part = self.store.below().trouble()?;
+        let part = self.store.below().below().trouble()?;
         Some(self.listed.paths.get(part)?.as_str())
     }
 
@@ -158,6 +156,18 @@ impl<'a> ListSource<'a> {
 }
 
 impl Listed {
+    // The files, of which nothing is read yet.
+    fn files<'a>(&self, rt: &'a HostRuntime) -> Result<Vec<NamedFile<'a>>, AllocError> {
+        let alloc = rt.alloc();
+        let front = front_of(self.states.as_slice());
+        let mut files = Vec::new(alloc);
+        for (name, state) in self.paths.iter().zip(self.states.iter()) {
+            let room = room_for(alloc, state.len, front)?;
+            files.push(NamedFile::new(rt, name.clone()?, *state, room))?;
+        }
+        Ok(files)
+    }
+
     // Whether all files are as they were.
     fn stays(&self, rt: &HostRuntime) -> Result<(), Refusal>
         ensures { IfErr result (HasChanged true) }

@@ -15,6 +15,7 @@ pub mod input;
 pub mod list_sources;
 pub mod lists;
 pub mod named_files;
+pub mod near_store;
 pub mod output;
 pub mod part_checks;
 pub mod part_files;

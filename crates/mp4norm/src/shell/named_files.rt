@@ -10,22 +10,25 @@ use std::os::unix::fs::FileExt;
 /// At most so many files of a list are open.
 const MOST_OPEN: usize = 16;
 
-/// A file of at most so many bytes is read whole where there is room for it.
-const SMALL: u64 = 65_536;
+/// At most so many first bytes of each file are kept.
+const LONG_FRONT: u64 = 65_536;
 
-/// There is room for so many bytes of small files.
+/// So many are kept of each file where there are very many.
+const SHORT_FRONT: u64 = 1024;
+
+/// Of fewer files no more than so many bytes are kept in all.
 const ROOM: u64 = 1 << 24;
 
 /// A file by its name, and how it was when it was first looked at. While it isn't held open, it is
-/// opened for each read; one that has room is opened once, and then read from there. What it gives
-/// isn't known.
+/// opened for each read; its first bytes, for which there is room, are read once and kept. What it
+/// gives isn't known.
 #[derive(Drop)]
 pub(crate) struct NamedFile<'a> {
     rt: &'a HostRuntime,
     name: String,
     state: State,
     held: Option<File>,
-    // Room for all of its bytes, or none; and whether they are there.
+    // Room for its first bytes, and whether they are there.
     room: Vec<u8>,
     is_read: bool,
     failed: u64,
@@ -66,7 +69,7 @@ impl<'a> NamedFile<'a> {
         }
     }
 
-    // Reads all bytes of a file that has room for them, the first time.
+    // Reads the bytes that there is room for, the first time.
     fn fill(&mut self) -> Result<(), StoreFailed>
         ensures state { self.new.state ≡ self.old.state }
         ensures count { self.new.failed ≡ self.old.failed }
@@ -88,7 +91,7 @@ impl<'a> NamedFile<'a> {
         ensures state { self.new.state ≡ self.old.state }
         ensures count { self.new.failed ≡ self.old.failed }
     {
-        if self.is_small() {
+        if self.keeps(at, out.len() as u64) {
             self.fill()?;
             return copy_from(self.room.as_slice(), at, out);
         }
@@ -99,19 +102,29 @@ impl<'a> NamedFile<'a> {
         read.map_err(|_| StoreFailed)
     }
 
-    // Whether the file is read whole.
-    fn is_small(&self) -> bool {
-        !self.room.is_empty()
+    // Whether there is room for so many bytes from a place on.
+    fn keeps(&self, at: u64, len: u64) -> bool {
+        let room = self.room.len() as u64;
+        at <= room && len <= room - at
     }
 }
 
-/// The room for a file of so many bytes, where so many of files before it are held: for all of them
-/// if they are few, else none.
-pub(crate) fn room_for(alloc: Global, len: u64, held: u64) -> Result<Vec<u8>, AllocError> {
-    if len > SMALL || held > ROOM - len {
-        return Ok(Vec::new(alloc));
+/// How many first bytes of each of these files are kept: as many of each, and no fewer than a
+/// `moof` often has.
+pub(crate) fn front_of(states: &[State]) -> u64 {
+    let mut all = 0u64;
+    for state in states {
+        all = all.saturating_add(state.len.min(LONG_FRONT));
     }
-    vec![in alloc; 0u8; len as usize]
+    if all <= ROOM {
+        return LONG_FRONT;
+    }
+    (ROOM / (states.len() as u64).max(1)).clamp(SHORT_FRONT, LONG_FRONT)
+}
+
+/// The room for the first bytes of a file of so many, at most so many.
+pub(crate) fn room_for(alloc: Global, len: u64, front: u64) -> Result<Vec<u8>, AllocError> {
+    vec![in alloc; 0u8; len.min(front) as usize]
 }
 
 // Copies the bytes from a place on.
@@ -150,8 +163,8 @@ impl<'a> Store for NamedFile<'a> {
     }
 }
 
-/// The files of a list, one after the other. Small ones are read whole where there is room; of the
-/// others at most 16 are held open, the one used longest ago is closed. What they give isn't known.
+/// The files of a list, one after the other. The first bytes of each are kept; at most 16 files are
+/// held open, the one used longest ago is closed. What they give isn't known.
 #[derive(Drop)]
 pub(crate) struct ListStore<'a> {
     alloc: Global,
@@ -253,15 +266,8 @@ impl<'a> ListStore<'a> {
         self.files.read_at(at, out)
     }
 
-    // Whether a file is read whole.
-    fn is_small(&self, part: usize) -> bool {
-        self.files
-            .parts()
-            .get(part)
-            .is_some_and(|file| file.is_small())
-    }
-
-    // The files in which some bytes lie are used, but for those that would close the first.
+    // The files in which some bytes lie are used, but for those that keep them, and for those that
+    // would close the first.
     fn touch_all(&mut self, at: u64, len: u64)
         ensures size { self.new.size ≡ self.old.size }
         ensures count { self.new.failed ≡ self.old.failed }
@@ -273,17 +279,18 @@ impl<'a> ListStore<'a> {
             let Some(place) = self.files.place(next) else {
                 return;
             };
-            if !self.is_small(place.part) {
+            let Some(file) = self.files.parts().get(place.part) else {
+                return;
+            };
+            let here = file.len().saturating_sub(place.offset);
+            if !file.keeps(place.offset, here.min(end.saturating_sub(next))) {
                 if open == MOST_OPEN {
                     return;
                 }
                 self.touch(place.part);
                 open = usize::saturating_add(open, 1);
             }
-            let Some(file) = self.files.parts().get(place.part) else {
-                return;
-            };
-            next = next.saturating_add(file.len().saturating_sub(place.offset));
+            next = next.saturating_add(here);
             if next >= end {
                 return;
             }

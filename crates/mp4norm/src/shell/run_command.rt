@@ -4,13 +4,15 @@ use crate::shell::action::{Order, Telling};
 use crate::shell::explaining::{explain, explain_briefly, name_tracks};
 use crate::shell::output::{Out, Outgoing};
 use crate::shell::reports::{Report, tells_more};
-use crate::shell::sources::{Source, open};
+use crate::shell::sources::{Source, open, open_by_headers};
 use mp4_answers::box_names::Name;
+use mp4_answers::commands::freed_boxes::Found as Freed;
 use mp4_answers::commands::strip::count_named;
 use mp4_answers::commands::strip_lines::{count_lines, find_told, losses, warnings};
 use mp4_answers::jobs::Job;
 use mp4_boxes::{Refusal, Steps};
 use mp4_store::{IoSink, Sink};
+use std::alloc::Global;
 use std::io::Write;
 use std::sync::ledger::Ledger;
 
@@ -30,6 +32,33 @@ fn write_to<'a, L: Ledger, M: Ledger>(
     run_job(rt.alloc(), job, order.most, source, &mut out, steps)
 }
 
+// Whether it is told how many boxes a name means: those that the profile refuses are told of group
+// by group.
+fn is_counted(name: &Name) -> bool {
+    match name {
+        Name::Type { .. } | Name::Uuid { .. } => true,
+        Name::Foreign => false,
+    }
+}
+
+// How many boxes each name means, and what else is told of them. Where no name asks for the first,
+// the boxes are gone over once; where they can't be, the first fault is named as it is elsewhere.
+fn look_at_boxes(
+    alloc: Global,
+    names: &[Name],
+    source: &mut Source,
+) -> Result<(Vec<u64>, Freed), Refusal> {
+    if !names.iter().any(is_counted) {
+        match find_told(alloc, source, names) {
+            Err(Refusal::Fault(_)) => {}
+            found => return Ok((Vec::new(alloc), found?)),
+        }
+    }
+    let counts = count_named(alloc, source, names)?;
+    let found = find_told(alloc, source, names)?;
+    Ok((counts, found))
+}
+
 // Copies a file without the boxes of some names, and says which these are. Where something is lost
 // with those that the profile refuses, nothing is put, but where that is allowed.
 fn strip_and_tell<'a, L: Ledger, M: Ledger>(
@@ -41,10 +70,8 @@ fn strip_and_tell<'a, L: Ledger, M: Ledger>(
     report: &mut Report<'a>,
 ) -> Result<(), Refusal> {
     let alloc = rt.alloc();
-    let counts = count_named(alloc, source, names);
-    let counts = settled(source, counts)?;
-    let found = find_told(alloc, source, names);
-    let found = settled(source, found)?;
+    let looked = look_at_boxes(alloc, names, source);
+    let (counts, found) = settled(source, looked)?;
     if let Some(refusal) = loss_refusal(&found, order.lossy) {
         let mut errors = rt.stderr();
         let _ = errors.write_all(losses(alloc, &found)?.as_slice());
@@ -72,7 +99,10 @@ fn open_and_answer<'a, L: Ledger, M: Ledger>(
     steps: &mut Steps<L, M>,
     report: &mut Report<'a>,
 ) -> Result<(), Refusal> {
-    let mut source = open(rt, order.input, report)?;
+    let mut source = match &job {
+        Job::Strip { .. } => open_by_headers(rt, order.input, report)?,
+        _ => open(rt, order.input, report)?,
+    };
     let answer = match (source.check_parts(), job) {
         (Err(refusal), _) => settled(&source, Err(refusal)),
         (Ok(()), Job::Strip { names }) => {

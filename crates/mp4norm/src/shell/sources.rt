@@ -7,6 +7,7 @@ use crate::shell::file_names::push_shown;
 use crate::shell::input::read_input;
 use crate::shell::list_sources::{ListSource, open_list};
 use crate::shell::named_files::ListStore;
+use crate::shell::near_store::NearStore;
 use crate::shell::reports::{Noted, Report};
 use mp4_answers::text::difference_lines::say_number;
 use mp4_boxes::Refusal;
@@ -23,11 +24,13 @@ const MOST_INPUT: usize = 1 << 30;
 /// The cause where there are more.
 const TOO_LONG_INPUT: &str = "it has more than 1073741824 bytes, the most that are held in memory";
 
-/// What is read: a file, of which nothing is known, or the bytes of standard input. As a store it
-/// is honest where it is standard input: all reads are of the bytes that were read.
+/// What is read: a file, of which nothing is known, by whatever it has or by the headers of its
+/// boxes, or the bytes of standard input. As a store it is honest where it is standard input: all
+/// reads are of the bytes that were read.
 #[derive(Drop)]
 pub(crate) enum Source<'a> {
     File(BufferedStore<FileStore<File>>, Watched),
+    Headers(NearStore<FileStore<File>>, Watched),
     Input(Vec<u8>),
     List(ListSource<'a>),
 }
@@ -35,7 +38,7 @@ pub(crate) enum Source<'a> {
 // Opens a regular file or a block device. Whatever else there is can't be read by place, or its
 // length isn't known; its kind is looked at first, since opening a pipe would wait for whoever
 // writes it.
-fn open_file<'a>(rt: &'a HostRuntime, name: &str) -> io::Result<Source<'a>> {
+fn open_file(rt: &HostRuntime, name: &str) -> io::Result<(FileStore<File>, Watched)> {
     let metadata = fs::metadata(rt, name)?;
     if metadata.is_dir() {
         return Err(ErrorKind::IsADirectory.into());
@@ -46,8 +49,7 @@ fn open_file<'a>(rt: &'a HostRuntime, name: &str) -> io::Result<Source<'a>> {
     let file = File::open(rt, name)?;
     let watched = Watched::new(&file)?;
     let store = FileStore::new(file)?;
-    let store = BufferedStore::new(rt.alloc(), store)?;
-    Ok(Source::File(store, watched))
+    Ok((store, watched))
 }
 
 /// Reads all that a reader gives, and keeps the cause where that fails.
@@ -77,12 +79,28 @@ pub(crate) fn open<'a>(
             let bytes = read_whole(rt.alloc(), &mut reader, report)?;
             Ok(Source::Input(bytes))
         }
-        Input::File { name } => report.outcome(open_file(rt, name), Refusal::StoreFailed),
+        Input::File { name } => {
+            let (store, watched) = report.outcome(open_file(rt, name), Refusal::StoreFailed)?;
+            Ok(Source::File(BufferedStore::new(rt.alloc(), store)?, watched))
+        }
         Input::List { word, most } => {
             let list = word.strip_prefix('@').unwrap_or(word);
             Ok(Source::List(open_list(rt, list, most, report)?))
         }
     }
+}
+
+/// Opens what is to be read by the headers of its boxes, and copied.
+pub(crate) fn open_by_headers<'a>(
+    rt: &'a HostRuntime,
+    input: Input,
+    report: &mut Report,
+) -> Result<Source<'a>, Refusal> {
+    let Input::File { name } = input else {
+        return open(rt, input, report);
+    };
+    let (store, watched) = report.outcome(open_file(rt, name), Refusal::StoreFailed)?;
+    Ok(Source::Headers(NearStore::new(rt.alloc(), store)?, watched))
 }
 
 impl<'a> Source<'a> {
@@ -125,17 +143,21 @@ impl<'a> Store for Source<'a> {
     ghost use Rattle.mp4norm.specs.words.Sources.{honest_of, file_of, failures_of};
 
     ghost is_honest = { honest_of ⟦<BufferedStore<FileStore<File>> as Store>⟧
-        ⟦<BufferedStore<ListStore<'a>> as Store>⟧ };
+        ⟦<NearStore<FileStore<File>> as Store>⟧
+        ⟦<NearStore<BufferedStore<ListStore<'a>>> as Store>⟧ };
 
     ghost file = { file_of ⟦<BufferedStore<FileStore<File>> as Store>⟧
-        ⟦<BufferedStore<ListStore<'a>> as Store>⟧ };
+        ⟦<NearStore<FileStore<File>> as Store>⟧
+        ⟦<NearStore<BufferedStore<ListStore<'a>>> as Store>⟧ };
 
     ghost read_failures = { failures_of ⟦<BufferedStore<FileStore<File>> as Store>⟧
-        ⟦<BufferedStore<ListStore<'a>> as Store>⟧ };
+        ⟦<NearStore<FileStore<File>> as Store>⟧
+        ⟦<NearStore<BufferedStore<ListStore<'a>>> as Store>⟧ };
 
     fn len(&self) -> u64 {
         match self {
             Source::File(store, _) => store.len(),
+            Source::Headers(store, _) => store.len(),
             Source::Input(bytes) => bytes.len() as u64,
             Source::List(list) => list.store.len(),
         }
@@ -144,6 +166,7 @@ impl<'a> Store for Source<'a> {
     fn read_at(&mut self, at: u64, out: &mut [u8]) -> Result<(), StoreFailed> {
         match self {
             Source::File(store, _) => store.read_at(at, out),
+            Source::Headers(store, _) => store.read_at(at, out),
             Source::Input(bytes) => MemStore::new(bytes.as_slice()).read_at(at, out),
             Source::List(list) => list.store.read_at(at, out),
         }
@@ -159,6 +182,7 @@ impl<'a> Kept for Source<'a> {
     fn stays(&self) -> Result<(), Refusal> {
         match self {
             Source::File(_, watched) => watched.stays(),
+            Source::Headers(_, watched) => watched.stays(),
             Source::Input(_) => Ok(()),
             Source::List(list) => list.stays(),
         }
