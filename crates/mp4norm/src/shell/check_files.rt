@@ -252,17 +252,33 @@ fn put_header<K: Sink>(
     Ok(())
 }
 
-// Judges these files and then those of a list, and puts what is found of each.
-fn put_each<K: Sink, L: Ledger, M: Ledger>(
-    judge: &mut FileJudge<K, L, M>,
+// Judges these files and then those of a list, and puts what is found of each. Lines of sums are
+// written together.
+fn put_each<K: Sink + Drop, L: Ledger, M: Ledger>(
+    rt: &HostRuntime,
     files: &[Input],
     list: &[u8],
+    manner: Manner,
+    sink: K,
+    steps: &mut Steps<L, M>,
 ) -> Result<u8, Refusal> {
-    put_header(judge.rt.alloc(), judge.manner, &mut judge.lines)?;
-    judge_all(files, list, judge)
+    let gathers = matches!(manner.finding, Finding::Sum { .. }) && !manner.telling.explain;
+    let mut lines = Gathered::new(rt, sink, gathers)?;
+    put_header(rt.alloc(), manner, &mut lines)?;
+    let mut judge = FileJudge {
+        rt,
+        manner,
+        lines,
+        steps,
+    };
+    let worst = judge_all(files, list, &mut judge);
+    let put = judge.lines.flush();
+    let worst = worst?;
+    put?;
+    Ok(worst)
 }
 
-// The same, to standard output. Lines of sums are written together.
+// The same, to standard output.
 fn check_each<L: Ledger, M: Ledger>(
     rt: &HostRuntime,
     files: &[Input],
@@ -272,20 +288,8 @@ fn check_each<L: Ledger, M: Ledger>(
     steps: &mut Steps<L, M>,
 ) -> Result<u8, Refusal> {
     let out = &mut rt.stdout();
-    let gathers = matches!(manner.finding, Finding::Sum { .. }) && !manner.telling.explain;
     let sink = IoSink::new(Noted { out, report });
-    let lines = Gathered::new(rt, sink, gathers)?;
-    let mut judge = FileJudge {
-        rt,
-        manner,
-        lines,
-        steps,
-    };
-    let worst = put_each(&mut judge, files, list);
-    let put = judge.lines.flush();
-    let worst = worst?;
-    put?;
-    Ok(worst)
+    put_each(rt, files, list, manner, sink, steps)
 }
 
 /// Judges each of these files and then those of a list, or sums them, puts what is found of each to

@@ -120,6 +120,23 @@ impl<'a, 'c, K: Sink, L: Ledger, M: Ledger> SumJudge for SumChecker<'a, 'c, K, L
 }
 
 // Sums the files, puts what is said of each, and gives the status.
+fn put_each<K: Sink + Drop, L: Ledger, M: Ledger>(
+    rt: &HostRuntime,
+    files: &[ListedFile],
+    how: SumCheck,
+    sink: K,
+    steps: &mut Steps<L, M>,
+) -> Result<u8, Refusal> {
+    let mut judge = SumChecker {
+        rt,
+        how,
+        sink,
+        steps,
+    };
+    check_listed(files, &mut judge)
+}
+
+// The same, to standard output.
 fn check_files<L: Ledger, M: Ledger>(
     rt: &HostRuntime,
     files: &[ListedFile],
@@ -129,13 +146,7 @@ fn check_files<L: Ledger, M: Ledger>(
 ) -> Result<u8, Refusal> {
     let out = &mut rt.stdout();
     let sink = IoSink::new(Noted { out, report });
-    let mut judge = SumChecker {
-        rt,
-        how,
-        sink,
-        steps,
-    };
-    check_listed(files, &mut judge)
+    put_each(rt, files, how, sink, steps)
 }
 
 /// Reads a list of sums whole, says of each file that it names whether it has its sum, and gives
