@@ -7,7 +7,7 @@ export type Whole = number | bigint;
 export type Bytes = Uint8Array | ArrayBuffer | SharedArrayBuffer | ArrayBufferView;
 
 export type Word = 'times' | 'edits' | 'flags' | 'groups' | 'metadata' | 'bitrates' | 'ends'
-    | 'origins' | 'labels' | 'timing' | 'packaging-1' | 'media-1';
+    | 'origins' | 'labels' | 'timing' | 'roles' | 'packaging-1' | 'media-1';
 
 /** What is left out: names in a text with commas, or in a list; or flags of WORDS. */
 export type Words = string | readonly Word[] | number;
@@ -156,7 +156,7 @@ export interface Mp4File {
 
 /** The calls, each on bytes or on a file that is open. */
 export interface Mp4Norm {
-    /** As `0.2.0`. */
+    /** As `0.3.0`. */
     readonly version: string | undefined;
     /** Takes over the bytes of a file for more than one call: they are copied once. */
     open(bytes: Bytes): Mp4File;

@@ -28,7 +28,7 @@ export const KINDS = Object.freeze([
 /** What may be left out of a file, and the flag of each (docs/COMPARING.md). */
 export const WORDS = Object.freeze({
     times: 1, edits: 2, flags: 4, groups: 8, metadata: 16, bitrates: 32, ends: 64, origins: 128,
-    labels: 256, timing: 512, 'packaging-1': 255, 'media-1': 1023,
+    labels: 256, timing: 512, roles: 1024, 'packaging-1': 255, 'media-1': 1023,
 });
 
 const FORMS = Object.freeze({ plain: 0, named: 1, json: 2 });
@@ -117,7 +117,7 @@ class Mp4Norm {
         return new Mp4File(this.#of, bytes);
     }
 
-    /** The version of mp4norm, as `0.2.0`; `undefined` of a module that can't tell. */
+    /** The version of mp4norm, as `0.3.0`; `undefined` of a module that can't tell. */
     get version() {
         return this.#of.version();
     }
