@@ -8,7 +8,7 @@ import { readFileSync } from 'node:fs';
 import { pathToFileURL } from 'node:url';
 
 const [folder, module, files] = process.argv.slice(2);
-const { load, hasMemory64, Mp4Error, Mp4Fault, STATUS } = await import(pathToFileURL(`${folder}/mp4norm.mjs`));
+const { load, hasMemory64, Mp4Error, Mp4Fault, STATUS, WORDS } = await import(pathToFileURL(`${folder}/mp4norm.mjs`));
 const bytes = readFileSync(module);
 const lib = await load(bytes);
 const plain = readFileSync(`${files}/plain.mp4`), gap = readFileSync(`${files}/gap-between-fragments.mp4`);
@@ -54,10 +54,11 @@ for (const words of ['edits,times', ['times', 'edits'], 3, ['times', 'times', 'e
     same(`words ${JSON.stringify(words)}`, lib.sum(other, words), lib.sum(other, 'times,edits'));
 }
 same('no words', [lib.sum(other, ''), lib.sum(other, []), lib.sum(other, 0)], Array(3).fill(lib.sum(other)));
+same('words as flags, the last of all', lib.sum(other, WORDS.roles), lib.sum(other, 'roles'));
 for (const words of ['time', ['edits', 'colour'], 'constructor', 'Times', ' times']) {
     throws(`unknown words ${words}`, () => lib.sum(other, words), TypeError, 'no such word');
 }
-for (const words of [1024, -1, 1.5, null, {}, true]) {
+for (const words of [2048, 4096, -1, 1.5, null, {}, true]) {
     throws(`words that are none: ${words}`, () => lib.sum(other, words), TypeError, 'words');
 }
 for (const track of [0, -1, 1.5, 2 ** 32, '1', undefined, 1n]) {
