@@ -31,6 +31,9 @@ export const WORDS = Object.freeze({
     labels: 256, timing: 512, roles: 1024, 'packaging-1': 255, 'media-1': 1023,
 });
 
+// All of them at once.
+const ALL_WORDS = Object.values(WORDS).reduce((all, flags) => all | flags, 0);
+
 const FORMS = Object.freeze({ plain: 0, named: 1, json: 2 });
 const SYNTAXES = Object.freeze({ lines: 0, json: 1 });
 // Bytes of an answer, of a digest, and of what is asked of a comparison.
@@ -438,7 +441,7 @@ function bytesOf(given) {
 
 // The flags of words: of a text with commas, of a list, or the flags themselves.
 function flagsOf(words = 0) {
-    if (Number.isInteger(words) && words >= 0 && words <= WORDS['media-1']) {
+    if (Number.isInteger(words) && words >= 0 && words <= ALL_WORDS) {
         return words;
     }
     const names = typeof words === 'string' ? words.split(',') : words;
