@@ -1,6 +1,6 @@
 -- Digits of numbers, written from the last to the first.
-use Rattle.std.proofs.Common.{◌≡◌, ℕ, zero, suc, ◌+◌, ◌-◌, ◌*◌, ◌/◌, ◌%◌, ◌^◌, ◌<◌, ◌≤◌, Bool, true, ◌&&◌, T, eqb, List, ◌∷◌, ◌++◌, length, get_or, decimal, refl, ap, ◌∙◌, inl, inr, arith, eq-zero-or-pos, eqb→eq, append_assoc, length-append}
-use Rattle.std.proofs.lemmas.Fmt.{decimal_step_wide, decimal_digit, length-decimal-le_wide}
+use Rattle.std.proofs.Common.{◌≡◌, ℕ, zero, suc, ◌+◌, ◌-◌, ◌*◌, ◌/◌, ◌%◌, ◌^◌, ◌<◌, ◌≤◌, Bool, true, ◌&&◌, T, eqb, List, ◌∷◌, ◌++◌, length, get_or, decimal, refl, ◌∙◌, inl, inr, arith, eq-zero-or-pos, eqb→eq, append_assoc}
+use Rattle.std.proofs.lemmas.Fmt.{decimal_step_wide, length-decimal-le_wide}
 use Rattle.std.proofs.Math.Nat.{pow-suc, div-div-eq-div-mul}
 use lib.Ieee.Fits.{and_l, and_r}
 use Rattle.mp4_answers.specs.format.Texts.{hex_digits}
@@ -27,16 +27,7 @@ below (suc n) p t h =
 pub pairs_at : (p : ℕ) → p < 100 → (get_or PAIRS (p * 2) 0 ≡ 48 + p / 10) × (get_or PAIRS (p * 2 + 1) 0 ≡ 48 + p % 10)
 pairs_at p h = below 100 p tt h
 
--- how long the digits are
-pub length_one : (n : ℕ) → n < 10 → length (decimal n) ≡ 1
-length_one n h = ap length (decimal_digit n h)
-
-pub decimal_two : (n : ℕ) → 10 ≤ n → n < 100 → decimal n ≡ pair n
-decimal_two n lo hi = rw (decimal_step_wide n lo (omega arith), decimal_digit (n / 10) (omega arith)) refl
-
-pub length_two : (n : ℕ) → 10 ≤ n → n < 100 → length (decimal n) ≡ 2
-length_two n lo hi = ap length (decimal_two n lo hi)
-
+-- the last two digits, and the last four
 pub decimal_pair : (n : ℕ) → 100 ≤ n → n < 2 ^ 64 → decimal n ≡ decimal (n / 100) ++ pair (n % 100)
 decimal_pair n lo hi =
     let a : n / 10 / 10 ≡ n / 100 = omega arith in
@@ -44,18 +35,12 @@ decimal_pair n lo hi =
     let c : n % 10 ≡ n % 100 % 10 = omega arith in
     rw (decimal_step_wide n (omega arith) (omega arith), decimal_step_wide (n / 10) (omega arith) (omega arith), append_assoc, a, b, ← c) refl
 
-pub length_pair : (n : ℕ) → 100 ≤ n → n < 2 ^ 64 → length (decimal n) ≡ length (decimal (n / 100)) + 2
-length_pair n lo hi = ap length (decimal_pair n lo hi) ∙ length-append _ _
-
 pub decimal_four : (n : ℕ) → 10000 ≤ n → n < 2 ^ 64 → decimal n ≡ decimal (n / 10000) ++ (pair (n % 10000 / 100) ++ pair (n % 10000 % 100))
 decimal_four n lo hi =
     let a : n / 100 / 100 ≡ n / 10000 = omega arith in
     let b : n / 100 % 100 ≡ n % 10000 / 100 = omega arith in
     let c : n % 10000 % 100 ≡ n % 100 = omega arith in
     rw (decimal_pair n (omega arith) hi, decimal_pair (n / 100) (omega arith) (omega arith), append_assoc, a, b, c) refl
-
-pub length_four : (n : ℕ) → 10000 ≤ n → n < 2 ^ 64 → length (decimal n) ≡ length (decimal (n / 10000)) + 4
-length_four n lo hi = ap length (decimal_four n lo hi) ∙ length-append _ _
 
 -- numbers of 32 and of 64 bits
 pub length_short : (n : ℕ) → n < 2 ^ 32 → length (decimal n) ≤ 10

@@ -4,7 +4,8 @@ use Rattle.std.specs.Prelude.{Bool, true, false, if◌then◌else◌, ◌==◌, 
 use Rattle.std.specs.declared.alloc.Global.{Global}
 use Rattle.std.proofs.lemmas.List.{append_cancel_right}
 use Rattle.std.proofs.lemmas.Bool.Decides.{nat_tests}
-use Rattle.mp4_answers.specs.format.SumLines.{escaped_name, is_escaped, sum_of_name, IsName, IsSpelled}
+use Rattle.mp4_answers.specs.format.SumLines.{escaped_name, is_escaped, sum_of_name}
+use Rattle.mp4_answers.specs.words.SpelledNames.{IsName, IsSpelled}
 use Rattle.mp4_answers.specs.format.Texts.{hex_digit, hex_text}
 use Rattle.mp4_answers.proofs.SumsRead.{hex_length}
 

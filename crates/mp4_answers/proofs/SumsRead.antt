@@ -1,10 +1,13 @@
 -- Lines of sums, read back.
-use Rattle.std.proofs.Common.{◌≡◌, ◌∙◌, append_assoc, ◌++◌, ℕ, zero, suc, ◌+◌, ◌*◌, ◌<◌, ◌≤◌, List, [], ◌∷◌, length, take, slice_index, slice_set, refl, sym, ap, subst, arith}
-use Rattle.std.specs.Prelude.{Bool, true, false, ◌==◌, if◌then◌else◌, codes, Option, Some}
+use Rattle.std.proofs.Common.{◌≡◌, ◌∙◌, append_assoc, ◌++◌, ℕ, zero, suc, ◌+◌, ◌*◌, ◌/◌, ◌%◌, ◌^◌, ◌<◌, ◌≤◌, List, [], ◌∷◌, length, take, slice_index, slice_set, refl, sym, ap, subst, arith}
+use Rattle.std.specs.Prelude.{Bool, nat_lt, true, false, ◌==◌, if◌then◌else◌, codes, Option, Some}
+use Rattle.std.specs.Char.{digit_value}
 use Rattle.std.proofs.lemmas.List.{take_all}
+use Rattle.std.proofs.lemmas.Bool.Decides.{nat_tests}
 use Rattle.mp4_boxes.specs.format.Bytes.{AreBytes}
-use Rattle.mp4_answers.specs.format.SumLines.{escaped_byte, escaped_name, Spells}
-use Rattle.mp4_answers.specs.format.Texts.{hex_text}
+use Rattle.mp4_answers.specs.format.SumLines.{escaped_byte, escaped_name}
+use Rattle.mp4_answers.specs.format.Texts.{hex_digit, hex_text}
+use Rattle.mp4_answers.specs.words.SpelledNames.{byte_spelled, Spells}
 
 pub hex_length : (bytes : List ℕ) → length (hex_text bytes) ≡ 2 * length bytes
 hex_length [] = refl
@@ -30,6 +33,24 @@ spelled_at digits bytes k is are lt =
     subst (λ (ds : List ℕ). Spells (slice_index ds (2 * k)) (slice_index ds (2 * k + 1)) (slice_index bytes k)) (sym is)
     (subst (λ (n : ℕ). Spells (slice_index (hex_text bytes) (2 * k)) (slice_index (hex_text bytes) n) (slice_index bytes k)) odd
     (subst (λ (n : ℕ). Spells (slice_index (hex_text bytes) n) (slice_index (hex_text bytes) (suc (double k))) (slice_index bytes k)) (is_double k) (spelled_pair bytes k are lt)))
+
+-- so is the byte that is read of them
+digit_read : (d : ℕ) → d < 16 → digit_value (hex_digit d) ≡ d
+digit_read d lt = grind (arith, nat_tests, lt)
+
+lower : (x n : ℕ) → x < n → nat_lt x n ≡ true
+lower x n lt = grind (arith, nat_tests, lt)
+
+both_read : (high low : ℕ) → digit_value high < 16 → digit_value low < 16 → byte_spelled high low ≡ Some (16 * digit_value high + digit_value low)
+both_read high low first second = rw (lower (digit_value high) 16 first, lower (digit_value low) 16 second) refl
+
+pub byte_read : (high low b : ℕ) → Spells high low b → byte_spelled high low ≡ Some b
+byte_read high low b (small, is) =
+    let first : high ≡ hex_digit (b / 16 ^ 1 % 16) = cc in
+    let second : low ≡ hex_digit (b / 16 ^ 0 % 16) = cc in
+    let x = ap digit_value first ∙ digit_read (b / 16 ^ 1 % 16) (omega arith) in
+    let y = ap digit_value second ∙ digit_read (b / 16 ^ 0 % 16) (omega arith) in
+    both_read high low (omega (arith, x)) (omega (arith, y)) ∙ ap Some (omega (arith, small, x, y))
 
 -- one more is the same
 set_next : (xs ys : List ℕ) (k x : ℕ) → k < length xs → k < length ys → take k xs ≡ take k ys → x ≡ slice_index ys k → take (suc k) (slice_set xs k x) ≡ take (suc k) ys

@@ -18,3 +18,4 @@ pub mod WholePut
 pub mod Lanes
 pub mod Messages
 pub mod SampleMessages
+pub mod SpelledNames

@@ -69,4 +69,4 @@ pub use text::fault_text::{fault_line, status};
 pub use text::line::Line;
 pub use text::movie_json::show_text;
 pub use text::sample_lines::put_lines;
-pub use text::verdicts::{first_name, put_verdict, verdict_status};
+pub use text::verdicts::{put_verdict, verdict_status};

@@ -4,7 +4,7 @@ use Rattle.std.specs.Prelude.{true, false, map, filter, Vec, ◌==◌}
 use Rattle.std.proofs.lemmas.List.{length-map, map-append}
 use Rattle.std.proofs.lemmas.Bool.Decides.{nat_tests}
 use Rattle.std.specs.declared.alloc.Global.{Global}
-use Rattle.mp4norm.specs.format.Lists.{FirstLine, FirstPart, IsPartLength, AreTaken, HasOdd, bytes_of, is_name, is_odd, lines_of, names_of, parts_of, without_return}
+use Rattle.mp4norm.specs.format.Lists.{FirstPart, IsPartLength, AreTaken, HasOdd, bytes_of, is_name, is_odd, lines_of, names_of, parts_of, without_return}
 
 -- ---- a list is its first line and the lines behind
 
@@ -26,7 +26,7 @@ parts_first end (b ∷ c ∷ bs) (suc n) some (le, before, is) =
 pub part_first : (end : ℕ) (list part rest : List ℕ) → 0 < length list → FirstPart end list part rest → parts_of end list ≡ part ∷ parts_of end rest
 part_first end list part rest some (n, l, e, f) = parts_first end list n some l ∙ rw (e, f) refl
 
-pub names_first : (list line rest : List ℕ) → 0 < length list → FirstLine list line rest → lines_of list ≡ line ∷ lines_of rest
+pub names_first : (list line rest : List ℕ) → 0 < length list → FirstPart 10 list line rest → lines_of list ≡ line ∷ lines_of rest
 names_first list line rest some first = part_first 10 list line rest some first
 
 -- ---- and its names those before, that of the line, and those behind

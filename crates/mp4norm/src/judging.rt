@@ -1,12 +1,12 @@
 //! Many files, judged one after the other by whoever judges one.
-ghost use Rattle.std.specs.Prelude.{◌≡◌, IfOk};
+ghost use Rattle.std.specs.Prelude.{◌≡◌, IfErr, IfOk};
 ghost use Rattle.mp4norm.specs.format.Judging.{sum_status, ChecksSums, JudgesBoth, JudgesEach};
 ghost use Rattle.mp4norm.specs.format.Lists.{ended_names};
 
 use crate::running::{DIFFER, Found, found_status};
 use crate::shell::action::Input;
+use crate::shell::lists::first_name;
 use mp4_answers::digests::DIGEST;
-use mp4_answers::text::verdicts::first_name;
 use mp4_boxes::Refusal;
 use mp4_content::Without;
 
@@ -22,18 +22,24 @@ pub(crate) trait Judge {
     /// Between the two, this was found of the file of a name.
     ghost finds_name: { Self → Self → List ℕ → Result (Option (List ℕ)) Refusal → Type 0 };
 
+    /// It has failed for this.
+    ghost refuses: { Self → Refusal → Type 0 };
+
     /// Judges what a word names. It fails where nothing can be put.
     fn judge_word(&mut self, input: Input) -> Result<Found, Refusal>
-        ensures { IfOk result (finds_word self.old self.new input.entry) };
+        ensures found { IfOk result (finds_word self.old self.new input.entry) }
+        ensures refusal { IfErr result (refuses self.new) };
 
     /// Judges the file of a name. It fails where nothing can be put.
     fn judge_name(&mut self, name: &[u8]) -> Result<Found, Refusal>
-        ensures { IfOk result (finds_name self.old self.new name.now) };
+        ensures found { IfOk result (finds_name self.old self.new name.now) }
+        ensures refusal { IfErr result (refuses self.new) };
 }
 
 // Judges what each word names, and gives the greatest status.
 fn judge_words<J: Judge>(words: &[Input], judge: &mut J) -> Result<u8, Refusal>
-    ensures { IfOk result (JudgesEach J.finds_word words.entry.now judge.old judge.new) }
+    ensures each { IfOk result (JudgesEach J.finds_word words.entry.now judge.old judge.new) }
+    ensures refusal { IfErr result (J.refuses judge.new) }
 {
     let mut worst = 0;
     for input in words {
@@ -45,7 +51,9 @@ fn judge_words<J: Judge>(words: &[Input], judge: &mut J) -> Result<u8, Refusal>
 
 // Judges the files of a list, whose names are ended by zero bytes, and gives the greatest status.
 fn judge_names<J: Judge>(list: &[u8], judge: &mut J) -> Result<u8, Refusal>
-    ensures { IfOk result (JudgesEach J.finds_name (ended_names list.now) judge.old judge.new) }
+    ensures each { IfOk result
+        (JudgesEach J.finds_name (ended_names list.now) judge.old judge.new) }
+    ensures refusal { IfErr result (J.refuses judge.new) }
 {
     let mut worst = 0;
     let mut left = list;
@@ -65,8 +73,9 @@ pub(crate) fn judge_all<J: Judge>(
     list: &[u8],
     judge: &mut J,
 ) -> Result<u8, Refusal>
-    ensures { IfOk result (JudgesBoth J.finds_word words.entry.now J.finds_name
+    ensures each { IfOk result (JudgesBoth J.finds_word words.entry.now J.finds_name
         (ended_names list.now) judge.old judge.new) }
+    ensures refusal { IfErr result (J.refuses judge.new) }
 {
     let first = judge_words(words, judge)?;
     let second = judge_names(list, judge)?;
@@ -90,9 +99,13 @@ pub(crate) trait SumJudge {
     /// Between the two, this was found of a file.
     ghost finds: { Self → Self → ListedFile → Result (Option (List ℕ)) Refusal → Type 0 };
 
+    /// It has failed for this.
+    ghost refuses: { Self → Refusal → Type 0 };
+
     /// Sums a file. It fails where nothing can be put.
     fn judge_sum(&mut self, file: &ListedFile) -> Result<Found, Refusal>
-        ensures { IfOk result (finds self.old self.new file.now) };
+        ensures found { IfOk result (finds self.old self.new file.now) }
+        ensures refusal { IfErr result (refuses self.new) };
 }
 
 /// The status of a file that has a sum, where this one is due: whether it has another one.
@@ -109,7 +122,8 @@ pub(crate) fn sum_status(digest: &[u8; DIGEST], found: &Found) -> u8
 /// Sums the files, each once, and gives the greatest status of those that have no sum, else whether
 /// some file has another one.
 pub(crate) fn check_listed<J: SumJudge>(files: &[ListedFile], judge: &mut J) -> Result<u8, Refusal>
-    ensures { IfOk result (ChecksSums J.finds files.now judge.old judge.new) }
+    ensures each { IfOk result (ChecksSums J.finds files.now judge.old judge.new) }
+    ensures refusal { IfErr result (J.refuses judge.new) }
 {
     let (mut worst, mut differ) = (0, 0);
     for file in files {

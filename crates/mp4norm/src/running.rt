@@ -59,7 +59,8 @@ pub(crate) trait Outlet: Sink {
     /// Opens it, with so many bytes to come, where that is known.
     fn open(&mut self, len: Option<u64>) -> Result<(), Refusal>
         ensures nothing { Self.takes self.old self.new [] }
-        ensures open { OnErr result (is_open self.new ≡ false) }
+        ensures open { MatchResult result (λ _. is_open self.new ≡ true)
+            (λ _. is_open self.new ≡ false) }
         ensures closed { is_closed self.new ≡ false }
         ensures refusal { IfErr result (RefusesOutlet (may_fail self.new)) };
 

@@ -1,11 +1,10 @@
 -- Lines of sums, as `sha256sum` of the GNU coreutils writes them.
-use Rattle.std.specs.Prelude.{◌≡◌, ℕ, zero, ◌<◌, ◌+◌, ◌*◌, ◌-◌, ◌==◌, ◌&&◌, ◌||◌, not, Bool, true, false, if◌then◌else◌, nat_le, List, [], ◌∷◌, ◌++◌, flat_map, codes, Option, Some, None, IsSomeAnd, Vec}
+use Rattle.std.specs.Prelude.{ℕ, zero, ◌+◌, ◌*◌, ◌-◌, ◌==◌, ◌&&◌, ◌||◌, not, Bool, if◌then◌else◌, nat_le, List, [], ◌∷◌, ◌++◌, flat_map, codes}
 use Rattle.std.specs.List.{list_any}
-use Rattle.std.specs.declared.alloc.Global.{Global}
 use Rattle.mp4_content.specs.declared.without.Without.{Without}
 use Rattle.mp4_answers.specs.format.LastLine.{leaving_text}
 use Rattle.mp4_answers.specs.format.Text.{or_nothing}
-use Rattle.mp4_answers.specs.format.Texts.{hex_digits, hex_text, line_feed}
+use Rattle.mp4_answers.specs.format.Texts.{hex_text, line_feed}
 
 -- the line that says of which normal form, and of what is left of files, the sums behind it are
 abbrev pub header_text : Without → List ℕ
@@ -38,27 +37,9 @@ escaped_byte b = if b == 10 then codes "\\n" else if b == 13 then codes "\\r"
 abbrev pub escaped_name : List ℕ → List ℕ
 escaped_name name = flat_map escaped_byte name
 
--- the byte that an escape says; none where there is no such escape
-abbrev pub escape_said : ℕ → Option ℕ
-escape_said b = if b == 110 then Some 10 else if b == 114 then Some 13
-    else if b == 92 then Some 92 else None
-
--- a name was read, and it is this one
-abbrev pub IsName : List ℕ → Option (Vec ℕ Global) → Type 0
-IsName name read = IsSomeAnd read (λ v. v.items ≡ name)
-
--- a name that is spelled so, escaped or not
-abbrev pub IsSpelled : Bool → List ℕ → List ℕ → Type 0
-IsSpelled true spelled name = spelled ≡ escaped_name name
-IsSpelled false spelled name = spelled ≡ name
-
 -- a name at the front of a line that a line feed ends
 abbrev pub name_text : List ℕ → List ℕ
 name_text name = if is_escaped name then codes "\\" ++ escaped_name name else name
-
--- a byte that two characters spell in hexadecimal
-abbrev pub Spells : ℕ → ℕ → ℕ → Type 0
-Spells high low b = (b < 256) × (hex_digits 2 b ≡ high ∷ low ∷ [])
 
 -- ---- sums
 

@@ -1,5 +1,5 @@
--- Verdicts on files, and lists of names.
-use Rattle.std.specs.Prelude.{◌≡◌, ℕ, ◌<◌, ◌≤◌, List, [], ◌∷◌, ◌++◌, length, take, drop, slice_index, Result, Ok, Err, codes, decimal}
+-- Verdicts on files.
+use Rattle.std.specs.Prelude.{ℕ, List, [], ◌∷◌, ◌++◌, Result, Ok, Err, codes, decimal}
 use Rattle.mp4_store.specs.words.Device.{HasRisen, TakesPrefix}
 use Rattle.mp4_boxes.specs.declared.refusal.Refusal.{Refusal}
 use Rattle.mp4_boxes.specs.declared.refusal.Refusal.TheVariants as refusals
@@ -66,14 +66,3 @@ RefusesVerdict text Took puts puts_after refusals.Memory = Took []
 RefusesVerdict text Took puts puts_after refusals.WriteFailed = HasRisen puts puts_after
     × TakesPrefix Took text
 RefusesVerdict text Took puts puts_after _ = ⊥
-
--- this is the place of the list's first zero byte, or its length where it has none
-abbrev pub IsNameLength : List ℕ → ℕ → Type 0
-IsNameLength list n =
-    (n ≤ length list) × ((k : ℕ) → k < n → slice_index list k ≡ 0 → ⊥)
-    × (n < length list → slice_index list n ≡ 0)
-
--- the first of some names that are ended by zero bytes, and what is left behind it
-abbrev pub FirstName : List ℕ → List ℕ → List ℕ → Type 0
-FirstName list name rest = (n : ℕ) × IsNameLength list n × (name ≡ take n list)
-    × (rest ≡ drop 1 (drop n list))

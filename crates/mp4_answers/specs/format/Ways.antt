@@ -49,7 +49,7 @@ pub data HoldsFrom (file : List ℕ) (place : ℕ) : ℕ → TopBox → Type 0 w
 abbrev pub HoldsNone : List ℕ → ℕ → Type 0
 HoldsNone file place = (top : TopBox) → HoldsFrom file place 0 top → ⊥
 
--- the same from the file's own box on
+-- a way from a box of the file itself
 abbrev pub IsWayFrom : List ℕ → ℕ → TopBox → List ℕ → Type 0
 IsWayFrom file place top text = (number : Option ℕ) × (more : List ℕ)
     × IsWay place (top_seen file top) more × (text ≡ step_text top.header.kind.0 number ++ more)

@@ -1,11 +1,11 @@
 //! Words in lists, and bytes that two hexadecimal digits spell.
-ghost use Rattle.std.specs.Prelude.{ℕ, ◌≡◌, ◌<◌, length, option_map, IfSome, Some};
-ghost use Rattle.mp4_answers.specs.format.SumLines.{Spells};
+ghost use Rattle.std.specs.Prelude.{◌≡◌, ◌<◌, length, option_map, IfSome};
 ghost use Rattle.mp4_answers.specs.format.WordLists.{IsCut};
+ghost use Rattle.mp4_answers.specs.words.SpelledNames.{byte_spelled};
 
-/// The byte that two hexadecimal digits spell.
+/// The byte that two hexadecimal digits spell, small or capital; none where one is no digit.
 pub fn byte_of(high: u8, low: u8) -> Option<u8>
-    ensures { (b : ℕ) → Spells high low b → result ≡ Some b }
+    ensures { result ≡ byte_spelled high low }
 {
     let high = char::from(high).to_digit(16)?;
     let low = char::from(low).to_digit(16)?;

@@ -29,39 +29,6 @@ fn write_pair(text: &mut [u8], at: usize, pair: u32)
     text[at + 1] = ones;
 }
 
-// Writes the one or two digits of a number so that they end at `end`, and says where they begin.
-#[inline(always)]
-fn write_first(text: &mut [u8], end: usize, number: u32) -> usize
-    requires few { number < 100 }
-    requires room { length (decimal number) ≤ end }
-    requires within { end ≤ length text.old }
-    ensures start { result + length (decimal number) ≡ end }
-    ensures written { drop result text.new ≡ decimal number ++ drop end text.old }
-{
-    if number < 10 {
-        text[end - 1] = 48 + number as u8;
-        return end - 1;
-    }
-    write_pair(text, end - 2, number);
-    end - 2
-}
-
-// The same for at most four digits.
-#[inline(always)]
-fn write_few(text: &mut [u8], end: usize, number: u32) -> usize
-    requires few { number < 10000 }
-    requires room { length (decimal number) ≤ end }
-    requires within { end ≤ length text.old }
-    ensures start { result + length (decimal number) ≡ end }
-    ensures written { drop result text.new ≡ decimal number ++ drop end text.old }
-{
-    if number < 100 {
-        return write_first(text, end, number);
-    }
-    write_pair(text, end - 2, number % 100);
-    write_first(text, end - 2, number / 100)
-}
-
 /// Writes four digits at a place.
 #[inline(always)]
 pub(crate) fn write_four(text: &mut [u8], at: usize, four: u32)
@@ -73,24 +40,8 @@ pub(crate) fn write_four(text: &mut [u8], at: usize, four: u32)
     write_pair(text, at, four / 100);
 }
 
-// The same for any number of 32 bits.
-fn write_left(text: &mut [u8], end: usize, number: u32) -> usize
-    requires room { length (decimal number) ≤ end }
-    requires within { end ≤ length text.old }
-    ensures start { result + length (decimal number) ≡ end }
-    ensures written { drop result text.new ≡ decimal number ++ drop end text.old }
-{
-    let mut left = number;
-    let mut start = end;
-    while left >= 10_000 {
-        write_four(text, start - 4, left % 10_000);
-        left /= 10_000;
-        start -= 4;
-    }
-    write_few(text, start, left)
-}
-
 /// Writes the decimal digits of a number so that they end at `end`, and says where they begin.
+#[inline(always)]
 pub(crate) fn write_short_digits(text: &mut [u8], end: usize, number: u32) -> usize
     requires room { 10 ≤ end }
     requires within { end ≤ length text.old }
@@ -98,10 +49,11 @@ pub(crate) fn write_short_digits(text: &mut [u8], end: usize, number: u32) -> us
     ensures short { end ≤ result + 10 }
     ensures written { drop result text.new ≡ decimal number ++ drop end text.old }
 {
-    write_left(text, end, number)
+    itoa::write_digits(u64::from(number), text, end)
 }
 
 /// The same for a longer number.
+#[inline(always)]
 pub(crate) fn write_digits(text: &mut [u8], end: usize, number: u64) -> usize
     requires room { 20 ≤ end }
     requires within { end ≤ length text.old }
@@ -109,14 +61,7 @@ pub(crate) fn write_digits(text: &mut [u8], end: usize, number: u64) -> usize
     ensures short { end ≤ result + 20 }
     ensures written { drop result text.new ≡ decimal number ++ drop end text.old }
 {
-    let mut left = number;
-    let mut start = end;
-    while left >= 1 << 32 {
-        write_four(text, start - 4, (left % 10_000) as u32);
-        left /= 10_000;
-        start -= 4;
-    }
-    write_left(text, start, left as u32)
+    itoa::write_digits(number, text, end)
 }
 
 /// The same for a number that may be a little longer than 64 bits.

@@ -1,7 +1,8 @@
 //! Lines of sums, as `sha256sum` of the GNU coreutils writes them, and what a list of them says.
 ghost use Rattle.std.specs.Prelude.{◌≡◌, ◌<◌, ◌≤◌, ℕ, List, ◌∷◌, ◌++◌, length, true, false, Some, IfOk, IfSome, IsSomeAnd, OnOk};
 ghost use Rattle.mp4_boxes.specs.format.Bytes.{AreBytes};
-ghost use Rattle.mp4_answers.specs.format.SumLines.{escape_said, escaped_byte, escaped_name, header_text, is_escaped, name_text, sum_of_name, sum_text, IsName, IsSpelled};
+ghost use Rattle.mp4_answers.specs.format.SumLines.{escaped_byte, escaped_name, header_text, is_escaped, name_text, sum_of_name, sum_text};
+ghost use Rattle.mp4_answers.specs.words.SpelledNames.{escape_said, IsName, IsSpelled};
 ghost use Rattle.mp4_answers.specs.format.ListedSums.{SaysSum};
 ghost use Rattle.mp4_answers.specs.format.Texts.{hex_text, line_feed};
 

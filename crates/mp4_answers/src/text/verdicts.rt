@@ -1,8 +1,8 @@
 //! The verdict on a file: a line of its name and of what is said of it.
-ghost use Rattle.std.specs.Prelude.{◌≡◌, ◌<◌, length, IfErr, IfOk, OnOk, ◌++◌, string_bytes};
+ghost use Rattle.std.specs.Prelude.{◌≡◌, IfErr, IfOk, OnOk, ◌++◌, string_bytes};
 ghost use Rattle.serde_json.specs.View.{view};
 ghost use Rattle.serde_json.specs.Written.{compact_text};
-ghost use Rattle.mp4_answers.specs.format.Verdicts.{fault_value, failure_text, verdict_line, verdict_members, verdict_object, verdict_text, verdict_status, RefusesVerdict, IsNameLength, FirstName};
+ghost use Rattle.mp4_answers.specs.format.Verdicts.{fault_value, failure_text, verdict_line, verdict_members, verdict_object, verdict_text, verdict_status, RefusesVerdict};
 
 use crate::jobs::{Syntax, VerdictStyle};
 use crate::text::fault_text::{fault_line, status};
@@ -152,29 +152,4 @@ pub fn verdict_status(answer: &Result<(), Refusal>) -> u8
         Ok(()) => 0,
         Err(refusal) => status(refusal),
     }
-}
-
-// How long the first name of a list is.
-fn name_len(list: &[u8]) -> usize
-    ensures { IsNameLength list.now result }
-{
-    let mut len = 0;
-    while len < list.len() && list[len] != 0 {
-        len += 1;
-    }
-    len
-}
-
-/// The first of some names that are ended by zero bytes, and what is left behind it. The last may
-/// end with the list.
-pub fn first_name(list: &[u8]) -> (&[u8], &[u8])
-    ensures name { FirstName list.now result.0.now result.1.now }
-    ensures less { 0 < length list.now → length result.1.now < length list.now }
-{
-    let (name, rest) = list.split_at(name_len(list));
-    if rest.is_empty() {
-        return (name, rest);
-    }
-    let (_, rest) = rest.split_at(1);
-    (name, rest)
 }

@@ -14,13 +14,6 @@ abbrev pub FirstPart : ℕ → List ℕ → List ℕ → List ℕ → Type 0
 FirstPart end list part rest = (n : ℕ) × IsPartLength end list n × (part ≡ take n list)
     × (rest ≡ drop 1 (drop n list))
 
--- lines end with a line feed
-abbrev pub IsLineLength : List ℕ → ℕ → Type 0
-IsLineLength list n = IsPartLength 10 list n
-
-abbrev pub FirstLine : List ℕ → List ℕ → List ℕ → Type 0
-FirstLine list line rest = FirstPart 10 list line rest
-
 -- a line without a carriage return at its end
 abbrev pub without_return : List ℕ → List ℕ
 without_return line = if nat_lt 0 (length line) && slice_index line (length line - 1) == 13

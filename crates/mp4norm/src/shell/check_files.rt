@@ -216,6 +216,8 @@ impl<'a, 'c, K: Sink, L: Ledger, M: Ledger> Judge for FileJudge<'a, 'c, K, L, M>
 
     ghost finds_name = { λ from to name found. Unit {0} };
 
+    ghost refuses = { λ to refusal. Unit {0} };
+
     fn judge_word(&mut self, input: Input) -> Result<Found, Refusal> {
         let found = answer_of(self.rt, input, self.manner, self.steps);
         let named = GivenName {

@@ -1,6 +1,6 @@
 //! Lists of files: names, a line each, or an HLS media playlist (RFC 8216).
 ghost use Rattle.std.specs.Prelude.{◌≡◌, ◌<◌, false, length, true, IfErr, IfNone, IfOk, IfSome};
-ghost use Rattle.mp4norm.specs.format.Lists.{bytes_of, is_name, is_odd, names_of, without_return, AreNames, FirstLine, HasOdd, IsLineLength};
+ghost use Rattle.mp4norm.specs.format.Lists.{bytes_of, is_name, is_odd, names_of, without_return, AreNames, FirstPart, HasOdd, IsPartLength};
 
 use crate::shell::playlists::{is_playlist, playlist_names};
 use std::alloc::{AllocError, Global};
@@ -25,29 +25,47 @@ const MARK: &[u8] = b"\xef\xbb\xbf";
 /// How XML begins, and so a manifest of DASH.
 const XML: [&[u8]; 2] = [b"<?xml", b"<MPD"];
 
-// How long the first line of a list is, without its line feed.
-fn line_len(list: &[u8]) -> usize
-    ensures { IsLineLength list.now result }
+// How long the first part of a list is whose parts end with this byte, without that byte.
+fn part_len(list: &[u8], end: u8) -> usize
+    ensures { IsPartLength end list.now result }
 {
     let mut len = 0;
-    while len < list.len() && list[len] != b'\n' {
+    while len < list.len() && list[len] != end {
         len += 1;
     }
     len
 }
 
+// The first part of a list whose parts end with this byte, without that byte, and what is left
+// behind it. The last part may end with the list.
+fn first_part(list: &[u8], end: u8) -> (&[u8], &[u8])
+    ensures part { FirstPart end list.now result.0.now result.1.now }
+    ensures less { 0 < length list.now → length result.1.now < length list.now }
+{
+    let (part, rest) = list.split_at(part_len(list, end));
+    if rest.is_empty() {
+        return (part, rest);
+    }
+    let (_, rest) = rest.split_at(1);
+    (part, rest)
+}
+
 /// The first line of a list, without its line feed, and what is left behind it. The last line may
 /// end with the list.
 pub fn first_line(list: &[u8]) -> (&[u8], &[u8])
-    ensures line { FirstLine list.now result.0.now result.1.now }
+    ensures line { FirstPart 10 list.now result.0.now result.1.now }
     ensures less { 0 < length list.now → length result.1.now < length list.now }
 {
-    let (line, rest) = list.split_at(line_len(list));
-    if rest.is_empty() {
-        return (line, rest);
-    }
-    let (_, rest) = rest.split_at(1);
-    (line, rest)
+    first_part(list, b'\n')
+}
+
+/// The first of some names that are ended by zero bytes, and what is left behind it. The last may
+/// end with the list.
+pub fn first_name(list: &[u8]) -> (&[u8], &[u8])
+    ensures name { FirstPart 0 list.now result.0.now result.1.now }
+    ensures less { 0 < length list.now → length result.1.now < length list.now }
+{
+    first_part(list, 0)
 }
 
 /// A line without the carriage return at its end.

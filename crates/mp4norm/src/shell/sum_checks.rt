@@ -109,6 +109,8 @@ struct SumChecker<'a, 'c, K, L: Ledger, M: Ledger> {
 impl<'a, 'c, K: Sink, L: Ledger, M: Ledger> SumJudge for SumChecker<'a, 'c, K, L, M> {
     ghost finds = { λ from to file found. Unit {0} };
 
+    ghost refuses = { λ to refusal. Unit {0} };
+
     fn judge_sum(&mut self, file: &ListedFile) -> Result<Found, Refusal> {
         let found = sum_of(self.rt, file, self.how, self.steps);
         let line = line_of(self.rt.alloc(), file, &found, self.how.quiet)?;

@@ -9,11 +9,11 @@ loop-file-preserved g c =
     let file = c.file-item.result in
     let left = left_at c.args.files.now c.loop-file.file-index _ file here c.file-item.is in
     sums_on g.J.SumJudge.finds c.args.files.now c.args.judge.now file (drop (c.loop-file.file-index + 1) c.args.files.now) c.loop-file.judge c.judge_sum.new.self c.loop-file.worst c.found_status.result c.max-worst.result c.loop-file.differ c.sum_status.result c.max-differ.result c.in_ok-found.found
-    c.in_ok-found.ensures c.found_status.ensures c.max-worst.ensures c.sum_status.ensures c.max-differ.ensures
+    c.in_ok-found.ensures.found c.found_status.ensures c.max-worst.ensures c.sum_status.ensures c.max-differ.ensures
     (subst (λ (files : List ListedFile). SumsOn g.J.SumJudge.finds c.args.files.now c.args.judge.now files c.loop-file.judge c.loop-file.worst c.loop-file.differ) left c.loop-file.invariant)
 
-pub returns-then-worst-gt0 : goal.returns-then-worst-gt0
-returns-then-worst-gt0 g c =
+pub returns-then-worst-gt0-clause-each : goal.returns-then-worst-gt0-clause-each
+returns-then-worst-gt0-clause-each g c =
     let end : length c.args.files.now ≤ c.loop-file.file-index = search rules in
     let none = all_dropped c.args.files.now c.loop-file.file-index end in (
       c.loop-file.worst,
@@ -23,8 +23,8 @@ returns-then-worst-gt0 g c =
       search rules,
     )
 
-pub returns-else-worst-gt0 : goal.returns-else-worst-gt0
-returns-else-worst-gt0 g c =
+pub returns-else-worst-gt0-clause-each : goal.returns-else-worst-gt0-clause-each
+returns-else-worst-gt0-clause-each g c =
     let end : length c.args.files.now ≤ c.loop-file.file-index = search rules in
     let none = all_dropped c.args.files.now c.loop-file.file-index end in (
       c.loop-file.worst,
