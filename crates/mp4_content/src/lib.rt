@@ -5,14 +5,15 @@
 //!   ([`reduced_laws`], [`covering_laws`]).
 //! - [`compare`] names the first [`Difference`] between two opened files, the two [`Movies`];
 //!   [`compare_all`] hands each to a [`Differences`] ([`comparing_laws`], [`complete_laws`]).
-//! - [`measure`] finds what the samples of each track are left by, its [`Reduction`]. [`Reduced`]
-//!   hands out what is left of samples, one after the other; [`reduced_sample`] is that of one.
-//! - [`payloads_left`] and [`head_left`] are what is left of a head, [`length_left`] how long what
-//!   is left is. Without edits, ends or origins a track may have no normal form, which is a fault.
+//! - [`Content`] is what is left of an opened movie: what is left of each track in numbers, its
+//!   [`TrackLeft`], and what its samples are left by, its [`Reduction`]; how long all of it is, and
+//!   its head. Without edits, ends or origins a track may have no normal form, which is a fault.
+//! - [`Reduced`] hands out what is left of samples, one after the other; [`reduced_sample`] is that
+//!   of one. [`payloads_left`] are the payloads of a head that are left in memory of their own.
 //! - [`edges_of`] says where a track begins and ends; [`peek_sample`] looks at the next sample.
 //!
 //! A comparison holds two windows of at most 65,536 bytes, and a walk over a track of each file.
-//! What is measured is some 40 bytes a track.
+//! A content holds some 64 bytes a track.
 //!
 //! ```rust
 //! use mp4_boxes::Steps;
@@ -45,6 +46,7 @@ mod bit_rates;
 mod comparing;
 pub mod comparing_laws;
 pub mod complete_laws;
+mod content;
 pub mod covering_laws;
 mod edges;
 mod file_window;
@@ -60,11 +62,9 @@ mod without;
 pub use comparing::differences::{Difference, Differences, Entries, Field, Part, Subject, Value};
 pub use comparing::movies::Movies;
 pub use comparing::{compare, compare_all};
+pub use content::{Content, TrackLeft};
 pub use edges::{Edges, edges_of};
-pub use measures::{Measures, Total, measure};
 pub use own_payloads::{BoxLeft, MediaLeft, payloads_left, put_payloads_left};
 pub use peeking::peek_sample;
-pub use reduced::{Reduced, Reduction, Reductions, reduced_sample};
-pub use reduced_head::head_left;
-pub use reduced_lengths::length_left;
+pub use reduced::{Reduced, Reduction, reduced_sample};
 pub use without::{Without, Word};

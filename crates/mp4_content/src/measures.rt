@@ -16,7 +16,7 @@ ghost use Rattle.mp4_content.specs.words.Measuring.{AreMeasured, is_near, measur
 ghost use Rattle.mp4_content.specs.words.Opened.{RefusesPlan};
 
 use crate::peeking::peek_sample;
-use crate::reduced::{Reduction, Reductions, asks_first};
+use crate::reduced::{Reduction, asks_first};
 use crate::without::Without;
 use mp4_boxes::{Refusal, Steps};
 use mp4_present::{Movie, Walk};
@@ -28,16 +28,16 @@ use std::sync::ledger::Ledger;
 /// What is left of samples of a track together: how long they last, as far as 64 bits go, and
 /// whether each composition offset fits its field.
 #[derive(Clone, Copy, Debug, PartialEq, Eq)]
-pub struct Total {
-    pub duration: u64,
-    pub is_near: bool,
+pub(crate) struct Total {
+    pub(crate) duration: u64,
+    pub(crate) is_near: bool,
 }
 
 /// For each track what its samples are left by, and what is left of them together.
 #[derive(Drop)]
-pub struct Measures {
-    pub reductions: Reductions,
-    pub totals: Vec<Total>,
+pub(crate) struct Measures {
+    pub(crate) of_tracks: Vec<Reduction>,
+    pub(crate) totals: Vec<Total>,
 }
 
 // Whether a composition offset fits its field.
@@ -159,9 +159,7 @@ fn measure_all<S: Store, L: Ledger, M: Ledger>(
     steps: &mut Steps<L, M>,
 ) -> Result<Measures, Refusal>
     ensures store { OnlyReads S.Store store.old store.new result }
-    ensures many { IfOk result
-        (λ all. length all.reductions.of_tracks.items ≡ length movie.now.tracks) }
-    ensures leaving { IfOk result (λ all. all.reductions.leaving ≡ leaving) }
+    ensures many { IfOk result (λ all. length all.of_tracks.items ≡ length movie.now.tracks) }
     ensures measured { asks_first leaving ≡ true → OverOpened S.Store store.old movie.now
         (λ file tree. IfOk result (AreMeasured leaving tree movie.now)) }
     ensures unchanged { OverOpened S.Store store.old movie.now (λ file tree. IsUnchanged result) }
@@ -171,28 +169,25 @@ fn measure_all<S: Store, L: Ledger, M: Ledger>(
     ensures refusal { Refused S.Store store.old store.new result RefusesPlan }
     ensures looks { steps.new.looks ≡ steps.old.looks }
 {
-    let mut of_tracks = Vec::new(alloc);
-    let mut totals = Vec::new(alloc);
+    let mut of_tracks = Vec::with_capacity(alloc, movie.tracks().len())?;
+    let mut totals = Vec::with_capacity(alloc, movie.tracks().len())?;
     for track in 0..movie.tracks().len() {
         let found = measure_track(alloc, track, leaving, movie, store, steps)?;
         of_tracks.push(found.0)?;
         totals.push(found.1)?;
     }
-    let reductions = Reductions { leaving, of_tracks };
-    Ok(Measures { reductions, totals })
+    Ok(Measures { of_tracks, totals })
 }
 
 // What all tracks come to whose samples needn't be asked: as long as opening counted.
 fn measure_at_once(alloc: Global, movie: &Movie, leaving: Without) -> Result<Measures, AllocError>
-    ensures many { IfOk result
-        (λ all. length all.reductions.of_tracks.items ≡ length movie.now.tracks) }
-    ensures leaving { IfOk result (λ all. all.reductions.leaving ≡ leaving) }
+    ensures many { IfOk result (λ all. length all.of_tracks.items ≡ length movie.now.tracks) }
     ensures measured { asks_first leaving ≡ false → (file : List ℕ) (tree : FileTree)
         → IsOpenedAs file movie.now tree → IfOk result (AreMeasured leaving tree movie.now) }
 {
-    let mut of_tracks = Vec::new(alloc);
-    let mut totals = Vec::new(alloc);
     let tracks = movie.tracks();
+    let mut of_tracks = Vec::with_capacity(alloc, tracks.len())?;
+    let mut totals = Vec::with_capacity(alloc, tracks.len())?;
     for track in 0..tracks.len() {
         of_tracks.push(Reduction::plain(leaving))?;
         totals.push(Total {
@@ -200,13 +195,12 @@ fn measure_at_once(alloc: Global, movie: &Movie, leaving: Without) -> Result<Mea
             is_near: true,
         })?;
     }
-    let reductions = Reductions { leaving, of_tracks };
-    Ok(Measures { reductions, totals })
+    Ok(Measures { of_tracks, totals })
 }
 
 /// Measures all tracks: where what is left depends on the first sample of a track, or on its last,
 /// its samples are walked over.
-pub fn measure<S: Store, L: Ledger, M: Ledger>(
+pub(crate) fn measure<S: Store, L: Ledger, M: Ledger>(
     alloc: Global,
     movie: &Movie,
     store: &mut S,
@@ -214,9 +208,7 @@ pub fn measure<S: Store, L: Ledger, M: Ledger>(
     steps: &mut Steps<L, M>,
 ) -> Result<Measures, Refusal>
     ensures store { OnlyReads S.Store store.old store.new result }
-    ensures many { IfOk result
-        (λ all. length all.reductions.of_tracks.items ≡ length movie.now.tracks) }
-    ensures leaving { IfOk result (λ all. all.reductions.leaving ≡ leaving) }
+    ensures many { IfOk result (λ all. length all.of_tracks.items ≡ length movie.now.tracks) }
     ensures measured { OverOpened S.Store store.old movie.now
         (λ file tree. IfOk result (AreMeasured leaving tree movie.now)) }
     ensures unchanged { OverOpened S.Store store.old movie.now (λ file tree. IsUnchanged result) }

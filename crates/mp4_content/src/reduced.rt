@@ -1,6 +1,6 @@
 //! Samples of which something doesn't count.
 ghost use Rattle.std.specs.Prelude.{◌≡◌, ◌||◌, if◌then◌else◌, [], ◌∷◌};
-ghost use Rattle.mp4_content.specs.format.Reduced.{sync_flag};
+ghost use Rattle.mp4_content.specs.format.Reduced.{keeps_samples, sync_flag};
 ghost use Rattle.mp4_content.specs.words.ComingLess.{asks_first, begun_time, moved_time, near_offset, offset_near, plain_reduction, reduce_at, reduction_by};
 
 use crate::without::{Without, Word};
@@ -15,13 +15,6 @@ pub struct Reduction {
     pub start: u64,
     pub duration: u32,
     pub offset: i32,
-}
-
-/// What is left out of a movie, and for each track what its samples are left by.
-#[derive(Drop)]
-pub struct Reductions {
-    pub leaving: Without,
-    pub of_tracks: Vec<Reduction>,
 }
 
 /// Whether what is left of samples depends on the first of them, or on how many there are.
@@ -59,6 +52,13 @@ impl Reduction {
             },
             None => Reduction::plain(leaving),
         }
+    }
+
+    /// Whether samples stay as they are.
+    pub fn keeps_samples(self) -> bool
+        ensures { result ≡ keeps_samples self.leaving }
+    {
+        self.leaving.keeps_samples()
     }
 
     // When a sample is due that is due at this time, where the track begins at 0, if it does.

@@ -88,7 +88,7 @@ fn reduce_head(head: &mut MovieHead, leaving: Without)
 
 /// What is left of the head of a movie, of which this is left of the payloads of media
 /// (`payloads_left`).
-pub fn head_left<'a>(
+pub(crate) fn head_left<'a>(
     alloc: Global,
     head: MovieHead<'a>,
     leaving: Without,

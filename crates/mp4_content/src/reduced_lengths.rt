@@ -105,7 +105,7 @@ fn longest_by_count(leaving: Without, heads: &[TrackHead], tracks: &[TrackInfo])
 
 /// How long the longest track is of what is left of a movie, of which this was measured, if each is
 /// within the limits, and its offsets fit.
-pub fn length_left(
+pub(crate) fn length_left(
     alloc: Global,
     movie: &Movie,
     leaving: Without,

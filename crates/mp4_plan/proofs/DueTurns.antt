@@ -2,7 +2,7 @@
 use Rattle.std.proofs.Common.{◌≡◌, ℕ, zero, suc, ◌+◌, ◌-◌, ◌*◌, ◌/◌, ◌^◌, ◌<◌, ◌≤◌, ◌==◌, nat_le, min, max, Bool, true, false, cond, List, [], ◌∷◌, length, Some, None, refl, sym, ap, subst, ◌∙◌, true≢false, arith, slice_get, slice_set, eq-eqb, eqb-true, ne_eqb, le-leb, leb-true, le-div_iff_mul-le}
 use Rattle.std.specs.Prelude.{Option, if◌then◌else◌, option_map}
 use Rattle.mp4_tables.specs.declared.sample.SampleAt.{SampleAt}
-use Rattle.mp4_present.specs.declared.track_info.TrackInfo.{TrackInfo}
+use Rattle.mp4_content.specs.declared.content.TrackLeft.{TrackLeft}
 use Rattle.mp4_plan.specs.words.DueTracks.{leaf, cut_at, AreTimes, IsDue, Skips}
 use Rattle.mp4_plan.specs.words.DueTracks.Skips.{none, one}
 use Rattle.mp4_plan.specs.words.Turns.{turns_left, begins_more, track_passed, turned, wrapped, is_over}
@@ -108,32 +108,31 @@ pub record KeepsOn (s later : Schedule) : Type 0 where
   pub tracks : later.tracks ≡ s.tracks
   pub first : later.first ≡ s.first
   pub left : later.left ≡ s.left
-  pub leaving : later.leaving ≡ s.leaving
   pub turns : turns_left later ≤ turns_left s
 
-wrapped_keeps : (s : Schedule) (next : Option ℕ) → ((wrapped s next).tracks ≡ s.tracks) × ((wrapped s next).first ≡ s.first) × ((wrapped s next).left ≡ s.left) × ((wrapped s next).leaving ≡ s.leaving)
-wrapped_keeps s None = (refl, refl, refl, refl)
+wrapped_keeps : (s : Schedule) (next : Option ℕ) → ((wrapped s next).tracks ≡ s.tracks) × ((wrapped s next).first ≡ s.first) × ((wrapped s next).left ≡ s.left)
+wrapped_keeps s None = (refl, refl, refl)
 wrapped_keeps s (Some cut) = by (s.track == s.tracks)
   where
-    by : (v : Bool) → let r = if◌then◌else◌ v (record s { from = cut; next = None; track = 0 }) s in (r.tracks ≡ s.tracks) × (r.first ≡ s.first) × (r.left ≡ s.left) × (r.leaving ≡ s.leaving)
-    by true = (refl, refl, refl, refl)
-    by false = (refl, refl, refl, refl)
+    by : (v : Bool) → let r = if◌then◌else◌ v (record s { from = cut; next = None; track = 0 }) s in (r.tracks ≡ s.tracks) × (r.first ≡ s.first) × (r.left ≡ s.left)
+    by true = (refl, refl, refl)
+    by false = (refl, refl, refl)
 
 pub other_keeps : (s : Schedule) (time : Option ℕ) → 0 < s.track → KeepsOn s (track_passed s time)
 other_keeps s time some =
     let k = wrapped_keeps (record s { track = s.track + 1 }) s.next in
     let a = wrapped_few (record s { track = s.track + 1 }) s.next refl (omega arith) in
     let b = at_other s some in
-    subst (λ p. KeepsOn s p) (sym (passed_other s time some)) (record { tracks = k.0; first = k.1; left = k.2; leaving = k.3; turns = omega (arith, a, b) })
+    subst (λ p. KeepsOn s p) (sym (passed_other s time some)) (record { tracks = k.0; first = k.1; left = k.2; turns = omega (arith, a, b) })
 
 pub skips_keep : (d : DueTracks) (s later : Schedule) → Skips d s later → KeepsOn s later
-skips_keep d s later (none _) = record { tracks = refl; first = refl; left = refl; leaving = refl; turns = omega arith }
+skips_keep d s later (none _) = record { tracks = refl; first = refl; left = refl; turns = omega arith }
 skips_keep d s later (one _ _ some lt late more) =
     let a = other_keeps s None some in
     let b = skips_keep d (track_passed s None) later more in
     let c = a.turns in
     let e = b.turns in
-    record { tracks = b.tracks ∙ a.tracks; first = b.first ∙ a.first; left = b.left ∙ a.left; leaving = b.leaving ∙ a.leaving; turns = omega (arith, c, e) }
+    record { tracks = b.tracks ∙ a.tracks; first = b.first ∙ a.first; left = b.left ∙ a.left; turns = omega (arith, c, e) }
 
 -- ---- tracks that are skipped
 
@@ -176,29 +175,29 @@ skips_over d s lt some e late = subst (λ p. Skips d s p) (ap (wrapped (record s
 
 -- ---- behind a turn
 
-passed_keeps : (s : Schedule) (time : Option ℕ) → ((track_passed s time).tracks ≡ s.tracks) × ((track_passed s time).first ≡ s.first) × ((track_passed s time).left ≡ s.left) × ((track_passed s time).leaving ≡ s.leaving)
+passed_keeps : (s : Schedule) (time : Option ℕ) → ((track_passed s time).tracks ≡ s.tracks) × ((track_passed s time).first ≡ s.first) × ((track_passed s time).left ≡ s.left)
 passed_keeps s time = by (s.track == 0)
   where
-    by : (v : Bool) → let r = if◌then◌else◌ v (wrapped (record s { next = time; track = 1 }) time) (wrapped (record s { track = s.track + 1 }) s.next) in (r.tracks ≡ s.tracks) × (r.first ≡ s.first) × (r.left ≡ s.left) × (r.leaving ≡ s.leaving)
+    by : (v : Bool) → let r = if◌then◌else◌ v (wrapped (record s { next = time; track = 1 }) time) (wrapped (record s { track = s.track + 1 }) s.next) in (r.tracks ≡ s.tracks) × (r.first ≡ s.first) × (r.left ≡ s.left)
     by true = wrapped_keeps (record s { next = time; track = 1 }) time
     by false = wrapped_keeps (record s { track = s.track + 1 }) s.next
 
-pub turned_keeps : (s : Schedule) (end : End) (n : ℕ) (x : Option SampleAt) → ((turned s end n x).tracks ≡ s.tracks) × ((turned s end n x).first ≡ s.first) × ((turned s end n x).left ≡ s.left - n) × ((turned s end n x).leaving ≡ s.leaving)
+pub turned_keeps : (s : Schedule) (end : End) (n : ℕ) (x : Option SampleAt) → ((turned s end n x).tracks ≡ s.tracks) × ((turned s end n x).first ≡ s.first) × ((turned s end n x).left ≡ s.left - n)
 turned_keeps s end n x = by (is_over end x)
   where
     rest : Schedule
     rest = record s { left = s.left - n }
 
-    by : (v : Bool) → let r = if◌then◌else◌ v (track_passed rest (option_map (λ (a : SampleAt). a.dts) x)) rest in (r.tracks ≡ s.tracks) × (r.first ≡ s.first) × (r.left ≡ s.left - n) × (r.leaving ≡ s.leaving)
+    by : (v : Bool) → let r = if◌then◌else◌ v (track_passed rest (option_map (λ (a : SampleAt). a.dts) x)) rest in (r.tracks ≡ s.tracks) × (r.first ≡ s.first) × (r.left ≡ s.left - n)
     by true = passed_keeps rest (option_map (λ (a : SampleAt). a.dts) x)
-    by false = (refl, refl, refl, refl)
+    by false = (refl, refl, refl)
 
 -- a turn, and the tracks that are skipped behind it
-pub turn_keeps : (d : DueTracks) (s taken later : Schedule) (end : End) (n : ℕ) (x : Option SampleAt) → taken ≡ turned s end n x → Skips d taken later → (later.tracks ≡ s.tracks) × (later.first ≡ s.first) × (later.left ≡ s.left - n) × (later.leaving ≡ s.leaving)
+pub turn_keeps : (d : DueTracks) (s taken later : Schedule) (end : End) (n : ℕ) (x : Option SampleAt) → taken ≡ turned s end n x → Skips d taken later → (later.tracks ≡ s.tracks) × (later.first ≡ s.first) × (later.left ≡ s.left - n)
 turn_keeps d s taken later end n x e skips =
     let k = turned_keeps s end n x in
     let a = skips_keep d taken later skips in
-    (a.tracks ∙ ap (λ (p : Schedule). p.tracks) e ∙ k.0, a.first ∙ ap (λ (p : Schedule). p.first) e ∙ k.1, a.left ∙ ap (λ (p : Schedule). p.left) e ∙ k.2, a.leaving ∙ ap (λ (p : Schedule). p.leaving) e ∙ k.3)
+    (a.tracks ∙ ap (λ (p : Schedule). p.tracks) e ∙ k.0, a.first ∙ ap (λ (p : Schedule). p.first) e ∙ k.1, a.left ∙ ap (λ (p : Schedule). p.left) e ∙ k.2)
 
 -- ---- the leaves behind a turn
 
@@ -220,8 +219,8 @@ get_set_same (z ∷ xs) zero x y e = cc
 get_set_same (z ∷ xs) (suc k) x y e = get_set_same xs k x y e
 
 -- that of the track whose turn it was says when its next sample is due
-pub times_set : (infos : List TrackInfo) (nexts : List (Option SampleAt)) (first : ℕ) (d e : DueTracks) (track : ℕ) (sample : Option SampleAt) (time : ℕ) → AreTimes infos nexts first d → d.leaves ≡ length infos
-    → ((k : ℕ) → k < d.leaves → (k ≡ track → ⊥) → leaf e k ≡ leaf d k) → leaf e track ≡ time → ((info : TrackInfo) → slice_get infos track ≡ Some info → IsDue first info.timescale sample time)
+pub times_set : (infos : List TrackLeft) (nexts : List (Option SampleAt)) (first : ℕ) (d e : DueTracks) (track : ℕ) (sample : Option SampleAt) (time : ℕ) → AreTimes infos nexts first d → d.leaves ≡ length infos
+    → ((k : ℕ) → k < d.leaves → (k ≡ track → ⊥) → leaf e k ≡ leaf d k) → leaf e track ≡ time → ((info : TrackLeft) → slice_get infos track ≡ Some info → IsDue first info.timescale sample time)
     → AreTimes infos (slice_set nexts track sample) first e
 times_set infos nexts first d e track sample time times many others own due k info next some is_info is_next = by (k == track) refl
   where
@@ -239,7 +238,7 @@ times_set infos nexts first d e track sample time times many others own due k in
         subst (λ t. IsDue first info.timescale next t) (sym (others k (omega (arith, inside, many)) other)) old
 
 -- the first track has none
-pub times_first : (infos : List TrackInfo) (nexts : List (Option SampleAt)) (first : ℕ) (d : DueTracks) (track : ℕ) (sample : Option SampleAt) → AreTimes infos nexts first d → track ≡ 0 → AreTimes infos (slice_set nexts track sample) first d
+pub times_first : (infos : List TrackLeft) (nexts : List (Option SampleAt)) (first : ℕ) (d : DueTracks) (track : ℕ) (sample : Option SampleAt) → AreTimes infos nexts first d → track ≡ 0 → AreTimes infos (slice_set nexts track sample) first d
 times_first infos nexts first d track sample times z k info next some is_info is_next = times k info next some is_info (get_set_other nexts k track next sample (λ h. omega (arith, h, some, z)) is_next)
 
 -- ---- when a sample is due

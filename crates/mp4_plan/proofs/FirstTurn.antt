@@ -31,7 +31,8 @@ use Rattle.mp4_content.specs.format.TimedSamples.{TimedSample}
 use Rattle.mp4_plan.specs.format.Pieces.{pieces}
 use Rattle.mp4_content.specs.words.TakenSamples.{AreTaken}
 use Rattle.mp4_plan.specs.words.TurnLaws.{HavePassed}
-use Rattle.mp4_plan.specs.words.Turns.{first_scale, info_left, infos_left}
+use Rattle.mp4_content.specs.words.Contents.{info_left, infos_left, numbers_of}
+use Rattle.mp4_plan.specs.words.Turns.{first_scale}
 use Rattle.mp4_plan.specs.declared.ends.End.TheVariants.{Sync}
 use Rattle.mp4_plan.specs.declared.schedule.Schedule.{Schedule}
 use Rattle.mp4_plan.proofs.FragmentsLeft.{not_itself, turns_begin_with_all}
@@ -51,7 +52,7 @@ begins_at (left ∷ lefts) = first_dts left
 -- The first turn over tracks of which these samples are left.
 pub record IsFirst (infos : List TrackInfo) (lefts : List (List SampleAt)) (s : Schedule) : Type 0 where
   pub tracks : s.tracks ≡ length infos
-  pub first : s.first ≡ first_scale infos
+  pub first : s.first ≡ first_scale (map numbers_of infos)
   pub track : s.track ≡ 0
   pub from : s.from ≡ begins_at lefts
   pub next : s.next ≡ None

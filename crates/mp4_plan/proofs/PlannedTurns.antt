@@ -25,7 +25,9 @@ use Rattle.mp4_plan.specs.format.Pieces.{Piece, pieces}
 use Rattle.mp4_plan.specs.words.Sizes.{moof_sizes}
 use Rattle.mp4_content.specs.words.TakenSamples.{AreTaken}
 use Rattle.mp4_plan.specs.words.TurnLaws.{piece_if}
-use Rattle.mp4_plan.specs.words.Turns.{first_scale, info_left, infos_left, turn_end, turned, Sticks}
+use Rattle.mp4_content.specs.words.Contents.{info_left, infos_left, numbers_of, tracks_left}
+use Rattle.mp4_content.specs.declared.content.TrackLeft.{TrackLeft}
+use Rattle.mp4_plan.specs.words.Turns.{first_scale, turn_end, turned, Sticks}
 use Rattle.mp4_plan.specs.words.DueTracks.{FindsMore, IsDueAt, Skips}
 use Rattle.mp4_plan.specs.words.Writers.{AllCome, AllBegin, ArePiecesLong, firsts, longest_piece, planned_length}
 use Rattle.mp4_plan.specs.words.Writers as writers
@@ -34,7 +36,7 @@ use Rattle.mp4_plan.specs.declared.ends.End.{End}
 use Rattle.mp4_plan.specs.declared.planner.Planned.{Planned}
 use Rattle.mp4_plan.specs.declared.schedule.Schedule.{Schedule}
 use Rattle.mp4_plan.proofs.ComeAt.{come_with}
-use Rattle.mp4_plan.proofs.InfosLeft.{as_many_left, info_at, left_scales}
+use Rattle.mp4_plan.proofs.InfosLeft.{as_many_left, info_at, left_scales, track_at}
 use Rattle.mp4_plan.proofs.FirstTurn.{begins_at, first_turn}
 use Rattle.mp4_plan.proofs.NextSamples.{first_at, firsts_set}
 use Rattle.mp4_plan.proofs.PieceWritten.{AreKeys, IsFew, bytes_of_two}
@@ -162,7 +164,7 @@ begins_same ((s ∷ samples) ∷ lefts) = refl
 
 module _ (leaving : Without) (file : List ℕ) (tree : FileTree) (m : MovieSeen) (s : Schedule) (walks : List Walk) (nexts : List (Option SampleAt)) (from : ℕ) (o : IsOpenedAs file m tree) (near : ReducesInRange leaving (presentation_of file tree)) (come : AllBegin leaving file tree m walks)
     (shown : nexts ≡ firsts (map (left_samples leaving tree) tree.movie.tracks)) (time : from ≡ writers.first_dts (map (left_samples leaving tree) tree.movie.tracks))
-    (tracks : s.tracks ≡ length m.tracks) (first : s.first ≡ first_scale (infos_left leaving m.tracks)) (left : s.left ≡ sum_by (λ (i : TrackInfo). i.samples) m.tracks) (starts : (s.track ≡ 0) × (s.from ≡ from) × (s.next ≡ None)) where
+    (tracks : s.tracks ≡ length m.tracks) (first : s.first ≡ first_scale (tracks_left leaving m.tracks)) (left : s.left ≡ sum_by (λ (i : TrackInfo). i.samples) m.tracks) (starts : (s.track ≡ 0) × (s.from ≡ from) × (s.next ≡ None)) where
   abbrev all_lefts : List (List SampleAt)
   all_lefts = map (left_samples leaving tree) tree.movie.tracks
 
@@ -232,9 +234,10 @@ pub record HasTurn (leaving : Without) (file : List ℕ) (tree : FileTree) (m : 
 
 module _ (leaving : Without) (file : List ℕ) (tree : FileTree) (m : MovieSeen) (s : Schedule) (walks : List Walk) (nexts : List (Option SampleAt)) (lefts : List (List SampleAt)) (comings : List Coming) (o : IsOpenedAs file m tree)
     (h : StandsAt leaving file tree m s walks nexts lefts comings) where
-  pub has_turn : (k : ℕ) (walk : Walk) (end : End) → (k ≡ s.track) × (s.track < s.tracks) → walk ≡ slice_index_or walks k walk → length walks ≡ length m.tracks → ((info : TrackInfo) → slice_get m.tracks s.track ≡ Some info → end ≡ turn_end s (timescale_left leaving info.timescale))
+  pub has_turn : (k : ℕ) (walk : Walk) (end : End) (id : ℕ) → (k ≡ s.track) × (s.track < s.tracks) → walk ≡ slice_index_or walks k walk → length walks ≡ length m.tracks
+      → ((track : TrackLeft) → slice_get (tracks_left leaving m.tracks) s.track ≡ Some track → (end ≡ turn_end s track.timescale) × (id ≡ track.id))
       → HasTurn leaving file tree m s nexts lefts k walk end
-  has_turn k walk end at is_walk many is_end =
+  has_turn k walk end id at is_walk many own =
       let lt = at.1 in
       let tracks = turn_tracks file (infos_left leaving m.tracks) s lefts comings h.turn ∙ as_many_left leaving m.tracks in
       let info = there_is m.tracks s.track (omega (arith, lt, tracks)) in
@@ -249,7 +252,7 @@ module _ (leaving : Without) (file : List ℕ) (tree : FileTree) (m : MovieSeen)
         is_tree = r.is_tree;
         is_left = r.is_left;
         place = at.0;
-        end_is = is_end info.0 info.1;
+        end_is = (own (numbers_of (info_left leaving info.0)) (track_at leaving m.tracks s.track info.0 info.1)).0;
         comes = subst (λ w. ComesLess (track_reduction leaving tree r.t) file tree r.t m w r.left) (sym is_walk) (subst (λ j. ComesLess (track_reduction leaving tree r.t) file tree r.t m (slice_index_or walks j walk) r.left) (sym at.0) r.comes);
         few = omega (arith, fits, all);
         shown = ap (λ xs. slice_get xs s.track) h.shown ∙ first_at lefts s.track r.left r.is_left;
@@ -267,7 +270,7 @@ module _ (leaving : Without) (file : List ℕ) (tree : FileTree) (m : MovieSeen)
     left_behind_it = samples_after (piece_from end) t.left
 
     -- the turn leads on, where a track behind the first has a sample that goes into a piece
-    pub turn_leads : (n : ℕ) (next : Option SampleAt) (d : DueTracks) → n ≡ piece_size → next ≡ slice_get left_behind_it 0 → IsDueAt (infos_left leaving m.tracks) nexts s d → ¬ Sticks s n next
+    pub turn_leads : (n : ℕ) (next : Option SampleAt) (d : DueTracks) → n ≡ piece_size → next ≡ slice_get left_behind_it 0 → IsDueAt (tracks_left leaving m.tracks) nexts s d → ¬ Sticks s n next
     turn_leads n next d is after due =
         let goes = due_here (infos_left leaving m.tracks) nexts s d (info_left leaving t.info) (slice_get t.left 0) due (left_scales leaving file m tree o) lt (info_at leaving m.tracks s.track t.info t.is_info) t.shown in
         let at_end = subst (λ e. ¬ Sticks s (more_of (piece_from e) t.left) (slice_get (samples_after (piece_from e) t.left) 0)) (sym t.end_is)
@@ -299,7 +302,7 @@ module _ (leaving : Without) (file : List ℕ) (tree : FileTree) (m : MovieSeen)
       }
 
       -- where no sample is left, no track is due behind it
-      pub no_more : (d : DueTracks) (later : Schedule) → FindsMore (infos_left leaving m.tracks) (slice_set nexts s.track next) on later d → ⊥
+      pub no_more : (d : DueTracks) (later : Schedule) → FindsMore (tracks_left leaving m.tracks) (slice_set nexts s.track next) on later d → ⊥
       no_more d later f = finds_none file (infos_left leaving m.tracks) on later (slice_set lefts s.track left_behind_it) taken.later (slice_set nexts s.track next) d
           (subst (λ (r : Schedule). IsTurn file (infos_left leaving m.tracks) r (slice_set lefts s.track left_behind_it) taken.later) (sym turned_is) stands_next.turn) stands_next.shown
           (left_scales leaving file m tree o) f
@@ -360,7 +363,7 @@ module _ (leaving : Without) (file : List ℕ) (tree : FileTree) (m : MovieSeen)
 
 -- ---- where tracks are skipped
 
-module _ (leaving : Without) (file : List ℕ) (tree : FileTree) (m : MovieSeen) (s later : Schedule) (walks : List Walk) (nexts : List (Option SampleAt)) (d : DueTracks) (o : IsOpenedAs file m tree) (skips : Skips d s later) (due : IsDueAt (infos_left leaving m.tracks) nexts later d) where
+module _ (leaving : Without) (file : List ℕ) (tree : FileTree) (m : MovieSeen) (s later : Schedule) (walks : List Walk) (nexts : List (Option SampleAt)) (d : DueTracks) (o : IsOpenedAs file m tree) (skips : Skips d s later) (due : IsDueAt (tracks_left leaving m.tracks) nexts later d) where
   stands_skipped : (lefts : List (List SampleAt)) (comings : List Coming) → StandsAt leaving file tree m s walks nexts lefts comings → StandsAt leaving file tree m later walks nexts lefts comings × (pieces_from s comings ≡ pieces_from later comings)
   stands_skipped lefts comings h =
       let r = turns_skipped file (infos_left leaving m.tracks) d s later nexts lefts comings skips h.turn h.shown due (left_scales leaving file m tree o) in

@@ -1,6 +1,6 @@
 -- Where tracks that are not due are skipped, the same pieces are left.
 use Rattle.std.proofs.Common.{length, ◌≡◌, ℕ, zero, suc, ◌<◌, true, false, cond, List, [], ◌∷◌, Some, None, refl, sym, ap, subst, ◌∙◌, arith, ne_eqb, slice_get, ◌⊎◌, inl, inr, true≢false}
-use Rattle.std.specs.Prelude.{Option}
+use Rattle.std.specs.Prelude.{Option, map}
 use Rattle.std.specs.List.{AllByRecursion}
 use Rattle.mp4_boxes.proofs.Each.{each_from}
 use Rattle.mp4_head.specs.format.Tree.{TrackTree, IsTrackTree, IsSoundTrack, track_head_of}
@@ -10,6 +10,7 @@ use Rattle.mp4_present.specs.words.OpenedMovie.{IsOpenedAs}
 use Rattle.mp4_present.specs.declared.track_info.TrackInfo.{TrackInfo}
 use Rattle.mp4_present.proofs.Assembled.{timescale_there}
 use Rattle.mp4_tables.specs.declared.sample.SampleAt.{SampleAt}
+use Rattle.mp4_content.specs.words.Contents.{numbers_of}
 use Rattle.mp4_plan.specs.words.DueTracks.{leaf, AreTimes, FindsMore, IsDueAt, Skips}
 use Rattle.mp4_plan.specs.words.DueTracks.Skips.{none, one}
 use Rattle.mp4_plan.specs.words.PiecesComing.{Coming}
@@ -22,7 +23,7 @@ use Rattle.mp4_plan.specs.declared.schedule.Schedule.{Schedule}
 use Rattle.mp4_plan.proofs.DueTurns.{late_over, due_goes, other_keeps, skips_keep}
 use Rattle.mp4_plan.proofs.Lefts.{pieces_from, IsTurn}
 use Rattle.mp4_plan.proofs.NextSamples.{first_at}
-use Rattle.mp4_plan.proofs.TakenFrom.{has_track}
+use Rattle.mp4_plan.proofs.TakenFrom.{got_map, has_track}
 use Rattle.mp4_plan.proofs.TurnTaken.{few_left, tracks_left, turn_skips, turn_tracks}
 use Rattle.mp4_content.proofs.AtPlaces.{there_is}
 
@@ -44,7 +45,7 @@ opened_scales file m tree o k info is =
 
 -- The same pieces are left of the same samples.
 pub skipped_turns : (file : List ℕ) (infos : List TrackInfo) (d : DueTracks) (s later : Schedule) (lefts : List (List SampleAt)) (comings : List Coming) (first : ℕ) → Skips d s later → IsTurn file infos s lefts comings → s.first ≡ first
-    → AreTimes infos (firsts lefts) first d → HaveScales infos → IsTurn file infos later lefts comings × (pieces_from s comings ≡ pieces_from later comings)
+    → AreTimes (map numbers_of infos) (firsts lefts) first d → HaveScales infos → IsTurn file infos later lefts comings × (pieces_from s comings ≡ pieces_from later comings)
 skipped_turns file infos d s later lefts comings first (none _) h e times scales = (h, refl)
 skipped_turns file infos d s later lefts comings first (one _ _ some lt late more) h e times scales =
     let tracks = turn_tracks file infos s lefts comings h in
@@ -52,7 +53,7 @@ skipped_turns file infos d s later lefts comings first (one _ _ some lt late mor
     let at = there_is infos s.track (omega (arith, lt, tracks)) in
     let own = there_is lefts s.track (omega (arith, lt, tracks, many)) in
     let next = slice_get own.0 0 in
-    let due = times s.track at.0 next some at.1 (first_at lefts s.track own.0 own.1) in
+    let due = times s.track (numbers_of at.0) next some (got_map numbers_of infos s.track at.0 at.1) (first_at lefts s.track own.0 own.1) in
     let over = late_over s.next first at.0.timescale next (leaf d s.track) (scales s.track at.0 at.1) due late in
     let passes = turn_skips file infos s lefts comings at.0 own.0 h some lt at.1 own.1 (subst (λ n. is_over (Before s.next n at.0.timescale) next ≡ true) (sym e) over) in
     let rest = skipped_turns file infos d (track_passed s None) later lefts comings first more passes.0 ((other_keeps s None some).first ∙ e) times scales in
@@ -60,16 +61,16 @@ skipped_turns file infos d s later lefts comings first (one _ _ some lt late mor
 
 -- with the leaves as they are behind the tracks that were skipped
 pub turns_skipped : (file : List ℕ) (infos : List TrackInfo) (d : DueTracks) (s later : Schedule) (nexts : List (Option SampleAt)) (lefts : List (List SampleAt)) (comings : List Coming) → Skips d s later → IsTurn file infos s lefts comings → nexts ≡ firsts lefts
-    → IsDueAt infos nexts later d → HaveScales infos → IsTurn file infos later lefts comings × (pieces_from s comings ≡ pieces_from later comings)
+    → IsDueAt (map numbers_of infos) nexts later d → HaveScales infos → IsTurn file infos later lefts comings × (pieces_from s comings ≡ pieces_from later comings)
 turns_skipped file infos d s later nexts lefts comings skips h shown due scales =
-    skipped_turns file infos d s later lefts comings later.first skips h (sym (skips_keep d s later skips).first) (subst (λ xs. AreTimes infos xs later.first d) shown due.times) scales
+    skipped_turns file infos d s later lefts comings later.first skips h (sym (skips_keep d s later skips).first) (subst (λ xs. AreTimes (map numbers_of infos) xs later.first d) shown due.times) scales
 
 -- A track behind the first whose turn it is has a sample that goes into a piece.
-pub due_here : (infos : List TrackInfo) (nexts : List (Option SampleAt)) (s : Schedule) (d : DueTracks) (info : TrackInfo) (next : Option SampleAt) → IsDueAt infos nexts s d → HaveScales infos → s.track < s.tracks → slice_get infos s.track ≡ Some info
+pub due_here : (infos : List TrackInfo) (nexts : List (Option SampleAt)) (s : Schedule) (d : DueTracks) (info : TrackInfo) (next : Option SampleAt) → IsDueAt (map numbers_of infos) nexts s d → HaveScales infos → s.track < s.tracks → slice_get infos s.track ≡ Some info
     → slice_get nexts s.track ≡ Some next → 0 < s.track → is_over (turn_end s info.timescale) next ≡ false
 due_here infos nexts s d info next due scales lt is_info is_next some =
     let is : turn_end s info.timescale ≡ Before s.next s.first info.timescale = ap (λ v. cond v (Sync s.from info.timescale) (Before s.next s.first info.timescale)) (ne_eqb s.track 0 (λ z. omega (arith, z, some))) in
-    ap (λ e. is_over e next) is ∙ due_goes s.next s.first info.timescale next (leaf d s.track) (scales s.track info is_info) (due.times s.track info next some is_info is_next) (due.here some lt)
+    ap (λ e. is_over e next) is ∙ due_goes s.next s.first info.timescale next (leaf d s.track) (scales s.track info is_info) (due.times s.track (numbers_of info) next some (got_map numbers_of infos s.track info is_info) is_next) (due.here some lt)
 
 -- one or the other
 pub either : {A B C : Type 0} → A ⊎ B → (A → C) → (B → C) → C
@@ -82,7 +83,7 @@ none_there end (s ∷ left) e = absurd (omega (arith, e))
 
 -- Of an opened file no track is due where no sample is left.
 pub finds_none : (file : List ℕ) (infos : List TrackInfo) (taken later : Schedule) (lefts : List (List SampleAt)) (comings : List Coming) (nexts : List (Option SampleAt)) (d : DueTracks) → IsTurn file infos taken lefts comings → nexts ≡ firsts lefts → HaveScales infos
-    → FindsMore infos nexts taken later d → ⊥
+    → FindsMore (map numbers_of infos) nexts taken later d → ⊥
 finds_none file infos taken later lefts comings nexts d h shown scales f =
     let h_on = (turns_skipped file infos d taken later nexts lefts comings f.skips h shown f.due scales).0 in
     let inside = f.inside in

@@ -21,7 +21,10 @@ use Rattle.mp4_content.specs.words.GoneOn.{ComesMarked}
 use Rattle.mp4_plan.specs.words.Gathering.{piece_from, piece_fed, samples_after, more_of, planned_of}
 use Rattle.mp4_plan.specs.format.Normal.{normal}
 use Rattle.mp4_plan.specs.words.CarriedSamples.{AreThere}
-use Rattle.mp4_plan.specs.words.Turns.{info_left, infos_left, turn_end, turned, Sticks}
+use Rattle.mp4_content.specs.words.Contents.{info_left, infos_left, numbers_of, tracks_left}
+use Rattle.mp4_content.specs.declared.content.Content.{Content}
+use Rattle.mp4_content.specs.declared.content.TrackLeft.{TrackLeft}
+use Rattle.mp4_plan.specs.words.Turns.{turn_end, turned, Sticks}
 use Rattle.mp4_plan.specs.words.UsedKeys.{AreApart}
 use Rattle.mp4_plan.specs.words.Writers.{IsWriterOf, HasNoted, IsNoted, HaveCopied, turn_head, sequence_behind, turn_bytes}
 use Rattle.mp4_plan.specs.words.DueTracks.{AreTimes, IsDueAt}
@@ -29,7 +32,6 @@ use Rattle.mp4_plan.specs.declared.due_tracks.DueTracks.{DueTracks}
 use Rattle.mp4_plan.specs.declared.ends.End.{End}
 use Rattle.mp4_plan.specs.declared.moof_front.PieceHead.{PieceHead}
 use Rattle.mp4_plan.specs.declared.planner.Planned.{Planned}
-use Rattle.mp4_content.specs.declared.reduced.Reductions.{Reductions}
 use Rattle.mp4_plan.specs.declared.schedule.Schedule.{Schedule}
 use Rattle.mp4_plan.specs.declared.schedule.Turn.{Turn}
 use Rattle.mp4_plan.specs.declared.writer.Noted.{Noted}
@@ -37,7 +39,7 @@ use Rattle.mp4_plan.specs.declared.writer.Writer.{Writer}
 use Rattle.mp4_plan.proofs.ComeAt.{set_there, set_twice}
 use Rattle.mp4_plan.proofs.PieceCounts.{piece_counts, piece_bytes, piece_within}
 use Rattle.mp4_plan.proofs.PieceWritten.{IsFew}
-use Rattle.mp4_plan.proofs.InfosLeft.{info_at, left_scales}
+use Rattle.mp4_plan.proofs.InfosLeft.{info_at, left_scales, track_at}
 use Rattle.mp4_plan.proofs.Planning.{reduced_there}
 use Rattle.mp4_plan.proofs.SkippedTurns.{due_here}
 use Rattle.mp4_plan.proofs.TurnTaken.{turn_moves}
@@ -45,14 +47,18 @@ use Rattle.mp4_plan.proofs.WritesOn.{WritesOn, AtTurn, at_turn, turn_stops, turn
 
 module _ (leaving : Without) (file : List ℕ) (tree : FileTree) (m : MovieSeen) (o : IsOpenedAs file m tree) (s : Schedule) (sequence sent : ℕ) (w : Writer) {Y : Type 0} {takes : Y → Y → List ℕ → Type 0} (joins : IsJoining takes) (before after : Y)
     (h : WritesOn leaving file tree m s sequence sent w.walks.items w.nexts.items (length w.notes.rows.items) (takes before after) (waiting w.carrier)) (turn : Turn) (here : (turn.track ≡ s.track) × (s.track < s.tracks))
-    (ends : (info : TrackInfo) → slice_get m.tracks s.track ≡ Some info → turn.end ≡ turn_end s (timescale_left leaving info.timescale)) (tracks : s.tracks ≡ length m.tracks) (goes : IsWriterOf m w) (same_leaving : w.reductions.leaving ≡ leaving) (reduced : w.reductions.of_tracks.items
+    (own : (track : TrackLeft) → slice_get (tracks_left leaving m.tracks) s.track ≡ Some track → (turn.end ≡ turn_end s track.timescale) × (turn.id ≡ track.id)) (tracks : s.tracks ≡ length m.tracks) (goes : IsWriterOf m w) (same_leaving : w.content.leaving ≡ leaving)
+        (reduced : w.content.of_tracks.items
     ≡ reductions_of leaving tree)
   where
     at : AtTurn leaving file tree m s w.walks.items w.nexts.items (length w.notes.rows.items) h.lefts h.comings
     at = at_turn leaving file tree m s sequence sent w.walks.items w.nexts.items (length w.notes.rows.items) (takes before after) (waiting w.carrier) o h here.1 tracks goes.walks.count
 
+    own_is : (turn.end ≡ turn_end s (timescale_left leaving at.info.timescale)) × (turn.id ≡ at.info.id)
+    own_is = own (numbers_of (info_left leaving at.info)) (track_at leaving m.tracks s.track at.info at.is_info)
+
     end_is : turn.end ≡ turn_end s (timescale_left leaving at.info.timescale)
-    end_is = ends at.info at.is_info
+    end_is = own_is.0
 
     walk_there : slice_get w.walks.items turn.track ≡ Some at.walk
     walk_there = ap (λ k. slice_get w.walks.items k) here.0 ∙ at.is_walk
@@ -60,26 +66,25 @@ module _ (leaving : Without) (file : List ℕ) (tree : FileTree) (m : MovieSeen)
     next_there : slice_get w.nexts.items turn.track ≡ Some (slice_get at.left 0)
     next_there = ap (λ k. slice_get w.nexts.items k) here.0 ∙ at.shown
 
-    comes_there : ComesLess (track_reduction w.reductions.leaving tree at.t) file tree at.t m at.walk at.left
+    comes_there : ComesLess (track_reduction w.content.leaving tree at.t) file tree at.t m at.walk at.left
     comes_there = subst (λ (l : Without). ComesLess (track_reduction l tree at.t) file tree at.t m at.walk at.left) (sym same_leaving) at.comes
 
-    by_there : slice_get w.reductions.of_tracks.items turn.track ≡ Some (track_reduction w.reductions.leaving tree at.t)
-    by_there = ap (λ k. slice_get w.reductions.of_tracks.items k) here.0 ∙ reduced_there w.reductions.leaving tree w.reductions.of_tracks.items s.track at.t (reduced ∙ ap (λ (l : Without). reductions_of l tree) (sym same_leaving)) at.is_tree
+    by_there : slice_get w.content.of_tracks.items turn.track ≡ Some (track_reduction w.content.leaving tree at.t)
+    by_there = ap (λ k. slice_get w.content.of_tracks.items k) here.0 ∙ reduced_there w.content.leaving tree w.content.of_tracks.items s.track at.t (reduced ∙ ap (λ (l : Without). reductions_of l tree) (sym same_leaving)) at.is_tree
 
     -- there is room for the rows
-    pub note_lacks : (X : Type 0) → ((t : TrackTree) (walk : Walk) (left : List SampleAt) → slice_get w.walks.items turn.track ≡ Some walk → slice_get w.reductions.of_tracks.items turn.track ≡ Some (track_reduction w.reductions.leaving tree t)
-        → ComesLess (track_reduction w.reductions.leaving tree t) file tree t m walk left
+    pub note_lacks : (X : Type 0) → ((t : TrackTree) (walk : Walk) (left : List SampleAt) → slice_get w.walks.items turn.track ≡ Some walk → slice_get w.content.of_tracks.items turn.track ≡ Some (track_reduction w.content.leaving tree t)
+        → ComesLess (track_reduction w.content.leaving tree t) file tree t m walk left
         → walk.mark ≡ mark_of walk (length left)
         → slice_get w.nexts.items turn.track ≡ Some (slice_get left 0) → more_of (piece_from turn.end) left ≤ length w.notes.rows.items → X) → X
     note_lacks X f = f at.t at.walk at.left walk_there by_there comes_there at.is_marked next_there (subst (λ (e : End). more_of (piece_from e) at.left ≤ length w.notes.rows.items) (sym end_is) at.fits)
 
-    module _ (w1 : Writer) (n : Noted) (id : ℕ) (noted : (t : TrackTree) (walk : Walk) (left : List SampleAt) → slice_get w.walks.items turn.track ≡ Some walk → slice_get w.reductions.of_tracks.items turn.track ≡ Some (track_reduction w.reductions.leaving tree t)
-        → ComesLess (track_reduction w.reductions.leaving tree t) file tree t m walk left → walk.mark ≡ mark_of walk (length left)
+    module _ (w1 : Writer) (n : Noted) (noted : (t : TrackTree) (walk : Walk) (left : List SampleAt) → slice_get w.walks.items turn.track ≡ Some walk → slice_get w.content.of_tracks.items turn.track ≡ Some (track_reduction w.content.leaving tree t)
+        → ComesLess (track_reduction w.content.leaving tree t) file tree t m walk left → walk.mark ≡ mark_of walk (length left)
         → slice_get w.nexts.items turn.track ≡ Some (slice_get left 0)
-        → HasNoted file tree t m turn sequence id left w w1 n)
-        (by_same : w1.reductions ≡ w.reductions) (keeps : (w1.carrier ≡ w.carrier) × (length w1.notes.rows.items ≡ length w.notes.rows.items) × (w1.nexts ≡ w.nexts) × (w1.due ≡ w.due)) (few : IsFew n.planned) (is_id : (info : TrackInfo) → slice_get m.tracks s.track ≡ Some info
-        → id ≡ info.id) where
-      it : HasNoted file tree at.t m turn sequence id at.left w w1 n
+        → HasNoted file tree t m turn sequence left w w1 n)
+        (by_same : w1.content ≡ w.content) (keeps : (w1.carrier ≡ w.carrier) × (length w1.notes.rows.items ≡ length w.notes.rows.items) × (w1.nexts ≡ w.nexts) × (w1.due ≡ w.due)) (few : IsFew n.planned) where
+      it : HasNoted file tree at.t m turn sequence at.left w w1 n
       it = noted at.t at.walk at.left walk_there by_there comes_there at.is_marked next_there
 
       abbrev end : End
@@ -92,7 +97,7 @@ module _ (leaving : Without) (file : List ℕ) (tree : FileTree) (m : MovieSeen)
       counted = ap (λ (q : Planned). q.count) planned_is ∙ piece_counts end at.left
 
       head_is : n.head ≡ turn_head sequence at.info.id n.planned.count (slice_get at.left 0)
-      head_is = it.head ∙ ap (λ k. turn_head sequence k n.planned.count (slice_get at.left 0)) (is_id at.info at.is_info)
+      head_is = it.head ∙ ap (λ k. turn_head sequence k n.planned.count (slice_get at.left 0)) own_is.1
 
       rest_is : drop n.planned.count at.left ≡ samples_after (piece_from end) at.left
       rest_is = ap (λ k. drop k at.left) counted
@@ -103,8 +108,8 @@ module _ (leaving : Without) (file : List ℕ) (tree : FileTree) (m : MovieSeen)
       info_there : slice_get m.tracks turn.track ≡ Some at.info
       info_there = ap (λ k. slice_get m.tracks k) here.0 ∙ at.is_info
 
-      left_same : w1.reductions.leaving ≡ w.reductions.leaving
-      left_same = ap (λ (r : Reductions). r.leaving) by_same
+      left_same : w1.content.leaving ≡ w.content.leaving
+      left_same = ap (λ (x : Content). x.leaving) by_same
 
       is_noted : IsNoted file tree m turn.track n.planned.count at.left w1
       is_noted = record {
@@ -149,7 +154,7 @@ module _ (leaving : Without) (file : List ℕ) (tree : FileTree) (m : MovieSeen)
             ∙ set_there w.nexts.items turn.track (slice_get at.left 0) (slice_get (drop n.planned.count at.left) 0) next_there) ∙ ap (λ (ss : List SampleAt). slice_get ss 0) rest_is
 
         -- the schedule goes on
-        pub pass_lacks : IsDueAt (infos_left leaving m.tracks) w.nexts.items s w.due → Sticks s n.planned.count next → ⊥
+        pub pass_lacks : IsDueAt (tracks_left leaving m.tracks) w.nexts.items s w.due → Sticks s n.planned.count next → ⊥
         pass_lacks due k =
             let count = subst (λ c. Sticks s c next) counted k in
             let goes_in = due_here (infos_left leaving m.tracks) w.nexts.items s w.due (info_left leaving at.info) (slice_get at.left 0) due (left_scales leaving file m tree o) here.1 (info_at leaving m.tracks s.track at.info at.is_info) at.shown in
@@ -160,9 +165,9 @@ module _ (leaving : Without) (file : List ℕ) (tree : FileTree) (m : MovieSeen)
         nexts_are = done.2 ∙ (λ i. slice_set (keeps.2 i).items (here.0 i) ((ap (λ (ss : List SampleAt). slice_get ss 0) rest_is ∙ sym next_is) i))
 
         -- what is so of them, by what the leaves say
-        pub with_times : (P : List (Option SampleAt) → Type 0) → IsDueAt (infos_left leaving m.tracks) w.nexts.items s w.due → w2.due ≡ w1.due → ((nexts : List (Option SampleAt)) → AreTimes (infos_left leaving m.tracks) nexts s.first w2.due → P (slice_set nexts s.track next)) → P w2.nexts.items
+        pub with_times : (P : List (Option SampleAt) → Type 0) → IsDueAt (tracks_left leaving m.tracks) w.nexts.items s w.due → w2.due ≡ w1.due → ((nexts : List (Option SampleAt)) → AreTimes (tracks_left leaving m.tracks) nexts s.first w2.due → P (slice_set nexts s.track next)) → P w2.nexts.items
         with_times P due same f =
-            let times = subst (λ (e : DueTracks). AreTimes (infos_left leaving m.tracks) w.nexts.items s.first e) (sym (same ∙ keeps.3)) due.times in
+            let times = subst (λ (e : DueTracks). AreTimes (tracks_left leaving m.tracks) w.nexts.items s.first e) (sym (same ∙ keeps.3)) due.times in
             subst P (sym nexts_are) (f w.nexts.items times)
 
         -- the turn behind it

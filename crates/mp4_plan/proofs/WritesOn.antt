@@ -31,7 +31,8 @@ use Rattle.mp4_content.specs.format.TimedSamples.{TimedSample}
 use Rattle.mp4_plan.specs.format.Pieces.{Piece, pieces}
 use Rattle.mp4_content.specs.words.TakenSamples.{AreTaken}
 use Rattle.mp4_plan.specs.words.TurnLaws.{piece_if}
-use Rattle.mp4_plan.specs.words.Turns.{first_scale, info_left, infos_left, turn_end, turned, track_passed, wrapped, is_over}
+use Rattle.mp4_content.specs.words.Contents.{info_left, infos_left, tracks_left}
+use Rattle.mp4_plan.specs.words.Turns.{first_scale, turn_end, turned, track_passed, wrapped, is_over}
 use Rattle.mp4_plan.specs.words.Writers.{AllCome, AllBegin, AreMarked, IsReady, firsts, first_dts, longest_piece, head_of_normal, turn_head, sequence_behind, turn_bytes}
 use Rattle.mp4_plan.specs.words.DueTracks.{FindsMore, IsDueAt, Skips}
 use Rattle.mp4_plan.specs.declared.due_tracks.DueTracks.{DueTracks}
@@ -309,7 +310,7 @@ module _ (leaving : Without) (file : List ℕ) (tree : FileTree) (m : MovieSeen)
   all_lie (i ∷ infos) (t ∷ trees) z = (less_below (track_reduction leaving tree t) (length file) (track_samples tree t) z.0.lies, all_lie infos trees z.1)
 
   -- the first turn
-  pub begins : (s : Schedule) (w : Writer) (walks : List Walk) (nexts : List (Option SampleAt)) (Took : List ℕ → Type 0) (held : List ℕ) → IsOpenedAs file m tree → IsReady file tree m w → w.reductions.leaving ≡ leaving
+  pub begins : (s : Schedule) (w : Writer) (walks : List Walk) (nexts : List (Option SampleAt)) (Took : List ℕ → Type 0) (held : List ℕ) → IsOpenedAs file m tree → IsReady file tree m w → w.content.leaving ≡ leaving
       → IsFirst (infos_left leaving m.tracks) (map (left_samples leaving tree) tree.movie.tracks) s
       → AllBegin leaving file tree m walks → AreMarked walks (map (left_samples leaving tree) tree.movie.tracks) → nexts ≡ firsts (map (left_samples leaving tree) tree.movie.tracks) → BytesGoOn Took (waiting w.carrier) held w.head.items
       → WritesOn s 1 0 walks nexts (length w.notes.rows.items) Took held
@@ -338,21 +339,21 @@ module _ (leaving : Without) (file : List ℕ) (tree : FileTree) (m : MovieSeen)
   -- ---- before the first turn
 
   -- the head is not put whole
-  pub head_stops : (w : Writer) (Took : List ℕ → Type 0) (bytes : List ℕ) → IsReady file tree m w → w.reductions.leaving ≡ leaving → bytes ≡ w.head.items → TakesPrefix Took (waiting w.carrier ++ bytes) → TakesPrefix Took (normal (reduce leaving (presentation_of file tree)))
+  pub head_stops : (w : Writer) (Took : List ℕ → Type 0) (bytes : List ℕ) → IsReady file tree m w → w.content.leaving ≡ leaving → bytes ≡ w.head.items → TakesPrefix Took (waiting w.carrier ++ bytes) → TakesPrefix Took (normal (reduce leaving (presentation_of file tree)))
   head_stops w Took bytes r same e q =
       let p = reduce leaving (presentation_of file tree) in
       let own : TakesPrefix Took (head_of_normal p) = subst (λ (bs : List ℕ). TakesPrefix Took bs) (ap (λ (bs : List ℕ). waiting w.carrier ++ bs) e ∙ r.head ∙ ap (λ (k : Without). head_of_normal (reduce k (presentation_of file tree))) same) q in
       TakesPrefix-longer Took (head_of_normal p) (pieces_bytes 1 (pieces p)) own
 
   -- nothing behind the head is put
-  pub head_put : (w : Writer) (Took : List ℕ → Type 0) (held bytes : List ℕ) → IsReady file tree m w → w.reductions.leaving ≡ leaving → bytes ≡ w.head.items → BytesGoOn Took (waiting w.carrier) held bytes → TakesPrefix Took (normal (reduce leaving (presentation_of file tree)))
+  pub head_put : (w : Writer) (Took : List ℕ → Type 0) (held bytes : List ℕ) → IsReady file tree m w → w.content.leaving ≡ leaving → bytes ≡ w.head.items → BytesGoOn Took (waiting w.carrier) held bytes → TakesPrefix Took (normal (reduce leaving (presentation_of file tree)))
   head_put w Took held bytes r same e q =
       let p = reduce leaving (presentation_of file tree) in
       let whole : waiting w.carrier ++ bytes ≡ head_of_normal p = ap (λ (bs : List ℕ). waiting w.carrier ++ bs) e ∙ r.head ∙ ap (λ (k : Without). head_of_normal (reduce k (presentation_of file tree))) same in
       stopped_behind Took [] held (waiting w.carrier ++ bytes) (pieces_bytes 1 (pieces p)) (normal p) q (ap (λ (bs : List ℕ). bs ++ pieces_bytes 1 (pieces p)) (sym whole))
 
   -- a new schedule stands at the first turn
-  pub is_first : (s : Schedule) (from : ℕ) → IsOpenedAs file m tree → s.tracks ≡ length m.tracks → s.first ≡ first_scale (infos_left leaving m.tracks) → (s.track ≡ 0) × (s.from ≡ from) × (s.next ≡ None) → s.left ≡ sum_by (λ (i : TrackInfo). i.samples) m.tracks
+  pub is_first : (s : Schedule) (from : ℕ) → IsOpenedAs file m tree → s.tracks ≡ length m.tracks → s.first ≡ first_scale (tracks_left leaving m.tracks) → (s.track ≡ 0) × (s.from ≡ from) × (s.next ≡ None) → s.left ≡ sum_by (λ (i : TrackInfo). i.samples) m.tracks
       → from ≡ first_dts (map (left_samples leaving tree) tree.movie.tracks) → IsFirst (infos_left leaving m.tracks) (map (left_samples leaving tree) tree.movie.tracks) s
   is_first s from o tracks first starts left time = record {
     tracks = tracks ∙ sym (as_many_left leaving m.tracks);
@@ -370,7 +371,7 @@ module _ (leaving : Without) (file : List ℕ) (tree : FileTree) (m : MovieSeen)
 
   -- Where tracks are skipped, the same pieces are left to be written.
   pub writes_skips : (s later : Schedule) (sequence sent : ℕ) (walks : List Walk) (nexts : List (Option SampleAt)) (rows : ℕ) (Took : List ℕ → Type 0) (held : List ℕ) (d : DueTracks) → IsOpenedAs file m tree → WritesOn s sequence sent walks nexts rows Took held
-      → Skips d s later → IsDueAt (infos_left leaving m.tracks) nexts later d → WritesOn later sequence sent walks nexts rows Took held
+      → Skips d s later → IsDueAt (tracks_left leaving m.tracks) nexts later d → WritesOn later sequence sent walks nexts rows Took held
   writes_skips s later sequence sent walks nexts rows Took held d o h skips due =
       let r = turns_skipped file (infos_left leaving m.tracks) d s later nexts h.lefts h.comings skips h.turn h.shown due (left_scales leaving file m tree o) in
       record {
@@ -391,5 +392,5 @@ module _ (leaving : Without) (file : List ℕ) (tree : FileTree) (m : MovieSeen)
 
   -- Where no sample is left, no track is due.
   pub writes_no_more : (s later : Schedule) (sequence sent : ℕ) (walks : List Walk) (nexts : List (Option SampleAt)) (rows : ℕ) (Took : List ℕ → Type 0) (held : List ℕ) (d : DueTracks) → IsOpenedAs file m tree → WritesOn s sequence sent walks nexts rows Took held
-      → FindsMore (infos_left leaving m.tracks) nexts s later d → ⊥
+      → FindsMore (tracks_left leaving m.tracks) nexts s later d → ⊥
   writes_no_more s later sequence sent walks nexts rows Took held d o h f = finds_none file (infos_left leaving m.tracks) s later h.lefts h.comings nexts d h.turn h.shown (left_scales leaving file m tree o) f

@@ -102,7 +102,7 @@ fn count_left<C: Samples>(samples: &mut Reduced<C>, end: &End, description: u32,
         × (samples.new.reduction ≡ samples.old.reduction)
         × AreLast (C.rest samples.old.inner) (C.rest samples.new.inner) }
 {
-    if samples.reduction.leaving.keeps_samples() {
+    if samples.reduction.keeps_samples() {
         count_in(&mut samples.inner, end, description, most)
     } else {
         count_in(samples, end, description, most)

@@ -2,17 +2,16 @@
 ghost use Rattle.std.specs.Prelude.{◌≡◌, ◌-◌, ◌<◌, ◌≤◌, List, length, Some, IfOk, IfErr, OnOk};
 ghost use Rattle.mp4_boxes.specs.declared.refusal.Refusal.TheVariants as refusals;
 ghost use Rattle.mp4_tables.specs.declared.sample.SampleAt.{SampleAt};
-ghost use Rattle.mp4_content.specs.declared.without.Without.{Without};
 ghost use Rattle.mp4_present.specs.words.StoresRead.{IsUnchanged, OnlyReads, Refused};
-ghost use Rattle.mp4_plan.specs.words.WriterWalks.{AllStart, HaveRooms, StepsOfAll, StepsToWrite, WhereAllCome};
+ghost use Rattle.mp4_plan.specs.words.WriterWalks.{AllComeLess, AllStart, HaveRooms, StepsOfAll, StepsToWrite, WhereAllCome};
 ghost use Rattle.mp4_plan.specs.words.MadeWriters.{AreWalksStill};
 ghost use Rattle.mp4_present.specs.declared.walking.Walk.{Walk};
 ghost use Rattle.mp4_present.specs.words.Movies.{RefusesLoad};
-ghost use Rattle.mp4_plan.specs.words.Writers.{RefusesMemory, AreMarked, AreWalksOf, AllCome, first_dts, firsts};
+ghost use Rattle.mp4_plan.specs.words.Writers.{RefusesMemory, AreMarked, AreWalksOf, first_dts, firsts};
 
 use crate::track_pieces::next_marked;
 use mp4_boxes::{Refusal, Steps};
-use mp4_content::Reductions;
+use mp4_content::Content;
 use mp4_present::{Movie, Walk};
 use mp4_store::Store;
 use mp4_tables::SampleAt;
@@ -26,7 +25,7 @@ pub(crate) fn walks_of(alloc: Global, movie: &Movie) -> Result<Vec<Walk>, Refusa
     ensures memory { IfErr result (λ r. r ≡ refusals.Memory) }
     ensures refusal { IfErr result RefusesMemory }
 {
-    let mut walks = Vec::new(alloc);
+    let mut walks = Vec::with_capacity(alloc, movie.tracks().len())?;
     for track in 0..movie.tracks().len() {
         walks.push(movie.walk(alloc, track)?)?;
     }
@@ -37,24 +36,23 @@ pub(crate) fn walks_of(alloc: Global, movie: &Movie) -> Result<Vec<Walk>, Refusa
 pub(crate) fn peek_each<S: Store, L: Ledger, M: Ledger>(
     walks: &mut [Walk],
     nexts: &mut [Option<SampleAt>],
-    reductions: &Reductions,
+    content: &Content,
     movie: &Movie,
     store: &mut S,
     steps: &mut Steps<L, M>,
 ) -> Result<(), Refusal>
     requires walks { AreWalksOf movie.now walks.old }
     requires nexts { length nexts.old ≡ length walks.old }
-    requires reductions { length reductions.now.of_tracks.items ≡ length walks.old }
+    requires content { length content.now.of_tracks.items ≡ length walks.old }
     ensures walks { AreWalksStill movie.now walks.old walks.new result }
     ensures store { OnlyReads S.Store store.old store.new result }
-    ensures shown { (l : Without) → WhereAllCome S.Store store.old movie.now l
-        reductions.now.of_tracks.items walks.old
+    ensures shown { WhereAllCome S.Store store.old movie.now content.now walks.old
         (λ file tree lefts. OnOk result ((nexts.new ≡ firsts lefts)
-        × AllCome l file tree movie.now tree.movie.tracks walks.new lefts)) }
+        × AllComeLess content.now file tree movie.now walks.new lefts)) }
     ensures marked { (lefts : List (List SampleAt)) → AreMarked walks.old lefts
         → OnOk result (AreMarked walks.new lefts) }
-    ensures unchanged { (l : Without) → WhereAllCome S.Store store.old movie.now l
-        reductions.now.of_tracks.items walks.old (λ file tree lefts. IsUnchanged result) }
+    ensures unchanged { WhereAllCome S.Store store.old movie.now content.now walks.old
+        (λ file tree lefts. IsUnchanged result) }
     ensures refusal { Refused S.Store store.old store.new result RefusesLoad }
     ensures grows { OnOk result (steps.old.passed ≤ steps.new.passed) }
     ensures work { StepsOfAll S.Store store.old movie.now walks.old walks.new result
@@ -64,7 +62,7 @@ pub(crate) fn peek_each<S: Store, L: Ledger, M: Ledger>(
     ensures looks { steps.new.looks ≡ steps.old.looks }
 {
     for k in 0..walks.len() {
-        let reduction = reductions.of_tracks[k];
+        let reduction = content.reduction(k);
         nexts[k] = next_marked(&mut walks[k], reduction, movie, store, steps)?;
     }
     Ok(())

@@ -1,11 +1,11 @@
 //! The head of the normal form, and how long all of it is.
 ghost use Rattle.std.specs.Prelude.{◌≡◌, ℕ, ◌+◌, ◌-◌, ◌<◌, ◌≤◌, min, List, length, IfOk, IfErr, OnOk};
 ghost use Rattle.mp4_boxes.specs.declared.refusal.Refusal.TheVariants as refusals;
-ghost use Rattle.mp4_present.specs.format.Presentation.{movie_length};
 ghost use Rattle.mp4_content.specs.format.Reduced.{reduce};
 ghost use Rattle.mp4_content.specs.format.ReducedTimes.{ReducesInLimits};
 ghost use Rattle.mp4_content.specs.words.Measuring.{measuring_steps};
 ghost use Rattle.mp4_content.specs.declared.without.Without.{Without};
+ghost use Rattle.mp4_content.specs.words.Contents.{IsContentOver, content_left};
 ghost use Rattle.mp4_content.specs.words.LeftTimes.{NamesLong};
 ghost use Rattle.mp4_plan.specs.words.LeftRefusals.{RefusesLeft};
 ghost use Rattle.mp4_present.specs.format.Denotes.{FileTree, presentation_of};
@@ -17,11 +17,11 @@ ghost use Rattle.mp4_content.specs.words.Opened.{OverOpened};
 ghost use Rattle.mp4_plan.specs.words.Turns.{movie_turns};
 ghost use Rattle.mp4_plan.specs.words.Writers.{RefusesMemory, head_of_normal};
 ghost use Rattle.mp4_content.specs.words.Opened.{RefusesPlan};
-ghost use Rattle.mp4_plan.specs.words.PutPieces.{IsHeadLeft};
+ghost use Rattle.mp4_plan.specs.words.PutPieces.{IsContentHead};
 
 use crate::piece_totals::pieces_len;
 use mp4_boxes::{Refusal, Steps};
-use mp4_content::{Without, head_left, length_left, measure, payloads_left};
+use mp4_content::{Content, Without};
 use mp4_head::{head_bytes, head_len};
 use mp4_present::Movie;
 use mp4_store::Store;
@@ -31,29 +31,23 @@ use std::sync::ledger::Ledger;
 /// The most bytes of `ftyp` and `moov`.
 const MOST_HEAD: u128 = (1 << 30) + 24;
 
-/// The bytes of `ftyp` and `moov`, where this is the length of the longest track.
-pub(crate) fn head_of(
-    alloc: Global,
-    movie: &Movie,
-    leaving: Without,
-    mehd: u64,
-) -> Result<Vec<u8>, Refusal>
+/// The bytes of `ftyp` and `moov` of what is left of a movie.
+pub(crate) fn head_of(alloc: Global, movie: &Movie, content: &Content) -> Result<Vec<u8>, Refusal>
     ensures head { (file : List ℕ) (tree : FileTree) → IsOpenedAs file movie.now tree
-        → mehd ≡ movie_length (reduce leaving (presentation_of file tree))
-        → IfOk result (λ bytes. bytes.items
-        ≡ head_of_normal (reduce leaving (presentation_of file tree))) }
-    ensures named { IfOk result (λ bytes. IsHeadLeft movie.now leaving bytes.items) }
+        → IsContentOver file tree content.now
+        → IfOk result (λ bytes. bytes.items ≡ head_of_normal (content_left content.now file tree)) }
+    ensures named { IfOk result (λ bytes. IsContentHead movie.now content.now bytes.items) }
     ensures unchanged { (file : List ℕ) (tree : FileTree) → IsOpenedAs file movie.now tree
         → IfErr result (λ r. r ≡ refusals.StoreChanged → ⊥) }
     ensures refusal { IfErr result RefusesMemory }
 {
     let read = movie.head(alloc)?;
-    let lefts = payloads_left(alloc, leaving, read.tracks.as_slice())?;
-    let head = head_left(alloc, read, leaving, &lefts)?;
+    let own = content.payloads(alloc, &read)?;
+    let head = content.head(alloc, read, &own)?;
     if head_len(&head) > MOST_HEAD {
         return Err(Refusal::StoreChanged);
     }
-    Ok(head_bytes(alloc, &head, mehd)?)
+    Ok(head_bytes(alloc, &head, content.length())?)
 }
 
 /// The length of the normal form of what is left of a movie; a fault where a track is too long
@@ -80,12 +74,11 @@ pub fn reduced_len<S: Store, L: Ledger, M: Ledger>(
         ≤ steps.old.passed + (measuring_steps leaving tree + walks_steps tree)) }
     ensures turns { steps.new.looks ≤ steps.old.looks + movie_turns movie.now }
 {
-    let measures = measure(alloc, movie, store, leaving, steps)?;
-    length_left(alloc, movie, leaving, measures.totals.as_slice())?;
-    let len = pieces_len(alloc, movie, store, &measures.reductions, steps)?;
+    let content = Content::of(alloc, movie, store, leaving, steps)?;
+    let len = pieces_len(alloc, movie, store, &content, steps)?;
     let read = movie.head(alloc)?;
-    let lefts = payloads_left(alloc, leaving, read.tracks.as_slice())?;
-    let head = head_left(alloc, read, leaving, &lefts)?;
+    let own = content.payloads(alloc, &read)?;
+    let head = content.head(alloc, read, &own)?;
     Ok(len.saturating_add(head_len(&head).min(MOST_HEAD) as u64))
 }
 

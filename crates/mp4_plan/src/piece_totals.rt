@@ -1,13 +1,11 @@
 //! What all pieces of a movie come to: the most samples of one, and the bytes of all.
-ghost use Rattle.std.specs.Prelude.{◌≡◌, ◌+◌, ◌*◌, ◌-◌, ◌^◌, ◌<◌, ◌≤◌, max, min, length, Some, IfOk, OnOk};
+ghost use Rattle.std.specs.Prelude.{◌≡◌, ◌+◌, ◌*◌, ◌-◌, ◌^◌, ◌<◌, ◌≤◌, max, min, Some, IfOk, OnOk};
 ghost use Rattle.mp4_tables.specs.words.Keys.{keys_seen};
-ghost use Rattle.mp4_content.specs.format.Reduced.{reduce};
-ghost use Rattle.mp4_present.specs.format.Denotes.{presentation_of};
 ghost use Rattle.mp4_present.specs.words.StoresRead.{IsUnchanged, OnlyReads, Refused};
 ghost use Rattle.mp4_present.specs.words.WalkSteps.{walks_steps};
 ghost use Rattle.mp4_plan.specs.format.Pieces.{pieces};
 ghost use Rattle.mp4_content.specs.words.Opened.{OverOpened};
-ghost use Rattle.mp4_content.specs.words.Measuring.{OverReduced};
+ghost use Rattle.mp4_content.specs.words.Contents.{IsContentOf, OverContent, content_left};
 ghost use Rattle.mp4_plan.specs.words.Turns.{movie_turns};
 ghost use Rattle.mp4_content.specs.words.Opened.{RefusesPlan};
 ghost use Rattle.mp4_plan.specs.words.Writers.{ArePiecesLong, longest_piece, planned_length};
@@ -19,7 +17,7 @@ use crate::plan_walks::PlanWalks;
 use crate::planner::Planned;
 use crate::track_pieces::plan_turn;
 use mp4_boxes::{Refusal, Steps};
-use mp4_content::Reductions;
+use mp4_content::Content;
 use mp4_present::Movie;
 use mp4_store::Store;
 use mp4_tables::Keys;
@@ -51,16 +49,16 @@ pub(crate) fn longest_piece<S: Store, L: Ledger, M: Ledger>(
     alloc: Global,
     movie: &Movie,
     store: &mut S,
-    reductions: &Reductions,
+    content: &Content,
     steps: &mut Steps<L, M>,
 ) -> Result<u32, Refusal>
-    requires reductions { length reductions.now.of_tracks.items ≡ length movie.now.tracks }
+    requires content { IsContentOf movie.now content.now }
     ensures store { OnlyReads S.Store store.old store.new result }
     ensures few { IfOk result (λ longest. longest ≤ 2 ^ 24) }
-    ensures longest { OverReduced S.Store store.old movie.now reductions.now
+    ensures longest { OverContent S.Store store.old movie.now content.now
         (λ file tree. IfOk result (λ longest. longest
-        ≡ longest_piece (pieces (reduce reductions.now.leaving (presentation_of file tree))))) }
-    ensures unchanged { OverReduced S.Store store.old movie.now reductions.now
+        ≡ longest_piece (pieces (content_left content.now file tree)))) }
+    ensures unchanged { OverContent S.Store store.old movie.now content.now
         (λ file tree. IsUnchanged result) }
     ensures refusal { Refused S.Store store.old store.new result RefusesPlan }
     ensures grows { OnOk result (steps.old.passed ≤ steps.new.passed) }
@@ -68,13 +66,13 @@ pub(crate) fn longest_piece<S: Store, L: Ledger, M: Ledger>(
         (λ file tree. steps.new.passed ≤ steps.old.passed + walks_steps tree) }
     ensures turns { steps.new.looks ≤ steps.old.looks + movie_turns movie.now }
 {
-    let tracks = movie.tracks();
-    let mut plan = PlanWalks::begin(alloc, movie, store, reductions, steps)?;
+    let tracks = content.tracks();
+    let mut plan = PlanWalks::begin(alloc, movie, store, content, steps)?;
     let mut longest: u32 = 0;
     while let Some(turn) = plan.schedule.turn(tracks, steps) {
         let walk = &mut plan.walks[turn.track];
         let next = &mut plan.nexts[turn.track];
-        let reduction = reductions.of_tracks[turn.track];
+        let reduction = content.reduction(turn.track);
         let portion = Portion {
             end: turn.end,
             reduction,
@@ -93,15 +91,14 @@ pub(crate) fn pieces_len<S: Store, L: Ledger, M: Ledger>(
     alloc: Global,
     movie: &Movie,
     store: &mut S,
-    reductions: &Reductions,
+    content: &Content,
     steps: &mut Steps<L, M>,
 ) -> Result<u64, Refusal>
-    requires reductions { length reductions.now.of_tracks.items ≡ length movie.now.tracks }
+    requires content { IsContentOf movie.now content.now }
     ensures store { OnlyReads S.Store store.old store.new result }
-    ensures length { OverReduced S.Store store.old movie.now reductions.now
-        (λ file tree. IfOk result
-        (ArePiecesLong (reduce reductions.now.leaving (presentation_of file tree)))) }
-    ensures unchanged { OverReduced S.Store store.old movie.now reductions.now
+    ensures length { OverContent S.Store store.old movie.now content.now
+        (λ file tree. IfOk result (ArePiecesLong (content_left content.now file tree))) }
+    ensures unchanged { OverContent S.Store store.old movie.now content.now
         (λ file tree. IsUnchanged result) }
     ensures refusal { Refused S.Store store.old store.new result RefusesPlan }
     ensures grows { OnOk result (steps.old.passed ≤ steps.new.passed) }
@@ -109,20 +106,21 @@ pub(crate) fn pieces_len<S: Store, L: Ledger, M: Ledger>(
         (λ file tree. steps.new.passed ≤ steps.old.passed + walks_steps tree) }
     ensures turns { steps.new.looks ≤ steps.old.looks + movie_turns movie.now }
 {
-    let tracks = movie.tracks();
-    let mut plan = PlanWalks::begin(alloc, movie, store, reductions, steps)?;
+    let infos = movie.tracks();
+    let tracks = content.tracks();
+    let mut plan = PlanWalks::begin(alloc, movie, store, content, steps)?;
     let mut len = 0;
     while let Some(turn) = plan.schedule.turn(tracks, steps) {
         let walk = &mut plan.walks[turn.track];
         let next = &mut plan.nexts[turn.track];
-        let reduction = reductions.of_tracks[turn.track];
+        let reduction = content.reduction(turn.track);
         let portion = Portion {
             end: turn.end,
             reduction,
         };
         let planned = plan_turn(walk, portion, next, movie, store, steps)?;
         let sample = *next;
-        len = len_with(len, &planned, &tracks[turn.track].keys);
+        len = len_with(len, &planned, &infos[turn.track].keys);
         plan.schedule
             .pass(&turn, planned.count, sample, tracks, &mut plan.due)?;
     }

@@ -3,7 +3,7 @@ use crate::due_tracks::DueTracks;
 use crate::first_samples::{first_time, peek_each, walks_of};
 use crate::schedule::Schedule;
 use mp4_boxes::{Refusal, Steps};
-use mp4_content::Reductions;
+use mp4_content::Content;
 use mp4_present::{Movie, Walk};
 use mp4_store::Store;
 use mp4_tables::SampleAt;
@@ -21,11 +21,11 @@ pub(crate) struct PlanWalks {
 }
 
 impl PlanWalks {
-    ghost use Rattle.std.specs.Prelude.{◌≡◌, ◌+◌, ◌≤◌, length, IfOk, MatchResult, OnOk};
+    ghost use Rattle.std.specs.Prelude.{◌≡◌, ◌+◌, ◌≤◌, IfOk, MatchResult, OnOk};
     ghost use Rattle.mp4_present.specs.words.StoresRead.{IsUnchanged, OnlyReads, Refused};
     ghost use Rattle.mp4_present.specs.words.WalkSteps.{walks_steps};
     ghost use Rattle.mp4_content.specs.words.Opened.{OverOpened};
-    ghost use Rattle.mp4_content.specs.words.Measuring.{OverReduced};
+    ghost use Rattle.mp4_content.specs.words.Contents.{IsContentOf, OverContent};
     ghost use Rattle.mp4_plan.specs.words.PlanBegun.{AreAllToCome, BeginsPlan};
     ghost use Rattle.mp4_plan.specs.words.WriterSteps.{AllTakeOn};
     ghost use Rattle.mp4_content.specs.words.Opened.{RefusesPlan};
@@ -35,16 +35,15 @@ impl PlanWalks {
         alloc: Global,
         movie: &Movie,
         store: &mut S,
-        reductions: &Reductions,
+        content: &Content,
         steps: &mut Steps<L, M>,
     ) -> Result<PlanWalks, Refusal>
-        requires reductions { length reductions.now.of_tracks.items ≡ length movie.now.tracks }
+        requires content { IsContentOf movie.now content.now }
         ensures store { OnlyReads S.Store store.old store.new result }
-        ensures begins { IfOk result (BeginsPlan reductions.now.leaving movie.now) }
-        ensures first { OverReduced S.Store store.old movie.now reductions.now
-            (λ file tree. IfOk result
-            (AreAllToCome reductions.now.leaving file tree movie.now)) }
-        ensures unchanged { OverReduced S.Store store.old movie.now reductions.now
+        ensures begins { IfOk result (BeginsPlan content.now movie.now) }
+        ensures first { OverContent S.Store store.old movie.now content.now
+            (λ file tree. IfOk result (AreAllToCome content.now file tree movie.now)) }
+        ensures unchanged { OverContent S.Store store.old movie.now content.now
             (λ file tree. IsUnchanged result) }
         ensures refusal { Refused S.Store store.old store.new result RefusesPlan }
         ensures grows { OnOk result (steps.old.passed ≤ steps.new.passed) }
@@ -54,14 +53,14 @@ impl PlanWalks {
             (λ _. steps.new.passed ≤ steps.old.passed + walks_steps tree)) }
         ensures looks { steps.new.looks ≡ steps.old.looks }
     {
-        let tracks = movie.tracks();
+        let tracks = content.tracks();
         let mut walks = walks_of(alloc, movie)?;
         let mut nexts = vec![in alloc; None; tracks.len()]?;
         let mut due = DueTracks::new(alloc, tracks.len())?;
         let all = walks.as_mut_slice();
-        peek_each(all, nexts.as_mut_slice(), reductions, movie, store, steps)?;
+        peek_each(all, nexts.as_mut_slice(), content, movie, store, steps)?;
         let from = first_time(nexts.as_slice());
-        let schedule = Schedule::new(reductions.leaving, tracks, from);
+        let schedule = Schedule::new(tracks, from);
         schedule.begin(tracks, nexts.as_slice(), &mut due);
         Ok(PlanWalks {
             walks,

@@ -5,23 +5,21 @@ ghost use Rattle.mp4_plan.specs.words.DueTracks.{cut_at};
 use crate::due_tracks::{DueTracks, NEVER, due_at};
 use crate::ends::{End, has_ended};
 use mp4_boxes::{Refusal, Steps};
-use mp4_content::Without;
-use mp4_present::TrackInfo;
+use mp4_content::TrackLeft;
 use mp4_tables::SampleAt;
 use std::sync::ledger::Ledger;
 
-/// What is to come: a piece of a track with an end, or nothing more.
+/// What is to come: a piece of a track, which has this ID, with an end.
 #[derive(Clone, Copy, Debug, PartialEq, Eq)]
 pub(crate) struct Turn {
     pub(crate) track: usize,
+    pub(crate) id: u32,
     pub(crate) end: End,
 }
 
 /// A place in the order of pieces.
 #[derive(Clone, Copy, Debug, PartialEq, Eq)]
 pub(crate) struct Schedule {
-    /// What is left out of the tracks.
-    pub(crate) leaving: Without,
     /// How many tracks there are, and the timescale of the first.
     pub(crate) tracks: usize,
     pub(crate) first: u32,
@@ -63,19 +61,17 @@ fn cut_at(next: Option<u64>) -> u128
 impl Schedule {
     ghost use Rattle.std.specs.Prelude.{◌≡◌, ◌+◌, ◌-◌, ◌*◌, ◌^◌, ◌<◌, ◌≤◌, ◌⊎◌, List, length, option_map, Option, slice_get, slice_set, Some, None, IfSome, MatchOption, IfErr, OnOk};
     ghost use Rattle.std.specs.List.{sum_by};
-    ghost use Rattle.mp4_content.specs.format.Reduced.{timescale_left};
-    ghost use Rattle.mp4_present.specs.declared.track_info.TrackInfo.{TrackInfo};
-    ghost use Rattle.mp4_plan.specs.words.Turns.{turns_left, track_passed, first_scale, infos_left, turn_end, turned, IsSomeLeft, Sticks};
+    ghost use Rattle.mp4_content.specs.declared.content.TrackLeft.{TrackLeft};
+    ghost use Rattle.mp4_plan.specs.words.Turns.{turns_left, track_passed, first_scale, turn_end, turned, IsSomeLeft, Sticks};
     ghost use Rattle.mp4_plan.specs.words.DueTracks.{AreTimes, FindsMore, IsDueAt, IsDueHere, IsDueTree, Skips};
     ghost use Rattle.mp4_boxes.specs.declared.refusal.Refusal.TheVariants as refusals;
     ghost use Rattle.mp4_tables.specs.declared.sample.SampleAt.{SampleAt};
 
     /// The pieces of what is left of these tracks, of which the first begins at this time.
-    pub(crate) fn new(leaving: Without, tracks: &[TrackInfo], from: u64) -> Schedule
-        ensures leaving { result.leaving ≡ leaving }
+    pub(crate) fn new(tracks: &[TrackLeft], from: u64) -> Schedule
         ensures tracks { result.tracks ≡ length tracks.now }
-        ensures first { result.first ≡ first_scale (infos_left leaving tracks.now) }
-        ensures left { result.left ≡ sum_by (λ (i : TrackInfo). i.samples) tracks.now }
+        ensures first { result.first ≡ first_scale tracks.now }
+        ensures left { result.left ≡ sum_by (λ (i : TrackLeft). i.samples) tracks.now }
         ensures few { result.left ≤ 2 ^ 64 * 4294967295 }
         ensures starts { (result.track ≡ 0) × (result.from ≡ from) × (result.next ≡ None) }
     {
@@ -84,11 +80,10 @@ impl Schedule {
             left += u128::from(track.samples);
         }
         let first = match tracks.first() {
-            Some(track) => leaving.timescale(track.timescale),
+            Some(track) => track.timescale,
             None => 0,
         };
         Schedule {
-            leaving,
             tracks: tracks.len(),
             first,
             track: 0,
@@ -101,15 +96,15 @@ impl Schedule {
     /// Whose turn it is. Each turn is a look, which is counted.
     pub(crate) fn turn<L: Ledger, M: Ledger>(
         &self,
-        tracks: &[TrackInfo],
+        tracks: &[TrackLeft],
         steps: &mut Steps<L, M>,
     ) -> Option<Turn>
         requires { self.now.tracks ≡ length tracks.now }
         ensures track { IfSome result (λ t. (t.track ≡ self.now.track)
             × (self.now.track < self.now.tracks)) }
-        ensures end { IfSome result (λ t. (info : TrackInfo)
-            → slice_get tracks.now self.now.track ≡ Some info
-            → t.end ≡ turn_end self.now (timescale_left self.now.leaving info.timescale)) }
+        ensures own { IfSome result (λ t. (track : TrackLeft)
+            → slice_get tracks.now self.now.track ≡ Some track
+            → (t.end ≡ turn_end self.now track.timescale) × (t.id ≡ track.id)) }
         ensures none { result ≡ None → self.now.tracks ≤ self.now.track }
         ensures looks { MatchOption result (steps.new.looks ≡ steps.old.looks)
             (λ t. steps.new.looks ≡ steps.old.looks + 1) }
@@ -119,21 +114,22 @@ impl Schedule {
             return None;
         }
         steps.look();
-        let scale = self.leaving.timescale(tracks[self.track].timescale);
+        let TrackLeft { id, timescale, .. } = tracks[self.track];
         let end = if self.track == 0 {
             End::Sync {
                 from: self.from,
-                scale,
+                scale: timescale,
             }
         } else {
             End::Before {
                 cut: self.next,
                 first: self.first,
-                scale,
+                scale: timescale,
             }
         };
         Some(Turn {
             track: self.track,
+            id,
             end,
         })
     }
@@ -218,7 +214,7 @@ impl Schedule {
     /// Before the first turn, of tracks of which these samples are the next.
     pub(crate) fn begin(
         &self,
-        tracks: &[TrackInfo],
+        tracks: &[TrackLeft],
         nexts: &[Option<SampleAt>],
         due: &mut DueTracks,
     )
@@ -227,10 +223,10 @@ impl Schedule {
         requires infos { self.now.tracks ≡ length tracks.now }
         requires nexts { length nexts.now ≡ length tracks.now }
         requires first { self.now.track ≡ 0 }
-        ensures { IsDueAt (infos_left self.now.leaving tracks.now) nexts.now self.now due.new }
+        ensures { IsDueAt tracks.now nexts.now self.now due.new }
     {
         for k in 1..tracks.len() {
-            let scale = self.leaving.timescale(tracks[k].timescale);
+            let scale = tracks[k].timescale;
             due.set(k, due_at(&nexts[k], scale, self.first));
         }
     }
@@ -244,7 +240,7 @@ impl Schedule {
         turn: &Turn,
         count: u32,
         sample: Option<SampleAt>,
-        tracks: &[TrackInfo],
+        tracks: &[TrackLeft],
         due: &mut DueTracks,
     ) -> Result<(), Refusal>
         requires track { self.old.track < self.old.tracks }
@@ -252,7 +248,6 @@ impl Schedule {
         requires tree { IsDueTree due.old }
         requires tracks { due.old.leaves ≡ self.old.tracks }
         ensures tracks { OnOk result (self.new.tracks ≡ self.old.tracks) }
-        ensures leaving { OnOk result (self.new.leaving ≡ self.old.leaving) }
         ensures turned { OnOk result
             (Skips due.new (turned self.old turn.now.end count sample) self.new) }
         ensures left { OnOk result (self.new.left ≡ self.old.left - count) }
@@ -261,24 +256,24 @@ impl Schedule {
         ensures some { OnOk result (IsSomeLeft self.new) }
         ensures tree { OnOk result (IsDueTree due.new × (due.new.leaves ≡ self.old.tracks)) }
         ensures due { (nexts : List (Option SampleAt))
-            → AreTimes (infos_left self.old.leaving tracks.now) nexts self.old.first due.old
+            → AreTimes tracks.now nexts self.old.first due.old
             → OnOk result
-            (IsDueAt (infos_left self.old.leaving tracks.now)
+            (IsDueAt tracks.now
             (slice_set nexts self.old.track sample)
             self.new due.new) }
         ensures refusal { IfErr result (λ r. r ≡ refusals.StoreChanged) }
         ensures sticks { (nexts : List (Option SampleAt))
-            → AreTimes (infos_left self.old.leaving tracks.now) nexts self.old.first due.old
+            → AreTimes tracks.now nexts self.old.first due.old
             → IfErr result
             (λ r. Sticks self.old count sample
-            ⊎ FindsMore (infos_left self.old.leaving tracks.now)
+            ⊎ FindsMore tracks.now
             (slice_set nexts self.old.track sample)
             (turned self.old turn.now.end count sample) self.new due.new) }
     {
         let track = self.track;
         self.take(turn, count, sample)?;
         if track > 0 {
-            let scale = self.leaving.timescale(tracks[track].timescale);
+            let scale = tracks[track].timescale;
             due.set(track, due_at(&sample, scale, self.first));
         }
         self.skip(due);

@@ -177,7 +177,7 @@ fn note_left<C: Samples>(
         × (samples.new.reduction ≡ samples.old.reduction)
         × AreLast (C.rest samples.old.inner) (C.rest samples.new.inner) }
 {
-    if samples.reduction.leaving.keeps_samples() {
+    if samples.reduction.keeps_samples() {
         planner.note(&mut samples.inner, rows, stretches);
     } else {
         planner.note(samples, rows, stretches);

@@ -3,12 +3,13 @@ ghost use Rattle.std.specs.Prelude.{◌≡◌, ℕ, ◌+◌, ◌*◌, ◌-◌, �
 ghost use Rattle.std.specs.List.{sum_by};
 ghost use Rattle.mp4_store.specs.words.Device.{TakesPrefix};
 ghost use Rattle.mp4_tables.specs.declared.sample.SampleAt.{SampleAt};
-ghost use Rattle.mp4_present.specs.declared.track_info.TrackInfo.{TrackInfo};
+ghost use Rattle.mp4_content.specs.declared.content.TrackLeft.{TrackLeft};
 ghost use Rattle.mp4_present.specs.words.Carried.{GoOnBy, waiting};
 ghost use Rattle.mp4_content.specs.format.Reduced.{reduce};
 ghost use Rattle.mp4_content.specs.format.ReducedTimes.{ReducesInLimits};
 ghost use Rattle.mp4_content.specs.words.Measuring.{measuring_steps};
 ghost use Rattle.mp4_content.specs.declared.without.Without.{Without};
+ghost use Rattle.mp4_content.specs.words.Contents.{content_left};
 ghost use Rattle.mp4_content.specs.words.LeftTimes.{NamesLong};
 ghost use Rattle.mp4_plan.specs.words.LeftRefusals.{RefusesLeft, RefusesLeftCopy};
 ghost use Rattle.mp4_present.specs.format.Denotes.{presentation_of};
@@ -48,8 +49,8 @@ use crate::schedule::{Schedule, Turn};
 use crate::stretches::Stretches;
 use crate::track_pieces::note_marked;
 use mp4_boxes::{FourCc, Refusal, Steps, header};
-use mp4_content::{Reductions, Without, length_left, measure};
-use mp4_present::{Movie, OutBuffer, TrackInfo, Walk};
+use mp4_content::{Content, TrackLeft, Without};
+use mp4_present::{Movie, OutBuffer, Walk};
 use mp4_store::{Sink, Store};
 use mp4_tables::SampleAt;
 use std::alloc::Global;
@@ -60,14 +61,6 @@ const PIECE: usize = 61_440;
 
 /// The most bytes that a writer holds beside the head, its rows and its walks.
 const MOST_WAITING: usize = 65_000;
-
-// What the boxes of a turn's piece are numbered by: the sequence number of `mfhd`, and the track ID
-// of `tfhd`.
-#[derive(Clone, Copy, Debug, PartialEq, Eq)]
-struct PieceNumbers {
-    sequence: u32,
-    id: u32,
-}
 
 // What a turn of a track comes to: what was planned of its samples, and what its piece says once
 // where it has some.
@@ -81,7 +74,7 @@ struct Noted {
 /// Writes the normal form of a movie. All memory that it takes is taken when it is made.
 #[derive(Drop)]
 pub struct Writer {
-    reductions: Reductions,
+    content: Content,
     /// What waits to be put.
     carrier: OutBuffer,
     /// The bytes of `ftyp` and `moov`.
@@ -98,8 +91,8 @@ pub struct Writer {
 }
 
 // The bytes of the samples of all tracks, as many as opening counted.
-fn bytes_of(tracks: &[TrackInfo]) -> u128
-    ensures { result ≡ sum_by (λ (i : TrackInfo). i.bytes) tracks.now }
+fn bytes_of(tracks: &[TrackLeft]) -> u128
+    ensures { result ≡ sum_by (λ (i : TrackLeft). i.bytes) tracks.now }
 {
     let mut bytes: u128 = 0;
     for track in tracks {
@@ -109,24 +102,24 @@ fn bytes_of(tracks: &[TrackInfo]) -> u128
 }
 
 // Whether no sample is left to come, and so many bytes are those of all samples of all tracks.
-fn are_all(left: u128, bytes: u128, tracks: &[TrackInfo]) -> bool
+fn are_all(left: u128, bytes: u128, tracks: &[TrackLeft]) -> bool
     ensures all { result ≡ true
-        → (left ≡ 0) × (bytes ≡ sum_by (λ (i : TrackInfo). i.bytes) tracks.now) }
+        → (left ≡ 0) × (bytes ≡ sum_by (λ (i : TrackLeft). i.bytes) tracks.now) }
     ensures missing { result ≡ false
-        → ((left ≡ 0) × (bytes ≡ sum_by (λ (i : TrackInfo). i.bytes) tracks.now) → ⊥) }
+        → ((left ≡ 0) × (bytes ≡ sum_by (λ (i : TrackLeft). i.bytes) tracks.now) → ⊥) }
 {
     left == 0 && bytes == bytes_of(tracks)
 }
 
 // What a piece of so many samples says once, of which the first is this one; nothing where it has
 // none.
-fn turn_head(numbers: PieceNumbers, count: u32, first: &Option<SampleAt>) -> Option<PieceHead>
-    ensures { result ≡ turn_head numbers.sequence numbers.id count first.now }
+fn turn_head(sequence: u32, id: u32, count: u32, first: &Option<SampleAt>) -> Option<PieceHead>
+    ensures { result ≡ turn_head sequence id count first.now }
 {
     match first {
         Some(sample) if count > 0 => Some(PieceHead {
-            sequence: numbers.sequence,
-            id: numbers.id,
+            sequence,
+            id,
             time: sample.dts,
             description: sample.description,
         }),
@@ -174,15 +167,12 @@ impl Writer {
             IfOk result (λ w. WriteAllBegin file tree movie.now w.walks.items)) }
         ensures turns { steps.new.looks ≤ steps.old.looks + movie_turns movie.now }
     {
-        let measures = measure(alloc, movie, store, leaving, steps)?;
-        let mehd = length_left(alloc, movie, leaving, measures.totals.as_slice())?;
-        let reductions = measures.reductions;
-        let longest = longest_piece(alloc, movie, store, &reductions, steps)?;
+        let content = Content::of(alloc, movie, store, leaving, steps)?;
+        let longest = longest_piece(alloc, movie, store, &content, steps)?;
         let due = DueTracks::new(alloc, movie.tracks().len())?;
         Ok(Writer {
-            reductions,
             carrier: OutBuffer::new(alloc, PIECE)?,
-            head: head_of(alloc, movie, leaving, mehd)?,
+            head: head_of(alloc, movie, &content)?,
             notes: PieceNotes {
                 rows: vec![in alloc; NO_ROW; longest as usize]?,
                 stretches: Stretches::new(),
@@ -190,6 +180,7 @@ impl Writer {
             walks: walks_of(alloc, movie)?,
             nexts: vec![in alloc; None; movie.tracks().len()]?,
             due,
+            content,
         })
     }
 
@@ -217,11 +208,11 @@ impl Writer {
         Writer::reduced(alloc, movie, store, Without::NOTHING, steps)
     }
 
-    // Plans the piece of a turn, and notes its samples. If it has some, it has these numbers.
+    // Plans the piece of a turn, and notes its samples. If it has some, this is its number.
     fn note_turn<S: Store, L: Ledger, M: Ledger>(
         &mut self,
         turn: &Turn,
-        numbers: PieceNumbers,
+        sequence: u32,
         movie: &Movie,
         store: &mut S,
         steps: &mut Steps<L, M>,
@@ -232,8 +223,7 @@ impl Writer {
         ensures store { OnlyReads S.Store store.old store.new result }
         ensures noted { OnTurn S.Store store.old movie.now turn.now self.old (λ file tree t left.
             IfOk result
-            (HasNoted file tree t movie.now turn.now numbers.sequence numbers.id left
-            self.old self.new)) }
+            (HasNoted file tree t movie.now turn.now sequence left self.old self.new)) }
         ensures unchanged { OnTurn S.Store store.old movie.now turn.now self.old
             (λ file tree t left.
             more_of (piece_from turn.now.end) left ≤ length self.old.notes.rows.items
@@ -255,7 +245,7 @@ impl Writer {
                 head: None,
             });
         }
-        let reduction = self.reductions.of_tracks[turn.track];
+        let reduction = self.content.reduction(turn.track);
         let portion = Portion {
             end: turn.end,
             reduction,
@@ -265,7 +255,7 @@ impl Writer {
         Ok(Noted {
             track: turn.track,
             planned,
-            head: turn_head(numbers, planned.count, &first),
+            head: turn_head(sequence, turn.id, planned.count, &first),
         })
     }
 
@@ -314,7 +304,7 @@ impl Writer {
         };
         self.nexts[track] = carry_noted(
             &mut self.walks[track],
-            self.reductions.of_tracks[track],
+            self.content.reduction(track),
             bytes,
             &mut self.carrier,
             movie,
@@ -394,11 +384,11 @@ impl Writer {
         ensures bytes { OverOpened S.Store store.old movie.now (λ file tree.
             IsReady file tree movie.now self.old
             → OnOk result (K.takes sink.old sink.new
-            (normal (reduce self.old.reductions.leaving (presentation_of file tree))))) }
+            (normal (content_left self.old.content file tree)))) }
         ensures prefix { OverOpened S.Store store.old movie.now (λ file tree.
             IsReady file tree movie.now self.old
             → OnErr result (TakesPrefix (K.takes sink.old sink.new)
-            (normal (reduce self.old.reductions.leaving (presentation_of file tree))))) }
+            (normal (content_left self.old.content file tree)))) }
         ensures unchanged { OverOpened S.Store store.old movie.now (λ file tree.
             IsReady file tree movie.now self.old → IsUnchanged result) }
         ensures whole { OnOk result (IsPutWhole movie.now (K.takes sink.old sink.new)
@@ -411,35 +401,30 @@ impl Writer {
             → steps.new.passed ≤ steps.old.passed + n) }
         ensures turns { steps.new.looks ≤ steps.old.looks + movie_turns movie.now }
     {
-        let tracks = movie.tracks();
         self.carrier.carry(self.head.as_slice(), sink)?;
         let walks = self.walks.as_mut_slice();
         let nexts = self.nexts.as_mut_slice();
-        peek_each(walks, nexts, &self.reductions, movie, store, steps)?;
+        peek_each(walks, nexts, &self.content, movie, store, steps)?;
         let from = first_time(self.nexts.as_slice());
-        let mut schedule = Schedule::new(self.reductions.leaving, tracks, from);
-        schedule.begin(tracks, self.nexts.as_slice(), &mut self.due);
+        let mut schedule = Schedule::new(self.content.tracks(), from);
+        schedule.begin(self.content.tracks(), self.nexts.as_slice(), &mut self.due);
         let mut sequence: u32 = 1;
         let mut bytes: u128 = 0;
-        while let Some(turn) = schedule.turn(tracks, steps) {
+        while let Some(turn) = schedule.turn(self.content.tracks(), steps) {
             let track = turn.track;
-            let numbers = PieceNumbers {
-                sequence,
-                id: tracks[track].id,
-            };
-            let noted = self.note_turn(&turn, numbers, movie, store, steps)?;
+            let noted = self.note_turn(&turn, sequence, movie, store, steps)?;
             sequence = sequence_behind(sequence, &noted.head);
             self.carry_turn(&noted, movie, store, sink, steps)?;
             schedule.pass(
                 &turn,
                 noted.planned.count,
                 self.nexts[track],
-                tracks,
+                self.content.tracks(),
                 &mut self.due,
             )?;
             bytes += u128::from(noted.planned.bytes);
         }
-        if !are_all(schedule.left, bytes, tracks) {
+        if !are_all(schedule.left, bytes, self.content.tracks()) {
             return Err(Refusal::StoreChanged);
         }
         self.carrier.flush(sink)

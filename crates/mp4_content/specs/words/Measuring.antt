@@ -1,21 +1,18 @@
 -- What is left of all samples of a track together, found in a walk over them.
 use Rattle.std.specs.Prelude.{◌≡◌, ℕ, ◌+◌, ◌-◌, ◌^◌, ◌&&◌, nat_lt, min, Bool, true, if◌then◌else◌, List, [], ◌∷◌, ℤ, pos, negsuc}
-use Rattle.mp4_store.specs.declared.store.Store.{Ghosts as Store}
 use Rattle.mp4_tables.specs.declared.sample.SampleAt.{SampleAt}
 use Rattle.mp4_head.specs.format.Tree.{TrackTree}
-use Rattle.mp4_present.specs.format.Denotes.{FileTree, presentation_of}
-use Rattle.mp4_content.specs.format.Reduced.{ReducesInRange, duration_left, offset_left}
+use Rattle.mp4_present.specs.format.Denotes.{FileTree}
+use Rattle.mp4_content.specs.format.Reduced.{duration_left, offset_left}
 use Rattle.mp4_present.specs.words.Movies.{MovieSeen}
 use Rattle.mp4_present.specs.words.SamplesComing.{track_samples}
 use Rattle.mp4_present.specs.words.WalkSteps.{walks_steps}
 use Rattle.mp4_present.specs.declared.track_info.TrackInfo.{TrackInfo}
 use Rattle.mp4_content.specs.declared.without.Without.{Without}
 use Rattle.mp4_content.specs.words.ComingLess.{asks_first, track_reduction, reductions_of}
-use Rattle.mp4_content.specs.words.Opened.{OverOpened}
 use Rattle.mp4_content.specs.declared.measures.Measures.{Measures}
 use Rattle.mp4_content.specs.declared.measures.Total.{Total}
 use Rattle.mp4_content.specs.declared.reduced.Reduction.{Reduction}
-use Rattle.mp4_content.specs.declared.reduced.Reductions.{Reductions}
 
 -- an offset fits its field
 abbrev pub is_near : ℤ → Bool
@@ -52,17 +49,9 @@ AreTotals l tree _ _ _ = ⊥
 
 -- all tracks are measured
 pub record AreMeasured (l : Without) (tree : FileTree) (m : MovieSeen) (x : Measures) : Type 0 where
-  pub reductions : x.reductions.of_tracks.items ≡ reductions_of l tree
+  pub reductions : x.of_tracks.items ≡ reductions_of l tree
   pub totals : AreTotals l tree tree.movie.tracks m.tracks x.totals.items
 
 -- in at most so many steps
 abbrev pub measuring_steps : Without → FileTree → ℕ
 measuring_steps l tree = if asks_first l then walks_steps tree else 0
-
--- over an honest store that has the file from which the movie was opened, where the samples of its
--- tracks are left by these, and the offsets that are left fit: it is so of it
-abbrev pub OverReduced : {X : Type 0} → Store X → X → MovieSeen → Reductions
-    → (List ℕ → FileTree → Type 0) → Type 0
-OverReduced S store m r P = OverOpened S store m (λ file tree.
-    r.of_tracks.items ≡ reductions_of r.leaving tree
-    → ReducesInRange r.leaving (presentation_of file tree) → P file tree)

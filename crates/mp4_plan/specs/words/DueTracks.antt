@@ -1,6 +1,6 @@
 -- When the next samples of tracks are due, and which tracks have one before a cut.
 use Rattle.std.specs.Prelude.{◌≡◌, ◌<◌, ◌≤◌, ℕ, ◌*◌, ◌+◌, ◌^◌, ◌-◌, ◌/◌, max, min, List, length, Option, Some, None, slice_get, slice_index}
-use Rattle.mp4_present.specs.declared.track_info.TrackInfo.{TrackInfo}
+use Rattle.mp4_content.specs.declared.content.TrackLeft.{TrackLeft}
 use Rattle.mp4_tables.specs.declared.sample.SampleAt.{SampleAt}
 use Rattle.mp4_plan.specs.words.Turns.{track_passed}
 use Rattle.mp4_plan.specs.declared.due_tracks.DueTracks.{DueTracks}
@@ -39,10 +39,10 @@ cut_at None = 2 ^ 128 - 1
 cut_at (Some cut) = cut
 
 -- the leaves say when these next samples of the tracks behind the first are due
-abbrev pub AreTimes : List TrackInfo → List (Option SampleAt) → ℕ → DueTracks → Type 0
-AreTimes infos nexts first d = (k : ℕ) (info : TrackInfo) (next : Option SampleAt) → 0 < k
-    → slice_get infos k ≡ Some info → slice_get nexts k ≡ Some next
-    → IsDue first info.timescale next (leaf d k)
+abbrev pub AreTimes : List TrackLeft → List (Option SampleAt) → ℕ → DueTracks → Type 0
+AreTimes tracks nexts first d = (k : ℕ) (track : TrackLeft) (next : Option SampleAt) → 0 < k
+    → slice_get tracks k ≡ Some track → slice_get nexts k ≡ Some next
+    → IsDue first track.timescale next (leaf d k)
 
 -- From a place in the order of pieces tracks are passed that have no sample before the next cut.
 pub data Skips (d : DueTracks) : Schedule → Schedule → Type 0 where
@@ -56,18 +56,18 @@ IsDueHere s d = 0 < s.track → s.track < s.tracks
     → (leaf d s.track < cut_at s.next) × (cut_at s.next < 2 ^ 128)
 
 -- the tree of the tracks of a schedule, at a turn
-pub record IsDueAt (infos : List TrackInfo) (nexts : List (Option SampleAt)) (s : Schedule)
+pub record IsDueAt (tracks : List TrackLeft) (nexts : List (Option SampleAt)) (s : Schedule)
     (d : DueTracks) : Type 0 where
   pub tree : IsDueTree d
   pub many : d.leaves ≡ s.tracks
-  pub times : AreTimes infos nexts s.first d
+  pub times : AreTimes tracks nexts s.first d
   pub here : IsDueHere s d
 
 -- Behind a turn a track is due, and no sample is left: of a file that has changed.
-pub record FindsMore (infos : List TrackInfo) (nexts : List (Option SampleAt))
+pub record FindsMore (tracks : List TrackLeft) (nexts : List (Option SampleAt))
     (taken later : Schedule) (d : DueTracks) : Type 0 where
   pub skips : Skips d taken later
-  pub due : IsDueAt infos nexts later d
+  pub due : IsDueAt tracks nexts later d
   pub some : 0 < later.track
   pub inside : later.track < later.tracks
   pub none_left : later.left ≡ 0

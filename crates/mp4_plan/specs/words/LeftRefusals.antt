@@ -4,14 +4,8 @@ use Rattle.mp4_boxes.specs.declared.refusal.Refusal.{Refusal}
 use Rattle.mp4_boxes.specs.declared.refusal.Refusal.TheVariants as refusals
 use Rattle.mp4_present.specs.words.Carried.{RefusesCopy}
 use Rattle.mp4_content.specs.words.LeftTimes.{MayBeLong}
-use Rattle.mp4_content.specs.words.Opened.{RefusesPlan}
+pub use Rattle.mp4_content.specs.words.Contents.{RefusesLeft}
 use Rattle.mp4_content.specs.declared.without.Without.{Without}
-
--- Why what is left of a movie is not planned. The numbers are counts of failed reads, before and
--- after.
-abbrev pub RefusesLeft : Without → ℕ → ℕ → Refusal → Type 0
-RefusesLeft l reads reads_after (refusals.Fault f) = MayBeLong l f
-RefusesLeft l reads reads_after r = RefusesPlan reads reads_after r
 
 -- Why what is left of a movie is not written: what was put, and counts of failed reads, and of
 -- failed puts.

@@ -40,6 +40,6 @@ pub record IsMade (m : MovieSeen) (l : Without) (w : Writer) : Type 0 where
       ≡ length w.head.items + own_rooms m (length m.tracks) + 24 * length w.notes.rows.items + PIECE
   pub bound : memory.held_bytes w ≤ length (waiting w.carrier ++ w.head.items)
       + length m.tracks * m.longest + 24 * length w.notes.rows.items + MOST_WAITING
-  pub left : w.reductions.leaving ≡ l
+  pub left : w.content.leaving ≡ l
   pub named : IsHeadLeft m l w.head.items
   pub empty : waiting w.carrier ≡ []

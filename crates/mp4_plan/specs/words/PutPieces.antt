@@ -11,6 +11,7 @@ use Rattle.mp4_head.specs.words.Seen.{movie_seen, tracks_seen}
 use Rattle.mp4_head.specs.declared.heads.MovieHead.{MovieHead}
 use Rattle.mp4_content.specs.format.Reduced.{reduce_movie_head, reduce_track_head}
 use Rattle.mp4_present.specs.words.Movies.{MovieSeen, moov_box}
+use Rattle.mp4_content.specs.declared.content.Content.{Content}
 use Rattle.mp4_content.specs.declared.without.Without.{Without}
 use Rattle.mp4_present.specs.declared.track_info.TrackInfo.{TrackInfo}
 use Rattle.mp4_plan.specs.words.Sizes.{moof_sizes}
@@ -87,3 +88,6 @@ pub record IsHeadLeft (m : MovieSeen) (l : Without) (bytes : List ℕ) : Type 0 
   pub left : IsLeftOf m l head
   pub mehd : ℕ
   pub is : bytes ≡ written.head_bytes (movie_seen head) (tracks_seen head) mehd
+
+abbrev pub IsContentHead : MovieSeen → Content → List ℕ → Type 0
+IsContentHead m c bytes = IsHeadLeft m c.leaving bytes

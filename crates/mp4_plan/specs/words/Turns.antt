@@ -1,10 +1,9 @@
 -- The order in which pieces come, and why it ends.
-use Rattle.std.specs.Prelude.{◌≡◌, ◌<◌, ◌⊎◌, ℕ, ◌+◌, ◌-◌, ◌*◌, ◌==◌, min, Bool, true, if◌then◌else◌, List, [], ◌∷◌, Option, Some, None, length, map, option_map}
+use Rattle.std.specs.Prelude.{◌≡◌, ◌<◌, ◌⊎◌, ℕ, ◌+◌, ◌-◌, ◌*◌, ◌==◌, min, Bool, true, if◌then◌else◌, List, [], ◌∷◌, Option, Some, None, length, option_map}
 use Rattle.std.specs.List.{sum_by}
 use Rattle.mp4_present.specs.words.Movies.{MovieSeen}
 use Rattle.mp4_tables.specs.declared.sample.SampleAt.{SampleAt}
-use Rattle.mp4_content.specs.format.Reduced.{timescale_left}
-use Rattle.mp4_content.specs.declared.without.Without.{Without}
+use Rattle.mp4_content.specs.declared.content.TrackLeft.{TrackLeft}
 use Rattle.mp4_present.specs.declared.track_info.TrackInfo.{TrackInfo}
 use Rattle.mp4_plan.specs.format.TurnCount.{most_turns}
 use Rattle.mp4_plan.specs.words.Ends.{has_ended}
@@ -52,16 +51,9 @@ track_passed s time = if s.track == 0 then wrapped (record s { next = time; trac
     else wrapped (record s { track = s.track + 1 }) s.next
 
 -- the timescale of the first of some tracks, 0 without one
-abbrev pub first_scale : List TrackInfo → ℕ
+abbrev pub first_scale : List TrackLeft → ℕ
 first_scale [] = 0
 first_scale (t ∷ tracks) = t.timescale
-
--- what is left of tracks in numbers: their timescales
-abbrev pub info_left : Without → TrackInfo → TrackInfo
-info_left l info = record info { timescale = timescale_left l info.timescale }
-
-abbrev pub infos_left : Without → List TrackInfo → List TrackInfo
-infos_left l infos = map (info_left l) infos
 
 -- where a piece of this turn ends, in a track of this timescale
 abbrev pub turn_end : Schedule → ℕ → End

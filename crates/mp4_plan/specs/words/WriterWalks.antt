@@ -21,7 +21,7 @@ use Rattle.mp4_plan.specs.words.UsedKeys.{AreApart}
 use Rattle.mp4_plan.specs.words.WriterSteps.{AllFinishOn, AllTakeOn, AllWriteOn, MayAllBegin, MayAllFinish, MayAllTake, MayAllWrite, WriteAllBegin}
 use Rattle.mp4_plan.specs.words.Writers.{AllBegin, AllCome, AreMarked, AreWalksOf, IsNoted, IsWriterOf}
 use Rattle.mp4_plan.specs.declared.planner.Planned.{Planned}
-use Rattle.mp4_content.specs.declared.reduced.Reduction.{Reduction}
+use Rattle.mp4_content.specs.declared.content.Content.{Content}
 use Rattle.mp4_plan.specs.declared.schedule.Turn.{Turn}
 use Rattle.mp4_plan.specs.declared.writer.Noted.{Noted}
 use Rattle.mp4_plan.specs.declared.writer.Writer.{Writer}
@@ -48,14 +48,20 @@ pub record AllStart (m : MovieSeen) (walks : List Walk) : Type 0 where
   pub writes : (file : List ℕ) (tree : FileTree) → IsOpenedAs file m tree
       → WriteAllBegin file tree m walks
 
+-- this is left of the samples that each of these walks has to come
+abbrev pub AllComeLess : Content → List ℕ → FileTree → MovieSeen → List Walk
+    → List (List SampleAt) → Type 0
+AllComeLess c file tree m walks lefts =
+    AllCome c.leaving file tree m tree.movie.tracks walks lefts
+
 -- over an honest store that has the file from which the movie was opened, where the samples of its
 -- tracks are left by these: it is so of what is left of the samples that each of these walks has to
 -- come
-abbrev pub WhereAllCome : {X : Type 0} → Store X → X → MovieSeen → Without → List Reduction
-    → List Walk → (List ℕ → FileTree → List (List SampleAt) → Type 0) → Type 0
-WhereAllCome S store m l reductions walks P = OverOpened S store m (λ file tree.
-    (lefts : List (List SampleAt)) → reductions ≡ reductions_of l tree
-    → AllCome l file tree m tree.movie.tracks walks lefts → P file tree lefts)
+abbrev pub WhereAllCome : {X : Type 0} → Store X → X → MovieSeen → Content → List Walk
+    → (List ℕ → FileTree → List (List SampleAt) → Type 0) → Type 0
+WhereAllCome S store m c walks P = OverOpened S store m (λ file tree.
+    (lefts : List (List SampleAt)) → c.of_tracks.items ≡ reductions_of c.leaving tree
+    → AllComeLess c file tree m walks lefts → P file tree lefts)
 
 -- of the steps that these walks may take together, they take some: at Ok the others are left to
 -- them, and at Err they took no more than all
@@ -81,9 +87,9 @@ abbrev pub OnTurn : {X : Type 0} → Store X → X → MovieSeen → Turn → Wr
     → (List ℕ → FileTree → TrackTree → List SampleAt → Type 0) → Type 0
 OnTurn S store m turn w P = OverOpened S store m (λ file tree. (t : TrackTree) (walk : Walk)
     (left : List SampleAt) → slice_get w.walks.items turn.track ≡ Some walk
-    → slice_get w.reductions.of_tracks.items turn.track
-    ≡ Some (track_reduction w.reductions.leaving tree t)
-    → ComesLess (track_reduction w.reductions.leaving tree t) file tree t m walk left
+    → slice_get w.content.of_tracks.items turn.track
+    ≡ Some (track_reduction w.content.leaving tree t)
+    → ComesLess (track_reduction w.content.leaving tree t) file tree t m walk left
     → walk.mark ≡ mark_of walk (length left)
     → slice_get w.nexts.items turn.track ≡ Some (slice_get left 0) → P file tree t left)
 
@@ -92,7 +98,7 @@ pub record OnlyNotes {T E : Type 0} (m : MovieSeen) (w w_after : Writer) (result
     : Type 0 where
   pub writer : OnOk result (IsWriterOf m w_after)
   pub held : memory.held_bytes w_after ≡ memory.held_bytes w
-  pub reductions : w_after.reductions ≡ w.reductions
+  pub content : w_after.content ≡ w.content
   pub keeps : (w_after.carrier ≡ w.carrier)
       × (length w_after.notes.rows.items ≡ length w.notes.rows.items) × (w_after.nexts ≡ w.nexts)
       × (w_after.due ≡ w.due)
@@ -109,7 +115,7 @@ abbrev pub StepsToNote : {X E : Type 0} → Store X → X → MovieSeen → ℕ 
     → Result Noted E → ℕ → ℕ → Type 0
 StepsToNote S store m track w w_after result old new = OverOpened S store m (λ file tree. (n : ℕ)
     → MayAllWrite file tree m w.walks.items n → MatchResult result
-    (λ noted. AllFinishOn w.reductions.of_tracks.items file tree m track noted.planned.count n
+    (λ noted. AllFinishOn w.content.of_tracks.items file tree m track noted.planned.count n
     w_after.walks.items old new) (λ _. new ≤ old + n))
 
 -- ---- a piece that was noted
@@ -139,7 +145,7 @@ pub record OnlyCarries {T E : Type 0} (m : MovieSeen) (w w_after : Writer) (resu
     : Type 0 where
   pub writer : OnOk result (IsWriterOf m w_after)
   pub held : memory.held_bytes w_after ≡ memory.held_bytes w
-  pub reductions : OnOk result (w_after.reductions ≡ w.reductions)
+  pub content : OnOk result (w_after.content ≡ w.content)
   pub keeps : OnOk result ((w_after.notes.rows ≡ w.notes.rows) × (w_after.due ≡ w.due))
 
 -- of the steps that its walks may take to copy a piece and to go on, it takes some: at Ok the
@@ -147,7 +153,7 @@ pub record OnlyCarries {T E : Type 0} (m : MovieSeen) (w w_after : Writer) (resu
 abbrev pub StepsToCarry : {X T E : Type 0} → Store X → X → MovieSeen → Noted → Writer → Writer
     → Result T E → ℕ → ℕ → Type 0
 StepsToCarry S store m noted w w_after result old new = OverOpened S store m (λ file tree. (n : ℕ)
-    → MayAllFinish w.reductions.of_tracks.items file tree m noted.track noted.planned.count
+    → MayAllFinish w.content.of_tracks.items file tree m noted.track noted.planned.count
     w.walks.items n
     → MatchResult result
     (λ _. AllWriteOn file tree m n w_after.walks.items old new) (λ _. new ≤ old + n))

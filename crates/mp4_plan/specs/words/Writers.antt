@@ -8,7 +8,7 @@ use Rattle.mp4_head.specs.format.Tree.{TrackTree}
 use Rattle.mp4_head.specs.format.Writing as written
 use Rattle.mp4_tables.specs.format.Groups.{GroupKey}
 use Rattle.mp4_present.specs.words.Carried.{waiting}
-use Rattle.mp4_content.specs.format.Reduced.{ReducesInRange, reduce}
+use Rattle.mp4_content.specs.format.Reduced.{ReducesInRange}
 use Rattle.mp4_content.specs.declared.without.Without.{Without}
 use Rattle.mp4_present.specs.format.Denotes.{FileTree, presentation_of}
 use Rattle.mp4_present.specs.words.Joined.{sample_bytes}
@@ -18,6 +18,7 @@ use Rattle.mp4_present.specs.format.Presentation.{Presentation, heads, movie_len
 use Rattle.mp4_present.specs.declared.walking.Walk.{Walk}
 use Rattle.mp4_tables.specs.declared.sample.SampleAt.{SampleAt}
 use Rattle.mp4_content.specs.words.ComingLess.{ComesLess, left_samples, track_reduction, reductions_of}
+use Rattle.mp4_content.specs.words.Contents.{IsContentOf, content_left}
 use Rattle.mp4_plan.specs.words.DueTracks.{IsDueTree}
 use Rattle.mp4_content.specs.words.GoneOn.{ComesMarked}
 use Rattle.mp4_plan.specs.words.OwnRooms.{own_rooms}
@@ -45,7 +46,7 @@ pub record IsWriterOf (m : MovieSeen) (w : Writer) : Type 0 where
   pub walks : AreWalksOf m w.walks.items
   pub few : length w.notes.rows.items ≤ 2 ^ 24
   pub nexts : length w.nexts.items ≡ length m.tracks
-  pub reductions : length w.reductions.of_tracks.items ≡ length m.tracks
+  pub content : IsContentOf m w.content
   pub due : IsDueTree w.due
   pub many : w.due.leaves ≡ length m.tracks
 
@@ -108,14 +109,14 @@ pub record IsHeadOf (p : Presentation) (head : MovieHead) (mehd : ℕ) : Type 0 
 -- samples.
 pub record IsReady (file : List ℕ) (tree : FileTree) (m : MovieSeen) (w : Writer) : Type 0 where
   pub head : waiting w.carrier ++ w.head.items
-      ≡ head_of_normal (reduce w.reductions.leaving (presentation_of file tree))
+      ≡ head_of_normal (content_left w.content file tree)
   pub rows : length w.notes.rows.items
-      ≡ longest_piece (pieces (reduce w.reductions.leaving (presentation_of file tree)))
-  pub range : ReducesInRange w.reductions.leaving (presentation_of file tree)
-  pub reductions : w.reductions.of_tracks.items ≡ reductions_of w.reductions.leaving tree
-  pub walks : AllBegin w.reductions.leaving file tree m w.walks.items
+      ≡ longest_piece (pieces (content_left w.content file tree))
+  pub range : ReducesInRange w.content.leaving (presentation_of file tree)
+  pub reductions : w.content.of_tracks.items ≡ reductions_of w.content.leaving tree
+  pub walks : AllBegin w.content.leaving file tree m w.walks.items
   pub marked : AreMarked w.walks.items
-      (map (left_samples w.reductions.leaving tree) tree.movie.tracks)
+      (map (left_samples w.content.leaving tree) tree.movie.tracks)
 
 -- it is, and its walks have no more room together than the `traf`s of the file are long, and these
 -- lie in the file
@@ -128,13 +129,13 @@ pub record IsReadyWithin (file : List ℕ) (tree : FileTree) (m : MovieSeen) (w 
 -- What was noted at a turn, of a track of which these samples come: a piece of them. Its walk can
 -- go back to where it stood.
 pub record HasNoted (file : List ℕ) (tree : FileTree) (t : TrackTree) (m : MovieSeen) (turn : Turn)
-    (sequence id : ℕ) (left : List SampleAt) (before after : Writer) (n : Noted) : Type 0 where
+    (sequence : ℕ) (left : List SampleAt) (before after : Writer) (n : Noted) : Type 0 where
   pub planned : n.planned ≡ planned_of (piece_fed (piece_from turn.end) left).gathered
-  pub head : n.head ≡ turn_head sequence id n.planned.count (slice_get left 0)
+  pub head : n.head ≡ turn_head sequence turn.id n.planned.count (slice_get left 0)
   pub rows : take n.planned.count after.notes.rows.items ≡ map row_seen (take n.planned.count left)
   pub walk : Walk
   pub walks : after.walks.items ≡ slice_set before.walks.items turn.track walk
-  pub comes : ComesMarked (track_reduction before.reductions.leaving tree t)
+  pub comes : ComesMarked (track_reduction before.content.leaving tree t)
       file tree t m walk n.planned.count
       left
   pub none : n.planned.count ≡ 0 → walk.mark ≡ mark_of walk (length left)
@@ -157,9 +158,9 @@ pub record IsNoted (file : List ℕ) (tree : FileTree) (m : MovieSeen) (track co
   pub t : TrackTree
   pub walk : Walk
   pub is_walk : slice_get w.walks.items track ≡ Some walk
-  pub reduction : slice_get w.reductions.of_tracks.items track
-      ≡ Some (track_reduction w.reductions.leaving tree t)
-  pub comes : ComesMarked (track_reduction w.reductions.leaving tree t)
+  pub reduction : slice_get w.content.of_tracks.items track
+      ≡ Some (track_reduction w.content.leaving tree t)
+  pub comes : ComesMarked (track_reduction w.content.leaving tree t)
       file tree t m walk count samples
   pub none : count ≡ 0 → walk.mark ≡ mark_of walk (length samples)
   pub next : slice_get w.nexts.items track ≡ Some (slice_get samples 0)
@@ -172,7 +173,7 @@ abbrev pub HaveCopied : List ℕ → FileTree → MovieSeen → TrackTree → �
 HaveCopied file tree m t track count samples before after =
     (next : Walk) × (after.walks.items ≡ slice_set before.walks.items track next)
     × (after.nexts.items ≡ slice_set before.nexts.items track (slice_get (drop count samples) 0))
-    × ComesLess (track_reduction before.reductions.leaving tree t) file tree t m next
+    × ComesLess (track_reduction before.content.leaving tree t) file tree t m next
     (drop count samples)
     × (next.mark ≡ mark_of next (length (drop count samples)))
 

@@ -14,7 +14,7 @@ loop-track-init g c = record {
   reads = refl;
   looks = refl;
   grows = omega arith;
-  measured = λ asks told tree o. rw (c.new-of_tracks.ensures.items, c.new-totals.ensures.items) (so_far_none c.args.leaving (g.S.Store.file c.args.store.now) c.args.movie.now tree o);
+  measured = λ asks told tree o. rw (c.in_ok-of_tracks.ensures.items, c.in_ok-totals.ensures.items) (so_far_none c.args.leaving (g.S.Store.file c.args.store.now) c.args.movie.now tree o);
   work = λ told tree o. omega arith;
 }
 
@@ -50,7 +50,7 @@ loop-track-preserved g c =
 
 pub returns-in_err-found-clause-unchanged : goal.returns-in_err-found-clause-unchanged
 returns-in_err-found-clause-unchanged g c told tree o =
-    let p = err_from_is_err_and c.from_residual.result c.from_residual.ensures.1 in
+    let p = err_from_is_err_and c.from_residual-in_err-found.result c.from_residual-in_err-found.ensures.1 in
     let i = c.loop-track.invariant in
     let lt : c.loop-track.track < length c.args.movie.now.tracks = search rules in
     let a = is_at c.args.leaving (g.S.Store.file c.args.store.now) c.args.movie.now tree o c.loop-track.track lt in

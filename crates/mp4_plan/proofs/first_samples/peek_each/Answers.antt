@@ -1,9 +1,8 @@
 use Rattle.std.proofs.Common.{rules, arith, ◌<◌, length, slice_set, ◌∙◌}
 use Rattle.std.proofs.lemmas.Option.{slice_get-get_or}
 use Rattle.std.proofs.lemmas.Result.{err_from_is_err_and}
-use Rattle.mp4_content.specs.words.ComingLess.{track_reduction}
 use Rattle.mp4_plan.proofs.AllTake.{one_takes, one_stops}
-use Rattle.mp4_content.proofs.AtPlaces.{read_at}
+use Rattle.mp4_content.proofs.AtPlaces.{one_there}
 use Rattle.mp4_plan.proofs.NextSamples.{noted_more, noted_all, come_length, rooms_set}
 use Rattle.mp4_plan.proofs.Planning.{comes_there, reduced_there, same_come, walks_set}
 use Rattle.mp4_plan.specs.words.WriterSteps.{MayWrite}
@@ -22,7 +21,7 @@ loop-k-init g c = record {
   file = search rules;
   reads = search rules;
   looks = search rules;
-  shown = λ leaving told tree o lefts by h. (h, search rules);
+  shown = λ told tree o lefts by h. (h, search rules);
   takes = λ told tree o n h. none_taken (g.S.Store.file c.args.store.now) tree c.args.walks.now n _ h;
   marked = λ lefts h. h;
   writes = λ told tree o n h. writes_none_taken (g.S.Store.file c.args.store.now) tree c.args.movie.now c.args.walks.now n _ h;
@@ -52,12 +51,12 @@ loop-k-preserved g c =
       file = e.loads.store.file ∙ i.file;
       reads = e.loads.store.reads ∙ i.reads;
       looks = search rules;
-      shown = λ leaving told tree o lefts by h.
-          let was = i.shown leaving told tree o lefts by h in
-          let r = comes_there leaving file tree m walks lefts k c.index-walks-k.result was.0 inside in
-          let own = read_at c.args.reductions.now.of_tracks.items c.loop-k.k (track_reduction leaving tree r.t) c.index-reduction.result.now (reduced_there leaving tree c.args.reductions.now.of_tracks.items c.loop-k.k r.t by r.is_tree) c.index-reduction.ensures in
+      shown = λ told tree o lefts by h.
+          let was = i.shown told tree o lefts by h in
+          let r = comes_there c.args.content.now.leaving file tree m walks lefts k c.index-walks-k.result was.0 inside in
+          let own = one_there c.args.content.now.of_tracks.items c.loop-k.k _ _ c.reduction-reduction.ensures (reduced_there c.args.content.now.leaving tree c.args.content.now.of_tracks.items c.loop-k.k r.t by r.is_tree) in
           let come = (rw (i.honesty, i.file, own) at e.coming) told tree r.t r.left o r.comes in
-          (same_come leaving file tree m walks lefts k _ now was.0 r come.0, noted_more c.loop-k.nexts lefts k r.left c.in_ok-nexts.field-0 was.1 within r.is_left come.1);
+          (same_come c.args.content.now.leaving file tree m walks lefts k _ now was.0 r come.0, noted_more c.loop-k.nexts lefts k r.left c.in_ok-nexts.field-0 was.1 within r.is_left come.1);
       takes = λ told tree o n h.
           all_then file tree walks (slice_set walks k now) n _ _ _ (i.takes told tree o n h)
           (λ rest may. one_takes file tree tree.movie.tracks walks k _ now rest _ _ may (slice_get-get_or walks k c.index-walks-k.result inside) (λ t own own_may. (rw (i.honesty, i.file) at e.work) told tree t own o own_may));
@@ -69,14 +68,14 @@ loop-k-preserved g c =
     }
 
 pub returns-in_err-nexts-clause-unchanged : goal.returns-in_err-nexts-clause-unchanged
-returns-in_err-nexts-clause-unchanged g c leaving told tree o lefts by h =
+returns-in_err-nexts-clause-unchanged g c told tree o lefts by h =
     let p = err_from_is_err_and c.from_residual.result c.from_residual.ensures.1 in
     let i = c.loop-k.invariant in
     let lt = c.loop-k-test.true in
     let many = i.many in
-    let was = i.shown leaving told tree o lefts by h in
-    let r = comes_there leaving (g.S.Store.file c.args.store.now) tree c.args.movie.now c.loop-k.walks lefts c.loop-k.k c.index-walks-k.result was.0 (omega (arith, lt, many)) in
-    let own = read_at c.args.reductions.now.of_tracks.items c.loop-k.k (track_reduction leaving tree r.t) c.index-reduction.result.now (reduced_there leaving tree c.args.reductions.now.of_tracks.items c.loop-k.k r.t by r.is_tree) c.index-reduction.ensures in
+    let was = i.shown told tree o lefts by h in
+    let r = comes_there c.args.content.now.leaving (g.S.Store.file c.args.store.now) tree c.args.movie.now c.loop-k.walks lefts c.loop-k.k c.index-walks-k.result was.0 (omega (arith, lt, many)) in
+    let own = one_there c.args.content.now.of_tracks.items c.loop-k.k _ _ c.reduction-reduction.ensures (reduced_there c.args.content.now.leaving tree c.args.content.now.of_tracks.items c.loop-k.k r.t by r.is_tree) in
     rw (p.1, p.2) ((rw (i.honesty, i.file, own) at c.in_err-nexts.ensures.unchanged) told tree r.t r.left o r.comes)
 
 pub returns-in_err-nexts-clause-work : goal.returns-in_err-nexts-clause-work
@@ -91,13 +90,13 @@ returns-in_err-nexts-clause-work g c told tree o n h =
     (rw (i.honesty, i.file) at c.in_err-nexts.ensures.work) told tree t own o own_may)))
 
 pub returns-clause-shown : goal.returns-clause-shown
-returns-clause-shown g c leaving told tree o lefts by h =
+returns-clause-shown g c told tree o lefts by h =
     let i = c.loop-k.invariant in
-    let was = i.shown leaving told tree o lefts by h in
+    let was = i.shown told tree o lefts by h in
     let last = c.loop-k-test.false in
     let many = i.many in
     let each = i.nexts in
-    let all = come_length leaving (g.S.Store.file c.args.store.now) tree c.args.movie.now tree.movie.tracks c.loop-k.walks lefts was.0 in
+    let all = come_length c.args.content.now.leaving (g.S.Store.file c.args.store.now) tree c.args.movie.now tree.movie.tracks c.loop-k.walks lefts was.0 in
     (noted_all c.loop-k.nexts lefts c.loop-k.k was.1 (omega (arith, last, many, each)) (omega (arith, last, many, all)), was.0)
 
 pub returns-in_err-nexts-clause-writes : goal.returns-in_err-nexts-clause-writes

@@ -1,17 +1,15 @@
-use Rattle.mp4_content.specs.declared.without.Without.{Without}
-use Rattle.std.proofs.Common.{rules, ◌⊎◌, List, Option, ◌<◌, slice_set, length, arith, ap, sym, subst, refl, ◌∙◌, slice_get}
+use Rattle.std.proofs.Common.{rules, ◌<◌, slice_set, length, arith, ap, sym, subst, refl, ◌∙◌, slice_get}
 use Rattle.std.proofs.lemmas.Result.{err_from_is_err_and}
 use Rattle.std.proofs.lemmas.Option.{slice_get_read}
 use Rattle.mp4_present.specs.words.WalkSteps.{walks_steps}
-use Rattle.mp4_content.specs.words.ComingLess.{track_reduction}
 use Rattle.mp4_plan.proofs.AllTake.{one_takes, one_stops}
-use Rattle.mp4_content.proofs.AtPlaces.{read_at}
+use Rattle.mp4_content.proofs.AtPlaces.{one_there, read_at}
 use Rattle.mp4_plan.proofs.HandsCounted.{piece_size_is}
 use Rattle.mp4_plan.proofs.Planning.{reduced_there, walks_set}
 use Rattle.mp4_plan.proofs.PlannedTurns.{has_turn, no_more, turn_leads, longest_first, longest_end, longest_next, longest_skips}
-use Rattle.mp4_plan.specs.words.Turns.{Sticks, infos_left, movie_turns, turned}
-use Rattle.mp4_plan.specs.words.DueTracks.{AreTimes, FindsMore, IsDueAt}
-use Rattle.mp4_tables.specs.declared.sample.SampleAt.{SampleAt}
+use Rattle.mp4_plan.specs.words.Turns.{movie_turns, turned}
+use Rattle.mp4_content.specs.words.Contents.{tracks_left}
+use Rattle.mp4_plan.specs.words.DueTracks.{IsDueAt}
 use Rattle.mp4_plan.proofs.LooksOn.{begins_within, looks_on, looks_within}
 use Rattle.mp4_plan.proofs.SkippedTurns.{either}
 use Rattle.mp4_plan.proofs.StepsOn.{all_taken, all_then, all_then_stop}
@@ -20,7 +18,7 @@ use Rattle.mp4_plan.proofs.piece_totals.longest_piece.Goals as goal
 pub loop-turn-init : goal.loop-turn-init
 loop-turn-init g c =
     let m = c.args.movie.now in
-    let l = c.args.reductions.now.leaving in
+    let l = c.args.content.now.leaving in
     let plan = c.in_ok-plan.plan in
     let e = c.in_ok-plan.ensures in
     let b = e.begins in
@@ -40,7 +38,6 @@ loop-turn-init g c =
       b.due,
       λ some lt. (let first = s.track in absurd (omega (arith, some, first))),
       e.grows,
-      s.leaving,
     )
 
 pub returns-in_err-plan-clause-unchanged : goal.returns-in_err-plan-clause-unchanged
@@ -61,10 +58,9 @@ returns-in_err-count-clause-unchanged g c told tree o by near =
     let turn = c.in-Some.turn in
     let at = c.in-Some.ensures.track in
     let h = i.6 told tree o by near in
-    let t = has_turn c.args.reductions.now.leaving file tree m s c.loop-turn.plan.walks.items c.loop-turn.plan.nexts.items h.lefts h.comings o h.at turn.track c.index_mut-walk.result.now turn.end at c.index_mut-walk.ensures.value i.0.count
-    (λ info is. (rw i.13 at c.in-Some.ensures.end) info (ap (λ ts. slice_get ts s.track) c.tracks-tracks.ensures ∙ is)) in
-    let own = read_at c.args.reductions.now.of_tracks.items c.in-Some.turn.track (track_reduction c.args.reductions.now.leaving tree t.t) c.index-reduction.result.now
-    (reduced_there c.args.reductions.now.leaving tree c.args.reductions.now.of_tracks.items c.in-Some.turn.track t.t by (ap (λ k. slice_get tree.movie.tracks k) t.place ∙ t.is_tree)) c.index-reduction.ensures in
+    let t = has_turn c.args.content.now.leaving file tree m s c.loop-turn.plan.walks.items c.loop-turn.plan.nexts.items h.lefts h.comings o h.at turn.track c.index_mut-walk.result.now turn.end turn.id at c.index_mut-walk.ensures.value i.0.count
+    (rw (c.tracks-tracks.ensures ∙ c.requires.content.tracks) at c.in-Some.ensures.own) in
+    let own = one_there c.args.content.now.of_tracks.items c.in-Some.turn.track _ _ c.reduction-reduction.ensures (reduced_there c.args.content.now.leaving tree c.args.content.now.of_tracks.items c.in-Some.turn.track t.t by (ap (λ k. slice_get tree.movie.tracks k) t.place ∙ t.is_tree)) in
     rw (e.1, e.2) ((rw (i.5, i.2, own) at c.in_err-count.ensures.unchanged) told tree t.t t.left o t.comes t.few)
 
 pub loop-turn-preserved : goal.loop-turn-preserved
@@ -77,8 +73,8 @@ loop-turn-preserved g c =
     let nexts = c.loop-turn.plan.nexts.items in
     let p = c.in_ok-count.ensures in
     let few = p.few in
-    let due_at = (rw (c.tracks-tracks.ensures, i.13) at c.in_ok-pass.ensures.due) nexts i.10.times in
-    let due_next = subst (λ k. IsDueAt (infos_left c.args.reductions.now.leaving m.tracks) (slice_set nexts k c.count_turn.new.next) c.pass.new.self c.pass.new.due) (sym c.in-Some.ensures.track.0) due_at in (
+    let due_at = (rw (c.tracks-tracks.ensures ∙ c.requires.content.tracks) at c.in_ok-pass.ensures.due) nexts i.10.times in
+    let due_next = subst (λ k. IsDueAt (tracks_left c.args.content.now.leaving m.tracks) (slice_set nexts k c.count_turn.new.next) c.pass.new.self c.pass.new.due) (sym c.in-Some.ensures.track.0) due_at in (
       walks_set m walks c.in-Some.turn.track c.count_turn.new.walk i.0 p.loads.walk.walk,
       c.in_ok-pass.ensures.tracks ∙ i.1,
       p.loads.store.file ∙ i.2,
@@ -89,15 +85,14 @@ loop-turn-preserved g c =
           let turn = c.in-Some.turn in
           let at = c.in-Some.ensures.track in
           let h = i.6 told tree o by near in
-          let t = has_turn c.args.reductions.now.leaving file tree m s walks nexts h.lefts h.comings o h.at turn.track c.index_mut-walk.result.now turn.end at c.index_mut-walk.ensures.value i.0.count
-          (λ info is. (rw i.13 at c.in-Some.ensures.end) info (ap (λ ts. slice_get ts s.track) c.tracks-tracks.ensures ∙ is)) in
+          let t = has_turn c.args.content.now.leaving file tree m s walks nexts h.lefts h.comings o h.at turn.track c.index_mut-walk.result.now turn.end turn.id at c.index_mut-walk.ensures.value i.0.count
+          (rw (c.tracks-tracks.ensures ∙ c.requires.content.tracks) at c.in-Some.ensures.own) in
           let first = read_at nexts turn.track (slice_get t.left 0) c.index_mut-next.result.now (ap (λ k. slice_get nexts k) t.place ∙ t.shown) c.index_mut-next.ensures.value in
-          let own = read_at c.args.reductions.now.of_tracks.items c.in-Some.turn.track (track_reduction c.args.reductions.now.leaving tree t.t) c.index-reduction.result.now
-          (reduced_there c.args.reductions.now.leaving tree c.args.reductions.now.of_tracks.items c.in-Some.turn.track t.t by (ap (λ k. slice_get tree.movie.tracks k) t.place ∙ t.is_tree)) c.index-reduction.ensures in
+          let own = one_there c.args.content.now.of_tracks.items c.in-Some.turn.track _ _ c.reduction-reduction.ensures (reduced_there c.args.content.now.leaving tree c.args.content.now.of_tracks.items c.in-Some.turn.track t.t by (ap (λ k. slice_get tree.movie.tracks k) t.place ∙ t.is_tree)) in
           let counted = (rw (i.5, i.2, own) at p.counted) told tree t.t t.left o t.comes first in
-          longest_skips c.args.reductions.now.leaving file tree m (turned s turn.end c.in_ok-count.count c.count_turn.new.next) c.pass.new.self (slice_set walks turn.track c.count_turn.new.walk) (slice_set nexts turn.track c.count_turn.new.next)
+          longest_skips c.args.content.now.leaving file tree m (turned s turn.end c.in_ok-count.count c.count_turn.new.next) c.pass.new.self (slice_set walks turn.track c.count_turn.new.walk) (slice_set nexts turn.track c.count_turn.new.next)
           c.pass.new.due o c.in_ok-pass.ensures.turned due_next c.max-longest.result
-          (longest_next c.args.reductions.now.leaving file tree m s walks nexts h.lefts h.comings o h.at turn.track c.index_mut-walk.result.now turn.end t at.1 c.count_turn.new.walk c.in_ok-count.count c.count_turn.new.next (turned s turn.end c.in_ok-count.count c.count_turn.new.next)
+          (longest_next c.args.content.now.leaving file tree m s walks nexts h.lefts h.comings o h.at turn.track c.index_mut-walk.result.now turn.end t at.1 c.count_turn.new.walk c.in_ok-count.count c.count_turn.new.next (turned s turn.end c.in_ok-count.count c.count_turn.new.next)
           (piece_size_is turn.end t.left
           c.in_ok-count.count counted.counts) counted.comes counted.shown refl c.loop-turn.longest c.max-longest.result h.longest c.max-longest.ensures),
       λ told tree o.
@@ -111,7 +106,6 @@ loop-turn-preserved g c =
       due_next,
       c.in_ok-pass.ensures.some,
       (let more = p.grows in let so = i.12 in let same = c.in-Some.ensures.passed in omega (arith, more, so, same)),
-      c.in_ok-pass.ensures.leaving ∙ i.13,
     )
 
 pub returns-in_err-pass-clause-unchanged : goal.returns-in_err-pass-clause-unchanged
@@ -126,25 +120,22 @@ returns-in_err-pass-clause-unchanged g c told tree o by near =
     let turn = c.in-Some.turn in
     let at = c.in-Some.ensures.track in
     let h = i.6 told tree o by near in
-    let t = has_turn c.args.reductions.now.leaving file tree m s walks nexts h.lefts h.comings o h.at turn.track c.index_mut-walk.result.now turn.end at c.index_mut-walk.ensures.value i.0.count
-    (λ info is. (rw i.13 at c.in-Some.ensures.end) info (ap (λ ts. slice_get ts s.track) c.tracks-tracks.ensures ∙ is)) in
+    let t = has_turn c.args.content.now.leaving file tree m s walks nexts h.lefts h.comings o h.at turn.track c.index_mut-walk.result.now turn.end turn.id at c.index_mut-walk.ensures.value i.0.count
+    (rw (c.tracks-tracks.ensures ∙ c.requires.content.tracks) at c.in-Some.ensures.own) in
     let first = read_at nexts turn.track (slice_get t.left 0) c.index_mut-next.result.now (ap (λ k. slice_get nexts k) t.place ∙ t.shown) c.index_mut-next.ensures.value in
-    let own = read_at c.args.reductions.now.of_tracks.items c.in-Some.turn.track (track_reduction c.args.reductions.now.leaving tree t.t) c.index-reduction.result.now
-    (reduced_there c.args.reductions.now.leaving tree c.args.reductions.now.of_tracks.items c.in-Some.turn.track t.t by (ap (λ k. slice_get tree.movie.tracks k) t.place ∙ t.is_tree)) c.index-reduction.ensures in
+    let own = one_there c.args.content.now.of_tracks.items c.in-Some.turn.track _ _ c.reduction-reduction.ensures (reduced_there c.args.content.now.leaving tree c.args.content.now.of_tracks.items c.in-Some.turn.track t.t by (ap (λ k. slice_get tree.movie.tracks k) t.place ∙ t.is_tree)) in
     let counted = (rw (i.5, i.2, own) at p.counted) told tree t.t t.left o t.comes first in
     let is = piece_size_is turn.end t.left c.in_ok-count.count counted.counts in
-    let sticks = subst (λ (l : Without). (nexts : List (Option SampleAt)) → AreTimes (infos_left l m.tracks) nexts s.first c.loop-turn.plan.due
-    → Sticks s c.in_ok-count.count c.count_turn.new.next ⊎ FindsMore (infos_left l m.tracks) (slice_set nexts s.track c.count_turn.new.next) (turned s turn.end c.in_ok-count.count c.count_turn.new.next) c.pass.new.self c.pass.new.due) i.13 (rw c.tracks-tracks.ensures at c.in_err-pass.ensures.sticks)
-    in
+    let sticks = rw (c.tracks-tracks.ensures ∙ c.requires.content.tracks) at c.in_err-pass.ensures.sticks in
     absurd (either (sticks nexts i.10.times)
-    (turn_leads c.args.reductions.now.leaving file tree m s walks nexts h.lefts h.comings o h.at turn.track c.index_mut-walk.result.now turn.end t at.1 c.in_ok-count.count c.count_turn.new.next c.loop-turn.plan.due is counted.shown i.10)
-    (no_more c.args.reductions.now.leaving file tree m s walks nexts h.lefts h.comings o h.at turn.track c.index_mut-walk.result.now turn.end t at.1 c.count_turn.new.walk c.in_ok-count.count c.count_turn.new.next (turned s turn.end c.in_ok-count.count c.count_turn.new.next)
+    (turn_leads c.args.content.now.leaving file tree m s walks nexts h.lefts h.comings o h.at turn.track c.index_mut-walk.result.now turn.end t at.1 c.in_ok-count.count c.count_turn.new.next c.loop-turn.plan.due is counted.shown i.10)
+    (no_more c.args.content.now.leaving file tree m s walks nexts h.lefts h.comings o h.at turn.track c.index_mut-walk.result.now turn.end t at.1 c.count_turn.new.walk c.in_ok-count.count c.count_turn.new.next (turned s turn.end c.in_ok-count.count c.count_turn.new.next)
     is counted.comes counted.shown refl c.pass.new.due c.pass.new.self))
 
 pub returns-clause-longest : goal.returns-clause-longest
 returns-clause-longest g c told tree o by near =
     let i = c.loop-turn.invariant in
-    longest_end c.args.reductions.now.leaving (g.S.Store.file c.args.store.now) tree c.args.movie.now c.loop-turn.plan.schedule c.loop-turn.plan.walks.items c.loop-turn.plan.nexts.items c.loop-turn.longest (i.6 told tree o by near) (c.in_default.ensures.none refl)
+    longest_end c.args.content.now.leaving (g.S.Store.file c.args.store.now) tree c.args.movie.now c.loop-turn.plan.schedule c.loop-turn.plan.walks.items c.loop-turn.plan.nexts.items c.loop-turn.longest (i.6 told tree o by near) (c.in_default.ensures.none refl)
 
 pub returns-in_err-count-clause-work : goal.returns-in_err-count-clause-work
 returns-in_err-count-clause-work g c told tree o =

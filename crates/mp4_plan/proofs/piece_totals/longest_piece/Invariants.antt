@@ -2,7 +2,8 @@ use Rattle.std.specs.Prelude.{IsTrue}
 use Rattle.std.proofs.Common.{◌≡◌, ◌+◌, ◌^◌, ◌≤◌, length}
 use Rattle.mp4_present.specs.format.Denotes.{FileTree, presentation_of}
 use Rattle.mp4_present.specs.words.OpenedMovie.{IsOpenedAs}
-use Rattle.mp4_plan.specs.words.Turns.{IsSomeLeft, infos_left, movie_turns, turns_left}
+use Rattle.mp4_plan.specs.words.Turns.{IsSomeLeft, movie_turns, turns_left}
+use Rattle.mp4_content.specs.words.Contents.{tracks_left}
 use Rattle.mp4_plan.specs.words.DueTracks.{IsDueAt}
 use Rattle.mp4_plan.specs.words.Writers.{AreWalksOf}
 use Rattle.mp4_content.specs.words.ComingLess.{reductions_of}
@@ -21,12 +22,11 @@ invariant-loop-turn g l =
     × (g.S.Store.read_failures l.store ≡ g.S.Store.read_failures l.fn.store)
     × (l.longest ≤ 2 ^ 24)
     × (g.S.Store.is_honest l.store ≡ g.S.Store.is_honest l.fn.store)
-    × (IsTrue (g.S.Store.is_honest l.fn.store) → (tree : FileTree) → IsOpenedAs (g.S.Store.file l.fn.store) l.movie tree → l.reductions.of_tracks.items ≡ reductions_of l.reductions.leaving tree → ReducesInRange l.reductions.leaving (presentation_of (g.S.Store.file l.fn.store) tree)
-    → IsLongest l.reductions.leaving (g.S.Store.file l.fn.store) tree l.movie l.plan.schedule l.plan.walks.items l.plan.nexts.items l.longest)
+    × (IsTrue (g.S.Store.is_honest l.fn.store) → (tree : FileTree) → IsOpenedAs (g.S.Store.file l.fn.store) l.movie tree → l.content.of_tracks.items ≡ reductions_of l.content.leaving tree → ReducesInRange l.content.leaving (presentation_of (g.S.Store.file l.fn.store) tree)
+    → IsLongest l.content.leaving (g.S.Store.file l.fn.store) tree l.movie l.plan.schedule l.plan.walks.items l.plan.nexts.items l.longest)
     × (IsTrue (g.S.Store.is_honest l.fn.store) → (tree : FileTree) → IsOpenedAs (g.S.Store.file l.fn.store) l.movie tree → AllTakeOn (g.S.Store.file l.fn.store) tree (walks_steps tree) l.plan.walks.items l.fn.steps.passed l.steps.passed)
     × (length l.plan.nexts.items ≡ length l.movie.tracks) × (l.steps.looks + turns_left l.plan.schedule ≤ l.fn.steps.looks + movie_turns l.movie)
-    × IsDueAt (infos_left l.reductions.leaving l.movie.tracks) l.plan.nexts.items l.plan.schedule l.plan.due × IsSomeLeft l.plan.schedule × (l.fn.steps.passed ≤ l.steps.passed)
-    × (l.plan.schedule.leaving ≡ l.reductions.leaving)
+    × IsDueAt (tracks_left l.content.leaving l.movie.tracks) l.plan.nexts.items l.plan.schedule l.plan.due × IsSomeLeft l.plan.schedule × (l.fn.steps.passed ≤ l.steps.passed)
 
 abbrev pub decreases-loop-turn : goal.decreases-loop-turn
 decreases-loop-turn g l = turns_left l.plan.schedule

@@ -1,20 +1,18 @@
-use Rattle.mp4_content.specs.declared.without.Without.{Without}
-use Rattle.std.proofs.Common.{rules, ◌⊎◌, List, Option, ◌<◌, slice_set, get_or, length, arith, ap, sym, subst, refl, ◌∙◌, slice_get}
+use Rattle.std.proofs.Common.{rules, ◌<◌, slice_set, get_or, length, arith, ap, sym, subst, refl, ◌∙◌, slice_get}
 use Rattle.std.proofs.lemmas.Result.{err_from_is_err_and}
 use Rattle.std.proofs.lemmas.Option.{slice_get_read}
 use Rattle.mp4_tables.specs.words.Keys.{keys_seen}
 use Rattle.mp4_present.specs.declared.track_info.TrackInfo.{TrackInfo}
 use Rattle.mp4_present.specs.words.WalkSteps.{walks_steps}
-use Rattle.mp4_content.specs.words.ComingLess.{track_reduction}
 use Rattle.mp4_plan.specs.declared.planner.Planned.{Planned}
 use Rattle.mp4_plan.proofs.AllTake.{one_takes, one_stops}
-use Rattle.mp4_content.proofs.AtPlaces.{read_at}
+use Rattle.mp4_content.proofs.AtPlaces.{one_there, read_at}
 use Rattle.mp4_plan.proofs.PieceCounts.{piece_counts}
 use Rattle.mp4_plan.proofs.Planning.{reduced_there, walks_set}
 use Rattle.mp4_plan.proofs.PlannedTurns.{Adds, kept_there, has_turn, no_more, turn_leads, length_first, length_end, length_next, length_skips}
-use Rattle.mp4_plan.specs.words.Turns.{Sticks, infos_left, movie_turns, turned}
-use Rattle.mp4_plan.specs.words.DueTracks.{AreTimes, FindsMore, IsDueAt}
-use Rattle.mp4_tables.specs.declared.sample.SampleAt.{SampleAt}
+use Rattle.mp4_plan.specs.words.Turns.{movie_turns, turned}
+use Rattle.mp4_content.specs.words.Contents.{tracks_left}
+use Rattle.mp4_plan.specs.words.DueTracks.{IsDueAt}
 use Rattle.mp4_plan.proofs.LooksOn.{begins_within, looks_on, looks_within}
 use Rattle.mp4_plan.proofs.SkippedTurns.{either}
 use Rattle.mp4_plan.proofs.StepsOn.{all_taken, all_then, all_then_stop}
@@ -23,7 +21,7 @@ use Rattle.mp4_plan.proofs.piece_totals.pieces_len.Goals as goal
 pub loop-turn-init : goal.loop-turn-init
 loop-turn-init g c =
     let m = c.args.movie.now in
-    let l = c.args.reductions.now.leaving in
+    let l = c.args.content.now.leaving in
     let plan = c.in_ok-plan.plan in
     let e = c.in_ok-plan.ensures in
     let b = e.begins in
@@ -42,7 +40,6 @@ loop-turn-init g c =
       b.due,
       λ some lt. (let first = s.track in absurd (omega (arith, some, first))),
       e.grows,
-      s.leaving,
     )
 
 pub returns-in_err-plan-clause-unchanged : goal.returns-in_err-plan-clause-unchanged
@@ -63,10 +60,9 @@ returns-in_err-planned-clause-unchanged g c told tree o by near =
     let turn = c.in-Some.turn in
     let at = c.in-Some.ensures.track in
     let h = i.5 told tree o by near in
-    let t = has_turn c.args.reductions.now.leaving file tree m s c.loop-turn.plan.walks.items c.loop-turn.plan.nexts.items h.lefts h.comings o h.at turn.track c.index_mut-walk.result.now turn.end at c.index_mut-walk.ensures.value i.0.count
-    (λ info is. (rw i.12 at c.in-Some.ensures.end) info (ap (λ ts. slice_get ts s.track) c.tracks-tracks.ensures ∙ is)) in
-    let own = read_at c.args.reductions.now.of_tracks.items c.in-Some.turn.track (track_reduction c.args.reductions.now.leaving tree t.t) c.index-reduction.result.now
-    (reduced_there c.args.reductions.now.leaving tree c.args.reductions.now.of_tracks.items c.in-Some.turn.track t.t by (ap (λ k. slice_get tree.movie.tracks k) t.place ∙ t.is_tree)) c.index-reduction.ensures in
+    let t = has_turn c.args.content.now.leaving file tree m s c.loop-turn.plan.walks.items c.loop-turn.plan.nexts.items h.lefts h.comings o h.at turn.track c.index_mut-walk.result.now turn.end turn.id at c.index_mut-walk.ensures.value i.0.count
+    (rw (c.tracks-tracks.ensures ∙ c.requires.content.tracks) at c.in-Some.ensures.own) in
+    let own = one_there c.args.content.now.of_tracks.items c.in-Some.turn.track _ _ c.reduction-reduction.ensures (reduced_there c.args.content.now.leaving tree c.args.content.now.of_tracks.items c.in-Some.turn.track t.t by (ap (λ k. slice_get tree.movie.tracks k) t.place ∙ t.is_tree)) in
     rw (e.1, e.2) ((rw (i.4, i.2, own) at c.in_err-planned.ensures.unchanged) told tree t.t t.left o t.comes t.few)
 
 pub loop-turn-preserved : goal.loop-turn-preserved
@@ -79,8 +75,8 @@ loop-turn-preserved g c =
     let nexts = c.loop-turn.plan.nexts.items in
     let p = c.in_ok-planned.ensures in
     let bounds = p.bounds in
-    let due_at = (rw (c.tracks-tracks.ensures, i.12) at c.in_ok-pass.ensures.due) nexts i.9.times in
-    let due_next = subst (λ k. IsDueAt (infos_left c.args.reductions.now.leaving m.tracks) (slice_set nexts k c.plan_turn.new.next) c.pass.new.self c.pass.new.due) (sym c.in-Some.ensures.track.0) due_at in (
+    let due_at = (rw (c.tracks-tracks.ensures ∙ c.requires.content.tracks) at c.in_ok-pass.ensures.due) nexts i.9.times in
+    let due_next = subst (λ k. IsDueAt (tracks_left c.args.content.now.leaving m.tracks) (slice_set nexts k c.plan_turn.new.next) c.pass.new.self c.pass.new.due) (sym c.in-Some.ensures.track.0) due_at in (
       walks_set m walks c.in-Some.turn.track c.plan_turn.new.walk i.0 p.loads.walk.walk,
       c.in_ok-pass.ensures.tracks ∙ i.1,
       p.loads.store.file ∙ i.2,
@@ -90,19 +86,18 @@ loop-turn-preserved g c =
           let turn = c.in-Some.turn in
           let at = c.in-Some.ensures.track in
           let h = i.5 told tree o by near in
-          let t = has_turn c.args.reductions.now.leaving file tree m s walks nexts h.lefts h.comings o h.at turn.track c.index_mut-walk.result.now turn.end at c.index_mut-walk.ensures.value i.0.count
-          (λ info is. (rw i.12 at c.in-Some.ensures.end) info (ap (λ ts. slice_get ts s.track) c.tracks-tracks.ensures ∙ is)) in
+          let t = has_turn c.args.content.now.leaving file tree m s walks nexts h.lefts h.comings o h.at turn.track c.index_mut-walk.result.now turn.end turn.id at c.index_mut-walk.ensures.value i.0.count
+          (rw (c.tracks-tracks.ensures ∙ c.requires.content.tracks) at c.in-Some.ensures.own) in
           let first = read_at nexts turn.track (slice_get t.left 0) c.index_mut-next.result.now (ap (λ k. slice_get nexts k) t.place ∙ t.shown) c.index_mut-next.ensures.value in
-          let own = read_at c.args.reductions.now.of_tracks.items c.in-Some.turn.track (track_reduction c.args.reductions.now.leaving tree t.t) c.index-reduction.result.now
-          (reduced_there c.args.reductions.now.leaving tree c.args.reductions.now.of_tracks.items c.in-Some.turn.track t.t by (ap (λ k. slice_get tree.movie.tracks k) t.place ∙ t.is_tree)) c.index-reduction.ensures in
+          let own = one_there c.args.content.now.of_tracks.items c.in-Some.turn.track _ _ c.reduction-reduction.ensures (reduced_there c.args.content.now.leaving tree c.args.content.now.of_tracks.items c.in-Some.turn.track t.t by (ap (λ k. slice_get tree.movie.tracks k) t.place ∙ t.is_tree)) in
           let planned = (rw (i.4, i.2, own) at p.planned) told tree t.t t.left o t.comes first in
           let count = ap (λ (q : Planned). q.count) planned.0 ∙ piece_counts turn.end t.left in
-          let there = get_or c.tracks-tracks.result.now turn.track c.index-tracks-turn.result in
-          let kept = sym c.index-tracks-turn.is ∙ kept_there m.tracks turn.track s.track t.info c.index-tracks-turn.result t.place t.is_info (rw c.tracks-tracks.ensures at c.index-tracks-turn.is) in
+          let there = get_or c.tracks-infos.result.now turn.track c.index-infos-turn.result in
+          let kept = sym c.index-infos-turn.is ∙ kept_there m.tracks turn.track s.track t.info c.index-infos-turn.result t.place t.is_info (rw c.tracks-infos.ensures at c.index-infos-turn.is) in
           let adds : Adds (keys_seen there.keys) c.in_ok-planned.planned c.loop-turn.len c.len_with-len.result = record { none = c.len_with-len.ensures.none; some = c.len_with-len.ensures.some } in
-          length_skips c.args.reductions.now.leaving file tree m (turned s turn.end c.in_ok-planned.planned.count c.plan_turn.new.next) c.pass.new.self (slice_set walks turn.track c.plan_turn.new.walk) (slice_set nexts turn.track c.plan_turn.new.next)
+          length_skips c.args.content.now.leaving file tree m (turned s turn.end c.in_ok-planned.planned.count c.plan_turn.new.next) c.pass.new.self (slice_set walks turn.track c.plan_turn.new.walk) (slice_set nexts turn.track c.plan_turn.new.next)
           c.pass.new.due o c.in_ok-pass.ensures.turned due_next c.len_with-len.result
-          (length_next c.args.reductions.now.leaving file tree m s walks nexts h.lefts h.comings o h.at turn.track c.index_mut-walk.result.now turn.end t at.1 c.plan_turn.new.walk c.in_ok-planned.planned.count c.plan_turn.new.next
+          (length_next c.args.content.now.leaving file tree m s walks nexts h.lefts h.comings o h.at turn.track c.index_mut-walk.result.now turn.end t at.1 c.plan_turn.new.walk c.in_ok-planned.planned.count c.plan_turn.new.next
           (turned s turn.end c.in_ok-planned.planned.count c.plan_turn.new.next)
           count planned.1 planned.2 refl
           c.loop-turn.len c.len_with-len.result h.number c.in_ok-planned.planned refl planned.0 (record { few = record { count = bounds.few; rows = bounds.rows }; bytes = bounds.bytes }) (subst (λ (info : TrackInfo). Adds (keys_seen info.keys) c.in_ok-planned.planned
@@ -118,7 +113,6 @@ loop-turn-preserved g c =
       due_next,
       c.in_ok-pass.ensures.some,
       (let more = p.grows in let so = i.11 in let same = c.in-Some.ensures.passed in omega (arith, more, so, same)),
-      c.in_ok-pass.ensures.leaving ∙ i.12,
     )
 
 pub returns-in_err-pass-clause-unchanged : goal.returns-in_err-pass-clause-unchanged
@@ -133,25 +127,22 @@ returns-in_err-pass-clause-unchanged g c told tree o by near =
     let turn = c.in-Some.turn in
     let at = c.in-Some.ensures.track in
     let h = i.5 told tree o by near in
-    let t = has_turn c.args.reductions.now.leaving file tree m s walks nexts h.lefts h.comings o h.at turn.track c.index_mut-walk.result.now turn.end at c.index_mut-walk.ensures.value i.0.count
-    (λ info is. (rw i.12 at c.in-Some.ensures.end) info (ap (λ ts. slice_get ts s.track) c.tracks-tracks.ensures ∙ is)) in
+    let t = has_turn c.args.content.now.leaving file tree m s walks nexts h.lefts h.comings o h.at turn.track c.index_mut-walk.result.now turn.end turn.id at c.index_mut-walk.ensures.value i.0.count
+    (rw (c.tracks-tracks.ensures ∙ c.requires.content.tracks) at c.in-Some.ensures.own) in
     let first = read_at nexts turn.track (slice_get t.left 0) c.index_mut-next.result.now (ap (λ k. slice_get nexts k) t.place ∙ t.shown) c.index_mut-next.ensures.value in
-    let own = read_at c.args.reductions.now.of_tracks.items c.in-Some.turn.track (track_reduction c.args.reductions.now.leaving tree t.t) c.index-reduction.result.now
-    (reduced_there c.args.reductions.now.leaving tree c.args.reductions.now.of_tracks.items c.in-Some.turn.track t.t by (ap (λ k. slice_get tree.movie.tracks k) t.place ∙ t.is_tree)) c.index-reduction.ensures in
+    let own = one_there c.args.content.now.of_tracks.items c.in-Some.turn.track _ _ c.reduction-reduction.ensures (reduced_there c.args.content.now.leaving tree c.args.content.now.of_tracks.items c.in-Some.turn.track t.t by (ap (λ k. slice_get tree.movie.tracks k) t.place ∙ t.is_tree)) in
     let planned = (rw (i.4, i.2, own) at p.planned) told tree t.t t.left o t.comes first in
     let count = ap (λ (q : Planned). q.count) planned.0 ∙ piece_counts turn.end t.left in
-    let sticks = subst (λ (l : Without). (nexts : List (Option SampleAt)) → AreTimes (infos_left l m.tracks) nexts s.first c.loop-turn.plan.due
-    → Sticks s c.in_ok-planned.planned.count c.plan_turn.new.next ⊎ FindsMore (infos_left l m.tracks) (slice_set nexts s.track c.plan_turn.new.next) (turned s turn.end c.in_ok-planned.planned.count c.plan_turn.new.next) c.pass.new.self c.pass.new.due) i.12
-    (rw c.tracks-tracks.ensures at c.in_err-pass.ensures.sticks) in
+    let sticks = rw (c.tracks-tracks.ensures ∙ c.requires.content.tracks) at c.in_err-pass.ensures.sticks in
     absurd (either (sticks nexts i.9.times)
-    (turn_leads c.args.reductions.now.leaving file tree m s walks nexts h.lefts h.comings o h.at turn.track c.index_mut-walk.result.now turn.end t at.1 c.in_ok-planned.planned.count c.plan_turn.new.next c.loop-turn.plan.due count planned.2 i.9)
-    (no_more c.args.reductions.now.leaving file tree m s walks nexts h.lefts h.comings o h.at turn.track c.index_mut-walk.result.now turn.end t at.1 c.plan_turn.new.walk c.in_ok-planned.planned.count c.plan_turn.new.next (turned s turn.end c.in_ok-planned.planned.count c.plan_turn.new.next)
+    (turn_leads c.args.content.now.leaving file tree m s walks nexts h.lefts h.comings o h.at turn.track c.index_mut-walk.result.now turn.end t at.1 c.in_ok-planned.planned.count c.plan_turn.new.next c.loop-turn.plan.due count planned.2 i.9)
+    (no_more c.args.content.now.leaving file tree m s walks nexts h.lefts h.comings o h.at turn.track c.index_mut-walk.result.now turn.end t at.1 c.plan_turn.new.walk c.in_ok-planned.planned.count c.plan_turn.new.next (turned s turn.end c.in_ok-planned.planned.count c.plan_turn.new.next)
     count planned.1 planned.2 refl c.pass.new.due c.pass.new.self))
 
 pub returns-clause-length : goal.returns-clause-length
 returns-clause-length g c told tree o by near =
     let i = c.loop-turn.invariant in
-    length_end c.args.reductions.now.leaving (g.S.Store.file c.args.store.now) tree c.args.movie.now c.loop-turn.plan.schedule c.loop-turn.plan.walks.items c.loop-turn.plan.nexts.items c.loop-turn.len (i.5 told tree o by near) (c.in_default.ensures.none refl)
+    length_end c.args.content.now.leaving (g.S.Store.file c.args.store.now) tree c.args.movie.now c.loop-turn.plan.schedule c.loop-turn.plan.walks.items c.loop-turn.plan.nexts.items c.loop-turn.len (i.5 told tree o by near) (c.in_default.ensures.none refl)
 
 pub returns-in_err-planned-clause-work : goal.returns-in_err-planned-clause-work
 returns-in_err-planned-clause-work g c told tree o =

@@ -22,7 +22,7 @@ returns-in_err-writer-clause-prefix g c = λ told tree o.
 
 pub returns-clause-bytes : goal.returns-clause-bytes
 returns-clause-bytes g c = λ told tree o.
-    let bytes = still_opened _ _ _ _ c.args.movie.now (λ file t. IsReady file t c.args.movie.now c.in_ok-writer.writer → OnOk c.write.result (g.K.Sink.takes c.args.sink.now c.write.new.sink (normal (reduce c.in_ok-writer.writer.reductions.leaving (presentation_of file t)))))
+    let bytes = still_opened _ _ _ _ c.args.movie.now (λ file t. IsReady file t c.args.movie.now c.in_ok-writer.writer → OnOk c.write.result (g.K.Sink.takes c.args.sink.now c.write.new.sink (normal (reduce c.in_ok-writer.writer.content.leaving (presentation_of file t)))))
     c.in_ok-writer.ensures.store.honesty c.in_ok-writer.ensures.store.file c.write.ensures.bytes in
     subst (λ (l : Without). OnOk c.write.result (g.K.Sink.takes c.args.sink.now c.write.new.sink (normal (reduce l (presentation_of (g.S.Store.file c.args.store.now) tree)))))
     c.in_ok-writer.ensures.made.left (bytes told tree o (c.in_ok-writer.ensures.ready told tree o).ready)
@@ -30,7 +30,7 @@ returns-clause-bytes g c = λ told tree o.
 pub returns-clause-prefix : goal.returns-clause-prefix
 returns-clause-prefix g c = λ told tree o.
     let prefix = still_opened _ _ _ _ c.args.movie.now (λ file t. IsReady file t c.args.movie.now c.in_ok-writer.writer
-    → OnErr c.write.result (TakesPrefix (g.K.Sink.takes c.args.sink.now c.write.new.sink) (normal (reduce c.in_ok-writer.writer.reductions.leaving (presentation_of file t)))))
+    → OnErr c.write.result (TakesPrefix (g.K.Sink.takes c.args.sink.now c.write.new.sink) (normal (reduce c.in_ok-writer.writer.content.leaving (presentation_of file t)))))
     c.in_ok-writer.ensures.store.honesty c.in_ok-writer.ensures.store.file c.write.ensures.prefix in
     subst (λ (l : Without). OnErr c.write.result (TakesPrefix (g.K.Sink.takes c.args.sink.now c.write.new.sink) (normal (reduce l (presentation_of (g.S.Store.file c.args.store.now) tree)))))
     c.in_ok-writer.ensures.made.left (prefix told tree o (c.in_ok-writer.ensures.ready told tree o).ready)

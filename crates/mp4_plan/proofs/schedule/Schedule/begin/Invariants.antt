@@ -1,7 +1,6 @@
 use Rattle.std.proofs.Common.{◌≡◌, ◌<◌, ℕ, Some, Option, slice_get}
 use Rattle.mp4_tables.specs.declared.sample.SampleAt.{SampleAt}
-use Rattle.mp4_present.specs.declared.track_info.TrackInfo.{TrackInfo}
-use Rattle.mp4_content.specs.format.Reduced.{timescale_left}
+use Rattle.mp4_content.specs.declared.content.TrackLeft.{TrackLeft}
 use Rattle.mp4_plan.specs.words.DueTracks.{IsDue, IsDueTree, leaf}
 use Rattle.mp4_plan.proofs.schedule.Schedule.begin.Given as goal
 
@@ -10,5 +9,5 @@ abbrev pub invariant-loop-k : goal.invariant-loop-k
 invariant-loop-k l = record {
   tree : IsDueTree l.due;
   many : l.due.leaves ≡ l.self.tracks;
-  times : (k : ℕ) (info : TrackInfo) (next : Option SampleAt) → 0 < k → k < l.k → slice_get l.tracks k ≡ Some info → slice_get l.nexts k ≡ Some next → IsDue l.self.first (timescale_left l.self.leaving info.timescale) next (leaf l.due k);
+  times : (k : ℕ) (track : TrackLeft) (next : Option SampleAt) → 0 < k → k < l.k → slice_get l.tracks k ≡ Some track → slice_get l.nexts k ≡ Some next → IsDue l.self.first track.timescale next (leaf l.due k);
 }

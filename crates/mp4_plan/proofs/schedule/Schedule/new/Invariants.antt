@@ -1,7 +1,7 @@
 use Rattle.std.proofs.Common.{◌≡◌, ◌*◌, ◌≤◌, take}
 use Rattle.std.specs.List.{sum_by}
-use Rattle.mp4_present.specs.declared.track_info.TrackInfo.{TrackInfo}
+use Rattle.mp4_content.specs.declared.content.TrackLeft.{TrackLeft}
 use Rattle.mp4_plan.proofs.schedule.Schedule.new.Given as goal
 
 abbrev pub invariant-loop-track : goal.invariant-loop-track
-invariant-loop-track l = (l.left ≡ sum_by (λ (i : TrackInfo). i.samples) (take l.track-index l.tracks)) × (l.left ≤ l.track-index * 4294967295)
+invariant-loop-track l = (l.left ≡ sum_by (λ (i : TrackLeft). i.samples) (take l.track-index l.tracks)) × (l.left ≤ l.track-index * 4294967295)

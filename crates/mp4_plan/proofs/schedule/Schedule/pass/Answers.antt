@@ -1,22 +1,16 @@
-use Rattle.std.proofs.Common.{rules, arith, ◌≡◌, sym, subst, ap, ◌∙◌, inl, inr, slice_set, get_or}
-use Rattle.mp4_present.specs.declared.track_info.TrackInfo.{TrackInfo}
-use Rattle.mp4_content.specs.format.Reduced.{timescale_left}
-use Rattle.mp4_plan.specs.words.Turns.{info_left, infos_left}
-use Rattle.mp4_plan.proofs.InfosLeft.{as_many_left, info_of}
+use Rattle.std.proofs.Common.{rules, arith, ◌≡◌, sym, subst, ap, ◌∙◌, inl, inr, slice_set}
+use Rattle.mp4_content.specs.declared.content.TrackLeft.{TrackLeft}
 use Rattle.mp4_plan.specs.words.DueTracks.{AreTimes, IsDue, Skips}
 use Rattle.mp4_plan.specs.declared.schedule.Schedule.{Schedule}
 use Rattle.mp4_plan.specs.declared.due_tracks.DueTracks.{DueTracks}
 use Rattle.std.proofs.lemmas.Result.{err_from_is_err_and}
-use Rattle.mp4_content.proofs.AtPlaces.{read_at}
+use Rattle.mp4_content.proofs.AtPlaces.{at_place}
 use Rattle.mp4_plan.proofs.DueTurns.{skips_keep, turn_keeps, turned_keeps, times_set, times_first}
 use Rattle.mp4_plan.proofs.schedule.Schedule.pass.Goals.{then-track-gt0, else-track-gt0}
 use Rattle.mp4_plan.proofs.schedule.Schedule.pass.Goals as goal
 
 pub returns-clause-tracks : goal.returns-clause-tracks
 returns-clause-tracks c = (turn_keeps c.if-track-gt0.due c.args.self.now c.take.new.self c.skip.new.self c.args.turn.now.end c.args.count c.args.sample c.in_ok-take.ensures.turned c.skip.ensures.skips).0
-
-pub returns-clause-leaving : goal.returns-clause-leaving
-returns-clause-leaving c = (turn_keeps c.if-track-gt0.due c.args.self.now c.take.new.self c.skip.new.self c.args.turn.now.end c.args.count c.args.sample c.in_ok-take.ensures.turned c.skip.ensures.skips).3
 
 pub returns-clause-left : goal.returns-clause-left
 returns-clause-left c = (turn_keeps c.if-track-gt0.due c.args.self.now c.take.new.self c.skip.new.self c.args.turn.now.end c.args.count c.args.sample c.in_ok-take.ensures.turned c.skip.ensures.skips).2
@@ -31,21 +25,17 @@ pub returns-clause-due : goal.returns-clause-due
 returns-clause-due c nexts times =
     let s = c.args.self.now in
     let k = turn_keeps c.if-track-gt0.due s c.take.new.self c.skip.new.self c.args.turn.now.end c.args.count c.args.sample c.in_ok-take.ensures.turned c.skip.ensures.skips in
-    let l = s.leaving in
     let many = c.requires.tracks in
     let infos = c.requires.infos in
     let first = ap (λ (p : Schedule). p.first) c.in_ok-take.ensures.turned ∙ (turned_keeps s c.args.turn.now.end c.args.count c.args.sample).1 in
-    let leaving = ap (λ (p : Schedule). p.leaving) c.in_ok-take.ensures.turned ∙ (turned_keeps s c.args.turn.now.end c.args.count c.args.sample).3 in
     record {
       tree = search rules;
       many = (let own : c.if-track-gt0.due.leaves ≡ s.tracks = search rules in own ∙ sym k.0);
-      times = subst (λ n. AreTimes (infos_left l c.args.tracks.now) (slice_set nexts s.track c.args.sample) n c.if-track-gt0.due) (sym k.1) (elim c.if-track-gt0.branch [
-        | then-track-gt0 w ↦ subst (λ (d : DueTracks). AreTimes (infos_left l c.args.tracks.now) (slice_set nexts s.track c.args.sample) s.first d) (sym w.due-is)
-            (times_set (infos_left l c.args.tracks.now) nexts s.first c.args.due.now w.set.new.self s.track c.args.sample w.due_at.result times (many ∙ infos ∙ sym (as_many_left l c.args.tracks.now)) w.set.ensures.others w.set.ensures.time
-            (λ x at. let of = info_of l c.args.tracks.now s.track x at in
-            subst (λ (i : TrackInfo). IsDue s.first i.timescale c.args.sample w.due_at.result) (ap (info_left l) (sym w.index-tracks-track.is ∙ read_at c.args.tracks.now s.track of.0 w.index-tracks-track.result of.1 w.index-tracks-track.is) ∙ sym of.2)
-            (subst (λ n. IsDue n (timescale_left l (get_or c.args.tracks.now s.track w.index-tracks-track.result).timescale) c.args.sample w.due_at.result) first (rw leaving at (rw w.timescale-scale.ensures at w.due_at.ensures)))))
-        | else-track-gt0 w ↦ subst (λ (d : DueTracks). AreTimes (infos_left l c.args.tracks.now) (slice_set nexts s.track c.args.sample) s.first d) (sym w.due-is) (times_first (infos_left l c.args.tracks.now) nexts s.first c.args.due.now s.track c.args.sample times (search rules))
+      times = subst (λ n. AreTimes c.args.tracks.now (slice_set nexts s.track c.args.sample) n c.if-track-gt0.due) (sym k.1) (elim c.if-track-gt0.branch [
+        | then-track-gt0 w ↦ subst (λ (d : DueTracks). AreTimes c.args.tracks.now (slice_set nexts s.track c.args.sample) s.first d) (sym w.due-is)
+            (times_set c.args.tracks.now nexts s.first c.args.due.now w.set.new.self s.track c.args.sample w.due_at.result times (many ∙ infos) w.set.ensures.others w.set.ensures.time
+            (λ x at. at_place (λ (t : TrackLeft). IsDue s.first t.timescale c.args.sample w.due_at.result) c.args.tracks.now s.track x _ at (rw first at w.due_at.ensures)))
+        | else-track-gt0 w ↦ subst (λ (d : DueTracks). AreTimes c.args.tracks.now (slice_set nexts s.track c.args.sample) s.first d) (sym w.due-is) (times_first c.args.tracks.now nexts s.first c.args.due.now s.track c.args.sample times (search rules))
       ]);
       here = c.skip.ensures.here;
     }
@@ -55,11 +45,9 @@ returns-then-finds_more-clause-sticks c nexts times =
     let s = c.args.self.now in
     let more = c.finds_more.ensures.more c.if-finds_more.true in
     let k = turn_keeps c.if-track-gt0.due s c.take.new.self c.skip.new.self c.args.turn.now.end c.args.count c.args.sample c.in_ok-take.ensures.turned c.skip.ensures.skips in
-    let l = s.leaving in
     let many = c.requires.tracks in
     let infos = c.requires.infos in
     let first = ap (λ (p : Schedule). p.first) c.in_ok-take.ensures.turned ∙ (turned_keeps s c.args.turn.now.end c.args.count c.args.sample).1 in
-    let leaving = ap (λ (p : Schedule). p.leaving) c.in_ok-take.ensures.turned ∙ (turned_keeps s c.args.turn.now.end c.args.count c.args.sample).3 in
     inr (record {
       skips = subst (λ p. Skips c.if-track-gt0.due p c.skip.new.self) c.in_ok-take.ensures.turned c.skip.ensures.skips;
       some = more.0;
@@ -68,13 +56,11 @@ returns-then-finds_more-clause-sticks c nexts times =
       due = record {
         tree = search rules;
         many = (let own : c.if-track-gt0.due.leaves ≡ s.tracks = search rules in own ∙ sym k.0);
-        times = subst (λ n. AreTimes (infos_left l c.args.tracks.now) (slice_set nexts s.track c.args.sample) n c.if-track-gt0.due) (sym k.1) (elim c.if-track-gt0.branch [
-          | then-track-gt0 w ↦ subst (λ (d : DueTracks). AreTimes (infos_left l c.args.tracks.now) (slice_set nexts s.track c.args.sample) s.first d) (sym w.due-is)
-              (times_set (infos_left l c.args.tracks.now) nexts s.first c.args.due.now w.set.new.self s.track c.args.sample w.due_at.result times (many ∙ infos ∙ sym (as_many_left l c.args.tracks.now)) w.set.ensures.others w.set.ensures.time
-              (λ x at. let of = info_of l c.args.tracks.now s.track x at in
-              subst (λ (i : TrackInfo). IsDue s.first i.timescale c.args.sample w.due_at.result) (ap (info_left l) (sym w.index-tracks-track.is ∙ read_at c.args.tracks.now s.track of.0 w.index-tracks-track.result of.1 w.index-tracks-track.is) ∙ sym of.2)
-              (subst (λ n. IsDue n (timescale_left l (get_or c.args.tracks.now s.track w.index-tracks-track.result).timescale) c.args.sample w.due_at.result) first (rw leaving at (rw w.timescale-scale.ensures at w.due_at.ensures)))))
-          | else-track-gt0 w ↦ subst (λ (d : DueTracks). AreTimes (infos_left l c.args.tracks.now) (slice_set nexts s.track c.args.sample) s.first d) (sym w.due-is) (times_first (infos_left l c.args.tracks.now) nexts s.first c.args.due.now s.track c.args.sample times (search rules))
+        times = subst (λ n. AreTimes c.args.tracks.now (slice_set nexts s.track c.args.sample) n c.if-track-gt0.due) (sym k.1) (elim c.if-track-gt0.branch [
+          | then-track-gt0 w ↦ subst (λ (d : DueTracks). AreTimes c.args.tracks.now (slice_set nexts s.track c.args.sample) s.first d) (sym w.due-is)
+              (times_set c.args.tracks.now nexts s.first c.args.due.now w.set.new.self s.track c.args.sample w.due_at.result times (many ∙ infos) w.set.ensures.others w.set.ensures.time
+              (λ x at. at_place (λ (t : TrackLeft). IsDue s.first t.timescale c.args.sample w.due_at.result) c.args.tracks.now s.track x _ at (rw first at w.due_at.ensures)))
+          | else-track-gt0 w ↦ subst (λ (d : DueTracks). AreTimes c.args.tracks.now (slice_set nexts s.track c.args.sample) s.first d) (sym w.due-is) (times_first c.args.tracks.now nexts s.first c.args.due.now s.track c.args.sample times (search rules))
         ]);
         here = c.skip.ensures.here;
       };

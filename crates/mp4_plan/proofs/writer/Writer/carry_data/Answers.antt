@@ -5,7 +5,7 @@ use Rattle.mp4_content.specs.words.GoneOn.{ComesMarked}
 use Rattle.mp4_content.specs.words.ComingLess.{ComesLess, track_reduction}
 use Rattle.mp4_plan.specs.words.WriterSteps.{MayFinish}
 use Rattle.mp4_content.specs.declared.reduced.Reduction.{Reduction}
-use Rattle.mp4_content.proofs.AtPlaces.{read_at}
+use Rattle.mp4_content.proofs.AtPlaces.{one_there, read_at}
 use Rattle.mp4_plan.proofs.WritingSteps.{all_carried, all_carried_most}
 use Rattle.mp4_plan.proofs.writer.Writer.carry_data.Goals as goal
 
@@ -16,9 +16,9 @@ returns-in_err-self-clause-put g c told tree o samples noted =
     let m = c.args.movie.now in
     let w = c.args.self.now in
     let same = read_at w.walks.items c.args.noted.now.track noted.walk c.index_mut.result.now noted.is_walk c.index_mut.ensures.value in
-    let by = read_at w.reductions.of_tracks.items c.args.noted.now.track (track_reduction w.reductions.leaving tree noted.t) c.index.result.now noted.reduction c.index.ensures in
+    let by = one_there w.content.of_tracks.items c.args.noted.now.track _ _ c.reduction.ensures noted.reduction in
     let comes = subst (λ (r : Reduction). ComesMarked r file tree noted.t m c.index_mut.result.now c.args.noted.now.planned.count samples) (sym by)
-    (subst (λ (v : Walk). ComesMarked (track_reduction w.reductions.leaving tree noted.t) file tree noted.t m v c.args.noted.now.planned.count samples) (sym same) noted.comes) in
+    (subst (λ (v : Walk). ComesMarked (track_reduction w.content.leaving tree noted.t) file tree noted.t m v c.args.noted.now.planned.count samples) (sym same) noted.comes) in
     rw e.1 (c.in_err-self.ensures.put told tree noted.t samples o comes noted.stretches)
 
 pub returns-in_err-self-clause-unchanged : goal.returns-in_err-self-clause-unchanged
@@ -28,9 +28,9 @@ returns-in_err-self-clause-unchanged g c told tree o samples noted there =
     let m = c.args.movie.now in
     let w = c.args.self.now in
     let same = read_at w.walks.items c.args.noted.now.track noted.walk c.index_mut.result.now noted.is_walk c.index_mut.ensures.value in
-    let by = read_at w.reductions.of_tracks.items c.args.noted.now.track (track_reduction w.reductions.leaving tree noted.t) c.index.result.now noted.reduction c.index.ensures in
+    let by = one_there w.content.of_tracks.items c.args.noted.now.track _ _ c.reduction.ensures noted.reduction in
     let comes = subst (λ (r : Reduction). ComesMarked r file tree noted.t m c.index_mut.result.now c.args.noted.now.planned.count samples) (sym by)
-    (subst (λ (v : Walk). ComesMarked (track_reduction w.reductions.leaving tree noted.t) file tree noted.t m v c.args.noted.now.planned.count samples) (sym same) noted.comes) in
+    (subst (λ (v : Walk). ComesMarked (track_reduction w.content.leaving tree noted.t) file tree noted.t m v c.args.noted.now.planned.count samples) (sym same) noted.comes) in
     rw (e.1, e.2) (c.in_err-self.ensures.unchanged told tree noted.t samples o comes noted.stretches there)
 
 pub returns-in_err-self-clause-work : goal.returns-in_err-self-clause-work
@@ -41,8 +41,8 @@ returns-in_err-self-clause-work g c told tree o n h =
     let w = c.args.self.now in
     let count = c.args.noted.now.planned.count in
     let same = read_at w.walks.items c.args.noted.now.track h.walk c.index_mut.result.now h.is_walk c.index_mut.ensures.value in
-    let by = read_at w.reductions.of_tracks.items c.args.noted.now.track h.by c.index.result.now h.is_by c.index.ensures in
-    rw e.1 (all_carried_most w.reductions.of_tracks.items file m tree o w.walks.items c.args.noted.now.track count n h _ _
+    let by = one_there w.content.of_tracks.items c.args.noted.now.track _ _ c.reduction.ensures h.is_by in
+    rw e.1 (all_carried_most w.content.of_tracks.items file m tree o w.walks.items c.args.noted.now.track count n h _ _
     (λ t own may. c.in_err-self.ensures.work told tree t own o (subst (λ (r : Reduction). MayFinish r file tree m count t c.index_mut.result.now own) (sym by) (subst (λ (v : Walk). MayFinish h.by file tree m count t v own) (sym same) may))))
 
 pub returns-clause-put : goal.returns-clause-put
@@ -51,9 +51,9 @@ returns-clause-put g c told tree o samples noted =
     let m = c.args.movie.now in
     let w = c.args.self.now in
     let same = read_at w.walks.items c.args.noted.now.track noted.walk c.index_mut.result.now noted.is_walk c.index_mut.ensures.value in
-    let by = read_at w.reductions.of_tracks.items c.args.noted.now.track (track_reduction w.reductions.leaving tree noted.t) c.index.result.now noted.reduction c.index.ensures in
+    let by = one_there w.content.of_tracks.items c.args.noted.now.track _ _ c.reduction.ensures noted.reduction in
     let comes = subst (λ (r : Reduction). ComesMarked r file tree noted.t m c.index_mut.result.now c.args.noted.now.planned.count samples) (sym by)
-    (subst (λ (v : Walk). ComesMarked (track_reduction w.reductions.leaving tree noted.t) file tree noted.t m v c.args.noted.now.planned.count samples) (sym same) noted.comes) in
+    (subst (λ (v : Walk). ComesMarked (track_reduction w.content.leaving tree noted.t) file tree noted.t m v c.args.noted.now.planned.count samples) (sym same) noted.comes) in
     c.in_ok-self.ensures.put told tree noted.t samples o comes noted.stretches
 
 pub returns-clause-copied : goal.returns-clause-copied
@@ -62,9 +62,9 @@ returns-clause-copied g c told tree o samples noted =
     let m = c.args.movie.now in
     let w = c.args.self.now in
     let same = read_at w.walks.items c.args.noted.now.track noted.walk c.index_mut.result.now noted.is_walk c.index_mut.ensures.value in
-    let by = read_at w.reductions.of_tracks.items c.args.noted.now.track (track_reduction w.reductions.leaving tree noted.t) c.index.result.now noted.reduction c.index.ensures in
+    let by = one_there w.content.of_tracks.items c.args.noted.now.track _ _ c.reduction.ensures noted.reduction in
     let comes = subst (λ (r : Reduction). ComesMarked r file tree noted.t m c.index_mut.result.now c.args.noted.now.planned.count samples) (sym by)
-    (subst (λ (v : Walk). ComesMarked (track_reduction w.reductions.leaving tree noted.t) file tree noted.t m v c.args.noted.now.planned.count samples) (sym same) noted.comes) in
+    (subst (λ (v : Walk). ComesMarked (track_reduction w.content.leaving tree noted.t) file tree noted.t m v c.args.noted.now.planned.count samples) (sym same) noted.comes) in
     let x = c.in_ok-self.ensures.next told tree noted.t samples o comes noted.stretches in
     let on = subst (λ (r : Reduction). ComesLess r file tree noted.t m c.carry_noted.new.walk (drop c.args.noted.now.planned.count samples)) by x.0 in
     (c.carry_noted.new.walk, refl, ap (slice_set w.nexts.items c.args.noted.now.track) x.2, on, x.1)
@@ -76,6 +76,6 @@ returns-clause-work g c told tree o n h =
     let w = c.args.self.now in
     let count = c.args.noted.now.planned.count in
     let same = read_at w.walks.items c.args.noted.now.track h.walk c.index_mut.result.now h.is_walk c.index_mut.ensures.value in
-    let by = read_at w.reductions.of_tracks.items c.args.noted.now.track h.by c.index.result.now h.is_by c.index.ensures in
-    all_carried w.reductions.of_tracks.items file m tree o w.walks.items c.args.noted.now.track count n h c.carry_noted.new.walk _ _
+    let by = one_there w.content.of_tracks.items c.args.noted.now.track _ _ c.reduction.ensures h.is_by in
+    all_carried w.content.of_tracks.items file m tree o w.walks.items c.args.noted.now.track count n h c.carry_noted.new.walk _ _
     (λ t own may. c.in_ok-self.ensures.work told tree t own o (subst (λ (r : Reduction). MayFinish r file tree m count t c.index_mut.result.now own) (sym by) (subst (λ (v : Walk). MayFinish h.by file tree m count t v own) (sym same) may)))

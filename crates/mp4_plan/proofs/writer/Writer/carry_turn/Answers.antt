@@ -200,7 +200,7 @@ pub returns-in_default-clause-work : goal.returns-in_default-clause-work
 returns-in_default-clause-work g c told tree o n h =
     let w = c.args.self.now in
     let m = c.args.movie.now in
-    none_carried w.reductions.of_tracks.items (g.S.Store.file c.args.store.now) m tree o w.walks.items c.args.noted.now.track c.args.noted.now.planned.count n h _ (of_got (IsWalkOf m) w.walks.items c.args.noted.now.track h.walk h.is_walk c.requires.may.writer.walks.each)
+    none_carried w.content.of_tracks.items (g.S.Store.file c.args.store.now) m tree o w.walks.items c.args.noted.now.track c.args.noted.now.planned.count n h _ (of_got (IsWalkOf m) w.walks.items c.args.noted.now.track h.walk h.is_walk c.requires.may.writer.walks.each)
     (c.requires.none c.in_default.is)
 
 pub returns-in_default-clause-many : goal.returns-in_default-clause-many

@@ -1,6 +1,10 @@
-use Rattle.std.proofs.Common.{rules, ◌++◌, sym, ◌∙◌, arith}
+use Rattle.std.proofs.Common.{rules, ◌++◌, sym, subst, ◌∙◌, arith}
 use Rattle.std.proofs.lemmas.Result.{err_from_is_err_and}
+use Rattle.mp4_present.specs.format.Denotes.{presentation_of}
+use Rattle.mp4_content.specs.format.ReducedTimes.{ReducesInLimits}
+use Rattle.mp4_content.specs.declared.without.Without.{Without}
 use Rattle.mp4_present.proofs.OwnSums.{trafs_few}
+use Rattle.mp4_plan.specs.words.PutPieces.{IsHeadLeft}
 use Rattle.mp4_plan.proofs.Planning.{rooms_fit}
 use Rattle.mp4_plan.proofs.WriterMade.{writer_made}
 use Rattle.mp4_plan.proofs.writer.Writer.reduced.Goals as goal
@@ -8,28 +12,30 @@ use Rattle.mp4_plan.proofs.writer.Writer.reduced.Goals as goal
 pub returns-clause-ready : goal.returns-clause-ready
 returns-clause-ready g c told tree o =
     let file = g.S.Store.file c.args.store.now in
-    let measured = c.in_ok-measures.ensures.measured told tree o in
-    let left = c.in_ok-mehd.ensures.left file tree o (rw c.as_slice.ensures.value measured.totals) in
-    let same = c.in_ok-measures.ensures.store in
-    let longest = (rw (same.honesty, same.file, c.in_ok-measures.ensures.leaving) at c.in_ok-longest.ensures.longest) told tree o measured.reductions left.0.in_range in
-    rw c.in_ok-measures.ensures.leaving (record {
+    let made = c.in_ok-content.ensures in
+    let left = made.left told tree o in
+    let l = c.in_ok-content.content.leaving in
+    let longest = (rw (made.store.honesty, made.store.file) at c.in_ok-longest.ensures.longest) told tree o left.reductions left.in_limits.in_range in
+    record {
       ready = record {
-        head = (λ i. c.in_ok-new.ensures.empty i ++ c.in_ok-head_of.field-0.items) ∙ c.in_ok-head_of.ensures.head file tree o left.1;
+        head = (λ i. c.in_ok-new.ensures.empty i ++ c.in_ok-head_of.field-0.items) ∙ c.in_ok-head_of.ensures.head file tree o left;
         rows = sym c.in_ok-vec.field-0.ok.0 ∙ c.in_ok-vec.ensures.len ∙ longest;
-        range = left.0.in_range;
-        reductions = measured.reductions;
-        walks = c.in_ok-walks_of.ensures.start.begin file tree o c.args.leaving;
-        marked = c.in_ok-walks_of.ensures.start.marked file tree o c.args.leaving;
+        range = left.in_limits.in_range;
+        reductions = left.reductions;
+        walks = c.in_ok-walks_of.ensures.start.begin file tree o l;
+        marked = c.in_ok-walks_of.ensures.start.marked file tree o l;
       };
       rooms = rooms_fit file c.args.movie.now tree o;
       trafs = trafs_few file tree o.is_tree;
-    })
+    }
 
 pub returns-clause-may : goal.returns-clause-may
 returns-clause-may g c told tree o = c.in_ok-walks_of.ensures.start.writes (g.S.Store.file c.args.store.now) tree o
 
 pub returns-clause-in_limits : goal.returns-clause-in_limits
-returns-clause-in_limits g c told tree o = (c.in_ok-mehd.ensures.left (g.S.Store.file c.args.store.now) tree o (rw c.as_slice.ensures.value (c.in_ok-measures.ensures.measured told tree o).totals)).0
+returns-clause-in_limits g c told tree o =
+    let made = c.in_ok-content.ensures in
+    subst (λ (l : Without). ReducesInLimits l (presentation_of (g.S.Store.file c.args.store.now) tree)) made.leaving (made.left told tree o).in_limits
 
 -- ---- where there is no memory
 
@@ -62,14 +68,14 @@ pub returns-in_err-walks_of-clause-store : goal.returns-in_err-walks_of-clause-s
 returns-in_err-walks_of-clause-store g c =
     let p = err_from_is_err_and c.from_residual-in_err-walks_of.result c.from_residual-in_err-walks_of.ensures.1 in
     let s = c.in_ok-longest.ensures.store in
-    let before = c.in_ok-measures.ensures.store in
+    let before = c.in_ok-content.ensures.store in
     record { honesty = s.honesty ∙ before.honesty; file = s.file ∙ before.file; reads = rw p.1 tt }
 
 pub returns-in_err-vec-2-clause-store : goal.returns-in_err-vec-2-clause-store
 returns-in_err-vec-2-clause-store g c =
     let p = err_from_is_err_and c.from_residual-in_err-vec-2.result c.from_residual-in_err-vec-2.ensures.1 in
     let s = c.in_ok-longest.ensures.store in
-    let before = c.in_ok-measures.ensures.store in
+    let before = c.in_ok-content.ensures.store in
     record { honesty = s.honesty ∙ before.honesty; file = s.file ∙ before.file; reads = rw p.1 tt }
 
 pub returns-in_err-vec-2-clause-unchanged : goal.returns-in_err-vec-2-clause-unchanged
@@ -81,34 +87,34 @@ pub returns-in_err-vec-clause-store : goal.returns-in_err-vec-clause-store
 returns-in_err-vec-clause-store g c =
     let p = err_from_is_err_and c.from_residual-in_err-vec.result c.from_residual-in_err-vec.ensures.1 in
     let s = c.in_ok-longest.ensures.store in
-    let before = c.in_ok-measures.ensures.store in
+    let before = c.in_ok-content.ensures.store in
     record { honesty = s.honesty ∙ before.honesty; file = s.file ∙ before.file; reads = rw p.1 tt }
 
 pub returns-in_err-vec-clause-work : goal.returns-in_err-vec-clause-work
 returns-in_err-vec-clause-work g c told tree o =
-    let same = c.in_ok-measures.ensures.store in
-    let first = c.in_ok-measures.ensures.work told tree o in
+    let same = c.in_ok-content.ensures.store in
+    let first = c.in_ok-content.ensures.work told tree o in
     let then = (rw (same.honesty, same.file) at c.in_ok-longest.ensures.work) told tree o in
     omega (arith, first, then)
 
 pub returns-in_err-vec-2-clause-work : goal.returns-in_err-vec-2-clause-work
 returns-in_err-vec-2-clause-work g c told tree o =
-    let same = c.in_ok-measures.ensures.store in
-    let first = c.in_ok-measures.ensures.work told tree o in
+    let same = c.in_ok-content.ensures.store in
+    let first = c.in_ok-content.ensures.work told tree o in
     let then = (rw (same.honesty, same.file) at c.in_ok-longest.ensures.work) told tree o in
     omega (arith, first, then)
 
 pub returns-in_err-walks_of-clause-work : goal.returns-in_err-walks_of-clause-work
 returns-in_err-walks_of-clause-work g c told tree o =
-    let same = c.in_ok-measures.ensures.store in
-    let first = c.in_ok-measures.ensures.work told tree o in
+    let same = c.in_ok-content.ensures.store in
+    let first = c.in_ok-content.ensures.work told tree o in
     let then = (rw (same.honesty, same.file) at c.in_ok-longest.ensures.work) told tree o in
     omega (arith, first, then)
 
 pub returns-clause-work : goal.returns-clause-work
 returns-clause-work g c told tree o =
-    let same = c.in_ok-measures.ensures.store in
-    let first = c.in_ok-measures.ensures.work told tree o in
+    let same = c.in_ok-content.ensures.store in
+    let first = c.in_ok-content.ensures.work told tree o in
     let then = (rw (same.honesty, same.file) at c.in_ok-longest.ensures.work) told tree o in
     omega (arith, first, then)
 
@@ -120,5 +126,5 @@ returns-clause-made g c =
     let nexts = c.in_ok-vec-2.field-0 in
     let long = sym rows.ok.0 ∙ c.in_ok-vec.ensures.len in
     let few = c.in_ok-longest.ensures.few in
-    writer_made c.args.movie.now c.args.leaving _ c.in_ok-walks_of.ensures.walks (omega (arith, long, few)) (sym nexts.ok.0 ∙ c.in_ok-vec-2.ensures.len ∙ search rules) c.in_ok-measures.ensures.many c.in_ok-due.ensures.tree (c.in_ok-due.ensures.tracks ∙ search rules)
-    (sym c.in_ok-new.field-0.buffer.ok.0 ∙ c.in_ok-new.ensures.room) c.in_ok-new.ensures.empty c.in_ok-measures.ensures.leaving c.in_ok-head_of.ensures.named
+    writer_made c.args.movie.now c.args.leaving _ c.in_ok-walks_of.ensures.walks (omega (arith, long, few)) (sym nexts.ok.0 ∙ c.in_ok-vec-2.ensures.len ∙ search rules) c.in_ok-content.ensures.content c.in_ok-due.ensures.tree (c.in_ok-due.ensures.tracks ∙ search rules)
+    (sym c.in_ok-new.field-0.buffer.ok.0 ∙ c.in_ok-new.ensures.room) c.in_ok-new.ensures.empty c.in_ok-content.ensures.leaving (subst (λ (l : Without). IsHeadLeft c.args.movie.now l c.in_ok-head_of.field-0.items) c.in_ok-content.ensures.leaving c.in_ok-head_of.ensures.named)

@@ -1,4 +1,4 @@
-use Rattle.std.proofs.Common.{rules, get_or, ◌≡◌, ◌+◌, ◌⊎◌, List, [], length, map, refl, sym, ap, subst, ◌∙◌, arith}
+use Rattle.std.proofs.Common.{rules, ◌≡◌, ◌+◌, ◌⊎◌, List, [], length, map, refl, sym, ap, subst, ◌∙◌, arith}
 use Rattle.std.specs.List.{sum_by}
 use Rattle.std.specs.Vec.{with_items}
 use Rattle.std.proofs.lemmas.List.{with_items_is}
@@ -6,16 +6,19 @@ use Rattle.std.proofs.lemmas.Result.{err_from_is_err_and}
 use Rattle.mp4_present.specs.words.Carried.{waiting}
 use Rattle.mp4_content.specs.words.ComingLess.{left_samples}
 use Rattle.mp4_plan.specs.words.PutPieces.{PiecesFollow}
-use Rattle.mp4_plan.specs.words.DueTracks.{AreTimes, FindsMore, IsDueAt}
+use Rattle.mp4_plan.specs.words.DueTracks.{FindsMore, IsDueAt}
 use Rattle.mp4_tables.specs.declared.sample.SampleAt.{SampleAt}
 use Rattle.mp4_present.specs.declared.out_buffer.OutBuffer.{OutBuffer}
-use Rattle.mp4_present.specs.declared.track_info.TrackInfo.{TrackInfo}
 use Rattle.mp4_present.proofs.WalkCopied.{put_unchanged, on_ok, on_err, if_err}
-use Rattle.std.specs.Prelude.{Option, Some, slice_get, slice_set}
-use Rattle.mp4_plan.specs.words.Turns.{Sticks, infos_left, movie_turns, turn_end, turned}
+use Rattle.std.specs.Prelude.{Option, Some, slice_get}
+use Rattle.mp4_plan.specs.words.Turns.{Sticks, movie_turns, turned}
+use Rattle.mp4_content.specs.words.Contents.{infos_left}
 use Rattle.mp4_plan.specs.format.Held.{rooms}
-use Rattle.mp4_content.specs.declared.reduced.Reductions.{Reductions}
+use Rattle.mp4_content.specs.declared.content.Content.{Content}
+use Rattle.mp4_content.specs.declared.content.TrackLeft.{TrackLeft}
+use Rattle.mp4_content.specs.words.Contents.{tracks_left}
 use Rattle.mp4_content.proofs.AtPlaces.{read_at}
+use Rattle.mp4_plan.proofs.InfosLeft.{tracks_bytes, tracks_many, tracks_samples}
 use Rattle.mp4_plan.proofs.PieceWritten.{IsFew}
 use Rattle.mp4_plan.proofs.PiecesPut.{all_follow, fewer_to_come, first_put, follow_then, no_more, still_fits, sum_fits}
 use Rattle.mp4_plan.proofs.TurnTaken.{turns_end}
@@ -24,24 +27,22 @@ use Rattle.mp4_plan.proofs.WriterTurns.{note_lacks, carry_stops, carry_lacks, pa
 use Rattle.mp4_plan.proofs.LooksOn.{begins_within, looks_on, looks_within}
 use Rattle.mp4_plan.proofs.SkippedTurns.{either}
 use Rattle.mp4_plan.proofs.StepsOn.{all_written, write_then_stop, turn_then, turn_then_stop}
-use Rattle.mp4_content.specs.format.Reduced.{timescale_left}
-use Rattle.mp4_content.specs.declared.without.Without.{Without}
 use Rattle.mp4_plan.proofs.writer.Writer.write.Goals as goal
 
 pub returns-in_err-carry-clause-prefix : goal.returns-in_err-carry-clause-prefix
 returns-in_err-carry-clause-prefix g c told tree o ready =
     let e = err_from_is_err_and c.from_residual.result c.from_residual.ensures.1 in
-    rw e.1 (head_stops c.args.self.now.reductions.leaving (g.S.Store.file c.args.store.now) tree c.args.movie.now c.args.self.now (g.K.Sink.takes c.args.sink.now c.carry.new.sink) c.as_slice.result.now ready refl c.as_slice.ensures.value c.in_err-carry.ensures.prefix)
+    rw e.1 (head_stops c.args.self.now.content.leaving (g.S.Store.file c.args.store.now) tree c.args.movie.now c.args.self.now (g.K.Sink.takes c.args.sink.now c.carry.new.sink) c.as_slice.result.now ready refl c.as_slice.ensures.value c.in_err-carry.ensures.prefix)
 
 pub returns-in_err-peek_each-clause-prefix : goal.returns-in_err-peek_each-clause-prefix
 returns-in_err-peek_each-clause-prefix g c told tree o ready =
     let e = err_from_is_err_and c.from_residual-in_err-peek_each.result c.from_residual-in_err-peek_each.ensures.1 in
-    rw e.1 (head_put c.args.self.now.reductions.leaving (g.S.Store.file c.args.store.now) tree c.args.movie.now c.args.self.now _ _ c.as_slice.result.now ready refl c.as_slice.ensures.value c.in_ok-carry.ensures.bytes)
+    rw e.1 (head_put c.args.self.now.content.leaving (g.S.Store.file c.args.store.now) tree c.args.movie.now c.args.self.now _ _ c.as_slice.result.now ready refl c.as_slice.ensures.value c.in_ok-carry.ensures.bytes)
 
 pub returns-in_err-peek_each-clause-unchanged : goal.returns-in_err-peek_each-clause-unchanged
 returns-in_err-peek_each-clause-unchanged g c told tree o ready =
     let e = err_from_is_err_and c.from_residual-in_err-peek_each.result c.from_residual-in_err-peek_each.ensures.1 in
-    rw (e.1, e.2) (c.in_err-peek_each.ensures.unchanged c.args.self.now.reductions.leaving told tree o (map (left_samples c.args.self.now.reductions.leaving tree) tree.movie.tracks) ready.reductions (rw c.as_mut_slice-walks.ensures.value ready.walks))
+    rw (e.1, e.2) (c.in_err-peek_each.ensures.unchanged told tree o (map (left_samples c.args.self.now.content.leaving tree) tree.movie.tracks) ready.reductions (rw c.as_mut_slice-walks.ensures.value ready.walks))
 
 pub loop-turn-init : goal.loop-turn-init
 loop-turn-init g c =
@@ -57,8 +58,11 @@ loop-turn-init g c =
     let next_count = c.requires.nexts in
     let next_len = w.nexts.ok.0 in
     let next_many = ap length nexts in
+    let l = w.content.leaving in
+    let all_tracks = c.args.movie.now.tracks in
+    let s = rw (c.tracks.ensures ∙ c.requires.content.tracks) at c.new-schedule.ensures in
     record {
-      writer = record { walks = rw walks e.walks.walks; few = c.requires.few; nexts = omega (arith, each, next_count, next_len, next_many); reductions = c.requires.reductions; due = c.begin.ensures.tree; many = c.begin.ensures.many ∙ rw c.tracks-tracks.ensures at c.new-schedule.ensures.tracks };
+      writer = record { walks = rw walks e.walks.walks; few = c.requires.few; nexts = omega (arith, each, next_count, next_len, next_many); content = c.requires.content; due = c.begin.ensures.tree; many = c.begin.ensures.many ∙ s.tracks ∙ tracks_many l all_tracks };
       held =
           let room = c.in_ok-carry.ensures.room in
           let old = w.carrier.buffer.ok.0 in
@@ -66,34 +70,31 @@ loop-turn-init g c =
           let rooms_are = e.walks.rooms in
           let own = ap rooms walks ∙ rooms_are ∙ ap rooms c.as_mut_slice-walks.ensures.value in
           omega (arith, room, old, new, own);
-      reductions = refl;
-      tracks = rw c.tracks-tracks.ensures at c.new-schedule.ensures.tracks;
-      left_out = c.new-schedule.ensures.leaving;
+      content = refl;
+      tracks = s.tracks ∙ tracks_many l all_tracks;
       honesty = e.store.honesty;
       file = e.store.file;
       reads = e.store.reads;
       puts = c.in_ok-carry.ensures.puts;
       rows = refl;
       few = (let few = c.new-schedule.ensures.few in omega (arith, few));
-      sent = (0, (let left = rw c.tracks-tracks.ensures at c.new-schedule.ensures.left in omega (arith, left)), first_put _ _ _ w.head.items (rw c.as_slice.ensures.value at c.in_ok-carry.ensures.bytes));
+      sent = (0, (let left = s.left ∙ tracks_samples l all_tracks in omega (arith, left)), first_put _ _ _ w.head.items (rw c.as_slice.ensures.value at c.in_ok-carry.ensures.bytes));
       on = λ told tree o ready.
           let file = g.S.Store.file c.args.store.now in
           let m = c.args.movie.now in
-          let lefts = map (left_samples c.args.self.now.reductions.leaving tree) tree.movie.tracks in
-          let shown = e.shown c.args.self.now.reductions.leaving told tree o lefts ready.reductions (rw c.as_mut_slice-walks.ensures.value ready.walks) in
+          let lefts = map (left_samples c.args.self.now.content.leaving tree) tree.movie.tracks in
+          let shown = e.shown told tree o lefts ready.reductions (rw c.as_mut_slice-walks.ensures.value ready.walks) in
           let marked = e.marked lefts (rw c.as_mut_slice-walks.ensures.value ready.marked) in
           let time = c.first_time-from.ensures lefts (c.as_slice-2.ensures.value ∙ nexts ∙ shown.0) in
-          let tracks = c.tracks-tracks.ensures in
-          let first = is_first c.args.self.now.reductions.leaving file tree m c.new-schedule.result c.first_time-from.result o (rw tracks at c.new-schedule.ensures.tracks) (rw tracks at c.new-schedule.ensures.first) c.new-schedule.ensures.starts (rw tracks at c.new-schedule.ensures.left) time in
-          begins c.args.self.now.reductions.leaving file tree m c.new-schedule.result w (with_items w.walks c.peek_each.new.walks).items (with_items w.nexts c.peek_each.new.nexts).items (g.K.Sink.takes c.args.sink.now c.carry.new.sink)
+          let first = is_first c.args.self.now.content.leaving file tree m c.new-schedule.result c.first_time-from.result o (s.tracks ∙ tracks_many l all_tracks) s.first c.new-schedule.ensures.starts (s.left ∙ tracks_samples l all_tracks) time in
+          begins c.args.self.now.content.leaving file tree m c.new-schedule.result w (with_items w.walks c.peek_each.new.walks).items (with_items w.nexts c.peek_each.new.nexts).items (g.K.Sink.takes c.args.sink.now c.carry.new.sink)
           (waiting c.carry.new.self) o ready refl first
           (rw walks shown.1) (rw walks marked) (nexts ∙ shown.0) (rw c.as_slice.ensures.value at c.in_ok-carry.ensures.bytes);
       within = λ told tree o n may. rw walks (e.writes told tree o n (rw c.as_mut_slice-walks.ensures.value may));
       some = search rules;
-      looks = rw e.looks (begins_within c.args.movie.now.tracks c.new-schedule.result c.args.steps.now.looks (rw c.tracks-tracks.ensures at c.new-schedule.ensures.tracks) (rw c.tracks-tracks.ensures at c.new-schedule.ensures.left) c.new-schedule.ensures.starts.0);
+      looks = rw e.looks (begins_within c.args.movie.now.tracks c.new-schedule.result c.args.steps.now.looks (s.tracks ∙ tracks_many l all_tracks) (s.left ∙ tracks_samples l all_tracks) c.new-schedule.ensures.starts.0);
       due = λ told tree o ready.
-          subst (λ (l : Without). IsDueAt (infos_left l c.args.movie.now.tracks) (with_items w.nexts c.peek_each.new.nexts).items c.new-schedule.result c.begin.new.due) c.new-schedule.ensures.leaving
-          (subst (λ (xs : List (Option SampleAt)). IsDueAt (infos_left c.new-schedule.result.leaving c.args.movie.now.tracks) xs c.new-schedule.result c.begin.new.due) c.as_slice-3.ensures.value (rw c.tracks-tracks.ensures at c.begin.ensures));
+          subst (λ (xs : List (Option SampleAt)). IsDueAt (tracks_left l all_tracks) xs c.new-schedule.result c.begin.new.due) c.as_slice-3.ensures.value (rw (c.tracks-2.ensures ∙ c.requires.content.tracks) at c.begin.ensures);
       grows = e.grows;
     }
 
@@ -108,7 +109,7 @@ returns-in_err-noted-clause-prefix g c told tree o ready =
     let h = i.on told tree o ready in
     let before = c.args.sink.now in
     let after = c.loop-turn.sink in
-    rw e.1 (stopped c.args.self.now.reductions.leaving file tree m s c.loop-turn.sequence c.loop-turn.bytes w.walks.items w.nexts.items (length w.notes.rows.items) g.met.K.Sink.takes_on before after (waiting w.carrier) h)
+    rw e.1 (stopped c.args.self.now.content.leaving file tree m s c.loop-turn.sequence c.loop-turn.bytes w.walks.items w.nexts.items (length w.notes.rows.items) g.met.K.Sink.takes_on before after (waiting w.carrier) h)
 
 pub returns-in_err-noted-clause-unchanged : goal.returns-in_err-noted-clause-unchanged
 returns-in_err-noted-clause-unchanged g c told tree o ready =
@@ -122,9 +123,9 @@ returns-in_err-noted-clause-unchanged g c told tree o ready =
     let before = c.args.sink.now in
     let after = c.loop-turn.sink in
     let here = c.in-Some.ensures.track in
-    let ends : (info : TrackInfo) → slice_get m.tracks s.track ≡ Some info → c.in-Some.turn.end ≡ turn_end s (timescale_left c.args.self.now.reductions.leaving info.timescale) = λ info is. (rw i.left_out at c.in-Some.ensures.end) info (rw c.tracks-tracks.ensures is) in
-    rw (e.1, e.2) (note_lacks c.args.self.now.reductions.leaving file tree m o s c.loop-turn.sequence c.loop-turn.bytes w g.met.K.Sink.takes_on before after h c.in-Some.turn here ends i.tracks i.writer (ap (λ (r : Reductions). r.leaving) i.reductions)
-    (ap (λ (r : Reductions). r.of_tracks.items) i.reductions
+    let own = rw (c.tracks-in-loop-turn.ensures ∙ ap (λ (x : Content). x.tracks.items) i.content ∙ c.requires.content.tracks) at c.in-Some.ensures.own in
+    rw (e.1, e.2) (note_lacks c.args.self.now.content.leaving file tree m o s c.loop-turn.sequence c.loop-turn.bytes w g.met.K.Sink.takes_on before after h c.in-Some.turn here own i.tracks i.writer (ap (λ (x : Content). x.leaving) i.content)
+    (ap (λ (x : Content). x.of_tracks.items) i.content
     ∙ ready.reductions) _ ((rw (i.honesty, i.file) at c.in_err-noted.ensures.unchanged) told tree o))
 
 pub returns-in_err-carry_turn-clause-prefix : goal.returns-in_err-carry_turn-clause-prefix
@@ -139,15 +140,11 @@ returns-in_err-carry_turn-clause-prefix g c told tree o ready =
     let before = c.args.sink.now in
     let after = c.loop-turn.sink in
     let here = c.in-Some.ensures.track in
-    let ends : (info : TrackInfo) → slice_get m.tracks s.track ≡ Some info → c.in-Some.turn.end ≡ turn_end s (timescale_left c.args.self.now.reductions.leaving info.timescale) = λ info is. (rw i.left_out at c.in-Some.ensures.end) info (rw c.tracks-tracks.ensures is) in
+    let own = rw (c.tracks-in-loop-turn.ensures ∙ ap (λ (x : Content). x.tracks.items) i.content ∙ c.requires.content.tracks) at c.in-Some.ensures.own in
     let noted = (rw (i.honesty, i.file) at c.in_ok-noted.ensures.noted) told tree o in
     let few : IsFew c.in_ok-noted.noted.planned = record { count = no_more _ _ _ c.in_ok-noted.ensures.planned.bounds.few i.writer.few; rows = c.in_ok-noted.ensures.planned.bounds.rows } in
-    let is_id : (info : TrackInfo) → slice_get m.tracks s.track ≡ Some info
-    → (get_or c.tracks-tracks.result.now c.in-Some.turn.track c.index-tracks-track.result).id
-    ≡ info.id = λ info is. ap (λ (x : TrackInfo). x.id) (sym c.index-tracks-track.is ∙ read_at m.tracks s.track info c.index-tracks-track.result is (rw (here.0, c.tracks-tracks.ensures) at c.index-tracks-track.is)) in
-    rw e.1 (carry_stops c.args.self.now.reductions.leaving file tree m o s c.loop-turn.sequence c.loop-turn.bytes w g.met.K.Sink.takes_on before after h c.in-Some.turn here ends i.tracks i.writer (ap (λ (r : Reductions). r.leaving) i.reductions)
-    (ap (λ (r : Reductions). r.of_tracks.items) i.reductions ∙ ready.reductions) c.note_turn.new.self c.in_ok-noted.noted
-    (get_or c.tracks-tracks.result.now c.in-Some.turn.track c.index-tracks-track.result).id noted c.in_ok-noted.ensures.writer.reductions c.in_ok-noted.ensures.writer.keeps few is_id
+    rw e.1 (carry_stops c.args.self.now.content.leaving file tree m o s c.loop-turn.sequence c.loop-turn.bytes w g.met.K.Sink.takes_on before after h c.in-Some.turn here own i.tracks i.writer (ap (λ (x : Content). x.leaving) i.content)
+    (ap (λ (x : Content). x.of_tracks.items) i.content ∙ ready.reductions) c.note_turn.new.self c.in_ok-noted.noted noted c.in_ok-noted.ensures.writer.content c.in_ok-noted.ensures.writer.keeps few
     c.carry_turn.new.sink ((rw (c.in_ok-noted.ensures.track, c.in_ok-noted.ensures.store.honesty, c.in_ok-noted.ensures.store.file, i.honesty, i.file) at c.in_err-carry_turn.ensures.put) told tree o))
 
 pub returns-in_err-carry_turn-clause-unchanged : goal.returns-in_err-carry_turn-clause-unchanged
@@ -162,16 +159,12 @@ returns-in_err-carry_turn-clause-unchanged g c told tree o ready =
     let before = c.args.sink.now in
     let after = c.loop-turn.sink in
     let here = c.in-Some.ensures.track in
-    let ends : (info : TrackInfo) → slice_get m.tracks s.track ≡ Some info → c.in-Some.turn.end ≡ turn_end s (timescale_left c.args.self.now.reductions.leaving info.timescale) = λ info is. (rw i.left_out at c.in-Some.ensures.end) info (rw c.tracks-tracks.ensures is) in
+    let own = rw (c.tracks-in-loop-turn.ensures ∙ ap (λ (x : Content). x.tracks.items) i.content ∙ c.requires.content.tracks) at c.in-Some.ensures.own in
     let noted = (rw (i.honesty, i.file) at c.in_ok-noted.ensures.noted) told tree o in
     let few : IsFew c.in_ok-noted.noted.planned = record { count = no_more _ _ _ c.in_ok-noted.ensures.planned.bounds.few i.writer.few; rows = c.in_ok-noted.ensures.planned.bounds.rows } in
-    let is_id : (info : TrackInfo) → slice_get m.tracks s.track ≡ Some info
-    → (get_or c.tracks-tracks.result.now c.in-Some.turn.track c.index-tracks-track.result).id
-    ≡ info.id = λ info is. ap (λ (x : TrackInfo). x.id) (sym c.index-tracks-track.is ∙ read_at m.tracks s.track info c.index-tracks-track.result is (rw (here.0, c.tracks-tracks.ensures) at c.index-tracks-track.is)) in
     rw (e.1, e.2)
-    (carry_lacks c.args.self.now.reductions.leaving file tree m o s c.loop-turn.sequence c.loop-turn.bytes w g.met.K.Sink.takes_on before after h c.in-Some.turn here ends i.tracks i.writer (ap (λ (r : Reductions). r.leaving) i.reductions) (ap (λ (r : Reductions). r.of_tracks.items) i.reductions
-    ∙ ready.reductions) c.note_turn.new.self c.in_ok-noted.noted
-    (get_or c.tracks-tracks.result.now c.in-Some.turn.track c.index-tracks-track.result).id noted c.in_ok-noted.ensures.writer.reductions c.in_ok-noted.ensures.writer.keeps few is_id _
+    (carry_lacks c.args.self.now.content.leaving file tree m o s c.loop-turn.sequence c.loop-turn.bytes w g.met.K.Sink.takes_on before after h c.in-Some.turn here own i.tracks i.writer (ap (λ (x : Content). x.leaving) i.content) (ap (λ (x : Content). x.of_tracks.items) i.content
+    ∙ ready.reductions) c.note_turn.new.self c.in_ok-noted.noted noted c.in_ok-noted.ensures.writer.content c.in_ok-noted.ensures.writer.keeps few _
     ((rw (c.in_ok-noted.ensures.track, c.in_ok-noted.ensures.store.honesty, c.in_ok-noted.ensures.store.file, i.honesty, i.file) at c.in_err-carry_turn.ensures.unchanged) told tree o))
 
 pub returns-in_err-pass-clause-prefix : goal.returns-in_err-pass-clause-prefix
@@ -186,19 +179,15 @@ returns-in_err-pass-clause-prefix g c told tree o ready =
     let before = c.args.sink.now in
     let after = c.loop-turn.sink in
     let here = c.in-Some.ensures.track in
-    let ends : (info : TrackInfo) → slice_get m.tracks s.track ≡ Some info → c.in-Some.turn.end ≡ turn_end s (timescale_left c.args.self.now.reductions.leaving info.timescale) = λ info is. (rw i.left_out at c.in-Some.ensures.end) info (rw c.tracks-tracks.ensures is) in
+    let own = rw (c.tracks-in-loop-turn.ensures ∙ ap (λ (x : Content). x.tracks.items) i.content ∙ c.requires.content.tracks) at c.in-Some.ensures.own in
     let noted = (rw (i.honesty, i.file) at c.in_ok-noted.ensures.noted) told tree o in
     let few : IsFew c.in_ok-noted.noted.planned = record { count = no_more _ _ _ c.in_ok-noted.ensures.planned.bounds.few i.writer.few; rows = c.in_ok-noted.ensures.planned.bounds.rows } in
-    let is_id : (info : TrackInfo) → slice_get m.tracks s.track ≡ Some info
-    → (get_or c.tracks-tracks.result.now c.in-Some.turn.track c.index-tracks-track.result).id
-    ≡ info.id = λ info is. ap (λ (x : TrackInfo). x.id) (sym c.index-tracks-track.is ∙ read_at m.tracks s.track info c.index-tracks-track.result is (rw (here.0, c.tracks-tracks.ensures) at c.index-tracks-track.is)) in
     let put = (rw (c.in_ok-noted.ensures.track, c.in_ok-noted.ensures.store.honesty, c.in_ok-noted.ensures.store.file, i.honesty, i.file) at c.in_ok-carry_turn.ensures.put) told tree o in
     let copied = (rw (c.in_ok-noted.ensures.track, c.in_ok-noted.ensures.store.honesty, c.in_ok-noted.ensures.store.file, i.honesty, i.file) at c.in_ok-carry_turn.ensures.copied) told tree o in
-    let on = turn_goes c.args.self.now.reductions.leaving file tree m o s c.loop-turn.sequence c.loop-turn.bytes w g.met.K.Sink.takes_on before after h c.in-Some.turn here ends i.tracks i.writer (ap (λ (r : Reductions). r.leaving) i.reductions)
-    (ap (λ (r : Reductions). r.of_tracks.items) i.reductions ∙ ready.reductions) c.note_turn.new.self c.in_ok-noted.noted
-    (get_or c.tracks-tracks.result.now c.in-Some.turn.track c.index-tracks-track.result).id noted c.in_ok-noted.ensures.writer.reductions c.in_ok-noted.ensures.writer.keeps few is_id c.carry_turn.new.self _ copied
+    let on = turn_goes c.args.self.now.content.leaving file tree m o s c.loop-turn.sequence c.loop-turn.bytes w g.met.K.Sink.takes_on before after h c.in-Some.turn here own i.tracks i.writer (ap (λ (x : Content). x.leaving) i.content)
+    (ap (λ (x : Content). x.of_tracks.items) i.content ∙ ready.reductions) c.note_turn.new.self c.in_ok-noted.noted noted c.in_ok-noted.ensures.writer.content c.in_ok-noted.ensures.writer.keeps few c.carry_turn.new.self _ copied
     (λ x is. read_at c.carry_turn.new.self.nexts.items c.in-Some.turn.track x _ is c.index.ensures) c.carry_turn.new.sink _ put c.in_ok-carry_turn.ensures.writer.keeps refl in
-    rw e.1 (stopped c.args.self.now.reductions.leaving file tree m _ _ _ _ _ _ g.met.K.Sink.takes_on _ _ _ on)
+    rw e.1 (stopped c.args.self.now.content.leaving file tree m _ _ _ _ _ _ g.met.K.Sink.takes_on _ _ _ on)
 
 pub returns-in_err-pass-clause-unchanged : goal.returns-in_err-pass-clause-unchanged
 returns-in_err-pass-clause-unchanged g c told tree o ready =
@@ -212,34 +201,29 @@ returns-in_err-pass-clause-unchanged g c told tree o ready =
     let before = c.args.sink.now in
     let after = c.loop-turn.sink in
     let here = c.in-Some.ensures.track in
-    let ends : (info : TrackInfo) → slice_get m.tracks s.track ≡ Some info → c.in-Some.turn.end ≡ turn_end s (timescale_left c.args.self.now.reductions.leaving info.timescale) = λ info is. (rw i.left_out at c.in-Some.ensures.end) info (rw c.tracks-tracks.ensures is) in
+    let own = rw (c.tracks-in-loop-turn.ensures ∙ ap (λ (x : Content). x.tracks.items) i.content ∙ c.requires.content.tracks) at c.in-Some.ensures.own in
     let noted = (rw (i.honesty, i.file) at c.in_ok-noted.ensures.noted) told tree o in
     let few : IsFew c.in_ok-noted.noted.planned = record { count = no_more _ _ _ c.in_ok-noted.ensures.planned.bounds.few i.writer.few; rows = c.in_ok-noted.ensures.planned.bounds.rows } in
-    let is_id : (info : TrackInfo) → slice_get m.tracks s.track ≡ Some info
-    → (get_or c.tracks-tracks.result.now c.in-Some.turn.track c.index-tracks-track.result).id
-    ≡ info.id = λ info is. ap (λ (x : TrackInfo). x.id) (sym c.index-tracks-track.is ∙ read_at m.tracks s.track info c.index-tracks-track.result is (rw (here.0, c.tracks-tracks.ensures) at c.index-tracks-track.is)) in
     let copied = (rw (c.in_ok-noted.ensures.track, c.in_ok-noted.ensures.store.honesty, c.in_ok-noted.ensures.store.file, i.honesty, i.file) at c.in_ok-carry_turn.ensures.copied) told tree o in
     let put = (rw (c.in_ok-noted.ensures.track, c.in_ok-noted.ensures.store.honesty, c.in_ok-noted.ensures.store.file, i.honesty, i.file) at c.in_ok-carry_turn.ensures.put) told tree o in
     let next = turned s c.in-Some.turn.end c.in_ok-noted.noted.planned.count c.index.result.now in
-    let there = (get_or c.tracks-tracks.result.now c.in-Some.turn.track c.index-tracks-track.result).id in
     let read : (x : Option SampleAt) → slice_get c.carry_turn.new.self.nexts.items c.in-Some.turn.track ≡ Some x → c.index.result.now ≡ x = λ x is. read_at c.carry_turn.new.self.nexts.items c.in-Some.turn.track x _ is c.index.ensures in
-    let on = turn_goes c.args.self.now.reductions.leaving file tree m o s c.loop-turn.sequence c.loop-turn.bytes w
-    g.met.K.Sink.takes_on before after h c.in-Some.turn here ends i.tracks i.writer (ap (λ (r : Reductions). r.leaving) i.reductions) (ap (λ (r : Reductions). r.of_tracks.items) i.reductions
-    ∙ ready.reductions) c.note_turn.new.self c.in_ok-noted.noted there noted c.in_ok-noted.ensures.writer.reductions c.in_ok-noted.ensures.writer.keeps few is_id c.carry_turn.new.self
+    let on = turn_goes c.args.self.now.content.leaving file tree m o s c.loop-turn.sequence c.loop-turn.bytes w
+    g.met.K.Sink.takes_on before after h c.in-Some.turn here own i.tracks i.writer (ap (λ (x : Content). x.leaving) i.content) (ap (λ (x : Content). x.of_tracks.items) i.content
+    ∙ ready.reductions) c.note_turn.new.self c.in_ok-noted.noted noted c.in_ok-noted.ensures.writer.content c.in_ok-noted.ensures.writer.keeps few c.carry_turn.new.self
     c.index.result.now copied read c.carry_turn.new.sink next put c.in_ok-carry_turn.ensures.writer.keeps refl in
-    let stuck = with_times c.args.self.now.reductions.leaving file tree m o s c.loop-turn.sequence c.loop-turn.bytes w g.met.K.Sink.takes_on before after h c.in-Some.turn here ends i.tracks i.writer (ap (λ (r : Reductions). r.leaving) i.reductions)
-    (ap (λ (r : Reductions). r.of_tracks.items) i.reductions
-    ∙ ready.reductions) c.note_turn.new.self c.in_ok-noted.noted there noted c.in_ok-noted.ensures.writer.reductions c.in_ok-noted.ensures.writer.keeps few is_id
+    let stuck = with_times c.args.self.now.content.leaving file tree m o s c.loop-turn.sequence c.loop-turn.bytes w g.met.K.Sink.takes_on before after h c.in-Some.turn here own i.tracks i.writer (ap (λ (x : Content). x.leaving) i.content)
+    (ap (λ (x : Content). x.of_tracks.items) i.content
+    ∙ ready.reductions) c.note_turn.new.self c.in_ok-noted.noted noted c.in_ok-noted.ensures.writer.content c.in_ok-noted.ensures.writer.keeps few
     c.carry_turn.new.self c.index.result.now copied
-    read (λ (xs : List (Option SampleAt)). Sticks s c.in_ok-noted.noted.planned.count c.index.result.now ⊎ FindsMore (infos_left c.args.self.now.reductions.leaving m.tracks) xs next c.pass.new.self c.pass.new.due) (i.due told tree o ready) c.in_ok-carry_turn.ensures.writer.keeps.1
-    (subst (λ (l : Without). (nexts : List (Option SampleAt)) → AreTimes (infos_left l m.tracks) nexts s.first c.carry_turn.new.self.due
-    → Sticks s c.in_ok-noted.noted.planned.count c.index.result.now ⊎ FindsMore (infos_left l m.tracks) (slice_set nexts s.track c.index.result.now) next c.pass.new.self c.pass.new.due) i.left_out (rw c.tracks-tracks.ensures at c.in_err-pass.ensures.sticks)) in
+    read (λ (xs : List (Option SampleAt)). Sticks s c.in_ok-noted.noted.planned.count c.index.result.now ⊎ FindsMore (tracks_left c.args.self.now.content.leaving m.tracks) xs next c.pass.new.self c.pass.new.due) (i.due told tree o ready) c.in_ok-carry_turn.ensures.writer.keeps.1
+    (rw (c.tracks-in-Some.ensures ∙ ap (λ (x : Content). x.tracks.items) (c.in_ok-carry_turn.ensures.writer.content ∙ c.in_ok-noted.ensures.writer.content ∙ i.content) ∙ c.requires.content.tracks) at c.in_err-pass.ensures.sticks) in
     rw (e.1, e.2)
     (λ r. either stuck
-    (pass_lacks c.args.self.now.reductions.leaving file tree m o s c.loop-turn.sequence c.loop-turn.bytes w g.met.K.Sink.takes_on before after h c.in-Some.turn here ends i.tracks i.writer (ap (λ (r : Reductions). r.leaving) i.reductions) (ap (λ (r : Reductions). r.of_tracks.items) i.reductions
-    ∙ ready.reductions) c.note_turn.new.self c.in_ok-noted.noted there noted c.in_ok-noted.ensures.writer.reductions c.in_ok-noted.ensures.writer.keeps few is_id
+    (pass_lacks c.args.self.now.content.leaving file tree m o s c.loop-turn.sequence c.loop-turn.bytes w g.met.K.Sink.takes_on before after h c.in-Some.turn here own i.tracks i.writer (ap (λ (x : Content). x.leaving) i.content) (ap (λ (x : Content). x.of_tracks.items) i.content
+    ∙ ready.reductions) c.note_turn.new.self c.in_ok-noted.noted noted c.in_ok-noted.ensures.writer.content c.in_ok-noted.ensures.writer.keeps few
     c.carry_turn.new.self c.index.result.now copied read (i.due told tree o ready))
-    (writes_no_more c.args.self.now.reductions.leaving file tree m next c.pass.new.self _ _ _ _ _ _ _ c.pass.new.due o on))
+    (writes_no_more c.args.self.now.content.leaving file tree m next c.pass.new.self _ _ _ _ _ _ _ c.pass.new.due o on))
 
 pub loop-turn-preserved : goal.loop-turn-preserved
 loop-turn-preserved g c =
@@ -247,15 +231,14 @@ loop-turn-preserved g c =
     record {
       writer =
           let goes = c.in_ok-carry_turn.ensures.writer.writer in
-          record { walks = goes.walks; few = goes.few; nexts = goes.nexts; reductions = goes.reductions; due = c.in_ok-pass.ensures.tree.0; many = c.in_ok-pass.ensures.tree.1 ∙ i.tracks };
+          record { walks = goes.walks; few = goes.few; nexts = goes.nexts; content = goes.content; due = c.in_ok-pass.ensures.tree.0; many = c.in_ok-pass.ensures.tree.1 ∙ i.tracks };
       held = c.in_ok-carry_turn.ensures.writer.held ∙ c.in_ok-noted.ensures.writer.held ∙ i.held;
       tracks = c.in_ok-pass.ensures.tracks ∙ i.tracks;
-      left_out = c.in_ok-pass.ensures.leaving ∙ i.left_out;
       honesty = c.in_ok-carry_turn.ensures.devices.honesty ∙ c.in_ok-noted.ensures.store.honesty ∙ i.honesty;
       file = c.in_ok-carry_turn.ensures.devices.file ∙ c.in_ok-noted.ensures.store.file ∙ i.file;
       reads = c.in_ok-carry_turn.ensures.devices.reads ∙ c.in_ok-noted.ensures.store.reads ∙ i.reads;
       puts = c.in_ok-carry_turn.ensures.devices.puts ∙ i.puts;
-      reductions = c.in_ok-carry_turn.ensures.writer.reductions ∙ c.in_ok-noted.ensures.writer.reductions ∙ i.reductions;
+      content = c.in_ok-carry_turn.ensures.writer.content ∙ c.in_ok-noted.ensures.writer.content ∙ i.content;
       rows = ap (λ v. length v.items) c.in_ok-carry_turn.ensures.writer.keeps.0 ∙ c.in_ok-noted.ensures.writer.keeps.1 ∙ i.rows;
       few = (let left = c.in_ok-pass.ensures.left in
           rw c.from-bytes.ensures (still_fits c.loop-turn.bytes c.loop-turn.schedule.left c.in_ok-noted.noted.planned.bytes c.in_ok-noted.noted.planned.count c.pass.new.self.left _ i.few c.in_ok-noted.ensures.planned.bounds.bytes c.in_ok-pass.ensures.enough left));
@@ -279,28 +262,24 @@ loop-turn-preserved g c =
           let before = c.args.sink.now in
           let after = c.loop-turn.sink in
           let here = c.in-Some.ensures.track in
-          let ends : (info : TrackInfo) → slice_get m.tracks s.track ≡ Some info → c.in-Some.turn.end ≡ turn_end s (timescale_left c.args.self.now.reductions.leaving info.timescale) = λ info is. (rw i.left_out at c.in-Some.ensures.end) info (rw c.tracks-tracks.ensures is) in
+          let own = rw (c.tracks-in-loop-turn.ensures ∙ ap (λ (x : Content). x.tracks.items) i.content ∙ c.requires.content.tracks) at c.in-Some.ensures.own in
           let noted = (rw (i.honesty, i.file) at c.in_ok-noted.ensures.noted) told tree o in
           let few : IsFew c.in_ok-noted.noted.planned = record { count = no_more _ _ _ c.in_ok-noted.ensures.planned.bounds.few i.writer.few; rows = c.in_ok-noted.ensures.planned.bounds.rows } in
-          let is_id : (info : TrackInfo) → slice_get m.tracks s.track ≡ Some info
-          → (get_or c.tracks-tracks.result.now c.in-Some.turn.track c.index-tracks-track.result).id
-          ≡ info.id = λ info is. ap (λ (x : TrackInfo). x.id) (sym c.index-tracks-track.is ∙ read_at m.tracks s.track info c.index-tracks-track.result is (rw (here.0, c.tracks-tracks.ensures) at c.index-tracks-track.is)) in
           let put = (rw (c.in_ok-noted.ensures.track, c.in_ok-noted.ensures.store.honesty, c.in_ok-noted.ensures.store.file, i.honesty, i.file) at c.in_ok-carry_turn.ensures.put) told tree o in
           let copied = (rw (c.in_ok-noted.ensures.track, c.in_ok-noted.ensures.store.honesty, c.in_ok-noted.ensures.store.file, i.honesty, i.file) at c.in_ok-carry_turn.ensures.copied) told tree o in
           let next = turned s c.in-Some.turn.end c.in_ok-noted.noted.planned.count c.index.result.now in
-          let there = (get_or c.tracks-tracks.result.now c.in-Some.turn.track c.index-tracks-track.result).id in
           let read : (x : Option SampleAt) → slice_get c.carry_turn.new.self.nexts.items c.in-Some.turn.track ≡ Some x → c.index.result.now ≡ x = λ x is. read_at c.carry_turn.new.self.nexts.items c.in-Some.turn.track x _ is c.index.ensures in
           let due_next =
-          with_times c.args.self.now.reductions.leaving file tree m o s c.loop-turn.sequence c.loop-turn.bytes w
-          g.met.K.Sink.takes_on before after h c.in-Some.turn here ends i.tracks i.writer (ap (λ (r : Reductions). r.leaving) i.reductions) (ap (λ (r : Reductions). r.of_tracks.items) i.reductions
-          ∙ ready.reductions) c.note_turn.new.self c.in_ok-noted.noted there noted c.in_ok-noted.ensures.writer.reductions c.in_ok-noted.ensures.writer.keeps few is_id c.carry_turn.new.self
-          c.index.result.now copied read (λ (xs : List (Option SampleAt)). IsDueAt (infos_left c.args.self.now.reductions.leaving m.tracks) xs c.pass.new.self c.pass.new.due) (i.due told tree o ready) c.in_ok-carry_turn.ensures.writer.keeps.1
-          (rw (c.tracks-tracks.ensures, i.left_out) at c.in_ok-pass.ensures.due) in
+          with_times c.args.self.now.content.leaving file tree m o s c.loop-turn.sequence c.loop-turn.bytes w
+          g.met.K.Sink.takes_on before after h c.in-Some.turn here own i.tracks i.writer (ap (λ (x : Content). x.leaving) i.content) (ap (λ (x : Content). x.of_tracks.items) i.content
+          ∙ ready.reductions) c.note_turn.new.self c.in_ok-noted.noted noted c.in_ok-noted.ensures.writer.content c.in_ok-noted.ensures.writer.keeps few c.carry_turn.new.self
+          c.index.result.now copied read (λ (xs : List (Option SampleAt)). IsDueAt (tracks_left c.args.self.now.content.leaving m.tracks) xs c.pass.new.self c.pass.new.due) (i.due told tree o ready) c.in_ok-carry_turn.ensures.writer.keeps.1
+          (rw (c.tracks-in-Some.ensures ∙ ap (λ (x : Content). x.tracks.items) (c.in_ok-carry_turn.ensures.writer.content ∙ c.in_ok-noted.ensures.writer.content ∙ i.content) ∙ c.requires.content.tracks) at c.in_ok-pass.ensures.due) in
           rw (c.sequence_behind-sequence.ensures, c.from-bytes.ensures)
-          (writes_skips c.args.self.now.reductions.leaving file tree m next c.pass.new.self _ _ _ _ _ _ _ c.pass.new.due o
-          (turn_goes c.args.self.now.reductions.leaving file tree m o s c.loop-turn.sequence c.loop-turn.bytes w
-          g.met.K.Sink.takes_on before after h c.in-Some.turn here ends i.tracks i.writer (ap (λ (r : Reductions). r.leaving) i.reductions) (ap (λ (r : Reductions). r.of_tracks.items) i.reductions
-          ∙ ready.reductions) c.note_turn.new.self c.in_ok-noted.noted there noted c.in_ok-noted.ensures.writer.reductions c.in_ok-noted.ensures.writer.keeps few is_id c.carry_turn.new.self
+          (writes_skips c.args.self.now.content.leaving file tree m next c.pass.new.self _ _ _ _ _ _ _ c.pass.new.due o
+          (turn_goes c.args.self.now.content.leaving file tree m o s c.loop-turn.sequence c.loop-turn.bytes w
+          g.met.K.Sink.takes_on before after h c.in-Some.turn here own i.tracks i.writer (ap (λ (x : Content). x.leaving) i.content) (ap (λ (x : Content). x.of_tracks.items) i.content
+          ∙ ready.reductions) c.note_turn.new.self c.in_ok-noted.noted noted c.in_ok-noted.ensures.writer.content c.in_ok-noted.ensures.writer.keeps few c.carry_turn.new.self
           c.index.result.now copied read c.carry_turn.new.sink next put c.in_ok-carry_turn.ensures.writer.keeps refl)
           c.in_ok-pass.ensures.turned due_next);
       due = λ told tree o ready.
@@ -312,24 +291,21 @@ loop-turn-preserved g c =
           let before = c.args.sink.now in
           let after = c.loop-turn.sink in
           let here = c.in-Some.ensures.track in
-          let ends : (info : TrackInfo) → slice_get m.tracks s.track ≡ Some info → c.in-Some.turn.end ≡ turn_end s (timescale_left c.args.self.now.reductions.leaving info.timescale) = λ info is. (rw i.left_out at c.in-Some.ensures.end) info (rw c.tracks-tracks.ensures is) in
+          let own = rw (c.tracks-in-loop-turn.ensures ∙ ap (λ (x : Content). x.tracks.items) i.content ∙ c.requires.content.tracks) at c.in-Some.ensures.own in
           let noted = (rw (i.honesty, i.file) at c.in_ok-noted.ensures.noted) told tree o in
           let few : IsFew c.in_ok-noted.noted.planned = record { count = no_more _ _ _ c.in_ok-noted.ensures.planned.bounds.few i.writer.few; rows = c.in_ok-noted.ensures.planned.bounds.rows } in
-          let is_id : (info : TrackInfo) → slice_get m.tracks s.track ≡ Some info
-          → (get_or c.tracks-tracks.result.now c.in-Some.turn.track c.index-tracks-track.result).id
-          ≡ info.id = λ info is. ap (λ (x : TrackInfo). x.id) (sym c.index-tracks-track.is ∙ read_at m.tracks s.track info c.index-tracks-track.result is (rw (here.0, c.tracks-tracks.ensures) at c.index-tracks-track.is)) in
           let copied = (rw (c.in_ok-noted.ensures.track, c.in_ok-noted.ensures.store.honesty, c.in_ok-noted.ensures.store.file, i.honesty, i.file) at c.in_ok-carry_turn.ensures.copied) told tree o in
-          let there = (get_or c.tracks-tracks.result.now c.in-Some.turn.track c.index-tracks-track.result).id in
           let read : (x : Option SampleAt) → slice_get c.carry_turn.new.self.nexts.items c.in-Some.turn.track ≡ Some x → c.index.result.now ≡ x = λ x is. read_at c.carry_turn.new.self.nexts.items c.in-Some.turn.track x _ is c.index.ensures in
-          with_times c.args.self.now.reductions.leaving file tree m o s c.loop-turn.sequence c.loop-turn.bytes w g.met.K.Sink.takes_on before after h c.in-Some.turn here ends i.tracks i.writer (ap (λ (r : Reductions). r.leaving) i.reductions) (ap (λ (r : Reductions). r.of_tracks.items) i.reductions
-          ∙ ready.reductions) c.note_turn.new.self c.in_ok-noted.noted there noted c.in_ok-noted.ensures.writer.reductions c.in_ok-noted.ensures.writer.keeps few is_id
+          with_times c.args.self.now.content.leaving file tree m o s c.loop-turn.sequence c.loop-turn.bytes w g.met.K.Sink.takes_on before after h c.in-Some.turn here own i.tracks i.writer (ap (λ (x : Content). x.leaving) i.content) (ap (λ (x : Content). x.of_tracks.items) i.content
+          ∙ ready.reductions) c.note_turn.new.self c.in_ok-noted.noted noted c.in_ok-noted.ensures.writer.content c.in_ok-noted.ensures.writer.keeps few
           c.carry_turn.new.self c.index.result.now copied
-          read (λ (xs : List (Option SampleAt)). IsDueAt (infos_left c.args.self.now.reductions.leaving m.tracks) xs c.pass.new.self c.pass.new.due) (i.due told tree o ready) c.in_ok-carry_turn.ensures.writer.keeps.1 (rw (c.tracks-tracks.ensures, i.left_out) at c.in_ok-pass.ensures.due);
+          read (λ (xs : List (Option SampleAt)). IsDueAt (tracks_left c.args.self.now.content.leaving m.tracks) xs c.pass.new.self c.pass.new.due) (i.due told tree o ready) c.in_ok-carry_turn.ensures.writer.keeps.1
+              (rw (c.tracks-in-Some.ensures ∙ ap (λ (x : Content). x.tracks.items) (c.in_ok-carry_turn.ensures.writer.content ∙ c.in_ok-noted.ensures.writer.content ∙ i.content) ∙ c.requires.content.tracks) at c.in_ok-pass.ensures.due);
       within = λ told tree o n may.
           let w = c.loop-turn.self in
-          turn_then (g.S.Store.file c.args.store.now) tree c.args.movie.now w.reductions.of_tracks.items w.walks.items c.note_turn.new.self.walks.items c.in-Some.turn.track c.in_ok-noted.noted.planned.count n _ _ _ (i.within told tree o n may)
+          turn_then (g.S.Store.file c.args.store.now) tree c.args.movie.now w.content.of_tracks.items w.walks.items c.note_turn.new.self.walks.items c.in-Some.turn.track c.in_ok-noted.noted.planned.count n _ _ _ (i.within told tree o n may)
           ((rw (i.honesty, i.file, c.in-Some.ensures.passed) at c.in_ok-noted.ensures.work) told tree o) c.carry_turn.new.self.walks.items _
-          (rw c.in_ok-noted.ensures.writer.reductions at ((rw (c.in_ok-noted.ensures.track, c.in_ok-noted.ensures.store.honesty, c.in_ok-noted.ensures.store.file, i.honesty, i.file) at c.in_ok-carry_turn.ensures.work) told tree o));
+          (rw c.in_ok-noted.ensures.writer.content at ((rw (c.in_ok-noted.ensures.track, c.in_ok-noted.ensures.store.honesty, c.in_ok-noted.ensures.store.file, i.honesty, i.file) at c.in_ok-carry_turn.ensures.work) told tree o));
       some = c.in_ok-pass.ensures.some;
       looks = looks_on c.loop-turn.schedule c.pass.new.self c.args.steps.now.looks _ _ (movie_turns c.args.movie.now) i.looks (c.in_ok-carry_turn.ensures.looks ∙ c.in_ok-noted.ensures.looks ∙ c.in-Some.ensures.looks) c.in_ok-pass.ensures.less;
       grows = (let noted = c.in_ok-noted.ensures.grows in let carried = c.in_ok-carry_turn.ensures.grows in let so = i.grows in let same = c.in-Some.ensures.passed in omega (arith, noted, carried, so, same));
@@ -345,8 +321,8 @@ returns-clause-bytes g c told tree o ready =
     let h = i.on told tree o ready in
     let before = c.args.sink.now in
     let after = c.loop-turn.sink in
-    let none = turns_end file (infos_left c.args.self.now.reductions.leaving m.tracks) s h.lefts h.comings h.turn (c.in_default.ensures.none refl) in
-    on_ok _ _ c.flush.result (λ x. all_put c.args.self.now.reductions.leaving file tree m s c.loop-turn.sequence c.loop-turn.bytes w.walks.items w.nexts.items (length w.notes.rows.items) g.met.K.Sink.takes_on before after (waiting w.carrier) h _ none x) c.flush.ensures.bytes
+    let none = turns_end file (infos_left c.args.self.now.content.leaving m.tracks) s h.lefts h.comings h.turn (c.in_default.ensures.none refl) in
+    on_ok _ _ c.flush.result (λ x. all_put c.args.self.now.content.leaving file tree m s c.loop-turn.sequence c.loop-turn.bytes w.walks.items w.nexts.items (length w.notes.rows.items) g.met.K.Sink.takes_on before after (waiting w.carrier) h _ none x) c.flush.ensures.bytes
 
 pub returns-clause-prefix : goal.returns-clause-prefix
 returns-clause-prefix g c told tree o ready =
@@ -358,8 +334,8 @@ returns-clause-prefix g c told tree o ready =
     let h = i.on told tree o ready in
     let before = c.args.sink.now in
     let after = c.loop-turn.sink in
-    let none = turns_end file (infos_left c.args.self.now.reductions.leaving m.tracks) s h.lefts h.comings h.turn (c.in_default.ensures.none refl) in
-    on_err _ _ c.flush.result (λ x. not_all_put c.args.self.now.reductions.leaving file tree m s c.loop-turn.sequence c.loop-turn.bytes w.walks.items w.nexts.items (length w.notes.rows.items) g.met.K.Sink.takes_on before after (waiting w.carrier) h _ none x) c.flush.ensures.prefix
+    let none = turns_end file (infos_left c.args.self.now.content.leaving m.tracks) s h.lefts h.comings h.turn (c.in_default.ensures.none refl) in
+    on_err _ _ c.flush.result (λ x. not_all_put c.args.self.now.content.leaving file tree m s c.loop-turn.sequence c.loop-turn.bytes w.walks.items w.nexts.items (length w.notes.rows.items) g.met.K.Sink.takes_on before after (waiting w.carrier) h _ none x) c.flush.ensures.prefix
 
 pub returns-clause-unchanged : goal.returns-clause-unchanged
 returns-clause-unchanged g c told tree o ready =
@@ -377,9 +353,9 @@ pub returns-in_err-carry_turn-clause-work : goal.returns-in_err-carry_turn-claus
 returns-in_err-carry_turn-clause-work g c told tree o n may =
     let i = c.loop-turn.invariant in
     let w = c.loop-turn.self in
-    turn_then_stop (g.S.Store.file c.args.store.now) tree c.args.movie.now w.reductions.of_tracks.items w.walks.items c.note_turn.new.self.walks.items c.in-Some.turn.track c.in_ok-noted.noted.planned.count n _ _ _ (i.within told tree o n may)
+    turn_then_stop (g.S.Store.file c.args.store.now) tree c.args.movie.now w.content.of_tracks.items w.walks.items c.note_turn.new.self.walks.items c.in-Some.turn.track c.in_ok-noted.noted.planned.count n _ _ _ (i.within told tree o n may)
     ((rw (i.honesty, i.file, c.in-Some.ensures.passed) at c.in_ok-noted.ensures.work) told tree o) _
-    (rw c.in_ok-noted.ensures.writer.reductions at ((rw (c.in_ok-noted.ensures.track, c.in_ok-noted.ensures.store.honesty, c.in_ok-noted.ensures.store.file, i.honesty, i.file) at c.in_err-carry_turn.ensures.work) told tree o))
+    (rw c.in_ok-noted.ensures.writer.content at ((rw (c.in_ok-noted.ensures.track, c.in_ok-noted.ensures.store.honesty, c.in_ok-noted.ensures.store.file, i.honesty, i.file) at c.in_err-carry_turn.ensures.work) told tree o))
 
 pub returns-in_err-pass-clause-work : goal.returns-in_err-pass-clause-work
 returns-in_err-pass-clause-work g c told tree o n may =
@@ -387,9 +363,9 @@ returns-in_err-pass-clause-work g c told tree o n may =
     let file = g.S.Store.file c.args.store.now in
     let w = c.loop-turn.self in
     all_written file tree c.args.movie.now c.carry_turn.new.self.walks.items n _ _
-    (turn_then file tree c.args.movie.now w.reductions.of_tracks.items w.walks.items c.note_turn.new.self.walks.items c.in-Some.turn.track c.in_ok-noted.noted.planned.count n _ _ _ (i.within told tree o n may)
+    (turn_then file tree c.args.movie.now w.content.of_tracks.items w.walks.items c.note_turn.new.self.walks.items c.in-Some.turn.track c.in_ok-noted.noted.planned.count n _ _ _ (i.within told tree o n may)
     ((rw (i.honesty, i.file, c.in-Some.ensures.passed) at c.in_ok-noted.ensures.work) told tree o) c.carry_turn.new.self.walks.items _
-    (rw c.in_ok-noted.ensures.writer.reductions at ((rw (c.in_ok-noted.ensures.track, c.in_ok-noted.ensures.store.honesty, c.in_ok-noted.ensures.store.file, i.honesty, i.file) at c.in_ok-carry_turn.ensures.work) told tree o)))
+    (rw c.in_ok-noted.ensures.writer.content at ((rw (c.in_ok-noted.ensures.track, c.in_ok-noted.ensures.store.honesty, c.in_ok-noted.ensures.store.file, i.honesty, i.file) at c.in_ok-carry_turn.ensures.work) told tree o)))
 
 pub returns-clause-work : goal.returns-clause-work
 returns-clause-work g c told tree o n may = rw c.in_default.ensures.passed (all_written (g.S.Store.file c.args.store.now) tree c.args.movie.now c.loop-turn.self.walks.items n _ _ (c.loop-turn.invariant.within told tree o n may))
@@ -406,7 +382,7 @@ pub returns-then-not-are_all-clause-prefix : goal.returns-then-not-are_all-claus
 returns-then-not-are_all-clause-prefix g c told tree o ready =
     let i = c.loop-turn.invariant in
     let w = c.loop-turn.self in
-    stopped c.args.self.now.reductions.leaving (g.S.Store.file c.args.store.now) tree c.args.movie.now c.loop-turn.schedule c.loop-turn.sequence c.loop-turn.bytes w.walks.items w.nexts.items (length w.notes.rows.items) g.met.K.Sink.takes_on c.args.sink.now c.loop-turn.sink
+    stopped c.args.self.now.content.leaving (g.S.Store.file c.args.store.now) tree c.args.movie.now c.loop-turn.schedule c.loop-turn.sequence c.loop-turn.bytes w.walks.items w.nexts.items (length w.notes.rows.items) g.met.K.Sink.takes_on c.args.sink.now c.loop-turn.sink
     (waiting w.carrier) (i.on told tree o ready)
 
 pub returns-then-not-are_all-clause-unchanged : goal.returns-then-not-are_all-clause-unchanged
@@ -414,9 +390,10 @@ returns-then-not-are_all-clause-unchanged g c told tree o ready e =
     let i = c.loop-turn.invariant in
     let w = c.loop-turn.self in
     let m = c.args.movie.now in
-    let all = all_taken c.args.self.now.reductions.leaving (g.S.Store.file c.args.store.now) tree m c.loop-turn.schedule c.loop-turn.sequence c.loop-turn.bytes w.walks.items w.nexts.items (length w.notes.rows.items) g.met.K.Sink.takes_on c.args.sink.now c.loop-turn.sink
+    let all = all_taken c.args.self.now.content.leaving (g.S.Store.file c.args.store.now) tree m c.loop-turn.schedule c.loop-turn.sequence c.loop-turn.bytes w.walks.items w.nexts.items (length w.notes.rows.items) g.met.K.Sink.takes_on c.args.sink.now c.loop-turn.sink
     (waiting w.carrier) (i.on told tree o ready) (c.in_default.ensures.none refl) in
-    c.are_all.ensures.missing c.if-not-are_all.true (all.0, all.1 ∙ ap (λ (infos : List TrackInfo). sum_by (λ (x : TrackInfo). x.bytes) infos) (sym c.tracks-tracks.ensures))
+    let tracks = c.tracks-3.ensures ∙ ap (λ (x : Content). x.tracks.items) i.content ∙ c.requires.content.tracks in
+    c.are_all.ensures.missing c.if-not-are_all.true (all.0, all.1 ∙ sym (ap (λ (ts : List TrackLeft). sum_by (λ (t : TrackLeft). t.bytes) ts) tracks ∙ tracks_bytes c.args.self.now.content.leaving m.tracks))
 
 pub returns-then-not-are_all-clause-work : goal.returns-then-not-are_all-clause-work
 returns-then-not-are_all-clause-work g c told tree o n may = rw c.in_default.ensures.passed (all_written (g.S.Store.file c.args.store.now) tree c.args.movie.now c.loop-turn.self.walks.items n _ _ (c.loop-turn.invariant.within told tree o n may))
@@ -426,10 +403,12 @@ returns-clause-whole g c =
     let i = c.loop-turn.invariant in
     let w = c.loop-turn.self in
     let sum = i.sent.1 in
-    let all = (rw c.tracks-tracks.ensures at c.are_all.ensures.all) c.if-not-are_all.false in
+    let tracks = c.tracks-3.ensures ∙ ap (λ (x : Content). x.tracks.items) i.content ∙ c.requires.content.tracks in
+    let all = (rw tracks at c.are_all.ensures.all) c.if-not-are_all.false in
     let none = all.0 in
     on_ok _ _ c.flush.result
-    (λ x. all_follow c.args.movie.now g.met.K.Sink.takes_on c.args.sink.now c.loop-turn.sink c.flush.new.sink (waiting c.args.self.now.carrier) (waiting w.carrier) c.args.self.now.head.items i.sent.0 c.loop-turn.bytes i.sent.2 (omega (arith, none, sum)) all.1 x)
+    (λ x. all_follow c.args.movie.now g.met.K.Sink.takes_on c.args.sink.now c.loop-turn.sink c.flush.new.sink (waiting c.args.self.now.carrier) (waiting w.carrier) c.args.self.now.head.items i.sent.0 c.loop-turn.bytes i.sent.2 (omega (arith, none, sum)) (all.1
+        ∙ tracks_bytes c.args.self.now.content.leaving c.args.movie.now.tracks) x)
     c.flush.ensures.bytes
 
 pub returns-in_err-noted-clause-turns : goal.returns-in_err-noted-clause-turns

@@ -3,7 +3,8 @@ use Rattle.std.specs.List.{sum_by}
 use Rattle.mp4_present.specs.words.Carried.{waiting}
 use Rattle.mp4_present.specs.declared.track_info.TrackInfo.{TrackInfo}
 use Rattle.mp4_plan.specs.words.PutPieces.{PiecesFollow}
-use Rattle.mp4_plan.specs.words.Turns.{IsSomeLeft, infos_left, movie_turns, turns_left}
+use Rattle.mp4_plan.specs.words.Turns.{IsSomeLeft, movie_turns, turns_left}
+use Rattle.mp4_content.specs.words.Contents.{tracks_left}
 use Rattle.mp4_plan.specs.words.DueTracks.{IsDueAt}
 use Rattle.mp4_content.specs.words.Opened.{OverOpened}
 use Rattle.mp4_plan.specs.words.Writers.{IsWriterOf, IsReady}
@@ -18,9 +19,8 @@ abbrev pub invariant-loop-turn : goal.invariant-loop-turn
 invariant-loop-turn g l = record {
   writer : IsWriterOf l.movie l.self;
   held : held_bytes l.self ≡ held_bytes l.fn.self;
-  reductions : l.self.reductions ≡ l.fn.self.reductions;
+  content : l.self.content ≡ l.fn.self.content;
   tracks : l.schedule.tracks ≡ length l.movie.tracks;
-  left_out : l.schedule.leaving ≡ l.fn.self.reductions.leaving;
   honesty : g.S.Store.is_honest l.store ≡ g.S.Store.is_honest l.fn.store;
   file : g.S.Store.file l.store ≡ g.S.Store.file l.fn.store;
   reads : g.S.Store.read_failures l.store ≡ g.S.Store.read_failures l.fn.store;
@@ -31,10 +31,10 @@ invariant-loop-turn g l = record {
       × PiecesFollow (g.K.Sink.takes l.fn.sink l.sink) (waiting l.fn.self.carrier) (waiting l.self.carrier) l.fn.self.head.items samples l.bytes;
   on : OverOpened g.S.Store l.fn.store l.movie
       (λ file tree. IsReady file tree l.movie l.fn.self
-      → WritesOn l.fn.self.reductions.leaving file tree l.movie l.schedule l.sequence l.bytes l.self.walks.items l.self.nexts.items (length l.self.notes.rows.items) (g.K.Sink.takes l.fn.sink l.sink) (waiting l.self.carrier));
+      → WritesOn l.fn.self.content.leaving file tree l.movie l.schedule l.sequence l.bytes l.self.walks.items l.self.nexts.items (length l.self.notes.rows.items) (g.K.Sink.takes l.fn.sink l.sink) (waiting l.self.carrier));
   within : OverOpened g.S.Store l.fn.store l.movie
       (λ file tree. (n : ℕ) → MayAllWrite file tree l.movie l.fn.self.walks.items n → AllWriteOn file tree l.movie n l.self.walks.items l.fn.steps.passed l.steps.passed);
-  due : OverOpened g.S.Store l.fn.store l.movie (λ file tree. IsReady file tree l.movie l.fn.self → IsDueAt (infos_left l.fn.self.reductions.leaving l.movie.tracks) l.self.nexts.items l.schedule l.self.due);
+  due : OverOpened g.S.Store l.fn.store l.movie (λ file tree. IsReady file tree l.movie l.fn.self → IsDueAt (tracks_left l.fn.self.content.leaving l.movie.tracks) l.self.nexts.items l.schedule l.self.due);
   some : IsSomeLeft l.schedule;
   looks : l.steps.looks + turns_left l.schedule ≤ l.fn.steps.looks + movie_turns l.movie;
   grows : l.fn.steps.passed ≤ l.steps.passed;
