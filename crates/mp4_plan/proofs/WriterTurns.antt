@@ -48,7 +48,7 @@ use Rattle.mp4_plan.proofs.WritesOn.{WritesOn, AtTurn, at_turn, turn_stops, turn
 module _ (leaving : Without) (file : List ℕ) (tree : FileTree) (m : MovieSeen) (o : IsOpenedAs file m tree) (s : Schedule) (sequence sent : ℕ) (w : Writer) {Y : Type 0} {takes : Y → Y → List ℕ → Type 0} (joins : IsJoining takes) (before after : Y)
     (h : WritesOn leaving file tree m s sequence sent w.walks.items w.nexts.items (length w.notes.rows.items) (takes before after) (waiting w.carrier)) (turn : Turn) (here : (turn.track ≡ s.track) × (s.track < s.tracks))
     (own : (track : TrackLeft) → slice_get (tracks_left leaving m.tracks) s.track ≡ Some track → (turn.end ≡ turn_end s track.timescale) × (turn.id ≡ track.id)) (tracks : s.tracks ≡ length m.tracks) (goes : IsWriterOf m w) (same_leaving : w.content.leaving ≡ leaving)
-        (reduced : w.content.of_tracks.items
+    (reduced : w.content.of_tracks.items
     ≡ reductions_of leaving tree)
   where
     at : AtTurn leaving file tree m s w.walks.items w.nexts.items (length w.notes.rows.items) h.lefts h.comings

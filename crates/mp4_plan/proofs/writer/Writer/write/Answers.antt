@@ -300,7 +300,7 @@ loop-turn-preserved g c =
           ∙ ready.reductions) c.note_turn.new.self c.in_ok-noted.noted noted c.in_ok-noted.ensures.writer.content c.in_ok-noted.ensures.writer.keeps few
           c.carry_turn.new.self c.index.result.now copied
           read (λ (xs : List (Option SampleAt)). IsDueAt (tracks_left c.args.self.now.content.leaving m.tracks) xs c.pass.new.self c.pass.new.due) (i.due told tree o ready) c.in_ok-carry_turn.ensures.writer.keeps.1
-              (rw (c.tracks-in-Some.ensures ∙ ap (λ (x : Content). x.tracks.items) (c.in_ok-carry_turn.ensures.writer.content ∙ c.in_ok-noted.ensures.writer.content ∙ i.content) ∙ c.requires.content.tracks) at c.in_ok-pass.ensures.due);
+          (rw (c.tracks-in-Some.ensures ∙ ap (λ (x : Content). x.tracks.items) (c.in_ok-carry_turn.ensures.writer.content ∙ c.in_ok-noted.ensures.writer.content ∙ i.content) ∙ c.requires.content.tracks) at c.in_ok-pass.ensures.due);
       within = λ told tree o n may.
           let w = c.loop-turn.self in
           turn_then (g.S.Store.file c.args.store.now) tree c.args.movie.now w.content.of_tracks.items w.walks.items c.note_turn.new.self.walks.items c.in-Some.turn.track c.in_ok-noted.noted.planned.count n _ _ _ (i.within told tree o n may)
@@ -408,7 +408,7 @@ returns-clause-whole g c =
     let none = all.0 in
     on_ok _ _ c.flush.result
     (λ x. all_follow c.args.movie.now g.met.K.Sink.takes_on c.args.sink.now c.loop-turn.sink c.flush.new.sink (waiting c.args.self.now.carrier) (waiting w.carrier) c.args.self.now.head.items i.sent.0 c.loop-turn.bytes i.sent.2 (omega (arith, none, sum)) (all.1
-        ∙ tracks_bytes c.args.self.now.content.leaving c.args.movie.now.tracks) x)
+    ∙ tracks_bytes c.args.self.now.content.leaving c.args.movie.now.tracks) x)
     c.flush.ensures.bytes
 
 pub returns-in_err-noted-clause-turns : goal.returns-in_err-noted-clause-turns
