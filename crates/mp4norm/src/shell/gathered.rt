@@ -7,7 +7,7 @@ use std::io::IsTerminal;
 use std::time::{Duration, Instant};
 
 /// So many bytes are gathered at most.
-const ROOM: usize = 64_000;
+const ROOM: usize = 32_000;
 
 /// What is gathered is put with the next line once so many seconds have passed.
 const APART: u64 = 1;
