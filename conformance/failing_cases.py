@@ -100,6 +100,13 @@ def foreign(name: str, data: bytes, options: str = '') -> Case:
               said=re.escape(said))
 
 
+def freed(name: str, data: bytes, options: str = '') -> Case:
+    status, said, copy = strips.stripped(data, [strips.Foreign()], options == '--lossy')
+    form = None if status else answers.form(copy)
+    return of(name, f'normalise --foreign {options}', data, form, status=status,
+              said=re.escape(said))
+
+
 def of_one_file() -> Iterator:
     """Each command, with and without its options, on files of the suite."""
     yield case('plain', '', put=BOXES, given=PLAIN)
@@ -120,6 +127,9 @@ def of_one_file() -> Iterator:
     yield foreign('a uuid', UUID)
     yield foreign('events', EVENTS)
     yield foreign('events', EVENTS, '--lossy')
+    yield freed('a uuid', UUID)
+    yield freed('events', EVENTS)
+    yield freed('events', EVENTS, '--lossy')
     for name, data in (('fragments far apart', spread()), ('a long head', grown())):
         yield of(name, 'normalise', data, answers.form(data))
     yield of('edits', 'normalise --without edits,times', EDITS,

@@ -292,13 +292,15 @@ def boxes(file: File) -> List[Box]:
     return [_made(Box, told) for told in _objects(found)]
 
 
-def compare(a: File, b: File, without: Words = (), limit: int = 100) -> Comparison:
+def compare(a: File, b: File, without: Words = (), limit: int = 100, foreign: bool = False,
+            lossy: bool = False) -> Comparison:
     """Compares what the two say, but for what these words leave out (docs/COMPARING.md has them),
-    and lists at most `limit` of the differences."""
-    left = _without(without)
-    text = _compared(a, b, _flags(left), limit)
+    and lists at most `limit` of the differences. With `foreign` boxes that the profile refuses are
+    read as free space; where something is lost with one, only with `lossy`."""
+    left, freed = _without(without), _foreign(foreign, lossy)
+    text = None if freed else _compared(a, b, _flags(left), limit)
     if text is None:
-        words = ["compare", "--json", "--all", "--limit", str(limit), *left]
+        words = ["compare", "--json", "--all", "--limit", str(limit), *left, *freed]
         text = _run(words, [a, b], (0, DIFFERENT))
     *found, last = _objects(text)
     differences = [_made(Difference, {**told, "at": tuple(told["at"])}) for told in found]
@@ -306,32 +308,37 @@ def compare(a: File, b: File, without: Words = (), limit: int = 100) -> Comparis
                       last["kinds"], last["without"], differences)
 
 
-def normalise(file: File, new: Optional[Name] = None, without: Words = (),
-              replace: bool = False) -> bytes:
+def normalise(file: File, new: Optional[Name] = None, without: Words = (), replace: bool = False,
+              foreign: bool = False, lossy: bool = False) -> bytes:
     """The normal form. With `new` it goes to a file of that name, which must not be there unless
-    it is to be replaced; then no bytes are returned."""
-    left = _without(without)
+    it is to be replaced; then no bytes are returned. With `foreign` boxes that the profile refuses
+    are read as free space; where something is lost with one, only with `lossy`."""
+    left, freed = _without(without), _foreign(foreign, lossy)
     flags = _flags(left)
-    if new is None and not replace and flags is not None:
+    if new is None and not replace and not freed and flags is not None:
         found = _text("normal", file, flags)
         if found is not None:
             return found
-    words = ["normalise", "--out", "-" if new is None else _word(new), *left]
+    words = ["normalise", "--out", "-" if new is None else _word(new), *left, *freed]
     return _run(words + ["--replace"] * replace, [file], new=new)
 
 
-def check(*files: Name) -> Dict[str, Optional[Error]]:
+def check(*files: Name, foreign: bool = False,
+          lossy: bool = False) -> Dict[str, Optional[Error]]:
     """For the name of each file: None if it has a normal form, else what `normalise` would raise.
     There may be any number of files; each is opened and judged, whatever is wrong with others."""
-    return {name: _verdict(name, one) for name, one in _told(["check"], files, 0)}
+    freed = _foreign(foreign, lossy)
+    told = _told(["check", *freed], files, None if freed else 0)
+    return {name: _verdict(name, one) for name, one in told}
 
 
-def sum(*files: Name, without: Words = ()) -> Dict[str, Union[str, Error]]:
+def sum(*files: Name, without: Words = (), foreign: bool = False,
+        lossy: bool = False) -> Dict[str, Union[str, Error]]:
     """For the name of each file: the SHA-256 of its normal form, of what is left of it, in
     hexadecimal digits; or what `normalise` would raise. Files with the same content have the same
     sum. There may be any number of files."""
-    left = _without(without)
-    told = _told(["sum", *left], files, _flags(left))
+    left, freed = _without(without), _foreign(foreign, lossy)
+    told = _told(["sum", *left, *freed], files, None if freed else _flags(left))
     return {name: _verdict(name, one) or one["sha256"] for name, one in told}
 
 
@@ -537,6 +544,12 @@ def _verdict(name: str, told: Mapping[str, Any]) -> Optional[Error]:
 def _without(words: Words) -> List[str]:
     listed = words if isinstance(words, str) else ",".join(words)
     return ["--without", listed] if listed else []
+
+
+def _foreign(foreign: bool, lossy: bool) -> List[str]:
+    if lossy and not foreign:
+        raise ValueError("lossy is of use only with foreign")
+    return ["--foreign"] * foreign + ["--lossy"] * lossy
 
 
 def _name(file: File) -> str:

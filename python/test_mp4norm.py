@@ -258,6 +258,28 @@ class Answers(Case):
         self.assertEqual(mp4norm.sum(), {})
         self.assertRaises(ValueError, mp4norm.sum, 'plain.mp4\0cut.mp4')
 
+    def test_foreign(self):
+        """Boxes that the profile refuses are read as free space."""
+        more, event = PLAIN + b'\0\0\0\x0cmorenone', PLAIN + b'\0\0\0\x0cemsgmore'
+        for name, data in (('more.mp4', more), ('event.mp4', event)):
+            self.named(name, data)
+        digits = hashlib.sha256(NORMAL).hexdigest()
+        for file in (more, 'more.mp4'):
+            self.assertRaises(Refused, mp4norm.normalise, file)
+            self.assertEqual(mp4norm.normalise(file, foreign=True), NORMAL)
+            self.assertTrue(mp4norm.compare(file, 'plain.mp4', foreign=True))
+        found = mp4norm.check('more.mp4', 'event.mp4', foreign=True)
+        self.assertIsNone(found['more.mp4'])
+        self.is_told(found['event.mp4'], 'event.mp4', 'BoxNotInProfile', 'emsg', 561)
+        self.refuses(('event.mp4', 'BoxNotInProfile', 'emsg', 561), mp4norm.normalise, 'event.mp4',
+                     foreign=True)
+        self.assertEqual(mp4norm.normalise('event.mp4', foreign=True, lossy=True), NORMAL)
+        self.assertEqual(mp4norm.check('event.mp4', foreign=True, lossy=True), {'event.mp4': None})
+        self.assertEqual(mp4norm.sum('more.mp4', 'event.mp4', foreign=True, lossy=True),
+                         {'more.mp4': digits, 'event.mp4': digits})
+        for call in (mp4norm.normalise, mp4norm.check, mp4norm.sum):
+            self.assertRaises(ValueError, call, 'plain.mp4', lossy=True)
+
     def test_many_files(self):
         names = [f'{"x" * 200}-{number}.mp4' for number in range(20000)]
         self.write(names[12345], PLAIN)

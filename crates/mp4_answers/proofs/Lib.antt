@@ -29,6 +29,7 @@ pub mod StripCopies
 pub mod StripLaws
 pub mod BoxCounts
 pub mod FirstLosses
+pub mod FreedPlaces
 pub mod StripLeft
 pub mod StripFaults
 pub mod StripDenotes

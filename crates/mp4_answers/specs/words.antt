@@ -13,6 +13,7 @@ pub mod ListedWalks
 pub mod StripSpans
 pub mod CountedBoxes
 pub mod FirstLosses
+pub mod FreedPlaces
 pub mod AddedWays
 pub mod WholePut
 pub mod Lanes

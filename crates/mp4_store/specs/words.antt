@@ -1,4 +1,5 @@
 pub mod Device
 pub mod Places
+pub mod LaidWords
 pub mod Parts
 pub mod Windows

@@ -444,6 +444,23 @@ fn no_parts(rt: HostRuntime) -> Result<(), Fail> {
 }
 
 #[test]
+fn a_word_at_some_places(rt: HostRuntime) -> Result<(), Fail> {
+    let places = vec![in rt.alloc(); 0u64, 6, 10, 13]?;
+    let mut store = LaidStore::new(MemStore::new(b"0123456789abcdefg"), *b"free", places);
+    assert_eq!(rt; store.len(), 17);
+    let whole = *b"free45freefrefree";
+    for at in 0usize..18 {
+        for end in at..18 {
+            let mut out = [0u8; 17];
+            assert!(rt; end as u64 <= store.len());
+            assert_eq!(rt; store.read_at(at as u64, &mut out[at..end]), Ok(()));
+            assert_eq!(rt; &out[at..end], &whole[at..end]);
+        }
+    }
+    Ok(())
+}
+
+#[test]
 fn as_many_bytes_as_can_be_counted(rt: HostRuntime) -> Result<(), Fail> {
     let half = 1u64 << 63;
     for (second, fits) in [(half - 1, true), (half, false)] {

@@ -12,6 +12,7 @@ ghost use Rattle.std.specs.Process.{exit_status};
 ghost use Rattle.mp4_answers.specs.format.Verdicts.{verdict_status};
 ghost use Rattle.mp4_answers.specs.words.StoreAndSink.{IsOf};
 
+mod copies;
 mod judging;
 mod running;
 mod shell;
@@ -27,7 +28,7 @@ use mp4_boxes::{Refusal, Steps};
 use mp4_store::{IoSink, Sink};
 use running::ended;
 pub use shell::action::{
-    Action, CommandFault, Comparison, Finding, Input, Order, SumCheck, Target, Telling,
+    Action, CommandFault, Comparison, Finding, Freeing, Input, Order, SumCheck, Target, Telling,
 };
 use shell::check_files::{Manner, check_all};
 pub use shell::command_line::action;
@@ -139,10 +140,11 @@ fn act<L: Ledger, M: Ledger>(
             list,
             finding,
             style,
+            freeing,
             telling,
         } => {
             let files = files.as_slice();
-            let manner = Manner::of(files, list, finding, style, telling);
+            let manner = Manner::of(files, list, finding, style, freeing, telling);
             end_verdicts(rt, check_all(rt, files, list, manner, &mut counted))
         }
     }

@@ -20,5 +20,6 @@ pub mod samples;
 pub mod show;
 pub mod strip;
 pub mod strip_lines;
+pub mod stripped_store;
 pub mod sum;
 pub mod tracks;

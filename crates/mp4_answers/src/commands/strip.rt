@@ -25,18 +25,18 @@ use std::alloc::Global;
 /// How many bytes are put at once.
 const ROOM: usize = 65_536;
 
-// A box of a container: its header, and of a `uuid` which it is.
+/// A box of a container: its header, and of a `uuid` which it is.
 #[derive(Clone, Copy)]
-struct Found {
-    header: TopHeader,
+pub(crate) struct Found {
+    pub(crate) header: TopHeader,
     uuid: Option<[u8; 16]>,
 }
 
 impl Found {
     ghost use Rattle.std.specs.Prelude.{◌≡◌};
 
-    // Its type, and of a `uuid` which it is.
-    fn full_type(&self) -> FullType
+    /// Its type, and of a `uuid` which it is.
+    pub(crate) fn full_type(&self) -> FullType
         ensures kind { result.kind ≡ self.now.header.kind }
         ensures uuid { result.uuid ≡ self.now.uuid }
     {
@@ -47,8 +47,8 @@ impl Found {
     }
 }
 
-// Reads the header at a place, and which `uuid` the box there is.
-fn find<S: Store>(store: &mut S, rule: Rule, at: u64, end: u64) -> Result<Found, Refusal>
+/// Reads the header at a place, and which `uuid` the box there is.
+pub(crate) fn find<S: Store>(store: &mut S, rule: Rule, at: u64, end: u64) -> Result<Found, Refusal>
     requires some { at < end }
     requires within { end ≤ length (S.file store.old) }
     ensures store { OnlyReads S.Store store.old store.new result }
@@ -83,8 +83,12 @@ fn find_again<S: Store>(store: &mut S, rule: Rule, at: u64, end: u64) -> Result<
     }
 }
 
-// Reads the headers of all boxes of a container.
-fn read_headers<S: Store>(names: &[Name], span: BoxSpan, store: &mut S) -> Result<(), Refusal>
+/// Reads the headers of all boxes of a container.
+pub(crate) fn read_headers<S: Store>(
+    names: &[Name],
+    span: BoxSpan,
+    store: &mut S,
+) -> Result<(), Refusal>
     requires span { span.from ≤ span.end }
     requires within { span.end ≤ length (S.file store.old) }
     ensures store { OnlyReads S.Store store.old store.new result }

@@ -26,6 +26,6 @@ boxes_of_input = actions.Run (jobs.Boxes syntaxes.Text) (record {
   input = inputs.Standard;
   target = targets.Standard;
   most = None;
-  lossy = false;
+  freeing = record { foreign = false; lossy = false };
   telling = record { explain = false; brief = false; progress = false };
 })

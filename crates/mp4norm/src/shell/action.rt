@@ -62,23 +62,41 @@ impl Telling {
     };
 }
 
-/// What a job reads, where its answer goes, how many bytes that may have, whether it may be made
-/// where something that a player needs is lost, and what is said beside it.
+/// Whether boxes that the profile refuses are read as free space, and whether that may be so where
+/// something is lost that a player needs.
+#[derive(Clone, Copy)]
+pub struct Freeing {
+    pub foreign: bool,
+    pub lossy: bool,
+}
+
+impl Freeing {
+    /// All boxes are read as they are.
+    pub const NOTHING: Freeing = Freeing {
+        foreign: false,
+        lossy: false,
+    };
+}
+
+/// What a job reads, where its answer goes, how many bytes that may have, which boxes are free
+/// space, and what is said beside it.
 #[derive(Clone, Copy)]
 pub struct Order<'a> {
     pub input: Input<'a>,
     pub target: Target<'a>,
     pub most: Option<u64>,
-    pub lossy: bool,
+    pub freeing: Freeing,
     pub telling: Telling,
 }
 
 /// How files are checked against their sums: whether those that have theirs are passed over in
-/// silence, how many files a list may name, and what is said beside the verdicts.
+/// silence, how many files a list may name, which boxes are free space, and what is said beside the
+/// verdicts.
 #[derive(Clone, Copy)]
 pub struct SumCheck {
     pub quiet: bool,
     pub most_parts: u64,
+    pub freeing: Freeing,
     pub telling: Telling,
 }
 
@@ -90,13 +108,14 @@ pub enum Finding {
     Sum { leaving: Without, header: bool },
 }
 
-/// Which files are compared, without what, and what is told of it.
+/// Which files are compared, without what, with which boxes as free space, and what is told of it.
 #[derive(Clone, Copy)]
 pub struct Comparison<'a> {
     pub left: Input<'a>,
     pub right: Input<'a>,
     pub leaving: Without,
     pub listing: Listing,
+    pub freeing: Freeing,
     pub telling: Telling,
 }
 
@@ -110,6 +129,7 @@ pub enum Action<'a> {
         list: Option<Input<'a>>,
         finding: Finding,
         style: VerdictStyle,
+        freeing: Freeing,
         telling: Telling,
     },
     CheckSums {

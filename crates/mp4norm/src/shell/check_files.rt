@@ -1,12 +1,13 @@
 //! Many files, judged or summed one after the other.
 use crate::judging::{Judge, judge_all};
 use crate::running::{Found, find, settled};
-use crate::shell::action::{Finding, Input, Telling};
+use crate::shell::action::{Finding, Freeing, Input, Telling};
 use crate::shell::file_names::{shown, word_of};
+use crate::shell::foreign::{Opened, Told, lay_free};
 use crate::shell::gathered::Gathered;
 use crate::shell::reports::{Noted, Report, tell_of};
 use crate::shell::run_command::explain_refusal;
-use crate::shell::sources::{Source, open, read_whole};
+use crate::shell::sources::{LaidSource, open, read_whole};
 use mp4_answers::digests::DIGEST;
 use mp4_answers::jobs::{Syntax, VerdictStyle};
 use mp4_answers::text::fault_text::fault_line;
@@ -18,6 +19,7 @@ use mp4_boxes::{Refusal, Steps};
 use mp4_store::{IoSink, Sink};
 use std::alloc::{AllocError, Global};
 use std::fs::File;
+use std::io::Write;
 use std::sync::ledger::Ledger;
 
 // What is named by a word, or by a name of a list: and whether it is a file, and neither standard
@@ -28,12 +30,13 @@ struct GivenName<'a> {
     is_file: bool,
 }
 
-/// How files are judged: what is found of each, how it is written, what is said beside that, and
-/// whether the file is named there.
+/// How files are judged: what is found of each, how it is written, which boxes are read as free
+/// space, what is said beside that, and whether the file is named there.
 #[derive(Clone, Copy)]
 pub(crate) struct Manner {
     finding: Finding,
     style: VerdictStyle,
+    freeing: Freeing,
     telling: Telling,
     is_named: bool,
 }
@@ -45,16 +48,33 @@ impl Manner {
         list: Option<Input>,
         finding: Finding,
         style: VerdictStyle,
+        freeing: Freeing,
         telling: Telling,
     ) -> Manner {
         let is_named = files.len() != 1 || list.is_some();
         Manner {
             finding,
             style,
+            freeing,
             telling,
             is_named,
         }
     }
+}
+
+// What is found of what was opened. Where much is to be said, it is said which boxes are read as
+// free space.
+fn found_of<L: Ledger, M: Ledger>(
+    rt: &HostRuntime,
+    manner: Manner,
+    freed: Result<Vec<u8>, Refusal>,
+    source: &mut LaidSource,
+    steps: &mut Steps<L, M>,
+) -> Found {
+    let freed = freed?;
+    let found = find(rt.alloc(), manner.finding, source, steps)?;
+    let _ = rt.stderr().write_all(freed.as_slice());
+    Ok(found)
 }
 
 // Judges what is read, and explains a fault where that is asked for.
@@ -65,17 +85,19 @@ fn judged<L: Ledger, M: Ledger>(
     report: &mut Report,
     steps: &mut Steps<L, M>,
 ) -> Found {
-    let mut source = open(rt, input, report)?;
-    let answer = match source.check_parts() {
-        Ok(()) => find(rt.alloc(), manner.finding, &mut source, steps),
-        Err(refusal) => Err(refusal),
+    let source = open(rt, input, report)?;
+    let told = Told {
+        name: manner.is_named.then_some(input.name()),
+        is_told: manner.telling.explain,
+        telling: manner.telling,
     };
+    let Opened { mut source, freed } = lay_free(rt, told, manner.freeing, source);
+    let answer = found_of(rt, manner, freed, &mut source, steps);
     let answer = settled(&source, answer);
     if let Err(refusal) = &answer {
-        let name = manner.is_named.then_some(input.name());
-        explain_refusal(rt, name, refusal, manner.telling, &mut source, steps);
+        explain_refusal(rt, told.name, refusal, manner.telling, &mut source, steps);
         if matches!(refusal, Refusal::StoreFailed) {
-            report.concerns_part(rt, &source)?;
+            report.concerns_part(rt, source.below())?;
         }
     }
     answer

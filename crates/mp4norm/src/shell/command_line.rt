@@ -3,7 +3,7 @@ ghost use Rattle.std.specs.Prelude.{◌≡◌, ◌≤◌, [], IfOk, IfSome, Ok};
 ghost use Rattle.mp4norm.specs.words.Actions.{IsJob, IsAction, boxes_of_input};
 
 use crate::shell::action::{
-    Action, CommandFault, Comparison, Finding, Input, Order, SumCheck, Target, Telling,
+    Action, CommandFault, Comparison, Finding, Freeing, Input, Order, SumCheck, Target, Telling,
 };
 use crate::shell::command_table::whole_command;
 use crate::shell::drop_lists::names_of;
@@ -36,8 +36,8 @@ const LOSSY_ALONE: &str = "the argument '--lossy' is of use only with '--foreign
 const QUIET_ALONE: &str = "the argument '--quiet' is of use only with '--check <LIST>'";
 
 const CHECK_ALONE: &str = "\
-the argument '--check <LIST>' can be used only with '--quiet', '--max-parts', '--explain' and \
-'--brief'";
+the argument '--check <LIST>' can be used only with '--quiet', '--foreign', '--lossy', \
+'--max-parts', '--explain' and '--brief'";
 
 const INPUT_TWICE: &str = "standard input ('-') can be read only once";
 
@@ -100,13 +100,21 @@ fn telling_of(found: &ArgMatches) -> Telling {
     }
 }
 
+// Which boxes are read as free space.
+fn freeing_of(found: &ArgMatches) -> Freeing {
+    Freeing {
+        foreign: found.get_flag("foreign"),
+        lossy: found.get_flag("lossy"),
+    }
+}
+
 // What is read, where the answer goes, and what is said beside it.
 fn order_of<'a>(found: &ArgMatches<'a>, file: &'a str) -> Order<'a> {
     Order {
         input: input_of(file, most_parts_of(found)),
         target: target_of(found),
         most: found.get_one::<u64>("max-bytes"),
-        lossy: found.get_flag("lossy"),
+        freeing: freeing_of(found),
         telling: telling_of(found),
     }
 }
@@ -149,13 +157,13 @@ fn check_asked<'a>(
         syntax: syntax_of(found),
         end: if found.get_flag("zero") { 0 } else { b'\n' },
     };
-    let telling = telling_of(found);
     Ok(Action::Check {
         files,
         list,
         finding,
         style,
-        telling,
+        freeing: freeing_of(found),
+        telling: telling_of(found),
     })
 }
 
@@ -286,6 +294,7 @@ fn sum_asked<'a>(alloc: Global, found: &ArgMatches<'a>) -> Result<Action<'a>, Co
             how: SumCheck {
                 quiet: found.get_flag("quiet"),
                 most_parts: most_parts_of(found),
+                freeing: freeing_of(found),
                 telling: telling_of(found),
             },
         });
@@ -321,6 +330,7 @@ fn compare_asked<'a>(alloc: Global, found: &ArgMatches<'a>) -> Result<Action<'a>
         right: input_of(right, most),
         leaving: left_out(alloc, found)?,
         listing: listing_of(found),
+        freeing: freeing_of(found),
         telling: telling_of(found),
     }))
 }
@@ -428,7 +438,7 @@ pub fn action<'a>(alloc: Global, words: &'a [String]) -> Result<Action<'a>, Comm
             input: Input::Standard,
             target: Target::Standard,
             most: None,
-            lossy: false,
+            freeing: Freeing::NOTHING,
             telling: Telling::NOTHING,
         };
         return Ok(Action::Run {

@@ -51,6 +51,12 @@ const FOREIGN: &str = "All boxes that the profile refuses where they stand, as -
 const LOSSY: &str = "\
 With --foreign: make NEW also where what is lost is needed to play or to tell what samples say";
 
+const READ_FOREIGN: &str = "\
+Read boxes that the profile refuses as free space, as in the copy that strip --foreign makes";
+
+const READ_LOSSY: &str = "\
+With --foreign: answer also where what is lost is needed to play or to tell what samples say";
+
 const ZERO: &str = "End each line with a zero byte in place of a line feed";
 
 const NO_HEADER: &str = "Print no line before all others that says of what the sums are";
@@ -122,6 +128,13 @@ fn with_reading<'a>(command: Command<'a>, alloc: Global) -> Result<Command<'a>, 
         .arg(parts_arg(alloc))?
         .arg(flag(alloc, "explain", EXPLAIN))?
         .arg(flag(alloc, "brief", BRIEF))
+}
+
+// What commands take that can read boxes as free space.
+fn with_foreign<'a>(command: Command<'a>, alloc: Global) -> Result<Command<'a>, AllocError> {
+    command
+        .arg(flag(alloc, "foreign", READ_FOREIGN))?
+        .arg(flag(alloc, "lossy", READ_LOSSY))
 }
 
 // A command that writes a file.
@@ -197,7 +210,8 @@ fn normalise_command<'a>(alloc: Global) -> Result<Command<'a>, AllocError> {
         "Writes the normal form of a file",
         "Example: mp4norm normalise movie.mp4 --out normal.mp4",
     )?;
-    with_out(command.alias("normalize")?.arg(without_arg(alloc))?, alloc)
+    let command = command.alias("normalize")?.arg(without_arg(alloc))?;
+    with_out(with_foreign(command, alloc)?, alloc)
 }
 
 fn print_command<'a>(alloc: Global) -> Result<Command<'a>, AllocError> {
@@ -207,8 +221,7 @@ fn print_command<'a>(alloc: Global) -> Result<Command<'a>, AllocError> {
         "Prints what a file says as text, for version control: a line for each value and sample",
         "Example: mp4norm print movie.mp4 --without times > movie.txt",
     )?;
-    command
-        .arg(without_arg(alloc))?
+    with_foreign(command.arg(without_arg(alloc))?, alloc)?
         .arg(out_arg(alloc).required(false))?
         .arg(flag(alloc, "replace", REPLACE))
 }
@@ -272,7 +285,7 @@ fn check_command<'a>(alloc: Global) -> Result<Command<'a>, AllocError> {
         .arg(list_arg(alloc))?
         .arg(flag(alloc, "zero", ZERO))?
         .arg(flag(alloc, "json", JSON))?;
-    with_reading(command, alloc)
+    with_reading(with_foreign(command, alloc)?, alloc)
 }
 
 fn sum_command<'a>(alloc: Global) -> Result<Command<'a>, AllocError> {
@@ -293,7 +306,7 @@ fn sum_flags<'a>(command: Command<'a>, alloc: Global) -> Result<Command<'a>, All
         .arg(flag(alloc, "no-header", NO_HEADER))?
         .arg(checked_arg(alloc))?
         .arg(flag(alloc, "quiet", QUIET))?;
-    with_reading(command, alloc)
+    with_reading(with_foreign(command, alloc)?, alloc)
 }
 
 fn checked_arg<'a>(alloc: Global) -> Arg<'a> {
@@ -331,7 +344,7 @@ fn compare_command<'a>(alloc: Global) -> Result<Command<'a>, AllocError> {
         .arg(flag(alloc, "all", ALL))?
         .arg(limit_arg(alloc))?
         .arg(flag(alloc, "json", JSON))?;
-    with_reading(command, alloc)
+    with_reading(with_foreign(command, alloc)?, alloc)
 }
 
 fn top_command<'a>(alloc: Global) -> Result<Command<'a>, AllocError> {

@@ -10,6 +10,7 @@ pub mod drop_lists;
 pub mod explaining;
 pub mod file_change;
 pub mod file_names;
+pub mod foreign;
 pub mod gathered;
 pub mod input;
 pub mod list_sources;

@@ -1,14 +1,15 @@
 //! A command from what is read to where its answer goes.
 use crate::running::{loss_refusal, run_job, settled};
-use crate::shell::action::{Order, Telling};
+use crate::shell::action::{Freeing, Order, Telling};
 use crate::shell::explaining::{explain, explain_briefly, name_tracks};
+use crate::shell::foreign::{Opened, Told, lay_free, tell_losses};
 use crate::shell::output::{Out, Outgoing};
 use crate::shell::reports::{Report, tells_more};
-use crate::shell::sources::{Source, open, open_by_headers};
+use crate::shell::sources::{LaidSource, open, open_by_headers};
 use mp4_answers::box_names::Name;
 use mp4_answers::commands::freed_boxes::Found as Freed;
 use mp4_answers::commands::strip::count_named;
-use mp4_answers::commands::strip_lines::{count_lines, find_told, losses, warnings};
+use mp4_answers::commands::strip_lines::{count_lines, find_told, warnings};
 use mp4_answers::jobs::Job;
 use mp4_boxes::{Refusal, Steps};
 use mp4_store::{IoSink, Sink};
@@ -16,14 +17,11 @@ use std::alloc::Global;
 use std::io::Write;
 use std::sync::ledger::Ledger;
 
-/// What is said where nothing is put since something would be lost, with more words.
-const LOSSY: &[u8] = b"strip: with --lossy it is put all the same\n";
-
 // Does the job, to where its answer goes.
 fn write_to<'a, L: Ledger, M: Ledger>(
     rt: &'a HostRuntime,
     job: Job,
-    source: &mut Source,
+    source: &mut LaidSource,
     order: Order<'a>,
     steps: &mut Steps<L, M>,
     report: &mut Report<'a>,
@@ -46,7 +44,7 @@ fn is_counted(name: &Name) -> bool {
 fn look_at_boxes(
     alloc: Global,
     names: &[Name],
-    source: &mut Source,
+    source: &mut LaidSource,
 ) -> Result<(Vec<u64>, Freed), Refusal> {
     if !names.iter().any(is_counted) {
         match find_told(alloc, source, names) {
@@ -64,7 +62,7 @@ fn look_at_boxes(
 fn strip_and_tell<'a, L: Ledger, M: Ledger>(
     rt: &'a HostRuntime,
     names: &[Name],
-    source: &mut Source,
+    source: &mut LaidSource,
     order: Order<'a>,
     steps: &mut Steps<L, M>,
     report: &mut Report<'a>,
@@ -72,12 +70,8 @@ fn strip_and_tell<'a, L: Ledger, M: Ledger>(
     let alloc = rt.alloc();
     let looked = look_at_boxes(alloc, names, source);
     let (counts, found) = settled(source, looked)?;
-    if let Some(refusal) = loss_refusal(&found, order.lossy) {
-        let mut errors = rt.stderr();
-        let _ = errors.write_all(losses(alloc, &found)?.as_slice());
-        if order.telling.explain {
-            let _ = errors.write_all(LOSSY);
-        }
+    if let Some(refusal) = loss_refusal(&found, order.freeing.lossy) {
+        tell_losses(rt, &found, order.telling)?;
         return Err(refusal);
     }
     let warnings = warnings(alloc, names, &found)?;
@@ -91,6 +85,36 @@ fn strip_and_tell<'a, L: Ledger, M: Ledger>(
     Ok(())
 }
 
+// Says which boxes were read as free space, once there is an answer.
+fn tell_freed(rt: &HostRuntime, answer: &Result<(), Refusal>, freed: &[u8], report: &mut Report) {
+    if answer.is_ok() {
+        report.end();
+        let _ = rt.stderr().write_all(freed);
+    }
+}
+
+// Opens what is read, as the job asks for it.
+fn opened_for<'a>(
+    rt: &'a HostRuntime,
+    job: &Job,
+    order: Order<'a>,
+    report: &mut Report<'a>,
+) -> Result<Opened<'a>, Refusal> {
+    let (source, freeing) = match job {
+        Job::Strip { .. } => {
+            let source = open_by_headers(rt, order.input, report)?;
+            (source, Freeing::NOTHING)
+        }
+        _ => (open(rt, order.input, report)?, order.freeing),
+    };
+    let told = Told {
+        name: None,
+        is_told: true,
+        telling: order.telling,
+    };
+    Ok(lay_free(rt, told, freeing, source))
+}
+
 // Opens what is read, and does the job. A fault is explained where that is asked for.
 fn open_and_answer<'a, L: Ledger, M: Ledger>(
     rt: &'a HostRuntime,
@@ -99,22 +123,23 @@ fn open_and_answer<'a, L: Ledger, M: Ledger>(
     steps: &mut Steps<L, M>,
     report: &mut Report<'a>,
 ) -> Result<(), Refusal> {
-    let mut source = match &job {
-        Job::Strip { .. } => open_by_headers(rt, order.input, report)?,
-        _ => open(rt, order.input, report)?,
-    };
-    let answer = match (source.check_parts(), job) {
-        (Err(refusal), _) => settled(&source, Err(refusal)),
-        (Ok(()), Job::Strip { names }) => {
+    let Opened { mut source, freed } = opened_for(rt, &job, order, report)?;
+    let answer = match (freed, job) {
+        (Err(refusal), _) => Err(refusal),
+        (Ok(_), Job::Strip { names }) => {
             strip_and_tell(rt, names, &mut source, order, steps, report)
         }
-        (Ok(()), job) => write_to(rt, job, &mut source, order, steps, report),
+        (Ok(freed), job) => {
+            let answer = write_to(rt, job, &mut source, order, steps, report);
+            tell_freed(rt, &answer, freed.as_slice(), report);
+            answer
+        }
     };
     report.end();
     if let Err(refusal) = &answer {
         explain_refusal(rt, None, refusal, order.telling, &mut source, steps);
         if matches!(refusal, Refusal::StoreFailed) {
-            report.concerns_part(rt, &source)?;
+            report.concerns_part(rt, source.below())?;
         }
     }
     answer
@@ -128,7 +153,7 @@ pub(crate) fn explain_refusal<L: Ledger, M: Ledger>(
     name: Option<&str>,
     refusal: &Refusal,
     telling: Telling,
-    source: &mut Source,
+    source: &mut LaidSource,
     steps: &mut Steps<L, M>,
 ) {
     if !tells_more(rt, telling) {
@@ -138,7 +163,7 @@ pub(crate) fn explain_refusal<L: Ledger, M: Ledger>(
     let mut errors = IoSink::new(rt.stderr());
     let _ = match refusal {
         Refusal::Fault(fault) if telling.explain => {
-            let part = source.part_text(alloc, fault.offset);
+            let part = source.below().part_text(alloc, fault.offset);
             let said = explain(alloc, name, fault, source, &mut errors, steps);
             if let Ok(Some(part)) = part {
                 let _ = errors.put(part.as_slice());

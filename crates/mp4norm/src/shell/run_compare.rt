@@ -2,9 +2,10 @@
 use crate::running::{Kept, comparison_status, is_of_file};
 use crate::shell::action::{Comparison, Input, Telling};
 use crate::shell::file_names::push_shown;
+use crate::shell::foreign::{Opened, Told, lay_free};
 use crate::shell::reports::{Noted, Report};
 use crate::shell::run_command::explain_refusal;
-use crate::shell::sources::{Source, open};
+use crate::shell::sources::{LaidSource, Source, open};
 use mp4_answers::commands::compare::{Asked, Failure, Side, compare_files};
 use mp4_answers::text::fault_text::fault_line;
 use mp4_boxes::{Refusal, Steps};
@@ -45,22 +46,37 @@ fn open_side<'a>(
     on_side(opened, side)
 }
 
+// What is read of a side. It is said which of its boxes are read as free space.
+fn as_asked<'a>(
+    rt: &HostRuntime,
+    asked: Comparison,
+    input: Input,
+    source: Source<'a>,
+) -> Opened<'a> {
+    let told = Told {
+        name: Some(input.name()),
+        is_told: true,
+        telling: asked.telling,
+    };
+    lay_free(rt, told, asked.freeing, source)
+}
+
 // Says why reading or writing failed, once both files are open.
 fn tell_cause(
     rt: &HostRuntime,
     asked: Comparison,
     failure: &Failure,
-    first: &Source,
-    second: &Source,
+    first: &LaidSource,
+    second: &LaidSource,
     report: &Report,
 ) {
     let (left, right) = (asked.left.name(), asked.right.name());
     match (&failure.refusal, failure.side) {
         (Refusal::StoreFailed, Side::First) => {
-            report.tell_input(rt, first.trouble().unwrap_or(left));
+            report.tell_input(rt, first.below().trouble().unwrap_or(left));
         }
         (Refusal::StoreFailed, Side::Second) => {
-            report.tell_input(rt, second.trouble().unwrap_or(right));
+            report.tell_input(rt, second.below().trouble().unwrap_or(right));
         }
         (Refusal::StoreFailed, _) => report.tell_either(rt, left, right),
         (Refusal::WriteFailed, _) => report.tell_output(rt, "-"),
@@ -68,35 +84,59 @@ fn tell_cause(
     }
 }
 
-// Goes over the parts of both, where they are lists.
-fn parts_of(first: &mut Source, second: &mut Source) -> Result<(), Failure> {
-    on_side(first.check_parts(), Side::First)?;
-    on_side(second.check_parts(), Side::Second)
+// Why what was opened isn't answered of.
+fn is_readable(opened: &Opened) -> Result<(), Refusal> {
+    match &opened.freed {
+        Ok(_) => Ok(()),
+        Err(refusal) => Err(*refusal),
+    }
+}
+
+// Says which boxes of a file were read as free space.
+fn tell_freed(rt: &HostRuntime, opened: &Opened) {
+    if let Ok(freed) = &opened.freed {
+        let _ = rt.stderr().write_all(freed.as_slice());
+    }
+}
+
+// Compares two opened files.
+fn compared<L: Ledger, M: Ledger>(
+    rt: &HostRuntime,
+    asked: Comparison,
+    first: &mut Opened,
+    second: &mut Opened,
+    report: &mut Report,
+    steps: &mut Steps<L, M>,
+) -> Result<bool, Failure> {
+    on_side(is_readable(first), Side::First)?;
+    on_side(is_readable(second), Side::Second)?;
+    let looks = Asked {
+        leaving: asked.leaving,
+        listing: asked.listing,
+    };
+    let out = &mut rt.stdout();
+    let mut sink = IoSink::new(Noted { out, report });
+    let (left, right) = (&mut first.source, &mut second.source);
+    compare_files(rt.alloc(), left, right, looks, &mut sink, steps)
 }
 
 // Compares two opened files. Then it looks whether either has changed meanwhile.
 fn answer_of<L: Ledger, M: Ledger>(
     rt: &HostRuntime,
     asked: Comparison,
-    first: &mut Source,
-    second: &mut Source,
+    first: &mut Opened,
+    second: &mut Opened,
     report: &mut Report,
     steps: &mut Steps<L, M>,
 ) -> Result<bool, Failure> {
-    let asked = Asked {
-        leaving: asked.leaving,
-        listing: asked.listing,
-    };
-    let out = &mut rt.stdout();
-    let mut sink = IoSink::new(Noted { out, report });
-    let alloc = rt.alloc();
-    let answer = match parts_of(first, second) {
-        Ok(()) => compare_files(alloc, first, second, asked, &mut sink, steps),
-        Err(failure) => Err(failure),
-    };
+    let answer = compared(rt, asked, first, second, report, steps);
     if is_settled(&answer) {
-        on_side(first.stays(), Side::First)?;
-        on_side(second.stays(), Side::Second)?;
+        on_side(first.source.stays(), Side::First)?;
+        on_side(second.source.stays(), Side::Second)?;
+    }
+    if answer.is_ok() {
+        tell_freed(rt, first);
+        tell_freed(rt, second);
     }
     answer
 }
@@ -108,19 +148,21 @@ fn answer<L: Ledger, M: Ledger>(
     steps: &mut Steps<L, M>,
 ) -> Result<bool, Failure> {
     let (left, right, telling) = (asked.left, asked.right, asked.telling);
-    let mut first = open_side(rt, left, telling, Side::First)?;
-    let mut second = open_side(rt, right, telling, Side::Second)?;
+    let first = open_side(rt, left, telling, Side::First)?;
+    let second = open_side(rt, right, telling, Side::Second)?;
+    let mut first = as_asked(rt, asked, left, first);
+    let mut second = as_asked(rt, asked, right, second);
     let mut report = Report::new(telling);
     let answer = answer_of(rt, asked, &mut first, &mut second, &mut report, steps);
     if let Err(failure) = &answer {
         let refusal = &failure.refusal;
-        tell_cause(rt, asked, failure, &first, &second, &report);
+        tell_cause(rt, asked, failure, &first.source, &second.source, &report);
         if matches!(failure.side, Side::First) {
             let name = Some(left.name());
-            explain_refusal(rt, name, refusal, telling, &mut first, steps);
+            explain_refusal(rt, name, refusal, telling, &mut first.source, steps);
         } else {
             let name = Some(right.name());
-            explain_refusal(rt, name, refusal, telling, &mut second, steps);
+            explain_refusal(rt, name, refusal, telling, &mut second.source, steps);
         }
     }
     answer

@@ -11,7 +11,7 @@ use crate::shell::near_store::NearStore;
 use crate::shell::reports::{Noted, Report};
 use mp4_answers::text::difference_lines::say_number;
 use mp4_boxes::Refusal;
-use mp4_store::{BufferedStore, FileStore, MemStore, Store, StoreFailed};
+use mp4_store::{BufferedStore, FileStore, LaidStore, MemStore, Store, StoreFailed};
 use std::alloc::{AllocError, Global};
 use std::fs::File;
 use std::io::{ErrorKind, Read};
@@ -34,6 +34,9 @@ pub(crate) enum Source<'a> {
     Input(Vec<u8>),
     List(ListSource<'a>),
 }
+
+/// What is read, with boxes that are free space laid over it, where that is asked for.
+pub(crate) type LaidSource<'a> = LaidStore<Source<'a>>;
 
 // Opens a regular file or a block device. Whatever else there is can't be read by place, or its
 // length isn't known; its kind is looked at first, since opening a pipe would wait for whoever
@@ -190,5 +193,17 @@ impl<'a> Kept for Source<'a> {
 
     fn fails_by_change(&self) -> bool {
         matches!(self, Source::List(_))
+    }
+}
+
+impl<S: Kept> Kept for LaidStore<S> {
+    ghost may_change = { λ s. S.may_change s.0 };
+
+    fn stays(&self) -> Result<(), Refusal> {
+        self.below().stays()
+    }
+
+    fn fails_by_change(&self) -> bool {
+        self.below().fails_by_change()
     }
 }

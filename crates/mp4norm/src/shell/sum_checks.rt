@@ -61,7 +61,7 @@ fn sum_of<L: Ledger, M: Ledger>(
         syntax: Syntax::Text,
         end: b'\n',
     };
-    let manner = Manner::of(&[], Some(input), finding, style, how.telling);
+    let manner = Manner::of(&[], Some(input), finding, style, how.freeing, how.telling);
     answer_of(rt, input, manner, steps)
 }
 
