@@ -14,7 +14,7 @@ else the one that was installed with it; else the one on the path. docs/PYTHON.m
 answers this module rests on.
 
 Where there is the C library, files are looked at in this process, and the program is run only for
-what the library doesn't have: a new file, and files that aren't read into memory. It is the one
+what the library doesn't have: a new file, `foreign`, and files that aren't read into memory. It is the one
 that MP4NORM_LIBRARY names, and none where that is empty; else, unless MP4NORM is set, the one
 beside this module, or installed with it.
 

@@ -1,10 +1,11 @@
 //! What is read as the copy of it in which the boxes that the profile refuses are free space.
-ghost use Rattle.std.specs.Prelude.{◌≡◌, ◌∷◌, [], None, false, IfOk, IfSome, Ok};
+ghost use Rattle.std.specs.Prelude.{◌≡◌, ◌∷◌, [], None, false, true, IfErr, IfOk, IfSome, Ok};
+ghost use Rattle.mp4_answers.specs.format.Run.{KeepsFile};
 ghost use Rattle.mp4_answers.specs.format.Losses.{IsFirstLost};
 ghost use Rattle.mp4_answers.specs.format.Strips.{IsStripped};
 ghost use Rattle.mp4_answers.specs.declared.box_names.Name.TheVariants.{Foreign};
 ghost use Rattle.mp4_present.specs.words.StoresRead.{WhereHonest};
-ghost use Rattle.mp4norm.specs.format.Runs.{loss_refusal};
+ghost use Rattle.mp4norm.specs.format.Runs.{loss_refusal, RefusesCopy};
 
 use crate::running::{Kept, settled};
 use crate::shell::action::Freeing;
@@ -23,6 +24,8 @@ pub(crate) fn read_as_asked<S: Kept>(
     freeing: Freeing,
     store: S,
 ) -> (LaidStore<S>, Freed)
+    ensures below { KeepsFile S.Store store result.0.0 }
+    ensures asked { freeing.foreign ≡ true → IfOk result.1 (λ w. w ≡ None → ⊥) }
     ensures as_it_is { freeing.foreign ≡ false → (result.1 ≡ Ok None)
         × (⟦<LaidStore<S> as Store>⟧.file result.0 ≡ S.file store) }
     ensures lost { IfOk result.1 (λ w. IfSome w (λ w. WhereHonest S.Store store
@@ -32,6 +35,10 @@ pub(crate) fn read_as_asked<S: Kept>(
     ensures copy { IfOk result.1 (λ w. IfSome w (λ w. w.refusal ≡ None
         → WhereHonest S.Store store (λ file.
         IsStripped (Foreign ∷ []) file (⟦<LaidStore<S> as Store>⟧.file result.0)))) }
+    ensures unread { IfOk result.1 (λ w. IfSome w (λ w. IfSome w.refusal
+        (λ _. ⟦<LaidStore<S> as Store>⟧.file result.0 ≡ S.file store))) }
+    ensures refusal { IfErr result.1
+        (RefusesCopy S.Store (S.may_change result.0.0) store result.0.0) }
 {
     if !freeing.foreign {
         return (LaidStore::plain(alloc, store), Ok(None));

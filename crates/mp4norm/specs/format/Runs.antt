@@ -9,8 +9,10 @@ use Rattle.mp4_answers.specs.declared.commands.freed_boxes.LostBox.{LostBox}
 use Rattle.mp4_answers.specs.declared.jobs.Job.{Job}
 use Rattle.mp4_answers.specs.format.Answers.{Judged, Performed, RefusesJob}
 use Rattle.mp4_answers.specs.format.Lengths.{HasLength}
+use Rattle.mp4_answers.specs.declared.box_names.Name.TheVariants.{Foreign}
 use Rattle.mp4_answers.specs.format.Losses.{refusal_with}
 use Rattle.mp4_answers.specs.format.Run.{Run, look_of, run_of}
+use Rattle.mp4_answers.specs.format.Strips.{RefusesLook}
 use Rattle.mp4_answers.specs.format.Texts.{fault_line, status_of}
 use Rattle.mp4_answers.specs.format.Sums.{Summed}
 use Rattle.mp4_answers.specs.declared.commands.compare.Failure.{Failure}
@@ -34,6 +36,13 @@ HasChanged may_change _ = ⊥
 -- an answer stands, or what it was found of has changed
 abbrev pub IsSettled : {A : Type 0} → Bool → Result A Refusal → Result A Refusal → Type 0
 IsSettled may_change answer result = (result ≡ answer) ⊎ IsErrAnd result (HasChanged may_change)
+
+-- What is read can't be read as the copy without foreign boxes: its boxes are not looked through, or
+-- it has changed.
+abbrev pub RefusesCopy : {X : Type 0} → Store X → Bool → X → X → Refusal → Type 0
+RefusesCopy S may_change before after r = HasChanged may_change r
+    ⊎ RefusesLook (Foreign ∷ []) (S.is_honest before) (S.file before)
+    (S.read_failures before) (S.read_failures after) r
 
 -- ---- where an answer goes
 

@@ -3,11 +3,11 @@ use crate::judging::{Judge, judge_all};
 use crate::running::{Found, find, settled};
 use crate::shell::action::{Finding, Freeing, Input, Telling};
 use crate::shell::file_names::{shown, word_of};
-use crate::shell::foreign::{Opened, Told, lay_free};
+use crate::shell::foreign::{Told, lay_free};
 use crate::shell::gathered::Gathered;
 use crate::shell::reports::{Noted, Report, tell_of};
 use crate::shell::run_command::explain_refusal;
-use crate::shell::sources::{LaidSource, open, read_whole};
+use crate::shell::sources::{open, read_whole};
 use mp4_answers::digests::DIGEST;
 use mp4_answers::jobs::{Syntax, VerdictStyle};
 use mp4_answers::text::fault_text::fault_line;
@@ -19,7 +19,6 @@ use mp4_boxes::{Refusal, Steps};
 use mp4_store::{IoSink, Sink};
 use std::alloc::{AllocError, Global};
 use std::fs::File;
-use std::io::Write;
 use std::sync::ledger::Ledger;
 
 // What is named by a word, or by a name of a list: and whether it is a file, and neither standard
@@ -62,21 +61,6 @@ impl Manner {
     }
 }
 
-// What is found of what was opened. Where much is to be said, it is said which boxes are read as
-// free space.
-fn found_of<L: Ledger, M: Ledger>(
-    rt: &HostRuntime,
-    manner: Manner,
-    freed: Result<Vec<u8>, Refusal>,
-    source: &mut LaidSource,
-    steps: &mut Steps<L, M>,
-) -> Found {
-    let freed = freed?;
-    let found = find(rt.alloc(), manner.finding, source, steps)?;
-    let _ = rt.stderr().write_all(freed.as_slice());
-    Ok(found)
-}
-
 // Judges what is read, and explains a fault where that is asked for.
 fn judged<L: Ledger, M: Ledger>(
     rt: &HostRuntime,
@@ -91,14 +75,19 @@ fn judged<L: Ledger, M: Ledger>(
         is_told: manner.telling.explain,
         telling: manner.telling,
     };
-    let Opened { mut source, freed } = lay_free(rt, told, manner.freeing, source);
-    let answer = found_of(rt, manner, freed, &mut source, steps);
-    let answer = settled(&source, answer);
-    if let Err(refusal) = &answer {
-        explain_refusal(rt, told.name, refusal, manner.telling, &mut source, steps);
-        if matches!(refusal, Refusal::StoreFailed) {
-            report.concerns_part(rt, source.below())?;
-        }
+    let mut opened = lay_free(rt, told, manner.freeing, source);
+    let answer = match opened.readable() {
+        Ok(()) => find(rt.alloc(), manner.finding, &mut opened.source, steps),
+        Err(refusal) => Err(refusal),
+    };
+    let answer = settled(&opened.source, answer);
+    let Err(refusal) = &answer else {
+        opened.tell(rt);
+        return answer;
+    };
+    explain_refusal(rt, told.name, refusal, manner.telling, &mut opened.source, steps);
+    if matches!(refusal, Refusal::StoreFailed) {
+        report.concerns_part(rt, opened.source.below())?;
     }
     answer
 }

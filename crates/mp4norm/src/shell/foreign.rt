@@ -103,6 +103,31 @@ pub(crate) struct Opened<'a> {
     pub(crate) freed: Result<Vec<u8>, Refusal>,
 }
 
+impl<'a> Opened<'a> {
+    /// What is read as it is.
+    pub(crate) fn plain(alloc: Global, source: Source<'a>) -> Opened<'a> {
+        Opened {
+            source: LaidStore::plain(alloc, source),
+            freed: Ok(Vec::new(alloc)),
+        }
+    }
+
+    /// Whether it can be answered of; else why not.
+    pub(crate) fn readable(&self) -> Result<(), Refusal> {
+        match &self.freed {
+            Ok(_) => Ok(()),
+            Err(refusal) => Err(*refusal),
+        }
+    }
+
+    /// Says which boxes were read as free space.
+    pub(crate) fn tell(&self, rt: &HostRuntime) {
+        if let Ok(freed) = &self.freed {
+            let _ = rt.stderr().write_all(freed.as_slice());
+        }
+    }
+}
+
 /// Goes over the parts of what was opened, each of which has to end with a box. Boxes that the
 /// profile refuses are read as free space from now on, where that is asked for. Where something is
 /// lost that may not be, says what it is.

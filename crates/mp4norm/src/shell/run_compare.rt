@@ -84,21 +84,6 @@ fn tell_cause(
     }
 }
 
-// Why what was opened isn't answered of.
-fn is_readable(opened: &Opened) -> Result<(), Refusal> {
-    match &opened.freed {
-        Ok(_) => Ok(()),
-        Err(refusal) => Err(*refusal),
-    }
-}
-
-// Says which boxes of a file were read as free space.
-fn tell_freed(rt: &HostRuntime, opened: &Opened) {
-    if let Ok(freed) = &opened.freed {
-        let _ = rt.stderr().write_all(freed.as_slice());
-    }
-}
-
 // Compares two opened files.
 fn compared<L: Ledger, M: Ledger>(
     rt: &HostRuntime,
@@ -108,8 +93,8 @@ fn compared<L: Ledger, M: Ledger>(
     report: &mut Report,
     steps: &mut Steps<L, M>,
 ) -> Result<bool, Failure> {
-    on_side(is_readable(first), Side::First)?;
-    on_side(is_readable(second), Side::Second)?;
+    on_side(first.readable(), Side::First)?;
+    on_side(second.readable(), Side::Second)?;
     let looks = Asked {
         leaving: asked.leaving,
         listing: asked.listing,
@@ -135,8 +120,8 @@ fn answer_of<L: Ledger, M: Ledger>(
         on_side(second.source.stays(), Side::Second)?;
     }
     if answer.is_ok() {
-        tell_freed(rt, first);
-        tell_freed(rt, second);
+        first.tell(rt);
+        second.tell(rt);
     }
     answer
 }
@@ -151,7 +136,11 @@ fn answer<L: Ledger, M: Ledger>(
     let first = open_side(rt, left, telling, Side::First)?;
     let second = open_side(rt, right, telling, Side::Second)?;
     let mut first = as_asked(rt, asked, left, first);
-    let mut second = as_asked(rt, asked, right, second);
+    // The second is not told of where the first is refused.
+    let mut second = match first.readable() {
+        Ok(()) => as_asked(rt, asked, right, second),
+        Err(_) => Opened::plain(rt.alloc(), second),
+    };
     let mut report = Report::new(telling);
     let answer = answer_of(rt, asked, &mut first, &mut second, &mut report, steps);
     if let Err(failure) = &answer {
