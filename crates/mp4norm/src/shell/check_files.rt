@@ -85,7 +85,14 @@ fn judged<L: Ledger, M: Ledger>(
         opened.tell(rt);
         return answer;
     };
-    explain_refusal(rt, told.name, refusal, manner.telling, &mut opened.source, steps);
+    explain_refusal(
+        rt,
+        told.name,
+        refusal,
+        manner.telling,
+        &mut opened.source,
+        steps,
+    );
     if matches!(refusal, Refusal::StoreFailed) {
         report.concerns_part(rt, opened.source.below())?;
     }
