@@ -37,8 +37,8 @@ HasChanged may_change _ = ⊥
 abbrev pub IsSettled : {A : Type 0} → Bool → Result A Refusal → Result A Refusal → Type 0
 IsSettled may_change answer result = (result ≡ answer) ⊎ IsErrAnd result (HasChanged may_change)
 
--- What is read can't be read as the copy without foreign boxes: its boxes are not looked through, or
--- it has changed.
+-- What is read can't be read as the copy without foreign boxes: its boxes are not looked through,
+-- or it has changed.
 abbrev pub RefusesCopy : {X : Type 0} → Store X → Bool → X → X → Refusal → Type 0
 RefusesCopy S may_change before after r = HasChanged may_change r
     ⊎ RefusesLook (Foreign ∷ []) (S.is_honest before) (S.file before)
