@@ -1,5 +1,5 @@
 //! A store with four bytes laid over those of another one, at some places.
-ghost use Rattle.std.specs.Prelude.{◌≡◌, ◌↔◌, ℕ, ◌+◌, ◌-◌, ◌^◌, ◌<◌, ◌≤◌, length, List, slice_set, IsTrue};
+ghost use Rattle.std.specs.Prelude.{◌≡◌, ◌↔◌, ℕ, ◌+◌, ◌-◌, ◌^◌, ◌<◌, ◌≤◌, length, List, get_or, slice_set, IsTrue};
 ghost use Rattle.std.specs.List.{AllWithin};
 ghost use Rattle.std.specs.List.Sorted.{IsNonDecreasing};
 ghost use Rattle.mp4_store.specs.words.Device.{range};
@@ -40,6 +40,7 @@ fn lay_word(out: &mut [u8], at: u64, place: u64, word: [u8; 4])
 fn first_from(places: &[u64], at: u64) -> usize
     requires { IsNonDecreasing places.now }
     ensures before { AllWithin (λ place. place + 4 ≤ at) places.now 0 result }
+    ensures first { result < length places.now → at < get_or places.now result 0 + 4 }
     ensures within { result ≤ length places.now }
 {
     match at.checked_sub(4) {
@@ -68,6 +69,7 @@ fn all_end_before(places: &[u64], count: usize, at: u64) -> bool
 fn first_near(places: &[u64], at: u64, guess: usize) -> usize
     requires { IsNonDecreasing places.now }
     ensures before { AllWithin (λ place. place + 4 ≤ at) places.now 0 result }
+    ensures first { result < length places.now → at < get_or places.now result 0 + 4 }
     ensures within { result ≤ length places.now }
 {
     let end = guess.saturating_add(NEAR).min(places.len());
@@ -180,7 +182,9 @@ impl<S: Store> Store for LaidStore<S> {
     fn read_at(&mut self, at: u64, out: &mut [u8]) -> Result<(), StoreFailed> {
         let _size = self.store.len();
         self.store.read_at(at, out)?;
-        lay_words(self.places.as_slice(), self.word, at, out, &mut self.near);
+        if !self.places.is_empty() {
+            lay_words(self.places.as_slice(), self.word, at, out, &mut self.near);
+        }
         Ok(())
     }
 }

@@ -1,11 +1,11 @@
 //! What is read as the copy of it in which the boxes that the profile refuses are free space.
 ghost use Rattle.std.specs.Prelude.{◌≡◌, ◌∷◌, [], None, false, true, IfErr, IfOk, IfSome, Ok};
 ghost use Rattle.mp4_answers.specs.format.Run.{KeepsFile};
-ghost use Rattle.mp4_answers.specs.format.Losses.{IsFirstLost};
+ghost use Rattle.mp4_answers.specs.format.Losses.{loss_refusal, IsFirstLost};
 ghost use Rattle.mp4_answers.specs.format.Strips.{IsStripped};
 ghost use Rattle.mp4_answers.specs.declared.box_names.Name.TheVariants.{Foreign};
 ghost use Rattle.mp4_present.specs.words.StoresRead.{WhereHonest};
-ghost use Rattle.mp4norm.specs.format.Runs.{loss_refusal, RefusesCopy};
+ghost use Rattle.mp4norm.specs.format.Runs.{RefusesCopy};
 
 use crate::running::{Kept, settled};
 use crate::shell::action::Freeing;

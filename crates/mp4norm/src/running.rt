@@ -8,15 +8,13 @@ ghost use Rattle.mp4_answers.specs.format.Run.{KeepsFile, look_of};
 ghost use Rattle.mp4_answers.specs.format.Texts.{fault_line};
 ghost use Rattle.mp4_answers.specs.format.Verdicts.{verdict_status};
 ghost use Rattle.mp4_answers.specs.words.WholePut.{JobPutsWhole};
-ghost use Rattle.mp4norm.specs.format.Runs.{comparison_status, is_of_file, loss_refusal, refusal_text, EndsJob, FitsIn, HasChanged, IsFound, IsMeasured, IsNoLonger, IsSettled, RefusesMeasure, RefusesOpening, RefusesOutlet, Says};
+ghost use Rattle.mp4norm.specs.format.Runs.{comparison_status, is_of_file, refusal_text, EndsJob, FitsIn, HasChanged, IsFound, IsMeasured, IsNoLonger, IsSettled, RefusesMeasure, RefusesOpening, RefusesOutlet, Says};
 
 use crate::shell::action::Finding;
 use mp4_answers::commands::answer_len::text_len;
 use mp4_answers::commands::check::check_counted;
 use mp4_answers::commands::compare::Failure;
-use mp4_answers::commands::freed_boxes::Found as Freed;
 use mp4_answers::commands::perform::perform;
-use mp4_answers::commands::strip_lines::refusal_of;
 use mp4_answers::commands::sum::sum_file;
 use mp4_answers::digests::DIGEST;
 use mp4_answers::jobs::Job;
@@ -183,13 +181,6 @@ pub(crate) fn run_job<S: Kept, K: Outlet, L: Ledger, M: Ledger>(
             Err(refusal)
         }
     }
-}
-
-/// Why no copy is made without boxes: something is lost with one, where that isn't allowed.
-pub(crate) fn loss_refusal(found: &Freed, is_lossy: bool) -> Option<Refusal>
-    ensures { result ≡ loss_refusal is_lossy found.now.first_loss }
-{
-    if is_lossy { None } else { refusal_of(found) }
 }
 
 // Puts the line of a refusal.

@@ -164,3 +164,7 @@ asks_which names = list_any asks names
 abbrev pub refusal_with : LostBox → Refusal
 refusal_with l = refusals.Fault
     (record { kind = kinds.BoxNotInProfile; box_type = l.kind.0; offset = l.offset })
+
+-- but where that is allowed
+abbrev pub loss_refusal : Bool → Option LostBox → Option Refusal
+loss_refusal is_lossy lost = if is_lossy then None else option_map refusal_with lost

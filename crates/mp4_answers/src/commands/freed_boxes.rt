@@ -169,7 +169,7 @@ impl Group {
 
 /// What is found of the boxes that become free space.
 #[derive(Drop)]
-pub struct Found {
+pub struct FreedBoxes {
     /// Those that the profile refuses and that have no other name, group by group.
     pub groups: Vec<Group>,
     /// The first of them with which something is lost.
@@ -180,12 +180,12 @@ pub struct Found {
     room: usize,
 }
 
-impl Found {
+impl FreedBoxes {
     /// Nothing is told.
-    pub fn none(alloc: Global) -> Found
+    pub fn none(alloc: Global) -> FreedBoxes
         ensures { result.first_loss ≡ None }
     {
-        Found {
+        FreedBoxes {
             groups: Vec::new(alloc),
             first_loss: None,
             has_encryption: false,
@@ -291,7 +291,7 @@ fn add_box(
     within: Container,
     offset: u64,
     own: FullType,
-    found: &mut Found,
+    found: &mut FreedBoxes,
 ) -> Result<(), AllocError>
     ensures first { OnOk result (found.new.first_loss ≡ earlier found.old.first_loss
         (lost_with names.now within.rule within.has_time offset own.kind.0 own.uuid)) }
@@ -320,7 +320,7 @@ fn find_boxes<S: Store>(
     names: &[Name],
     span: BoxSpan,
     store: &mut S,
-    found: &mut Found,
+    found: &mut FreedBoxes,
 ) -> Result<(), Refusal>
     requires span { span.from ≤ span.end }
     requires within { span.end ≤ length (S.file store.old) }
@@ -362,13 +362,13 @@ pub(crate) fn find_freed<S: Store>(
     alloc: Global,
     store: &mut S,
     names: &[Name],
-) -> Result<Found, Refusal>
+) -> Result<FreedBoxes, Refusal>
     ensures store { OnlyReads S.Store store.old store.new result }
     ensures first { WhereRead S.Store store.old result
         (λ file found. IsFirstLost names.now file found.first_loss) }
     ensures refusal { RefusedOf S.Store store.old store.new result (RefusesLook names.now) }
 {
-    let mut found = Found::none(alloc);
+    let mut found = FreedBoxes::none(alloc);
     let span = whole_file(store.len());
     find_boxes(alloc, names, span, store, &mut found)?;
     found.finish(alloc)?;

@@ -1,12 +1,12 @@
 //! What is said of boxes that become free space.
-ghost use Rattle.std.specs.Prelude.{◌≡◌, option_map};
+ghost use Rattle.std.specs.Prelude.{◌≡◌};
 ghost use Rattle.mp4_present.specs.words.StoresRead.{OnlyReads, RefusedOf, WhereRead};
-ghost use Rattle.mp4_answers.specs.format.Losses.{asks_which, refusal_with};
+ghost use Rattle.mp4_answers.specs.format.Losses.{asks_which, loss_refusal};
 ghost use Rattle.mp4_answers.specs.format.Strips.{RefusesLook};
 ghost use Rattle.mp4_answers.specs.words.FirstLosses.{FindsIf};
 
 use crate::box_names::Name;
-use crate::commands::freed_boxes::{Found, Group, find_freed};
+use crate::commands::freed_boxes::{FreedBoxes, Group, find_freed};
 use crate::text::box_json::uuid_string;
 use crate::text::line::Line;
 use mp4_boxes::{Fault, FourCc, Kind, Refusal};
@@ -85,7 +85,7 @@ fn push_group(text: &mut Vec<u8>, alloc: Global, group: &Group) -> Result<(), Al
 }
 
 /// The warnings of what is lost with boxes that the profile refuses.
-pub fn losses(alloc: Global, found: &Found) -> Result<Vec<u8>, AllocError> {
+pub fn losses(alloc: Global, found: &FreedBoxes) -> Result<Vec<u8>, AllocError> {
     let mut text = Vec::new(alloc);
     for group in &found.groups {
         if let Some((_, loss)) = group.loss {
@@ -100,7 +100,7 @@ pub fn losses(alloc: Global, found: &Found) -> Result<Vec<u8>, AllocError> {
 }
 
 /// What is told of the boxes that become free space, where more than their numbers is.
-pub fn find_told<S: Store>(alloc: Global, store: &mut S, names: &[Name]) -> Result<Found, Refusal>
+pub fn find_told<S: Store>(alloc: Global, store: &mut S, names: &[Name]) -> Result<FreedBoxes, Refusal>
     ensures store { OnlyReads S.Store store.old store.new result }
     ensures first { WhereRead S.Store store.old result (λ file found.
         FindsIf (asks_which names.now) names.now file found.first_loss) }
@@ -109,12 +109,12 @@ pub fn find_told<S: Store>(alloc: Global, store: &mut S, names: &[Name]) -> Resu
     if asks_which(names) {
         find_freed(alloc, store, names)
     } else {
-        Ok(Found::none(alloc))
+        Ok(FreedBoxes::none(alloc))
     }
 }
 
 /// All warnings of a copy: of what is lost with boxes that became free space.
-pub fn warnings(alloc: Global, names: &[Name], found: &Found) -> Result<Vec<u8>, AllocError> {
+pub fn warnings(alloc: Global, names: &[Name], found: &FreedBoxes) -> Result<Vec<u8>, AllocError> {
     let mut text = Vec::new(alloc);
     if found.has_encryption || names_encryption(names) {
         text.extend_from_slice(WARNING)?;
@@ -129,7 +129,7 @@ pub fn count_lines(
     alloc: Global,
     names: &[Name],
     counts: &[u64],
-    found: &Found,
+    found: &FreedBoxes,
 ) -> Result<Vec<u8>, AllocError> {
     let mut text = Vec::new(alloc);
     for (name, count) in names.iter().zip(counts.iter()) {
@@ -156,10 +156,14 @@ pub fn count_lines(
     Ok(text)
 }
 
-/// Why nothing is put: something is lost with a box that the profile refuses.
-pub fn refusal_of(found: &Found) -> Option<Refusal>
-    ensures { result ≡ option_map refusal_with found.now.first_loss }
+/// Why nothing is put: something is lost with a box that the profile refuses, and that isn't
+/// allowed.
+pub fn loss_refusal(found: &FreedBoxes, is_lossy: bool) -> Option<Refusal>
+    ensures { result ≡ loss_refusal is_lossy found.now.first_loss }
 {
+    if is_lossy {
+        return None;
+    }
     let lost = found.first_loss?;
     let fault = Fault::new(Kind::BoxNotInProfile, lost.kind, lost.offset);
     Some(Refusal::Fault(fault))

@@ -1,8 +1,8 @@
 //! A store that is read as the copy of its file in which some boxes are free space.
-ghost use Rattle.std.specs.Prelude.{◌≡◌, ◌≤◌, length, [], ◌∷◌, codes, if◌then◌else◌, None, option_map, IfOk, IfSome, MatchResult, OnOk};
+ghost use Rattle.std.specs.Prelude.{◌≡◌, ◌≤◌, length, [], ◌∷◌, codes, None, IfOk, IfSome, MatchResult, OnOk};
 ghost use Rattle.mp4_store.specs.words.LaidWords.{laid, ArePlaces};
 ghost use Rattle.mp4_answers.specs.declared.box_names.Name.TheVariants.{Foreign};
-ghost use Rattle.mp4_answers.specs.format.Losses.{refusal_with, IsFirstLost};
+ghost use Rattle.mp4_answers.specs.format.Losses.{loss_refusal, IsFirstLost};
 ghost use Rattle.mp4_answers.specs.format.Strips.{IsStripped, RefusesLook};
 ghost use Rattle.mp4_answers.specs.words.FreedPlaces.{AddsFreed};
 ghost use Rattle.mp4_answers.specs.words.StripSpans.{RefusesFindAt};
@@ -10,9 +10,9 @@ ghost use Rattle.mp4_present.specs.words.StoresRead.{OnlyReads, RefusedOf, Where
 
 use crate::box_names::{Name, is_named};
 use crate::commands::boxes::{BoxSpan, rule_inside, whole_file};
-use crate::commands::freed_boxes::{Found, find_freed};
+use crate::commands::freed_boxes::{FreedBoxes, find_freed};
 use crate::commands::strip::{find, read_headers};
-use crate::commands::strip_lines::refusal_of;
+use crate::commands::strip_lines::loss_refusal;
 use mp4_boxes::Refusal;
 use mp4_store::{LaidStore, Store};
 use std::alloc::Global;
@@ -75,7 +75,7 @@ fn freed_places<S: Store>(alloc: Global, store: &mut S, names: &[Name]) -> Resul
 #[derive(Drop)]
 struct Looked {
     places: Vec<u64>,
-    found: Found,
+    found: FreedBoxes,
 }
 
 // Looks for the boxes of a file that the profile refuses.
@@ -93,7 +93,7 @@ fn look_for_foreign<S: Store>(alloc: Global, store: &mut S) -> Result<Looked, Re
     let names = [Name::Foreign];
     let places = freed_places(alloc, store, &names)?;
     let found = if places.is_empty() {
-        Found::none(alloc)
+        FreedBoxes::none(alloc)
     } else {
         find_freed(alloc, store, &names)?
     };
@@ -104,7 +104,7 @@ fn look_for_foreign<S: Store>(alloc: Global, store: &mut S) -> Result<Looked, Re
 /// without them: something is lost with one.
 #[derive(Drop)]
 pub struct WithoutForeign {
-    pub found: Found,
+    pub found: FreedBoxes,
     pub refusal: Option<Refusal>,
 }
 
@@ -124,8 +124,8 @@ pub fn read_without_foreign<S: Store>(
     ensures below { OnlyReads S.Store store result.0.0 result.1 }
     ensures lost { WhereRead S.Store store result.1
         (λ file w. IsFirstLost (Foreign ∷ []) file w.found.first_loss) }
-    ensures refused { IfOk result.1 (λ w. w.refusal
-        ≡ (if is_lossy then None else option_map refusal_with w.found.first_loss)) }
+    ensures refused { IfOk result.1 (λ w.
+        w.refusal ≡ loss_refusal is_lossy w.found.first_loss) }
     ensures copy { IfOk result.1 (λ w. w.refusal ≡ None → WhereHonest S.Store store
         (λ file. IsStripped (Foreign ∷ []) file (⟦<LaidStore<S> as Store>⟧.file result.0))) }
     ensures unread { MatchResult result.1
@@ -138,7 +138,7 @@ pub fn read_without_foreign<S: Store>(
         Ok(looked) => looked,
         Err(refusal) => return (LaidStore::plain(alloc, store), Err(refusal)),
     };
-    let refusal = if is_lossy { None } else { refusal_of(&found) };
+    let refusal = loss_refusal(&found, is_lossy);
     let store = match refusal {
         None => LaidStore::new(store, *b"free", places),
         Some(_) => LaidStore::plain(alloc, store),

@@ -1,16 +1,14 @@
 -- What a run of the program comes to, over whatever it reads and writes.
-use Rattle.std.specs.Prelude.{◌≡◌, ◌⊎◌, ℕ, List, [], ◌∷◌, ◌++◌, ◌<◌, ◌≤◌, Bool, true, false, IsTrue, if◌then◌else◌, Option, None, Some, option_map, Result, IsErrAnd, OnOk, Ok, Err}
+use Rattle.std.specs.Prelude.{◌≡◌, ◌⊎◌, ℕ, List, [], ◌∷◌, ◌++◌, ◌<◌, ◌≤◌, Bool, true, false, IsTrue, Option, None, Some, Result, IsErrAnd, OnOk, Ok, Err}
 use Rattle.mp4_boxes.specs.declared.refusal.Refusal.{Refusal}
 use Rattle.mp4_boxes.specs.declared.refusal.Refusal.TheVariants as refusals
 use Rattle.mp4_store.specs.declared.store.Store.{Ghosts as Store}
 use Rattle.mp4_store.specs.declared.sink.Sink.{Ghosts as Sink}
 use Rattle.mp4_store.specs.words.Device.{HasRisen}
-use Rattle.mp4_answers.specs.declared.commands.freed_boxes.LostBox.{LostBox}
 use Rattle.mp4_answers.specs.declared.jobs.Job.{Job}
 use Rattle.mp4_answers.specs.format.Answers.{Judged, Performed, RefusesJob}
 use Rattle.mp4_answers.specs.format.Lengths.{HasLength}
 use Rattle.mp4_answers.specs.declared.box_names.Name.TheVariants.{Foreign}
-use Rattle.mp4_answers.specs.format.Losses.{refusal_with}
 use Rattle.mp4_answers.specs.format.Run.{Run, look_of, run_of}
 use Rattle.mp4_answers.specs.format.Strips.{RefusesLook}
 use Rattle.mp4_answers.specs.format.Texts.{fault_line, status_of}
@@ -131,10 +129,6 @@ Says Took text before after = Took text ⊎ HasRisen before after
 abbrev pub refusal_text : {A : Type 0} → Result A Refusal → List ℕ
 refusal_text (Ok done) = []
 refusal_text (Err r) = fault_line r ++ 10 ∷ []
-
--- why no copy is made without boxes: something is lost with one, and that isn't allowed
-abbrev pub loss_refusal : Bool → Option LostBox → Option Refusal
-loss_refusal is_lossy lost = if is_lossy then None else option_map refusal_with lost
 
 -- ---- what is found of a file
 

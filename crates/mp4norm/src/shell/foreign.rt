@@ -5,7 +5,7 @@ use crate::shell::action::{Freeing, Telling};
 use crate::shell::file_names::push_shown;
 use crate::shell::sources::{LaidSource, Source};
 use mp4_answers::box_names::Name;
-use mp4_answers::commands::freed_boxes::Found;
+use mp4_answers::commands::freed_boxes::FreedBoxes;
 use mp4_answers::commands::strip_lines::{count_lines, losses, warnings};
 use mp4_answers::commands::stripped_store::WithoutForeign;
 use mp4_boxes::Refusal;
@@ -19,7 +19,7 @@ const LOSSY: &[u8] = b"strip: with --lossy it is put all the same\n";
 /// Says what would be lost; with more words, how it is put all the same.
 pub(crate) fn tell_losses(
     rt: &HostRuntime,
-    found: &Found,
+    found: &FreedBoxes,
     telling: Telling,
 ) -> Result<(), AllocError> {
     let mut errors = rt.stderr();
@@ -32,7 +32,7 @@ pub(crate) fn tell_losses(
 
 // What is said of boxes that are read as free space, behind the name of their file, where that is
 // given; nothing where there are none.
-fn freed_text(alloc: Global, name: Option<&str>, found: &Found) -> Result<Vec<u8>, AllocError> {
+fn freed_text(alloc: Global, name: Option<&str>, found: &FreedBoxes) -> Result<Vec<u8>, AllocError> {
     let names = [Name::Foreign];
     let mut text = Vec::new(alloc);
     let lines = count_lines(alloc, &names, &[0], found)?;
@@ -59,7 +59,7 @@ fn push_file(text: &mut Vec<u8>, name: Option<&str>) -> Result<(), AllocError> {
 fn tell_refused(
     rt: &HostRuntime,
     name: Option<&str>,
-    found: &Found,
+    found: &FreedBoxes,
     telling: Telling,
 ) -> Result<(), AllocError> {
     let mut line = Vec::new(rt.alloc());

@@ -1,5 +1,5 @@
 //! A command from what is read to where its answer goes.
-use crate::running::{loss_refusal, run_job, settled};
+use crate::running::{run_job, settled};
 use crate::shell::action::{Freeing, Order, Telling};
 use crate::shell::explaining::{explain, explain_briefly, name_tracks};
 use crate::shell::foreign::{Opened, Told, lay_free, tell_losses};
@@ -7,9 +7,9 @@ use crate::shell::output::{Out, Outgoing};
 use crate::shell::reports::{Report, tells_more};
 use crate::shell::sources::{LaidSource, open, open_by_headers};
 use mp4_answers::box_names::Name;
-use mp4_answers::commands::freed_boxes::Found as Freed;
+use mp4_answers::commands::freed_boxes::FreedBoxes;
 use mp4_answers::commands::strip::count_named;
-use mp4_answers::commands::strip_lines::{count_lines, find_told, warnings};
+use mp4_answers::commands::strip_lines::{count_lines, find_told, loss_refusal, warnings};
 use mp4_answers::jobs::Job;
 use mp4_boxes::{Refusal, Steps};
 use mp4_store::{IoSink, Sink};
@@ -45,7 +45,7 @@ fn look_at_boxes(
     alloc: Global,
     names: &[Name],
     source: &mut LaidSource,
-) -> Result<(Vec<u64>, Freed), Refusal> {
+) -> Result<(Vec<u64>, FreedBoxes), Refusal> {
     if !names.iter().any(is_counted) {
         match find_told(alloc, source, names) {
             Err(Refusal::Fault(_)) => {}
@@ -85,14 +85,6 @@ fn strip_and_tell<'a, L: Ledger, M: Ledger>(
     Ok(())
 }
 
-// Says which boxes were read as free space, once there is an answer.
-fn tell_freed(rt: &HostRuntime, answer: &Result<(), Refusal>, freed: &[u8], report: &mut Report) {
-    if answer.is_ok() {
-        report.end();
-        let _ = rt.stderr().write_all(freed);
-    }
-}
-
 // Opens what is read, as the job asks for it.
 fn opened_for<'a>(
     rt: &'a HostRuntime,
@@ -123,24 +115,21 @@ fn open_and_answer<'a, L: Ledger, M: Ledger>(
     steps: &mut Steps<L, M>,
     report: &mut Report<'a>,
 ) -> Result<(), Refusal> {
-    let Opened { mut source, freed } = opened_for(rt, &job, order, report)?;
-    let answer = match (freed, job) {
-        (Err(refusal), _) => Err(refusal),
-        (Ok(_), Job::Strip { names }) => {
-            strip_and_tell(rt, names, &mut source, order, steps, report)
-        }
-        (Ok(freed), job) => {
-            let answer = write_to(rt, job, &mut source, order, steps, report);
-            tell_freed(rt, &answer, freed.as_slice(), report);
-            answer
-        }
+    let mut opened = opened_for(rt, &job, order, report)?;
+    let source = &mut opened.source;
+    let answer = match (&opened.freed, job) {
+        (Err(refusal), _) => Err(*refusal),
+        (Ok(_), Job::Strip { names }) => strip_and_tell(rt, names, source, order, steps, report),
+        (Ok(_), job) => write_to(rt, job, source, order, steps, report),
     };
     report.end();
-    if let Err(refusal) = &answer {
-        explain_refusal(rt, None, refusal, order.telling, &mut source, steps);
-        if matches!(refusal, Refusal::StoreFailed) {
-            report.concerns_part(rt, source.below())?;
-        }
+    let Err(refusal) = &answer else {
+        opened.tell(rt);
+        return answer;
+    };
+    explain_refusal(rt, None, refusal, order.telling, source, steps);
+    if matches!(refusal, Refusal::StoreFailed) {
+        report.concerns_part(rt, opened.source.below())?;
     }
     answer
 }
