@@ -6,6 +6,7 @@ use Rattle.std.specs.List.{AllByRecursion, AllZip, slice_get}
 use Rattle.mp4_boxes.specs.declared.refusal.Refusal.{Refusal}
 use Rattle.mp4_boxes.proofs.Among.{IsIn}
 use Rattle.mp4_boxes.proofs.Each.{each_member}
+use Rattle.mp4_boxes.proofs.Plain.{get_every}
 use Rattle.mp4_head.specs.format.Head.{TrackHead}
 use Rattle.mp4_head.specs.format.Tree.{TrackTree, are_distinct, track_head_of}
 use Rattle.mp4_head.proofs.Distinct.{distinct_same, map_twice}
@@ -18,7 +19,6 @@ use Rattle.mp4_present.specs.declared.track_info.TrackInfo.{TrackInfo}
 use Rattle.mp4_content.specs.declared.without.Without.{Without}
 use Rattle.mp4_present.proofs.JudgedTrees.{judged_denotes}
 use Rattle.mp4_present.proofs.SamplesLie.{data_length}
-use Rattle.mp4_present.proofs.WalkPlaces.{of_got}
 use Rattle.mp4_plan.specs.format.Normal.{normal}
 use Rattle.mp4_plan.proofs.Judged.{judged_one}
 use Rattle.mp4_answers.specs.format.FileTexts.{IsTrackWith, HasData}
@@ -32,7 +32,7 @@ use Rattle.mp4_answers.proofs.TrackTexts.{track_found}
 -- ---- a track with an ID is one
 
 got_in : {A : Type 0} (xs : List A) (k : ℕ) (x : A) → slice_get xs k ≡ Some x → IsIn xs x
-got_in xs k x e = of_got (λ y. IsIn xs y) xs k x e (each_member (λ y. IsIn xs y) xs (λ y i. i))
+got_in xs k x e = get_every (λ y. IsIn xs y) xs k x e (each_member (λ y. IsIn xs y) xs (λ y i. i))
 
 -- the IDs of what a file denotes are distinct
 distinct_ids : (file : List ℕ) (p : Presentation) → Denotes file p → are_distinct (map (λ (t : Track). t.head.id) p.tracks) ≡ true

@@ -4,6 +4,7 @@ use Rattle.std.specs.Prelude.{map, flat_map, slice_get, Option}
 use Rattle.std.specs.List.{AllZip}
 use Rattle.std.proofs.lemmas.List.{length-map}
 use Rattle.mp4_boxes.specs.format.Bytes.{sum_of}
+use Rattle.mp4_boxes.proofs.Plain.{get_zip, length_zip}
 use Rattle.mp4_store.specs.words.Device.{TakesPrefix}
 use Rattle.mp4_store.proofs.Known.{IsJoining}
 use Rattle.mp4_head.specs.format.Head as heads
@@ -21,8 +22,6 @@ use Rattle.mp4_present.specs.words.WalkSteps.{walk_steps, walks_steps}
 use Rattle.mp4_present.specs.declared.track_info.TrackInfo.{TrackInfo}
 use Rattle.mp4_present.specs.declared.walking.Walk.{Walk}
 use Rattle.mp4_content.specs.declared.without.Without.{Without}
-use Rattle.mp4_present.proofs.TrafTaken.{zipped_at}
-use Rattle.mp4_present.proofs.TracksPassed.{zip_length}
 use Rattle.mp4_answers.specs.format.Text.{head_lines, number_line, sample_text, samples_heading, track_text}
 use Rattle.mp4_answers.specs.words.PrintedTracks.{IsBegun, AreBegun, AreWalks}
 use Rattle.mp4_answers.proofs.Going.{Going, going_none}
@@ -127,7 +126,7 @@ tracks_most l file tree k Took held held_b old new h = let steps = h.steps in om
 
 -- as many tracks are known as the movie has, and as many heads
 infos_all : (file : List ℕ) (m : MovieSeen) (tree : FileTree) → IsOpenedAs file m tree → length m.tracks ≡ length tree.movie.tracks
-infos_all file m tree o = sym (zip_length (IsInfoOf file tree) tree.movie.tracks m.tracks o.tracks)
+infos_all file m tree o = sym (length_zip (IsInfoOf file tree) tree.movie.tracks m.tracks o.tracks)
 
 heads_all : (l : Without) (tree : FileTree) (known : List TrackHead) → map track_seen known ≡ map (track_payloads_left l) (map track_head_of tree.movie.tracks) → length known ≡ length tree.movie.tracks
 heads_all l tree known e = sym (length-map known track_seen) ∙ ap length e ∙ length-map (map track_head_of tree.movie.tracks) (track_payloads_left l) ∙ length-map tree.movie.tracks track_head_of
@@ -160,7 +159,7 @@ module _ (l : Without) (file : List ℕ) (m : MovieSeen) (tree : FileTree) (know
   track_is : front ++ lines ≡ track_text (reduce_track l (track_of file (file_parts tree) track_there.0))
   track_is =
       let t = track_there.0 in
-      let start = (zipped_at (IsInfoOf file tree) tree.movie.tracks m.tracks k t info o.tracks track_there.1 i_at).start in
+      let start = (get_zip (IsInfoOf file tree) tree.movie.tracks m.tracks k t info o.tracks track_there.1 i_at).start in
       λ i. head_lines (reduce_track_head (keeping_payloads l) (head_is i)) ++ number_line (codes "start") (start_left l (start i)) ++ samples_heading (head_is i).id ++ lines
 
   -- first what the track says before its samples, then their lines

@@ -7,8 +7,9 @@ use Rattle.std.proofs.lemmas.List.{take-append-drop}
 use Rattle.sha2.specs.Sha256.{sha256}
 use Rattle.sha2.proofs.Facts256.{length-sha256}
 use Rattle.mp4_boxes.specs.format.Bytes.{AreBytes}
-use Rattle.mp4_boxes.proofs.Among.{true_false, head_is, tail_is, all_append}
+use Rattle.mp4_boxes.proofs.Among.{all_append}
 use Rattle.mp4_boxes.proofs.Each.{each_taken, each_dropped}
+use Rattle.mp4_boxes.proofs.Plain.{head_is, tail_is, true_false}
 use Rattle.mp4_tables.specs.format.Groups.{GroupKey}
 use Rattle.mp4_head.specs.format.Head.{Kept}
 use Rattle.mp4_present.specs.format.Presentation.{IsGroup, IsParameter}

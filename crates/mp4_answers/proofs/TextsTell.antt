@@ -13,10 +13,10 @@ use Rattle.sha2.proofs.Facts256.{length-sha256}
 use Rattle.mp4_boxes.specs.format.Bytes.{AreBytes}
 use Rattle.mp4_boxes.specs.format.Children.{is_among, kept_kinds, media_headers}
 use Rattle.mp4_boxes.specs.declared.rule.Rule.TheVariants as rules
-use Rattle.mp4_boxes.proofs.Among.{tail_is}
 use Rattle.mp4_boxes.proofs.Joined.{all_first, all_last}
 use Rattle.mp4_boxes.proofs.Each.{each_from, each_kept, each_taken, each_value, each_weaker}
 use Rattle.mp4_boxes.proofs.WrittenBoxes.{among_has}
+use Rattle.mp4_boxes.proofs.Plain.{tail_is}
 use Rattle.mp4_tables.specs.format.Groups.{Groups}
 use Rattle.mp4_head.specs.format.Head.{Edit, Kept, Media, TrackHead, MovieHead, IsDescription, IsEdit, IsGroupDescription, IsKept, IsMedia, IsMovieHead, IsTrackHead}
 use Rattle.mp4_present.specs.format.Presentation.{Sample, Track, Presentation, IsGroup, IsInTime, IsSample, IsTrack, Valid}

@@ -5,8 +5,8 @@ use Rattle.std.specs.Fmt.{signed_decimal}
 use Rattle.std.specs.List.{AllByRecursion, list_any, position_from}
 use Rattle.std.proofs.lemmas.Bool.{eqb-true, ne_eqb, or_from}
 use Rattle.sha2.specs.Sha256.{sha256}
-use Rattle.mp4_boxes.proofs.Among.{true_false}
 use Rattle.mp4_boxes.proofs.Each.{each_from, each_member, each_weaker}
+use Rattle.mp4_boxes.proofs.Plain.{get_every, get_zip, true_false}
 use Rattle.mp4_store.specs.words.Device.{range}
 use Rattle.mp4_tables.specs.format.Groups.{GroupKey, Groups, key_rank, same_key, index_at}
 use Rattle.mp4_tables.specs.format.PlainSamples.{PlacedSample}
@@ -34,9 +34,7 @@ use Rattle.mp4_content.proofs.ComparisonGroups.{index_rank}
 use Rattle.mp4_present.proofs.PlacedTracks.{IsTrackPlaced, tracks_placed}
 use Rattle.mp4_present.proofs.SamplesLie.{IsInFile, placed_lie, bytes_whole}
 use Rattle.mp4_content.proofs.SamplesReduced.{reduced_by_edges}
-use Rattle.mp4_present.proofs.TrafTaken.{zipped_at}
 use Rattle.mp4_present.proofs.ValidSamples.{IsOfTrack, is_group, is_parameter}
-use Rattle.mp4_present.proofs.WalkPlaces.{of_got}
 use Rattle.mp4_plan.specs.format.Normal.{in_key_order}
 use Rattle.mp4_plan.specs.format.TableLaws.{IsKey}
 use Rattle.mp4_plan.proofs.KeyOrder.{order_rises, order_each, order_has, covers}
@@ -187,8 +185,8 @@ module _ (l : Without) (keys : Keys) (edges : Edges) (style : SampleStyle) (is :
 opened_samples : (file : List ℕ) (m : MovieSeen) (tree : FileTree) (t : TrackTree) (k : ℕ) → IsOpenedAs file m tree → slice_get tree.movie.tracks k ≡ Some t → AllByRecursion (IsSampleOf file (track_keys tree t)) (placed_of (file_parts tree) t)
 opened_samples file m tree t k o is =
     let Lie : TrackTree → Type 0 = λ u. AllByRecursion (IsInFile (length file)) (placed_of (file_parts tree) u) in
-    let lie = of_got Lie tree.movie.tracks k t is (each_member Lie tree.movie.tracks (λ u i. placed_lie file tree u o.is_consistent i)) in
-    let h = of_got (IsTrackPlaced tree) tree.movie.tracks k t is (tracks_placed file tree o.is_tree o.is_sound o.is_consistent o.bytes) in
+    let lie = get_every Lie tree.movie.tracks k t is (each_member Lie tree.movie.tracks (λ u i. placed_lie file tree u o.is_consistent i)) in
+    let h = get_every (IsTrackPlaced tree) tree.movie.tracks k t is (tracks_placed file tree o.is_tree o.is_sound o.is_consistent o.bytes) in
     each_from (IsOfTrack (length t.descriptions) (track_keys tree t)) (IsInFile (length file)) (IsSampleOf file (track_keys tree t)) (λ s k i. (record { are = h.keys; few = h.few; map = k.groups }, i)) (placed_of (file_parts tree) t) h.placed lie
 
 -- The lines of a track's samples are those of the samples that are left of it.
@@ -196,6 +194,6 @@ pub track_told : (l : Without) (style : SampleStyle) (file : List ℕ) (m : Movi
     → edges ≡ edges_left l (track_samples tree t) → IsStyle l info.keys edges style
     → flat_map (told_sample style file) (track_samples tree t) ≡ flat_map sample_text (reduce_track l (track_of file (file_parts tree) t)).samples
 track_told l style file m tree t k info edges o at there found is =
-    let own = (zipped_at (IsInfoOf file tree) tree.movie.tracks m.tracks k t info o.tracks at there).keys in
+    let own = (get_zip (IsInfoOf file tree) tree.movie.tracks m.tracks k t info o.tracks at there).keys in
     all_told l info.keys edges style is file (track_keys tree t) own 0 _ (placed_of (file_parts tree) t) (opened_samples file m tree t k o at)
     ∙ ap (flat_map sample_text) (reduced_by_edges l edges file (track_keys tree t) 0 _ (placed_of (file_parts tree) t) found)

@@ -4,6 +4,7 @@ use Rattle.std.proofs.lemmas.List.{length-map}
 use Rattle.std.specs.List.{AllZip, slice_get}
 use Rattle.std.specs.Prelude.{IfSome, map}
 use Rattle.mp4_boxes.specs.format.Bytes.{sum_of}
+use Rattle.mp4_boxes.proofs.Plain.{get_every}
 use Rattle.mp4_head.specs.format.Head.{TrackHead}
 use Rattle.mp4_head.specs.format.Tree.{TrackTree, track_head_of}
 use Rattle.mp4_present.specs.words.SamplesComing.{track_samples}
@@ -15,7 +16,6 @@ use Rattle.mp4_present.specs.format.Presentation.{Track}
 use Rattle.mp4_present.specs.declared.track_info.TrackInfo.{TrackInfo}
 use Rattle.mp4_tables.proofs.SampleLists.{timed_length}
 use Rattle.mp4_present.proofs.SamplesLie.{all_whole, timed_data}
-use Rattle.mp4_present.proofs.WalkPlaces.{of_got}
 use Rattle.mp4_plan.proofs.TakenFrom.{got_map}
 use Rattle.mp4_answers.specs.format.FileTexts.{AreOthers, LacksTrack, IsTrackWith, ListsSamples, HasData}
 use Rattle.mp4_answers.specs.declared.jobs.Form.{Form}
@@ -55,7 +55,7 @@ track_found file m tree k id o lt e =
       t = r.0;
       is_there = r.1;
       with_id = record { p = presentation_of file tree; judged = judged file m tree o; place = k; is_there = there; id_is = r.2 };
-      lies = of_got (LieInFile file tree) tree.movie.tracks k r.0 r.1 (each_lies file m tree o);
+      lies = get_every (LieInFile file tree) tree.movie.tracks k r.0 r.1 (each_lies file m tree o);
       few = below _ _ _ _ (few_at (presentation_of file tree).tracks k (track_of file (file_parts tree) r.0) there) o.limits.samples (length-map (placed_of (file_parts tree) r.0) (sample_of file)) (timed_length _ _ _ (placed_of (file_parts tree) r.0));
     }
   where

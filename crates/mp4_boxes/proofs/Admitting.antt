@@ -13,6 +13,7 @@ use Rattle.mp4_boxes.specs.declared.fault.Kind.TheVariants.{BoxNotInProfile, Dup
 use Rattle.mp4_boxes.proofs.Among.{all_append, count-append}
 use Rattle.mp4_boxes.proofs.Walking.{Passed, passed_more, passed_more-boxes, passed_boxes, passed_tiles, passed_fault, located_err}
 use Rattle.mp4_boxes.proofs.Tiling.{lies_push}
+use Rattle.mp4_boxes.proofs.Plain.{not_is_false, or_is_false}
 
 -- ---- the boxes of a box
 
@@ -77,10 +78,6 @@ none_few (line ∷ lines) = ((λ s. omega arith), none_few lines)
 pub admitted_none : (rule : Rule) (base : ℕ) (bytes : List ℕ) → Admitted rule base bytes 0 0
 admitted_none rule base bytes = record { passed = record { boxes = []; lie = tt; taken = refl; many = refl }; allowed = tt; few = none_few (table rule) }
 
-or_false : (a b : Bool) → (a || b) ≡ false → (a ≡ false) × (b ≡ false)
-or_false true b e = absurd cc
-or_false false b e = (refl, e)
-
 and_false : (a b : Bool) → a ≡ true → (a && b) ≡ false → b ≡ false
 and_false true b t e = e
 and_false false b t e = absurd cc
@@ -93,7 +90,7 @@ pub few_more : (lines : List Line) (boxes : List Box) (b : Box) → AllByRecursi
     → list_any (λ (line : Line). is_single line.quantity && (is_among line.kinds b.kind && nat_lt 0 (count_among line.kinds boxes))) lines ≡ false → AllByRecursion (KeepsSingle (boxes ++ b ∷ [])) lines
 few_more [] boxes b h e = tt
 few_more (line ∷ lines) boxes b h e =
-    let o = or_false _ _ e in
+    let o = or_is_false _ _ e in
     ((λ s. rw (count-append line.kinds boxes (b ∷ [])) (one_more (count_among line.kinds boxes) (is_among line.kinds b.kind) (h.0 s) (and_false _ _ s o.0))), few_more lines boxes b h.1 o.1)
 
 -- one more box that the table allows and that repeats none
@@ -110,12 +107,8 @@ admitted_more rule base bytes count at h a e allowed fresh =
       few = rw is (few_more (table rule) p.boxes b a.few new);
     }
 
-not_false : (b : Bool) → not b ≡ false → b ≡ true
-not_false true e = refl
-not_false false e = absurd cc
-
 quantity_is : (q : Quantity) (n : ℕ) → (is_single q ≡ true → n ≤ 1) → (is_needed q && not (ltb 0 n)) ≡ false → IsQuantity q n
-quantity_is one n few e = let a = few refl in let b = ltb-true 0 n (not_false (ltb 0 n) e) in omega arith
+quantity_is one n few e = let a = few refl in let b = ltb-true 0 n (not_is_false (ltb 0 n) e) in omega arith
 quantity_is at_most_one n few e = few refl
 quantity_is any n few e = tt
 
@@ -124,7 +117,7 @@ pub quantities_are : (lines : List Line) (boxes : List Box) → AllByRecursion (
     → AllByRecursion (λ (line : Line). IsQuantity line.quantity (count_among line.kinds boxes)) lines
 quantities_are [] boxes h e = tt
 quantities_are (line ∷ lines) boxes h e =
-    let o = or_false _ _ e in
+    let o = or_is_false _ _ e in
     (quantity_is line.quantity (count_among line.kinds boxes) h.0 o.0, quantities_are lines boxes h.1 o.1)
 
 -- A walk that reached the end under the rule, and lacks none, has passed what the container holds.

@@ -8,6 +8,7 @@ use Rattle.mp4_boxes.specs.format.BoxFaults.{header_there}
 use Rattle.mp4_boxes.specs.format.FirstFault.{boxes_behind, counted_or_fault, no_tests}
 use Rattle.mp4_boxes.specs.declared.fault.Fault.{Fault}
 use Rattle.mp4_boxes.proofs.Walking.{Passed, passed_more, passed_more-boxes, passed_boxes, passed_few, passed_within, read_there}
+use Rattle.mp4_boxes.proofs.Plain.{ltb_by, ltb_not_by}
 
 -- so many boxes of these bytes, of a box of this type and place
 abbrev pub counted_in : List ℕ → ℕ → ℕ → List ℕ → ℕ → Container
@@ -20,14 +21,6 @@ CountsOn kind offset base bytes n count = counted_or_fault (counted_in kind offs
 
 pub counts_none : (kind : List ℕ) (offset base : ℕ) (bytes : List ℕ) (n : ℕ) → CountsOn kind offset base bytes n 0
 counts_none kind offset base bytes n = let e : suc (length bytes) - 0 ≡ suc (length bytes) = omega arith in rw e refl
-
-lt_by : (a b : ℕ) (v : Bool) → ltb a b ≡ v → a < b → ltb a b ≡ true
-lt_by a b true e lt = e
-lt_by a b false e lt = absurd (omega (arith, lt, ltb-false a b e))
-
-not_by : (a b : ℕ) (v : Bool) → ltb a b ≡ v → b ≤ a → ltb a b ≡ false
-not_by a b false e le = e
-not_by a b true e le = absurd (omega (arith, le, ltb-true a b e))
 
 -- where it goes on, by the boxes that were passed, with one step left at least
 counts : (kind : List ℕ) (offset base : ℕ) (bytes : List ℕ) (n count at : ℕ) (p : Passed base bytes count at) → CountsOn kind offset base bytes n count
@@ -70,7 +63,7 @@ counts_more kind offset base bytes n count at h p lt e g =
     let k : length bytes - count ≡ suc (length bytes) - (count + 1) = omega arith in
     let many = p.many in
     counts kind offset base bytes n count at p g
-    ∙ step_more (length bytes - count) kind offset base bytes n p.boxes h (lt_by (length p.boxes) n (ltb (length p.boxes) n) refl (omega (arith, many, lt))) (there kind base bytes count at p (Ok h) e)
+    ∙ step_more (length bytes - count) kind offset base bytes n p.boxes h (ltb_by (length p.boxes) n (ltb (length p.boxes) n) refl (omega (arith, many, lt))) (there kind base bytes count at p (Ok h) e)
     ∙ (λ i. boxes_behind (k i) no_tests (counted_in kind offset base bytes n) (sym same i))
 
 counts_fail : (kind : List ℕ) (offset base : ℕ) (bytes : List ℕ) (n count at : ℕ) (f : Fault) → Passed base bytes count at → count < n
@@ -79,14 +72,14 @@ counts_fail : (kind : List ℕ) (offset base : ℕ) (bytes : List ℕ) (n count 
 counts_fail kind offset base bytes n count at f p lt e g =
     let many = p.many in
     counts kind offset base bytes n count at p g
-    ∙ step_fails (length bytes - count) kind offset base bytes n p.boxes f (lt_by (length p.boxes) n (ltb (length p.boxes) n) refl (omega (arith, many, lt))) (there kind base bytes count at p (Err f) e)
+    ∙ step_fails (length bytes - count) kind offset base bytes n p.boxes f (ltb_by (length p.boxes) n (ltb (length p.boxes) n) refl (omega (arith, many, lt))) (there kind base bytes count at p (Err f) e)
 
 counts_end : (kind : List ℕ) (offset base : ℕ) (bytes : List ℕ) (n count at : ℕ) → Passed base bytes count at → n ≤ count
     → CountsOn kind offset base bytes n count → counted_or_fault (counted_in kind offset base bytes n) ≡ Ok (first_boxes count base bytes)
 counts_end kind offset base bytes n count at p le g =
     let many = p.many in
     counts kind offset base bytes n count at p g
-    ∙ step_end (length bytes - count) kind offset base bytes n p.boxes (not_by (length p.boxes) n (ltb (length p.boxes) n) refl (omega (arith, many, le)))
+    ∙ step_end (length bytes - count) kind offset base bytes n p.boxes (ltb_not_by (length p.boxes) n (ltb (length p.boxes) n) refl (omega (arith, many, le)))
     ∙ ap (λ (bs : List Box). Ok bs) (sym (passed_boxes base bytes count at p))
 
 -- ---- of a box

@@ -5,7 +5,8 @@ use Rattle.std.specs.List.{AllByRecursion, list_all}
 use Rattle.std.proofs.lemmas.Bool.{and_parts}
 use Rattle.mp4_boxes.specs.format.Box.{Box}
 use Rattle.mp4_boxes.specs.format.Children.{of_kind}
-use Rattle.mp4_boxes.proofs.Among.{IsIn, all_append, head_is, tail_is}
+use Rattle.mp4_boxes.proofs.Among.{IsIn, all_append}
+use Rattle.mp4_boxes.proofs.Plain.{head_is, tail_is}
 
 -- what follows from two facts holds where both do
 pub each_from : {A : Type 0} (P Q R : A → Type 0) → ((x : A) → P x → Q x → R x) → (xs : List A) → AllByRecursion P xs → AllByRecursion Q xs → AllByRecursion R xs

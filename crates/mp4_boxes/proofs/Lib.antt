@@ -1,3 +1,4 @@
+pub mod Plain
 pub mod Tiling
 pub mod Walking
 pub mod Admitting

@@ -13,7 +13,8 @@ use Rattle.mp4_boxes.specs.declared.fault.Kind.{Kind}
 use Rattle.mp4_boxes.specs.declared.fault.Kind.TheVariants.{ShortHeader, BadSize, Overrun, ShortBox, BoxNotInProfile, DuplicateBox, MissingBox, BadVersion, BadFlags, BadValue, OutsideData, CountMismatch, BadOrder, BadDescriptionIndex, SampleOutsideFile, UnknownTrack, Gap, OffsetTooLarge, ItemLocation, TooManySamples, TimeTooLarge, MovieTooLarge, FragmentBeforeMovie}
 use Rattle.mp4_boxes.proofs.Tiling.{tiles_one, header_fault_refuses}
 use Rattle.mp4_boxes.proofs.Members.{stands_among}
-use Rattle.mp4_boxes.proofs.Among.{IsIn, true_false, all_in, all_append, count-append}
+use Rattle.mp4_boxes.proofs.Among.{IsIn, all_in, all_append, count-append}
+use Rattle.mp4_boxes.proofs.Plain.{and_is_true, not_is_true, true_false}
 
 -- what stands in a tiled container is one of its boxes
 pub stands_in : (c : Container) (before bs : List Box) (b : Box) → StandsAfter c before b → Tiles c bs → IsIn bs b
@@ -34,11 +35,6 @@ pub both_of : {A : Type 0} (p : A → Bool) (P : A → Type 0) (xs : List A) →
 both_of p P [] e h = absurd cc
 both_of p P (x ∷ xs) e h = first_or p P x xs (p x) refl e h.0 (λ f. both_of p P xs f h.1)
 
--- what two tests say that both hold
-pub and_true : (a b : Bool) → (a && b) ≡ true → (a ≡ true) × (b ≡ true)
-and_true true b e = (refl, e)
-and_true false b e = absurd cc
-
 few : (q : Quantity) (n : ℕ) → is_single q ≡ true → IsQuantity q n → n ≤ 1
 few one n e h = omega (arith, h)
 few at_most_one n e h = h
@@ -52,8 +48,8 @@ pub duplicate_refuses : (rule : Rule) (c : Container) (f : Fault) (bs : List Box
 duplicate_refuses rule c f bs d h =
     let l = both_of (λ (line : Line). is_single line.quantity && (is_among line.kinds d.b.kind && nat_lt 0 (count_among line.kinds d.before))) (λ (line : Line). IsQuantity line.quantity (count_among line.kinds bs)) (table rule) d.repeated h.quantities in
     let line = l.0 in
-    let single = and_true (is_single line.quantity) _ l.1 in
-    let speaks = and_true (is_among line.kinds d.b.kind) _ single.1 in
+    let single = and_is_true (is_single line.quantity) _ l.1 in
+    let speaks = and_is_true (is_among line.kinds d.b.kind) _ single.1 in
     let some : 0 < count_among line.kinds d.before = ltb-true _ _ speaks.1 in
     let m = stands_among c d.before bs d.b d.stands h.tiles in
     let most : count_among line.kinds bs ≤ 1 = few line.quantity (count_among line.kinds bs) single.0 l.2 in
@@ -100,12 +96,8 @@ must one n e h = h
 must at_most_one n e h = absurd cc
 must any n e h = absurd cc
 
-not_true : (b : Bool) → not b ≡ true → b ≡ false
-not_true true e = absurd cc
-not_true false e = refl
-
 not_some : (n : ℕ) → not (ltb 0 n) ≡ true → n ≡ 0
-not_some n e = omega (arith, ltb-false 0 n (not_true (ltb 0 n) e))
+not_some n e = omega (arith, ltb-false 0 n (not_is_true (ltb 0 n) e))
 
 -- Where a box does not stand that must, the container holds no boxes of the profile.
 pub missing_refuses : (rule : Rule) (c : Container) (f : Fault) (bs : List Box) → IsMissing rule c f → Holds rule c bs → ⊥
@@ -113,7 +105,7 @@ missing_refuses rule c f bs m h =
     let same : bs ≡ m.boxes = tiles_one c bs m.boxes h.tiles m.tiles in
     let l = both_of (λ (line : Line). is_needed line.quantity && not (nat_lt 0 (count_among line.kinds m.boxes))) (λ (line : Line). IsQuantity line.quantity (count_among line.kinds bs)) (table rule) m.lacking h.quantities in
     let line = l.0 in
-    let needed = and_true (is_needed line.quantity) _ l.1 in
+    let needed = and_is_true (is_needed line.quantity) _ l.1 in
     let n : count_among line.kinds bs ≡ 1 = must line.quantity (count_among line.kinds bs) needed.0 l.2 in
     let none : count_among line.kinds m.boxes ≡ 0 = not_some _ needed.1 in
     omega (arith, n, none, ap (count_among line.kinds) same)

@@ -3,7 +3,6 @@ use Rattle.std.proofs.Common.{◌≡◌, ◌⊎◌, inl, inr, ℕ, zero, suc, �
 use Rattle.std.specs.Prelude.{◌==◌, slice_get, option_map, option_and_then}
 use Rattle.std.specs.List.{Any, list_any}
 use Rattle.std.proofs.lemmas.Bool.{eqb-true, eq-eqb, or_cases}
-use Rattle.mp4_boxes.proofs.Among.{true_false}
 use Rattle.mp4_tables.specs.format.Groups.{GroupKey, Groups, key_rank, same_key, index_at}
 use Rattle.mp4_tables.proofs.NamedKeys.{IsAmong}
 use Rattle.mp4_head.specs.format.Head.{Kept, Edit}
@@ -24,6 +23,7 @@ use Rattle.mp4_content.specs.declared.comparing.differences.Value.{Value}
 use Rattle.mp4_content.specs.declared.comparing.differences.Value.TheVariants.{Number, Signed, Kind, Byte}
 use Rattle.mp4_content.specs.declared.comparing.differences.Difference.{Difference}
 use Rattle.mp4_content.proofs.ComparisonGroups.{at_keys, index_rank, key_field, none_same}
+use Rattle.mp4_boxes.proofs.Plain.{true_false}
 
 -- ---- lists that have a difference of a place
 

@@ -4,7 +4,7 @@ use Rattle.std.specs.Prelude.{◌==◌, nat_lt, slice_index, fold, map, flat_map
 use Rattle.std.specs.List.{AllByRecursion, list_any, list_all}
 use Rattle.std.proofs.lemmas.Bool.{eqb-true, eq-eqb, ne_eqb, or_cases, or_left, or_parts, or_from, and_parts, ltb-true, cases_order}
 use Rattle.mp4_boxes.specs.format.Bytes.{field, AreBytes}
-use Rattle.mp4_boxes.proofs.Among.{true_false}
+use Rattle.mp4_boxes.proofs.Plain.{true_false}
 use Rattle.mp4_tables.specs.format.Groups.{GroupKey, Groups, key_rank, parameter_rank, same_key, is_in_order, index_at}
 use Rattle.mp4_tables.proofs.NamedKeys.{IsAmong, IsNone, same_itself, among_more, among_first, among_through}
 use Rattle.mp4_present.specs.format.Presentation.{IsParameter, IsGroup}

@@ -4,6 +4,7 @@ use Rattle.std.specs.List.{slice_get}
 use Rattle.std.specs.Prelude.{map, Result, Ok, Err, IfOk}
 use Rattle.std.proofs.lemmas.List.{append-nil, length-map}
 use Rattle.mp4_boxes.specs.format.Bytes.{sum_of}
+use Rattle.mp4_boxes.proofs.Plain.{get_zip, length_zip}
 use Rattle.mp4_head.specs.format.Tree.{TrackTree, head_of, track_head_of}
 use Rattle.mp4_head.specs.format.Head as heads
 use Rattle.mp4_head.specs.words.Found.{SaysHead}
@@ -27,8 +28,6 @@ use Rattle.mp4_content.specs.declared.comparing.differences.Field.TheVariants as
 use Rattle.mp4_content.specs.declared.without.Without.{Without}
 use Rattle.mp4_present.specs.declared.track_info.TrackInfo.{TrackInfo}
 use Rattle.mp4_content.proofs.SamplesReduced.{reduced_length}
-use Rattle.mp4_present.proofs.TrafTaken.{zipped_at}
-use Rattle.mp4_present.proofs.TracksPassed.{zip_length}
 use Rattle.mp4_content.proofs.TracksCompared.{GrowsTo, grows_none, grows_more, grows_front, grows_part, grows_all, each_next, each_over}
 
 -- an answer that is more
@@ -47,8 +46,8 @@ heads_differ : (l : Without) (number k : ℕ) (file other : List ℕ) (m n : Mov
 heads_differ l number k file other m n tree other_tree t u info other_info head other_head o p at bt it jt e f =
     let of = subjects.Track number in
     let left_many = λ (samples : List Sample). reduced_length l (length samples) (first_offset samples) 0 samples in
-    let x = zipped_at (IsInfoOf file tree) tree.movie.tracks m.tracks k t info o.tracks at it in
-    let y = zipped_at (IsInfoOf other other_tree) other_tree.movie.tracks n.tracks k u other_info p.tracks bt jt in
+    let x = get_zip (IsInfoOf file tree) tree.movie.tracks m.tracks k t info o.tracks at it in
+    let y = get_zip (IsInfoOf other other_tree) other_tree.movie.tracks n.tracks k u other_info p.tracks bt jt in
     let count = x.samples ∙ sym (left_many (track_of file (file_parts tree) t).samples) in
     let other_count = y.samples ∙ sym (left_many (track_of other (file_parts other_tree) u).samples) in
     λ i. (head_differences of (reduce_track_head l (e i)) (reduce_track_head l (f i)) ++ numbers_differ of fields.Start (start_left l (x.start i)) (start_left l (y.start i)) ++ numbers_differ of fields.Samples (count i) (other_count i)) ++ samples_differ l number file tree t other other_tree u
@@ -80,7 +79,7 @@ both_parts before mid next whole more rest e f h = h ∙ ap (λ (ds : List Diffe
 
 -- as many tracks are known as the movie has
 pub infos_all : (file : List ℕ) (m : MovieSeen) (tree : FileTree) → IsOpenedAs file m tree → length m.tracks ≡ length tree.movie.tracks
-infos_all file m tree o = sym (zip_length (IsInfoOf file tree) tree.movie.tracks m.tracks o.tracks)
+infos_all file m tree o = sym (length_zip (IsInfoOf file tree) tree.movie.tracks m.tracks o.tracks)
 
 said : (file : List ℕ) (m : MovieSeen) (tree : FileTree) (head : MovieHead) → IsOpenedAs file m tree → SaysHead (moov_box m) head → head_seen head ≡ head_of tree.movie
 said file m tree head o says = (said_of (moov_box m) head tree.movie says (sym o.moov) o.is_tree.movie).0

@@ -3,6 +3,7 @@ use Rattle.std.proofs.Common.{◌≡◌, ℕ, zero, suc, ◌+◌, ◌<◌, ◌�
 use Rattle.std.specs.Prelude.{slice_get, slice_index_or}
 use Rattle.std.proofs.lemmas.List.{take_all, map-append}
 use Rattle.mp4_boxes.specs.format.Bytes.{sum_of}
+use Rattle.mp4_boxes.proofs.Plain.{get_zip, length_zip}
 use Rattle.mp4_head.specs.format.Tree.{TrackTree}
 use Rattle.mp4_present.specs.format.Denotes.{FileTree}
 use Rattle.mp4_present.specs.words.Movies.{MovieSeen}
@@ -12,12 +13,10 @@ use Rattle.mp4_present.specs.words.WalkSteps.{walk_steps, walks_steps}
 use Rattle.mp4_present.specs.declared.track_info.TrackInfo.{TrackInfo}
 use Rattle.mp4_content.specs.declared.without.Without.{Without}
 use Rattle.mp4_present.proofs.Counts.{sum-append}
-use Rattle.mp4_present.proofs.TracksPassed.{zip_length}
 use Rattle.mp4_content.specs.words.ComingLess.{asks_first, plain_reduction, reduction_by, track_reduction, reductions_of}
 use Rattle.mp4_content.specs.words.Measuring.{AreTotals, no_total, total_from, track_total}
 use Rattle.mp4_content.specs.declared.measures.Total.{Total}
 use Rattle.mp4_content.specs.declared.reduced.Reduction.{Reduction}
-use Rattle.mp4_present.proofs.TrafTaken.{zipped_at}
 use Rattle.mp4_content.proofs.AtPlaces.{read_at, taken_next, there_is}
 use Rattle.mp4_content.proofs.SamplesTaken.{as_many}
 
@@ -47,7 +46,7 @@ module _ (l : Without) (file : List ℕ) (m : MovieSeen) (tree : FileTree) (o : 
 
   pub is_at : (k : ℕ) → k < length m.tracks → IsAt k
   is_at k lt =
-      let many = zip_length (IsInfoOf file tree) tree.movie.tracks m.tracks o.tracks in
+      let many = length_zip (IsInfoOf file tree) tree.movie.tracks m.tracks o.tracks in
       let t = there_is tree.movie.tracks k (omega (arith, lt, many)) in
       let info = there_is m.tracks k lt in
       record { t = t.0; info = info.0; is_tree = t.1; is_info = info.1 }
@@ -65,7 +64,7 @@ module _ (l : Without) (file : List ℕ) (m : MovieSeen) (tree : FileTree) (o : 
   -- all of them
   pub so_far_all : (k : ℕ) (reductions : List Reduction) (totals : List Total) → AreSoFar k reductions totals → length m.tracks ≤ k → (reductions ≡ reductions_of l tree) × AreTotals l tree tree.movie.tracks m.tracks totals
   so_far_all k reductions totals h le =
-      let many = zip_length (IsInfoOf file tree) tree.movie.tracks m.tracks o.tracks in
+      let many = length_zip (IsInfoOf file tree) tree.movie.tracks m.tracks o.tracks in
       let trees = take_all k tree.movie.tracks (omega (arith, le, many)) in
       let infos = take_all k m.tracks le in (
         h.by ∙ ap (map (track_reduction l tree)) trees,
@@ -89,11 +88,11 @@ module _ (l : Without) (file : List ℕ) (m : MovieSeen) (tree : FileTree) (o : 
 -- a track has as many samples as opening counted
 pub counted_by : (file : List ℕ) (m : MovieSeen) (tree : FileTree) → IsOpenedAs file m tree → (k : ℕ) (t : TrackTree) → slice_get tree.movie.tracks k ≡ Some t → (d : TrackInfo) → d ≡ slice_index_or m.tracks k d → (slice_index_or m.tracks k d).samples ≡ length (track_samples tree t)
 counted_by file m tree o k t is d e =
-    let many = zip_length (IsInfoOf file tree) tree.movie.tracks m.tracks o.tracks in
+    let many = length_zip (IsInfoOf file tree) tree.movie.tracks m.tracks o.tracks in
     let lt = got_within tree.movie.tracks k t is in
     let info = there_is m.tracks k (omega (arith, lt, many)) in
     let same : d ≡ info.0 = read_at m.tracks k info.0 d info.1 e in
-    let of = zipped_at (IsInfoOf file tree) tree.movie.tracks m.tracks k t info.0 o.tracks is info.1 in
+    let of = get_zip (IsInfoOf file tree) tree.movie.tracks m.tracks k t info.0 o.tracks is info.1 in
     ap (λ (x : TrackInfo). x.samples) (sym e ∙ same) ∙ of.samples ∙ sym (as_many file tree t)
   where
     got_within : {A : Type 0} (xs : List A) (k : ℕ) (x : A) → slice_get xs k ≡ Some x → k < length xs

@@ -3,9 +3,10 @@ use Rattle.std.proofs.Common.{◌≡◌, ℕ, zero, suc, ◌+◌, ◌≤◌, Boo
 use Rattle.std.specs.Prelude.{map, fold, flat_map, slice_index, ◌==◌, ℤ, pos, negsuc, IsTrue}
 use Rattle.std.specs.List.{AllByRecursion, list_any, position_from, slice_get}
 use Rattle.std.proofs.lemmas.Bool.{eqb-true, or_from}
-use Rattle.mp4_boxes.proofs.Among.{true_false, all_append}
+use Rattle.mp4_boxes.proofs.Among.{all_append}
 use Rattle.mp4_boxes.proofs.Each.{each_value, each_weaker, each_from, each_member}
 use Rattle.mp4_boxes.proofs.Joined.{all_first, all_last}
+use Rattle.mp4_boxes.proofs.Plain.{get_every, get_zip, true_false}
 use Rattle.mp4_store.specs.words.Device.{range}
 use Rattle.mp4_tables.specs.format.Groups.{GroupKey, Groups, key_rank, same_key, index_at}
 use Rattle.mp4_tables.specs.format.PlainSamples.{PlacedSample}
@@ -37,12 +38,10 @@ use Rattle.mp4_content.specs.declared.comparing.differences.Field.{Field}
 use Rattle.mp4_content.specs.declared.comparing.differences.Field.TheVariants as fields
 use Rattle.mp4_content.specs.declared.comparing.differences.Difference.{Difference}
 use Rattle.mp4_content.proofs.KeysOfBoth.{fold_rising, fold_each, fold_there, NothingElse, joint}
-use Rattle.mp4_present.proofs.TrafTaken.{zipped_at}
 use Rattle.mp4_present.proofs.PlacedTracks.{IsTrackPlaced, tracks_placed}
 use Rattle.mp4_content.proofs.SamplesReduced.{reduced_by_edges}
 use Rattle.mp4_present.proofs.SamplesLie.{IsInFile, placed_lie, bytes_whole}
 use Rattle.mp4_present.proofs.ValidSamples.{IsOfTrack}
-use Rattle.mp4_present.proofs.WalkPlaces.{of_got}
 
 -- ---- an index at a key
 
@@ -233,12 +232,12 @@ samples_of file tree t h lie =
 opened_samples : (file : List ℕ) (m : MovieSeen) (tree : FileTree) (t : TrackTree) (k : ℕ) → IsOpenedAs file m tree → slice_get tree.movie.tracks k ≡ Some t → AllByRecursion (IsSampleOf file (track_keys tree t)) (placed_of (file_parts tree) t)
 opened_samples file m tree t k o is =
     let Lie : TrackTree → Type 0 = λ u. AllByRecursion (IsInFile (length file)) (placed_of (file_parts tree) u) in
-    let lie = of_got Lie tree.movie.tracks k t is (each_member Lie tree.movie.tracks (λ u i. placed_lie file tree u o.is_consistent i)) in
-    samples_of file tree t (of_got (IsTrackPlaced tree) tree.movie.tracks k t is (tracks_placed file tree o.is_tree o.is_sound o.is_consistent o.bytes)) lie
+    let lie = get_every Lie tree.movie.tracks k t is (each_member Lie tree.movie.tracks (λ u i. placed_lie file tree u o.is_consistent i)) in
+    samples_of file tree t (get_every (IsTrackPlaced tree) tree.movie.tracks k t is (tracks_placed file tree o.is_tree o.is_sound o.is_consistent o.bytes)) lie
 
 -- the keys that are kept of a track are its own
 pub own_keys : (file : List ℕ) (m : MovieSeen) (tree : FileTree) (t : TrackTree) (k : ℕ) (info : TrackInfo) → IsOpenedAs file m tree → slice_get tree.movie.tracks k ≡ Some t → slice_get m.tracks k ≡ Some info → keys_seen info.keys ≡ track_keys tree t
-own_keys file m tree t k info o at there = (zipped_at (IsInfoOf file tree) tree.movie.tracks m.tracks k t info o.tracks at there).keys
+own_keys file m tree t k info o at there = (get_zip (IsInfoOf file tree) tree.movie.tracks m.tracks k t info o.tracks at there).keys
 
 -- What differs between the samples of two tracks, one by one, differs between those of the two presentations.
 pub tracks_differ : (l : Without) (track k : ℕ) (keys : List KeyNamed) (le re : Edges) (file other : List ℕ) (m n : MovieSeen) (tree other_tree : FileTree) (t u : TrackTree) (info other_info : TrackInfo)

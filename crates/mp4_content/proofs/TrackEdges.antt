@@ -17,13 +17,13 @@ use Rattle.mp4_present.specs.declared.track_info.TrackInfo.{TrackInfo}
 use Rattle.mp4_present.specs.declared.walking.in_hand.InHand.{InHand}
 use Rattle.mp4_present.specs.declared.walking.Walk.{Walk}
 use Rattle.mp4_content.specs.declared.without.Without.{Without}
-use Rattle.mp4_present.proofs.TrafTaken.{zipped_at}
 use Rattle.mp4_present.proofs.WalkCopied.{hand_one}
+use Rattle.mp4_boxes.proofs.Plain.{get_zip}
 
 -- as many samples come as were counted
 pub count_is : (file : List ℕ) (m : MovieSeen) (tree : FileTree) (t : TrackTree) (k : ℕ) (info : TrackInfo) → IsOpenedAs file m tree → slice_get tree.movie.tracks k ≡ Some t → slice_get m.tracks k ≡ Some info → info.samples ≡ length (track_samples tree t)
 count_is file m tree t k info o at there =
-    (zipped_at (IsInfoOf file tree) tree.movie.tracks m.tracks k t info o.tracks at there).samples ∙ length-map (placed_of (file_parts tree) t) (sample_of file) ∙ sym (timed_length _ _ _ (placed_of (file_parts tree) t))
+    (get_zip (IsInfoOf file tree) tree.movie.tracks m.tracks k t info o.tracks at there).samples ∙ length-map (placed_of (file_parts tree) t) (sample_of file) ∙ sym (timed_length _ _ _ (placed_of (file_parts tree) t))
 
 -- those that come, where these are all
 pub all_counted : (file : List ℕ) (m : MovieSeen) (tree : FileTree) (t : TrackTree) (w : Walk) (samples : List SampleAt) (info : TrackInfo) → IsOpenedAs file m tree → Comes file tree t m w samples → samples ≡ track_samples tree t

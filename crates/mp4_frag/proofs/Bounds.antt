@@ -8,12 +8,12 @@ use Rattle.byteorder.specs.Endian.{twos_complement}
 use Rattle.mp4_boxes.specs.format.Bytes.{AreBytes}
 use Rattle.mp4_boxes.specs.format.Layout.{flags, column_values, trun_columns}
 use Rattle.mp4_boxes.proofs.OfBytes.{signed_32, bytes_dropped}
+use Rattle.mp4_boxes.proofs.Plain.{and_is_true}
 use Rattle.mp4_frag.specs.format.Fragments.{RunRow, column, sample_run_of}
 use Rattle.mp4_frag.specs.declared.heads.Inherited.{Inherited}
 use Rattle.mp4_frag.proofs.Ranges.{value_below}
 use Rattle.mp4_frag.specs.format.FragmentSamples.{run_start}
 use Rattle.mp4_frag.specs.words.Passing.{IsNearer, IsUpTo, within_from, end_from, IsRunPassed}
-use Rattle.mp4_frag.proofs.RowsTied.{both}
 
 pub up_to_more : (n m : ℕ) (z : ℤ) → n ≤ m → IsUpTo n z → IsUpTo m z
 up_to_more n m (pos k) h b = omega arith
@@ -45,7 +45,7 @@ rows_up_to : (n L size : ℕ) (at : ℤ) (rows : List RunRow) → L ≤ n → wi
 rows_up_to n L size at [] h within b = b
 rows_up_to n L size at (row ∷ rows) h within b =
     let one = unwrap_or row.size size in
-    let parts = both (lies_within L at one) (within_from L size (at +ℤ pos one) rows) within in
+    let parts = and_is_true (lies_within L at one) (within_from L size (at +ℤ pos one) rows) within in
     rows_up_to n L size (at +ℤ pos one) rows h parts.1 (up_to_end n L one at h parts.0)
 
 start_up_to : (n : ℕ) (base before : ℤ) (offset : Option ℤ) → IfSome offset (FitsSigned w32) → IsUpTo n base → IsUpTo (n + 2 ^ 31) before → IsUpTo (n + 2 ^ 31) (run_start base before offset)

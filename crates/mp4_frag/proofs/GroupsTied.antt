@@ -11,8 +11,8 @@ use Rattle.mp4_tables.specs.words.Timed.{padded, indexes}
 use Rattle.mp4_tables.specs.words.Accepted.{AreDistinct}
 use Rattle.mp4_tables.proofs.SampleLists.{NotIn, put_one, put_not_in, absent, put_there, put_beside, same_both, maps_length}
 use Rattle.mp4_tables.specs.words.Indexes.{low_half}
-use Rattle.mp4_frag.proofs.RowsTied.{both}
 use Rattle.mp4_frag.specs.words.Walks.{with_key, no_indexes}
+use Rattle.mp4_boxes.proofs.Plain.{and_is_true}
 
 -- ---- one index in the map of a sample
 
@@ -278,7 +278,7 @@ AreSmall rows = AllByRecursion (λ (row : ℕ × ℕ). row.1 ≤ max_index) rows
 
 small_from : (rows : List (ℕ × ℕ)) → IsTrue (list_all (λ (row : ℕ × ℕ). nat_le row.1 max_index) rows) → AreSmall rows
 small_from [] h = tt
-small_from (row ∷ rows) h = let p = both (nat_le row.1 max_index) (list_all (λ (r : ℕ × ℕ). nat_le r.1 max_index) rows) h in (search (rules, p.0), small_from rows p.1)
+small_from (row ∷ rows) h = let p = and_is_true (nat_le row.1 max_index) (list_all (λ (r : ℕ × ℕ). nat_le r.1 max_index) rows) h in (search (rules, p.0), small_from rows p.1)
 
 pub rules_small : (n : ℕ) (gs : List Grouping) → KeepRules n gs → AllByRecursion (λ (g : Grouping). AreSmall g.rows) gs
 rules_small n gs r = each_at (λ (g : Grouping). AreSmall g.rows) gs (λ k g e. let t : IsTrue (keeps index_range n r.0 (take k gs) g) = rw e at (r.1 index_range k) in small_from g.rows t)

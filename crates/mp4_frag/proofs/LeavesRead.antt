@@ -18,6 +18,7 @@ use Rattle.mp4_frag.specs.words.Walks.{can_read, indexes_of, names, with_group, 
 use Rattle.mp4_boxes.specs.format.BoxFaults.{Fails}
 use Rattle.mp4_boxes.specs.declared.fault.Kind.{Kind}
 use Rattle.mp4_boxes.specs.declared.fault.Kind.TheVariants as kinds
+use Rattle.mp4_boxes.proofs.Plain.{and_false}
 use Rattle.mp4_frag.specs.declared.heads.Head.{Head}
 use Rattle.mp4_frag.specs.declared.trun.Run.{Run}
 use Rattle.mp4_frag.specs.declared.state.TrackState.{TrackState}
@@ -47,12 +48,8 @@ group_taken payload inside end j group keys lists indexes h k g place e =
     let same : indexes ≡ indexes_of part = e ∙ ap (λ runs. map low_half (repeated runs)) (runs_in_part payload inside end group.rows group.count h k g.room) ∙ unfolding_indexes part group g in
     rw (there, key, same) refl
 
-pub nothing : (a : Bool) → (a && false) ≡ false
-nothing true = refl
-nothing false = refl
-
 pub nor_then : (a b : Bool) → (a && (b && false)) ≡ false
-nor_then a b = ap (λ v. a && v) (nothing b) ∙ nothing a
+nor_then a b = ap (λ v. a && v) (and_false b) ∙ and_false a
 
 -- ---- heads
 
@@ -93,7 +90,7 @@ head_unread payload kinds.ShortBox f =
     let room : nat_le (needed tfhd payload) (length payload) ≡ false = search (rules, f) in
     ap (λ v. knows_version tfhd payload && (knows_flags tfhd payload && v)) room ∙ nor_then (knows_version tfhd payload) (knows_flags tfhd payload)
 head_unread payload kinds.BadVersion f = ap (λ v. v && (knows_flags tfhd payload && nat_le (needed tfhd payload) (length payload))) f.1
-head_unread payload kinds.BadFlags f = ap (λ v. knows_version tfhd payload && (v && nat_le (needed tfhd payload) (length payload))) f.1 ∙ nothing (knows_version tfhd payload)
+head_unread payload kinds.BadFlags f = ap (λ v. knows_version tfhd payload && (v && nat_le (needed tfhd payload) (length payload))) f.1 ∙ and_false (knows_version tfhd payload)
 head_unread payload kinds.BadValue f = absurd cc
 head_unread payload kinds.OutsideData f = absurd cc
 head_unread payload kinds.OffsetTooLarge f = absurd cc
@@ -117,7 +114,7 @@ run_unread payload kinds.ShortBox f d =
     let room : nat_le (needed trun payload) (length payload) ≡ false = search (rules, f) in
     ap (λ v. knows_version trun payload && (knows_flags trun payload && v)) room ∙ nor_then (knows_version trun payload) (knows_flags trun payload)
 run_unread payload kinds.BadVersion f d = ap (λ v. v && (knows_flags trun payload && nat_le (needed trun payload) (length payload))) f.1
-run_unread payload kinds.BadFlags f d = ap (λ v. knows_version trun payload && (v && nat_le (needed trun payload) (length payload))) f.1 ∙ nothing (knows_version trun payload)
+run_unread payload kinds.BadFlags f d = ap (λ v. knows_version trun payload && (v && nat_le (needed trun payload) (length payload))) f.1 ∙ and_false (knows_version trun payload)
 run_unread payload kinds.BadValue f d = absurd cc
 run_unread payload kinds.OutsideData f d = absurd cc
 run_unread payload kinds.OffsetTooLarge f d = absurd (d refl)

@@ -7,6 +7,7 @@ use Rattle.mp4_boxes.specs.format.Bytes.{rows}
 use Rattle.mp4_boxes.specs.format.Box.{Box}
 use Rattle.mp4_boxes.specs.format.Children.{count_among, of_kind, payload_if, payload_of}
 use Rattle.mp4_boxes.specs.format.Layout.{tfhd, sbgp, IsReadable}
+use Rattle.mp4_boxes.proofs.Plain.{bytes_eq_is}
 use Rattle.mp4_tables.specs.format.Groups.{GroupKey, Grouping, grouping_of, groupings_of, key_of, max_index}
 use Rattle.mp4_tables.specs.words.Keys.{key_place}
 use Rattle.mp4_tables.specs.format.Repeated.{repeated}
@@ -46,10 +47,6 @@ groups_are keys lists (b ∷ boxes) r s =
 
 -- ---- `tfhd`
 
--- a type that passes one test does not pass another
-kind_is : (a b : List ℕ) → bytes_eq a b ≡ true → a ≡ b
-kind_is a b e = (bytes_eq-Decides a b).0 e
-
 -- with no `tfhd`, the boxes say indexes alone
 groups_alone : (trex : Trex) (keys : List GroupKey) (s : Reached) (boxes : List Box) (lists : List (List ℕ)) → count_among (codes "tfhd" ∷ []) boxes ≡ 0
     → with_leaves trex keys (record s { indexes = lists }) boxes ≡ record s { indexes = groups_taken keys lists (of_kind (codes "sbgp") boxes) }
@@ -68,7 +65,7 @@ groups_alone trex keys s (b ∷ boxes) lists n =
 -- a `tfhd` is no `sbgp`
 not_both : (kind : List ℕ) → bytes_eq (codes "tfhd") kind ≡ true → bytes_eq (codes "sbgp") kind ≡ true → ⊥
 not_both kind e f =
-    let same : codes "tfhd" ≡ codes "sbgp" = kind_is (codes "tfhd") kind e ∙ sym (kind_is (codes "sbgp") kind f) in
+    let same : codes "tfhd" ≡ codes "sbgp" = bytes_eq_is (codes "tfhd") kind e ∙ sym (bytes_eq_is (codes "sbgp") kind f) in
     let t : bytes_eq (codes "tfhd") (codes "sbgp") ≡ true = ap (bytes_eq (codes "tfhd")) (sym same) in
     absurd cc
 

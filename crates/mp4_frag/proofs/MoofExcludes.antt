@@ -14,10 +14,10 @@ use Rattle.mp4_boxes.specs.declared.rule.Rule.TheVariants as rules_of
 use Rattle.mp4_boxes.specs.declared.fault.Fault.{Fault}
 use Rattle.mp4_boxes.specs.declared.fault.Kind.{Kind}
 use Rattle.mp4_boxes.specs.declared.fault.Kind.TheVariants.{BadDescriptionIndex, TooManySamples, SampleOutsideFile}
-use Rattle.mp4_boxes.proofs.Among.{true_false}
 use Rattle.mp4_boxes.proofs.ChildrenJudged.{children_are, held_are}
 use Rattle.mp4_boxes.proofs.Refusing.{unsound}
 use Rattle.mp4_boxes.proofs.Sound.{sound_each}
+use Rattle.mp4_boxes.proofs.Plain.{nat_le_yes, none_some, some_is, true_false}
 use Rattle.mp4_tables.specs.format.FirstFault.{group_rules}
 use Rattle.mp4_tables.specs.format.Groups.{GroupKey, Grouping, GroupRule, one_of_key, few_keys, index_range, group_counts, group_kind, group_test, grouping_of, groupings_of, keeps}
 use Rattle.mp4_tables.specs.format.TableRules.{is_index}
@@ -46,10 +46,7 @@ use Rattle.mp4_frag.proofs.PartReasons.{part_counts, lacks_description, not_on_t
 use Rattle.mp4_frag.proofs.RunsPassed.{judged_by}
 use Rattle.mp4_frag.proofs.RunsTied.{run_in}
 use Rattle.mp4_frag.proofs.SamplesOfRows.{within_is, end_is}
-use Rattle.mp4_frag.proofs.SeenLists.{IsFirst, find_map, first_seen, same_place, some_is, trex_kept}
-
-none_some : {A : Type 0} (x : A) → ◌≡◌ {A = Option A} None (Some x) → ⊥
-none_some x e = cc
+use Rattle.mp4_frag.proofs.SeenLists.{IsFirst, find_map, first_seen, same_place, trex_kept}
 
 no_test : {A : Type 0} (x : A) (o : Option A) → o ≡ None → o ≡ Some x → ⊥
 no_test x o e f = none_some x (sym e ∙ f)
@@ -87,9 +84,6 @@ each_passes : (leaf : Leaf) (boxes : List Box) → AllByRecursion (λ (b : Box).
 each_passes leaf [] h = tt
 each_passes leaf (b ∷ boxes) h = (naming_pass b (leaf_tests leaf b.payload) (sound_passes leaf [] b.payload h.0 refl), each_passes leaf boxes h.1)
 
-fits_in : (n room : ℕ) → n ≤ room → nat_le n room ≡ true
-fits_in n room h = grind (arith, nat_tests)
-
 runs_pass : (L : ℕ) (traf : TrackFragment) (trex : Trex) (base before : ℤ) (room : ℕ) (runs : List Box) → AllByRecursion (λ (b : Box). IsSound trun b.payload) runs → runs_total runs ≤ room
     → AllByRecursion (λ samples. IsTrue (is_within L samples)) (runs_samples trex traf base before (map run_in runs)) → first_failed (runs_tests (judged_by L (inheritance traf trex) base) before room runs) ≡ None
 runs_pass L traf trex base before room [] s few p = refl
@@ -100,7 +94,7 @@ runs_pass L traf trex base before room (b ∷ runs) s few p =
     let judged = judged_by L (inheritance traf trex) base in
     let n = row_count trun b.payload in
     let within : within_from L judged.inherited.size (run_begins base before b.payload) run.rows ≡ true = sym (within_is L trex traf run.first_sample_flags at run.rows) ∙ p.0 in
-    let fits : nat_le n room ≡ true = fits_in n room (omega (arith, few)) in
+    let fits : nat_le n room ≡ true = nat_le_yes n room (omega (arith, few)) in
     let rest : runs_total runs ≤ room - n = omega (arith, few) in
     let here = naming_pass b (one_run_tests judged before room b.payload) (sound_passes trun ((nat_le n room, TooManySamples) ∷ (within_from L judged.inherited.size (run_begins base before b.payload) run.rows, SampleOutsideFile) ∷ []) b.payload s.0 (rw (fits, within) refl)) in
     let later = runs_pass L traf trex base (end_of_data at samples) (room - n) runs s.1 rest p.1 in

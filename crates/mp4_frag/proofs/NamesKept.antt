@@ -9,6 +9,7 @@ use Rattle.mp4_tables.specs.words.Keys.{key_place}
 use Rattle.mp4_tables.proofs.KeyLists.{not_named_yet, named_before}
 use Rattle.mp4_tables.proofs.SampleLists.{same_both}
 use Rattle.mp4_frag.specs.words.GroupsJudged.{is_named_at, AreNamed, NamesOneMore}
+use Rattle.mp4_boxes.proofs.Plain.{or_false, or_true, true_false}
 
 -- ---- places of keys
 
@@ -88,28 +89,17 @@ name_beside (b ∷ named) (suc i) (suc j) d = name_beside named i j (λ e. d (ap
 
 -- ---- one more grouping
 
-or_yes : (b : Bool) → (b || true) ≡ true
-or_yes true = refl
-or_yes false = refl
-
-or_no : (b : Bool) → (b || false) ≡ b
-or_no true = refl
-or_no false = refl
-
 yes_same : (before : List Grouping) (g : Grouping) (key : GroupKey) → same_key key g.key ≡ true → list_any (λ (h : Grouping). same_key key h.key) (before ++ g ∷ []) ≡ true
-yes_same before g key e = list_any-append (λ (h : Grouping). same_key key h.key) before (g ∷ []) ∙ rw e (or_yes (list_any (λ (h : Grouping). same_key key h.key) before))
+yes_same before g key e = list_any-append (λ (h : Grouping). same_key key h.key) before (g ∷ []) ∙ rw e (or_true (list_any (λ (h : Grouping). same_key key h.key) before))
 
 no_same : (before : List Grouping) (g : Grouping) (key : GroupKey) → same_key key g.key ≡ false → list_any (λ (h : Grouping). same_key key h.key) (before ++ g ∷ []) ≡ list_any (λ (h : Grouping). same_key key h.key) before
-no_same before g key e = list_any-append (λ (h : Grouping). same_key key h.key) before (g ∷ []) ∙ rw e (or_no (list_any (λ (h : Grouping). same_key key h.key) before))
+no_same before g key e = list_any-append (λ (h : Grouping). same_key key h.key) before (g ∷ []) ∙ rw e (or_false (list_any (λ (h : Grouping). same_key key h.key) before))
 
 some_is : (i j : ℕ) → ◌≡◌ {A = Option ℕ} (Some i) (Some j) → i ≡ j
 some_is i j e = cc
 
 none_some : (j : ℕ) → ◌≡◌ {A = Option ℕ} None (Some j) → ⊥
 none_some j e = cc
-
-true_is_not_false : (b : Bool) → b ≡ true → b ≡ false → ⊥
-true_is_not_false b e f = cc
 
 -- its key was named in the `traf`
 pub name_again : (n : ℕ) (first now : List GroupKey) (before : List Grouping) (named : List Bool) (g : Grouping) (j : ℕ) → AreNamed first before now named → key_place g.key now ≡ Some j → is_named_at named j ≡ true → keeps one_of_key n first before g ≡ false
@@ -136,9 +126,9 @@ name_found first now before named g j a e h inside =
     there_by key i f true k back u m =
         let same : j ≡ i = some_is j i (sym e ∙ place_alike g.key key 0 now (same_both g.key key ∙ k) ∙ f) in
         ap (is_named_at (slice_set named j true)) (sym same) ∙ name_there named j inside ∙ sym (yes_same before g key k)
-    there_by key i f false k back true m = let same : j ≡ i = grind (arith, nat_tests) in absurd (true_is_not_false (same_key key g.key) (back (f ∙ ap Some (sym same))) k)
+    there_by key i f false k back true m = let same : j ≡ i = grind (arith, nat_tests) in absurd (true_false (same_key key g.key) (back (f ∙ ap Some (sym same))) k)
     there_by key i f false k back false m =
-        let differ : j ≡ i → ⊥ = λ s. true_is_not_false (same_key key g.key) (back (f ∙ ap Some (sym s))) k in
+        let differ : j ≡ i → ⊥ = λ s. true_false (same_key key g.key) (back (f ∙ ap Some (sym s))) k in
         name_beside named j i differ ∙ a.there key i f ∙ sym (no_same before g key k)
 
     missing_by : (key : GroupKey) → key_place key now ≡ None → (v : Bool) → same_key key g.key ≡ v → list_any (λ (h : Grouping). same_key key h.key) (before ++ g ∷ []) ≡ false

@@ -5,6 +5,7 @@ use Rattle.std.specs.List.{list_all}
 use Rattle.std.proofs.lemmas.Bool.{and_parts, ltb-true}
 use Rattle.mp4_boxes.specs.format.Box.{Box}
 use Rattle.mp4_boxes.specs.format.Children.{of_kind}
+use Rattle.mp4_boxes.proofs.Plain.{same_eq}
 use Rattle.mp4_tables.specs.format.Groups.{maps_of}
 use Rattle.mp4_tables.specs.format.PlainSamples.{PlacedSample}
 use Rattle.mp4_frag.specs.format.Fragments.{TrackFragment, track_fragment_of}
@@ -34,14 +35,11 @@ not_both : (v w : Bool) → w ≡ true → (v && not w) ≡ false
 not_both true w e = ap not e
 not_both false w e = refl
 
-itself : (d : ℕ) → (d == d) ≡ true
-itself d = search rules
-
 -- the samples of a `traf` have the description that it says
 one_description : (moof : ℕ) (before : ℤ) (trex : Trex) (traf : TrackFragment) → IsTested (λ d. d == (inheritance traf trex).description) (part_samples (part_with moof before trex traf))
 one_description moof before trex traf =
     let d = unwrap_or traf.description trex.description in
-    part_tested (λ n. n == d) moof before trex traf (nat_lt 0 (length (part_samples (part_with moof before trex traf)))) refl (not_both (nat_lt 0 (length (part_samples (part_with moof before trex traf)))) (d == d) (itself d))
+    part_tested (λ n. n == d) moof before trex traf (nat_lt 0 (length (part_samples (part_with moof before trex traf)))) refl (not_both (nat_lt 0 (length (part_samples (part_with moof before trex traf)))) (d == d) (same_eq d))
 
 first_fails : (test : ℕ → Bool) (d : ℕ) (samples : List PlacedSample) → IsTested (λ n. n == d) samples → 0 < length samples → test d ≡ false → list_all (λ (s : PlacedSample). test s.description) samples ≡ false
 first_fails test d [] h some e = absurd (omega arith)

@@ -5,6 +5,7 @@ use Rattle.std.proofs.lemmas.Bool.{leb-false, or_parts}
 use Rattle.std.proofs.lemmas.List.{get_or-drop, drop-drop}
 use Rattle.mp4_boxes.specs.format.Bytes.{width_of}
 use Rattle.mp4_boxes.specs.format.Layout.{column_values, sample_columns, present, run_offsets, too_large}
+use Rattle.mp4_boxes.proofs.Plain.{and_is_true}
 use Rattle.mp4_tables.specs.format.Groups.{GroupKey, Groups}
 use Rattle.mp4_tables.specs.format.PlainSamples.{PlacedSample, with_groups}
 use Rattle.mp4_tables.specs.format.TableRules.{lies_within}
@@ -41,11 +42,6 @@ rows_alike (suc n) bits bytes e =
     λ i. record { duration = column values 0; size = column values 1; flags = column values 2; offset = offset i } ∷ more i
 
 -- ---- numbers that are held
-
--- two tests that both pass
-pub both : (a b : Bool) → (a && b) ≡ true → (a ≡ true) × (b ≡ true)
-both true b e = (refl, e)
-both false b e = absurd cc
 
 -- a sample in the file ends at a place of 64 bits
 in_file : (L size n : ℕ) → L < 2 ^ 64 → lies_within L (pos n) size ≡ true → capped (n + size) ≡ n + size
@@ -151,7 +147,7 @@ rows_tied keys L traf trex number dts at base lists first [] maps more short sho
 rows_tied keys L traf trex number dts at base lists first (row ∷ rows) maps more short shown within room fits =
     let size = unwrap_or row.size (size_of traf trex) in
     let lasts = unwrap_or row.duration (lasts_of traf trex) in
-    let parts = both (lies_within L (pos at) size) (within_from L (size_of traf trex) (pos (at + size)) rows) within in
+    let parts = and_is_true (lies_within L (pos at) size) (within_from L (size_of traf trex) (pos (at + size)) rows) within in
     let one = sample_tied keys traf trex number dts at base lists first row maps shown in
     let next : next_number number ≡ number + 1 = omega (arith, room) in
     let last : number + 1 + length rows ≡ number + suc (length rows) = omega arith in

@@ -74,10 +74,6 @@ filling_step size row rows later e = rw e refl
 pub large_step : (n : Option ℕ) (ns later : List (Option ℕ)) → ns ≡ n ∷ later → too_large ns ≡ (too_large (n ∷ []) || too_large later)
 large_step n ns later e = rw e (large_more n later)
 
-pub or_false : (b : Bool) → (b || false) ≡ b
-or_false true = refl
-or_false false = refl
-
 pub or_before : (a b c all : Bool) → all ≡ (a || (b || c)) → all ≡ ((a || b) || c)
 or_before true b c all e = e
 or_before false b c all e = e

@@ -6,6 +6,7 @@ use Rattle.std.proofs.lemmas.List.{length-append}
 use Rattle.mp4_boxes.specs.format.Box.{Box}
 use Rattle.mp4_boxes.specs.format.Children.{of_kind}
 use Rattle.mp4_boxes.specs.format.Layout.{trun, version, flags, row_count, run_offsets, too_large, IsSound}
+use Rattle.mp4_boxes.proofs.Plain.{and_is_true}
 use Rattle.mp4_tables.specs.format.Groups.{GroupKey, Groups}
 use Rattle.mp4_tables.specs.format.PlainSamples.{PlacedSample, with_groups}
 use Rattle.mp4_tables.specs.format.TableRules.{lies_within}
@@ -20,7 +21,7 @@ use Rattle.mp4_frag.specs.words.Walks.{Reached, begin, first_byte, held, rows_of
 use Rattle.mp4_frag.specs.declared.trex.Trex.{Trex}
 use Rattle.mp4_frag.proofs.LeavesRead.{read}
 use Rattle.mp4_frag.proofs.SamplesOfRows.{within_is, lasting_is, end_is}
-use Rattle.mp4_frag.proofs.RowsTied.{both, rows_alike, rows_tied, AreShown, shown_later, stand, size_of, lasts_of, end_at, end_at_is}
+use Rattle.mp4_frag.proofs.RowsTied.{rows_alike, rows_tied, AreShown, shown_later, stand, size_of, lasts_of, end_at, end_at_is}
 
 -- ---- one run
 
@@ -79,7 +80,7 @@ rows_held : (keys : List GroupKey) (L : ℕ) (traf : TrackFragment) (trex : Trex
 rows_held keys L traf trex number dts kept at base lists first [] maps more short held_at shown within room fits = (kept, held_at, rows_tied keys L traf trex number dts kept base lists first [] maps more short shown refl room fits)
 rows_held keys L traf trex number dts kept at base lists first (row ∷ rows) maps more short held_at shown within room fits =
     let size = unwrap_or row.size (size_of traf trex) in
-    let there = begins_in L size at short (both (lies_within L at size) (within_from L (size_of traf trex) (at +ℤ pos size) rows) within).0 in
+    let there = begins_in L size at short (and_is_true (lies_within L at size) (within_from L (size_of traf trex) (at +ℤ pos size) rows) within).0 in
     let n = there.0 in
     let same : kept ≡ n = held_at n there.1 there.2 in
     let end = end_at (size_of traf trex) n (row ∷ rows) in

@@ -7,6 +7,7 @@ use Rattle.mp4_frag.specs.format.FragmentSamples.{Part, has_samples}
 use Rattle.mp4_frag.specs.words.Judged.{TrackSeen, track_seen, track_behind}
 use Rattle.mp4_frag.specs.declared.state.TrackState.{TrackState}
 use Rattle.mp4_frag.specs.declared.trex.Trex.{Trex}
+use Rattle.mp4_boxes.proofs.Plain.{some_is}
 
 -- the first value that passes is that of the first whose value passes
 pub find_map : {A B : Type 0} (f : A → B) (p : B → Bool) (xs : List A) → find p (map f xs) ≡ option_map f (find (λ x. p (f x)) xs)
@@ -21,9 +22,6 @@ take_map : {A B : Type 0} (f : A → B) (n : ℕ) (xs : List A) → take n (map 
 take_map f zero xs = refl
 take_map f (suc n) [] = refl
 take_map f (suc n) (x ∷ xs) = ap (λ ys. f x ∷ ys) (take_map f n xs)
-
-pub some_is : {A : Type 0} (x y : A) → ◌≡◌ {A = Option A} (Some x) (Some y) → x ≡ y
-some_is x y e = cc
 
 found_passes : {A : Type 0} (p : A → Bool) (xs : List A) (x : A) → find p xs ≡ Some x → p x ≡ true
 found_passes p [] x e = absurd cc

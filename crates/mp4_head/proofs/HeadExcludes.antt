@@ -11,9 +11,10 @@ use Rattle.mp4_boxes.specs.declared.rule.Rule.TheVariants.{File, Movie, Track, E
 use Rattle.mp4_boxes.specs.declared.fault.Fault.{Fault}
 use Rattle.mp4_boxes.specs.declared.refusal.Refusal.{Refusal}
 use Rattle.mp4_boxes.specs.declared.refusal.Refusal.TheVariants as refusals
-use Rattle.mp4_boxes.proofs.Among.{IsIn, true_false, all_in, in_of_kind, only_entry, entry_or, no_entry}
+use Rattle.mp4_boxes.proofs.Among.{IsIn, all_in, in_of_kind, only_entry, entry_or}
 use Rattle.mp4_boxes.proofs.Refusing.{unsound, holds_only, child_fault_refuses}
 use Rattle.mp4_boxes.proofs.Tiling.{header_fault_refuses}
+use Rattle.mp4_boxes.proofs.Plain.{none_some, true_false}
 use Rattle.mp4_frag.specs.format.Fragments.{trex_of}
 use Rattle.mp4_head.specs.format.Head.{names_item_location}
 use Rattle.mp4_head.specs.format.HeadFaults.{HeadStands, HeaderStands, ChildStands, MissingStands, IsHeadLeafFault, IsTakenId, IsForeignReference, IsItemLocation, is_table}
@@ -30,7 +31,7 @@ leaf_among scope boxes bs b l same s i e =
 
 -- what a list of tables has at a type is a table
 only_tables : (entries : List (List ℕ × Leaf)) (kind : List ℕ) (l : Leaf) → AllByRecursion (λ (entry : List ℕ × Leaf). is_table entry.1 ≡ true) entries → at_kind entries kind ≡ Some l → is_table l ≡ true
-only_tables [] kind l a e = absurd (no_entry l e)
+only_tables [] kind l a e = absurd (none_some l e)
 only_tables (entry ∷ entries) kind l a e = elim (entry_or kind entry.0 entry.1 l entries e) [
   | inl m ↦ sym (ap is_table m.1) ∙ a.0
   | inr n ↦ only_tables entries kind l a.1 n
@@ -63,7 +64,7 @@ sound_leaf : (m : MovieTree) → IsMovieTree m → IsSoundMovie m → (scope : S
 sound_leaf m h s (ruled File) boxes n b i l e t = absurd n
 sound_leaf m h s (ruled MovieFragment) boxes n b i l e t = absurd n
 sound_leaf m h s (ruled TrackFragment) boxes n b i l e t = absurd n
-sound_leaf m h s (ruled MediaInformation) boxes n b i l e t = absurd (no_entry l e)
+sound_leaf m h s (ruled MediaInformation) boxes n b i l e t = absurd (none_some l e)
 sound_leaf m h s (ruled Movie) boxes n b i l e t = leaf_among (ruled Movie) boxes m.movie b l n s.movie i e
 sound_leaf m h s (ruled MovieExtends) boxes n b i l e t = leaf_among (ruled MovieExtends) boxes m.extends b l n s.extends i e
 sound_leaf m h s (ruled Track) boxes n b i l e t = leaf_among (ruled Track) boxes n.0.track b l n.2 (all_in IsSoundTrack m.tracks n.0 n.1 s.tracks).track i e
@@ -110,7 +111,7 @@ missing_excludes m f q h =
 
 -- a value that the table has at a type passes a test that it passes
 has_any : {A : Type 0} (test : A → Bool) (entries : List (List ℕ × A)) (kind : List ℕ) (x : A) → test x ≡ true → at_kind entries kind ≡ Some x → list_any (λ (entry : List ℕ × A). test entry.1) entries ≡ true
-has_any test [] kind x t e = absurd (no_entry x e)
+has_any test [] kind x t e = absurd (none_some x e)
 has_any test (entry ∷ entries) kind x t e = elim (entry_or kind entry.0 entry.1 x entries e) [
   | inl m ↦ left (test entry.1) (list_any (λ y. test y.1) entries) (ap test m.1 ∙ t)
   | inr n ↦ right (test entry.1) (list_any (λ y. test y.1) entries) (has_any test entries kind x t n)

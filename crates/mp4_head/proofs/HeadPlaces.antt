@@ -7,8 +7,9 @@ use Rattle.mp4_boxes.specs.format.Places.{Scope, ruled, data_entries, sample_ent
 use Rattle.mp4_boxes.specs.declared.rule.Rule.{Rule}
 use Rattle.mp4_boxes.specs.declared.rule.Rule.TheVariants.{File, Movie, Track, Edits, Media, MediaInformation, DataInformation, SampleTable, MovieExtends, MovieFragment, TrackFragment}
 use Rattle.mp4_boxes.proofs.Members.{only_one}
-use Rattle.mp4_boxes.proofs.Among.{IsIn, all_in, in_map, in_of_kind, first_there, only_entry, either_entry, no_entry, inside_is}
+use Rattle.mp4_boxes.proofs.Among.{IsIn, all_in, in_map, in_of_kind, first_there, only_entry, either_entry, inside_is}
 use Rattle.mp4_boxes.proofs.Refusing.{stands_in, holds_only, holds_few}
+use Rattle.mp4_boxes.proofs.Plain.{none_some}
 use Rattle.mp4_head.specs.format.Tree.{TrackTree, MovieTree, HoldsIfThere, IsTrackTree, IsMovieTree, first_of}
 use Rattle.mp4_head.specs.words.Refuses.{place_of}
 
@@ -159,10 +160,10 @@ module _ (m : MovieTree) (h : IsMovieTree m) where
       let j = among boxes a.named.0.table b a.named.2 i in
       let n = only_entry b.kind (codes "stsd") sample_entries next e in
       held_next b sample_entries next n.1 (in_stsd m h b a.named.0 a.named.1 j n.0)
-  step b (ruled Edits) c boxes a i next e = absurd (no_entry next e)
-  step b (ruled MovieExtends) c boxes a i next e = absurd (no_entry next e)
-  step b data_entries c boxes a i next e = absurd (no_entry next e)
-  step b sample_entries c boxes a i next e = absurd (no_entry next e)
+  step b (ruled Edits) c boxes a i next e = absurd (none_some next e)
+  step b (ruled MovieExtends) c boxes a i next e = absurd (none_some next e)
+  step b data_entries c boxes a i next e = absurd (none_some next e)
+  step b sample_entries c boxes a i next e = absurd (none_some next e)
   step b (ruled File) c boxes a i next e = absurd a.named
   step b (ruled MovieFragment) c boxes a i next e = absurd a.named
   step b (ruled TrackFragment) c boxes a i next e = absurd a.named

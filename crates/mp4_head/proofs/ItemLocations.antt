@@ -3,15 +3,8 @@ use Rattle.std.proofs.Common.{◌≡◌, ℕ, zero, suc, ◌+◌, ◌<◌, Bool,
 use Rattle.std.specs.Prelude.{codes, slice_index, nat_eq, is_some, ◌||◌}
 use Rattle.std.specs.List.{starts_with}
 use Rattle.memchr.specs.Find.{OccursAt, FindsNeedle}
-use Rattle.mp4_boxes.proofs.Refusing.{and_true}
 use Rattle.mp4_head.specs.format.Head.{names_item_location}
-
-or_right : (p q : Bool) → q ≡ true → p || q ≡ true
-or_right true q e = refl
-or_right false q e = e
-
-or_left : (p q : Bool) → p ≡ true → p || q ≡ true
-or_left p q e = rw e refl
+use Rattle.mp4_boxes.proofs.Plain.{and_is_true, false_true, or_left, or_right}
 
 -- the letters in front of the bytes
 in_front : (bytes : List ℕ) → OccursAt bytes (codes "iloc") 0 → starts_with nat_eq bytes (codes "iloc") ≡ true
@@ -53,28 +46,25 @@ at_front a b c d rest e f g h = record { fits = omega arith; reads = λ j lt. ap
     reads (suc (suc (suc zero))) lt = h
     reads (suc (suc (suc (suc j)))) lt = absurd (omega (arith, lt))
 
-true_not_false : false ≡ true → ⊥
-true_not_false e = cc
-
 front_stands : (bytes : List ℕ) → starts_with nat_eq bytes (codes "iloc") ≡ true → OccursAt bytes (codes "iloc") 0
 front_stands (a ∷ b ∷ c ∷ d ∷ rest) s =
-    let n0 = and_true (nat_eq 105 a) _ s in
-    let n1 = and_true (nat_eq 108 b) _ n0.1 in
-    let n2 = and_true (nat_eq 111 c) _ n1.1 in
-    let n3 = and_true (nat_eq 99 d) _ n2.1 in
+    let n0 = and_is_true (nat_eq 105 a) _ s in
+    let n1 = and_is_true (nat_eq 108 b) _ n0.1 in
+    let n2 = and_is_true (nat_eq 111 c) _ n1.1 in
+    let n3 = and_is_true (nat_eq 99 d) _ n2.1 in
     at_front a b c d rest (sym (eqb-true 105 a n0.0)) (sym (eqb-true 108 b n1.0)) (sym (eqb-true 111 c n2.0)) (sym (eqb-true 99 d n3.0))
 front_stands (a ∷ b ∷ c ∷ []) s =
-    let n0 = and_true (nat_eq 105 a) _ s in
-    let n1 = and_true (nat_eq 108 b) _ n0.1 in
-    let n2 = and_true (nat_eq 111 c) _ n1.1 in
-    absurd (true_not_false n2.1)
+    let n0 = and_is_true (nat_eq 105 a) _ s in
+    let n1 = and_is_true (nat_eq 108 b) _ n0.1 in
+    let n2 = and_is_true (nat_eq 111 c) _ n1.1 in
+    absurd (false_true n2.1)
 front_stands (a ∷ b ∷ []) s =
-    let n0 = and_true (nat_eq 105 a) _ s in
-    let n1 = and_true (nat_eq 108 b) _ n0.1 in
-    absurd (true_not_false n1.1)
+    let n0 = and_is_true (nat_eq 105 a) _ s in
+    let n1 = and_is_true (nat_eq 108 b) _ n0.1 in
+    absurd (false_true n1.1)
 front_stands (a ∷ []) s =
-    let n0 = and_true (nat_eq 105 a) _ s in
-    absurd (true_not_false n0.1)
+    let n0 = and_is_true (nat_eq 105 a) _ s in
+    absurd (false_true n0.1)
 front_stands [] s = absurd cc
 
 -- one place further back

@@ -8,6 +8,7 @@ use Rattle.mp4_boxes.specs.format.FirstFault.{leaf_fault}
 use Rattle.mp4_boxes.specs.format.Layout.{Leaf, sbgp, version, needed, knows_version, knows_flags, has_bad_value, is_outside_data, has_large_offset, IsReadable, IsSound}
 use Rattle.mp4_boxes.specs.declared.fault.Fault.{Fault}
 use Rattle.mp4_boxes.specs.declared.fault.Kind.TheVariants.{ShortBox, BadVersion, BadFlags, BadValue, OutsideData, OffsetTooLarge}
+use Rattle.mp4_boxes.proofs.Plain.{not_is_false, not_is_true}
 use Rattle.mp4_head.specs.words.Leaves.{IsFaultOf}
 
 -- where a test's fault is not named, it passes, and the rest
@@ -19,15 +20,6 @@ passed false rest g e = absurd cc
 pub failed : (v : Bool) (rest : Option Fault) (g f : Fault) → cond v rest (Some g) ≡ Some f → ((v ≡ false) × (f ≡ g)) ⊎ ((v ≡ true) × (rest ≡ Some f))
 failed true rest g f e = inr (refl, e)
 failed false rest g f e = inl (refl, cc)
-
--- what is not so, and what is not not so
-not_true : (v : Bool) → not v ≡ true → v ≡ false
-not_true true e = absurd cc
-not_true false e = refl
-
-pub not_false : (v : Bool) → not v ≡ false → v ≡ true
-not_false true e = refl
-not_false false e = absurd cc
 
 -- Where no test of a leaf fails, it is sound.
 pub leaf_sound : (leaf : Leaf) (b : Box) → leaf_fault leaf b ≡ None → IsSound leaf b.payload
@@ -41,9 +33,9 @@ leaf_sound leaf b e =
     let offsets = passed (not (has_large_offset leaf b.payload)) _ (fault_of OffsetTooLarge b) inside.1 in
     record {
       readable = record { version = listed.0; flags = flags.0; room = leb-true (needed leaf b.payload) (length b.payload) room.0 };
-      value = not_true (has_bad_value leaf b.payload) value.0;
-      inside = not_true (is_outside_data leaf b.payload) inside.0;
-      offsets = not_true (has_large_offset leaf b.payload) offsets.0;
+      value = not_is_true (has_bad_value leaf b.payload) value.0;
+      inside = not_is_true (is_outside_data leaf b.payload) inside.0;
+      offsets = not_is_true (has_large_offset leaf b.payload) offsets.0;
     }
 
 -- each leaf takes four bytes at least
@@ -68,11 +60,11 @@ leaf_fails leaf b f e = elim (failed (nat_le 4 (length b.payload)) _ (fault_of S
         | inr room ↦
             let readable : IsReadable leaf b.payload = record { version = listed.0; flags = flags.0; room = leb-true (needed leaf b.payload) (length b.payload) room.0 } in
             elim (failed (not (has_bad_value leaf b.payload)) _ (fault_of BadValue b) f room.1) [
-              | inl x ↦ record { kind = BadValue; fails = (readable, not_false (has_bad_value leaf b.payload) x.0); named = x.1 }
+              | inl x ↦ record { kind = BadValue; fails = (readable, not_is_false (has_bad_value leaf b.payload) x.0); named = x.1 }
               | inr value ↦ elim (failed (not (is_outside_data leaf b.payload)) _ (fault_of OutsideData b) f value.1) [
-                | inl x ↦ record { kind = OutsideData; fails = (readable, not_false (is_outside_data leaf b.payload) x.0); named = x.1 }
+                | inl x ↦ record { kind = OutsideData; fails = (readable, not_is_false (is_outside_data leaf b.payload) x.0); named = x.1 }
                 | inr inside ↦ elim (failed (not (has_large_offset leaf b.payload)) _ (fault_of OffsetTooLarge b) f inside.1) [
-                  | inl x ↦ record { kind = OffsetTooLarge; fails = (readable, not_false (has_large_offset leaf b.payload) x.0); named = x.1 }
+                  | inl x ↦ record { kind = OffsetTooLarge; fails = (readable, not_is_false (has_large_offset leaf b.payload) x.0); named = x.1 }
                   | inr none ↦ absurd cc
                 ]
               ]

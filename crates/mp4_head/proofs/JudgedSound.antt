@@ -13,11 +13,12 @@ use Rattle.mp4_boxes.specs.declared.rule.Rule.{Rule}
 use Rattle.mp4_boxes.specs.declared.rule.Rule.TheVariants as rules
 use Rattle.mp4_boxes.specs.declared.fault.Fault.{Fault}
 use Rattle.mp4_boxes.specs.declared.fault.Kind.TheVariants.{BadValue, ItemLocation}
-use Rattle.mp4_boxes.proofs.Among.{IsIn, entry_or, no_entry}
+use Rattle.mp4_boxes.proofs.Among.{IsIn, entry_or}
 use Rattle.mp4_boxes.proofs.ChildrenJudged.{children_are}
 use Rattle.mp4_boxes.proofs.Each.{each_member, each_weaker, each_value, each_kept, each_of_kind}
 use Rattle.mp4_boxes.proofs.Refusing.{holds_only}
 use Rattle.mp4_boxes.proofs.Sound.{same_kind}
+use Rattle.mp4_boxes.proofs.Plain.{none_some, or_is_false}
 use Rattle.mp4_frag.specs.declared.trex.Trex.{Trex}
 use Rattle.mp4_frag.specs.format.Fragments.{trex_of}
 use Rattle.mp4_head.specs.format.Head.{Kept, TrackHead, names_item_location}
@@ -42,16 +43,11 @@ use Rattle.mp4_head.proofs.Walks.{of_kind_this, of_kind_other}
 abbrev HasNoTable : Scope → Type 0
 HasNoTable scope = (kind : List ℕ) (leaf : Leaf) → leaf_of scope kind ≡ Some leaf → is_table leaf ≡ false
 
--- neither of two is so
-or_false : (v w : Bool) → (v || w) ≡ false → (v ≡ false) × (w ≡ false)
-or_false true w e = absurd cc
-or_false false w e = (refl, e)
-
 -- no table is read by these entries
 no_table : (entries : List (List ℕ × Leaf)) → list_any (λ (entry : List ℕ × Leaf). is_table entry.1) entries ≡ false → (kind : List ℕ) (leaf : Leaf) → at_kind entries kind ≡ Some leaf → is_table leaf ≡ false
-no_table [] none kind leaf e = absurd (no_entry leaf e)
+no_table [] none kind leaf e = absurd (none_some leaf e)
 no_table (entry ∷ entries) none kind leaf e =
-    let parts = or_false (is_table entry.1) (list_any (λ (x : List ℕ × Leaf). is_table x.1) entries) none in
+    let parts = or_is_false (is_table entry.1) (list_any (λ (x : List ℕ × Leaf). is_table x.1) entries) none in
     elim (entry_or kind entry.0 entry.1 leaf entries e) [
       | inl m ↦ sym (ap is_table m.1) ∙ parts.0
       | inr n ↦ no_table entries parts.1 kind leaf n

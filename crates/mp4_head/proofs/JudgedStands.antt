@@ -14,7 +14,8 @@ use Rattle.mp4_boxes.specs.declared.fault.Fault.{Fault}
 use Rattle.mp4_boxes.specs.declared.fault.Kind.TheVariants.{BadValue, OutsideData, ItemLocation}
 use Rattle.mp4_boxes.proofs.Among.{IsIn, all_at, all_in, inside_is}
 use Rattle.mp4_boxes.proofs.ChildrenJudged.{children_are, child_fault_is}
-use Rattle.mp4_boxes.proofs.Refusing.{holds_only, and_true}
+use Rattle.mp4_boxes.proofs.Refusing.{holds_only}
+use Rattle.mp4_boxes.proofs.Plain.{and_is_true, not_is_false}
 use Rattle.mp4_head.specs.format.Head.{names_item_location}
 use Rattle.mp4_head.specs.format.HeadFaults.{HeadStands, IsTakenId}
 use Rattle.mp4_head.specs.format.Tree.{MovieTree, first_of}
@@ -26,7 +27,7 @@ use Rattle.mp4_head.proofs.CountedJudged.{counted_are, counted_fault_is}
 use Rattle.mp4_head.proofs.FaultWalks.{fault_at}
 use Rattle.mp4_head.proofs.IdsJudged.{trex_fault, tkhd_fault}
 use Rattle.mp4_head.proofs.Inside.{LiesAt, all_lie, tiles_lie, first_is, stands_before}
-use Rattle.mp4_head.proofs.JudgedLeaves.{failed, not_false, leaf_sound, leaf_fails}
+use Rattle.mp4_head.proofs.JudgedLeaves.{failed, leaf_sound, leaf_fails}
 use Rattle.mp4_head.proofs.JudgedWalks.{neither_fails, each_passes, passes, fails, BoxFails, box_passes, box_fails, passes_inside, fails_inside, passes_leaf, fails_leaf, first_passes}
 use Rattle.mp4_head.proofs.Taken.{whose}
 
@@ -119,7 +120,7 @@ has_number f kind bs n h =
 
 -- a box that is not new has the type, and a number that is taken
 not_new : (kind other : List ℕ) (taken : Bool) → not (bytes_eq kind other && taken) ≡ false → (bytes_eq kind other ≡ true) × (taken ≡ true)
-not_new kind other taken e = and_true (bytes_eq kind other) taken (not_false (bytes_eq kind other && taken) e)
+not_new kind other taken e = and_is_true (bytes_eq kind other) taken (not_is_false (bytes_eq kind other && taken) e)
 
 -- a `trex` has an ID that one before it has
 trex_stands : (n : ℕ) (ids : List ℕ) (outer : Box) (before : List Box) (b : Box) (f : Fault) → IsReached n ids (ruled rules.MovieExtends) outer before b → bytes_eq (codes "trex") b.kind ≡ true
@@ -154,14 +155,14 @@ place_stands : (n : ℕ) (ids : List ℕ) (scope : Scope) (outer : Box) (before 
     → first_failed (naming b (head_leaf_tests (leaf_of scope b.kind) b)) ≡ None → first_failed (naming b (place_tests scope ids before b)) ≡ Some f → Outcome ids scope outer f
 place_stands n ids (ruled rules.Movie) outer before b f r leaf e = elim (failed (not (is_placed rules.Movie b)) None (fault_of ItemLocation b) f e) [
   | inl x ↦
-      let k = and_true (is_among (kept_kinds rules.Movie) b.kind) (names_item_location b.payload) (not_false (is_placed rules.Movie b) x.0) in
+      let k = and_is_true (is_among (kept_kinds rules.Movie) b.kind) (names_item_location b.payload) (not_is_false (is_placed rules.Movie b) x.0) in
       let place = place_of (ruled rules.Movie) outer in
       inl (inr (inr (inr (inr (inr (inr (inr (record { place = place; before = before; b = b; stands = here place before b r.stands; kept = inl (refl, k.0); names = k.1; named = x.1 }))))))))
   | inr y ↦ absurd cc
 ]
 place_stands n ids (ruled rules.Track) outer before b f r leaf e = elim (failed (not (is_placed rules.Track b)) _ (fault_of ItemLocation b) f e) [
   | inl x ↦
-      let k = and_true (is_among (kept_kinds rules.Track) b.kind) (names_item_location b.payload) (not_false (is_placed rules.Track b) x.0) in
+      let k = and_is_true (is_among (kept_kinds rules.Track) b.kind) (names_item_location b.payload) (not_is_false (is_placed rules.Track b) x.0) in
       let place = place_of (ruled rules.Track) outer in
       inl (inr (inr (inr (inr (inr (inr (inr (record { place = place; before = before; b = b; stands = here place before b r.stands; kept = inr (refl, k.0); names = k.1; named = x.1 }))))))))
   | inr y ↦ elim (failed (is_new (codes "tkhd") tkhd 4 ids b) None (fault_of BadValue b) f y.1) [

@@ -9,7 +9,7 @@ use Rattle.mp4_boxes.specs.format.Layout.{Leaf}
 use Rattle.mp4_boxes.specs.format.Places.{Place, leaf_of, inside}
 use Rattle.mp4_boxes.specs.declared.fault.Fault.{Fault}
 use Rattle.mp4_boxes.specs.declared.fault.Kind.{Kind}
-use Rattle.mp4_boxes.proofs.Among.{head_is, tail_is}
+use Rattle.mp4_boxes.proofs.Plain.{head_is, tail_is}
 use Rattle.mp4_head.specs.format.FirstFault.{held, boxes_there, place_tests, head_leaf_tests, or_else, each_fault, ids_behind, if_container, in_list, fault_within}
 use Rattle.mp4_head.specs.format.HeadFaults.{is_table}
 use Rattle.mp4_head.specs.format.Tree.{first_of}

@@ -6,8 +6,9 @@ use Rattle.std.proofs.lemmas.List.Elements.{filter-append}
 use Rattle.mp4_boxes.specs.format.Box.{Box, box_container}
 use Rattle.mp4_boxes.specs.format.Children.{is_among, of_kind, count_among, Holds}
 use Rattle.mp4_boxes.specs.declared.rule.Rule.{Rule}
-use Rattle.mp4_boxes.proofs.Among.{true_false, all_append, none_counted}
+use Rattle.mp4_boxes.proofs.Among.{all_append, none_counted}
 use Rattle.mp4_boxes.proofs.Sound.{same_kind}
+use Rattle.mp4_boxes.proofs.Plain.{true_false}
 use Rattle.mp4_head.specs.format.Head.{Kept, names_item_location}
 use Rattle.mp4_head.specs.format.Tree.{kept_among, NameNoItems, HoldsIfThere, first_of}
 use Rattle.mp4_head.specs.words.Containers.{kept_of}

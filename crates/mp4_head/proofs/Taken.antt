@@ -8,7 +8,8 @@ use Rattle.std.specs.BTreeSet.{BTreeSet, contains, IsEmpty}
 use Rattle.std.proofs.lemmas.List.Folds.{list_any-append}
 use Rattle.mp4_boxes.specs.format.Box.{Box}
 use Rattle.mp4_boxes.specs.format.Children.{of_kind}
-use Rattle.mp4_boxes.proofs.Among.{IsIn, true_false}
+use Rattle.mp4_boxes.proofs.Among.{IsIn}
+use Rattle.mp4_boxes.proofs.Plain.{not_and_is_true, or_is_false, true_false}
 use Rattle.mp4_head.specs.format.Tree.{are_distinct}
 use Rattle.mp4_head.specs.words.Ids.{HasIds, AddsId}
 
@@ -51,21 +52,12 @@ was_not_there added false e f = refl
 
 -- ---- numbers that differ
 
--- the step of `distinct_more`
-apart : (p q : Bool) → not p && q ≡ true → (p ≡ false) × (q ≡ true)
-apart true q e = absurd cc
-apart false q e = (refl, e)
-
-either_not : (p q : Bool) → (p || q) ≡ false → (p ≡ false) × (q ≡ false)
-either_not true q e = absurd cc
-either_not false q e = (refl, e)
-
 -- one more that is none of them
 pub distinct_more : (numbers : List ℕ) (id : ℕ) → are_distinct numbers ≡ true → list_any (nat_eq id) numbers ≡ false → are_distinct (numbers ++ id ∷ []) ≡ true
 distinct_more [] id d n = refl
 distinct_more (m ∷ numbers) id d n =
-    let a = apart (list_any (nat_eq m) numbers) (are_distinct numbers) d in
-    let b = either_not (nat_eq id m) (list_any (nat_eq id) numbers) n in
+    let a = not_and_is_true (list_any (nat_eq m) numbers) (are_distinct numbers) d in
+    let b = or_is_false (nat_eq id m) (list_any (nat_eq id) numbers) n in
     let other : nat_eq m id ≡ false = same_either_way m id (nat_eq m id) (nat_eq id m) refl refl ∙ b.0 in
     let none : list_any (nat_eq m) (numbers ++ id ∷ []) ≡ false = list_any-append (nat_eq m) numbers (id ∷ []) ∙ rw (a.0, other) refl in
     rw none (distinct_more numbers id a.1 b.1)

@@ -15,15 +15,12 @@ use Rattle.mp4_boxes.proofs.Each.{each_value, each_from, each_kept}
 use Rattle.mp4_boxes.proofs.Refusing.{holds_only, line_has}
 use Rattle.mp4_boxes.proofs.OfBytes.{IsOfBytes, FitsRow, numbers_fit, rows_fit, field_dropped, time_below, signed_16, signed_32, signed_time, bytes_dropped, payload_of_bytes, payload_if_of_bytes, payloads_of_bytes}
 use Rattle.mp4_boxes.proofs.Sound.{sound_one, sound_each}
+use Rattle.mp4_boxes.proofs.Plain.{eqb_zero, not_is_false}
 use Rattle.mp4_head.specs.format.Head.{IsKept, IsEdit, IsDescription, IsMedia, IsGroupDescription, IsTrackHead, IsMovieHead}
 use Rattle.mp4_head.specs.format.Tree.{TrackTree, MovieTree, IsTrackTree, IsMovieTree, IsSoundTrack, IsSoundMovie, NameNoItems, kept_among, edit_of, edits_of, first_among, media_of, track_head_of, movie_head_of}
 use Rattle.mp4_head.proofs.TreeBytes.{TrackOfBytes, MovieOfBytes}
 
 -- ---- numbers
-
--- a number that is not 0
-not_0 : (n : ℕ) → eqb n 0 ≡ false → 0 < n
-not_0 n e = let ne = eqb-false n 0 e in omega arith
 
 -- four-byte numbers as two's complement
 signed_each : (ns : List ℕ) → AllByRecursion (λ n. n < 2 ^ 32) ns → AllByRecursion (FitsSigned w32) (map (twos_complement 4) ns)
@@ -62,15 +59,10 @@ among_found kinds (b ∷ bs) h n = among_choice kinds b bs (is_among kinds b.kin
 
 -- ---- descriptions, edits, what describes groups
 
--- what is not false
-negated : (v : Bool) → not v ≡ false → v ≡ true
-negated true e = refl
-negated false e = absurd cc
-
 -- a sound entry of `stsd`
 description_valid : (b : Box) → IsOfBytes b → IsSound sample_entry b.payload → IsDescription (record { kind = b.kind; payload = b.payload })
 description_valid b h s =
-    let first : eqb (field (drop 6 b.payload) 0 2) 1 ≡ true = negated (eqb (field (drop 6 b.payload) 0 2) 1) s.value in
+    let first : eqb (field (drop 6 b.payload) 0 2) 1 ≡ true = not_is_false (eqb (field (drop 6 b.payload) 0 2) 1) s.value in
     record {
       kind_length = h.kind_length;
       kind = h.kind;
@@ -125,7 +117,7 @@ media_valid t h k s =
       creation = time_below v (slice_index ns 2) (fit 2);
       modification = time_below v (slice_index ns 3) (fit 3);
       timescale = fit 4;
-      timescale_not_0 = not_0 (slice_index ns 4) sound.value;
+      timescale_not_0 = eqb_zero (slice_index ns 4) sound.value;
       language = fit 6;
       handler = payload_of_bytes (codes "hdlr") t.media h.media;
       handler_room = handler.readable.room;
@@ -148,7 +140,7 @@ track_head_valid t h k s tables =
       creation = time_below v (slice_index ns 2) (fit 2);
       modification = time_below v (slice_index ns 3) (fit 3);
       id = fit 4;
-      id_not_0 = not_0 (slice_index ns 4) sound.value;
+      id_not_0 = eqb_zero (slice_index ns 4) sound.value;
       layer = signed_16 (slice_index ns 9) (fit 9);
       alternate_group = signed_16 (slice_index ns 10) (fit 10);
       volume = signed_16 (slice_index ns 11) (fit 11);
@@ -173,7 +165,7 @@ movie_head_valid m h k s =
       creation = time_below v (slice_index ns 2) (fit 2);
       modification = time_below v (slice_index ns 3) (fit 3);
       timescale = fit 4;
-      timescale_not_0 = not_0 (slice_index ns 4) sound.value;
+      timescale_not_0 = eqb_zero (slice_index ns 4) sound.value;
       rate = signed_32 (slice_index ns 6) (fit 6);
       volume = signed_16 (slice_index ns 7) (fit 7);
       matrix = record { nine = refl; fits = signed_each (slice_range ns 11 20) (fit 11, (fit 12, (fit 13, (fit 14, (fit 15, (fit 16, (fit 17, (fit 18, (fit 19, tt))))))))) };

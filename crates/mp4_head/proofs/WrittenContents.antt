@@ -12,6 +12,7 @@ use Rattle.mp4_boxes.specs.declared.rule.Rule.TheVariants as rules
 use Rattle.mp4_boxes.proofs.Each.{each_same, each_tested}
 use Rattle.mp4_boxes.proofs.Among.{all_append}
 use Rattle.mp4_boxes.proofs.WrittenBoxes.{Content, written, placed, children, FitsBox, AreTypes, HaveNone, typed, found, written-append, tiles_counted, holds_written, fits_written, payload_placed, found_behind, all_typed, typed_written, among_has, count_written, count_around, count_before, count_none, count_written-append}
+use Rattle.mp4_boxes.proofs.Plain.{append_four}
 use Rattle.mp4_head.specs.format.Head.{Kept, Edit, Media, TrackHead, IsKept, IsDescription, IsMedia, IsTrackHead}
 use Rattle.mp4_head.specs.format.Tree.{first_of}
 use Rattle.mp4_head.specs.format.Writing.{kept_bytes, edts_bytes, mdhd_bytes, tkhd_bytes}
@@ -268,15 +269,11 @@ mdia_payload m group_descriptions =
     ++ flat_map (box_bytes (codes "elng")) m.extended_languages
     ++ box_bytes (codes "minf") (minf_payload m.header m.descriptions group_descriptions)
 
--- four lists joined, bracketed to the right
-four : (a b c d : List ℕ) → a ++ b ++ c ++ d ≡ a ++ (b ++ (c ++ d))
-four a b c d = simp append_assoc
-
 -- it is written as what it holds
 pub mdia_written : (m : Media) (group_descriptions : List (List ℕ)) → mdia_payload m group_descriptions ≡ written (media_contents m group_descriptions)
 mdia_written m group_descriptions =
     let minf = box_bytes (codes "minf") (minf_payload m.header m.descriptions group_descriptions) in
-    four (mdhd_bytes m) (box_bytes (codes "hdlr") m.handler) (flat_map (box_bytes (codes "elng")) m.extended_languages) minf
+    append_four (mdhd_bytes m) (box_bytes (codes "hdlr") m.handler) (flat_map (box_bytes (codes "elng")) m.extended_languages) minf
     ∙ ap (λ (l : List ℕ). mdhd_bytes m ++ (box_bytes (codes "hdlr") m.handler ++ l))
     (ap₂ (λ (a b : List ℕ). a ++ b) (typed_written (codes "elng") m.extended_languages) (sym (append-nil minf)) ∙ sym (written-append (language_contents m) (media_back m group_descriptions)))
 

@@ -10,11 +10,11 @@ use Rattle.mp4_present.specs.words.OpenedMovie.{IsInfoOf, IsOpenedAs}
 use Rattle.mp4_present.specs.words.SamplesComing.{Comes, own_trafs}
 use Rattle.mp4_present.specs.words.WalkSteps.{MayTake, TakesOn, trafs_steps, walk_steps}
 use Rattle.mp4_present.specs.declared.walking.Walk.{Walk}
-use Rattle.mp4_present.proofs.TracksPassed.{zip_length}
 use Rattle.mp4_plan.specs.words.WriterSteps.{MayAllTake, MayAllBegin, MayWrite, WriteAllBegin, again_steps, track_writes}
 use Rattle.mp4_plan.proofs.AllMay.{MayWithin, may_more, one_moves, one_ends}
 use Rattle.mp4_plan.proofs.TrafsAhead.{last_more, steps_append}
 use Rattle.mp4_content.proofs.AtPlaces.{there_is}
+use Rattle.mp4_boxes.proofs.Plain.{length_zip}
 
 module _ (file : List ℕ) (tree : FileTree) where
   -- one walk of all moves on
@@ -38,14 +38,14 @@ BeginToTake m k walks = (file : List ℕ) (tree : FileTree) → IsOpenedAs file 
 pub one_to_take : (m : MovieSeen) (k : ℕ) (walks : List Walk) (walk : Walk) → BeginToTake m k walks → length walks ≡ k → k < length m.tracks
     → ((file : List ℕ) (tree : FileTree) (t : TrackTree) → IsOpenedAs file m tree → slice_get tree.movie.tracks k ≡ Some t → (n : ℕ) × MayTake file tree t walk n × (n ≤ walk_steps tree t)) → BeginToTake m (k + 1) (walks ++ walk ∷ [])
 one_to_take m k walks walk h n lt may file tree o =
-    let many = zip_length (IsInfoOf file tree) tree.movie.tracks m.tracks o.tracks in
+    let many = length_zip (IsInfoOf file tree) tree.movie.tracks m.tracks o.tracks in
     let t = there_is tree.movie.tracks k (omega (arith, lt, many)) in
     may_more (MayTake file tree) tree.movie.tracks walks k t.0 walk (walk_steps tree) (h file tree o) n t.1 (may file tree t.0 o t.1)
 
 -- all tracks have walks
 pub all_to_take : (m : MovieSeen) (k : ℕ) (walks : List Walk) → BeginToTake m k walks → length m.tracks ≤ k → (file : List ℕ) (tree : FileTree) → IsOpenedAs file m tree → MayAllBegin file tree walks
 all_to_take m k walks h le file tree o =
-    let many = zip_length (IsInfoOf file tree) tree.movie.tracks m.tracks o.tracks in
+    let many = length_zip (IsInfoOf file tree) tree.movie.tracks m.tracks o.tracks in
     let all = take_all k tree.movie.tracks (omega (arith, le, many)) in
     subst (λ (ts : List TrackTree). TakeWithin file tree (walk_steps tree) ts walks) all (h file tree o)
 
@@ -60,7 +60,7 @@ pub one_to_write : (m : MovieSeen) (k : ℕ) (walks : List Walk) (walk : Walk) �
     → ((file : List ℕ) (tree : FileTree) (t : TrackTree) → IsOpenedAs file m tree → slice_get tree.movie.tracks k ≡ Some t → (samples : List SampleAt) × Comes file tree t m walk samples × (walk.mark ≡ mark_of walk (length samples)))
     → ((file : List ℕ) (tree : FileTree) (t : TrackTree) → IsOpenedAs file m tree → slice_get tree.movie.tracks k ≡ Some t → (n : ℕ) × MayTake file tree t walk n × (n ≤ walk_steps tree t)) → BeginToWrite m (k + 1) (walks ++ walk ∷ [])
 one_to_write m k walks walk h n lt comes may file tree o =
-    let many = zip_length (IsInfoOf file tree) tree.movie.tracks m.tracks o.tracks in
+    let many = length_zip (IsInfoOf file tree) tree.movie.tracks m.tracks o.tracks in
     let t = there_is tree.movie.tracks k (omega (arith, lt, many)) in
     let c = comes file tree t.0 o t.1 in
     let own = may file tree t.0 o t.1 in
@@ -73,6 +73,6 @@ one_to_write m k walks walk h n lt comes may file tree o =
 -- all tracks have walks
 pub all_to_write : (m : MovieSeen) (k : ℕ) (walks : List Walk) → BeginToWrite m k walks → length m.tracks ≤ k → (file : List ℕ) (tree : FileTree) → IsOpenedAs file m tree → WriteAllBegin file tree m walks
 all_to_write m k walks h le file tree o =
-    let many = zip_length (IsInfoOf file tree) tree.movie.tracks m.tracks o.tracks in
+    let many = length_zip (IsInfoOf file tree) tree.movie.tracks m.tracks o.tracks in
     let all = take_all k tree.movie.tracks (omega (arith, le, many)) in
     subst (λ (ts : List TrackTree). MayWithin (MayWrite file tree m) (track_writes tree) ts walks) all (h file tree o)

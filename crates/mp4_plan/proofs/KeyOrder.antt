@@ -4,7 +4,7 @@ use Rattle.std.specs.Prelude.{slice_index, nat_lt}
 use Rattle.std.specs.List.{AllByRecursion, list_any, list_all}
 use Rattle.std.proofs.lemmas.Bool.{eqb-true, eq-eqb, ne_eqb, or_cases, or_left, or_from, and_parts, ltb-true, ltb-false, cases_lt}
 use Rattle.mp4_boxes.specs.format.Bytes.{field, AreBytes}
-use Rattle.mp4_boxes.proofs.Among.{true_false}
+use Rattle.mp4_boxes.proofs.Plain.{true_false}
 use Rattle.mp4_tables.specs.format.Groups.{GroupKey, Groups, key_rank, parameter_rank, same_key, is_in_order}
 use Rattle.mp4_tables.proofs.NamedKeys.{IsAmong, IsNone, AreOnce, among_more, among_first}
 use Rattle.mp4_present.specs.format.Presentation.{IsParameter, IsGroup}

@@ -4,12 +4,12 @@ use Rattle.std.specs.Prelude.{◌⊎◌, ◌&&◌, slice_index, nat_lt, filter, 
 use Rattle.std.specs.List.{AllByRecursion, list_any}
 use Rattle.std.proofs.lemmas.Bool.{ltb-true, ltb-false, lt-ltb, le-ltb, or_parts, eqb-false, ne_eqb, eq-eqb}
 use Rattle.std.proofs.lemmas.Grind.{flat_map-append}
-use Rattle.mp4_boxes.proofs.Among.{true_false}
 use Rattle.mp4_tables.specs.format.Groups.{GroupKey, key_rank, same_key, index_at}
 use Rattle.mp4_plan.specs.format.Normal.{put_key, in_key_order}
 use Rattle.mp4_plan.specs.words.UsedKeys.{AreApart, IsKeyAt, placed, place_at, used_from, is_above, is_below, least_above}
 use Rattle.mp4_plan.proofs.Maps.{KeysAbove}
 use Rattle.mp4_plan.proofs.KeyOrder.{AreRising, order_rises, order_each}
+use Rattle.mp4_boxes.proofs.Plain.{true_false}
 
 -- ---- a key is one of some
 

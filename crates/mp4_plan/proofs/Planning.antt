@@ -8,6 +8,7 @@ use Rattle.std.specs.List.{AllByRecursion}
 use Rattle.std.proofs.lemmas.List.{take_all, map-append}
 use Rattle.std.proofs.lemmas.List.Sums.{sum_by-append, sum_by-cons}
 use Rattle.mp4_boxes.specs.format.Bytes.{sum_of}
+use Rattle.mp4_boxes.proofs.Plain.{get_zip, length_zip}
 use Rattle.mp4_head.specs.format.Tree.{TrackTree}
 use Rattle.mp4_tables.specs.declared.sample.SampleAt.{SampleAt}
 use Rattle.mp4_present.specs.words.SamplesComing.{Comes, track_samples, traf_total, walk_room}
@@ -19,8 +20,6 @@ use Rattle.mp4_present.specs.declared.track_info.TrackInfo.{TrackInfo}
 use Rattle.mp4_present.proofs.Counts.{sum-append}
 use Rattle.mp4_present.proofs.OwnSums.{rooms_within}
 use Rattle.mp4_present.proofs.WalkRooms.{room_opened}
-use Rattle.mp4_present.proofs.TrafTaken.{zipped_at}
-use Rattle.mp4_present.proofs.TracksPassed.{zip_length}
 use Rattle.mp4_plan.specs.words.Writers.{AreWalksOf, AreMarked, AllCome, AllBegin}
 use Rattle.mp4_plan.specs.format.Held.{rooms}
 use Rattle.mp4_plan.specs.words.OwnRooms.{own_rooms}
@@ -59,14 +58,14 @@ one_within walks walk k n h e = let more = more_room walks walk in omega (arith,
 pub one_begins : (m : MovieSeen) (k : ℕ) (walks : List Walk) (walk : Walk) → BeginSoFar m k walks → length walks ≡ k → k < length m.tracks
     → ((file : List ℕ) (tree : FileTree) (t : TrackTree) → IsOpenedAs file m tree → slice_get tree.movie.tracks k ≡ Some t → Comes file tree t m walk (track_samples tree t)) → BeginSoFar m (k + 1) (walks ++ walk ∷ [])
 one_begins m k walks walk h n lt comes file tree o leaving =
-    let many = zip_length (IsInfoOf file tree) tree.movie.tracks m.tracks o.tracks in
+    let many = length_zip (IsInfoOf file tree) tree.movie.tracks m.tracks o.tracks in
     let t = there_is tree.movie.tracks k (omega (arith, lt, many)) in
     come_more leaving file tree m tree.movie.tracks walks (left_samples leaving tree) k t.0 walk (h file tree o leaving) n t.1 (record { samples = track_samples tree t.0; comes = comes file tree t.0 o t.1; is_left = refl })
 
 -- all tracks have walks
 pub all_begin : (m : MovieSeen) (k : ℕ) (walks : List Walk) → BeginSoFar m k walks → length m.tracks ≤ k → (file : List ℕ) (tree : FileTree) → IsOpenedAs file m tree → (leaving : Without) → AllBegin leaving file tree m walks
 all_begin m k walks h le file tree o leaving =
-    let many = zip_length (IsInfoOf file tree) tree.movie.tracks m.tracks o.tracks in
+    let many = length_zip (IsInfoOf file tree) tree.movie.tracks m.tracks o.tracks in
     let all = take_all k tree.movie.tracks (omega (arith, le, many)) in
     subst (λ (ts : List TrackTree). AllCome leaving file tree m ts walks (map (left_samples leaving tree) ts)) all (h file tree o leaving)
 
@@ -83,10 +82,10 @@ marked_behind (v ∷ walks) (l ∷ lefts) w left h is = (h.0, marked_behind walk
 
 pub one_marked : (m : MovieSeen) (k : ℕ) (walks : List Walk) (walk : Walk) → BeginMarked m k walks → k < length m.tracks → ((info : TrackInfo) → slice_get m.tracks k ≡ Some info → walk.mark ≡ mark_of walk info.samples) → BeginMarked m (k + 1) (walks ++ walk ∷ [])
 one_marked m k walks walk h lt mark file tree o leaving =
-    let many = zip_length (IsInfoOf file tree) tree.movie.tracks m.tracks o.tracks in
+    let many = length_zip (IsInfoOf file tree) tree.movie.tracks m.tracks o.tracks in
     let t = there_is tree.movie.tracks k (omega (arith, lt, many)) in
     let info = there_is m.tracks k lt in
-    let is = zipped_at (IsInfoOf file tree) tree.movie.tracks m.tracks k t.0 info.0 o.tracks t.1 info.1 in
+    let is = get_zip (IsInfoOf file tree) tree.movie.tracks m.tracks k t.0 info.0 o.tracks t.1 info.1 in
     let long = is.samples ∙ sym (less_length (track_reduction leaving tree t.0) (track_samples tree t.0) ∙ as_many file tree t.0) in
     let all : map (left_samples leaving tree) (take (k + 1) tree.movie.tracks) ≡ map (left_samples leaving tree) (take k tree.movie.tracks) ++ left_samples leaving tree t.0 ∷ [] =
     ap (map (left_samples leaving tree)) (taken_next tree.movie.tracks k t.0 t.1) ∙ map-append (left_samples leaving tree) (take k tree.movie.tracks) (t.0 ∷ []) in
@@ -95,7 +94,7 @@ one_marked m k walks walk h lt mark file tree o leaving =
 -- all tracks have walks
 pub all_marked : (m : MovieSeen) (k : ℕ) (walks : List Walk) → BeginMarked m k walks → length m.tracks ≤ k → (file : List ℕ) (tree : FileTree) → IsOpenedAs file m tree → (leaving : Without) → AreMarked walks (map (left_samples leaving tree) tree.movie.tracks)
 all_marked m k walks h le file tree o leaving =
-    let many = zip_length (IsInfoOf file tree) tree.movie.tracks m.tracks o.tracks in
+    let many = length_zip (IsInfoOf file tree) tree.movie.tracks m.tracks o.tracks in
     let all = take_all k tree.movie.tracks (omega (arith, le, many)) in
     subst (λ (ts : List TrackTree). AreMarked walks (map (left_samples leaving tree) ts)) all (h file tree o leaving)
 
@@ -105,7 +104,7 @@ pub first_marked : (m : MovieSeen) (walk : Walk) (k : ℕ) → ((file : List ℕ
     → (samples : List SampleAt) × Comes file tree t m walk samples × (walk.mark ≡ mark_of walk (length samples))
 first_marked m walk k comes lt mark file tree t o is =
     let info = there_is m.tracks k lt in
-    let of = zipped_at (IsInfoOf file tree) tree.movie.tracks m.tracks k t info.0 o.tracks is info.1 in
+    let of = get_zip (IsInfoOf file tree) tree.movie.tracks m.tracks k t info.0 o.tracks is info.1 in
     (track_samples tree t, comes file tree t o is, mark info.0 info.1 ∙ ap (mark_of walk) (of.samples ∙ sym (as_many file tree t)))
 
 -- ---- the walk of one track
@@ -174,7 +173,7 @@ rooms_sum file m tree o (suc k) le =
 pub rooms_fit : (file : List ℕ) (m : MovieSeen) (tree : FileTree) → IsOpenedAs file m tree → own_rooms m (length m.tracks) ≤ traf_total tree
 rooms_fit file m tree o =
     let tracks = tree.movie.tracks in
-    let many = zip_length (IsInfoOf file tree) tracks m.tracks o.tracks in
+    let many = length_zip (IsInfoOf file tree) tracks m.tracks o.tracks in
     let e : length m.tracks ≡ length tracks = omega (arith, many) in
     let sum = ap (own_rooms m) e ∙ rooms_sum file m tree o (length tracks) (omega arith) ∙ ap (sum_of (walk_room tree)) (take_all (length tracks) tracks (omega arith)) in
     omega (arith, sum, rooms_within file tree o.is_tree o.is_sound.movie)

@@ -6,6 +6,7 @@ use Rattle.std.proofs.lemmas.Bool.{or_from}
 use Rattle.std.proofs.lemmas.List.Sums.{sum_by-cons}
 use Rattle.mp4_boxes.specs.format.Bytes.{sum_of}
 use Rattle.mp4_boxes.proofs.Each.{each_weaker, each_member}
+use Rattle.mp4_boxes.proofs.Plain.{get_zip}
 use Rattle.mp4_tables.specs.words.Accepted.{AreDistinct}
 use Rattle.mp4_tables.specs.format.Groups.{GroupKey, same_key}
 use Rattle.mp4_tables.specs.words.Keys.{keys_seen}
@@ -19,7 +20,6 @@ use Rattle.mp4_present.specs.words.Movies.{MovieSeen}
 use Rattle.mp4_present.specs.words.OpenedMovie.{IsInfoOf, IsOpenedAs}
 use Rattle.mp4_present.specs.format.Presentation.{Track}
 use Rattle.mp4_present.specs.declared.track_info.TrackInfo.{TrackInfo}
-use Rattle.mp4_present.proofs.TrafTaken.{zipped_at}
 use Rattle.mp4_present.proofs.PlacedTracks.{IsTrackPlaced, track_placed}
 use Rattle.mp4_present.proofs.SamplesLie.{IsInFile, placed_lie, timed_lie}
 use Rattle.mp4_plan.specs.words.PiecesComing.{coming_of}
@@ -74,7 +74,7 @@ track_facts file m tree o =
 -- and of the track at a place
 pub track_facts_at : (file : List ℕ) (m : MovieSeen) (tree : FileTree) (k : ℕ) (info : TrackInfo) (t : TrackTree) → IsOpenedAs file m tree
     → slice_get m.tracks k ≡ Some info → slice_get tree.movie.tracks k ≡ Some t → TrackFacts file tree info t
-track_facts_at file m tree k info t o e f = zipped_at (TrackFacts file tree) m.tracks tree.movie.tracks k info t (track_facts file m tree o) e f
+track_facts_at file m tree k info t o e f = get_zip (TrackFacts file tree) m.tracks tree.movie.tracks k info t (track_facts file m tree o) e f
 
 -- what stands at a place of a map
 pub got_map : {A B : Type 0} (f : A → B) (xs : List A) (k : ℕ) (x : A) → slice_get xs k ≡ Some x → slice_get (map f xs) k ≡ Some (f x)

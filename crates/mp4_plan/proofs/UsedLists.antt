@@ -3,7 +3,6 @@ use Rattle.std.proofs.Common.{◌≡◌, ℕ, zero, suc, ◌+◌, ◌<◌, ◌�
 use Rattle.std.specs.Prelude.{map, slice_index, nat_lt, ◌==◌}
 use Rattle.std.specs.List.{AllByRecursion, list_any, list_all}
 use Rattle.std.proofs.lemmas.Bool.{ltb-true, eqb-true, ne_eqb, or_cases, or_left, or_right, and_cases}
-use Rattle.mp4_boxes.proofs.Among.{true_false}
 use Rattle.mp4_tables.specs.format.Groups.{GroupKey, Groups, key_rank, same_key, index_at}
 use Rattle.mp4_tables.specs.words.Timed.{padded}
 use Rattle.mp4_tables.specs.declared.sample.SampleAt.{SampleAt}
@@ -20,6 +19,7 @@ use Rattle.mp4_plan.proofs.Maps.{KeysAbove}
 use Rattle.mp4_plan.specs.format.TableLaws.{IsKey}
 use Rattle.mp4_plan.proofs.KeyOrder.{key_same, AreRising, order_rises, order_has, order_each, among_above, among_rest}
 use Rattle.mp4_plan.proofs.NextKeys.{has_at, key_behind}
+use Rattle.mp4_boxes.proofs.Plain.{true_false}
 
 -- ---- lists of keys that rise
 

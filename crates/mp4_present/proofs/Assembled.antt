@@ -9,9 +9,9 @@ use Rattle.mp4_boxes.specs.format.Box.{Box}
 use Rattle.mp4_boxes.specs.format.Layout.{mdhd}
 use Rattle.mp4_boxes.specs.format.Places.{ruled}
 use Rattle.mp4_boxes.specs.declared.rule.Rule.TheVariants as rules
-use Rattle.mp4_boxes.proofs.Among.{head_is, tail_is}
 use Rattle.mp4_boxes.proofs.Refusing.{holds_only}
 use Rattle.mp4_boxes.proofs.Sound.{sound_one}
+use Rattle.mp4_boxes.proofs.Plain.{eqb_zero, head_is, tail_is}
 use Rattle.mp4_tables.specs.words.Keys.{keys_seen}
 use Rattle.mp4_tables.specs.format.PlainSamples.{PlacedSample}
 use Rattle.mp4_frag.specs.format.FragmentSamples.{start_of, duration_of, bytes_of, fragment_samples}
@@ -106,12 +106,9 @@ total_is file (s ∷ samples) = ap (λ (n : ℕ). s.duration + n) (total_is file
 duration-append : (xs ys : List PlacedSample) → duration_of (xs ++ ys) ≡ duration_of xs + duration_of ys
 duration-append xs ys = sum-append (λ (s : PlacedSample). s.duration) xs ys
 
-not_0 : (n : ℕ) → eqb n 0 ≡ false → 0 < n
-not_0 n e = let ne = eqb-false n 0 e in omega arith
-
 -- a track's timescale is not 0
 pub timescale_there : (t : TrackTree) → IsTrackTree t → IsSoundTrack t → 0 < (track_head_of t).media.timescale
-timescale_there t k s = not_0 _ (sound_one (ruled rules.Media) (codes "mdhd") mdhd refl t.media s.media (holds_only k.media (codes "mdhd") refl)).value
+timescale_there t k s = eqb_zero _ (sound_one (ruled rules.Media) (codes "mdhd") mdhd refl t.media s.media (holds_only k.media (codes "mdhd") refl)).value
 
 module _ (file : List ℕ) (tree : FileTree) (t : TrackTree) (h : TrackHead) (s : TrackState) (i : IsTrackOf t h) (e : track_seen s ≡ seen_behind tree.movie (file_parts tree) t) where
   abbrev track : Track

@@ -7,9 +7,9 @@ use Rattle.mp4_boxes.specs.format.Children.{of_kind, Holds}
 use Rattle.mp4_boxes.specs.declared.rule.Rule.TheVariants.{File}
 use Rattle.mp4_boxes.proofs.Among.{of_kind-split}
 use Rattle.mp4_boxes.proofs.Tiling.{lies_behind, sizes-append, sizes-cons}
+use Rattle.mp4_boxes.proofs.Plain.{suc_is}
 use Rattle.std.specs.List.{AllByRecursion}
 use Rattle.std.proofs.Math.Seq.{drop-cons}
-use Rattle.mp4_present.proofs.PlainLists.{next_of}
 use Rattle.mp4_present.specs.words.Movies.{IsWhole}
 use Rattle.mp4_present.specs.words.Outline.{AreFrom, AreMoofsFrom, IsNextFragment, IsOutline, box_at, longest}
 use Rattle.mp4_present.specs.declared.reading.TopBox.{TopBox}
@@ -88,7 +88,7 @@ top_at moofs k = slice_index_or moofs k (record { offset = 0; header = record { 
 
 module _ (moofs : List TopBox) (k : ℕ) (lt : k < length moofs) where
   one_on : drop k moofs ≡ top_at moofs k ∷ drop (k + 1) moofs
-  one_on = drop-cons moofs k _ lt ∙ ap (λ (n : ℕ). top_at moofs k ∷ drop n moofs) (next_of k)
+  one_on = drop-cons moofs k _ lt ∙ ap (λ (n : ℕ). top_at moofs k ∷ drop n moofs) (suc_is k)
 
   pub next_whole : (L : ℕ) → AllByRecursion (IsWhole L) (drop k moofs) → IsWhole L (top_at moofs k) × AllByRecursion (IsWhole L) (drop (k + 1) moofs)
   next_whole L h = subst (AllByRecursion (IsWhole L)) one_on h

@@ -3,7 +3,8 @@ use Rattle.std.proofs.Common.{◌≡◌, ℕ, zero, suc, ◌+◌, Bool, true, fa
 use Rattle.std.specs.Prelude.{flat_map, find, not, ◌||◌, ◌==◌, IsTrue, slice_get, length, unwrap_or, option_map}
 use Rattle.std.specs.List.{AllByRecursion, list_any}
 use Rattle.mp4_boxes.specs.declared.fault.Fault.{Fault}
-use Rattle.mp4_boxes.proofs.Among.{all_at, true_false}
+use Rattle.mp4_boxes.proofs.Among.{all_at}
+use Rattle.mp4_boxes.proofs.Plain.{true_false}
 use Rattle.mp4_tables.specs.format.PlainSamples.{PlacedSample}
 use Rattle.mp4_frag.specs.format.FragmentSamples.{Part, part_samples, parts_for, has_samples, start_of, duration_of, is_on_time, AreOnTime, has_groups, keys_behind, AreGrouped}
 use Rattle.mp4_frag.specs.format.FragmentRules.{is_known, has_indexes, is_within}

@@ -7,7 +7,8 @@ use Rattle.mp4_boxes.specs.format.Children.{Holds, of_kind}
 use Rattle.mp4_boxes.specs.declared.rule.Rule.TheVariants as rules
 use Rattle.mp4_boxes.proofs.Tiling.{holds_one}
 use Rattle.mp4_boxes.proofs.Members.{stands_among}
-use Rattle.mp4_boxes.proofs.Among.{head_is, tail_is, all_at, of_kind-append, of_kind-split}
+use Rattle.mp4_boxes.proofs.Among.{all_at, of_kind-append, of_kind-split}
+use Rattle.mp4_boxes.proofs.Plain.{head_is, nil_cons, tail_is}
 use Rattle.mp4_frag.specs.declared.trex.Trex.{Trex}
 use Rattle.mp4_frag.specs.format.Fragments.{TrackFragment, Fragment, FragmentTree, IsFragmentTree, AreTrafs, fragment_of, track_fragment_of}
 use Rattle.mp4_frag.specs.format.FragmentSamples.{Part, runs_samples, runs_end, base_of, trex_for, no_trex, parts_after, parts_of, all_parts}
@@ -17,14 +18,11 @@ use Rattle.mp4_head.proofs.Trees.{movie_tree_one}
 use Rattle.mp4_present.specs.format.Denotes.{FileTree, IsFileTree, file_parts}
 use Rattle.mp4_present.specs.format.Stands.{Behind, parts_with}
 
-no_member : {A : Type 0} (y : A) (ys : List A) → ◌≡◌ {A = List A} [] (y ∷ ys) → ⊥
-no_member y ys e = cc
-
 -- a list whose values are two lists joined is two lists joined
 pub split_map : {A B : Type 0} (f : A → B) (xs : List A) (ys zs : List B) → map f xs ≡ ys ++ zs
     → (front : List A) × (back : List A) × (xs ≡ front ++ back) × (map f front ≡ ys) × (map f back ≡ zs)
 split_map f xs [] zs e = ([], xs, refl, refl, e)
-split_map f [] (y ∷ ys) zs e = absurd (no_member y (ys ++ zs) e)
+split_map f [] (y ∷ ys) zs e = absurd (nil_cons y (ys ++ zs) e)
 split_map f (x ∷ xs) (y ∷ ys) zs e =
     let r = split_map f xs ys zs (tail_is (f x) y (map f xs) (ys ++ zs) e) in
     let first = head_is (f x) y (map f xs) (ys ++ zs) e in
@@ -32,7 +30,7 @@ split_map f (x ∷ xs) (y ∷ ys) zs e =
 
 -- a list whose values begin with one begins with a member
 pub next_map : {A B : Type 0} (f : A → B) (xs : List A) (y : B) (ys : List B) → map f xs ≡ y ∷ ys → (x : A) × (more : List A) × (xs ≡ x ∷ more) × (f x ≡ y)
-next_map f [] y ys e = absurd (no_member y ys e)
+next_map f [] y ys e = absurd (nil_cons y ys e)
 next_map f (x ∷ xs) y ys e = (x, xs, refl, head_is (f x) y (map f xs) ys e)
 
 -- a list that goes with two lists joined is two lists joined

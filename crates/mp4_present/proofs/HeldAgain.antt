@@ -10,6 +10,7 @@ use Rattle.mp4_present.specs.declared.walking.in_hand.Place.{Place}
 use Rattle.mp4_present.specs.declared.walking.Due.{Due}
 use Rattle.mp4_present.specs.declared.walking.Mark.{Mark}
 use Rattle.mp4_present.specs.declared.walking.Walk.{Walk}
+use Rattle.mp4_boxes.proofs.Plain.{head_is, none_some, tail_is}
 
 -- two walks of one track hold the same `traf`
 pub record HoldSame (w now : Walk) : Type 0 where
@@ -54,29 +55,20 @@ stands_moved file tree t earlier later w p k s = record {
 
 -- ---- two walks that hold the same one
 
-none_is : {A : Type 0} (x : A) → ◌≡◌ {A = Option A} None (Some x) → ⊥
-none_is x e = cc
-
-head_of : {A : Type 0} (x y : A) (xs ys : List A) → ◌≡◌ {A = List A} (x ∷ xs) (y ∷ ys) → x ≡ y
-head_of x y xs ys e = cc
-
-tail_of : {A : Type 0} (x y : A) (xs ys : List A) → ◌≡◌ {A = List A} (x ∷ xs) (y ∷ ys) → xs ≡ ys
-tail_of x y xs ys e = cc
-
 -- one place of a list has one element
 pub one_at_place : {A : Type 0} (us : List A) (x : A) (bs cs : List A) (y : A) (ds : List A) → us ++ x ∷ bs ≡ cs ++ y ∷ ds → length us ≡ length cs → (us ≡ cs) × (x ≡ y) × (bs ≡ ds)
-one_at_place [] x bs [] y ds e n = (refl, head_of x y bs ds e, tail_of x y bs ds e)
+one_at_place [] x bs [] y ds e n = (refl, head_is x y bs ds e, tail_is x y bs ds e)
 one_at_place [] x bs (c ∷ cs) y ds e n = absurd cc
 one_at_place (a ∷ us) x bs [] y ds e n = absurd cc
 one_at_place (a ∷ us) x bs (c ∷ cs) y ds e n =
-    let r = one_at_place us x bs cs y ds (tail_of a c (us ++ x ∷ bs) (cs ++ y ∷ ds) e) (omega (arith, n)) in
-    ((λ i. head_of a c (us ++ x ∷ bs) (cs ++ y ∷ ds) e i ∷ r.0 i), r.1, r.2)
+    let r = one_at_place us x bs cs y ds (tail_is a c (us ++ x ∷ bs) (cs ++ y ∷ ds) e) (omega (arith, n)) in
+    ((λ i. head_is a c (us ++ x ∷ bs) (cs ++ y ∷ ds) e i ∷ r.0 i), r.1, r.2)
 
 -- the bytes in hand of two walks that stand behind the same place
 pub held_bytes : (file : List ℕ) (tree : FileTree) (t : TrackTree) (earlier later : List PlacedTraf) (w : Walk) (b : Option Due) (others more : List PlacedTraf) (v : Walk) (c : Option Due) (d e : Due) → b ≡ Some d → c ≡ Some e
     → HoldsLast file tree t earlier later w b → HoldsLast file tree t others more v c → w.next ≡ v.next → traf_bytes w ≡ traf_bytes v
-held_bytes file tree t earlier later w None others more v c d e p q h k same = absurd (none_is d p)
-held_bytes file tree t earlier later w (Some b) others more v None d e p q h k same = absurd (none_is e q)
+held_bytes file tree t earlier later w None others more v c d e p q h k same = absurd (none_some d p)
+held_bytes file tree t earlier later w (Some b) others more v None d e p q h k same = absurd (none_some e q)
 held_bytes file tree t earlier later w (Some b) others more v (Some c) d e p q h k same =
     let here = h.3.place in
     let there = k.3.place in

@@ -2,6 +2,7 @@
 use Rattle.std.proofs.Common.{◌≡◌, ℕ, ◌+◌, ◌<◌, ◌≤◌, List, [], ◌∷◌, ◌++◌, length, take, drop, Some, refl, sym, ap, subst, ◌∙◌, zero, suc, arith}
 use Rattle.std.specs.List.{slice_get, AllByRecursion}
 use Rattle.mp4_boxes.proofs.Each.{each_dropped}
+use Rattle.mp4_boxes.proofs.Plain.{suc_is}
 use Rattle.std.proofs.lemmas.Grind.{flat_map-append}
 use Rattle.std.proofs.lemmas.List.{append-nil}
 use Rattle.mp4_store.specs.words.Device.{range}
@@ -35,9 +36,6 @@ one_more (suc k) [] s e = absurd (cc)
 one_more zero (x ∷ xs) s e = let same : x ≡ s = cc in (omega arith, ap (λ y. y ∷ []) same, refl)
 one_more (suc k) (x ∷ xs) s e = let r = one_more k xs s e in (omega (arith, r.0), ap (λ ys. x ∷ ys) r.1, r.2)
 
-next_of : (k : ℕ) → suc k ≡ k + 1
-next_of k = omega arith
-
 -- the bytes of a stretch and of a sample behind it
 bytes_more : (file : List ℕ) (xs : List SampleAt) (s : SampleAt) (at len : ℕ) → sample_bytes file xs ≡ range file at len → s.at ≡ at + len → sample_bytes file (xs ++ s ∷ []) ≡ range file at (len + s.size)
 bytes_more file xs s at len e a =
@@ -50,7 +48,7 @@ pub joined_more : (k : ℕ) (xs now left : List SampleAt) (s : SampleAt) (at len
 joined_more k xs now left s at len n e l j a =
     let front : drop k xs ≡ s ∷ drop 1 (drop k xs) = first_of (drop k xs) s (e ∙ ap (λ ys. slice_get ys 0) n) in
     let r = one_more k xs s front in
-    subst (λ (m : ℕ). (m ≤ length xs) × (left ≡ drop m xs) × AreJoined (take m xs) at (len + s.size)) (next_of k)
+    subst (λ (m : ℕ). (m ≤ length xs) × (left ≡ drop m xs) × AreJoined (take m xs) at (len + s.size)) (suc_is k)
     (r.0, l ∙ ap (λ ys. drop 1 ys) n ∙ r.2, λ file. ap (sample_bytes file) r.1 ∙ bytes_more file (take k xs) s at len (j file) a)
 
 -- a sample alone

@@ -7,9 +7,9 @@ use Rattle.mp4_boxes.specs.format.Children.{Holds, of_kind}
 use Rattle.mp4_boxes.specs.format.FirstFault.{first_failed, unless_failed, and_then, children_or_fault}
 use Rattle.mp4_boxes.specs.declared.rule.Rule.TheVariants as rules
 use Rattle.mp4_boxes.specs.declared.fault.Fault.{Fault}
-use Rattle.mp4_boxes.proofs.Among.{head_is, tail_is}
 use Rattle.mp4_boxes.proofs.ChildrenJudged.{children_are, child_fault_is}
 use Rattle.mp4_boxes.proofs.Sound.{same_kind}
+use Rattle.mp4_boxes.proofs.Plain.{head_is, tail_is}
 use Rattle.mp4_frag.specs.format.Fragments.{FragmentTree, AreTrafs}
 use Rattle.mp4_head.specs.format.Tree.{MovieTree, are_distinct}
 use Rattle.mp4_head.proofs.Above.{lies_front}

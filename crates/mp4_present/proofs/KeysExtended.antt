@@ -3,7 +3,6 @@ use Rattle.std.proofs.Common.{◌≡◌, ℕ, zero, suc, ◌+◌, Bool, true, fa
 use Rattle.std.specs.Prelude.{◌==◌, replicate}
 use Rattle.std.specs.List.{AllByRecursion, list_any}
 use Rattle.std.proofs.lemmas.List.{map-append}
-use Rattle.mp4_boxes.proofs.Among.{true_false}
 use Rattle.mp4_tables.specs.words.Accepted.{AreDistinct}
 use Rattle.mp4_tables.specs.format.Repeated.{repeated}
 use Rattle.mp4_tables.specs.format.Groups.{GroupKey, Grouping, Groups, key_rank, same_key, keys_with, keys_after, index_at, put_group, put_indexes, maps_of}
@@ -12,6 +11,7 @@ use Rattle.mp4_tables.specs.words.Timed.{padded, indexes, sample_at, timed}
 use Rattle.mp4_tables.proofs.GroupsKept.{snoc_distinct, differs_from}
 use Rattle.mp4_tables.proofs.SampleLists.{put_not_in, absent}
 use Rattle.mp4_tables.proofs.NamedKeys.{IsAmong, by_rank, each_named}
+use Rattle.mp4_boxes.proofs.Plain.{true_false}
 
 -- ---- keys differ
 

@@ -9,8 +9,9 @@ use Rattle.mp4_boxes.specs.format.Places.{Scope, ruled, data_entries, sample_ent
 use Rattle.mp4_boxes.specs.format.BoxFaults.{IsLeafFault}
 use Rattle.mp4_boxes.specs.declared.rule.Rule.TheVariants.{File, Movie, Track, Edits, Media, MediaInformation, DataInformation, SampleTable, MovieExtends, MovieFragment, TrackFragment}
 use Rattle.mp4_boxes.specs.declared.fault.Fault.{Fault}
-use Rattle.mp4_boxes.proofs.Among.{IsIn, true_false, all_in, in_of_kind, only_entry, entry_or, no_entry}
+use Rattle.mp4_boxes.proofs.Among.{IsIn, all_in, in_of_kind, only_entry, entry_or}
 use Rattle.mp4_boxes.proofs.Refusing.{stands_in, unsound, holds_only}
+use Rattle.mp4_boxes.proofs.Plain.{none_some, true_false}
 use Rattle.mp4_frag.specs.format.Fragments.{trex_of}
 use Rattle.mp4_head.specs.format.Head.{names_item_location}
 use Rattle.mp4_head.specs.format.Tree.{TrackTree, IsSoundTrack, are_distinct, first_of, track_head_of}
@@ -28,9 +29,9 @@ leaf_among scope boxes bs b l same s i e =
 
 -- what is read as a leaf in a container of a sound tree is sound
 pub sound_leaf : (t : FileTree) → IsSoundFile t → (scope : Scope) (boxes : List Box) → IsNamed t scope boxes → (b : Box) → IsIn boxes b → (l : Leaf) → leaf_of scope b.kind ≡ Some l → IsSound l b.payload
-sound_leaf t s (ruled File) boxes n b i l e = absurd (no_entry l e)
-sound_leaf t s (ruled MediaInformation) boxes n b i l e = absurd (no_entry l e)
-sound_leaf t s (ruled MovieFragment) boxes n b i l e = absurd (no_entry l e)
+sound_leaf t s (ruled File) boxes n b i l e = absurd (none_some l e)
+sound_leaf t s (ruled MediaInformation) boxes n b i l e = absurd (none_some l e)
+sound_leaf t s (ruled MovieFragment) boxes n b i l e = absurd (none_some l e)
 sound_leaf t s (ruled Movie) boxes n b i l e = leaf_among (ruled Movie) boxes t.movie.movie b l n s.movie.movie i e
 sound_leaf t s (ruled MovieExtends) boxes n b i l e = leaf_among (ruled MovieExtends) boxes t.movie.extends b l n s.movie.extends i e
 sound_leaf t s (ruled Track) boxes n b i l e = leaf_among (ruled Track) boxes n.0.track b l n.2 (all_in IsSoundTrack t.movie.tracks n.0 n.1 s.movie.tracks).track i e
@@ -60,7 +61,7 @@ leaf_fault_refuses file f p s d =
 
 -- a value that the table has at a type passes a test that it passes
 has_any : {A : Type 0} (test : A → Bool) (entries : List (List ℕ × A)) (kind : List ℕ) (x : A) → test x ≡ true → at_kind entries kind ≡ Some x → list_any (λ (entry : List ℕ × A). test entry.1) entries ≡ true
-has_any test [] kind x t e = absurd (no_entry x e)
+has_any test [] kind x t e = absurd (none_some x e)
 has_any test (entry ∷ entries) kind x t e = elim (entry_or kind entry.0 entry.1 x entries e) [
   | inl m ↦ left (test entry.1) (list_any (λ y. test y.1) entries) (ap test m.1 ∙ t)
   | inr n ↦ right (test entry.1) (list_any (λ y. test y.1) entries) (has_any test entries kind x t n)

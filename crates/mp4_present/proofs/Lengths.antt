@@ -9,6 +9,7 @@ use Rattle.mp4_boxes.specs.format.BoxFaults.{fault_of}
 use Rattle.mp4_boxes.specs.declared.fault.Fault.{Fault}
 use Rattle.mp4_boxes.specs.declared.fault.Kind.TheVariants.{TimeTooLarge, MovieTooLarge}
 use Rattle.mp4_boxes.proofs.Among.{all_append}
+use Rattle.mp4_boxes.proofs.Plain.{max_swap, suc_is}
 use Rattle.mp4_frag.specs.declared.state.TrackState.{TrackState}
 use Rattle.mp4_head.specs.format.Head as heads
 use Rattle.mp4_head.specs.words.Parts.{capped}
@@ -73,12 +74,6 @@ pub record AreInTime (p : Presentation) (k longest : ℕ) : Type 0 where
   pub in_time : AllByRecursion (IsInTime p.movie.timescale) (take k p.tracks)
   pub longest_is : longest ≡ longest_of p.movie.timescale (take k p.tracks)
 
-one_more : (k : ℕ) → suc k ≡ k + 1
-one_more k = omega arith
-
-turned : (a b : ℕ) → max a b ≡ max b a
-turned a b = omega arith
-
 module _ (head : MovieHead) (states : List TrackState) (k longest : ℕ) (so : (p : Presentation) → IsMeasure p head states → AreInTime p k longest) where
   -- one more track is in time
   pub time_more : (h : TrackHead) (s : TrackState) (n : ℕ) → k < length head.tracks.items → h ≡ slice_index_or head.tracks.items k h → s ≡ slice_index_or states k s
@@ -90,10 +85,10 @@ module _ (head : MovieHead) (states : List TrackState) (k longest : ℕ) (so : (
       let a = so p m in
       let len : ℕ → Track → ℕ = λ longest t. max longest (presented.track_length p.movie.timescale t) in
       let long : longest_of p.movie.timescale (take (suc k) p.tracks) ≡ max n longest =
-      ap (longest_of p.movie.timescale) r.first ∙ fold-append len 0 (take k p.tracks) (r.t ∷ []) ∙ (λ i. max (sym a.longest_is i) (sym w.1 i)) ∙ turned longest n in
+      ap (longest_of p.movie.timescale) r.first ∙ fold-append len 0 (take k p.tracks) (r.t ∷ []) ∙ (λ i. max (sym a.longest_is i) (sym w.1 i)) ∙ max_swap longest n in
       let next : AllByRecursion (IsInTime p.movie.timescale) (take (suc k) p.tracks) =
       subst (λ (ts : List Track). AllByRecursion (IsInTime p.movie.timescale) ts) (sym r.first) (all_append (IsInTime p.movie.timescale) (take k p.tracks) (r.t ∷ []) a.in_time (w.0, tt)) in
-      subst (λ (j : ℕ). AreInTime p j (max n longest)) (one_more k) (record { in_time = next; longest_is = sym long })
+      subst (λ (j : ℕ). AreInTime p j (max n longest)) (suc_is k) (record { in_time = next; longest_is = sym long })
 
   -- all are
   pub time_all : length head.tracks.items ≤ k → (p : Presentation) → IsMeasure p head states → AllByRecursion (IsInTime p.movie.timescale) p.tracks × (longest ≡ movie_length p)

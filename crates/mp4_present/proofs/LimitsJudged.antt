@@ -10,6 +10,7 @@ use Rattle.mp4_boxes.specs.declared.fault.Fault.{Fault}
 use Rattle.mp4_boxes.specs.declared.fault.Kind.TheVariants.{TimeTooLarge, MovieTooLarge}
 use Rattle.mp4_boxes.proofs.Refusing.{holds_only}
 use Rattle.mp4_boxes.proofs.Sound.{same_kind}
+use Rattle.mp4_boxes.proofs.Plain.{some_is}
 use Rattle.mp4_frag.specs.format.FragmentSamples.{Part}
 use Rattle.mp4_frag.proofs.FirstRun.{in_front, behind_all}
 use Rattle.mp4_head.specs.format.Tree.{TrackTree, first_of}
@@ -21,10 +22,6 @@ use Rattle.mp4_present.specs.format.Judge.{times_tests, limit_tests}
 use Rattle.mp4_present.specs.format.Presentation.{Track, Presentation, IsInTime, end_time, track_length, normal_moov_length, max_time, max_moov}
 use Rattle.mp4_present.specs.words.Measured.{TimeFails, MovieFails, LimitFails}
 use Rattle.mp4_present.specs.words.TrackTrees.{IsTrackOf, AreTracksOf}
-
--- the same value
-some_is : {A : Type 0} (x y : A) → ◌≡◌ {A = Option A} (Some x) (Some y) → x ≡ y
-some_is x y e = cc
 
 -- both are true
 both_true : (v w : Bool) → v ≡ true → w ≡ true → (v && w) ≡ true

@@ -8,6 +8,7 @@ use Rattle.std.proofs.lemmas.Option.{slice_get-map}
 use Rattle.mp4_boxes.specs.format.Bytes.{sum_of}
 use Rattle.mp4_boxes.specs.format.Box.{Box}
 use Rattle.mp4_boxes.specs.format.Children.{of_kind}
+use Rattle.mp4_boxes.proofs.Plain.{head_is, tail_is}
 use Rattle.mp4_frag.specs.declared.state.TrackState.{TrackState}
 use Rattle.mp4_frag.specs.declared.trex.Trex.{Trex}
 use Rattle.mp4_frag.specs.format.Fragments.{FragmentTree, IsFragmentTree, TrackFragment, fragment_of, track_fragment_of}
@@ -21,7 +22,6 @@ use Rattle.mp4_present.specs.format.Denotes.{IsSoundFragment}
 use Rattle.mp4_present.specs.format.Presentation.{max_samples}
 use Rattle.mp4_present.specs.format.Stands.{run_total, table_total, trafs_total}
 use Rattle.mp4_present.specs.words.Passing.{AreBehind, BeginsBehind, IsMovieOf, PassesMoof, TrexesBehind, parts_behind, seen_behind}
-use Rattle.mp4_boxes.proofs.Among.{head_is, tail_is}
 use Rattle.mp4_present.proofs.Counts.{sum-append}
 use Rattle.mp4_present.proofs.PlainLists.{all_push}
 use Rattle.mp4_present.proofs.PartsBehind.{HavePassed, ComesNext, tracked, trex_known, part_passes, ids_of}

@@ -3,8 +3,9 @@ use Rattle.std.proofs.Common.{◌≡◌, ℕ, ◌^◌, ◌<◌, ◌==◌, Bool, 
 use Rattle.std.specs.Prelude.{find, option_map, unwrap_or, is_some, IsTrue}
 use Rattle.std.specs.List.{AllByRecursion}
 use Rattle.std.proofs.lemmas.Bool.{eqb-true, and_parts}
-use Rattle.mp4_boxes.proofs.Among.{head_is, tail_is, all_at}
+use Rattle.mp4_boxes.proofs.Among.{all_at}
 use Rattle.mp4_boxes.proofs.Joined.{all_first, all_last}
+use Rattle.mp4_boxes.proofs.Plain.{head_is, tail_is}
 use Rattle.mp4_tables.specs.format.Groups.{GroupKey, keys_after}
 use Rattle.mp4_frag.specs.format.Fragments.{FragmentTree, IsFragmentTree, fragment_of}
 use Rattle.mp4_frag.specs.format.FragmentSamples.{Part, parts_of, parts_for, trex_for, AreGrouped}

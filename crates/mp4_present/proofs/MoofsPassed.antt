@@ -8,9 +8,10 @@ use Rattle.mp4_boxes.specs.format.Bytes.{AreBytes}
 use Rattle.mp4_boxes.specs.format.Box.{Box, LieEndToEnd, file_container}
 use Rattle.mp4_boxes.specs.format.Children.{Holds, of_kind}
 use Rattle.mp4_boxes.specs.declared.rule.Rule.TheVariants.{File}
-use Rattle.mp4_boxes.proofs.Among.{of_kind-append, head_is, tail_is, all_append}
+use Rattle.mp4_boxes.proofs.Among.{of_kind-append, all_append}
 use Rattle.mp4_boxes.proofs.OfBytes.{bytes_taken}
 use Rattle.mp4_boxes.proofs.Tiling.{tiles_one}
+use Rattle.mp4_boxes.proofs.Plain.{head_is, tail_is}
 use Rattle.mp4_frag.specs.format.Fragments.{FragmentTree}
 use Rattle.mp4_frag.specs.words.Judged.{AreTrexesOf, IsSoundMoof, AreMovedOn, tree_of}
 use Rattle.mp4_frag.specs.words.RunsJudged.{children_of}

@@ -8,12 +8,12 @@ use Rattle.mp4_boxes.specs.format.Children.{Holds, of_kind}
 use Rattle.mp4_boxes.specs.format.Places.{whole, ruled}
 use Rattle.mp4_boxes.specs.declared.rule.Rule.TheVariants.{File, Movie}
 use Rattle.mp4_boxes.specs.declared.fault.Fault.{Fault}
+use Rattle.mp4_boxes.proofs.Plain.{head_is, tail_is}
 use Rattle.mp4_head.specs.format.HeadFaults.{HeadStands, HeaderStands, ChildStands, MissingStands, LeafStands}
 use Rattle.mp4_head.specs.words.Refuses.{place_of}
 use Rattle.mp4_head.specs.format.Head as heads
 use Rattle.mp4_head.specs.format.Tree.{TrackTree, MovieTree, IsTrackTree, IsSoundTrack, track_head_of}
 use Rattle.mp4_head.specs.words.Found.{SaysHead, IsFoundIn}
-use Rattle.mp4_boxes.proofs.Among.{head_is, tail_is}
 use Rattle.std.specs.List.{AllByRecursion, AllZip}
 use Rattle.mp4_head.specs.words.Seen.{track_seen}
 use Rattle.mp4_head.specs.declared.heads.TrackHead.{TrackHead}

@@ -4,8 +4,8 @@ use Rattle.std.specs.Prelude.{codes, map, IsTrue}
 use Rattle.mp4_boxes.specs.format.Bytes.{sum_of}
 use Rattle.mp4_boxes.specs.format.Box.{Box, file_container}
 use Rattle.mp4_boxes.specs.format.Children.{of_kind}
-use Rattle.mp4_boxes.proofs.Among.{head_is}
 use Rattle.mp4_boxes.proofs.Tiling.{tiles_one}
+use Rattle.mp4_boxes.proofs.Plain.{head_is}
 use Rattle.mp4_frag.specs.format.Fragments.{FragmentTree}
 use Rattle.mp4_head.specs.words.Found.{SaysHead}
 use Rattle.mp4_head.specs.format.Tree.{MovieTree, TrackTree}

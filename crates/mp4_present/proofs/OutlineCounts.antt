@@ -4,13 +4,11 @@ use Rattle.std.specs.Prelude.{codes, bytes_eq}
 use Rattle.std.proofs.lemmas.Slice.Eq.{bytes_eq-Decides}
 use Rattle.mp4_boxes.specs.format.Box.{Box}
 use Rattle.mp4_boxes.specs.format.Children.{of_kind, count_among}
-
-pub same_text : (xs ys : List ℕ) → bytes_eq xs ys ≡ true → xs ≡ ys
-same_text xs ys e = (bytes_eq-Decides xs ys).0 e
+use Rattle.mp4_boxes.proofs.Plain.{bytes_eq_is}
 
 -- a type is not two
 pub not_both : (kind : List ℕ) → bytes_eq (codes "moov") kind ≡ true → bytes_eq (codes "moof") kind ≡ false
-not_both kind e = subst (λ (k : List ℕ). bytes_eq (codes "moof") k ≡ false) (same_text (codes "moov") kind e) refl
+not_both kind e = subst (λ (k : List ℕ). bytes_eq (codes "moof") k ≡ false) (bytes_eq_is (codes "moov") kind e) refl
 
 -- as many are counted as there are
 count_one : (kind : List ℕ) (b : Box) (bs : List Box) (v : Bool) → bytes_eq kind b.kind ≡ v → count_among (kind ∷ []) bs ≡ length (of_kind kind bs)

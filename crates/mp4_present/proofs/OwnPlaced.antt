@@ -8,6 +8,7 @@ use Rattle.mp4_store.specs.words.Device.{range}
 use Rattle.mp4_boxes.specs.format.Box.{Box, LieEndToEnd, size, sizes}
 use Rattle.mp4_boxes.specs.format.Children.{of_kind}
 use Rattle.mp4_boxes.proofs.Tiling.{first_fits, lies_behind, sizes_fit}
+use Rattle.mp4_boxes.proofs.Plain.{head_is, some_is, tail_is}
 use Rattle.mp4_tables.specs.format.PlainSamples.{PlacedSample}
 use Rattle.mp4_frag.specs.format.Fragments.{Fragment, FragmentTree, IsFragmentTree}
 use Rattle.mp4_frag.specs.format.FragmentRows.{fragment_rows, fragment_length}
@@ -32,15 +33,6 @@ use Rattle.mp4_present.proofs.TrafPlaces.{IsKept, kept}
 
 -- ---- lists
 
-some_is : {A : Type 0} (x y : A) → ◌≡◌ {A = Option A} (Some x) (Some y) → x ≡ y
-some_is x y e = cc
-
-head_of : {A : Type 0} (x y : A) (xs ys : List A) → ◌≡◌ {A = List A} (x ∷ xs) (y ∷ ys) → x ≡ y
-head_of x y xs ys e = cc
-
-tail_of : {A : Type 0} (x y : A) (xs ys : List A) → ◌≡◌ {A = List A} (x ∷ xs) (y ∷ ys) → xs ≡ ys
-tail_of x y xs ys e = cc
-
 none_of : {A : Type 0} (xs : List A) (y : A) (ys : List A) → ◌≡◌ {A = List A} [] (xs ++ y ∷ ys) → ⊥
 none_of [] y ys e = cc
 none_of (x ∷ xs) y ys e = cc
@@ -53,11 +45,11 @@ pub record StandsIn {A : Type 0} (y : A) (xs : List A) : Type 0 where
 
 in_two : {A : Type 0} (us bs ys : List A) (y : A) (zs : List A) → us ++ bs ≡ ys ++ y ∷ zs → StandsIn y us ⊎ StandsIn y bs
 in_two [] bs ys y zs e = inr (record { front = ys; back = zs; are = e })
-in_two (a ∷ us) bs [] y zs e = inl (record { front = []; back = us; are = ap (λ v. v ∷ us) (head_of a y (us ++ bs) zs e) })
+in_two (a ∷ us) bs [] y zs e = inl (record { front = []; back = us; are = ap (λ v. v ∷ us) (head_is a y (us ++ bs) zs e) })
 in_two (a ∷ us) bs (c ∷ ys) y zs e = ⊎_elim
     (λ s. inl (record { front = a ∷ s.front; back = s.back; are = ap (λ vs. a ∷ vs) s.are }))
     (λ s. inr s)
-    (in_two us bs ys y zs (tail_of a c (us ++ bs) (ys ++ y ∷ zs) e))
+    (in_two us bs ys y zs (tail_is a c (us ++ bs) (ys ++ y ∷ zs) e))
 
 -- it stands in the list of one of these
 pub record StandsOf {A B : Type 0} (f : A → List B) (y : B) (xs : List A) : Type 0 where
@@ -110,15 +102,6 @@ pub got : {A : Type 0} (xs : List A) (k : ℕ) (x : A) → k < length xs → sli
 got [] k x l = absurd (omega (arith, l))
 got (y ∷ xs) zero x l = refl
 got (y ∷ xs) (suc k) x l = got xs k x (omega (arith, l))
-
-pub got_mapped : {A B : Type 0} (f : A → B) (xs : List A) (k : ℕ) (x : A) → slice_get xs k ≡ Some x → slice_get (map f xs) k ≡ Some (f x)
-got_mapped f [] k x e = absurd cc
-got_mapped f (y ∷ xs) zero x e = ap (λ v. Some (f v)) (some_is y x e)
-got_mapped f (y ∷ xs) (suc k) x e = got_mapped f xs k x e
-
-pub length_mapped : {A B : Type 0} (f : A → B) (xs : List A) → length (map f xs) ≡ length xs
-length_mapped f [] = refl
-length_mapped f (x ∷ xs) = ap suc (length_mapped f xs)
 
 pub zip_got : {A B : Type 0} (R : A → B → Type 0) (xs : List A) (ys : List B) (k : ℕ) (x : A) → AllZip R xs ys → slice_get xs k ≡ Some x → (y : B) × (slice_get ys k ≡ Some y) × R x y
 zip_got R [] ys k x h a = absurd (cc)
@@ -297,9 +280,9 @@ passed {A = A} f (x ∷ xs) y s = by (f x) refl s.front s.are (λ front are. pas
     by : (v : Bool) → f x ≡ v → (front : List A) → cond v (x ∷ filter f xs) (filter f xs) ≡ front ++ y ∷ s.back → ((front : List A) → filter f xs ≡ front ++ y ∷ s.back → (f y ≡ true) × StandsIn y xs) → (f y ≡ true) × StandsIn y (x ∷ xs)
     by false e front are more = later (more front are)
     by true e [] are more =
-        let same = head_of x y (filter f xs) s.back are in
+        let same = head_is x y (filter f xs) s.back are in
         (subst (λ v. f v ≡ true) same e, record { front = []; back = xs; are = ap (λ v. v ∷ xs) same })
-    by true e (z ∷ front) are more = later (more front (tail_of x z (filter f xs) (front ++ y ∷ s.back) are))
+    by true e (z ∷ front) are more = later (more front (tail_is x z (filter f xs) (front ++ y ∷ s.back) are))
 
 -- what is so of each part is so of that of one
 pub of_part : {A B : Type 0} (f : A → B) (P : B → Type 0) (xs : List A) (y : A) → StandsIn y xs → AllByRecursion P (map f xs) → P (f y)

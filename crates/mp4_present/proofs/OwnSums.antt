@@ -6,6 +6,7 @@ use Rattle.std.specs.Prelude.{codes}
 use Rattle.mp4_boxes.specs.format.Bytes.{sum_of}
 use Rattle.mp4_boxes.specs.format.Box.{Box}
 use Rattle.mp4_boxes.proofs.Tiling.{sizes_fit}
+use Rattle.mp4_boxes.proofs.Plain.{nat_eq_other, or_is_false}
 use Rattle.mp4_frag.specs.format.Fragments.{Fragment, FragmentTree, IsFragmentTree}
 use Rattle.mp4_frag.specs.format.FragmentRows.{fragment_rows, fragment_length}
 use Rattle.mp4_frag.specs.words.OwnTrafs.{PlacedTraf, own_in, payload_length, traf_payloads, traf_steps}
@@ -63,18 +64,11 @@ apart : (p q : Bool) → (not p && q) ≡ true → (p ≡ false) × (q ≡ true)
 apart true q e = absurd cc
 apart false q e = (refl, e)
 
-either_not : (p q : Bool) → (p || q) ≡ false → (p ≡ false) × (q ≡ false)
-either_not true q e = absurd cc
-either_not false q e = (refl, e)
-
-other_id : (m n : ℕ) → nat_eq m n ≡ false → (n == m) ≡ false
-other_id m n e = grind (arith, nat_tests)
-
 others_apart : (id : ℕ) (ids : List ℕ) → list_any (nat_eq id) ids ≡ false → AllByRecursion (λ (other : ℕ). (other == id) ≡ false) ids
 others_apart id [] n = tt
 others_apart id (other ∷ ids) n =
-    let b = either_not (nat_eq id other) (list_any (nat_eq id) ids) n in
-    (other_id id other b.0, others_apart id ids b.1)
+    let b = or_is_false (nat_eq id other) (list_any (nat_eq id) ids) n in
+    (nat_eq_other id other b.0, others_apart id ids b.1)
 
 all_apart : (ids : List ℕ) → are_distinct ids ≡ true → AreApartIds ids
 all_apart [] d = tt

@@ -10,7 +10,7 @@ use Rattle.mp4_frag.specs.declared.trex.Trex.{Trex}
 use Rattle.mp4_frag.specs.format.FragmentSamples.{Part, part_samples, parts_for, trex_for, start_of, duration_of, AreOnTime, AreGrouped}
 use Rattle.mp4_frag.specs.format.FragmentRules.{TrackFacts, track_for, is_known, has_indexes, is_within}
 use Rattle.mp4_frag.specs.words.Judged.{TrackSeen, track_behind, IsDue, IsPlacedWithin}
-use Rattle.mp4_frag.proofs.SeenLists.{find_map, some_is}
+use Rattle.mp4_frag.proofs.SeenLists.{find_map}
 use Rattle.mp4_head.specs.format.Head.{TrackHead}
 use Rattle.mp4_head.specs.format.Tree.{TrackTree, MovieTree, track_head_of, trexes_of, are_distinct}
 use Rattle.mp4_present.specs.format.Denotes.{plain_of, plain_keys, track_infos}
@@ -19,12 +19,9 @@ use Rattle.mp4_present.specs.words.Passing.{seen_behind}
 use Rattle.mp4_present.proofs.FragmentReasons.{for-append}
 use Rattle.mp4_present.proofs.PlainLists.{all_push}
 use Rattle.mp4_present.proofs.TracksBehind.{seen_after, track_more, grouped_more, times_more}
+use Rattle.mp4_boxes.proofs.Plain.{eq_other, map_some, not_is_true, some_is}
 
 -- ---- lists
-
-mapped : {A B : Type 0} (f : A → B) (o : Option A) (y : B) → option_map f o ≡ Some y → (x : A) × (o ≡ Some x) × (f x ≡ y)
-mapped f None y e = absurd cc
-mapped f (Some x) y e = (x, refl, cc)
 
 -- what is found passes
 pub found_passes : {A : Type 0} (p : A → Bool) (xs : List A) (x : A) → find p xs ≡ Some x → p x ≡ true
@@ -47,10 +44,6 @@ ids_of tracks = map (λ (h : TrackHead). h.id) (map track_head_of tracks)
 abbrev AreOthers : ℕ → List TrackTree → Type 0
 AreOthers id tracks = AllByRecursion (λ (t : TrackTree). (id == id_of t) ≡ false) tracks
 
-not_true : (v : Bool) → not v ≡ true → v ≡ false
-not_true true e = absurd cc
-not_true false e = refl
-
 none_any : (n : ℕ) (tracks : List TrackTree) → list_any (nat_eq n) (ids_of tracks) ≡ false → AreOthers n tracks
 none_any n [] e = tt
 none_any n (t ∷ tracks) e = choice (nat_eq n (id_of t)) refl e (λ h. none_any n tracks h)
@@ -62,15 +55,12 @@ none_any n (t ∷ tracks) e = choice (nat_eq n (id_of t)) refl e (λ h. none_any
 distinct_first : (t : TrackTree) (tracks : List TrackTree) → are_distinct (ids_of (t ∷ tracks)) ≡ true → AreOthers (id_of t) tracks × (are_distinct (ids_of tracks) ≡ true)
 distinct_first t tracks e =
     let both = and_parts (not (list_any (nat_eq (id_of t)) (ids_of tracks))) (are_distinct (ids_of tracks)) e in
-    (none_any (id_of t) tracks (not_true (list_any (nat_eq (id_of t)) (ids_of tracks)) both.0), both.1)
+    (none_any (id_of t) tracks (not_is_true (list_any (nat_eq (id_of t)) (ids_of tracks)) both.0), both.1)
 
 other_at : (id : ℕ) (tracks : List TrackTree) (k : ℕ) (t : TrackTree) → AreOthers id tracks → slice_get tracks k ≡ Some t → (id == id_of t) ≡ false
 other_at id [] k t h e = absurd cc
 other_at id (u ∷ tracks) zero t h e = ap (λ (v : TrackTree). id == id_of v) (sym (some_is u t e)) ∙ h.0
 other_at id (u ∷ tracks) (suc k) t h e = other_at id tracks k t h.1 e
-
-turned : (m n : ℕ) → (m == n) ≡ false → (n == m) ≡ false
-turned m n e = search rules
 
 -- what follows for the one track of an ID, and for the others, holds of all
 one_and_others : (P Q : TrackTree → Type 0) (id : ℕ) (tracks : List TrackTree) (k : ℕ) (t : TrackTree) → are_distinct (ids_of tracks) ≡ true → slice_get tracks k ≡ Some t → id_of t ≡ id
@@ -87,7 +77,7 @@ one_and_others P Q id (u ∷ tracks) zero t d e same own others h =
     all_others (v ∷ us) a h = (others v a.0 h.0, all_others us a.1 h.1)
 one_and_others P Q id (u ∷ tracks) (suc k) t d e same own others h =
     let first = distinct_first u tracks d in
-    let apart : (id == id_of u) ≡ false = turned (id_of u) id (ap (λ n. id_of u == n) (sym same) ∙ other_at (id_of u) tracks k t first.0 e) in
+    let apart : (id == id_of u) ≡ false = eq_other (id_of u) id (ap (λ n. id_of u == n) (sym same) ∙ other_at (id_of u) tracks k t first.0 e) in
     (others u apart h.0, one_and_others P Q id tracks k t first.1 e same own others h.1)
 
 -- ---- the tracks
@@ -134,7 +124,7 @@ all_seen movie ps part (u ∷ tracks) zero t d e same =
     λ i. here i ∷ others_seen movie ps part tracks apart i
 all_seen movie ps part (u ∷ tracks) (suc k) t d e same =
     let first = distinct_first u tracks d in
-    let apart : (part.id == id_of u) ≡ false = turned (id_of u) part.id (ap (λ n. id_of u == n) (sym same) ∙ other_at (id_of u) tracks k t first.0 e) in
+    let apart : (part.id == id_of u) ≡ false = eq_other (id_of u) part.id (ap (λ n. id_of u == n) (sym same) ∙ other_at (id_of u) tracks k t first.0 e) in
     λ i. seen_other movie ps part u apart i ∷ all_seen movie ps part tracks k t first.1 e same i
 
 -- ---- what is known behind some parts
@@ -162,7 +152,7 @@ pub record IsTracked (movie : MovieTree) (ps : List Part) (id : ℕ) (now : Trac
 pub tracked : (movie : MovieTree) (ps : List Part) (id : ℕ) (seen : List TrackSeen) (now : TrackSeen) → seen ≡ map (seen_behind movie ps) movie.tracks → find (λ (s : TrackSeen). s.id == id) seen ≡ Some now → IsTracked movie ps id now
 tracked movie ps id seen now e f =
     let p = λ (s : TrackSeen). s.id == id in
-    let r = mapped (seen_behind movie ps) (find (λ (t : TrackTree). id_of t == id) movie.tracks) now (sym (find_map (seen_behind movie ps) p movie.tracks) ∙ sym (ap (find p) e) ∙ f) in
+    let r = map_some (seen_behind movie ps) (find (λ (t : TrackTree). id_of t == id) movie.tracks) now (sym (find_map (seen_behind movie ps) p movie.tracks) ∙ sym (ap (find p) e) ∙ f) in
     let passes : (id_of r.0 == id) ≡ true = found_passes (λ (t : TrackTree). id_of t == id) movie.tracks r.0 r.1 in
     record { tree = r.0; among = r.1; seen = r.2; same = (let same : id_of r.0 ≡ id = search rules in same) }
 
@@ -187,7 +177,7 @@ indexes_same movie ps part now t = ap (λ (o : Option TrackFacts). list_all (λ 
 -- the tree at the place of the track
 track_at : (movie : MovieTree) (ps : List Part) (seen : List TrackSeen) (place : ℕ) (now : TrackSeen) → seen ≡ map (seen_behind movie ps) movie.tracks → slice_get seen place ≡ Some now
     → (t : TrackTree) × (slice_get movie.tracks place ≡ Some t) × (seen_behind movie ps t ≡ now)
-track_at movie ps seen place now e f = mapped (seen_behind movie ps) (slice_get movie.tracks place) now (sym (slice_get-map (seen_behind movie ps) movie.tracks place) ∙ sym (ap (λ (ss : List TrackSeen). slice_get ss place) e) ∙ f)
+track_at movie ps seen place now e f = map_some (seen_behind movie ps) (slice_get movie.tracks place) now (sym (slice_get-map (seen_behind movie ps) movie.tracks place) ∙ sym (ap (λ (ss : List TrackSeen). slice_get ss place) e) ∙ f)
 
 module _ (file : List ℕ) (movie : MovieTree) (ps : List Part) (seen : List TrackSeen) (part : Part) (place : ℕ) (now : TrackSeen) (trex : Trex)
     (distinct : are_distinct (ids_of movie.tracks) ≡ true) (h : HavePassed file movie ps seen) (c : ComesNext file part seen place now trex) where

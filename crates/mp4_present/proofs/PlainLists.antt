@@ -71,7 +71,3 @@ found_there moov (t ∷ trees) [] i z l = absurd z
 -- the tables of each track that a head has lie in the `moov`
 pub found_tables : (moov : Box) (head : MovieHead) → SaysHead moov head → AllByRecursion (λ t. LiesIn moov (box_seen t.stbl)) head.tracks.items → HaveTablesIn moov head.tracks.items
 found_tables moov head s l = let tree = s.has.is_tree in found_there moov s.has.tree.tracks head.tracks.items tree.tracks s.tracks l
-
--- one more
-pub next_of : (k : ℕ) → suc k ≡ k + 1
-next_of k = omega arith

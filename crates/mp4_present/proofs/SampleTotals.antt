@@ -4,6 +4,7 @@ use Rattle.std.specs.Prelude.{not, nat_eq, ◌||◌}
 use Rattle.std.specs.List.{list_any}
 use Rattle.std.proofs.lemmas.Bool.{eqb-true, and_parts}
 use Rattle.mp4_boxes.specs.format.Bytes.{sum_of}
+use Rattle.mp4_boxes.proofs.Plain.{not_is_true}
 use Rattle.mp4_frag.specs.format.FragmentSamples.{Part, part_samples, fragment_samples}
 use Rattle.mp4_frag.specs.format.Fragments.{FragmentTree}
 use Rattle.mp4_head.specs.format.Head.{TrackHead}
@@ -22,10 +23,6 @@ id_of t = (track_head_of t).id
 or_none : (a b : Bool) → a || b ≡ false → (a ≡ false) × (b ≡ false)
 or_none true b e = absurd cc
 or_none false b e = (refl, e)
-
-not_true : (b : Bool) → not b ≡ true → b ≡ false
-not_true true e = absurd cc
-not_true false e = refl
 
 -- a part of no track adds nothing
 no_track : (q : Part) (parts : List Part) (tracks : List TrackTree) → list_any (nat_eq q.id) (map id_of tracks) ≡ false → fragments_total (q ∷ parts) tracks ≡ fragments_total parts tracks
@@ -46,7 +43,7 @@ part_most q parts (u ∷ tracks) d = either (eqb q.id (id_of u)) refl (part_most
     either : (v : Bool) → eqb q.id (id_of u) ≡ v → fragments_total (q ∷ parts) tracks ≤ length (part_samples q) + fragments_total parts tracks → fragments_total (q ∷ parts) (u ∷ tracks) ≤ length (part_samples q) + fragments_total parts (u ∷ tracks)
     either true e more =
         let same = eqb-true q.id (id_of u) e in
-        let others : list_any (nat_eq q.id) (map id_of tracks) ≡ false = subst (λ (n : ℕ). list_any (nat_eq n) (map id_of tracks) ≡ false) (sym same) (not_true _ p.0) in
+        let others : list_any (nat_eq q.id) (map id_of tracks) ≡ false = subst (λ (n : ℕ). list_any (nat_eq n) (map id_of tracks) ≡ false) (sym same) (not_is_true _ p.0) in
         let own : length (fragment_samples (id_of u) (q ∷ parts)) ≡ length (part_samples q) + length (fragment_samples (id_of u) parts) = with_part (id_of u) q parts true e in
         omega (arith, own, no_track q parts tracks others)
     either false e more =

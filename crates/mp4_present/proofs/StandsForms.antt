@@ -1,10 +1,10 @@
 -- Short forms in which vectors of faults are written.
 use Rattle.std.proofs.Common.{◌≡◌, ℕ, ◌≤◌, false, List, leb}
 use Rattle.std.proofs.lemmas.Bool.{le-leb}
-use Rattle.mp4_boxes.proofs.Among.{true_false}
 use Rattle.mp4_boxes.specs.format.Box.{Box, Header, box_container, counted_container}
 use Rattle.mp4_boxes.specs.format.Places.{Scope, ruled, Place}
 use Rattle.mp4_boxes.specs.declared.rule.Rule.{Rule}
+use Rattle.mp4_boxes.proofs.Plain.{true_false}
 
 -- a header of 8 bytes
 abbrev pub says : List ℕ → ℕ → Header

@@ -7,6 +7,7 @@ use Rattle.mp4_boxes.specs.format.FirstFault.{first_failed}
 use Rattle.mp4_boxes.specs.words.View.{box_seen}
 use Rattle.mp4_boxes.specs.declared.refusal.Refusal.{Refusal}
 use Rattle.mp4_boxes.specs.declared.refusal.Refusal.TheVariants as refusals
+use Rattle.mp4_boxes.proofs.Plain.{length_zip}
 use Rattle.mp4_tables.specs.format.FirstFault.{table_tests}
 use Rattle.mp4_tables.specs.words.Leaves.{boxes_of}
 use Rattle.mp4_tables.proofs.LeafLists.{boxes_are}
@@ -23,7 +24,7 @@ use Rattle.mp4_present.specs.words.TrackTrees.{IsTrackOf, AreTracksOf, HaveTable
 use Rattle.mp4_present.specs.declared.opening.tables_pass.PlainTracks.{PlainTracks}
 use Rattle.mp4_present.proofs.Counts.{sum-append}
 use Rattle.mp4_present.proofs.TablesKept.{as_many}
-use Rattle.mp4_present.proofs.TracksPassed.{IsBeside, beside, zip_length}
+use Rattle.mp4_present.proofs.TracksPassed.{IsBeside, beside}
 
 -- what is tested of the `stbl` that was read is what is tested of the track's tree
 pub tests_are : (L n room : ℕ) (h : TrackHead) (t : TrackTree) (file : List ℕ) → length file ≡ L → IsTrackOf t h → AreBytes (box_seen h.stbl).payload → n ≡ min (length h.media.descriptions.items) (2 ^ 32 - 1)
@@ -101,5 +102,5 @@ module _ (L : ℕ) (moov : List ℕ) (trexes : List Trex) (tracks : List TrackHe
 pub tables_fine : (L : ℕ) (tracks : List TrackHead) (k room : ℕ) → length tracks ≤ k → TablesLeft L tracks k room
     → (file : List ℕ) → length file ≡ L → (trees : List TrackTree) → AreTracksOf trees tracks → first_failed (tables_tests file max_samples trees) ≡ None
 tables_fine L tracks k room le left file e trees a =
-    let n = zip_length IsTrackOf trees tracks a in
+    let n = length_zip IsTrackOf trees tracks a in
     left file e trees a ∙ ap (λ (ts : List TrackTree). first_failed (tables_tests file room ts)) (drop_all k trees (omega (arith, n, le)))

@@ -8,6 +8,7 @@ use Rattle.mp4_boxes.specs.format.Box.{Box}
 use Rattle.mp4_boxes.specs.words.View.{box_seen}
 use Rattle.mp4_boxes.specs.declared.refusal.Refusal.{Refusal}
 use Rattle.mp4_boxes.specs.declared.refusal.Refusal.TheVariants as refusals
+use Rattle.mp4_boxes.proofs.Plain.{suc_is}
 use Rattle.mp4_tables.specs.words.Accepted.{check_steps, rows_in, tables_at}
 use Rattle.mp4_tables.specs.words.Leaves.{TablesRead, boxes_of}
 use Rattle.mp4_tables.specs.format.TableRules.{Surroundings, Fit}
@@ -115,9 +116,6 @@ next_track f (t ∷ trees) (h ∷ tracks) (suc k) d z lt = let n = next_track f 
 one_less : (start now new rest own left all : ℕ) → now + rest ≤ start + all → rest ≡ own + left → new ≤ now + own → new + left ≤ start + all
 one_less start now new rest own left all h e more = omega (arith, h, e, more)
 
-next_of : (k : ℕ) → suc k ≡ k + 1
-next_of k = omega arith
-
 -- so many steps were taken, and those of the tracks from one on are left of those of all
 abbrev pub TracksLeft : List TrackHead → ℕ → ℕ → ℕ → Type 0
 TracksLeft tracks k old new = (trees : List TrackTree) → AreTracksOf trees tracks → new + sum_of table_steps (drop k trees) ≤ old + sum_of table_steps trees
@@ -132,7 +130,7 @@ tracks_done tracks k old new left trees a = let some = left trees a in omega (ar
 pub next_left : (tracks : List TrackHead) (k old now new : ℕ) (h : TrackHead) → k < length tracks → h ≡ slice_index_or tracks k h → ((t : TrackTree) → IsTrackOf t h → new ≤ now + table_steps t) → TracksLeft tracks k old now → TracksLeft tracks (k + 1) old new
 next_left tracks k old now new h lt e more left trees a =
     let n = next_track table_steps trees tracks k h a lt in
-    subst (λ (j : ℕ). new + sum_of table_steps (drop j trees) ≤ old + sum_of table_steps trees) (next_of k)
+    subst (λ (j : ℕ). new + sum_of table_steps (drop j trees) ≤ old + sum_of table_steps trees) (suc_is k)
     (one_less old now new (sum_of table_steps (drop k trees)) (table_steps n.t) (sum_of table_steps (drop (suc k) trees)) (sum_of table_steps trees) (left trees a) n.steps (more n.t (subst (IsTrackOf n.t) (sym e) n.goes)))
 
 -- one that was not checked to its end
@@ -151,7 +149,7 @@ one_taken start now new rest own left all h e more = omega (arith, h, e, more)
 pub next_taken : (tracks : List TrackHead) (k old now new : ℕ) (h : TrackHead) → k < length tracks → h ≡ slice_index_or tracks k h → ((t : TrackTree) → IsTrackOf t h → now + least_table_steps t ≤ new) → TracksTaken tracks k old now → TracksTaken tracks (k + 1) old new
 next_taken tracks k old now new h lt e more taken trees a =
     let n = next_track least_table_steps trees tracks k h a lt in
-    subst (λ (j : ℕ). old + sum_of least_table_steps trees ≤ new + sum_of least_table_steps (drop j trees)) (next_of k)
+    subst (λ (j : ℕ). old + sum_of least_table_steps trees ≤ new + sum_of least_table_steps (drop j trees)) (suc_is k)
     (one_taken old now new (sum_of least_table_steps (drop k trees)) (least_table_steps n.t) (sum_of least_table_steps (drop (suc k) trees)) (sum_of least_table_steps trees) (taken trees a) n.steps (more n.t (subst (IsTrackOf n.t) (sym e) n.goes)))
 
 -- behind the last of them

@@ -15,6 +15,7 @@ use Rattle.mp4_boxes.specs.declared.fault.Kind.TheVariants.{BoxNotInProfile, Dup
 use Rattle.mp4_boxes.specs.declared.refusal.Refusal.{Refusal}
 use Rattle.mp4_boxes.specs.declared.refusal.Refusal.TheVariants as refusals
 use Rattle.mp4_boxes.proofs.Tiling.{first_fits, sizes-cons, sizes_fit}
+use Rattle.mp4_boxes.proofs.Plain.{ltb_by, ltb_not_by}
 use Rattle.mp4_present.specs.words.Reading.{IsTopHeader, RefusesHeader, top_box}
 use Rattle.mp4_present.specs.words.Outline.{AreSeen, moov_seen}
 use Rattle.mp4_present.specs.words.TopJudged.{RefusesTop}
@@ -76,14 +77,6 @@ few : (is_open : Bool) (at : ℕ) (bytes : List ℕ) (bs : List Box) → LieEndT
 few is_open at bytes [] l = omega arith
 few is_open at bytes (b ∷ bs) l = omega (arith, sizes-cons b bs, few is_open (at + (b.header + length b.payload)) (drop (b.header + length b.payload) bytes) bs l.1, (first_fits is_open at bytes b bs l).0)
 
-lt_by : (a b : ℕ) (v : Bool) → ltb a b ≡ v → a < b → ltb a b ≡ true
-lt_by a b true e lt = e
-lt_by a b false e lt = absurd (omega (arith, lt, ltb-false a b e))
-
-not_by : (a b : ℕ) (v : Bool) → ltb a b ≡ v → b ≤ a → ltb a b ≡ false
-not_by a b false e le = e
-not_by a b true e le = absurd (omega (arith, le, ltb-true a b e))
-
 module _ (file : List ℕ) (boxes : List Box) (at : ℕ) (lie : LieEndToEnd true 0 file boxes) (taken : sizes boxes ≡ at) (goes : TopGoes file boxes) where
   -- with one step left at least
   one_left : boxes_or_fault top_tests (file_container file) ≡ boxes_behind (suc (length file - length boxes)) top_tests (file_container file) boxes
@@ -94,7 +87,7 @@ module _ (file : List ℕ) (boxes : List Box) (at : ℕ) (lie : LieEndToEnd true
       goes ∙ (λ i. boxes_behind (k i) top_tests (file_container file) boxes)
 
   due : at < length file → nat_lt (sizes boxes) (length file) ≡ true
-  due lt = lt_by (sizes boxes) (length file) (ltb (sizes boxes) (length file)) refl (omega (arith, taken, lt))
+  due lt = ltb_by (sizes boxes) (length file) (ltb (sizes boxes) (length file)) refl (omega (arith, taken, lt))
 
   there : (r : Result Header Fault) → header_there true (length file - at) (drop at file) (codes "file") at ≡ r → header_there true (length (drop (sizes boxes) file)) (drop (sizes boxes) file) (codes "file") (0 + sizes boxes) ≡ r
   there r e =
@@ -142,7 +135,7 @@ module _ (file : List ℕ) (boxes : List Box) (at : ℕ) (lie : LieEndToEnd true
 
   -- the end
   pub top_ends : length file ≤ at → boxes_or_fault top_tests (file_container file) ≡ Ok boxes
-  top_ends le = one_left ∙ step (not_by (sizes boxes) (length file) (ltb (sizes boxes) (length file)) refl (omega (arith, taken, le)))
+  top_ends le = one_left ∙ step (ltb_not_by (sizes boxes) (length file) (ltb (sizes boxes) (length file)) refl (omega (arith, taken, le)))
     where
       step : nat_lt (sizes boxes) (length file) ≡ false → boxes_behind (suc (length file - length boxes)) top_tests (file_container file) boxes ≡ Ok boxes
       step d = rw d refl

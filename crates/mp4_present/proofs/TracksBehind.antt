@@ -10,6 +10,7 @@ use Rattle.mp4_frag.specs.declared.trex.Trex.{Trex}
 use Rattle.mp4_frag.specs.format.FragmentSamples.{Part, part_samples, has_samples, start_of, duration_of, is_on_time, AreOnTime, has_groups, keys_behind, AreGrouped, bytes_of}
 use Rattle.mp4_frag.specs.words.Judged.{TrackSeen, track_behind}
 use Rattle.mp4_frag.proofs.RunsTied.{duration-append, bytes-append}
+use Rattle.mp4_boxes.proofs.Plain.{or_true}
 
 -- ---- the samples of parts
 
@@ -247,10 +248,6 @@ on_time_more due (c ∷ own) part h e =
     let joined = duration-append (part_samples c) (samples_of own) in
     let same : due + duration_of (samples_of (c ∷ own)) ≡ due + duration_of (part_samples c) + duration_of (samples_of own) = omega (arith, joined) in
     (h.0, on_time_more (due + duration_of (part_samples c)) own part h.1 (subst (λ n. IsTrue (is_on_time n part)) same e))
-
-or_true : (v : Bool) → (v || true) ≡ true
-or_true true = refl
-or_true false = refl
 
 none_late : (due : ℕ) (part : Part) → has_samples part ≡ false → is_on_time due part ≡ true
 none_late due part e = ap (λ v. not v || unwrap_or (option_map (λ time. time == due) part.decode_time) true) e

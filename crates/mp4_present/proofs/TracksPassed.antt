@@ -7,6 +7,7 @@ use Rattle.mp4_head.specs.format.Tree.{TrackTree}
 use Rattle.mp4_head.specs.declared.heads.TrackHead.{TrackHead}
 use Rattle.mp4_present.specs.words.TrackTrees.{IsTrackOf, AreTracksOf, HaveTables}
 use Rattle.mp4_present.specs.declared.opening.tables_pass.PlainTracks.{PlainTracks}
+use Rattle.mp4_boxes.proofs.Plain.{length_zip, suc_is}
 
 -- the value beside the k-th of a list
 pub record IsBeside {A B : Type 0} (R : A → B → Type 0) (xs : List A) (k : ℕ) (y : B) : Type 0 where
@@ -25,18 +26,9 @@ beside {A} R (x ∷ xs) (y ∷ ys) (suc k) d z lt =
     let r = beside R xs ys k d z.1 (omega (arith, lt)) in
     record { x = r.x; goes = r.goes; split = ap (λ (l : List A). x ∷ l) r.split; first = ap (λ (l : List A). x ∷ l) r.first; rest = r.rest }
 
-pub zip_length : {A B : Type 0} (R : A → B → Type 0) (xs : List A) (ys : List B) → AllZip R xs ys → length xs ≡ length ys
-zip_length R [] [] z = refl
-zip_length R [] (y ∷ ys) z = absurd z
-zip_length R (x ∷ xs) [] z = absurd z
-zip_length R (x ∷ xs) (y ∷ ys) z = ap suc (zip_length R xs ys z.1)
-
 -- the head of each track was read of a tree
 pub read_of : (tracks : List TrackHead) (k : ℕ) (h : TrackHead) → k < length tracks → h ≡ slice_index_or tracks k h → (trees : List TrackTree) × AreTracksOf trees tracks → (t : TrackTree) × IsTrackOf t h
 read_of tracks k h lt e r = let b = beside IsTrackOf r.0 tracks k h r.1 lt in (b.x, subst (IsTrackOf b.x) (sym e) b.goes)
-
-one_more : (k : ℕ) → suc k ≡ k + 1
-one_more k = omega arith
 
 module _ (file_length : ℕ) (moov : List ℕ) (trexes : List Trex) (tracks : List TrackHead) (k : ℕ) (plain : PlainTracks)
     (so : (trees : List TrackTree) → AreTracksOf trees tracks → HaveTables file_length moov trexes (take k trees) plain) where
@@ -47,10 +39,10 @@ module _ (file_length : ℕ) (moov : List ℕ) (trexes : List Trex) (tracks : Li
   passed_more h new lt e more trees a =
       let b = beside IsTrackOf trees tracks k h a lt in
       let next = more b.x (take k trees) (subst (IsTrackOf b.x) (sym e) b.goes) (so trees a) in
-      subst (λ (n : ℕ). HaveTables file_length moov trexes (take n trees) new) (one_more k) (subst (λ (ts : List TrackTree). HaveTables file_length moov trexes ts new) (sym b.first) next)
+      subst (λ (n : ℕ). HaveTables file_length moov trexes (take n trees) new) (suc_is k) (subst (λ (ts : List TrackTree). HaveTables file_length moov trexes ts new) (sym b.first) next)
 
   -- all of them were
   pub passed_all : length tracks ≤ k → (trees : List TrackTree) → AreTracksOf trees tracks → HaveTables file_length moov trexes trees plain
   passed_all le trees a =
-      let n = zip_length IsTrackOf trees tracks a in
+      let n = length_zip IsTrackOf trees tracks a in
       subst (λ (ts : List TrackTree). HaveTables file_length moov trexes ts plain) (take_all k trees (omega (arith, n, le))) (so trees a)

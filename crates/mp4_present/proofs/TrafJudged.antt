@@ -15,6 +15,7 @@ use Rattle.mp4_boxes.specs.declared.fault.Kind.TheVariants.{UnknownTrack, BadDes
 use Rattle.mp4_boxes.proofs.Among.{count-append}
 use Rattle.mp4_boxes.proofs.Refusing.{holds_only, holds_few}
 use Rattle.mp4_boxes.proofs.Sound.{same_kind}
+use Rattle.mp4_boxes.proofs.Plain.{or_true}
 use Rattle.mp4_tables.specs.format.Groups.{GroupKey, grouping_of}
 use Rattle.mp4_tables.specs.format.FirstFault.{first_box_tests}
 use Rattle.mp4_tables.proofs.AmongTypes.{AllAmong, IsFirstAmong, first_among, FoundAs, found_as, none_among, first_is_each, among_both, all_read, only_type, kind_among}
@@ -75,11 +76,6 @@ track_found movie id e = by (track_at movie id) refl
         let none : track_for (track_infos movie) id ≡ None = find_map info (λ (i : TrackFacts). i.id == id) movie.tracks ∙ ap (option_map info) g in
         let no : false ≡ true = sym (ap is_some none) ∙ e in
         absurd cc
-
--- either of a test and true
-or_true : (v : Bool) → (v || true) ≡ true
-or_true true = refl
-or_true false = refl
 
 -- a part that says no time is on time
 untimed : (due : ℕ) (part : Part) → part.decode_time ≡ None → is_on_time due part ≡ true

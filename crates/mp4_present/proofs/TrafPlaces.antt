@@ -11,7 +11,7 @@ use Rattle.mp4_boxes.specs.format.Places.{ruled, Place, whole, at_kind, containe
 use Rattle.mp4_boxes.specs.declared.rule.Rule.{Rule}
 use Rattle.mp4_boxes.specs.declared.rule.Rule.TheVariants as rules
 use Rattle.mp4_boxes.specs.declared.fault.Fault.{Fault}
-use Rattle.mp4_boxes.proofs.Among.{tail_is}
+use Rattle.mp4_boxes.proofs.Plain.{tail_is}
 use Rattle.mp4_present.specs.format.Stands.{Stands, header, child, missing}
 
 -- ---- places

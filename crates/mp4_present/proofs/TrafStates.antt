@@ -11,6 +11,7 @@ use Rattle.mp4_boxes.specs.declared.fault.Fault.{Fault}
 use Rattle.mp4_boxes.specs.declared.fault.Kind.{Kind}
 use Rattle.mp4_boxes.specs.declared.fault.Kind.TheVariants.{UnknownTrack, BadDescriptionIndex, Gap}
 use Rattle.mp4_boxes.proofs.Refusing.{holds_only}
+use Rattle.mp4_boxes.proofs.Plain.{and_false, get_last, length_mapped}
 use Rattle.mp4_tables.specs.format.FirstFault.{first_box_tests}
 use Rattle.mp4_tables.specs.words.Keys.{keys_seen}
 use Rattle.mp4_frag.specs.format.Fragments.{FragmentTree, TrackFragment, track_fragment_of}
@@ -73,16 +74,6 @@ pub parts_length : (trexes : List Trex) (moof : ℕ) (trafs : List TrackFragment
 parts_length trexes moof [] before = refl
 parts_length trexes moof (traf ∷ trafs) before = ap suc (parts_length trexes moof trafs _)
 
--- the last of a list
-last_got : {A : Type 0} (xs : List A) (y : A) → slice_get (xs ++ y ∷ []) (length xs) ≡ Some y
-last_got [] y = refl
-last_got (x ∷ xs) y = last_got xs y
-
--- as many values as there are
-mapped_length : {A B : Type 0} (f : A → B) (xs : List A) → length (map f xs) ≡ length xs
-mapped_length f [] = refl
-mapped_length f (x ∷ xs) = ap suc (mapped_length f xs)
-
 -- one less
 one_less : (m n : ℕ) → m ≡ n + 1 → m - 1 ≡ n
 one_less m n e = omega arith
@@ -91,11 +82,6 @@ one_less m n e = omega arith
 not_mapped : {A B : Type 0} (f : A → B) (o : Option A) → option_map f o ≡ None → o ≡ None
 not_mapped f None e = refl
 not_mapped f (Some x) e = absurd cc
-
--- both are not true where one is false
-and_false : (v : Bool) → (v && false) ≡ false
-and_false true = refl
-and_false false = refl
 
 -- lists that are joined from the front, and from the end
 regroup : {A : Type 0} (h t r d g l : List A) → ((((h ++ t) ++ r) ++ d) ++ g) ++ l ≡ h ++ (t ++ (r ++ (d ++ (g ++ l))))
@@ -129,9 +115,9 @@ module _ (file : List ℕ) (movie : MovieTree) (earlier : List FragmentTree) (mo
       let all : parts_after trexes moof (pos moof) (map track_fragment_of (map children_of done ++ children_of b ∷ [])) ≡ front ++ its_part ∷ [] =
       ap (parts_after trexes moof (pos moof)) said ∙ i.split (traf_in b ∷ []) in
       let many = length-append (map children_of done) (children_of b ∷ []) in
-      let front_long = parts_length trexes moof (said_by done) (pos moof) ∙ mapped_length track_fragment_of (map children_of done) in
+      let front_long = parts_length trexes moof (said_by done) (pos moof) ∙ length_mapped track_fragment_of (map children_of done) in
       let place : length (map children_of done ++ children_of b ∷ []) - 1 ≡ length front = one_less _ _ (many ∙ ap (λ (n : ℕ). n + 1) (sym front_long)) in
-      (λ j. unwrap_or (slice_get (all j) (place j)) no_part) ∙ ap (λ (o : Option Part). unwrap_or o no_part) (last_got front its_part)
+      (λ j. unwrap_or (slice_get (all j) (place j)) no_part) ∙ ap (λ (o : Option Part). unwrap_or o no_part) (get_last front its_part)
 
   -- ---- its track is known
 

@@ -6,6 +6,7 @@ use Rattle.std.proofs.lemmas.Bool.{and_parts, eqb-true}
 use Rattle.std.proofs.lemmas.List.{length-map}
 use Rattle.std.proofs.lemmas.Option.{slice_get-map}
 use Rattle.mp4_boxes.specs.format.Bytes.{sum_of}
+use Rattle.mp4_boxes.proofs.Plain.{get_every, get_zip, some_is}
 use Rattle.mp4_tables.specs.words.Accepted.{AreDistinct}
 use Rattle.mp4_tables.specs.words.Keys.{keys_seen}
 use Rattle.mp4_tables.specs.format.Groups.{GroupKey}
@@ -41,23 +42,13 @@ use Rattle.mp4_present.proofs.KeysExtended.{distinct_keys}
 use Rattle.mp4_present.proofs.MoofSound.{moof_sound, kept_trexes}
 use Rattle.mp4_present.proofs.OwnPlaced.{StandsIn, all_placed, contains_in, its_moof, its_tree, of_part, one_placed, passed, placed_append}
 use Rattle.mp4_present.proofs.TrafInHand.{behind_split, due_more}
-use Rattle.mp4_present.proofs.WalkPlaces.{of_got}
 
 -- ---- a track at its place
-
-some_is : {A : Type 0} (x y : A) → Some x ≡ Some y → x ≡ y
-some_is x y e = cc
 
 -- what is known of the track at a place
 pub seen_at : {A : Type 0} (f : A → TrackSeen) (states : List TrackState) (tracks : List A) (k : ℕ) (s : TrackState) (t : A) → map track_seen states ≡ map f tracks → slice_get states k ≡ Some s → slice_get tracks k ≡ Some t → track_seen s ≡ f t
 seen_at f states tracks k s t e a b =
     some_is (track_seen s) (f t) (sym (slice_get-map track_seen states k ∙ ap (option_map track_seen) a) ∙ ap (λ xs. slice_get xs k) e ∙ slice_get-map f tracks k ∙ ap (option_map f) b)
-
-pub zipped_at : {A B : Type 0} (R : A → B → Type 0) (xs : List A) (ys : List B) (k : ℕ) (x : A) (y : B) → AllZip R xs ys → slice_get xs k ≡ Some x → slice_get ys k ≡ Some y → R x y
-zipped_at R [] ys k x y h a b = absurd (cc)
-zipped_at R (v ∷ xs) [] k x y h a b = absurd h
-zipped_at R (v ∷ xs) (w ∷ ys) zero x y h a b = subst (λ c. R c y) (some_is v x a) (subst (R v) (some_is w y b) h.0)
-zipped_at R (v ∷ xs) (w ∷ ys) (suc k) x y h a b = zipped_at R xs ys k x y h.1 a b
 
 -- one of some numbers is no more than all of them together
 one_of_sum : {A : Type 0} (f : A → ℕ) (xs : List A) (k : ℕ) (x : A) → slice_get xs k ≡ Some x → f x ≤ sum_of f xs
@@ -82,7 +73,7 @@ module _ (file : List ℕ) (m : MovieSeen) (tree : FileTree) (t : TrackTree) (ea
   -- the samples end in time
   pub in_time : due_behind tree t earlier + duration_of (placed_samples (next ∷ [])) ≤ max_time
   in_time =
-      let ends = (of_got (λ track. IsInTime (presentation_of file tree).movie.timescale track) (presentation_of file tree).tracks k (track_of file (file_parts tree) t)
+      let ends = (get_every (λ track. IsInTime (presentation_of file tree).movie.timescale track) (presentation_of file tree).tracks k (track_of file (file_parts tree) t)
       (slice_get-map (track_of file (file_parts tree)) tree.movie.tracks k ∙ ap (option_map (track_of file (file_parts tree))) at) o.limits.times).0 in
       let all : fragment_samples id (file_parts tree) ≡ placed_samples earlier ++ (placed_samples (next ∷ []) ++ placed_samples later) =
       sym (all_placed tree.movie id tree.fragments o.is_tree.fragments) ∙ ap placed_samples split ∙ placed_append earlier (next ∷ later) ∙ ap (λ ss. placed_samples earlier ++ ss) (placed_append (next ∷ []) later) in
@@ -95,7 +86,7 @@ module _ (file : List ℕ) (m : MovieSeen) (tree : FileTree) (t : TrackTree) (o 
   -- the samples of the tables end in time
   pub tables_in_time : first_due (file_parts tree) t ≤ max_time
   tables_in_time =
-      let ends = (of_got (λ track. IsInTime (presentation_of file tree).movie.timescale track) (presentation_of file tree).tracks k (track_of file (file_parts tree) t)
+      let ends = (get_every (λ track. IsInTime (presentation_of file tree).movie.timescale track) (presentation_of file tree).tracks k (track_of file (file_parts tree) t)
       (slice_get-map (track_of file (file_parts tree)) tree.movie.tracks k ∙ ap (option_map (track_of file (file_parts tree))) at) o.limits.times).0 in
       let total = lasts_mapped file (placed_of (file_parts tree) t) ∙ duration-append (plain_of t) (fragment_samples (track_head_of t).id (file_parts tree)) in
       omega (arith, ends, total)
@@ -205,7 +196,7 @@ module _ (file : List ℕ) (m : MovieSeen) (tree : FileTree) (t : TrackTree) (ea
 
   module _ (info : TrackInfo) (info_at : slice_get m.tracks w.track ≡ Some info) where
     info_is : IsInfoOf file tree t info
-    info_is = zipped_at (IsInfoOf file tree) tree.movie.tracks m.tracks w.track t info o.tracks h.is_track info_at
+    info_is = get_zip (IsInfoOf file tree) tree.movie.tracks m.tracks w.track t info o.tracks h.is_track info_at
 
     ends_small : w.due + duration_of (part_samples next.part) < 2 ^ 64
     ends_small =

@@ -12,6 +12,7 @@ use Rattle.mp4_boxes.specs.format.FirstFault.{Test, first_failed, naming, leaf_t
 use Rattle.mp4_boxes.specs.declared.fault.Fault.{Fault}
 use Rattle.mp4_boxes.specs.declared.fault.Kind.{Kind}
 use Rattle.mp4_boxes.specs.declared.fault.Kind.TheVariants.{TooManySamples, SampleOutsideFile, DuplicateBox, BadValue, CountMismatch}
+use Rattle.mp4_boxes.proofs.Plain.{not_is_true, or_true}
 use Rattle.mp4_tables.specs.format.FirstFault.{first_box_tests}
 use Rattle.mp4_tables.specs.format.Groups.{GroupKey, Grouping, GroupRule, one_of_key, few_keys, index_range, group_counts, grouping_of, groupings_of, group_test, keeps}
 use Rattle.mp4_tables.specs.format.PlainSamples.{PlacedSample}
@@ -111,11 +112,6 @@ groups_same n keys part front (b ∷ boxes) e =
 
 -- ---- descriptions
 
--- not true is false
-turned : (v : Bool) → not v ≡ true → v ≡ false
-turned true e = absurd cc
-turned false e = refl
-
 -- whether each sample of a `traf` has a description, where so many descriptions are there
 each_described : (descriptions moof : ℕ) (before : ℤ) (trex : Trex) (boxes : List Box) (v : Bool)
     → (nat_lt 0 (runs_total (of_kind (codes "trun") boxes)) && not (is_index descriptions (inheritance (track_fragment_of boxes) trex).description)) ≡ v
@@ -127,7 +123,7 @@ each_described descriptions moof before trex boxes true e =
     let d = (inheritance (track_fragment_of boxes) trex).description in
     let n = runs_total (of_kind (codes "trun") boxes) in
     let both = and_parts (nat_lt 0 n) (not (is_index descriptions d)) e in
-    sym (lacks_description (is_index descriptions) moof before trex boxes (ltb-true 0 n both.0) (turned (is_index descriptions d) both.1))
+    sym (lacks_description (is_index descriptions) moof before trex boxes (ltb-true 0 n both.0) (not_is_true (is_index descriptions d) both.1))
 
 -- it is whether its indexes name descriptions of the track
 pub described : (movie : MovieTree) (ps : List Part) (moof : ℕ) (before : ℤ) (trex : Trex) (boxes : List Box) (t : TrackState) → IsTracked movie ps (track_fragment_of boxes).id (track_seen t)
@@ -153,11 +149,6 @@ time_cases time due next count true later first = by (nat_lt 0 count) refl
     by : (v : Bool) → nat_lt 0 count ≡ v → (time == due) ≡ not (v && not (time == next))
     by true e = ap (λ (m : ℕ). time == m) (later refl (ltb-true 0 count e)) ∙ twice (time == next)
     by false e = let none = ltb-false 0 count e in itself time due (first refl (omega (arith, none)))
-
--- either or true
-or_true : (v : Bool) → (v || true) ≡ true
-or_true true = refl
-or_true false = refl
 
 module _ (plain : List PlacedSample) (own : List Part) (part : Part) where
   -- where samples came

@@ -7,7 +7,7 @@ use Rattle.std.proofs.lemmas.List.{append-nil, map-append}
 use Rattle.mp4_boxes.specs.format.Box.{Box, file_container}
 use Rattle.mp4_boxes.specs.format.Children.{Holds, of_kind}
 use Rattle.mp4_boxes.specs.declared.rule.Rule.TheVariants.{File}
-use Rattle.mp4_boxes.proofs.Among.{head_is, tail_is}
+use Rattle.mp4_boxes.proofs.Plain.{head_is, nat_eq_other, nil_cons, not_and_is_true, or_is_false, tail_is}
 use Rattle.mp4_frag.specs.format.Fragments.{FragmentTree}
 use Rattle.mp4_frag.specs.format.FragmentSamples.{Part}
 use Rattle.mp4_frag.specs.words.Judged.{AreTrexesOf, IsSoundMoof, AreMovedOn, TrackSeen, track_seen, tree_of}
@@ -29,21 +29,7 @@ use Rattle.mp4_present.proofs.MoofBehind.{trexes_behind}
 use Rattle.mp4_present.proofs.MoofsPassed.{IsUnderWay, IsRead, under_way_first, all_passed, read_is, next_passed, next_fragments}
 use Rattle.mp4_present.proofs.OwnPlaced.{own_append, longest_append}
 
-no_member : {A : Type 0} (y : A) (ys : List A) → ◌≡◌ {A = List A} [] (y ∷ ys) → ⊥
-no_member y ys e = cc
-
 -- ---- the IDs of tracks
-
-apart : (p q : Bool) → not p && q ≡ true → (p ≡ false) × (q ≡ true)
-apart true q e = absurd cc
-apart false q e = (refl, e)
-
-either_not : (p q : Bool) → (p || q) ≡ false → (p ≡ false) × (q ≡ false)
-either_not true q e = absurd cc
-either_not false q e = (refl, e)
-
-other_id : (m n : ℕ) → nat_eq m n ≡ false → (n == m) ≡ false
-other_id m n e = grind (arith, nat_tests)
 
 abbrev ids_of : List TrackState → List ℕ
 ids_of states = map (λ (s : TrackState). s.id) states
@@ -51,13 +37,13 @@ ids_of states = map (λ (s : TrackState). s.id) states
 others_apart : (id : ℕ) (states : List TrackState) → list_any (nat_eq id) (ids_of states) ≡ false → AllByRecursion (λ (s : TrackState). (s.id == id) ≡ false) states
 others_apart id [] n = tt
 others_apart id (s ∷ states) n =
-    let b = either_not (nat_eq id s.id) (list_any (nat_eq id) (ids_of states)) n in
-    (other_id id s.id b.0, others_apart id states b.1)
+    let b = or_is_false (nat_eq id s.id) (list_any (nat_eq id) (ids_of states)) n in
+    (nat_eq_other id s.id b.0, others_apart id states b.1)
 
 all_apart : (states : List TrackState) → are_distinct (ids_of states) ≡ true → AreApart states
 all_apart [] d = tt
 all_apart (s ∷ states) d =
-    let a = apart (list_any (nat_eq s.id) (ids_of states)) (are_distinct (ids_of states)) d in
+    let a = not_and_is_true (list_any (nat_eq s.id) (ids_of states)) (are_distinct (ids_of states)) d in
     (others_apart s.id states a.0, all_apart states a.1)
 
 -- those of the tracks of a sound movie differ
@@ -88,8 +74,8 @@ AreOwnOf movie fs ts owns = AllZip (λ (t : TrackTree) (o : OwnSeen). IsOwn movi
 
 first_own : (movie : MovieTree) (parts : List Part) (ts : List TrackTree) (states : List TrackState) → map track_seen states ≡ map (seen_behind movie parts) ts → AreOwnOf movie [] ts (map (λ _. none_noted) states)
 first_own movie parts [] [] e = tt
-first_own movie parts [] (s ∷ states) e = absurd (no_member (track_seen s) (map track_seen states) (sym e))
-first_own movie parts (t ∷ ts) [] e = absurd (no_member (seen_behind movie parts t) (map (seen_behind movie parts) ts) e)
+first_own movie parts [] (s ∷ states) e = absurd (nil_cons (track_seen s) (map track_seen states) (sym e))
+first_own movie parts (t ∷ ts) [] e = absurd (nil_cons (seen_behind movie parts t) (map (seen_behind movie parts) ts) e)
 first_own movie parts (t ∷ ts) (s ∷ states) e =
     (record { trafs = refl; longest = refl }, first_own movie parts ts states (tail_is (track_seen s) (seen_behind movie parts t) (map track_seen states) (map (seen_behind movie parts) ts) e))
 
@@ -99,7 +85,7 @@ more_own movie fs f parts [] states (o ∷ owns) e a = absurd a
 more_own movie fs f parts [] [] [] e a = tt
 more_own movie fs f parts [] (s ∷ states) [] e a = tt
 more_own movie fs f parts (t ∷ ts) states [] e a = absurd a
-more_own movie fs f parts (t ∷ ts) [] (o ∷ owns) e a = absurd (no_member (seen_behind movie parts t) (map (seen_behind movie parts) ts) e)
+more_own movie fs f parts (t ∷ ts) [] (o ∷ owns) e a = absurd (nil_cons (seen_behind movie parts t) (map (seen_behind movie parts) ts) e)
 more_own movie fs f parts (t ∷ ts) (s ∷ states) (o ∷ owns) e a =
     let id : s.id ≡ (track_head_of t).id = ap (λ (x : TrackSeen). x.id) (head_is (track_seen s) (seen_behind movie parts t) (map track_seen states) (map (seen_behind movie parts) ts) e) in (
       subst (λ (n : ℕ). IsOwn movie (track_head_of t).id (fs ++ f ∷ []) (with_notes (own_in (trexes_of movie) n f) o)) (sym id) (one_noted movie (track_head_of t).id fs f o a.0),

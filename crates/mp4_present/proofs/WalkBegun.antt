@@ -29,8 +29,9 @@ use Rattle.mp4_present.specs.declared.walking.Due.{Due}
 use Rattle.mp4_present.specs.declared.walking.Walk.{Walk}
 use Rattle.mp4_present.proofs.OwnPlaced.{all_placed}
 use Rattle.mp4_present.proofs.KeysExtended.{HaveNone, grouped_within, timed_with}
-use Rattle.mp4_present.proofs.TrafTaken.{zipped_at, seen_at, tables_in_time}
+use Rattle.mp4_present.proofs.TrafTaken.{seen_at, tables_in_time}
 use Rattle.mp4_present.proofs.WalkRooms.{room_opened}
+use Rattle.mp4_boxes.proofs.Plain.{get_zip}
 
 -- ---- the samples of the tables
 
@@ -80,7 +81,7 @@ plain_first tree t trees =
 pub tables_in_hand : (file : List ℕ) (m : MovieSeen) (tree : FileTree) (t : TrackTree) (k : ℕ) (found : TrackTables) (c : CursorSeen) → IsOpenedAs file m tree → slice_get tree.movie.tracks k ≡ Some t → slice_get m.tables k ≡ Some found
     → c.tables ≡ tables_seen m.moov found → c.place.number ≡ 0 → samples_from c ≡ samples_of (tables_of t.table)
 tables_in_hand file m tree t k found c o at there is none =
-    let a = zipped_at (AreTablesOf m.moov) tree.movie.tracks m.tables k t found o.tables at there in
+    let a = get_zip (AreTablesOf m.moov) tree.movie.tracks m.tables k t found o.tables at there in
     let tables : tables_at (table_bytes m.moov found) found.tables ≡ tables_of t.table = ap (λ bytes. tables_at bytes found.tables) a.bytes ∙ a.says in
     ap (λ n. drop n (samples_of (views.tables_seen c.tables))) none ∙ ap (λ (s : TablesSeen). samples_of (views.tables_seen s)) is ∙ ap samples_of tables
 
@@ -89,7 +90,7 @@ tables_in_hand file m tree t k found c o at there is none =
 module _ (file : List ℕ) (m : MovieSeen) (tree : FileTree) (t : TrackTree) (o : IsOpenedAs file m tree) (k : ℕ) (at : slice_get tree.movie.tracks k ≡ Some t) (info : TrackInfo) (info_at : slice_get m.tracks k ≡ Some info) (state : TrackState)
     (state_at : slice_get m.states k ≡ Some state) where
   info_is : IsInfoOf file tree t info
-  info_is = zipped_at (IsInfoOf file tree) tree.movie.tracks m.tracks k t info o.tracks at info_at
+  info_is = get_zip (IsInfoOf file tree) tree.movie.tracks m.tracks k t info o.tracks at info_at
 
   state_is : track_seen state ≡ plain_seen (trexes_of tree.movie) t
   state_is = seen_at (plain_seen (trexes_of tree.movie)) m.states tree.movie.tracks k state t o.states state_at at

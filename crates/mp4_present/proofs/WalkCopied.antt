@@ -7,6 +7,7 @@ use Rattle.mp4_boxes.proofs.Each.{each_member}
 use Rattle.mp4_boxes.proofs.Joined.{all_first, all_last}
 use Rattle.mp4_boxes.specs.declared.refusal.Refusal.{Refusal}
 use Rattle.mp4_boxes.specs.declared.refusal.Refusal.TheVariants as refusals
+use Rattle.mp4_boxes.proofs.Plain.{get_every, get_zip, some_is}
 use Rattle.mp4_store.specs.words.Device.{TakesPrefix}
 use Rattle.mp4_store.proofs.Known.{IsJoining, TakesPrefix-longer}
 use Rattle.mp4_tables.specs.declared.sample.SampleAt.{SampleAt}
@@ -33,14 +34,9 @@ use Rattle.mp4_present.proofs.Carrying.{BytesGoOn-then, BytesGoOn-all, BytesGoOn
 use Rattle.mp4_present.proofs.Hands.{HandGoesOn, hand_all, bytes_of_two}
 use Rattle.mp4_present.proofs.HandSizes.{sizes_of_two}
 use Rattle.mp4_present.proofs.HeldAgain.{stands_moved}
-use Rattle.mp4_present.proofs.TrafTaken.{zipped_at}
 use Rattle.mp4_present.proofs.SamplesLie.{IsInFile, placed_lie, timed_lie}
-use Rattle.mp4_present.proofs.WalkPlaces.{of_got}
 
 -- ---- what is in hand
-
-some_is : {A : Type 0} (x y : A) → ◌≡◌ {A = Option A} (Some x) (Some y) → x ≡ y
-some_is x y e = cc
 
 one_at : (m : MovieSeen) (w : Walk) (p : Place) (a b : InHand) → HandAt m w p a → HandAt m w p b → a ≡ b
 one_at m w (Tables p) (hands.Tables x) (hands.Tables y) h k =
@@ -99,7 +95,7 @@ track_next file tree t m {takes = takes} joins a b c held_b held_c w later_w all
 
 -- the samples of a track have as many bytes as opening counted
 pub track_sizes : (file : List ℕ) (m : MovieSeen) (tree : FileTree) (t : TrackTree) (k : ℕ) (info : TrackInfo) → IsOpenedAs file m tree → slice_get tree.movie.tracks k ≡ Some t → slice_get m.tracks k ≡ Some info → info.bytes ≡ sizes_of (track_samples tree t)
-track_sizes file m tree t k info o at there = (zipped_at (IsInfoOf file tree) tree.movie.tracks m.tracks k t info o.tracks at there).bytes ∙ sym (timed_bytes _ _ _ (placed_of (file_parts tree) t))
+track_sizes file m tree t k info o at there = (get_zip (IsInfoOf file tree) tree.movie.tracks m.tracks k t info o.tracks at there).bytes ∙ sym (timed_bytes _ _ _ (placed_of (file_parts tree) t))
 
 -- none is left where no sample is to come
 pub none_left : (left : ℕ) (to_come : List SampleAt) → left ≡ sizes_of to_come → to_come ≡ [] → left ≡ 0
@@ -143,7 +139,7 @@ track_not_put file {takes = takes} joins a b c held_b all to_come h none p =
 pub track_lies : (file : List ℕ) (m : MovieSeen) (tree : FileTree) (t : TrackTree) (k : ℕ) → IsOpenedAs file m tree → slice_get tree.movie.tracks k ≡ Some t → AllByRecursion (IsBelow (length file)) (track_samples tree t)
 track_lies file m tree t k o is =
     let Lie : TrackTree → Type 0 = λ u. AllByRecursion (IsInFile (length file)) (placed_of (file_parts tree) u) in
-    timed_lie (length file) _ _ _ (placed_of (file_parts tree) t) (of_got Lie tree.movie.tracks k t is (each_member Lie tree.movie.tracks (λ u i. placed_lie file tree u o.is_consistent i)))
+    timed_lie (length file) _ _ _ (placed_of (file_parts tree) t) (get_every Lie tree.movie.tracks k t is (each_member Lie tree.movie.tracks (λ u i. placed_lie file tree u o.is_consistent i)))
 
 -- what follows where those in hand do, and have no more bytes than are left
 pub in_hand_lies : (file : List ℕ) (tree : FileTree) (t : TrackTree) (m : MovieSeen) (Took : List ℕ → Type 0) (held_b : List ℕ) (w : Walk) (all to_come : List SampleAt) (n left : ℕ) (X : Type 0) → HandGoesOn file Took [] held_b all to_come → Comes file tree t m w to_come

@@ -19,21 +19,7 @@ use Rattle.mp4_tables.specs.words.Accepted.{IsPlace}
 use Rattle.mp4_tables.specs.declared.places.TablePlace.{TablePlace}
 use Rattle.mp4_present.specs.words.Movies.{MovieSeen, IsMovie, GoesOn, IsWalkOf, IsMarkOf, HasMarked, IsRest, StandsAt, HandAt, InHandOf, table_bytes, all_in_traf, traf_hand, mark_of}
 use Rattle.mp4_present.specs.declared.movie.TrackTables.{TrackTables}
-
--- an element at a place below the length
-pub got : {A : Type 0} (xs : List A) (k : ℕ) → k < length xs → (x : A) × (slice_get xs k ≡ Some x)
-got [] k lt = absurd (omega (arith, lt))
-got (x ∷ xs) zero lt = (x, refl)
-got (x ∷ xs) (suc k) lt = got xs k (omega (arith, lt))
-
-some_is : {A : Type 0} (x y : A) → Some x ≡ Some y → x ≡ y
-some_is x y e = cc
-
--- what holds of each holds of the one at a place
-pub of_got : {A : Type 0} (P : A → Type 0) (xs : List A) (k : ℕ) (x : A) → slice_get xs k ≡ Some x → AllByRecursion P xs → P x
-of_got P [] k x e h = absurd (cc)
-of_got P (y ∷ ys) zero x e h = subst P (some_is y x e) h.0
-of_got P (y ∷ ys) (suc k) x e h = of_got P ys k x e h.1
+use Rattle.mp4_boxes.proofs.Plain.{get_some}
 
 -- ---- where a walk stands doesn't depend on where it stood, nor on what it has marked
 
@@ -111,7 +97,7 @@ pub begun : (m : MovieSeen) (w : Walk) (p : TablePlace) (n : ℕ) → IsMovie m 
     → IsWalkOf m w
 begun m w p n i lt at none mark place =
     let tables = i.each_tables in
-    let t = got m.tables w.track (omega (arith, lt, tables)) in
+    let t = get_some m.tables w.track (omega (arith, lt, tables)) in
     let stands : StandsAt m w (Tables p) = (t.0, t.1, place t.0 t.1) in
     record {
       goes_on = record { movie = i; track = lt };

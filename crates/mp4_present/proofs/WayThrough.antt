@@ -3,6 +3,7 @@ use Rattle.std.proofs.Common.{◌≡◌, ℕ, ◌+◌, ◌-◌, ◌*◌, ◌≤�
 use Rattle.std.specs.Prelude.{codes}
 use Rattle.std.specs.List.{slice_get}
 use Rattle.mp4_boxes.specs.format.Box.{Box}
+use Rattle.mp4_boxes.proofs.Plain.{get_every, get_zip}
 use Rattle.mp4_tables.specs.words.Accepted.{IsAccepted, IsPlace, passed, rows_in, tables_at}
 use Rattle.mp4_tables.specs.format.PlainSamples.{plain_samples}
 use Rattle.mp4_tables.specs.format.Tables.{Tables, tables_of}
@@ -34,9 +35,8 @@ use Rattle.mp4_present.specs.declared.walking.in_hand.InHand.TheVariants as hand
 use Rattle.mp4_present.specs.declared.walking.in_hand.Place.{Place}
 use Rattle.mp4_present.specs.declared.walking.in_hand.Place.TheVariants as places
 use Rattle.mp4_present.specs.declared.walking.Walk.{Walk}
-use Rattle.mp4_present.proofs.TrafTaken.{zipped_at}
 use Rattle.mp4_present.proofs.WalkCopied.{kept_before}
-use Rattle.mp4_present.proofs.WalkPlaces.{of_got, kept_on}
+use Rattle.mp4_present.proofs.WalkPlaces.{kept_on}
 
 -- ---- how far a place is
 
@@ -53,8 +53,8 @@ in_tables payload at t p ok is place =
 pub no_farther : (file : List ℕ) (m : MovieSeen) (tree : FileTree) (t : TrackTree) (w : Walk) (p : Place) → IsOpenedAs file m tree → IsMovie m → slice_get tree.movie.tracks w.track ≡ Some t → StandsAt m w p → steps_to p ≤ way_through t w p
 unfolding table_way
 no_farther file m tree t w (places.Tables p) o i at s =
-    let accepted = (of_got (LieIn m.moov) m.tables w.track s.0 s.1 i.tables).accepted in
-    let same = zipped_at (AreTablesOf m.moov) tree.movie.tracks m.tables w.track t s.0 o.tables at s.1 in
+    let accepted = (get_every (LieIn m.moov) m.tables w.track s.0 s.1 i.tables).accepted in
+    let same = get_zip (AreTablesOf m.moov) tree.movie.tracks m.tables w.track t s.0 o.tables at s.1 in
     in_tables (table_bytes m.moov s.0) s.0.tables (tables_of t.table) p accepted (ap (λ bytes. tables_at bytes s.0.tables) same.bytes ∙ same.says) s.2
 no_farther file m tree t w (places.Fragment p) o i at s = place_said (traf_box w) p s.1
 

@@ -6,8 +6,9 @@ use Rattle.mp4_boxes.specs.format.Box.{Box}
 use Rattle.mp4_boxes.specs.format.Children.{is_among, count_among, of_kind, payload_among}
 use Rattle.mp4_boxes.specs.format.Layout.{Leaf}
 use Rattle.mp4_boxes.specs.format.Places.{at_kind, IsSoundAs}
-use Rattle.mp4_boxes.proofs.Among.{count-append, entry_or, no_entry}
+use Rattle.mp4_boxes.proofs.Among.{count-append, entry_or}
 use Rattle.mp4_boxes.proofs.Sound.{same_kind}
+use Rattle.mp4_boxes.proofs.Plain.{none_some}
 
 -- what holds of each box that has one of these types
 abbrev pub AllAmong : List (List ℕ) → (Box → Type 0) → List Box → Type 0
@@ -125,7 +126,7 @@ another_type kinds kind other e n = by (bytes_eq other kind) refl
 
 -- a type that a table has is among those of its entries
 pub entry_among : {A : Type 0} (entries : List (List ℕ × A)) (kind : List ℕ) (x : A) → at_kind entries kind ≡ Some x → is_among (map (λ (entry : List ℕ × A). entry.0) entries) kind ≡ true
-entry_among [] kind x e = absurd (no_entry x e)
+entry_among [] kind x e = absurd (none_some x e)
 entry_among {A} (entry ∷ entries) kind x e = elim (entry_or kind entry.0 entry.1 x entries e) [
   | inl m ↦ let f = m.0 in rw f refl
   | inr n ↦ by (bytes_eq entry.0 kind) (entry_among entries kind x n)

@@ -13,34 +13,18 @@ use Rattle.mp4_tables.specs.declared.places.ChunksAt.{ChunksAt}
 use Rattle.mp4_tables.specs.declared.places.RowPlace.{RowPlace}
 use Rattle.mp4_tables.specs.declared.places.ChunkPlace.{ChunkPlace}
 use Rattle.mp4_tables.proofs.RowLists.{numbers_more, numbers_all, chunk_rows_all}
-
-pub yes_le : (a b : ℕ) → a ≤ b → nat_le a b ≡ true
-yes_le a b h = grind (arith, nat_tests)
-
-pub no_le : (a b : ℕ) → b < a → nat_le a b ≡ false
-no_le a b h = grind (arith, nat_tests)
-
-pub yes_lt : (a b : ℕ) → a < b → nat_lt a b ≡ true
-yes_lt a b h = grind (arith, nat_tests)
+use Rattle.mp4_boxes.proofs.Plain.{and_is_true, nat_le_no, nat_le_yes, nat_lt_is, nat_lt_yes}
 
 pub no_lt : (a b : ℕ) → b ≤ a → nat_lt a b ≡ false
 no_lt a b h = grind (arith, nat_tests)
-
-pub lt_yes : (a b : ℕ) → nat_lt a b ≡ true → a < b
-lt_yes a b h = grind (arith, nat_tests)
-
--- both tests hold
-pub both : (a b : Bool) → (a && b) ≡ true → (a ≡ true) × (b ≡ true)
-both true b e = (refl, e)
-both false b e = absurd (let f : false ≡ true = e in cc)
 
 -- numbers that rise after one rise after a lower one
 pub rising_lower : (low high : ℕ) (ns : List ℕ) → low ≤ high → is_rising_after high ns ≡ true → is_rising_after low ns ≡ true
 rising_lower low high [] h e = refl
 rising_lower low high (n ∷ ns) h e =
-    let parts = both (nat_lt high n) (is_rising_after n ns) e in
-    let up = lt_yes high n parts.0 in
-    rw (yes_lt low n (omega arith)) parts.1
+    let parts = and_is_true (nat_lt high n) (is_rising_after n ns) e in
+    let up = nat_lt_is high n parts.0 in
+    rw (nat_lt_yes low n (omega arith)) parts.1
 
 firsts : List ChunkRow → List ℕ
 firsts rows = map (λ (row : ChunkRow). row.first) rows
@@ -49,9 +33,9 @@ firsts rows = map (λ (row : ChunkRow). row.first) rows
 none_after : (before : ChunkRow) (rows : List ChunkRow) (c : ℕ) → is_rising_after c (map (λ (row : ChunkRow). row.first) rows) ≡ true → row_after before rows c ≡ before
 none_after before [] c e = refl
 none_after before (r ∷ rows) c e =
-    let parts = both (nat_lt c r.first) (is_rising_after r.first (map (λ (row : ChunkRow). row.first) rows)) e in
-    let up = lt_yes c r.first parts.0 in
-    rw (no_le r.first c up) (none_after before rows c (rising_lower c r.first (map (λ (row : ChunkRow). row.first) rows) (omega arith) parts.1))
+    let parts = and_is_true (nat_lt c r.first) (is_rising_after r.first (map (λ (row : ChunkRow). row.first) rows)) e in
+    let up = nat_lt_is c r.first parts.0 in
+    rw (nat_le_no r.first c up) (none_after before rows c (rising_lower c r.first (map (λ (row : ChunkRow). row.first) rows) (omega arith) parts.1))
 
 last_there : (r a b : ChunkRow) (rows : List ChunkRow) → unwrap_or (last_or (Some r) rows) a ≡ unwrap_or (last_or (Some r) rows) b
 last_there r a b [] = refl
@@ -63,7 +47,7 @@ last_from r before (x ∷ rows) = last_there x before r rows
 
 -- a row that begins at or before the chunk takes the place of the one before it
 row_taken_up : (before r : ChunkRow) (rows : List ChunkRow) (c : ℕ) → r.first ≤ c → row_after before (r ∷ rows) c ≡ row_after r rows c
-row_taken_up before r rows c h = rw (yes_le r.first c h) (last_from r before (filter (λ row. nat_le row.first c) rows))
+row_taken_up before r rows c h = rw (nat_le_yes r.first c h) (last_from r before (filter (λ row. nat_le row.first c) rows))
 
 -- the row of the place is that of its chunk
 pub row_here : (rows : List ChunkRow) (c : ℕ) (p : RowPlace) (at : IsRowPlace rows c p) → row_of_chunk rows c ≡ row_in_hand at.first p
@@ -80,8 +64,8 @@ pub row_taken : (rows : List ChunkRow) (c : ℕ) (p : RowPlace) (r : ChunkRow) �
     → IsRowPlace rows (c + 1) (record { row = p.row + 1; samples = r.count; description = r.description })
 row_taken rows c p r at e h =
     let rise : is_rising_after c (r.first ∷ map (λ (row : ChunkRow). row.first) (drop (p.row + 1) rows)) ≡ true = ap (λ rs. is_rising_after c (map (λ (row : ChunkRow). row.first) rs)) (sym e) ∙ at.rising in
-    let parts = both (nat_lt c r.first) (is_rising_after r.first (map (λ (row : ChunkRow). row.first) (drop (p.row + 1) rows))) rise in
-    let up = lt_yes c r.first parts.0 in
+    let parts = and_is_true (nat_lt c r.first) (is_rising_after r.first (map (λ (row : ChunkRow). row.first) (drop (p.row + 1) rows))) rise in
+    let up = nat_lt_is c r.first parts.0 in
     let next : r.first ≡ c + 1 = omega arith in
     record {
       first = r.first;
@@ -100,9 +84,9 @@ row_kept_last rows c p at e = record {
 first_order : (rows : List ChunkRow) → is_chunk_order (map (λ (row : ChunkRow). row.first) rows) true ≡ true → is_rising_after 0 (map (λ (row : ChunkRow). row.first) rows) ≡ true
 first_order [] e = refl
 first_order (r ∷ rows) e =
-    let parts = both (r.first == 1) (is_rising_after r.first (map (λ (row : ChunkRow). row.first) rows)) e in
+    let parts = and_is_true (r.first == 1) (is_rising_after r.first (map (λ (row : ChunkRow). row.first) rows)) e in
     let one : r.first ≡ 1 = is_one r.first parts.0 in
-    rw (yes_lt 0 r.first (omega arith)) parts.1
+    rw (nat_lt_yes 0 r.first (omega arith)) parts.1
   where
     is_one : (n : ℕ) → (n == 1) ≡ true → n ≡ 1
     is_one n h = grind (arith, nat_tests)
@@ -116,7 +100,7 @@ row_none rows has_chunks e h = record {
 }
 
 pub row_before : (rows : List ChunkRow) (chunks : ℕ) (p : RowPlace) → is_chunk_order (map (λ (row : ChunkRow). row.first) rows) (nat_lt 0 chunks) ≡ true → p ≡ record { row = 0; samples = 0; description = 0 } → 0 < chunks → IsRowPlace rows 0 p
-row_before rows chunks p e is some = subst (λ q. IsRowPlace rows 0 q) (sym is) (row_none rows (nat_lt 0 chunks) e (yes_lt 0 chunks some))
+row_before rows chunks p e is some = subst (λ q. IsRowPlace rows 0 q) (sym is) (row_none rows (nat_lt 0 chunks) e (nat_lt_yes 0 chunks some))
 
 -- ---- the order of rows
 pub rising_more : (rows : List ChunkRow) (low k : ℕ) (r : ChunkRow) → drop k rows ≡ r ∷ drop (k + 1) rows

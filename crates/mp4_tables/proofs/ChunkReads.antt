@@ -9,8 +9,8 @@ use Rattle.mp4_boxes.specs.format.Box.{Box, box_container}
 use Rattle.mp4_boxes.specs.format.Children.{Holds, count_among, payload_of, chunk_offsets, one}
 use Rattle.mp4_boxes.specs.format.Layout.{stsd, stsc, stco, co64, IsSound, IsReadable, leaf_rows, needed}
 use Rattle.mp4_boxes.specs.declared.rule.Rule.TheVariants.{SampleTable}
-use Rattle.mp4_boxes.proofs.Among.{true_false}
 use Rattle.mp4_boxes.proofs.Refusing.{holds_only, line_has}
+use Rattle.mp4_boxes.proofs.Plain.{true_false}
 use Rattle.mp4_tables.specs.format.Tables.{ChunkRow, first_number, chunk_rows_of, chunk_offsets_of}
 use Rattle.mp4_tables.specs.format.PlainSamples.{Spot, row_of_chunk, laid_out, in_chunks, in_chunks_total}
 use Rattle.mp4_tables.specs.words.Rows.{HaveRoom, chunk_row_of, chunk_rows_at, offsets_at, offset_width}

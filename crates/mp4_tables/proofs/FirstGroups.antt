@@ -10,6 +10,7 @@ use Rattle.mp4_boxes.specs.format.FirstFault.{Test, first_failed, naming, leaf_t
 use Rattle.mp4_boxes.specs.declared.fault.Fault.{Fault}
 use Rattle.mp4_boxes.specs.declared.fault.Kind.{Kind}
 use Rattle.mp4_boxes.specs.declared.fault.Kind.TheVariants.{ShortBox, BadVersion, BadFlags, DuplicateBox, BadValue, CountMismatch, OutsideData, OffsetTooLarge}
+use Rattle.mp4_boxes.proofs.Plain.{nat_le_no, nat_le_yes}
 use Rattle.mp4_tables.specs.format.Groups.{GroupKey, Grouping, GroupRule, same_key, one_of_key, few_keys, index_range, group_counts, grouping_of, keeps, group_test, group_kind}
 use Rattle.mp4_tables.specs.format.FirstFault.{group_rules, group_tests, groups_tests}
 use Rattle.mp4_tables.specs.words.Leaves.{GroupRead, GroupsSo}
@@ -21,7 +22,6 @@ use Rattle.mp4_tables.specs.words.Keys.{keys_seen}
 use Rattle.mp4_tables.specs.words.TablesComing.{all_below}
 use Rattle.mp4_tables.specs.declared.places.RowsAt.{RowsAt}
 use Rattle.mp4_tables.specs.declared.places.GroupsAt.{GroupsAt}
-use Rattle.mp4_tables.proofs.ChunkLists.{yes_le, no_le}
 use Rattle.mp4_tables.proofs.GroupsKept.{test_at, keeps_key, keeps_few, keeps_range}
 
 -- ---- one `sbgp`
@@ -64,8 +64,8 @@ kept_go b n before p q r s read w x y z =
     let room = read.room in
     let known = read.version in
     let bare = read.flags in
-    let long : nat_le 4 (length b.payload) ≡ true = yes_le 4 (length b.payload) (long_enough b.payload room) in
-    let fits : nat_le (needed sbgp b.payload) (length b.payload) ≡ true = yes_le (needed sbgp b.payload) (length b.payload) room in
+    let long : nat_le 4 (length b.payload) ≡ true = nat_le_yes 4 (length b.payload) (long_enough b.payload room) in
+    let fits : nat_le (needed sbgp b.payload) (length b.payload) ≡ true = nat_le_yes (needed sbgp b.payload) (length b.payload) room in
     (λ i. first_failed ((long i, fault_of ShortBox b) ∷ (known i, fault_of BadVersion b) ∷ (bare i, fault_of BadFlags b) ∷ (fits i, fault_of ShortBox b) ∷ (w i, fault_of DuplicateBox b) ∷ (x i, fault_of BadValue b) ∷ (y i, fault_of BadValue b) ∷ (z i, fault_of CountMismatch b)
     ∷ (true, fault_of BadValue b) ∷ (true, fault_of OutsideData b) ∷ (true, fault_of OffsetTooLarge b) ∷ []))
 
@@ -103,10 +103,10 @@ module _ (stbl b : Box) (key : GroupKey) (r : RowsAt) (n : ℕ) (at : GroupsAt) 
   group_is_high e l h = kept_go b n before true true false (Kept group_counts) g.readable (key_kept false e) (few_kept false e (four_not (length (keys_seen at.keys)) l)) (range_kept false h) refl
 
   pub group_is_long : list_any (same_key key) (keys_seen at.keys) ≡ false → (length (keys_seen at.keys) ≡ 4 → ⊥) → all_below 65536 (runs_at stbl.payload r) ≡ true → (total (runs_at stbl.payload r) ≤ n → ⊥) → first_failed (naming b (kept_tests n before b.payload)) ≡ Some (fault_of CountMismatch b)
-  group_is_long e l h m = kept_go b n before true true true false g.readable (key_kept false e) (few_kept false e (four_not (length (keys_seen at.keys)) l)) (range_kept true h) (count_kept false (no_le (total (runs_at stbl.payload r)) n (omega (arith, m))))
+  group_is_long e l h m = kept_go b n before true true true false g.readable (key_kept false e) (few_kept false e (four_not (length (keys_seen at.keys)) l)) (range_kept true h) (count_kept false (nat_le_no (total (runs_at stbl.payload r)) n (omega (arith, m))))
 
   pub group_is_kept : list_any (same_key key) (keys_seen at.keys) ≡ false → (length (keys_seen at.keys) ≡ 4 → ⊥) → all_below 65536 (runs_at stbl.payload r) ≡ true → total (runs_at stbl.payload r) ≤ n → first_failed (naming b (kept_tests n before b.payload)) ≡ None
-  group_is_kept e l h m = kept_go b n before true true true true g.readable (key_kept false e) (few_kept false e (four_not (length (keys_seen at.keys)) l)) (range_kept true h) (count_kept true (yes_le (total (runs_at stbl.payload r)) n m))
+  group_is_kept e l h m = kept_go b n before true true true true g.readable (key_kept false e) (few_kept false e (four_not (length (keys_seen at.keys)) l)) (range_kept true h) (count_kept true (nat_le_yes (total (runs_at stbl.payload r)) n m))
 
 -- ---- the next child
 

@@ -10,6 +10,7 @@ use Rattle.mp4_boxes.specs.format.FirstFault.{Test, first_failed, naming, leaf_t
 use Rattle.mp4_boxes.specs.declared.fault.Fault.{Fault}
 use Rattle.mp4_boxes.specs.declared.fault.Kind.TheVariants.{TooManySamples, ShortBox, BadVersion, BadFlags, BadValue, OutsideData, CountMismatch, BadOrder, BadDescriptionIndex, OffsetTooLarge, SampleOutsideFile}
 use Rattle.mp4_boxes.proofs.Refusing.{line_has}
+use Rattle.mp4_boxes.proofs.Plain.{nat_le_yes}
 use Rattle.mp4_tables.specs.format.Repeated.{total}
 use Rattle.mp4_tables.specs.format.Tables.{sample_count}
 use Rattle.mp4_tables.specs.format.TableRules.{TableRule, duration_counts, offset_counts, chunk_order, chunk_counts, description_indexes, places, sync_order, dependency_room, test, is_sync_order}
@@ -20,7 +21,6 @@ use Rattle.mp4_tables.specs.words.RowTests.{version_tests, row_tests, size_tests
 use Rattle.mp4_tables.specs.declared.leaves.Limits.{Limits}
 use Rattle.mp4_tables.specs.declared.places.RowsAt.{RowsAt}
 use Rattle.mp4_tables.specs.declared.places.ChunksAt.{ChunksAt}
-use Rattle.mp4_tables.proofs.ChunkLists.{yes_le}
 use Rattle.mp4_tables.proofs.FirstTables.{Found, found_first, found_either, first_tests, rows_stop, rows_go, readable_goes, all_of_first, first_there}
 use Rattle.mp4_tables.proofs.TableReads.{durations_same, sync_is, dependencies_is}
 use Rattle.mp4_tables.proofs.OffsetReads.{total_of}
@@ -143,7 +143,7 @@ module _ (l : Limits) (stbl b : Box) (i : IsFirstOf (codes "sdtp") (boxes_of stb
       → first_failed (dependency_tests l stbl) ≡ cond v None (Some (fault_of ShortBox b))
   dependencies_judged n v long k t e =
       let need : needed sdtp b.payload ≡ 4 = omega arith in
-      let room : nat_le (needed sdtp b.payload) (length b.payload) ≡ true = yes_le (needed sdtp b.payload) (length b.payload) (omega (arith, need, long)) in
+      let room : nat_le (needed sdtp b.payload) (length b.payload) ≡ true = nat_le_yes (needed sdtp b.payload) (length b.payload) (omega (arith, need, long)) in
       let test : unwrap_or (option_map (λ (bytes : List ℕ). nat_le (length (tables_in stbl).sizes) (length bytes)) (tables_in stbl).dependencies) true
       ≡ v = (let c = k.count in let d = dependencies_is stbl b i in λ j. unwrap_or (option_map (λ (bytes : List ℕ). nat_le (c j) (length bytes)) (d j)) true) ∙ t in
       own_is ∙ goes (nat_le 4 (length b.payload)) (nat_le (version b.payload) 0) (fault_of ShortBox b) (fault_of BadVersion b) later e ∙ rw (room, test) refl

@@ -19,7 +19,7 @@ use Rattle.mp4_tables.specs.declared.leaves.Limits.{Limits}
 use Rattle.mp4_tables.specs.format.FirstFault.{table_rule_tests}
 use Rattle.mp4_tables.specs.words.RowTests.{row_tests, tests_of}
 use Rattle.mp4_boxes.proofs.Among.{count-append}
-use Rattle.mp4_tables.proofs.ChunkLists.{yes_le}
+use Rattle.mp4_boxes.proofs.Plain.{nat_le_yes}
 
 -- the first that has one of these types
 find_among : (kinds : List (List ℕ)) (before after : List Box) (b : Box) → is_among kinds b.kind ≡ true → count_among kinds before ≡ 0 → find (λ (x : Box). is_among kinds x.kind) (before ++ b ∷ after) ≡ Some b
@@ -120,7 +120,7 @@ pub readable_goes : (kinds : List (List ℕ)) (leaf : Leaf) (rules : List TableR
 readable_goes kinds leaf rules l stbl b o found long read e =
     ap first_failed (first_tests kinds leaf rules l stbl b found)
     ∙ goes_four (nat_le 4 (length b.payload)) (knows_version leaf b.payload) (knows_flags leaf b.payload) (nat_le (needed leaf b.payload) (length b.payload)) (fault_of ShortBox b) (fault_of BadVersion b) (fault_of BadFlags b) (fault_of ShortBox b)
-    (behind leaf (table_rule_tests (surroundings_of l) (tables_in stbl) rules) b) (yes_le 4 (length b.payload) long) read.version read.flags (yes_le (needed leaf b.payload) (length b.payload) read.room)
+    (behind leaf (table_rule_tests (surroundings_of l) (tables_in stbl) rules) b) (nat_le_yes 4 (length b.payload) long) read.version read.flags (nat_le_yes (needed leaf b.payload) (length b.payload) read.room)
     ∙ e
 
 -- what holds of all holds of one

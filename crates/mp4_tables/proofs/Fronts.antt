@@ -10,11 +10,9 @@ use Rattle.mp4_tables.specs.format.Tables.{ChunkRow}
 use Rattle.mp4_tables.specs.format.PlainSamples.{row_of_chunk, in_chunks_total}
 use Rattle.mp4_tables.specs.format.TableRules.{is_rising_after, is_chunk_order, is_sync_order, is_index}
 use Rattle.mp4_tables.specs.words.TablesComing.{are_described}
-use Rattle.mp4_tables.proofs.ChunkLists.{yes_le, no_le, yes_lt, no_lt}
+use Rattle.mp4_tables.proofs.ChunkLists.{no_lt}
 use Rattle.mp4_tables.proofs.SyncLists.{in_order, swap}
-
-one_more : (k : ℕ) → k + 1 ≡ suc k
-one_more k = omega arith
+use Rattle.mp4_boxes.proofs.Plain.{and_false, nat_le_no, nat_le_yes, nat_lt_yes, plus_one}
 
 longer : {A : Type 0} (xs later : List A) (k : ℕ) (x : A) → drop k xs ≡ x ∷ later → take (suc k) xs ≡ take k xs ++ x ∷ []
 longer [] later zero x e = let none = ap (λ (ys : List _). length ys) e in absurd (omega (arith, none))
@@ -24,14 +22,10 @@ longer (y ∷ xs) later (suc k) x e = ap (λ ys. y ∷ ys) (longer xs later k x 
 
 -- with the next member
 pub front_more : {A : Type 0} (xs later : List A) (k : ℕ) (x : A) → drop k xs ≡ x ∷ later → take (k + 1) xs ≡ take k xs ++ x ∷ []
-front_more xs later k x e = ap (λ n. take n xs) (one_more k) ∙ longer xs later k x e
+front_more xs later k x e = ap (λ n. take n xs) (plus_one k) ∙ longer xs later k x e
 
 pub front_and : {A : Type 0} (xs later more : List A) (k : ℕ) (x : A) → drop k xs ≡ x ∷ later → take (k + 1) xs ++ more ≡ take k xs ++ x ∷ more
 front_and xs later more k x e = ap (λ ys. ys ++ more) (front_more xs later k x e) ∙ append_assoc (take k xs) (x ∷ []) more
-
-and_false : (a : Bool) → (a && false) ≡ false
-and_false true = refl
-and_false false = refl
 
 pub front_fails : {A : Type 0} (p : A → Bool) (xs later : List A) (k : ℕ) (x : A) → drop k xs ≡ x ∷ later → p x ≡ false → list_all p (take (k + 1) xs) ≡ false
 front_fails p xs later k x e f =
@@ -49,14 +43,14 @@ InOrderBehind n named k low = (more : List ℕ) → is_sync_order n (take k name
 
 pub numbers_on : (named later : List ℕ) (n low k i : ℕ) → InOrderBehind n named k low → drop k named ≡ i ∷ later → low < i → i ≤ n → InOrderBehind n named (k + 1) i
 numbers_on named later n low k i behind e up few more =
-    ap (is_sync_order n) (front_and named later more k i e) ∙ behind (i ∷ more) ∙ order_one n low i more true true (yes_lt low i up) (yes_le i n few)
+    ap (is_sync_order n) (front_and named later more k i e) ∙ behind (i ∷ more) ∙ order_one n low i more true true (nat_lt_yes low i up) (nat_le_yes i n few)
 
 pub numbers_low : (named later : List ℕ) (n low k i : ℕ) → InOrderBehind n named k low → drop k named ≡ i ∷ later → i ≤ low → is_sync_order n (take (k + 1) named) ≡ false
 numbers_low named later n low k i behind e h = ap (is_sync_order n) (front_more named later k i e) ∙ behind (i ∷ []) ∙ order_one n low i [] false (nat_le i n) (no_lt low i h) refl
 
 pub numbers_high : (named later : List ℕ) (n low k i : ℕ) → InOrderBehind n named k low → drop k named ≡ i ∷ later → n < i → is_sync_order n (take (k + 1) named) ≡ false
 numbers_high named later n low k i behind e h =
-    ap (is_sync_order n) (front_more named later k i e) ∙ behind (i ∷ []) ∙ order_one n low i [] (nat_lt low i) false refl (no_le i n h) ∙ ap (λ b. b && true) (and_false (nat_lt low i))
+    ap (is_sync_order n) (front_more named later k i e) ∙ behind (i ∷ []) ∙ order_one n low i [] (nat_lt low i) false refl (nat_le_no i n h) ∙ ap (λ b. b && true) (and_false (nat_lt low i))
 
 abbrev firsts : List ChunkRow → List ℕ
 firsts rows = map (λ (row : ChunkRow). row.first) rows
@@ -75,7 +69,7 @@ rows_begin rows later has_chunks r e one more =
 
 pub rows_on : (rows later : List ChunkRow) (has_chunks : Bool) (low k : ℕ) (r : ChunkRow) → RisesBehind has_chunks rows k low → drop k rows ≡ r ∷ later → low < r.first → RisesBehind has_chunks rows (k + 1) r.first
 rows_on rows later has_chunks low k r behind e up more =
-    ap (λ rs. is_chunk_order (firsts rs) has_chunks) (front_and rows later more k r e) ∙ behind (r ∷ more) ∙ ap (λ b. b && is_rising_after r.first (firsts more)) (yes_lt low r.first up)
+    ap (λ rs. is_chunk_order (firsts rs) has_chunks) (front_and rows later more k r e) ∙ behind (r ∷ more) ∙ ap (λ b. b && is_rising_after r.first (firsts more)) (nat_lt_yes low r.first up)
 
 pub rows_stop : (rows later : List ChunkRow) (has_chunks : Bool) (low k : ℕ) (r : ChunkRow) → RisesBehind has_chunks rows k low → drop k rows ≡ r ∷ later → r.first ≤ low → is_chunk_order (map (λ (row : ChunkRow). row.first) (take (k + 1) rows)) has_chunks ≡ false
 rows_stop rows later has_chunks low k r behind e h =
@@ -107,4 +101,4 @@ described n rows c d (offset ∷ offsets) (suc k) e h f =
 
 pub described_front : (n : ℕ) (rows : List ChunkRow) (c d : ℕ) (offsets : List ℕ) (k : ℕ) → d ≡ c + k → k < length offsets
     → (nat_eq (row_of_chunk rows d).count 0 || is_index n (row_of_chunk rows d).description) ≡ false → are_described n rows c (take (k + 1) offsets) ≡ false
-described_front n rows c d offsets k e h f = ap (λ m. are_described n rows c (take m offsets)) (one_more k) ∙ described n rows c d offsets k e h f
+described_front n rows c d offsets k e h f = ap (λ m. are_described n rows c (take m offsets)) (plus_one k) ∙ described n rows c d offsets k e h f

@@ -15,6 +15,7 @@ use Rattle.mp4_boxes.specs.declared.fault.Kind.{Kind}
 use Rattle.mp4_boxes.specs.declared.fault.Kind.TheVariants.{DuplicateBox, BadValue, CountMismatch}
 use Rattle.mp4_boxes.proofs.Among.{of_kind-split}
 use Rattle.mp4_boxes.proofs.Sound.{same_kind}
+use Rattle.mp4_boxes.proofs.Plain.{false_true}
 use Rattle.mp4_tables.specs.format.Groups.{GroupKey, Grouping, GroupRule, one_of_key, few_keys, index_range, group_counts, group_kind, group_test, group_reads}
 use Rattle.mp4_tables.specs.format.Tables.{tables_of}
 use Rattle.mp4_tables.specs.format.TableRules.{Surroundings, table_group, reads, AreReadable, GroupsReadable, IsTableFault}
@@ -239,9 +240,6 @@ group_readable few_keys k boxes s = no_readable boxes
 group_readable index_range k boxes s = no_readable boxes
 group_readable group_counts k boxes s = s
 
-never : false ≡ true → ⊥
-never e = cc
-
 -- a rule of groups that is not kept is a fault of the tables
 pub group_fault : (s : Surroundings) (c : Container) (boxes : List Box) (f : Fault) → Holds SampleTable c boxes → AreReadable sample_sizes boxes → GroupStands (length (tables_of boxes).sizes) (tables_of boxes).groups 0 boxes f → IsTableFault s c f
 group_fault s c boxes f h sizes q =
@@ -255,7 +253,7 @@ group_fault s c boxes f h sizes q =
       rule = table_group q.rule (length G);
       readable = group_readable q.rule (length G) boxes sizes;
       groups_readable = subst (λ (bs : List Box). GroupsReadable (group_reads q.rule (length G) bs)) (sym split) (groups_readable q.rule G M q.b q.earlier q.readable);
-      ordered = λ x. absurd (never x);
+      ordered = λ x. absurd (false_true x);
       fails = ap (group_test q.rule (length (tables_of boxes).sizes) [] (tables_of boxes).groups) at ∙ q.fails;
       before = q.before;
       b = q.b;

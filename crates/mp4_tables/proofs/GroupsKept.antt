@@ -6,6 +6,7 @@ use Rattle.std.proofs.lemmas.Bool.{cases_lt}
 use Rattle.std.proofs.lemmas.List.{length-set}
 use Rattle.std.proofs.lemmas.Bool.Decides.{nat_tests}
 use Rattle.mp4_boxes.proofs.Among.{all_append}
+use Rattle.mp4_boxes.proofs.Plain.{and_is_true, get_last, get_some, nat_le_yes, nat_lt_is}
 use Rattle.mp4_tables.specs.format.Repeated.{total}
 use Rattle.mp4_tables.specs.format.Groups.{GroupKey, Grouping, GroupRule, one_of_key, few_keys, index_range, group_counts, same_key, keys_after, keeps, group_test}
 use Rattle.mp4_tables.specs.words.Keys.{keys_seen}
@@ -15,7 +16,6 @@ use Rattle.mp4_tables.specs.words.Accepted.{grouped, group_rows, groupings_at, A
 use Rattle.mp4_tables.specs.words.Leaves.{GroupsSo, SlotTaken}
 use Rattle.mp4_tables.specs.declared.places.RowsAt.{RowsAt}
 use Rattle.mp4_tables.specs.declared.places.GroupsAt.{GroupsAt}
-use Rattle.mp4_tables.proofs.ChunkLists.{both, lt_yes, yes_le}
 use Rattle.mp4_tables.proofs.SampleLists.{same_both}
 use Rattle.mp4_tables.proofs.IndexLists.{group_keys, grouped_keys}
 
@@ -25,19 +25,10 @@ found_before [] y k h = absurd (omega arith)
 found_before (x ∷ xs) y zero h = refl
 found_before (x ∷ xs) y (suc k) h = found_before xs y k (omega arith)
 
-found_last : {A : Type 0} (xs : List A) (y : A) → slice_get (xs ++ y ∷ []) (length xs) ≡ Some y
-found_last [] y = refl
-found_last (x ∷ xs) y = found_last xs y
-
 pub found_none : {A : Type 0} (xs : List A) (k : ℕ) → length xs ≤ k → slice_get xs k ≡ None
 found_none [] k h = refl
 found_none (x ∷ xs) zero h = absurd (omega arith)
 found_none (x ∷ xs) (suc k) h = found_none xs k (omega arith)
-
-found_some : {A : Type 0} (xs : List A) (k : ℕ) → k < length xs → (x : A) × (slice_get xs k ≡ Some x)
-found_some [] k h = absurd (omega arith)
-found_some (x ∷ xs) zero h = (x, refl)
-found_some (x ∷ xs) (suc k) h = found_some xs k (omega arith)
 
 taken_before : {A : Type 0} (xs : List A) (y : A) (k : ℕ) → k ≤ length xs → take k (xs ++ y ∷ []) ≡ take k xs
 taken_before xs y zero h = refl
@@ -59,12 +50,12 @@ kept_at rule n k gs g e h = rw e at h
 
 -- the test at the last place is whether the last keeps the rule behind the others
 pub test_last : (rule : GroupRule) (n : ℕ) (gs : List Grouping) (g : Grouping) (v : Bool) → keeps rule n [] gs g ≡ v → group_test rule n [] (gs ++ g ∷ []) (length gs) ≡ v
-test_last rule n gs g v h = test_at rule n (length gs) (gs ++ g ∷ []) g v (found_last gs g) (ap (λ before. keeps rule n [] before g) (taken_before gs g (length gs) (omega arith) ∙ taken_all gs) ∙ h)
+test_last rule n gs g v h = test_at rule n (length gs) (gs ++ g ∷ []) g v (get_last gs g) (ap (λ before. keeps rule n [] before g) (taken_before gs g (length gs) (omega arith) ∙ taken_all gs) ∙ h)
 
 tests_more : (rule : GroupRule) (n : ℕ) (gs : List Grouping) (g : Grouping) → ((k : ℕ) → group_test rule n [] gs k ≡ true) → keeps rule n [] gs g ≡ true → (k : ℕ) → group_test rule n [] (gs ++ g ∷ []) k ≡ true
 tests_more rule n gs g h last k = elim (cases_lt k (length gs)) [
   | inl before ↦
-      let f = found_some gs k before in
+      let f = get_some gs k before in
       test_at rule n k (gs ++ g ∷ []) f.0 true (found_before gs g k before ∙ f.1) (ap (λ zs. keeps rule n [] zs f.0) (taken_before gs g k (omega arith)) ∙ kept_at rule n k gs f.0 f.1 (h k))
   | inr behind ↦ elim (cases_lt (length gs) k) [
     | inl past ↦ test_none rule n k (gs ++ g ∷ []) (found_none (gs ++ g ∷ []) k (omega (arith, length-append gs (g ∷ []))))
@@ -117,7 +108,7 @@ snoc_distinct (a ∷ keys) k d h = (all_append (λ other. same_key a other ≡ f
 
 index_rows : (runs : List (ℕ × ℕ)) → all_below 65536 runs ≡ true → AreIndexes runs
 index_rows [] e = tt
-index_rows (run ∷ runs) e = let p = both (nat_lt run.1 65536) (all_below 65536 runs) e in let l = lt_yes run.1 65536 p.0 in (omega arith, index_rows runs p.1)
+index_rows (run ∷ runs) e = let p = and_is_true (nat_lt run.1 65536) (all_below 65536 runs) e in let l = nat_lt_is run.1 65536 p.0 in (omega arith, index_rows runs p.1)
 
 -- the rows of the groupings, with one slot taken
 shape : (payload : List ℕ) (keys : List GroupKey) (rows : List RowsAt) (k : GroupKey) (r : RowsAt) → length keys < length rows → AreUsed keys (map (runs_at payload) rows)
@@ -158,7 +149,7 @@ group_added payload n at after gs k r s ks slot new l room small few =
         distinct = subst AreDistinct (sym ks) (snoc_distinct keys k s.have.distinct (differs_from k keys new));
         used = subst (λ x. AreUsed x (group_rows payload after)) (sym ks) (subst (λ rows. AreUsed (keys ++ k ∷ []) (map (runs_at payload) rows)) (sym slot) sh.1);
       };
-      tests = λ rule i. tests_more rule n gs g (s.tests rule) (all_keep payload n at gs g s new many small (yes_le (total (runs_at payload r)) n few) rule) i;
+      tests = λ rule i. tests_more rule n gs g (s.tests rule) (all_keep payload n at gs g s new many small (nat_le_yes (total (runs_at payload r)) n few) rule) i;
     }
   where
     not_four : (x : ℕ) → x < 4 → (x == 4) ≡ false

@@ -6,12 +6,12 @@ use Rattle.byteorder.specs.Numbers.{big_from-take}
 use Rattle.mp4_boxes.specs.format.Bytes.{field, rows, numbers, width_of}
 use Rattle.mp4_boxes.specs.format.Box.{Box, LieEndToEnd}
 use Rattle.mp4_boxes.specs.format.Layout.{Leaf, IsReadable, version, last_version, needed, up_to, knows_flags}
+use Rattle.mp4_boxes.proofs.Plain.{nat_le_yes}
 use Rattle.mp4_tables.specs.format.Tables.{first_number}
 use Rattle.mp4_tables.specs.words.Rows.{HaveRoom, run_of, chunk_row_of, runs_at, chunk_rows_at, numbers_at}
 use Rattle.mp4_tables.specs.words.Accepted.{bytes_at}
 use Rattle.mp4_tables.specs.declared.places.RowsAt.{RowsAt}
 use Rattle.mp4_tables.specs.declared.places.BytesAt.{BytesAt}
-use Rattle.mp4_tables.proofs.ChunkLists.{yes_le}
 use Rattle.mp4_tables.specs.words.Leaves.{boxes_of, HasTables, IsFirstOf, LiesIn, IsChild, RowsRead}
 use Rattle.mp4_tables.proofs.LeafLists.{child_lies}
 
@@ -84,7 +84,7 @@ numbers_there last fields width stbl b r i h =
 pub shape_readable : (leaf : Leaf) (last fields width : ℕ) (stbl b : Box) (r : RowsAt) → last_version leaf ≡ Some last → knows_flags leaf b.payload ≡ true → needed leaf b.payload ≡ fields + width * field b.payload (fields - 4) 4
     → RowsRead last fields width stbl b r → IsReadable leaf b.payload
 shape_readable leaf last fields width stbl b r v g n h = record {
-  version = ap (λ l. up_to l (version b.payload)) v ∙ yes_le (version b.payload) last h.version;
+  version = ap (λ l. up_to l (version b.payload)) v ∙ nat_le_yes (version b.payload) last h.version;
   flags = g;
   room = subst (λ m. fields + width * m ≤ length b.payload → needed leaf b.payload ≤ length b.payload) (sym h.count) (λ l. omega arith) h.room;
 }

@@ -2,7 +2,8 @@
 use Rattle.std.proofs.Common.{◌≡◌, ℕ, suc, ◌≤◌, Bool, true, false, cond, eqb, List, [], ◌∷◌, ◌++◌, length, refl, sym, ap, ◌∙◌, arith, inl, inr}
 use Rattle.std.specs.List.{AllByRecursion, list_any}
 use Rattle.std.proofs.lemmas.Bool.{eqb-true, eq-eqb, ne_eqb, or_cases, or_left, or_right, or_parts, or_from}
-use Rattle.mp4_boxes.proofs.Among.{true_false, all_append}
+use Rattle.mp4_boxes.proofs.Among.{all_append}
+use Rattle.mp4_boxes.proofs.Plain.{true_false}
 use Rattle.mp4_tables.specs.format.Groups.{GroupKey, key_rank, same_key, keys_with}
 
 -- the key is one of these, and is none of them

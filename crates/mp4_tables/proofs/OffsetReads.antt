@@ -8,6 +8,7 @@ use Rattle.mp4_boxes.specs.format.Box.{Box}
 use Rattle.mp4_boxes.specs.format.Children.{count_among}
 use Rattle.mp4_boxes.specs.format.Layout.{ctts, IsSound, IsReadable, version, leaf_rows, needed, too_large, has_large_offset}
 use Rattle.mp4_boxes.proofs.Refusing.{holds_few}
+use Rattle.mp4_boxes.proofs.Plain.{and_is_true, nat_lt_is}
 use Rattle.mp4_tables.specs.format.Repeated.{total}
 use Rattle.mp4_tables.specs.format.Tables.{composition_offset, offsets_of}
 use Rattle.mp4_tables.specs.words.Rows.{run_of, runs_at}
@@ -15,7 +16,6 @@ use Rattle.mp4_tables.specs.words.TablesComing.{all_below}
 use Rattle.mp4_tables.specs.words.Accepted.{composition_offsets_at, AreSmall, offset_version}
 use Rattle.mp4_tables.specs.words.Leaves.{boxes_of, HasTables, IsFirstOf, RowsRead, tables_in, OffsetsRead}
 use Rattle.mp4_tables.specs.declared.places.RowsAt.{RowsAt}
-use Rattle.mp4_tables.proofs.ChunkLists.{lt_yes, both}
 use Rattle.mp4_tables.proofs.LeafLists.{payload_first, payload_none, all_first, all_none}
 use Rattle.mp4_tables.proofs.LeafRows.{lies_in, first_is_child, runs_there, shape_readable}
 use Rattle.mp4_tables.proofs.TableReads.{rows_have}
@@ -89,7 +89,7 @@ offset_is_large stbl b r v h i read z t =
 
 small_rows : (runs : List (ℕ × ℕ)) → all_below (2 ^ 31) runs ≡ true → AllByRecursion (λ (run : ℕ × ℕ). run.1 < 2 ^ 31) runs
 small_rows [] e = tt
-small_rows (run ∷ runs) e = let p = both (nat_lt run.1 (2 ^ 31)) (all_below (2 ^ 31) runs) e in (lt_yes run.1 (2 ^ 31) p.0, small_rows runs p.1)
+small_rows (run ∷ runs) e = let p = and_is_true (nat_lt run.1 (2 ^ 31)) (all_below (2 ^ 31) runs) e in (nat_lt_is run.1 (2 ^ 31) p.0, small_rows runs p.1)
 
 -- offsets of version 1, or small ones of version 0
 abbrev pub AreRead : Box → Box → RowsAt → Bool → Type 0

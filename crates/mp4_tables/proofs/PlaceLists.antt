@@ -29,13 +29,13 @@ use Rattle.std.proofs.Common.{inl, inr}
 use Rattle.std.proofs.lemmas.Bool.{cases_lt}
 use Rattle.mp4_tables.proofs.Counts.{eqb_is, leb_is, repeated_length, plain_length}
 use Rattle.mp4_tables.proofs.RowLists.{runs_length, sizes_length, numbers_length, chunk_rows_length}
-use Rattle.mp4_tables.proofs.ChunkLists.{yes_lt, both}
 use Rattle.mp4_tables.proofs.RunLists.{coming_start}
 use Rattle.mp4_tables.proofs.SpotLists.{spot_left, spot_ahead, spot_passed}
 use Rattle.mp4_tables.proofs.SyncLists.{not_sync_here}
 use Rattle.mp4_tables.proofs.GroupLists.{run_left, run_value, value_has, run_passed, run_first}
 use Rattle.mp4_tables.proofs.SampleLists.{placed, flags_more, plain_more, timed_more, timed_next, timed_first, samples_length}
 use Rattle.mp4_tables.proofs.IndexLists.{indexes_are}
+use Rattle.mp4_boxes.proofs.Plain.{and_is_true, nat_lt_yes}
 
 -- ---- sync samples, where there is a table of them
 pub not_sync_in : (payload : List ℕ) (o : Option RowsAt) (p : SyncPlace) (i : ℕ) → IsSyncPlaceIn payload o p i → 0 < i → (r : RowsAt) → o ≡ Some r → p.next ≢ i → 1 ≡ non_sync (option_map (numbers_at 4 payload) o) i
@@ -95,7 +95,7 @@ values_length payload (Some at) n e =
 
 -- an offset below 2^31 is the same number in both versions
 small_offset : (n : ℕ) → n < 2 ^ 31 → pos n ≡ twos_complement 4 n
-small_offset n h = let e : nat_lt n (2 ^ 31) ≡ true = yes_lt n (2 ^ 31) h in rw e refl
+small_offset n h = let e : nat_lt n (2 ^ 31) ≡ true = nat_lt_yes n (2 ^ 31) h in rw e refl
 
 pub offset_read : (is_signed : Bool) (n : ℕ) → (is_signed ≡ false → n < 2 ^ 31) → composition_offset (offset_version is_signed) n ≡ twos_complement 4 n
 offset_read true n h = refl
@@ -244,9 +244,9 @@ end_fits payload at p size ok is h e =
   where
     all_next : (file k : ℕ) (spots more : List Spot) (s : Spot) → all_lie_within file spots ≡ true → drop k spots ≡ s ∷ more → lies_within file s.at s.size ≡ true
     all_next file zero [] more s e f = cc
-    all_next file zero (x ∷ spots) more s e f = let g : x ≡ s = cc in ap (λ (y : Spot). lies_within file y.at y.size) (sym g) ∙ (both (lies_within file x.at x.size) (all_lie_within file spots) e).0
+    all_next file zero (x ∷ spots) more s e f = let g : x ≡ s = cc in ap (λ (y : Spot). lies_within file y.at y.size) (sym g) ∙ (and_is_true (lies_within file x.at x.size) (all_lie_within file spots) e).0
     all_next file (suc k) [] more s e f = cc
-    all_next file (suc k) (x ∷ spots) more s e f = all_next file k spots more s (both (lies_within file x.at x.size) (all_lie_within file spots) e).1 f
+    all_next file (suc k) (x ∷ spots) more s e f = all_next file k spots more s (and_is_true (lies_within file x.at x.size) (all_lie_within file spots) e).1 f
 
 -- ---- the place one sample on
 pub duration_within : (payload : List ℕ) (at : TablesAt) (p : TablePlace) → IsPlace payload at p → p.duration.row ≤ at.durations.count

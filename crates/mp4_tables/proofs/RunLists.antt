@@ -6,7 +6,8 @@ use Rattle.mp4_tables.specs.words.Rows.{runs_at}
 use Rattle.mp4_tables.specs.words.TablesComing.{coming, all_below}
 use Rattle.mp4_tables.specs.declared.places.RowsAt.{RowsAt}
 use Rattle.mp4_tables.proofs.RowLists.{runs_all}
-use Rattle.mp4_tables.proofs.ChunkLists.{yes_lt, no_lt}
+use Rattle.mp4_tables.proofs.ChunkLists.{no_lt}
+use Rattle.mp4_boxes.proofs.Plain.{nat_lt_yes}
 
 -- a place with nothing left takes up the next row
 pub coming_more : (runs : List (ℕ × ℕ)) (k value : ℕ) (count next : ℕ) → drop k runs ≡ (count, next) ∷ drop (k + 1) runs
@@ -48,7 +49,7 @@ below_more runs bound k count value e = ap (all_below bound) e
 
 pub below_yes : (runs : List (ℕ × ℕ)) (bound k count value : ℕ) → drop k runs ≡ (count, value) ∷ drop (k + 1) runs → value < bound
     → all_below bound (drop k runs) ≡ all_below bound (drop (k + 1) runs)
-below_yes runs bound k count value e h = below_more runs bound k count value e ∙ ap (λ b. b && all_below bound (drop (k + 1) runs)) (yes_lt value bound h)
+below_yes runs bound k count value e h = below_more runs bound k count value e ∙ ap (λ b. b && all_below bound (drop (k + 1) runs)) (nat_lt_yes value bound h)
 
 pub below_no : (runs : List (ℕ × ℕ)) (bound k count value : ℕ) → drop k runs ≡ (count, value) ∷ drop (k + 1) runs → bound ≤ value
     → all_below bound (drop k runs) ≡ false

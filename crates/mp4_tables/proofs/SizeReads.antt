@@ -9,6 +9,7 @@ use Rattle.mp4_boxes.specs.format.Box.{Box}
 use Rattle.mp4_boxes.specs.format.Children.{count_among, payload_of, sample_sizes, one}
 use Rattle.mp4_boxes.specs.format.Layout.{stsz, stz2, IsSound, IsReadable, version, leaf_rows, needed, rows_size, size_bits, is_size_bits}
 use Rattle.mp4_boxes.proofs.Refusing.{line_has}
+use Rattle.mp4_boxes.proofs.Plain.{nat_le_yes}
 use Rattle.mp4_tables.specs.format.Tables.{first_number, half_bytes, sample_count, sizes_of, compact_sizes_of, sample_sizes_of}
 use Rattle.mp4_tables.specs.words.Rows.{HaveSizes, numbers_at, sizes_in}
 use Rattle.mp4_tables.specs.format.TableRules.{AreReadable}
@@ -18,7 +19,6 @@ use Rattle.mp4_tables.specs.declared.places.RowsAt.{RowsAt}
 use Rattle.mp4_tables.specs.declared.places.SizesAt.{SizesAt}
 use Rattle.mp4_tables.specs.declared.places.SizeForm.{SizeForm}
 use Rattle.mp4_tables.specs.declared.places.SizeForm.TheVariants as forms
-use Rattle.mp4_tables.proofs.ChunkLists.{yes_le}
 use Rattle.mp4_tables.proofs.RowLists.{sizes_length}
 use Rattle.mp4_tables.proofs.LeafLists.{payload_first, payload_none, all_first, all_none, count_each}
 use Rattle.mp4_tables.proofs.LeafRows.{lies_in, first_is_child, rows_there}
@@ -54,8 +54,8 @@ WordsHave b true = 12 + 4 * field b.payload 8 4 ≤ length b.payload
 WordsHave b false = 12 ≤ length b.payload
 
 words_readable : (b : Box) (v : Bool) → (field b.payload 4 4 == 0) ≡ v → version b.payload ≤ 0 → WordsHave b v → IsReadable stsz b.payload
-words_readable b true e v h = record { version = yes_le (version b.payload) 0 v; flags = refl; room = (let n = words_needed b.payload true e in omega arith) }
-words_readable b false e v h = record { version = yes_le (version b.payload) 0 v; flags = refl; room = (let n = words_needed b.payload false e in omega arith) }
+words_readable b true e v h = record { version = nat_le_yes (version b.payload) 0 v; flags = refl; room = (let n = words_needed b.payload true e in omega arith) }
+words_readable b false e v h = record { version = nat_le_yes (version b.payload) 0 v; flags = refl; room = (let n = words_needed b.payload false e in omega arith) }
 
 words_all : (stbl b : Box) (v : Bool) → HasTables stbl → IsFirstOf (codes "stsz") (boxes_of stbl) b → (field b.payload 4 4 == 0) ≡ v → version b.payload ≤ 0 → WordsHave b v → AllOf (codes "stsz") (IsSound stsz) (boxes_of stbl)
 words_all stbl b v h i e k w =
@@ -103,7 +103,7 @@ pub compact_needed : (payload : List ℕ) → needed stz2 payload ≡ 12 + rows_
 compact_needed payload = omega arith
 
 compact_readable : (b : Box) → version b.payload ≤ 0 → 12 + rows_size stz2 b.payload ≤ length b.payload → IsReadable stz2 b.payload
-compact_readable b v h = record { version = yes_le (version b.payload) 0 v; flags = refl; room = (let n = compact_needed b.payload in omega arith) }
+compact_readable b v h = record { version = nat_le_yes (version b.payload) 0 v; flags = refl; room = (let n = compact_needed b.payload in omega arith) }
 
 half_cut : (n m : ℕ) (bytes : List ℕ) → n ≤ 2 * m → half_bytes n (take m bytes) ≡ half_bytes n bytes
 half_cut zero m bytes h = refl

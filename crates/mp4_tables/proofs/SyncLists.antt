@@ -11,7 +11,7 @@ use Rattle.mp4_tables.specs.words.TablesComing.{IsSyncPlace}
 use Rattle.mp4_tables.specs.declared.places.RowsAt.{RowsAt}
 use Rattle.mp4_tables.specs.declared.places.SyncPlace.{SyncPlace}
 use Rattle.mp4_tables.proofs.RowLists.{first_left, numbers_all}
-use Rattle.mp4_tables.proofs.ChunkLists.{both, yes_lt, lt_yes}
+use Rattle.mp4_boxes.proofs.Plain.{and_is_true, nat_lt_is, nat_lt_yes}
 
 no_eq : (a b : ℕ) → a < b → nat_eq a b ≡ false
 no_eq a b h = grind (arith, nat_tests)
@@ -20,8 +20,8 @@ no_eq a b h = grind (arith, nat_tests)
 not_named : (i low : ℕ) (ns : List ℕ) → i ≤ low → is_rising_after low ns ≡ true → list_any (nat_eq i) ns ≡ false
 not_named i low [] h e = refl
 not_named i low (n ∷ ns) h e =
-    let parts = both (nat_lt low n) (is_rising_after n ns) e in
-    let up = lt_yes low n parts.0 in
+    let parts = and_is_true (nat_lt low n) (is_rising_after n ns) e in
+    let up = nat_lt_is low n parts.0 in
     rw (no_eq i n (omega arith)) (not_named i n ns (omega arith) parts.1)
 
 -- the next number in hand, where there is one
@@ -36,8 +36,8 @@ none_in_hand named p i at h =
 
 rising_in_hand : (named : List ℕ) (p : SyncPlace) (i : ℕ) → IsSyncPlace named p i → p.row < length named → (i - 1 < p.next) × (is_rising_after p.next (drop (p.row + 1) named) ≡ true)
 rising_in_hand named p i at h =
-    let parts = both (nat_lt (i - 1) p.next) (is_rising_after p.next (drop (p.row + 1) named)) (ap (is_rising_after (i - 1)) (sym (in_hand named p i at h)) ∙ at.rising) in
-    (lt_yes (i - 1) p.next parts.0, parts.1)
+    let parts = and_is_true (nat_lt (i - 1) p.next) (is_rising_after p.next (drop (p.row + 1) named)) (ap (is_rising_after (i - 1)) (sym (in_hand named p i at h)) ∙ at.rising) in
+    (nat_lt_is (i - 1) p.next parts.0, parts.1)
 
 -- it is not, so none is
 pub not_sync_here : (named : List ℕ) (p : SyncPlace) (i : ℕ) → IsSyncPlace named p i → 0 < i → p.next ≢ i → list_any (nat_eq i) named ≡ false
@@ -87,7 +87,7 @@ sync_kept named p i at some e = record {
         let up = rising_in_hand named p i at inside in
         let low = up.0 in
         let more : (i + 1) - 1 < p.next = above i p.next e (omega arith) in
-        ap (is_rising_after ((i + 1) - 1)) (in_hand named p i at inside) ∙ ap (λ b. b && is_rising_after p.next (drop (p.row + 1) named)) (yes_lt ((i + 1) - 1) p.next more) ∙ up.1
+        ap (is_rising_after ((i + 1) - 1)) (in_hand named p i at inside) ∙ ap (λ b. b && is_rising_after p.next (drop (p.row + 1) named)) (nat_lt_yes ((i + 1) - 1) p.next more) ∙ up.1
     | inr behind ↦ ap (is_rising_after ((i + 1) - 1)) (none_in_hand named p i at behind).0
   ];
   next = at.next;
@@ -100,7 +100,7 @@ sync_kept named p i at some e = record {
 pub sync_first : (named : List ℕ) (n next : ℕ) → is_sync_order n named ≡ true → next ≡ slice_index named 0 → IsSyncPlace named (record { row = 0; next = next }) 1
 sync_first named n next e is = record {
   same = λ j h. refl;
-  rising = (both (is_rising_after 0 named) (list_all (λ i. nat_le i n) named) e).0;
+  rising = (and_is_true (is_rising_after 0 named) (list_all (λ i. nat_le i n) named) e).0;
   next = is;
   within = omega arith;
 }

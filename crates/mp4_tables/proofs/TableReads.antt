@@ -9,6 +9,7 @@ use Rattle.mp4_boxes.specs.format.Places.{leaf_of, ruled}
 use Rattle.mp4_boxes.specs.declared.rule.Rule.TheVariants.{SampleTable}
 use Rattle.mp4_boxes.proofs.Refusing.{holds_only, holds_few}
 use Rattle.mp4_boxes.proofs.Sound.{same_kind}
+use Rattle.mp4_boxes.proofs.Plain.{nat_le_yes}
 use Rattle.mp4_tables.specs.format.Repeated.{total}
 use Rattle.mp4_tables.specs.format.Tables.{first_number, durations_of}
 use Rattle.mp4_tables.specs.words.Rows.{HaveRoom, run_of, runs_at, numbers_at}
@@ -19,7 +20,6 @@ use Rattle.mp4_tables.specs.declared.places.RowsAt.{RowsAt}
 use Rattle.mp4_tables.specs.declared.places.BytesAt.{BytesAt}
 use Rattle.mp4_tables.proofs.LeafLists.{payload_first, payload_none, all_first, all_none}
 use Rattle.mp4_tables.proofs.LeafRows.{lies_in, first_is_child, room_there, runs_there, numbers_there, shape_readable, bytes_there}
-use Rattle.mp4_tables.proofs.ChunkLists.{yes_le}
 
 -- the payload of the first of a type
 pub payload_is : (kind : List ℕ) (boxes : List Box) (b : Box) → IsFirstOf kind boxes b → payload_of kind boxes ≡ b.payload
@@ -98,7 +98,7 @@ sync_none stbl n e =
 dependencies_sound : (stbl b : Box) → HasTables stbl → IsFirstOf (codes "sdtp") (boxes_of stbl) b → version b.payload ≤ 0 → 4 ≤ length b.payload → AllOf (codes "sdtp") (IsSound sdtp) (boxes_of stbl)
 dependencies_sound stbl b h i v n =
     all_first (codes "sdtp") (IsSound sdtp) (boxes_of stbl) b i (holds_few h (codes "sdtp") refl)
-    (record { readable = record { version = yes_le (version b.payload) 0 v; flags = refl; room = omega arith }; value = refl; inside = refl; offsets = refl })
+    (record { readable = record { version = nat_le_yes (version b.payload) 0 v; flags = refl; room = omega arith }; value = refl; inside = refl; offsets = refl })
 
 pub dependencies_is : (stbl b : Box) → IsFirstOf (codes "sdtp") (boxes_of stbl) b → (tables_in stbl).dependencies ≡ Some (drop 4 b.payload)
 dependencies_is stbl b i = ap (option_map (λ (payload : List ℕ). drop 4 payload)) (payload_first (codes "sdtp") (boxes_of stbl) b i)
@@ -110,7 +110,7 @@ dependencies_read stbl b at n h i v long e p few =
     let a = l.is in let w = l.within in
     let there = sym (bytes_there (stbl.offset + stbl.header) stbl.payload b at 4 l p e) in
     let is = dependencies_is stbl b i ∙ ap Some there in
-    let long_enough : nat_le n (length (bytes_at stbl.payload at)) ≡ true = yes_le n (length (bytes_at stbl.payload at)) (let m = ap (λ (xs : List ℕ). length xs) there in omega (arith, m, length-drop 4 b.payload)) in
+    let long_enough : nat_le n (length (bytes_at stbl.payload at)) ≡ true = nat_le_yes n (length (bytes_at stbl.payload at)) (let m = ap (λ (xs : List ℕ). length xs) there in omega (arith, m, length-drop 4 b.payload)) in
     record {
       have = omega arith;
       same = sym is;

@@ -8,9 +8,10 @@ use Rattle.mp4_boxes.specs.format.Places.{IsSoundAs}
 use Rattle.mp4_boxes.specs.format.FirstFault.{first_failed}
 use Rattle.mp4_boxes.specs.declared.rule.Rule.TheVariants.{SampleTable}
 use Rattle.mp4_boxes.specs.declared.fault.Fault.{Fault}
-use Rattle.mp4_boxes.proofs.Among.{true_false, all_in}
+use Rattle.mp4_boxes.proofs.Among.{all_in}
 use Rattle.mp4_boxes.proofs.Refusing.{line_has, unsound}
 use Rattle.mp4_boxes.proofs.Tiling.{tiles_one}
+use Rattle.mp4_boxes.proofs.Plain.{true_false}
 use Rattle.mp4_tables.specs.format.Tables.{sample_count, tables_of}
 use Rattle.mp4_tables.specs.format.TableRules.{Surroundings, test, Fit, IsTableFault}
 use Rattle.mp4_tables.specs.format.FirstFault.{table_tests}

@@ -2,9 +2,9 @@ use Rattle.std.proofs.Common.{rules, refl, ◌≡◌, ◌<◌, ◌≤◌, length
 use Rattle.std.proofs.lemmas.Result.{err_from_is_err_and}
 use Rattle.mp4_present.proofs.TrafTaken.{at_place}
 use Rattle.mp4_content.proofs.TracksCompared.{takes_nothing}
-use Rattle.mp4_present.proofs.WalkPlaces.{got}
 use Rattle.mp4_content.proofs.FilesCompared.{below, first_part, movie_begun, all_over, files_first, files_next, files_stop, files_most, files_all, files_front, files_work, infos_all, heads_all, head_own}
 use Rattle.mp4_content.proofs.comparing.compare_all.Goals as goal
+use Rattle.mp4_boxes.proofs.Plain.{get_some}
 
 pub returns-in_err-head-clause-front : goal.returns-in_err-head-clause-front
 returns-in_err-head-clause-front g c told told_right tree other o p = takes_nothing (g.D.Differences.taken c.args.seen.now) _
@@ -62,8 +62,8 @@ returns-in_err-compare_tracks-clause-front g c told told_right tree other o p =
     let lt_right : track < length other_head.tracks.items = search rules in
     let is : first ≡ slice_index_or head.tracks.items track first = search rules in
     let is_right : second ≡ slice_index_or other_head.tracks.items track second = search rules in
-    let t = got tree.movie.tracks track (below track _ _ (heads_all file c.args.movies.now.left tree head o c.in_ok-head.ensures) lt) in
-    let u = got other.movie.tracks track (below track _ _ (heads_all right_file c.args.movies.now.right other other_head p c.in_ok-other_head.ensures) lt_right) in
+    let t = get_some tree.movie.tracks track (below track _ _ (heads_all file c.args.movies.now.left tree head o c.in_ok-head.ensures) lt) in
+    let u = get_some other.movie.tracks track (below track _ _ (heads_all right_file c.args.movies.now.right other other_head p c.in_ok-other_head.ensures) lt_right) in
     let e = head_own file c.args.movies.now.left tree head track t.0 first o c.in_ok-head.ensures t.1 (at_place head.tracks.items track first lt is) in
     let f = head_own right_file c.args.movies.now.right other other_head track u.0 second p c.in_ok-other_head.ensures u.1 (at_place other_head.tracks.items track second lt_right is_right) in
     files_stop c.args.leaving file tree right_file other before c.args.steps.now.passed track now c.loop-track.steps.passed h t.0 u.0 t.1 u.1 (g.D.Differences.taken c.compare_tracks.new.seen)
@@ -86,8 +86,8 @@ returns-in_err-compare_tracks-clause-unchanged g c told told_right tree other o 
     let lt_right : track < length other_head.tracks.items = search rules in
     let is : first ≡ slice_index_or head.tracks.items track first = search rules in
     let is_right : second ≡ slice_index_or other_head.tracks.items track second = search rules in
-    let t = got tree.movie.tracks track (below track _ _ (heads_all file c.args.movies.now.left tree head o c.in_ok-head.ensures) lt) in
-    let u = got other.movie.tracks track (below track _ _ (heads_all right_file c.args.movies.now.right other other_head p c.in_ok-other_head.ensures) lt_right) in
+    let t = get_some tree.movie.tracks track (below track _ _ (heads_all file c.args.movies.now.left tree head o c.in_ok-head.ensures) lt) in
+    let u = get_some other.movie.tracks track (below track _ _ (heads_all right_file c.args.movies.now.right other other_head p c.in_ok-other_head.ensures) lt_right) in
     let x = err_from_is_err_and c.from_residual-in_err-compare_tracks.result c.from_residual-in_err-compare_tracks.ensures.1 in
     rw (x.1, x.2) ((rw (i.honesty, i.file, i.honesty_right, i.file_right) at c.in_err-compare_tracks.ensures.unchanged) told told_right tree other o p t.0 u.0 t.1 u.1)
 
@@ -108,8 +108,8 @@ returns-in_err-compare_tracks-clause-work g c told told_right tree other o p =
     let lt_right : track < length other_head.tracks.items = search rules in
     let is : first ≡ slice_index_or head.tracks.items track first = search rules in
     let is_right : second ≡ slice_index_or other_head.tracks.items track second = search rules in
-    let t = got tree.movie.tracks track (below track _ _ (heads_all file c.args.movies.now.left tree head o c.in_ok-head.ensures) lt) in
-    let u = got other.movie.tracks track (below track _ _ (heads_all right_file c.args.movies.now.right other other_head p c.in_ok-other_head.ensures) lt_right) in
+    let t = get_some tree.movie.tracks track (below track _ _ (heads_all file c.args.movies.now.left tree head o c.in_ok-head.ensures) lt) in
+    let u = get_some other.movie.tracks track (below track _ _ (heads_all right_file c.args.movies.now.right other other_head p c.in_ok-other_head.ensures) lt_right) in
     files_most c.args.leaving file tree right_file other before c.args.steps.now.passed track now c.loop-track.steps.passed h t.0 u.0 t.1 u.1 c.compare_tracks.new.steps.passed
     ((rw (i.honesty, i.file, i.honesty_right, i.file_right) at c.in_err-compare_tracks.ensures.work) told told_right tree other o p t.0 u.0 t.1 u.1)
 
@@ -130,8 +130,8 @@ returns-then-not-branch-clause-front g c told told_right tree other o p =
     let lt_right : track < length other_head.tracks.items = search rules in
     let is : first ≡ slice_index_or head.tracks.items track first = search rules in
     let is_right : second ≡ slice_index_or other_head.tracks.items track second = search rules in
-    let t = got tree.movie.tracks track (below track _ _ (heads_all file c.args.movies.now.left tree head o c.in_ok-head.ensures) lt) in
-    let u = got other.movie.tracks track (below track _ _ (heads_all right_file c.args.movies.now.right other other_head p c.in_ok-other_head.ensures) lt_right) in
+    let t = get_some tree.movie.tracks track (below track _ _ (heads_all file c.args.movies.now.left tree head o c.in_ok-head.ensures) lt) in
+    let u = get_some other.movie.tracks track (below track _ _ (heads_all right_file c.args.movies.now.right other other_head p c.in_ok-other_head.ensures) lt_right) in
     let e = head_own file c.args.movies.now.left tree head track t.0 first o c.in_ok-head.ensures t.1 (at_place head.tracks.items track first lt is) in
     let f = head_own right_file c.args.movies.now.right other other_head track u.0 second p c.in_ok-other_head.ensures u.1 (at_place other_head.tracks.items track second lt_right is_right) in
     files_stop c.args.leaving file tree right_file other before c.args.steps.now.passed track now c.loop-track.steps.passed h t.0 u.0 t.1 u.1 (g.D.Differences.taken c.compare_tracks.new.seen)
@@ -154,8 +154,8 @@ returns-then-not-branch-clause-work g c told told_right tree other o p =
     let lt_right : track < length other_head.tracks.items = search rules in
     let is : first ≡ slice_index_or head.tracks.items track first = search rules in
     let is_right : second ≡ slice_index_or other_head.tracks.items track second = search rules in
-    let t = got tree.movie.tracks track (below track _ _ (heads_all file c.args.movies.now.left tree head o c.in_ok-head.ensures) lt) in
-    let u = got other.movie.tracks track (below track _ _ (heads_all right_file c.args.movies.now.right other other_head p c.in_ok-other_head.ensures) lt_right) in
+    let t = get_some tree.movie.tracks track (below track _ _ (heads_all file c.args.movies.now.left tree head o c.in_ok-head.ensures) lt) in
+    let u = get_some other.movie.tracks track (below track _ _ (heads_all right_file c.args.movies.now.right other other_head p c.in_ok-other_head.ensures) lt_right) in
     files_most c.args.leaving file tree right_file other before c.args.steps.now.passed track now c.loop-track.steps.passed h t.0 u.0 t.1 u.1 c.compare_tracks.new.steps.passed
     ((rw (i.honesty, i.file, i.honesty_right, i.file_right) at c.in_ok-compare_tracks.ensures.work) told told_right tree other o p t.0 u.0 t.1 u.1)
 
@@ -186,8 +186,8 @@ loop-track-preserved g c = record {
       let lt_right : track < length other_head.tracks.items = search rules in
       let is : first ≡ slice_index_or head.tracks.items track first = search rules in
       let is_right : second ≡ slice_index_or other_head.tracks.items track second = search rules in
-      let t = got tree.movie.tracks track (below track _ _ (heads_all file c.args.movies.now.left tree head o c.in_ok-head.ensures) lt) in
-      let u = got other.movie.tracks track (below track _ _ (heads_all right_file c.args.movies.now.right other other_head p c.in_ok-other_head.ensures) lt_right) in
+      let t = get_some tree.movie.tracks track (below track _ _ (heads_all file c.args.movies.now.left tree head o c.in_ok-head.ensures) lt) in
+      let u = get_some other.movie.tracks track (below track _ _ (heads_all right_file c.args.movies.now.right other other_head p c.in_ok-other_head.ensures) lt_right) in
       let e = head_own file c.args.movies.now.left tree head track t.0 first o c.in_ok-head.ensures t.1 (at_place head.tracks.items track first lt is) in
       let f = head_own right_file c.args.movies.now.right other other_head track u.0 second p c.in_ok-other_head.ensures u.1 (at_place other_head.tracks.items track second lt_right is_right) in
       files_next c.args.leaving file tree right_file other before c.args.steps.now.passed track now c.loop-track.steps.passed h t.0 u.0 t.1 u.1 (g.D.Differences.taken c.compare_tracks.new.seen) c.compare_tracks.new.steps.passed

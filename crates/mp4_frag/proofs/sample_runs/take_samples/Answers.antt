@@ -1,8 +1,9 @@
 use Rattle.std.proofs.Common.{rules, ◌≡◌, ◌+◌, ◌-◌, ◌≤◌, ◌||◌, [], ◌∷◌, add-zero, ◌∙◌, sym, ap, arith}
 use Rattle.std.specs.Prelude.{unwrap_or}
 use Rattle.mp4_boxes.specs.format.Layout.{too_large}
+use Rattle.mp4_boxes.proofs.Plain.{or_false}
 use Rattle.mp4_frag.specs.words.Passing.{rows_left, offsets_left, row_seen}
-use Rattle.mp4_frag.proofs.RunRows.{rows_none, offsets_none, within_step, end_step, lasting_step, filling_step, large_step, or_false, or_before, lasts_on, fits_left, left_behind, fills_on}
+use Rattle.mp4_frag.proofs.RunRows.{rows_none, offsets_none, within_step, end_step, lasting_step, filling_step, large_step, or_before, lasts_on, fits_left, left_behind, fills_on}
 use Rattle.mp4_frag.proofs.sample_runs.take_samples.Goals as goal
 
 pub returns-clause-within : goal.returns-clause-within

@@ -1,11 +1,11 @@
 use Rattle.std.proofs.Common.{arith, ap, codes, length, List, ℕ}
 use Rattle.std.proofs.lemmas.Result.{err_from_is_err_and}
 use Rattle.mp4_boxes.specs.words.View.{box_seen}
+use Rattle.mp4_boxes.proofs.Plain.{nat_le_no, nat_le_yes}
 use Rattle.mp4_tables.proofs.LeafRows.{lies_in, first_is_child}
 use Rattle.mp4_tables.proofs.TableReads.{dependencies_read, dependencies_none}
 use Rattle.std.proofs.Common.{[], ◌∷◌, true, false, drop, length-drop}
 use Rattle.mp4_tables.specs.format.TableRules.{dependency_room}
-use Rattle.mp4_tables.proofs.ChunkLists.{yes_le, no_le}
 use Rattle.mp4_tables.proofs.FirstTables.{none_tested}
 use Rattle.mp4_tables.proofs.FirstReads.{dependencies_stop, dependencies_judged}
 use Rattle.mp4_tables.proofs.checks.read_dependencies.Goals as goal
@@ -38,7 +38,7 @@ returns-then-length-n-clause-exact c =
     let q = ap (λ (xs : List ℕ). length xs) c.payload.ensures in
     let d = length-drop 4 (box_seen c.in-Some.leaf).payload in
     let l = c.in_ok-version_of.ensures.long in
-    let few = no_le c.args.n (length (drop 4 (box_seen c.in-Some.leaf).payload)) (omega arith) in
+    let few = nat_le_no c.args.n (length (drop 4 (box_seen c.in-Some.leaf).payload)) (omega arith) in
     rw c.fault.ensures (dependencies_judged c.args.limits (box_seen c.args.stbl) (box_seen c.in-Some.leaf) c.in-Some.ensures c.args.n false l c.requires.sizes few c.in_ok-version_of.ensures.exact)
 
 pub returns-clause-exact : goal.returns-clause-exact
@@ -46,5 +46,5 @@ returns-clause-exact c =
     let q = ap (λ (xs : List ℕ). length xs) c.payload.ensures in
     let d = length-drop 4 (box_seen c.in-Some.leaf).payload in
     let l = c.in_ok-version_of.ensures.long in
-    let enough = yes_le c.args.n (length (drop 4 (box_seen c.in-Some.leaf).payload)) (omega arith) in
+    let enough = nat_le_yes c.args.n (length (drop 4 (box_seen c.in-Some.leaf).payload)) (omega arith) in
     dependencies_judged c.args.limits (box_seen c.args.stbl) (box_seen c.in-Some.leaf) c.in-Some.ensures c.args.n true l c.requires.sizes enough c.in_ok-version_of.ensures.exact

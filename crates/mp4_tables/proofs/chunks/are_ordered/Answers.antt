@@ -1,13 +1,13 @@
 use Rattle.std.proofs.Common.{arith, rules, ◌+◌, inl, inr, drop, ap, sym, ◌∙◌, map}
 use Rattle.mp4_tables.specs.format.Tables.{ChunkRow}
 use Rattle.std.proofs.lemmas.List.{take-append-drop}
-use Rattle.mp4_boxes.proofs.Among.{true_false}
 use Rattle.mp4_tables.specs.words.Rows.{chunk_rows_at}
 use Rattle.mp4_tables.specs.format.TableRules.{is_chunk_order}
 use Rattle.mp4_tables.proofs.RowLists.{chunk_rows_all}
 use Rattle.mp4_tables.proofs.ChunkLists.{rising_all}
 use Rattle.mp4_tables.proofs.Fronts.{RisesBehind, rows_begin, rows_on, rows_stop}
 use Rattle.mp4_tables.proofs.chunks.are_ordered.Goals as goal
+use Rattle.mp4_boxes.proofs.Plain.{true_false}
 
 pub returns-then-rows-eq0-clause-same : goal.returns-then-rows-eq0-clause-same
 returns-then-rows-eq0-clause-same g c =

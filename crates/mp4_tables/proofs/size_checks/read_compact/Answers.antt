@@ -9,10 +9,10 @@ use Rattle.mp4_tables.proofs.SizeReads.{compact_read, compact_len_is, bits_are, 
 use Rattle.std.proofs.Common.{true, false}
 use Rattle.std.specs.Prelude.{nat_le, not}
 use Rattle.mp4_boxes.specs.format.Layout.{stz2, needed, has_bad_value}
+use Rattle.mp4_boxes.proofs.Plain.{nat_le_no, nat_le_yes}
 use Rattle.mp4_tables.specs.format.Tables.{sample_count}
 use Rattle.mp4_tables.specs.declared.places.SizeForm.{SizeForm}
 use Rattle.mp4_tables.specs.declared.places.SizeForm.TheVariants as forms
-use Rattle.mp4_tables.proofs.ChunkLists.{yes_le, no_le}
 use Rattle.mp4_tables.proofs.FirstReads.{found_compact, sizes_stop, sizes_judged}
 use Rattle.mp4_tables.proofs.size_checks.read_compact.Goals as goal
 
@@ -40,7 +40,7 @@ returns-then-payload-lt12-clause-exact c =
     let q = ap (λ (xs : List ℕ). length xs) c.payload-payload.ensures in
     let need = compact_needed (box_seen c.args.leaf).payload in
     rw c.fault.ensures (sizes_judged stz2 c.args.limits (box_seen c.args.stbl) (box_seen c.args.leaf) (found_compact (box_seen c.args.stbl) (box_seen c.args.leaf) c.requires.tables c.requires.first) refl refl refl refl false (nat_le (sample_count (box_seen c.args.leaf).payload) c.args.limits.room)
-    (has_bad_value stz2 (box_seen c.args.leaf).payload) (no_le (needed stz2 (box_seen c.args.leaf).payload) (length (box_seen c.args.leaf).payload) (omega arith)) refl refl c.in_ok-version_of.ensures.exact)
+    (has_bad_value stz2 (box_seen c.args.leaf).payload) (nat_le_no (needed stz2 (box_seen c.args.leaf).payload) (length (box_seen c.args.leaf).payload) (omega arith)) refl refl c.in_ok-version_of.ensures.exact)
 
 pub returns-then-payload-compact_len-clause-exact : goal.returns-then-payload-compact_len-clause-exact
 returns-then-payload-compact_len-clause-exact c =
@@ -49,7 +49,7 @@ returns-then-payload-compact_len-clause-exact c =
     let l = compact_len_is (box_seen c.args.leaf) c.payload-payload.result.now _ c.u32_at-count.result c.compact_len.result c.payload-payload.ensures refl c.u32_at-count.ensures c.compact_len.ensures in
     let need = compact_needed (box_seen c.args.leaf).payload in
     rw c.fault-then-payload-compact_len.ensures (sizes_judged stz2 c.args.limits (box_seen c.args.stbl) (box_seen c.args.leaf) (found_compact (box_seen c.args.stbl) (box_seen c.args.leaf) c.requires.tables c.requires.first) refl refl refl refl false
-    (nat_le (sample_count (box_seen c.args.leaf).payload) c.args.limits.room) (has_bad_value stz2 (box_seen c.args.leaf).payload) (no_le (needed stz2 (box_seen c.args.leaf).payload) (length (box_seen c.args.leaf).payload) (omega arith)) refl refl c.in_ok-version_of.ensures.exact)
+    (nat_le (sample_count (box_seen c.args.leaf).payload) c.args.limits.room) (has_bad_value stz2 (box_seen c.args.leaf).payload) (nat_le_no (needed stz2 (box_seen c.args.leaf).payload) (length (box_seen c.args.leaf).payload) (omega arith)) refl refl c.in_ok-version_of.ensures.exact)
 
 pub returns-then-count-limits-clause-exact : goal.returns-then-count-limits-clause-exact
 returns-then-count-limits-clause-exact c =
@@ -58,7 +58,7 @@ returns-then-count-limits-clause-exact c =
     let l = compact_len_is (box_seen c.args.leaf) c.payload-payload.result.now _ c.u32_at-count.result c.compact_len.result c.payload-payload.ensures refl c.u32_at-count.ensures c.compact_len.ensures in
     let need = compact_needed (box_seen c.args.leaf).payload in
     rw c.fault-then-count-limits.ensures (sizes_judged stz2 c.args.limits (box_seen c.args.stbl) (box_seen c.args.leaf) (found_compact (box_seen c.args.stbl) (box_seen c.args.leaf) c.requires.tables c.requires.first) refl refl refl refl true false (has_bad_value stz2 (box_seen c.args.leaf).payload)
-    (yes_le (needed stz2 (box_seen c.args.leaf).payload) (length (box_seen c.args.leaf).payload) (omega arith)) (no_le (sample_count (box_seen c.args.leaf).payload) c.args.limits.room (omega arith)) refl c.in_ok-version_of.ensures.exact)
+    (nat_le_yes (needed stz2 (box_seen c.args.leaf).payload) (length (box_seen c.args.leaf).payload) (omega arith)) (nat_le_no (sample_count (box_seen c.args.leaf).payload) c.args.limits.room (omega arith)) refl c.in_ok-version_of.ensures.exact)
 
 -- bits of which there is a form
 has_form : (form : SizeForm) (bits : ℕ) → IsFormOf form bits → is_size_bits bits ≡ true
@@ -77,7 +77,7 @@ returns-in-Some-clause-exact c =
     let bits : slice_index c.payload-payload.result.now 7 ≡ size_bits (box_seen c.args.leaf).payload = bits_are c.payload-payload.result.now (slice_index c.payload-payload.result.now 7) refl ∙ ap size_bits c.payload-payload.ensures in
     let good : has_bad_value stz2 (box_seen c.args.leaf).payload ≡ false = ap not (has_form c.in-Some.form (size_bits (box_seen c.args.leaf).payload) (subst (IsFormOf c.in-Some.form) bits c.in-Some.ensures)) in
     sizes_judged stz2 c.args.limits (box_seen c.args.stbl) (box_seen c.args.leaf) (found_compact (box_seen c.args.stbl) (box_seen c.args.leaf) c.requires.tables c.requires.first) refl refl refl refl true true false
-    (yes_le (needed stz2 (box_seen c.args.leaf).payload) (length (box_seen c.args.leaf).payload) (omega arith)) (yes_le (sample_count (box_seen c.args.leaf).payload) c.args.limits.room (omega arith)) good c.in_ok-version_of.ensures.exact
+    (nat_le_yes (needed stz2 (box_seen c.args.leaf).payload) (length (box_seen c.args.leaf).payload) (omega arith)) (nat_le_yes (sample_count (box_seen c.args.leaf).payload) c.args.limits.room (omega arith)) good c.in_ok-version_of.ensures.exact
 
 pub returns-in-None-clause-exact : goal.returns-in-None-clause-exact
 returns-in-None-clause-exact c =
@@ -88,4 +88,4 @@ returns-in-None-clause-exact c =
     let bits : slice_index c.payload-payload.result.now 7 ≡ size_bits (box_seen c.args.leaf).payload = bits_are c.payload-payload.result.now (slice_index c.payload-payload.result.now 7) refl ∙ ap size_bits c.payload-payload.ensures in
     let bad : has_bad_value stz2 (box_seen c.args.leaf).payload ≡ true = ap not (ap is_size_bits (sym bits) ∙ c.in-None.ensures) in
     rw c.fault-in-None.ensures (sizes_judged stz2 c.args.limits (box_seen c.args.stbl) (box_seen c.args.leaf) (found_compact (box_seen c.args.stbl) (box_seen c.args.leaf) c.requires.tables c.requires.first) refl refl refl refl true true true
-    (yes_le (needed stz2 (box_seen c.args.leaf).payload) (length (box_seen c.args.leaf).payload) (omega arith)) (yes_le (sample_count (box_seen c.args.leaf).payload) c.args.limits.room (omega arith)) bad c.in_ok-version_of.ensures.exact)
+    (nat_le_yes (needed stz2 (box_seen c.args.leaf).payload) (length (box_seen c.args.leaf).payload) (omega arith)) (nat_le_yes (sample_count (box_seen c.args.leaf).payload) c.args.limits.room (omega arith)) bad c.in_ok-version_of.ensures.exact)

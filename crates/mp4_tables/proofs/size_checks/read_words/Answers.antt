@@ -7,8 +7,8 @@ use Rattle.mp4_tables.proofs.SizeReads.{words_read, one_size_read, is_zero, is_s
 use Rattle.std.proofs.Common.{refl}
 use Rattle.std.specs.Prelude.{nat_le, ◌==◌}
 use Rattle.mp4_boxes.specs.format.Layout.{stsz, needed}
+use Rattle.mp4_boxes.proofs.Plain.{nat_le_no, nat_le_yes}
 use Rattle.mp4_tables.specs.format.Tables.{sample_count}
-use Rattle.mp4_tables.proofs.ChunkLists.{yes_le, no_le}
 use Rattle.mp4_tables.proofs.FirstReads.{found_words, sizes_stop, sizes_judged}
 use Rattle.mp4_tables.proofs.size_checks.read_words.Goals as goal
 
@@ -45,7 +45,7 @@ returns-then-payload-lt12-clause-exact c =
     let q = ap (λ (xs : List ℕ). length xs) c.payload-payload.ensures in
     let need = words_needed (box_seen c.args.leaf).payload (field (box_seen c.args.leaf).payload 4 4 == 0) refl in
     rw c.fault.ensures (sizes_judged stsz c.args.limits (box_seen c.args.stbl) (box_seen c.args.leaf) (found_words (box_seen c.args.stbl) (box_seen c.args.leaf) c.requires.tables c.requires.first) refl refl refl refl false (nat_le (sample_count (box_seen c.args.leaf).payload) c.args.limits.room)
-    false (no_le (needed stsz (box_seen c.args.leaf).payload) (length (box_seen c.args.leaf).payload) (omega arith)) refl refl c.in_ok-version_of.ensures.exact)
+    false (nat_le_no (needed stsz (box_seen c.args.leaf).payload) (length (box_seen c.args.leaf).payload) (omega arith)) refl refl c.in_ok-version_of.ensures.exact)
 
 pub returns-then-payload-count-clause-exact : goal.returns-then-payload-count-clause-exact
 returns-then-payload-count-clause-exact c =
@@ -55,7 +55,7 @@ returns-then-payload-count-clause-exact c =
     let z = is_zero _ _ size c.if-size-eq0.true in
     let need = words_needed (box_seen c.args.leaf).payload true z in
     rw c.fault-then-payload-count.ensures (sizes_judged stsz c.args.limits (box_seen c.args.stbl) (box_seen c.args.leaf) (found_words (box_seen c.args.stbl) (box_seen c.args.leaf) c.requires.tables c.requires.first) refl refl refl refl false
-    (nat_le (sample_count (box_seen c.args.leaf).payload) c.args.limits.room) false (no_le (needed stsz (box_seen c.args.leaf).payload) (length (box_seen c.args.leaf).payload) (omega arith)) refl refl c.in_ok-version_of.ensures.exact)
+    (nat_le (sample_count (box_seen c.args.leaf).payload) c.args.limits.room) false (nat_le_no (needed stsz (box_seen c.args.leaf).payload) (length (box_seen c.args.leaf).payload) (omega arith)) refl refl c.in_ok-version_of.ensures.exact)
 
 pub returns-then-count-limits-clause-exact : goal.returns-then-count-limits-clause-exact
 returns-then-count-limits-clause-exact c =
@@ -65,7 +65,7 @@ returns-then-count-limits-clause-exact c =
     let z = is_zero _ _ size c.if-size-eq0.true in
     let need = words_needed (box_seen c.args.leaf).payload true z in
     rw c.fault-then-count-limits.ensures (sizes_judged stsz c.args.limits (box_seen c.args.stbl) (box_seen c.args.leaf) (found_words (box_seen c.args.stbl) (box_seen c.args.leaf) c.requires.tables c.requires.first) refl refl refl refl true false false
-    (yes_le (needed stsz (box_seen c.args.leaf).payload) (length (box_seen c.args.leaf).payload) (omega arith)) (no_le (sample_count (box_seen c.args.leaf).payload) c.args.limits.room (omega arith)) refl c.in_ok-version_of.ensures.exact)
+    (nat_le_yes (needed stsz (box_seen c.args.leaf).payload) (length (box_seen c.args.leaf).payload) (omega arith)) (nat_le_no (sample_count (box_seen c.args.leaf).payload) c.args.limits.room (omega arith)) refl c.in_ok-version_of.ensures.exact)
 
 pub returns-then-size-eq0-clause-exact : goal.returns-then-size-eq0-clause-exact
 returns-then-size-eq0-clause-exact c =
@@ -75,7 +75,7 @@ returns-then-size-eq0-clause-exact c =
     let z = is_zero _ _ size c.if-size-eq0.true in
     let need = words_needed (box_seen c.args.leaf).payload true z in
     sizes_judged stsz c.args.limits (box_seen c.args.stbl) (box_seen c.args.leaf) (found_words (box_seen c.args.stbl) (box_seen c.args.leaf) c.requires.tables c.requires.first) refl refl refl refl true true false
-    (yes_le (needed stsz (box_seen c.args.leaf).payload) (length (box_seen c.args.leaf).payload) (omega arith)) (yes_le (sample_count (box_seen c.args.leaf).payload) c.args.limits.room (omega arith)) refl c.in_ok-version_of.ensures.exact
+    (nat_le_yes (needed stsz (box_seen c.args.leaf).payload) (length (box_seen c.args.leaf).payload) (omega arith)) (nat_le_yes (sample_count (box_seen c.args.leaf).payload) c.args.limits.room (omega arith)) refl c.in_ok-version_of.ensures.exact
 
 pub returns-then-count-limits-2-clause-exact : goal.returns-then-count-limits-2-clause-exact
 returns-then-count-limits-2-clause-exact c =
@@ -85,7 +85,7 @@ returns-then-count-limits-2-clause-exact c =
     let z = is_some _ _ size c.if-size-eq0.false in
     let need = words_needed (box_seen c.args.leaf).payload false z in
     rw c.fault-then-count-limits-2.ensures (sizes_judged stsz c.args.limits (box_seen c.args.stbl) (box_seen c.args.leaf) (found_words (box_seen c.args.stbl) (box_seen c.args.leaf) c.requires.tables c.requires.first) refl refl refl refl true false false
-    (yes_le (needed stsz (box_seen c.args.leaf).payload) (length (box_seen c.args.leaf).payload) (omega arith)) (no_le (sample_count (box_seen c.args.leaf).payload) c.args.limits.room (omega arith)) refl c.in_ok-version_of.ensures.exact)
+    (nat_le_yes (needed stsz (box_seen c.args.leaf).payload) (length (box_seen c.args.leaf).payload) (omega arith)) (nat_le_no (sample_count (box_seen c.args.leaf).payload) c.args.limits.room (omega arith)) refl c.in_ok-version_of.ensures.exact)
 
 pub returns-clause-exact : goal.returns-clause-exact
 returns-clause-exact c =
@@ -95,4 +95,4 @@ returns-clause-exact c =
     let z = is_some _ _ size c.if-size-eq0.false in
     let need = words_needed (box_seen c.args.leaf).payload false z in
     sizes_judged stsz c.args.limits (box_seen c.args.stbl) (box_seen c.args.leaf) (found_words (box_seen c.args.stbl) (box_seen c.args.leaf) c.requires.tables c.requires.first) refl refl refl refl true true false
-    (yes_le (needed stsz (box_seen c.args.leaf).payload) (length (box_seen c.args.leaf).payload) (omega arith)) (yes_le (sample_count (box_seen c.args.leaf).payload) c.args.limits.room (omega arith)) refl c.in_ok-version_of.ensures.exact
+    (nat_le_yes (needed stsz (box_seen c.args.leaf).payload) (length (box_seen c.args.leaf).payload) (omega arith)) (nat_le_yes (sample_count (box_seen c.args.leaf).payload) c.args.limits.room (omega arith)) refl c.in_ok-version_of.ensures.exact

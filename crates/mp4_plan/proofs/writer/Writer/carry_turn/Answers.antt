@@ -3,6 +3,7 @@ use Rattle.std.proofs.lemmas.List.{length-take-le}
 use Rattle.std.specs.Prelude.{codes, Some, slice_get}
 use Rattle.std.proofs.lemmas.Result.{err_from_is_err_and}
 use Rattle.mp4_boxes.specs.format.Written.{header_bytes}
+use Rattle.mp4_boxes.proofs.Plain.{get_every}
 use Rattle.mp4_tables.specs.words.Keys.{keys_seen}
 use Rattle.mp4_present.specs.words.Joined.{sample_bytes}
 use Rattle.mp4_present.specs.declared.track_info.TrackInfo.{TrackInfo}
@@ -22,7 +23,6 @@ use Rattle.mp4_present.specs.words.Carried.{waiting}
 use Rattle.mp4_tables.specs.declared.sample.SampleAt.{SampleAt}
 use Rattle.mp4_present.specs.words.Movies.{IsWalkOf, mark_of}
 use Rattle.mp4_present.proofs.Carrying.{BytesGoOn-nothing}
-use Rattle.mp4_present.proofs.WalkPlaces.{of_got}
 use Rattle.mp4_plan.proofs.ComeAt.{set_same}
 use Rattle.mp4_plan.proofs.WritingSteps.{none_carried}
 use Rattle.mp4_plan.proofs.writer.Writer.carry_turn.Goals as goal
@@ -200,7 +200,7 @@ pub returns-in_default-clause-work : goal.returns-in_default-clause-work
 returns-in_default-clause-work g c told tree o n h =
     let w = c.args.self.now in
     let m = c.args.movie.now in
-    none_carried w.content.of_tracks.items (g.S.Store.file c.args.store.now) m tree o w.walks.items c.args.noted.now.track c.args.noted.now.planned.count n h _ (of_got (IsWalkOf m) w.walks.items c.args.noted.now.track h.walk h.is_walk c.requires.may.writer.walks.each)
+    none_carried w.content.of_tracks.items (g.S.Store.file c.args.store.now) m tree o w.walks.items c.args.noted.now.track c.args.noted.now.planned.count n h _ (get_every (IsWalkOf m) w.walks.items c.args.noted.now.track h.walk h.is_walk c.requires.may.writer.walks.each)
     (c.requires.none c.in_default.is)
 
 pub returns-in_default-clause-many : goal.returns-in_default-clause-many

@@ -3,7 +3,6 @@ use Rattle.std.specs.Prelude.{slice_get}
 use Rattle.std.proofs.lemmas.Option.{slice_get_read}
 use Rattle.std.proofs.lemmas.Result.{err_from_is_err_and}
 use Rattle.mp4_present.specs.words.Movies.{IsWalkOf, mark_of}
-use Rattle.mp4_present.proofs.WalkPlaces.{of_got}
 use Rattle.mp4_content.specs.words.ComingLess.{ComesLess, track_reduction}
 use Rattle.mp4_content.specs.words.GoneOn.{ComesMarked}
 use Rattle.mp4_content.specs.declared.reduced.Reduction.{Reduction}
@@ -21,6 +20,7 @@ use Rattle.mp4_plan.proofs.PlannerSteps.{fed_none}
 use Rattle.mp4_content.proofs.WalksGone.{still_marked}
 use Rattle.mp4_plan.proofs.WritingSteps.{all_noted, none_noted}
 use Rattle.mp4_plan.proofs.writer.Writer.note_turn.Goals as goal
+use Rattle.mp4_boxes.proofs.Plain.{get_every}
 
 pub returns-then-not-first_goes-clause-noted : goal.returns-then-not-first_goes-clause-noted
 returns-then-not-first_goes-clause-noted g c told tree o t walk left is by comes marked shown =
@@ -40,7 +40,7 @@ returns-then-not-first_goes-clause-noted g c told tree o t walk left is by comes
       rows = no_rows c.piece.result.count c.args.self.now.notes.rows.items left count;
       walk = walk;
       walks = sym (set_same c.args.self.now.walks.items k walk is);
-      comes = (still_marked l file tree t m walk c.piece.result.count left (of_got (IsWalkOf m) c.args.self.now.walks.items k walk is c.requires.writer.walks.each) comes marked count).0;
+      comes = (still_marked l file tree t m walk c.piece.result.count left (get_every (IsWalkOf m) c.args.self.now.walks.items k walk is c.requires.writer.walks.each) comes marked count).0;
       none = λ _. marked;
       stretches = subst (λ k. Tells c.clear.new.self (take k left)) (sym count) c.clear.ensures.told;
     }
@@ -57,7 +57,7 @@ returns-then-not-first_goes-clause-work g c told tree o n h =
     let empty = c.piece.ensures.is ∙ ap (λ (p : Planning). planned_of p.gathered) c.new.ensures in
     let many_by = c.requires.writer.content.many in
     let by = there_is w.content.of_tracks.items k (omega (arith, lt, many_by)) in
-    none_noted w.content.of_tracks.items by.0 file m tree o w.walks.items k c.piece.result.count there.0 n h there.1 by.1 _ (of_got (IsWalkOf m) w.walks.items k there.0 there.1 c.requires.writer.walks.each) (ap (λ (p : Planned). p.count) empty)
+    none_noted w.content.of_tracks.items by.0 file m tree o w.walks.items k c.piece.result.count there.0 n h there.1 by.1 _ (get_every (IsWalkOf m) w.walks.items k there.0 there.1 c.requires.writer.walks.each) (ap (λ (p : Planned). p.count) empty)
 
 pub returns-in_err-planned-clause-unchanged : goal.returns-in_err-planned-clause-unchanged
 returns-in_err-planned-clause-unchanged g c told tree o t walk left is by comes marked shown few =

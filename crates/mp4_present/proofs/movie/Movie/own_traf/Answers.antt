@@ -2,8 +2,9 @@ use Rattle.std.proofs.Common.{arith, ◌≡◌, ◌<◌, ◌∙◌, length, sym,
 use Rattle.mp4_frag.specs.words.OwnTrafs.{OwnSeen}
 use Rattle.mp4_present.specs.words.OwnTrafs.{own_seen}
 use Rattle.mp4_present.specs.words.Movies.{MovieSeen}
-use Rattle.mp4_present.proofs.OwnPlaced.{got, got_mapped, length_mapped}
+use Rattle.mp4_present.proofs.OwnPlaced.{got}
 use Rattle.mp4_present.proofs.movie.Movie.own_traf.Goals as goal
+use Rattle.mp4_boxes.proofs.Plain.{get_map, length_mapped}
 
 pub returns-clause-traf : goal.returns-clause-traf
 returns-clause-traf c own at =
@@ -15,7 +16,7 @@ returns-clause-traf c own at =
     let inside = c.requires in
     let within : c.args.track < length items = omega (arith, tracks, each, owns, inside) in
     let there : slice_get items c.args.track ≡ Some found = got items c.args.track found within ∙ ap Some (sym c.index.ensures) in
-    let seen = got_mapped own_seen items c.args.track found there in
+    let seen = get_map own_seen items c.args.track found there in
     let same : own_seen found ≡ own = some_is (own_seen found) own (sym seen ∙ ap (λ (m : MovieSeen). slice_get m.own c.args.track) c.self.view_is ∙ at) in
     c.get.ensures.traf ∙ ap (λ (o : OwnSeen). slice_get o.trafs c.args.place) same
   where

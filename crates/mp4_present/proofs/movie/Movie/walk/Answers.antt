@@ -2,7 +2,7 @@ use Rattle.std.proofs.Common.{rules, ℕ, List, slice_index_or, length, ◌≡�
 use Rattle.mp4_tables.specs.words.Accepted.{IsPlace}
 use Rattle.mp4_tables.specs.words.TablesSeen.{TablesSeen}
 use Rattle.mp4_present.specs.words.Movies.{MovieSeen, IsMovie, own_room, tables_seen}
-use Rattle.mp4_present.proofs.WalkPlaces.{begun, got}
+use Rattle.mp4_present.proofs.WalkPlaces.{begun}
 use Rattle.mp4_present.proofs.WalkBegun.{stands_first, tables_in_hand, plain_first, due_is, left_is}
 use Rattle.mp4_present.proofs.TrafTaken.{at_place}
 use Rattle.mp4_present.proofs.WayThrough.{begins}
@@ -12,6 +12,7 @@ use Rattle.mp4_present.specs.declared.track_info.TrackInfo.{TrackInfo}
 use Rattle.mp4_present.specs.declared.walking.Mark.{Mark}
 use Rattle.mp4_present.specs.declared.walking.in_hand.InHand.TheVariants as hands
 use Rattle.mp4_present.proofs.movie.Movie.walk.Goals as goal
+use Rattle.mp4_boxes.proofs.Plain.{get_some}
 
 pub returns-clause-walk : goal.returns-clause-walk
 returns-clause-walk c =
@@ -25,7 +26,7 @@ returns-clause-coming c file tree t o at =
     let i = subst IsMovie c.self.view_is c.self.invariant in
     let each = i.each_tables in
     let inside = c.requires in
-    let found = got m.tables c.args.track (omega (arith, each, inside)) in
+    let found = get_some m.tables c.args.track (omega (arith, each, inside)) in
     let bytes : length c.in-Ok.bytes.items ≡ own_room m c.args.track = search rules in
     let states = i.each_state in
     let info_at = at_place m.tracks c.args.track c.index-info.result.now inside (subst (λ (xs : List TrackInfo). c.index-info.result.now ≡ slice_index_or xs c.args.track c.index-info.result.now) (ap (λ (n : MovieSeen). n.tracks) c.self.view_is) c.index-info.ensures) in
@@ -43,7 +44,7 @@ returns-clause-may c file tree t o at =
     let i = subst IsMovie c.self.view_is c.self.invariant in
     let each = i.each_tables in
     let inside = c.requires in
-    let found = got m.tables c.args.track (omega (arith, each, inside)) in
+    let found = get_some m.tables c.args.track (omega (arith, each, inside)) in
     let bytes : length c.in-Ok.bytes.items ≡ own_room m c.args.track = search rules in
     let states = i.each_state in
     let info_at = at_place m.tracks c.args.track c.index-info.result.now inside (subst (λ (xs : List TrackInfo). c.index-info.result.now ≡ slice_index_or xs c.args.track c.index-info.result.now) (ap (λ (n : MovieSeen). n.tracks) c.self.view_is) c.index-info.ensures) in

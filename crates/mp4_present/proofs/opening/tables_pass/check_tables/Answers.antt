@@ -1,7 +1,8 @@
 use Rattle.std.proofs.Common.{◌∙◌, refl, ℕ, ◌≤◌, [], length, drop, subst, rules}
 use Rattle.mp4_boxes.specs.words.View.{box_seen}
+use Rattle.mp4_boxes.proofs.Plain.{suc_is}
 use Rattle.mp4_present.specs.words.Plain.{HasTablesIn, HaveTablesIn}
-use Rattle.mp4_present.proofs.PlainLists.{from_next, next_of}
+use Rattle.mp4_present.proofs.PlainLists.{from_next}
 use Rattle.std.proofs.lemmas.Result.{err_from_is_err_and}
 use Rattle.mp4_present.proofs.TracksPassed.{passed_more, passed_all, read_of}
 use Rattle.mp4_present.proofs.TablesFirst.{tables_first, tables_next, tables_refused, tables_fine}
@@ -29,7 +30,7 @@ pub loop-track-preserved : goal.loop-track-preserved
 loop-track-preserved g c =
     let i = c.loop-track.invariant in (
       c.in_ok-push.ensures.one_more _ i.0,
-      subst (λ (k : ℕ). HaveTablesIn (box_seen c.args.moov) (drop k c.deref-track-items.result.now)) (next_of c.loop-track.track-index) (from_next (HasTablesIn (box_seen c.args.moov)) c.deref-track-items.result.now c.loop-track.track-index i.1),
+      subst (λ (k : ℕ). HaveTablesIn (box_seen c.args.moov) (drop k c.deref-track-items.result.now)) (suc_is c.loop-track.track-index) (from_next (HasTablesIn (box_seen c.args.moov)) c.deref-track-items.result.now c.loop-track.track-index i.1),
       passed_more _ _ _ _ _ _ i.2 c.track-item.result c.push.new.self c.loop-track-test.true c.track-item.is (c.in_ok-push.ensures.says c.args.head.now.trexes.items (rw c.deref.ensures.value at c.in_ok-trexes.ensures)),
       next_left _ _ _ _ _ c.track-item.result c.loop-track-test.true c.track-item.is c.in_ok-push.ensures.work.said i.3,
       next_taken _ _ _ _ _ c.track-item.result c.loop-track-test.true c.track-item.is c.in_ok-push.ensures.least i.4,

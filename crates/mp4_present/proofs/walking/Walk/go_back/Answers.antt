@@ -11,9 +11,9 @@ use Rattle.mp4_present.specs.declared.walking.Mark.{Mark}
 use Rattle.mp4_present.specs.declared.walking.Walk.{Walk}
 use Rattle.mp4_present.proofs.GoneBack.{at_hand, comes_back, may_back, walk_back, marked_before, holds_marked, count_holds, few_passed, comes_again, takes_again, back_is, same_box}
 use Rattle.mp4_present.proofs.WalkCopied.{hand_one}
-use Rattle.mp4_present.proofs.WalkPlaces.{got}
 use Rattle.mp4_present.proofs.WayThrough.{takes_then}
 use Rattle.mp4_present.proofs.walking.Walk.go_back.Goals as goal
+use Rattle.mp4_boxes.proofs.Plain.{get_some}
 
 -- ---- what was in hand is at hand
 
@@ -71,7 +71,7 @@ returns-then-before-mark-clause-back g c told tree t begun samples o h k e =
     let b = marked_before w d some in
     let hm = holds_marked file m tree t begun w (length samples) h c.requires d k.0 k.1 k.3.0 b in
     let tk = c.in_ok-read_again.ensures.taken told tree t hm.0 k.1 hm.1 begun o hm.3 in
-    let found = got m.tracks w.track c.requires.goes_on.track in
+    let found = get_some m.tracks w.track c.requires.goes_on.track in
     let al = c.in_ok-read_again.ensures.again.traf.all found.0 found.1 in
     let first = c.read_again.new.self in
     let own = ap left_in_hand (hand_one m first al.0 tk.takes.0 al.1 tk.takes.1.1) ∙ tk.takes.1.2 in
@@ -106,7 +106,7 @@ returns-in_err-pass-clause-back g c told tree t begun samples o h k =
     let b = marked_before w d some in
     let hm = holds_marked file m tree t begun w (length samples) h c.requires d k.0 k.1 k.3.0 b in
     let tk = c.in_ok-read_again.ensures.taken told tree t hm.0 k.1 hm.1 begun o hm.3 in
-    let found = got m.tracks w.track c.requires.goes_on.track in
+    let found = get_some m.tracks w.track c.requires.goes_on.track in
     let al = c.in_ok-read_again.ensures.again.traf.all found.0 found.1 in
     let first = c.read_again.new.self in
     let own = ap left_in_hand (hand_one m first al.0 tk.takes.0 al.1 tk.takes.1.1) ∙ tk.takes.1.2 in
@@ -143,7 +143,7 @@ returns-clause-back g c told tree t begun samples o h k =
     let b = marked_before w d some in
     let hm = holds_marked file m tree t begun w (length samples) h c.requires d k.0 k.1 k.3.0 b in
     let tk = c.in_ok-read_again.ensures.taken told tree t hm.0 k.1 hm.1 begun o hm.3 in
-    let found = got m.tracks w.track c.requires.goes_on.track in
+    let found = get_some m.tracks w.track c.requires.goes_on.track in
     let al = c.in_ok-read_again.ensures.again.traf.all found.0 found.1 in
     let first = c.read_again.new.self in
     let own = ap left_in_hand (hand_one m first al.0 tk.takes.0 al.1 tk.takes.1.1) ∙ tk.takes.1.2 in

@@ -11,9 +11,10 @@ use Rattle.mp4_present.specs.declared.walking.in_hand.InHand.{InHand}
 use Rattle.mp4_present.proofs.TrafInHand.{comes_next, ends_empty, fits, found_next, found_none, holds_next, later_is, no_samples, range_unchanged, there}
 use Rattle.mp4_present.proofs.TrafTaken.{gives_some}
 use Rattle.mp4_present.proofs.WalkCopied.{hand_one}
-use Rattle.mp4_present.proofs.WalkPlaces.{got, walk_past}
+use Rattle.mp4_present.proofs.WalkPlaces.{walk_past}
 use Rattle.mp4_present.proofs.WayThrough.{takes_next, takes_most}
 use Rattle.mp4_present.proofs.walking.Walk.load.Goals as goal
+use Rattle.mp4_boxes.proofs.Plain.{get_some}
 
 pub returns-in_default-clause-loaded : goal.returns-in_default-clause-loaded
 returns-in_default-clause-loaded g c told tree t earlier later o h = λ _.
@@ -118,7 +119,7 @@ returns-then-branch-clause-answer g c =
     let now = c.take.new.self in
     let m = c.args.movie.now in
     let next = e.keeps.next in
-    let found = got m.tracks now.track (subst (λ (k : ℕ). k < length m.tracks) (sym e.keeps.track) c.requires.goes_on.track) in
+    let found = get_some m.tracks now.track (subst (λ (k : ℕ). k < length m.tracks) (sym e.keeps.track) c.requires.goes_on.track) in
     let at = ap (slice_get m.tracks) (sym e.keeps.track) ∙ found.1 in
     let al = e.hand.all found.0 at in
     let s = e.some c.if-branch.true in
