@@ -1,6 +1,6 @@
 -- A walk over the boxes of a container under a rule of the table, and over counted boxes.
 use Rattle.std.proofs.Common.{◌≡◌, ℕ, ◌+◌, ◌<◌, ◌≤◌, Bool, true, false, List, [], ◌∷◌, ◌++◌, length, drop, Ok, Err, IsTrue, refl, sym, ap, subst, ◌∙◌, arith, ltb, if◌then◌else◌}
-use Rattle.std.specs.Prelude.{not, ◌&&◌, ◌||◌, nat_lt}
+use Rattle.std.specs.Prelude.{not, ◌&&◌, nat_lt}
 use Rattle.std.specs.List.{AllByRecursion, list_any}
 use Rattle.std.proofs.lemmas.Bool.{ltb-true, ltb-false}
 use Rattle.mp4_boxes.specs.format.Bytes.{field}

@@ -1,6 +1,6 @@
 -- The letters `iloc` stand somewhere in the bytes exactly if a search for them finds a place.
 use Rattle.std.proofs.Common.{◌≡◌, ℕ, zero, suc, ◌+◌, ◌<◌, Bool, true, false, List, [], ◌∷◌, length, Option, Some, None, refl, sym, ap, ◌∙◌, arith, eqb-true}
-use Rattle.std.specs.Prelude.{codes, slice_index, nat_eq, is_some, ◌||◌}
+use Rattle.std.specs.Prelude.{codes, slice_index, nat_eq, is_some}
 use Rattle.std.specs.List.{starts_with}
 use Rattle.memchr.specs.Find.{OccursAt, FindsNeedle}
 use Rattle.mp4_head.specs.format.Head.{names_item_location}

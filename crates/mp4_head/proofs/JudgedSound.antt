@@ -1,6 +1,6 @@
 -- Where no fault of a `moov` is named, the `moov` has a tree, and it is sound.
 use Rattle.std.proofs.Common.{◌≡◌, ℕ, zero, suc, Bool, true, false, cond, List, [], ◌∷◌, ◌++◌, map, Option, Some, None, Result, Ok, Err, inl, inr, refl, sym, ap, subst, ◌∙◌, append_assoc}
-use Rattle.std.specs.Prelude.{codes, bytes_eq, nat_eq, slice_index, filter, ◌||◌}
+use Rattle.std.specs.Prelude.{codes, bytes_eq, nat_eq, slice_index, filter}
 use Rattle.std.specs.List.{AllByRecursion, list_any}
 use Rattle.std.proofs.lemmas.List.{append-nil, map-append}
 use Rattle.mp4_boxes.specs.format.Box.{Box, box_container, counted_container, Tiles}

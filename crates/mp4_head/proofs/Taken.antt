@@ -1,6 +1,6 @@
 -- Numbers that were met, in a set and in a list, and of which box one of them is.
 use Rattle.std.proofs.Common.{◌≡◌, ℕ, Bool, true, false, cond, List, [], ◌∷◌, ◌++◌, refl, sym, ap, ◌∙◌, eqb-true, eq-eqb}
-use Rattle.std.specs.Prelude.{◌||◌, ◌&&◌, not, nat_eq, map, bytes_eq}
+use Rattle.std.specs.Prelude.{◌||◌, not, nat_eq, map, bytes_eq}
 use Rattle.std.specs.List.{list_any, AllZip}
 use Rattle.std.specs.Cmp.{unsigned_ties}
 use Rattle.std.specs.Ordering.{nat_cmp}

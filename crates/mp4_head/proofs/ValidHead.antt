@@ -1,9 +1,9 @@
 -- What the boxes of a `moov` of bytes say is a well-formed head.
 use Rattle.std.proofs.Common.{◌≡◌, ℕ, ◌+◌, ◌<◌, ◌^◌, Bool, true, false, eqb, List, [], ◌∷◌, drop, Option, Some, None, refl, sym, ◌∙◌, arith}
-use Rattle.std.specs.Prelude.{codes, map, filter, not, FitsSigned, slice_index, slice_range, IfSome, IsTrue}
+use Rattle.std.specs.Prelude.{codes, map, filter, FitsSigned, slice_index, slice_range, IfSome, IsTrue}
 use Rattle.std.specs.Int.{w32}
 use Rattle.std.specs.List.{AllByRecursion}
-use Rattle.std.proofs.lemmas.Bool.{eqb-true, eqb-false, leb-true}
+use Rattle.std.proofs.lemmas.Bool.{eqb-true, leb-true}
 use Rattle.byteorder.specs.Endian.{twos_complement}
 use Rattle.mp4_boxes.specs.format.Bytes.{AreBytes, field, width_of}
 use Rattle.mp4_boxes.specs.format.Box.{Box}

@@ -39,6 +39,7 @@ pub mod FragmentPass
 pub mod Opened
 pub mod OpeningSteps
 pub mod OpeningBytes
+mod FileChecked
 pub mod TracksBehind
 pub mod PartsBehind
 pub mod MoofBehind

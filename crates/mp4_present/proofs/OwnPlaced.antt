@@ -1,5 +1,5 @@
 -- The `traf`s that have samples of a track: where they stand among its `moof`s, and in the file.
-use Rattle.std.proofs.Common.{◌≡◌, ◌⊎◌, ℕ, zero, suc, ◌+◌, ◌-◌, ◌<◌, ◌≤◌, max, true, false, Bool, cond, List, [], ◌∷◌, ◌++◌, Option, Some, None, length, take, drop, map, inl, inr, ⊎_elim, refl, sym, ap, subst, ◌∙◌, arith, slice_get, get_or, slice_index_or}
+use Rattle.std.proofs.Common.{◌≡◌, ◌⊎◌, ℕ, zero, suc, ◌+◌, ◌-◌, ◌<◌, ◌≤◌, max, true, false, Bool, cond, List, [], ◌∷◌, ◌++◌, Some, None, length, take, drop, map, inl, inr, ⊎_elim, refl, sym, ap, subst, ◌∙◌, arith, slice_get, get_or, slice_index_or}
 use Rattle.std.specs.Prelude.{Contains, codes, filter, flat_map}
 use Rattle.std.specs.List.{AllByRecursion, AllZip}
 use Rattle.std.proofs.lemmas.Grind.{flat_map-append}

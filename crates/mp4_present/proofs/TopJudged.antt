@@ -1,7 +1,6 @@
 -- The first fault of the file's own boxes, found header by header.
 use Rattle.std.proofs.Common.{◌≡◌, ℕ, suc, ◌+◌, ◌-◌, ◌<◌, ◌≤◌, Bool, true, false, ltb, List, [], ◌∷◌, ◌++◌, length, take, drop, Option, Some, None, Result, Ok, Err, IsTrue, refl, ap, ◌∙◌, arith, length-drop, length-append}
 use Rattle.std.specs.Prelude.{codes, bytes_eq, nat_lt}
-use Rattle.std.proofs.lemmas.Bool.{ltb-true, ltb-false}
 use Rattle.std.proofs.lemmas.List.{drop-drop}
 use Rattle.mp4_boxes.specs.format.Box.{Box, Header, LieEndToEnd, box_of, sizes, file_container}
 use Rattle.mp4_boxes.specs.format.BoxFaults.{header_there}

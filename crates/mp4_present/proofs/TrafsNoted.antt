@@ -1,8 +1,7 @@
 -- The `traf`s that have samples of each track, noted one `moof` after the other.
-use Rattle.std.proofs.Common.{◌≡◌, ℕ, ◌==◌, max, true, false, Bool, List, [], ◌∷◌, ◌++◌, length, map, refl, sym, ap, subst, ◌∙◌, arith, Some, None}
-use Rattle.std.specs.Prelude.{pos, codes, nat_eq, not, ◌&&◌, ◌||◌}
+use Rattle.std.proofs.Common.{◌≡◌, ℕ, ◌==◌, max, true, false, List, [], ◌∷◌, ◌++◌, length, map, refl, sym, ap, subst, ◌∙◌, Some, None}
+use Rattle.std.specs.Prelude.{pos, codes, nat_eq}
 use Rattle.std.specs.List.{AllByRecursion, AllZip, list_any}
-use Rattle.std.proofs.lemmas.Bool.Decides.{nat_tests}
 use Rattle.std.proofs.lemmas.List.{append-nil, map-append}
 use Rattle.mp4_boxes.specs.format.Box.{Box, file_container}
 use Rattle.mp4_boxes.specs.format.Children.{Holds, of_kind}

@@ -1,7 +1,7 @@
 -- Walks over the samples of a track: how they begin, and what they have in hand.
-use Rattle.std.proofs.Common.{◌≡◌, ℕ, ◌<◌, zero, suc, List, [], ◌∷◌, length, Option, None, Some, refl, sym, ap, subst, ◌∙◌, arith}
+use Rattle.std.proofs.Common.{◌≡◌, ℕ, ◌<◌, List, length, Option, None, Some, refl, sym, ap, subst, ◌∙◌, arith}
 use Rattle.std.proofs.Math.Nat.{le_refl}
-use Rattle.std.specs.List.{AllByRecursion, slice_get}
+use Rattle.std.specs.List.{slice_get}
 use Rattle.mp4_tables.specs.words.TablesSeen.{TablesSeen}
 use Rattle.mp4_tables.specs.words.TablesSeen.{CursorSeen as TableView}
 use Rattle.mp4_frag.specs.words.FragmentsSeen.{CursorSeen as TrafView}

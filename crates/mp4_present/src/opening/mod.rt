@@ -4,16 +4,14 @@ ghost use Rattle.mp4_boxes.specs.declared.refusal.Refusal.TheVariants as refusal
 ghost use Rattle.std.specs.List.{AllByRecursion};
 ghost use Rattle.mp4_present.specs.words.Movies.{Fills, IsWhole};
 ghost use Rattle.mp4_head.specs.declared.heads.TrackHead.{TrackHead};
-ghost use Rattle.mp4_present.specs.format.Presentation.{Presentation};
-ghost use Rattle.mp4_present.specs.format.Denotes.{Denotes, FileTree};
-ghost use Rattle.mp4_present.specs.words.OpenedMovie.{IsInfoBy, IsOpenedAs, OpensAs, kept_of};
-ghost use Rattle.mp4_present.specs.words.Opening.{HasOutline, IsOpened, RefusesDenoted, RefusesOpen};
+ghost use Rattle.mp4_present.specs.format.Denotes.{FileTree};
+ghost use Rattle.mp4_present.specs.words.OpenedMovie.{IsInfoBy, IsOpenedAs, kept_of};
+ghost use Rattle.mp4_present.specs.words.Opening.{HasOutline, RefusesOpen};
 ghost use Rattle.mp4_present.specs.words.Refusing.{RefusesSearch};
 ghost use Rattle.mp4_present.specs.words.FileJudged.{NamesBehindTop, NamesJudged};
 ghost use Rattle.mp4_present.specs.words.OpeningWork.{ChecksFile, HaveInfos};
-ghost use Rattle.mp4_present.specs.words.StoresRead.{OnlyReads, WhereHonest, WhereRead, Refused, RefusedOf};
-ghost use Rattle.mp4_present.specs.words.ToOpen.{IsPayloadIn, HasTables, HasTracks, LooksToOpen, TakesToOpen, WorksToOpen};
-ghost use Rattle.mp4_present.specs.format.ByBytes.{OpensWithin};
+ghost use Rattle.mp4_present.specs.words.StoresRead.{OnlyReads, WhereHonest, WhereRead, RefusedOf};
+ghost use Rattle.mp4_present.specs.words.ToOpen.{IsPayloadIn, HasTables, HasTracks, TakesToOpen};
 
 pub mod fragments;
 pub mod limit_checks;
@@ -133,21 +131,13 @@ pub fn open_movie<S: Store, L: Ledger, M: Ledger>(
     steps: &mut Steps<L, M>,
 ) -> Result<Movie, Refusal>
     ensures store { OnlyReads S.Store store.old store.new result }
-    ensures opened { WhereRead S.Store store.old result IsOpened }
     ensures movie { WhereRead S.Store store.old result
         (λ file m. (t : FileTree) × IsOpenedAs file m t) }
-    ensures denotes { WhereRead S.Store store.old result OpensAs }
     ensures ids { WhereRead S.Store store.old result (λ file m. HasTracks file m.tracks) }
-    ensures only { (p : Presentation) → WhereHonest S.Store store.old (λ file. Denotes file p
-        → Refused S.Store store.old store.new result RefusesDenoted) }
-    ensures work { WhereHonest S.Store store.old (λ file. WorksToOpen file result steps.old.passed
-        steps.new.passed) }
-    ensures within { WhereHonest S.Store store.old (λ file.
-        OpensWithin file steps.old.passed steps.new.passed) }
+    ensures work { WhereHonest S.Store store.old (λ file.
+        ChecksFile file result steps.old.passed steps.new.passed steps.old.looks steps.new.looks) }
     ensures least { OnOk result (WhereHonest S.Store store.old (λ file.
         TakesToOpen file steps.old.passed steps.new.passed)) }
-    ensures looks { WhereHonest S.Store store.old (λ file. LooksToOpen file result steps.old.looks
-        steps.new.looks) }
     ensures refusal { RefusedOf S.Store store.old store.new result RefusesOpen }
     ensures exact { WhereHonest S.Store store.old (λ file. NamesJudged file result) }
 {

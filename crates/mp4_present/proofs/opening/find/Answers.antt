@@ -8,7 +8,8 @@ use Rattle.mp4_present.proofs.Opened.{IsRead, its_movie, tracks_read}
 use Rattle.mp4_present.proofs.FaultGaps.{not_searched}
 use Rattle.mp4_present.proofs.Refusals.{not_sound}
 use Rattle.mp4_present.proofs.LooksCounted.{looks_counted, looks_open, none_looks}
-use Rattle.mp4_present.proofs.OpeningBytes.{tables_open, moofs_open, none_open}
+use Rattle.mp4_present.proofs.FileChecked.{none_checked}
+use Rattle.mp4_present.proofs.OpeningBytes.{tables_open, moofs_open}
 use Rattle.mp4_present.proofs.OpeningSteps.{all_taken, tables_counted, moofs_counted}
 use Rattle.mp4_present.proofs.PlainLists.{found_tables}
 use Rattle.mp4_present.proofs.TablesWork.{if_no_fault, handed_on, none_taken}
@@ -62,12 +63,7 @@ returns-clause-ids g c =
     its_movie _ _ c.args.outline.now c.args.moov.now _ c.in_ok-head.head _ r c.in_ok-head.ensures.head c.in_ok-tracks.ensures.infos.ids
 
 pub returns-in_err-head-clause-work : goal.returns-in_err-head-clause-work
-returns-in_err-head-clause-work g c =
-    λ told. record {
-      work = λ tree is. if_no_fault _ _ (none_taken _ _);
-      within = none_open _ _;
-      looks = record { said = λ tree is. if_no_fault _ _ (none_taken _ _); within = none_looks _ _ };
-    }
+returns-in_err-head-clause-work g c = λ told. none_checked _ _ _ _
 
 pub returns-in_err-plain-clause-work : goal.returns-in_err-plain-clause-work
 returns-in_err-plain-clause-work g c =

@@ -1,11 +1,6 @@
 use Rattle.std.proofs.Common.{◌≡◌, ℕ, length, subst, sym, ap, ◌∙◌}
 use Rattle.std.proofs.lemmas.Result.{err_from_is_err_and}
-use Rattle.mp4_present.proofs.DenotedOpens.{denoted_opens, read_refuses}
-use Rattle.mp4_present.proofs.LooksCounted.{none_looks}
-use Rattle.mp4_present.proofs.OpeningBytes.{none_open}
-use Rattle.mp4_present.proofs.OpenedDenotes.{opened_denotes}
-use Rattle.mp4_present.proofs.OpeningSteps.{opened_of}
-use Rattle.mp4_present.proofs.TablesWork.{if_no_fault, none_taken}
+use Rattle.mp4_present.proofs.FileChecked.{none_checked, refused_as, found_as}
 use Rattle.mp4_present.specs.words.OpenedMovie.{IsOpenedAs, kept_of}
 use Rattle.mp4_present.proofs.FileJudged.{refused_first, unread_first, outline_judged, read_judged}
 use Rattle.mp4_present.proofs.opening.open_movie.Goals as goal
@@ -20,106 +15,24 @@ returns-clause-movie g c = λ told.
     let len : length file ≡ c.len-file_len.result = ap length (sym (moov.file ∙ outline.store.file)) ∙ sym c.len-file_len.ensures in
     (r.0, subst (λ (n : ℕ). IsOpenedAs file (kept_of c.in_ok-outline.outline c.in_ok-moov.moov.items n found) r.0) len r.1)
 
-pub returns-in_err-outline-clause-only : goal.returns-in_err-outline-clause-only
-returns-in_err-outline-clause-only g c = λ p told d.
-    let q = err_from_is_err_and c.from_residual.result c.from_residual.ensures.1 in
-    let honest = g.S.Store.is_honest c.args.store.now in
-    let file = g.S.Store.file c.args.store.now in
-    rw (q.1, q.2) (denoted_opens honest file p _ _ _ told d (refused_first honest file _ _ _ c.in_err-outline.ensures.refusal (λ on. outline_judged file c.in_err-outline.field-0.0 (c.in_err-outline.ensures.exact on).names)))
-
-pub returns-in_err-moov-clause-only : goal.returns-in_err-moov-clause-only
-returns-in_err-moov-clause-only g c = λ p told d.
-    let q = err_from_is_err_and c.from_residual-in_err-moov.result c.from_residual-in_err-moov.ensures.1 in
-    rw (q.1, q.2) (read_refuses _ _ _ (rw c.in_ok-outline.ensures.store.reads at c.in_err-moov.ensures.refusal))
-
-pub returns-in_err-plain-clause-only : goal.returns-in_err-plain-clause-only
-returns-in_err-plain-clause-only g c = λ p told d.
-    let q = err_from_is_err_and c.from_residual-in_err-plain.result c.from_residual-in_err-plain.ensures.1 in
-    let outline = c.in_ok-outline.ensures in
-    let moov = c.in_ok-moov.ensures in
-    let honest = g.S.Store.is_honest c.args.store.now in
-    let file = g.S.Store.file c.args.store.now in
-    let named = rw (moov.honesty, outline.store.honesty, moov.file, outline.store.file) at c.in_err-plain.ensures.exact in
-    let refused = rw (moov.honesty, outline.store.honesty, moov.reads, outline.store.reads) at c.in_err-plain.ensures.refusal in
-    rw (q.1, q.2) (denoted_opens honest file p _ _ _ told d (refused_first honest file _ _ _ refused (λ on. let top = (outline.exact on).names in (named on top.0 top.1).names)))
-
-pub returns-clause-denotes : goal.returns-clause-denotes
-returns-clause-denotes g c = λ told.
-    let outline = c.in_ok-outline.ensures in
-    let moov = c.in_ok-moov.ensures in
-    let file = g.S.Store.file c.args.store.now in
-    let found = c.in_ok-plain.field-0 in
-    let r = (rw (moov.honesty, outline.store.honesty, moov.file, outline.store.file, c.as_slice.ensures.value) at c.in_ok-plain.ensures.movie) told in
-    let len : length file ≡ c.len-file_len.result = ap length (sym (moov.file ∙ outline.store.file)) ∙ sym c.len-file_len.ensures in
-    opened_denotes file _ r.0 (subst (λ (n : ℕ). IsOpenedAs file (kept_of c.in_ok-outline.outline c.in_ok-moov.moov.items n found) r.0) len r.1)
-
-pub returns-clause-opened : goal.returns-clause-opened
-returns-clause-opened g c = λ told.
-    let outline = c.in_ok-outline.ensures in
-    let moov = c.in_ok-moov.ensures in
-    let file = g.S.Store.file c.args.store.now in
-    let found = c.in_ok-plain.field-0 in
-    let r = (rw (moov.honesty, outline.store.honesty, moov.file, outline.store.file, c.as_slice.ensures.value) at c.in_ok-plain.ensures.movie) told in
-    let len : length file ≡ c.len-file_len.result = ap length (sym (moov.file ∙ outline.store.file)) ∙ sym c.len-file_len.ensures in
-    opened_of file _ r.0 (subst (λ (n : ℕ). IsOpenedAs file (kept_of c.in_ok-outline.outline c.in_ok-moov.moov.items n found) r.0) len r.1)
-
 pub returns-in_err-outline-clause-work : goal.returns-in_err-outline-clause-work
-returns-in_err-outline-clause-work g c = λ told tree is. if_no_fault _ _ (none_taken _ _)
+returns-in_err-outline-clause-work g c = λ told. none_checked _ _ _ _
 
 pub returns-in_err-moov-clause-work : goal.returns-in_err-moov-clause-work
-returns-in_err-moov-clause-work g c = λ told tree is. if_no_fault _ _ (none_taken _ _)
+returns-in_err-moov-clause-work g c = λ told. none_checked _ _ _ _
 
 pub returns-in_err-plain-clause-work : goal.returns-in_err-plain-clause-work
 returns-in_err-plain-clause-work g c =
     let q = err_from_is_err_and c.from_residual-in_err-plain.result c.from_residual-in_err-plain.ensures.1 in
     let outline = c.in_ok-outline.ensures in
     let moov = c.in_ok-moov.ensures in
-    rw (q.1, q.2) (λ told. ((rw (moov.honesty, outline.store.honesty, moov.file, outline.store.file) at c.in_err-plain.ensures.work) told).work)
+    rw (q.1, q.2) (λ told. refused_as _ _ _ _ _ _ ((rw (moov.honesty, outline.store.honesty, moov.file, outline.store.file) at c.in_err-plain.ensures.work) told))
 
 pub returns-clause-work : goal.returns-clause-work
 returns-clause-work g c =
     let outline = c.in_ok-outline.ensures in
     let moov = c.in_ok-moov.ensures in
-    λ told. ((rw (moov.honesty, outline.store.honesty, moov.file, outline.store.file) at c.in_ok-plain.ensures.work) told).work
-
-pub returns-in_err-outline-clause-within : goal.returns-in_err-outline-clause-within
-returns-in_err-outline-clause-within g c = λ told. none_open _ _
-
-pub returns-in_err-moov-clause-within : goal.returns-in_err-moov-clause-within
-returns-in_err-moov-clause-within g c = λ told. none_open _ _
-
-pub returns-in_err-plain-clause-within : goal.returns-in_err-plain-clause-within
-returns-in_err-plain-clause-within g c =
-    let outline = c.in_ok-outline.ensures in
-    let moov = c.in_ok-moov.ensures in
-    λ told. ((rw (moov.honesty, outline.store.honesty, moov.file, outline.store.file) at c.in_err-plain.ensures.work) told).within
-
-pub returns-clause-within : goal.returns-clause-within
-returns-clause-within g c =
-    let outline = c.in_ok-outline.ensures in
-    let moov = c.in_ok-moov.ensures in
-    λ told. ((rw (moov.honesty, outline.store.honesty, moov.file, outline.store.file) at c.in_ok-plain.ensures.work) told).within
-
-pub returns-in_err-outline-clause-looks : goal.returns-in_err-outline-clause-looks
-returns-in_err-outline-clause-looks g c = λ told. record { said = λ tree is. if_no_fault _ _ (none_taken _ _); within = none_looks _ _ }
-
-pub returns-in_err-moov-clause-looks : goal.returns-in_err-moov-clause-looks
-returns-in_err-moov-clause-looks g c = λ told. record { said = λ tree is. if_no_fault _ _ (none_taken _ _); within = none_looks _ _ }
-
-pub returns-in_err-plain-clause-looks : goal.returns-in_err-plain-clause-looks
-returns-in_err-plain-clause-looks g c =
-    let q = err_from_is_err_and c.from_residual-in_err-plain.result c.from_residual-in_err-plain.ensures.1 in
-    let outline = c.in_ok-outline.ensures in
-    let moov = c.in_ok-moov.ensures in
-    let work = rw (moov.honesty, outline.store.honesty, moov.file, outline.store.file) at c.in_err-plain.ensures.work in
-    rw (q.1, q.2) (λ told. record { said = (work told).looks.said; within = (work told).looks.within })
-
-pub returns-clause-looks : goal.returns-clause-looks
-returns-clause-looks g c =
-    let outline = c.in_ok-outline.ensures in
-    let moov = c.in_ok-moov.ensures in
-    let work = rw (moov.honesty, outline.store.honesty, moov.file, outline.store.file) at c.in_ok-plain.ensures.work in
-    λ told. record { said = (work told).looks.said; within = (work told).looks.within }
+    λ told. found_as _ _ _ _ _ _ _ ((rw (moov.honesty, outline.store.honesty, moov.file, outline.store.file) at c.in_ok-plain.ensures.work) told)
 
 pub returns-clause-least : goal.returns-clause-least
 returns-clause-least g c =

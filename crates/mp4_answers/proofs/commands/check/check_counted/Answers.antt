@@ -32,21 +32,21 @@ returns-clause-answer g c = (
 pub returns-in_err-open_movie-clause-work : goal.returns-in_err-open_movie-clause-work
 returns-in_err-open_movie-clause-work g c = λ told.
     let e = c.in_err-open_movie.ensures in
-    not_looked _ _ _ _ _ _ c.in_err-open_movie.field-0.0 told e.refusal (e.work told) (e.within told)
+    not_looked _ _ _ _ _ _ c.in_err-open_movie.field-0.0 told e.refusal (e.work told).work (e.work told).within
 
 pub returns-clause-work : goal.returns-clause-work
 returns-clause-work g c = λ told.
     let o = c.in_ok-open_movie.ensures.movie told in
-    looked_within _ _ _ c.in_ok-open_movie.field-0 o.0 o.1 (c.in_ok-open_movie.ensures.work told o.0 o.1.is_tree)
+    looked_within _ _ _ c.in_ok-open_movie.field-0 o.0 o.1 ((c.in_ok-open_movie.ensures.work told).work o.0 o.1.is_tree)
 
 pub returns-in_err-open_movie-clause-looks : goal.returns-in_err-open_movie-clause-looks
 returns-in_err-open_movie-clause-looks g c = λ told.
-    let l = c.in_err-open_movie.ensures.looks told in
+    let l = (c.in_err-open_movie.ensures.work told).looks in
     not_found _ _ _ _ _ _ c.in_err-open_movie.field-0.0 told c.in_err-open_movie.ensures.refusal l.said l.within
 
 pub returns-clause-looks : goal.returns-clause-looks
 returns-clause-looks g c = λ told.
-    finds_taken _ c.in_ok-open_movie.field-0 _ _ (c.in_ok-open_movie.ensures.movie told) (c.in_ok-open_movie.ensures.looks told).said
+    finds_taken _ c.in_ok-open_movie.field-0 _ _ (c.in_ok-open_movie.ensures.movie told) (c.in_ok-open_movie.ensures.work told).looks.said
 
 pub returns-clause-least : goal.returns-clause-least
 returns-clause-least g c = λ told p d.

@@ -42,21 +42,21 @@ returns-clause-store g c =
 
 pub returns-in_err-movie-clause-work : goal.returns-in_err-movie-clause-work
 returns-in_err-movie-clause-work g c = λ told.
-    not_opened _ _ _ c.args.leaving _ _ _ c.in_err-movie.field-0.0 told c.in_err-movie.ensures.refusal (c.in_err-movie.ensures.work told) (c.in_err-movie.ensures.within told)
+    not_opened _ _ _ c.args.leaving _ _ _ c.in_err-movie.field-0.0 told c.in_err-movie.ensures.refusal (c.in_err-movie.ensures.work told).work (c.in_err-movie.ensures.work told).within
 
 pub returns-clause-work : goal.returns-clause-work
 returns-clause-work g c = λ told.
     let write = rw (c.in_ok-movie.ensures.store.honesty, c.in_ok-movie.ensures.store.file) at c.write_reduced.ensures.work in
-    written_within c.args.leaving _ _ _ _ _ (c.in_ok-movie.ensures.movie told) (c.in_ok-movie.ensures.work told) (write told)
+    written_within c.args.leaving _ _ _ _ _ (c.in_ok-movie.ensures.movie told) (c.in_ok-movie.ensures.work told).work (write told)
 
 pub returns-in_err-movie-clause-looks : goal.returns-in_err-movie-clause-looks
 returns-in_err-movie-clause-looks g c = λ told.
-    let l = c.in_err-movie.ensures.looks told in
+    let l = (c.in_err-movie.ensures.work told).looks in
     not_turned _ _ _ (not_found _ _ _ _ _ _ c.in_err-movie.field-0.0 told c.in_err-movie.ensures.refusal l.said l.within)
 
 pub returns-clause-looks : goal.returns-clause-looks
 returns-clause-looks g c = λ told.
-    turns_taken _ c.in_ok-movie.movie _ _ _ (c.in_ok-movie.ensures.movie told) (c.in_ok-movie.ensures.looks told).said c.write_reduced.ensures.turns
+    turns_taken _ c.in_ok-movie.movie _ _ _ (c.in_ok-movie.ensures.movie told) (c.in_ok-movie.ensures.work told).looks.said c.write_reduced.ensures.turns
 
 pub returns-in_err-movie-clause-whole : goal.returns-in_err-movie-clause-whole
 returns-in_err-movie-clause-whole g c =

@@ -202,47 +202,47 @@ returns-clause-store g c =
 
 pub returns-in_err-movie-clause-work : goal.returns-in_err-movie-clause-work
 returns-in_err-movie-clause-work g c = λ told.
-    not_looked _ _ _ _ _ _ c.in_err-movie.field-0.0 told c.in_err-movie.ensures.refusal (c.in_err-movie.ensures.work told) (c.in_err-movie.ensures.within told)
+    not_looked _ _ _ _ _ _ c.in_err-movie.field-0.0 told c.in_err-movie.ensures.refusal (c.in_err-movie.ensures.work told).work (c.in_err-movie.ensures.work told).within
 
 pub returns-in_err-head-clause-work : goal.returns-in_err-head-clause-work
 returns-in_err-head-clause-work g c = λ told.
     let o = c.in_ok-movie.ensures.movie told in
-    looked_within _ _ _ c.in_ok-movie.movie o.0 o.1 (c.in_ok-movie.ensures.work told o.0 o.1.is_tree)
+    looked_within _ _ _ c.in_ok-movie.movie o.0 o.1 ((c.in_ok-movie.ensures.work told).work o.0 o.1.is_tree)
 
 pub returns-in_err-lefts-clause-work : goal.returns-in_err-lefts-clause-work
 returns-in_err-lefts-clause-work g c = λ told.
     let o = c.in_ok-movie.ensures.movie told in
-    looked_within _ _ _ c.in_ok-movie.movie o.0 o.1 (c.in_ok-movie.ensures.work told o.0 o.1.is_tree)
+    looked_within _ _ _ c.in_ok-movie.movie o.0 o.1 ((c.in_ok-movie.ensures.work told).work o.0 o.1.is_tree)
 
 pub returns-in_err-put_payloads_left-clause-work : goal.returns-in_err-put_payloads_left-clause-work
 returns-in_err-put_payloads_left-clause-work g c = λ told.
     let o = c.in_ok-movie.ensures.movie told in
-    looked_within _ _ _ c.in_ok-movie.movie o.0 o.1 (c.in_ok-movie.ensures.work told o.0 o.1.is_tree)
+    looked_within _ _ _ c.in_ok-movie.movie o.0 o.1 ((c.in_ok-movie.ensures.work told).work o.0 o.1.is_tree)
 
 pub returns-in_err-front-clause-work : goal.returns-in_err-front-clause-work
 returns-in_err-front-clause-work g c = λ told.
     let o = c.in_ok-movie.ensures.movie told in
-    looked_within _ _ _ c.in_ok-movie.movie o.0 o.1 (c.in_ok-movie.ensures.work told o.0 o.1.is_tree)
+    looked_within _ _ _ c.in_ok-movie.movie o.0 o.1 ((c.in_ok-movie.ensures.work told).work o.0 o.1.is_tree)
 
 pub returns-in_err-walks-clause-work : goal.returns-in_err-walks-clause-work
 returns-in_err-walks-clause-work g c = λ told.
     let o = c.in_ok-movie.ensures.movie told in
-    looked_within _ _ _ c.in_ok-movie.movie o.0 o.1 (c.in_ok-movie.ensures.work told o.0 o.1.is_tree)
+    looked_within _ _ _ c.in_ok-movie.movie o.0 o.1 ((c.in_ok-movie.ensures.work told).work o.0 o.1.is_tree)
 
 pub returns-in_err-desk-clause-work : goal.returns-in_err-desk-clause-work
 returns-in_err-desk-clause-work g c = λ told.
     let o = c.in_ok-movie.ensures.movie told in
-    looked_within _ _ _ c.in_ok-movie.movie o.0 o.1 (c.in_ok-movie.ensures.work told o.0 o.1.is_tree)
+    looked_within _ _ _ c.in_ok-movie.movie o.0 o.1 ((c.in_ok-movie.ensures.work told).work o.0 o.1.is_tree)
 
 pub returns-in_err-carry-clause-work : goal.returns-in_err-carry-clause-work
 returns-in_err-carry-clause-work g c = λ told.
     let o = c.in_ok-movie.ensures.movie told in
-    looked_within _ _ _ c.in_ok-movie.movie o.0 o.1 (c.in_ok-movie.ensures.work told o.0 o.1.is_tree)
+    looked_within _ _ _ c.in_ok-movie.movie o.0 o.1 ((c.in_ok-movie.ensures.work told).work o.0 o.1.is_tree)
 
 pub returns-in_err-put_movie-clause-work : goal.returns-in_err-put_movie-clause-work
 returns-in_err-put_movie-clause-work g c = λ told.
     let o = c.in_ok-movie.ensures.movie told in
-    looked_within _ _ _ c.in_ok-movie.movie o.0 o.1 (c.in_ok-movie.ensures.work told o.0 o.1.is_tree)
+    looked_within _ _ _ c.in_ok-movie.movie o.0 o.1 ((c.in_ok-movie.ensures.work told).work o.0 o.1.is_tree)
 
 pub returns-in_err-put_tracks-clause-work : goal.returns-in_err-put_tracks-clause-work
 returns-in_err-put_tracks-clause-work g c = λ told.
@@ -251,7 +251,7 @@ returns-in_err-put_tracks-clause-work g c = λ told.
     let e = c.in_ok-movie.ensures.store in
     let walks = ((rw (e.honesty, e.file, c.as_slice-heads.ensures.value) at c.in_err-put_tracks.ensures.told) told o.0 o.1 (c.in_ok-put_payloads_left.ensures.tracks
     ∙ ap (map (track_payloads_left c.args.leaving)) (heads_are c.args.leaving file c.in_ok-movie.movie o.0 c.in_ok-head.head o.1 c.in_ok-head.ensures))).steps in
-    all_walked_within file _ _ c.in_ok-movie.movie o.0 _ o.1 (c.in_ok-movie.ensures.work told o.0 o.1.is_tree) walks
+    all_walked_within file _ _ c.in_ok-movie.movie o.0 _ o.1 ((c.in_ok-movie.ensures.work told).work o.0 o.1.is_tree) walks
 
 pub returns-in_err-carry-2-clause-work : goal.returns-in_err-carry-2-clause-work
 returns-in_err-carry-2-clause-work g c = λ told.
@@ -260,7 +260,7 @@ returns-in_err-carry-2-clause-work g c = λ told.
     let e = c.in_ok-movie.ensures.store in
     let walks = ((rw (e.honesty, e.file, c.as_slice-heads.ensures.value) at c.in_ok-put_tracks.ensures.told) told o.0 o.1 (c.in_ok-put_payloads_left.ensures.tracks
     ∙ ap (map (track_payloads_left c.args.leaving)) (heads_are c.args.leaving file c.in_ok-movie.movie o.0 c.in_ok-head.head o.1 c.in_ok-head.ensures))).steps in
-    all_walked_within file _ _ c.in_ok-movie.movie o.0 _ o.1 (c.in_ok-movie.ensures.work told o.0 o.1.is_tree) walks
+    all_walked_within file _ _ c.in_ok-movie.movie o.0 _ o.1 ((c.in_ok-movie.ensures.work told).work o.0 o.1.is_tree) walks
 
 pub returns-clause-work : goal.returns-clause-work
 returns-clause-work g c = λ told.
@@ -269,7 +269,7 @@ returns-clause-work g c = λ told.
     let e = c.in_ok-movie.ensures.store in
     let walks = ((rw (e.honesty, e.file, c.as_slice-heads.ensures.value) at c.in_ok-put_tracks.ensures.told) told o.0 o.1 (c.in_ok-put_payloads_left.ensures.tracks
     ∙ ap (map (track_payloads_left c.args.leaving)) (heads_are c.args.leaving file c.in_ok-movie.movie o.0 c.in_ok-head.head o.1 c.in_ok-head.ensures))).steps in
-    all_walked_within file _ _ c.in_ok-movie.movie o.0 _ o.1 (c.in_ok-movie.ensures.work told o.0 o.1.is_tree) walks
+    all_walked_within file _ _ c.in_ok-movie.movie o.0 _ o.1 ((c.in_ok-movie.ensures.work told).work o.0 o.1.is_tree) walks
 
 pub returns-clause-least : goal.returns-clause-least
 returns-clause-least g c = on_ok_weaker c.flush.result
@@ -283,49 +283,49 @@ returns-clause-least g c = on_ok_weaker c.flush.result
 
 pub returns-in_err-movie-clause-looks : goal.returns-in_err-movie-clause-looks
 returns-in_err-movie-clause-looks g c = λ told.
-    let l = c.in_err-movie.ensures.looks told in
+    let l = (c.in_err-movie.ensures.work told).looks in
     not_found _ _ _ _ _ _ c.in_err-movie.field-0.0 told c.in_err-movie.ensures.refusal l.said l.within
 
 pub returns-in_err-head-clause-looks : goal.returns-in_err-head-clause-looks
 returns-in_err-head-clause-looks g c = λ told.
-    finds_taken _ c.in_ok-movie.movie _ _ (c.in_ok-movie.ensures.movie told) (c.in_ok-movie.ensures.looks told).said
+    finds_taken _ c.in_ok-movie.movie _ _ (c.in_ok-movie.ensures.movie told) (c.in_ok-movie.ensures.work told).looks.said
 
 pub returns-in_err-lefts-clause-looks : goal.returns-in_err-lefts-clause-looks
 returns-in_err-lefts-clause-looks g c = λ told.
-    finds_taken _ c.in_ok-movie.movie _ _ (c.in_ok-movie.ensures.movie told) (c.in_ok-movie.ensures.looks told).said
+    finds_taken _ c.in_ok-movie.movie _ _ (c.in_ok-movie.ensures.movie told) (c.in_ok-movie.ensures.work told).looks.said
 
 pub returns-in_err-put_payloads_left-clause-looks : goal.returns-in_err-put_payloads_left-clause-looks
 returns-in_err-put_payloads_left-clause-looks g c = λ told.
-    finds_taken _ c.in_ok-movie.movie _ _ (c.in_ok-movie.ensures.movie told) (c.in_ok-movie.ensures.looks told).said
+    finds_taken _ c.in_ok-movie.movie _ _ (c.in_ok-movie.ensures.movie told) (c.in_ok-movie.ensures.work told).looks.said
 
 pub returns-in_err-front-clause-looks : goal.returns-in_err-front-clause-looks
 returns-in_err-front-clause-looks g c = λ told.
-    finds_taken _ c.in_ok-movie.movie _ _ (c.in_ok-movie.ensures.movie told) (c.in_ok-movie.ensures.looks told).said
+    finds_taken _ c.in_ok-movie.movie _ _ (c.in_ok-movie.ensures.movie told) (c.in_ok-movie.ensures.work told).looks.said
 
 pub returns-in_err-walks-clause-looks : goal.returns-in_err-walks-clause-looks
 returns-in_err-walks-clause-looks g c = λ told.
-    finds_taken _ c.in_ok-movie.movie _ _ (c.in_ok-movie.ensures.movie told) (c.in_ok-movie.ensures.looks told).said
+    finds_taken _ c.in_ok-movie.movie _ _ (c.in_ok-movie.ensures.movie told) (c.in_ok-movie.ensures.work told).looks.said
 
 pub returns-in_err-desk-clause-looks : goal.returns-in_err-desk-clause-looks
 returns-in_err-desk-clause-looks g c = λ told.
-    finds_taken _ c.in_ok-movie.movie _ _ (c.in_ok-movie.ensures.movie told) (c.in_ok-movie.ensures.looks told).said
+    finds_taken _ c.in_ok-movie.movie _ _ (c.in_ok-movie.ensures.movie told) (c.in_ok-movie.ensures.work told).looks.said
 
 pub returns-in_err-carry-clause-looks : goal.returns-in_err-carry-clause-looks
 returns-in_err-carry-clause-looks g c = λ told.
-    finds_taken _ c.in_ok-movie.movie _ _ (c.in_ok-movie.ensures.movie told) (c.in_ok-movie.ensures.looks told).said
+    finds_taken _ c.in_ok-movie.movie _ _ (c.in_ok-movie.ensures.movie told) (c.in_ok-movie.ensures.work told).looks.said
 
 pub returns-in_err-put_movie-clause-looks : goal.returns-in_err-put_movie-clause-looks
 returns-in_err-put_movie-clause-looks g c = λ told.
-    finds_taken _ c.in_ok-movie.movie _ _ (c.in_ok-movie.ensures.movie told) (c.in_ok-movie.ensures.looks told).said
+    finds_taken _ c.in_ok-movie.movie _ _ (c.in_ok-movie.ensures.movie told) (c.in_ok-movie.ensures.work told).looks.said
 
 pub returns-in_err-put_tracks-clause-looks : goal.returns-in_err-put_tracks-clause-looks
 returns-in_err-put_tracks-clause-looks g c = λ told.
-    rw c.in_err-put_tracks.ensures.looks (finds_taken _ c.in_ok-movie.movie _ _ (c.in_ok-movie.ensures.movie told) (c.in_ok-movie.ensures.looks told).said)
+    rw c.in_err-put_tracks.ensures.looks (finds_taken _ c.in_ok-movie.movie _ _ (c.in_ok-movie.ensures.movie told) (c.in_ok-movie.ensures.work told).looks.said)
 
 pub returns-in_err-carry-2-clause-looks : goal.returns-in_err-carry-2-clause-looks
 returns-in_err-carry-2-clause-looks g c = λ told.
-    rw c.in_ok-put_tracks.ensures.looks (finds_taken _ c.in_ok-movie.movie _ _ (c.in_ok-movie.ensures.movie told) (c.in_ok-movie.ensures.looks told).said)
+    rw c.in_ok-put_tracks.ensures.looks (finds_taken _ c.in_ok-movie.movie _ _ (c.in_ok-movie.ensures.movie told) (c.in_ok-movie.ensures.work told).looks.said)
 
 pub returns-clause-looks : goal.returns-clause-looks
 returns-clause-looks g c = λ told.
-    rw c.in_ok-put_tracks.ensures.looks (finds_taken _ c.in_ok-movie.movie _ _ (c.in_ok-movie.ensures.movie told) (c.in_ok-movie.ensures.looks told).said)
+    rw c.in_ok-put_tracks.ensures.looks (finds_taken _ c.in_ok-movie.movie _ _ (c.in_ok-movie.ensures.movie told) (c.in_ok-movie.ensures.work told).looks.said)

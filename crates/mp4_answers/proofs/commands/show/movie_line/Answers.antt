@@ -20,50 +20,50 @@ returns-clause-answer g c = record {
 
 pub returns-in_err-movie-clause-work : goal.returns-in_err-movie-clause-work
 returns-in_err-movie-clause-work g c = λ told.
-    not_looked _ _ _ _ _ _ c.in_err-movie.field-0.0 told c.in_err-movie.ensures.refusal (c.in_err-movie.ensures.work told) (c.in_err-movie.ensures.within told)
+    not_looked _ _ _ _ _ _ c.in_err-movie.field-0.0 told c.in_err-movie.ensures.refusal (c.in_err-movie.ensures.work told).work (c.in_err-movie.ensures.work told).within
 
 pub returns-in_err-head-clause-work : goal.returns-in_err-head-clause-work
 returns-in_err-head-clause-work g c = λ told.
     let o = c.in_ok-movie.ensures.movie told in
-    looked_within _ _ _ c.in_ok-movie.movie o.0 o.1 (c.in_ok-movie.ensures.work told o.0 o.1.is_tree)
+    looked_within _ _ _ c.in_ok-movie.movie o.0 o.1 ((c.in_ok-movie.ensures.work told).work o.0 o.1.is_tree)
 
 pub returns-in_err-text-clause-work : goal.returns-in_err-text-clause-work
 returns-in_err-text-clause-work g c = λ told.
     let o = c.in_ok-movie.ensures.movie told in
-    looked_within _ _ _ c.in_ok-movie.movie o.0 o.1 (c.in_ok-movie.ensures.work told o.0 o.1.is_tree)
+    looked_within _ _ _ c.in_ok-movie.movie o.0 o.1 ((c.in_ok-movie.ensures.work told).work o.0 o.1.is_tree)
 
 pub returns-in_err-push-clause-work : goal.returns-in_err-push-clause-work
 returns-in_err-push-clause-work g c = λ told.
     let o = c.in_ok-movie.ensures.movie told in
-    looked_within _ _ _ c.in_ok-movie.movie o.0 o.1 (c.in_ok-movie.ensures.work told o.0 o.1.is_tree)
+    looked_within _ _ _ c.in_ok-movie.movie o.0 o.1 ((c.in_ok-movie.ensures.work told).work o.0 o.1.is_tree)
 
 pub returns-clause-work : goal.returns-clause-work
 returns-clause-work g c = λ told.
     let o = c.in_ok-movie.ensures.movie told in
-    looked_within _ _ _ c.in_ok-movie.movie o.0 o.1 (c.in_ok-movie.ensures.work told o.0 o.1.is_tree)
+    looked_within _ _ _ c.in_ok-movie.movie o.0 o.1 ((c.in_ok-movie.ensures.work told).work o.0 o.1.is_tree)
 
 -- ---- looks
 
 pub returns-in_err-movie-clause-looks : goal.returns-in_err-movie-clause-looks
 returns-in_err-movie-clause-looks g c = λ told.
-    let l = c.in_err-movie.ensures.looks told in
+    let l = (c.in_err-movie.ensures.work told).looks in
     not_found _ _ _ _ _ _ c.in_err-movie.field-0.0 told c.in_err-movie.ensures.refusal l.said l.within
 
 pub returns-in_err-head-clause-looks : goal.returns-in_err-head-clause-looks
 returns-in_err-head-clause-looks g c = λ told.
-    finds_taken _ c.in_ok-movie.movie _ _ (c.in_ok-movie.ensures.movie told) (c.in_ok-movie.ensures.looks told).said
+    finds_taken _ c.in_ok-movie.movie _ _ (c.in_ok-movie.ensures.movie told) (c.in_ok-movie.ensures.work told).looks.said
 
 pub returns-in_err-text-clause-looks : goal.returns-in_err-text-clause-looks
 returns-in_err-text-clause-looks g c = λ told.
-    finds_taken _ c.in_ok-movie.movie _ _ (c.in_ok-movie.ensures.movie told) (c.in_ok-movie.ensures.looks told).said
+    finds_taken _ c.in_ok-movie.movie _ _ (c.in_ok-movie.ensures.movie told) (c.in_ok-movie.ensures.work told).looks.said
 
 pub returns-in_err-push-clause-looks : goal.returns-in_err-push-clause-looks
 returns-in_err-push-clause-looks g c = λ told.
-    finds_taken _ c.in_ok-movie.movie _ _ (c.in_ok-movie.ensures.movie told) (c.in_ok-movie.ensures.looks told).said
+    finds_taken _ c.in_ok-movie.movie _ _ (c.in_ok-movie.ensures.movie told) (c.in_ok-movie.ensures.work told).looks.said
 
 pub returns-clause-looks : goal.returns-clause-looks
 returns-clause-looks g c = λ told.
-    finds_taken _ c.in_ok-movie.movie _ _ (c.in_ok-movie.ensures.movie told) (c.in_ok-movie.ensures.looks told).said
+    finds_taken _ c.in_ok-movie.movie _ _ (c.in_ok-movie.ensures.movie told) (c.in_ok-movie.ensures.work told).looks.said
 
 pub returns-clause-least : goal.returns-clause-least
 returns-clause-least g c = λ told p d.
