@@ -21,8 +21,6 @@ use std::collections::BTreeSet;
 
 fn read_trex(view: BoxView) -> Result<Trex, Fault>
     ensures says { IfOk result (λ t. t ≡ trex_of (box_seen view.entry).payload) }
-    ensures sound { OnOk result (IsSound trex (box_seen view.entry).payload) }
-    ensures fault { IfErr result (IsFaultOf trex (box_seen view.entry)) }
     ensures exact { MatchResult result (λ h. leaf_fault trex (box_seen view.entry) ≡ None)
         (λ f. leaf_fault trex (box_seen view.entry) ≡ Some f) }
 {

@@ -43,8 +43,6 @@ fn fields_of(payload: &[u8], width: usize) -> MediaHeader
 // `mdhd` (8.4.2).
 fn read_media_header(view: BoxView) -> Result<MediaHeader, Fault>
     ensures says { IfOk result (SaysMedia (box_seen view.entry).payload) }
-    ensures sound { OnOk result (IsSound mdhd (box_seen view.entry).payload) }
-    ensures fault { IfErr result (IsFaultOf mdhd (box_seen view.entry)) }
     ensures exact { MatchResult result (λ h. leaf_fault mdhd (box_seen view.entry) ≡ None)
         (λ f. leaf_fault mdhd (box_seen view.entry) ≡ Some f) }
 {
@@ -59,8 +57,6 @@ fn read_media_header(view: BoxView) -> Result<MediaHeader, Fault>
 // The payload of a `hdlr` (8.4.3), of any version.
 fn read_handler<'a>(view: BoxView<'a>) -> Result<&'a [u8], Fault>
     ensures payload { IfOk result (λ r. r.now ≡ (box_seen view.entry).payload) }
-    ensures sound { OnOk result (IsSound hdlr (box_seen view.entry).payload) }
-    ensures fault { IfErr result (IsFaultOf hdlr (box_seen view.entry)) }
     ensures exact { MatchResult result (λ h. leaf_fault hdlr (box_seen view.entry) ≡ None)
         (λ f. leaf_fault hdlr (box_seen view.entry) ≡ Some f) }
 {

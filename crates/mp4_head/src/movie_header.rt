@@ -38,8 +38,6 @@ fn fields_of(payload: &[u8], width: usize) -> MovieHeader
 
 pub(crate) fn read_movie_header(view: BoxView) -> Result<MovieHeader, Fault>
     ensures says { IfOk result (SaysMovie (box_seen view.entry).payload) }
-    ensures sound { OnOk result (IsSound mvhd (box_seen view.entry).payload) }
-    ensures fault { IfErr result (IsFaultOf mvhd (box_seen view.entry)) }
     ensures exact { MatchResult result (λ h. leaf_fault mvhd (box_seen view.entry) ≡ None)
         (λ f. leaf_fault mvhd (box_seen view.entry) ≡ Some f) }
 {

@@ -47,8 +47,6 @@ fn fields_of(payload: &[u8], times: usize) -> TrackHeader
 
 pub(crate) fn read_track_header(view: BoxView) -> Result<TrackHeader, Fault>
     ensures says { IfOk result (SaysTrack (box_seen view.entry).payload) }
-    ensures sound { OnOk result (IsSound tkhd (box_seen view.entry).payload) }
-    ensures fault { IfErr result (IsFaultOf tkhd (box_seen view.entry)) }
     ensures exact { MatchResult result (λ h. leaf_fault tkhd (box_seen view.entry) ≡ None)
         (λ f. leaf_fault tkhd (box_seen view.entry) ≡ Some f) }
 {

@@ -1,3 +1,4 @@
+use Rattle.mp4_head.proofs.JudgedLeaves.{leaf_fails, leaf_sound}
 use Rattle.std.proofs.Common.{◌≡◌, true, false, ap, sym, ◌∙◌}
 use Rattle.std.specs.Prelude.{codes, bytes_eq}
 use Rattle.std.proofs.lemmas.Result.{err_from_is_err_and}
@@ -31,14 +32,14 @@ returns-in_err-trex-clause-refusal c =
     let p = err_from_is_err_and c.from_residual-in_err-trex.result c.from_residual-in_err-trex.ensures.1 in
     let h : Holds kinds.MovieExtends (box_container (box_seen c.args.mvex)) c.into_iter-child-iterator.result = rw c.into_iter-child-iterator.ensures.into_iter_gives c.in_ok-child-items.ensures.holds in
     let k : bytes_eq (codes "trex") (box_seen c.in-Some.child).kind ≡ true = sym c.is.ensures ∙ c.if-is.true in
-    rw (p.1, p.2) (extends_refuse (box_seen c.args.mvex) _ c.loop-child.child-iterator c.next.new.self (box_seen c.in-Some.child) _ _ c.in_err-trex.field-0.0 h c.loop-child.invariant.2 c.in-Some.ensures.steps k c.in_err-trex.ensures.fault)
+    rw (p.1, p.2) (extends_refuse (box_seen c.args.mvex) _ c.loop-child.child-iterator c.next.new.self (box_seen c.in-Some.child) _ _ c.in_err-trex.field-0.0 h c.loop-child.invariant.2 c.in-Some.ensures.steps k (leaf_fails trex _ _ c.in_err-trex.ensures.exact))
 
 pub returns-then-not-branch-clause-refusal : goal.returns-then-not-branch-clause-refusal
 returns-then-not-branch-clause-refusal c =
     let h : Holds kinds.MovieExtends (box_container (box_seen c.args.mvex)) c.into_iter-child-iterator.result = rw c.into_iter-child-iterator.ensures.into_iter_gives c.in_ok-child-items.ensures.holds in
     let k : bytes_eq (codes "trex") (box_seen c.in-Some.child).kind ≡ true = sym c.is.ensures ∙ c.if-is.true in
     rw c.from.ensures
-    (extends_taken (box_seen c.args.mvex) _ c.loop-child.child-iterator c.next.new.self (box_seen c.in-Some.child) _ _ c.in_ok-trex.trex c.fault.result h c.loop-child.invariant.2 c.in-Some.ensures.steps k c.in_ok-trex.ensures.sound c.in_ok-trex.ensures.says
+    (extends_taken (box_seen c.args.mvex) _ c.loop-child.child-iterator c.next.new.self (box_seen c.in-Some.child) _ _ c.in_ok-trex.trex c.fault.result h c.loop-child.invariant.2 c.in-Some.ensures.steps k (leaf_sound trex (box_seen c.in-Some.child) c.in_ok-trex.ensures.exact) c.in_ok-trex.ensures.says
     (was_there c.in_ok-insert.field-0 _ c.in_ok-insert.ensures.added c.if-not-branch.true) c.fault.ensures)
 
 pub loop-child-preserved-in_ok-push : goal.loop-child-preserved-in_ok-push
@@ -46,7 +47,7 @@ loop-child-preserved-in_ok-push c =
     let k : bytes_eq (codes "trex") (box_seen c.in-Some.child).kind ≡ true = sym c.is.ensures ∙ c.if-is.true in (
       tt,
       tt,
-      extends_this _ c.loop-child.child-iterator c.next.new.self (box_seen c.in-Some.child) _ _ _ _ c.in_ok-trex.trex c.loop-child.invariant.2 c.in-Some.ensures.steps k c.in_ok-trex.ensures.sound c.in_ok-trex.ensures.says
+      extends_this _ c.loop-child.child-iterator c.next.new.self (box_seen c.in-Some.child) _ _ _ _ c.in_ok-trex.trex c.loop-child.invariant.2 c.in-Some.ensures.steps k (leaf_sound trex (box_seen c.in-Some.child) c.in_ok-trex.ensures.exact) c.in_ok-trex.ensures.says
           (record { new_there = was_not_there c.in_ok-insert.field-0 _ c.in_ok-insert.ensures.added c.if-not-branch.false; added = c.in_ok-insert.ensures.updates }) c.in_ok-push.ensures.items,
       λ n ids. fault_more _ _ _ _ _ (c.loop-child.invariant.3 n ids) c.in-Some.ensures.steps (λ before is. trex_fault n ids (box_seen c.args.mvex) before (box_seen c.in-Some.child) k
           ∙ id_new trex 2 _ (box_seen c.in-Some.child) c.in_ok-trex.ensures.exact

@@ -1,3 +1,5 @@
+use Rattle.mp4_head.proofs.JudgedLeaves.{leaf_fails, leaf_sound}
+use Rattle.mp4_boxes.specs.format.Layout.{hdlr, mdhd}
 use Rattle.std.proofs.Common.{◌≡◌, suc, ℕ, List, [], ◌∷◌, ◌++◌, true, false, map, ap, sym, ◌∙◌, rules}
 use Rattle.std.specs.Prelude.{codes, bytes_eq}
 use Rattle.std.proofs.lemmas.List.{map-append}
@@ -24,7 +26,7 @@ returns-in_err-read_media_header-clause-refusal c =
     let p = err_from_is_err_and c.from_residual-in_err-read_media_header.result c.from_residual-in_err-read_media_header.ensures.1 in
     let h : Holds kinds.Media (box_container (box_seen c.args.mdia)) c.into_iter-child-iterator.result = rw c.into_iter-child-iterator.ensures.into_iter_gives c.in_ok-child-items.ensures.holds in
     let k : bytes_eq (codes "mdhd") (box_seen c.in-Some.child).kind ≡ true = sym c.is.ensures ∙ c.if-is.true in
-    rw (p.1, p.2) (media_header_refuse (box_seen c.args.mdia) _ c.loop-child.child-iterator c.next.new.self (box_seen c.in-Some.child) _ _ _ _ c.in_err-read_media_header.field-0.0 h c.loop-child.invariant.2 c.in-Some.ensures.steps k c.in_err-read_media_header.ensures.fault)
+    rw (p.1, p.2) (media_header_refuse (box_seen c.args.mdia) _ c.loop-child.child-iterator c.next.new.self (box_seen c.in-Some.child) _ _ _ _ c.in_err-read_media_header.field-0.0 h c.loop-child.invariant.2 c.in-Some.ensures.steps k (leaf_fails mdhd _ _ c.in_err-read_media_header.ensures.exact))
 
 pub loop-child-preserved-then-is : goal.loop-child-preserved-then-is
 loop-child-preserved-then-is c =
@@ -33,7 +35,7 @@ loop-child-preserved-then-is c =
     let k : bytes_eq (codes "mdhd") (box_seen c.in-Some.child).kind ≡ true = sym c.is.ensures ∙ c.if-is.true in (
       tt,
       tt,
-      media_header (box_seen c.args.mdia) _ c.loop-child.child-iterator c.next.new.self (box_seen c.in-Some.child) _ _ _ _ _ h c.loop-child.invariant.2 c.in-Some.ensures.steps k c.in_ok-read_media_header.ensures.sound c.in_ok-read_media_header.ensures.says,
+      media_header (box_seen c.args.mdia) _ c.loop-child.child-iterator c.next.new.self (box_seen c.in-Some.child) _ _ _ _ _ h c.loop-child.invariant.2 c.in-Some.ensures.steps k (leaf_sound mdhd (box_seen c.in-Some.child) c.in_ok-read_media_header.ensures.exact) c.in_ok-read_media_header.ensures.says,
       λ n ids. fault_more _ _ _ _ _ (c.loop-child.invariant.3 n ids) c.in-Some.ensures.steps (λ before e. mdhd_fault (suc (suc (suc n))) ids (box_seen c.args.mdia) before (box_seen c.in-Some.child) k0 ∙ c.in_ok-read_media_header.ensures.exact),
     )
 
@@ -42,7 +44,7 @@ returns-in_err-read_handler-clause-refusal c =
     let p = err_from_is_err_and c.from_residual-in_err-read_handler.result c.from_residual-in_err-read_handler.ensures.1 in
     let h : Holds kinds.Media (box_container (box_seen c.args.mdia)) c.into_iter-child-iterator.result = rw c.into_iter-child-iterator.ensures.into_iter_gives c.in_ok-child-items.ensures.holds in
     let k : bytes_eq (codes "hdlr") (box_seen c.in-Some.child).kind ≡ true = sym c.is-else-is.ensures ∙ c.if-is-2.true in
-    rw (p.1, p.2) (media_handler_refuse (box_seen c.args.mdia) _ c.loop-child.child-iterator c.next.new.self (box_seen c.in-Some.child) _ _ _ _ c.in_err-read_handler.field-0.0 h c.loop-child.invariant.2 c.in-Some.ensures.steps k c.in_err-read_handler.ensures.fault)
+    rw (p.1, p.2) (media_handler_refuse (box_seen c.args.mdia) _ c.loop-child.child-iterator c.next.new.self (box_seen c.in-Some.child) _ _ _ _ c.in_err-read_handler.field-0.0 h c.loop-child.invariant.2 c.in-Some.ensures.steps k (leaf_fails hdlr _ _ c.in_err-read_handler.ensures.exact))
 
 pub loop-child-preserved-then-is-2 : goal.loop-child-preserved-then-is-2
 loop-child-preserved-then-is-2 c =
@@ -53,7 +55,7 @@ loop-child-preserved-then-is-2 c =
     let k : bytes_eq (codes "hdlr") (box_seen c.in-Some.child).kind ≡ true = sym c.is-else-is.ensures ∙ c.if-is-2.true in (
       tt,
       tt,
-      media_handler (box_seen c.args.mdia) _ c.loop-child.child-iterator c.next.new.self (box_seen c.in-Some.child) _ _ _ _ _ h c.loop-child.invariant.2 c.in-Some.ensures.steps n0 k c.in_ok-read_handler.ensures.sound c.in_ok-read_handler.ensures.payload,
+      media_handler (box_seen c.args.mdia) _ c.loop-child.child-iterator c.next.new.self (box_seen c.in-Some.child) _ _ _ _ _ h c.loop-child.invariant.2 c.in-Some.ensures.steps n0 k (leaf_sound hdlr (box_seen c.in-Some.child) c.in_ok-read_handler.ensures.exact) c.in_ok-read_handler.ensures.payload,
       λ n ids. fault_more _ _ _ _ _ (c.loop-child.invariant.3 n ids) c.in-Some.ensures.steps (λ before e. hdlr_fault (suc (suc (suc n))) ids (box_seen c.args.mdia) before (box_seen c.in-Some.child) o0 k1 ∙ c.in_ok-read_handler.ensures.exact),
     )
 

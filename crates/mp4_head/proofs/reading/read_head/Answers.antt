@@ -1,3 +1,5 @@
+use Rattle.mp4_head.proofs.JudgedLeaves.{leaf_fails, leaf_sound}
+use Rattle.mp4_boxes.specs.format.Layout.{mvhd}
 use Rattle.std.proofs.Common.{◌≡◌, suc, Option, subst, [], ◌∷◌, ◌++◌, true, false, map, ap, sym, ◌∙◌, rules}
 use Rattle.std.specs.Prelude.{codes, bytes_eq}
 use Rattle.std.proofs.lemmas.List.{map-append}
@@ -35,7 +37,7 @@ returns-in_err-read_movie_header-clause-fault c =
     let p = err_from_is_err_and c.from_residual-in_err-read_movie_header.result c.from_residual-in_err-read_movie_header.ensures.1 in
     let h : Holds kinds.Movie (box_container (box_seen c.args.moov)) c.into_iter-child-iterator.result = rw c.into_iter-child-iterator.ensures.into_iter_gives c.in_ok-child-items.ensures.holds in
     let k : bytes_eq (codes "mvhd") (box_seen c.in-Some.child).kind ≡ true = sym c.is.ensures ∙ c.if-is.true in
-    rw (p.1, p.2) (header_refuse (box_seen c.args.moov) _ c.loop-child.child-iterator c.next.new.self (box_seen c.in-Some.child) _ _ _ _ _ h c.loop-child.invariant.2 c.in-Some.ensures.steps c.in_err-read_movie_header.field-0.0 k c.in_err-read_movie_header.ensures.fault)
+    rw (p.1, p.2) (header_refuse (box_seen c.args.moov) _ c.loop-child.child-iterator c.next.new.self (box_seen c.in-Some.child) _ _ _ _ _ h c.loop-child.invariant.2 c.in-Some.ensures.steps c.in_err-read_movie_header.field-0.0 k (leaf_fails mvhd _ _ c.in_err-read_movie_header.ensures.exact))
 
 pub loop-child-preserved-then-is : goal.loop-child-preserved-then-is
 loop-child-preserved-then-is c =
@@ -44,7 +46,7 @@ loop-child-preserved-then-is c =
     let k : bytes_eq (codes "mvhd") (box_seen c.in-Some.child).kind ≡ true = sym c.is.ensures ∙ c.if-is.true in (
       tt,
       tt,
-      movie_header (box_seen c.args.moov) _ c.loop-child.child-iterator c.next.new.self (box_seen c.in-Some.child) _ _ _ _ _ h c.loop-child.invariant.2 c.in-Some.ensures.steps _ k c.in_ok-read_movie_header.ensures.sound c.in_ok-read_movie_header.ensures.says,
+      movie_header (box_seen c.args.moov) _ c.loop-child.child-iterator c.next.new.self (box_seen c.in-Some.child) _ _ _ _ _ h c.loop-child.invariant.2 c.in-Some.ensures.steps _ k (leaf_sound mvhd (box_seen c.in-Some.child) c.in_ok-read_movie_header.ensures.exact) c.in_ok-read_movie_header.ensures.says,
       λ n. fault_more _ _ _ _ _ (c.loop-child.invariant.3 n) c.in-Some.ensures.steps (λ before is. mvhd_fault (suc (suc (suc (suc (suc n))))) (box_seen c.args.moov) before (box_seen c.in-Some.child) k0 ∙ c.in_ok-read_movie_header.ensures.exact),
     )
 

@@ -4,16 +4,6 @@ use Rattle.mp4_boxes.specs.format.Layout.{tkhd}
 use Rattle.mp4_head.proofs.SoundJudged.{sound_judged}
 use Rattle.mp4_head.proofs.track_header.read_track_header.Goals as goal
 
-pub returns-then-header-eq0-clause-fault : goal.returns-then-header-eq0-clause-fault
-returns-then-header-eq0-clause-fault c =
-    let s = rw c.payload.ensures at c.fields_of-header.ensures in
-    track_fault (box_seen c.args.view) c.fault.result c.in_ok-times.times c.fields_of-header.result.id c.in_ok-times.ensures.open s.id c.if-header-eq0.true c.fault.ensures
-
-pub returns-clause-sound : goal.returns-clause-sound
-returns-clause-sound c =
-    let s = rw c.payload.ensures at c.fields_of-header.ensures in
-    track_sound c.args.view.payload.now c.in_ok-times.times c.fields_of-header.result.id c.in_ok-times.ensures.open s.id c.if-header-eq0.false
-
 pub returns-clause-exact : goal.returns-clause-exact
 returns-clause-exact c =
     let s = rw c.payload.ensures at c.fields_of-header.ensures in
