@@ -3,7 +3,7 @@ use Rattle.std.proofs.Common.{◌≡◌, ℕ, ◌+◌, inl, inr, Bool, true, fal
 use Rattle.std.specs.Prelude.{◌⊎◌, codes, bytes_eq}
 use Rattle.mp4_boxes.specs.format.Box.{Box, file_container, size, LieEndToEnd, StandsAfter, Tiles, box_container}
 use Rattle.mp4_boxes.specs.format.Layout.{Leaf}
-use Rattle.mp4_boxes.specs.format.Places.{Place, whole, Scope, ruled, leaf_of, inside, Reaches, StandsIn}
+use Rattle.mp4_boxes.specs.format.Places.{Place, whole, ruled, leaf_of, inside, Reaches, StandsIn}
 use Rattle.mp4_boxes.specs.format.BoxFaults.{IsChildFault}
 use Rattle.mp4_boxes.specs.declared.rule.Rule.{Rule}
 use Rattle.mp4_boxes.specs.declared.rule.Rule.TheVariants as rules
@@ -12,7 +12,7 @@ use Rattle.mp4_boxes.specs.declared.refusal.Refusal.{Refusal}
 use Rattle.mp4_boxes.specs.declared.refusal.Refusal.TheVariants as refusals
 use Rattle.mp4_head.specs.format.HeadFaults.{IsTakenId, is_table, HeadStands, HeaderStands, ChildStands, MissingStands, LeafStands}
 use Rattle.mp4_head.specs.words.Leaves.{IsFaultOf}
-use Rattle.mp4_head.specs.words.Refuses.{RefusesLeaf, RefusesIn, RefusesBoth, place_of}
+use Rattle.mp4_head.specs.words.Refuses.{RefusesLeaf, RefusesIn, place_of}
 
 -- ---- where boxes stand
 
@@ -107,17 +107,6 @@ refuses_above from next before b refusals.StoreFailed s i h = h
 refuses_above from next before b refusals.StoreChanged s i h = h
 refuses_above from next before b refusals.WriteFailed s i h = h
 refuses_above from next before b refusals.NoSuchTrack s i h = h
-
--- a leaf that holds boxes does
-pub refuses_both : (from next : Place) (before : List Box) (b : Box) (leaf : Leaf) (scope : Scope) (r : Refusal) → StandsAfter from.container before b → leaf_of from.scope b.kind ≡ Some leaf → is_table leaf ≡ false → inside from b ≡ Some next → next ≡ place_of scope b → RefusesBoth leaf scope b r
-    → RefusesIn from r
-refuses_both from next before b leaf scope (refusals.Fault f) s l n i e (inl h) = leaf_here from before b leaf f s l n h
-refuses_both from next before b leaf scope (refusals.Fault f) s l n i e (inr h) = head_above from next before b f s i (subst (λ (p : Place). HeadStands p f) (sym e) h)
-refuses_both from next before b leaf scope refusals.Memory s l n i e h = tt
-refuses_both from next before b leaf scope refusals.StoreFailed s l n i e h = h
-refuses_both from next before b leaf scope refusals.StoreChanged s l n i e h = h
-refuses_both from next before b leaf scope refusals.WriteFailed s l n i e h = h
-refuses_both from next before b leaf scope refusals.NoSuchTrack s l n i e h = h
 
 -- ---- with tables
 

@@ -1,20 +1,16 @@
 -- The boxes of an `mvex`, one after the other.
-use Rattle.std.proofs.Common.{◌≡◌, ℕ, inl, inr, true, false, List, [], ◌∷◌, ◌++◌, map, refl, sym, ap, subst, ◌∙◌, arith}
+use Rattle.std.proofs.Common.{◌≡◌, ℕ, true, false, List, [], ◌∷◌, ◌++◌, map, refl, sym, ap, subst, ◌∙◌}
 use Rattle.std.specs.Prelude.{codes, bytes_eq, nat_eq}
-use Rattle.std.specs.List.{list_any, AllZip}
-use Rattle.std.specs.Ordering.{nat_cmp}
-use Rattle.std.specs.BTreeSet.{BTreeSet, contains}
+use Rattle.std.specs.List.{list_any}
+use Rattle.std.specs.BTreeSet.{BTreeSet}
 use Rattle.std.proofs.lemmas.List.{map-append}
 use Rattle.mp4_boxes.specs.format.Box.{Box, box_container}
-use Rattle.mp4_boxes.specs.format.BoxFaults.{fault_of}
 use Rattle.mp4_boxes.specs.format.Children.{Holds, of_kind}
 use Rattle.mp4_boxes.specs.format.Layout.{trex, IsSound}
-use Rattle.mp4_boxes.specs.format.Places.{ruled, AreSound, IsSoundAs, leaf_of}
+use Rattle.mp4_boxes.specs.format.Places.{ruled, AreSound}
 use Rattle.mp4_boxes.specs.declared.rule.Rule.TheVariants as kinds
 use Rattle.mp4_boxes.specs.declared.fault.Fault.{Fault}
-use Rattle.mp4_boxes.specs.declared.fault.Kind.TheVariants.{BadValue}
 use Rattle.mp4_boxes.specs.declared.refusal.Refusal.TheVariants as refusals
-use Rattle.mp4_boxes.proofs.Among.{all_in}
 use Rattle.mp4_frag.specs.declared.trex.Trex.{Trex}
 use Rattle.mp4_frag.specs.format.Fragments.{trex_of}
 use Rattle.mp4_head.specs.format.Tree.{are_distinct}
@@ -22,9 +18,8 @@ use Rattle.mp4_head.specs.words.Containers.{SaysExtends}
 use Rattle.mp4_head.specs.words.Ids.{HasIds, AddsId}
 use Rattle.mp4_head.specs.words.Leaves.{IsFaultOf}
 use Rattle.mp4_head.specs.words.Refuses.{RefusesIn, place_of}
-use Rattle.mp4_head.proofs.Above.{stands_of, here, leaf_here}
-use Rattle.mp4_head.proofs.Inside.{stands_before}
-use Rattle.mp4_head.proofs.Taken.{no_ids, more_ids, distinct_more, whose, zip_values}
+use Rattle.mp4_head.proofs.Above.{stands_of, leaf_here}
+use Rattle.mp4_head.proofs.Taken.{no_ids, more_ids, distinct_more}
 use Rattle.mp4_head.proofs.Walks.{Walk, walk_none, walk_more, walk_here, walk_all, sound_more, of_kind_this, of_kind_other}
 
 -- what was read of the boxes that were passed
@@ -84,32 +79,3 @@ pub extends_refuse : (b : Box) (all left later : List Box) (child : Box) (trexes
     → bytes_eq (codes "trex") child.kind ≡ true → IsFaultOf trex child f → RefusesIn (place_of (ruled kinds.MovieExtends) b) (refusals.Fault f)
 extends_refuse b all left later child trexes ids f h p e k q =
     leaf_here (place_of (ruled kinds.MovieExtends) b) p.walk.passed child trex f (stands_of b all p.walk.passed later child h.tiles (walk_here all left later child p.walk e)) (rw k refl) refl q
-
--- the `trex` in hand has an ID that one before it has
-pub extends_taken : (b : Box) (all left later : List Box) (child : Box) (trexes : List Trex) (ids : BTreeSet ℕ) (x : Trex) (f : Fault) → Holds kinds.MovieExtends (box_container b) all → ExtendsPassed all left trexes ids → left ≡ child ∷ later
-    → bytes_eq (codes "trex") child.kind ≡ true → IsSound trex child.payload → x ≡ trex_of child.payload → contains nat_cmp ids x.id ≡ true → f ≡ fault_of BadValue child → RefusesIn (place_of (ruled kinds.MovieExtends) b) (refusals.Fault f)
-extends_taken b all left later child trexes ids x f h p e k s r taken named =
-    let place = place_of (ruled kinds.MovieExtends) b in
-    let passed = p.walk.passed in
-    let split = walk_here all left later child p.walk e in
-    let z = subst (λ (ts : List Trex). AllZip (λ (c : Box) (t : Trex). t ≡ trex_of c.payload) (of_kind (codes "trex") passed) ts) (sym p.says) (zip_values (λ (c : Box). trex_of c.payload) (of_kind (codes "trex") passed)) in
-    let o = whose (λ (c : Box) (t : Trex). t ≡ trex_of c.payload) (λ (t : Trex). t.id) (codes "trex") passed trexes x.id z (sym (p.met x.id) ∙ taken) in
-    let q = stands_before b all passed later child o.b h.tiles split o.among in
-    let earlier : IsSound trex o.b.payload = rw o.is_kind at (all_in (λ (c : Box). IsSoundAs (leaf_of (ruled kinds.MovieExtends) c.kind) c.payload) passed o.b o.among p.sound) in
-    inr (inr (inr (inr (inr (inl (record {
-      place = place;
-      before = passed;
-      b = child;
-      stands = here place passed child (stands_of b all passed later child h.tiles split);
-      leaf_is = rw k refl;
-      readable = s.readable;
-      earlier_place = place;
-      earlier_before = q.before;
-      earlier = o.b;
-      earlier_stands = here place q.before o.b q.stands;
-      earlier_leaf_is = rw o.is_kind refl;
-      earlier_readable = earlier.readable;
-      order = omega (arith, q.order, q.header);
-      same_id = sym (ap (λ (t : Trex). t.id) r) ∙ sym o.number ∙ ap (λ (t : Trex). t.id) o.goes;
-      named = named;
-    }))))))

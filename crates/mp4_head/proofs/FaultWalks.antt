@@ -50,20 +50,20 @@ pub refused_here : (judged : List Box → Box → Option Fault) (all left later 
     → RefusesFirst first r → RefusesFirst whole r
 refused_here judged all left later b first whole (refusals.Fault f) p e named same q = same ∙ fault_here judged all left later b f p e (λ before is. named before is ∙ q)
 refused_here judged all left later b first whole refusals.Memory p e named same q = tt
-refused_here judged all left later b first whole refusals.StoreFailed p e named same q = tt
-refused_here judged all left later b first whole refusals.WriteFailed p e named same q = tt
-refused_here judged all left later b first whole refusals.StoreChanged p e named same q = tt
-refused_here judged all left later b first whole refusals.NoSuchTrack p e named same q = tt
+refused_here judged all left later b first whole refusals.StoreFailed p e named same q = q
+refused_here judged all left later b first whole refusals.WriteFailed p e named same q = q
+refused_here judged all left later b first whole refusals.StoreChanged p e named same q = q
+refused_here judged all left later b first whole refusals.NoSuchTrack p e named same q = q
 
 -- the same, where what it is judged by hangs on the boxes before
 pub refused_with : (judged : List Box → Box → Option Fault) (all left later : List Box) (b : Box) (whole : Option Fault) (r : Refusal) → FaultPassed judged all left → left ≡ b ∷ later → whole ≡ each_fault judged [] all
     → ((before : List Box) → all ≡ before ++ b ∷ later → RefusesFirst (judged before b) r) → RefusesFirst whole r
 refused_with judged all left later b whole (refusals.Fault f) p e same q = same ∙ fault_here judged all left later b f p e q
 refused_with judged all left later b whole refusals.Memory p e same q = tt
-refused_with judged all left later b whole refusals.StoreFailed p e same q = tt
-refused_with judged all left later b whole refusals.WriteFailed p e same q = tt
-refused_with judged all left later b whole refusals.StoreChanged p e same q = tt
-refused_with judged all left later b whole refusals.NoSuchTrack p e same q = tt
+refused_with judged all left later b whole refusals.StoreFailed p e same q = q p.passed (p.whole ∙ ap (λ (bs : List Box). p.passed ++ bs) e)
+refused_with judged all left later b whole refusals.WriteFailed p e same q = q p.passed (p.whole ∙ ap (λ (bs : List Box). p.passed ++ bs) e)
+refused_with judged all left later b whole refusals.StoreChanged p e same q = q p.passed (p.whole ∙ ap (λ (bs : List Box). p.passed ++ bs) e)
+refused_with judged all left later b whole refusals.NoSuchTrack p e same q = q p.passed (p.whole ∙ ap (λ (bs : List Box). p.passed ++ bs) e)
 
 -- none is left
 pub fault_all : (judged : List Box → Box → Option Fault) (all left : List Box) → FaultPassed judged all left → left ≡ [] → each_fault judged [] all ≡ None

@@ -1,16 +1,12 @@
 -- What the headers of a movie, a track and its media say, by the places of their numbers.
-use Rattle.std.proofs.Common.{◌≡◌, ℕ, zero, suc, ◌+◌, ◌*◌, ◌<◌, false, eqb, List, [], ◌∷◌, length, take, refl, sym, ap, ◌∙◌, arith, lit<}
+use Rattle.std.proofs.Common.{◌≡◌, ℕ, zero, suc, ◌+◌, ◌*◌, ◌<◌, false, eqb, List, [], ◌∷◌, length, take, refl, ap, ◌∙◌, arith, lit<}
 use Rattle.std.specs.Prelude.{slice_index, map}
 use Rattle.byteorder.specs.Endian.{twos_complement}
 use Rattle.std.proofs.Math.Dec.{eqb-suc-zero}
 use Rattle.mp4_boxes.specs.format.Bytes.{field, width_of}
-use Rattle.mp4_boxes.specs.format.Box.{Box}
-use Rattle.mp4_boxes.specs.format.BoxFaults.{fault_of}
 use Rattle.mp4_boxes.specs.format.Layout.{mvhd, tkhd, mdhd, fields, leaf_fields, version, time_width, needed, IsReadable, IsSound}
-use Rattle.mp4_boxes.specs.declared.fault.Fault.{Fault}
-use Rattle.mp4_boxes.specs.declared.fault.Kind.TheVariants.{BadValue}
 use Rattle.mp4_head.specs.format.Tree.{matrix_of}
-use Rattle.mp4_head.specs.words.Leaves.{IsFaultOf, IsOpen, nine}
+use Rattle.mp4_head.specs.words.Leaves.{IsOpen, nine}
 use Rattle.mp4_head.proofs.Opening.{open_readable, number_is}
 
 -- a number that is not 0
@@ -51,10 +47,6 @@ pub movie_sound : (payload : List ℕ) (width timescale : ℕ) → IsOpen 1 88 3
 movie_sound payload width timescale o e ne =
     record { readable = movie_readable payload width o; value = not_zero (slice_index (leaf_fields mvhd payload) 4) (λ z. ne (e ∙ z)); inside = refl; offsets = refl }
 
--- one without is at fault
-pub movie_fault : (b : Box) (f : Fault) (width timescale : ℕ) → IsOpen 1 88 3 b.payload width → timescale ≡ slice_index (leaf_fields mvhd b.payload) 4 → timescale ≡ 0 → f ≡ fault_of BadValue b → IsFaultOf mvhd b f
-movie_fault b f width timescale o e z named = record { kind = BadValue; fails = (movie_readable b.payload width o, ap (λ (n : ℕ). eqb n 0) (sym e ∙ z)); named = named }
-
 -- ---- `tkhd`
 
 -- a number of a `tkhd` at its place
@@ -88,10 +80,6 @@ pub track_sound : (payload : List ℕ) (width id : ℕ) → IsOpen 1 72 3 payloa
 track_sound payload width id o e ne =
     record { readable = track_readable payload width o; value = not_zero (slice_index (leaf_fields tkhd payload) 4) (λ z. ne (e ∙ z)); inside = refl; offsets = refl }
 
--- one without is at fault
-pub track_fault : (b : Box) (f : Fault) (width id : ℕ) → IsOpen 1 72 3 b.payload width → id ≡ slice_index (leaf_fields tkhd b.payload) 4 → id ≡ 0 → f ≡ fault_of BadValue b → IsFaultOf tkhd b f
-track_fault b f width id o e z named = record { kind = BadValue; fails = (track_readable b.payload width o, ap (λ (n : ℕ). eqb n 0) (sym e ∙ z)); named = named }
-
 -- ---- `mdhd` and `hdlr`
 
 -- a number of an `mdhd` at its place
@@ -109,7 +97,3 @@ media_readable payload width o = let n = media_needs payload in open_readable md
 pub media_sound : (payload : List ℕ) (width timescale : ℕ) → IsOpen 1 12 3 payload width → timescale ≡ slice_index (leaf_fields mdhd payload) 4 → ¬ (timescale ≡ 0) → IsSound mdhd payload
 media_sound payload width timescale o e ne =
     record { readable = media_readable payload width o; value = not_zero (slice_index (leaf_fields mdhd payload) 4) (λ z. ne (e ∙ z)); inside = refl; offsets = refl }
-
--- one without is at fault
-pub media_fault : (b : Box) (f : Fault) (width timescale : ℕ) → IsOpen 1 12 3 b.payload width → timescale ≡ slice_index (leaf_fields mdhd b.payload) 4 → timescale ≡ 0 → f ≡ fault_of BadValue b → IsFaultOf mdhd b f
-media_fault b f width timescale o e z named = record { kind = BadValue; fails = (media_readable b.payload width o, ap (λ (n : ℕ). eqb n 0) (sym e ∙ z)); named = named }

@@ -3,19 +3,15 @@ use Rattle.std.proofs.Common.{◌≡◌, true, false, List, [], ◌∷◌, map, 
 use Rattle.std.specs.Prelude.{codes, bytes_eq}
 use Rattle.mp4_boxes.specs.format.Box.{Box, box_container}
 use Rattle.mp4_boxes.specs.format.Children.{Holds, is_among, media_headers}
-use Rattle.mp4_boxes.specs.format.Places.{ruled}
 use Rattle.mp4_boxes.specs.words.View.{box_seen}
 use Rattle.mp4_boxes.specs.declared.view.BoxView.{BoxView}
 use Rattle.mp4_boxes.specs.declared.rule.Rule.TheVariants as kinds
-use Rattle.mp4_boxes.specs.declared.refusal.Refusal.{Refusal}
 use Rattle.mp4_boxes.proofs.Refusing.{holds_only}
 use Rattle.mp4_boxes.proofs.Sound.{same_kind}
 use Rattle.mp4_head.specs.words.Seen.{kept_seen}
 use Rattle.mp4_head.specs.declared.kept_boxes.Kept.{Kept}
 use Rattle.mp4_head.specs.declared.sample_table.SampleTable.{SampleTable}
 use Rattle.mp4_head.specs.words.Containers.{SaysDataInformation, SaysTable, SaysInformation, kept_of}
-use Rattle.mp4_head.specs.words.Refuses.{RefusesIn, place_of}
-use Rattle.mp4_head.proofs.Above.{stands_of, refuses_above}
 use Rattle.mp4_head.proofs.Walks.{Walk, walk_none, walk_more, walk_here, walk_all, none_before, IfPassed, passed_other, passed_this, passed_must, FirstRead, not_yet, first_other, first_this, first_read, first_missing}
 use Rattle.mp4_head.proofs.AmongWalks.{AmongRead, none_among, among_other, among_this, among_read, among_missing}
 use Rattle.mp4_head.proofs.AmongWalks as among
@@ -123,15 +119,3 @@ information_no_header b all left header tables h p e a = information_headless b 
 
 pub information_no_table : (b : Box) (all left : List Box) (header : Option Kept) (tables : Option (BoxView × SampleTable)) → Holds kinds.MediaInformation (box_container b) all → InformationPassed all left header tables → left ≡ [] → tables ≡ None → ⊥
 information_no_table b all left header tables h p e a = information_tableless b all left header h (subst (λ (x : Option (BoxView × SampleTable)). InformationPassed all left header x) a p) e
-
--- the `dinf` or the `stbl` in hand refuses
-pub information_data_refuse : (b : Box) (all left later : List Box) (child : Box) (header : Option Kept) (tables : Option (BoxView × SampleTable)) (r : Refusal) → Holds kinds.MediaInformation (box_container b) all → InformationPassed all left header tables → left ≡ child ∷ later
-    → bytes_eq (codes "dinf") child.kind ≡ true → RefusesIn (place_of (ruled kinds.DataInformation) child) r → RefusesIn (place_of (ruled kinds.MediaInformation) b) r
-information_data_refuse b all left later child header tables r h p e k q =
-    refuses_above (place_of (ruled kinds.MediaInformation) b) (place_of (ruled kinds.DataInformation) child) p.walk.passed child r (stands_of b all p.walk.passed later child h.tiles (walk_here all left later child p.walk e)) (rw k refl) q
-
-pub information_table_refuse : (b : Box) (all left later : List Box) (child : Box) (header : Option Kept) (tables : Option (BoxView × SampleTable)) (r : Refusal) → Holds kinds.MediaInformation (box_container b) all → InformationPassed all left header tables → left ≡ child ∷ later
-    → bytes_eq (codes "stbl") child.kind ≡ true → RefusesIn (place_of (ruled kinds.SampleTable) child) r → RefusesIn (place_of (ruled kinds.MediaInformation) b) r
-information_table_refuse b all left later child header tables r h p e k q =
-    refuses_above (place_of (ruled kinds.MediaInformation) b) (place_of (ruled kinds.SampleTable) child) p.walk.passed child r (stands_of b all p.walk.passed later child h.tiles (walk_here all left later child p.walk e))
-    (rw (same_kind (codes "stbl") child.kind k) refl) q

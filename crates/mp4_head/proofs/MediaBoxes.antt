@@ -8,18 +8,13 @@ use Rattle.mp4_boxes.specs.format.Layout.{mdhd, hdlr, IsSound}
 use Rattle.mp4_boxes.specs.format.Places.{ruled, AreSound}
 use Rattle.mp4_boxes.specs.words.View.{box_seen}
 use Rattle.mp4_boxes.specs.declared.rule.Rule.TheVariants as kinds
-use Rattle.mp4_boxes.specs.declared.refusal.Refusal.{Refusal}
-use Rattle.mp4_boxes.specs.declared.refusal.Refusal.TheVariants as refusals
-use Rattle.mp4_boxes.specs.declared.fault.Fault.{Fault}
 use Rattle.mp4_boxes.proofs.Refusing.{holds_only}
 use Rattle.mp4_boxes.proofs.Sound.{same_kind}
 use Rattle.mp4_head.specs.words.Seen.{kept_seen}
 use Rattle.mp4_head.specs.declared.media_boxes.MediaHeader.{MediaHeader}
 use Rattle.mp4_head.specs.declared.information.Information.{Information}
 use Rattle.mp4_head.specs.words.Containers.{SaysInformation, SaysMediaBoxes}
-use Rattle.mp4_head.specs.words.Leaves.{IsFaultOf, SaysMedia}
-use Rattle.mp4_head.specs.words.Refuses.{RefusesIn, place_of}
-use Rattle.mp4_head.proofs.Above.{stands_of, leaf_here, refuses_above}
+use Rattle.mp4_head.specs.words.Leaves.{SaysMedia}
 use Rattle.mp4_head.proofs.Walks.{Walk, walk_none, walk_more, walk_here, walk_all, none_before, sound_more, FirstRead, not_yet, first_other, first_this, first_read, first_missing, of_kind_this, of_kind_other}
 
 -- what is said of the boxes of which one stands
@@ -177,21 +172,3 @@ pub media_no_information : (b : Box) (all left : List Box) (header : Option Medi
 media_no_information b all left header handler languages information h p e a =
     let q = subst (λ (o : Option Information). MediaPassed all left header handler languages o) a p in
     first_missing IsInformation (codes "minf") all q.walk.passed (walk_all all left q.walk e) (holds_only h (codes "minf") refl) q.inside
-
--- the leaf in hand is at fault
-pub media_header_refuse : (b : Box) (all left later : List Box) (child : Box) (header : Option MediaHeader) (handler : Option (Bor (List ℕ))) (languages : List (List ℕ)) (information : Option Information) (f : Fault) → Holds kinds.Media (box_container b) all
-    → MediaPassed all left header handler languages information → left ≡ child ∷ later → bytes_eq (codes "mdhd") child.kind ≡ true → IsFaultOf mdhd child f → RefusesIn (place_of (ruled kinds.Media) b) (refusals.Fault f)
-media_header_refuse b all left later child header handler languages information f h p e k q =
-    leaf_here (place_of (ruled kinds.Media) b) p.walk.passed child mdhd f (stands_of b all p.walk.passed later child h.tiles (walk_here all left later child p.walk e)) (rw k refl) refl q
-
-pub media_handler_refuse : (b : Box) (all left later : List Box) (child : Box) (header : Option MediaHeader) (handler : Option (Bor (List ℕ))) (languages : List (List ℕ)) (information : Option Information) (f : Fault) → Holds kinds.Media (box_container b) all
-    → MediaPassed all left header handler languages information → left ≡ child ∷ later → bytes_eq (codes "hdlr") child.kind ≡ true → IsFaultOf hdlr child f → RefusesIn (place_of (ruled kinds.Media) b) (refusals.Fault f)
-media_handler_refuse b all left later child header handler languages information f h p e k q =
-    let is = same_kind (codes "hdlr") child.kind k in
-    leaf_here (place_of (ruled kinds.Media) b) p.walk.passed child hdlr f (stands_of b all p.walk.passed later child h.tiles (walk_here all left later child p.walk e)) (rw is refl) refl q
-
--- the `minf` in hand refuses
-pub media_information_refuse : (b : Box) (all left later : List Box) (child : Box) (header : Option MediaHeader) (handler : Option (Bor (List ℕ))) (languages : List (List ℕ)) (information : Option Information) (r : Refusal) → Holds kinds.Media (box_container b) all
-    → MediaPassed all left header handler languages information → left ≡ child ∷ later → bytes_eq (codes "minf") child.kind ≡ true → RefusesIn (place_of (ruled kinds.MediaInformation) child) r → RefusesIn (place_of (ruled kinds.Media) b) r
-media_information_refuse b all left later child header handler languages information r h p e k q =
-    refuses_above (place_of (ruled kinds.Media) b) (place_of (ruled kinds.MediaInformation) child) p.walk.passed child r (stands_of b all p.walk.passed later child h.tiles (walk_here all left later child p.walk e)) (rw k refl) q

@@ -1,6 +1,6 @@
 -- What is said of a `moov` is its head, and a head that was written is read again.
 use Rattle.std.proofs.Common.{◌≡◌, ℕ, ◌+◌, List, ◌++◌, length, drop, refl, sym, ap, subst, ◌∙◌, arith, length-append}
-use Rattle.std.specs.Prelude.{codes, Result, Ok, Err, IfErr}
+use Rattle.std.specs.Prelude.{codes, [], Result, Ok, Err, IfOk}
 use Rattle.std.specs.List.{AllZip}
 use Rattle.std.proofs.lemmas.List.{drop_at}
 use Rattle.byteorder.specs.Endian.{big_bytes}
@@ -17,7 +17,10 @@ use Rattle.mp4_head.specs.format.Tree.{HasHead, MovieTree, IsMovieTree, head_of}
 use Rattle.mp4_head.specs.words.Seen.{head_seen}
 use Rattle.mp4_head.specs.words.Found.{SaysHead, IsFoundIn}
 use Rattle.mp4_head.specs.words.Normal.{IsWritable, IsWrittenMoov, ReadsAgain, normal_trexes}
-use Rattle.mp4_head.specs.words.Refuses.{RefusesIn, place_of}
+use Rattle.mp4_head.specs.words.Refuses.{place_of}
+use Rattle.mp4_head.specs.words.FaultNamed.{NamesRefused, RefusesFirst}
+use Rattle.mp4_head.specs.format.FirstFault.{depth, fault_within, head_or_fault}
+use Rattle.mp4_head.proofs.JudgedStands.{judged_stands}
 use Rattle.mp4_head.specs.format.Writing.{moov_bytes}
 use Rattle.mp4_head.specs.declared.heads.MovieHead as declared
 use Rattle.mp4_head.proofs.HeadExcludes.{refused_rightly}
@@ -55,16 +58,18 @@ again_ok b head s movie tracks duration w i =
     (said_of b head h.tree s h.is_moov h.is_tree).0 ∙ sym h.says
 
 -- or refused for want of memory
-again_err : (b : Box) (result : Result declared.MovieHead Refusal) (r : Refusal) → result ≡ Err r → IfErr result (λ x. x ≡ refusals.Memory) → ReadsAgain b result
-again_err b (Ok head) r e q movie tracks duration w i = absurd cc
-again_err b (Err x) r e q movie tracks duration w i = q
-
-pub again_refused : (b : Box) (result : Result declared.MovieHead Refusal) (r : Refusal) → result ≡ Err r → IfErr result (RefusesIn (place_of (ruled rules.Movie) b)) → ReadsAgain b result
-again_refused b result r e q movie tracks duration w i =
+again_first : (b : Box) (r : Refusal) → RefusesFirst (fault_within depth [] (place_of (ruled rules.Movie) b)) r → ReadsAgain b (Err r)
+again_first b (refusals.Fault f) e movie tracks duration w i =
     let h = has_head b movie tracks duration w i in
-    again_err b result r e (refused_rightly b result h.tree h.is_moov h.is_tree h.is_sound q) movie tracks duration w i
+    let named : head_or_fault b ≡ Err f = rw e refl in
+    refused_rightly {A = declared.MovieHead} b (Err (refusals.Fault f)) h.tree h.is_moov h.is_tree h.is_sound (judged_stands b f named)
+again_first b refusals.Memory e movie tracks duration w i = refl
+again_first b refusals.StoreFailed e movie tracks duration w i = absurd e
+again_first b refusals.StoreChanged e movie tracks duration w i = absurd e
+again_first b refusals.WriteFailed e movie tracks duration w i = absurd e
+again_first b refusals.NoSuchTrack e movie tracks duration w i = absurd e
 
--- no memory was to be had
-pub again_memory : (b : Box) (result : Result declared.MovieHead Refusal) (r : Refusal) → result ≡ Err r → r ≡ refusals.Memory → ReadsAgain b result
-again_memory b (Ok head) r e m movie tracks duration w i = absurd cc
-again_memory b (Err x) r e m movie tracks duration w i = let same : x ≡ r = cc in same ∙ m
+-- whatever is answered of it
+pub reads_again : (b : Box) (result : Result declared.MovieHead Refusal) → IfOk result (SaysHead b) → NamesRefused (fault_within depth [] (place_of (ruled rules.Movie) b)) result → ReadsAgain b result
+reads_again b (Ok head) says exact = again_ok b head says
+reads_again b (Err r) says exact = again_first b r exact.names

@@ -1,21 +1,16 @@
 -- The boxes of a `dinf` and of an `stbl`, one after the other.
-use Rattle.std.proofs.Common.{◌≡◌, ℕ, inl, inr, true, false, List, [], ◌∷◌, ◌++◌, map, refl, sym, ap, subst, ◌∙◌, arith}
+use Rattle.std.proofs.Common.{◌≡◌, ℕ, true, false, List, [], ◌∷◌, ◌++◌, map, refl, sym, ap, subst, ◌∙◌, arith}
 use Rattle.std.specs.Prelude.{codes, bytes_eq}
 use Rattle.std.proofs.lemmas.List.{map-append}
 use Rattle.mp4_boxes.specs.format.Box.{Box, box_container}
 use Rattle.mp4_boxes.specs.format.Children.{Holds, of_kind}
 use Rattle.mp4_boxes.specs.format.Layout.{dref, stsd}
-use Rattle.mp4_boxes.specs.format.Places.{ruled, data_entries, sample_entries, AreSound}
+use Rattle.mp4_boxes.specs.format.Places.{ruled, AreSound}
 use Rattle.mp4_boxes.specs.declared.rule.Rule.TheVariants as kinds
-use Rattle.mp4_boxes.specs.declared.fault.Fault.{Fault}
-use Rattle.mp4_boxes.specs.declared.refusal.Refusal.{Refusal}
 use Rattle.mp4_boxes.proofs.Refusing.{holds_only}
 use Rattle.mp4_boxes.proofs.Sound.{same_kind}
 use Rattle.mp4_head.specs.format.Head.{Kept}
 use Rattle.mp4_head.specs.words.Containers.{SaysReferences, SaysDataInformation, SaysDescriptions, SaysTable}
-use Rattle.mp4_head.specs.format.HeadFaults.{HeadStands}
-use Rattle.mp4_head.specs.words.Refuses.{StandsOrFails, RefusesBoth, RefusesIn, place_of}
-use Rattle.mp4_head.proofs.Above.{stands_of, leaf_here, head_above, refuses_both}
 use Rattle.mp4_head.proofs.Walks.{Walk, walk_none, walk_more, walk_here, walk_all, none_before, sound_more, IfPassed, passed_other, passed_this, passed_must, of_kind_this, of_kind_other}
 
 -- ---- `dinf`
@@ -59,14 +54,6 @@ data_all b all left h p e =
       sound = subst (λ (bs : List Box). AreSound (ruled kinds.DataInformation) bs) (sym same) p.sound;
       references = passed_must SaysReferences (codes "dref") all p.walk.passed same (holds_only h (codes "dref") refl) p.references;
     }
-
--- the `dref` in hand is at fault
-pub data_fail : (b : Box) (all left later : List Box) (child : Box) (f : Fault) → Holds kinds.DataInformation (box_container b) all → DataPassed all left → left ≡ child ∷ later
-    → bytes_eq (codes "dref") child.kind ≡ true → StandsOrFails dref data_entries child f → HeadStands (place_of (ruled kinds.DataInformation) b) f
-data_fail b all left later child f h p e k (inl q) =
-    leaf_here (place_of (ruled kinds.DataInformation) b) p.walk.passed child dref f (stands_of b all p.walk.passed later child h.tiles (walk_here all left later child p.walk e)) (rw k refl) refl q
-data_fail b all left later child f h p e k (inr q) =
-    head_above (place_of (ruled kinds.DataInformation) b) (place_of data_entries child) p.walk.passed child f (stands_of b all p.walk.passed later child h.tiles (walk_here all left later child p.walk e)) (rw k refl) q
 
 -- ---- `stbl`
 
@@ -120,9 +107,3 @@ table_all b all left descriptions groups h p e =
       entries = passed_must (λ c. SaysDescriptions c descriptions) (codes "stsd") all p.walk.passed same (holds_only h (codes "stsd") refl) p.entries;
       says = p.says ∙ ap (λ (bs : List Box). map (λ (c : Box). c.payload) (of_kind (codes "sgpd") bs)) (sym same);
     }
-
--- the `stsd` in hand refuses
-pub table_refuse : (b : Box) (all left later : List Box) (child : Box) (descriptions : List Kept) (groups : List (List ℕ)) (r : Refusal) → Holds kinds.SampleTable (box_container b) all → TablePassed all left descriptions groups → left ≡ child ∷ later
-    → bytes_eq (codes "stsd") child.kind ≡ true → RefusesBoth stsd sample_entries child r → RefusesIn (place_of (ruled kinds.SampleTable) b) r
-table_refuse b all left later child descriptions groups r h p e k q =
-    refuses_both (place_of (ruled kinds.SampleTable) b) (place_of sample_entries child) p.walk.passed child stsd sample_entries r (stands_of b all p.walk.passed later child h.tiles (walk_here all left later child p.walk e)) (rw k refl) refl (rw k refl) refl q

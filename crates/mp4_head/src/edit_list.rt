@@ -2,7 +2,7 @@
 //! and 8.6.6).
 ghost use Rattle.std.specs.Prelude.{◌≡◌, ◌+◌, ◌*◌, ◌≤◌, ◌⊎◌, ℕ, suc, List, length, map, Some, IfOk, IfErr, MatchResult, None};
 ghost use Rattle.mp4_boxes.specs.format.Bytes.{numbers, signed_field};
-ghost use Rattle.mp4_boxes.specs.format.Layout.{elst, row, row_count, time_width, IsSound};
+ghost use Rattle.mp4_boxes.specs.format.Layout.{elst, row, row_count, time_width};
 ghost use Rattle.mp4_boxes.specs.words.View.{box_seen};
 ghost use Rattle.mp4_boxes.specs.format.FirstFault.{leaf_fault};
 ghost use Rattle.mp4_head.specs.words.Leaves.{IsFaultOf, IsOpen};
@@ -13,7 +13,7 @@ ghost use Rattle.mp4_boxes.specs.declared.rule.Rule.TheVariants.{Edits};
 ghost use Rattle.mp4_head.specs.words.Containers.{SaysEdits};
 ghost use Rattle.mp4_head.specs.format.FirstFault.{fault_within};
 ghost use Rattle.mp4_head.specs.words.FaultNamed.{NamesRefused};
-ghost use Rattle.mp4_head.specs.words.Refuses.{RefusesLeaf, RefusesIn, place_of};
+ghost use Rattle.mp4_head.specs.words.Refuses.{place_of};
 
 use crate::leaves::{i16_at, is, open, time_at};
 use mp4_boxes::{
@@ -82,8 +82,6 @@ fn open_edit_list(view: BoxView) -> Result<(usize, usize), Fault>
 fn read_edit_list(alloc: Global, view: BoxView) -> Result<Vec<Edit>, Refusal>
     ensures edits { IfOk result (λ edits. map edit_seen edits.items
         ≡ edits_of (Some (box_seen view.entry).payload)) }
-    ensures sound { IfOk result (λ _. IsSound elst (box_seen view.entry).payload) }
-    ensures refusal { IfErr result (RefusesLeaf elst (box_seen view.entry)) }
     ensures exact { NamesRefused (leaf_fault elst (box_seen view.entry)) result }
 {
     let (count, width) = open_edit_list(view)?;
@@ -101,7 +99,6 @@ fn read_edit_list(alloc: Global, view: BoxView) -> Result<Vec<Edit>, Refusal>
 pub(crate) fn read_edits(alloc: Global, edts: BoxView) -> Result<Vec<Edit>, Refusal>
     ensures edits { IfOk result
         (λ edits. SaysEdits (box_seen edts.entry) (map edit_seen edits.items)) }
-    ensures refusal { IfErr result (RefusesIn (place_of (ruled Edits) (box_seen edts.entry))) }
     ensures exact { (n : ℕ) (ids : List ℕ) → NamesRefused
         (fault_within (suc n) ids (place_of (ruled Edits) (box_seen edts.entry))) result }
 {

@@ -1,7 +1,7 @@
 //! `mvex` and `trex`: what fragments take where they say nothing (ISO/IEC 14496-12, 8.8.1 and
 //! 8.8.3).
-ghost use Rattle.std.specs.Prelude.{◌≡◌, ℕ, suc, List, IfOk, OnOk, IfErr, MatchResult, None, Some};
-ghost use Rattle.mp4_boxes.specs.format.Layout.{trex, IsSound};
+ghost use Rattle.std.specs.Prelude.{◌≡◌, ℕ, suc, List, IfOk, MatchResult, None, Some};
+ghost use Rattle.mp4_boxes.specs.format.Layout.{trex};
 ghost use Rattle.mp4_boxes.specs.format.Places.{ruled};
 ghost use Rattle.mp4_boxes.specs.words.View.{box_seen};
 ghost use Rattle.mp4_boxes.specs.format.FirstFault.{leaf_fault};
@@ -10,8 +10,7 @@ ghost use Rattle.mp4_frag.specs.format.Fragments.{trex_of};
 ghost use Rattle.mp4_head.specs.words.Containers.{SaysExtends};
 ghost use Rattle.mp4_head.specs.format.FirstFault.{fault_within};
 ghost use Rattle.mp4_head.specs.words.FaultNamed.{NamesRefused};
-ghost use Rattle.mp4_head.specs.words.Leaves.{IsFaultOf};
-ghost use Rattle.mp4_head.specs.words.Refuses.{RefusesIn, place_of};
+ghost use Rattle.mp4_head.specs.words.Refuses.{place_of};
 
 use crate::leaves::{is, open};
 use mp4_boxes::{BoxView, Fault, FourCc, Kind, Refusal, Rule, check_children, u32_at};
@@ -38,8 +37,6 @@ fn read_trex(view: BoxView) -> Result<Trex, Fault>
 // The `trex` of a `mvex`, of which no two have one ID. A `mehd` is not read.
 pub(crate) fn read_extends(alloc: Global, mvex: BoxView) -> Result<Vec<Trex>, Refusal>
     ensures says { IfOk result (λ ts. SaysExtends (box_seen mvex.entry) ts.items) }
-    ensures refusal { IfErr result
-        (RefusesIn (place_of (ruled rules.MovieExtends) (box_seen mvex.entry))) }
     ensures exact { (n : ℕ) (ids : List ℕ) → NamesRefused (fault_within (suc n) ids
         (place_of (ruled rules.MovieExtends) (box_seen mvex.entry))) result }
 {

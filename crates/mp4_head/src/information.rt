@@ -5,12 +5,11 @@ ghost use Rattle.mp4_boxes.specs.format.Places.{ruled, data_entries};
 ghost use Rattle.mp4_boxes.specs.words.View.{box_seen};
 ghost use Rattle.mp4_boxes.specs.declared.rule.Rule.TheVariants as rules;
 ghost use Rattle.mp4_head.specs.words.Containers.{SaysReferences, SaysDataInformation, SaysInformation};
-ghost use Rattle.mp4_head.specs.format.HeadFaults.{HeadStands};
 ghost use Rattle.mp4_boxes.specs.format.FirstFault.{first_failed, leaf_fault};
 ghost use Rattle.mp4_head.specs.format.FirstFault.{fault_within, own_tests, or_else};
 ghost use Rattle.mp4_head.specs.words.FaultNamed.{NamesFault, NamesRefused};
 ghost use Rattle.mp4_head.specs.words.Leaves.{FailsAsReference};
-ghost use Rattle.mp4_head.specs.words.Refuses.{StandsOrFails, RefusesIn, place_of};
+ghost use Rattle.mp4_head.specs.words.Refuses.{place_of};
 ghost use Rattle.mp4_head.specs.words.Seen.{kept_seen};
 ghost use Rattle.mp4_boxes.specs.format.Children.{is_among, media_headers};
 
@@ -43,7 +42,6 @@ fn check_reference(entry: BoxView) -> Result<(), Fault>
 // The entries of a `dref`.
 fn check_references(view: BoxView) -> Result<(), Fault>
     ensures says { OnOk result (SaysReferences (box_seen view.entry)) }
-    ensures fault { IfErr result (StandsOrFails dref data_entries (box_seen view.entry)) }
     ensures exact { (n : ℕ) (ids : List ℕ) → NamesFault (or_else
         (leaf_fault dref (box_seen view.entry)) (λ u.
         fault_within (suc n) ids (place_of data_entries (box_seen view.entry)))) result }
@@ -60,8 +58,6 @@ fn check_references(view: BoxView) -> Result<(), Fault>
 
 fn check_data_information(dinf: BoxView) -> Result<(), Fault>
     ensures says { OnOk result (SaysDataInformation (box_seen dinf.entry)) }
-    ensures fault { IfErr result
-        (HeadStands (place_of (ruled rules.DataInformation) (box_seen dinf.entry))) }
     ensures exact { (n : ℕ) (ids : List ℕ) → NamesFault (fault_within (suc (suc n)) ids
         (place_of (ruled rules.DataInformation) (box_seen dinf.entry))) result }
 {
@@ -96,8 +92,6 @@ pub(crate) fn read_information<'a>(
         (λ i. SaysInformation (box_seen minf.entry) (kept_seen i.header) (box_seen i.stbl)
         (map kept_seen i.table.descriptions.items)
         (map (λ p. p.now) i.table.group_descriptions.items)) }
-    ensures refusal { IfErr result
-        (RefusesIn (place_of (ruled rules.MediaInformation) (box_seen minf.entry))) }
     ensures exact { (n : ℕ) (ids : List ℕ) → NamesRefused (fault_within (suc (suc (suc n))) ids
         (place_of (ruled rules.MediaInformation) (box_seen minf.entry))) result }
 {

@@ -1,14 +1,14 @@
 //! `mdia`: `mdhd`, `hdlr`, `elng` and `minf` (ISO/IEC 14496-12, 8.4).
-ghost use Rattle.std.specs.Prelude.{◌≡◌, ◌+◌, ◌*◌, ◌≤◌, ◌⊎◌, ℕ, suc, List, length, map, IfOk, OnOk, IfErr, MatchResult, None, Some};
-ghost use Rattle.mp4_boxes.specs.format.Layout.{mdhd, hdlr, version, time_width, IsSound};
+ghost use Rattle.std.specs.Prelude.{◌≡◌, ◌+◌, ◌*◌, ◌≤◌, ◌⊎◌, ℕ, suc, List, length, map, IfOk, MatchResult, None, Some};
+ghost use Rattle.mp4_boxes.specs.format.Layout.{mdhd, hdlr, version, time_width};
 ghost use Rattle.mp4_boxes.specs.words.View.{box_seen};
 ghost use Rattle.mp4_boxes.specs.format.Places.{ruled};
 ghost use Rattle.mp4_boxes.specs.declared.rule.Rule.TheVariants as rules;
 ghost use Rattle.mp4_head.specs.words.Containers.{SaysMediaBoxes};
 ghost use Rattle.mp4_head.specs.format.FirstFault.{fault_within};
 ghost use Rattle.mp4_head.specs.words.FaultNamed.{NamesRefused};
-ghost use Rattle.mp4_head.specs.words.Leaves.{IsFaultOf, SaysMedia};
-ghost use Rattle.mp4_head.specs.words.Refuses.{RefusesIn, place_of};
+ghost use Rattle.mp4_head.specs.words.Leaves.{SaysMedia};
+ghost use Rattle.mp4_head.specs.words.Refuses.{place_of};
 ghost use Rattle.mp4_head.specs.words.Seen.{kept_seen};
 ghost use Rattle.mp4_boxes.specs.format.FirstFault.{leaf_fault};
 
@@ -83,8 +83,6 @@ pub(crate) fn read_media<'a>(alloc: Global, mdia: BoxView<'a>) -> Result<MediaPa
         (box_seen m.information.stbl)
         (map kept_seen m.information.table.descriptions.items)
         (map (λ p. p.now) m.information.table.group_descriptions.items)) }
-    ensures refusal { IfErr result
-        (RefusesIn (place_of (ruled rules.Media) (box_seen mdia.entry))) }
     ensures exact { (n : ℕ) (ids : List ℕ) → NamesRefused (fault_within
         (suc (suc (suc (suc n)))) ids
         (place_of (ruled rules.Media) (box_seen mdia.entry))) result }

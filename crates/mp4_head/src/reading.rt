@@ -1,18 +1,15 @@
 //! `moov`: the head of a movie, read (ISO/IEC 14496-12, 8.2.1).
-ghost use Rattle.std.specs.Prelude.{◌≡◌, ℕ, suc, [], map, IfOk, IfErr};
+ghost use Rattle.std.specs.Prelude.{◌≡◌, ℕ, suc, [], map, IfOk};
 ghost use Rattle.std.specs.List.{AllByRecursion};
 ghost use Rattle.mp4_boxes.specs.format.Children.{is_among, kept_kinds};
 ghost use Rattle.mp4_boxes.specs.format.Places.{ruled};
 ghost use Rattle.mp4_boxes.specs.words.View.{box_seen};
 ghost use Rattle.mp4_boxes.specs.declared.rule.Rule.TheVariants as rules;
-ghost use Rattle.mp4_boxes.specs.declared.refusal.Refusal.TheVariants as refusals;
 ghost use Rattle.mp4_head.specs.words.Found.{movie_joined, LiesIn, SaysHead};
 ghost use Rattle.mp4_head.specs.format.FirstFault.{fault_within};
 ghost use Rattle.mp4_head.specs.words.FaultNamed.{NamesRefused};
-ghost use Rattle.mp4_head.specs.words.Normal.{ReadsAgain};
-ghost use Rattle.mp4_head.specs.words.Refuses.{RefusesIn, place_of};
+ghost use Rattle.mp4_head.specs.words.Refuses.{place_of};
 ghost use Rattle.mp4_head.specs.words.Seen.{kept_seen, movie_seen};
-ghost use Rattle.mp4_head.specs.format.Tree.{MovieTree, IsMovieTree, IsSoundMovie};
 
 use crate::extends::read_extends;
 use crate::heads::{MovieHead, TrackHead};
@@ -64,13 +61,9 @@ pub fn read_head<'a>(alloc: Global, moov: BoxView<'a>) -> Result<MovieHead<'a>, 
     ensures head { IfOk result (SaysHead (box_seen moov.entry)) }
     ensures inside { IfOk result
         (λ m. AllByRecursion (λ t. LiesIn (box_seen moov.entry) (box_seen t.stbl)) m.tracks.items) }
-    ensures fault { IfErr result (RefusesIn (place_of (ruled rules.Movie) (box_seen moov.entry))) }
-    ensures only { (tree : MovieTree) → tree.moov ≡ box_seen moov.entry → IsMovieTree tree
-        → IsSoundMovie tree → IfErr result (λ r. r ≡ refusals.Memory) }
     ensures exact { (n : ℕ) → NamesRefused
         (fault_within (suc (suc (suc (suc (suc (suc n)))))) []
         (place_of (ruled rules.Movie) (box_seen moov.entry))) result }
-    ensures again { ReadsAgain (box_seen moov.entry) result }
 {
     let mut header = None;
     let mut kept = Vec::new(alloc);

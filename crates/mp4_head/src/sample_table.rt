@@ -1,7 +1,7 @@
 //! `stbl`, as far as it is no table: `stsd` (ISO/IEC 14496-12, 8.5.2), and the payloads of `sgpd`
 //! (8.9.3).
-ghost use Rattle.std.specs.Prelude.{◌≡◌, ℕ, suc, List, map, IfOk, IfErr, OnOk, MatchResult, None, Some};
-ghost use Rattle.mp4_boxes.specs.format.Layout.{sample_entry, stsd, IsSound};
+ghost use Rattle.std.specs.Prelude.{◌≡◌, ℕ, suc, List, map, IfOk, MatchResult, None, Some};
+ghost use Rattle.mp4_boxes.specs.format.Layout.{sample_entry, stsd};
 ghost use Rattle.mp4_boxes.specs.format.Places.{ruled, sample_entries};
 ghost use Rattle.mp4_boxes.specs.words.View.{box_seen};
 ghost use Rattle.mp4_boxes.specs.format.FirstFault.{leaf_fault};
@@ -9,8 +9,7 @@ ghost use Rattle.mp4_boxes.specs.declared.rule.Rule.TheVariants as rules;
 ghost use Rattle.mp4_head.specs.words.Containers.{SaysDescriptions, SaysTable, kept_of};
 ghost use Rattle.mp4_head.specs.format.FirstFault.{fault_within, or_else};
 ghost use Rattle.mp4_head.specs.words.FaultNamed.{NamesRefused};
-ghost use Rattle.mp4_head.specs.words.Leaves.{IsFaultOf};
-ghost use Rattle.mp4_head.specs.words.Refuses.{RefusesBoth, RefusesIn, place_of};
+ghost use Rattle.mp4_head.specs.words.Refuses.{place_of};
 ghost use Rattle.mp4_head.specs.words.Seen.{kept_seen};
 
 use crate::kept_boxes::{Kept, keep};
@@ -28,8 +27,6 @@ pub(crate) struct SampleTable<'a> {
 // An entry of `stsd`, which names the first data reference.
 fn read_description<'a>(entry: BoxView<'a>) -> Result<Kept<'a>, Fault>
     ensures says { IfOk result (λ d. kept_seen d ≡ kept_of (box_seen entry.entry)) }
-    ensures sound { OnOk result (IsSound sample_entry (box_seen entry.entry).payload) }
-    ensures fault { IfErr result (IsFaultOf sample_entry (box_seen entry.entry)) }
     ensures exact { MatchResult result (λ h. leaf_fault sample_entry (box_seen entry.entry) ≡ None)
         (λ f. leaf_fault sample_entry (box_seen entry.entry) ≡ Some f) }
 {
@@ -47,7 +44,6 @@ fn read_description<'a>(entry: BoxView<'a>) -> Result<Kept<'a>, Fault>
 fn read_descriptions<'a>(alloc: Global, view: BoxView<'a>) -> Result<Vec<Kept<'a>>, Refusal>
     ensures says { IfOk result
         (λ ds. SaysDescriptions (box_seen view.entry) (map kept_seen ds.items)) }
-    ensures refusal { IfErr result (RefusesBoth stsd sample_entries (box_seen view.entry)) }
     ensures exact { (n : ℕ) (ids : List ℕ) → NamesRefused (or_else
         (leaf_fault stsd (box_seen view.entry)) (λ u.
         fault_within (suc n) ids (place_of sample_entries (box_seen view.entry)))) result }
@@ -67,8 +63,6 @@ pub(crate) fn read_sample_table<'a>(
     ensures says { IfOk result
         (λ t. SaysTable (box_seen stbl.entry) (map kept_seen t.descriptions.items)
         (map (λ p. p.now) t.group_descriptions.items)) }
-    ensures refusal { IfErr result
-        (RefusesIn (place_of (ruled rules.SampleTable) (box_seen stbl.entry))) }
     ensures exact { (n : ℕ) (ids : List ℕ) → NamesRefused (fault_within (suc (suc n)) ids
         (place_of (ruled rules.SampleTable) (box_seen stbl.entry))) result }
 {

@@ -1,5 +1,5 @@
 //! `trak`: one track (ISO/IEC 14496-12, 8.3.1).
-ghost use Rattle.std.specs.Prelude.{◌≡◌, ℕ, suc, List, map, IfOk, OnOk, IfErr};
+ghost use Rattle.std.specs.Prelude.{◌≡◌, ℕ, suc, List, map, IfOk, OnOk};
 ghost use Rattle.mp4_boxes.specs.format.Children.{is_among, kept_kinds};
 ghost use Rattle.mp4_boxes.specs.format.Layout.{tkhd, IsSound};
 ghost use Rattle.mp4_boxes.specs.words.View.{box_seen};
@@ -9,7 +9,7 @@ ghost use Rattle.mp4_boxes.specs.format.Places.{ruled};
 ghost use Rattle.mp4_head.specs.format.FirstFault.{fault_within};
 ghost use Rattle.mp4_head.specs.words.FaultNamed.{NamesRefused, taken_fault};
 ghost use Rattle.mp4_head.specs.words.Refuses.{place_of};
-ghost use Rattle.mp4_head.specs.words.Ids.{HasIds, AddsId, RefusesTrackHeader, RefusesTrack};
+ghost use Rattle.mp4_head.specs.words.Ids.{HasIds, AddsId};
 ghost use Rattle.mp4_head.specs.words.Leaves.{SaysTrack};
 ghost use Rattle.mp4_head.specs.words.Seen.{edit_seen, kept_seen, track_seen};
 
@@ -28,7 +28,6 @@ fn read_new_track_header(view: BoxView, ids: &mut BTreeSet<u32>) -> Result<Track
     ensures says { IfOk result (SaysTrack (box_seen view.entry).payload) }
     ensures sound { OnOk result (IsSound tkhd (box_seen view.entry).payload) }
     ensures added { IfOk result (λ h. AddsId ids.old ids.new h.id) }
-    ensures refusal { IfErr result (RefusesTrackHeader ids.old (box_seen view.entry)) }
     ensures exact { (numbers : List ℕ) → HasIds ids.old numbers
         → NamesRefused (taken_fault tkhd 4 numbers (box_seen view.entry)) result }
 {
@@ -102,7 +101,6 @@ pub(crate) fn read_track<'a>(
     ensures says { IfOk result
         (λ t. HasTrackHead (box_seen trak.entry) (track_seen t) (box_seen t.stbl) t.offset) }
     ensures added { IfOk result (λ t. AddsId ids.old ids.new t.id) }
-    ensures refusal { IfErr result (RefusesTrack ids.old (box_seen trak.entry)) }
     ensures exact { (n : ℕ) (numbers : List ℕ) → HasIds ids.old numbers
         → NamesRefused (fault_within (suc (suc (suc (suc (suc n))))) numbers
         (place_of (ruled rules.Track) (box_seen trak.entry))) result }

@@ -1,9 +1,9 @@
 //! `tkhd`: what a track says of itself (ISO/IEC 14496-12, 8.3.2).
-ghost use Rattle.std.specs.Prelude.{◌≡◌, ◌+◌, ◌*◌, ◌≤◌, ◌⊎◌, length, IfOk, OnOk, IfErr, MatchResult, None, Some};
-ghost use Rattle.mp4_boxes.specs.format.Layout.{tkhd, version, time_width, IsSound};
+ghost use Rattle.std.specs.Prelude.{◌≡◌, ◌+◌, ◌*◌, ◌≤◌, ◌⊎◌, length, IfOk, MatchResult, None, Some};
+ghost use Rattle.mp4_boxes.specs.format.Layout.{tkhd, version, time_width};
 ghost use Rattle.mp4_boxes.specs.words.View.{box_seen};
 ghost use Rattle.mp4_boxes.specs.format.FirstFault.{leaf_fault};
-ghost use Rattle.mp4_head.specs.words.Leaves.{IsFaultOf, SaysTrack};
+ghost use Rattle.mp4_head.specs.words.Leaves.{SaysTrack};
 
 use crate::leaves::{i16_at, matrix_at, open, time_at};
 use byteorder::{BigEndian, ByteOrder};

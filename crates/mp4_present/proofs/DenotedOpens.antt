@@ -37,12 +37,3 @@ denoted_opens honest file p reads reads_after refusals.StoreFailed told d w = w
 denoted_opens honest file p reads reads_after refusals.StoreChanged told d w = w told
 denoted_opens honest file p reads reads_after refusals.WriteFailed told d w = w
 denoted_opens honest file p reads reads_after refusals.NoSuchTrack told d w = w
-
--- why its `moov` is not read
-pub read_refuses : (reads reads_after : ℕ) (r : Refusal) → RefusesRead reads reads_after r → RefusesDenoted reads reads_after r
-read_refuses reads reads_after (refusals.Fault f) w = w
-read_refuses reads reads_after refusals.Memory w = tt
-read_refuses reads reads_after refusals.StoreFailed w = w
-read_refuses reads reads_after refusals.StoreChanged w = w
-read_refuses reads reads_after refusals.WriteFailed w = w
-read_refuses reads reads_after refusals.NoSuchTrack w = w

@@ -1,9 +1,9 @@
 -- Why a file is refused, apart from which fault it has.
-use Rattle.std.proofs.Common.{ℕ, Bool, List}
+use Rattle.std.proofs.Common.{ℕ, Bool, List, Option}
 use Rattle.mp4_boxes.specs.declared.refusal.Refusal.{Refusal}
 use Rattle.mp4_boxes.specs.declared.refusal.Refusal.TheVariants as refusals
-use Rattle.mp4_boxes.specs.format.Places.{Place}
-use Rattle.mp4_head.specs.words.Refuses.{RefusesIn}
+use Rattle.mp4_boxes.specs.declared.fault.Fault.{Fault}
+use Rattle.mp4_head.specs.words.FaultNamed.{RefusesFirst}
 use Rattle.mp4_present.specs.words.Reading.{RefusesHeader}
 use Rattle.mp4_present.specs.words.Refusing.{MeetsFault, RefusesSearch}
 
@@ -17,10 +17,10 @@ not_headed honest file at reads reads_after refusals.WriteFailed w = w
 not_headed honest file at reads reads_after refusals.NoSuchTrack w = w
 
 -- the head is not read
-pub not_sound : (place : Place) (r : Refusal) → RefusesIn place r → MeetsFault r
-not_sound place (refusals.Fault f) w = tt
-not_sound place refusals.Memory w = tt
-not_sound place refusals.StoreFailed w = w
-not_sound place refusals.StoreChanged w = w
-not_sound place refusals.WriteFailed w = w
-not_sound place refusals.NoSuchTrack w = w
+pub not_sound : (first : Option Fault) (r : Refusal) → RefusesFirst first r → MeetsFault r
+not_sound first (refusals.Fault f) w = tt
+not_sound first refusals.Memory w = tt
+not_sound first refusals.StoreFailed w = w
+not_sound first refusals.StoreChanged w = w
+not_sound first refusals.WriteFailed w = w
+not_sound first refusals.NoSuchTrack w = w

@@ -11,10 +11,11 @@ use Rattle.mp4_boxes.specs.declared.fault.Fault.{Fault}
 use Rattle.mp4_boxes.specs.declared.refusal.Refusal.{Refusal}
 use Rattle.mp4_boxes.specs.declared.refusal.Refusal.TheVariants as refusals
 
--- where it refuses by a fault, by this one; want of memory says nothing
+-- it refuses by this fault, or for want of memory
 abbrev pub RefusesFirst : Option Fault → Refusal → Type 0
 RefusesFirst first (refusals.Fault f) = first ≡ Some f
-RefusesFirst first _ = Unit {0}
+RefusesFirst first refusals.Memory = Unit {0}
+RefusesFirst first _ = ⊥
 
 -- An answer names this fault, and is Ok where there is none.
 pub record NamesFault {T : Type 0} (first : Option Fault) (result : Result T Fault) : Type 0 where

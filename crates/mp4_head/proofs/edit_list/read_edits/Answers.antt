@@ -1,3 +1,5 @@
+use Rattle.mp4_boxes.specs.format.Layout.{elst}
+use Rattle.mp4_head.proofs.JudgedLeaves.{leaf_sound}
 use Rattle.std.proofs.Common.{◌≡◌, true, false, sym, ◌∙◌}
 use Rattle.std.specs.Prelude.{codes, bytes_eq}
 use Rattle.std.proofs.lemmas.Result.{err_from_is_err_and}
@@ -5,25 +7,12 @@ use Rattle.mp4_boxes.specs.format.Box.{box_container}
 use Rattle.mp4_boxes.specs.format.Children.{Holds}
 use Rattle.mp4_boxes.specs.words.View.{box_seen}
 use Rattle.mp4_boxes.specs.declared.rule.Rule.TheVariants as kinds
-use Rattle.mp4_head.proofs.Above.{child_here}
 use Rattle.mp4_head.proofs.FaultWalks.{fault_none, fault_more, refused_here, fault_all, list_fails, list_holds, elst_fault, edits_pass}
-use Rattle.mp4_head.proofs.EditBoxes.{edits_none, edits_this, edits_other, edits_all, edits_refuse}
+use Rattle.mp4_head.proofs.EditBoxes.{edits_none, edits_this, edits_other, edits_all}
 use Rattle.mp4_head.proofs.edit_list.read_edits.Goals as goal
 
 pub loop-child-init : goal.loop-child-init
 loop-child-init c = (tt, tt, rw c.new-edits.ensures.items (edits_none _), λ n ids. fault_none _ _)
-
-pub returns-in_err-child-items-clause-refusal : goal.returns-in_err-child-items-clause-refusal
-returns-in_err-child-items-clause-refusal c =
-    let p = err_from_is_err_and c.from_residual.result c.from_residual.ensures.1 in
-    rw (p.1, p.2) (child_here kinds.Edits (box_seen c.args.edts) c.in_err-child-items.field-0.0 c.in_err-child-items.ensures.fault)
-
-pub returns-in_err-edits-clause-refusal : goal.returns-in_err-edits-clause-refusal
-returns-in_err-edits-clause-refusal c =
-    let p = err_from_is_err_and c.from_residual-in_err-edits.result c.from_residual-in_err-edits.ensures.1 in
-    let h : Holds kinds.Edits (box_container (box_seen c.args.edts)) c.into_iter-child-iterator.result = rw c.into_iter-child-iterator.ensures.into_iter_gives c.in_ok-child-items.ensures.holds in
-    let k : bytes_eq (codes "elst") (box_seen c.in-Some.child).kind ≡ true = sym c.is.ensures ∙ c.if-is.true in
-    rw (p.1, p.2) (edits_refuse (box_seen c.args.edts) _ c.loop-child.child-iterator c.next.new.self (box_seen c.in-Some.child) _ c.in_err-edits.field-0.0 h c.loop-child.invariant.2 c.in-Some.ensures.steps k c.in_err-edits.ensures.refusal)
 
 pub loop-child-preserved : goal.loop-child-preserved
 loop-child-preserved c =
@@ -40,7 +29,7 @@ loop-child-preserved-then-is c =
     let k : bytes_eq (codes "elst") (box_seen c.in-Some.child).kind ≡ true = sym c.is.ensures ∙ c.if-is.true in (
       tt,
       tt,
-      edits_this (box_seen c.args.edts) _ c.loop-child.child-iterator c.next.new.self (box_seen c.in-Some.child) _ _ h c.loop-child.invariant.2 c.in-Some.ensures.steps k c.in_ok-edits.ensures.sound c.in_ok-edits.ensures.edits,
+      edits_this (box_seen c.args.edts) _ c.loop-child.child-iterator c.next.new.self (box_seen c.in-Some.child) _ _ h c.loop-child.invariant.2 c.in-Some.ensures.steps k (leaf_sound elst (box_seen c.in-Some.child) c.in_ok-edits.ensures.exact.names) c.in_ok-edits.ensures.edits,
       λ n ids. fault_more _ _ _ _ _ (c.loop-child.invariant.3 n ids) c.in-Some.ensures.steps (λ before e. elst_fault n ids (box_seen c.args.edts) before (box_seen c.in-Some.child) k ∙ c.in_ok-edits.ensures.exact.names),
     )
 

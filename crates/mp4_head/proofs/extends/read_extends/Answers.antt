@@ -1,4 +1,4 @@
-use Rattle.mp4_head.proofs.JudgedLeaves.{leaf_fails, leaf_sound}
+use Rattle.mp4_head.proofs.JudgedLeaves.{leaf_sound}
 use Rattle.std.proofs.Common.{◌≡◌, true, false, ap, sym, ◌∙◌}
 use Rattle.std.specs.Prelude.{codes, bytes_eq}
 use Rattle.std.proofs.lemmas.Result.{err_from_is_err_and}
@@ -14,33 +14,12 @@ use Rattle.mp4_boxes.specs.declared.fault.Kind.TheVariants.{BadValue}
 use Rattle.mp4_frag.specs.declared.trex.Trex.{Trex}
 use Rattle.mp4_head.proofs.FaultWalks.{fault_none, fault_more, fault_here, fault_all, list_fails, list_holds}
 use Rattle.mp4_head.proofs.IdsJudged.{trex_fault, extends_pass, trex_taken, id_taken, id_new, id_fault}
-use Rattle.mp4_head.proofs.Above.{child_here}
-use Rattle.mp4_head.proofs.ExtendsBoxes.{extends_none, extends_this, extends_other, extends_all, extends_refuse, extends_taken}
+use Rattle.mp4_head.proofs.ExtendsBoxes.{extends_none, extends_this, extends_other, extends_all}
 use Rattle.mp4_head.proofs.Taken.{was_there, was_not_there}
 use Rattle.mp4_head.proofs.extends.read_extends.Goals as goal
 
 pub loop-child-init : goal.loop-child-init
 loop-child-init c = (tt, tt, rw c.new-trexes.ensures.items (extends_none _ _ c.new-ids.ensures.empty), λ n ids. fault_none _ _)
-
-pub returns-in_err-child-items-clause-refusal : goal.returns-in_err-child-items-clause-refusal
-returns-in_err-child-items-clause-refusal c =
-    let p = err_from_is_err_and c.from_residual.result c.from_residual.ensures.1 in
-    rw (p.1, p.2) (child_here kinds.MovieExtends (box_seen c.args.mvex) c.in_err-child-items.field-0.0 c.in_err-child-items.ensures.fault)
-
-pub returns-in_err-trex-clause-refusal : goal.returns-in_err-trex-clause-refusal
-returns-in_err-trex-clause-refusal c =
-    let p = err_from_is_err_and c.from_residual-in_err-trex.result c.from_residual-in_err-trex.ensures.1 in
-    let h : Holds kinds.MovieExtends (box_container (box_seen c.args.mvex)) c.into_iter-child-iterator.result = rw c.into_iter-child-iterator.ensures.into_iter_gives c.in_ok-child-items.ensures.holds in
-    let k : bytes_eq (codes "trex") (box_seen c.in-Some.child).kind ≡ true = sym c.is.ensures ∙ c.if-is.true in
-    rw (p.1, p.2) (extends_refuse (box_seen c.args.mvex) _ c.loop-child.child-iterator c.next.new.self (box_seen c.in-Some.child) _ _ c.in_err-trex.field-0.0 h c.loop-child.invariant.2 c.in-Some.ensures.steps k (leaf_fails trex _ _ c.in_err-trex.ensures.exact))
-
-pub returns-then-not-branch-clause-refusal : goal.returns-then-not-branch-clause-refusal
-returns-then-not-branch-clause-refusal c =
-    let h : Holds kinds.MovieExtends (box_container (box_seen c.args.mvex)) c.into_iter-child-iterator.result = rw c.into_iter-child-iterator.ensures.into_iter_gives c.in_ok-child-items.ensures.holds in
-    let k : bytes_eq (codes "trex") (box_seen c.in-Some.child).kind ≡ true = sym c.is.ensures ∙ c.if-is.true in
-    rw c.from.ensures
-    (extends_taken (box_seen c.args.mvex) _ c.loop-child.child-iterator c.next.new.self (box_seen c.in-Some.child) _ _ c.in_ok-trex.trex c.fault.result h c.loop-child.invariant.2 c.in-Some.ensures.steps k (leaf_sound trex (box_seen c.in-Some.child) c.in_ok-trex.ensures.exact) c.in_ok-trex.ensures.says
-    (was_there c.in_ok-insert.field-0 _ c.in_ok-insert.ensures.added c.if-not-branch.true) c.fault.ensures)
 
 pub loop-child-preserved-in_ok-push : goal.loop-child-preserved-in_ok-push
 loop-child-preserved-in_ok-push c =

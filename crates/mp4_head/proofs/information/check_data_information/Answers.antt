@@ -5,18 +5,12 @@ use Rattle.mp4_boxes.specs.format.Box.{box_container}
 use Rattle.mp4_boxes.specs.format.Children.{Holds}
 use Rattle.mp4_boxes.specs.words.View.{box_seen}
 use Rattle.mp4_boxes.specs.declared.rule.Rule.TheVariants as kinds
-use Rattle.mp4_head.proofs.Above.{child_here}
 use Rattle.mp4_head.proofs.FaultWalks.{fault_none, fault_more, fault_here, fault_all, list_fails, list_holds, dref_fault, data_pass}
-use Rattle.mp4_head.proofs.TableBoxes.{data_none, data_this, data_other, data_all, data_fail}
+use Rattle.mp4_head.proofs.TableBoxes.{data_none, data_this, data_other, data_all}
 use Rattle.mp4_head.proofs.information.check_data_information.Goals as goal
 
 pub loop-child-init : goal.loop-child-init
 loop-child-init c = (tt, tt, data_none _, λ n ids. fault_none _ _)
-
-pub returns-in_err-child-items-clause-fault : goal.returns-in_err-child-items-clause-fault
-returns-in_err-child-items-clause-fault c =
-    let p = err_from_is_err_and c.from_residual.result c.from_residual.ensures.1 in
-    rw (p.1, p.2) (child_here kinds.DataInformation (box_seen c.args.dinf) c.in_err-child-items.field-0.0 c.in_err-child-items.ensures.fault)
 
 pub loop-child-preserved : goal.loop-child-preserved
 loop-child-preserved c =
@@ -36,13 +30,6 @@ loop-child-preserved-in-Continue-branch-2 c =
       data_this (box_seen c.args.dinf) _ c.loop-child.child-iterator c.next.new.self (box_seen c.in-Some.child) h c.loop-child.invariant.2 c.in-Some.ensures.steps k c.in_ok-check_references.ensures.says,
       λ n ids. fault_more _ _ _ _ _ (c.loop-child.invariant.3 n ids) c.in-Some.ensures.steps (λ before e. dref_fault n ids (box_seen c.args.dinf) before (box_seen c.in-Some.child) k ∙ (c.in_ok-check_references.ensures.exact n ids).names),
     )
-
-pub returns-in_err-check_references-clause-fault : goal.returns-in_err-check_references-clause-fault
-returns-in_err-check_references-clause-fault c =
-    let p = err_from_is_err_and c.from_residual-in_err-check_references.result c.from_residual-in_err-check_references.ensures.1 in
-    let h : Holds kinds.DataInformation (box_container (box_seen c.args.dinf)) c.into_iter-child-iterator.result = rw c.into_iter-child-iterator.ensures.into_iter_gives c.in_ok-child-items.ensures.holds in
-    let k : bytes_eq (codes "dref") (box_seen c.in-Some.child).kind ≡ true = sym c.is.ensures ∙ c.if-is.true in
-    rw (p.1, p.2) (data_fail (box_seen c.args.dinf) _ c.loop-child.child-iterator c.next.new.self (box_seen c.in-Some.child) c.in_err-check_references.field-0.0 h c.loop-child.invariant.2 c.in-Some.ensures.steps k c.in_err-check_references.ensures.fault)
 
 pub returns-clause-says : goal.returns-clause-says
 returns-clause-says c =

@@ -4,18 +4,13 @@ use Rattle.std.proofs.lemmas.Bool.{ne_eqb}
 use Rattle.mp4_boxes.specs.format.Bytes.{field}
 use Rattle.mp4_boxes.specs.format.Box.{Tiles, counted_container}
 use Rattle.mp4_boxes.specs.words.View.{box_seen}
-use Rattle.mp4_head.proofs.Entries.{references_none, references_more, references_all, references_header, references_fail, references_sound}
+use Rattle.mp4_head.proofs.Entries.{references_none, references_more, references_all, references_sound}
 use Rattle.std.specs.Prelude.{nat_eq}
 use Rattle.mp4_boxes.specs.format.Layout.{dref}
 use Rattle.mp4_head.proofs.SoundJudged.{sound_judged}
 use Rattle.mp4_head.proofs.FaultWalks.{fault_none, fault_more, fault_here, fault_all}
 use Rattle.mp4_head.proofs.EntriesJudged.{dref_open, dref_outside, entries_fail, entries_hold, reference_at, leaf_then, leaf_first}
 use Rattle.mp4_head.proofs.information.check_references.Goals as goal
-
-pub returns-in_err-entry-items-clause-fault : goal.returns-in_err-entry-items-clause-fault
-returns-in_err-entry-items-clause-fault c =
-    let p = err_from_is_err_and c.from_residual-in_err-entry-items.result c.from_residual-in_err-entry-items.ensures.1 in
-    rw (p.1, p.2) (references_header (box_seen c.args.view) c.in_err-entry-items.field-0.0 c.in_err-entry-items.ensures.fault)
 
 pub loop-entry-init : goal.loop-entry-init
 loop-entry-init c = (tt, tt, references_none _, λ n ids. fault_none _ _)
@@ -28,12 +23,6 @@ loop-entry-preserved c =
       references_more _ c.loop-entry.entry-iterator c.next.new.self (box_seen c.in-Some.entry) c.loop-entry.invariant.2 c.in-Some.ensures.steps e.url e.sound,
       λ n ids. fault_more _ _ _ _ _ (c.loop-entry.invariant.3 n ids) c.in-Some.ensures.steps (λ before is. reference_at n ids (box_seen c.args.view) before (box_seen c.in-Some.entry) ∙ e.exact.names),
     )
-
-pub returns-in_err-check_reference-clause-fault : goal.returns-in_err-check_reference-clause-fault
-returns-in_err-check_reference-clause-fault c =
-    let p = err_from_is_err_and c.from_residual-in_err-check_reference.result c.from_residual-in_err-check_reference.ensures.1 in
-    let t : Tiles (counted_container (box_seen c.args.view)) c.into_iter-entry-iterator.result = rw c.into_iter-entry-iterator.ensures.into_iter_gives c.in_ok-entry-items.ensures.tiles in
-    rw (p.1, p.2) (references_fail (box_seen c.args.view) _ c.loop-entry.entry-iterator c.next.new.self (box_seen c.in-Some.entry) c.in_err-check_reference.field-0.0 t c.loop-entry.invariant.2 c.in-Some.ensures.steps c.in_err-check_reference.ensures.fault)
 
 pub returns-clause-says : goal.returns-clause-says
 returns-clause-says c =

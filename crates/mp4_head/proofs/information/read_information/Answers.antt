@@ -5,19 +5,12 @@ use Rattle.mp4_boxes.specs.format.Box.{box_container}
 use Rattle.mp4_boxes.specs.format.Children.{Holds, is_among, media_headers}
 use Rattle.mp4_boxes.specs.words.View.{box_seen}
 use Rattle.mp4_boxes.specs.declared.rule.Rule.TheVariants as kinds
-use Rattle.mp4_boxes.specs.declared.refusal.Refusal.TheVariants as refusals
 use Rattle.mp4_head.proofs.FaultWalks.{fault_none, fault_more, fault_here, refused_here, fault_all, list_fails, list_holds, dinf_fault, stbl_fault, information_pass}
-use Rattle.mp4_head.proofs.Above.{child_here}
-use Rattle.mp4_head.proofs.InformationBoxes.{information_none, information_data, information_table, information_header, information_other, information_said, information_no_header, information_no_table, information_data_refuse, information_table_refuse}
+use Rattle.mp4_head.proofs.InformationBoxes.{information_none, information_data, information_table, information_header, information_other, information_said, information_no_header, information_no_table}
 use Rattle.mp4_head.proofs.information.read_information.Goals as goal
 
 pub loop-child-init : goal.loop-child-init
 loop-child-init c = (tt, tt, information_none _, λ n ids. fault_none _ _)
-
-pub returns-in_err-child-items-clause-refusal : goal.returns-in_err-child-items-clause-refusal
-returns-in_err-child-items-clause-refusal c =
-    let p = err_from_is_err_and c.from_residual.result c.from_residual.ensures.1 in
-    rw (p.1, p.2) (child_here kinds.MediaInformation (box_seen c.args.minf) c.in_err-child-items.field-0.0 c.in_err-child-items.ensures.fault)
 
 pub loop-child-preserved-in_ok-check_data_information : goal.loop-child-preserved-in_ok-check_data_information
 loop-child-preserved-in_ok-check_data_information c =
@@ -28,21 +21,6 @@ loop-child-preserved-in_ok-check_data_information c =
       information_data (box_seen c.args.minf) _ c.loop-child.child-iterator c.next.new.self (box_seen c.in-Some.child) _ _ h c.loop-child.invariant.2 c.in-Some.ensures.steps k c.in_ok-check_data_information.ensures.says,
       λ n ids. fault_more _ _ _ _ _ (c.loop-child.invariant.3 n ids) c.in-Some.ensures.steps (λ before e. dinf_fault (suc (suc n)) ids (box_seen c.args.minf) before (box_seen c.in-Some.child) k ∙ (c.in_ok-check_data_information.ensures.exact n ids).names),
     )
-
-pub returns-in_err-check_data_information-clause-refusal : goal.returns-in_err-check_data_information-clause-refusal
-returns-in_err-check_data_information-clause-refusal c =
-    let p = err_from_is_err_and c.from_residual-in_err-check_data_information.result c.from_residual-in_err-check_data_information.ensures.1 in
-    let h : Holds kinds.MediaInformation (box_container (box_seen c.args.minf)) c.into_iter-child-iterator.result = rw c.into_iter-child-iterator.ensures.into_iter_gives c.in_ok-child-items.ensures.holds in
-    let k : bytes_eq (codes "dinf") (box_seen c.in-Some.child).kind ≡ true = sym c.is.ensures ∙ c.if-is.true in
-    rw (p.1, p.2)
-    (information_data_refuse (box_seen c.args.minf) _ c.loop-child.child-iterator c.next.new.self (box_seen c.in-Some.child) _ _ (refusals.Fault c.in_err-check_data_information.field-0.0) h c.loop-child.invariant.2 c.in-Some.ensures.steps k c.in_err-check_data_information.ensures.fault)
-
-pub returns-in_err-read_sample_table-clause-refusal : goal.returns-in_err-read_sample_table-clause-refusal
-returns-in_err-read_sample_table-clause-refusal c =
-    let p = err_from_is_err_and c.from_residual-in_err-read_sample_table.result c.from_residual-in_err-read_sample_table.ensures.1 in
-    let h : Holds kinds.MediaInformation (box_container (box_seen c.args.minf)) c.into_iter-child-iterator.result = rw c.into_iter-child-iterator.ensures.into_iter_gives c.in_ok-child-items.ensures.holds in
-    let k : bytes_eq (codes "stbl") (box_seen c.in-Some.child).kind ≡ true = sym c.is-else-is.ensures ∙ c.if-is-2.true in
-    rw (p.1, p.2) (information_table_refuse (box_seen c.args.minf) _ c.loop-child.child-iterator c.next.new.self (box_seen c.in-Some.child) _ _ c.in_err-read_sample_table.field-0.0 h c.loop-child.invariant.2 c.in-Some.ensures.steps k c.in_err-read_sample_table.ensures.refusal)
 
 pub loop-child-preserved-then-is-2 : goal.loop-child-preserved-then-is-2
 loop-child-preserved-then-is-2 c =
@@ -82,16 +60,6 @@ loop-child-preserved c =
       information_other _ c.loop-child.child-iterator c.next.new.self (box_seen c.in-Some.child) _ _ c.loop-child.invariant.2 c.in-Some.ensures.steps n m a,
       λ n ids. fault_more _ _ _ _ _ (c.loop-child.invariant.3 n ids) c.in-Some.ensures.steps (λ before e. information_pass (suc (suc n)) ids (box_seen c.args.minf) before (box_seen c.in-Some.child) o m0),
     )
-
-pub returns-in_default-clause-refusal : goal.returns-in_default-clause-refusal
-returns-in_default-clause-refusal c =
-    let h : Holds kinds.MediaInformation (box_container (box_seen c.args.minf)) c.into_iter-child-iterator.result = rw c.into_iter-child-iterator.ensures.into_iter_gives c.in_ok-child-items.ensures.holds in
-    absurd (information_no_header (box_seen c.args.minf) _ c.loop-child.child-iterator c.loop-child.header _ h c.loop-child.invariant.2 c.in-None.ensures.steps.0 (search rules))
-
-pub returns-in_default-tables-clause-refusal : goal.returns-in_default-tables-clause-refusal
-returns-in_default-tables-clause-refusal c =
-    let h : Holds kinds.MediaInformation (box_container (box_seen c.args.minf)) c.into_iter-child-iterator.result = rw c.into_iter-child-iterator.ensures.into_iter_gives c.in_ok-child-items.ensures.holds in
-    absurd (information_no_table (box_seen c.args.minf) _ c.loop-child.child-iterator _ c.loop-child.tables h c.loop-child.invariant.2 c.in-None.ensures.steps.0 (search rules))
 
 pub returns-clause-says : goal.returns-clause-says
 returns-clause-says c =

@@ -1,5 +1,5 @@
 use Rattle.mp4_boxes.specs.words.View.{box_seen}
-use Rattle.mp4_head.proofs.Headers.{movie_sound, movie_fault}
+use Rattle.mp4_head.proofs.Headers.{movie_sound}
 use Rattle.mp4_boxes.specs.format.Layout.{mvhd}
 use Rattle.mp4_head.proofs.SoundJudged.{sound_judged}
 use Rattle.mp4_head.proofs.movie_header.read_movie_header.Goals as goal

@@ -1,4 +1,4 @@
-use Rattle.mp4_head.proofs.JudgedLeaves.{leaf_fails, leaf_sound}
+use Rattle.mp4_head.proofs.JudgedLeaves.{leaf_sound}
 use Rattle.mp4_boxes.specs.format.Layout.{mvhd}
 use Rattle.std.proofs.Common.{◌≡◌, suc, Option, subst, [], ◌∷◌, ◌++◌, true, false, map, ap, sym, ◌∙◌, rules}
 use Rattle.std.specs.Prelude.{codes, bytes_eq}
@@ -18,26 +18,11 @@ use Rattle.mp4_head.specs.words.FaultNamed.{RefusesFirst}
 use Rattle.mp4_head.proofs.FaultWalks.{fault_none, fault_more, fault_here, refused_with, fault_all, list_fails, list_holds}
 use Rattle.mp4_head.proofs.IdsJudged.{placed, unplaced}
 use Rattle.mp4_head.proofs.MovieJudged.{ids_behind_are, mvhd_fault, trak_fault, mvex_fault, kept_in_movie, movie_pass}
-use Rattle.mp4_head.proofs.Above.{child_here}
-use Rattle.mp4_head.proofs.HeadExcludes.{refused_rightly}
-use Rattle.mp4_head.proofs.ReadAgain.{again_ok, again_refused, again_memory}
-use Rattle.mp4_head.proofs.MovieBoxes.{movie_none, movie_header, movie_kept, movie_track, movie_extends, movie_other, header_refuse, kept_refuse, track_refuse, extends_refuse, movie_said, movie_no_header, said_inside}
+use Rattle.mp4_head.proofs.MovieBoxes.{movie_none, movie_header, movie_kept, movie_track, movie_extends, movie_other, movie_said, movie_no_header, said_inside}
 use Rattle.mp4_head.proofs.reading.read_head.Goals as goal
 
 pub loop-child-init : goal.loop-child-init
 loop-child-init c = (tt, tt, rw (c.new-kept.ensures.items, c.new-tracks.ensures.items, c.new-trexes.ensures.items) (movie_none _ _ c.new-ids.ensures.empty), λ n. fault_none _ _)
-
-pub returns-in_err-child-items-clause-fault : goal.returns-in_err-child-items-clause-fault
-returns-in_err-child-items-clause-fault c =
-    let p = err_from_is_err_and c.from_residual.result c.from_residual.ensures.1 in
-    rw (p.1, p.2) (child_here kinds.Movie (box_seen c.args.moov) c.in_err-child-items.field-0.0 c.in_err-child-items.ensures.fault)
-
-pub returns-in_err-read_movie_header-clause-fault : goal.returns-in_err-read_movie_header-clause-fault
-returns-in_err-read_movie_header-clause-fault c =
-    let p = err_from_is_err_and c.from_residual-in_err-read_movie_header.result c.from_residual-in_err-read_movie_header.ensures.1 in
-    let h : Holds kinds.Movie (box_container (box_seen c.args.moov)) c.into_iter-child-iterator.result = rw c.into_iter-child-iterator.ensures.into_iter_gives c.in_ok-child-items.ensures.holds in
-    let k : bytes_eq (codes "mvhd") (box_seen c.in-Some.child).kind ≡ true = sym c.is.ensures ∙ c.if-is.true in
-    rw (p.1, p.2) (header_refuse (box_seen c.args.moov) _ c.loop-child.child-iterator c.next.new.self (box_seen c.in-Some.child) _ _ _ _ _ h c.loop-child.invariant.2 c.in-Some.ensures.steps c.in_err-read_movie_header.field-0.0 k (leaf_fails mvhd _ _ c.in_err-read_movie_header.ensures.exact))
 
 pub loop-child-preserved-then-is : goal.loop-child-preserved-then-is
 loop-child-preserved-then-is c =
@@ -49,13 +34,6 @@ loop-child-preserved-then-is c =
       movie_header (box_seen c.args.moov) _ c.loop-child.child-iterator c.next.new.self (box_seen c.in-Some.child) _ _ _ _ _ h c.loop-child.invariant.2 c.in-Some.ensures.steps _ k (leaf_sound mvhd (box_seen c.in-Some.child) c.in_ok-read_movie_header.ensures.exact) c.in_ok-read_movie_header.ensures.says,
       λ n. fault_more _ _ _ _ _ (c.loop-child.invariant.3 n) c.in-Some.ensures.steps (λ before is. mvhd_fault (suc (suc (suc (suc (suc n))))) (box_seen c.args.moov) before (box_seen c.in-Some.child) k0 ∙ c.in_ok-read_movie_header.ensures.exact),
     )
-
-pub returns-in_err-keep_unplaced-clause-fault : goal.returns-in_err-keep_unplaced-clause-fault
-returns-in_err-keep_unplaced-clause-fault c =
-    let p = err_from_is_err_and c.from_residual-in_err-keep_unplaced.result c.from_residual-in_err-keep_unplaced.ensures.1 in
-    let h : Holds kinds.Movie (box_container (box_seen c.args.moov)) c.into_iter-child-iterator.result = rw c.into_iter-child-iterator.ensures.into_iter_gives c.in_ok-child-items.ensures.holds in
-    let k : is_among (kept_kinds kinds.Movie) (box_seen c.in-Some.child).kind ≡ true = sym c.is_kept.ensures ∙ c.if-is_kept.true in
-    rw (p.1, p.2) (kept_refuse (box_seen c.args.moov) _ c.loop-child.child-iterator c.next.new.self (box_seen c.in-Some.child) _ _ _ _ _ h c.loop-child.invariant.2 c.in-Some.ensures.steps c.in_err-keep_unplaced.field-0.0 k c.in_err-keep_unplaced.ensures.names c.in_err-keep_unplaced.ensures.fault)
 
 pub loop-child-preserved-in_ok-push : goal.loop-child-preserved-in_ok-push
 loop-child-preserved-in_ok-push c =
@@ -69,13 +47,6 @@ loop-child-preserved-in_ok-push c =
           (ap (map kept_seen) c.in_ok-push.ensures.items ∙ map-append kept_seen c.loop-child.kept.items (c.in_ok-keep_unplaced.field-0 ∷ []) ∙ ap (λ (x : heads.Kept). map kept_seen c.loop-child.kept.items ++ x ∷ []) c.in_ok-keep_unplaced.ensures.kept),
       λ n. fault_more _ _ _ _ _ (c.loop-child.invariant.3 n) c.in-Some.ensures.steps (λ before is. kept_in_movie (suc (suc (suc (suc (suc n))))) (box_seen c.args.moov) before (box_seen c.in-Some.child) k1 ∙ unplaced _ _ c.in_ok-keep_unplaced.ensures.unplaced),
     )
-
-pub returns-in_err-read_track-clause-fault : goal.returns-in_err-read_track-clause-fault
-returns-in_err-read_track-clause-fault c =
-    let p = err_from_is_err_and c.from_residual-in_err-read_track.result c.from_residual-in_err-read_track.ensures.1 in
-    let h : Holds kinds.Movie (box_container (box_seen c.args.moov)) c.into_iter-child-iterator.result = rw c.into_iter-child-iterator.ensures.into_iter_gives c.in_ok-child-items.ensures.holds in
-    let k : bytes_eq (codes "trak") (box_seen c.in-Some.child).kind ≡ true = sym c.is-else-is_kept.ensures ∙ c.if-is-2.true in
-    rw (p.1, p.2) (track_refuse (box_seen c.args.moov) _ c.loop-child.child-iterator c.next.new.self (box_seen c.in-Some.child) _ _ _ _ _ h c.loop-child.invariant.2 c.in-Some.ensures.steps c.in_err-read_track.field-0.0 k c.in_err-read_track.ensures.refusal)
 
 pub loop-child-preserved-in_ok-push-2 : goal.loop-child-preserved-in_ok-push-2
 loop-child-preserved-in_ok-push-2 c =
@@ -91,13 +62,6 @@ loop-child-preserved-in_ok-push-2 c =
       λ n. fault_more _ _ _ _ _ (c.loop-child.invariant.3 n) c.in-Some.ensures.steps (λ before is. trak_fault (suc (suc (suc (suc (suc n))))) (box_seen c.args.moov) before (box_seen c.in-Some.child) k2
           ∙ (c.in_ok-read_track.ensures.exact n (map track_id_of (of_kind (codes "trak") before)) (ids_behind_are _ c.loop-child.child-iterator c.next.new.self (box_seen c.in-Some.child) _ _ _ _ _ before c.loop-child.invariant.2 c.in-Some.ensures.steps is)).names),
     )
-
-pub returns-in_err-trexes-clause-fault : goal.returns-in_err-trexes-clause-fault
-returns-in_err-trexes-clause-fault c =
-    let p = err_from_is_err_and c.from_residual-in_err-trexes.result c.from_residual-in_err-trexes.ensures.1 in
-    let h : Holds kinds.Movie (box_container (box_seen c.args.moov)) c.into_iter-child-iterator.result = rw c.into_iter-child-iterator.ensures.into_iter_gives c.in_ok-child-items.ensures.holds in
-    let k : bytes_eq (codes "mvex") (box_seen c.in-Some.child).kind ≡ true = sym c.is-else-is-2.ensures ∙ c.if-is-3.true in
-    rw (p.1, p.2) (extends_refuse (box_seen c.args.moov) _ c.loop-child.child-iterator c.next.new.self (box_seen c.in-Some.child) _ _ _ _ _ h c.loop-child.invariant.2 c.in-Some.ensures.steps c.in_err-trexes.field-0.0 k c.in_err-trexes.ensures.refusal)
 
 pub loop-child-preserved-then-is-3 : goal.loop-child-preserved-then-is-3
 loop-child-preserved-then-is-3 c =
@@ -131,11 +95,6 @@ loop-child-preserved c =
       λ n. fault_more _ _ _ _ _ (c.loop-child.invariant.3 n) c.in-Some.ensures.steps (λ before is. movie_pass (suc (suc (suc (suc (suc n))))) (box_seen c.args.moov) before (box_seen c.in-Some.child) m0 m1 m2 m3),
     )
 
-pub returns-in_default-clause-fault : goal.returns-in_default-clause-fault
-returns-in_default-clause-fault c =
-    let h : Holds kinds.Movie (box_container (box_seen c.args.moov)) c.into_iter-child-iterator.result = rw c.into_iter-child-iterator.ensures.into_iter_gives c.in_ok-child-items.ensures.holds in
-    absurd (movie_no_header (box_seen c.args.moov) _ c.loop-child.child-iterator c.loop-child.header _ _ _ _ h c.loop-child.invariant.2 c.in-None.ensures.steps.0 (search rules))
-
 pub returns-clause-head : goal.returns-clause-head
 returns-clause-head c =
     let h : Holds kinds.Movie (box_container (box_seen c.args.moov)) c.into_iter-child-iterator.result = rw c.into_iter-child-iterator.ensures.into_iter_gives c.in_ok-child-items.ensures.holds in
@@ -146,67 +105,6 @@ returns-clause-inside c =
     let h : Holds kinds.Movie (box_container (box_seen c.args.moov)) c.into_iter-child-iterator.result = rw c.into_iter-child-iterator.ensures.into_iter_gives c.in_ok-child-items.ensures.holds in
     said_inside (box_seen c.args.moov) c.head_of.result
     (movie_said (box_seen c.args.moov) _ c.loop-child.child-iterator c.loop-child.header c.in-Some-header.header _ _ _ _ c.head_of.result h c.loop-child.invariant.2 c.in-None.ensures.steps.0 (search rules) c.head_of.ensures.movie c.head_of.ensures.tracks c.head_of.ensures.trexes)
-
-pub returns-in_err-read_movie_header-clause-only : goal.returns-in_err-read_movie_header-clause-only
-returns-in_err-read_movie_header-clause-only c = λ tree e t s. refused_rightly (box_seen c.args.moov) c.from_residual-in_err-read_movie_header.result tree e t s (returns-in_err-read_movie_header-clause-fault c)
-
-pub returns-in_err-keep_unplaced-clause-only : goal.returns-in_err-keep_unplaced-clause-only
-returns-in_err-keep_unplaced-clause-only c = λ tree e t s. refused_rightly (box_seen c.args.moov) c.from_residual-in_err-keep_unplaced.result tree e t s (returns-in_err-keep_unplaced-clause-fault c)
-
-pub returns-in_err-read_track-clause-only : goal.returns-in_err-read_track-clause-only
-returns-in_err-read_track-clause-only c = λ tree e t s. refused_rightly (box_seen c.args.moov) c.from_residual-in_err-read_track.result tree e t s (returns-in_err-read_track-clause-fault c)
-
-pub returns-in_err-trexes-clause-only : goal.returns-in_err-trexes-clause-only
-returns-in_err-trexes-clause-only c = λ tree e t s. refused_rightly (box_seen c.args.moov) c.from_residual-in_err-trexes.result tree e t s (returns-in_err-trexes-clause-fault c)
-
-pub returns-in_err-push-2-clause-only : goal.returns-in_err-push-2-clause-only
-returns-in_err-push-2-clause-only c =
-    λ tree e t s.
-    let p = err_from_is_err_and c.from_residual-in_err-push-2.result c.from_residual-in_err-push-2.ensures.1 in
-    rw p.1 p.2
-
-pub returns-in_default-clause-only : goal.returns-in_default-clause-only
-returns-in_default-clause-only c =
-    let h : Holds kinds.Movie (box_container (box_seen c.args.moov)) c.into_iter-child-iterator.result = rw c.into_iter-child-iterator.ensures.into_iter_gives c.in_ok-child-items.ensures.holds in
-    λ tree e t s. absurd (movie_no_header (box_seen c.args.moov) _ c.loop-child.child-iterator c.loop-child.header _ _ _ _ h c.loop-child.invariant.2 c.in-None.ensures.steps.0 (search rules))
-
-pub returns-in_err-child-items-clause-again : goal.returns-in_err-child-items-clause-again
-returns-in_err-child-items-clause-again c =
-    let p = err_from_is_err_and c.from_residual.result c.from_residual.ensures.1 in
-    again_refused (box_seen c.args.moov) c.from_residual.result p.0 p.1 (returns-in_err-child-items-clause-fault c)
-
-pub returns-in_err-read_movie_header-clause-again : goal.returns-in_err-read_movie_header-clause-again
-returns-in_err-read_movie_header-clause-again c =
-    let p = err_from_is_err_and c.from_residual-in_err-read_movie_header.result c.from_residual-in_err-read_movie_header.ensures.1 in
-    again_refused (box_seen c.args.moov) c.from_residual-in_err-read_movie_header.result p.0 p.1 (returns-in_err-read_movie_header-clause-fault c)
-
-pub returns-in_err-keep_unplaced-clause-again : goal.returns-in_err-keep_unplaced-clause-again
-returns-in_err-keep_unplaced-clause-again c =
-    let p = err_from_is_err_and c.from_residual-in_err-keep_unplaced.result c.from_residual-in_err-keep_unplaced.ensures.1 in
-    again_refused (box_seen c.args.moov) c.from_residual-in_err-keep_unplaced.result p.0 p.1 (returns-in_err-keep_unplaced-clause-fault c)
-
-pub returns-in_err-read_track-clause-again : goal.returns-in_err-read_track-clause-again
-returns-in_err-read_track-clause-again c =
-    let p = err_from_is_err_and c.from_residual-in_err-read_track.result c.from_residual-in_err-read_track.ensures.1 in
-    again_refused (box_seen c.args.moov) c.from_residual-in_err-read_track.result p.0 p.1 (returns-in_err-read_track-clause-fault c)
-
-pub returns-in_err-trexes-clause-again : goal.returns-in_err-trexes-clause-again
-returns-in_err-trexes-clause-again c =
-    let p = err_from_is_err_and c.from_residual-in_err-trexes.result c.from_residual-in_err-trexes.ensures.1 in
-    again_refused (box_seen c.args.moov) c.from_residual-in_err-trexes.result p.0 p.1 (returns-in_err-trexes-clause-fault c)
-
-pub returns-in_err-push-2-clause-again : goal.returns-in_err-push-2-clause-again
-returns-in_err-push-2-clause-again c =
-    let p = err_from_is_err_and c.from_residual-in_err-push-2.result c.from_residual-in_err-push-2.ensures.1 in
-    again_memory (box_seen c.args.moov) c.from_residual-in_err-push-2.result p.0 p.1 p.2
-
-pub returns-in_default-clause-again : goal.returns-in_default-clause-again
-returns-in_default-clause-again c =
-    let h : Holds kinds.Movie (box_container (box_seen c.args.moov)) c.into_iter-child-iterator.result = rw c.into_iter-child-iterator.ensures.into_iter_gives c.in_ok-child-items.ensures.holds in
-    λ movie tracks duration w i. absurd (movie_no_header (box_seen c.args.moov) _ c.loop-child.child-iterator c.loop-child.header _ _ _ _ h c.loop-child.invariant.2 c.in-None.ensures.steps.0 (search rules))
-
-pub returns-clause-again : goal.returns-clause-again
-returns-clause-again c = again_ok (box_seen c.args.moov) c.head_of.result (returns-clause-head c)
 
 -- ---- the first fault
 

@@ -6,25 +6,12 @@ use Rattle.mp4_boxes.specs.format.Box.{box_container}
 use Rattle.mp4_boxes.specs.format.Children.{Holds}
 use Rattle.mp4_boxes.specs.words.View.{box_seen}
 use Rattle.mp4_boxes.specs.declared.rule.Rule.TheVariants as kinds
-use Rattle.mp4_head.proofs.Above.{child_here}
 use Rattle.mp4_head.proofs.FaultWalks.{fault_none, fault_more, refused_here, fault_all, list_fails, list_holds, stsd_fault, table_pass}
-use Rattle.mp4_head.proofs.TableBoxes.{table_none, table_descriptions, table_group, table_other, table_all, table_refuse}
+use Rattle.mp4_head.proofs.TableBoxes.{table_none, table_descriptions, table_group, table_other, table_all}
 use Rattle.mp4_head.proofs.sample_table.read_sample_table.Goals as goal
 
 pub loop-child-init : goal.loop-child-init
 loop-child-init c = (tt, tt, rw c.new-group_descriptions.ensures.items (table_none _ _), λ n ids. fault_none _ _)
-
-pub returns-in_err-child-items-clause-refusal : goal.returns-in_err-child-items-clause-refusal
-returns-in_err-child-items-clause-refusal c =
-    let p = err_from_is_err_and c.from_residual.result c.from_residual.ensures.1 in
-    rw (p.1, p.2) (child_here kinds.SampleTable (box_seen c.args.stbl) c.in_err-child-items.field-0.0 c.in_err-child-items.ensures.fault)
-
-pub returns-in_err-descriptions-clause-refusal : goal.returns-in_err-descriptions-clause-refusal
-returns-in_err-descriptions-clause-refusal c =
-    let p = err_from_is_err_and c.from_residual-in_err-descriptions.result c.from_residual-in_err-descriptions.ensures.1 in
-    let h : Holds kinds.SampleTable (box_container (box_seen c.args.stbl)) c.into_iter-child-iterator.result = rw c.into_iter-child-iterator.ensures.into_iter_gives c.in_ok-child-items.ensures.holds in
-    let k : bytes_eq (codes "stsd") (box_seen c.in-Some.child).kind ≡ true = sym c.is.ensures ∙ c.if-is.true in
-    rw (p.1, p.2) (table_refuse (box_seen c.args.stbl) _ c.loop-child.child-iterator c.next.new.self (box_seen c.in-Some.child) _ _ c.in_err-descriptions.field-0.0 h c.loop-child.invariant.2 c.in-Some.ensures.steps k c.in_err-descriptions.ensures.refusal)
 
 pub loop-child-preserved-then-is : goal.loop-child-preserved-then-is
 loop-child-preserved-then-is c =

@@ -1,4 +1,4 @@
-use Rattle.std.proofs.Common.{inr, sym, ap, ◌∙◌}
+use Rattle.std.proofs.Common.{sym, ap, ◌∙◌}
 use Rattle.std.specs.Ordering.{nat_cmp}
 use Rattle.std.specs.BTreeSet.{contains}
 use Rattle.std.proofs.lemmas.Result.{err_from_is_err_and}
@@ -15,15 +15,6 @@ returns-clause-added c = record { new_there = was_not_there c.in_ok-insert.field
 
 pub returns-clause-sound : goal.returns-clause-sound
 returns-clause-sound c = leaf_sound tkhd (box_seen c.args.view) c.in_ok-header.ensures.exact
-
-pub returns-then-not-branch-clause-refusal : goal.returns-then-not-branch-clause-refusal
-returns-then-not-branch-clause-refusal c =
-    let there = was_there c.in_ok-insert.field-0 _ c.in_ok-insert.ensures.added c.if-not-branch.true in
-    rw c.from.ensures (inr (record {
-      sound = leaf_sound tkhd (box_seen c.args.view) c.in_ok-header.ensures.exact;
-      met = ap (contains nat_cmp c.args.ids.now) (sym c.in_ok-header.ensures.says.id) ∙ there;
-      named = c.fault.ensures;
-    }))
 
 -- ---- the first fault
 

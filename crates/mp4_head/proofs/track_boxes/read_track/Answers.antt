@@ -6,7 +6,6 @@ use Rattle.mp4_boxes.specs.format.Box.{box_container}
 use Rattle.mp4_boxes.specs.format.Children.{Holds, is_among, kept_kinds}
 use Rattle.mp4_boxes.specs.words.View.{box_seen}
 use Rattle.mp4_boxes.specs.declared.rule.Rule.TheVariants as kinds
-use Rattle.mp4_boxes.specs.declared.refusal.Refusal.TheVariants as refusals
 use Rattle.mp4_head.specs.format.Head as heads
 use Rattle.mp4_head.specs.words.Seen.{kept_seen}
 use Rattle.std.specs.BTreeSet.{BTreeSet}
@@ -15,25 +14,12 @@ use Rattle.mp4_boxes.specs.declared.fault.Kind.TheVariants.{ItemLocation}
 use Rattle.mp4_head.specs.words.Ids.{HasIds}
 use Rattle.mp4_head.proofs.FaultWalks.{fault_none, fault_more, fault_here, refused_here, fault_all, list_fails, list_holds}
 use Rattle.mp4_head.proofs.IdsJudged.{tkhd_fault, edts_fault, mdia_fault, kept_in_track, track_pass, placed, unplaced}
-use Rattle.mp4_head.proofs.Above.{child_here}
-use Rattle.mp4_head.proofs.TrackBoxes.{track_none, track_header, track_edits, track_kept, track_media, track_other, header_refuse, kept_refuse, edits_refuse, media_refuse, track_stands, track_said, track_added, track_no_header, track_no_media, ids_before}
+use Rattle.mp4_head.proofs.TrackBoxes.{track_none, track_header, track_edits, track_kept, track_media, track_other, track_said, track_added, track_no_header, track_no_media, ids_before}
 use Rattle.mp4_head.proofs.track_boxes.read_track.Goals.{in_default-via-in-Some+in_default, in_default-via-in_default}
 use Rattle.mp4_head.proofs.track_boxes.read_track.Goals as goal
 
 pub loop-child-init : goal.loop-child-init
 loop-child-init c = (tt, tt, rw (c.new-edits.ensures.items, c.new-kept.ensures.items) (track_none _ _), λ n numbers has. fault_none _ _)
-
-pub returns-in_err-child-items-clause-refusal : goal.returns-in_err-child-items-clause-refusal
-returns-in_err-child-items-clause-refusal c =
-    let p = err_from_is_err_and c.from_residual.result c.from_residual.ensures.1 in
-    rw (p.1, p.2) (track_stands _ (box_seen c.args.trak) (refusals.Fault c.in_err-child-items.field-0.0) (child_here kinds.Track (box_seen c.args.trak) c.in_err-child-items.field-0.0 c.in_err-child-items.ensures.fault))
-
-pub returns-in_err-read_new_track_header-clause-refusal : goal.returns-in_err-read_new_track_header-clause-refusal
-returns-in_err-read_new_track_header-clause-refusal c =
-    let p = err_from_is_err_and c.from_residual-in_err-read_new_track_header.result c.from_residual-in_err-read_new_track_header.ensures.1 in
-    let h : Holds kinds.Track (box_container (box_seen c.args.trak)) c.into_iter-child-iterator.result = rw c.into_iter-child-iterator.ensures.into_iter_gives c.in_ok-child-items.ensures.holds in
-    let k : bytes_eq (codes "tkhd") (box_seen c.in-Some.child).kind ≡ true = sym c.is.ensures ∙ c.if-is.true in
-    rw (p.1, p.2) (header_refuse (box_seen c.args.trak) _ _ c.loop-child.child-iterator c.next.new.self (box_seen c.in-Some.child) _ _ _ _ _ h c.loop-child.invariant.2 c.in-Some.ensures.steps c.in_err-read_new_track_header.field-0.0 k c.in_err-read_new_track_header.ensures.refusal)
 
 pub loop-child-preserved-then-is : goal.loop-child-preserved-then-is
 loop-child-preserved-then-is c =
@@ -50,13 +36,6 @@ loop-child-preserved-then-is c =
           has)).names),
     )
 
-pub returns-in_err-edits-clause-refusal : goal.returns-in_err-edits-clause-refusal
-returns-in_err-edits-clause-refusal c =
-    let p = err_from_is_err_and c.from_residual-in_err-edits.result c.from_residual-in_err-edits.ensures.1 in
-    let h : Holds kinds.Track (box_container (box_seen c.args.trak)) c.into_iter-child-iterator.result = rw c.into_iter-child-iterator.ensures.into_iter_gives c.in_ok-child-items.ensures.holds in
-    let k : bytes_eq (codes "edts") (box_seen c.in-Some.child).kind ≡ true = sym c.is-else-is.ensures ∙ c.if-is-2.true in
-    rw (p.1, p.2) (edits_refuse (box_seen c.args.trak) _ _ c.loop-child.child-iterator c.next.new.self (box_seen c.in-Some.child) _ _ _ _ _ h c.loop-child.invariant.2 c.in-Some.ensures.steps c.in_err-edits.field-0.0 k c.in_err-edits.ensures.refusal)
-
 pub loop-child-preserved-then-is-2 : goal.loop-child-preserved-then-is-2
 loop-child-preserved-then-is-2 c =
     let k1 : bytes_eq (codes "edts") (box_seen c.in-Some.child).kind ≡ true = sym c.is-else-is.ensures ∙ c.if-is-2.true in
@@ -67,13 +46,6 @@ loop-child-preserved-then-is-2 c =
       track_edits (box_seen c.args.trak) _ _ c.loop-child.child-iterator c.next.new.self (box_seen c.in-Some.child) _ _ _ _ _ h c.loop-child.invariant.2 c.in-Some.ensures.steps _ k c.in_ok-edits.ensures.edits,
       λ n numbers has. fault_more _ _ _ _ _ (c.loop-child.invariant.3 n numbers has) c.in-Some.ensures.steps (λ before is. edts_fault (suc (suc (suc (suc n)))) numbers (box_seen c.args.trak) before (box_seen c.in-Some.child) k1 ∙ (c.in_ok-edits.ensures.exact (suc (suc (suc n))) numbers).names),
     )
-
-pub returns-in_err-keep_unplaced-clause-refusal : goal.returns-in_err-keep_unplaced-clause-refusal
-returns-in_err-keep_unplaced-clause-refusal c =
-    let p = err_from_is_err_and c.from_residual-in_err-keep_unplaced.result c.from_residual-in_err-keep_unplaced.ensures.1 in
-    let h : Holds kinds.Track (box_container (box_seen c.args.trak)) c.into_iter-child-iterator.result = rw c.into_iter-child-iterator.ensures.into_iter_gives c.in_ok-child-items.ensures.holds in
-    let k : is_among (kept_kinds kinds.Track) (box_seen c.in-Some.child).kind ≡ true = sym c.is_kept.ensures ∙ c.if-is_kept.true in
-    rw (p.1, p.2) (kept_refuse (box_seen c.args.trak) _ _ c.loop-child.child-iterator c.next.new.self (box_seen c.in-Some.child) _ _ _ _ _ h c.loop-child.invariant.2 c.in-Some.ensures.steps c.in_err-keep_unplaced.field-0.0 k c.in_err-keep_unplaced.ensures.names c.in_err-keep_unplaced.ensures.fault)
 
 pub loop-child-preserved-in_ok-push : goal.loop-child-preserved-in_ok-push
 loop-child-preserved-in_ok-push c =
@@ -88,13 +60,6 @@ loop-child-preserved-in_ok-push c =
           (ap (map kept_seen) c.in_ok-push.ensures.items ∙ map-append kept_seen c.loop-child.kept.items (c.in_ok-keep_unplaced.field-0 ∷ []) ∙ ap (λ (x : heads.Kept). map kept_seen c.loop-child.kept.items ++ x ∷ []) c.in_ok-keep_unplaced.ensures.kept),
       λ n numbers has. fault_more _ _ _ _ _ (c.loop-child.invariant.3 n numbers has) c.in-Some.ensures.steps (λ before is. kept_in_track (suc (suc (suc (suc n)))) numbers (box_seen c.args.trak) before (box_seen c.in-Some.child) k2 ∙ unplaced _ _ c.in_ok-keep_unplaced.ensures.unplaced),
     )
-
-pub returns-in_err-read_media-clause-refusal : goal.returns-in_err-read_media-clause-refusal
-returns-in_err-read_media-clause-refusal c =
-    let p = err_from_is_err_and c.from_residual-in_err-read_media.result c.from_residual-in_err-read_media.ensures.1 in
-    let h : Holds kinds.Track (box_container (box_seen c.args.trak)) c.into_iter-child-iterator.result = rw c.into_iter-child-iterator.ensures.into_iter_gives c.in_ok-child-items.ensures.holds in
-    let k : bytes_eq (codes "mdia") (box_seen c.in-Some.child).kind ≡ true = sym c.is-else-is_kept.ensures ∙ c.if-is-3.true in
-    rw (p.1, p.2) (media_refuse (box_seen c.args.trak) _ _ c.loop-child.child-iterator c.next.new.self (box_seen c.in-Some.child) _ _ _ _ _ h c.loop-child.invariant.2 c.in-Some.ensures.steps c.in_err-read_media.field-0.0 k c.in_err-read_media.ensures.refusal)
 
 pub loop-child-preserved-then-is-3 : goal.loop-child-preserved-then-is-3
 loop-child-preserved-then-is-3 c =
@@ -126,14 +91,6 @@ loop-child-preserved c =
       track_other (box_seen c.args.trak) _ _ c.loop-child.child-iterator c.next.new.self (box_seen c.in-Some.child) _ _ _ _ _ h c.loop-child.invariant.2 c.in-Some.ensures.steps n0 n1 n2 n3,
       λ n numbers has. fault_more _ _ _ _ _ (c.loop-child.invariant.3 n numbers has) c.in-Some.ensures.steps (λ before is. track_pass (suc (suc (suc (suc n)))) numbers (box_seen c.args.trak) before (box_seen c.in-Some.child) m0 m1 m2 m3),
     )
-
-pub returns-in_default-clause-refusal : goal.returns-in_default-clause-refusal
-returns-in_default-clause-refusal c =
-    let h : Holds kinds.Track (box_container (box_seen c.args.trak)) c.into_iter-child-iterator.result = rw c.into_iter-child-iterator.ensures.into_iter_gives c.in_ok-child-items.ensures.holds in
-    elim c.in_default.branch [
-      | in_default-via-in-Some+in_default w ↦ absurd (track_no_media (box_seen c.args.trak) _ _ c.loop-child.child-iterator _ c.loop-child.header _ _ c.loop-child.media h c.loop-child.invariant.2 c.in-None.ensures.steps.0 w.in_default.is-1)
-      | in_default-via-in_default w ↦ absurd (track_no_header (box_seen c.args.trak) _ _ c.loop-child.child-iterator _ c.loop-child.header _ _ c.loop-child.media h c.loop-child.invariant.2 c.in-None.ensures.steps.0 w.in_default.is-0)
-    ]
 
 pub returns-clause-says : goal.returns-clause-says
 returns-clause-says c =

@@ -1,5 +1,5 @@
 use Rattle.mp4_boxes.specs.words.View.{box_seen}
-use Rattle.mp4_head.proofs.Headers.{track_sound, track_fault}
+use Rattle.mp4_head.proofs.Headers.{track_sound}
 use Rattle.mp4_boxes.specs.format.Layout.{tkhd}
 use Rattle.mp4_head.proofs.SoundJudged.{sound_judged}
 use Rattle.mp4_head.proofs.track_header.read_track_header.Goals as goal

@@ -7,7 +7,9 @@ use Rattle.mp4_present.specs.declared.faults.FaultNumbers.{FaultNumbers}
 use Rattle.mp4_present.specs.format.FaultNumbers.{Tells}
 use Rattle.mp4_present.specs.words.PassedMoofs.{IsBegun}
 use Rattle.mp4_present.proofs.Assembled.{begun}
-use Rattle.mp4_present.proofs.FaultGaps.{some_so}
+use Rattle.std.proofs.lemmas.Result.{err_from_is_err_and}
+use Rattle.mp4_present.proofs.FaultGaps.{some_so, not_searched}
+use Rattle.mp4_present.proofs.Refusals.{not_sound}
 use Rattle.mp4_present.proofs.GapsTold.{tells_plain}
 use Rattle.mp4_present.proofs.LooksCounted.{looks_open, none_looks}
 use Rattle.mp4_boxes.specs.words.View.{box_seen}
@@ -21,6 +23,11 @@ check_tables-requires g c = record {
   inside = found_tables _ c.in_ok-head.head c.in_ok-head.ensures.head c.in_ok-head.ensures.inside;
   read = (c.in_ok-head.ensures.head.has.tree.tracks, tracks_read _ c.in_ok-head.head c.in_ok-head.ensures.head);
 }
+
+pub returns-in_err-head-clause-refusal : goal.returns-in_err-head-clause-refusal
+returns-in_err-head-clause-refusal g c =
+    let p = err_from_is_err_and c.from_residual.result c.from_residual.ensures.1 in
+    rw (p.1, p.2) (not_searched (g.S.Store.is_honest c.args.store.now) _ _ c.in_err-head.field-0.0 (not_sound _ c.in_err-head.field-0.0 (c.in_err-head.ensures.exact 0).names))
 
 pub returns-in_err-head-clause-work : goal.returns-in_err-head-clause-work
 returns-in_err-head-clause-work g c = λ told. record { steps = none_open _ _; looks = none_looks _ _ }

@@ -27,7 +27,7 @@ check_tables-requires g c = record {
 pub returns-in_err-head-clause-refusal : goal.returns-in_err-head-clause-refusal
 returns-in_err-head-clause-refusal g c =
     let p = err_from_is_err_and c.from_residual.result c.from_residual.ensures.1 in
-    rw (p.1, p.2) (not_searched (g.S.Store.is_honest c.args.store.now) _ _ c.in_err-head.field-0.0 (not_sound _ c.in_err-head.field-0.0 c.in_err-head.ensures.fault))
+    rw (p.1, p.2) (not_searched (g.S.Store.is_honest c.args.store.now) _ _ c.in_err-head.field-0.0 (not_sound _ c.in_err-head.field-0.0 (c.in_err-head.ensures.exact 0).names))
 
 pub returns-in_err-plain-clause-refusal : goal.returns-in_err-plain-clause-refusal
 returns-in_err-plain-clause-refusal g c =
