@@ -5,13 +5,12 @@ use Rattle.std.specs.List.{AllByRecursion, list_any}
 use Rattle.std.proofs.lemmas.Bool.{ltb-true, ltb-false}
 use Rattle.mp4_boxes.specs.format.Bytes.{field}
 use Rattle.mp4_boxes.specs.format.Box.{Box, Header, Container, Tiles, to_end_of_box, counted, header_at, box_of, sizes, first_boxes, box_container, counted_container, StandsAfter}
-use Rattle.mp4_boxes.specs.format.BoxFaults.{IsHeaderFault, IsNotInProfile, IsDuplicate, IsMissing, header_there, type_of, unreadable, fault_of}
+use Rattle.mp4_boxes.specs.format.BoxFaults.{IsHeaderFault, header_there, type_of, unreadable}
 use Rattle.mp4_boxes.specs.format.Children.{Line, Quantity, one, at_most_one, any, IsQuantity, Holds, table, is_among, allows, repeats, lacks, is_single, is_needed, count_among}
 use Rattle.mp4_boxes.specs.declared.rule.Rule.{Rule}
 use Rattle.mp4_boxes.specs.declared.fault.Fault.{Fault}
-use Rattle.mp4_boxes.specs.declared.fault.Kind.TheVariants.{BoxNotInProfile, DuplicateBox, MissingBox}
 use Rattle.mp4_boxes.proofs.Among.{all_append, count-append}
-use Rattle.mp4_boxes.proofs.Walking.{Passed, passed_more, passed_more-boxes, passed_boxes, passed_tiles, passed_fault, located_err}
+use Rattle.mp4_boxes.proofs.Walking.{Passed, passed_more, passed_more-boxes, passed_boxes, passed_tiles, located_err}
 use Rattle.mp4_boxes.proofs.Tiling.{lies_push}
 use Rattle.mp4_boxes.proofs.Plain.{not_is_false, or_is_false}
 
@@ -25,10 +24,6 @@ as_box P b base bytes e f h = subst P (λ i. record { kind = b.kind; offset = b.
 pub box_tiles : (b : Box) (base : ℕ) (bytes : List ℕ) (count at : ℕ) → base ≡ b.offset + b.header → bytes ≡ b.payload → Passed base bytes count at → length bytes ≤ at
     → Tiles (box_container b) (first_boxes count base bytes)
 box_tiles b base bytes count at e f p le = as_box (λ (c : Container). Tiles c (first_boxes count base bytes)) b base bytes e f (passed_tiles b.kind b.offset base bytes count at p le)
-
-pub box_fault : (b : Box) (base : ℕ) (bytes : List ℕ) (count at : ℕ) (f : Fault) → base ≡ b.offset + b.header → bytes ≡ b.payload → Passed base bytes count at → at < length bytes
-    → header_there false (length (drop at bytes)) (drop at bytes) b.kind (base + at) ≡ Err f → IsHeaderFault (box_container b) f
-box_fault b base bytes count at f e g p lt r = as_box (λ (c : Container). IsHeaderFault c f) b base bytes e g (passed_fault b.kind b.offset base bytes count at f p lt r)
 
 -- ---- counted boxes
 
@@ -142,36 +137,3 @@ stands_there b base bytes count at h e f p r =
       ap (λ (n : ℕ). box_of (base + n) (drop n bytes) h) t,
       as_box (λ (c : Container). StandsAfter c p.boxes (box_of (base + sizes p.boxes) (drop (sizes p.boxes) bytes) h)) b base bytes e f (lies_push false base bytes p.boxes h p.lie read, tt),
     )
-
--- A box that the table doesn't allow stands in the container.
-pub not_allowed : (rule : Rule) (b : Box) (base : ℕ) (bytes : List ℕ) (count at : ℕ) (h : Header) → base ≡ b.offset + b.header → bytes ≡ b.payload → Admitted rule base bytes count at → header_at false (drop at bytes) ≡ Ok h
-    → allows rule h.kind ≡ false → IsNotInProfile rule (box_container b) (record { kind = BoxNotInProfile; box_type = h.kind; offset = base + at })
-not_allowed rule b base bytes count at h e f a r refused =
-    let s = stands_there b base bytes count at h e f a.passed r in
-    record {
-      before = a.passed.boxes;
-      b = s.0;
-      stands = s.2;
-      refused = ap (λ (x : Box). allows rule x.kind) s.1 ∙ refused;
-      named = ap (fault_of BoxNotInProfile) (sym s.1);
-    }
-
--- A box that repeats one stands in the container.
-pub one_too_many : (rule : Rule) (b : Box) (base : ℕ) (bytes : List ℕ) (count at : ℕ) (h : Header) → base ≡ b.offset + b.header → bytes ≡ b.payload → Admitted rule base bytes count at → header_at false (drop at bytes) ≡ Ok h
-    → repeats rule (first_boxes count base bytes) h.kind ≡ true → IsDuplicate rule (box_container b) (record { kind = DuplicateBox; box_type = h.kind; offset = base + at })
-one_too_many rule b base bytes count at h e f a r again =
-    let s = stands_there b base bytes count at h e f a.passed r in
-    let same = passed_boxes base bytes count at a.passed in
-    record {
-      before = a.passed.boxes;
-      b = s.0;
-      stands = s.2;
-      repeated = (λ i. repeats rule (sym same i) (s.1 i).kind) ∙ again;
-      named = ap (fault_of DuplicateBox) (sym s.1);
-    }
-
--- A box that must stand does not.
-pub one_missing : (rule : Rule) (b : Box) (base : ℕ) (bytes : List ℕ) (count at : ℕ) → base ≡ b.offset + b.header → bytes ≡ b.payload → Admitted rule base bytes count at → length bytes ≤ at
-    → lacks rule (first_boxes count base bytes) ≡ true → IsMissing rule (box_container b) (record { kind = MissingBox; box_type = b.kind; offset = b.offset })
-one_missing rule b base bytes count at e f a le lacking =
-    record { boxes = first_boxes count base bytes; tiles = box_tiles b base bytes count at e f a.passed le; lacking = lacking; named = refl }

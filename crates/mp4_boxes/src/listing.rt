@@ -1,7 +1,7 @@
 //! Lists of boxes, checked as a whole before the first is handed out.
 ghost use Rattle.std.specs.Prelude.{◌≡◌, ◌+◌, ◌^◌, ◌<◌, ◌≤◌, List, length, nat_lt, IfOk, IfErr, IsOkAnd};
 ghost use Rattle.mp4_boxes.specs.format.Box.{Box, Tiles, HasBoxes, first_boxes, bytes_container, box_container, counted_container};
-ghost use Rattle.mp4_boxes.specs.format.BoxFaults.{IsHeaderFault, IsChildFault};
+ghost use Rattle.mp4_boxes.specs.format.BoxFaults.{IsHeaderFault};
 ghost use Rattle.mp4_boxes.specs.format.Children.{Holds, count_among, repeats, lacks};
 ghost use Rattle.mp4_boxes.specs.words.Lines.{kinds_seen};
 ghost use Rattle.mp4_boxes.specs.format.FirstFault.{counted_or_fault, IsJudged, boxes_or_fault, children_or_fault, no_tests};
@@ -125,9 +125,6 @@ fn lacks(rule: Rule, bytes: &[u8], base: u64, count: usize) -> bool
 /// The boxes of a container, where they are those that the table allows.
 pub fn check_children<'a>(view: BoxView<'a>, rule: Rule) -> Result<Children<'a>, Fault>
     ensures holds { IfOk result (Holds rule (box_container (box_seen view.entry))) }
-    ensures only { (boxes : List Box) → Holds rule (box_container (box_seen view.entry)) boxes
-        → IsOkAnd result (λ c. c ≡ boxes) }
-    ensures fault { IfErr result (IsChildFault rule (box_container (box_seen view.entry))) }
     ensures exact { IsJudged (children_or_fault rule (box_container (box_seen view.entry)))
         result }
 {

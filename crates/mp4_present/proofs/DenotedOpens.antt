@@ -7,7 +7,6 @@ use Rattle.mp4_boxes.specs.declared.refusal.Refusal.TheVariants as refusals
 use Rattle.mp4_present.specs.format.Denotes.{Denotes}
 use Rattle.mp4_present.specs.words.Opening.{RefusesOpen, RefusesDenoted}
 use Rattle.mp4_present.specs.format.Presentation.{Presentation}
-use Rattle.mp4_present.specs.words.Reading.{RefusesRead}
 use Rattle.mp4_present.specs.format.Stands.{Reason, StandsBy, header, child, missing, leaf, tables, fragment, count, limit, order}
 use Rattle.mp4_present.proofs.BoxReasons.{header_refuses, child_refuses, missing_stands_refuses}
 use Rattle.mp4_present.proofs.Counts.{count_refuses}

@@ -1,13 +1,11 @@
-use Rattle.std.proofs.Common.{Ok, Err, rules, ◌≡◌, ◌+◌, drop, true, false, ◌∙◌, sym, inl, inr}
+use Rattle.std.proofs.Common.{Ok, Err, rules, ◌≡◌, ◌+◌, drop, true, false, ◌∙◌, sym}
 use Rattle.std.proofs.lemmas.Result.{err_from_is_err_and}
-use Rattle.mp4_boxes.specs.format.Box.{box_container}
 use Rattle.mp4_boxes.specs.format.Children.{allows}
 use Rattle.mp4_boxes.specs.words.View.{box_seen, header_seen}
 use Rattle.std.proofs.lemmas.List.{length-drop}
-use Rattle.mp4_boxes.proofs.Tiling.{tiles_one, header_is}
-use Rattle.mp4_boxes.proofs.Refusing.{child_fault_refuses}
-use Rattle.mp4_boxes.proofs.Walking.{passed_few, passed_has, read_behind, fault_behind}
-use Rattle.mp4_boxes.proofs.Admitting.{admitted_none, admitted_more, admitted_holds, box_fault, not_allowed, one_too_many, one_missing}
+use Rattle.mp4_boxes.proofs.Tiling.{header_is}
+use Rattle.mp4_boxes.proofs.Walking.{passed_few, passed_has, read_behind}
+use Rattle.mp4_boxes.proofs.Admitting.{admitted_none, admitted_more, admitted_holds}
 use Rattle.mp4_boxes.specs.format.FirstFault.{rule_tests}
 use Rattle.mp4_boxes.proofs.FirstFaults.{goes_none, goes_more, stops_header, stops_test, ends, refused_there, repeated_there, admitted_there, children_stop, children_lack, children_hold, there_behind}
 use Rattle.mp4_boxes.proofs.listing.check_children.Goals as goal
@@ -15,39 +13,8 @@ use Rattle.mp4_boxes.proofs.listing.check_children.Goals as goal
 pub loop-at-init : goal.loop-at-init
 loop-at-init c = (admitted_none _ _ _, goes_none (rule_tests c.args.rule) c.args.view.kind.0 c.args.view.offset c.payload_offset-base.result c.payload-bytes.result.now)
 
-pub returns-in_err-header-clause-only : goal.returns-in_err-header-clause-only
-returns-in_err-header-clause-only c boxes t =
-    let e = fault_behind c.payload-bytes.result.now c.loop-at.at c.kind.result.0 _ (c.payload_offset-base.result + c.loop-at.at) c.in_err-header.field-0.0 c.kind.ensures c.in_err-header.ensures in
-    let h = box_fault (box_seen c.args.view) c.payload_offset-base.result c.payload-bytes.result.now c.loop-at.count c.loop-at.at c.in_err-header.field-0.0 c.payload_offset-base.ensures c.payload-bytes.ensures c.loop-at.invariant.0.passed (search rules) e in
-    absurd (child_fault_refuses c.args.rule (box_container (box_seen c.args.view)) c.in_err-header.field-0.0 boxes (inl h) t)
-
-pub returns-in_err-header-clause-fault : goal.returns-in_err-header-clause-fault
-returns-in_err-header-clause-fault c =
-    let p = err_from_is_err_and c.from_residual.result c.from_residual.ensures.1 in
-    let e = fault_behind c.payload-bytes.result.now c.loop-at.at c.kind.result.0 _ (c.payload_offset-base.result + c.loop-at.at) c.in_err-header.field-0.0 c.kind.ensures c.in_err-header.ensures in
-    rw (p.1, p.2) (inl (box_fault (box_seen c.args.view) c.payload_offset-base.result c.payload-bytes.result.now c.loop-at.count c.loop-at.at c.in_err-header.field-0.0 c.payload_offset-base.ensures c.payload-bytes.ensures c.loop-at.invariant.0.passed (search rules) e))
-
-pub returns-then-not-allows-clause-fault : goal.returns-then-not-allows-clause-fault
-returns-then-not-allows-clause-fault c =
-    let read = read_behind c.payload-bytes.result.now c.loop-at.at c.kind.result.0 (c.payload_offset-base.result + c.loop-at.at) (header_seen c.in_ok-header.header) c.in_ok-header.ensures in
-    let refused : allows c.args.rule c.in_ok-header.header.kind.0 ≡ false = search rules in
-    rw c.new.ensures (inr (inl (not_allowed c.args.rule (box_seen c.args.view) c.payload_offset-base.result c.payload-bytes.result.now c.loop-at.count c.loop-at.at (header_seen c.in_ok-header.header) c.payload_offset-base.ensures c.payload-bytes.ensures c.loop-at.invariant.0 read refused)))
-
-pub returns-then-not-allows-clause-only : goal.returns-then-not-allows-clause-only
-returns-then-not-allows-clause-only c boxes t = child_fault_refuses c.args.rule (box_container (box_seen c.args.view)) c.new.result boxes (returns-then-not-allows-clause-fault c) t
-
 pub repeats-requires-clause-has : goal.repeats-requires-clause-has
 repeats-requires-clause-has c = passed_has _ _ _ _ c.loop-at.invariant.0.passed
-
-pub returns-then-repeats-clause-fault : goal.returns-then-repeats-clause-fault
-returns-then-repeats-clause-fault c =
-    let read = read_behind c.payload-bytes.result.now c.loop-at.at c.kind.result.0 (c.payload_offset-base.result + c.loop-at.at) (header_seen c.in_ok-header.header) c.in_ok-header.ensures in
-    let again = sym c.repeats.ensures ∙ c.if-repeats.true in
-    rw c.new-then-repeats.ensures
-    (inr (inr (inl (one_too_many c.args.rule (box_seen c.args.view) c.payload_offset-base.result c.payload-bytes.result.now c.loop-at.count c.loop-at.at (header_seen c.in_ok-header.header) c.payload_offset-base.ensures c.payload-bytes.ensures c.loop-at.invariant.0 read again))))
-
-pub returns-then-repeats-clause-only : goal.returns-then-repeats-clause-only
-returns-then-repeats-clause-only c boxes t = child_fault_refuses c.args.rule (box_container (box_seen c.args.view)) c.new-then-repeats.result boxes (returns-then-repeats-clause-fault c) t
 
 pub overflow_add-count : goal.overflow_add-count
 overflow_add-count c =
@@ -69,23 +36,12 @@ loop-at-preserved c =
 pub lacks-requires-clause-has : goal.lacks-requires-clause-has
 lacks-requires-clause-has c = passed_has _ _ _ _ c.loop-at.invariant.0.passed
 
-pub returns-then-lacks-clause-fault : goal.returns-then-lacks-clause-fault
-returns-then-lacks-clause-fault c =
-    rw c.fault.ensures
-    (inr (inr (inr (one_missing c.args.rule (box_seen c.args.view) c.payload_offset-base.result c.payload-bytes.result.now c.loop-at.count c.loop-at.at c.payload_offset-base.ensures c.payload-bytes.ensures c.loop-at.invariant.0 (search rules) (sym c.lacks.ensures ∙ c.if-lacks.true)))))
-
-pub returns-then-lacks-clause-only : goal.returns-then-lacks-clause-only
-returns-then-lacks-clause-only c boxes t = child_fault_refuses c.args.rule (box_container (box_seen c.args.view)) c.fault.result boxes (returns-then-lacks-clause-fault c) t
-
 pub invariant_of-result : goal.invariant_of-result
 invariant_of-result c = (passed_has _ _ _ _ c.loop-at.invariant.0.passed, search rules)
 
 pub returns-clause-holds : goal.returns-clause-holds
 returns-clause-holds c =
     admitted_holds c.args.rule (box_seen c.args.view) _ _ c.loop-at.count c.loop-at.at c.payload_offset-base.ensures c.payload-bytes.ensures c.loop-at.invariant.0 (search rules) (sym c.lacks.ensures ∙ c.if-lacks.false)
-
-pub returns-clause-only : goal.returns-clause-only
-returns-clause-only c boxes t = tiles_one (box_container (box_seen c.args.view)) _ boxes (returns-clause-holds c).tiles t.tiles
 
 pub returns-in_err-header-clause-exact : goal.returns-in_err-header-clause-exact
 returns-in_err-header-clause-exact c =
