@@ -24,7 +24,7 @@ static const char *const KINDS[] = {
     "FragmentBeforeMovie"};
 static const char *const WORDS[] = {"times", "edits", "flags", "groups", "metadata",
                                     "bitrates", "ends", "origins", "labels", "timing",
-                                    "roles"};
+                                    "roles", "ids"};
 enum { WORD_COUNT = sizeof WORDS / sizeof *WORDS };
 
 struct bytes {

@@ -57,6 +57,9 @@ def moved_in(moof: str) -> Callable:
 
 LAST_LONGER = last_run(0x100, 1024, 2)
 MOVED = all_of(offsets(1000, 1256, 1256), moved_in('moof'), moved_in('moof[1]'))
+# The second track has ID 3.
+OTHER_ID = all_of(put('moov/trak[1]/tkhd', 20, u32(3)), put('moov/mvex/trex[1]', 4, u32(3)),
+                  put('moof/traf[1]/tfhd', 4, u32(3)))
 
 
 def one(change: Callable, line: str, words: str = '', **others) -> tuple:
@@ -87,8 +90,7 @@ CHANGES = [
         roles='track 1: flags 000001 | 000000'),
     one(put('moov/trak/tkhd', 4, u64(23)), 'track 1: creation time 13 | 23', 'times'),
     one(put('moov/trak/tkhd', 12, u64(24)), 'track 1: modification time 14 | 24', 'times'),
-    one(all_of(put('moov/trak[1]/tkhd', 20, u32(3)), put('moov/mvex/trex[1]', 4, u32(3)),
-               put('moof/traf[1]/tfhd', 4, u32(3))), 'track 2: id 2 | 3'),
+    one(OTHER_ID, 'track 2: id 2 | 3', 'ids'),
     one(put('moov/trak/tkhd', 44, b'\xff\xff'), 'track 1: layer 1 | -1', 'roles'),
     one(put('moov/trak/tkhd', 46, u16(3)), 'track 1: alternate group 2 | 3', 'roles'),
     one(put('moov/trak/tkhd', 48, u16(0)), 'track 1: volume 256 | 0'),
@@ -190,6 +192,7 @@ HIDDEN = [
     ('other flags of a track', put('moov/trak/tkhd', 1, b'\xff\xff\xff'), 'roles'),
     ('another layer', put('moov/trak/tkhd', 44, u16(1000)), 'roles'),
     ('another alternate group', put('moov/trak/tkhd', 46, b'\xff\xff'), 'roles'),
+    ('another ID of a track', OTHER_ID, 'ids'),
     ('all durations doubled', all_of(durations((2, 1024), (1, 1000)),
                                      put('moof/traf[1]/tfhd', 12, u32(1024))), 'timing'),
     ('one frame inside longer', durations((1, 512), (1, 612), (1, 500)), 'timing'),

@@ -11,7 +11,7 @@ from .normal import descriptions, handler, kept_in, key_order, roles
 
 # The words of `--without`, in their order, and the named sets of them.
 WORDS = ('times', 'edits', 'flags', 'groups', 'metadata', 'bitrates', 'ends', 'origins', 'labels',
-         'timing', 'roles')
+         'timing', 'roles', 'ids')
 SETS = {'packaging-1': WORDS[:8], 'media-1': WORDS[:10]}
 # What is left out: nothing, each word, all of them, each named set.
 WORD_SETS = [(), *((word,) for word in WORDS), WORDS, *((name,) for name in SETS)]
@@ -195,7 +195,7 @@ def of_track(track) -> Iterator:
     flags, layer, group = roles(track)
     yield 'heads', 'flags', flags, 6
     yield from times(track.header, track.left)
-    yield 'heads', 'id', track.id, 0
+    yield 'heads', 'id', track.id_left, 0
     yield 'heads', 'layer', layer, 0
     yield 'heads', 'alternate group', group, 0
     yield from signed(fields, 2, volume=12)

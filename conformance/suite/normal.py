@@ -77,7 +77,7 @@ def times_of(box, left) -> bytes:
 
 def movie_header(movie) -> Box:
     box = movie.header
-    largest = max([track.id for track in movie.tracks], default=0)
+    largest = max([track.id_left for track in movie.tracks], default=0)
     behind = box.inner + (32 if box.version() else 20)
     rate_and_volume, matrix = box.data[behind:behind + 6], box.data[behind + 16:behind + 52]
     fields = full(1) + times_of(box, movie.left) + u32(movie.timescale) + u64(0)
@@ -89,7 +89,7 @@ def movie_box(movie) -> Box:
     boxes = [movie_header(movie)] + kept(kept_in(movie.moov, 'moov', movie.left))
     boxes += [track_box(track) for track in movie.tracks]
     extends = [Box('mehd', full(1) + u64(movie.length()))]
-    extends += [Box('trex', numbers(0, track.id, 1, 0, 0, 0)) for track in movie.tracks]
+    extends += [Box('trex', numbers(0, track.id_left, 1, 0, 0, 0)) for track in movie.tracks]
     if taken('no-mvex-without-tracks') and not movie.tracks:
         return Box('moov', b'', boxes)
     return Box('moov', b'', boxes + [Box('mvex', b'', extends)])
@@ -115,7 +115,7 @@ def track_header(track) -> Box:
     box, behind = track.header, behind_duration(track)
     flags, layer, group = roles(track)
     volume, rest = box.data[behind + 12:behind + 14], box.data[behind + 16:behind + 60]
-    fields = full(1, flags) + times_of(box, track.left) + u32(track.id) + bytes(4 + 8 + 8)
+    fields = full(1, flags) + times_of(box, track.left) + u32(track.id_left) + bytes(4 + 8 + 8)
     return Box('tkhd', fields + u16(layer % 2**16) + u16(group % 2**16) + volume + bytes(2) + rest)
 
 
@@ -221,7 +221,7 @@ def piece(movie, number: int, track, time: int, samples) -> bytes:
     columns = [(0x100, 0x8, [sample.duration for sample in samples]),
                (0x200, 0x10, [sample.size for sample in samples]),
                (0x400, 0x20, [sample.flags for sample in samples])]
-    head_flags, head = 0x020002, u32(track.id) + u32(samples[0].description)
+    head_flags, head = 0x020002, u32(track.id_left) + u32(samples[0].description)
     run_flags, own = 1, []
     for column, default, values in columns:
         if shared(values) is None:

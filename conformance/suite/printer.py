@@ -76,7 +76,7 @@ class Printer:
         self.kept(self.movie.moov, 'moov')
 
     def track(self, track) -> None:
-        self.lines.append(f'track {track.id}')
+        self.lines.append(f'track {track.id_left}')
         self.values(differ.of_track(track), id=None)
         for edit in track.edits:
             self.line('edit', *edit)
@@ -95,7 +95,7 @@ class Printer:
 
     def samples(self, track) -> None:
         self.line('start', track.start)
-        self.lines.append(f'samples of track {track.id}: {COLUMNS}')
+        self.lines.append(f'samples of track {track.id_left}: {COLUMNS}')
         for sample in track.samples:
             data = self.movie.bytes_of(sample)
             words = [sample.duration, sample.offset, f'{sample.flags:08x}', sample.description,

@@ -104,7 +104,7 @@ class Track:
         self.information = self.media.one('minf')
         self.tables = self.information.one('stbl')
         self.long_times = self.header.version() == 1
-        self.id = self.header.scale()
+        self.id = self.id_left = self.header.scale()
         self.timescale = self.media.one('mdhd').scale()
         self.descriptions = first_boxes(self.tables.one('stsd'))
         self.edits = edits_of(trak)
@@ -170,8 +170,10 @@ class Movie:
         self.left = meant(names)
         if 'timing' in self.left:
             self.timescale = PLAIN_TIMESCALE
-        for track in self.tracks:
+        for place, track in enumerate(self.tracks, 1):
             track.leave_out(self.left)
+            if 'ids' in self.left:
+                track.id_left = place
         return self
 
     def refusal(self) -> str | None:

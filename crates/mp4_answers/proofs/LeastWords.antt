@@ -80,7 +80,7 @@ module _ (k m : Without) (timed : k.timing ≡ m.timing) where
   track_heads_agree a b same g h = record {
     flags = either k.roles m.roles g.flags h.flags;
     enabled = g.enabled;
-    id = g.id;
+    id = either k.ids m.ids g.id h.id;
     layer = either k.roles m.roles g.layer h.layer;
     alternate_group = either k.roles m.roles g.alternate_group h.alternate_group;
     volume = g.volume;

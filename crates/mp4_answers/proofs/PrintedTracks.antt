@@ -13,7 +13,7 @@ use Rattle.mp4_head.specs.words.Seen.{track_seen}
 use Rattle.mp4_head.specs.declared.heads.TrackHead.{TrackHead}
 use Rattle.mp4_present.specs.format.Denotes.{FileTree, file_parts, track_of}
 use Rattle.mp4_present.specs.format.Presentation.{Track}
-use Rattle.mp4_content.specs.format.Reduced.{reduce_track, reduce_track_head, start_left}
+use Rattle.mp4_content.specs.format.Reduced.{number_head, number_heads, number_track, number_tracks, reduce_track, reduce_track_head, start_left}
 use Rattle.mp4_present.specs.words.Carried.{BytesGoOn}
 use Rattle.mp4_present.specs.words.Movies.{MovieSeen}
 use Rattle.mp4_content.specs.words.PayloadsLeft.{keeping_payloads, track_payloads_left}
@@ -22,6 +22,7 @@ use Rattle.mp4_present.specs.words.WalkSteps.{walk_steps, walks_steps}
 use Rattle.mp4_present.specs.declared.track_info.TrackInfo.{TrackInfo}
 use Rattle.mp4_present.specs.declared.walking.Walk.{Walk}
 use Rattle.mp4_content.specs.declared.without.Without.{Without}
+use Rattle.mp4_content.proofs.Numbered.{numbered_at, numbered_many}
 use Rattle.mp4_answers.specs.format.Text.{head_lines, number_line, sample_text, samples_heading, track_text}
 use Rattle.mp4_answers.specs.words.PrintedTracks.{IsBegun, AreBegun, AreWalks}
 use Rattle.mp4_answers.proofs.Going.{Going, going_none}
@@ -99,14 +100,14 @@ front_of l h start = head_lines (reduce_track_head (keeping_payloads l) h) ++ nu
 
 -- the tracks that are left
 abbrev pub tracks_left : Without → List ℕ → FileTree → List Track
-tracks_left l file tree = map (reduce_track l) (map (track_of file (file_parts tree)) tree.movie.tracks)
+tracks_left l file tree = number_tracks l 1 (map (reduce_track l) (map (track_of file (file_parts tree)) tree.movie.tracks))
 
 -- the text of those from a place on
 abbrev pub text_from : Without → List ℕ → FileTree → ℕ → List ℕ
 text_from l file tree k = flat_map track_text (drop k (tracks_left l file tree))
 
 tracks_many : (l : Without) (file : List ℕ) (tree : FileTree) → length (tracks_left l file tree) ≡ length tree.movie.tracks
-tracks_many l file tree = length-map (map (track_of file (file_parts tree)) tree.movie.tracks) (reduce_track l) ∙ length-map tree.movie.tracks (track_of file (file_parts tree))
+tracks_many l file tree = numbered_many l 1 (map (reduce_track l) (map (track_of file (file_parts tree)) tree.movie.tracks)) ∙ length-map (map (track_of file (file_parts tree)) tree.movie.tracks) (reduce_track l) ∙ length-map tree.movie.tracks (track_of file (file_parts tree))
 
 -- the steps of walks over the tracks from a place on
 abbrev pub steps_from : FileTree → ℕ → ℕ
@@ -124,30 +125,47 @@ tracks_begin l file tree Took nothing held old = record { goes = going_none Took
 pub tracks_most : (l : Without) (file : List ℕ) (tree : FileTree) (k : ℕ) (Took : List ℕ → Type 0) (held held_b : List ℕ) (old new : ℕ) → TracksTold l file tree k Took held held_b old new → new ≤ old + walks_steps tree
 tracks_most l file tree k Took held held_b old new h = let steps = h.steps in omega (arith, steps)
 
+-- heads that are numbered are as many, and each stands at its place
+heads_many : (l : Without) (place : ℕ) (known : List heads.TrackHead) → length (number_heads l place known) ≡ length known
+heads_many l place [] = refl
+heads_many l place (t ∷ known) = ap suc (heads_many l (suc place) known)
+
+head_from : (l : Without) (place k : ℕ) (known : List heads.TrackHead) (t : heads.TrackHead) → slice_get known k ≡ Some t → slice_get (number_heads l place known) k ≡ Some (number_head l (k + place) t)
+head_from l place k [] t e = absurd cc
+head_from l place zero (x ∷ known) t e =
+    let same : x ≡ t = cc in
+    let n : place ≡ 0 + place = omega arith in
+    λ i. Some (number_head l (n i) (same i))
+head_from l place (suc k) (x ∷ known) t e =
+    let n : k + suc place ≡ suc k + place = omega arith in
+    head_from l (suc place) k known t e ∙ ap (λ n. Some (number_head l n t)) n
+
 -- as many tracks are known as the movie has, and as many heads
 infos_all : (file : List ℕ) (m : MovieSeen) (tree : FileTree) → IsOpenedAs file m tree → length m.tracks ≡ length tree.movie.tracks
 infos_all file m tree o = sym (length_zip (IsInfoOf file tree) tree.movie.tracks m.tracks o.tracks)
 
-heads_all : (l : Without) (tree : FileTree) (known : List TrackHead) → map track_seen known ≡ map (track_payloads_left l) (map track_head_of tree.movie.tracks) → length known ≡ length tree.movie.tracks
-heads_all l tree known e = sym (length-map known track_seen) ∙ ap length e ∙ length-map (map track_head_of tree.movie.tracks) (track_payloads_left l) ∙ length-map tree.movie.tracks track_head_of
+heads_all : (l : Without) (tree : FileTree) (known : List TrackHead) → map track_seen known ≡ number_heads l 1 (map (track_payloads_left l) (map track_head_of tree.movie.tracks)) → length known ≡ length tree.movie.tracks
+heads_all l tree known e = sym (length-map known track_seen) ∙ ap length e ∙ heads_many l 1 (map (track_payloads_left l) (map track_head_of tree.movie.tracks)) ∙ length-map (map track_head_of tree.movie.tracks) (track_payloads_left l) ∙ length-map tree.movie.tracks track_head_of
 
 -- no track is left
-pub tracks_end : (l : Without) (file : List ℕ) (m : MovieSeen) (tree : FileTree) (known : List TrackHead) (k : ℕ) (Took : List ℕ → Type 0) (held held_b : List ℕ) (old new : ℕ) → IsOpenedAs file m tree → map track_seen known ≡ map (track_payloads_left l) (map track_head_of tree.movie.tracks)
+pub tracks_end : (l : Without) (file : List ℕ) (m : MovieSeen) (tree : FileTree) (known : List TrackHead) (k : ℕ) (Took : List ℕ → Type 0) (held held_b : List ℕ) (old new : ℕ) → IsOpenedAs file m tree
+    → map track_seen known ≡ number_heads l 1 (map (track_payloads_left l) (map track_head_of tree.movie.tracks))
     → (length m.tracks ≡ length tree.movie.tracks → length known ≡ length tree.movie.tracks → length tree.movie.tracks ≤ k) → TracksTold l file tree k Took held held_b old new → BytesGoOn Took held held_b (text_from l file tree 0)
 tracks_end l file m tree known k Took held held_b old new o e over h =
     let many = tracks_many l file tree in
     let end = over (infos_all file m tree o) (heads_all l tree known e) in
     texts_all Took held held_b (text_from l file tree k) (text_from l file tree 0) h.goes (ap (flat_map track_text) (none_behind (tracks_left l file tree) k (omega (arith, many, end))))
 
-module _ (l : Without) (file : List ℕ) (m : MovieSeen) (tree : FileTree) (known : List TrackHead) (k : ℕ) (o : IsOpenedAs file m tree) (same : map track_seen known ≡ map (track_payloads_left l) (map track_head_of tree.movie.tracks)) (head : TrackHead) (info : TrackInfo)
+module _ (l : Without) (file : List ℕ) (m : MovieSeen) (tree : FileTree) (known : List TrackHead) (k : ℕ) (o : IsOpenedAs file m tree) (same : map track_seen known ≡ number_heads l 1 (map (track_payloads_left l) (map track_head_of tree.movie.tracks))) (head : TrackHead) (info : TrackInfo)
     (h_at : slice_get known k ≡ Some head) (i_at : slice_get m.tracks k ≡ Some info) where
   -- the track of the file
   pub track_there : (t : TrackTree) × (slice_get tree.movie.tracks k ≡ Some t)
   track_there = first_of_two (IsInfoOf file tree) tree.movie.tracks m.tracks k info o.tracks i_at
 
-  head_is : track_seen head ≡ track_payloads_left l (track_head_of track_there.0)
-  head_is = some_same (track_seen head) (track_payloads_left l (track_head_of track_there.0)) (sym (get_mapped track_seen known k head h_at) ∙ ap (λ (hs : List heads.TrackHead). slice_get hs k) same
-      ∙ get_mapped (track_payloads_left l) (map track_head_of tree.movie.tracks) k (track_head_of track_there.0) (get_mapped track_head_of tree.movie.tracks k track_there.0 track_there.1))
+  head_is : track_seen head ≡ number_head l (k + 1) (track_payloads_left l (track_head_of track_there.0))
+  head_is = some_same (track_seen head) (number_head l (k + 1) (track_payloads_left l (track_head_of track_there.0))) (sym (get_mapped track_seen known k head h_at) ∙ ap (λ (hs : List heads.TrackHead). slice_get hs k) same
+      ∙ head_from l 1 k (map (track_payloads_left l) (map track_head_of tree.movie.tracks)) (track_payloads_left l (track_head_of track_there.0))
+      (get_mapped (track_payloads_left l) (map track_head_of tree.movie.tracks) k (track_head_of track_there.0) (get_mapped track_head_of tree.movie.tracks k track_there.0 track_there.1)))
 
   abbrev pub front : List ℕ
   front = front_of l (track_seen head) (start_left l info.start)
@@ -156,7 +174,7 @@ module _ (l : Without) (file : List ℕ) (m : MovieSeen) (tree : FileTree) (know
   abbrev pub lines : List ℕ
   lines = flat_map sample_text (reduce_track l (track_of file (file_parts tree) track_there.0)).samples
 
-  track_is : front ++ lines ≡ track_text (reduce_track l (track_of file (file_parts tree) track_there.0))
+  track_is : front ++ lines ≡ track_text (number_track l (k + 1) (reduce_track l (track_of file (file_parts tree) track_there.0)))
   track_is =
       let t = track_there.0 in
       let start = (get_zip (IsInfoOf file tree) tree.movie.tracks m.tracks k t info o.tracks track_there.1 i_at).start in
@@ -166,8 +184,10 @@ module _ (l : Without) (file : List ℕ) (m : MovieSeen) (tree : FileTree) (know
   two_parts : text_from l file tree k ≡ front ++ (lines ++ text_from l file tree (k + 1))
   two_parts =
       let t = track_there.0 in
-      let at = get_mapped (reduce_track l) (map (track_of file (file_parts tree)) tree.movie.tracks) k (track_of file (file_parts tree) t) (get_mapped (track_of file (file_parts tree)) tree.movie.tracks k t track_there.1) in
-      ap (flat_map track_text) (behind_got (tracks_left l file tree) k (reduce_track l (track_of file (file_parts tree) t)) at) ∙ ap (λ (bs : List ℕ). bs ++ text_from l file tree (k + 1)) (sym track_is) ∙ append_assoc front lines (text_from l file tree (k + 1))
+      let own = map (track_of file (file_parts tree)) tree.movie.tracks in
+      let one = track_of file (file_parts tree) t in
+      let at = numbered_at l k (map (reduce_track l) own) (reduce_track l one) (get_mapped (reduce_track l) own k one (get_mapped (track_of file (file_parts tree)) tree.movie.tracks k t track_there.1)) in
+      ap (flat_map track_text) (behind_got (tracks_left l file tree) k (number_track l (k + 1) (reduce_track l one)) at) ∙ ap (λ (bs : List ℕ). bs ++ text_from l file tree (k + 1)) (sym track_is) ∙ append_assoc front lines (text_from l file tree (k + 1))
 
   steps_next : steps_from tree k ≡ walk_steps tree track_there.0 + steps_from tree (k + 1)
   steps_next = ap (sum_of (walk_steps tree)) (behind_got tree.movie.tracks k track_there.0 track_there.1)

@@ -1,5 +1,5 @@
 -- Texts tell what they are of: heads, samples, tracks, and the whole.
-use Rattle.std.proofs.Common.{◌≡◌, ◌⊎◌, inl, inr, ℕ, zero, suc, ◌%◌, ◌^◌, ◌<◌, ◌≤◌, ◌-◌, ltb, cond, Bool, true, false, List, [], ◌∷◌, ◌++◌, length, take, refl, sym, ap, subst, ◌∙◌, arith, append_assoc, codes, decimal}
+use Rattle.std.proofs.Common.{◌≡◌, ◌⊎◌, inl, inr, ℕ, zero, suc, ◌%◌, ◌^◌, ◌<◌, ◌≤◌, ◌-◌, min, ltb, cond, Bool, true, false, List, [], ◌∷◌, ◌++◌, length, take, refl, sym, ap, subst, ◌∙◌, arith, append_assoc, codes, decimal}
 use Rattle.std.specs.Prelude.{Contains, ◌&&◌, map, flat_map, filter, not, if◌then◌else◌, slice_index, ℤ, pos, negsuc, ◌-ℤ◌, FitsSigned}
 use Rattle.std.specs.Fmt.{signed_decimal}
 use Rattle.std.specs.Int.{w16, w32, w64}
@@ -20,7 +20,8 @@ use Rattle.mp4_boxes.proofs.Plain.{tail_is}
 use Rattle.mp4_tables.specs.format.Groups.{Groups}
 use Rattle.mp4_head.specs.format.Head.{Edit, Kept, Media, TrackHead, MovieHead, IsDescription, IsEdit, IsGroupDescription, IsKept, IsMedia, IsMovieHead, IsTrackHead}
 use Rattle.mp4_present.specs.format.Presentation.{Sample, Track, Presentation, IsGroup, IsInTime, IsSample, IsTrack, Valid}
-use Rattle.mp4_content.specs.format.Reduced.{first_offset, is_at_end, metadata_kinds, plain_handler, reduce, reduce_descriptions, reduce_kept, reduce_media, reduce_movie_head, reduce_sample, reduce_track, reduce_track_head, sync_flag}
+use Rattle.mp4_content.specs.format.Reduced.{number_track, first_offset, is_at_end, metadata_kinds, plain_handler, reduce, reduce_descriptions, reduce_kept, reduce_media, reduce_movie_head, reduce_sample, reduce_track, reduce_track_head, sync_flag}
+use Rattle.mp4_content.proofs.Numbered.{numbered_each}
 use Rattle.mp4_content.specs.format.Zeros.{zeroed}
 use Rattle.mp4_content.proofs.SamplesReduced.{reduced_each}
 use Rattle.mp4_content.proofs.Plain.{descriptions_good}
@@ -729,10 +730,34 @@ told_track l timescale t h few in_time =
       samples = reduced_each (IsSample many) IsToldSample l count first (λ n s i. told_sample l many count first n s few fits i) 0 t.samples h.samples;
     }
 
+-- so it is behind its numbering
+told_numbered : (l : Without) (place : ℕ) (t : Track) → IsToldTrack t → IsToldTrack (number_track l place t)
+told_numbered l place t h = record {
+  head = record {
+    flags = h.head.flags;
+    creation = h.head.creation;
+    modification = h.head.modification;
+    id = below_if l.ids (min place (2 ^ 32 - 1)) t.head.id (2 ^ 64) (omega arith) h.head.id;
+    layer = h.head.layer;
+    alternate_group = h.head.alternate_group;
+    volume = h.head.volume;
+    matrix = h.head.matrix;
+    width = h.head.width;
+    height = h.head.height;
+    edits = h.head.edits;
+    kept = h.head.kept;
+    media = h.head.media;
+    group_descriptions = h.head.group_descriptions;
+  };
+  start = h.start;
+  samples = h.samples;
+}
+
 told_tracks : (l : Without) (p : Presentation) → Valid p → AllByRecursion IsToldTrack (reduce l p).tracks
 told_tracks l p v =
-    each_value (λ (t : Track). CanWrite p.tracks t × IsInTime p.movie.timescale t) IsToldTrack (reduce_track l) (λ t i. told_track l p.movie.timescale t i.0.valid i.0.few i.1) p.tracks
-    (each_from (CanWrite p.tracks) (IsInTime p.movie.timescale) (λ (t : Track). CanWrite p.tracks t × IsInTime p.movie.timescale t) (λ t a b. (a, b)) p.tracks (valid_tracks p v) v.limits.times)
+    numbered_each l IsToldTrack IsToldTrack (λ place t some h. told_numbered l place t h) 1 (map (reduce_track l) p.tracks) (omega arith)
+    (each_value (λ (t : Track). CanWrite p.tracks t × IsInTime p.movie.timescale t) IsToldTrack (reduce_track l) (λ t i. told_track l p.movie.timescale t i.0.valid i.0.few i.1) p.tracks
+    (each_from (CanWrite p.tracks) (IsInTime p.movie.timescale) (λ (t : Track). CanWrite p.tracks t × IsInTime p.movie.timescale t) (λ t a b. (a, b)) p.tracks (valid_tracks p v) v.limits.times))
 
 -- ---- the whole
 

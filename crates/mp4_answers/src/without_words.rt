@@ -22,6 +22,7 @@ pub(crate) const TAKEN: &[Word] = &[
     Word::Ends,
     Word::Origins,
     Word::Roles,
+    Word::Ids,
 ];
 
 // The words of `packaging-1`: what changes when a file is packed another way. They never change, so

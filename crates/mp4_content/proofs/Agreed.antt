@@ -1,5 +1,5 @@
 -- What is left of two presentations is the same exactly where they agree.
-use Rattle.std.proofs.Common.{◌≡◌, ℕ, suc, ◌*◌, ◌/◌, ◌%◌, ◌^◌, Bool, true, false, if◌then◌else◌, List, [], ◌∷◌, length, refl, sym, ap, ◌∙◌, arith}
+use Rattle.std.proofs.Common.{◌≡◌, ℕ, suc, ◌-◌, ◌*◌, ◌/◌, ◌%◌, ◌^◌, min, Bool, true, false, if◌then◌else◌, List, [], ◌∷◌, length, refl, sym, ap, ◌∙◌, arith}
 use Rattle.std.specs.Prelude.{◌&&◌, map, filter, codes, bytes_eq, ℤ, pos, ◌-ℤ◌}
 use Rattle.std.specs.List.{AllZip}
 use Rattle.mp4_head.specs.format.Head.{Kept, Media, TrackHead, MovieHead, handler_type}
@@ -7,7 +7,7 @@ use Rattle.mp4_present.specs.format.Presentation.{Sample, Track, Presentation}
 use Rattle.mp4_content.proofs.Plain.{plain_turned, reduce_by, type_same}
 use Rattle.mp4_content.proofs.ReducedSamples.{left_many}
 use Rattle.mp4_content.specs.format.BitRates.{unrated_descriptions, unrated_payload}
-use Rattle.mp4_content.specs.format.Reduced.{sync_flag, plain_handler, plain_picture, plain_descriptions, is_at_end, first_offset, reduce_sample, reduce_from, reduce_samples, reduce_media, reduce_track_head, reduce_movie_head, reduce_track, reduce}
+use Rattle.mp4_content.specs.format.Reduced.{sync_flag, plain_handler, plain_picture, plain_descriptions, is_at_end, first_offset, reduce_sample, reduce_from, reduce_samples, reduce_media, reduce_track_head, reduce_movie_head, number_head, number_track, number_tracks, reduce_track, reduce}
 use Rattle.mp4_content.specs.declared.without.Without.{Without}
 use Rattle.mp4_content.specs.format.Agreeing.{is_other, SamplesAgree, AllAgree, MediaAgree, TrackHeadsAgree, MovieHeadsAgree, TracksAgree, Agree, ReduceIsExact}
 
@@ -97,18 +97,6 @@ first_same x y xs ys e = cc
 
 rest_same : {A : Type 0} (x y : A) (xs ys : List A) → x ∷ xs ≡ y ∷ ys → xs ≡ ys
 rest_same x y xs ys e = cc
-
-zip_to : {A : Type 0} (R : A → A → Type 0) (f : A → A) → ((x y : A) → f x ≡ f y → R x y) → (xs ys : List A) → map f xs ≡ map f ys → AllZip R xs ys
-zip_to R f one [] [] e = tt
-zip_to R f one [] (y ∷ ys) e = absurd cc
-zip_to R f one (x ∷ xs) [] e = absurd cc
-zip_to R f one (x ∷ xs) (y ∷ ys) e = (one x y (first_same (f x) (f y) (map f xs) (map f ys) e), zip_to R f one xs ys (rest_same (f x) (f y) (map f xs) (map f ys) e))
-
-zip_from : {A : Type 0} (R : A → A → Type 0) (f : A → A) → ((x y : A) → R x y → f x ≡ f y) → (xs ys : List A) → AllZip R xs ys → map f xs ≡ map f ys
-zip_from R f one [] [] h = refl
-zip_from R f one [] (y ∷ ys) h = absurd h
-zip_from R f one (x ∷ xs) [] h = absurd h
-zip_from R f one (x ∷ xs) (y ∷ ys) h = λ i. one x y h.0 i ∷ zip_from R f one xs ys h.1 i
 
 sync_to : (m n : ℕ) → sync_flag m ≡ sync_flag n → m / 2 ^ 16 % 2 ≡ n / 2 ^ 16 % 2
 sync_to m n e = omega (arith, e)
@@ -204,11 +192,11 @@ module _ (l : Without) where
     descriptions = same_left a.handler b.handler a.descriptions b.descriptions l.labels l.bitrates h.descriptions h.plain h.unrated h.left_descriptions i;
   }
 
-  track_head_to : (a b : TrackHead) → reduce_track_head l a ≡ reduce_track_head l b → TrackHeadsAgree l a b
-  track_head_to a b e = record {
+  track_head_to : (place : ℕ) (a b : TrackHead) → number_head l place (reduce_track_head l a) ≡ number_head l place (reduce_track_head l b) → TrackHeadsAgree l a b
+  track_head_to place a b e = record {
     flags = stays l.roles (λ n. n % 2) a.flags b.flags (ap (λ (x : TrackHead). x.flags) e);
     enabled = less l.roles (λ n. n % 2) a.flags b.flags (ap (λ (x : TrackHead). x.flags) e);
-    id = ap (λ (x : TrackHead). x.id) e;
+    id = stays l.ids (λ n. min place (2 ^ 32 - 1)) a.id b.id (ap (λ (x : TrackHead). x.id) e);
     layer = stays l.roles (λ n. pos 0) a.layer b.layer (ap (λ (x : TrackHead). x.layer) e);
     alternate_group = stays l.roles (λ n. pos 0) a.alternate_group b.alternate_group (ap (λ (x : TrackHead). x.alternate_group) e);
     volume = ap (λ (x : TrackHead). x.volume) e;
@@ -224,10 +212,10 @@ module _ (l : Without) where
     group_descriptions = stays l.groups (λ xs. []) a.group_descriptions b.group_descriptions (ap (λ (x : TrackHead). x.group_descriptions) e);
   }
 
-  track_head_from : (a b : TrackHead) → TrackHeadsAgree l a b → reduce_track_head l a ≡ reduce_track_head l b
-  track_head_from a b h = λ i. record {
+  track_head_from : (place : ℕ) (a b : TrackHead) → TrackHeadsAgree l a b → number_head l place (reduce_track_head l a) ≡ number_head l place (reduce_track_head l b)
+  track_head_from place a b h = λ i. record {
     flags = same_less l.roles (λ n. n % 2) a.flags b.flags h.flags h.enabled i;
-    id = h.id i;
+    id = same_less l.ids (λ n. min place (2 ^ 32 - 1)) a.id b.id h.id refl i;
     layer = same_less l.roles (λ n. pos 0) a.layer b.layer h.layer refl i;
     alternate_group = same_less l.roles (λ n. pos 0) a.alternate_group b.alternate_group h.alternate_group refl i;
     volume = h.volume i;
@@ -265,30 +253,47 @@ module _ (l : Without) where
     kept = same_less l.metadata (filter is_other) a.kept b.kept h.kept h.other_kept i;
   }
 
-  track_to : (a b : Track) → reduce_track l a ≡ reduce_track l b → TracksAgree l a b
-  track_to a b e = record {
+  track_to : (place : ℕ) (a b : Track) → number_track l place (reduce_track l a) ≡ number_track l place (reduce_track l b) → TracksAgree l a b
+  track_to place a b e = record {
     start = last_stays l.timing l.origins 0 0 0 a.start b.start (ap (λ (x : Track). x.start) e);
-    head = track_head_to a.head b.head (ap (λ (x : Track). x.head) e);
+    head = track_head_to place a.head b.head (ap (λ (x : Track). x.head) e);
     samples = samples_to a.samples b.samples (ap (λ (x : Track). x.samples) e);
   }
 
-  track_from : (a b : Track) → TracksAgree l a b → reduce_track l a ≡ reduce_track l b
-  track_from a b h = λ i. record {
+  track_from : (place : ℕ) (a b : Track) → TracksAgree l a b → number_track l place (reduce_track l a) ≡ number_track l place (reduce_track l b)
+  track_from place a b h = λ i. record {
     start = same_both l.timing l.origins 0 0 0 a.start b.start h.start (λ e f. refl) i;
-    head = track_head_from a.head b.head h.head i;
+    head = track_head_from place a.head b.head h.head i;
     samples = samples_from a.samples b.samples h.samples i;
   }
+
+  tracks_to : (place : ℕ) (xs ys : List Track) → number_tracks l place (map (reduce_track l) xs) ≡ number_tracks l place (map (reduce_track l) ys) → AllZip (TracksAgree l) xs ys
+  tracks_to place [] [] e = tt
+  tracks_to place [] (y ∷ ys) e = absurd cc
+  tracks_to place (x ∷ xs) [] e = absurd cc
+  tracks_to place (x ∷ xs) (y ∷ ys) e =
+      let a = number_track l place (reduce_track l x) in
+      let b = number_track l place (reduce_track l y) in
+      let more = number_tracks l (suc place) (map (reduce_track l) xs) in
+      let rest = number_tracks l (suc place) (map (reduce_track l) ys) in
+      (track_to place x y (first_same a b more rest e), tracks_to (suc place) xs ys (rest_same a b more rest e))
+
+  tracks_from : (place : ℕ) (xs ys : List Track) → AllZip (TracksAgree l) xs ys → number_tracks l place (map (reduce_track l) xs) ≡ number_tracks l place (map (reduce_track l) ys)
+  tracks_from place [] [] h = refl
+  tracks_from place [] (y ∷ ys) h = absurd h
+  tracks_from place (x ∷ xs) [] h = absurd h
+  tracks_from place (x ∷ xs) (y ∷ ys) h = λ i. track_from place x y h.0 i ∷ tracks_from (suc place) xs ys h.1 i
 
   all_to : (a b : Presentation) → reduce l a ≡ reduce l b → Agree l a b
   all_to a b e = record {
     movie = movie_head_to a.movie b.movie (ap (λ (x : Presentation). x.movie) e);
-    tracks = zip_to (TracksAgree l) (reduce_track l) track_to a.tracks b.tracks (ap (λ (x : Presentation). x.tracks) e);
+    tracks = tracks_to 1 a.tracks b.tracks (ap (λ (x : Presentation). x.tracks) e);
   }
 
   all_from : (a b : Presentation) → Agree l a b → reduce l a ≡ reduce l b
   all_from a b h = λ i. record {
     movie = movie_head_from a.movie b.movie h.movie i;
-    tracks = zip_from (TracksAgree l) (reduce_track l) track_from a.tracks b.tracks h.tracks i;
+    tracks = tracks_from 1 a.tracks b.tracks h.tracks i;
   }
 
 pub reduce_is_exact : ReduceIsExact

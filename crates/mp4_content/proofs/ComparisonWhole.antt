@@ -1,5 +1,5 @@
 -- What the differences between two presentations tell: where there is none, what is left of them is the same.
-use Rattle.std.proofs.Common.{◌≡◌, ℕ, Bool, true, false, if◌then◌else◌, List, [], length, ℤ, refl, sym, ap, ◌∙◌}
+use Rattle.std.proofs.Common.{◌≡◌, ℕ, Bool, true, false, if◌then◌else◌, List, [], length, map, ℤ, refl, sym, ap, ◌∙◌, arith}
 use Rattle.std.specs.List.{AllByRecursion}
 use Rattle.mp4_boxes.proofs.Each.{each_value}
 use Rattle.mp4_tables.specs.format.Groups.{Groups}
@@ -12,6 +12,7 @@ use Rattle.mp4_content.specs.format.ComparisonLaws.{EachDifferenceIsOne, NoDiffe
 use Rattle.mp4_content.specs.declared.comparing.differences.Subject.{Subject}
 use Rattle.mp4_content.specs.declared.comparing.differences.Subject.TheVariants as subjects
 use Rattle.mp4_content.specs.declared.comparing.differences.Field.TheVariants as fields
+use Rattle.mp4_content.proofs.Numbered.{numbered_each}
 use Rattle.mp4_content.proofs.SamplesReduced.{reduced_each}
 use Rattle.mp4_content.proofs.ComparisonValues.{Tells, both, weaker, number_tells, signed_tells, bytes_tell, each_tells, differ_self, bytes_self, each_self}
 use Rattle.mp4_content.proofs.ComparisonHeads.{head_tells, movie_tells, head_self, movie_self}
@@ -109,7 +110,7 @@ module _ (l : Without) where
   }
 
   pub all_plain : (p : Presentation) → Valid p → IsAllPlain (reduce l p)
-  all_plain p v = record { nine = v.movie.matrix.nine; tracks = each_value IsTrack IsPlain (reduce_track l) track_plain p.tracks v.tracks }
+  all_plain p v = record { nine = v.movie.matrix.nine; tracks = numbered_each l IsPlain IsPlain (λ place t some h. record { nine = h.nine; maps = h.maps }) 1 (map (reduce_track l) p.tracks) (omega arith) (each_value IsTrack IsPlain (reduce_track l) track_plain p.tracks v.tracks) }
 
 pub no_difference_is_same : NoDifferenceIsSame
 no_difference_is_same l p q v w = (

@@ -16,7 +16,7 @@ use Rattle.mp4_content.specs.format.Comparison as whole
 use Rattle.mp4_content.specs.format.Differences.{numbers_differ, each_differ, head_differences, movie_differences}
 use Rattle.mp4_present.specs.format.Denotes.{FileTree, file_parts, track_of}
 use Rattle.mp4_present.specs.format.Presentation.{Sample, Track}
-use Rattle.mp4_content.specs.format.Reduced.{start_left, first_offset, reduce_track, reduce_track_head, reduce_movie_head}
+use Rattle.mp4_content.specs.format.Reduced.{start_left, first_offset, number_head, number_track, number_tracks, reduce_track, reduce_track_head, reduce_movie_head}
 use Rattle.mp4_content.specs.words.Compared.{TakesFront, samples_differ, tracks_differ, files_differ}
 use Rattle.mp4_content.specs.words.Differing.{as_list, is_none_yet}
 use Rattle.mp4_present.specs.words.Movies.{MovieSeen, moov_box}
@@ -27,6 +27,7 @@ use Rattle.mp4_content.specs.declared.comparing.differences.Subject.TheVariants 
 use Rattle.mp4_content.specs.declared.comparing.differences.Field.TheVariants as fields
 use Rattle.mp4_content.specs.declared.without.Without.{Without}
 use Rattle.mp4_present.specs.declared.track_info.TrackInfo.{TrackInfo}
+use Rattle.mp4_content.proofs.Numbered.{numbered_at, numbered_many}
 use Rattle.mp4_content.proofs.SamplesReduced.{reduced_length}
 use Rattle.mp4_content.proofs.TracksCompared.{GrowsTo, grows_none, grows_more, grows_front, grows_part, grows_all, each_next, each_over}
 
@@ -40,7 +41,7 @@ if_ok P Q (Err e) f h = tt
 -- what was found of them is what differs between the tracks apart from their samples
 heads_differ : (l : Without) (number k : ℕ) (file other : List ℕ) (m n : MovieSeen) (tree other_tree : FileTree) (t u : TrackTree) (info other_info : TrackInfo) (head other_head : TrackHead) → IsOpenedAs file m tree → IsOpenedAs other n other_tree
     → slice_get tree.movie.tracks k ≡ Some t → slice_get other_tree.movie.tracks k ≡ Some u → slice_get m.tracks k ≡ Some info → slice_get n.tracks k ≡ Some other_info → track_seen head ≡ track_head_of t → track_seen other_head ≡ track_head_of u
-    → (head_differences (subjects.Track number) (reduce_track_head l (track_seen head)) (reduce_track_head l (track_seen other_head)) ++ numbers_differ (subjects.Track number) fields.Start (start_left l info.start) (start_left l other_info.start)
+    → (head_differences (subjects.Track number) (number_head l number (reduce_track_head l (track_seen head))) (number_head l number (reduce_track_head l (track_seen other_head))) ++ numbers_differ (subjects.Track number) fields.Start (start_left l info.start) (start_left l other_info.start)
     ++ numbers_differ (subjects.Track number) fields.Samples info.samples other_info.samples)
     ++ samples_differ l number file tree t other other_tree u ≡ tracks_differ l number file tree t other other_tree u
 heads_differ l number k file other m n tree other_tree t u info other_info head other_head o p at bt it jt e f =
@@ -50,12 +51,14 @@ heads_differ l number k file other m n tree other_tree t u info other_info head 
     let y = get_zip (IsInfoOf other other_tree) other_tree.movie.tracks n.tracks k u other_info p.tracks bt jt in
     let count = x.samples ∙ sym (left_many (track_of file (file_parts tree) t).samples) in
     let other_count = y.samples ∙ sym (left_many (track_of other (file_parts other_tree) u).samples) in
-    λ i. (head_differences of (reduce_track_head l (e i)) (reduce_track_head l (f i)) ++ numbers_differ of fields.Start (start_left l (x.start i)) (start_left l (y.start i)) ++ numbers_differ of fields.Samples (count i) (other_count i)) ++ samples_differ l number file tree t other other_tree u
+    λ i. (head_differences of (number_head l number (reduce_track_head l (e i))) (number_head l number (reduce_track_head l (f i)))
+        ++ numbers_differ of fields.Start (start_left l (x.start i)) (start_left l (y.start i)) ++ numbers_differ of fields.Samples (count i) (other_count i)) ++ samples_differ l number file tree t other other_tree u
 
 -- Two tracks whose heads were compared: their samples are left.
 pub track_begun : (l : Without) (number k : ℕ) (file other : List ℕ) (m n : MovieSeen) (tree other_tree : FileTree) (t u : TrackTree) (info other_info : TrackInfo) (head other_head : TrackHead) → IsOpenedAs file m tree → IsOpenedAs other n other_tree
     → slice_get tree.movie.tracks k ≡ Some t → slice_get other_tree.movie.tracks k ≡ Some u → slice_get m.tracks k ≡ Some info → slice_get n.tracks k ≡ Some other_info → track_seen head ≡ track_head_of t → track_seen other_head ≡ track_head_of u
-    → (found : List Difference) → found ≡ head_differences (subjects.Track number) (reduce_track_head l (track_seen head)) (reduce_track_head l (track_seen other_head)) ++ numbers_differ (subjects.Track number) fields.Start (start_left l info.start) (start_left l other_info.start)
+    → (found : List Difference) → found ≡ head_differences (subjects.Track number) (number_head l number (reduce_track_head l (track_seen head))) (number_head l number (reduce_track_head l (track_seen other_head)))
+        ++ numbers_differ (subjects.Track number) fields.Start (start_left l info.start) (start_left l other_info.start)
     ++ numbers_differ (subjects.Track number) fields.Samples info.samples other_info.samples
     → tracks_differ l number file tree t other other_tree u ≡ found ++ samples_differ l number file tree t other other_tree u
 track_begun l number k file other m n tree other_tree t u info other_info head other_head o p at bt it jt e f found is =
@@ -103,10 +106,10 @@ head_own file m tree head k t h o says at there =
 
 -- the tracks of the presentation, behind what was left out
 abbrev tracks_left : Without → List ℕ → FileTree → List Track
-tracks_left l file tree = map (reduce_track l) (map (track_of file (file_parts tree)) tree.movie.tracks)
+tracks_left l file tree = number_tracks l 1 (map (reduce_track l) (map (track_of file (file_parts tree)) tree.movie.tracks))
 
 tracks_many : (l : Without) (file : List ℕ) (tree : FileTree) → length (tracks_left l file tree) ≡ length tree.movie.tracks
-tracks_many l file tree = length-map (map (track_of file (file_parts tree)) tree.movie.tracks) (reduce_track l) ∙ length-map tree.movie.tracks (track_of file (file_parts tree))
+tracks_many l file tree = numbered_many l 1 (map (reduce_track l) (map (track_of file (file_parts tree)) tree.movie.tracks)) ∙ length-map (map (track_of file (file_parts tree)) tree.movie.tracks) (reduce_track l) ∙ length-map tree.movie.tracks (track_of file (file_parts tree))
 
 abbrev tracks_from : Without → List ℕ → FileTree → List ℕ → FileTree → ℕ → List Difference
 tracks_from l file tree other other_tree k = each_differ whole.track_differences (k + 1) (drop k (tracks_left l file tree)) (drop k (tracks_left l other other_tree))
@@ -134,17 +137,22 @@ after_got (y ∷ xs) (suc k) x e = after_got xs k x e
 behind_got : {A : Type 0} (xs : List A) (k : ℕ) (x : A) → slice_get xs k ≡ Some x → drop k xs ≡ x ∷ drop (k + 1) xs
 behind_got xs k x e = let one : suc k ≡ k + 1 = omega arith in after_got xs k x e ∙ ap (λ n. x ∷ drop n xs) one
 
+-- what is left of one
+track_left : (l : Without) (file : List ℕ) (tree : FileTree) (k : ℕ) (t : TrackTree) → slice_get tree.movie.tracks k ≡ Some t → slice_get (tracks_left l file tree) k ≡ Some (number_track l (k + 1) (reduce_track l (track_of file (file_parts tree) t)))
+track_left l file tree k t at =
+    let own = track_of file (file_parts tree) in
+    numbered_at l k (map (reduce_track l) (map own tree.movie.tracks)) (reduce_track l (own t)) (get_mapped (reduce_track l) (map own tree.movie.tracks) k (own t) (get_mapped own tree.movie.tracks k t at))
+
 -- what differs of the tracks from a place on begins with what differs there
 track_next : (l : Without) (file : List ℕ) (tree : FileTree) (other : List ℕ) (other_tree : FileTree) (k : ℕ) (t u : TrackTree) → slice_get tree.movie.tracks k ≡ Some t → slice_get other_tree.movie.tracks k ≡ Some u
     → tracks_from l file tree other other_tree k ≡ tracks_differ l (k + 1) file tree t other other_tree u ++ tracks_from l file tree other other_tree (k + 1)
 track_next l file tree other other_tree k t u at bt =
     let xs = tracks_left l file tree in
     let ys = tracks_left l other other_tree in
-    let x = reduce_track l (track_of file (file_parts tree) t) in
-    let y = reduce_track l (track_of other (file_parts other_tree) u) in
+    let x = number_track l (k + 1) (reduce_track l (track_of file (file_parts tree) t)) in
+    let y = number_track l (k + 1) (reduce_track l (track_of other (file_parts other_tree) u)) in
     each_next whole.track_differences k xs ys (drop (k + 1) xs) (drop (k + 1) ys) x y
-    (behind_got xs k x (get_mapped (reduce_track l) (map (track_of file (file_parts tree)) tree.movie.tracks) k (track_of file (file_parts tree) t) (get_mapped (track_of file (file_parts tree)) tree.movie.tracks k t at)))
-    (behind_got ys k y (get_mapped (reduce_track l) (map (track_of other (file_parts other_tree)) other_tree.movie.tracks) k (track_of other (file_parts other_tree) u) (get_mapped (track_of other (file_parts other_tree)) other_tree.movie.tracks k u bt)))
+    (behind_got xs k x (track_left l file tree k t at)) (behind_got ys k y (track_left l other other_tree k u bt))
 
 -- how many steps the walks over the tracks of two files from a place on may take
 abbrev steps_left : FileTree → FileTree → ℕ → ℕ

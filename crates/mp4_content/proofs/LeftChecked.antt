@@ -30,6 +30,7 @@ use Rattle.mp4_content.specs.words.Measuring.{AreTotals, no_total, total_from, t
 use Rattle.mp4_content.specs.declared.measures.Total.{Total}
 use Rattle.mp4_content.proofs.CheckedTracks.{AreGood, IsGood, all_err, all_ok}
 use Rattle.mp4_content.proofs.LeftTimes.{opened_near}
+use Rattle.mp4_content.proofs.Numbered.{left_longest}
 use Rattle.mp4_content.proofs.Measured.{near_total, total_lasts, total_near}
 use Rattle.mp4_content.proofs.ReducedTaken as taken
 use Rattle.mp4_content.proofs.ReducedTaken.{left_by, left_near, samples_by, timed_numbered}
@@ -155,7 +156,7 @@ module _ (l : Without) (counts : l.timing ≡ false) (file : List ℕ) (tree : F
     left_ok n e =
         let r = all_ok l counts file tree 0 n tree.movie.tracks head.tracks.items m.tracks totals good (ap (λ timescale. check_tracks l timescale 0 head.tracks.items m.tracks totals) (sym scale) ∙ e) in
         let apart = each_apart tree.movie.tracks r.0 in
-        (record { in_time = apart.0; in_range = apart.1 }, r.1)
+        (record { in_time = apart.0; in_range = apart.1 }, r.1 ∙ sym (left_longest l (presentation_of file tree)))
 
     -- Where one isn't, it is the first.
     pub left_err : (f : Fault) → check_tracks l head.timescale 0 head.tracks.items m.tracks totals ≡ Err f → ReducedLimitPasses l file tree f

@@ -27,6 +27,7 @@ use Rattle.mp4_present.proofs.ValidSamples.{IsOfTrack}
 use Rattle.mp4_content.specs.format.ReducedTimes.{ReducesInLimits}
 use Rattle.mp4_content.specs.words.LeftTimes.{count_length, longest_count}
 use Rattle.mp4_content.proofs.HeadLess.{same_length}
+use Rattle.mp4_content.proofs.Numbered.{left_longest}
 use Rattle.mp4_content.proofs.ReducedValid.{all_counted, near_left, counted_length, counted_track_length, in_time_stays}
 
 pub turned : (a b : ℕ) → max a b ≡ max b a
@@ -125,4 +126,4 @@ module _ (l : Without) (out : l.timing ≡ true) (file : List ℕ) (tree : FileT
   all_counted_short m head o says =
       let said = (said_of (moov_box m) head tree.movie says (sym o.moov) o.is_tree.movie).0 in
       let short = all_counted l (presentation_of file tree) out o.limits.samples o.limits.times in
-      (record { in_time = short; in_range = range_stays file m tree o l (inr out) }, all_counts 0 tree.movie.tracks head.tracks.items m.tracks (ap (λ (h : heads.Head). h.tracks) said) o.tracks short)
+      (record { in_time = short; in_range = range_stays file m tree o l (inr out) }, all_counts 0 tree.movie.tracks head.tracks.items m.tracks (ap (λ (h : heads.Head). h.tracks) said) o.tracks short ∙ sym (left_longest l (presentation_of file tree)))

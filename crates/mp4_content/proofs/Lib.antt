@@ -11,6 +11,8 @@ pub mod Plain
 pub mod ReducedSamples
 pub mod Agreed
 pub mod AtPlaces
+pub mod Numbered
+pub mod InfosLeft
 pub mod ReducedValid
 pub mod CheckedTracks
 pub mod Differing

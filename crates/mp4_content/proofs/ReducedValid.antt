@@ -1,5 +1,5 @@
 -- What is left of what is valid is valid, where its tracks are not too long and their offsets fit.
-use Rattle.std.proofs.Common.{◌≡◌, ℕ, suc, ◌+◌, ◌*◌, ◌<◌, ◌≤◌, ◌^◌, ◌%◌, Bool, true, false, if◌then◌else◌, List, [], ◌∷◌, ◌++◌, length, refl, sym, ap, subst, ◌∙◌, arith, length-append, ◌⊎◌, inl, inr}
+use Rattle.std.proofs.Common.{◌≡◌, ℕ, suc, ◌+◌, ◌-◌, ◌*◌, ◌<◌, ◌≤◌, ◌^◌, ◌%◌, min, Bool, true, false, if◌then◌else◌, List, [], ◌∷◌, ◌++◌, length, refl, sym, ap, subst, ◌∙◌, arith, length-append, ◌⊎◌, inl, inr}
 use Rattle.std.specs.Prelude.{◌&&◌, not, map, filter, codes, ℤ, pos, ◌-ℤ◌, FitsSigned}
 use Rattle.std.specs.List.{AllByRecursion, flat_map}
 use Rattle.std.specs.Int.{div_ceil, w16, w32}
@@ -14,10 +14,11 @@ use Rattle.mp4_head.specs.format.Writing.{kept_bytes, edts_bytes, trak_bytes, tr
 use Rattle.mp4_head.proofs.HeadLengths.{length_any, length_head, length_track}
 use Rattle.mp4_content.proofs.Plain.{handler_shorter, handler_room, handler_bytes, descriptions_many, descriptions_less, descriptions_good}
 use Rattle.mp4_present.specs.format.Presentation.{Sample, Track, Presentation, IsGroup, IsSample, IsTrack, Valid, IsInTime, heads, keys_of, total_duration, movie_length, says_all, track_length, normal_moov_length, sample_total, max_samples, max_time}
-use Rattle.mp4_content.specs.format.Reduced.{metadata_kinds, sync_flag, plain_handler, reduce_kept, is_at_end, first_offset, reduce_sample, reduce_from, reduce_samples, reduce_media, reduce_track_head, reduce_movie_head, reduce_track, reduce, duration_left, offset_left, start_left, timescale_left, HasNearOffsets, ReducesInRange, ReducesInTime}
+use Rattle.mp4_content.specs.format.Reduced.{metadata_kinds, sync_flag, plain_handler, reduce_kept, is_at_end, first_offset, reduce_sample, reduce_from, reduce_samples, reduce_media, reduce_track_head, reduce_movie_head, number_head, number_track, number_tracks, reduce_track, reduce, duration_left, offset_left, start_left, timescale_left, HasNearOffsets, ReducesInRange, ReducesInTime}
 use Rattle.mp4_content.specs.declared.without.Without.{Without}
 use Rattle.mp4_content.specs.format.ReducedLaws.{KeepsLimits, ReducedIsValid, ReducedStaysValid}
 use Rattle.mp4_content.specs.format.ReducedTimes.{ReducesInLimits}
+use Rattle.mp4_content.proofs.Numbered.{each_before, ids_differ, numbered_each, numbered_sum}
 use Rattle.mp4_content.proofs.ReducedSamples.{by_case, left_many, left_none, each_left, durations_stay, durations_count}
 
 -- ---- how long the `moov` is
@@ -39,6 +40,14 @@ some_length n = omega arith
 -- `trak` and `trex`
 abbrev both_lengths : TrackHead → ℕ
 both_lengths t = length (trak_bytes t) + length (trex_bytes t)
+
+-- each track takes some bytes
+tracks_take : (tracks : List Track) → AllByRecursion (λ (t : Track). length t.head.matrix ≡ 9) tracks → length tracks ≤ sum_of both_lengths (map (λ (t : Track). t.head) tracks)
+tracks_take [] h = omega arith
+tracks_take (t ∷ tracks) h =
+    let one = length_track t.head h.0 in
+    let rest = tracks_take tracks h.1 in
+    omega (arith, one, rest)
 
 -- how long a track is, by its edits and by how long its samples are
 abbrev pub length_by : ℕ → ℕ → List Edit → ℕ → ℕ
@@ -63,10 +72,10 @@ module _ (l : Without) where
       let less = by_case (λ (h : List ℕ). length h ≤ length handler) l.labels (plain_handler handler) handler (handler_shorter handler) (no_longer (length handler)) in
       omega (arith, now, was, less)
 
-  track_shorter : (t : TrackHead) → length t.matrix ≡ 9 → both_lengths (reduce_track_head l t) ≤ both_lengths t
-  track_shorter t n =
+  track_shorter : (place : ℕ) (t : TrackHead) → length t.matrix ≡ 9 → both_lengths (number_head l place (reduce_track_head l t)) ≤ both_lengths t
+  track_shorter place t n =
       let a = length_track t n in
-      let b = length_track (reduce_track_head l t) n in
+      let b = length_track (number_head l place (reduce_track_head l t)) n in
       let k = kept_shorter t.kept in
       let e = edits_shorter t.edits in
       let g = groups_shorter t.group_descriptions in
@@ -74,11 +83,11 @@ module _ (l : Without) where
       let d = descriptions_less l t.media.handler t.media.descriptions in
       omega (arith, a, b, k, e, g, h, d)
 
-  tracks_shorter : (tracks : List Track) → AllByRecursion (λ (t : Track). length t.head.matrix ≡ 9) tracks → sum_of both_lengths (map (λ (t : Track). t.head) (map (reduce_track l) tracks)) ≤ sum_of both_lengths (map (λ (t : Track). t.head) tracks)
-  tracks_shorter [] h = omega arith
-  tracks_shorter (t ∷ tracks) h =
-      let one = track_shorter t.head h.0 in
-      let rest = tracks_shorter tracks h.1 in
+  tracks_shorter : (place : ℕ) (tracks : List Track) → AllByRecursion (λ (t : Track). length t.head.matrix ≡ 9) tracks → sum_of both_lengths (map (λ (t : Track). t.head) (number_tracks l place (map (reduce_track l) tracks))) ≤ sum_of both_lengths (map (λ (t : Track). t.head) tracks)
+  tracks_shorter place [] h = omega arith
+  tracks_shorter place (t ∷ tracks) h =
+      let one = track_shorter place t.head h.0 in
+      let rest = tracks_shorter (suc place) tracks h.1 in
       omega (arith, one, rest)
 
   pub shorter_moov : (p : Presentation) → length p.movie.matrix ≡ 9 → AllByRecursion (λ (t : Track). length t.head.matrix ≡ 9) p.tracks → normal_moov_length (reduce l p) ≤ normal_moov_length p
@@ -89,7 +98,7 @@ module _ (l : Without) where
       let c : length (head_bytes p.movie (heads p) (movie_length p)) ≡ 24 + normal_moov_length p = length-append ftyp_bytes (moov_bytes p.movie (heads p) (movie_length p)) in
       let d : length (head_bytes (reduce_movie_head l p.movie) (heads q) (movie_length q)) ≡ 24 + normal_moov_length q = length-append ftyp_bytes (moov_bytes (reduce_movie_head l p.movie) (heads q) (movie_length q)) in
       let k = kept_shorter p.movie.kept in
-      let t = tracks_shorter p.tracks each in
+      let t = tracks_shorter 1 p.tracks each in
       omega (arith, a, b, c, d, k, t)
 
   moov_shorter : (p : Presentation) → Valid p → normal_moov_length (reduce l p) ≤ normal_moov_length p
@@ -226,6 +235,48 @@ module _ (l : Without) where
 
   -- ---- the whole
 
+  number_good : (place : ℕ) (t : Track) → 0 < place → IsTrack t → IsTrack (number_track l place t)
+  number_good place t some h = record {
+    head = record {
+      flags = h.head.flags;
+      creation = h.head.creation;
+      modification = h.head.modification;
+      id = by_case (λ (n : ℕ). n < 2 ^ 32) l.ids (min place (2 ^ 32 - 1)) t.head.id (omega arith) h.head.id;
+      id_not_0 = by_case (λ (n : ℕ). 0 < n) l.ids (min place (2 ^ 32 - 1)) t.head.id (omega (arith, some)) h.head.id_not_0;
+      layer = h.head.layer;
+      alternate_group = h.head.alternate_group;
+      volume = h.head.volume;
+      matrix = h.head.matrix;
+      width = h.head.width;
+      height = h.head.height;
+      edits = h.head.edits;
+      kept = h.head.kept;
+      media = h.head.media;
+      group_descriptions = h.head.group_descriptions;
+    };
+    samples = h.samples;
+    keys = h.keys;
+    empty = h.empty;
+  }
+
+  abbrev left_tracks : List Track → ℕ
+  left_tracks tracks = length (map (reduce_track l) tracks)
+
+  as_many : (tracks : List Track) → left_tracks tracks ≡ length tracks
+  as_many [] = refl
+  as_many (t ∷ tracks) = ap suc (as_many tracks)
+
+  -- a `moov` that is not too long has fewer tracks than there are IDs
+  few_tracks : (p : Presentation) → Valid p → 1 + left_tracks p.tracks ≤ 2 ^ 32
+  few_tracks p v =
+      let nine = v.movie.matrix.nine in
+      let long = length_head p.movie (heads p) (movie_length p) nine in
+      let front : length (head_bytes p.movie (heads p) (movie_length p)) ≡ 24 + normal_moov_length p = length-append ftyp_bytes (moov_bytes p.movie (heads p) (movie_length p)) in
+      let take = tracks_take p.tracks (each_weaker IsTrack (λ (t : Track). length t.head.matrix ≡ 9) (λ t h. h.head.matrix.nine) p.tracks v.tracks) in
+      let most = v.limits.moov in
+      let same = as_many p.tracks in
+      omega (arith, long, front, take, most, same)
+
   ids_same : (tracks : List Track) → map (λ (h : TrackHead). h.id) (map (λ (t : Track). t.head) (map (reduce_track l) tracks)) ≡ map (λ (h : TrackHead). h.id) (map (λ (t : Track). t.head) tracks)
   ids_same [] = refl
   ids_same (t ∷ tracks) = ap (λ ids. t.head.id ∷ ids) (ids_same tracks)
@@ -244,11 +295,13 @@ module _ (l : Without) where
   valid_from : (p : Presentation) → Valid p → ReducesInLimits l p → Valid (reduce l p)
   valid_from p v limits = record {
     movie = movie_head_good p.movie v.movie;
-    tracks = tracks_good p.tracks v.tracks limits.in_range;
-    ids = ap are_distinct (ids_same p.tracks) ∙ v.ids;
+    tracks = numbered_each l IsTrack IsTrack number_good 1 (map (reduce_track l) p.tracks) (omega arith) (tracks_good p.tracks v.tracks limits.in_range);
+    ids = ids_differ l 1 (map (reduce_track l) p.tracks) (few_tracks p v) (ap are_distinct (ids_same p.tracks) ∙ v.ids);
     limits = record {
-      samples = let same = totals_same p.tracks in let few = v.limits.samples in omega (arith, same, few);
-      times = each_value (λ (t : Track). IsInTime (timescale_left l p.movie.timescale) (reduce_track l t)) (IsInTime (timescale_left l p.movie.timescale)) (reduce_track l) (λ t h. h) p.tracks limits.in_time;
+      samples = let same = numbered_sum l (λ (t : Track). length t.samples) (λ place t. refl) 1 (map (reduce_track l) p.tracks) ∙ totals_same p.tracks in let few = v.limits.samples in omega (arith, same, few);
+      times =
+          let in_time = IsInTime (timescale_left l p.movie.timescale) in
+          numbered_each l in_time in_time (λ place t some h. h) 1 (map (reduce_track l) p.tracks) (omega arith) (each_value (λ (t : Track). in_time (reduce_track l t)) in_time (reduce_track l) (λ t h. h) p.tracks limits.in_time);
       moov = let less = moov_shorter p v in let few = v.limits.moov in omega (arith, less, few);
     };
   }
@@ -258,10 +311,13 @@ module _ (l : Without) where
   near_of t h = each_weaker (IsSample (length t.head.media.descriptions)) (λ (s : Sample). FitsSigned w32 s.offset) (λ s g. g.offset) t.samples h.samples
 
   pub valid_to : (p : Presentation) → Valid (reduce l p) → ReducesInLimits l p
-  valid_to p v = record {
-    in_time = all_from (IsInTime (timescale_left l p.movie.timescale)) p.tracks v.limits.times;
-    in_range = each_weaker (λ (t : Track). IsTrack (reduce_track l t)) (λ (t : Track). HasNearOffsets (reduce_track l t)) (λ t h. near_of (reduce_track l t) h) p.tracks (all_from IsTrack p.tracks v.tracks);
-  }
+  valid_to p v =
+      let in_time = IsInTime (timescale_left l p.movie.timescale) in
+      let tracks = map (reduce_track l) p.tracks in
+      record {
+        in_time = all_from in_time p.tracks (each_before l in_time in_time (λ place t h. h) 1 tracks v.limits.times);
+        in_range = all_from HasNearOffsets p.tracks (each_before l IsTrack HasNearOffsets (λ place t h. near_of (number_track l place t) h) 1 tracks v.tracks);
+      }
 
   -- ---- where origins stay, or timing doesn't count
 

@@ -1,11 +1,11 @@
 -- To reduce by nothing changes nothing, and to reduce twice is to reduce once by the words of both.
-use Rattle.std.proofs.Common.{◌≡◌, ℕ, suc, ◌%◌, Bool, true, false, if◌then◌else◌, List, [], ◌∷◌, length, refl, sym, ap, ◌∙◌, arith}
+use Rattle.std.proofs.Common.{◌≡◌, ℕ, suc, ◌%◌, ◌-◌, ◌^◌, min, Bool, true, false, if◌then◌else◌, List, [], ◌∷◌, length, refl, sym, ap, ◌∙◌, arith}
 use Rattle.std.specs.Prelude.{◌&&◌, ◌||◌, not, map, filter, ℤ, pos, ◌-ℤ◌}
 use Rattle.std.proofs.lemmas.Int.{ints}
 use Rattle.mp4_boxes.specs.format.Children.{is_among}
 use Rattle.mp4_head.specs.format.Head.{Kept, Media, TrackHead, MovieHead}
 use Rattle.mp4_present.specs.format.Presentation.{Sample, Track, Presentation}
-use Rattle.mp4_content.specs.format.Reduced.{metadata_kinds, sync_flag, plain_handler, is_at_end, duration_left, offset_left, start_left, timescale_left, reduce_kept, reduce_sample, reduce_from, reduce_samples, reduce_media, reduce_track_head, reduce_movie_head, reduce_track, reduce}
+use Rattle.mp4_content.specs.format.Reduced.{metadata_kinds, sync_flag, plain_handler, is_at_end, duration_left, offset_left, start_left, timescale_left, reduce_kept, reduce_sample, reduce_from, reduce_samples, reduce_media, reduce_track_head, reduce_movie_head, number_track, number_tracks, reduce_track, reduce}
 use Rattle.mp4_content.specs.declared.without.Without.{Without}
 use Rattle.mp4_content.proofs.Plain.{handler_twice, descriptions_twice}
 use Rattle.mp4_content.proofs.ReducedSamples.{left_many}
@@ -17,10 +17,6 @@ use Rattle.mp4_content.specs.format.ReducedLaws.{nothing, both, NothingReduces, 
 map_same : {A : Type 0} (f : A → A) → ((x : A) → f x ≡ x) → (xs : List A) → map f xs ≡ xs
 map_same f same [] = refl
 map_same f same (x ∷ xs) = λ i. same x i ∷ map_same f same xs i
-
-map_twice : {A : Type 0} (f g h : A → A) → ((x : A) → f (g x) ≡ h x) → (xs : List A) → map f (map g xs) ≡ map h xs
-map_twice f g h one [] = refl
-map_twice f g h one (x ∷ xs) = λ i. one x i ∷ map_twice f g h one xs i
 
 twice_at : {A : Type 0} (test : A → Bool) (x : A) (xs : List A) (b : Bool) → test x ≡ b → filter test (filter test xs) ≡ filter test xs → filter test (filter test (x ∷ xs)) ≡ filter test (x ∷ xs)
 twice_at test x xs true e h = rw (e, e) (ap (λ ys. x ∷ ys) h)
@@ -43,8 +39,14 @@ samples_same (s ∷ samples) = from_same (length (s ∷ samples)) s.offset 0 (s 
 track_same : (t : Track) → reduce_track nothing t ≡ t
 track_same t = λ i. record t { samples = samples_same t.samples i }
 
+numbers_same : (place : ℕ) (tracks : List Track) → number_tracks nothing place tracks ≡ tracks
+numbers_same place [] = refl
+numbers_same place (t ∷ tracks) = λ i. t ∷ numbers_same (suc place) tracks i
+
 pub nothing_reduces : NothingReduces
-nothing_reduces p = λ i. record p { tracks = map_same (reduce_track nothing) track_same p.tracks i }
+nothing_reduces p =
+    let same = numbers_same 1 (map (reduce_track nothing) p.tracks) ∙ map_same (reduce_track nothing) track_same p.tracks in
+    λ i. record p { tracks = same i }
 
 -- ---- twice
 
@@ -148,11 +150,20 @@ module _ (l m : Without) where
   movie_head_twice : (x : MovieHead) → reduce_movie_head l (reduce_movie_head m x) ≡ reduce_movie_head (both l m) x
   movie_head_twice x = λ i. record x { creation = time_twice x.creation i; modification = time_twice x.modification i; timescale = scale_twice x.timescale i; kept = kept_twice x.kept i }
 
-  track_twice : (t : Track) → reduce_track l (reduce_track m t) ≡ reduce_track (both l m) t
-  track_twice t = λ i. record t { head = track_head_twice t.head i; start = start_twice t.start i; samples = samples_twice t.samples i }
+  -- the place of a track stays
+  at_place_twice : (place : ℕ) (t : Track) → number_track l place (reduce_track l (number_track m place (reduce_track m t))) ≡ number_track (both l m) place (reduce_track (both l m) t)
+  at_place_twice place t = λ i. record t {
+    head = record (track_head_twice t.head i) { id = less_twice l.ids m.ids (λ n. min place (2 ^ 32 - 1)) (λ n. refl) t.head.id i };
+    start = start_twice t.start i;
+    samples = samples_twice t.samples i;
+  }
+
+  tracks_twice : (place : ℕ) (tracks : List Track) → number_tracks l place (map (reduce_track l) (number_tracks m place (map (reduce_track m) tracks))) ≡ number_tracks (both l m) place (map (reduce_track (both l m)) tracks)
+  tracks_twice place [] = refl
+  tracks_twice place (t ∷ tracks) = λ i. at_place_twice place t i ∷ tracks_twice (suc place) tracks i
 
   twice : (p : Presentation) → reduce l (reduce m p) ≡ reduce (both l m) p
-  twice p = λ i. record p { movie = movie_head_twice p.movie i; tracks = map_twice (reduce_track l) (reduce_track m) (reduce_track (both l m)) track_twice p.tracks i }
+  twice p = λ i. record p { movie = movie_head_twice p.movie i; tracks = tracks_twice 1 p.tracks i }
 
 pub reduces_once : ReducesOnce
 reduces_once = twice

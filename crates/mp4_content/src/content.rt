@@ -2,7 +2,7 @@
 ghost use Rattle.std.specs.Prelude.{◌≡◌, ◌+◌, ◌<◌, ◌≤◌, length, map, slice_get, Some, true, IfOk, IfErr, OnOk};
 ghost use Rattle.mp4_head.specs.words.Seen.{movie_seen, tracks_seen};
 ghost use Rattle.mp4_present.specs.words.StoresRead.{IsUnchanged, OnlyReads, Refused};
-ghost use Rattle.mp4_content.specs.format.Reduced.{reduce_movie_head, reduce_track_head};
+ghost use Rattle.mp4_content.specs.format.Reduced.{number_heads, reduce_movie_head, reduce_track_head};
 ghost use Rattle.mp4_content.specs.words.Contents.{IsContentOf, IsContentOver, RefusesLeft, info_left, numbers_of, tracks_left};
 ghost use Rattle.mp4_content.specs.words.LeftTimes.{NamesLong};
 ghost use Rattle.mp4_content.specs.words.Measuring.{measuring_steps};
@@ -44,12 +44,12 @@ pub struct Content {
     length: u64,
 }
 
-// What is left of a track in numbers.
-fn track_left(leaving: Without, info: &TrackInfo) -> TrackLeft
-    ensures { result ≡ numbers_of (info_left leaving info.now) }
+// What is left of the track at this place, from 1, in numbers.
+fn track_left(leaving: Without, place: u64, info: &TrackInfo) -> TrackLeft
+    ensures { result ≡ numbers_of (info_left leaving place info.now) }
 {
     TrackLeft {
-        id: info.id,
+        id: leaving.id(place, info.id),
         timescale: leaving.timescale(info.timescale),
         samples: info.samples,
         bytes: info.bytes,
@@ -65,8 +65,8 @@ fn tracks_left(
     ensures { IfOk result (λ tracks. tracks.items ≡ tracks_left leaving infos.now) }
 {
     let mut tracks = Vec::with_capacity(alloc, infos.len())?;
-    for info in infos {
-        tracks.push(track_left(leaving, info))?;
+    for k in 0..infos.len() {
+        tracks.push(track_left(leaving, k as u64 + 1, &infos[k]))?;
     }
     Ok(tracks)
 }
@@ -148,8 +148,8 @@ impl Content {
             → AreMediaLeft self.now.leaving head.tracks.items own.now.items }
         ensures movie { IfOk result
             (λ left. movie_seen left ≡ reduce_movie_head self.now.leaving (movie_seen head.entry)) }
-        ensures tracks { IfOk result (λ left. tracks_seen left
-            ≡ map (reduce_track_head self.now.leaving) (tracks_seen head.entry)) }
+        ensures tracks { IfOk result (λ left. tracks_seen left ≡ number_heads self.now.leaving 1
+            (map (reduce_track_head self.now.leaving) (tracks_seen head.entry))) }
     {
         head_left(alloc, head, self.leaving, own)
     }

@@ -67,4 +67,5 @@ pub use edges::{Edges, edges_of};
 pub use own_payloads::{BoxLeft, MediaLeft, payloads_left, put_payloads_left};
 pub use peeking::peek_sample;
 pub use reduced::{Reduced, Reduction, reduced_sample};
+pub use reduced_head::number_heads;
 pub use without::{Without, Word};

@@ -3,7 +3,7 @@ ghost use Rattle.std.specs.Prelude.{◌≡◌, map, true, IfOk};
 ghost use Rattle.mp4_boxes.specs.format.Children.{is_among};
 ghost use Rattle.mp4_head.specs.words.Seen.{kept_seen, media_seen, movie_seen, track_seen, tracks_seen};
 ghost use Rattle.mp4_content.specs.words.PayloadsLeft.{AreMediaLeft, keeping_payloads, leaves_payloads};
-ghost use Rattle.mp4_content.specs.format.Reduced.{metadata_kinds, reduce_kept, reduce_media, reduce_movie_head, reduce_track_head};
+ghost use Rattle.mp4_content.specs.format.Reduced.{metadata_kinds, number_heads, reduce_kept, reduce_media, reduce_movie_head, reduce_track_head};
 
 use crate::own_payloads::{MediaLeft, put_payloads_left};
 use crate::without::{Without, Word};
@@ -71,11 +71,22 @@ fn reduce_tracks(tracks: &mut Vec<TrackHead>, leaving: Without)
     }
 }
 
+/// Gives each head of a track its place, from 1, as its ID where IDs don't count.
+pub fn number_heads(heads: &mut Vec<TrackHead>, leaving: Without)
+    ensures { map track_seen heads.new.items
+        ≡ number_heads leaving 1 (map track_seen heads.old.items) }
+{
+    for k in 0..heads.len() {
+        let head = &mut heads[k];
+        head.id = leaving.id(k as u64 + 1, head.id);
+    }
+}
+
 // What is left of the head of a movie, but for payloads of media, which stay; it takes no memory.
 fn reduce_head(head: &mut MovieHead, leaving: Without)
     ensures movie { movie_seen head.new ≡ reduce_movie_head leaving (movie_seen head.old) }
-    ensures tracks { tracks_seen head.new
-        ≡ map (reduce_track_head (keeping_payloads leaving)) (tracks_seen head.old) }
+    ensures tracks { tracks_seen head.new ≡ number_heads leaving 1
+        (map (reduce_track_head (keeping_payloads leaving)) (tracks_seen head.old)) }
 {
     if leaving.has(Word::Times) {
         head.creation = 0;
@@ -84,6 +95,7 @@ fn reduce_head(head: &mut MovieHead, leaving: Without)
     head.timescale = leaving.timescale(head.timescale);
     reduce_kept(&mut head.kept, leaving);
     reduce_tracks(&mut head.tracks, leaving);
+    number_heads(&mut head.tracks, leaving);
 }
 
 /// What is left of the head of a movie, of which this is left of the payloads of media
@@ -99,7 +111,8 @@ pub(crate) fn head_left<'a>(
     ensures movie { IfOk result
         (λ left. movie_seen left ≡ reduce_movie_head leaving (movie_seen head.entry)) }
     ensures tracks { IfOk result
-        (λ left. tracks_seen left ≡ map (reduce_track_head leaving) (tracks_seen head.entry)) }
+        (λ left. tracks_seen left
+        ≡ number_heads leaving 1 (map (reduce_track_head leaving) (tracks_seen head.entry))) }
 {
     let mut left = head;
     put_payloads_left(alloc, &mut left, leaving, lefts)?;

@@ -30,6 +30,8 @@ pub enum Word {
     /// What a player does with a track beside others: its flags but "track enabled" (8.3.2.3), its
     /// layer and its alternate group (8.3.2): they are 0.
     Roles,
+    /// Which IDs tracks have (8.3.2): each has its place among the tracks of the movie, from 1.
+    Ids,
 }
 
 impl Word {
@@ -49,6 +51,7 @@ impl Word {
         Word::Labels,
         Word::Timing,
         Word::Roles,
+        Word::Ids,
     ];
 
     /// Its place among all words, from 0.
@@ -75,6 +78,7 @@ impl Word {
             Word::Labels => "labels",
             Word::Timing => "timing",
             Word::Roles => "roles",
+            Word::Ids => "ids",
         }
     }
 }
@@ -93,11 +97,12 @@ pub struct Without {
     labels: bool,
     timing: bool,
     roles: bool,
+    ids: bool,
 }
 
 impl Without {
     ghost use Rattle.std.specs.Prelude.{◌≡◌, if◌then◌else◌};
-    ghost use Rattle.mp4_content.specs.format.Reduced.{duration_left, keeps_samples, offset_left, role_left, start_left, timescale_left, track_flags_left};
+    ghost use Rattle.mp4_content.specs.format.Reduced.{duration_left, id_left, keeps_samples, offset_left, role_left, start_left, timescale_left, track_flags_left};
     ghost use Rattle.mp4_content.specs.format.Words.{has};
     ghost use Rattle.mp4_content.specs.words.PayloadsLeft.{leaves_payloads};
     ghost use Rattle.mp4_content.specs.words.TrackEdges.{keeps_edges};
@@ -115,6 +120,7 @@ impl Without {
         labels: false,
         timing: false,
         roles: false,
+        ids: false,
     };
 
     /// Whether a word is among them.
@@ -134,6 +140,7 @@ impl Without {
             Word::Labels => self.labels,
             Word::Timing => self.timing,
             Word::Roles => self.roles,
+            Word::Ids => self.ids,
         }
     }
 
@@ -154,6 +161,7 @@ impl Without {
             labels: is_so(Word::Labels),
             timing: is_so(Word::Timing),
             roles: is_so(Word::Roles),
+            ids: is_so(Word::Ids),
         }
     }
 
@@ -183,6 +191,18 @@ impl Without {
         ensures { result ≡ role_left self role }
     {
         if self.roles { 0 } else { role }
+    }
+
+    /// The ID of the track at this place, from 1; the place, as far as 32 bits go, where IDs don't
+    /// count.
+    pub fn id(self, place: u64, id: u32) -> u32
+        ensures { result ≡ id_left self place id }
+    {
+        if self.ids {
+            place.min(u64::from(u32::MAX)) as u32
+        } else {
+            id
+        }
     }
 
     /// When a track begins; 0 where timing doesn't count, or where tracks begin.

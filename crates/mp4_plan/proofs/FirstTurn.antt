@@ -2,10 +2,10 @@
 use Rattle.std.proofs.Common.{◌≡◌, ℕ, suc, ◌+◌, ◌-◌, ◌^◌, ◌<◌, ◌≤◌, min, List, [], ◌∷◌, length, Some, None, refl, sym, ap, subst, ◌∙◌, arith}
 use Rattle.mp4_content.specs.declared.without.Without.{Without}
 use Rattle.mp4_content.specs.words.ComingLess.{asks_first, left_samples, plain_reduction, reduce_at, reduction_by, reduction_of}
-use Rattle.mp4_content.specs.format.Reduced.{HasNearOffsets, ReducesInRange, reduce_track, reduce_movie_head, reduce, start_left, timescale_left}
+use Rattle.mp4_content.specs.format.Reduced.{HasNearOffsets, ReducesInRange, id_left, number_track, number_tracks, reduce_track, reduce_movie_head, reduce, start_left, timescale_left}
 use Rattle.mp4_head.proofs.Distinct.{map_twice}
 use Rattle.mp4_content.proofs.ReducedTaken.{reduced_are_taken, timed_numbered}
-use Rattle.mp4_plan.proofs.InfosLeft.{as_many_left}
+use Rattle.mp4_plan.proofs.InfosLeft.{many_from}
 use Rattle.mp4_content.proofs.ReducedValid.{scale_some}
 use Rattle.std.specs.Prelude.{Bool, true, false, not, ◌&&◌, ◌||◌, ◌==◌, if◌then◌else◌, map, unwrap_or, option_map}
 use Rattle.std.specs.List.{AllByRecursion, AllZip, slice_get}
@@ -31,7 +31,7 @@ use Rattle.mp4_content.specs.format.TimedSamples.{TimedSample}
 use Rattle.mp4_plan.specs.format.Pieces.{pieces}
 use Rattle.mp4_content.specs.words.TakenSamples.{AreTaken}
 use Rattle.mp4_plan.specs.words.TurnLaws.{HavePassed}
-use Rattle.mp4_content.specs.words.Contents.{info_left, infos_left, numbers_of}
+use Rattle.mp4_content.specs.words.Contents.{info_left, infos_from, infos_left, numbers_of}
 use Rattle.mp4_plan.specs.words.Turns.{first_scale}
 use Rattle.mp4_plan.specs.declared.ends.End.TheVariants.{Sync}
 use Rattle.mp4_plan.specs.declared.schedule.Schedule.{Schedule}
@@ -120,58 +120,62 @@ module _ (leaving : Without) where
   all_good file tree timescale [] h n = tt
   all_good file tree timescale (t ∷ trees) h n = ((h.0.0, n.0), all_good file tree timescale trees h.1 n.1)
 
-  less_left : (file : List ℕ) (tree : FileTree) (info : TrackInfo) (t : TrackTree) → TrackFacts file tree info t → IsGood file tree t → IsLeft file (info_left leaving info) (left_samples leaving tree t) (coming_of (left_track leaving file tree t))
-  less_left file tree info t h good = record {
-    id = h.left.id;
+  less_left : (file : List ℕ) (tree : FileTree) (place : ℕ) (info : TrackInfo) (t : TrackTree) → TrackFacts file tree info t → IsGood file tree t → IsLeft file (info_left leaving place info) (left_samples leaving tree t) (coming_of (number_track leaving place (left_track leaving file tree t)))
+  less_left file tree place info t h good = record {
+    id = ap (id_left leaving place) h.left.id;
     timescale = ap (timescale_left leaving) h.left.timescale;
     taken = reduced_are_taken leaving file (keys_seen info.keys) (track_samples tree t) (track_of file (file_parts tree) t) (timed_numbered (track_keys tree t) 0 (start_of (plain_of t) (parts_of_track (file_parts tree) t)) (placed_of (file_parts tree) t)) good.0 good.1 h.left.taken;
   }
 
-  -- all samples of all tracks are left
-  lefts_of : (file : List ℕ) (tree : FileTree) (infos : List TrackInfo) (trees : List TrackTree) → AllZip (TrackFacts file tree) infos trees → AllByRecursion (IsGood file tree) trees
-      → AreLeft file (infos_left leaving infos) (map (left_samples leaving tree) trees) (map coming_of (map (left_track leaving file tree) trees))
-  lefts_of file tree [] [] z g = tt
-  lefts_of file tree [] (t ∷ trees) z g = absurd z
-  lefts_of file tree (info ∷ infos) [] z g = absurd z
-  lefts_of file tree (info ∷ infos) (t ∷ trees) z g = (less_left file tree info t z.0 g.0, lefts_of file tree infos trees z.1 g.1)
+  -- what is left of tracks of which the first stands at this place
+  abbrev left_tracks : List ℕ → FileTree → ℕ → List TrackTree → List Track
+  left_tracks file tree place trees = number_tracks leaving place (map (left_track leaving file tree) trees)
 
-  as_many : (file : List ℕ) (tree : FileTree) (infos : List TrackInfo) (trees : List TrackTree) → AllZip (TrackFacts file tree) infos trees → length infos ≡ length (map coming_of (map (left_track leaving file tree) trees))
-  as_many file tree [] [] z = refl
-  as_many file tree [] (t ∷ trees) z = absurd z
-  as_many file tree (info ∷ infos) [] z = absurd z
-  as_many file tree (info ∷ infos) (t ∷ trees) z = ap suc (as_many file tree infos trees z.1)
+  -- all samples of all tracks are left
+  lefts_of : (file : List ℕ) (tree : FileTree) (place : ℕ) (infos : List TrackInfo) (trees : List TrackTree) → AllZip (TrackFacts file tree) infos trees → AllByRecursion (IsGood file tree) trees
+      → AreLeft file (infos_from leaving place infos) (map (left_samples leaving tree) trees) (map coming_of (left_tracks file tree place trees))
+  lefts_of file tree place [] [] z g = tt
+  lefts_of file tree place [] (t ∷ trees) z g = absurd z
+  lefts_of file tree place (info ∷ infos) [] z g = absurd z
+  lefts_of file tree place (info ∷ infos) (t ∷ trees) z g = (less_left file tree place info t z.0 g.0, lefts_of file tree (suc place) infos trees z.1 g.1)
+
+  as_many : (file : List ℕ) (tree : FileTree) (place : ℕ) (infos : List TrackInfo) (trees : List TrackTree) → AllZip (TrackFacts file tree) infos trees → length infos ≡ length (map coming_of (left_tracks file tree place trees))
+  as_many file tree place [] [] z = refl
+  as_many file tree place [] (t ∷ trees) z = absurd z
+  as_many file tree place (info ∷ infos) [] z = absurd z
+  as_many file tree place (info ∷ infos) (t ∷ trees) z = ap suc (as_many file tree (suc place) infos trees z.1)
 
   stands : (file : List ℕ) (tree : FileTree) (infos : List TrackInfo) (trees : List TrackTree) (s : Schedule) → AllZip (TrackFacts file tree) infos trees → AllByRecursion (λ (t : TrackTree). 0 < (track_head_of t).media.timescale) trees → AllByRecursion (IsGood file tree) trees
       → IsFirst (infos_left leaving infos) (map (left_samples leaving tree) trees) s
-      → StandsAmong s (map coming_of (map (left_track leaving file tree) trees))
+      → StandsAmong s (map coming_of (left_tracks file tree 1 trees))
   stands file tree [] [] s z lt g h = h.tracks
   stands file tree [] (t ∷ trees) s z lt g h = absurd z
   stands file tree (info ∷ infos) [] s z lt g h = absurd z
   stands file tree (info ∷ infos) (t ∷ trees) s z lt g h =
       let scale = timescale_left leaving (track_head_of t).media.timescale in
       let some = scale_some leaving (track_head_of t).media.timescale lt.0 in
-      let others = map coming_of (map (left_track leaving file tree) trees) in
+      let others = map coming_of (left_tracks file tree 2 trees) in
       let track = h.track in
       record {
         among = record {
-          tracks = h.tracks ∙ ap suc (as_many_left leaving infos ∙ as_many file tree infos trees z.1);
+          tracks = h.tracks ∙ ap suc (many_from leaving 2 infos ∙ as_many file tree 2 infos trees z.1);
           track = omega (arith, track);
           timescale = some;
           passed = subst (λ n. HavePassed s.next scale n others) (sym track) tt;
           over = λ e. h.next;
         };
         scale = h.first ∙ sym (ap (timescale_left leaving) z.0.left.timescale);
-        fresh = λ e. fresh file (keys_seen info.keys) s.from scale (left_samples leaving tree t) (coming_of (left_track leaving file tree t)).samples (less_left file tree info t z.0 g.0).taken some h.from;
+        fresh = λ e. fresh file (keys_seen info.keys) s.from scale (left_samples leaving tree t) (coming_of (left_track leaving file tree t)).samples (less_left file tree 1 info t z.0 g.0).taken some h.from;
         next = λ behind. absurd (omega (arith, track, behind));
       }
 
   -- the pieces that are left are all
   all_pieces : (file : List ℕ) (tree : FileTree) (infos : List TrackInfo) (movie : MovieHead) (trees : List TrackTree) (s : Schedule) → AllByRecursion (λ (t : TrackTree). 0 < (track_head_of t).media.timescale) trees → IsFirst (infos_left leaving infos) (map (left_samples leaving tree) trees) s
-      → pieces_from s (map coming_of (map (left_track leaving file tree) trees)) ≡ pieces (record { movie = movie; tracks = map (left_track leaving file tree) trees })
+      → pieces_from s (map coming_of (left_tracks file tree 1 trees)) ≡ pieces (record { movie = movie; tracks = left_tracks file tree 1 trees })
   all_pieces file tree infos movie [] s lt h = sym (turns_begin_with_all (record { movie = movie; tracks = [] }))
   all_pieces file tree infos movie (t ∷ trees) s lt h =
-      let first : Track = left_track leaving file tree t in
-      let others = map (left_track leaving file tree) trees in
+      let first : Track = number_track leaving 1 (left_track leaving file tree t) in
+      let others = left_tracks file tree 2 trees in
       at_first s (coming_of first) (map coming_of others) h.track
       ∙ ap (λ n. all_left n (coming_of first) (map coming_of others)) (h.from ∙ begins file tree t)
       ∙ sym (turns_begin_with_all (record { movie = movie; tracks = first ∷ others }) (scale_some leaving (track_head_of t).media.timescale lt.0))
@@ -185,8 +189,9 @@ module _ (leaving : Without) where
       let facts = track_facts file m tree o in
       let scales = each_from IsTrackTree IsSoundTrack (λ (t : TrackTree). 0 < (track_head_of t).media.timescale) timescale_there tree.movie.tracks o.is_tree.movie.tracks o.is_sound.movie.tracks in
       let same = map_twice (track_of file (file_parts tree)) (reduce_track leaving) tree.movie.tracks in
-      subst (λ (tracks : List Track). IsTurn file (infos_left leaving m.tracks) s (map (left_samples leaving tree) tree.movie.tracks) (map coming_of tracks) × (pieces_from s (map coming_of tracks) ≡ pieces (record { movie = reduce_movie_head leaving (movie_head_of tree.movie); tracks = tracks })))
+      subst (λ (left : List Track). let tracks = number_tracks leaving 1 left in
+      IsTurn file (infos_left leaving m.tracks) s (map (left_samples leaving tree) tree.movie.tracks) (map coming_of tracks) × (pieces_from s (map coming_of tracks) ≡ pieces (record { movie = reduce_movie_head leaving (movie_head_of tree.movie); tracks = tracks })))
       (sym same) (
-        record { each = lefts_of file tree m.tracks tree.movie.tracks facts good; among = stands file tree m.tracks tree.movie.tracks s facts scales good h; left = h.left },
+        record { each = lefts_of file tree 1 m.tracks tree.movie.tracks facts good; among = stands file tree m.tracks tree.movie.tracks s facts scales good h; left = h.left },
         all_pieces file tree m.tracks (reduce_movie_head leaving (movie_head_of tree.movie)) tree.movie.tracks s scales h,
       )

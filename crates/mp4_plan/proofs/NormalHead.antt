@@ -13,20 +13,21 @@ use Rattle.mp4_present.specs.format.Denotes.{FileTree, file_parts, track_of, pre
 use Rattle.mp4_present.specs.words.Movies.{MovieSeen, moov_box}
 use Rattle.mp4_present.specs.words.OpenedMovie.{IsOpenedAs}
 use Rattle.mp4_present.specs.format.Presentation.{heads as heads_of, Track, Presentation, movie_length, normal_moov_length}
-use Rattle.mp4_content.specs.format.Reduced.{reduce, reduce_track, reduce_track_head, reduce_movie_head}
+use Rattle.mp4_content.specs.format.Reduced.{number_heads, reduce, reduce_track, reduce_track_head, reduce_movie_head}
 use Rattle.mp4_content.specs.declared.without.Without.{Without}
 use Rattle.mp4_head.specs.words.Parts.{capped}
 use Rattle.mp4_plan.specs.format.Normal.{normal, pieces_bytes}
 use Rattle.mp4_plan.specs.format.Pieces.{pieces}
 use Rattle.mp4_plan.specs.words.Writers.{ArePiecesLong, IsHeadOf, head_of_normal}
 use Rattle.mp4_plan.proofs.HeadAgain.{both_long}
+use Rattle.mp4_content.proofs.Numbered.{numbered_heads}
 use Rattle.mp4_content.proofs.ReducedValid.{shorter_moov}
 
 -- ---- the head
 
 module _ (l : Without) where
   -- the head that is read anew, and then reduced, is that of the normal form, and short
-  pub head_left : (file : List ℕ) (m : MovieSeen) (tree : FileTree) (head left : MovieHead) → IsOpenedAs file m tree → SaysHead (moov_box m) head → movie_seen left ≡ reduce_movie_head l (movie_seen head) → tracks_seen left ≡ map (reduce_track_head l) (tracks_seen head)
+  pub head_left : (file : List ℕ) (m : MovieSeen) (tree : FileTree) (head left : MovieHead) → IsOpenedAs file m tree → SaysHead (moov_box m) head → movie_seen left ≡ reduce_movie_head l (movie_seen head) → tracks_seen left ≡ number_heads l 1 (map (reduce_track_head l) (tracks_seen head))
       → IsHeadOf (reduce l (presentation_of file tree)) left (movie_length (reduce l (presentation_of file tree)))
   head_left file m tree head left o says movie_is tracks_are =
       let p = presentation_of file tree in
@@ -34,7 +35,8 @@ module _ (l : Without) where
       let said = (said_of (moov_box m) head tree.movie says (sym o.moov) o.is_tree.movie).0 in
       let tracks : tracks_seen head ≡ map (λ (u : Track). u.head) p.tracks = ap (λ (h : heads.Head). h.tracks) said ∙ sym (map_twice (track_of file (file_parts tree)) (λ (u : Track). u.head) tree.movie.tracks) in
       let movie = movie_is ∙ ap (λ (h : heads.Head). reduce_movie_head l h.movie) said in
-      let all : tracks_seen left ≡ heads_of (reduce l p) = tracks_are ∙ ap (map (reduce_track_head l)) tracks ∙ map_twice (λ (u : Track). u.head) (reduce_track_head l) p.tracks ∙ sym (map_twice (reduce_track l) (λ (u : Track). u.head) p.tracks) in
+      let own = ap (map (reduce_track_head l)) tracks ∙ map_twice (λ (u : Track). u.head) (reduce_track_head l) p.tracks ∙ sym (map_twice (reduce_track l) (λ (u : Track). u.head) p.tracks) in
+      let all : tracks_seen left ≡ heads_of (reduce l p) = tracks_are ∙ ap (number_heads l 1) own ∙ sym (numbered_heads l 1 (map (reduce_track l) p.tracks)) in
       let ftyp : length ftyp_bytes ≡ 24 = refl in
       let fits : normal_moov_length p ≤ 2 ^ 30 = o.limits.moov in
       let less = shorter_moov l p refl (nine_all file tree tree.movie.tracks) in

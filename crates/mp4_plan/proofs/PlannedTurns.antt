@@ -2,7 +2,7 @@
 use Rattle.std.proofs.Common.{◌≡◌, ℕ, zero, suc, ◌+◌, ◌-◌, ◌*◌, ◌^◌, ◌<◌, ◌≤◌, nat_lt, Bool, true, false, cond, List, [], ◌∷◌, ◌++◌, length, take, map, Option, Some, None, refl, sym, ap, subst, ◌∙◌, arith, length-append, append-nil}
 use Rattle.mp4_content.specs.declared.without.Without.{Without}
 use Rattle.mp4_content.specs.words.ComingLess.{ComesLess, left_samples, track_reduction}
-use Rattle.mp4_content.specs.format.Reduced.{ReducesInRange, reduce, timescale_left}
+use Rattle.mp4_content.specs.format.Reduced.{id_left, ReducesInRange, reduce, timescale_left}
 use Rattle.mp4_plan.proofs.Lefts.{less_counted, left_count, pieces_from, IsTurn}
 use Rattle.std.specs.Prelude.{slice_get, slice_set, slice_index_or, min, max, fold}
 use Rattle.std.specs.List.{sum_by}
@@ -252,16 +252,16 @@ module _ (leaving : Without) (file : List ℕ) (tree : FileTree) (m : MovieSeen)
         is_tree = r.is_tree;
         is_left = r.is_left;
         place = at.0;
-        end_is = (own (numbers_of (info_left leaving info.0)) (track_at leaving m.tracks s.track info.0 info.1)).0;
+        end_is = (own (numbers_of (info_left leaving (s.track + 1) info.0)) (track_at leaving m.tracks s.track info.0 info.1)).0;
         comes = subst (λ w. ComesLess (track_reduction leaving tree r.t) file tree r.t m w r.left) (sym is_walk) (subst (λ j. ComesLess (track_reduction leaving tree r.t) file tree r.t m (slice_index_or walks j walk) r.left) (sym at.0) r.comes);
         few = omega (arith, fits, all);
         shown = ap (λ xs. slice_get xs s.track) h.shown ∙ first_at lefts s.track r.left r.is_left;
       }
 
   module _ (k : ℕ) (walk : Walk) (end : End) (t : HasTurn leaving file tree m s nexts lefts k walk end) (lt : s.track < s.tracks) where
-    pub taken : TurnTakes file (infos_left leaving m.tracks) s lefts comings (info_left leaving t.info) t.left end
-    taken = subst (λ e. TurnTakes file (infos_left leaving m.tracks) s lefts comings (info_left leaving t.info) t.left e) (sym t.end_is)
-        (turn_taken file (infos_left leaving m.tracks) s lefts comings (info_left leaving t.info) t.left h.turn lt (info_at leaving m.tracks s.track t.info t.is_info) t.is_left)
+    pub taken : TurnTakes file (infos_left leaving m.tracks) s lefts comings (info_left leaving (s.track + 1) t.info) t.left end
+    taken = subst (λ e. TurnTakes file (infos_left leaving m.tracks) s lefts comings (info_left leaving (s.track + 1) t.info) t.left e) (sym t.end_is)
+        (turn_taken file (infos_left leaving m.tracks) s lefts comings (info_left leaving (s.track + 1) t.info) t.left h.turn lt (info_at leaving m.tracks s.track t.info t.is_info) t.is_left)
 
     abbrev pub piece_size : ℕ
     piece_size = more_of (piece_from end) t.left
@@ -272,9 +272,10 @@ module _ (leaving : Without) (file : List ℕ) (tree : FileTree) (m : MovieSeen)
     -- the turn leads on, where a track behind the first has a sample that goes into a piece
     pub turn_leads : (n : ℕ) (next : Option SampleAt) (d : DueTracks) → n ≡ piece_size → next ≡ slice_get left_behind_it 0 → IsDueAt (tracks_left leaving m.tracks) nexts s d → ¬ Sticks s n next
     turn_leads n next d is after due =
-        let goes = due_here (infos_left leaving m.tracks) nexts s d (info_left leaving t.info) (slice_get t.left 0) due (left_scales leaving file m tree o) lt (info_at leaving m.tracks s.track t.info t.is_info) t.shown in
+        let goes = due_here (infos_left leaving m.tracks) nexts s d (info_left leaving (s.track + 1) t.info) (slice_get t.left 0) due (left_scales leaving file m tree o) lt (info_at leaving m.tracks s.track t.info t.is_info) t.shown in
         let at_end = subst (λ e. ¬ Sticks s (more_of (piece_from e) t.left) (slice_get (samples_after (piece_from e) t.left) 0)) (sym t.end_is)
-        (turn_moves file (infos_left leaving m.tracks) s lefts comings (info_left leaving t.info) t.left (turn_taken file (infos_left leaving m.tracks) s lefts comings (info_left leaving t.info) t.left h.turn lt (info_at leaving m.tracks s.track t.info t.is_info) t.is_left) goes) in
+        (turn_moves file (infos_left leaving m.tracks) s lefts comings (info_left leaving (s.track + 1) t.info) t.left
+            (turn_taken file (infos_left leaving m.tracks) s lefts comings (info_left leaving (s.track + 1) t.info) t.left h.turn lt (info_at leaving m.tracks s.track t.info t.is_info) t.is_left) goes) in
         subst (λ i. ¬ Sticks s i next) (sym is) (subst (λ x. ¬ Sticks s piece_size x) (sym after) at_end)
 
     within_left : piece_size ≤ length t.left
@@ -315,7 +316,7 @@ module _ (leaving : Without) (file : List ℕ) (tree : FileTree) (m : MovieSeen)
             comings = taken.later;
             at = stands_next;
             longest = (λ i. max ((e ∙ ap (max most) is) i) (longest_piece (pieces_from (turned s end piece_size (slice_get left_behind_it 0)) taken.later)))
-                ∙ sym (turn_longest most t.info.id piece_size taken.samples (pieces_from (turned s end piece_size (slice_get left_behind_it 0)) taken.later) many_taken)
+                ∙ sym (turn_longest most (id_left leaving (s.track + 1) t.info.id) piece_size taken.samples (pieces_from (turned s end piece_size (slice_get left_behind_it 0)) taken.later) many_taken)
                 ∙ ap (λ ps. max most (longest_piece ps)) (sym taken.pieces) ∙ longest;
           }))
 
@@ -341,7 +342,7 @@ module _ (leaving : Without) (file : List ℕ) (tree : FileTree) (m : MovieSeen)
           count = sym counted ∙ is
 
           xs : List Piece
-          xs = piece_if t.info.id taken.samples
+          xs = piece_if (id_left leaving (s.track + 1) t.info.id) taken.samples
 
           ys : List Piece
           ys = pieces_from (turned s end piece_size (slice_get left_behind_it 0)) taken.later
@@ -358,8 +359,8 @@ module _ (leaving : Without) (file : List ℕ) (tree : FileTree) (m : MovieSeen)
           sum : (later ≡ len + long) × (long ≤ p.count * 2 ^ 33)
           sum =
               let less = fewer_left in
-              added (keys_seen t.info.keys) p len later long (left_count lefts) adds keys.few small (λ e. none_long file (keys_seen t.info.keys) number t.info.id piece_size t.left taken.samples taken.taken (sym count ∙ e))
-              (λ some. some_long file (keys_seen t.info.keys) number t.info.id piece_size t.left taken.samples p keys taken.taken planned (omega (arith, some, count)) within_left small.few) (omega (arith, count, less)) fits
+              added (keys_seen t.info.keys) p len later long (left_count lefts) adds keys.few small (λ e. none_long file (keys_seen t.info.keys) number (id_left leaving (s.track + 1) t.info.id) piece_size t.left taken.samples taken.taken (sym count ∙ e))
+              (λ some. some_long file (keys_seen t.info.keys) number (id_left leaving (s.track + 1) t.info.id) piece_size t.left taken.samples p keys taken.taken planned (omega (arith, some, count)) within_left small.few) (omega (arith, count, less)) fits
 
 -- ---- where tracks are skipped
 

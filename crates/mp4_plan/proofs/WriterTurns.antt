@@ -2,7 +2,7 @@
 use Rattle.std.proofs.Common.{◌≡◌, ℕ, ◌+◌, ◌<◌, ◌≤◌, List, ◌++◌, length, take, drop, Some, sym, ap, subst, ◌∙◌, slice_set}
 use Rattle.mp4_content.specs.declared.without.Without.{Without}
 use Rattle.mp4_content.specs.words.ComingLess.{ComesLess, track_reduction, reductions_of}
-use Rattle.mp4_content.specs.format.Reduced.{reduce, timescale_left}
+use Rattle.mp4_content.specs.format.Reduced.{id_left, reduce, timescale_left}
 use Rattle.std.specs.Prelude.{Option, slice_get}
 use Rattle.mp4_boxes.specs.format.Bytes.{sum_of}
 use Rattle.mp4_head.specs.format.Tree.{TrackTree}
@@ -54,8 +54,8 @@ module _ (leaving : Without) (file : List ℕ) (tree : FileTree) (m : MovieSeen)
     at : AtTurn leaving file tree m s w.walks.items w.nexts.items (length w.notes.rows.items) h.lefts h.comings
     at = at_turn leaving file tree m s sequence sent w.walks.items w.nexts.items (length w.notes.rows.items) (takes before after) (waiting w.carrier) o h here.1 tracks goes.walks.count
 
-    own_is : (turn.end ≡ turn_end s (timescale_left leaving at.info.timescale)) × (turn.id ≡ at.info.id)
-    own_is = own (numbers_of (info_left leaving at.info)) (track_at leaving m.tracks s.track at.info at.is_info)
+    own_is : (turn.end ≡ turn_end s (timescale_left leaving at.info.timescale)) × (turn.id ≡ (id_left leaving (s.track + 1) at.info.id))
+    own_is = own (numbers_of (info_left leaving (s.track + 1) at.info)) (track_at leaving m.tracks s.track at.info at.is_info)
 
     end_is : turn.end ≡ turn_end s (timescale_left leaving at.info.timescale)
     end_is = own_is.0
@@ -96,7 +96,7 @@ module _ (leaving : Without) (file : List ℕ) (tree : FileTree) (m : MovieSeen)
       counted : n.planned.count ≡ more_of (piece_from end) at.left
       counted = ap (λ (q : Planned). q.count) planned_is ∙ piece_counts end at.left
 
-      head_is : n.head ≡ turn_head sequence at.info.id n.planned.count (slice_get at.left 0)
+      head_is : n.head ≡ turn_head sequence (id_left leaving (s.track + 1) at.info.id) n.planned.count (slice_get at.left 0)
       head_is = it.head ∙ ap (λ k. turn_head sequence k n.planned.count (slice_get at.left 0)) own_is.1
 
       rest_is : drop n.planned.count at.left ≡ samples_after (piece_from end) at.left
@@ -130,7 +130,7 @@ module _ (leaving : Without) (file : List ℕ) (tree : FileTree) (m : MovieSeen)
       carry_stops last f =
           let q = f at.left is_noted at.info info_there at.keys.apart in
           let own = subst (λ (hd : Option PieceHead). TakesPrefix (takes after last) (waiting w1.carrier ++ turn_bytes file hd n.planned (keys_seen at.info.keys) (take n.planned.count at.left))) head_is q in
-          let same = subst (λ (c : OutBuffer). TakesPrefix (takes after last) (waiting c ++ turn_bytes file (turn_head sequence at.info.id n.planned.count (slice_get at.left 0)) n.planned (keys_seen at.info.keys) (take n.planned.count at.left))) keeps.0 own in
+          let same = subst (λ (c : OutBuffer). TakesPrefix (takes after last) (waiting c ++ turn_bytes file (turn_head sequence (id_left leaving (s.track + 1) at.info.id) n.planned.count (slice_get at.left 0)) n.planned (keys_seen at.info.keys) (take n.planned.count at.left))) keeps.0 own in
           turn_stops leaving file tree m s sequence sent w.walks.items w.nexts.items (length w.notes.rows.items) joins before after (waiting w.carrier) h at n.planned planned_is few last same
 
       -- its samples lie in the file, with as many bytes as were planned
@@ -157,8 +157,8 @@ module _ (leaving : Without) (file : List ℕ) (tree : FileTree) (m : MovieSeen)
         pub pass_lacks : IsDueAt (tracks_left leaving m.tracks) w.nexts.items s w.due → Sticks s n.planned.count next → ⊥
         pass_lacks due k =
             let count = subst (λ c. Sticks s c next) counted k in
-            let goes_in = due_here (infos_left leaving m.tracks) w.nexts.items s w.due (info_left leaving at.info) (slice_get at.left 0) due (left_scales leaving file m tree o) here.1 (info_at leaving m.tracks s.track at.info at.is_info) at.shown in
-            turn_moves file (infos_left leaving m.tracks) s h.lefts h.comings (info_left leaving at.info) at.left at.taken goes_in (subst (λ (x : Option SampleAt). Sticks s (more_of (piece_from end) at.left) x) next_is count)
+            let goes_in = due_here (infos_left leaving m.tracks) w.nexts.items s w.due (info_left leaving (s.track + 1) at.info) (slice_get at.left 0) due (left_scales leaving file m tree o) here.1 (info_at leaving m.tracks s.track at.info at.is_info) at.shown in
+            turn_moves file (infos_left leaving m.tracks) s h.lefts h.comings (info_left leaving (s.track + 1) at.info) at.left at.taken goes_in (subst (λ (x : Option SampleAt). Sticks s (more_of (piece_from end) at.left) x) next_is count)
 
         -- the next samples are the same but for one
         nexts_are : w2.nexts.items ≡ slice_set w.nexts.items s.track next
@@ -178,14 +178,15 @@ module _ (leaving : Without) (file : List ℕ) (tree : FileTree) (m : MovieSeen)
         turn_goes last later put kept is =
             let q = put at.left is_noted at.info info_there at.keys.apart in
             let own = subst (λ (hd : Option PieceHead). BytesGoOn (takes after last) (waiting w1.carrier) (waiting w2.carrier) (turn_bytes file hd n.planned (keys_seen at.info.keys) (take n.planned.count at.left))) head_is q in
-            let same = subst (λ (c : OutBuffer). BytesGoOn (takes after last) (waiting c) (waiting w2.carrier) (turn_bytes file (turn_head sequence at.info.id n.planned.count (slice_get at.left 0)) n.planned (keys_seen at.info.keys) (take n.planned.count at.left))) keeps.0 own in
+            let same = subst (λ (c : OutBuffer). BytesGoOn (takes after last) (waiting c) (waiting w2.carrier)
+                (turn_bytes file (turn_head sequence (id_left leaving (s.track + 1) at.info.id) n.planned.count (slice_get at.left 0)) n.planned (keys_seen at.info.keys) (take n.planned.count at.left))) keeps.0 own in
             let comes = subst (λ (l : Without). ComesLess (track_reduction l tree at.t) file tree at.t m done.0 (drop n.planned.count at.left)) (left_same ∙ same_leaving) done.3 in
             let comes_rest = subst (λ (ss : List SampleAt). ComesLess (track_reduction leaving tree at.t) file tree at.t m done.0 ss) rest_is comes in
             let marked = subst (λ (ss : List SampleAt). done.0.mark ≡ mark_of done.0 (length ss)) rest_is done.4 in
             let on = turn_over leaving file tree m s sequence sent w.walks.items w.nexts.items (length w.notes.rows.items) joins before after (waiting w.carrier) h at n.planned planned_is few done.0 last (waiting w2.carrier) comes_rest marked same in
             let walks : slice_set w.walks.items s.track done.0 ≡ w2.walks.items = sym (done.1 ∙ ap (λ (ws : List Walk). slice_set ws turn.track done.0) it.walks ∙ set_twice w.walks.items turn.track it.walk done.0 ∙ ap (λ k. slice_set w.walks.items k done.0) here.0) in
             let rows : length w.notes.rows.items ≡ length w2.notes.rows.items = sym (ap (λ v. length v.items) kept.0 ∙ keeps.1) in
-            let number : sequence_behind sequence (turn_head sequence at.info.id n.planned.count (slice_get at.left 0)) ≡ sequence_behind sequence n.head = ap (sequence_behind sequence) (sym head_is) in
+            let number : sequence_behind sequence (turn_head sequence (id_left leaving (s.track + 1) at.info.id) n.planned.count (slice_get at.left 0)) ≡ sequence_behind sequence n.head = ap (sequence_behind sequence) (sym head_is) in
             let schedule : turned s end n.planned.count (slice_get (samples_after (piece_from end) at.left) 0) ≡ later = (λ i. turned s (sym end_is i) n.planned.count (sym next_is i)) ∙ sym is in
             let nexts : slice_set w.nexts.items s.track (slice_get (samples_after (piece_from end) at.left) 0) ≡ w2.nexts.items = sym (done.2 ∙ (λ i. slice_set (keeps.2 i).items (here.0 i) (slice_get (rest_is i) 0))) in
             subst (λ (k : ℕ). WritesOn leaving file tree m later (sequence_behind sequence n.head) (sent + n.planned.bytes) w2.walks.items w2.nexts.items k (takes before last) (waiting w2.carrier)) rows
@@ -193,5 +194,5 @@ module _ (leaving : Without) (file : List ℕ) (tree : FileTree) (m : MovieSeen)
             (subst (λ (ws : List Walk). WritesOn leaving file tree m later (sequence_behind sequence n.head) (sent + n.planned.bytes) ws (slice_set w.nexts.items s.track (slice_get (samples_after (piece_from end) at.left) 0)) (length w.notes.rows.items) (takes before last) (waiting w2.carrier))
             walks
             (subst (λ (k : ℕ). WritesOn leaving file tree m later k (sent + n.planned.bytes) (slice_set w.walks.items s.track done.0) (slice_set w.nexts.items s.track (slice_get (samples_after (piece_from end) at.left) 0)) (length w.notes.rows.items) (takes before last) (waiting w2.carrier)) number
-            (subst (λ (r : Schedule). WritesOn leaving file tree m r (sequence_behind sequence (turn_head sequence at.info.id n.planned.count (slice_get at.left 0))) (sent + n.planned.bytes)
+            (subst (λ (r : Schedule). WritesOn leaving file tree m r (sequence_behind sequence (turn_head sequence (id_left leaving (s.track + 1) at.info.id) n.planned.count (slice_get at.left 0))) (sent + n.planned.bytes)
             (slice_set w.walks.items s.track done.0) (slice_set w.nexts.items s.track (slice_get (samples_after (piece_from end) at.left) 0)) (length w.notes.rows.items) (takes before last) (waiting w2.carrier)) schedule on))))

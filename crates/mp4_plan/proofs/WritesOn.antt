@@ -2,7 +2,7 @@
 use Rattle.std.proofs.Common.{◌≡◌, ℕ, zero, suc, ◌+◌, ◌-◌, ◌^◌, ◌<◌, ◌≤◌, max, ◌==◌, Bool, true, false, List, [], ◌∷◌, ◌++◌, length, take, Some, None, refl, sym, ap, subst, ◌∙◌, append_assoc, append-nil, arith, slice_set}
 use Rattle.mp4_content.specs.declared.without.Without.{Without}
 use Rattle.mp4_content.specs.words.ComingLess.{ComesLess, left_samples, track_reduction}
-use Rattle.mp4_content.specs.format.Reduced.{ReducesInRange, reduce, timescale_left}
+use Rattle.mp4_content.specs.format.Reduced.{id_left, ReducesInRange, reduce, timescale_left}
 use Rattle.mp4_plan.proofs.Lefts.{less_counted, left_count, pieces_from, IsTurn}
 use Rattle.mp4_content.proofs.ReducedTaken.{less_below}
 use Rattle.std.specs.Prelude.{Option, option_map, if◌then◌else◌, map, slice_get, fold}
@@ -167,7 +167,7 @@ module _ (leaving : Without) (file : List ℕ) (tree : FileTree) (m : MovieSeen)
     pub comes : ComesLess (track_reduction leaving tree t) file tree t m walk left
     pub is_marked : walk.mark ≡ mark_of walk (length left)
     pub keys : AreKeys (keys_seen info.keys)
-    pub taken : TurnTaken file (infos_left leaving m.tracks) s lefts comings (info_left leaving info) left
+    pub taken : TurnTaken file (infos_left leaving m.tracks) s lefts comings (info_left leaving (s.track + 1) info) left
     pub below : AllByRecursion (IsBelow (length file)) left
     pub fits : more_of (piece_from (turn_end s (timescale_left leaving info.timescale))) left ≤ rows
     pub shown : slice_get nexts s.track ≡ Some (slice_get left 0)
@@ -178,7 +178,7 @@ module _ (leaving : Without) (file : List ℕ) (tree : FileTree) (m : MovieSeen)
       let a = come_at leaving file tree m tree.movie.tracks walks h.lefts s.track h.come (omega (arith, lt, tracks, each)) in
       let i = there_is m.tracks s.track (omega (arith, lt, tracks)) in
       let f = (has_track file m tree s.track i.0 o i.1).facts in
-      let taken = turn_taken file (infos_left leaving m.tracks) s h.lefts h.comings (info_left leaving i.0) a.left h.turn lt (info_at leaving m.tracks s.track i.0 i.1) a.is_left in
+      let taken = turn_taken file (infos_left leaving m.tracks) s h.lefts h.comings (info_left leaving (s.track + 1) i.0) a.left h.turn lt (info_at leaving m.tracks s.track i.0 i.1) a.is_left in
       record {
         t = a.t;
         walk = a.walk;
@@ -193,7 +193,7 @@ module _ (leaving : Without) (file : List ℕ) (tree : FileTree) (m : MovieSeen)
         keys = record { apart = f.apart; named = f.named; few = f.few_keys };
         taken = taken;
         below = member_at (λ (left : List SampleAt). AllByRecursion (IsBelow (length file)) left) h.lefts s.track a.left a.is_left h.lie;
-        fits = (turn_fits rows file (infos_left leaving m.tracks) s h.lefts h.comings (info_left leaving i.0) a.left taken h.fits).0;
+        fits = (turn_fits rows file (infos_left leaving m.tracks) s h.lefts h.comings (info_left leaving (s.track + 1) i.0) a.left taken h.fits).0;
         shown = ap (λ xs. slice_get xs s.track) h.shown ∙ first_at h.lefts s.track a.left a.is_left;
       }
 
@@ -229,7 +229,7 @@ module _ (leaving : Without) (file : List ℕ) (tree : FileTree) (m : MovieSeen)
       keys = keys_seen a.info.keys
 
       abbrev piece : List Piece
-      piece = piece_if a.info.id a.taken.samples
+      piece = piece_if (id_left leaving (s.track + 1) a.info.id) a.taken.samples
 
       abbrev rest : List SampleAt
       rest = samples_after (piece_from end) a.left
@@ -241,14 +241,14 @@ module _ (leaving : Without) (file : List ℕ) (tree : FileTree) (m : MovieSeen)
       counted = ap (λ (q : Planned). q.count) is ∙ piece_counts end a.left
 
       abbrev head : Option PieceHead
-      head = turn_head sequence a.info.id p.count (slice_get a.left 0)
+      head = turn_head sequence (id_left leaving (s.track + 1) a.info.id) p.count (slice_get a.left 0)
 
       -- what is written at this turn
       written : turn_bytes file head p keys (take p.count a.left) ≡ pieces_bytes sequence piece
-      written = turn_written file keys sequence a.info.id count a.left a.taken.samples p a.keys a.taken.taken (is ∙ ap planned_of (piece_gathers end a.left)) counted (piece_within end a.left) few
+      written = turn_written file keys sequence (id_left leaving (s.track + 1) a.info.id) count a.left a.taken.samples p a.keys a.taken.taken (is ∙ ap planned_of (piece_gathers end a.left)) counted (piece_within end a.left) few
 
       small_piece : length piece ≤ count
-      small_piece = piece_small a.info.id count a.left a.taken.samples file keys a.taken.taken
+      small_piece = piece_small (id_left leaving (s.track + 1) a.info.id) count a.left a.taken.samples file keys a.taken.taken
 
       -- the number of the piece behind it
       numbered : sequence_behind sequence head ≡ sequence + length piece
@@ -257,8 +257,8 @@ module _ (leaving : Without) (file : List ℕ) (tree : FileTree) (m : MovieSeen)
           let few_pieces = small_piece in
           let n = a.taken.few in
           let left = h.turn.left in
-          ap (λ k. sequence_behind sequence (turn_head sequence a.info.id k (slice_get a.left 0))) counted
-          ∙ head_counts sequence a.info.id count a.left a.taken.samples file keys a.taken.taken (piece_within end a.left) (omega (arith, small, few_pieces, n, left))
+          ap (λ k. sequence_behind sequence (turn_head sequence (id_left leaving (s.track + 1) a.info.id) k (slice_get a.left 0))) counted
+          ∙ head_counts sequence (id_left leaving (s.track + 1) a.info.id) count a.left a.taken.samples file keys a.taken.taken (piece_within end a.left) (omega (arith, small, few_pieces, n, left))
 
       -- what is to come behind it
       rest_is : normal (reduce leaving (presentation_of file tree)) ≡ (h.done ++ pieces_bytes sequence piece) ++ pieces_bytes (sequence_behind sequence head) (pieces_from next a.taken.later)
@@ -295,7 +295,7 @@ module _ (leaving : Without) (file : List ℕ) (tree : FileTree) (m : MovieSeen)
             shown = ap (λ xs. slice_set xs s.track (slice_get rest 0)) h.shown ∙ sym (firsts_set h.lefts s.track rest);
             turn = a.taken.on;
             lie = holds_with (λ (l : List SampleAt). AllByRecursion (IsBelow (length file)) l) h.lefts s.track rest (each_dropped (IsBelow (length file)) count a.left a.below) h.lie;
-            fits = (turn_fits rows file (infos_left leaving m.tracks) s h.lefts h.comings (info_left leaving a.info) a.left a.taken h.fits).1;
+            fits = (turn_fits rows file (infos_left leaving m.tracks) s h.lefts h.comings (info_left leaving (s.track + 1) a.info) a.left a.taken h.fits).1;
             small = omega (arith, small, few_pieces, n, left, later_left, by, numbers);
             sizes = bytes_behind h.lefts s.track count sent p.bytes _ a.left a.is_left (ap (λ (q : Planned). q.bytes) is ∙ piece_bytes end a.left) h.sizes;
             done = h.done ++ pieces_bytes sequence piece;

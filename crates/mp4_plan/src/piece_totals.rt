@@ -45,6 +45,7 @@ fn len_with(len: u64, planned: &Planned, keys: &Keys) -> u64
 }
 
 /// The most samples of a piece of what is left of a movie.
+#[tactic(auto, using(crate::proofs::InfosLeft::tracks_many))]
 pub(crate) fn longest_piece<S: Store, L: Ledger, M: Ledger>(
     alloc: Global,
     movie: &Movie,
@@ -87,6 +88,7 @@ pub(crate) fn longest_piece<S: Store, L: Ledger, M: Ledger>(
 }
 
 /// The bytes of all pieces of what is left of a movie.
+#[tactic(auto, using(crate::proofs::InfosLeft::tracks_many))]
 pub(crate) fn pieces_len<S: Store, L: Ledger, M: Ledger>(
     alloc: Global,
     movie: &Movie,

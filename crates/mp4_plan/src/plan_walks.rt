@@ -31,6 +31,7 @@ impl PlanWalks {
     ghost use Rattle.mp4_content.specs.words.Opened.{RefusesPlan};
 
     /// Before the first turn of what is left of a movie.
+    #[tactic(auto, using(crate::proofs::InfosLeft::tracks_many))]
     pub(crate) fn begin<S: Store, L: Ledger, M: Ledger>(
         alloc: Global,
         movie: &Movie,

@@ -371,6 +371,7 @@ impl Writer {
     /// Puts the normal form of what is left of the movie. It takes no memory; after an answer that
     /// isn't Ok it is of no more use. Where the samples aren't as many any more as when the movie
     /// was opened, or have fewer or more bytes, the answer is StoreChanged.
+    #[tactic(auto, using(crate::proofs::InfosLeft::tracks_many))]
     pub fn write<S: Store, K: Sink, L: Ledger, M: Ledger>(
         &mut self,
         movie: &Movie,

@@ -127,8 +127,8 @@ count_members first (kind ∷ more) ds = count_member first kind ds
 -- all words in the order of their bytes
 abbrev pub words_by_name : List Word
 words_by_name = words.Bitrates ∷ words.Edits ∷ words.Ends ∷ words.Flags ∷ words.Groups
-    ∷ words.Labels ∷ words.Metadata ∷ words.Origins ∷ words.Roles ∷ words.Times
-    ∷ words.Timing ∷ []
+    ∷ words.Ids ∷ words.Labels ∷ words.Metadata ∷ words.Origins ∷ words.Roles
+    ∷ words.Times ∷ words.Timing ∷ []
 
 -- those of some words that are left out
 abbrev pub word_list : Without → Bool → List Word → List ℕ

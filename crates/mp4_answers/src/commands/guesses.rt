@@ -35,6 +35,11 @@ fn is_role(difference: &Difference) -> bool {
     }
 }
 
+// Whether a difference is of the ID of a track.
+fn is_id(difference: &Difference) -> bool {
+    matches!(difference.field, Field::Id)
+}
+
 // By how much the composition offset of a sample differs.
 #[derive(Clone, Copy)]
 struct Shift {
@@ -156,6 +161,7 @@ pub(crate) fn guess(leaving: Without, all: &[Difference], tracks: &[TrackInfo]) 
     let has_detail = all.iter().any(|difference| is_detail(difference));
     let has_label = all.iter().any(|difference| is_label(difference));
     let has_role = all.iter().any(|difference| is_role(difference));
+    let has_id = all.iter().any(|difference| is_id(difference));
     let asked = asked_by(tracks, all);
     let timing = asked.timing || !is_through(tracks, asked.last);
     let needed = Without::each(|word| match word {
@@ -171,6 +177,7 @@ pub(crate) fn guess(leaving: Without, all: &[Difference], tracks: &[TrackInfo]) 
         Word::Labels => has_detail || has_label,
         Word::Timing => timing,
         Word::Roles => has_role,
+        Word::Ids => has_id,
     });
     leaving_both(leaving, needed)
 }

@@ -31,7 +31,7 @@ use crate::text::named_lines::{number, put_all_named};
 use crate::text::sample_texts::{LONGEST, SampleStyle, write_sample};
 use crate::text::tally::say_words;
 use mp4_boxes::{Memory, Refusal, Steps};
-use mp4_content::{Without, edges_of, payloads_left, put_payloads_left};
+use mp4_content::{Without, edges_of, number_heads, payloads_left, put_payloads_left};
 use mp4_head::TrackHead;
 use mp4_present::{Movie, OutBuffer, Stretch, Walk, open_movie};
 use mp4_store::{Sink, Store};
@@ -511,6 +511,7 @@ pub fn print<S: Store, K: Sink, L: Ledger, M: Ledger>(
     let lefts = payloads_left(alloc, leaving, tracks)?;
     let mut left = head;
     put_payloads_left(alloc, &mut left, leaving, &lefts)?;
+    number_heads(&mut left.tracks, leaving);
     let front = front_lines(alloc, leaving)?;
     let mut walks = walks_of(alloc, &movie)?;
     let mut desk = Desk::new(alloc)?;

@@ -27,6 +27,7 @@ const BY_NAME: &[Word] = &[
     Word::Ends,
     Word::Flags,
     Word::Groups,
+    Word::Ids,
     Word::Labels,
     Word::Metadata,
     Word::Origins,

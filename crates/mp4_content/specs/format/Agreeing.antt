@@ -53,7 +53,7 @@ pub record MediaAgree (l : Without) (a b : Media) : Type 0 where
 pub record TrackHeadsAgree (l : Without) (a b : TrackHead) : Type 0 where
   pub flags : l.roles ≡ false → a.flags ≡ b.flags
   pub enabled : a.flags % 2 ≡ b.flags % 2
-  pub id : a.id ≡ b.id
+  pub id : l.ids ≡ false → a.id ≡ b.id
   pub layer : l.roles ≡ false → a.layer ≡ b.layer
   pub alternate_group : l.roles ≡ false → a.alternate_group ≡ b.alternate_group
   pub volume : a.volume ≡ b.volume

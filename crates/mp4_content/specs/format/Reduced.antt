@@ -1,6 +1,6 @@
 -- What is left of a presentation where some of what it says doesn't count, as in comparing,
 -- archiving and caching files by the rest.
-use Rattle.std.specs.Prelude.{ℕ, suc, ◌*◌, ◌/◌, ◌%◌, ◌^◌, ◌==◌, nat_le, not, ◌&&◌, ◌||◌, Bool, if◌then◌else◌, List, [], ◌∷◌, length, take, map, filter, codes, bytes_eq, ℤ, pos, ◌-ℤ◌, FitsSigned}
+use Rattle.std.specs.Prelude.{ℕ, suc, ◌-◌, ◌*◌, ◌/◌, ◌%◌, ◌^◌, ◌==◌, min, nat_le, not, ◌&&◌, ◌||◌, Bool, if◌then◌else◌, List, [], ◌∷◌, length, take, map, filter, codes, bytes_eq, ℤ, pos, ◌-ℤ◌, FitsSigned}
 use Rattle.std.specs.Int.{w32}
 use Rattle.std.specs.List.{AllByRecursion}
 use Rattle.mp4_boxes.specs.format.Children.{is_among}
@@ -143,6 +143,19 @@ reduce_track_head l t = record t {
   group_descriptions = if l.groups then [] else t.group_descriptions;
 }
 
+-- the ID of the track at this place, counted from 1: that place where IDs don't count, as far as 32
+-- bits go (8.3.2)
+abbrev pub id_left : Without → ℕ → ℕ → ℕ
+id_left l place id = if l.ids then min place (2 ^ 32 - 1) else id
+
+abbrev pub number_head : Without → ℕ → TrackHead → TrackHead
+number_head l place t = record t { id = id_left l place t.id }
+
+-- the same of heads of which the first stands at this place
+abbrev pub number_heads : Without → ℕ → List TrackHead → List TrackHead
+number_heads l place [] = []
+number_heads l place (t ∷ heads) = number_head l place t ∷ number_heads l (suc place) heads
+
 abbrev pub reduce_movie_head : Without → MovieHead → MovieHead
 reduce_movie_head l m = record m {
   creation = if l.times then 0 else m.creation;
@@ -158,11 +171,19 @@ reduce_track l t = record t {
   samples = reduce_samples l t.samples;
 }
 
+abbrev pub number_track : Without → ℕ → Track → Track
+number_track l place t = record t { head = number_head l place t.head }
+
+-- the same of tracks of which the first stands at this place
+abbrev pub number_tracks : Without → ℕ → List Track → List Track
+number_tracks l place [] = []
+number_tracks l place (t ∷ tracks) = number_track l place t ∷ number_tracks l (suc place) tracks
+
 -- what is left of a presentation
 abbrev pub reduce : Without → Presentation → Presentation
 reduce l p = record {
   movie = reduce_movie_head l p.movie;
-  tracks = map (reduce_track l) p.tracks;
+  tracks = number_tracks l 1 (map (reduce_track l) p.tracks);
 }
 
 -- Its tracks are not too long: without its edits a track is as long as its samples are, and without

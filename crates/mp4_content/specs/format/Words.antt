@@ -8,7 +8,7 @@ use Rattle.mp4_content.specs.declared.without.Without.{Without}
 abbrev pub all_words : List Word
 all_words = words.Times ∷ words.Edits ∷ words.Flags ∷ words.Groups ∷ words.Metadata
     ∷ words.Bitrates ∷ words.Ends ∷ words.Origins ∷ words.Labels ∷ words.Timing ∷ words.Roles
-    ∷ []
+    ∷ words.Ids ∷ []
 
 -- the place of a word among these
 abbrev pub word_number : Word → ℕ
@@ -23,6 +23,7 @@ word_number words.Origins = 7
 word_number words.Labels = 8
 word_number words.Timing = 9
 word_number words.Roles = 10
+word_number words.Ids = 11
 
 -- what each word is called
 abbrev pub word_name : Word → List ℕ
@@ -37,6 +38,7 @@ word_name words.Origins = codes "origins"
 word_name words.Labels = codes "labels"
 word_name words.Timing = codes "timing"
 word_name words.Roles = codes "roles"
+word_name words.Ids = codes "ids"
 
 -- the word is among those that say what is left out
 abbrev pub has : Without → Word → Bool
@@ -51,6 +53,7 @@ has l words.Origins = l.origins
 has l words.Labels = l.labels
 has l words.Timing = l.timing
 has l words.Roles = l.roles
+has l words.Ids = l.ids
 
 -- the words of which this is so
 abbrev pub each : (Word → Bool) → Without
@@ -66,6 +69,7 @@ each is_so = record {
   labels = is_so words.Labels;
   timing = is_so words.Timing;
   roles = is_so words.Roles;
+  ids = is_so words.Ids;
 }
 
 -- ---- laws of them

@@ -9,7 +9,7 @@ use Rattle.mp4_head.specs.declared.heads.TrackHead.{TrackHead}
 use Rattle.mp4_content.specs.format.Comparison.{with_key, sample_differences, track_differences, differences}
 use Rattle.mp4_present.specs.format.Denotes.{FileTree, file_parts, track_of, presentation_of}
 use Rattle.mp4_content.specs.format.Differences.{each_differ}
-use Rattle.mp4_content.specs.format.Reduced.{reduce_samples, reduce_track, reduce}
+use Rattle.mp4_content.specs.format.Reduced.{number_track, reduce_samples, reduce_track, reduce}
 use Rattle.mp4_content.specs.words.Differing.{pair_differences}
 use Rattle.mp4_present.specs.words.Joined.{IsBelow}
 use Rattle.mp4_present.specs.words.Movies.{MovieSeen, IsWalkOf}
@@ -91,8 +91,8 @@ AtHeads track tree other head other_head P = AtTracks track tree other
 abbrev pub tracks_differ : Without → ℕ → List ℕ → FileTree → TrackTree → List ℕ → FileTree
     → TrackTree → List Difference
 tracks_differ l number file tree t file_right other u = track_differences number
-    (reduce_track l (track_of file (file_parts tree) t))
-    (reduce_track l (track_of file_right (file_parts other) u))
+    (number_track l number (reduce_track l (track_of file (file_parts tree) t)))
+    (number_track l number (reduce_track l (track_of file_right (file_parts other) u)))
 
 -- what differs between two files, behind what was left out
 abbrev pub files_differ : Without → List ℕ → FileTree → List ℕ → FileTree → List Difference

@@ -1,5 +1,5 @@
 -- What is left of an opened movie.
-use Rattle.std.specs.Prelude.{◌≡◌, ℕ, List, length, map}
+use Rattle.std.specs.Prelude.{◌≡◌, ℕ, suc, List, [], ◌∷◌, length, map}
 use Rattle.mp4_boxes.specs.declared.refusal.Refusal.{Refusal}
 use Rattle.mp4_boxes.specs.declared.refusal.Refusal.TheVariants as refusals
 use Rattle.mp4_store.specs.declared.store.Store.{Ghosts as Store}
@@ -7,7 +7,7 @@ use Rattle.mp4_present.specs.format.Denotes.{FileTree, presentation_of}
 use Rattle.mp4_present.specs.format.Presentation.{Presentation, movie_length}
 use Rattle.mp4_present.specs.words.Movies.{MovieSeen}
 use Rattle.mp4_present.specs.declared.track_info.TrackInfo.{TrackInfo}
-use Rattle.mp4_content.specs.format.Reduced.{ReducesInRange, reduce, timescale_left}
+use Rattle.mp4_content.specs.format.Reduced.{ReducesInRange, id_left, reduce, timescale_left}
 use Rattle.mp4_content.specs.format.ReducedTimes.{ReducesInLimits}
 use Rattle.mp4_content.specs.words.ComingLess.{reductions_of}
 use Rattle.mp4_content.specs.words.LeftTimes.{MayBeLong}
@@ -16,12 +16,20 @@ use Rattle.mp4_content.specs.declared.content.Content.{Content}
 use Rattle.mp4_content.specs.declared.content.TrackLeft.{TrackLeft}
 use Rattle.mp4_content.specs.declared.without.Without.{Without}
 
--- what is left of a track in numbers: its timescale
-abbrev pub info_left : Without → TrackInfo → TrackInfo
-info_left l info = record info { timescale = timescale_left l info.timescale }
+-- what is left of the track at this place in numbers: its ID and its timescale
+abbrev pub info_left : Without → ℕ → TrackInfo → TrackInfo
+info_left l place info = record info {
+  id = id_left l place info.id;
+  timescale = timescale_left l info.timescale;
+}
+
+-- the same of tracks of which the first stands at this place
+abbrev pub infos_from : Without → ℕ → List TrackInfo → List TrackInfo
+infos_from l place [] = []
+infos_from l place (info ∷ infos) = info_left l place info ∷ infos_from l (suc place) infos
 
 abbrev pub infos_left : Without → List TrackInfo → List TrackInfo
-infos_left l infos = map (info_left l) infos
+infos_left l infos = infos_from l 1 infos
 
 -- those of these numbers that pieces ask for
 abbrev pub numbers_of : TrackInfo → TrackLeft

@@ -2,7 +2,7 @@
 ghost use Rattle.std.specs.Prelude.{◌≡◌, ◌||◌, not, ◌++◌, map, if◌then◌else◌, IfOk, OnOk, []};
 ghost use Rattle.mp4_boxes.specs.format.Children.{is_among};
 ghost use Rattle.mp4_head.specs.words.Seen.{kept_seen, media_seen, track_seen, movie_seen};
-ghost use Rattle.mp4_content.specs.format.Reduced.{metadata_kinds, reduce_kept, reduce_media, reduce_track_head, reduce_movie_head};
+ghost use Rattle.mp4_content.specs.format.Reduced.{metadata_kinds, number_head, reduce_kept, reduce_media, reduce_track_head, reduce_movie_head};
 ghost use Rattle.mp4_content.specs.words.HeadsLeft.{movies_differ, kept_differ, handlers_differ, descriptions_differ, media_differ, heads_differ};
 ghost use Rattle.mp4_content.specs.words.Differing.{movie_values, track_values, size_values, media_values};
 
@@ -88,15 +88,16 @@ fn movie_values(leaving: Without, head: &MovieHead) -> [(Field, Value); 5]
     ]
 }
 
-// The fields of `tkhd` before its matrix.
-fn track_values(leaving: Without, head: &TrackHead) -> [(Field, Value); 7]
-    ensures { result ≡ track_values (reduce_track_head leaving (track_seen head.now)) }
+// The fields of `tkhd` before its matrix, of the track at this place, from 1.
+fn track_values(leaving: Without, place: u64, head: &TrackHead) -> [(Field, Value); 7]
+    ensures { result ≡ track_values
+        (number_head leaving place (reduce_track_head leaving (track_seen head.now))) }
 {
     [
         number(Field::Flags, u64::from(leaving.track_flags(head.flags))),
         number(Field::Creation, leaving.time(head.creation)),
         number(Field::Modification, leaving.time(head.modification)),
-        number(Field::Id, u64::from(head.id)),
+        number(Field::Id, u64::from(leaving.id(place, head.id))),
         signed(Field::Layer, i64::from(leaving.role(head.layer))),
         signed(
             Field::AlternateGroup,
@@ -217,19 +218,25 @@ fn compare_media(
     compare_descriptions(alloc, leaving, of, left, right, found)
 }
 
-/// What differs between what two tracks say apart from their samples.
+/// What differs between what two tracks at this place, from 1, say apart from their samples.
 pub(crate) fn track_differences(
     alloc: Global,
     leaving: Without,
-    of: Subject,
+    place: u64,
     left: &TrackHead,
     right: &TrackHead,
 ) -> Result<Vec<Difference>, Memory>
-    ensures { IfOk result (λ found. found.items ≡ heads_differ leaving of left.now right.now) }
+    ensures { IfOk result (λ found. found.items ≡ heads_differ leaving place left.now right.now) }
 {
+    let of = Subject::Track(place);
     let mut found = Vec::new(alloc);
-    let values = track_values(leaving, left);
-    compare_values(of, &values, &track_values(leaving, right), &mut found)?;
+    let values = track_values(leaving, place, left);
+    compare_values(
+        of,
+        &values,
+        &track_values(leaving, place, right),
+        &mut found,
+    )?;
     compare_matrices(of, left.matrix, right.matrix, &mut found)?;
     compare_values(of, &size_values(left), &size_values(right), &mut found)?;
     let edits = unless(leaving.has(Word::Edits), &left.edits);

@@ -103,19 +103,20 @@ fn compare_track_samples<S: Store, T: Store, D: Differences, L: Ledger, M: Ledge
     Ok(true)
 }
 
-// Compares two tracks by their heads, their starts and their numbers of samples.
+// Compares two tracks with this number by their heads, their starts and their numbers of samples.
 fn compare_track_heads(
     alloc: Global,
     tracks: Tracks,
-    of: Subject,
+    number: u64,
     info: &TrackInfo,
     other: &TrackInfo,
 ) -> Result<Vec<Difference>, Memory>
-    ensures { IfOk result (λ found. found.items ≡ begun_differ tracks.entry.leaving of
+    ensures { IfOk result (λ found. found.items ≡ begun_differ tracks.entry.leaving number
         tracks.entry.left.now info.now tracks.entry.right.now other.now) }
 {
     let leaving = tracks.leaving;
-    let mut found = track_differences(alloc, leaving, of, tracks.left, tracks.right)?;
+    let of = Subject::Track(number);
+    let mut found = track_differences(alloc, leaving, number, tracks.left, tracks.right)?;
     let start = leaving.start(info.start);
     compare_numbers(
         of,
@@ -159,8 +160,7 @@ fn compare_tracks<S: Store, T: Store, D: Differences, L: Ledger, M: Ledger>(
     let Tracks { movies, place, .. } = tracks;
     let info = movies.left.tracks()[place];
     let other = movies.right.tracks()[place];
-    let of = Subject::Track(place as u64 + 1);
-    let found = compare_track_heads(alloc, tracks, of, &info, &other)?;
+    let found = compare_track_heads(alloc, tracks, place as u64 + 1, &info, &other)?;
     if !hand_over(found.as_slice(), seen) {
         return Ok(false);
     }

@@ -9,7 +9,7 @@ use Rattle.mp4_head.specs.format.Writing as written
 use Rattle.mp4_head.specs.words.Found.{SaysHead}
 use Rattle.mp4_head.specs.words.Seen.{movie_seen, tracks_seen}
 use Rattle.mp4_head.specs.declared.heads.MovieHead.{MovieHead}
-use Rattle.mp4_content.specs.format.Reduced.{reduce_movie_head, reduce_track_head}
+use Rattle.mp4_content.specs.format.Reduced.{number_heads, reduce_movie_head, reduce_track_head}
 use Rattle.mp4_present.specs.words.Movies.{MovieSeen, moov_box}
 use Rattle.mp4_content.specs.declared.content.Content.{Content}
 use Rattle.mp4_content.specs.declared.without.Without.{Without}
@@ -80,7 +80,7 @@ pub record IsLeftOf (m : MovieSeen) (l : Without) (head : MovieHead) : Type 0 wh
   pub own : MovieHead
   pub says : SaysHead (moov_box m) own
   pub movie : movie_seen head ≡ reduce_movie_head l (movie_seen own)
-  pub tracks : tracks_seen head ≡ map (reduce_track_head l) (tracks_seen own)
+  pub tracks : tracks_seen head ≡ number_heads l 1 (map (reduce_track_head l) (tracks_seen own))
 
 -- `ftyp` and `moov` of what is left of this movie, with some length of the longest track
 pub record IsHeadLeft (m : MovieSeen) (l : Without) (bytes : List ℕ) : Type 0 where

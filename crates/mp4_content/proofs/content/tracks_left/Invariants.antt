@@ -3,5 +3,5 @@ use Rattle.mp4_content.specs.words.Contents.{tracks_left}
 use Rattle.mp4_content.proofs.content.tracks_left.Given as goal
 
 -- what is left of those so far
-abbrev pub invariant-loop-info : goal.invariant-loop-info
-invariant-loop-info l = l.tracks.items ≡ tracks_left l.leaving (take l.info-index l.infos)
+abbrev pub invariant-loop-k : goal.invariant-loop-k
+invariant-loop-k l = l.tracks.items ≡ tracks_left l.leaving (take l.k l.infos)

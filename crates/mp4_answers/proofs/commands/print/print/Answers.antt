@@ -2,7 +2,7 @@ use Rattle.std.proofs.Common.{arith, ap, subst, map, ◌∙◌, [], ◌++◌}
 use Rattle.std.proofs.lemmas.Result.{err_from_is_err_and, on_ok_weaker}
 use Rattle.mp4_head.specs.format.Head.{MovieHead}
 use Rattle.mp4_store.specs.words.Device.{TakesPrefix}
-use Rattle.mp4_content.specs.format.Reduced.{reduce_movie_head}
+use Rattle.mp4_content.specs.format.Reduced.{number_heads, reduce_movie_head}
 use Rattle.mp4_present.specs.words.Carried.{BytesGoOn, waiting}
 use Rattle.mp4_content.specs.words.PayloadsLeft.{track_payloads_left}
 use Rattle.mp4_present.proofs.WalkCopied.{on_err, on_ok}
@@ -112,9 +112,9 @@ returns-in_err-put_tracks-clause-answer g c =
     rw (p.1, p.2) (carry_fails (Unit {0}) r (PrintsText l file) (IsFaultOf file) ⊥ c.in_err-put_tracks.field-0.0 (rw (e.reads, c.in_ok-put_movie.ensures.puts ∙ c.in_ok-carry.ensures.puts) at y.refusal)
     (λ told.
     let o = c.in_ok-movie.ensures.movie told in
-    let t = tracks told o.0 o.1 (c.in_ok-put_payloads_left.ensures.tracks ∙ ap (map (track_payloads_left l)) (heads_are l file m o.0 head o.1 says)) in
+    let t = tracks told o.0 o.1 (c.number_heads.ensures ∙ ap (number_heads l 1) (c.in_ok-put_payloads_left.ensures.tracks ∙ ap (map (track_payloads_left l)) (heads_are l file m o.0 head o.1 says))) in
     tracks_fail l file m o.0 head o.1 says joins sink c.carry.new.sink c.put_movie.new.sink new new new nothing (waiting c.carry.new.self) (waiting c.put_movie.new.carrier) [] [] first movie t.lines.text.front)
-    (λ told. let o = c.in_ok-movie.ensures.movie told in (tracks told o.0 o.1 (c.in_ok-put_payloads_left.ensures.tracks ∙ ap (map (track_payloads_left l)) (heads_are l file m o.0 head o.1 says))).lines.unchanged))
+    (λ told. let o = c.in_ok-movie.ensures.movie told in (tracks told o.0 o.1 (c.number_heads.ensures ∙ ap (number_heads l 1) (c.in_ok-put_payloads_left.ensures.tracks ∙ ap (map (track_payloads_left l)) (heads_are l file m o.0 head o.1 says)))).lines.unchanged))
 
 pub returns-in_err-carry-2-clause-answer : goal.returns-in_err-carry-2-clause-answer
 returns-in_err-carry-2-clause-answer g c =
@@ -138,7 +138,7 @@ returns-in_err-carry-2-clause-answer g c =
     rw (p.1, p.2) (put_fails (Unit {0}) r (PrintsText l file) (IsFaultOf file) ⊥ c.in_err-carry-2.field-0.0 (rw (y.store.puts ∙ c.in_ok-put_movie.ensures.puts ∙ c.in_ok-carry.ensures.puts) at c.in_err-carry-2.ensures.refusal)
     (λ told.
     let o = c.in_ok-movie.ensures.movie told in
-    let t = tracks told o.0 o.1 (c.in_ok-put_payloads_left.ensures.tracks ∙ ap (map (track_payloads_left l)) (heads_are l file m o.0 head o.1 says)) in
+    let t = tracks told o.0 o.1 (c.number_heads.ensures ∙ ap (number_heads l 1) (c.in_ok-put_payloads_left.ensures.tracks ∙ ap (map (track_payloads_left l)) (heads_are l file m o.0 head o.1 says))) in
     last_fails l file m o.0 head o.1 says joins sink c.carry.new.sink c.put_movie.new.sink c.put_tracks.new.sink new new nothing (waiting c.carry.new.self) (waiting c.put_movie.new.carrier) (waiting c.put_tracks.new.desk.text) [] first movie t.lines.text.all
     c.in_err-carry-2.ensures.prefix))
 
@@ -164,7 +164,7 @@ returns-clause-answer g c =
     put_answers (Unit {0}) r (PrintsText l file) (IsFaultOf file) ⊥ c.flush.result (ok_anyway _ c.flush.result (y.store.reads ∙ e.reads)) (rw same at c.flush.ensures.puts)
     (told_ok _ _ c.flush.result (λ told.
     let o = c.in_ok-movie.ensures.movie told in
-    let t = tracks told o.0 o.1 (c.in_ok-put_payloads_left.ensures.tracks ∙ ap (map (track_payloads_left l)) (heads_are l file m o.0 head o.1 says)) in
+    let t = tracks told o.0 o.1 (c.number_heads.ensures ∙ ap (number_heads l 1) (c.in_ok-put_payloads_left.ensures.tracks ∙ ap (map (track_payloads_left l)) (heads_are l file m o.0 head o.1 says))) in
     on_ok _ _ c.flush.result
     (λ put. all_printed l file m o.0 head o.1 says joins sink c.carry.new.sink c.put_movie.new.sink c.put_tracks.new.sink c.carry-2.new.sink new nothing (waiting c.carry.new.self) (waiting c.put_movie.new.carrier) (waiting c.put_tracks.new.desk.text) (waiting c.carry-2.new.self)
     first movie t.lines.text.all c.in_ok-carry-2.ensures.bytes put)
@@ -172,7 +172,7 @@ returns-clause-answer g c =
     (rw same at c.flush.ensures.refusal)
     (λ told.
     let o = c.in_ok-movie.ensures.movie told in
-    let t = tracks told o.0 o.1 (c.in_ok-put_payloads_left.ensures.tracks ∙ ap (map (track_payloads_left l)) (heads_are l file m o.0 head o.1 says)) in
+    let t = tracks told o.0 o.1 (c.number_heads.ensures ∙ ap (number_heads l 1) (c.in_ok-put_payloads_left.ensures.tracks ∙ ap (map (track_payloads_left l)) (heads_are l file m o.0 head o.1 says))) in
     on_err _ _ c.flush.result
     (λ put. end_fails l file m o.0 head o.1 says joins sink c.carry.new.sink c.put_movie.new.sink c.put_tracks.new.sink c.carry-2.new.sink new nothing (waiting c.carry.new.self) (waiting c.put_movie.new.carrier) (waiting c.put_tracks.new.desk.text) (waiting c.carry-2.new.self)
     first movie t.lines.text.all c.in_ok-carry-2.ensures.bytes put)
@@ -202,55 +202,55 @@ returns-clause-store g c =
 
 pub returns-in_err-movie-clause-work : goal.returns-in_err-movie-clause-work
 returns-in_err-movie-clause-work g c = λ told.
-    not_looked _ _ _ _ _ _ c.in_err-movie.field-0.0 told c.in_err-movie.ensures.refusal (c.in_err-movie.ensures.work told).work (c.in_err-movie.ensures.work told).within
+    not_looked _ _ _ _ _ _ c.in_err-movie.field-0.0 told c.in_err-movie.ensures.refusal (c.in_err-movie.ensures.work told).work.work (c.in_err-movie.ensures.work told).within
 
 pub returns-in_err-head-clause-work : goal.returns-in_err-head-clause-work
 returns-in_err-head-clause-work g c = λ told.
     let o = c.in_ok-movie.ensures.movie told in
-    looked_within _ _ _ c.in_ok-movie.movie o.0 o.1 ((c.in_ok-movie.ensures.work told).work o.0 o.1.is_tree)
+    looked_within _ _ _ c.in_ok-movie.movie o.0 o.1 ((c.in_ok-movie.ensures.work told).work.work o.0 o.1.is_tree)
 
 pub returns-in_err-lefts-clause-work : goal.returns-in_err-lefts-clause-work
 returns-in_err-lefts-clause-work g c = λ told.
     let o = c.in_ok-movie.ensures.movie told in
-    looked_within _ _ _ c.in_ok-movie.movie o.0 o.1 ((c.in_ok-movie.ensures.work told).work o.0 o.1.is_tree)
+    looked_within _ _ _ c.in_ok-movie.movie o.0 o.1 ((c.in_ok-movie.ensures.work told).work.work o.0 o.1.is_tree)
 
 pub returns-in_err-put_payloads_left-clause-work : goal.returns-in_err-put_payloads_left-clause-work
 returns-in_err-put_payloads_left-clause-work g c = λ told.
     let o = c.in_ok-movie.ensures.movie told in
-    looked_within _ _ _ c.in_ok-movie.movie o.0 o.1 ((c.in_ok-movie.ensures.work told).work o.0 o.1.is_tree)
+    looked_within _ _ _ c.in_ok-movie.movie o.0 o.1 ((c.in_ok-movie.ensures.work told).work.work o.0 o.1.is_tree)
 
 pub returns-in_err-front-clause-work : goal.returns-in_err-front-clause-work
 returns-in_err-front-clause-work g c = λ told.
     let o = c.in_ok-movie.ensures.movie told in
-    looked_within _ _ _ c.in_ok-movie.movie o.0 o.1 ((c.in_ok-movie.ensures.work told).work o.0 o.1.is_tree)
+    looked_within _ _ _ c.in_ok-movie.movie o.0 o.1 ((c.in_ok-movie.ensures.work told).work.work o.0 o.1.is_tree)
 
 pub returns-in_err-walks-clause-work : goal.returns-in_err-walks-clause-work
 returns-in_err-walks-clause-work g c = λ told.
     let o = c.in_ok-movie.ensures.movie told in
-    looked_within _ _ _ c.in_ok-movie.movie o.0 o.1 ((c.in_ok-movie.ensures.work told).work o.0 o.1.is_tree)
+    looked_within _ _ _ c.in_ok-movie.movie o.0 o.1 ((c.in_ok-movie.ensures.work told).work.work o.0 o.1.is_tree)
 
 pub returns-in_err-desk-clause-work : goal.returns-in_err-desk-clause-work
 returns-in_err-desk-clause-work g c = λ told.
     let o = c.in_ok-movie.ensures.movie told in
-    looked_within _ _ _ c.in_ok-movie.movie o.0 o.1 ((c.in_ok-movie.ensures.work told).work o.0 o.1.is_tree)
+    looked_within _ _ _ c.in_ok-movie.movie o.0 o.1 ((c.in_ok-movie.ensures.work told).work.work o.0 o.1.is_tree)
 
 pub returns-in_err-carry-clause-work : goal.returns-in_err-carry-clause-work
 returns-in_err-carry-clause-work g c = λ told.
     let o = c.in_ok-movie.ensures.movie told in
-    looked_within _ _ _ c.in_ok-movie.movie o.0 o.1 ((c.in_ok-movie.ensures.work told).work o.0 o.1.is_tree)
+    looked_within _ _ _ c.in_ok-movie.movie o.0 o.1 ((c.in_ok-movie.ensures.work told).work.work o.0 o.1.is_tree)
 
 pub returns-in_err-put_movie-clause-work : goal.returns-in_err-put_movie-clause-work
 returns-in_err-put_movie-clause-work g c = λ told.
     let o = c.in_ok-movie.ensures.movie told in
-    looked_within _ _ _ c.in_ok-movie.movie o.0 o.1 ((c.in_ok-movie.ensures.work told).work o.0 o.1.is_tree)
+    looked_within _ _ _ c.in_ok-movie.movie o.0 o.1 ((c.in_ok-movie.ensures.work told).work.work o.0 o.1.is_tree)
 
 pub returns-in_err-put_tracks-clause-work : goal.returns-in_err-put_tracks-clause-work
 returns-in_err-put_tracks-clause-work g c = λ told.
     let file = g.S.Store.file c.args.store.now in
     let o = c.in_ok-movie.ensures.movie told in
     let e = c.in_ok-movie.ensures.store in
-    let walks = ((rw (e.honesty, e.file, c.as_slice-heads.ensures.value) at c.in_err-put_tracks.ensures.told) told o.0 o.1 (c.in_ok-put_payloads_left.ensures.tracks
-    ∙ ap (map (track_payloads_left c.args.leaving)) (heads_are c.args.leaving file c.in_ok-movie.movie o.0 c.in_ok-head.head o.1 c.in_ok-head.ensures))).steps in
+    let walks = ((rw (e.honesty, e.file, c.as_slice-heads.ensures.value) at c.in_err-put_tracks.ensures.told) told o.0 o.1 (c.number_heads.ensures ∙ ap (number_heads c.args.leaving 1) (c.in_ok-put_payloads_left.ensures.tracks
+    ∙ ap (map (track_payloads_left c.args.leaving)) (heads_are c.args.leaving file c.in_ok-movie.movie o.0 c.in_ok-head.head o.1 c.in_ok-head.ensures)))).steps in
     all_walked_within file _ _ c.in_ok-movie.movie o.0 _ o.1 ((c.in_ok-movie.ensures.work told).work o.0 o.1.is_tree) walks
 
 pub returns-in_err-carry-2-clause-work : goal.returns-in_err-carry-2-clause-work
@@ -258,8 +258,8 @@ returns-in_err-carry-2-clause-work g c = λ told.
     let file = g.S.Store.file c.args.store.now in
     let o = c.in_ok-movie.ensures.movie told in
     let e = c.in_ok-movie.ensures.store in
-    let walks = ((rw (e.honesty, e.file, c.as_slice-heads.ensures.value) at c.in_ok-put_tracks.ensures.told) told o.0 o.1 (c.in_ok-put_payloads_left.ensures.tracks
-    ∙ ap (map (track_payloads_left c.args.leaving)) (heads_are c.args.leaving file c.in_ok-movie.movie o.0 c.in_ok-head.head o.1 c.in_ok-head.ensures))).steps in
+    let walks = ((rw (e.honesty, e.file, c.as_slice-heads.ensures.value) at c.in_ok-put_tracks.ensures.told) told o.0 o.1 (c.number_heads.ensures ∙ ap (number_heads c.args.leaving 1) (c.in_ok-put_payloads_left.ensures.tracks
+    ∙ ap (map (track_payloads_left c.args.leaving)) (heads_are c.args.leaving file c.in_ok-movie.movie o.0 c.in_ok-head.head o.1 c.in_ok-head.ensures)))).steps in
     all_walked_within file _ _ c.in_ok-movie.movie o.0 _ o.1 ((c.in_ok-movie.ensures.work told).work o.0 o.1.is_tree) walks
 
 pub returns-clause-work : goal.returns-clause-work
@@ -267,8 +267,8 @@ returns-clause-work g c = λ told.
     let file = g.S.Store.file c.args.store.now in
     let o = c.in_ok-movie.ensures.movie told in
     let e = c.in_ok-movie.ensures.store in
-    let walks = ((rw (e.honesty, e.file, c.as_slice-heads.ensures.value) at c.in_ok-put_tracks.ensures.told) told o.0 o.1 (c.in_ok-put_payloads_left.ensures.tracks
-    ∙ ap (map (track_payloads_left c.args.leaving)) (heads_are c.args.leaving file c.in_ok-movie.movie o.0 c.in_ok-head.head o.1 c.in_ok-head.ensures))).steps in
+    let walks = ((rw (e.honesty, e.file, c.as_slice-heads.ensures.value) at c.in_ok-put_tracks.ensures.told) told o.0 o.1 (c.number_heads.ensures ∙ ap (number_heads c.args.leaving 1) (c.in_ok-put_payloads_left.ensures.tracks
+    ∙ ap (map (track_payloads_left c.args.leaving)) (heads_are c.args.leaving file c.in_ok-movie.movie o.0 c.in_ok-head.head o.1 c.in_ok-head.ensures)))).steps in
     all_walked_within file _ _ c.in_ok-movie.movie o.0 _ o.1 ((c.in_ok-movie.ensures.work told).work o.0 o.1.is_tree) walks
 
 pub returns-clause-least : goal.returns-clause-least

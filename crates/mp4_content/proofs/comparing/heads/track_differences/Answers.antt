@@ -1,14 +1,15 @@
 use Rattle.std.proofs.Common.{refl, [], if◌then◌else◌}
-use Rattle.mp4_head.specs.words.Seen.{track_seen, edit_seen}
+use Rattle.mp4_head.specs.words.Seen.{edit_seen}
 use Rattle.mp4_content.specs.format.Differences.{edit_differences, payload_differences}
-use Rattle.mp4_content.specs.format.Reduced.{reduce_track_head}
+use Rattle.mp4_content.specs.words.HeadsLeft.{head_left}
+use Rattle.mp4_content.specs.declared.comparing.differences.Subject.TheVariants as subjects
 use Rattle.mp4_content.specs.declared.comparing.differences.Entries.TheVariants as lists
 use Rattle.mp4_content.proofs.FieldValues.{track_whole, lists_seen, edit_seen_so, unless_seen}
 use Rattle.mp4_content.proofs.comparing.heads.track_differences.Goals as goal
 
 pub returns : goal.returns
 returns c =
-    let of = c.args.of in
+    let of = subjects.Track c.args.place in
     let l = c.args.leaving in
     let left = c.args.left.now in
     let right = c.args.right.now in
@@ -36,5 +37,5 @@ returns c =
       unless_seen (λ p. p.now) l.groups left.group_descriptions.items,
       unless_seen (λ p. p.now) l.groups right.group_descriptions.items,
     ) at c.in_ok-compare_lists-2.ensures in
-    track_whole of (reduce_track_head l (track_seen left)) (reduce_track_head l (track_seen right)) _ _ _ _ _ _ _ _ c.new-found.ensures.items
+    track_whole of (head_left l c.args.place left) (head_left l c.args.place right) _ _ _ _ _ _ _ _ c.new-found.ensures.items
     values c.in_ok-compare_matrices.ensures sizes edits c.in_ok-compare_kept.ensures c.in_ok-compare_media.ensures groups
