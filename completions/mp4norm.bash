@@ -41,7 +41,7 @@ _mp4norm() {
         _mp4norm_list times edits flags groups metadata bitrates ends origins labels timing roles ids packaging-1 media-1
         return
         ;;
-    --track | --drop | --limit | --max-bytes | --max-parts)
+    --track | --drop | --limit | --rows | --max-bytes | --max-parts)
         compopt +o default 2>/dev/null
         return
         ;;
@@ -53,7 +53,7 @@ _mp4norm() {
     show) words='--max-parts --explain --brief --help' ;;
     samples) words='--track --header --json --max-parts --explain --brief --help' ;;
     extract) words='--track --out --max-bytes --max-parts --replace --progress --explain --brief --help' ;;
-    boxes) words='--json --max-parts --explain --brief --help' ;;
+    boxes) words='--json --fields --rows --max-parts --explain --brief --help' ;;
     strip) words='--foreign --lossy --drop --out --max-bytes --max-parts --replace --progress --explain --brief --help' ;;
     compare) words='--without --foreign --lossy --all --limit --json --max-parts --explain --brief --help' ;;
     check) words='--names-from --zero --foreign --lossy --json --max-parts --explain --brief --help' ;;

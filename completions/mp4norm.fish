@@ -47,6 +47,8 @@ complete -c mp4norm -n '__fish_seen_subcommand_from check sum' -l names-from -rF
 complete -c mp4norm -n '__fish_seen_subcommand_from normalise normalize show samples extract boxes strip compare check sum print' -l explain -d 'Say of a fault where it is and what it means'
 complete -c mp4norm -n '__fish_seen_subcommand_from normalise normalize show samples extract boxes strip compare check sum print' -l brief -d 'Say one line of a failure'
 complete -c mp4norm -n '__fish_seen_subcommand_from normalise normalize compare sum print' -l without -x -a '(__mp4norm_without)' -d 'What to leave out'
+complete -c mp4norm -n '__fish_seen_subcommand_from boxes' -l fields -d 'Show the fields of each box'
+complete -c mp4norm -n '__fish_seen_subcommand_from boxes' -l rows -x -d 'How many rows of a box to show'
 complete -c mp4norm -n '__fish_seen_subcommand_from compare' -l all -d 'List all differences'
 complete -c mp4norm -n '__fish_seen_subcommand_from compare' -l limit -x -d 'How many differences to list'
 complete -c mp4norm -n '__fish_seen_subcommand_from check sum' -l zero -d 'End lines with a zero byte'

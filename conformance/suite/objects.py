@@ -37,6 +37,11 @@ def text(value: dict) -> str:
     return json.dumps(value, sort_keys=True, separators=(',', ':'))
 
 
+def in_order(value: dict) -> str:
+    """The same, keys in the order in which they are put."""
+    return json.dumps(value, separators=(',', ':'))
+
+
 def allowed(path: str) -> list[bytes]:
     """The types that may stand at a path."""
     return f'{PROFILE.get(path, "")} {EVERYWHERE}'.encode().split()

@@ -9,8 +9,9 @@ use Rattle.mp4_boxes.specs.declared.rule.Rule.{Rule}
 use Rattle.mp4_boxes.specs.declared.rule.Rule.TheVariants.{File, Movie, Track, Edits, Media, MediaInformation, DataInformation, SampleTable, MovieExtends, MovieFragment, TrackFragment}
 use Rattle.mp4_boxes.specs.declared.fault.Fault.{Fault}
 use Rattle.mp4_head.proofs.Above.{lies_front}
-use Rattle.mp4_answers.specs.declared.jobs.Syntax.{Syntax}
-use Rattle.mp4_answers.specs.format.Texts.{descends, IsPart, AreBoxLines, box_line}
+use Rattle.mp4_answers.specs.declared.jobs.BoxForm.{BoxForm}
+use Rattle.mp4_answers.specs.format.BoxTexts.{AreBoxLines, box_line}
+use Rattle.mp4_answers.specs.format.Texts.{descends, IsPart}
 use Rattle.mp4_present.specs.declared.reading.TopBox.{TopBox}
 use Rattle.mp4_answers.specs.format.BoxWalk.{height, under, rule_inside, FaultSeen, IsListed, top_seen, tops_seen}
 
@@ -108,33 +109,33 @@ part_map I J line f None b part h = h
 part_map I J line f (Some rule) b part h = (h.0, f rule (box_container b) h.0 h.1, h.2)
 
 -- More levels than are there change nothing.
-pub levels_rise : (syntax : Syntax) (m n depth : ℕ) (rule : Rule) (c : Container) (text : List ℕ) → m ≤ n → AreBoxLines syntax m depth rule c text → AreBoxLines syntax n depth rule c text
-levels_rise syntax zero n depth rule c text le h = absurd h
-levels_rise syntax (suc m) zero depth rule c text le h = absurd (omega arith)
-levels_rise syntax (suc m) (suc n) depth rule c text le h =
-    let lift = λ (r : Rule) (d : Container) (t : List ℕ). levels_rise syntax m n (depth + 1) r d t (omega arith) in (
+pub levels_rise : (form : BoxForm) (m n depth : ℕ) (rule : Rule) (c : Container) (text : List ℕ) → m ≤ n → AreBoxLines form m depth rule c text → AreBoxLines form n depth rule c text
+levels_rise form zero n depth rule c text le h = absurd h
+levels_rise form (suc m) zero depth rule c text le h = absurd (omega arith)
+levels_rise form (suc m) (suc n) depth rule c text le h =
+    let lift = λ (r : Rule) (d : Container) (t : List ℕ). levels_rise form m n (depth + 1) r d t (omega arith) in (
       h.0,
       h.1,
       h.2,
-      zip_map (λ b part. IsPart (AreBoxLines syntax m (depth + 1)) (box_line syntax rule depth b) (descends (at_kind (containers (ruled rule)) b.kind)) b part)
-          (λ b part. IsPart (AreBoxLines syntax n (depth + 1)) (box_line syntax rule depth b) (descends (at_kind (containers (ruled rule)) b.kind)) b part)
-          (λ b part. part_map (AreBoxLines syntax m (depth + 1)) (AreBoxLines syntax n (depth + 1)) (box_line syntax rule depth b) lift (descends (at_kind (containers (ruled rule)) b.kind)) b part) h.0 h.2 h.3,
+      zip_map (λ b part. IsPart (AreBoxLines form m (depth + 1)) (box_line form rule depth b) (descends (at_kind (containers (ruled rule)) b.kind)) b part)
+          (λ b part. IsPart (AreBoxLines form n (depth + 1)) (box_line form rule depth b) (descends (at_kind (containers (ruled rule)) b.kind)) b part)
+          (λ b part. part_map (AreBoxLines form m (depth + 1)) (AreBoxLines form n (depth + 1)) (box_line form rule depth b) lift (descends (at_kind (containers (ruled rule)) b.kind)) b part) h.0 h.2 h.3,
       h.4,
     )
 
 -- the lines of a container's boxes, from those of each
-pub lines_of_boxes : (syntax : Syntax) (depth : ℕ) (rule : Rule) (c : Container) (boxes : List Box) (parts : List (List ℕ)) → Tiles c boxes → AllZip (IsListed syntax rule depth) boxes parts → AreBoxLines syntax (height rule) depth rule c (concat parts)
-lines_of_boxes syntax depth rule c boxes parts t h = from (height rule) (height_some rule) h
+pub lines_of_boxes : (form : BoxForm) (depth : ℕ) (rule : Rule) (c : Container) (boxes : List Box) (parts : List (List ℕ)) → Tiles c boxes → AllZip (IsListed form rule depth) boxes parts → AreBoxLines form (height rule) depth rule c (concat parts)
+lines_of_boxes form depth rule c boxes parts t h = from (height rule) (height_some rule) h
   where
-    from : (n : ℕ) → 0 < n → AllZip (λ (b : Box) (part : List ℕ). IsPart (AreBoxLines syntax (n - 1) (depth + 1)) (box_line syntax rule depth b) (rule_inside rule b.kind) b part) boxes parts → AreBoxLines syntax n depth rule c (concat parts)
+    from : (n : ℕ) → 0 < n → AllZip (λ (b : Box) (part : List ℕ). IsPart (AreBoxLines form (n - 1) (depth + 1)) (box_line form rule depth b) (rule_inside rule b.kind) b part) boxes parts → AreBoxLines form n depth rule c (concat parts)
     from zero some g = absurd (omega arith)
     from (suc n) some g =
         let e : suc n - 1 ≡ n = omega arith in
-        (boxes, t, parts, subst (λ (k : ℕ). AllZip (λ (b : Box) (part : List ℕ). IsPart (AreBoxLines syntax k (depth + 1)) (box_line syntax rule depth b) (rule_inside rule b.kind) b part) boxes parts) e g, refl)
+        (boxes, t, parts, subst (λ (k : ℕ). AllZip (λ (b : Box) (part : List ℕ). IsPart (AreBoxLines form k (depth + 1)) (box_line form rule depth b) (rule_inside rule b.kind) b part) boxes parts) e g, refl)
 
 -- the line of a box that is not
-pub listed_alone : (syntax : Syntax) (rule : Rule) (depth : ℕ) (b : Box) → rule_inside rule b.kind ≡ None → IsListed syntax rule depth b (box_line syntax rule depth b)
-listed_alone syntax rule depth b e = rw e refl
+pub listed_alone : (form : BoxForm) (rule : Rule) (depth : ℕ) (b : Box) → rule_inside rule b.kind ≡ None → IsListed form rule depth b (box_line form rule depth b)
+listed_alone form rule depth b e = rw e refl
 
 -- ---- faults
 

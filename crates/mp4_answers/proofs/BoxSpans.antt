@@ -23,9 +23,10 @@ use Rattle.mp4_answers.specs.format.BoxWalk.{height, under, rule_inside, FaultSe
 use Rattle.mp4_answers.specs.format.Strips.{holder, is_top, payload_behind, RefusesHeaderUnder}
 use Rattle.serde_json.specs.Written.{compact_text, has_float}
 use Rattle.mp4_boxes.specs.format.Children.{allows}
-use Rattle.mp4_answers.specs.declared.jobs.Syntax.{Syntax}
+use Rattle.mp4_answers.specs.declared.jobs.BoxForm.{BoxForm}
 use Rattle.mp4_answers.specs.declared.jobs.Syntax.TheVariants as syntaxes
-use Rattle.mp4_answers.specs.format.Texts.{descends, AreBoxLines, BoxLines, box_line, box_data, line_feed, type_text, uuid_of, uuid_text}
+use Rattle.mp4_answers.specs.format.BoxTexts.{AreBoxLines, FormLines, box_line, object_text, without_fields}
+use Rattle.mp4_answers.specs.format.Texts.{descends, box_data, line_feed, type_text, uuid_of, uuid_text}
 use Rattle.mp4_answers.specs.words.BoxSpans.{extent_of, span_of, found_value, RefusesLine, RefusesSpan}
 use Rattle.mp4_answers.proofs.BoxLists.{not_entries, inside_lower, levels_rise, seen_above}
 use Rattle.mp4_answers.proofs.StripWalks.{drop_range, take_range, its_payload}
@@ -176,8 +177,12 @@ top_size file top w =
     omega (arith, from, there)
 
 -- the object of a box says its size
+pub top_text : (file : List ℕ) (rule : Rule) (depth : ℕ) (top : TopBox) (uuid : Option (List ℕ)) → IsWithin file top → uuid ≡ uuid_of (top_seen file top)
+    → compact_text (found_value depth rule top uuid) ≡ object_text rule depth (top_seen file top)
+top_text file rule depth top uuid w e = λ i. compact_text (box_data depth (allows rule top.header.kind.0) top.offset (top_size file top w i) (type_text top.header.kind.0) (option_map uuid_text (e i)))
+
 pub top_object : (file : List ℕ) (rule : Rule) (depth : ℕ) (top : TopBox) (uuid : Option (List ℕ)) → IsWithin file top → uuid ≡ uuid_of (top_seen file top)
-    → compact_text (found_value depth rule top uuid) ++ line_feed ≡ box_line syntaxes.Json rule depth (top_seen file top)
+    → compact_text (found_value depth rule top uuid) ++ line_feed ≡ box_line (without_fields syntaxes.Json) rule depth (top_seen file top)
 top_object file rule depth top uuid w e = λ i. compact_text (box_data depth (allows rule top.header.kind.0) top.offset (top_size file top w i) (type_text top.header.kind.0) (option_map uuid_text (e i))) ++ line_feed
 
 -- sixteen bytes that were read of a `uuid` are its UUID
@@ -203,17 +208,17 @@ found-has_float depth rule top uuid = box-has_float depth (allows rule top.heade
     box-has_float depth false offset size kind (Some u) = refl
 
 -- the lines of a box that is descended into: its own, and those of its boxes
-pub listed_span : (syntax : Syntax) (file : List ℕ) (rule inner : Rule) (depth : ℕ) (top : TopBox) (part : List ℕ) → rule_inside rule top.header.kind.0 ≡ Some inner
-    → AreBoxLines syntax (height inner) (depth + 1) inner (span_of file inner top.offset (payload_at top) top.header.end) part
-    → IsListed syntax rule depth (top_seen file top) (box_line syntax rule depth (top_seen file top) ++ part)
-listed_span syntax file rule inner depth top part e h =
+pub listed_span : (form : BoxForm) (file : List ℕ) (rule inner : Rule) (depth : ℕ) (top : TopBox) (part : List ℕ) → rule_inside rule top.header.kind.0 ≡ Some inner
+    → AreBoxLines form (height inner) (depth + 1) inner (span_of file inner top.offset (payload_at top) top.header.end) part
+    → IsListed form rule depth (top_seen file top) (box_line form rule depth (top_seen file top) ++ part)
+listed_span form file rule inner depth top part e h =
     let lower = inside_lower rule inner top.header.kind.0 e in
-    let lines = levels_rise syntax (height inner) (height rule - 1) (depth + 1) inner (box_container (top_seen file top)) part (omega (arith, lower))
-    (subst (λ (c : Container). AreBoxLines syntax (height inner) (depth + 1) inner c part) (box_span file rule inner top e) h) in
+    let lines = levels_rise form (height inner) (height rule - 1) (depth + 1) inner (box_container (top_seen file top)) part (omega (arith, lower))
+    (subst (λ (c : Container). AreBoxLines form (height inner) (depth + 1) inner c part) (box_span file rule inner top e) h) in
     rw e (part, lines, refl)
 
-pub file_lines : (syntax : Syntax) (file text : List ℕ) → AreBoxLines syntax 6 0 File (span_of file File 0 0 (length file)) text → BoxLines syntax file text
-file_lines syntax file text h = subst (λ (c : Container). AreBoxLines syntax 6 0 File c text) (file_span file) h
+pub file_lines : (form : BoxForm) (file text : List ℕ) → AreBoxLines form 6 0 File (span_of file File 0 0 (length file)) text → FormLines form file text
+file_lines form file text h = subst (λ (c : Container). AreBoxLines form 6 0 File c text) (file_span file) h
 
 -- ---- why they are not listed
 

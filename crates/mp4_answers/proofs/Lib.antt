@@ -65,3 +65,5 @@ pub mod Paddings
 mod Rotations
 mod ShortForms
 pub mod SampleLists
+pub mod FieldParts
+pub mod FieldReads

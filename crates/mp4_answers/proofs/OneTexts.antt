@@ -13,11 +13,12 @@ use Rattle.mp4_content.specs.format.Reduced.{reduce}
 use Rattle.mp4_plan.specs.format.Normal.{normal}
 use Rattle.mp4_plan.proofs.Judged.{judged_one}
 use Rattle.mp4_answers.specs.declared.box_names.Name.{Name}
-use Rattle.mp4_answers.specs.declared.jobs.Syntax.{Syntax}
+use Rattle.mp4_answers.specs.declared.jobs.BoxForm.{BoxForm}
 use Rattle.mp4_answers.specs.format.OneTextLaws.{StripIsOne, ListOfBoxesIsOne, JudgedTextsAreOne}
 use Rattle.mp4_answers.specs.format.Strips.{is_top, freed, Strips, ends, frees, keeps, enters}
 use Rattle.mp4_answers.specs.format.Text.{text}
-use Rattle.mp4_answers.specs.format.Texts.{descends, line_feed, show_value, sample_listing, sample_data, IsPart, AreBoxLines, box_line}
+use Rattle.mp4_answers.specs.format.BoxTexts.{AreBoxLines, box_line}
+use Rattle.mp4_answers.specs.format.Texts.{descends, line_feed, show_value, sample_listing, sample_data, IsPart}
 use Rattle.mp4_answers.proofs.Lengths.{track_is_one}
 use Rattle.mp4_answers.proofs.StripCopies.{next_freed, next_kept, next_entered, nothing_stands}
 
@@ -60,28 +61,28 @@ zip_one P one (a ∷ zs) [] ys z w = absurd z
 zip_one P one (a ∷ zs) (x ∷ xs) [] z w = absurd w
 zip_one P one (a ∷ zs) (x ∷ xs) (y ∷ ys) z w = λ j. one a x y z.0 w.0 j ∷ zip_one P one zs xs ys z.1 w.1 j
 
-part_one : (syntax : Syntax) (n depth : ℕ) (b : Box) (line part other : List ℕ) (o : Option Rule)
-    → ((r : Rule) (text more : List ℕ) → AreBoxLines syntax n (depth + 1) r (box_container b) text → AreBoxLines syntax n (depth + 1) r (box_container b) more → text ≡ more)
-    → IsPart (AreBoxLines syntax n (depth + 1)) line o b part → IsPart (AreBoxLines syntax n (depth + 1)) line o b other → part ≡ other
-part_one syntax n depth b line part other None one p q = p ∙ sym q
-part_one syntax n depth b line part other (Some r) one p q = p.2 ∙ ap (λ (xs : List ℕ). line ++ xs) (one r p.0 q.0 p.1 q.1) ∙ sym q.2
+part_one : (form : BoxForm) (n depth : ℕ) (b : Box) (line part other : List ℕ) (o : Option Rule)
+    → ((r : Rule) (text more : List ℕ) → AreBoxLines form n (depth + 1) r (box_container b) text → AreBoxLines form n (depth + 1) r (box_container b) more → text ≡ more)
+    → IsPart (AreBoxLines form n (depth + 1)) line o b part → IsPart (AreBoxLines form n (depth + 1)) line o b other → part ≡ other
+part_one form n depth b line part other None one p q = p ∙ sym q
+part_one form n depth b line part other (Some r) one p q = p.2 ∙ ap (λ (xs : List ℕ). line ++ xs) (one r p.0 q.0 p.1 q.1) ∙ sym q.2
 
 -- the lines of a box
-abbrev PartOf : Syntax → ℕ → ℕ → Rule → Box → List ℕ → Type 0
-PartOf syntax n depth rule b part = IsPart (AreBoxLines syntax n (depth + 1)) (box_line syntax rule depth b) (descends (at_kind (containers (ruled rule)) b.kind)) b part
+abbrev PartOf : BoxForm → ℕ → ℕ → Rule → Box → List ℕ → Type 0
+PartOf form n depth rule b part = IsPart (AreBoxLines form n (depth + 1)) (box_line form rule depth b) (descends (at_kind (containers (ruled rule)) b.kind)) b part
 
-lines_one : (syntax : Syntax) (n depth : ℕ) (rule : Rule) (c : Container) (text other : List ℕ) → AreBoxLines syntax n depth rule c text → AreBoxLines syntax n depth rule c other → text ≡ other
-lines_one syntax zero depth rule c text other x y = absurd x
-lines_one syntax (suc n) depth rule c text other x y =
+lines_one : (form : BoxForm) (n depth : ℕ) (rule : Rule) (c : Container) (text other : List ℕ) → AreBoxLines form n depth rule c text → AreBoxLines form n depth rule c other → text ≡ other
+lines_one form zero depth rule c text other x y = absurd x
+lines_one form (suc n) depth rule c text other x y =
     let same : y.0 ≡ x.0 = tiles_one c y.0 x.0 y.1 x.1 in
-    let z : AllZip (PartOf syntax n depth rule) x.0 y.2 = subst (λ (bs : List Box). AllZip (PartOf syntax n depth rule) bs y.2) same y.3 in
-    let parts : x.2 ≡ y.2 = zip_one (PartOf syntax n depth rule)
-    (λ b part more p q. part_one syntax n depth b (box_line syntax rule depth b) part more (descends (at_kind (containers (ruled rule)) b.kind)) (λ r t m u v. lines_one syntax n (depth + 1) r (box_container b) t m u v) p q)
+    let z : AllZip (PartOf form n depth rule) x.0 y.2 = subst (λ (bs : List Box). AllZip (PartOf form n depth rule) bs y.2) same y.3 in
+    let parts : x.2 ≡ y.2 = zip_one (PartOf form n depth rule)
+    (λ b part more p q. part_one form n depth b (box_line form rule depth b) part more (descends (at_kind (containers (ruled rule)) b.kind)) (λ r t m u v. lines_one form n (depth + 1) r (box_container b) t m u v) p q)
     x.0 x.2 y.2 x.3 z in
     x.4 ∙ ap (λ (ps : List (List ℕ)). concat ps) parts ∙ sym y.4
 
 pub list_of_boxes_is_one : ListOfBoxesIsOne
-list_of_boxes_is_one syntax file text other x y = lines_one syntax 6 0 File _ text other x y
+list_of_boxes_is_one form file text other x y = lines_one form 6 0 File _ text other x y
 
 -- ---- texts of what a file is judged to be
 

@@ -8,7 +8,8 @@ use Rattle.mp4_boxes.specs.declared.fault.Kind.TheVariants as kinds
 use Rattle.mp4_present.proofs.Vectors.{p_presentation, p_samples}
 use Rattle.mp4_head.proofs.Vectors.{p_track}
 use Rattle.mp4_boxes.proofs.Vectors.{v1, v1_moov, v1_mvhd, v1-tiles, v1-moov-tiles}
-use Rattle.mp4_answers.specs.format.Texts.{BoxLines, box_line, fault_line, sample_lines, sample_listing, show_value}
+use Rattle.mp4_answers.specs.format.BoxTexts.{BoxLines, box_line, without_fields}
+use Rattle.mp4_answers.specs.format.Texts.{fault_line, sample_lines, sample_listing, show_value}
 use Rattle.mp4_answers.specs.declared.jobs.Form.TheVariants as forms
 use Rattle.mp4_answers.specs.declared.jobs.Syntax.TheVariants as syntaxes
 
@@ -59,7 +60,7 @@ abbrev some_uuid : List ℕ
 some_uuid = 190 ∷ 122 ∷ 207 ∷ 203 ∷ 151 ∷ 169 ∷ 66 ∷ 232 ∷ 156 ∷ 113 ∷ 153 ∷ 148 ∷ 145 ∷ 227 ∷ 175 ∷ 172 ∷ []
 
 -- a `uuid` in a `moov`, which the profile refuses there, with a byte behind its UUID
-uuid-json : box_line syntaxes.Json rules.Movie 1 (record { kind = codes "uuid"; offset = 32; header = 8; payload = some_uuid ++ 0 ∷ [] })
+uuid-json : box_line (without_fields syntaxes.Json) rules.Movie 1 (record { kind = codes "uuid"; offset = 32; header = 8; payload = some_uuid ++ 0 ∷ [] })
     ≡ codes "{\"depth\":1,\"foreign\":true,\"offset\":32,\"size\":25,\"type\":\"uuid\",\"uuid\":\"be7acfcb-97a9-42e8-9c71-999491e3afac\"}" ++ 10 ∷ []
 unfolding digits serde_json_on_literals
 uuid-json = refl

@@ -27,3 +27,6 @@ pub mod ListedSums
 pub mod Sums
 pub mod SameAnswers
 pub mod OneTextLaws
+pub mod Layouts
+pub mod FieldTexts
+pub mod BoxTexts

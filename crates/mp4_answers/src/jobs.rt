@@ -18,10 +18,20 @@ pub enum Syntax {
     Json,
 }
 
+/// How boxes are listed: in which syntax, and each with its fields and at most so many of its rows,
+/// where these are asked for.
+#[derive(Clone, Copy)]
+pub struct BoxForm {
+    pub syntax: Syntax,
+    pub rows: Option<u64>,
+}
+
 /// What is done over a file.
 #[derive(Clone, Copy)]
 pub enum Job<'a> {
     Boxes { syntax: Syntax },
+    /// The boxes, each with its fields and at most so many of its rows.
+    Fields { syntax: Syntax, rows: u64 },
     Show,
     Samples { track: u32, form: Form },
     Extract { track: u32 },

@@ -56,6 +56,7 @@ puts_on l Took More on p = record {
 
 pub job_puts_on : (job : Job) (Took More : List ℕ → Type 0) → ((text : List ℕ) → Took text → More text) → JobPutsWhole job Took → JobPutsWhole job More
 job_puts_on (jobs.Boxes syntax) Took More on p = tt
+job_puts_on (jobs.Fields syntax most) Took More on p = tt
 job_puts_on jobs.Show Took More on p = tt
 job_puts_on (jobs.Samples track form) Took More on p = tt
 job_puts_on (jobs.Extract track) Took More on p = tt

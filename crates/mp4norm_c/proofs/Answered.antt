@@ -74,6 +74,7 @@ same_room jobs.Show file s t r a = answered_same _ _ _ file s t r a.0
 same_room (jobs.Samples track form) file s t r a = answered_same _ _ _ file s t r a
 same_room (jobs.Extract track) file s t r a = answered_same _ _ _ file s t r a
 same_room (jobs.Boxes syntax) file s t r a = answered_same _ _ _ file s t r a.0
+same_room (jobs.Fields syntax most) file s t r a = answered_same _ _ _ file s t r a.0
 same_room (jobs.Strip names) file s t r a = answered_same _ _ _ file s t r a
 
 pub window_put : (job : Job) (file : List ℕ) (s t : WindowSink) (result : Result (Unit {0}) Refusal) (from : ℕ) (before : List ℕ) → Keeps from before s [] → s.failed ≡ 0 → Performed job (memory_run file s t) result → WindowOf job file from before t.room.now (counted t.filled result)
@@ -84,6 +85,7 @@ window_put jobs.Show file s t r from before k z a = answered_window _ _ _ _ file
 window_put (jobs.Samples track form) file s t r from before k z a = answered_window _ _ _ _ file s t r from before (λ l. l refl) k z a
 window_put (jobs.Extract track) file s t r from before k z a = answered_window _ _ _ _ file s t r from before (λ l. l refl) k z a
 window_put (jobs.Boxes syntax) file s t r from before k z a = answered_window _ _ _ _ file s t r from before (λ l. l) k z a.0
+window_put (jobs.Fields syntax most) file s t r from before k z a = answered_window _ _ _ _ file s t r from before (λ l. l) k z a.0
 window_put (jobs.Strip names) file s t r from before k z a = answered_window _ _ _ _ file s t r from before (λ l. l) k z a
 
 -- the same, of what is left behind the reference and of what is answered

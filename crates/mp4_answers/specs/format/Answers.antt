@@ -13,11 +13,12 @@ use Rattle.mp4_answers.specs.format.ReducedHeadline.{HasReducedForm, PassesLimit
 use Rattle.mp4_answers.specs.format.FileTexts.{ShowsLine, ListsSamples, HasData, LacksTrack, PrintsText}
 use Rattle.mp4_answers.specs.format.BoxWalk.{under, FaultSeen}
 use Rattle.mp4_answers.specs.format.Strips.{IsStripped, Halts}
-use Rattle.mp4_answers.specs.format.Texts.{BoxLines}
+use Rattle.mp4_answers.specs.format.BoxTexts.{FormLines, with_fields, without_fields}
 use Rattle.mp4_answers.specs.declared.box_names.Name.{Name}
 use Rattle.mp4_answers.specs.declared.jobs.Form.{Form}
 use Rattle.mp4_answers.specs.declared.jobs.Job.{Job}
 use Rattle.mp4_answers.specs.declared.jobs.Job.TheVariants as jobs
+use Rattle.mp4_answers.specs.declared.jobs.BoxForm.{BoxForm}
 use Rattle.mp4_answers.specs.declared.jobs.Syntax.{Syntax}
 
 -- the first fault of the file (laws say that it stands there, and that nothing is denoted)
@@ -54,10 +55,17 @@ Extracted id r result = Answered r (HasData r.file id) (IsFaultOf r.file)
     (Honest r → LacksTrack r.file id) result
 
 -- `boxes`: the list of all boxes, or a fault at a header that is looked at
-abbrev pub BoxesListed : {A : Type 0} → Syntax → Run → Result A Refusal → Type 0
-BoxesListed syntax r result = Answered r (BoxLines syntax r.file)
+abbrev pub FormListed : {A : Type 0} → BoxForm → Run → Result A Refusal → Type 0
+FormListed form r result = Answered r (FormLines form r.file)
     (FaultSeen (under File (file_container r.file))) ⊥ result
     × PutsAtOnce r result × NeverChanged result
+
+abbrev pub BoxesListed : {A : Type 0} → Syntax → Run → Result A Refusal → Type 0
+BoxesListed syntax r result = FormListed (without_fields syntax) r result
+
+-- `boxes --fields`: the same, each with its fields and at most so many of its rows
+abbrev pub FieldsListed : {A : Type 0} → Syntax → ℕ → Run → Result A Refusal → Type 0
+FieldsListed syntax most r result = FormListed (with_fields syntax most) r result
 
 -- `strip`: the copy in which the named boxes are free space, or a fault at a header on the way
 abbrev pub StrippedOf : {A : Type 0} → List Name → Run → Result A Refusal → Type 0
@@ -77,6 +85,7 @@ Performed jobs.Show r result = Shown r result
 Performed (jobs.Samples track form) r result = Listed track form r result
 Performed (jobs.Extract track) r result = Extracted track r result
 Performed (jobs.Boxes syntax) r result = BoxesListed syntax r result
+Performed (jobs.Fields syntax most) r result = FieldsListed syntax most r result
 Performed (jobs.Strip names) r result = StrippedOf names.now r result
 
 -- why a job is refused

@@ -12,8 +12,9 @@ use Rattle.mp4_boxes.specs.declared.refusal.Refusal.{Refusal}
 use Rattle.mp4_boxes.specs.declared.refusal.Refusal.TheVariants as refusals
 use Rattle.mp4_present.specs.words.Reading.{top_box}
 use Rattle.mp4_present.specs.declared.reading.TopBox.{TopBox}
-use Rattle.mp4_answers.specs.declared.jobs.Syntax.{Syntax}
-use Rattle.mp4_answers.specs.format.Texts.{descends, IsPart, AreBoxLines, box_line}
+use Rattle.mp4_answers.specs.declared.jobs.BoxForm.{BoxForm}
+use Rattle.mp4_answers.specs.format.BoxTexts.{AreBoxLines, box_line}
+use Rattle.mp4_answers.specs.format.Texts.{descends, IsPart}
 
 -- how many levels of boxes lie under a rule at most, its own included
 abbrev pub height : Rule → ℕ
@@ -41,9 +42,9 @@ pub record FaultSeen (from : Place) (f : Fault) : Type 0 where
   pub fault : IsHeaderFault place.container f
 
 -- the boxes in a box have these lines, if the walk descends into it; else there are none
-abbrev pub IsListed : Syntax → Rule → ℕ → Box → List ℕ → Type 0
-IsListed syntax rule depth b part = IsPart (AreBoxLines syntax (height rule - 1) (depth + 1))
-    (box_line syntax rule depth b) (rule_inside rule b.kind) b part
+abbrev pub IsListed : BoxForm → Rule → ℕ → Box → List ℕ → Type 0
+IsListed form rule depth b part = IsPart (AreBoxLines form (height rule - 1) (depth + 1))
+    (box_line form rule depth b) (rule_inside rule b.kind) b part
 
 -- ---- the boxes of the file itself, by their headers
 

@@ -18,6 +18,7 @@ HasLength (jobs.Reduce l) file n = AreLong (HasReducedForm l file) n
 HasLength (jobs.Extract id) file n = AreLong (HasData file id) n
 HasLength (jobs.Strip names) file n = AreLong (IsStripped names.now file) n
 HasLength (jobs.Boxes syntax) file n = n ≡ 0
+HasLength (jobs.Fields syntax most) file n = n ≡ 0
 HasLength jobs.Show file n = n ≡ 0
 HasLength (jobs.Samples track form) file n = n ≡ 0
 HasLength (jobs.Print l) file n = n ≡ 0

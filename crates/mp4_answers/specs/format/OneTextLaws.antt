@@ -3,12 +3,12 @@ use Rattle.std.specs.Prelude.{◌≡◌, ℕ, List}
 use Rattle.mp4_content.specs.declared.without.Without.{Without}
 use Rattle.mp4_answers.specs.declared.box_names.Name.{Name}
 use Rattle.mp4_answers.specs.declared.jobs.Form.{Form}
-use Rattle.mp4_answers.specs.declared.jobs.Syntax.{Syntax}
+use Rattle.mp4_answers.specs.declared.jobs.BoxForm.{BoxForm}
 use Rattle.mp4_answers.specs.format.FileTexts.{ShowsLine, ListsSamples, HasData, PrintsText}
 use Rattle.mp4_answers.specs.format.Headline.{HasNormalForm}
 use Rattle.mp4_answers.specs.format.ReducedHeadline.{HasReducedForm}
 use Rattle.mp4_answers.specs.format.Strips.{IsStripped}
-use Rattle.mp4_answers.specs.format.Texts.{BoxLines}
+use Rattle.mp4_answers.specs.format.BoxTexts.{FormLines}
 
 -- this is true of one text at most
 abbrev pub AtMostOne : (List ℕ → Type 0) → Type 0
@@ -20,7 +20,7 @@ StripIsOne = (names : List Name) (file : List ℕ) → AtMostOne (IsStripped nam
 
 -- And one list of its boxes.
 abbrev pub ListOfBoxesIsOne : Type 0
-ListOfBoxesIsOne = (syntax : Syntax) (file : List ℕ) → AtMostOne (BoxLines syntax file)
+ListOfBoxesIsOne = (form : BoxForm) (file : List ℕ) → AtMostOne (FormLines form file)
 
 -- And one of each text that the commands put of what it is judged to be.
 pub record JudgedTextsAreOne : Type 0 where

@@ -1,15 +1,13 @@
 -- The texts that the commands write.
-use Rattle.std.specs.Prelude.{◌≡◌, ℕ, zero, suc, ◌+◌, ◌*◌, nat_le, Bool, true, false, ◌&&◌, if◌then◌else◌, bytes_eq, List, [], ◌∷◌, ◌++◌, length, take, drop, map, flat_map, replicate, Option, Some, None, option_map, ℤ, pos, ◌+ℤ◌, codes, decimal}
+use Rattle.std.specs.Prelude.{◌≡◌, ℕ, ◌+◌, ◌*◌, nat_le, Bool, true, false, ◌&&◌, if◌then◌else◌, bytes_eq, List, [], ◌∷◌, ◌++◌, length, take, drop, map, flat_map, replicate, Option, Some, None, ℤ, pos, ◌+ℤ◌, codes, decimal}
 use Rattle.std.specs.Fmt.{signed_decimal}
-use Rattle.std.specs.List.{AllZip, concat}
 use Rattle.serde_json.specs.Data.{unsigned, Data, boolean, number, string, array, object, Members, no_members, member}
 use Rattle.serde_json.specs.Find.{of_integer}
 use Rattle.serde_json.specs.View.{items_of}
 use Rattle.serde_json.specs.Written.{compact_text}
-use Rattle.mp4_boxes.specs.format.Box.{Box, Container, size, box_container, file_container, Tiles}
-use Rattle.mp4_boxes.specs.format.Places.{Scope, ruled, containers, at_kind}
+use Rattle.mp4_boxes.specs.format.Box.{Box, Container, size, box_container}
+use Rattle.mp4_boxes.specs.format.Places.{Scope, ruled}
 use Rattle.mp4_boxes.specs.declared.rule.Rule.{Rule}
-use Rattle.mp4_boxes.specs.declared.rule.Rule.TheVariants as rules
 pub use Rattle.mp4_boxes.specs.format.FaultTexts.{hex_digit, hex_digits, type_text, kind_text, fault_line}
 use Rattle.mp4_boxes.specs.declared.refusal.Refusal.{Refusal}
 use Rattle.mp4_boxes.specs.declared.refusal.Refusal.TheVariants as refusals
@@ -18,9 +16,6 @@ use Rattle.mp4_head.specs.format.Head.{Edit, Kept, TrackHead, handler_type}
 use Rattle.mp4_present.specs.format.Presentation.{Sample, Track, Presentation, total_duration, movie_length}
 use Rattle.mp4_answers.specs.declared.jobs.Form.{Form}
 use Rattle.mp4_answers.specs.declared.jobs.Form.TheVariants as forms
-use Rattle.mp4_answers.specs.declared.jobs.Syntax.{Syntax}
-use Rattle.mp4_answers.specs.declared.jobs.Syntax.TheVariants as syntaxes
-use Rattle.mp4_boxes.specs.format.Children.{allows}
 
 abbrev pub line_feed : List ℕ
 line_feed = 10 ∷ []
@@ -162,12 +157,6 @@ box_data depth allowed offset length kind uuid = object (members (
     ∷ (codes "type", string kind)
     ∷ uuid_member uuid))
 
--- the line of a box that stands in so many containers, under this rule
-abbrev pub box_line : Syntax → Rule → ℕ → Box → List ℕ
-box_line syntaxes.Text rule depth b = line_text depth b.kind b.offset (size b)
-box_line syntaxes.Json rule depth b = compact_text (box_data depth (allows rule b.kind) b.offset
-    (size b) (type_text b.kind) (option_map uuid_text (uuid_of b))) ++ line_feed
-
 -- containers of boxes are descended into, and no others
 abbrev pub descends : Option Scope → Option Rule
 descends (Some (ruled rule)) = Some rule
@@ -179,19 +168,6 @@ abbrev pub IsPart : (Rule → Container → List ℕ → Type 0) → List ℕ �
 IsPart inside line None b part = part ≡ line
 IsPart inside line (Some rule) b part = (more : List ℕ) × inside rule (box_container b) more
     × (part ≡ line ++ more)
-
--- The lines of a container's boxes. Containers nest no deeper than `levels`.
-abbrev pub AreBoxLines : Syntax → ℕ → ℕ → Rule → Container → List ℕ → Type 0
-AreBoxLines syntax zero depth rule c text = ⊥
-AreBoxLines syntax (suc levels) depth rule c text =
-    (boxes : List Box) × Tiles c boxes × (parts : List (List ℕ))
-    × AllZip (λ (b : Box) part.
-    IsPart (AreBoxLines syntax levels (depth + 1)) (box_line syntax rule depth b)
-    (descends (at_kind (containers (ruled rule)) b.kind)) b part) boxes parts
-    × (text ≡ concat parts)
-
-abbrev pub BoxLines : Syntax → List ℕ → List ℕ → Type 0
-BoxLines syntax file text = AreBoxLines syntax 6 0 rules.File (file_container file) text
 
 -- ---- a movie as JSON
 

@@ -10,8 +10,9 @@ use Rattle.mp4_boxes.specs.declared.refusal.Refusal.TheVariants as refusals
 use Rattle.mp4_present.specs.declared.reading.TopBox.{TopBox}
 use Rattle.mp4_answers.specs.format.BoxWalk.{height, under, tops_seen, FaultSeen}
 use Rattle.mp4_answers.specs.format.Strips.{holder, is_top}
-use Rattle.mp4_answers.specs.declared.jobs.Syntax.{Syntax}
-use Rattle.mp4_answers.specs.format.Texts.{AreBoxLines, box_data, type_text, uuid_text}
+use Rattle.mp4_answers.specs.declared.jobs.BoxForm.{BoxForm}
+use Rattle.mp4_answers.specs.format.BoxTexts.{AreBoxLines}
+use Rattle.mp4_answers.specs.format.Texts.{box_data, type_text, uuid_text}
 
 -- how far boxes go: those of the file itself to its end, others to the end of their box
 abbrev pub extent_of : Bool → Extent
@@ -35,9 +36,9 @@ TilesSpan file rule from end boxes =
     (start : ℕ) → Tiles (span_of file rule start from end) (tops_seen file boxes)
 
 -- the lines of its boxes, and of those in them, are added to a text, in so many containers
-abbrev pub AddsLines : List ℕ → Syntax → Rule → ℕ → ℕ → ℕ → List ℕ → List ℕ → Type 0
-AddsLines file syntax rule depth from end old new = (start : ℕ) → (part : List ℕ)
-    × AreBoxLines syntax (height rule) depth rule (span_of file rule start from end) part
+abbrev pub AddsLines : List ℕ → BoxForm → Rule → ℕ → ℕ → ℕ → List ℕ → List ℕ → Type 0
+AddsLines file form rule depth from end old new = (start : ℕ) → (part : List ℕ)
+    × AreBoxLines form (height rule) depth rule (span_of file rule start from end) part
     × (new ≡ old ++ part)
 
 -- what is told of a box that was found under a rule, in so many containers

@@ -8,6 +8,7 @@ use Rattle.mp4_answers.specs.declared.jobs.Job.TheVariants as jobs
 -- the steps, where they are counted
 abbrev pub JobWorksWithin : Job → List ℕ → ℕ → ℕ → Type 0
 JobWorksWithin (jobs.Boxes syntax) file old new = Unit {0}
+JobWorksWithin (jobs.Fields syntax most) file old new = Unit {0}
 JobWorksWithin jobs.Show file old new = WalksWithin file old new
 JobWorksWithin (jobs.Samples track form) file old new = WalksWithin file old new
 JobWorksWithin (jobs.Extract track) file old new = WalksWithin file old new
@@ -19,12 +20,14 @@ JobWorksWithin (jobs.Strip names) file old new = Unit {0}
 -- at least one for each sample and row, where they are counted
 abbrev pub JobTakesEach : Job → List ℕ → ℕ → ℕ → Type 0
 JobTakesEach (jobs.Boxes syntax) file old new = Unit {0}
+JobTakesEach (jobs.Fields syntax most) file old new = Unit {0}
 JobTakesEach (jobs.Strip names) file old new = Unit {0}
 JobTakesEach _ file old new = TakesEach file old new
 
 -- the looks, where these are counted
 abbrev pub JobLooksWithin : Job → List ℕ → ℕ → ℕ → Type 0
 JobLooksWithin (jobs.Boxes syntax) file old new = Unit {0}
+JobLooksWithin (jobs.Fields syntax most) file old new = Unit {0}
 JobLooksWithin jobs.Show file old new = FindsWithin file old new
 JobLooksWithin (jobs.Samples track form) file old new = FindsWithin file old new
 JobLooksWithin (jobs.Extract track) file old new = FindsWithin file old new

@@ -86,6 +86,10 @@ pub fn text_len<S: Store, L: Ledger, M: Ledger>(
         Job::Extract { track } => data_len(alloc, store, track, steps),
         Job::Normalise => form_len(alloc, store, steps),
         Job::Reduce { leaving } => form_left_len(alloc, store, leaving, steps),
-        Job::Boxes { .. } | Job::Show | Job::Samples { .. } | Job::Print { .. } => Ok(0),
+        Job::Boxes { .. }
+        | Job::Fields { .. }
+        | Job::Show
+        | Job::Samples { .. }
+        | Job::Print { .. } => Ok(0),
     }
 }

@@ -1,24 +1,35 @@
 //! The boxes of a file, a line each.
 ghost use Rattle.std.specs.Prelude.{◌≡◌, ◌+◌, ◌≤◌, ◌++◌, length, IfOk, OnOk};
 ghost use Rattle.std.specs.List.{All};
-ghost use Rattle.mp4_answers.specs.format.Answers.{BoxesListed};
+ghost use Rattle.mp4_answers.specs.format.Answers.{BoxesListed, FieldsListed, FormListed};
+ghost use Rattle.mp4_answers.specs.format.FieldTexts.{spot_of};
 ghost use Rattle.mp4_answers.specs.format.BoxWalk.{height, rule_inside, top_seen, IsWithin, RefusesTops};
 ghost use Rattle.mp4_answers.specs.format.Run.{KeepsFile, run_of};
-ghost use Rattle.mp4_answers.specs.format.Texts.{line_text, box_line, uuid_of, BoxLines};
+ghost use Rattle.mp4_answers.specs.format.BoxTexts.{box_line, object_text, opened, own_fields, with_fields, without_fields, FormLines};
+ghost use Rattle.mp4_answers.specs.format.Texts.{line_text, uuid_of};
 ghost use Rattle.mp4_answers.specs.words.BoxSpans.{AddsLines, RefusesLine, RefusesSpan, TilesSpan};
 ghost use Rattle.mp4_present.specs.words.StoresRead.{OnlyReads, RefusedOf, WhereHonest, WhereRead};
 ghost use Rattle.mp4_boxes.specs.declared.rule.Rule.TheVariants as rules;
 ghost use Rattle.mp4_store.specs.words.Device.{Counts};
 ghost use Rattle.mp4_answers.specs.words.StoreAndSink.{Reads};
 
+use crate::commands::box_fields::{FieldStyle, add_fields};
 use crate::commands::box_headers::read_header;
-use crate::jobs::Syntax;
+use crate::jobs::{BoxForm, Syntax};
 use crate::text::box_json::box_json;
+use crate::text::field_lines::Spot;
 use crate::text::line::Line;
 use mp4_boxes::{FourCc, Refusal, Rule};
 use mp4_present::TopBox;
 use mp4_store::{Sink, Store, StoreFailed};
-use std::alloc::Global;
+use std::alloc::{AllocError, Global};
+
+// In which syntax boxes are listed with their fields, and with how many rows at most.
+#[derive(Clone, Copy)]
+struct FieldForm {
+    syntax: Syntax,
+    most: u64,
+}
 
 // The line of a box of this type and size at this place of the file, in so many containers.
 fn line_of(depth: u8, kind: FourCc, offset: u64, size: u64) -> Line
@@ -68,8 +79,19 @@ struct Level {
     depth: u8,
 }
 
-// Adds the line of a box at a level.
-fn add_line<S: Store>(
+// Where the fields of a box are told that stands in so many containers.
+fn spot_of(syntax: Syntax, depth: u8) -> Spot
+    requires { depth ≤ 5 }
+    ensures { result ≡ spot_of syntax (depth + 1) }
+{
+    match syntax {
+        Syntax::Text => Spot::Line(depth + 1),
+        Syntax::Json => Spot::Member,
+    }
+}
+
+// Adds the line of a box at a level, without its fields.
+fn add_plain<S: Store>(
     text: &mut Vec<u8>,
     alloc: Global,
     store: &mut S,
@@ -81,7 +103,8 @@ fn add_line<S: Store>(
     requires within { IsWithin (S.file store.old) found.now }
     ensures store { OnlyReads S.Store store.old store.new result }
     ensures line { OnOk result (WhereHonest S.Store store.old (λ file. text.new.items
-        ≡ text.old.items ++ box_line syntax level.rule level.depth (top_seen file found.now))) }
+        ≡ text.old.items ++ box_line (without_fields syntax) level.rule level.depth
+        (top_seen file found.now))) }
     ensures refusal { RefusedOf S.Store store.old store.new result (λ honest file. RefusesLine) }
 {
     match syntax {
@@ -103,6 +126,115 @@ fn add_line<S: Store>(
         }
     }
     Ok(())
+}
+
+// Adds the fields of a box that stands in so many containers, and at most so many of its rows.
+fn add_own<S: Store>(
+    text: &mut Vec<u8>,
+    alloc: Global,
+    store: &mut S,
+    form: FieldForm,
+    depth: u8,
+    found: &TopBox,
+) -> Result<(), Refusal>
+    requires levels { depth ≤ 5 }
+    requires within { IsWithin (S.file store.old) found.now }
+    ensures store { OnlyReads S.Store store.old store.new result }
+    ensures text { OnOk result (WhereHonest S.Store store.old (λ file. text.new.items
+        ≡ text.old.items ++ own_fields form.syntax form.most depth (top_seen file found.now))) }
+    ensures refusal { RefusedOf S.Store store.old store.new result (λ honest file. RefusesLine) }
+{
+    let style = FieldStyle {
+        spot: spot_of(form.syntax, depth),
+        most: form.most,
+    };
+    add_fields(text, alloc, store, style, found)
+}
+
+// Adds an object without its last brace.
+fn push_opened(text: &mut Vec<u8>, object: &[u8]) -> Result<(), AllocError>
+    ensures { OnOk result (text.new.items ≡ text.old.items ++ opened object.now) }
+{
+    let len = object.len().saturating_sub(1);
+    text.extend_from_slice(&object[..len])
+}
+
+// Adds the object of a box at a level without its last brace.
+fn add_opened<S: Store>(
+    text: &mut Vec<u8>,
+    alloc: Global,
+    store: &mut S,
+    level: Level,
+    found: &TopBox,
+) -> Result<(), Refusal>
+    requires within { IsWithin (S.file store.old) found.now }
+    ensures store { OnlyReads S.Store store.old store.new result }
+    ensures object { OnOk result (WhereHonest S.Store store.old (λ file. text.new.items
+        ≡ text.old.items ++ opened (object_text level.rule level.depth
+        (top_seen file found.now)))) }
+    ensures refusal { RefusedOf S.Store store.old store.new result (λ honest file. RefusesLine) }
+{
+    let uuid = read_uuid(store, found)?;
+    let object = box_json(alloc, level.depth, level.rule, found, uuid)?;
+    push_opened(text, object.as_str().as_bytes())?;
+    Ok(())
+}
+
+// Adds the line of a box at a level, and its fields.
+fn add_with_fields<S: Store>(
+    text: &mut Vec<u8>,
+    alloc: Global,
+    store: &mut S,
+    form: FieldForm,
+    level: Level,
+    found: &TopBox,
+) -> Result<(), Refusal>
+    requires levels { level.depth ≤ 5 }
+    requires within { IsWithin (S.file store.old) found.now }
+    ensures store { OnlyReads S.Store store.old store.new result }
+    ensures line { OnOk result (WhereHonest S.Store store.old (λ file. text.new.items
+        ≡ text.old.items ++ box_line (with_fields form.syntax form.most) level.rule level.depth
+        (top_seen file found.now))) }
+    ensures refusal { RefusedOf S.Store store.old store.new result (λ honest file. RefusesLine) }
+{
+    match form.syntax {
+        Syntax::Text => {
+            add_plain(text, alloc, store, Syntax::Text, level, found)?;
+            add_own(text, alloc, store, form, level.depth, found)
+        }
+        Syntax::Json => {
+            add_opened(text, alloc, store, level, found)?;
+            add_own(text, alloc, store, form, level.depth, found)?;
+            text.extend_from_slice(b"}\n")?;
+            Ok(())
+        }
+    }
+}
+
+// Adds the line of a box at a level, with its fields where these are asked for.
+fn add_line<S: Store>(
+    text: &mut Vec<u8>,
+    alloc: Global,
+    store: &mut S,
+    form: BoxForm,
+    level: Level,
+    found: &TopBox,
+) -> Result<(), Refusal>
+    requires levels { level.depth ≤ 5 }
+    requires within { IsWithin (S.file store.old) found.now }
+    ensures store { OnlyReads S.Store store.old store.new result }
+    ensures line { OnOk result (WhereHonest S.Store store.old (λ file. text.new.items
+        ≡ text.old.items ++ box_line form level.rule level.depth (top_seen file found.now))) }
+    ensures refusal { RefusedOf S.Store store.old store.new result (λ honest file. RefusesLine) }
+{
+    let syntax = form.syntax;
+    match form.rows {
+        None => add_plain(text, alloc, store, syntax, level, found),
+        Some(most) => {
+            let form = FieldForm { syntax, most };
+            add_with_fields(text, alloc, store, form, level, found)
+        }
+    }
 }
 
 /// The rule of the boxes in a box of this type, where it is a container of boxes.
@@ -176,7 +308,7 @@ fn push_boxes<S: Store>(
     text: &mut Vec<u8>,
     alloc: Global,
     store: &mut S,
-    syntax: Syntax,
+    form: BoxForm,
     depth: u8,
     span: BoxSpan,
 ) -> Result<(), Refusal>
@@ -185,7 +317,7 @@ fn push_boxes<S: Store>(
     requires within { span.end ≤ length (S.file store.old) }
     ensures store { OnlyReads S.Store store.old store.new result }
     ensures lines { OnOk result (WhereHonest S.Store store.old
-        (λ file. AddsLines file syntax span.rule depth span.from span.end
+        (λ file. AddsLines file form span.rule depth span.from span.end
         text.old.items text.new.items)) }
     ensures refusal { RefusedOf S.Store store.old store.new result (λ honest file.
         RefusesSpan honest file span.rule span.from span.end) }
@@ -193,7 +325,7 @@ fn push_boxes<S: Store>(
     let rule = span.rule;
     let boxes = boxes_between(alloc, store, span)?;
     for found in &boxes {
-        add_line(text, alloc, store, syntax, Level { rule, depth }, found)?;
+        add_line(text, alloc, store, form, Level { rule, depth }, found)?;
         let header = found.header;
         if let Some(inner) = rule_inside(rule, header.kind) {
             let _size = store.len();
@@ -202,21 +334,39 @@ fn push_boxes<S: Store>(
                 from: found.offset + u64::from(header.header),
                 end: header.end,
             };
-            push_boxes(text, alloc, store, syntax, depth + 1, inside)?;
+            push_boxes(text, alloc, store, form, depth + 1, inside)?;
         }
     }
     Ok(())
 }
 
 // The lines of all boxes that are listed.
-fn list_boxes<S: Store>(alloc: Global, store: &mut S, syntax: Syntax) -> Result<Vec<u8>, Refusal>
+fn list_boxes<S: Store>(alloc: Global, store: &mut S, form: BoxForm) -> Result<Vec<u8>, Refusal>
     ensures answer { Reads S.Store store.old store.new result
-        (λ file text. BoxLines syntax file text.items) RefusesTops }
+        (λ file text. FormLines form file text.items) RefusesTops }
 {
     let mut text = Vec::new(alloc);
     let span = whole_file(store.len());
-    push_boxes(&mut text, alloc, store, syntax, 0, span)?;
+    push_boxes(&mut text, alloc, store, form, 0, span)?;
     Ok(text)
+}
+
+// Puts the lines of all boxes at once. Where any header that is looked at is at fault, nothing is
+// put.
+fn put_boxes<S: Store, K: Sink>(
+    alloc: Global,
+    store: &mut S,
+    form: BoxForm,
+    sink: &mut K,
+) -> Result<(), Refusal>
+    ensures store { KeepsFile S.Store store.old store.new }
+    ensures answer { FormListed form
+        (run_of S.Store store.old store.new K.Sink sink.old sink.new)
+        result }
+{
+    let text = list_boxes(alloc, store, form)?;
+    sink.put(text.as_slice())?;
+    Ok(())
 }
 
 /// Puts a line for each box that is a box of the file or of a container of boxes: two spaces for
@@ -233,9 +383,25 @@ pub fn boxes_as<S: Store, K: Sink>(
         (run_of S.Store store.old store.new K.Sink sink.old sink.new)
         result }
 {
-    let text = list_boxes(alloc, store, syntax)?;
-    sink.put(text.as_slice())?;
-    Ok(())
+    put_boxes(alloc, store, BoxForm { syntax, rows: None }, sink)
+}
+
+/// Puts the lines of the boxes, as `boxes_as` does, and behind the line of each box, or in its
+/// object, its fields, and at most so many of its rows.
+pub fn boxes_with_fields<S: Store, K: Sink>(
+    alloc: Global,
+    store: &mut S,
+    syntax: Syntax,
+    rows: u64,
+    sink: &mut K,
+) -> Result<(), Refusal>
+    ensures store { KeepsFile S.Store store.old store.new }
+    ensures answer { FieldsListed syntax rows
+        (run_of S.Store store.old store.new K.Sink sink.old sink.new)
+        result }
+{
+    let rows = Some(rows);
+    put_boxes(alloc, store, BoxForm { syntax, rows }, sink)
 }
 
 /// Puts the lines of the boxes, as `boxes_as` does, in text.

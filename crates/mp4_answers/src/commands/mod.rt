@@ -1,6 +1,7 @@
 //! What each command does over a store, and what commands share.
 
 pub mod answer_len;
+pub mod box_fields;
 pub mod box_headers;
 pub mod box_path;
 pub mod boxes;

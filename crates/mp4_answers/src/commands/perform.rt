@@ -7,7 +7,7 @@ ghost use Rattle.mp4_answers.specs.words.WholePut.{JobPutsWhole};
 ghost use Rattle.mp4_present.specs.words.StoresRead.{WhereHonest};
 ghost use Rattle.mp4_answers.specs.words.StoreAndSink.{IsOf};
 
-use crate::commands::boxes::boxes_as;
+use crate::commands::boxes::{boxes_as, boxes_with_fields};
 use crate::commands::extract::extract_counted;
 use crate::commands::normalise::normalise_counted;
 use crate::commands::normalise_reduced::normalise_reduced;
@@ -45,6 +45,7 @@ pub fn perform<S: Store, K: Sink, L: Ledger, M: Ledger>(
 {
     match job {
         Job::Boxes { syntax } => boxes_as(alloc, store, syntax, sink),
+        Job::Fields { syntax, rows } => boxes_with_fields(alloc, store, syntax, rows, sink),
         Job::Show => show_counted(alloc, store, sink, steps),
         Job::Samples { track, form } => samples_counted(alloc, store, track, form, sink, steps),
         Job::Extract { track } => extract_counted(alloc, store, track, sink, steps),

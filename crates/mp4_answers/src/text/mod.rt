@@ -6,6 +6,7 @@ pub mod difference_json;
 pub mod difference_lines;
 pub mod digits;
 pub mod fault_text;
+pub mod field_lines;
 pub mod head_lines;
 pub mod json_text;
 pub mod line;

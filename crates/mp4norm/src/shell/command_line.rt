@@ -29,6 +29,8 @@ const BRIEFLY_EXPLAINED: &str = "the argument '--brief' cannot be used with '--e
 
 const LIMIT_ALONE: &str = "the argument '--limit <N>' is of use only with '--all'";
 
+const ROWS_ALONE: &str = "the argument '--rows <N>' is of use only with '--fields'";
+
 const NO_LIST: &str = "'@' names no list of files; a file of this name is './@'";
 
 const LOSSY_ALONE: &str = "the argument '--lossy' is of use only with '--foreign'";
@@ -49,6 +51,9 @@ UUID; before a slash only a container whose boxes are listed may stand";
 const WITHOUT_RULE: &str = "\
 each word is times, edits, flags, groups, metadata, bitrates, ends, origins, labels, timing, roles \
 or ids, or packaging-1 for the first eight, or media-1 for the first ten";
+
+/// How many rows of a box are shown where no number is given.
+const ROWS: u64 = 16;
 
 /// How many differences are listed where no number is given.
 const LIMIT: u32 = 100;
@@ -245,6 +250,11 @@ fn job_of(
     ensures { IfOk result (λ job. IfSome job IsJob) }
 {
     let job = match (name, track_of(found)) {
+        ("boxes", _) if found.get_flag("fields") => {
+            let syntax = syntax_of(found);
+            let rows = found.get_one::<u64>("rows").unwrap_or(ROWS);
+            Job::Fields { syntax, rows }
+        }
         ("boxes", _) => {
             let syntax = syntax_of(found);
             Job::Boxes { syntax }
@@ -387,6 +397,8 @@ fn conflict_in(matches: &ArgMatches) -> Option<&'static str> {
         Some(INPUT_TWICE)
     } else if found.get_one::<u32>("limit").is_some() && !found.get_flag("all") {
         Some(LIMIT_ALONE)
+    } else if found.get_one::<u64>("rows").is_some() && !found.get_flag("fields") {
+        Some(ROWS_ALONE)
     } else if found.get_flag("lossy") && !found.get_flag("foreign") {
         Some(LOSSY_ALONE)
     } else if found.get_flag("quiet") && found.get_str("check").is_none() {

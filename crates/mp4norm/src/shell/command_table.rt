@@ -63,6 +63,8 @@ const NO_HEADER: &str = "Print no line before all others that says of what the s
 
 const QUIET: &str = "With --check: say nothing of files that have their sum";
 
+const FIELDS: &str = "Show the fields of each box under it, by their names in ISO/IEC 14496-12";
+
 const ALL: &str = "List all differences, and count them, in place of the first alone";
 
 // A word that is there or not.
@@ -167,7 +169,20 @@ fn boxes_command<'a>(alloc: Global) -> Result<Command<'a>, AllocError> {
         "Lists the boxes of a file: two spaces for each container, type, place, size",
         "Example: mp4norm boxes movie.mp4",
     )?;
-    command.arg(flag(alloc, "json", JSON))
+    command
+        .arg(flag(alloc, "json", JSON))?
+        .arg(flag(alloc, "fields", FIELDS))?
+        .arg(rows_arg(alloc))
+}
+
+// How many rows of a box are shown.
+fn rows_arg<'a>(alloc: Global) -> Arg<'a> {
+    Arg::new(alloc, "rows")
+        .long("rows")
+        .value_name("N")
+        .help("How many rows of a box to show at most with --fields; 16 where it isn't given")
+        .action(ArgAction::Set)
+        .value_parser(value_parser!(u64))
 }
 
 fn show_command<'a>(alloc: Global) -> Result<Command<'a>, AllocError> {

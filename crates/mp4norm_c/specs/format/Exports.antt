@@ -29,7 +29,7 @@ use Rattle.mp4_answers.specs.format.Headline.{HasNormalForm}
 use Rattle.mp4_answers.specs.format.ReducedHeadline.{HasReducedForm}
 use Rattle.mp4_answers.specs.format.Strips.{IsStripped, Halts}
 use Rattle.mp4_answers.specs.format.Sums.{HasSum}
-use Rattle.mp4_answers.specs.format.Texts.{BoxLines}
+use Rattle.mp4_answers.specs.format.BoxTexts.{BoxLines, FieldLines}
 use Rattle.mp4norm_c.specs.declared.answer.Answer.{Answer}
 use Rattle.mp4norm_c.specs.declared.asked.Comparison.{Comparison}
 use Rattle.mp4norm_c.specs.declared.asked.Version.{Version}
@@ -197,6 +197,8 @@ WindowOf (jobs.Samples track form) file = Windowed (ListsSamples file track form
 WindowOf (jobs.Extract track) file = Windowed (HasData file track)
     (IsFaultOf file) (LacksTrack file track)
 WindowOf (jobs.Boxes syntax) file = Windowed (BoxLines syntax file)
+    (FaultSeen (under File (file_container file))) ⊥
+WindowOf (jobs.Fields syntax most) file = Windowed (FieldLines syntax most file)
     (FaultSeen (under File (file_container file))) ⊥
 WindowOf (jobs.Strip names) file = Windowed (IsStripped names.now file)
     (λ f. Halts names.now f File 0 file) ⊥

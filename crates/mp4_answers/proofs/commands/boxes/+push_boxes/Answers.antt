@@ -4,7 +4,7 @@ use Rattle.std.proofs.lemmas.List.{drop_all}
 use Rattle.std.specs.List.{concat}
 use Rattle.mp4_present.specs.declared.reading.TopBox.{TopBox}
 use Rattle.mp4_answers.specs.format.BoxWalk.{rule_inside, IsListed, IsWithin, top_seen, tops_seen}
-use Rattle.mp4_answers.specs.format.Texts.{box_line}
+use Rattle.mp4_answers.specs.format.BoxTexts.{box_line}
 use Rattle.mp4_answers.proofs.BoxLists.{listed_none, listed_more, listed_all, listed_alone, lines_of_boxes, inside_lower, tops_more, tops_split}
 use Rattle.mp4_answers.proofs.BoxSpans.{refuses_deeper, refuses_line, listed_span}
 use Rattle.mp4_answers.proofs.commands.boxes.+push_boxes.Goals as goal
@@ -20,7 +20,7 @@ loop-found-init g t c =
       honesty = e.store.honesty;
       file = e.store.file;
       reads = e.store.reads;
-      listed = λ told. listed_none (IsListed c.args.syntax c.args.span.rule c.args.depth) (tops_seen (g.S.Store.file c.args.store.now) c.deref-found-items.result.now) c.args.text.now.items;
+      listed = λ told. listed_none (IsListed c.args.form c.args.span.rule c.args.depth) (tops_seen (g.S.Store.file c.args.store.now) c.deref-found-items.result.now) c.args.text.now.items;
     }
 
 pub push_boxes-requires : goal.push_boxes-requires
@@ -64,7 +64,7 @@ loop-found-preserved g t c =
     let items = c.deref-found-items.result.now in
     let top = get_or items c.loop-found.found-index nowhere in
     let w : IsWithin file top = search rules in
-    let line = box_line c.args.syntax c.args.span.rule c.args.depth (top_seen file top) in
+    let line = box_line c.args.form c.args.span.rule c.args.depth (top_seen file top) in
     let e = c.in_ok-add_line.ensures in
     let added = rw (i.honesty, i.file) at e.line in
     let honesty = e.store.honesty ∙ i.honesty in
@@ -82,9 +82,9 @@ loop-found-preserved g t c =
                 let own = added told in
                 let lines = rw (honesty, same, b.from.ensures) at f.lines in
                 let part = lines told top.offset in
-                listed_more (IsListed c.args.syntax c.args.span.rule c.args.depth) (tops_seen file items) c.args.text.now.items c.loop-found.text.items (tops_seen file (drop c.loop-found.found-index items)) (top_seen file top) (line ++ part.0) b.push_boxes.new.text.items
+                listed_more (IsListed c.args.form c.args.span.rule c.args.depth) (tops_seen file items) c.args.text.now.items c.loop-found.text.items (tops_seen file (drop c.loop-found.found-index items)) (top_seen file top) (line ++ part.0) b.push_boxes.new.text.items
                 (tops_seen file (drop (c.loop-found.found-index + 1) items)) (i.listed told) (tops_more file items c.loop-found.found-index nowhere c.loop-found-test.true)
-                (listed_span c.args.syntax file c.args.span.rule b.in-Some.inner c.args.depth top part.0 into part.1) (part.2 ∙ ap (λ (xs : List ℕ). xs ++ part.0) own ∙ append_assoc c.loop-found.text.items line part.0);
+                (listed_span c.args.form file c.args.span.rule b.in-Some.inner c.args.depth top part.0 into part.1) (part.2 ∙ ap (λ (xs : List ℕ). xs ++ part.0) own ∙ append_assoc c.loop-found.text.items line part.0);
           })
       | in_default b ↦
           let into : rule_inside c.args.span.rule top.header.kind.0 ≡ None = search rules in
@@ -94,9 +94,9 @@ loop-found-preserved g t c =
             reads = reads;
             listed = λ told.
                 let own = added told in
-                listed_more (IsListed c.args.syntax c.args.span.rule c.args.depth) (tops_seen file items) c.args.text.now.items c.loop-found.text.items (tops_seen file (drop c.loop-found.found-index items)) (top_seen file top) line c.add_line.new.text.items
+                listed_more (IsListed c.args.form c.args.span.rule c.args.depth) (tops_seen file items) c.args.text.now.items c.loop-found.text.items (tops_seen file (drop c.loop-found.found-index items)) (top_seen file top) line c.add_line.new.text.items
                 (tops_seen file (drop (c.loop-found.found-index + 1) items)) (i.listed told) (tops_more file items c.loop-found.found-index nowhere c.loop-found-test.true)
-                (listed_alone c.args.syntax c.args.span.rule c.args.depth (top_seen file top) into) own;
+                (listed_alone c.args.form c.args.span.rule c.args.depth (top_seen file top) into) own;
           })
     ]
 
@@ -107,5 +107,5 @@ returns-clause-lines g t c told start =
     let items = c.deref-found-items.result.now in
     let none : drop c.loop-found.found-index items ≡ [] = drop_all c.loop-found.found-index items (search rules) in
     let tiles = rw (← c.deref-found-items.ensures.value) at c.in_ok-boxes.ensures.tiles in
-    let l = listed_all (IsListed c.args.syntax c.args.span.rule c.args.depth) (tops_seen file items) c.args.text.now.items c.loop-found.text.items (tops_seen file (drop c.loop-found.found-index items)) (i.listed told) (ap (tops_seen file) none) in
-    (concat l.0, lines_of_boxes c.args.syntax c.args.depth c.args.span.rule _ (tops_seen file items) l.0 (tiles told start) l.1, l.2)
+    let l = listed_all (IsListed c.args.form c.args.span.rule c.args.depth) (tops_seen file items) c.args.text.now.items c.loop-found.text.items (tops_seen file (drop c.loop-found.found-index items)) (i.listed told) (ap (tops_seen file) none) in
+    (concat l.0, lines_of_boxes c.args.form c.args.depth c.args.span.rule _ (tops_seen file items) l.0 (tiles told start) l.1, l.2)

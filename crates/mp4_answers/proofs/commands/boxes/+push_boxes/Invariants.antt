@@ -15,5 +15,5 @@ invariant-loop-found g l =
       file : g.S.Store.file l.store ≡ g.S.Store.file l.fn.store;
       reads : g.S.Store.read_failures l.store ≡ g.S.Store.read_failures l.fn.store;
       listed : IsTrue (g.S.Store.is_honest l.fn.store)
-          → Listed (IsListed l.syntax l.fn.span.rule l.depth) (tops_seen (g.S.Store.file l.fn.store) l.found-items) l.fn.text.items l.text.items (tops_seen (g.S.Store.file l.fn.store) (drop l.found-index l.found-items));
+          → Listed (IsListed l.form l.fn.span.rule l.depth) (tops_seen (g.S.Store.file l.fn.store) l.found-items) l.fn.text.items l.text.items (tops_seen (g.S.Store.file l.fn.store) (drop l.found-index l.found-items));
     }

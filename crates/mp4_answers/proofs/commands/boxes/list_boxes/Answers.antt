@@ -1,6 +1,6 @@
 use Rattle.std.proofs.Common.{◌≡◌, ◌++◌, ◌∙◌, List, ℕ, ap, sym, subst}
 use Rattle.std.proofs.lemmas.Result.{err_from_is_err_and}
-use Rattle.mp4_answers.specs.format.Texts.{BoxLines}
+use Rattle.mp4_answers.specs.format.BoxTexts.{FormLines}
 use Rattle.mp4_answers.proofs.BoxSpans.{file_lines, refuses_file}
 use Rattle.mp4_answers.proofs.commands.boxes.list_boxes.Goals as goal
 
@@ -27,7 +27,7 @@ returns g c = record {
         let lines = rw (c.whole_file-span.ensures, c.len.ensures) at c.in_ok-push_boxes.ensures.lines in
         let part = lines told 0 in
         let text : c.push_boxes.new.text.items ≡ part.0 = part.2 ∙ ap (λ (xs : List ℕ). xs ++ part.0) c.new-text.ensures.items in
-        subst (BoxLines c.args.syntax file) (sym text) (file_lines c.args.syntax file part.0 part.1);
+        subst (FormLines c.args.form file) (sym text) (file_lines c.args.form file part.0 part.1);
     refusal = tt;
   };
 }

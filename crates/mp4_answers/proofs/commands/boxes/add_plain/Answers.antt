@@ -2,7 +2,7 @@ use Rattle.std.proofs.Common.{rules, ◌≡◌, [], ◌∷◌, ◌++◌, ◌∙�
 use Rattle.serde_json.specs.Written.{compact_text}
 use Rattle.mp4_answers.specs.words.BoxSpans.{found_value}
 use Rattle.mp4_answers.proofs.BoxSpans.{top_object}
-use Rattle.mp4_answers.proofs.commands.boxes.add_line.Goals as goal
+use Rattle.mp4_answers.proofs.commands.boxes.add_plain.Goals as goal
 
 -- a line and its line feed are added
 joined : (before line with_line after whole : List ℕ) → with_line ≡ before ++ line → after ≡ with_line ++ 10 ∷ [] → line ++ 10 ∷ [] ≡ whole → after ≡ before ++ whole

@@ -1,0 +1,536 @@
+//! The fields of boxes, by their names in the standard (ISO/IEC 14496-12): a table, and what it
+//! says of a box.
+ghost use Rattle.std.specs.Prelude.{◌≡◌, ◌+◌, ◌*◌, ◌≤◌, ◌<◌, length, option_map, IfSome};
+ghost use Rattle.std.specs.Option.{option_or};
+ghost use Rattle.mp4_answers.specs.format.Layouts.{count_of, fields_of, head_of, knows, first_of, layout_of, number_at, of_file, of_fragment, of_media, of_movie, of_places, of_samples, of_track, tail_of, width, width_of};
+ghost use Rattle.mp4_answers.specs.words.LayoutsSeen.{AreFew, HasFew, field_seen, fields_seen, layout_seen, layouts_seen, tail_seen};
+
+use crate::layouts::Count::{At, ToEnd, Unless};
+use crate::layouts::FieldKind::{Code, Hex, Matrix, Number, Offset, Signed};
+use crate::layouts::Tail::{Kept, Nothing, Rows};
+use crate::layouts::Versions::{Any, UpTo, Without};
+use mp4_boxes::{FourCc, front, u32_at};
+
+/// How the bytes of a field are shown. An offset is unsigned in version 0, and signed after it.
+#[derive(Clone, Copy)]
+pub(crate) enum FieldKind {
+    Number,
+    Signed,
+    Offset,
+    Hex,
+    Code,
+    Matrix,
+}
+
+/// A field: its name, how it is shown, how many bytes it has in version 0 and how many after it,
+/// and the flag without which it isn't there; 0 where it always is.
+#[derive(Clone, Copy)]
+pub(crate) struct Field(pub(crate) &'static [u8], pub(crate) FieldKind, u8, u8, u32);
+
+/// How many rows there are: as the number at a place says, in version 0 and after it; as the number
+/// at the second place says, where that at the first is 0, and else none; or as many as have room.
+#[derive(Clone, Copy)]
+pub(crate) enum Count {
+    At(u8, u8),
+    Unless(u8, u8),
+    ToEnd,
+}
+
+/// What follows the fields of a box: nothing, rows, or bytes of this name that are kept.
+#[derive(Clone, Copy)]
+pub(crate) enum Tail {
+    Nothing,
+    Rows(Count, &'static [Field]),
+    Kept(&'static [u8]),
+}
+
+/// Which versions are known: a box has none, or has one up to a last, or any.
+#[derive(Clone, Copy)]
+pub(crate) enum Versions {
+    Without,
+    UpTo(u8),
+    Any,
+}
+
+/// What a box of a type holds.
+#[derive(Clone, Copy)]
+pub(crate) struct Layout(FourCc, Versions, &'static [Field], Tail);
+
+/// What the first bytes of a box say of its fields.
+#[derive(Clone, Copy)]
+pub(crate) struct Head {
+    pub(crate) version: u8,
+    pub(crate) flags: u32,
+}
+
+const VERSION: Field = Field(b"version", Number, 1, 1, 0);
+
+const FLAGS: Field = Field(b"flags", Hex, 3, 3, 0);
+
+/// The fields of a box of which no more is known, but for its version and flags.
+const UNKNOWN: &[Field] = &[VERSION, FLAGS];
+
+const COUNTED: &[Field] = &[VERSION, FLAGS, Field(b"entry_count", Number, 4, 4, 0)];
+
+const BRANDS: &[Field] = &[
+    Field(b"major_brand", Code, 4, 4, 0),
+    Field(b"minor_version", Number, 4, 4, 0),
+];
+
+const BRAND: &[Field] = &[Field(b"compatible_brand", Code, 4, 4, 0)];
+
+const SIDX: &[Field] = &[
+    VERSION,
+    FLAGS,
+    Field(b"reference_ID", Number, 4, 4, 0),
+    Field(b"timescale", Number, 4, 4, 0),
+    Field(b"earliest_presentation_time", Number, 4, 8, 0),
+    Field(b"first_offset", Number, 4, 8, 0),
+    Field(b"reserved", Hex, 2, 2, 0),
+    Field(b"reference_count", Number, 2, 2, 0),
+];
+
+const MVHD: &[Field] = &[
+    VERSION,
+    FLAGS,
+    Field(b"creation_time", Number, 4, 8, 0),
+    Field(b"modification_time", Number, 4, 8, 0),
+    Field(b"timescale", Number, 4, 4, 0),
+    Field(b"duration", Number, 4, 8, 0),
+    Field(b"rate", Signed, 4, 4, 0),
+    Field(b"volume", Signed, 2, 2, 0),
+    Field(b"reserved", Hex, 10, 10, 0),
+    Field(b"matrix", Matrix, 36, 36, 0),
+    Field(b"pre_defined", Hex, 24, 24, 0),
+    Field(b"next_track_ID", Number, 4, 4, 0),
+];
+
+const TKHD: &[Field] = &[
+    VERSION,
+    FLAGS,
+    Field(b"creation_time", Number, 4, 8, 0),
+    Field(b"modification_time", Number, 4, 8, 0),
+    Field(b"track_ID", Number, 4, 4, 0),
+    Field(b"reserved_1", Hex, 4, 4, 0),
+    Field(b"duration", Number, 4, 8, 0),
+    Field(b"reserved_2", Hex, 8, 8, 0),
+    Field(b"layer", Signed, 2, 2, 0),
+    Field(b"alternate_group", Signed, 2, 2, 0),
+    Field(b"volume", Signed, 2, 2, 0),
+    Field(b"reserved_3", Hex, 2, 2, 0),
+    Field(b"matrix", Matrix, 36, 36, 0),
+    Field(b"width", Number, 4, 4, 0),
+    Field(b"height", Number, 4, 4, 0),
+];
+
+const EDIT: &[Field] = &[
+    Field(b"segment_duration", Number, 4, 8, 0),
+    Field(b"media_time", Signed, 4, 8, 0),
+    Field(b"media_rate_integer", Signed, 2, 2, 0),
+    Field(b"media_rate_fraction", Signed, 2, 2, 0),
+];
+
+const MDHD: &[Field] = &[
+    VERSION,
+    FLAGS,
+    Field(b"creation_time", Number, 4, 8, 0),
+    Field(b"modification_time", Number, 4, 8, 0),
+    Field(b"timescale", Number, 4, 4, 0),
+    Field(b"duration", Number, 4, 8, 0),
+    Field(b"language", Hex, 2, 2, 0),
+    Field(b"pre_defined", Hex, 2, 2, 0),
+];
+
+const HDLR: &[Field] = &[
+    VERSION,
+    FLAGS,
+    Field(b"pre_defined", Hex, 4, 4, 0),
+    Field(b"handler_type", Code, 4, 4, 0),
+    Field(b"reserved", Hex, 12, 12, 0),
+];
+
+const VMHD: &[Field] = &[
+    VERSION,
+    FLAGS,
+    Field(b"graphicsmode", Number, 2, 2, 0),
+    Field(b"opcolor", Hex, 6, 6, 0),
+];
+
+const SMHD: &[Field] = &[
+    VERSION,
+    FLAGS,
+    Field(b"balance", Signed, 2, 2, 0),
+    Field(b"reserved", Hex, 2, 2, 0),
+];
+
+const HMHD: &[Field] = &[
+    VERSION,
+    FLAGS,
+    Field(b"maxPDUsize", Number, 2, 2, 0),
+    Field(b"avgPDUsize", Number, 2, 2, 0),
+    Field(b"maxbitrate", Number, 4, 4, 0),
+    Field(b"avgbitrate", Number, 4, 4, 0),
+    Field(b"reserved", Hex, 4, 4, 0),
+];
+
+const STTS: &[Field] = &[
+    Field(b"sample_count", Number, 4, 4, 0),
+    Field(b"sample_delta", Number, 4, 4, 0),
+];
+
+const CTTS: &[Field] = &[
+    Field(b"sample_count", Number, 4, 4, 0),
+    Field(b"sample_offset", Offset, 4, 4, 0),
+];
+
+const CSLG: &[Field] = &[
+    VERSION,
+    FLAGS,
+    Field(b"compositionToDTSShift", Signed, 4, 8, 0),
+    Field(b"leastDecodeToDisplayDelta", Signed, 4, 8, 0),
+    Field(b"greatestDecodeToDisplayDelta", Signed, 4, 8, 0),
+    Field(b"compositionStartTime", Signed, 4, 8, 0),
+    Field(b"compositionEndTime", Signed, 4, 8, 0),
+];
+
+const STSC: &[Field] = &[
+    Field(b"first_chunk", Number, 4, 4, 0),
+    Field(b"samples_per_chunk", Number, 4, 4, 0),
+    Field(b"sample_description_index", Number, 4, 4, 0),
+];
+
+const STSZ: &[Field] = &[
+    VERSION,
+    FLAGS,
+    Field(b"sample_size", Number, 4, 4, 0),
+    Field(b"sample_count", Number, 4, 4, 0),
+];
+
+const STZ2: &[Field] = &[
+    VERSION,
+    FLAGS,
+    Field(b"reserved", Hex, 3, 3, 0),
+    Field(b"field_size", Number, 1, 1, 0),
+    Field(b"sample_count", Number, 4, 4, 0),
+];
+
+const SBGP: &[Field] = &[
+    VERSION,
+    FLAGS,
+    Field(b"grouping_type", Code, 4, 4, 0),
+    Field(b"grouping_type_parameter", Number, 0, 4, 0),
+    Field(b"entry_count", Number, 4, 4, 0),
+];
+
+const GROUP: &[Field] = &[
+    Field(b"sample_count", Number, 4, 4, 0),
+    Field(b"group_description_index", Number, 4, 4, 0),
+];
+
+const SGPD: &[Field] = &[
+    VERSION,
+    FLAGS,
+    Field(b"grouping_type", Code, 4, 4, 0),
+    Field(b"default_length", Number, 0, 4, 0),
+    Field(b"entry_count", Number, 4, 4, 0),
+];
+
+const MEHD: &[Field] = &[VERSION, FLAGS, Field(b"fragment_duration", Number, 4, 8, 0)];
+
+const TREX: &[Field] = &[
+    VERSION,
+    FLAGS,
+    Field(b"track_ID", Number, 4, 4, 0),
+    Field(b"default_sample_description_index", Number, 4, 4, 0),
+    Field(b"default_sample_duration", Number, 4, 4, 0),
+    Field(b"default_sample_size", Number, 4, 4, 0),
+    Field(b"default_sample_flags", Hex, 4, 4, 0),
+];
+
+const MFHD: &[Field] = &[VERSION, FLAGS, Field(b"sequence_number", Number, 4, 4, 0)];
+
+const TFHD: &[Field] = &[
+    VERSION,
+    FLAGS,
+    Field(b"track_ID", Number, 4, 4, 0),
+    Field(b"base_data_offset", Number, 8, 8, 0x000001),
+    Field(b"sample_description_index", Number, 4, 4, 0x000002),
+    Field(b"default_sample_duration", Number, 4, 4, 0x000008),
+    Field(b"default_sample_size", Number, 4, 4, 0x000010),
+    Field(b"default_sample_flags", Hex, 4, 4, 0x000020),
+];
+
+const TFDT: &[Field] = &[
+    VERSION,
+    FLAGS,
+    Field(b"baseMediaDecodeTime", Number, 4, 8, 0),
+];
+
+const TRUN: &[Field] = &[
+    VERSION,
+    FLAGS,
+    Field(b"sample_count", Number, 4, 4, 0),
+    Field(b"data_offset", Signed, 4, 4, 0x000001),
+    Field(b"first_sample_flags", Hex, 4, 4, 0x000004),
+];
+
+const SAMPLE: &[Field] = &[
+    Field(b"sample_duration", Number, 4, 4, 0x000100),
+    Field(b"sample_size", Number, 4, 4, 0x000200),
+    Field(b"sample_flags", Hex, 4, 4, 0x000400),
+    Field(b"sample_composition_time_offset", Offset, 4, 4, 0x000800),
+];
+
+const ENTRY_SIZE: &[Field] = &[Field(b"entry_size", Number, 4, 4, 0)];
+
+const CHUNK: &[Field] = &[Field(b"chunk_offset", Number, 4, 4, 0)];
+
+const LONG_CHUNK: &[Field] = &[Field(b"chunk_offset", Number, 8, 8, 0)];
+
+const SYNC: &[Field] = &[Field(b"sample_number", Number, 4, 4, 0)];
+
+const USER_TYPE: &[Field] = &[Field(b"usertype", Hex, 16, 16, 0)];
+
+const OF_FILE: &[Layout] = &[
+    Layout(FourCc(*b"ftyp"), Without, BRANDS, Rows(ToEnd, BRAND)),
+    Layout(FourCc(*b"styp"), Without, BRANDS, Rows(ToEnd, BRAND)),
+    Layout(FourCc(*b"sidx"), UpTo(1), SIDX, Kept(b"references")),
+    Layout(FourCc(*b"uuid"), Without, USER_TYPE, Kept(b"payload")),
+];
+
+const OF_MOVIE: &[Layout] = &[
+    Layout(FourCc(*b"mvhd"), UpTo(1), MVHD, Nothing),
+    Layout(FourCc(*b"iods"), UpTo(0), UNKNOWN, Kept(b"OD")),
+    Layout(FourCc(*b"udta"), Without, &[], Kept(b"payload")),
+    Layout(FourCc(*b"meta"), Without, &[], Kept(b"payload")),
+    Layout(FourCc(*b"mehd"), UpTo(1), MEHD, Nothing),
+    Layout(FourCc(*b"trex"), UpTo(0), TREX, Nothing),
+];
+
+const OF_TRACK: &[Layout] = &[
+    Layout(FourCc(*b"tkhd"), UpTo(1), TKHD, Nothing),
+    Layout(FourCc(*b"tref"), Without, &[], Kept(b"payload")),
+    Layout(FourCc(*b"elst"), UpTo(1), COUNTED, Rows(At(4, 4), EDIT)),
+];
+
+const OF_MEDIA: &[Layout] = &[
+    Layout(FourCc(*b"mdhd"), UpTo(1), MDHD, Nothing),
+    Layout(FourCc(*b"hdlr"), Any, HDLR, Kept(b"name")),
+    Layout(FourCc(*b"elng"), Any, UNKNOWN, Kept(b"extended_language")),
+    Layout(FourCc(*b"vmhd"), UpTo(0), VMHD, Nothing),
+    Layout(FourCc(*b"smhd"), UpTo(0), SMHD, Nothing),
+    Layout(FourCc(*b"hmhd"), UpTo(0), HMHD, Nothing),
+    Layout(FourCc(*b"nmhd"), UpTo(0), UNKNOWN, Nothing),
+    Layout(FourCc(*b"sthd"), UpTo(0), UNKNOWN, Nothing),
+    Layout(FourCc(*b"gmhd"), Without, &[], Kept(b"payload")),
+];
+
+const OF_SAMPLES: &[Layout] = &[
+    Layout(FourCc(*b"dref"), UpTo(0), COUNTED, Kept(b"entries")),
+    Layout(FourCc(*b"stsd"), UpTo(0), COUNTED, Kept(b"entries")),
+    Layout(FourCc(*b"stts"), UpTo(0), COUNTED, Rows(At(4, 4), STTS)),
+    Layout(FourCc(*b"ctts"), UpTo(1), COUNTED, Rows(At(4, 4), CTTS)),
+    Layout(FourCc(*b"cslg"), UpTo(1), CSLG, Nothing),
+    Layout(FourCc(*b"stsc"), UpTo(0), COUNTED, Rows(At(4, 4), STSC)),
+    Layout(
+        FourCc(*b"stsz"),
+        UpTo(0),
+        STSZ,
+        Rows(Unless(4, 8), ENTRY_SIZE),
+    ),
+    Layout(FourCc(*b"stz2"), UpTo(0), STZ2, Kept(b"entry_size")),
+];
+
+const OF_PLACES: &[Layout] = &[
+    Layout(FourCc(*b"stco"), UpTo(0), COUNTED, Rows(At(4, 4), CHUNK)),
+    Layout(
+        FourCc(*b"co64"),
+        UpTo(0),
+        COUNTED,
+        Rows(At(4, 4), LONG_CHUNK),
+    ),
+    Layout(FourCc(*b"stss"), UpTo(0), COUNTED, Rows(At(4, 4), SYNC)),
+    Layout(FourCc(*b"sdtp"), UpTo(0), UNKNOWN, Kept(b"samples")),
+    Layout(FourCc(*b"sbgp"), UpTo(1), SBGP, Rows(At(8, 12), GROUP)),
+    Layout(FourCc(*b"sgpd"), UpTo(1), SGPD, Kept(b"entries")),
+];
+
+const OF_FRAGMENT: &[Layout] = &[
+    Layout(FourCc(*b"mfhd"), UpTo(0), MFHD, Nothing),
+    Layout(FourCc(*b"tfhd"), UpTo(0), TFHD, Nothing),
+    Layout(FourCc(*b"tfdt"), UpTo(1), TFDT, Nothing),
+    Layout(FourCc(*b"trun"), UpTo(1), TRUN, Rows(At(4, 4), SAMPLE)),
+];
+
+impl Field {
+    /// How many bytes it has; none where it isn't there.
+    pub(crate) fn width(&self, head: Head) -> usize
+        ensures width { result ≡ width head (field_seen self.now) }
+        ensures short { result ≤ 255 }
+    {
+        if self.4 != 0 && head.flags & self.4 == 0 {
+            return 0;
+        }
+        usize::from(if head.version == 0 { self.2 } else { self.3 })
+    }
+}
+
+/// How many bytes some fields have in all.
+pub(crate) fn width_of(fields: &[Field], head: Head) -> u64
+    requires { length fields.now ≤ 64 }
+    ensures width { result ≡ width_of head (fields_seen fields.now) }
+    ensures short { result ≤ 16320 }
+{
+    let mut width = 0;
+    for field in fields {
+        width += field.width(head) as u64;
+    }
+    width
+}
+
+// The number at a place of the first bytes of a box; 0 where they don't go so far.
+fn number_at(front: &[u8], place: u8) -> u64
+    ensures number { result ≡ number_at front.now place }
+    ensures short { result < 4294967296 }
+{
+    let place = usize::from(place);
+    if front.len() < place + 4 {
+        return 0;
+    }
+    u64::from(u32_at(front, place))
+}
+
+impl Count {
+    /// How many rows there are due, by the first bytes of a box; none is said where they go to its
+    /// end.
+    pub(crate) fn number(self, head: Head, front: &[u8]) -> Option<u64>
+        ensures number { result ≡ count_of self head front.now }
+        ensures short { IfSome result (λ n. n < 4294967296) }
+    {
+        match self {
+            At(short, long) => {
+                let place = if head.version == 0 { short } else { long };
+                Some(number_at(front, place))
+            }
+            Unless(other, _) if number_at(front, other) > 0 => Some(0),
+            Unless(_, place) => Some(number_at(front, place)),
+            ToEnd => None,
+        }
+    }
+}
+
+impl Layout {
+    /// What version and flags the first bytes of a box say; 0 where it has none.
+    pub(crate) fn head(&self, bytes: &[u8]) -> Head
+        ensures { result ≡ head_of (layout_seen self.now).versions bytes.now }
+    {
+        let none = Head {
+            version: 0,
+            flags: 0,
+        };
+        match self.1 {
+            Without => none,
+            UpTo(_) | Any => match front(bytes) {
+                Ok((version, flags)) => Head { version, flags },
+                Err(_) => none,
+            },
+        }
+    }
+
+    // Whether the table knows the version.
+    fn knows(&self, head: Head) -> bool
+        ensures { result ≡ knows (layout_seen self.now).versions head }
+    {
+        match self.1 {
+            UpTo(last) => head.version <= last,
+            Without | Any => true,
+        }
+    }
+
+    /// The fields of a box of this version; version and flags alone, where it isn't known.
+    pub(crate) fn fields(&self, head: Head) -> &'static [Field]
+        requires { AreFew (layout_seen self.now) }
+        ensures fields { fields_seen result.now ≡ fields_of (layout_seen self.now) head }
+        ensures few { length result.now ≤ 64 }
+    {
+        if self.knows(head) { self.2 } else { UNKNOWN }
+    }
+
+    /// What follows them.
+    pub(crate) fn tail(&self, head: Head) -> Tail
+        requires { AreFew (layout_seen self.now) }
+        ensures tail { tail_seen result ≡ tail_of (layout_seen self.now) head }
+        ensures few { HasFew (tail_seen result) }
+    {
+        if self.knows(head) { self.3 } else { Nothing }
+    }
+}
+
+fn of_file() -> &'static [Layout]
+    ensures { layouts_seen result.now ≡ of_file }
+{
+    OF_FILE
+}
+
+fn of_movie() -> &'static [Layout]
+    ensures { layouts_seen result.now ≡ of_movie }
+{
+    OF_MOVIE
+}
+
+fn of_track() -> &'static [Layout]
+    ensures { layouts_seen result.now ≡ of_track }
+{
+    OF_TRACK
+}
+
+fn of_media() -> &'static [Layout]
+    ensures { layouts_seen result.now ≡ of_media }
+{
+    OF_MEDIA
+}
+
+fn of_samples() -> &'static [Layout]
+    ensures { layouts_seen result.now ≡ of_samples }
+{
+    OF_SAMPLES
+}
+
+fn of_places() -> &'static [Layout]
+    ensures { layouts_seen result.now ≡ of_places }
+{
+    OF_PLACES
+}
+
+fn of_fragment() -> &'static [Layout]
+    ensures { layouts_seen result.now ≡ of_fragment }
+{
+    OF_FRAGMENT
+}
+
+// The first of these layouts that is of the type, or else another.
+fn find_or(all: &'static [Layout], kind: FourCc, other: Option<Layout>) -> Option<Layout>
+    ensures { option_map layout_seen result
+        ≡ option_or (first_of kind.0 (layouts_seen all.now)) (option_map layout_seen other) }
+{
+    for layout in all {
+        if layout.0 == kind {
+            return Some(*layout);
+        }
+    }
+    other
+}
+
+/// What a box of this type holds, where the table has it.
+pub(crate) fn layout_of(kind: FourCc) -> Option<Layout>
+    ensures layout { option_map layout_seen result ≡ layout_of kind.0 }
+    ensures few { IfSome result (λ l. AreFew (layout_seen l)) }
+{
+    let mut found = find_or(of_fragment(), kind, None);
+    found = find_or(of_places(), kind, found);
+    found = find_or(of_samples(), kind, found);
+    found = find_or(of_media(), kind, found);
+    found = find_or(of_track(), kind, found);
+    found = find_or(of_movie(), kind, found);
+    find_or(of_file(), kind, found)
+}
