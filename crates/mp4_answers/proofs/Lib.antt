@@ -65,3 +65,4 @@ pub mod Paddings
 mod Rotations
 mod ShortForms
 pub mod SampleLists
+mod NamesFound

@@ -20,3 +20,4 @@ pub mod Lanes
 pub mod Messages
 pub mod SampleMessages
 pub mod SpelledNames
+pub mod NameSets
