@@ -67,3 +67,4 @@ mod ShortForms
 pub mod SampleLists
 pub mod FieldParts
 pub mod FieldReads
+mod NamesFound

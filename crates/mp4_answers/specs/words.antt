@@ -21,3 +21,4 @@ pub mod Messages
 pub mod SampleMessages
 pub mod SpelledNames
 pub mod LayoutsSeen
+pub mod NameSets

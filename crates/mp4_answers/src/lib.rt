@@ -63,7 +63,7 @@ pub use commands::print::print;
 pub use commands::samples::{samples, samples_as, samples_counted};
 pub use commands::show::{show, show_counted};
 pub use commands::strip::{count_named, strip};
-pub use commands::sum::sum_file;
+pub use commands::sum::{sum_bytes, sum_file};
 pub use jobs::{BoxForm, Form, Job, Syntax, VerdictStyle};
 pub use text::difference_lines::say_difference;
 pub use text::fault_text::{fault_line, status};

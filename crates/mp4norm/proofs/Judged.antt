@@ -6,7 +6,7 @@ use Rattle.mp4_boxes.specs.declared.refusal.Refusal.{Refusal}
 use Rattle.mp4_answers.specs.format.Verdicts.{verdict_status}
 use Rattle.mp4norm.specs.declared.judging.ListedFile.{ListedFile}
 use Rattle.mp4norm.specs.format.Lists.{ended_names}
-use Rattle.mp4norm.specs.format.Judging.{sum_status, JudgesEach, SumsEach}
+use Rattle.mp4norm.specs.format.Judging.{has_another, has_none, one_if, JudgesEach, SumsAll}
 
 -- what is still to come makes up the whole with what was judged, whose greatest status this is
 abbrev pub GoesOn : {J A : Type 0} → (J → J → A → Result (Option (List ℕ)) Refusal → Type 0) → List A → J → List A → J → ℕ → Type 0
@@ -17,6 +17,9 @@ max_none n = omega arith
 
 max_more : (status worst own : ℕ) → max (max own status) worst ≡ max status (max own worst)
 max_more status worst own = omega arith
+
+plus_more : (many one none : ℕ) → many + (one + none) ≡ (many + one) + none
+plus_more many one none = omega arith
 
 pub goes_from : {J A : Type 0} (Finds : J → J → A → Result (Option (List ℕ)) Refusal → Type 0) (all : List A) (from : J) → GoesOn Finds all from all from 0
 goes_from Finds all from to status j = subst (λ (n : ℕ). JudgesEach Finds all from to n) (sym (max_none status)) j
@@ -30,25 +33,41 @@ goes_on Finds all from a more at next worst own worse found f is e on to status 
 pub goes_whole : {J A : Type 0} (Finds : J → J → A → Result (Option (List ℕ)) Refusal → Type 0) (all : List A) (from at : J) (worst : ℕ) → GoesOn Finds all from [] at worst → JudgesEach Finds all from at worst
 goes_whole Finds all from at worst on = let none : max 0 worst ≡ worst = omega arith in subst (λ (n : ℕ). JudgesEach Finds all from at n) none (on at 0 (refl, refl))
 
--- the same of files that have a sum in a list
-abbrev pub SumsOn : {J : Type 0} → (J → J → ListedFile → Result (Option (List ℕ)) Refusal → Type 0) → List ListedFile → J → List ListedFile → J → ℕ → ℕ → Type 0
-SumsOn {J = J} Finds all from left at worst differ = (to : J) (refused others : ℕ) → SumsEach Finds left at to refused others → SumsEach Finds all from to (max refused worst) (max others differ)
+-- the same of files that have a sum in a list, so many of which have none and another one
+abbrev pub SumsOn : {J : Type 0} → (J → J → ListedFile → Result (Option (List ℕ)) Refusal → Type 0) → List ListedFile → J → List ListedFile → J → ℕ → ℕ → ℕ → Type 0
+SumsOn {J = J} Finds all from left at worst without other = (to : J) (refused none others : ℕ) → SumsAll Finds left at to refused none others → SumsAll Finds all from to (max refused worst) (without + none) (other + others)
 
-pub sums_on : {J : Type 0} (Finds : J → J → ListedFile → Result (Option (List ℕ)) Refusal → Type 0) (all : List ListedFile) (from : J) (file : ListedFile) (more : List ListedFile) (at next : J) (worst own worse differ other differs : ℕ) (found : Result (Option (List ℕ)) Refusal)
-    → Finds at next file found → own ≡ verdict_status found → worse ≡ max own worst → other ≡ sum_status file.digest found → differs ≡ max other differ → SumsOn Finds all from (file ∷ more) at worst differ → SumsOn Finds all from more next worse differs
-sums_on Finds all from file more at next worst own worse differ other differs found f is e is' e' on to refused others j =
+-- the same answer, by numbers that are the same
+same_sums : {J : Type 0} (Finds : J → J → ListedFile → Result (Option (List ℕ)) Refusal → Type 0) (all : List ListedFile) (from to : J) (worst worst' without without' other other' : ℕ)
+    → worst ≡ worst' → without ≡ without' → other ≡ other' → SumsAll Finds all from to worst without other → SumsAll Finds all from to worst' without' other'
+same_sums Finds all from to worst worst' without without' other other' e f h j =
+    subst (λ (n : ℕ). SumsAll Finds all from to worst' without' n) h
+    (subst (λ (n : ℕ). SumsAll Finds all from to worst' n other) f (subst (λ (n : ℕ). SumsAll Finds all from to n without other) e j))
+
+pub sums_from : {J : Type 0} (Finds : J → J → ListedFile → Result (Option (List ℕ)) Refusal → Type 0) (all : List ListedFile) (from : J) → SumsOn Finds all from all from 0 0 0
+sums_from Finds all from to refused none others j =
+    let first : refused ≡ max refused 0 = omega arith in
+    let second : none ≡ 0 + none = omega arith in
+    let third : others ≡ 0 + others = omega arith in
+    same_sums Finds all from to refused (max refused 0) none (0 + none) others (0 + others) first second third j
+
+pub sums_on : {J : Type 0} (Finds : J → J → ListedFile → Result (Option (List ℕ)) Refusal → Type 0) (all : List ListedFile) (from : J) (file : ListedFile) (more : List ListedFile) (at next : J) (worst own worse without one other another : ℕ) (found : Result (Option (List ℕ)) Refusal)
+    → Finds at next file found → own ≡ verdict_status found → worse ≡ max own worst → one ≡ one_if (has_none found) → another ≡ one_if (has_another file.digest found)
+    → SumsOn Finds all from (file ∷ more) at worst without other → SumsOn Finds all from more next worse (without + one) (other + another)
+sums_on Finds all from file more at next worst own worse without one other another found f is e is_none is_another on to refused none others j =
     let first = max_more refused worst (verdict_status found) ∙ ap (λ (n : ℕ). max refused (max n worst)) (sym is) ∙ ap (λ (n : ℕ). max refused n) (sym e) in
-    let second = max_more others differ (sum_status file.digest found) ∙ ap (λ (n : ℕ). max others (max n differ)) (sym is') ∙ ap (λ (n : ℕ). max others n) (sym e') in
-    let whole = on to (max (verdict_status found) refused) (max (sum_status file.digest found) others) (next, refused, others, found, f, j, refl, refl) in
-    subst (λ (n : ℕ). SumsEach Finds all from to n (max others differs)) first
-    (subst (λ (n : ℕ). SumsEach Finds all from to (max (max (verdict_status found) refused) worst) n) second whole)
+    let second = ap (λ (n : ℕ). without + (n + none)) (sym is_none) ∙ plus_more without one none in
+    let third = ap (λ (n : ℕ). other + (n + others)) (sym is_another) ∙ plus_more other another others in
+    let whole = on to (max (verdict_status found) refused) (one_if (has_none found) + none) (one_if (has_another file.digest found) + others) (next, found, refused, none, others, f, j, refl, refl, refl) in
+    same_sums Finds all from to _ _ _ _ _ _ first second third whole
 
-pub sums_whole : {J : Type 0} (Finds : J → J → ListedFile → Result (Option (List ℕ)) Refusal → Type 0) (all : List ListedFile) (from at : J) (worst differ : ℕ) → SumsOn Finds all from [] at worst differ → SumsEach Finds all from at worst differ
-sums_whole Finds all from at worst differ on =
-    let own = on at 0 0 (refl, refl, refl) in
+pub sums_whole : {J : Type 0} (Finds : J → J → ListedFile → Result (Option (List ℕ)) Refusal → Type 0) (all : List ListedFile) (from at : J) (worst without other : ℕ) → SumsOn Finds all from [] at worst without other → SumsAll Finds all from at worst without other
+sums_whole Finds all from at worst without other on =
+    let own = on at 0 0 0 (refl, refl, refl, refl) in
     let none : max 0 worst ≡ worst = omega arith in
-    let same : max 0 differ ≡ differ = omega arith in
-    subst (λ (n : ℕ). SumsEach Finds all from at n differ) none (subst (λ (n : ℕ). SumsEach Finds all from at (max 0 worst) n) same own)
+    let same : without + 0 ≡ without = omega arith in
+    let others : other + 0 ≡ other = omega arith in
+    same_sums Finds all from at _ _ _ _ _ _ none same others own
 
 -- ---- what is left to judge
 

@@ -1,14 +1,14 @@
 //! Many files, judged one after the other by whoever judges one.
-ghost use Rattle.std.specs.Prelude.{◌≡◌, IfErr, IfOk};
-ghost use Rattle.mp4norm.specs.format.Judging.{sum_status, ChecksSums, JudgesBoth, JudgesEach};
+ghost use Rattle.std.specs.Prelude.{◌≡◌, ◌+◌, ◌≤◌, length, IfErr, IfOk};
+ghost use Rattle.mp4norm.specs.format.Judging.{has_another, has_none, one_if, tally_status, JudgesBoth, JudgesEach, SumsEach};
 ghost use Rattle.mp4norm.specs.format.Lists.{ended_names};
 
 use crate::running::{DIFFER, Found, found_status};
 use crate::shell::action::Input;
 use crate::shell::lists::first_name;
 use mp4_answers::digests::DIGEST;
+use mp4_answers::text::sum_lines::SumOf;
 use mp4_boxes::Refusal;
-use mp4_content::Without;
 
 /// Who judges one file after the other, and puts what is found of each.
 pub(crate) trait Judge {
@@ -82,12 +82,12 @@ pub(crate) fn judge_all<J: Judge>(
     Ok(first.max(second))
 }
 
-/// A file of a list of sums: its name, its sum, and what is left out of it.
+/// A file of a list of sums: its name, its sum, and of what that is.
 #[derive(Drop)]
 pub(crate) struct ListedFile {
     pub(crate) name: Vec<u8>,
     pub(crate) digest: [u8; DIGEST],
-    pub(crate) leaving: Without,
+    pub(crate) what: SumOf,
 }
 
 /// Who sums one file after the other, and puts what is to be said of each.
@@ -108,28 +108,74 @@ pub(crate) trait SumJudge {
         ensures refusal { IfErr result (refuses self.new) };
 }
 
-/// The status of a file that has a sum, where this one is due: whether it has another one.
-pub(crate) fn sum_status(digest: &[u8; DIGEST], found: &Found) -> u8
-    ensures { result ≡ sum_status digest.now found.now }
+/// Whether a file has another sum than this one.
+pub(crate) fn has_another(digest: &[u8; DIGEST], found: &Found) -> bool
+    ensures { result ≡ has_another digest.now found.now }
 {
     match found {
-        Ok(Some(own)) if *own == *digest => 0,
-        Ok(_) => DIFFER,
-        Err(_) => 0,
+        Ok(Some(own)) if *own == *digest => false,
+        Ok(_) => true,
+        Err(_) => false,
     }
 }
 
-/// Sums the files, each once, and gives the greatest status of those that have no sum, else whether
-/// some file has another one.
-pub(crate) fn check_listed<J: SumJudge>(files: &[ListedFile], judge: &mut J) -> Result<u8, Refusal>
-    ensures each { IfOk result (ChecksSums J.finds files.now judge.old judge.new) }
+/// How files came out that have a sum in a list: the greatest status of those that have none of
+/// their own, how many these are, and how many have another one.
+#[derive(Clone, Copy)]
+pub(crate) struct Tally {
+    pub(crate) worst: u8,
+    pub(crate) without: usize,
+    pub(crate) other: usize,
+}
+
+/// The status of files that came out so.
+pub(crate) fn tally_status(tally: Tally) -> u8
+    ensures { result ≡ tally_status tally }
+{
+    if tally.worst > 0 {
+        tally.worst
+    } else if tally.other > 0 {
+        DIFFER
+    } else {
+        0
+    }
+}
+
+// How many files have no sum, and how many another one than this: of one file.
+fn counted(digest: &[u8; DIGEST], found: &Found) -> (usize, usize)
+    ensures none { result.0 ≡ one_if (has_none found.now) }
+    ensures another { result.1 ≡ one_if (has_another digest.now found.now) }
+    ensures one { result.0 + result.1 ≤ 1 }
+{
+    if found.is_err() {
+        (1, 0)
+    } else if has_another(digest, found) {
+        (0, 1)
+    } else {
+        (0, 0)
+    }
+}
+
+/// Sums the files, each once, and says how they came out.
+pub(crate) fn check_listed<J: SumJudge>(
+    files: &[ListedFile],
+    judge: &mut J,
+) -> Result<Tally, Refusal>
+    ensures each { IfOk result (SumsEach J.finds files.now judge.old judge.new) }
+    ensures all { IfOk result (λ t. t.other + t.without ≤ length files.now) }
     ensures refusal { IfErr result (J.refuses judge.new) }
 {
-    let (mut worst, mut differ) = (0, 0);
+    let (mut worst, mut without, mut other) = (0, 0, 0);
     for file in files {
         let found = judge.judge_sum(file)?;
         worst = found_status(&found).max(worst);
-        differ = sum_status(&file.digest, &found).max(differ);
+        let (none, another) = counted(&file.digest, &found);
+        without += none;
+        other += another;
     }
-    Ok(if worst > 0 { worst } else { differ })
+    Ok(Tally {
+        worst,
+        without,
+        other,
+    })
 }

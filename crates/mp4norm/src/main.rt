@@ -37,7 +37,7 @@ use shell::descriptors::take_closed;
 use shell::file_names::{shown_word, word_of};
 use shell::run_command::run;
 use shell::run_compare::compare_named;
-use shell::sum_checks::check_sums;
+use shell::sum_checks::{Sought, check_sums, tell_new};
 use std::alloc::{AllocError, Global};
 use std::io;
 use std::io::{IsTerminal, Write};
@@ -135,6 +135,17 @@ fn act<L: Ledger, M: Ledger>(
             rt,
             check_sums(rt, list, how, &mut counted),
         ),
+        Action::NewNames {
+            list,
+            files,
+            names,
+            end,
+            telling,
+        } => {
+            let words = files.as_slice();
+            let sought = Sought { words, names, end };
+            end_verdicts(rt, tell_new(rt, list, sought, telling))
+        }
         Action::Compare(comparison) => compare_named(rt, comparison, &mut counted),
         Action::Check {
             files,

@@ -15,10 +15,11 @@ use mp4_answers::commands::answer_len::text_len;
 use mp4_answers::commands::check::check_counted;
 use mp4_answers::commands::compare::Failure;
 use mp4_answers::commands::perform::perform;
-use mp4_answers::commands::sum::sum_file;
+use mp4_answers::commands::sum::{sum_bytes, sum_file};
 use mp4_answers::digests::DIGEST;
 use mp4_answers::jobs::Job;
 use mp4_answers::text::fault_text::{fault_line, status};
+use mp4_answers::text::sum_lines::SumOf;
 use mp4_answers::text::verdicts::verdict_status;
 use mp4_boxes::{Refusal, Steps};
 use mp4_store::{Sink, Store, WriteFailed};
@@ -228,8 +229,18 @@ pub(crate) fn find<S: Store, L: Ledger, M: Ledger>(
             check_counted(alloc, store, steps)?;
             Ok(None)
         }
-        Finding::Sum { leaving, .. } => {
+        Finding::Sum {
+            what: SumOf::Form(leaving),
+            ..
+        } => {
             let digest = sum_file(alloc, store, leaving, steps)?;
+            Ok(Some(digest))
+        }
+        Finding::Sum {
+            what: SumOf::Bytes,
+            ..
+        } => {
+            let digest = sum_bytes(alloc, store)?;
             Ok(Some(digest))
         }
     }

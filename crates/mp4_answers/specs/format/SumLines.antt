@@ -1,5 +1,5 @@
 -- Lines of sums, as `sha256sum` of the GNU coreutils writes them.
-use Rattle.std.specs.Prelude.{ℕ, zero, ◌+◌, ◌*◌, ◌-◌, ◌==◌, ◌&&◌, ◌||◌, not, Bool, if◌then◌else◌, nat_le, List, [], ◌∷◌, ◌++◌, flat_map, codes}
+use Rattle.std.specs.Prelude.{ℕ, zero, ◌+◌, ◌*◌, ◌-◌, ◌==◌, ◌&&◌, ◌||◌, not, Bool, if◌then◌else◌, nat_le, List, [], ◌∷◌, ◌++◌, bytes_eq, filter, flat_map, codes, decimal}
 use Rattle.std.specs.List.{list_any}
 use Rattle.mp4_content.specs.declared.without.Without.{Without}
 use Rattle.mp4_answers.specs.format.LastLine.{leaving_text}
@@ -10,6 +10,10 @@ use Rattle.mp4_answers.specs.format.Texts.{hex_text, line_feed}
 abbrev pub header_text : Without → List ℕ
 header_text l = codes "# mp4norm sum: normal form 1, without" ++ or_nothing (leaving_text l)
     ++ line_feed
+
+-- the line before sums of the bytes of files that have no normal form, without its line feed
+abbrev pub bytes_mark : List ℕ
+bytes_mark = codes "# mp4norm sum: bytes of files without a normal form"
 
 -- ---- names
 
@@ -53,3 +57,26 @@ sum_of_name name digest end = if not (end == 0) && is_escaped name
 -- the line of a file that a word names
 abbrev pub sum_text : List ℕ → List ℕ → ℕ → List ℕ
 sum_text word digest end = sum_of_name (plain_name word) digest end
+
+-- ---- names that a list has not
+
+-- the name stands among these
+abbrev pub is_listed : List (List ℕ) → List ℕ → Bool
+is_listed names name = list_any (bytes_eq name) names
+
+-- a name in a line of its own, ended by a byte; where that is none but zero, escaped
+abbrev pub name_line : ℕ → List ℕ → List ℕ
+name_line end name = (if end == 0 then name else name_text name) ++ end ∷ []
+
+-- the lines of those given that do not stand among those listed, in their order
+abbrev pub new_text : List (List ℕ) → ℕ → List (List ℕ) → List ℕ
+new_text listed end given =
+    flat_map (name_line end) (filter (λ name. not (is_listed listed name)) given)
+
+-- ---- how many
+
+-- of so many files so many have another sum than is listed, and so many have none
+abbrev pub tally_text : ℕ → ℕ → ℕ → List ℕ
+tally_text files other without = codes "sum: checked " ++ decimal files
+    ++ codes ": OK " ++ decimal (files - other - without) ++ codes ", FAILED " ++ decimal other
+    ++ codes ", without a sum " ++ decimal without ++ line_feed

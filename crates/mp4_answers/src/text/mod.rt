@@ -14,6 +14,7 @@ pub mod line_block;
 pub mod line_cache;
 pub mod movie_json;
 pub mod named_lines;
+pub mod new_names;
 pub mod payload_lines;
 pub mod plain_names;
 pub mod sample_lines;

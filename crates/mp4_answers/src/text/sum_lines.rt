@@ -1,13 +1,14 @@
 //! Lines of sums, as `sha256sum` of the GNU coreutils writes them, and what a list of them says.
-ghost use Rattle.std.specs.Prelude.{◌≡◌, ◌<◌, ◌≤◌, ℕ, List, ◌∷◌, ◌++◌, length, true, false, Some, IfOk, IfSome, IsSomeAnd, OnOk};
+ghost use Rattle.std.specs.Prelude.{◌≡◌, ◌+◌, ◌<◌, ◌≤◌, ℕ, List, ◌∷◌, ◌++◌, bytes_eq, length, true, false, Some, IfOk, IfSome, IsSomeAnd, OnOk};
 ghost use Rattle.mp4_boxes.specs.format.Bytes.{AreBytes};
-ghost use Rattle.mp4_answers.specs.format.SumLines.{escaped_byte, escaped_name, header_text, is_escaped, name_text, sum_of_name, sum_text};
+ghost use Rattle.mp4_answers.specs.format.SumLines.{bytes_mark, escaped_byte, escaped_name, header_text, is_escaped, name_text, sum_of_name, sum_text, tally_text};
 ghost use Rattle.mp4_answers.specs.words.SpelledNames.{escape_said, IsName, IsSpelled};
-ghost use Rattle.mp4_answers.specs.format.ListedSums.{SaysSum};
+ghost use Rattle.mp4_answers.specs.format.ListedSums.{says_bytes, SaysSum};
 ghost use Rattle.mp4_answers.specs.format.Texts.{hex_text, line_feed};
 
 use crate::digests::DIGEST;
 use crate::text::cutting::{byte_of, cut};
+use crate::text::difference_lines::{say_counted, say_number};
 use crate::text::digits::hex_digit;
 use crate::text::json_text::name_json;
 use crate::text::plain_names::push_plain;
@@ -22,6 +23,9 @@ const HEADER: &[u8] = b"# mp4norm sum: normal form ";
 
 /// The number of the normal form.
 const FORM: &[u8] = b"1";
+
+/// The line before the sums of bytes, without its line feed.
+const BYTES: &[u8] = b"# mp4norm sum: bytes of files without a normal form";
 
 /// How many digits a digest has.
 const DIGITS: usize = 2 * DIGEST;
@@ -52,6 +56,36 @@ pub fn header_line(alloc: Global, leaving: Without) -> Result<Vec<u8>, AllocErro
     } else {
         line.extend_from_slice(words.as_slice())?;
     }
+    line.extend_from_slice(b"\n")?;
+    Ok(line)
+}
+
+/// The line before the sums of the bytes of files that have no normal form.
+pub fn bytes_header(alloc: Global) -> Result<Vec<u8>, AllocError>
+    ensures { IfOk result (λ line. line.items ≡ bytes_mark ++ line_feed) }
+{
+    let mut line = Vec::new(alloc);
+    line.extend_from_slice(BYTES)?;
+    line.extend_from_slice(b"\n")?;
+    Ok(line)
+}
+
+/// The line that says how many files were checked against their sums: how many of them have
+/// another one, how many have none, and how many are left.
+pub fn tally_line(
+    alloc: Global,
+    files: u64,
+    other: u64,
+    without: u64,
+) -> Result<Vec<u8>, AllocError>
+    requires { other + without ≤ files }
+    ensures { IfOk result (λ line. line.items ≡ tally_text files other without) }
+{
+    let mut line = Vec::new(alloc);
+    say_counted(&mut line, "sum: checked ", files, ": OK ")?;
+    say_number(&mut line, files - other - without)?;
+    say_counted(&mut line, ", FAILED ", other, ", without a sum ")?;
+    say_number(&mut line, without)?;
     line.extend_from_slice(b"\n")?;
     Ok(line)
 }
@@ -150,11 +184,20 @@ pub fn sum_object(
     Ok(line)
 }
 
+/// What sums are of.
+#[derive(Clone, Copy)]
+pub enum SumOf {
+    /// The normal form of what is left of a file.
+    Form(Without),
+    /// The bytes of a file.
+    Bytes,
+}
+
 /// What a line of a list of sums says.
 #[derive(Drop)]
 pub enum ListedSum {
-    /// What is left out of the files behind it.
-    Header(Without),
+    /// What the sums behind it are of.
+    Header(SumOf),
     /// The sum of the file of this name.
     Sum { digest: [u8; DIGEST], name: Vec<u8> },
     /// Nothing.
@@ -226,7 +269,9 @@ fn name_of(alloc: Global, spelled: &[u8], is_escaped: bool) -> Result<Option<Vec
 }
 
 // What a line with this behind the mark of a header says.
-fn header_of(rest: &[u8]) -> ListedSum {
+fn header_of(rest: &[u8]) -> ListedSum
+    ensures { says_bytes result ≡ false }
+{
     let (form, words) = cut(rest, b',');
     if form != FORM {
         return ListedSum::Odd("sums of another normal form");
@@ -237,7 +282,7 @@ fn header_of(rest: &[u8]) -> ListedSum {
         None => None,
     };
     match left_out {
-        Some(leaving) => ListedSum::Header(leaving),
+        Some(leaving) => ListedSum::Header(SumOf::Form(leaving)),
         None => ListedSum::Odd("words that leave out nothing that is known"),
     }
 }
@@ -255,9 +300,10 @@ fn behind_mark(rest: &[u8]) -> Option<&[u8]>
 
 // The sum and the name that a line says behind its backslash, if it has one.
 fn sum_behind(alloc: Global, line: &[u8], is_escaped: bool) -> Result<ListedSum, AllocError>
-    ensures { (digest spelled name : List ℕ) → AreBytes digest → length digest ≡ 32
+    ensures sum { (digest spelled name : List ℕ) → AreBytes digest → length digest ≡ 32
         → 0 < length spelled → line.now ≡ hex_text digest ++ 32 ∷ 32 ∷ spelled
         → IsSpelled is_escaped spelled name → IfOk result (SaysSum digest name) }
+    ensures bytes { IfOk result (λ said. says_bytes said ≡ false) }
 {
     const NONE: &str = "no checksum";
     if line.len() < DIGITS + 3 {
@@ -277,7 +323,12 @@ fn sum_behind(alloc: Global, line: &[u8], is_escaped: bool) -> Result<ListedSum,
 }
 
 // What a line that begins with a number sign says.
-fn remark_of(line: &[u8]) -> ListedSum {
+fn remark_of(line: &[u8]) -> ListedSum
+    ensures { says_bytes result ≡ bytes_eq line.now bytes_mark }
+{
+    if line == BYTES {
+        return ListedSum::Header(SumOf::Bytes);
+    }
     match line.strip_prefix(HEADER) {
         Some(rest) => header_of(rest),
         None => ListedSum::Passed,
@@ -285,10 +336,11 @@ fn remark_of(line: &[u8]) -> ListedSum {
 }
 
 /// What a line of a list says. A name is as the list has it, which is no word. What `sum` writes of
-/// a file is read back: its digest, and its name.
+/// a file is read back: its digest, and its name. Just one line says that sums of bytes follow.
 pub fn listed_sum(alloc: Global, line: &[u8]) -> Result<ListedSum, AllocError>
-    ensures { (digest name : List ℕ) → AreBytes digest → length digest ≡ 32 → 0 < length name
+    ensures sum { (digest name : List ℕ) → AreBytes digest → length digest ≡ 32 → 0 < length name
         → line.now ++ line_feed ≡ sum_of_name name digest 10 → IfOk result (SaysSum digest name) }
+    ensures bytes { IfOk result (λ said. says_bytes said ≡ bytes_eq line.now bytes_mark) }
 {
     let Some((first, rest)) = line.split_first() else {
         return Ok(ListedSum::Passed);

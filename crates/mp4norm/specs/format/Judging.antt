@@ -1,8 +1,9 @@
 -- Many files, judged one after the other.
-use Rattle.std.specs.Prelude.{◌≡◌, ℕ, max, nat_lt, List, [], ◌∷◌, bytes_eq, if◌then◌else◌, Option, None, Some, Result, Ok, Err}
+use Rattle.std.specs.Prelude.{◌≡◌, ℕ, ◌+◌, max, nat_lt, List, [], ◌∷◌, Bool, true, false, not, bytes_eq, if◌then◌else◌, Option, None, Some, Result, Ok, Err}
 use Rattle.mp4_boxes.specs.declared.refusal.Refusal.{Refusal}
 use Rattle.mp4_answers.specs.format.Verdicts.{verdict_status}
 use Rattle.mp4norm.specs.declared.judging.ListedFile.{ListedFile}
+use Rattle.mp4norm.specs.declared.judging.Tally.{Tally}
 
 -- Each of these is judged once, in their order: `Finds` says what was found of one between two
 -- states of whoever judges. The status is the greatest of what was found, 0 of none.
@@ -23,27 +24,38 @@ JudgesBoth {J = J} Finds words FindsToo names from to status = (next : J) × (fi
 
 -- ---- files that have a sum in a list
 
--- 5 where a file has another sum than this, or none
-abbrev pub sum_status : List ℕ → Result (Option (List ℕ)) Refusal → ℕ
-sum_status digest (Ok (Some found)) = if bytes_eq found digest then 0 else 5
-sum_status digest (Ok None) = 5
-sum_status digest (Err r) = 0
+-- a file has another sum than this, or none though it is accepted
+abbrev pub has_another : List ℕ → Result (Option (List ℕ)) Refusal → Bool
+has_another digest (Ok (Some found)) = not (bytes_eq found digest)
+has_another digest (Ok None) = true
+has_another digest (Err r) = false
 
--- Each file is summed once, in their order: the greatest status of those that have no sum, and that
--- of those that have another one.
+-- a file has no sum
+abbrev pub has_none : Result (Option (List ℕ)) Refusal → Bool
+has_none (Ok found) = false
+has_none (Err r) = true
+
+abbrev pub one_if : Bool → ℕ
+one_if b = if b then 1 else 0
+
+-- Each file is summed once, in their order: the greatest status of those that have no sum, how many
+-- these are, and how many have another one.
+abbrev pub SumsAll : {J : Type 0}
+    → (J → J → ListedFile → Result (Option (List ℕ)) Refusal → Type 0) → List ListedFile
+    → J → J → ℕ → ℕ → ℕ → Type 0
+SumsAll Finds [] from to worst without other =
+    (to ≡ from) × (worst ≡ 0) × (without ≡ 0) × (other ≡ 0)
+SumsAll {J = J} Finds (file ∷ more) from to worst without other = (next : J)
+    × (found : Result (Option (List ℕ)) Refusal) × (rest none others : ℕ)
+    × Finds from next file found × SumsAll Finds more next to rest none others
+    × (worst ≡ max (verdict_status found) rest) × (without ≡ one_if (has_none found) + none)
+    × (other ≡ one_if (has_another file.digest found) + others)
+
 abbrev pub SumsEach : {J : Type 0}
     → (J → J → ListedFile → Result (Option (List ℕ)) Refusal → Type 0) → List ListedFile
-    → J → J → ℕ → ℕ → Type 0
-SumsEach Finds [] from to refused differ = (to ≡ from) × (refused ≡ 0) × (differ ≡ 0)
-SumsEach {J = J} Finds (file ∷ more) from to refused differ = (next : J) × (rest others : ℕ)
-    × (found : Result (Option (List ℕ)) Refusal) × Finds from next file found
-    × SumsEach Finds more next to rest others × (refused ≡ max (verdict_status found) rest)
-    × (differ ≡ max (sum_status file.digest found) others)
+    → J → J → Tally → Type 0
+SumsEach Finds files from to t = SumsAll Finds files from to t.worst t.without t.other
 
--- the status is that of files without a sum, where there is one, else that of those that differ
-abbrev pub ChecksSums : {J : Type 0}
-    → (J → J → ListedFile → Result (Option (List ℕ)) Refusal → Type 0) → List ListedFile
-    → J → J → ℕ → Type 0
-ChecksSums Finds files from to status = (refused differ : ℕ)
-    × SumsEach Finds files from to refused differ
-    × (status ≡ (if nat_lt 0 refused then refused else differ))
+-- the status is that of files without a sum, where there is one, else 5 where some have another
+abbrev pub tally_status : Tally → ℕ
+tally_status t = if nat_lt 0 t.worst then t.worst else if nat_lt 0 t.other then 5 else 0

@@ -12,7 +12,8 @@ use Rattle.mp4_answers.specs.declared.box_names.Name.TheVariants.{Foreign}
 use Rattle.mp4_answers.specs.format.Run.{Run, look_of, run_of}
 use Rattle.mp4_answers.specs.format.Strips.{RefusesLook}
 use Rattle.mp4_answers.specs.format.Texts.{fault_line, status_of}
-use Rattle.mp4_answers.specs.format.Sums.{Summed}
+use Rattle.mp4_answers.specs.format.Sums.{Summed, SumsBytes}
+use Rattle.mp4_answers.specs.declared.text.sum_lines.SumOf.TheVariants as sums
 use Rattle.mp4_answers.specs.declared.commands.compare.Failure.{Failure}
 use Rattle.mp4norm.specs.declared.shell.action.Finding.{Finding}
 use Rattle.mp4norm.specs.declared.shell.action.Finding.TheVariants as findings
@@ -132,14 +133,16 @@ refusal_text (Err r) = fault_line r ++ 10 ∷ []
 
 -- ---- what is found of a file
 
--- that it is accepted, or the sum of what is left of it
+-- that it is accepted, or the sum of what is left of it, or that of its bytes
 abbrev pub IsFound : Finding → Run → Result (Option (List ℕ)) Refusal → Type 0
 IsFound findings.Verdict r (Ok None) = Judged {A = Unit {0}} r (Ok tt)
 IsFound findings.Verdict r (Ok (Some digest)) = ⊥
 IsFound findings.Verdict r (Err e) = Judged {A = Unit {0}} r (Err e)
-IsFound (findings.Sum l header) r (Ok None) = ⊥
-IsFound (findings.Sum l header) r (Ok (Some digest)) = Summed l r (Ok digest)
-IsFound (findings.Sum l header) r (Err e) = Summed l r (Err e)
+IsFound (findings.Sum what header bytes) r (Ok None) = ⊥
+IsFound (findings.Sum (sums.Form l) header bytes) r (Ok (Some digest)) = Summed l r (Ok digest)
+IsFound (findings.Sum (sums.Form l) header bytes) r (Err e) = Summed l r (Err e)
+IsFound (findings.Sum sums.Bytes header bytes) r (Ok (Some digest)) = SumsBytes r (Ok digest)
+IsFound (findings.Sum sums.Bytes header bytes) r (Err e) = SumsBytes r (Err e)
 
 -- two files are the same or not, or that isn't known
 abbrev pub comparison_status : Result Bool Failure → ℕ

@@ -2,6 +2,7 @@
 use mp4_answers::box_names::Name;
 use mp4_answers::commands::compare::Listing;
 use mp4_answers::jobs::{Job, VerdictStyle};
+use mp4_answers::text::sum_lines::SumOf;
 use mp4_content::Without;
 use std::alloc::AllocError;
 
@@ -90,22 +91,27 @@ pub struct Order<'a> {
 }
 
 /// How files are checked against their sums: whether those that have theirs are passed over in
-/// silence, how many files a list may name, which boxes are free space, and what is said beside the
-/// verdicts.
+/// silence, whether all are counted in a line, how many files a list may name, which boxes are free
+/// space, and what is said beside the verdicts.
 #[derive(Clone, Copy)]
 pub struct SumCheck {
     pub quiet: bool,
+    pub summary: bool,
     pub most_parts: u64,
     pub freeing: Freeing,
     pub telling: Telling,
 }
 
-/// What is found of each of some files: whether it is accepted, or its sum, of what is left of it;
-/// then a line that says of what may stand before all of them.
+/// What is found of each of some files: whether it is accepted, or its sum; then a line that says
+/// of what may stand before all of them, and sums of the bytes of those that have none behind.
 #[derive(Clone, Copy)]
 pub enum Finding {
     Verdict,
-    Sum { leaving: Without, header: bool },
+    Sum {
+        what: SumOf,
+        header: bool,
+        bytes: bool,
+    },
 }
 
 /// Which files are compared, without what, with which boxes as free space, and what is told of it.
@@ -121,7 +127,8 @@ pub struct Comparison<'a> {
 
 /// What the words ask for: a job, a copy without the boxes of some names, a comparison of two
 /// files, a verdict on each of some files and of those that a list names, or the sum of each, in a
-/// line that is ended by a line feed or a zero byte; or whether files have the sums of a list.
+/// line that is ended by a line feed or a zero byte; whether files have the sums of a list; or
+/// which of some files, and of those that a list names, it has not.
 #[derive(Drop)]
 pub enum Action<'a> {
     Check {
@@ -135,6 +142,13 @@ pub enum Action<'a> {
     CheckSums {
         list: Input<'a>,
         how: SumCheck,
+    },
+    NewNames {
+        list: Input<'a>,
+        files: Vec<Input<'a>>,
+        names: Option<Input<'a>>,
+        end: u8,
+        telling: Telling,
     },
     Compare(Comparison<'a>),
     Strip {

@@ -1,19 +1,19 @@
 //! Many files, judged or summed one after the other.
 use crate::judging::{Judge, judge_all};
-use crate::running::{Found, find, settled};
+use crate::running::{Found, find, is_of_file, settled};
 use crate::shell::action::{Finding, Freeing, Input, Telling};
 use crate::shell::file_names::{shown, word_of};
-use crate::shell::foreign::{Told, lay_free};
+use crate::shell::foreign::{Opened, Told, lay_free};
 use crate::shell::gathered::Gathered;
 use crate::shell::reports::{Noted, Report, tell_of};
 use crate::shell::run_command::explain_refusal;
-use crate::shell::sources::{open, read_whole};
+use crate::shell::sources::{open, read_whole, sum_of_source};
 use mp4_answers::digests::DIGEST;
 use mp4_answers::jobs::{Syntax, VerdictStyle};
 use mp4_answers::text::fault_text::fault_line;
 use mp4_answers::text::json_text::name_json;
 use mp4_answers::text::plain_names::push_plain;
-use mp4_answers::text::sum_lines::{header_line, sum_line, sum_object};
+use mp4_answers::text::sum_lines::{SumOf, bytes_header, header_line, sum_line, sum_object};
 use mp4_answers::text::verdicts::put_verdict;
 use mp4_boxes::{Refusal, Steps};
 use mp4_store::{IoSink, Sink};
@@ -59,23 +59,58 @@ impl Manner {
             is_named,
         }
     }
+
+    // Whether what is found is of the bytes of a file, whatever they say.
+    fn is_of_bytes(&self) -> bool {
+        matches!(
+            self.finding,
+            Finding::Sum {
+                what: SumOf::Bytes,
+                ..
+            }
+        )
+    }
+
+    // Whether the bytes of a file are summed that has no sum for this reason.
+    fn sums_bytes(&self, refusal: &Refusal) -> bool {
+        matches!(self.finding, Finding::Sum { bytes: true, .. }) && is_of_file(refusal)
+    }
 }
 
-// Judges what is read, and explains a fault where that is asked for.
+/// What was found of a file; and the sum of its bytes, where it is refused and that is asked for.
+#[derive(Drop)]
+pub(crate) struct Answer {
+    pub(crate) found: Found,
+    bytes: Option<[u8; DIGEST]>,
+}
+
+impl Answer {
+    // Of a file of which no more is asked for.
+    fn of(found: Found) -> Answer {
+        Answer { found, bytes: None }
+    }
+}
+
+// Judges what is read, and explains a fault where that is asked for. What is refused is read once
+// more where the sum of its bytes is asked for.
 fn judged<L: Ledger, M: Ledger>(
     rt: &HostRuntime,
     input: Input,
     manner: Manner,
     report: &mut Report,
     steps: &mut Steps<L, M>,
-) -> Found {
+) -> Result<Answer, Refusal> {
     let source = open(rt, input, report)?;
     let told = Told {
         name: manner.is_named.then_some(input.name()),
         is_told: manner.telling.explain,
         telling: manner.telling,
     };
-    let mut opened = lay_free(rt, told, manner.freeing, source);
+    let mut opened = if manner.is_of_bytes() {
+        Opened::plain(rt.alloc(), source)
+    } else {
+        lay_free(rt, told, manner.freeing, source)
+    };
     let answer = match opened.readable() {
         Ok(()) => find(rt.alloc(), manner.finding, &mut opened.source, steps),
         Err(refusal) => Err(refusal),
@@ -83,7 +118,12 @@ fn judged<L: Ledger, M: Ledger>(
     let answer = settled(&opened.source, answer);
     let Err(refusal) = &answer else {
         opened.tell(rt);
-        return answer;
+        return Ok(Answer::of(answer));
+    };
+    let bytes = if manner.sums_bytes(refusal) {
+        Some(sum_of_source(rt, input, opened.source.below(), report)?)
+    } else {
+        None
     };
     explain_refusal(
         rt,
@@ -96,7 +136,10 @@ fn judged<L: Ledger, M: Ledger>(
     if matches!(refusal, Refusal::StoreFailed) {
         report.concerns_part(rt, opened.source.below())?;
     }
-    answer
+    Ok(Answer {
+        found: answer,
+        bytes,
+    })
 }
 
 /// Judges what is read, and says why it can't be read.
@@ -105,10 +148,13 @@ pub(crate) fn answer_of<L: Ledger, M: Ledger>(
     input: Input,
     manner: Manner,
     steps: &mut Steps<L, M>,
-) -> Found {
+) -> Answer {
     let mut report = Report::new(manner.telling);
-    let answer = judged(rt, input, manner, &mut report, steps);
-    if matches!(answer, Err(Refusal::StoreFailed)) {
+    let answer = match judged(rt, input, manner, &mut report, steps) {
+        Ok(answer) => answer,
+        Err(refusal) => Answer::of(Err(refusal)),
+    };
+    if matches!(answer.found, Err(Refusal::StoreFailed)) {
         report.tell_input(rt, input.name());
     }
     answer
@@ -120,8 +166,11 @@ fn answer_of_listed<L: Ledger, M: Ledger>(
     name: &[u8],
     manner: Manner,
     steps: &mut Steps<L, M>,
-) -> Found {
-    let word = word_of(rt.alloc(), name)?;
+) -> Answer {
+    let word = match word_of(rt.alloc(), name) {
+        Ok(word) => word,
+        Err(failed) => return Answer::of(Err(Refusal::from(failed))),
+    };
     let name = word.as_str();
     answer_of(rt, Input::File { name }, manner, steps)
 }
@@ -139,6 +188,22 @@ pub(crate) fn read_list(
             let mut file = report.outcome(File::open(rt, name), Refusal::StoreFailed)?;
             read_whole(rt.alloc(), &mut file, report)
         }
+    }
+}
+
+/// Reads a list of names whole, and says why it can't be read.
+pub(crate) fn read_names(
+    rt: &HostRuntime,
+    list: Option<Input>,
+    report: &mut Report,
+) -> Result<Vec<u8>, Refusal> {
+    match (read_list(rt, list, report), list) {
+        (Ok(names), _) => Ok(names),
+        (Err(refusal), Some(list)) if matches!(refusal, Refusal::StoreFailed) => {
+            report.tell_input(rt, list.name());
+            Err(refusal)
+        }
+        (Err(refusal), _) => Err(refusal),
     }
 }
 
@@ -168,9 +233,13 @@ fn put_answer<K: Sink>(
     put_verdict(alloc, name.as_slice(), answer, style, lines.sink()?)
 }
 
-// The name of a file in a line of its sum. Where it would name standard input or a list there, it
-// stands behind `./`.
-fn name_in_list(alloc: Global, name: &[u8], is_file: bool) -> Result<Vec<u8>, AllocError> {
+/// The name of a file in a line of its sum. Where it would name standard input or a list there, it
+/// stands behind `./`.
+pub(crate) fn name_in_list(
+    alloc: Global,
+    name: &[u8],
+    is_file: bool,
+) -> Result<Vec<u8>, AllocError> {
     let mut text = Vec::new(alloc);
     if is_file && (name == b"-".as_slice() || name.starts_with(b"@")) {
         text.extend_from_slice(b"./")?;
@@ -220,13 +289,51 @@ fn put_named<K: Sink>(
     }
 }
 
-// Judges files one after the other, and puts what is found of each.
+// Adds the line of the sum of the bytes of a file, if there is one.
+fn hold_bytes(
+    alloc: Global,
+    named: GivenName,
+    answer: &Answer,
+    style: VerdictStyle,
+    held: &mut Vec<u8>,
+) -> Result<(), AllocError> {
+    let Some(digest) = &answer.bytes else {
+        return Ok(());
+    };
+    let name = name_in_list(alloc, named.name, named.is_file)?;
+    let line = sum_line(alloc, name.as_slice(), digest, style.end)?;
+    held.extend_from_slice(line.as_slice())
+}
+
+// Judges files one after the other, and puts what is found of each. The lines of sums of bytes are
+// held.
 #[derive(Drop)]
 struct FileJudge<'a, 'c, K, L: Ledger, M: Ledger> {
     rt: &'a HostRuntime,
     manner: Manner,
     lines: Gathered<'a, K>,
+    held: Vec<u8>,
     steps: &'c mut Steps<L, M>,
+}
+
+impl<'a, 'c, K: Sink, L: Ledger, M: Ledger> FileJudge<'a, 'c, K, L, M> {
+    // Puts what was found of a file of this name, and holds the sum of its bytes.
+    fn note(&mut self, named: GivenName, answer: Answer) -> Result<Found, Refusal> {
+        let style = self.manner.style;
+        put_named(self.rt, named, &answer.found, self.manner, &mut self.lines)?;
+        hold_bytes(self.rt.alloc(), named, &answer, style, &mut self.held)?;
+        Ok(answer.found)
+    }
+
+    // Puts the sums of bytes, behind the line before them, if there are any; and what is gathered.
+    fn end(&mut self) -> Result<(), Refusal> {
+        if !self.held.is_empty() {
+            let header = bytes_header(self.rt.alloc())?;
+            self.lines.add(header.as_slice())?;
+            self.lines.add(self.held.as_slice())?;
+        }
+        self.lines.flush()
+    }
 }
 
 impl<'a, 'c, K: Sink, L: Ledger, M: Ledger> Judge for FileJudge<'a, 'c, K, L, M> {
@@ -237,21 +344,18 @@ impl<'a, 'c, K: Sink, L: Ledger, M: Ledger> Judge for FileJudge<'a, 'c, K, L, M>
     ghost refuses = { λ to refusal. Unit {0} };
 
     fn judge_word(&mut self, input: Input) -> Result<Found, Refusal> {
-        let found = answer_of(self.rt, input, self.manner, self.steps);
+        let answer = answer_of(self.rt, input, self.manner, self.steps);
         let named = GivenName {
             name: input.name().as_bytes(),
             is_file: matches!(input, Input::File { .. }),
         };
-        put_named(self.rt, named, &found, self.manner, &mut self.lines)?;
-        Ok(found)
+        self.note(named, answer)
     }
 
     fn judge_name(&mut self, name: &[u8]) -> Result<Found, Refusal> {
-        let found = answer_of_listed(self.rt, name, self.manner, self.steps);
+        let answer = answer_of_listed(self.rt, name, self.manner, self.steps);
         let is_file = true;
-        let named = GivenName { name, is_file };
-        put_named(self.rt, named, &found, self.manner, &mut self.lines)?;
-        Ok(found)
+        self.note(GivenName { name, is_file }, answer)
     }
 }
 
@@ -262,8 +366,9 @@ fn put_header<K: Sink>(
     lines: &mut Gathered<K>,
 ) -> Result<(), Refusal> {
     if let Finding::Sum {
-        leaving,
+        what: SumOf::Form(leaving),
         header: true,
+        ..
     } = manner.finding
     {
         let header = header_line(alloc, leaving)?;
@@ -272,8 +377,8 @@ fn put_header<K: Sink>(
     Ok(())
 }
 
-// Judges these files and then those of a list, and puts what is found of each. Lines of sums are
-// written together.
+// Judges these files and then those of a list, and puts what is found of each, and then the sums of
+// bytes. Lines of sums are written together.
 fn put_each<K: Sink + Drop, L: Ledger, M: Ledger>(
     rt: &HostRuntime,
     files: &[Input],
@@ -289,10 +394,11 @@ fn put_each<K: Sink + Drop, L: Ledger, M: Ledger>(
         rt,
         manner,
         lines,
+        held: Vec::new(rt.alloc()),
         steps,
     };
     let worst = judge_all(files, list, &mut judge);
-    let put = judge.lines.flush();
+    let put = judge.end();
     let worst = worst?;
     put?;
     Ok(worst)
@@ -323,14 +429,7 @@ pub(crate) fn check_all<L: Ledger, M: Ledger>(
     steps: &mut Steps<L, M>,
 ) -> Result<u8, Refusal> {
     let mut report = Report::new(manner.telling);
-    let names = match (read_list(rt, list, &mut report), list) {
-        (Ok(names), _) => names,
-        (Err(refusal), Some(list)) if matches!(refusal, Refusal::StoreFailed) => {
-            report.tell_input(rt, list.name());
-            return Err(refusal);
-        }
-        (Err(refusal), _) => return Err(refusal),
-    };
+    let names = read_names(rt, list, &mut report)?;
     let names = names.as_slice();
     let worst = check_each(rt, files, names, manner, &mut report, steps);
     if matches!(worst, Err(Refusal::WriteFailed)) {

@@ -14,6 +14,7 @@ use clap::{ArgMatches, Error};
 use mp4_answers::box_names::Name;
 use mp4_answers::commands::compare::{Lines, Listing};
 use mp4_answers::jobs::{Form, Job, Syntax, VerdictStyle};
+use mp4_answers::text::sum_lines::SumOf;
 use mp4_answers::without_words::{leaving_both, leaving_of};
 use mp4_content::Without;
 use std::alloc::{AllocError, Global};
@@ -37,9 +38,23 @@ const LOSSY_ALONE: &str = "the argument '--lossy' is of use only with '--foreign
 
 const QUIET_ALONE: &str = "the argument '--quiet' is of use only with '--check <LIST>'";
 
-const CHECK_ALONE: &str = "\
-the argument '--check <LIST>' can be used only with '--quiet', '--foreign', '--lossy', \
+const SUMMARY_ALONE: &str = "the argument '--summary' is of use only with '--check <LIST>'";
+
+const NEW_ALONE: &str = "the argument '--new' is of use only with '--check <LIST>'";
+
+const NEW_OF_NOTHING: &str = "the argument '--new' wants a <FILE> or '--names-from <LIST>'";
+
+const NEW_OPENS_NOTHING: &str = "\
+the argument '--new' can be used only with '--check <LIST>', '--names-from', '--zero', \
 '--max-parts', '--explain' and '--brief'";
+
+const BYTES_UNMARKED: &str = "\
+the argument '--bytes' cannot be used with '--json', '--zero' and '--no-header': a line says \
+which sums are of bytes";
+
+const CHECK_ALONE: &str = "\
+the argument '--check <LIST>' can be used only with '--quiet', '--summary', '--new', \
+'--foreign', '--lossy', '--max-parts', '--explain' and '--brief'";
 
 const INPUT_TWICE: &str = "standard input ('-') can be read only once";
 
@@ -144,6 +159,21 @@ fn form_of(found: &ArgMatches) -> Form {
     }
 }
 
+// The files that are named.
+fn files_of<'a>(alloc: Global, found: &ArgMatches<'a>) -> Result<Vec<Input<'a>>, AllocError> {
+    let mut files = Vec::new(alloc);
+    let most = most_parts_of(found);
+    for word in found.get_strs("file").unwrap_or(&[]) {
+        files.push(input_of(word, most))?;
+    }
+    Ok(files)
+}
+
+// The byte that ends each line.
+fn end_of(found: &ArgMatches) -> u8 {
+    if found.get_flag("zero") { 0 } else { b'\n' }
+}
+
 // Which files are to be judged, or summed.
 fn check_asked<'a>(
     alloc: Global,
@@ -152,18 +182,13 @@ fn check_asked<'a>(
 ) -> Result<Action<'a>, AllocError>
     ensures { IfOk result IsAction }
 {
-    let mut files = Vec::new(alloc);
-    let most = most_parts_of(found);
-    for word in found.get_strs("file").unwrap_or(&[]) {
-        files.push(input_of(word, most))?;
-    }
     let list = found.get_str("names-from").map(plain_input_of);
     let style = VerdictStyle {
         syntax: syntax_of(found),
-        end: if found.get_flag("zero") { 0 } else { b'\n' },
+        end: end_of(found),
     };
     Ok(Action::Check {
-        files,
+        files: files_of(alloc, found)?,
         list,
         finding,
         style,
@@ -294,15 +319,37 @@ fn run_asked<'a>(
     Ok(Action::Run { job, order })
 }
 
-// Which files are to be summed, or which list of sums is to be checked.
+// Which files are looked for in a list of sums.
+fn new_asked<'a>(
+    alloc: Global,
+    found: &ArgMatches<'a>,
+    list: Input<'a>,
+) -> Result<Action<'a>, AllocError>
+    ensures { IfOk result IsAction }
+{
+    Ok(Action::NewNames {
+        list,
+        files: files_of(alloc, found)?,
+        names: found.get_str("names-from").map(plain_input_of),
+        end: end_of(found),
+        telling: telling_of(found),
+    })
+}
+
+// Which files are to be summed, or which list of sums is to be checked, or searched.
 fn sum_asked<'a>(alloc: Global, found: &ArgMatches<'a>) -> Result<Action<'a>, CommandFault>
     ensures { IfOk result IsAction }
 {
     if let Some(word) = found.get_str("check") {
+        let list = plain_input_of(word);
+        if found.get_flag("new") {
+            return Ok(new_asked(alloc, found, list)?);
+        }
         return Ok(Action::CheckSums {
-            list: plain_input_of(word),
+            list,
             how: SumCheck {
                 quiet: found.get_flag("quiet"),
+                summary: found.get_flag("summary"),
                 most_parts: most_parts_of(found),
                 freeing: freeing_of(found),
                 telling: telling_of(found),
@@ -311,8 +358,9 @@ fn sum_asked<'a>(alloc: Global, found: &ArgMatches<'a>) -> Result<Action<'a>, Co
     }
     let is_plain = !found.get_flag("zero") && !found.get_flag("json");
     let finding = Finding::Sum {
-        leaving: left_out(alloc, found)?,
+        what: SumOf::Form(left_out(alloc, found)?),
         header: is_plain && !found.get_flag("no-header"),
+        bytes: found.get_flag("bytes"),
     };
     Ok(check_asked(alloc, found, finding)?)
 }
@@ -357,15 +405,49 @@ fn names_no_list(found: &ArgMatches) -> bool {
     files.iter().any(|file| *file == "@") || sides.iter().any(|it| found.get_str(*it) == Some("@"))
 }
 
-// Whether words say which files are summed, and how; a list of sums says that itself.
-fn says_how_to_sum(found: &ArgMatches) -> bool {
-    let flags = ["zero", "json", "no-header"];
+// Whether files are named, by words or by a list.
+fn names_files(found: &ArgMatches) -> bool {
     found
         .get_strs("file")
         .is_some_and(|files| !files.is_empty())
         || found.get_str("names-from").is_some()
-        || found.get_str("without").is_some()
-        || flags.iter().any(|flag| found.get_flag(*flag))
+}
+
+// Whether one of these is given.
+fn has_any(found: &ArgMatches, flags: &[&str]) -> bool {
+    flags.iter().any(|flag| found.get_flag(*flag))
+}
+
+// What is wrong with the words of `sum`: a list of sums says itself which files are summed, and
+// how.
+fn sum_conflict(found: &ArgMatches) -> Option<&'static str> {
+    let is_checked = found.get_str("check").is_some();
+    let is_new = found.get_flag("new");
+    let says_how = found.get_str("without").is_some() || has_any(found, &["json", "no-header"]);
+    if !is_checked && found.get_flag("quiet") {
+        Some(QUIET_ALONE)
+    } else if !is_checked && found.get_flag("summary") {
+        Some(SUMMARY_ALONE)
+    } else if !is_checked && is_new {
+        Some(NEW_ALONE)
+    } else if found.get_flag("bytes") && has_any(found, &["json", "zero", "no-header"]) {
+        Some(BYTES_UNMARKED)
+    } else if is_new && (says_how || has_any(found, &["bytes", "quiet", "summary", "foreign"])) {
+        Some(NEW_OPENS_NOTHING)
+    } else if is_new && !names_files(found) {
+        Some(NEW_OF_NOTHING)
+    } else if is_new && found.get_str("check") == Some("-") && inputs_in(found) > 0 {
+        Some(INPUT_TWICE)
+    } else if is_checked && !is_new && (says_how || says_what_to_sum(found)) {
+        Some(CHECK_ALONE)
+    } else {
+        None
+    }
+}
+
+// Whether words say which files are summed, and in which lines.
+fn says_what_to_sum(found: &ArgMatches) -> bool {
+    names_files(found) || has_any(found, &["zero", "bytes"])
 }
 
 // How often standard input is named.
@@ -401,12 +483,8 @@ fn conflict_in(matches: &ArgMatches) -> Option<&'static str> {
         Some(ROWS_ALONE)
     } else if found.get_flag("lossy") && !found.get_flag("foreign") {
         Some(LOSSY_ALONE)
-    } else if found.get_flag("quiet") && found.get_str("check").is_none() {
-        Some(QUIET_ALONE)
-    } else if found.get_str("check").is_some() && says_how_to_sum(found) {
-        Some(CHECK_ALONE)
     } else {
-        None
+        sum_conflict(found)
     }
 }
 

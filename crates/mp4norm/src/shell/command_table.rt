@@ -19,7 +19,7 @@ Status:
   2   failed: memory
   3   failed: store, failed: store changed, failed: write
   4   failed: no such track
-  5   compare: the files differ; sum --check: a sum does
+  5   compare: the files differ; sum --check: a sum does, or a name is new
   64  the arguments are invalid
 
 Example: mp4norm normalise movie.mp4 --out normal.mp4";
@@ -64,6 +64,14 @@ const NO_HEADER: &str = "Print no line before all others that says of what the s
 const QUIET: &str = "With --check: say nothing of files that have their sum";
 
 const FIELDS: &str = "Show the fields of each box under it, by their names in ISO/IEC 14496-12";
+
+const SUMMARY: &str = "With --check: count at the end, on standard error, how files came out";
+
+const BYTES: &str = "\
+Print of each refused file, behind all others and a line that says so, the SHA-256 of its bytes";
+
+const NEW: &str = "\
+With --check: open no file, and print the names of those FILEs that LIST has not";
 
 const ALL: &str = "List all differences, and count them, in place of the first alone";
 
@@ -319,8 +327,11 @@ fn sum_flags<'a>(command: Command<'a>, alloc: Global) -> Result<Command<'a>, All
     let command = command
         .arg(flag(alloc, "json", JSON))?
         .arg(flag(alloc, "no-header", NO_HEADER))?
+        .arg(flag(alloc, "bytes", BYTES))?
         .arg(checked_arg(alloc))?
-        .arg(flag(alloc, "quiet", QUIET))?;
+        .arg(flag(alloc, "quiet", QUIET))?
+        .arg(flag(alloc, "summary", SUMMARY))?
+        .arg(flag(alloc, "new", NEW))?;
     with_reading(with_foreign(command, alloc)?, alloc)
 }
 

@@ -51,6 +51,11 @@ impl Watched {
         Ok(Watched { file, first })
     }
 
+    /// Whether another is the same file, and was as it was.
+    pub(crate) fn is_same(&self, other: &Watched) -> bool {
+        self.first == other.first
+    }
+
     /// Whether the file has the length that it had, and was not written to. A change of the same
     /// length is not seen where it has the time of the change before it: times are of a clock that
     /// moves on some hundred times a second.

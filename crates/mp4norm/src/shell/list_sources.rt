@@ -141,6 +141,15 @@ impl<'a> ListSource<'a> {
         Some(self.listed.paths.get(part)?.as_str())
     }
 
+    /// The same files, of which nothing is read yet.
+    pub(crate) fn again(&self) -> Result<BufferedStore<ListStore<'a>>, Refusal> {
+        let alloc = self.rt.alloc();
+        match ListStore::new(alloc, self.listed.files(self.rt)?)? {
+            Some(store) => Ok(BufferedStore::new(alloc, store)?),
+            None => Err(Refusal::StoreFailed),
+        }
+    }
+
     /// Whether all files are as they were.
     pub(crate) fn stays(&self) -> Result<(), Refusal>
         ensures { IfErr result (HasChanged true) }

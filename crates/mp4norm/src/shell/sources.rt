@@ -1,6 +1,6 @@
 //! What a command reads: a file, by place, or standard input, whole.
 
-use crate::running::Kept;
+use crate::running::{Kept, settled};
 use crate::shell::action::Input;
 use crate::shell::file_change::Watched;
 use crate::shell::file_names::push_shown;
@@ -9,6 +9,8 @@ use crate::shell::list_sources::{ListSource, open_list};
 use crate::shell::named_files::ListStore;
 use crate::shell::near_store::NearStore;
 use crate::shell::reports::{Noted, Report};
+use mp4_answers::commands::sum::sum_bytes;
+use mp4_answers::digests::DIGEST;
 use mp4_answers::text::difference_lines::say_number;
 use mp4_boxes::Refusal;
 use mp4_store::{BufferedStore, FileStore, LaidStore, MemStore, Store, StoreFailed};
@@ -104,6 +106,39 @@ pub(crate) fn open_by_headers<'a>(
     };
     let (store, watched) = report.outcome(open_file(rt, name), Refusal::StoreFailed)?;
     Ok(Source::Headers(NearStore::new(rt.alloc(), store)?, watched))
+}
+
+// Opens a file once more, and looks whether it is still the same.
+fn open_again(
+    rt: &HostRuntime,
+    name: &str,
+    watched: &Watched,
+    report: &mut Report,
+) -> Result<FileStore<File>, Refusal> {
+    let (store, now) = report.outcome(open_file(rt, name), Refusal::StoreFailed)?;
+    if !now.is_same(watched) {
+        return Err(Refusal::StoreChanged);
+    }
+    Ok(store)
+}
+
+/// The SHA-256 of the bytes of a source, whatever is laid over it. It is read once more for that:
+/// a file is opened by its name, and so are those of a list.
+pub(crate) fn sum_of_source(
+    rt: &HostRuntime,
+    input: Input,
+    source: &Source,
+    report: &mut Report,
+) -> Result<[u8; DIGEST], Refusal> {
+    let alloc = rt.alloc();
+    let digest = match source {
+        Source::File(_, watched) | Source::Headers(_, watched) => {
+            sum_bytes(alloc, &mut open_again(rt, input.name(), watched, report)?)
+        }
+        Source::Input(bytes) => sum_bytes(alloc, &mut MemStore::new(bytes.as_slice())),
+        Source::List(list) => sum_bytes(alloc, &mut list.again()?),
+    };
+    settled(source, digest)
 }
 
 impl<'a> Source<'a> {

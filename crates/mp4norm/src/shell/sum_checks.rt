@@ -1,20 +1,26 @@
-//! Lists of sums: whether each file that is named has the sum that stands there.
-use crate::judging::{ListedFile, SumJudge, check_listed, sum_status};
-use crate::running::Found;
-use crate::shell::action::{Finding, Input, SumCheck};
-use crate::shell::check_files::{Manner, answer_of, read_list};
+//! Lists of sums: whether each file that is named has the sum that stands there, and which files
+//! are not named.
+ghost use Rattle.std.specs.Prelude.{◌+◌, ◌≤◌, length, IfOk};
+
+use crate::judging::{ListedFile, SumJudge, Tally, check_listed, has_another, tally_status};
+use crate::running::{DIFFER, Found};
+use crate::shell::action::{Finding, Input, SumCheck, Telling};
+use crate::shell::check_files::{Manner, answer_of, name_in_list, read_list, read_names};
 use crate::shell::command_line::input_of;
 use crate::shell::file_names::word_of;
 use crate::shell::list_sources::tell_fault;
-use crate::shell::lists::{ListFault, first_line, without_return};
+use crate::shell::lists::{ListFault, first_line, first_name, without_return};
 use crate::shell::reports::{Noted, Report, tell_of};
 use mp4_answers::jobs::{Syntax, VerdictStyle};
 use mp4_answers::text::fault_text::fault_line;
-use mp4_answers::text::sum_lines::{ListedSum, listed_sum, push_name};
+use mp4_answers::text::new_names::new_lines;
+use mp4_answers::text::plain_names::push_plain;
+use mp4_answers::text::sum_lines::{ListedSum, SumOf, listed_sum, push_name, tally_line};
 use mp4_boxes::{Refusal, Steps};
 use mp4_content::Without;
 use mp4_store::{IoSink, Sink};
 use std::alloc::{AllocError, Global};
+use std::io::{IsTerminal, Write};
 use std::sync::ledger::Ledger;
 
 /// The status of a list that can't be taken.
@@ -23,19 +29,15 @@ const NO_LIST: u8 = 64;
 // The files of a list, in their order; or which line can't be taken, and why.
 fn files_of(alloc: Global, list: &[u8]) -> Result<Result<Vec<ListedFile>, ListFault>, AllocError> {
     let mut files = Vec::new(alloc);
-    let mut leaving = Without::NOTHING;
+    let mut what = SumOf::Form(Without::NOTHING);
     let mut left = list;
     let mut line = 0u64;
     while !left.is_empty() {
         let (own, rest) = first_line(left);
         line = line.saturating_add(1);
         match listed_sum(alloc, without_return(own))? {
-            ListedSum::Header(words) => leaving = words,
-            ListedSum::Sum { digest, name } => files.push(ListedFile {
-                name,
-                digest,
-                leaving,
-            })?,
+            ListedSum::Header(said) => what = said,
+            ListedSum::Sum { digest, name } => files.push(ListedFile { name, digest, what })?,
             ListedSum::Passed => {}
             ListedSum::Odd(what) => return Ok(Err(ListFault { line, what })),
         }
@@ -54,21 +56,22 @@ fn sum_of<L: Ledger, M: Ledger>(
     let word = word_of(rt.alloc(), file.name.as_slice())?;
     let input = input_of(word.as_str(), how.most_parts);
     let finding = Finding::Sum {
-        leaving: file.leaving,
+        what: file.what,
         header: false,
+        bytes: false,
     };
     let style = VerdictStyle {
         syntax: Syntax::Text,
         end: b'\n',
     };
     let manner = Manner::of(&[], Some(input), finding, style, how.freeing, how.telling);
-    answer_of(rt, input, manner, steps)
+    answer_of(rt, input, manner, steps).found
 }
 
 // What is said of a file; nothing where it has its sum and that isn't told, or none was found.
 fn verdict_on(file: &ListedFile, found: &Found, is_quiet: bool) -> Option<&'static str> {
     match found {
-        Ok(_) if sum_status(&file.digest, found) != 0 => Some("FAILED"),
+        Ok(_) if has_another(&file.digest, found) => Some("FAILED"),
         Ok(_) => (!is_quiet).then_some("OK"),
         Err(_) => None,
     }
@@ -121,14 +124,16 @@ impl<'a, 'c, K: Sink, L: Ledger, M: Ledger> SumJudge for SumChecker<'a, 'c, K, L
     }
 }
 
-// Sums the files, puts what is said of each, and gives the status.
+// Sums the files, puts what is said of each, and says how they came out.
 fn put_each<K: Sink + Drop, L: Ledger, M: Ledger>(
     rt: &HostRuntime,
     files: &[ListedFile],
     how: SumCheck,
     sink: K,
     steps: &mut Steps<L, M>,
-) -> Result<u8, Refusal> {
+) -> Result<Tally, Refusal>
+    ensures { IfOk result (λ t. t.other + t.without ≤ length files.now) }
+{
     let mut judge = SumChecker {
         rt,
         how,
@@ -145,10 +150,58 @@ fn check_files<L: Ledger, M: Ledger>(
     how: SumCheck,
     report: &mut Report,
     steps: &mut Steps<L, M>,
-) -> Result<u8, Refusal> {
+) -> Result<Tally, Refusal>
+    ensures { IfOk result (λ t. t.other + t.without ≤ length files.now) }
+{
     let out = &mut rt.stdout();
     let sink = IoSink::new(Noted { out, report });
     put_each(rt, files, how, sink, steps)
+}
+
+// Counts on standard error how so many files came out, where that is asked for; on a terminal also
+// where not all have their sum, unless few words are.
+fn tell_tally(rt: &HostRuntime, files: usize, tally: Tally, how: SumCheck)
+    requires { tally.other + tally.without ≤ files }
+{
+    let is_told = !how.quiet && !how.telling.brief && rt.stderr().is_terminal();
+    if !how.summary && (tally_status(tally) == 0 || !is_told) {
+        return;
+    }
+    let (files, other, without) = (files as u64, tally.other as u64, tally.without as u64);
+    if let Ok(line) = tally_line(rt.alloc(), files, other, without) {
+        let _ = rt.stderr().write_all(line.as_slice());
+    }
+}
+
+// Reads a list of sums whole. Where a line can't be taken, or none has a sum, that is said, and
+// there are no files.
+fn read_sums(
+    rt: &HostRuntime,
+    list: Input,
+    report: &mut Report,
+) -> Result<Vec<ListedFile>, Refusal> {
+    let alloc = rt.alloc();
+    let text = match read_list(rt, Some(list), report) {
+        Ok(text) => text,
+        Err(refusal) => {
+            if matches!(refusal, Refusal::StoreFailed) {
+                report.tell_input(rt, list.name());
+            }
+            return Err(refusal);
+        }
+    };
+    match files_of(alloc, text.as_slice())? {
+        Ok(files) => {
+            if files.is_empty() {
+                tell_of(rt, list.name().as_bytes(), b"no checksum");
+            }
+            Ok(files)
+        }
+        Err(fault) => {
+            tell_fault(rt, list.name(), fault)?;
+            Ok(Vec::new(alloc))
+        }
+    }
 }
 
 /// Reads a list of sums whole, says of each file that it names whether it has its sum, and gives
@@ -160,30 +213,106 @@ pub(crate) fn check_sums<L: Ledger, M: Ledger>(
     steps: &mut Steps<L, M>,
 ) -> Result<u8, Refusal> {
     let mut report = Report::new(how.telling);
-    let text = match read_list(rt, Some(list), &mut report) {
-        Ok(text) => text,
-        Err(refusal) => {
-            if matches!(refusal, Refusal::StoreFailed) {
-                report.tell_input(rt, list.name());
-            }
-            return Err(refusal);
-        }
-    };
-    let files = match files_of(rt.alloc(), text.as_slice())? {
-        Ok(files) => files,
-        Err(fault) => {
-            tell_fault(rt, list.name(), fault)?;
-            return Ok(NO_LIST);
-        }
-    };
+    let files = read_sums(rt, list, &mut report)?;
     if files.is_empty() {
-        tell_of(rt, list.name().as_bytes(), b"no checksum");
         return Ok(NO_LIST);
     }
     let files = files.as_slice();
-    let worst = check_files(rt, files, how, &mut report, steps);
-    if matches!(worst, Err(Refusal::WriteFailed)) {
+    match check_files(rt, files, how, &mut report, steps) {
+        Ok(tally) => {
+            tell_tally(rt, files.len(), tally, how);
+            Ok(tally_status(tally))
+        }
+        Err(refusal) => {
+            if matches!(refusal, Refusal::WriteFailed) {
+                report.tell_output(rt, "-");
+            }
+            Err(refusal)
+        }
+    }
+}
+
+// Names as a list of sums has them: those of words, and those of a list whose names are ended by
+// zero bytes.
+fn names_given(alloc: Global, words: &[Input], list: &[u8]) -> Result<Vec<Vec<u8>>, AllocError> {
+    let mut names = Vec::new(alloc);
+    for input in words {
+        let is_file = matches!(input, Input::File { .. });
+        names.push(listed_name(alloc, input.name().as_bytes(), is_file)?)?;
+    }
+    let mut left = list;
+    while !left.is_empty() {
+        let (name, rest) = first_name(left);
+        names.push(listed_name(alloc, name, true)?)?;
+        left = rest;
+    }
+    Ok(names)
+}
+
+// A name as a list of sums has it, once it is read.
+fn listed_name(alloc: Global, name: &[u8], is_file: bool) -> Result<Vec<u8>, AllocError> {
+    let mut plain = Vec::new(alloc);
+    push_plain(&mut plain, name_in_list(alloc, name, is_file)?.as_slice())?;
+    Ok(plain)
+}
+
+/// Which files are looked for in a list: those of words, those of a list of names; and which byte
+/// ends each name that is put.
+#[derive(Clone, Copy)]
+pub(crate) struct Sought<'a> {
+    pub(crate) words: &'a [Input<'a>],
+    pub(crate) names: Option<Input<'a>>,
+    pub(crate) end: u8,
+}
+
+// The lines of those that a list of sums has not; nothing where that can't be taken.
+fn lines_of_new(
+    rt: &HostRuntime,
+    list: Input,
+    sought: Sought,
+    report: &mut Report,
+) -> Result<Option<Vec<u8>>, Refusal> {
+    let alloc = rt.alloc();
+    let files = read_sums(rt, list, report)?;
+    if files.is_empty() {
+        return Ok(None);
+    }
+    let mut listed = Vec::new(alloc);
+    for file in files {
+        listed.push(file.name)?;
+    }
+    let names = read_names(rt, sought.names, report)?;
+    let given = names_given(alloc, sought.words, names.as_slice())?;
+    let lines = new_lines(alloc, listed.as_slice(), given.as_slice(), sought.end)?;
+    Ok(Some(lines))
+}
+
+/// Reads a list of sums whole, and puts the names of those files that it has not. No file is
+/// opened. The status says whether there are any.
+pub(crate) fn tell_new(
+    rt: &HostRuntime,
+    list: Input,
+    sought: Sought,
+    telling: Telling,
+) -> Result<u8, Refusal> {
+    let mut report = Report::new(telling);
+    let Some(lines) = lines_of_new(rt, list, sought, &mut report)? else {
+        return Ok(NO_LIST);
+    };
+    if lines.is_empty() {
+        return Ok(0);
+    }
+    let put = put_lines(rt, lines.as_slice(), &mut report);
+    if matches!(put, Err(Refusal::WriteFailed)) {
         report.tell_output(rt, "-");
     }
-    worst
+    put?;
+    Ok(DIFFER)
+}
+
+// Puts lines to standard output.
+fn put_lines(rt: &HostRuntime, lines: &[u8], report: &mut Report) -> Result<(), Refusal> {
+    let out = &mut rt.stdout();
+    IoSink::new(Noted { out, report }).put(lines)?;
+    Ok(())
 }
