@@ -1,7 +1,6 @@
 -- What is said of two files that differ: the lines that are listed are those of the definition, and words that are named make the two the same.
 use Rattle.std.proofs.Common.{◌≡◌, ◌⊎◌, inl, inr, ℕ, ◌<◌, nat_le, List, [], ◌∷◌, ◌++◌, length, take, Bool, true, false, refl, sym, ap, subst, ◌∙◌, arith, length-take}
 use Rattle.std.specs.Prelude.{Option, None, Some, flat_map, slice_get, Result, Ok, Err, IfOk}
-use Rattle.std.proofs.lemmas.Bool.Decides.{leb_tells}
 use Rattle.std.proofs.lemmas.List.{take-take}
 use Rattle.mp4_content.specs.format.Comparison.{differences}
 use Rattle.mp4_present.specs.format.Denotes.{FileTree, presentation_of}
@@ -26,18 +25,16 @@ use Rattle.mp4_content.proofs.Covering.{same_without_more}
 use Rattle.mp4_answers.proofs.LeastWords.{among_others}
 use Rattle.mp4_answers.proofs.WordSets.{covers_all, none_to_take, shrunk}
 use Rattle.mp4_answers.proofs.ComparedFiles.{denotes_by, first_said, judged_by, true_false}
+use Rattle.mp4_boxes.proofs.Plain.{nat_le_no}
 
 -- ---- the lines that are listed
-
-above : (a b : ℕ) → b < a → nat_le a b ≡ false
-above a b h = elim (leb_tells a b) [ inl w ↦ absurd (let no = w.1 in omega (arith, no, h)) | inr w ↦ w.0 ]
 
 module _ (most : ℕ) where
   most_of : (n : ℕ) (ds : List Difference) → most < length (take n ds) → take most (take n ds) ≡ take most ds
   most_of n ds long = let few = length-take n ds in take-take most n ds (omega (arith, few, long))
 
   still_more : (n : ℕ) (ds : List Difference) → most < length (take n ds) → nat_le (length (take n ds)) most ≡ nat_le (length ds) most
-  still_more n ds long = let few = length-take n ds in above (length (take n ds)) most long ∙ sym (above (length ds) most (omega (arith, few, long)))
+  still_more n ds long = let few = length-take n ds in nat_le_no (length (take n ds)) most long ∙ sym (nat_le_no (length ds) most (omega (arith, few, long)))
 
   -- of a list that was cut as many are counted as of all
   front_taken : (listed ds : List Difference) → (listed ≡ ds) ⊎ ((most < length listed) × (n : ℕ) × (listed ≡ take n ds)) → take most listed ≡ take most ds

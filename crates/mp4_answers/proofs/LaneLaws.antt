@@ -6,22 +6,15 @@ use lib.Lanes.{zip2, Each1}
 use Rattle.std.specs.Prelude.{slice_index_or}
 use Rattle.sha2.specs.Sha256.{word_at}
 use Rattle.mp4_answers.specs.words.Lanes.{HasLanes, lane, block_at}
+use Rattle.mp4_boxes.proofs.Plain.{below_four}
 
 -- an operation on two vectors
 pub of_two : (f : ℕ → ℕ → ℕ) (xs ys : List ℕ) → length xs ≡ 4 → length ys ≡ 4 → HasLanes (zip2 f xs ys) (λ l. f (slice_index xs l) (slice_index ys l))
 of_two f xs ys p q l lt = get_or-zip2 f xs ys l 0 0 0 (omega arith) (omega arith)
 
--- a fact of each of four lanes
-pub by_lane : (P : ℕ → Type 0) → P 0 → P 1 → P 2 → P 3 → (l : ℕ) → l < 4 → P l
-by_lane P a b c d zero lt = a
-by_lane P a b c d (suc zero) lt = b
-by_lane P a b c d (suc (suc zero)) lt = c
-by_lane P a b c d (suc (suc (suc zero))) lt = d
-by_lane P a b c d (suc (suc (suc (suc l)))) lt = absurd (omega arith)
-
 -- a vector of one number
 pub same_lanes : (y : ℕ) → HasLanes (y ∷ y ∷ y ∷ y ∷ []) (λ _. y)
-same_lanes y = by_lane (λ l. slice_index (y ∷ y ∷ y ∷ y ∷ []) l ≡ y) refl refl refl refl
+same_lanes y = below_four (λ l. slice_index (y ∷ y ∷ y ∷ y ∷ []) l ≡ y) refl refl refl refl
 
 -- an operation on a vector and a number
 pub of_one : (f : ℕ → ℕ → ℕ) (xs : List ℕ) (y : ℕ) → length xs ≡ 4 → HasLanes (zip2 f xs (y ∷ y ∷ y ∷ y ∷ [])) (λ l. f (slice_index xs l) y)

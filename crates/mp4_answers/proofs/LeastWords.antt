@@ -11,6 +11,7 @@ use Rattle.mp4_content.specs.format.Agreeing.{AllAgree, SamplesAgree, MediaAgree
 use Rattle.mp4_content.proofs.Agreed.{plain_of, reduce_is_exact, type_of_left, unrated_of}
 use Rattle.mp4_answers.specs.format.CompareHeadline.{descriptions_in}
 use Rattle.mp4_answers.proofs.WordSets.{common, common_first, common_second, covers_common}
+use Rattle.mp4_boxes.proofs.Plain.{and_is_true, head_is, tail_is}
 
 -- what stays without the words of both stays without those of one
 either : {P : Type 0} (a b : Bool) → (a ≡ false → P) → (b ≡ false → P) → (a && b) ≡ false → P
@@ -21,20 +22,9 @@ either_at : {P : Type 0} (a b c : Bool) → ((a && c) ≡ false → P) → ((b &
 either_at true b c f g e = g e
 either_at false b c f g e = f refl
 
--- what is among both is among each, and what is not is among neither where each has what the other has
-true_in_both : (a b : Bool) → (a && b) ≡ true → (a ≡ true) × (b ≡ true)
-true_in_both true b e = (refl, e)
-true_in_both false b e = absurd cc
-
 false_in_both : (a b : Bool) → a ≡ b → (a && b) ≡ false → (a ≡ false) × (b ≡ false)
 false_in_both true b same e = (same ∙ e, e)
 false_in_both false b same e = (refl, sym same)
-
-first_same : {A : Type 0} (x y : A) (xs ys : List A) → x ∷ xs ≡ y ∷ ys → x ≡ y
-first_same x y xs ys e = cc
-
-rest_same : {A : Type 0} (x y : A) (xs ys : List A) → x ∷ xs ≡ y ∷ ys → xs ≡ ys
-rest_same x y xs ys e = cc
 
 module _ (k m : Without) (timed : k.timing ≡ m.timing) where
   off : (k.timing && m.timing) ≡ false → (k.timing ≡ false) × (m.timing ≡ false)
@@ -44,7 +34,7 @@ module _ (k m : Without) (timed : k.timing ≡ m.timing) where
   samples_agree count first other n a b g h = record {
     duration = λ t. either_at k.ends m.ends (is_at_end count n) (g.duration (off t).0) (h.duration (off t).1);
     offset = λ t. either k.origins m.origins (g.offset (off t).0) (h.offset (off t).1);
-    moved = λ t o. g.moved (off t).0 (true_in_both k.origins m.origins o).0;
+    moved = λ t o. g.moved (off t).0 (and_is_true k.origins m.origins o).0;
     description = g.description;
     bytes = g.bytes;
     sync = g.sync;
@@ -123,8 +113,8 @@ module _ (k m : Without) (timed : k.timing ≡ m.timing) where
   all_tracks_agree [] (y ∷ ys) same g h = absurd g
   all_tracks_agree (x ∷ xs) [] same g h = absurd g
   all_tracks_agree (x ∷ xs) (y ∷ ys) same g h = (
-    tracks_agree x y (first_same x.head.media.descriptions y.head.media.descriptions (descriptions_of xs) (descriptions_of ys) same) g.0 h.0,
-    all_tracks_agree xs ys (rest_same x.head.media.descriptions y.head.media.descriptions (descriptions_of xs) (descriptions_of ys) same) g.1 h.1,
+    tracks_agree x y (head_is x.head.media.descriptions y.head.media.descriptions (descriptions_of xs) (descriptions_of ys) same) g.0 h.0,
+    all_tracks_agree xs ys (tail_is x.head.media.descriptions y.head.media.descriptions (descriptions_of xs) (descriptions_of ys) same) g.1 h.1,
   )
 
   module _ (p q : Presentation) (same : descriptions_in p ≡ descriptions_in q) (e : reduce k p ≡ reduce k q) (f : reduce m p ≡ reduce m q) where

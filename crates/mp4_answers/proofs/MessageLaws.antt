@@ -9,7 +9,7 @@ use Rattle.mp4_answers.specs.words.Lanes.{lane, block_at}
 use Rattle.mp4_answers.specs.words.Messages.{AreHeld, AreReady, Begins, BeginsState, GoesOn, HasDigest, IsFound, IsInLane, IsLane, IsReady, MovesOn, block_count, message_at, message_of, padded_of}
 use Rattle.mp4_answers.specs.declared.digests.side_by_side.Lanes.{Lanes}
 use Rattle.mp4_answers.specs.declared.digests.messages.Message.{Message}
-use Rattle.mp4_answers.proofs.LaneLaws.{by_lane}
+use Rattle.mp4_boxes.proofs.Plain.{below_four}
 
 -- ---- one message
 
@@ -137,7 +137,7 @@ module _ (bytes : List ℕ) (messages : List Message) where
       from_a k found = from_b k (told_stays _ _ _ a b p (fits 0 (omega arith)) (right 0 (omega arith)) k found)
 
       told : (l : ℕ) → l < 4 → slice_index lanes.lefts l ≡ 1 → IsFound bytes messages e (slice_index lanes.owners l)
-      told = by_lane (λ l. slice_index lanes.lefts l ≡ 1 → IsFound bytes messages e (slice_index lanes.owners l))
+      told = below_four (λ l. slice_index lanes.lefts l ≡ 1 → IsFound bytes messages e (slice_index lanes.owners l))
           (λ last. from_b _ (told_found _ _ _ a b p (fits 0 (omega arith)) (right 0 (omega arith)) last))
           (λ last. from_c _ (told_found _ _ _ b c q fits_b (right 1 (omega arith)) last))
           (λ last. from_d _ (told_found _ _ _ c d r fits_c (right 2 (omega arith)) last))

@@ -1,10 +1,10 @@
 -- Tracks that are printed one after the other.
 use Rattle.std.proofs.Common.{◌≡◌, ℕ, zero, suc, ◌+◌, ◌-◌, ◌≤◌, List, [], ◌∷◌, ◌++◌, length, drop, Some, refl, sym, ap, subst, ◌∙◌, arith, append_assoc, length-append, codes}
-use Rattle.std.specs.Prelude.{map, flat_map, slice_get, Option}
+use Rattle.std.specs.Prelude.{map, flat_map, slice_get}
 use Rattle.std.specs.List.{AllZip}
 use Rattle.std.proofs.lemmas.List.{length-map}
 use Rattle.mp4_boxes.specs.format.Bytes.{sum_of}
-use Rattle.mp4_boxes.proofs.Plain.{get_zip, length_zip}
+use Rattle.mp4_boxes.proofs.Plain.{drop_all, drop_plus, get_map, get_zip, length_zip, some_is}
 use Rattle.mp4_store.specs.words.Device.{TakesPrefix}
 use Rattle.mp4_store.proofs.Known.{IsJoining}
 use Rattle.mp4_head.specs.format.Head as heads
@@ -62,28 +62,6 @@ walk_popped m before all walks w e h =
     (last.0, record { many = omega (arith, many, long); begun = last.1 })
 
 -- ---- lists, item by item
-
-get_mapped : {A B : Type 0} (f : A → B) (xs : List A) (k : ℕ) (x : A) → slice_get xs k ≡ Some x → slice_get (map f xs) k ≡ Some (f x)
-get_mapped f [] k x e = absurd cc
-get_mapped f (y ∷ xs) zero x e = let same : y ≡ x = cc in ap (λ z. Some (f z)) same
-get_mapped f (y ∷ xs) (suc k) x e = get_mapped f xs k x e
-
-some_same : {A : Type 0} (x y : A) → ◌≡◌ {A = Option A} (Some x) (Some y) → x ≡ y
-some_same x y e = cc
-
-after_got : {A : Type 0} (xs : List A) (k : ℕ) (x : A) → slice_get xs k ≡ Some x → drop k xs ≡ x ∷ drop (suc k) xs
-after_got [] k x e = absurd cc
-after_got (y ∷ xs) zero x e = let same : y ≡ x = cc in ap (λ z. z ∷ xs) same
-after_got (y ∷ xs) (suc k) x e = after_got xs k x e
-
-behind_got : {A : Type 0} (xs : List A) (k : ℕ) (x : A) → slice_get xs k ≡ Some x → drop k xs ≡ x ∷ drop (k + 1) xs
-behind_got xs k x e = let one : suc k ≡ k + 1 = omega arith in after_got xs k x e ∙ ap (λ n. x ∷ drop n xs) one
-
-none_behind : {A : Type 0} (xs : List A) (k : ℕ) → length xs ≤ k → drop k xs ≡ []
-none_behind [] zero le = refl
-none_behind [] (suc k) le = refl
-none_behind (x ∷ xs) zero le = absurd (omega (arith, le))
-none_behind (x ∷ xs) (suc k) le = none_behind xs k (omega (arith, le))
 
 first_of_two : {A B : Type 0} (R : A → B → Type 0) (xs : List A) (ys : List B) (k : ℕ) (y : B) → AllZip R xs ys → slice_get ys k ≡ Some y → (x : A) × (slice_get xs k ≡ Some x)
 first_of_two R [] [] k y z e = absurd cc
@@ -154,7 +132,7 @@ pub tracks_end : (l : Without) (file : List ℕ) (m : MovieSeen) (tree : FileTre
 tracks_end l file m tree known k Took held held_b old new o e over h =
     let many = tracks_many l file tree in
     let end = over (infos_all file m tree o) (heads_all l tree known e) in
-    texts_all Took held held_b (text_from l file tree k) (text_from l file tree 0) h.goes (ap (flat_map track_text) (none_behind (tracks_left l file tree) k (omega (arith, many, end))))
+    texts_all Took held held_b (text_from l file tree k) (text_from l file tree 0) h.goes (ap (flat_map track_text) (drop_all (tracks_left l file tree) k (omega (arith, many, end))))
 
 module _ (l : Without) (file : List ℕ) (m : MovieSeen) (tree : FileTree) (known : List TrackHead) (k : ℕ) (o : IsOpenedAs file m tree) (same : map track_seen known ≡ number_heads l 1 (map (track_payloads_left l) (map track_head_of tree.movie.tracks))) (head : TrackHead) (info : TrackInfo)
     (h_at : slice_get known k ≡ Some head) (i_at : slice_get m.tracks k ≡ Some info) where
@@ -163,9 +141,9 @@ module _ (l : Without) (file : List ℕ) (m : MovieSeen) (tree : FileTree) (know
   track_there = first_of_two (IsInfoOf file tree) tree.movie.tracks m.tracks k info o.tracks i_at
 
   head_is : track_seen head ≡ number_head l (k + 1) (track_payloads_left l (track_head_of track_there.0))
-  head_is = some_same (track_seen head) (number_head l (k + 1) (track_payloads_left l (track_head_of track_there.0))) (sym (get_mapped track_seen known k head h_at) ∙ ap (λ (hs : List heads.TrackHead). slice_get hs k) same
+  head_is = some_is (track_seen head) (number_head l (k + 1) (track_payloads_left l (track_head_of track_there.0))) (sym (get_map track_seen known k head h_at) ∙ ap (λ (hs : List heads.TrackHead). slice_get hs k) same
       ∙ head_from l 1 k (map (track_payloads_left l) (map track_head_of tree.movie.tracks)) (track_payloads_left l (track_head_of track_there.0))
-      (get_mapped (track_payloads_left l) (map track_head_of tree.movie.tracks) k (track_head_of track_there.0) (get_mapped track_head_of tree.movie.tracks k track_there.0 track_there.1)))
+      (get_map (track_payloads_left l) (map track_head_of tree.movie.tracks) k (track_head_of track_there.0) (get_map track_head_of tree.movie.tracks k track_there.0 track_there.1)))
 
   abbrev pub front : List ℕ
   front = front_of l (track_seen head) (start_left l info.start)
@@ -186,11 +164,11 @@ module _ (l : Without) (file : List ℕ) (m : MovieSeen) (tree : FileTree) (know
       let t = track_there.0 in
       let own = map (track_of file (file_parts tree)) tree.movie.tracks in
       let one = track_of file (file_parts tree) t in
-      let at = numbered_at l k (map (reduce_track l) own) (reduce_track l one) (get_mapped (reduce_track l) own k one (get_mapped (track_of file (file_parts tree)) tree.movie.tracks k t track_there.1)) in
-      ap (flat_map track_text) (behind_got (tracks_left l file tree) k (number_track l (k + 1) (reduce_track l one)) at) ∙ ap (λ (bs : List ℕ). bs ++ text_from l file tree (k + 1)) (sym track_is) ∙ append_assoc front lines (text_from l file tree (k + 1))
+      let at = numbered_at l k (map (reduce_track l) own) (reduce_track l one) (get_map (reduce_track l) own k one (get_map (track_of file (file_parts tree)) tree.movie.tracks k t track_there.1)) in
+      ap (flat_map track_text) (drop_plus (tracks_left l file tree) k (number_track l (k + 1) (reduce_track l one)) at) ∙ ap (λ (bs : List ℕ). bs ++ text_from l file tree (k + 1)) (sym track_is) ∙ append_assoc front lines (text_from l file tree (k + 1))
 
   steps_next : steps_from tree k ≡ walk_steps tree track_there.0 + steps_from tree (k + 1)
-  steps_next = ap (sum_of (walk_steps tree)) (behind_got tree.movie.tracks k track_there.0 track_there.1)
+  steps_next = ap (sum_of (walk_steps tree)) (drop_plus tree.movie.tracks k track_there.0 track_there.1)
 
   module _ {Y : Type 0} {takes : Y → Y → List ℕ → Type 0} (joins : IsJoining takes) (a b c d : Y) (held held_b held_c : List ℕ) (old mid : ℕ) (h : TracksTold l file tree k (takes a b) held held_b old mid) where
     -- what it says before its samples isn't taken along whole

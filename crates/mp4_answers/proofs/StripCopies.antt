@@ -14,6 +14,7 @@ use Rattle.mp4_boxes.specs.declared.headers.TopHeader.{TopHeader}
 use Rattle.mp4_boxes.specs.declared.rule.Rule.{Rule}
 use Rattle.mp4_boxes.specs.declared.refusal.Refusal.{Refusal}
 use Rattle.mp4_boxes.specs.declared.refusal.Refusal.TheVariants as refusals
+use Rattle.mp4_boxes.proofs.Plain.{true_false}
 use Rattle.mp4_present.specs.words.Carried.{BytesGoOn, RefusesRange, RefusesCarry}
 use Rattle.mp4_present.proofs.Carrying.{BytesGoOn-nothing, BytesGoOn-then, BytesGoOn-fails, BytesGoOn-front}
 use Rattle.mp4_answers.specs.format.BoxWalk.{rule_inside}
@@ -33,10 +34,6 @@ same_header r h g p q = ap (ok_or_this h) (sym p ∙ q)
 no_bytes : (bytes : List ℕ) → 0 < length bytes → bytes ≡ [] → ⊥
 no_bytes bytes some e = let none : length bytes ≡ 0 = ap length e in omega (arith, some, none)
 
-not_both : (b : Bool) → b ≡ true → b ≡ false → ⊥
-not_both true p q = cc
-not_both false p q = cc
-
 not_some : {A : Type 0} (o : Option A) (x : A) → o ≡ None → o ≡ Some x → ⊥
 not_some None x p q = cc
 not_some (Some y) x p q = cc
@@ -50,17 +47,17 @@ next_freed names rule bytes text g some read n (frees _ _ _ h rest e m s t) =
     (rest, subst (λ (x : Header). Strips names rule (drop x.size bytes) rest) same s, t ∙ ap (λ (x : Header). freed (take x.size bytes) ++ rest) same)
 next_freed names rule bytes text g some read n (keeps _ _ _ h rest e m i s t) =
     let same = same_header (header_at (is_top rule) bytes) h g e read in
-    absurd (not_both (is_named names rule g.kind (uuid_at g bytes)) n (subst (λ (x : Header). is_named names rule x.kind (uuid_at x bytes) ≡ false) same m))
+    absurd (true_false (is_named names rule g.kind (uuid_at g bytes)) n (subst (λ (x : Header). is_named names rule x.kind (uuid_at x bytes) ≡ false) same m))
 next_freed names rule bytes text g some read n (enters _ _ _ h inner inside rest e m i w s t) =
     let same = same_header (header_at (is_top rule) bytes) h g e read in
-    absurd (not_both (is_named names rule g.kind (uuid_at g bytes)) n (subst (λ (x : Header). is_named names rule x.kind (uuid_at x bytes) ≡ false) same m))
+    absurd (true_false (is_named names rule g.kind (uuid_at g bytes)) n (subst (λ (x : Header). is_named names rule x.kind (uuid_at x bytes) ≡ false) same m))
 
 pub next_kept : (names : List Name) (rule : Rule) (bytes text : List ℕ) (g : Header) → 0 < length bytes → header_at (is_top rule) bytes ≡ Ok g → is_named names rule g.kind (uuid_at g bytes) ≡ false → rule_inside rule g.kind ≡ None → Strips names rule bytes text
     → (rest : List ℕ) × Strips names rule (drop g.size bytes) rest × (text ≡ take g.size bytes ++ rest)
 next_kept names rule bytes text g some read n into (ends _ _ _ b t) = absurd (no_bytes bytes some b)
 next_kept names rule bytes text g some read n into (frees _ _ _ h rest e m s t) =
     let same = same_header (header_at (is_top rule) bytes) h g e read in
-    absurd (not_both (is_named names rule g.kind (uuid_at g bytes)) (subst (λ (x : Header). is_named names rule x.kind (uuid_at x bytes) ≡ true) same m) n)
+    absurd (true_false (is_named names rule g.kind (uuid_at g bytes)) (subst (λ (x : Header). is_named names rule x.kind (uuid_at x bytes) ≡ true) same m) n)
 next_kept names rule bytes text g some read n into (keeps _ _ _ h rest e m i s t) =
     let same = same_header (header_at (is_top rule) bytes) h g e read in
     (rest, subst (λ (x : Header). Strips names rule (drop x.size bytes) rest) same s, t ∙ ap (λ (x : Header). take x.size bytes ++ rest) same)
@@ -80,7 +77,7 @@ pub next_entered : (names : List Name) (rule : Rule) (bytes text : List ℕ) (g 
 next_entered names rule bytes text g into some read n there (ends _ _ _ b t) = absurd (no_bytes bytes some b)
 next_entered names rule bytes text g into some read n there (frees _ _ _ h rest e m s t) =
     let same = same_header (header_at (is_top rule) bytes) h g e read in
-    absurd (not_both (is_named names rule g.kind (uuid_at g bytes)) (subst (λ (x : Header). is_named names rule x.kind (uuid_at x bytes) ≡ true) same m) n)
+    absurd (true_false (is_named names rule g.kind (uuid_at g bytes)) (subst (λ (x : Header). is_named names rule x.kind (uuid_at x bytes) ≡ true) same m) n)
 next_entered names rule bytes text g into some read n there (keeps _ _ _ h rest e m i s t) =
     let same = same_header (header_at (is_top rule) bytes) h g e read in
     absurd (not_some (rule_inside rule g.kind) into (subst (λ (x : Header). rule_inside rule x.kind ≡ None) same i) there)

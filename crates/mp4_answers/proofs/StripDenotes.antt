@@ -11,6 +11,7 @@ use Rattle.mp4_boxes.specs.format.Children.{allows, is_among, count_among, of_ki
 use Rattle.mp4_boxes.specs.declared.rule.Rule.{Rule}
 use Rattle.mp4_boxes.specs.declared.rule.Rule.TheVariants.{File}
 use Rattle.mp4_boxes.proofs.Tiling.{IsRead, header_is, box_size, sizes-cons}
+use Rattle.mp4_boxes.proofs.Plain.{true_false}
 use Rattle.mp4_store.proofs.Parts.{take_in_two}
 use Rattle.mp4_tables.specs.format.PlainSamples.{PlacedSample}
 use Rattle.mp4_tables.specs.format.TableRules.{Fit}
@@ -38,10 +39,6 @@ IsClean rule bytes = (place : ℕ) → NamedBoxAt foreign rule place bytes → �
 bool_cases : (b : Bool) → (b ≡ true) ⊎ (b ≡ false)
 bool_cases true = inl refl
 bool_cases false = inr refl
-
-contrary : (b : Bool) → b ≡ true → b ≡ false → ⊥
-contrary true p q = cc
-contrary false p q = cc
 
 refuses : (b : Bool) → b ≡ false → (not b || false) ≡ true
 refuses true e = absurd cc
@@ -73,7 +70,7 @@ entered_low rule inner kind i =
 
 none_named : (names : List Name) → MeansPassedOver names → (rule : Rule) (place : ℕ) (bytes : List ℕ) → is_top rule ≡ false → IsClean rule bytes → NamedBoxAt names rule place bytes → ⊥
 none_named names means rule place bytes low clean (at_front _ _ _ h e n p) =
-    contrary (is_top rule) (means rule h.kind (uuid_at h bytes) (clean_front rule bytes h clean e) n).0 low
+    true_false (is_top rule) (means rule h.kind (uuid_at h bytes) (clean_front rule bytes h clean e) n).0 low
 none_named names means rule place bytes low clean (further _ _ _ h left e x p) =
     none_named names means rule left (drop h.size bytes) low (clean_behind rule bytes h clean e) x
 none_named names means rule place bytes low clean (inside _ _ _ h inner left e n i x p) =
@@ -281,7 +278,7 @@ is_other : (kind held : List ℕ) → is_among passed_over kind ≡ false → is
 is_other kind held other over = elim (bool_cases (bytes_eq kind held)) [
   | inl same ↦
       let e : kind ≡ held = (bytes_eq-Decides kind held).0 same in
-      absurd (contrary (is_among passed_over held) over (sym (ap (is_among passed_over) e) ∙ other))
+      absurd (true_false (is_among passed_over held) over (sym (ap (is_among passed_over) e) ∙ other))
   | inr n ↦ n
 ]
 

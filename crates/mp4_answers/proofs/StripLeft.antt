@@ -13,6 +13,7 @@ use Rattle.mp4_boxes.specs.declared.fault.Kind.TheVariants.{ShortHeader, BadSize
 use Rattle.mp4_boxes.specs.declared.rule.Rule.{Rule}
 use Rattle.mp4_boxes.specs.declared.rule.Rule.TheVariants.{File, Movie, Track, Edits, Media, MediaInformation, DataInformation, SampleTable, MovieExtends, MovieFragment, TrackFragment}
 use Rattle.mp4_boxes.proofs.Tiling.{IsRead, header_is}
+use Rattle.mp4_boxes.proofs.Plain.{false_and_true}
 use Rattle.mp4_tables.proofs.RowLists.{field_behind}
 use Rattle.mp4_answers.specs.declared.box_names.Name.{Name}
 use Rattle.mp4_answers.specs.format.BoxWalk.{rule_inside}
@@ -175,10 +176,6 @@ nothing_found names rule place bytes none (at_front _ _ _ h e n p) = no_header (
 nothing_found names rule place bytes none (further _ _ _ h left e x p) = no_header (is_top rule) bytes h none e
 nothing_found names rule place bytes none (inside _ _ _ h inner left e n i x p) = no_header (is_top rule) bytes h none e
 
-both_ways : (b : Bool) → b ≡ false → b ≡ true → ⊥
-both_ways true p q = cc
-both_ways false p q = cc
-
 not_there : (o : Option Rule) (inner : Rule) → o ≡ None → o ≡ Some inner → ⊥
 not_there None inner p q = cc
 not_there (Some r) inner p q = cc
@@ -265,7 +262,7 @@ nothing_left names rule place bytes text spares (frees _ _ _ h rest e n s t) x =
     let long = sym (ap length t) ∙ strip_length names rule bytes text (frees rule bytes text h rest e n s t) in
     let read = freed_header (is_top rule) bytes rest h e long in
     elim (found names rule place (freed (take h.size bytes) ++ rest) (with_kind (codes "free") h) read (subst (NamedBoxAt names rule place) t x)) [
-      | inl named ↦ both_ways (is_named names rule (codes "free") None) (spares rule) named
+      | inl named ↦ false_and_true (is_named names rule (codes "free") None) (spares rule) named
       | inr (inl more) ↦ nothing_left names rule more.0 (drop h.size bytes) rest spares s (subst (NamedBoxAt names rule more.0) (behind_part (freed (take h.size bytes)) rest h.size part) more.1)
       | inr (inr into) ↦ not_there (rule_inside rule (codes "free")) into.0 (nothing_in_free rule) into.2
     ]
@@ -275,7 +272,7 @@ nothing_left names rule place bytes text spares (keeps _ _ _ h rest e n i s t) x
     let long = sym (ap length t) ∙ strip_length names rule bytes text (keeps rule bytes text h rest e n i s t) in
     let read = kept_header (is_top rule) bytes rest h.size h e r.fits r.inside long in
     elim (found names rule place (take h.size bytes ++ rest) h read (subst (NamedBoxAt names rule place) t x)) [
-      | inl named ↦ both_ways (is_named names rule h.kind (uuid_at h bytes)) n (subst (λ (u : Option (List ℕ)). is_named names rule h.kind u ≡ true) (uuid_kept bytes rest h r) named)
+      | inl named ↦ false_and_true (is_named names rule h.kind (uuid_at h bytes)) n (subst (λ (u : Option (List ℕ)). is_named names rule h.kind u ≡ true) (uuid_kept bytes rest h r) named)
       | inr (inl more) ↦ nothing_left names rule more.0 (drop h.size bytes) rest spares s (subst (NamedBoxAt names rule more.0) (behind_part (take h.size bytes) rest h.size box) more.1)
       | inr (inr into) ↦ not_there (rule_inside rule h.kind) into.0 i into.2
     ]
@@ -290,7 +287,7 @@ nothing_left names rule place bytes text spares (enters _ _ _ h inner middle res
     let both : length (take h.length bytes ++ middle) ≡ h.size = length-append (take h.length bytes) middle ∙ omega (arith, head, held, from) in
     elim (found names rule place (take h.length bytes ++ (middle ++ rest)) h read (subst (NamedBoxAt names rule place) t x)) [
       | inl named ↦
-          both_ways (is_named names rule h.kind (uuid_at h bytes)) n
+          false_and_true (is_named names rule h.kind (uuid_at h bytes)) n
           (subst (λ (u : Option (List ℕ)). is_named names rule h.kind u ≡ true) (no_uuid rule inner h.kind (payload_behind h (take h.length bytes ++ (middle ++ rest))) i ∙ sym (no_uuid rule inner h.kind (payload_behind h bytes) i)) named)
       | inr (inl more) ↦
           nothing_left names rule more.0 (drop h.size bytes) rest spares s

@@ -1,10 +1,11 @@
 -- Lines of sums, read back.
 use Rattle.std.proofs.Common.{◌≡◌, ◌∙◌, append_assoc, ◌++◌, ℕ, zero, suc, ◌+◌, ◌*◌, ◌/◌, ◌%◌, ◌^◌, ◌<◌, ◌≤◌, List, [], ◌∷◌, length, take, slice_index, slice_set, refl, sym, ap, subst, arith}
-use Rattle.std.specs.Prelude.{Bool, nat_lt, true, false, ◌==◌, if◌then◌else◌, codes, Option, Some}
+use Rattle.std.specs.Prelude.{Bool, true, false, ◌==◌, if◌then◌else◌, codes, Option, Some}
 use Rattle.std.specs.Char.{digit_value}
 use Rattle.std.proofs.lemmas.List.{take_all}
 use Rattle.std.proofs.lemmas.Bool.Decides.{nat_tests}
 use Rattle.mp4_boxes.specs.format.Bytes.{AreBytes}
+use Rattle.mp4_boxes.proofs.Plain.{nat_lt_yes}
 use Rattle.mp4_answers.specs.format.SumLines.{escaped_byte, escaped_name}
 use Rattle.mp4_answers.specs.format.Texts.{hex_digit, hex_text}
 use Rattle.mp4_answers.specs.words.SpelledNames.{byte_spelled, Spells}
@@ -38,11 +39,8 @@ spelled_at digits bytes k is are lt =
 digit_read : (d : ℕ) → d < 16 → digit_value (hex_digit d) ≡ d
 digit_read d lt = grind (arith, nat_tests, lt)
 
-lower : (x n : ℕ) → x < n → nat_lt x n ≡ true
-lower x n lt = grind (arith, nat_tests, lt)
-
 both_read : (high low : ℕ) → digit_value high < 16 → digit_value low < 16 → byte_spelled high low ≡ Some (16 * digit_value high + digit_value low)
-both_read high low first second = rw (lower (digit_value high) 16 first, lower (digit_value low) 16 second) refl
+both_read high low first second = rw (nat_lt_yes (digit_value high) 16 first, nat_lt_yes (digit_value low) 16 second) refl
 
 pub byte_read : (high low b : ℕ) → Spells high low b → byte_spelled high low ≡ Some b
 byte_read high low b (small, is) =

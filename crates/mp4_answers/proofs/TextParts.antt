@@ -9,7 +9,7 @@ use Rattle.sha2.proofs.Facts256.{length-sha256}
 use Rattle.mp4_boxes.specs.format.Bytes.{AreBytes}
 use Rattle.mp4_boxes.proofs.Among.{all_append}
 use Rattle.mp4_boxes.proofs.Each.{each_taken, each_dropped}
-use Rattle.mp4_boxes.proofs.Plain.{head_is, tail_is, true_false}
+use Rattle.mp4_boxes.proofs.Plain.{append_four, head_is, tail_is, true_false}
 use Rattle.mp4_tables.specs.format.Groups.{GroupKey}
 use Rattle.mp4_head.specs.format.Head.{Kept}
 use Rattle.mp4_present.specs.format.Presentation.{IsGroup, IsParameter}
@@ -245,15 +245,12 @@ same_parameter (Some m) (Some n) xs ys h k e =
     let same = decimal_injective m n (omega (arith, h)) (omega (arith, k)) r.0 in
     (ap (λ (x : ℕ). Some x) same, tail_is 61 61 xs ys r.1)
 
-group_parts : (type parameter equals number : List ℕ) → type ++ parameter ++ equals ++ number ≡ type ++ (parameter ++ (equals ++ number))
-group_parts type parameter equals number = simp append_assoc
-
 group_type : (group : GroupKey × ℕ) → IsGroup group → IsType group.0.kind
 group_type group h = record { four = h.kind_length; bytes = each_byte group.0.kind h.kind }
 
 pub same_group : (g h : GroupKey × ℕ) → IsGroup g → IsGroup h → group_word g ≡ group_word h → g ≡ h
 same_group g h ig ih e =
-    let split = λ (x : GroupKey × ℕ). group_parts (spelled_type x.0.kind) (parameter_text x.0.parameter) (codes "=") (decimal x.1) in
+    let split = λ (x : GroupKey × ℕ). append_four (spelled_type x.0.kind) (parameter_text x.0.parameter) (codes "=") (decimal x.1) in
     let r = same_type g.0.kind h.0.kind (parameter_text g.0.parameter ++ 61 ∷ decimal g.1) (parameter_text h.0.parameter ++ 61 ∷ decimal h.1) (group_type g ig) (group_type h ih) (sym (split g) ∙ e ∙ split h) in
     let s = same_parameter g.0.parameter h.0.parameter (decimal g.1) (decimal h.1) ig.parameter ih.parameter r.1 in
     let low = ig.index in

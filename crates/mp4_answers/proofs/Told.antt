@@ -9,6 +9,7 @@ use Rattle.mp4_head.specs.declared.kept_boxes.Kept.{Kept}
 use Rattle.mp4_content.specs.format.Reduced.{metadata_kinds, reduce_kept}
 use Rattle.mp4_content.specs.declared.without.Without.{Without}
 use Rattle.mp4_boxes.specs.declared.refusal.Refusal.{Refusal}
+use Rattle.mp4_boxes.proofs.Plain.{plus_one, take_everything}
 use Rattle.mp4_store.specs.words.Device.{TakesPrefix}
 use Rattle.mp4_store.specs.declared.sink.Sink.{Ghosts as Sink}
 use Rattle.mp4_store.proofs.Known.{IsJoining, TakesPrefix-longer}
@@ -30,27 +31,18 @@ one_there [] k d lt = absurd (omega (arith, lt))
 one_there (x ∷ xs) zero d lt = refl
 one_there (x ∷ xs) (suc k) d lt = ap (λ (ys : List _). x ∷ ys) (one_there xs k d (omega (arith, lt)))
 
-all_taken : {A : Type 0} (xs : List A) (k : ℕ) → length xs ≤ k → take k xs ≡ xs
-all_taken [] zero le = refl
-all_taken [] (suc k) le = refl
-all_taken (x ∷ xs) zero le = absurd (omega (arith, le))
-all_taken (x ∷ xs) (suc k) le = ap (λ (ys : List _). x ∷ ys) (all_taken xs k (omega (arith, le)))
-
 pub flat_two : {A : Type 0} (f : A → List ℕ) (xs ys : List A) → flat_map f (xs ++ ys) ≡ flat_map f xs ++ flat_map f ys
 flat_two f [] ys = refl
 flat_two f (x ∷ xs) ys = ap (λ (bs : List ℕ). f x ++ bs) (flat_two f xs ys) ∙ sym (append_assoc (f x) (flat_map f xs) (flat_map f ys))
 
-next_is : (k : ℕ) → k + 1 ≡ suc k
-next_is k = omega arith
-
 pub flat_next : {A : Type 0} (f : A → List ℕ) (xs : List A) (k : ℕ) (d : A) → k < length xs → flat_map f (take (k + 1) xs) ≡ flat_map f (take k xs) ++ f (get_or xs k d)
-flat_next f xs k d lt = ap (λ n. flat_map f (take n xs)) (next_is k) ∙ ap (flat_map f) (one_more xs k d lt) ∙ flat_two f (take k xs) (get_or xs k d ∷ []) ∙ ap (λ (bs : List ℕ). flat_map f (take k xs) ++ bs) (append-nil (f (get_or xs k d)))
+flat_next f xs k d lt = ap (λ n. flat_map f (take n xs)) (plus_one k) ∙ ap (flat_map f) (one_more xs k d lt) ∙ flat_two f (take k xs) (get_or xs k d ∷ []) ∙ ap (λ (bs : List ℕ). flat_map f (take k xs) ++ bs) (append-nil (f (get_or xs k d)))
 
 pub flat_rest : {A : Type 0} (f : A → List ℕ) (xs : List A) (k : ℕ) (d : A) → k < length xs → flat_map f xs ≡ flat_map f (take k xs) ++ (f (get_or xs k d) ++ flat_map f (drop (k + 1) xs))
-flat_rest f xs k d lt = ap (flat_map f) (one_there xs k d lt) ∙ flat_two f (take k xs) (get_or xs k d ∷ drop (suc k) xs) ∙ ap (λ n. flat_map f (take k xs) ++ (f (get_or xs k d) ++ flat_map f (drop n xs))) (sym (next_is k))
+flat_rest f xs k d lt = ap (flat_map f) (one_there xs k d lt) ∙ flat_two f (take k xs) (get_or xs k d ∷ drop (suc k) xs) ∙ ap (λ n. flat_map f (take k xs) ++ (f (get_or xs k d) ++ flat_map f (drop n xs))) (sym (plus_one k))
 
 pub flat_all : {A : Type 0} (f : A → List ℕ) (xs : List A) (k : ℕ) → length xs ≤ k → flat_map f (take k xs) ≡ flat_map f xs
-flat_all f xs k le = ap (flat_map f) (all_taken xs k le)
+flat_all f xs k le = ap (flat_map f) (take_everything xs k le)
 
 pub flat_of_map : {A B : Type 0} (f : B → List ℕ) (g : A → B) (xs : List A) → flat_map f (map g xs) ≡ flat_map (λ (x : A). f (g x)) xs
 flat_of_map f g [] = refl

@@ -6,7 +6,7 @@ use Rattle.std.specs.List.{AllByRecursion, list_any, position_from}
 use Rattle.std.proofs.lemmas.Bool.{eqb-true, ne_eqb, or_from}
 use Rattle.sha2.specs.Sha256.{sha256}
 use Rattle.mp4_boxes.proofs.Each.{each_from, each_member, each_weaker}
-use Rattle.mp4_boxes.proofs.Plain.{get_every, get_zip, true_false}
+use Rattle.mp4_boxes.proofs.Plain.{get_every, get_zip, plus_one, true_false}
 use Rattle.mp4_store.specs.words.Device.{range}
 use Rattle.mp4_tables.specs.format.Groups.{GroupKey, Groups, key_rank, same_key, index_at}
 use Rattle.mp4_tables.specs.format.PlainSamples.{PlacedSample}
@@ -151,9 +151,6 @@ there file (negsuc below) size h = absurd cc
 abbrev IsSampleOf : List ℕ → List GroupKey → PlacedSample → Type 0
 IsSampleOf file keys s = AreKeysOf keys s.groups × IsInFile (length file) s
 
-next_is : (n : ℕ) → n + 1 ≡ suc n
-next_is n = omega arith
-
 module _ (l : Without) (keys : Keys) (edges : Edges) (style : SampleStyle) (is : IsStyle l keys edges style) (file : List ℕ) (own : List GroupKey) (e : keys_seen keys ≡ own) where
   order_is : keys_seen style.order ≡ (if l.groups then [] else in_key_order own)
   order_is = is.order ∙ ap (λ (ks : List GroupKey). if l.groups then [] else in_key_order ks) e
@@ -177,7 +174,7 @@ module _ (l : Without) (keys : Keys) (edges : Edges) (style : SampleStyle) (is :
   all_told number dts [] h = refl
   all_told number dts (s ∷ samples) h =
       let one = one_told number dts s h.0 in
-      let more = all_told (number + 1) (dts + s.duration) samples h.1 ∙ (λ i. flat_map sample_text (reduce_from l edges.samples edges.first_offset (next_is number i) (map (sample_of file) samples))) in
+      let more = all_told (number + 1) (dts + s.duration) samples h.1 ∙ (λ i. flat_map sample_text (reduce_from l edges.samples edges.first_offset (plus_one number i) (map (sample_of file) samples))) in
       λ i. one i ++ more i
 
 -- ---- a track

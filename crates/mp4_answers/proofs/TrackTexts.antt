@@ -4,7 +4,7 @@ use Rattle.std.proofs.lemmas.List.{length-map}
 use Rattle.std.specs.List.{AllZip, slice_get}
 use Rattle.std.specs.Prelude.{IfSome, map}
 use Rattle.mp4_boxes.specs.format.Bytes.{sum_of}
-use Rattle.mp4_boxes.proofs.Plain.{get_every}
+use Rattle.mp4_boxes.proofs.Plain.{get_every, get_map}
 use Rattle.mp4_head.specs.format.Head.{TrackHead}
 use Rattle.mp4_head.specs.format.Tree.{TrackTree, track_head_of}
 use Rattle.mp4_present.specs.words.SamplesComing.{track_samples}
@@ -16,7 +16,6 @@ use Rattle.mp4_present.specs.format.Presentation.{Track}
 use Rattle.mp4_present.specs.declared.track_info.TrackInfo.{TrackInfo}
 use Rattle.mp4_tables.proofs.SampleLists.{timed_length}
 use Rattle.mp4_present.proofs.SamplesLie.{all_whole, timed_data}
-use Rattle.mp4_plan.proofs.TakenFrom.{got_map}
 use Rattle.mp4_answers.specs.format.FileTexts.{AreOthers, LacksTrack, IsTrackWith, ListsSamples, HasData}
 use Rattle.mp4_answers.specs.declared.jobs.Form.{Form}
 use Rattle.mp4_answers.specs.format.Texts.{listing_head, sample_at_lines}
@@ -50,7 +49,7 @@ pub record IsFound (file : List ℕ) (tree : FileTree) (k id : ℕ) : Type 0 whe
 pub track_found : (file : List ℕ) (m : MovieSeen) (tree : FileTree) (k id : ℕ) → IsOpenedAs file m tree → k < length m.tracks → IfSome (slice_get m.tracks k) (λ i. i.id ≡ id) → IsFound file tree k id
 track_found file m tree k id o lt e =
     let r = got_track file tree tree.movie.tracks m.tracks k id o.tracks lt e in
-    let there = got_map (track_of file (file_parts tree)) tree.movie.tracks k r.0 r.1 in
+    let there = get_map (track_of file (file_parts tree)) tree.movie.tracks k r.0 r.1 in
     record {
       t = r.0;
       is_there = r.1;

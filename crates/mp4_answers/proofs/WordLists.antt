@@ -12,26 +12,23 @@ use Rattle.mp4_content.specs.format.Words.{all_words, each, has, word_name, word
 use Rattle.mp4_content.proofs.Words.{by_words, each_has, same_number}
 use Rattle.mp4_answers.specs.format.LastLine.{leaving_text, words_text}
 use Rattle.mp4_answers.specs.format.WordLists.{also, is_listed, meant_by, media, named_in, only_these, packaging, put_first, word_meant, words_of, words_meant, leaving_of, IsCut, ListsLeaveOut, WordsReadBack}
+use Rattle.mp4_boxes.proofs.Plain.{and_false, or_false, or_is_false}
 
 -- ---- words between commas
 
 abbrev Lacks : ℕ → List ℕ → Type 0
 Lacks at word = list_any (λ b. b == at) word ≡ false
 
-neither : (a b : Bool) → (a || b) ≡ false → (a ≡ false) × (b ≡ false)
-neither true b e = absurd cc
-neither false b e = (refl, e)
-
 pub words_cut : (front rest : List ℕ) → Lacks 44 front → words_of (front ++ 44 ∷ rest) ≡ front ∷ words_of rest
 words_cut [] rest n = refl
 words_cut (b ∷ bytes) rest n =
-    let o = neither (b == 44) (list_any (λ b. b == 44) bytes) n in
+    let o = or_is_false (b == 44) (list_any (λ b. b == 44) bytes) n in
     rw o.0 (ap (put_first b) (words_cut bytes rest o.1))
 
 pub word_alone : (word : List ℕ) → Lacks 44 word → words_of word ≡ word ∷ []
 word_alone [] n = refl
 word_alone (b ∷ bytes) n =
-    let o = neither (b == 44) (list_any (λ b. b == 44) bytes) n in
+    let o = or_is_false (b == 44) (list_any (λ b. b == 44) bytes) n in
     rw o.0 (ap (put_first b) (word_alone bytes o.1))
 
 -- ---- what several words leave out
@@ -40,19 +37,11 @@ or_through : (a b c : Bool) → (a || (b || c)) ≡ ((a || b) || c)
 or_through true b c = refl
 or_through false b c = refl
 
-or_none : (a : Bool) → (a || false) ≡ a
-or_none true = refl
-or_none false = refl
-
 both_through : (k l m : Without) → both k (both l m) ≡ both (both k l) m
 both_through k l m = λ i. each (λ w. or_through (has k w) (has l w) (has m w) i)
 
 both_nothing : (l : Without) → both l nothing ≡ l
-both_nothing l = λ i. each (λ w. or_none (has l w) i)
-
-and_none : (a : Bool) → (a && false) ≡ false
-and_none true = refl
-and_none false = refl
+both_nothing l = λ i. each (λ w. or_false (has l w) i)
 
 and_all : (a : Bool) → (a && true) ≡ a
 and_all true = refl
@@ -142,7 +131,7 @@ module _ (l : Without) where
   all_listed = by_words (λ w. is_listed all_words w ≡ true) refl refl refl refl refl refl refl refl refl refl refl refl
 
   mean : (ws : List Word) → words_meant (left_out ws) ≡ Some (each (λ v. has l v && is_listed ws v))
-  mean [] = ap Some (λ i. each (λ v. sym (and_none (has l v)) i))
+  mean [] = ap Some (λ i. each (λ v. sym (and_false (has l v)) i))
   mean (w ∷ ws) = by (mean ws) (has l w) refl
     where
       at : (b v_has : Bool) (v : Word) (same : Bool) → (word_number w == word_number v) ≡ same → has l w ≡ b
@@ -184,7 +173,7 @@ some_word [] = ([], [], refl)
 some_word (b ∷ bytes) = one_word b (b == 44) (words_of bytes) (some_word bytes)
 
 left_none : (l m : Without) → both l m ≡ nothing → l ≡ nothing
-left_none l m e = λ i. each (λ w. (neither (has l w) (has m w) (sym (each_has (λ v. has l v || has m v) w) ∙ ap (λ (x : Without). has x w) e ∙ each_has (λ v. false) w)).0 i)
+left_none l m e = λ i. each (λ w. (or_is_false (has l w) (has m w) (sym (each_has (λ v. has l v || has m v) w) ∙ ap (λ (x : Without). has x w) e ∙ each_has (λ v. false) w)).0 i)
 
 also_none : (o p : Option Without) → (o ≡ Some nothing → ⊥) → also o p ≡ Some nothing → ⊥
 also_none None p some e = absurd cc

@@ -13,6 +13,7 @@ use Rattle.mp4_content.proofs.Words.{by_words, each_has, same_number, same_words
 use Rattle.mp4_answers.specs.format.WordLists.{is_listed}
 use Rattle.mp4_answers.specs.words.Compares.{IsShrunk}
 use Rattle.mp4_answers.specs.words.SingleWords.{everything, less_word, single_words}
+use Rattle.mp4_boxes.proofs.Plain.{or_same, or_true}
 
 -- what both leave out
 abbrev pub common : Without → Without → Without
@@ -37,14 +38,6 @@ single_listed = by_words (λ w. is_listed single_words w ≡ true) refl refl ref
 -- it stays if it isn't taken away, or was given
 abbrev stays : Bool → Bool → Bool → Bool
 stays given l taken = l && (given || not taken)
-
-or_same : (a : Bool) → (a || a) ≡ a
-or_same true = refl
-or_same false = refl
-
-or_true : (a : Bool) → (a || true) ≡ true
-or_true true = refl
-or_true false = refl
 
 or_through : (a b c : Bool) → (a || b) ≡ b → (b || c) ≡ c → (a || c) ≡ c
 or_through true true c e f = f

@@ -10,6 +10,7 @@ use Rattle.mp4_content.specs.format.BitRates.{unrated_descriptions, unrated_payl
 use Rattle.mp4_content.specs.format.Reduced.{sync_flag, plain_handler, plain_picture, plain_descriptions, is_at_end, first_offset, reduce_sample, reduce_from, reduce_samples, reduce_media, reduce_track_head, reduce_movie_head, number_head, number_track, number_tracks, reduce_track, reduce}
 use Rattle.mp4_content.specs.declared.without.Without.{Without}
 use Rattle.mp4_content.specs.format.Agreeing.{is_other, SamplesAgree, AllAgree, MediaAgree, TrackHeadsAgree, MovieHeadsAgree, TracksAgree, Agree, ReduceIsExact}
+use Rattle.mp4_boxes.proofs.Plain.{head_is, tail_is}
 
 -- what stays is the same, where it stays
 stays : {A : Type 0} (b : Bool) (g : A → A) (x y : A) → (if b then g x else x) ≡ (if b then g y else y) → b ≡ false → x ≡ y
@@ -92,12 +93,6 @@ module _ (h k : List ℕ) (x y : List Kept) where
   same_left false true all plain rates both = rates refl
   same_left false false all plain rates both = all refl refl
 
-first_same : {A : Type 0} (x y : A) (xs ys : List A) → x ∷ xs ≡ y ∷ ys → x ≡ y
-first_same x y xs ys e = cc
-
-rest_same : {A : Type 0} (x y : A) (xs ys : List A) → x ∷ xs ≡ y ∷ ys → xs ≡ ys
-rest_same x y xs ys e = cc
-
 sync_to : (m n : ℕ) → sync_flag m ≡ sync_flag n → m / 2 ^ 16 % 2 ≡ n / 2 ^ 16 % 2
 sync_to m n e = omega (arith, e)
 
@@ -137,7 +132,7 @@ module _ (l : Without) where
         let b = reduce_sample l count other n y in
         let more = reduce_from l count first (suc n) xs in
         let rest = reduce_from l count other (suc n) ys in
-        (sample_to n x y (first_same a b more rest e), from_to (suc n) xs ys (rest_same a b more rest e))
+        (sample_to n x y (head_is a b more rest e), from_to (suc n) xs ys (tail_is a b more rest e))
 
     from_from : (n : ℕ) (xs ys : List Sample) → AllAgree l count first other n xs ys → reduce_from l count first n xs ≡ reduce_from l count other n ys
     from_from n [] [] h = refl
@@ -276,7 +271,7 @@ module _ (l : Without) where
       let b = number_track l place (reduce_track l y) in
       let more = number_tracks l (suc place) (map (reduce_track l) xs) in
       let rest = number_tracks l (suc place) (map (reduce_track l) ys) in
-      (track_to place x y (first_same a b more rest e), tracks_to (suc place) xs ys (rest_same a b more rest e))
+      (track_to place x y (head_is a b more rest e), tracks_to (suc place) xs ys (tail_is a b more rest e))
 
   tracks_from : (place : ℕ) (xs ys : List Track) → AllZip (TracksAgree l) xs ys → number_tracks l place (map (reduce_track l) xs) ≡ number_tracks l place (map (reduce_track l) ys)
   tracks_from place [] [] h = refl

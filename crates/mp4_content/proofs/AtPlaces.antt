@@ -1,5 +1,5 @@
 -- What stands at a place of a list.
-use Rattle.std.proofs.Common.{◌≡◌, ℕ, zero, suc, ◌+◌, ◌<◌, List, [], ◌∷◌, ◌++◌, length, take, Some, refl, sym, ap, subst, ◌∙◌, arith}
+use Rattle.std.proofs.Common.{◌≡◌, ℕ, zero, suc, ◌+◌, List, [], ◌∷◌, ◌++◌, take, Some, sym, ap, subst, ◌∙◌, arith}
 use Rattle.std.specs.Prelude.{slice_get, slice_index_or}
 
 -- what stands at a place is what was read there
@@ -28,8 +28,3 @@ taken_next {A} xs k x is = let one : k + 1 ≡ suc k = omega arith in ap (λ n. 
     by [] k e = absurd cc
     by (y ∷ ys) zero e = let same : y ≡ x = cc in ap (λ z. z ∷ []) same
     by (y ∷ ys) (suc k) e = ap (λ zs. y ∷ zs) (by ys k e)
-
-pub there_is : {A : Type 0} (xs : List A) (k : ℕ) → k < length xs → (x : A) × (slice_get xs k ≡ Some x)
-there_is [] k lt = absurd (omega (arith, lt))
-there_is (x ∷ xs) zero lt = (x, refl)
-there_is (x ∷ xs) (suc k) lt = there_is xs k (omega (arith, lt))

@@ -1,10 +1,10 @@
 -- What the differences between two maps of sample groups tell: where there is none, maps in their order are equal.
-use Rattle.std.proofs.Common.{◌≡◌, ℕ, ◌+◌, ◌*◌, ◌^◌, ◌<◌, ◌≤◌, Bool, true, false, if◌then◌else◌, List, [], ◌∷◌, ◌++◌, length, Option, Some, None, refl, sym, ap, subst, ◌∙◌, arith, inl, inr}
+use Rattle.std.proofs.Common.{◌≡◌, ℕ, ◌+◌, ◌^◌, ◌<◌, ◌≤◌, Bool, true, false, if◌then◌else◌, List, [], ◌∷◌, ◌++◌, length, Option, Some, None, refl, sym, ap, subst, ◌∙◌, arith, inl, inr}
 use Rattle.std.specs.Prelude.{◌==◌, nat_lt, slice_index, fold, map, flat_map}
 use Rattle.std.specs.List.{AllByRecursion, list_any, list_all}
 use Rattle.std.proofs.lemmas.Bool.{eqb-true, eq-eqb, ne_eqb, or_cases, or_left, or_parts, or_from, and_parts, ltb-true, cases_order}
 use Rattle.mp4_boxes.specs.format.Bytes.{field, AreBytes}
-use Rattle.mp4_boxes.proofs.Plain.{true_false}
+use Rattle.mp4_boxes.proofs.Plain.{four_digits, four_items, not_true_is, true_false}
 use Rattle.mp4_tables.specs.format.Groups.{GroupKey, Groups, key_rank, parameter_rank, same_key, is_in_order, index_at}
 use Rattle.mp4_tables.proofs.NamedKeys.{IsAmong, IsNone, same_itself, among_more, among_first, among_through}
 use Rattle.mp4_present.specs.format.Presentation.{IsParameter, IsGroup}
@@ -19,25 +19,11 @@ use Rattle.mp4_content.proofs.ComparisonValues.{Tells, both, weaker, number_tell
 
 -- ---- a key is known by its rank
 
--- four bytes, and no more
-four_bytes : (xs : List ℕ) → length xs ≡ 4 → xs ≡ slice_index xs 0 ∷ slice_index xs 1 ∷ slice_index xs 2 ∷ slice_index xs 3 ∷ []
-four_bytes [] e = absurd (omega (arith, e))
-four_bytes (a ∷ []) e = absurd (omega (arith, e))
-four_bytes (a ∷ b ∷ []) e = absurd (omega (arith, e))
-four_bytes (a ∷ b ∷ c ∷ []) e = absurd (omega (arith, e))
-four_bytes (a ∷ b ∷ c ∷ d ∷ []) e = refl
-four_bytes (a ∷ b ∷ c ∷ d ∷ f ∷ xs) e = absurd (omega (arith, e))
-
--- numbers in base 256 have one row of digits
-digits : (a b c d p q r s : ℕ) → b < 256 → c < 256 → d < 256 → q < 256 → r < 256 → s < 256
-    → a * 256 ^ 3 + (b * 256 ^ 2 + (c * 256 ^ 1 + (d * 256 ^ 0 + 0))) ≡ p * 256 ^ 3 + (q * 256 ^ 2 + (r * 256 ^ 1 + (s * 256 ^ 0 + 0))) → (a ≡ p) × (b ≡ q) × (c ≡ r) × (d ≡ s)
-digits a b c d p q r s lb lc ld lq lr ls e = (omega arith, omega arith, omega arith, omega arith)
-
 -- types of one number are one type
 kind_same : (xs ys : List ℕ) → length xs ≡ 4 → length ys ≡ 4 → AreBytes xs → AreBytes ys → field xs 0 4 ≡ field ys 0 4 → xs ≡ ys
 kind_same xs ys e f h k same =
-    let d = digits (slice_index xs 0) (slice_index xs 1) (slice_index xs 2) (slice_index xs 3) (slice_index ys 0) (slice_index ys 1) (slice_index ys 2) (slice_index ys 3) (h 1) (h 2) (h 3) (k 1) (k 2) (k 3) same in
-    four_bytes xs e ∙ (λ i. d.0 i ∷ d.1 i ∷ d.2 i ∷ d.3 i ∷ []) ∙ sym (four_bytes ys f)
+    let d = four_digits (slice_index xs 0) (slice_index xs 1) (slice_index xs 2) (slice_index xs 3) (slice_index ys 0) (slice_index ys 1) (slice_index ys 2) (slice_index ys 3) (h 1) (h 2) (h 3) (k 1) (k 2) (k 3) same in
+    four_items xs e ∙ (λ i. d.0 i ∷ d.1 i ∷ d.2 i ∷ d.3 i ∷ []) ∙ sym (four_items ys f)
 
 -- the rank of a parameter is below its bound
 parameter_small : (o : Option ℕ) → IsParameter o → parameter_rank o < 2 ^ 32 + 1
@@ -220,10 +206,6 @@ no_index (group ∷ groups) key n =
     let p = or_parts (same_key key group.0) (list_any (same_key key) (keys_in groups)) n in
     rw p.0 (no_index groups key p.1)
 
-none_of : (b : Bool) → (b ≡ true → ⊥) → b ≡ false
-none_of true f = absurd (f refl)
-none_of false f = refl
-
 -- the index at a key
 abbrev pub key_field : GroupKey → Field
 key_field key = fields.Group (record { kind = record { 0 = key.kind }; parameter = key.parameter })
@@ -246,7 +228,7 @@ module _ (of : Subject) (a b : Groups) where
   -- the index at a key that is none of both is 0 in both
   pub none_same : (key : GroupKey) → list_any (same_key key) (keys_of_both a b) ≡ false → index_at key a ≡ index_at key b
   none_same key e =
-      let none : IsNone all_keys key = none_of (list_any (same_key key) all_keys) (λ t. true_false (list_any (same_key key) (keys_of_both a b)) (among_through all_keys (keys_of_both a b) key (each_there [] all_keys) t) e) in
+      let none : IsNone all_keys key = not_true_is (list_any (same_key key) all_keys) (λ t. true_false (list_any (same_key key) (keys_of_both a b)) (among_through all_keys (keys_of_both a b) key (each_there [] all_keys) t) e) in
       let p = none_parts (keys_in a) (keys_in b) key none in
       no_index a key p.0 ∙ sym (no_index b key p.1)
 

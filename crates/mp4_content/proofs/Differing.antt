@@ -4,6 +4,7 @@ use Rattle.std.specs.Prelude.{map, filter, not, ◌==◌, ◌||◌}
 use Rattle.std.proofs.lemmas.List.{append-nil, length-map, map-append, drop-drop, take-append-drop}
 use Rattle.std.proofs.lemmas.Bool.{eq-eqb, ne_eqb, cases_lt}
 use Rattle.mp4_boxes.specs.format.Children.{is_among}
+use Rattle.mp4_boxes.proofs.Plain.{drop_all, plus_one, some_is}
 use Rattle.mp4_head.specs.format.Head.{Kept}
 use Rattle.mp4_head.specs.words.Seen.{kept_seen}
 use Rattle.mp4_head.specs.declared.kept_boxes.Kept.{Kept as KeptBox}
@@ -15,9 +16,6 @@ use Rattle.mp4_content.specs.declared.comparing.differences.Difference.{Differen
 use Rattle.mp4_content.specs.declared.comparing.differences.Subject.{Subject}
 use Rattle.mp4_content.specs.declared.comparing.differences.Entries.{Entries}
 use Rattle.mp4_content.specs.declared.comparing.differences.Field.TheVariants as fields
-
-plus_one : (k : ℕ) → k + 1 ≡ suc k
-plus_one k = omega arith
 
 -- what was found, and then more
 pub and_then : (old mid new a b : List Difference) → mid ≡ old ++ a → new ≡ mid ++ b → new ≡ old ++ (a ++ b)
@@ -38,13 +36,6 @@ itself : {A : Type 0} (xs : List A) (k : ℕ) (d : A) → k < length xs → slic
 itself [] k d lt = absurd (omega (arith, lt))
 itself (x ∷ xs) zero d lt = refl
 itself (x ∷ xs) (suc k) d lt = itself xs k d (omega (arith, lt))
-
--- nothing is behind the end of a list
-pub none_behind : {A : Type 0} (xs : List A) (k : ℕ) → length xs ≤ k → drop k xs ≡ []
-none_behind [] zero le = refl
-none_behind [] (suc k) le = refl
-none_behind (x ∷ xs) zero le = absurd (omega (arith, le))
-none_behind (x ∷ xs) (suc k) le = none_behind xs k (omega (arith, le))
 
 pub each_ends : {A : Type 0} (one : ℕ → A → A → List Difference) (n : ℕ) (xs : List A) → each_differ one n xs [] ≡ []
 each_ends one n [] = refl
@@ -88,8 +79,8 @@ module _ {A B : Type 0} (g : A → B) (one : ℕ → B → B → List Difference
       goes_on k (slice_index_or xs k d) (slice_index_or ys k e) now next whole lx ly (itself xs k d lx) (itself ys k e ly) h is
 
   none_left : (k : ℕ) → (length xs ≤ k) ⊎ (length ys ≤ k) → each_differ one (suc k) (map g (drop k xs)) (map g (drop k ys)) ≡ []
-  none_left k (inl le) = rw (none_behind xs k le) (none_first one (suc k) (map g (drop k ys)))
-  none_left k (inr le) = rw (none_behind ys k le) (each_ends one (suc k) (map g (drop k xs)))
+  none_left k (inl le) = rw (drop_all xs k le) (none_first one (suc k) (map g (drop k ys)))
+  none_left k (inr le) = rw (drop_all ys k le) (each_ends one (suc k) (map g (drop k xs)))
 
   pub goes_whole : (k : ℕ) (now whole : List Difference) → (length xs ≤ k) ⊎ (length ys ≤ k) → Goes k now whole → now ≡ whole
   goes_whole k now whole le h = sym (append-nil now) ∙ ap (λ (ds : List Difference). now ++ ds) (sym (none_left k le)) ∙ h
@@ -162,7 +153,7 @@ none_of_none l = by l.metadata
     by false = refl
 
 pub kept_all : (l : Without) (kept : List KeptBox) (k : ℕ) (now : List KeptBox) → length kept ≤ k → KeptOn l kept k now → map kept_seen now ≡ reduce_kept l (map kept_seen kept)
-kept_all l kept k now le h = sym (append-nil (map kept_seen now)) ∙ ap (λ (ks : List Kept). map kept_seen now ++ ks) (sym (ap (λ (xs : List KeptBox). reduce_kept l (map kept_seen xs)) (none_behind kept k le) ∙ none_of_none l)) ∙ h
+kept_all l kept k now le h = sym (append-nil (map kept_seen now)) ∙ ap (λ (ks : List Kept). map kept_seen now ++ ks) (sym (ap (λ (xs : List KeptBox). reduce_kept l (map kept_seen xs)) (drop_all kept k le) ∙ none_of_none l)) ∙ h
 
 -- ---- parts of a file
 
@@ -201,9 +192,6 @@ if_some : {A B : Type 0} (b : Bool) (u v : A) (x : Option A) (y d w : B) → Som
 if_some true u v x y d w e f g = f e
 if_some false u v x y d w e f g = g e
 
-same_found : {A : Type 0} (x y : A) → ◌≡◌ {A = Option A} (Some x) (Some y) → x ≡ y
-same_found x y e = cc
-
 pieces_none : (k n : ℕ) (xs zs ys ws : List ℕ) → length xs ≡ length ys → None ≡ first_unequal k xs ys → first_unequal n (xs ++ zs) (ys ++ ws) ≡ first_unequal (n + length xs) zs ws
 pieces_none k n [] zs [] ws l e = let same : n ≡ n + 0 = omega arith in ap (λ m. first_unequal m zs ws) same
 pieces_none k n [] zs (y ∷ ys) ws l e = absurd (omega (arith, l))
@@ -224,7 +212,7 @@ pieces_some k n v (x ∷ xs) zs (y ∷ ys) ws l e =
     let same : suc (n + k) ≡ n + suc k = omega arith in
     if_some (x == y) (k, x, y) v (first_unequal (suc k) xs ys) (first_unequal (suc (n + k)) (xs ++ zs) (ys ++ ws)) (Some (n + k, x, y)) (moved n v) e
     (λ f. ap (λ m. first_unequal m (xs ++ zs) (ys ++ ws)) same ∙ pieces_some (suc k) n v xs zs ys ws (omega (arith, l)) f)
-    (λ f. ap (moved n) (sym (same_found v (k, x, y) f)))
+    (λ f. ap (moved n) (sym (some_is v (k, x, y) f)))
 
 module _ (f h : List ℕ) (la ra len done count : ℕ) (cx cy : List ℕ) (le : done + count ≤ len) (ex : cx ≡ range f (la + done) count) (ey : cy ≡ range h (ra + done) count) (lx : length cx ≡ count) (ly : length cy ≡ count) (w : Option (ℕ × ℕ × ℕ))
     (goes : first_unequal done (drop done (range f la len)) (drop done (range h ra len)) ≡ w) where

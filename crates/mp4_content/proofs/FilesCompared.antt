@@ -4,7 +4,7 @@ use Rattle.std.specs.List.{slice_get}
 use Rattle.std.specs.Prelude.{map, Result, Ok, Err, IfOk}
 use Rattle.std.proofs.lemmas.List.{append-nil, length-map}
 use Rattle.mp4_boxes.specs.format.Bytes.{sum_of}
-use Rattle.mp4_boxes.proofs.Plain.{get_zip, length_zip}
+use Rattle.mp4_boxes.proofs.Plain.{drop_plus, get_map, get_zip, length_zip, some_is}
 use Rattle.mp4_head.specs.format.Tree.{TrackTree, head_of, track_head_of}
 use Rattle.mp4_head.specs.format.Head as heads
 use Rattle.mp4_head.specs.words.Found.{SaysHead}
@@ -52,13 +52,13 @@ heads_differ l number k file other m n tree other_tree t u info other_info head 
     let count = x.samples ∙ sym (left_many (track_of file (file_parts tree) t).samples) in
     let other_count = y.samples ∙ sym (left_many (track_of other (file_parts other_tree) u).samples) in
     λ i. (head_differences of (number_head l number (reduce_track_head l (e i))) (number_head l number (reduce_track_head l (f i)))
-        ++ numbers_differ of fields.Start (start_left l (x.start i)) (start_left l (y.start i)) ++ numbers_differ of fields.Samples (count i) (other_count i)) ++ samples_differ l number file tree t other other_tree u
+    ++ numbers_differ of fields.Start (start_left l (x.start i)) (start_left l (y.start i)) ++ numbers_differ of fields.Samples (count i) (other_count i)) ++ samples_differ l number file tree t other other_tree u
 
 -- Two tracks whose heads were compared: their samples are left.
 pub track_begun : (l : Without) (number k : ℕ) (file other : List ℕ) (m n : MovieSeen) (tree other_tree : FileTree) (t u : TrackTree) (info other_info : TrackInfo) (head other_head : TrackHead) → IsOpenedAs file m tree → IsOpenedAs other n other_tree
     → slice_get tree.movie.tracks k ≡ Some t → slice_get other_tree.movie.tracks k ≡ Some u → slice_get m.tracks k ≡ Some info → slice_get n.tracks k ≡ Some other_info → track_seen head ≡ track_head_of t → track_seen other_head ≡ track_head_of u
     → (found : List Difference) → found ≡ head_differences (subjects.Track number) (number_head l number (reduce_track_head l (track_seen head))) (number_head l number (reduce_track_head l (track_seen other_head)))
-        ++ numbers_differ (subjects.Track number) fields.Start (start_left l info.start) (start_left l other_info.start)
+    ++ numbers_differ (subjects.Track number) fields.Start (start_left l info.start) (start_left l other_info.start)
     ++ numbers_differ (subjects.Track number) fields.Samples info.samples other_info.samples
     → tracks_differ l number file tree t other other_tree u ≡ found ++ samples_differ l number file tree t other other_tree u
 track_begun l number k file other m n tree other_tree t u info other_info head other_head o p at bt it jt e f found is =
@@ -91,18 +91,10 @@ pub heads_all : (file : List ℕ) (m : MovieSeen) (tree : FileTree) (head : Movi
 heads_all file m tree head o says =
     sym (length-map head.tracks.items track_seen) ∙ ap (λ (h : heads.Head). length h.tracks) (said file m tree head o says) ∙ length-map tree.movie.tracks track_head_of
 
-get_mapped : {A B : Type 0} (f : A → B) (xs : List A) (k : ℕ) (x : A) → slice_get xs k ≡ Some x → slice_get (map f xs) k ≡ Some (f x)
-get_mapped f [] k x e = absurd cc
-get_mapped f (y ∷ xs) zero x e = let same : y ≡ x = cc in ap (λ z. Some (f z)) same
-get_mapped f (y ∷ xs) (suc k) x e = get_mapped f xs k x e
-
-some_same : {A : Type 0} (x y : A) → ◌≡◌ {A = Option A} (Some x) (Some y) → x ≡ y
-some_same x y e = cc
-
 -- the head of a track that was read is its own
 pub head_own : (file : List ℕ) (m : MovieSeen) (tree : FileTree) (head : MovieHead) (k : ℕ) (t : TrackTree) (h : TrackHead) → IsOpenedAs file m tree → SaysHead (moov_box m) head → slice_get tree.movie.tracks k ≡ Some t → slice_get head.tracks.items k ≡ Some h → track_seen h ≡ track_head_of t
 head_own file m tree head k t h o says at there =
-    some_same (track_seen h) (track_head_of t) (sym (get_mapped track_seen head.tracks.items k h there) ∙ ap (λ (x : heads.Head). slice_get x.tracks k) (said file m tree head o says) ∙ get_mapped track_head_of tree.movie.tracks k t at)
+    some_is (track_seen h) (track_head_of t) (sym (get_map track_seen head.tracks.items k h there) ∙ ap (λ (x : heads.Head). slice_get x.tracks k) (said file m tree head o says) ∙ get_map track_head_of tree.movie.tracks k t at)
 
 -- the tracks of the presentation, behind what was left out
 abbrev tracks_left : Without → List ℕ → FileTree → List Track
@@ -129,19 +121,11 @@ movie_begun l file other m n tree other_tree head other_head o p says other_says
 
 -- ---- track after track
 
-after_got : {A : Type 0} (xs : List A) (k : ℕ) (x : A) → slice_get xs k ≡ Some x → drop k xs ≡ x ∷ drop (suc k) xs
-after_got [] k x e = absurd cc
-after_got (y ∷ xs) zero x e = let same : y ≡ x = cc in ap (λ z. z ∷ xs) same
-after_got (y ∷ xs) (suc k) x e = after_got xs k x e
-
-behind_got : {A : Type 0} (xs : List A) (k : ℕ) (x : A) → slice_get xs k ≡ Some x → drop k xs ≡ x ∷ drop (k + 1) xs
-behind_got xs k x e = let one : suc k ≡ k + 1 = omega arith in after_got xs k x e ∙ ap (λ n. x ∷ drop n xs) one
-
 -- what is left of one
 track_left : (l : Without) (file : List ℕ) (tree : FileTree) (k : ℕ) (t : TrackTree) → slice_get tree.movie.tracks k ≡ Some t → slice_get (tracks_left l file tree) k ≡ Some (number_track l (k + 1) (reduce_track l (track_of file (file_parts tree) t)))
 track_left l file tree k t at =
     let own = track_of file (file_parts tree) in
-    numbered_at l k (map (reduce_track l) (map own tree.movie.tracks)) (reduce_track l (own t)) (get_mapped (reduce_track l) (map own tree.movie.tracks) k (own t) (get_mapped own tree.movie.tracks k t at))
+    numbered_at l k (map (reduce_track l) (map own tree.movie.tracks)) (reduce_track l (own t)) (get_map (reduce_track l) (map own tree.movie.tracks) k (own t) (get_map own tree.movie.tracks k t at))
 
 -- what differs of the tracks from a place on begins with what differs there
 track_next : (l : Without) (file : List ℕ) (tree : FileTree) (other : List ℕ) (other_tree : FileTree) (k : ℕ) (t u : TrackTree) → slice_get tree.movie.tracks k ≡ Some t → slice_get other_tree.movie.tracks k ≡ Some u
@@ -152,7 +136,7 @@ track_next l file tree other other_tree k t u at bt =
     let x = number_track l (k + 1) (reduce_track l (track_of file (file_parts tree) t)) in
     let y = number_track l (k + 1) (reduce_track l (track_of other (file_parts other_tree) u)) in
     each_next whole.track_differences k xs ys (drop (k + 1) xs) (drop (k + 1) ys) x y
-    (behind_got xs k x (track_left l file tree k t at)) (behind_got ys k y (track_left l other other_tree k u bt))
+    (drop_plus xs k x (track_left l file tree k t at)) (drop_plus ys k y (track_left l other other_tree k u bt))
 
 -- how many steps the walks over the tracks of two files from a place on may take
 abbrev steps_left : FileTree → FileTree → ℕ → ℕ
@@ -172,8 +156,8 @@ module _ (l : Without) (file : List ℕ) (tree : FileTree) (other : List ℕ) (o
     module _ (t u : TrackTree) (at : slice_get tree.movie.tracks k ≡ Some t) (bt : slice_get other_tree.movie.tracks k ≡ Some u) where
       steps_next : steps_left tree other_tree k ≡ (walk_steps tree t + walk_steps other_tree u) + steps_left tree other_tree (k + 1)
       steps_next =
-          let first = ap (sum_of (walk_steps tree)) (behind_got tree.movie.tracks k t at) in
-          let second = ap (sum_of (walk_steps other_tree)) (behind_got other_tree.movie.tracks k u bt) in
+          let first = ap (sum_of (walk_steps tree)) (drop_plus tree.movie.tracks k t at) in
+          let second = ap (sum_of (walk_steps other_tree)) (drop_plus other_tree.movie.tracks k u bt) in
           omega (arith, first, second)
 
       -- one more

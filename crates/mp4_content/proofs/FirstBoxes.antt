@@ -5,6 +5,7 @@ use Rattle.std.proofs.lemmas.Bool.{le-leb, leb-true, lt-ltb, ltb-true}
 use Rattle.mp4_boxes.specs.format.Bytes.{field}
 use Rattle.std.proofs.lemmas.List.{length-take-le}
 use Rattle.mp4_boxes.proofs.WrittenBoxes.{length-box_bytes}
+use Rattle.mp4_boxes.proofs.Plain.{not_true_is}
 use Rattle.mp4_head.specs.format.Head.{Kept}
 use Rattle.mp4_head.specs.format.Writing.{kept_bytes}
 use Rattle.mp4_content.specs.format.BitRates.{begins_box, first_box, leading_boxes, behind_boxes, boxes_of, end_of, left_of_boxes, tiles_left, are_zeros}
@@ -30,13 +31,9 @@ pub begins : (bytes : List ℕ) → 8 ≤ field bytes 0 4 → field bytes 0 4 �
 unfolding begins_box
 begins bytes a b c = rw (le-leb 8 (field bytes 0 4) a, le-leb (field bytes 0 4) (length bytes) b, lt-ltb (field bytes 0 4) (2 ^ 32) c) refl
 
-pub no_box : (v : Bool) → (v ≡ true → ⊥) → v ≡ false
-no_box true f = absurd (f refl)
-no_box false f = refl
-
 -- a header takes eight bytes
 pub too_short : (bytes : List ℕ) → length bytes < 8 → begins_box bytes ≡ false
-too_short bytes few = no_box (begins_box bytes) (λ e. let h = begun bytes e in let a = h.0 in let b = h.1 in omega (arith, a, b, few))
+too_short bytes few = not_true_is (begins_box bytes) (λ e. let h = begun bytes e in let a = h.0 in let b = h.1 in omega (arith, a, b, few))
 
 pub rest_shorter : (bytes : List ℕ) → begins_box bytes ≡ true → length (drop (field bytes 0 4) bytes) + 8 ≤ length bytes
 rest_shorter bytes e =
@@ -157,7 +154,7 @@ whole_stays change zeros bytes left rest new h e z same =
 
 -- whether the size that is read is that of a box
 pub small_size : (bytes : List ℕ) → field bytes 0 4 < 8 → begins_box bytes ≡ false
-small_size bytes few = no_box (begins_box bytes) (λ e. let a = (begun bytes e).0 in omega (arith, a, few))
+small_size bytes few = not_true_is (begins_box bytes) (λ e. let a = (begun bytes e).0 in omega (arith, a, few))
 
 pub begins_if : (bytes : List ℕ) → 8 ≤ field bytes 0 4 → field bytes 0 4 < 2 ^ 32 → nat_le (field bytes 0 4) (length bytes) ≡ begins_box bytes
 unfolding begins_box

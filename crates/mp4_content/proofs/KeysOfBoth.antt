@@ -1,17 +1,17 @@
 -- Keys that are put in their order.
-use Rattle.std.proofs.Common.{◌≡◌, ℕ, zero, suc, ◌+◌, ◌*◌, ◌^◌, ◌<◌, ◌≤◌, Bool, true, false, ltb, Option, Some, None, List, [], ◌∷◌, ◌++◌, length, take, drop, refl, sym, ap, subst, ◌∙◌, arith, inl, inr, append_assoc}
+use Rattle.std.proofs.Common.{◌≡◌, ℕ, zero, suc, ◌+◌, ◌^◌, ◌<◌, ◌≤◌, Bool, true, false, ltb, Option, Some, None, List, [], ◌∷◌, ◌++◌, length, take, drop, refl, sym, ap, subst, ◌∙◌, arith, inl, inr, append_assoc}
 use Rattle.std.specs.Prelude.{map, fold, flat_map, slice_index, IfSome}
 use Rattle.std.specs.List.{AllByRecursion, list_any}
 use Rattle.std.proofs.lemmas.List.{map-append, take-append-drop}
 use Rattle.std.proofs.lemmas.Bool.{lt-ltb, ltb-true, eqb-true, eq-eqb, ne_eqb, or_cases, or_left, or_from, cases_lt}
 use Rattle.mp4_boxes.specs.format.Bytes.{field, AreBytes}
+use Rattle.mp4_boxes.proofs.Plain.{drop_all, four_digits, four_items, take_everything}
 use Rattle.mp4_tables.specs.format.Groups.{GroupKey, key_rank, parameter_rank, same_key}
 use Rattle.mp4_tables.proofs.NamedKeys.{IsAmong, IsNone, among_more, among_first}
 use Rattle.mp4_tables.proofs.Placed.{IsKey}
 use Rattle.mp4_tables.specs.words.Keys.{key_seen}
 use Rattle.mp4_tables.specs.declared.keys.GroupKey.{GroupKey as KeyNamed}
 use Rattle.mp4_content.specs.format.Comparison.{with_key}
-use Rattle.mp4_content.proofs.Differing.{none_behind}
 
 -- ---- a key that is put among others
 
@@ -64,16 +64,9 @@ key_behind xs k x key whole e lt h =
     ap (λ (ks : List KeyNamed). map key_seen ks ++ rest) (take_one_more xs k x (drop (k + 1) xs) e) ∙ ap (λ (ks : List GroupKey). ks ++ rest) (map-append key_seen (take k xs) (x ∷ []))
     ∙ append_assoc (map key_seen (take k xs)) (key_seen x ∷ []) rest ∙ ap (λ (ks : List GroupKey). map key_seen (take k xs) ++ ks) (sym behind) ∙ h
 
--- nothing stands behind the last place
-all_taken : {A : Type 0} (xs : List A) (k : ℕ) → length xs ≤ k → take k xs ≡ xs
-all_taken [] zero le = refl
-all_taken [] (suc k) le = refl
-all_taken (x ∷ xs) zero le = absurd (omega (arith, le))
-all_taken (x ∷ xs) (suc k) le = ap (λ ys. x ∷ ys) (all_taken xs k (omega (arith, le)))
-
 pub key_last : (xs : List KeyNamed) (k : ℕ) (key : KeyNamed) (whole : List GroupKey) → length xs ≤ k → PutsAt xs k key whole → map key_seen (xs ++ key ∷ []) ≡ whole
 key_last xs k key whole le h =
-    map-append key_seen xs (key ∷ []) ∙ sym (λ i. map key_seen (all_taken xs k le i) ++ with_key (map key_seen (none_behind xs k le i)) (key_seen key)) ∙ h
+    map-append key_seen xs (key ∷ []) ∙ sym (λ i. map key_seen (take_everything xs k le i) ++ with_key (map key_seen (drop_all xs k le i)) (key_seen key)) ∙ h
 
 -- ---- keys in their order
 
@@ -146,23 +139,10 @@ fold_there keys (x ∷ xs) = (fold_stays (with_key keys x) xs x (with_there x ke
 
 -- ---- a key is known by its rank
 
-four_bytes : (xs : List ℕ) → length xs ≡ 4 → xs ≡ slice_index xs 0 ∷ slice_index xs 1 ∷ slice_index xs 2 ∷ slice_index xs 3 ∷ []
-four_bytes [] e = absurd (omega (arith, e))
-four_bytes (a ∷ []) e = absurd (omega (arith, e))
-four_bytes (a ∷ b ∷ []) e = absurd (omega (arith, e))
-four_bytes (a ∷ b ∷ c ∷ []) e = absurd (omega (arith, e))
-four_bytes (a ∷ b ∷ c ∷ d ∷ []) e = refl
-four_bytes (a ∷ b ∷ c ∷ d ∷ f ∷ xs) e = absurd (omega (arith, e))
-
--- numbers in base 256 have one row of digits
-digits : (a b c d p q r s : ℕ) → b < 256 → c < 256 → d < 256 → q < 256 → r < 256 → s < 256
-    → a * 256 ^ 3 + (b * 256 ^ 2 + (c * 256 ^ 1 + (d * 256 ^ 0 + 0))) ≡ p * 256 ^ 3 + (q * 256 ^ 2 + (r * 256 ^ 1 + (s * 256 ^ 0 + 0))) → (a ≡ p) × (b ≡ q) × (c ≡ r) × (d ≡ s)
-digits a b c d p q r s lb lc ld lq lr ls e = (omega arith, omega arith, omega arith, omega arith)
-
 kind_same : (xs ys : List ℕ) → length xs ≡ 4 → length ys ≡ 4 → AreBytes xs → AreBytes ys → field xs 0 4 ≡ field ys 0 4 → xs ≡ ys
 kind_same xs ys e f h k same =
-    let d = digits (slice_index xs 0) (slice_index xs 1) (slice_index xs 2) (slice_index xs 3) (slice_index ys 0) (slice_index ys 1) (slice_index ys 2) (slice_index ys 3) (h 1) (h 2) (h 3) (k 1) (k 2) (k 3) same in
-    four_bytes xs e ∙ (λ i. d.0 i ∷ d.1 i ∷ d.2 i ∷ d.3 i ∷ []) ∙ sym (four_bytes ys f)
+    let d = four_digits (slice_index xs 0) (slice_index xs 1) (slice_index xs 2) (slice_index xs 3) (slice_index ys 0) (slice_index ys 1) (slice_index ys 2) (slice_index ys 3) (h 1) (h 2) (h 3) (k 1) (k 2) (k 3) same in
+    four_items xs e ∙ (λ i. d.0 i ∷ d.1 i ∷ d.2 i ∷ d.3 i ∷ []) ∙ sym (four_items ys f)
 
 parameter_small : (o : Option ℕ) → IfSome o (λ n. n < 2 ^ 32) → parameter_rank o < 2 ^ 32 + 1
 parameter_small None h = omega arith

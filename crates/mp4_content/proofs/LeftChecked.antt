@@ -5,6 +5,7 @@ use Rattle.std.specs.Int.{w32}
 use Rattle.std.specs.List.{AllByRecursion, AllZip}
 use Rattle.mp4_boxes.specs.declared.fault.Fault.{Fault}
 use Rattle.mp4_boxes.proofs.Each.{each_from}
+use Rattle.mp4_boxes.proofs.Plain.{both_ways}
 use Rattle.mp4_head.specs.format.Head as heads
 use Rattle.mp4_head.specs.format.Tree.{TrackTree, IsTrackTree, IsSoundTrack, track_head_of}
 use Rattle.mp4_head.specs.words.Found.{IsFoundIn, SaysHead}
@@ -43,10 +44,6 @@ some_asked false true o h f = absurd cc
 some_asked false false true h f = absurd cc
 some_asked false false false h f = (refl, refl)
 
-one_of : {A : Type 0} (b : Bool) → b ≡ true → b ≡ false → A
-one_of true e f = absurd cc
-one_of false e f = absurd cc
-
 zero_first : (n : ℕ) → min (0 + n) (2 ^ 64 - 1) ≡ min n (2 ^ 64 - 1)
 zero_first n = omega arith
 
@@ -83,7 +80,7 @@ module _ (l : Without) (counts : l.timing ≡ false) (file : List ℕ) (tree : F
     measured_far e near =
         let r = track_reduction l tree t in
         let all = taken.near_left r.leaving r.samples r.offset 0 samples (subst (AllByRecursion (λ (s : Sample). FitsSigned w32 s.offset)) (sym same) near) in
-        one_of total.is_near (near_total r file (keys_seen info.keys) no_total 1 (own t).start (track_samples tree t) samples facts refl all) e
+        both_ways total.is_near (near_total r file (keys_seen info.keys) no_total 1 (own t).start (track_samples tree t) samples facts refl all) e
 
   one_good : (t : TrackTree) (h : TrackHead) (info : TrackInfo) (total : Total) → track_seen h ≡ track_head_of t → IsFoundIn t h → IsTrackTree t → 0 < (track_head_of t).media.timescale → IsInfoOf file tree t info → IsTrackTaken file tree info t → HasNearOffsets (own t)
       → IsInTime (movie_timescale file tree) (own t)
@@ -114,8 +111,8 @@ module _ (l : Without) (counts : l.timing ≡ false) (file : List ℕ) (tree : F
             timescale = scale;
             info_is = is;
             long = ap (λ (x : Total). x.duration) e ∙ (let n : info.duration ≡ min (total_duration (reduce_samples l (own t).samples)) (2 ^ 64 - 1) = omega (arith, d, few, long) in n);
-            near = λ o n. one_of l.origins o none.1;
-            far = λ o n. one_of l.origins o none.1;
+            near = λ o n. both_ways l.origins o none.1;
+            far = λ o n. both_ways l.origins o none.1;
             other = λ o. near_left l (inl o) (own t) good;
           }
 

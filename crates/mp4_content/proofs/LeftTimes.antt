@@ -7,6 +7,7 @@ use Rattle.std.proofs.lemmas.Bool.{cases_lt}
 use Rattle.std.proofs.lemmas.List.{drop_all, drop_more}
 use Rattle.mp4_boxes.specs.format.Bytes.{sum_of}
 use Rattle.mp4_boxes.proofs.Each.{each_member, each_value, each_weaker}
+use Rattle.mp4_boxes.proofs.Plain.{max_swap}
 use Rattle.mp4_head.specs.format.Head as heads
 use Rattle.mp4_head.specs.format.Tree.{TrackTree, track_head_of}
 use Rattle.mp4_head.specs.words.Seen.{track_seen}
@@ -29,9 +30,6 @@ use Rattle.mp4_content.specs.words.LeftTimes.{count_length, longest_count}
 use Rattle.mp4_content.proofs.HeadLess.{same_length}
 use Rattle.mp4_content.proofs.Numbered.{left_longest}
 use Rattle.mp4_content.proofs.ReducedValid.{all_counted, near_left, counted_length, counted_track_length, in_time_stays}
-
-pub turned : (a b : ℕ) → max a b ≡ max b a
-turned a b = omega arith
 
 -- the composition offsets of an opened file fit
 module _ (file : List ℕ) (m : MovieSeen) (tree : FileTree) (o : IsOpenedAs file m tree) where
@@ -74,7 +72,7 @@ pub count_more : (l : Without) (hs : List TrackHead) (tracks : List TrackInfo) (
     → longest_count l longest (drop k hs) (drop k tracks) ≡ longest_count l (max (count_length l (track_seen h).edits info.samples) longest) (drop (k + 1) hs) (drop (k + 1) tracks)
 count_more l hs tracks k longest h info lt less e f =
     (λ i. longest_count l longest (read_front hs k h lt e i) (read_front tracks k info less f i))
-    ∙ ap (λ n. longest_count l n (drop (k + 1) hs) (drop (k + 1) tracks)) (turned longest (count_length l (track_seen h).edits info.samples))
+    ∙ ap (λ n. longest_count l n (drop (k + 1) hs) (drop (k + 1) tracks)) (max_swap longest (count_length l (track_seen h).edits info.samples))
 
 pub count_end : (l : Without) (hs : List TrackHead) (tracks : List TrackInfo) (k longest : ℕ) → min (length tracks) (length hs) ≤ k → longest_count l longest (drop k hs) (drop k tracks) ≡ longest
 count_end l hs tracks k longest le = by (drop k hs) (drop k tracks) (drop_all k hs) (drop_all k tracks)

@@ -2,6 +2,7 @@
 use Rattle.std.proofs.Common.{◌≡◌, ℕ, ◌+◌, max, Bool, true, false, if◌then◌else◌, List, [], ◌∷◌, refl, ap, ◌∙◌, inl, inr}
 use Rattle.std.specs.Prelude.{◌&&◌, ◌||◌, not, Result, Ok, Err}
 use Rattle.mp4_boxes.specs.declared.fault.Fault.{Fault}
+use Rattle.mp4_boxes.proofs.Plain.{or_true}
 use Rattle.mp4_head.specs.words.Seen.{track_seen}
 use Rattle.mp4_head.specs.declared.heads.TrackHead.{TrackHead}
 use Rattle.mp4_content.specs.format.Reduced.{start_left}
@@ -12,10 +13,6 @@ use Rattle.mp4_content.specs.declared.measures.Total.{Total}
 
 pub first_moves : (l : Without) → l.edits ≡ true → moves_limits l ≡ true
 first_moves l e = ap (λ b. b || l.ends || l.origins) e
-
-or_true : (a : Bool) → (a || true) ≡ true
-or_true true = refl
-or_true false = refl
 
 pub second_moves : (l : Without) → l.ends ≡ true → moves_limits l ≡ true
 second_moves l e = ap (λ b. l.edits || b || l.origins) e ∙ ap (λ b. b || l.origins) (or_true l.edits)

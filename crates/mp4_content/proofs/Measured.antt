@@ -1,5 +1,5 @@
 -- What is left of all samples of a track together, as it is measured in a walk.
-use Rattle.std.proofs.Common.{◌≡◌, ℕ, suc, ◌+◌, ◌-◌, ◌^◌, ◌<◌, ◌≤◌, min, Bool, true, false, List, [], ◌∷◌, refl, sym, ap, subst, ◌∙◌, arith, ◌++◌, rules}
+use Rattle.std.proofs.Common.{◌≡◌, ℕ, suc, ◌+◌, ◌-◌, ◌^◌, ◌<◌, ◌≤◌, min, true, List, [], ◌∷◌, refl, sym, ap, subst, ◌∙◌, arith, ◌++◌, rules}
 use Rattle.std.specs.Prelude.{◌&&◌, Some, None, drop, slice_get, nat_lt, ℤ, pos, negsuc, FitsSigned}
 use Rattle.std.specs.Int.{w32}
 use Rattle.std.specs.List.{AllByRecursion}
@@ -23,6 +23,7 @@ use Rattle.mp4_content.specs.words.TakenSamples.{AreTaken}
 use Rattle.mp4_content.specs.declared.measures.Total.{Total}
 use Rattle.mp4_content.specs.declared.reduced.Reduction.{Reduction}
 use Rattle.mp4_content.proofs.ReducedTaken.{AreNumbered}
+use Rattle.mp4_boxes.proofs.Plain.{and_is_true}
 
 -- ---- an offset that fits
 
@@ -70,17 +71,13 @@ pub hand_added : (r : Reduction) (file : List ℕ) (tree : FileTree) (t : TrackT
     → (x : OfHand m w (λ hand. next ≡ total_from r total (left_in_hand hand))) → ((earlier later : List PlacedTraf) → StandsBefore file tree t earlier later w → StandsBefore file tree t earlier later now) → HasAdded r file tree t next now all
 hand_added r file tree t m total next w now all to_come h k x on =
     let rest = samples_behind tree t k.0 k.1 in
-    let both : to_come ≡ left_in_hand x.0 ++ rest = k.3.2 ∙ ap (λ (y : InHand). left_in_hand y ++ rest) (hand_one m w k.2 x.0 k.3.1 x.1) in
+    let and_is_true : to_come ≡ left_in_hand x.0 ++ rest = k.3.2 ∙ ap (λ (y : InHand). left_in_hand y ++ rest) (hand_one m w k.2 x.0 k.3.1 x.1) in
     record {
       earlier = k.0;
       later = k.1;
       stands = on k.0 k.1 k.3.0;
-      added = h ∙ ap (total_from r total) both ∙ total_append r total (left_in_hand x.0) rest ∙ ap (λ (y : Total). total_from r y rest) (sym x.2);
+      added = h ∙ ap (total_from r total) and_is_true ∙ total_append r total (left_in_hand x.0) rest ∙ ap (λ (y : Total). total_from r y rest) (sym x.2);
     }
-
-both : (a b : Bool) → (a && b) ≡ true → (a ≡ true) × (b ≡ true)
-both true b e = (refl, e)
-both false b e = absurd cc
 
 module _ (r : Reduction) (file : List ℕ) (keys : List GroupKey) where
   pub total_lasts : (total : Total) (number time place : ℕ) (taken : List SampleAt) (samples : List Sample) → total.duration ≤ 2 ^ 64 - 1 → AreNumbered place taken → AreTaken file keys taken (timed_from number time samples)
@@ -103,7 +100,7 @@ module _ (r : Reduction) (file : List ℕ) (keys : List GroupKey) where
   total_near total number time (a ∷ taken) [] h e = absurd h
   total_near total number time (a ∷ taken) (s ∷ samples) h e =
       let more = total_near (total_with r total a) (number + 1) (time + s.duration) taken samples h.1 e in
-      let here = both total.is_near (is_near (offset_left r.leaving r.offset a.cto)) more.0 in
+      let here = and_is_true total.is_near (is_near (offset_left r.leaving r.offset a.cto)) more.0 in
       (here.0, (subst (λ (z : ℤ). FitsSigned w32 (offset_left r.leaving r.offset z)) h.0.offset (near_fits (offset_left r.leaving r.offset a.cto) here.1), more.1))
 
   pub near_total : (total : Total) (number time : ℕ) (taken : List SampleAt) (samples : List Sample) → AreTaken file keys taken (timed_from number time samples) → total.is_near ≡ true → AreNear samples → (total_from r total taken).is_near ≡ true

@@ -3,7 +3,7 @@ use Rattle.std.proofs.Common.{◌≡◌, ℕ, zero, suc, ◌+◌, ◌<◌, ◌�
 use Rattle.std.specs.Prelude.{slice_get, slice_index_or}
 use Rattle.std.proofs.lemmas.List.{take_all, map-append}
 use Rattle.mp4_boxes.specs.format.Bytes.{sum_of}
-use Rattle.mp4_boxes.proofs.Plain.{get_zip, length_zip}
+use Rattle.mp4_boxes.proofs.Plain.{get_some, get_zip, length_zip}
 use Rattle.mp4_head.specs.format.Tree.{TrackTree}
 use Rattle.mp4_present.specs.format.Denotes.{FileTree}
 use Rattle.mp4_present.specs.words.Movies.{MovieSeen}
@@ -17,7 +17,7 @@ use Rattle.mp4_content.specs.words.ComingLess.{asks_first, plain_reduction, redu
 use Rattle.mp4_content.specs.words.Measuring.{AreTotals, no_total, total_from, track_total}
 use Rattle.mp4_content.specs.declared.measures.Total.{Total}
 use Rattle.mp4_content.specs.declared.reduced.Reduction.{Reduction}
-use Rattle.mp4_content.proofs.AtPlaces.{read_at, taken_next, there_is}
+use Rattle.mp4_content.proofs.AtPlaces.{read_at, taken_next}
 use Rattle.mp4_content.proofs.SamplesTaken.{as_many}
 
 totals_behind : (l : Without) (tree : FileTree) (ts : List TrackTree) (infos : List TrackInfo) (xs : List Total) (t : TrackTree) (info : TrackInfo) (x : Total) → AreTotals l tree ts infos xs → x ≡ track_total l tree t info → AreTotals l tree (ts ++ t ∷ []) (infos ++ info ∷ []) (xs ++ x ∷ [])
@@ -47,8 +47,8 @@ module _ (l : Without) (file : List ℕ) (m : MovieSeen) (tree : FileTree) (o : 
   pub is_at : (k : ℕ) → k < length m.tracks → IsAt k
   is_at k lt =
       let many = length_zip (IsInfoOf file tree) tree.movie.tracks m.tracks o.tracks in
-      let t = there_is tree.movie.tracks k (omega (arith, lt, many)) in
-      let info = there_is m.tracks k lt in
+      let t = get_some tree.movie.tracks k (omega (arith, lt, many)) in
+      let info = get_some m.tracks k lt in
       record { t = t.0; info = info.0; is_tree = t.1; is_info = info.1 }
 
   -- and one more
@@ -90,7 +90,7 @@ pub counted_by : (file : List ℕ) (m : MovieSeen) (tree : FileTree) → IsOpene
 counted_by file m tree o k t is d e =
     let many = length_zip (IsInfoOf file tree) tree.movie.tracks m.tracks o.tracks in
     let lt = got_within tree.movie.tracks k t is in
-    let info = there_is m.tracks k (omega (arith, lt, many)) in
+    let info = get_some m.tracks k (omega (arith, lt, many)) in
     let same : d ≡ info.0 = read_at m.tracks k info.0 d info.1 e in
     let of = get_zip (IsInfoOf file tree) tree.movie.tracks m.tracks k t info.0 o.tracks is info.1 in
     ap (λ (x : TrackInfo). x.samples) (sym e ∙ same) ∙ of.samples ∙ sym (as_many file tree t)

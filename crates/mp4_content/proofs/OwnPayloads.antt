@@ -1,6 +1,6 @@
 -- What is left of payloads of heads, in memory of its own: one entry after the other.
 use Rattle.std.proofs.Common.{◌≡◌, ℕ, zero, suc, ◌+◌, ◌<◌, ◌≤◌, Bool, true, false, if◌then◌else◌, List, [], ◌∷◌, ◌++◌, length, take, map, Some, refl, sym, ap, subst, ◌∙◌, arith, slice_set}
-use Rattle.std.specs.Prelude.{⊤, ◌&&◌, ◌||◌, slice_get, slice_index_or}
+use Rattle.std.specs.Prelude.{⊤, ◌&&◌, slice_get, slice_index_or}
 use Rattle.std.specs.List.{AllZip}
 use Rattle.std.proofs.lemmas.List.{map-append, take_all}
 use Rattle.mp4_head.specs.format.Head.{Kept, TrackHead}
@@ -8,6 +8,7 @@ use Rattle.mp4_content.specs.format.BitRates.{unrated}
 use Rattle.mp4_content.specs.format.Reduced.{is_picture, plain_picture, reduce_descriptions}
 use Rattle.mp4_content.specs.words.PayloadsLeft.{description_left, leaves_payloads, track_payloads_left}
 use Rattle.mp4_content.specs.declared.without.Without.{Without}
+use Rattle.mp4_boxes.proofs.Plain.{map_same, or_is_false}
 
 next_taken : {A : Type 0} (xs : List A) (k : ℕ) (x : A) → slice_get xs k ≡ Some x → take (suc k) xs ≡ take k xs ++ x ∷ []
 next_taken [] k x e = absurd cc
@@ -27,20 +28,6 @@ pub there_is : {A : Type 0} (xs : List A) (k : ℕ) (d x : A) → k < length xs 
 there_is [] k d x lt e = absurd (omega (arith, lt))
 there_is (y ∷ ys) zero d x lt e = ap (λ z. Some z) (sym e)
 there_is (y ∷ ys) (suc k) d x lt e = there_is ys k d x (omega (arith, lt)) e
-
--- entries of a list that are mapped
-pub mapped_at : {A B : Type 0} (f : A → B) (xs : List A) (k : ℕ) (x : A) → slice_get xs k ≡ Some x → slice_get (map f xs) k ≡ Some (f x)
-mapped_at f [] k x e = absurd cc
-mapped_at f (y ∷ ys) zero x e = let same : y ≡ x = cc in ap (λ z. Some (f z)) same
-mapped_at f (y ∷ ys) (suc k) x e = mapped_at f ys k x e
-
-pub mapped_length : {A B : Type 0} (f : A → B) (xs : List A) → length (map f xs) ≡ length xs
-mapped_length f [] = refl
-mapped_length f (x ∷ xs) = let more = mapped_length f xs in omega (arith, more)
-
-map_same : {A : Type 0} (f : A → A) → ((x : A) → f x ≡ x) → (xs : List A) → map f xs ≡ xs
-map_same f same [] = refl
-map_same f same (x ∷ xs) = λ i. same x i ∷ map_same f same xs i
 
 map_both : {A : Type 0} (f g : A → A) (xs : List A) → map (λ x. f (g x)) xs ≡ map f (map g xs)
 map_both f g [] = refl
@@ -69,19 +56,6 @@ zip_next {A = A} {B = B} R xs ys k x y h e r = let n : suc k ≡ k + 1 = omega a
     behind [] (b ∷ vs) h = absurd h
     behind (a ∷ us) [] h = absurd h
     behind (a ∷ us) (b ∷ vs) h = (h.0, behind us vs h.1)
-
-pub zip_at : {A B : Type 0} (R : A → B → Type 0) (xs : List A) (ys : List B) (k : ℕ) (x : A) (y : B) → AllZip R xs ys → slice_get xs k ≡ Some x → slice_get ys k ≡ Some y → R x y
-zip_at R [] [] k x y h e f = absurd cc
-zip_at R [] (b ∷ ys) k x y h e f = absurd h
-zip_at R (a ∷ xs) [] k x y h e f = absurd h
-zip_at R (a ∷ xs) (b ∷ ys) zero x y h e f = let p : a ≡ x = cc in let q : b ≡ y = cc in subst (λ z. R z y) p (subst (R a) q h.0)
-zip_at R (a ∷ xs) (b ∷ ys) (suc k) x y h e f = zip_at R xs ys k x y h.1 e f
-
-pub zip_many : {A B : Type 0} (R : A → B → Type 0) (xs : List A) (ys : List B) → AllZip R xs ys → length xs ≡ length ys
-zip_many R [] [] h = refl
-zip_many R [] (b ∷ ys) h = absurd h
-zip_many R (a ∷ xs) [] h = absurd h
-zip_many R (a ∷ xs) (b ∷ ys) h = let more = zip_many R xs ys h.1 in omega (arith, more)
 
 -- ---- entries that are changed one after the other
 
@@ -132,14 +106,10 @@ module _ {A B : Type 0} (seen : A → B) (f : B → B) where
 pub changed_to_same : {A B : Type 0} (seen : A → B) (f : B → B) → ((y : B) → f y ≡ y) → (xs : List A) → map seen xs ≡ map f (map seen xs)
 changed_to_same seen f same xs = sym (map_same f same (map seen xs))
 
-none_of_both : (a b : Bool) → (a || b) ≡ false → (a ≡ false) × (b ≡ false)
-none_of_both true b e = absurd cc
-none_of_both false b e = (refl, e)
-
 -- where payloads stay, all does
 pub payloads_stay : (l : Without) → leaves_payloads l ≡ false → (t : TrackHead) → track_payloads_left l t ≡ t
-payloads_stay l e t = let h = none_of_both l.labels l.bitrates e in rw (h.0, h.1) refl
+payloads_stay l e t = let h = or_is_false l.labels l.bitrates e in rw (h.0, h.1) refl
 
 -- where descriptions stay
 pub descriptions_stay : (l : Without) → leaves_payloads l ≡ false → (handler : List ℕ) (ds : List Kept) → reduce_descriptions l handler ds ≡ ds
-descriptions_stay l e handler ds = let h = none_of_both l.labels l.bitrates e in rw (h.0, h.1) refl
+descriptions_stay l e handler ds = let h = or_is_false l.labels l.bitrates e in rw (h.0, h.1) refl

@@ -33,6 +33,7 @@ use Rattle.mp4_present.specs.declared.walking.Walk.{Walk}
 use Rattle.mp4_content.proofs.Differing.{at_drop, nowhere_same}
 use Rattle.mp4_present.proofs.GoneBack.{hand_later}
 use Rattle.mp4_present.proofs.WalkCopied.{hand_one, kept_before}
+use Rattle.mp4_boxes.proofs.Plain.{suc_is}
 
 -- ---- values that are the same
 
@@ -76,9 +77,6 @@ index_more of keys k key lk a rk b lt is same =
 
 some_is : (x y : SampleAt) → ◌≡◌ {A = Option SampleAt} (Some x) (Some y) → x ≡ y
 some_is x y e = cc
-
-suc_is : (n : ℕ) → suc n ≡ n + 1
-suc_is n = omega arith
 
 module _ (by : Pairing) (w v : FileWindow) where
   -- what two samples say, and their bytes

@@ -6,6 +6,7 @@ use Rattle.std.proofs.lemmas.List.{length-take-le}
 use Rattle.mp4_boxes.specs.format.Bytes.{AreBytes, field}
 use Rattle.mp4_boxes.proofs.Each.{each_value}
 use Rattle.mp4_boxes.proofs.OfBytes.{bytes_taken}
+use Rattle.mp4_boxes.proofs.Plain.{length_mapped}
 use Rattle.mp4_head.specs.format.Head.{Kept, IsDescription, handler_type}
 use Rattle.mp4_head.specs.format.Writing.{kept_bytes}
 use Rattle.mp4_head.proofs.HeadLengths.{length_any}
@@ -163,25 +164,20 @@ descriptions_twice l m h ds = by m.labels ∙ left_twice h l.labels l.bitrates m
     by true = left_same h l.labels l.bitrates (reduce_descriptions m h ds)
     by false = refl
 
--- as many, no longer
-map_many : {A B : Type 0} (f : A → B) (xs : List A) → length (map f xs) ≡ length xs
-map_many f [] = refl
-map_many f (x ∷ xs) = let more = map_many f xs in omega (arith, more)
-
 plain_many : (h : List ℕ) (ds : List Kept) → length (plain_descriptions h ds) ≡ length ds
 plain_many h ds = by (is_picture h)
   where
     by : (v : Bool) → length (if v then map plain_picture ds else ds) ≡ length ds
-    by true = map_many plain_picture ds
+    by true = length_mapped plain_picture ds
     by false = refl
 
 pub descriptions_many : (l : Without) (h : List ℕ) (ds : List Kept) → length (reduce_descriptions l h ds) ≡ length ds
 descriptions_many l h ds = by l.labels l.bitrates
   where
     by : (a b : Bool) → length (reduce_by a b h ds) ≡ length ds
-    by true true = plain_many h (unrated_descriptions h ds) ∙ map_many (unrated h) ds
+    by true true = plain_many h (unrated_descriptions h ds) ∙ length_mapped (unrated h) ds
     by true false = plain_many h ds
-    by false true = map_many (unrated h) ds
+    by false true = length_mapped (unrated h) ds
     by false false = refl
 
 box_less : (k : Kept) (payload : List ℕ) → length payload ≤ length k.payload → length (kept_bytes (record k { payload = payload })) ≤ length (kept_bytes k)

@@ -4,8 +4,9 @@ use Rattle.std.specs.Prelude.{◌==◌, nat_le, codes, bytes_eq}
 use Rattle.std.proofs.lemmas.Bool.{le-leb, leb-true, eq-eqb, eqb-true}
 use Rattle.std.proofs.lemmas.List.{length-take-le}
 use Rattle.mp4_boxes.specs.format.Bytes.{field}
+use Rattle.mp4_boxes.proofs.Plain.{not_true_is}
 use Rattle.mp4_content.specs.format.BitRates.{ends_in_rates, shorter_by, other_left}
-use Rattle.mp4_content.proofs.FirstBoxes.{chosen_same, no_box, three}
+use Rattle.mp4_content.proofs.FirstBoxes.{chosen_same, three}
 
 pub ends_so : (payload : List ℕ) → ends_in_rates payload ≡ true → (28 ≤ length payload) × (field payload (length payload - 20) 4 ≡ 20) × (bytes_eq (take 4 (drop (length payload - 16) payload)) (codes "btrt") ≡ true)
 unfolding ends_in_rates
@@ -18,10 +19,10 @@ unfolding ends_in_rates
 ends_if payload long size = rw (le-leb 28 (length payload) long, eq-eqb (field payload (length payload - 20) 4) 20 size) refl
 
 pub ends_short : (payload : List ℕ) → length payload < 28 → ends_in_rates payload ≡ false
-ends_short payload few = no_box (ends_in_rates payload) (λ e. let long = (ends_so payload e).0 in omega (arith, long, few))
+ends_short payload few = not_true_is (ends_in_rates payload) (λ e. let long = (ends_so payload e).0 in omega (arith, long, few))
 
 pub ends_other : (payload : List ℕ) → (field payload (length payload - 20) 4 ≡ 20 → ⊥) → ends_in_rates payload ≡ false
-ends_other payload not_so = no_box (ends_in_rates payload) (λ e. not_so (ends_so payload e).1)
+ends_other payload not_so = not_true_is (ends_in_rates payload) (λ e. not_so (ends_so payload e).1)
 
 -- ---- without them
 

@@ -6,10 +6,7 @@ use Rattle.mp4_tables.specs.declared.sample.SampleAt.{SampleAt}
 use Rattle.mp4_content.specs.format.Reduced.{duration_left, is_at_end, sync_flag}
 use Rattle.mp4_content.specs.declared.reduced.Reduction.{Reduction}
 use Rattle.mp4_content.specs.words.ComingLess.{less, reduce_at}
-
-neither : (a b : Bool) → (a || b) ≡ false → (a ≡ false) × (b ≡ false)
-neither true b e = absurd cc
-neither false b e = (refl, e)
+use Rattle.mp4_boxes.proofs.Plain.{or_is_false}
 
 -- what is left of a sample has its duration, where timing and ends count, and its size
 pub next_reduced : (l : Reduction) (s : SampleAt) (samples : List SampleAt) → (l.leaving.timing || l.leaving.ends) ≡ false → IsNext s (less l samples) → IsNext s samples
@@ -18,7 +15,7 @@ next_reduced l s [] counts h = absurd (none h.first)
     none : {x : SampleAt} → slice_get (less l []) 0 ≡ Some x → ⊥
     none e = cc
 next_reduced l s (x ∷ samples) counts h =
-    let none = neither l.leaving.timing l.leaving.ends counts in
+    let none = or_is_false l.leaving.timing l.leaving.ends counts in
     let stays : duration_left l.leaving l.samples x.number x.duration ≡ x.duration = λ i. if none.0 i then 1 else if none.1 i && is_at_end l.samples x.number then 1 else x.duration in
     let same : reduce_at l x ≡ h.next = is (reduce_at l x) h.next h.first in
     record {

@@ -3,6 +3,7 @@ use Rattle.std.proofs.Common.{◌≡◌, ℕ, zero, suc, ◌+◌, ◌-◌, ◌^�
 use Rattle.std.proofs.lemmas.Bool.{cond-false}
 use Rattle.std.proofs.lemmas.List.{map-append}
 use Rattle.mp4_boxes.specs.format.Bytes.{sum_of}
+use Rattle.mp4_boxes.proofs.Plain.{both_ways}
 use Rattle.std.specs.Prelude.{◌&&◌, ◌||◌, ◌==◌, not, Option, Some, None, slice_get, ℤ, pos, negsuc, ◌-ℤ◌, FitsSigned}
 use Rattle.std.specs.Int.{w32}
 use Rattle.std.specs.List.{AllByRecursion, list_any}
@@ -259,10 +260,6 @@ asked l t (inr o) = by l.ends
     by true = λ i. true && not (t i)
     by false = λ i. o i && not (t i)
 
-not_both : {A : Type 0} (b : Bool) → b ≡ true → b ≡ false → A
-not_both true e f = absurd cc
-not_both false e f = absurd cc
-
 -- What is left of samples that are handed out is what is left of those of the presentation.
 pub reduced_are_taken : (l : Without) (file : List ℕ) (keys : List GroupKey) (taken : List SampleAt) (t : Track) → AreNumbered 0 taken → end_time t ≤ max_time → HasNearOffsets (reduce_track l t) → AreTaken file keys taken (timed t)
     → AreTaken file keys (less (reduction_of l taken) taken) (timed (reduce_track l t))
@@ -293,9 +290,9 @@ reduced_are_taken l file keys taken t n few near h = by taken t.samples n few ne
             subst (λ (ss : List Sample). AreTaken file keys (less r (a ∷ ts)) (timed_from 1 (start_left l t.start) ss)) same
             (whole_taken r file keys t.start a ts s samples
             (record {
-              begins = λ t o. not_both (asks_first l) (asked l t (inr o)) e;
-              many = λ t o. not_both (asks_first l) (asked l t (inl o)) e;
-              long = λ t o. not_both (asks_first l) (asked l t (inl o)) e;
+              begins = λ t o. both_ways (asks_first l) (asked l t (inr o)) e;
+              many = λ t o. both_ways (asks_first l) (asked l t (inl o)) e;
+              long = λ t o. both_ways (asks_first l) (asked l t (inl o)) e;
               few = omega (arith, few);
             })
             (near_left l 0 (pos 0) 0 (s ∷ samples) (subst (AllByRecursion (λ (s : Sample). FitsSigned w32 s.offset)) (sym same) near)) n h)

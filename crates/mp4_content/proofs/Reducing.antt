@@ -3,6 +3,7 @@ use Rattle.std.proofs.Common.{◌≡◌, ℕ, suc, ◌%◌, ◌-◌, ◌^◌, mi
 use Rattle.std.specs.Prelude.{◌&&◌, ◌||◌, not, map, filter, ℤ, pos, ◌-ℤ◌}
 use Rattle.std.proofs.lemmas.Int.{ints}
 use Rattle.mp4_boxes.specs.format.Children.{is_among}
+use Rattle.mp4_boxes.proofs.Plain.{map_same, or_same}
 use Rattle.mp4_head.specs.format.Head.{Kept, Media, TrackHead, MovieHead}
 use Rattle.mp4_present.specs.format.Presentation.{Sample, Track, Presentation}
 use Rattle.mp4_content.specs.format.Reduced.{metadata_kinds, sync_flag, plain_handler, is_at_end, duration_left, offset_left, start_left, timescale_left, reduce_kept, reduce_sample, reduce_from, reduce_samples, reduce_media, reduce_track_head, reduce_movie_head, number_track, number_tracks, reduce_track, reduce}
@@ -13,10 +14,6 @@ use Rattle.mp4_content.specs.format.Words.{each, has}
 use Rattle.mp4_content.specs.format.ReducedLaws.{nothing, both, NothingReduces, ReducesOnce, ReducesInAnyOrder, ReduceIsFixed}
 
 -- ---- lists
-
-map_same : {A : Type 0} (f : A → A) → ((x : A) → f x ≡ x) → (xs : List A) → map f xs ≡ xs
-map_same f same [] = refl
-map_same f same (x ∷ xs) = λ i. same x i ∷ map_same f same xs i
 
 twice_at : {A : Type 0} (test : A → Bool) (x : A) (xs : List A) (b : Bool) → test x ≡ b → filter test (filter test xs) ≡ filter test xs → filter test (filter test (x ∷ xs)) ≡ filter test (x ∷ xs)
 twice_at test x xs true e h = rw (e, e) (ap (λ ys. x ∷ ys) h)
@@ -180,10 +177,6 @@ both_turned l m = λ i. each (λ word. or_turned (has l word) (has m word) i)
 pub reduces_in_any_order : ReducesInAnyOrder
 reduces_in_any_order l m p =
     reduces_once l m p ∙ ap (λ (words : Without). reduce words p) (both_turned l m) ∙ sym (reduces_once m l p)
-
-or_same : (b : Bool) → (b || b) ≡ b
-or_same true = refl
-or_same false = refl
 
 both_same : (l : Without) → both l l ≡ l
 both_same l = λ i. each (λ word. or_same (has l word) i)

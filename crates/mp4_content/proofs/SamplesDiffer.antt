@@ -6,7 +6,7 @@ use Rattle.std.proofs.lemmas.Bool.{eqb-true, or_from}
 use Rattle.mp4_boxes.proofs.Among.{all_append}
 use Rattle.mp4_boxes.proofs.Each.{each_value, each_weaker, each_from, each_member}
 use Rattle.mp4_boxes.proofs.Joined.{all_first, all_last}
-use Rattle.mp4_boxes.proofs.Plain.{get_every, get_zip, true_false}
+use Rattle.mp4_boxes.proofs.Plain.{get_every, get_zip, plus_one, true_false}
 use Rattle.mp4_store.specs.words.Device.{range}
 use Rattle.mp4_tables.specs.format.Groups.{GroupKey, Groups, key_rank, same_key, index_at}
 use Rattle.mp4_tables.specs.format.PlainSamples.{PlacedSample}
@@ -193,9 +193,6 @@ module _ (of : Subject) (file other : List ℕ) (s t : PlacedSample) (hs : IsInF
 abbrev IsSampleOf : List ℕ → List GroupKey → PlacedSample → Type 0
 IsSampleOf file keys s = AreKeysOf keys s.groups × IsInFile (length file) s
 
-one_on : (k : ℕ) → k + 1 ≡ suc k
-one_on k = omega arith
-
 module _ (l : Without) (track : ℕ) (keys : List KeyNamed) (lk rk : Keys) (le re : Edges) (left right : List GroupKey) (file other : List ℕ) (el : keys_seen lk ≡ left) (er : keys_seen rk ≡ right) (joined : map key_seen keys ≡ (if l.groups then [] else fold with_key [] (left ++ right))) where
   two_samples : (n a b dts later : ℕ) (s t : PlacedSample) → IsSampleOf file left s → IsSampleOf other right t
       → pair_differences l track keys lk le file rk re other n (sample_at left a dts s) (sample_at right b later t) ≡ sample_differences track n (reduce_sample l le.samples le.first_offset a (sample_of file s)) (reduce_sample l re.samples re.first_offset b (sample_of other t))
@@ -220,7 +217,7 @@ module _ (l : Without) (track : ℕ) (keys : List KeyNamed) (lk rk : Keys) (le r
   all_samples n a b dts later (x ∷ xs) (y ∷ ys) hs ht =
       let one = two_samples n a b dts later x y hs.0 ht.0 in
       let more = all_samples (suc n) (a + 1) (b + 1) (dts + x.duration) (later + y.duration) xs ys hs.1 ht.1
-      ∙ (λ i. each_differ (sample_differences track) (suc n) (reduce_from l le.samples le.first_offset (one_on a i) (map (sample_of file) xs)) (reduce_from l re.samples re.first_offset (one_on b i) (map (sample_of other) ys))) in
+      ∙ (λ i. each_differ (sample_differences track) (suc n) (reduce_from l le.samples le.first_offset (plus_one a i) (map (sample_of file) xs)) (reduce_from l re.samples re.first_offset (plus_one b i) (map (sample_of other) ys))) in
       λ i. one i ++ more i
 
 -- ---- two tracks

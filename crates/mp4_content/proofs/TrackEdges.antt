@@ -18,7 +18,7 @@ use Rattle.mp4_present.specs.declared.walking.in_hand.InHand.{InHand}
 use Rattle.mp4_present.specs.declared.walking.Walk.{Walk}
 use Rattle.mp4_content.specs.declared.without.Without.{Without}
 use Rattle.mp4_present.proofs.WalkCopied.{hand_one}
-use Rattle.mp4_boxes.proofs.Plain.{get_zip}
+use Rattle.mp4_boxes.proofs.Plain.{get_zip, not_is_false, not_is_true}
 
 -- as many samples come as were counted
 pub count_is : (file : List ℕ) (m : MovieSeen) (tree : FileTree) (t : TrackTree) (k : ℕ) (info : TrackInfo) → IsOpenedAs file m tree → slice_get tree.movie.tracks k ≡ Some t → slice_get m.tracks k ≡ Some info → info.samples ≡ length (track_samples tree t)
@@ -35,17 +35,9 @@ none_counted n samples e some none = some (e ∙ ap (λ (ss : List SampleAt). le
 
 -- ---- the offset of the first
 
-no_more : (v : Bool) → not v ≡ true → v ≡ false
-no_more true e = cc
-no_more false e = refl
-
-so_it_is : (v : Bool) → not v ≡ false → v ≡ true
-so_it_is true e = refl
-so_it_is false e = cc
-
 -- it isn't taken from the others
 pub edges_kept : (l : Without) (n : ℕ) (samples : List SampleAt) → n ≡ length samples → not l.origins ≡ true → ◌≡◌ {A = Edges} record { samples = n; first_offset = pos 0 } (edges_left l samples)
-edges_kept l n samples e h = let no = no_more l.origins h in λ i. record { samples = e i; first_offset = if sym no i then first_cto samples else pos 0 }
+edges_kept l n samples e h = let no = not_is_true l.origins h in λ i. record { samples = e i; first_offset = if sym no i then first_cto samples else pos 0 }
 
 one_of_two : (v : Bool) (z : ℤ) → z ≡ (if v then z else z)
 one_of_two true z = refl
@@ -58,7 +50,7 @@ edges_none l n (s ∷ samples) e z = absurd (omega (arith, e, z))
 
 -- or this is the first
 pub edges_some : (l : Without) (n : ℕ) (samples : List SampleAt) (offset : ℤ) → n ≡ length samples → not l.origins ≡ false → offset ≡ first_cto samples → ◌≡◌ {A = Edges} record { samples = n; first_offset = offset } (edges_left l samples)
-edges_some l n samples offset e h f = let so = so_it_is l.origins h in (λ i. record { samples = e i; first_offset = f i }) ∙ (λ i. record { samples = length samples; first_offset = if sym so i then first_cto samples else pos 0 })
+edges_some l n samples offset e h f = let so = not_is_false l.origins h in (λ i. record { samples = e i; first_offset = f i }) ∙ (λ i. record { samples = length samples; first_offset = if sym so i then first_cto samples else pos 0 })
 
 -- ---- in hand
 

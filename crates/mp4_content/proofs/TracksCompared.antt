@@ -3,6 +3,7 @@ use Rattle.std.proofs.Common.{◌≡◌, ℕ, suc, ◌+◌, ◌<◌, ◌≤◌, 
 use Rattle.std.specs.List.{slice_get}
 use Rattle.std.proofs.lemmas.List.{append-nil, length-drop, take-append-drop, drop-drop}
 use Rattle.mp4_boxes.proofs.Each.{each_dropped}
+use Rattle.mp4_boxes.proofs.Plain.{drop_all}
 use Rattle.mp4_tables.specs.declared.sample.SampleAt.{SampleAt}
 use Rattle.mp4_head.specs.format.Tree.{TrackTree}
 use Rattle.mp4_content.specs.format.Differences.{each_differ}
@@ -25,7 +26,7 @@ use Rattle.mp4_content.specs.declared.comparing.differences.Difference.{Differen
 use Rattle.mp4_content.specs.declared.without.Without.{Without}
 use Rattle.mp4_present.specs.declared.track_info.TrackInfo.{TrackInfo}
 use Rattle.mp4_present.specs.declared.walking.Walk.{Walk}
-use Rattle.mp4_content.proofs.Differing.{none_behind, each_ends, one_ends}
+use Rattle.mp4_content.proofs.Differing.{each_ends, one_ends}
 use Rattle.mp4_content.proofs.PairsPassed.{same_skipped}
 use Rattle.mp4_content.proofs.TrackEdges.{count_is}
 use Rattle.mp4_content.proofs.SamplesDiffer.{tracks_differ}
@@ -81,8 +82,8 @@ each_next one k xs ys more others x y e f =
 -- at the end of the shorter one nothing is left
 pub each_over : {A : Type 0} (one : ℕ → A → A → List Difference) (k : ℕ) (xs ys : List A) → min (length xs) (length ys) ≤ k → each_differ one (k + 1) (drop k xs) (drop k ys) ≡ []
 each_over one k xs ys le = elim (one_ends (length xs) (length ys) k le) [
-  | inl m ↦ ap (λ zs. each_differ one (k + 1) zs (drop k ys)) (none_behind xs k m)
-  | inr n ↦ ap (λ zs. each_differ one (k + 1) (drop k xs) zs) (none_behind ys k n) ∙ each_ends one (k + 1) (drop k xs)
+  | inl m ↦ ap (λ zs. each_differ one (k + 1) zs (drop k ys)) (drop_all xs k m)
+  | inr n ↦ ap (λ zs. each_differ one (k + 1) (drop k xs) zs) (drop_all ys k n) ∙ each_ends one (k + 1) (drop k xs)
 ]
 
 -- those from a place on lie in the file

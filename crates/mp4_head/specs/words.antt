@@ -8,3 +8,4 @@ pub mod Found
 pub mod Ids
 pub mod Normal
 pub mod Opens
+pub mod ReadingLaws

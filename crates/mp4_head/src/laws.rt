@@ -1,17 +1,7 @@
 //! Laws of the definitions: contracts that functions without a body meet.
-ghost use Rattle.std.specs.Prelude.{[], Result, IfOk};
-ghost use Rattle.mp4_boxes.specs.declared.refusal.Refusal.{Refusal};
-ghost use Rattle.mp4_boxes.specs.declared.rule.Rule.TheVariants as rules;
-ghost use Rattle.mp4_boxes.specs.format.Box.{Box};
-ghost use Rattle.mp4_boxes.specs.format.Places.{ruled};
-ghost use Rattle.mp4_head.specs.declared.heads.MovieHead.{MovieHead};
-ghost use Rattle.mp4_head.specs.format.FirstFault.{depth, fault_within};
 ghost use Rattle.mp4_head.specs.format.FirstFaultLaws.{JudgedHeadIsSound, JudgedHeadFaultStands};
 ghost use Rattle.mp4_head.specs.format.FirstFaultLaws.{SoundHeadIsJudged};
-ghost use Rattle.mp4_head.specs.words.FaultNamed.{NamesRefused};
-ghost use Rattle.mp4_head.specs.words.Found.{SaysHead};
-ghost use Rattle.mp4_head.specs.words.Normal.{ReadsAgain};
-ghost use Rattle.mp4_head.specs.words.Refuses.{place_of};
+ghost use Rattle.mp4_head.specs.words.ReadingLaws.{WrittenHeadIsRead};
 
 /// Where no fault of a `moov` is named, apart from tables, it has the tree that is answered, and
 /// the tree is sound.
@@ -33,7 +23,5 @@ pub fn sound_head_is_judged()
 /// Of a `moov` that was written the head is read that was written, or no memory was to be had:
 /// where its head is read, and else its first fault is named.
 pub fn written_head_is_read()
-    ensures { (moov : Box) (result : Result MovieHead Refusal) → IfOk result (SaysHead moov)
-        → NamesRefused (fault_within depth [] (place_of (ruled rules.Movie) moov)) result
-        → ReadsAgain moov result }
+    ensures { WrittenHeadIsRead }
 {}

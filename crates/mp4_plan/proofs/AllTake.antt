@@ -13,8 +13,7 @@ use Rattle.mp4_present.specs.declared.walking.Walk.{Walk}
 use Rattle.mp4_plan.specs.words.WriterSteps.{MayAllTake, MayAllBegin, MayWrite, WriteAllBegin, again_steps, track_writes}
 use Rattle.mp4_plan.proofs.AllMay.{MayWithin, may_more, one_moves, one_ends}
 use Rattle.mp4_plan.proofs.TrafsAhead.{last_more, steps_append}
-use Rattle.mp4_content.proofs.AtPlaces.{there_is}
-use Rattle.mp4_boxes.proofs.Plain.{length_zip}
+use Rattle.mp4_boxes.proofs.Plain.{get_some, length_zip}
 
 module _ (file : List ℕ) (tree : FileTree) where
   -- one walk of all moves on
@@ -39,7 +38,7 @@ pub one_to_take : (m : MovieSeen) (k : ℕ) (walks : List Walk) (walk : Walk) �
     → ((file : List ℕ) (tree : FileTree) (t : TrackTree) → IsOpenedAs file m tree → slice_get tree.movie.tracks k ≡ Some t → (n : ℕ) × MayTake file tree t walk n × (n ≤ walk_steps tree t)) → BeginToTake m (k + 1) (walks ++ walk ∷ [])
 one_to_take m k walks walk h n lt may file tree o =
     let many = length_zip (IsInfoOf file tree) tree.movie.tracks m.tracks o.tracks in
-    let t = there_is tree.movie.tracks k (omega (arith, lt, many)) in
+    let t = get_some tree.movie.tracks k (omega (arith, lt, many)) in
     may_more (MayTake file tree) tree.movie.tracks walks k t.0 walk (walk_steps tree) (h file tree o) n t.1 (may file tree t.0 o t.1)
 
 -- all tracks have walks
@@ -61,7 +60,7 @@ pub one_to_write : (m : MovieSeen) (k : ℕ) (walks : List Walk) (walk : Walk) �
     → ((file : List ℕ) (tree : FileTree) (t : TrackTree) → IsOpenedAs file m tree → slice_get tree.movie.tracks k ≡ Some t → (n : ℕ) × MayTake file tree t walk n × (n ≤ walk_steps tree t)) → BeginToWrite m (k + 1) (walks ++ walk ∷ [])
 one_to_write m k walks walk h n lt comes may file tree o =
     let many = length_zip (IsInfoOf file tree) tree.movie.tracks m.tracks o.tracks in
-    let t = there_is tree.movie.tracks k (omega (arith, lt, many)) in
+    let t = get_some tree.movie.tracks k (omega (arith, lt, many)) in
     let c = comes file tree t.0 o t.1 in
     let own = may file tree t.0 o t.1 in
     let within = own.2 in

@@ -26,15 +26,13 @@ use Rattle.mp4_plan.specs.declared.ends.End.TheVariants.{Before}
 use Rattle.mp4_plan.specs.declared.schedule.Schedule.{Schedule}
 use Rattle.mp4_plan.proofs.Lefts.{AreLeft, left_count, IsTurn}
 use Rattle.mp4_content.proofs.ReducedTaken.{less_sizes}
+use Rattle.mp4_boxes.proofs.Plain.{some_is}
 
 abbrev pub left_bytes : List (List SampleAt) → ℕ
 left_bytes lefts = sum_by (λ (left : List SampleAt). sizes_of left) lefts
 
 bytes_cons : (left : List SampleAt) (lefts : List (List SampleAt)) → left_bytes (left ∷ lefts) ≡ sizes_of left + left_bytes lefts
 bytes_cons left lefts = sum_by-cons (λ (l : List SampleAt). sizes_of l) left lefts
-
-some_is : {A : Type 0} (x y : A) → Some x ≡ Some y → x ≡ y
-some_is x y e = cc
 
 -- where others are left of one track
 bytes_set : (lefts : List (List SampleAt)) (k : ℕ) (left behind : List SampleAt) → slice_get lefts k ≡ Some left → left_bytes (slice_set lefts k behind) + sizes_of left ≡ left_bytes lefts + sizes_of behind

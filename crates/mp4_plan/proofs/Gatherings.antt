@@ -1,10 +1,11 @@
 -- What is gathered of samples is what they have.
-use Rattle.std.proofs.Common.{◌≡◌, ℕ, zero, suc, ◌+◌, ◌<◌, List, [], ◌∷◌, ◌++◌, length, Bool, true, false, cond, if◌then◌else◌, refl, ap, sym, subst, ◌∙◌, arith, append_assoc, length-append}
+use Rattle.std.proofs.Common.{◌≡◌, ℕ, suc, ◌+◌, ◌<◌, List, [], ◌∷◌, ◌++◌, length, Bool, true, false, cond, if◌then◌else◌, refl, ap, sym, subst, ◌∙◌, arith, append_assoc, length-append}
 use Rattle.std.specs.Prelude.{slice_index, slice_index_or, Option, Some, None, map, not, ◌||◌, ◌&&◌, ◌==◌, nat_eq}
 use Rattle.std.specs.List.{list_all}
 use Rattle.std.proofs.lemmas.Bool.{eq-eqb}
 use Rattle.std.proofs.lemmas.List.{append-nil}
 use Rattle.mp4_boxes.specs.format.Bytes.{sum_of, unsigned}
+use Rattle.mp4_boxes.proofs.Plain.{below_four}
 use Rattle.mp4_tables.specs.declared.sample.SampleAt.{SampleAt}
 use Rattle.mp4_plan.specs.format.Normal.{common, longest_runs, put_run}
 use Rattle.mp4_plan.specs.declared.gathered.Gathered.{Gathered}
@@ -141,13 +142,6 @@ record Kept (s : SampleAt) (ss : List SampleAt) (g : Gathered) : Type 0 where
   sums : SumsUp (s ∷ ss) g
   runs : (j : ℕ) → j < 4 → Runs (index_of s j) (indexes j ss) (runs_at g j)
 
-at_four : (P : ℕ → Type 0) → P 0 → P 1 → P 2 → P 3 → (j : ℕ) → j < 4 → P j
-at_four P a b c d zero lt = a
-at_four P a b c d (suc zero) lt = b
-at_four P a b c d (suc (suc zero)) lt = c
-at_four P a b c d (suc (suc (suc zero))) lt = d
-at_four P a b c d (suc (suc (suc (suc j)))) lt = absurd (omega arith)
-
 numbers_more : (f : SampleAt → ℕ) (s : SampleAt) (ss : List SampleAt) (t : SampleAt) (c : Option ℕ) → c ≡ common (map f (s ∷ ss)) → common_more c (f t) ≡ common (map f (s ∷ ss ++ t ∷ []))
 numbers_more f s ss t c e = ap (λ d. common_more d (f t)) e ∙ sym (common_push (f s) (map f ss) (f t)) ∙ ap common (sym (map_push f (s ∷ ss) t))
 
@@ -161,7 +155,7 @@ sums_of s ss g c b d z f o r = record {
 
 kept_first : (s : SampleAt) → Kept s [] (gathered_first s)
 kept_first s = sums_of s [] (gathered_first s) refl (omega arith) refl refl refl (by (unsigned 4 s.cto == 0))
-    (at_four (λ j. Runs (index_of s j) [] (runs_at (gathered_first s) j)) (one_run (index_of s 0)) (one_run (index_of s 1)) (one_run (index_of s 2)) (one_run (index_of s 3)))
+    (below_four (λ j. Runs (index_of s j) [] (runs_at (gathered_first s) j)) (one_run (index_of s 0)) (one_run (index_of s 1)) (one_run (index_of s 2)) (one_run (index_of s 3)))
   where
     by : (b : Bool) → not b ≡ not (b && true)
     by true = refl
@@ -176,7 +170,7 @@ kept_more s ss g t k =
     sums_of s (ss ++ t ∷ []) (gathered_more g t) (omega (arith, u.count, length-append ss (t ∷ []))) (omega (arith, u.bytes, sum_push (λ (x : SampleAt). x.size) (s ∷ ss) t))
     (numbers_more (λ (x : SampleAt). x.duration) s ss t g.duration u.duration) (numbers_more (λ (x : SampleAt). x.size) s ss t g.size u.size) (numbers_more (λ (x : SampleAt). x.flags) s ss t g.flags u.flags)
     (offsets_push (s ∷ ss) t g.has_offsets u.has_offsets)
-    (at_four (λ j. Runs (index_of s j) (indexes j (ss ++ t ∷ [])) (runs_at (gathered_more g t) j))
+    (below_four (λ j. Runs (index_of s j) (indexes j (ss ++ t ∷ [])) (runs_at (gathered_more g t) j))
     (run_on s ss t 0 (runs_at g 0) (k.runs 0 (omega arith))) (run_on s ss t 1 (runs_at g 1) (k.runs 1 (omega arith))) (run_on s ss t 2 (runs_at g 2) (k.runs 2 (omega arith))) (run_on s ss t 3 (runs_at g 3) (k.runs 3 (omega arith))))
 
 gather_keeps : (s : SampleAt) (ss : List SampleAt) (g : Gathered) (more : List SampleAt) → Kept s ss g → (h : Gathered) × (gather_all (Some g) more ≡ Some h) × Kept s (ss ++ more) h

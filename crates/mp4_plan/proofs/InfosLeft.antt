@@ -13,7 +13,7 @@ use Rattle.mp4_content.specs.words.Contents.{info_left, infos_from, infos_left, 
 use Rattle.mp4_content.specs.declared.content.TrackLeft.{TrackLeft}
 use Rattle.mp4_content.proofs.ReducedValid.{scale_some}
 use Rattle.mp4_plan.proofs.SkippedTurns.{HaveScales, opened_scales}
-use Rattle.mp4_plan.proofs.TakenFrom.{got_map}
+use Rattle.mp4_boxes.proofs.Plain.{get_map}
 
 module _ (l : Without) where
   pub many_from : (place : ℕ) (infos : List TrackInfo) → length (infos_from l place infos) ≡ length infos
@@ -38,7 +38,7 @@ module _ (l : Without) where
 
   -- the numbers that are kept of it
   pub track_at : (infos : List TrackInfo) (k : ℕ) (info : TrackInfo) → slice_get infos k ≡ Some info → slice_get (tracks_left l infos) k ≡ Some (numbers_of (info_left l (k + 1) info))
-  track_at infos k info e = got_map numbers_of (infos_left l infos) k (info_left l (k + 1) info) (info_at infos k info e)
+  track_at infos k info e = get_map numbers_of (infos_left l infos) k (info_left l (k + 1) info) (info_at infos k info e)
 
   -- they are as many, with as many samples and as many bytes
   pub tracks_many : (infos : List TrackInfo) → length (tracks_left l infos) ≡ length infos

@@ -1,10 +1,10 @@
 -- Keys in their order: each once, and none but those that were put there; they cover the map of each sample whose keys they are.
-use Rattle.std.proofs.Common.{◌≡◌, ℕ, ◌+◌, ◌*◌, ◌^◌, ◌<◌, ◌≤◌, Bool, true, false, cond, ltb, List, [], ◌∷◌, length, Option, Some, None, refl, sym, ap, subst, ◌∙◌, arith, inl, inr}
+use Rattle.std.proofs.Common.{◌≡◌, ℕ, ◌+◌, ◌^◌, ◌<◌, ◌≤◌, Bool, true, false, cond, ltb, List, [], ◌∷◌, length, Option, Some, None, refl, sym, ap, subst, ◌∙◌, arith, inl, inr}
 use Rattle.std.specs.Prelude.{slice_index, nat_lt}
 use Rattle.std.specs.List.{AllByRecursion, list_any, list_all}
 use Rattle.std.proofs.lemmas.Bool.{eqb-true, eq-eqb, ne_eqb, or_cases, or_left, or_from, and_parts, ltb-true, ltb-false, cases_lt}
 use Rattle.mp4_boxes.specs.format.Bytes.{field, AreBytes}
-use Rattle.mp4_boxes.proofs.Plain.{true_false}
+use Rattle.mp4_boxes.proofs.Plain.{four_digits, four_items, true_false}
 use Rattle.mp4_tables.specs.format.Groups.{GroupKey, Groups, key_rank, parameter_rank, same_key, is_in_order}
 use Rattle.mp4_tables.proofs.NamedKeys.{IsAmong, IsNone, AreOnce, among_more, among_first}
 use Rattle.mp4_present.specs.format.Presentation.{IsParameter, IsGroup}
@@ -18,25 +18,11 @@ use Rattle.mp4_plan.proofs.Maps.{AreAbove, KeysAbove, Covers, none, without, wit
 pub key_of_group : (group : GroupKey × ℕ) → IsGroup group → IsKey group.0
 key_of_group group h = record { kind_length = h.kind_length; kind = h.kind; parameter = h.parameter }
 
--- four bytes, and no more
-pub four_bytes : (xs : List ℕ) → length xs ≡ 4 → xs ≡ slice_index xs 0 ∷ slice_index xs 1 ∷ slice_index xs 2 ∷ slice_index xs 3 ∷ []
-four_bytes [] e = absurd (omega (arith, e))
-four_bytes (a ∷ []) e = absurd (omega (arith, e))
-four_bytes (a ∷ b ∷ []) e = absurd (omega (arith, e))
-four_bytes (a ∷ b ∷ c ∷ []) e = absurd (omega (arith, e))
-four_bytes (a ∷ b ∷ c ∷ d ∷ []) e = refl
-four_bytes (a ∷ b ∷ c ∷ d ∷ f ∷ xs) e = absurd (omega (arith, e))
-
--- numbers in base 256 have one row of digits
-digits : (a b c d p q r s : ℕ) → b < 256 → c < 256 → d < 256 → q < 256 → r < 256 → s < 256
-    → a * 256 ^ 3 + (b * 256 ^ 2 + (c * 256 ^ 1 + (d * 256 ^ 0 + 0))) ≡ p * 256 ^ 3 + (q * 256 ^ 2 + (r * 256 ^ 1 + (s * 256 ^ 0 + 0))) → (a ≡ p) × (b ≡ q) × (c ≡ r) × (d ≡ s)
-digits a b c d p q r s lb lc ld lq lr ls e = (omega arith, omega arith, omega arith, omega arith)
-
 -- types of one number are one type
 kind_same : (xs ys : List ℕ) → length xs ≡ 4 → length ys ≡ 4 → AreBytes xs → AreBytes ys → field xs 0 4 ≡ field ys 0 4 → xs ≡ ys
 kind_same xs ys e f h k same =
-    let d = digits (slice_index xs 0) (slice_index xs 1) (slice_index xs 2) (slice_index xs 3) (slice_index ys 0) (slice_index ys 1) (slice_index ys 2) (slice_index ys 3) (h 1) (h 2) (h 3) (k 1) (k 2) (k 3) same in
-    four_bytes xs e ∙ (λ i. d.0 i ∷ d.1 i ∷ d.2 i ∷ d.3 i ∷ []) ∙ sym (four_bytes ys f)
+    let d = four_digits (slice_index xs 0) (slice_index xs 1) (slice_index xs 2) (slice_index xs 3) (slice_index ys 0) (slice_index ys 1) (slice_index ys 2) (slice_index ys 3) (h 1) (h 2) (h 3) (k 1) (k 2) (k 3) same in
+    four_items xs e ∙ (λ i. d.0 i ∷ d.1 i ∷ d.2 i ∷ d.3 i ∷ []) ∙ sym (four_items ys f)
 
 -- the rank of a parameter is below its bound
 parameter_small : (o : Option ℕ) → IsParameter o → parameter_rank o < 2 ^ 32 + 1

@@ -9,7 +9,7 @@ use Rattle.mp4_plan.specs.format.Normal.{put_key, in_key_order}
 use Rattle.mp4_plan.specs.words.UsedKeys.{AreApart, IsKeyAt, placed, place_at, used_from, is_above, is_below, least_above}
 use Rattle.mp4_plan.proofs.Maps.{KeysAbove}
 use Rattle.mp4_plan.proofs.KeyOrder.{AreRising, order_rises, order_each}
-use Rattle.mp4_boxes.proofs.Plain.{true_false}
+use Rattle.mp4_boxes.proofs.Plain.{false_and_true, true_false}
 
 -- ---- a key is one of some
 
@@ -76,14 +76,10 @@ all_weaker : (P Q : GroupKey → Type 0) → ((x : GroupKey) → P x → Q x) �
 all_weaker P Q f [] h = tt
 all_weaker P Q f (x ∷ xs) h = (f x h.0, all_weaker P Q f xs h.1)
 
-not_both : (b : Bool) → b ≡ false → b ≡ true → ⊥
-not_both true e f = absurd (true_false true refl e)
-not_both false e f = absurd (true_false false f refl)
-
 next_least_by : (behind : Option ℕ) (Own : GroupKey → Type 0) (seen : List GroupKey) (found : Option GroupKey) (key : GroupKey) (above below : Bool) → is_above behind key ≡ above → is_below found key ≡ below → Own key
     → IsLeast behind Own seen found → IsLeast behind Own (seen ++ key ∷ []) (cond (above && below) (Some key) found)
 next_least_by behind Own seen None key true true e f own h =
-    (e, own, all_push (λ k. is_above behind k ≡ true → key_rank key ≤ key_rank k) seen key (all_weaker (λ k. is_above behind k ≡ false) (λ k. is_above behind k ≡ true → key_rank key ≤ key_rank k) (λ k n a. absurd (not_both (is_above behind k) n a)) seen h) (λ a. omega arith))
+    (e, own, all_push (λ k. is_above behind k ≡ true → key_rank key ≤ key_rank k) seen key (all_weaker (λ k. is_above behind k ≡ false) (λ k. is_above behind k ≡ true → key_rank key ≤ key_rank k) (λ k n a. absurd (false_and_true (is_above behind k) n a)) seen h) (λ a. omega arith))
 next_least_by behind Own seen (Some best) key true true e f own h =
     let lt : key_rank key < key_rank best = ltb-true (key_rank key) (key_rank best) f in
     (e, own, all_push (λ k. is_above behind k ≡ true → key_rank key ≤ key_rank k) seen key (all_weaker (λ k. is_above behind k ≡ true → key_rank best ≤ key_rank k) (λ k. is_above behind k ≡ true → key_rank key ≤ key_rank k) (λ k le a. let m = le a in omega arith) seen h.2) (λ a. omega arith))
@@ -93,7 +89,7 @@ next_least_by behind Own seen (Some best) key true false e f own h =
     (h.0, h.1, all_push (λ k. is_above behind k ≡ true → key_rank best ≤ key_rank k) seen key h.2 (λ a. le))
 next_least_by behind Own seen None key false below e f own h = all_push (λ k. is_above behind k ≡ false) seen key h e
 next_least_by behind Own seen (Some best) key false below e f own h =
-    (h.0, h.1, all_push (λ k. is_above behind k ≡ true → key_rank best ≤ key_rank k) seen key h.2 (λ a. absurd (not_both (is_above behind key) e a)))
+    (h.0, h.1, all_push (λ k. is_above behind k ≡ true → key_rank best ≤ key_rank k) seen key h.2 (λ a. absurd (false_and_true (is_above behind key) e a)))
 
 -- The least that is found is the least of all.
 least_found : (behind : Option ℕ) (Own : GroupKey → Type 0) (seen : List GroupKey) (found : Option GroupKey) (keys : List GroupKey) → AllByRecursion Own keys → IsLeast behind Own seen found → IsLeast behind Own (seen ++ keys) (least_above behind found keys)

@@ -10,6 +10,7 @@ use Rattle.mp4_boxes.specs.declared.rule.Rule.TheVariants as rules
 use Rattle.mp4_boxes.proofs.Lying.{lies}
 use Rattle.mp4_boxes.proofs.LyingData.{data_box, lies_data, length-header_bytes}
 use Rattle.mp4_boxes.proofs.WrittenBoxes.{placed_box, length-box_bytes}
+use Rattle.mp4_boxes.proofs.Plain.{append_four}
 use Rattle.mp4_frag.specs.declared.trex.Trex.{Trex}
 use Rattle.mp4_frag.specs.format.Fragments.{Fragment, FragmentTree, IsFragmentTree, fragment_of}
 use Rattle.mp4_frag.specs.format.FragmentSamples.{Part, parts_of, all_parts, trex_for, no_trex}
@@ -67,10 +68,6 @@ length-piece_bytes sequence piece h =
     let header = header_bytes (codes "mdat") (length (piece_data piece)) in
     omega (arith, length-append (moof ++ header) (piece_data piece), length-append moof header, moof_same piece h sequence (offset_of piece), length-header_bytes (codes "mdat") (length (piece_data piece)) refl)
 
--- four lists joined, bracketed to the right
-regroup : (moof header payload rest : List ℕ) → moof ++ header ++ payload ++ rest ≡ moof ++ (header ++ (payload ++ rest))
-regroup moof header payload rest = simp append_assoc
-
 -- the same behind a front
 regroup_more : (front before payload rest : List ℕ) → front ++ (before ++ payload ++ rest) ≡ (front ++ before) ++ (payload ++ rest)
 regroup_more front before payload rest = simp append_assoc
@@ -110,7 +107,7 @@ pieces_lie at n (piece ∷ more) h =
     let first = lies (codes "moof") payload (header ++ (piece_data piece ++ rest)) refl (omega arith) true at
     (data_box (codes "mdat") (piece_data piece) (at + length moof) ∷ pieces_boxes (at + length (piece_bytes n piece)) (n + 1) more)
     (subst (λ (k : ℕ). LieEndToEnd true k (header ++ (piece_data piece ++ rest)) (data_box (codes "mdat") (piece_data piece) (at + length moof) ∷ pieces_boxes (at + length (piece_bytes n piece)) (n + 1) more)) from second) in
-    subst (λ (bytes : List ℕ). LieEndToEnd true at bytes (pieces_boxes at n (piece ∷ more))) (sym (regroup moof header (piece_data piece) rest)) first
+    subst (λ (bytes : List ℕ). LieEndToEnd true at bytes (pieces_boxes at n (piece ∷ more))) (sym (append_four moof header (piece_data piece) rest)) first
 
 -- They take as many bytes as are written.
 pub pieces_sizes : (at n : ℕ) (list : List Piece) → AllByRecursion IsGood list → sizes (pieces_boxes at n list) ≡ length (pieces_bytes n list)

@@ -1,5 +1,5 @@
 -- Where a piece lies in a file, the fragment that its `moof` says has the samples of the piece, and no more.
-use Rattle.std.proofs.Common.{◌≡◌, ℕ, suc, ◌+◌, ◌%◌, ◌^◌, ◌<◌, Bool, true, false, eqb, List, [], ◌∷◌, ◌++◌, length, Option, Some, None, unwrap_or, ℤ, pos, negsuc, refl, sym, ap, ◌∙◌, arith, not, IsTrue}
+use Rattle.std.proofs.Common.{◌≡◌, ℕ, ◌+◌, ◌%◌, ◌^◌, ◌<◌, Bool, true, false, eqb, List, [], ◌∷◌, ◌++◌, length, Option, Some, None, unwrap_or, ℤ, pos, negsuc, refl, sym, ap, ◌∙◌, arith, IsTrue}
 use Rattle.std.specs.Prelude.{map, flat_map, FitsSigned, ◌==◌, if◌then◌else◌}
 use Rattle.std.specs.Int.{w32}
 use Rattle.std.specs.List.{AllByRecursion, AllZip, list_all}
@@ -9,6 +9,7 @@ use Rattle.std.proofs.lemmas.List.{append-nil, length-map}
 use Rattle.mp4_boxes.specs.format.Bytes.{unsigned}
 use Rattle.mp4_boxes.proofs.Each.{each_weaker}
 use Rattle.mp4_boxes.specs.format.Written.{header_length}
+use Rattle.mp4_boxes.proofs.Plain.{length_zip, not_is_false}
 use Rattle.mp4_tables.specs.format.Groups.{maps_of}
 use Rattle.mp4_tables.specs.format.PlainSamples.{PlacedSample, with_groups}
 use Rattle.mp4_frag.specs.declared.trex.Trex.{Trex}
@@ -56,10 +57,6 @@ offsets_none (s ∷ samples) h e =
     let p = and_parts (eqb (unsigned 4 s.sample.offset) 0) (list_all (λ (s : TimedSample). unsigned 4 s.sample.offset == 0) samples) e in
     (unsigned_none s.sample.offset h.0 (eqb-true (unsigned 4 s.sample.offset) 0 p.0), offsets_none samples h.1 p.1)
 
-flipped : (b : Bool) → not b ≡ false → b ≡ true
-flipped true e = refl
-flipped false e = absurd cc
-
 -- an offset that is given, or is 0
 offset_given : (has_offsets : Bool) (z : ℤ) → (has_offsets ≡ false → z ≡ pos 0) → unwrap_or (if has_offsets then Some z else None) (pos 0) ≡ z
 offset_given true z h = refl
@@ -91,7 +88,7 @@ module _ (trex : Trex) (data_offset : ℕ) (piece : Piece) where
   pub rows_give : AllByRecursion FitsRow piece.samples → AllByRecursion HasFlags piece.samples → IsOnePiece piece.samples → AllZip (Gives trex (traf_read data_offset piece)) (map (row_read (shared_by piece.samples)) piece.samples) (untimed_samples piece.samples)
   rows_give fits small one =
       gives piece.samples (common_of (λ s. s.sample.duration) piece.samples) (common_of (λ s. length s.sample.bytes) piece.samples) (common_of (λ s. s.sample.flags) piece.samples)
-      (λ e. offsets_none piece.samples (each_weaker FitsRow (λ (s : TimedSample). FitsSigned w32 s.sample.offset) (λ s h. h.offset) piece.samples fits) (flipped (list_all (λ (s : TimedSample). unsigned 4 s.sample.offset == 0) piece.samples) e)) small one
+      (λ e. offsets_none piece.samples (each_weaker FitsRow (λ (s : TimedSample). FitsSigned w32 s.sample.offset) (λ s h. h.offset) piece.samples fits) (not_is_false (list_all (λ (s : TimedSample). unsigned 4 s.sample.offset == 0) piece.samples) e)) small one
 
 -- ---- where the data lies
 
@@ -111,13 +108,6 @@ placed_run trex at piece = run_samples trex (traf_read (offset_of piece) piece) 
 -- the part of a piece
 abbrev pub piece_part : Trex → ℕ → Piece → Part
 piece_part trex at piece = record { id = piece.id; decode_time = Some (first_time piece.samples); runs = placed_run trex at piece ∷ []; groups = map (grouped_by piece.samples) (piece_keys piece.samples) }
-
--- lists that go together have one length
-zip_length : {A B : Type 0} (R : A → B → Type 0) (xs : List A) (ys : List B) → AllZip R xs ys → length xs ≡ length ys
-zip_length R [] [] h = refl
-zip_length R [] (y ∷ ys) h = absurd h
-zip_length R (x ∷ xs) [] h = absurd h
-zip_length R (x ∷ xs) (y ∷ ys) h = ap suc (zip_length R xs ys h.1)
 
 -- the maps of samples
 groups_are : (samples : List TimedSample) → map (λ (s : Sample). s.groups) (untimed_samples samples) ≡ map (λ (s : TimedSample). s.sample.groups) samples
@@ -140,7 +130,7 @@ part_spells trex file front back at piece h small one e f =
     let lies : file ≡ front ++ (data_of samples ++ back) = f ∙ ap (λ (l : List ℕ). front ++ (l ++ back)) (sym (data_is piece.samples)) in
     let found = run_found trex (traf_read (offset_of piece) piece) file front back (pos (at + offset_of piece)) (map (row_read (shared_by piece.samples)) piece.samples) samples
     (rows_give trex (offset_of piece) piece h.rows small one) (ap pos e) lies in
-    let many : length run ≡ length piece.samples = zip_length (IsFoundAs file) run samples found ∙ length-map piece.samples (λ (s : TimedSample). s.sample) in
+    let many : length run ≡ length piece.samples = length_zip (IsFoundAs file) run samples found ∙ length-map piece.samples (λ (s : TimedSample). s.sample) in
     let groups = map (grouped_by piece.samples) (piece_keys piece.samples) in
     let maps : maps_of (length run) groups ≡ map (λ (s : Sample). s.groups) samples =
     ap (λ (n : ℕ). maps_of n groups) many ∙ maps_again (piece_keys piece.samples) piece.samples (piece_covered piece.samples h.groups) ∙ sym (groups_are piece.samples) in

@@ -8,6 +8,7 @@ use Rattle.std.specs.Prelude.{slice_get, slice_set, slice_index_or, min, max, fo
 use Rattle.std.specs.List.{sum_by}
 use Rattle.std.proofs.lemmas.List.{length-take-le}
 use Rattle.mp4_boxes.specs.format.Written.{header_length}
+use Rattle.mp4_boxes.proofs.Plain.{get_some}
 use Rattle.mp4_head.specs.format.Tree.{TrackTree}
 use Rattle.mp4_tables.specs.format.Groups.{GroupKey}
 use Rattle.mp4_tables.specs.words.Keys.{keys_seen}
@@ -47,7 +48,6 @@ use Rattle.mp4_plan.proofs.SpelledPiece.{piece_length, taken_count}
 use Rattle.mp4_plan.proofs.TakenFrom.{track_facts_at, all_counted}
 use Rattle.mp4_plan.proofs.TakenFrom as taken_from
 use Rattle.mp4_plan.proofs.TurnTaken.{TurnTakes, turn_taken, turn_moves, turns_end, turn_tracks, more_few, few_left, count_behind}
-use Rattle.mp4_content.proofs.AtPlaces.{there_is}
 
 -- ---- the longest piece
 
@@ -240,7 +240,7 @@ module _ (leaving : Without) (file : List ℕ) (tree : FileTree) (m : MovieSeen)
   has_turn k walk end id at is_walk many own =
       let lt = at.1 in
       let tracks = turn_tracks file (infos_left leaving m.tracks) s lefts comings h.turn ∙ as_many_left leaving m.tracks in
-      let info = there_is m.tracks s.track (omega (arith, lt, tracks)) in
+      let info = get_some m.tracks s.track (omega (arith, lt, tracks)) in
       let r = comes_there leaving file tree m walks lefts s.track walk h.come (omega (arith, lt, tracks, many)) in
       let fits = few_left lefts s.track (length r.left) r.left r.is_left (omega arith) in
       let all = h.few in
@@ -275,7 +275,7 @@ module _ (leaving : Without) (file : List ℕ) (tree : FileTree) (m : MovieSeen)
         let goes = due_here (infos_left leaving m.tracks) nexts s d (info_left leaving (s.track + 1) t.info) (slice_get t.left 0) due (left_scales leaving file m tree o) lt (info_at leaving m.tracks s.track t.info t.is_info) t.shown in
         let at_end = subst (λ e. ¬ Sticks s (more_of (piece_from e) t.left) (slice_get (samples_after (piece_from e) t.left) 0)) (sym t.end_is)
         (turn_moves file (infos_left leaving m.tracks) s lefts comings (info_left leaving (s.track + 1) t.info) t.left
-            (turn_taken file (infos_left leaving m.tracks) s lefts comings (info_left leaving (s.track + 1) t.info) t.left h.turn lt (info_at leaving m.tracks s.track t.info t.is_info) t.is_left) goes) in
+        (turn_taken file (infos_left leaving m.tracks) s lefts comings (info_left leaving (s.track + 1) t.info) t.left h.turn lt (info_at leaving m.tracks s.track t.info t.is_info) t.is_left) goes) in
         subst (λ i. ¬ Sticks s i next) (sym is) (subst (λ x. ¬ Sticks s piece_size x) (sym after) at_end)
 
     within_left : piece_size ≤ length t.left

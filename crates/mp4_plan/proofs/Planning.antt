@@ -8,7 +8,7 @@ use Rattle.std.specs.List.{AllByRecursion}
 use Rattle.std.proofs.lemmas.List.{take_all, map-append}
 use Rattle.std.proofs.lemmas.List.Sums.{sum_by-append, sum_by-cons}
 use Rattle.mp4_boxes.specs.format.Bytes.{sum_of}
-use Rattle.mp4_boxes.proofs.Plain.{get_zip, length_zip}
+use Rattle.mp4_boxes.proofs.Plain.{get_some, get_zip, length_zip, some_is}
 use Rattle.mp4_head.specs.format.Tree.{TrackTree}
 use Rattle.mp4_tables.specs.declared.sample.SampleAt.{SampleAt}
 use Rattle.mp4_present.specs.words.SamplesComing.{Comes, track_samples, traf_total, walk_room}
@@ -26,7 +26,7 @@ use Rattle.mp4_plan.specs.words.OwnRooms.{own_rooms}
 use Rattle.mp4_plan.proofs.ComeAt.{come_at, come_with, come_more, set_same}
 use Rattle.mp4_content.proofs.ReducedTaken.{less_length}
 use Rattle.mp4_content.proofs.SamplesTaken.{as_many}
-use Rattle.mp4_content.proofs.AtPlaces.{there_is, taken_next}
+use Rattle.mp4_content.proofs.AtPlaces.{taken_next}
 
 -- ---- walks that begin
 
@@ -59,7 +59,7 @@ pub one_begins : (m : MovieSeen) (k : ℕ) (walks : List Walk) (walk : Walk) →
     → ((file : List ℕ) (tree : FileTree) (t : TrackTree) → IsOpenedAs file m tree → slice_get tree.movie.tracks k ≡ Some t → Comes file tree t m walk (track_samples tree t)) → BeginSoFar m (k + 1) (walks ++ walk ∷ [])
 one_begins m k walks walk h n lt comes file tree o leaving =
     let many = length_zip (IsInfoOf file tree) tree.movie.tracks m.tracks o.tracks in
-    let t = there_is tree.movie.tracks k (omega (arith, lt, many)) in
+    let t = get_some tree.movie.tracks k (omega (arith, lt, many)) in
     come_more leaving file tree m tree.movie.tracks walks (left_samples leaving tree) k t.0 walk (h file tree o leaving) n t.1 (record { samples = track_samples tree t.0; comes = comes file tree t.0 o t.1; is_left = refl })
 
 -- all tracks have walks
@@ -83,8 +83,8 @@ marked_behind (v ∷ walks) (l ∷ lefts) w left h is = (h.0, marked_behind walk
 pub one_marked : (m : MovieSeen) (k : ℕ) (walks : List Walk) (walk : Walk) → BeginMarked m k walks → k < length m.tracks → ((info : TrackInfo) → slice_get m.tracks k ≡ Some info → walk.mark ≡ mark_of walk info.samples) → BeginMarked m (k + 1) (walks ++ walk ∷ [])
 one_marked m k walks walk h lt mark file tree o leaving =
     let many = length_zip (IsInfoOf file tree) tree.movie.tracks m.tracks o.tracks in
-    let t = there_is tree.movie.tracks k (omega (arith, lt, many)) in
-    let info = there_is m.tracks k lt in
+    let t = get_some tree.movie.tracks k (omega (arith, lt, many)) in
+    let info = get_some m.tracks k lt in
     let is = get_zip (IsInfoOf file tree) tree.movie.tracks m.tracks k t.0 info.0 o.tracks t.1 info.1 in
     let long = is.samples ∙ sym (less_length (track_reduction leaving tree t.0) (track_samples tree t.0) ∙ as_many file tree t.0) in
     let all : map (left_samples leaving tree) (take (k + 1) tree.movie.tracks) ≡ map (left_samples leaving tree) (take k tree.movie.tracks) ++ left_samples leaving tree t.0 ∷ [] =
@@ -103,7 +103,7 @@ pub first_marked : (m : MovieSeen) (walk : Walk) (k : ℕ) → ((file : List ℕ
     → ((info : TrackInfo) → slice_get m.tracks k ≡ Some info → walk.mark ≡ mark_of walk info.samples) → (file : List ℕ) (tree : FileTree) (t : TrackTree) → IsOpenedAs file m tree → slice_get tree.movie.tracks k ≡ Some t
     → (samples : List SampleAt) × Comes file tree t m walk samples × (walk.mark ≡ mark_of walk (length samples))
 first_marked m walk k comes lt mark file tree t o is =
-    let info = there_is m.tracks k lt in
+    let info = get_some m.tracks k lt in
     let of = get_zip (IsInfoOf file tree) tree.movie.tracks m.tracks k t info.0 o.tracks is info.1 in
     (track_samples tree t, comes file tree t o is, mark info.0 info.1 ∙ ap (mark_of walk) (of.samples ∙ sym (as_many file tree t)))
 
@@ -116,9 +116,6 @@ pub record ComesThere (leaving : Without) (file : List ℕ) (tree : FileTree) (m
   pub is_tree : slice_get tree.movie.tracks k ≡ Some t
   pub is_left : slice_get lefts k ≡ Some left
   pub comes : ComesLess (track_reduction leaving tree t) file tree t m walk left
-
-some_is : {A : Type 0} (x y : A) → Some x ≡ Some y → x ≡ y
-some_is x y e = cc
 
 got_there : {A : Type 0} (xs : List A) (k : ℕ) (d : A) → k < length xs → slice_get xs k ≡ Some (slice_index_or xs k d)
 got_there [] k d lt = absurd (omega (arith, lt))
@@ -162,7 +159,7 @@ rooms_sum : (file : List ℕ) (m : MovieSeen) (tree : FileTree) → IsOpenedAs f
 rooms_sum file m tree o zero le = refl
 rooms_sum file m tree o (suc k) le =
     let tracks = tree.movie.tracks in
-    let t = there_is tracks k (omega (arith, le)) in
+    let t = get_some tracks k (omega (arith, le)) in
     let e : suc k ≡ k + 1 = omega arith in
     let more = rooms_sum file m tree o k (omega (arith, le)) in
     let here = room_opened file m tree t.0 k o t.1 in

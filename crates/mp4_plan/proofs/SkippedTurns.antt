@@ -1,8 +1,8 @@
 -- Where tracks that are not due are skipped, the same pieces are left.
-use Rattle.std.proofs.Common.{length, ◌≡◌, ℕ, zero, suc, ◌<◌, true, false, cond, List, [], ◌∷◌, Some, None, refl, sym, ap, subst, ◌∙◌, arith, ne_eqb, slice_get, ◌⊎◌, inl, inr, true≢false}
+use Rattle.std.proofs.Common.{length, ◌≡◌, ℕ, ◌<◌, true, false, cond, List, [], ◌∷◌, Some, None, refl, sym, ap, subst, ◌∙◌, arith, ne_eqb, slice_get, ◌⊎◌, inl, inr, true≢false}
 use Rattle.std.specs.Prelude.{Option, map}
-use Rattle.std.specs.List.{AllByRecursion}
 use Rattle.mp4_boxes.proofs.Each.{each_from}
+use Rattle.mp4_boxes.proofs.Plain.{get_every, get_map, get_some}
 use Rattle.mp4_head.specs.format.Tree.{TrackTree, IsTrackTree, IsSoundTrack, track_head_of}
 use Rattle.mp4_present.specs.format.Denotes.{FileTree}
 use Rattle.mp4_present.specs.words.Movies.{MovieSeen}
@@ -23,25 +23,19 @@ use Rattle.mp4_plan.specs.declared.schedule.Schedule.{Schedule}
 use Rattle.mp4_plan.proofs.DueTurns.{late_over, due_goes, other_keeps, skips_keep}
 use Rattle.mp4_plan.proofs.Lefts.{pieces_from, IsTurn}
 use Rattle.mp4_plan.proofs.NextSamples.{first_at}
-use Rattle.mp4_plan.proofs.TakenFrom.{got_map, has_track}
+use Rattle.mp4_plan.proofs.TakenFrom.{has_track}
 use Rattle.mp4_plan.proofs.TurnTaken.{few_left, tracks_left, turn_skips, turn_tracks}
-use Rattle.mp4_content.proofs.AtPlaces.{there_is}
 
 -- no track of these has a timescale of 0
 abbrev pub HaveScales : List TrackInfo → Type 0
 HaveScales infos = (k : ℕ) (info : TrackInfo) → slice_get infos k ≡ Some info → 0 < info.timescale
-
-member_at : {A : Type 0} (P : A → Type 0) (xs : List A) (k : ℕ) (x : A) → slice_get xs k ≡ Some x → AllByRecursion P xs → P x
-member_at P [] k x is h = absurd cc
-member_at P (y ∷ xs) zero x is h = let same : y ≡ x = cc in subst P same h.0
-member_at P (y ∷ xs) (suc k) x is h = member_at P xs k x is h.1
 
 -- none of an opened movie has
 pub opened_scales : (file : List ℕ) (m : MovieSeen) (tree : FileTree) → IsOpenedAs file m tree → HaveScales m.tracks
 opened_scales file m tree o k info is =
     let r = has_track file m tree k info o is in
     let scales = each_from IsTrackTree IsSoundTrack (λ (t : TrackTree). 0 < (track_head_of t).media.timescale) timescale_there tree.movie.tracks o.is_tree.movie.tracks o.is_sound.movie.tracks in
-    subst (λ n. 0 < n) r.facts.left.timescale (member_at (λ (t : TrackTree). 0 < (track_head_of t).media.timescale) tree.movie.tracks k r.t r.is_there scales)
+    subst (λ n. 0 < n) r.facts.left.timescale (get_every (λ (t : TrackTree). 0 < (track_head_of t).media.timescale) tree.movie.tracks k r.t r.is_there scales)
 
 -- The same pieces are left of the same samples.
 pub skipped_turns : (file : List ℕ) (infos : List TrackInfo) (d : DueTracks) (s later : Schedule) (lefts : List (List SampleAt)) (comings : List Coming) (first : ℕ) → Skips d s later → IsTurn file infos s lefts comings → s.first ≡ first
@@ -50,10 +44,10 @@ skipped_turns file infos d s later lefts comings first (none _) h e times scales
 skipped_turns file infos d s later lefts comings first (one _ _ some lt late more) h e times scales =
     let tracks = turn_tracks file infos s lefts comings h in
     let many = (tracks_left file infos lefts comings h.each).0 in
-    let at = there_is infos s.track (omega (arith, lt, tracks)) in
-    let own = there_is lefts s.track (omega (arith, lt, tracks, many)) in
+    let at = get_some infos s.track (omega (arith, lt, tracks)) in
+    let own = get_some lefts s.track (omega (arith, lt, tracks, many)) in
     let next = slice_get own.0 0 in
-    let due = times s.track (numbers_of at.0) next some (got_map numbers_of infos s.track at.0 at.1) (first_at lefts s.track own.0 own.1) in
+    let due = times s.track (numbers_of at.0) next some (get_map numbers_of infos s.track at.0 at.1) (first_at lefts s.track own.0 own.1) in
     let over = late_over s.next first at.0.timescale next (leaf d s.track) (scales s.track at.0 at.1) due late in
     let passes = turn_skips file infos s lefts comings at.0 own.0 h some lt at.1 own.1 (subst (λ n. is_over (Before s.next n at.0.timescale) next ≡ true) (sym e) over) in
     let rest = skipped_turns file infos d (track_passed s None) later lefts comings first more passes.0 ((other_keeps s None some).first ∙ e) times scales in
@@ -70,7 +64,7 @@ pub due_here : (infos : List TrackInfo) (nexts : List (Option SampleAt)) (s : Sc
     → slice_get nexts s.track ≡ Some next → 0 < s.track → is_over (turn_end s info.timescale) next ≡ false
 due_here infos nexts s d info next due scales lt is_info is_next some =
     let is : turn_end s info.timescale ≡ Before s.next s.first info.timescale = ap (λ v. cond v (Sync s.from info.timescale) (Before s.next s.first info.timescale)) (ne_eqb s.track 0 (λ z. omega (arith, z, some))) in
-    ap (λ e. is_over e next) is ∙ due_goes s.next s.first info.timescale next (leaf d s.track) (scales s.track info is_info) (due.times s.track (numbers_of info) next some (got_map numbers_of infos s.track info is_info) is_next) (due.here some lt)
+    ap (λ e. is_over e next) is ∙ due_goes s.next s.first info.timescale next (leaf d s.track) (scales s.track info is_info) (due.times s.track (numbers_of info) next some (get_map numbers_of infos s.track info is_info) is_next) (due.here some lt)
 
 -- one or the other
 pub either : {A B C : Type 0} → A ⊎ B → (A → C) → (B → C) → C
@@ -91,8 +85,8 @@ finds_none file infos taken later lefts comings nexts d h shown scales f =
     let count = h_on.left in
     let tracks = turn_tracks file infos later lefts comings h_on in
     let many = (tracks_left file infos lefts comings h_on.each).0 in
-    let at = there_is infos later.track (omega (arith, inside, tracks)) in
-    let own = there_is lefts later.track (omega (arith, inside, tracks, many)) in
+    let at = get_some infos later.track (omega (arith, inside, tracks)) in
+    let own = get_some lefts later.track (omega (arith, inside, tracks, many)) in
     let few = few_left lefts later.track (length own.0) own.0 own.1 (omega arith) in
     let empty : length own.0 ≡ 0 = omega (arith, few, count, none) in
     let is_next = ap (λ xs. slice_get xs later.track) shown ∙ first_at lefts later.track own.0 own.1 in

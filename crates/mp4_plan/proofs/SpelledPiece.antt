@@ -1,5 +1,5 @@
 -- What is written of a piece, by what was gathered and noted of its samples, is the piece of the normal form.
-use Rattle.std.proofs.Common.{◌≡◌, ℕ, zero, suc, ◌+◌, ◌*◌, ◌^◌, ◌<◌, ◌≤◌, Bool, true, false, cond, List, [], ◌∷◌, ◌++◌, length, Option, Some, None, refl, sym, ap, subst, ◌∙◌, append_assoc, length-append, arith}
+use Rattle.std.proofs.Common.{◌≡◌, ℕ, suc, ◌+◌, ◌*◌, ◌^◌, ◌<◌, ◌≤◌, Bool, true, false, cond, List, [], ◌∷◌, ◌++◌, length, Option, Some, None, refl, sym, ap, subst, ◌∙◌, append_assoc, length-append, arith}
 use Rattle.std.specs.Prelude.{map, flat_map, codes, slice_index, not, ◌&&◌, ◌==◌}
 use Rattle.std.specs.List.{AllByRecursion, list_all}
 use Rattle.byteorder.specs.Endian.{big_bytes}
@@ -10,6 +10,7 @@ use Rattle.mp4_tables.specs.format.Groups.{GroupKey}
 use Rattle.mp4_tables.specs.declared.sample.SampleAt.{SampleAt}
 use Rattle.mp4_present.specs.words.Joined.{sample_bytes}
 use Rattle.mp4_boxes.proofs.LyingData.{length-header_bytes}
+use Rattle.mp4_boxes.proofs.Plain.{below_four}
 use Rattle.mp4_content.specs.format.TimedSamples.{TimedSample}
 use Rattle.mp4_plan.specs.format.Pieces.{Piece}
 use Rattle.mp4_plan.specs.format.Normal.{Shared, common, own, shared_by, trun_row, trun_bytes, tfhd_bytes, sbgp_bytes, piece_keys, traf_bytes, moof_bytes, moof_length, piece_bytes, first_time, first_description, longest_runs}
@@ -137,13 +138,6 @@ used_is : (r : GroupRuns) (n : ℕ) (v : Bool) → r.rows ≡ n → r.is_used �
 used_is r n true e f = rw f refl
 used_is r n false e f = rw f e
 
-at_four : (P : ℕ → Type 0) → P 0 → P 1 → P 2 → P 3 → (j : ℕ) → j < 4 → P j
-at_four P a b c d zero lt = a
-at_four P a b c d (suc zero) lt = b
-at_four P a b c d (suc (suc zero)) lt = c
-at_four P a b c d (suc (suc (suc zero))) lt = d
-at_four P a b c d (suc (suc (suc (suc j)))) lt = absurd (omega arith)
-
 plan_of : (taken : List SampleAt) (g : Gathered) → SumsUp taken g → IsPlanOf taken (planned_of (Some g))
 plan_of taken g u =
     let one = λ (j : ℕ) (lt : j < 4). used_is (runs_at g j) (length (longest_runs (indexes_of j taken))) (list_all (λ index. index == 0) (indexes_of j taken)) (u.rows j lt) (u.used j lt) in
@@ -154,7 +148,7 @@ plan_of taken g u =
       size = u.size;
       flags = u.flags;
       has_offsets = u.has_offsets;
-      rows = at_four (λ j. slice_index (planned_of (Some g)).group_rows j ≡ cond (list_all (λ index. index == 0) (indexes_of j taken)) 0 (length (longest_runs (indexes_of j taken))))
+      rows = below_four (λ j. slice_index (planned_of (Some g)).group_rows j ≡ cond (list_all (λ index. index == 0) (indexes_of j taken)) 0 (length (longest_runs (indexes_of j taken))))
           (one 0 (omega arith)) (one 1 (omega arith)) (one 2 (omega arith)) (one 3 (omega arith));
     }
 

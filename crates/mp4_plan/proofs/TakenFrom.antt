@@ -1,12 +1,12 @@
 -- What an opened file says of its tracks: their samples are those of the presentation that it denotes, and lie in it; their keys differ, and are at most four.
-use Rattle.std.proofs.Common.{◌≡◌, ℕ, zero, suc, ◌^◌, ◌≤◌, false, List, [], ◌∷◌, length, Some, refl, sym, ap, subst, ◌∙◌, arith}
+use Rattle.std.proofs.Common.{◌≡◌, ℕ, zero, suc, ◌^◌, ◌≤◌, false, List, [], ◌∷◌, length, Some, refl, sym, subst, ◌∙◌, arith}
 use Rattle.std.specs.Prelude.{map}
 use Rattle.std.specs.List.{AllByRecursion, AllZip, list_any, slice_get, sum_by}
 use Rattle.std.proofs.lemmas.Bool.{or_from}
 use Rattle.std.proofs.lemmas.List.Sums.{sum_by-cons}
 use Rattle.mp4_boxes.specs.format.Bytes.{sum_of}
 use Rattle.mp4_boxes.proofs.Each.{each_weaker, each_member}
-use Rattle.mp4_boxes.proofs.Plain.{get_zip}
+use Rattle.mp4_boxes.proofs.Plain.{get_map, get_zip}
 use Rattle.mp4_tables.specs.words.Accepted.{AreDistinct}
 use Rattle.mp4_tables.specs.format.Groups.{GroupKey, same_key}
 use Rattle.mp4_tables.specs.words.Keys.{keys_seen}
@@ -76,12 +76,6 @@ pub track_facts_at : (file : List ℕ) (m : MovieSeen) (tree : FileTree) (k : �
     → slice_get m.tracks k ≡ Some info → slice_get tree.movie.tracks k ≡ Some t → TrackFacts file tree info t
 track_facts_at file m tree k info t o e f = get_zip (TrackFacts file tree) m.tracks tree.movie.tracks k info t (track_facts file m tree o) e f
 
--- what stands at a place of a map
-pub got_map : {A B : Type 0} (f : A → B) (xs : List A) (k : ℕ) (x : A) → slice_get xs k ≡ Some x → slice_get (map f xs) k ≡ Some (f x)
-got_map f [] k x e = absurd cc
-got_map f (y ∷ xs) zero x e = let same : y ≡ x = cc in ap (λ z. Some (f z)) same
-got_map f (y ∷ xs) (suc k) x e = got_map f xs k x e
-
 -- the partner of what stands at a place
 partner : {A B : Type 0} (R : A → B → Type 0) (xs : List A) (ys : List B) (k : ℕ) (x : A) → AllZip R xs ys → slice_get xs k ≡ Some x → (y : B) × (slice_get ys k ≡ Some y)
 partner R [] ys k x z e = absurd cc
@@ -99,7 +93,7 @@ pub record HasTrack (file : List ℕ) (tree : FileTree) (k : ℕ) (info : TrackI
 pub has_track : (file : List ℕ) (m : MovieSeen) (tree : FileTree) (k : ℕ) (info : TrackInfo) → IsOpenedAs file m tree → slice_get m.tracks k ≡ Some info → HasTrack file tree k info
 has_track file m tree k info o e =
     let r = partner (TrackFacts file tree) m.tracks tree.movie.tracks k info (track_facts file m tree o) e in
-    record { t = r.0; is_there = r.1; samples = got_map (track_samples tree) tree.movie.tracks k r.0 r.1; facts = track_facts_at file m tree k info r.0 o e r.1 }
+    record { t = r.0; is_there = r.1; samples = get_map (track_samples tree) tree.movie.tracks k r.0 r.1; facts = track_facts_at file m tree k info r.0 o e r.1 }
 
 -- ---- how many samples there are
 

@@ -26,8 +26,8 @@ use Rattle.mp4_present.proofs.Counts.{sum-append}
 use Rattle.mp4_present.proofs.OwnPlaced.{placed_append}
 use Rattle.mp4_present.proofs.WayThrough.{same_steps}
 use Rattle.mp4_plan.specs.words.WriterSteps.{last_steps, again_steps}
-use Rattle.mp4_content.proofs.AtPlaces.{there_is}
 use Rattle.mp4_content.proofs.WalksOn.{one_hand}
+use Rattle.mp4_boxes.proofs.Plain.{get_some}
 
 -- ---- lists
 
@@ -162,7 +162,7 @@ module _ (file : List ℕ) (m : MovieSeen) (tree : FileTree) (o : IsOpenedAs fil
 
     few_in_hand : length (left_in_hand ka.2) + a.left ≤ s.before.left
     few_in_hand =
-        let info = there_is m.tracks a.track i.goes_on.track in
+        let info = get_some m.tracks a.track i.goes_on.track in
         let few = hand_few a s.before info.0 info.1 a.before a.place ka.2 s.is_before i.rest ka.3.1 in
         let all = s.all info.0 info.1 in
         omega (arith, few, all)

@@ -26,12 +26,9 @@ use Rattle.mp4_plan.proofs.Lefts.{IsLeft, AreLeft, left_count, IsFresh, StandsIn
 use Rattle.mp4_plan.proofs.TakenTurns.{ended_same, turn_same, taken_front, taken_behind}
 use Rattle.mp4_plan.proofs.TurnOrder.{less_on, less_over}
 use Rattle.mp4_plan.proofs.TurnSteps.{turns_take_all}
-use Rattle.mp4_content.proofs.AtPlaces.{there_is}
+use Rattle.mp4_boxes.proofs.Plain.{get_some, some_is}
 
 -- ---- how many are left
-
-some_is : {A : Type 0} (x y : A) → Some x ≡ Some y → x ≡ y
-some_is x y e = cc
 
 left_cons : (left : List SampleAt) (lefts : List (List SampleAt)) → left_count (left ∷ lefts) ≡ length left + left_count lefts
 left_cons left lefts = sum_by-cons (λ (l : List SampleAt). length l) left lefts
@@ -492,8 +489,8 @@ pieces_few (suc fuel) most file infos s lefts comings less le h = by (nat_lt s.t
         let lt : s.track < s.tracks = search rules in
         let tracks = turn_tracks file infos s lefts comings h in
         let many = (tracks_left file infos lefts comings h.each).0 in
-        let at = there_is infos s.track (omega (arith, lt, tracks)) in
-        let own = there_is lefts s.track (omega (arith, lt, tracks, many)) in
+        let at = get_some infos s.track (omega (arith, lt, tracks)) in
+        let own = get_some lefts s.track (omega (arith, lt, tracks, many)) in
         let info = at.0 in
         let left = own.0 in
         let t = turn_taken file infos s lefts comings info left h lt at.1 own.1 in

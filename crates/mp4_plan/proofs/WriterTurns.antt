@@ -179,7 +179,7 @@ module _ (leaving : Without) (file : List ℕ) (tree : FileTree) (m : MovieSeen)
             let q = put at.left is_noted at.info info_there at.keys.apart in
             let own = subst (λ (hd : Option PieceHead). BytesGoOn (takes after last) (waiting w1.carrier) (waiting w2.carrier) (turn_bytes file hd n.planned (keys_seen at.info.keys) (take n.planned.count at.left))) head_is q in
             let same = subst (λ (c : OutBuffer). BytesGoOn (takes after last) (waiting c) (waiting w2.carrier)
-                (turn_bytes file (turn_head sequence (id_left leaving (s.track + 1) at.info.id) n.planned.count (slice_get at.left 0)) n.planned (keys_seen at.info.keys) (take n.planned.count at.left))) keeps.0 own in
+            (turn_bytes file (turn_head sequence (id_left leaving (s.track + 1) at.info.id) n.planned.count (slice_get at.left 0)) n.planned (keys_seen at.info.keys) (take n.planned.count at.left))) keeps.0 own in
             let comes = subst (λ (l : Without). ComesLess (track_reduction l tree at.t) file tree at.t m done.0 (drop n.planned.count at.left)) (left_same ∙ same_leaving) done.3 in
             let comes_rest = subst (λ (ss : List SampleAt). ComesLess (track_reduction leaving tree at.t) file tree at.t m done.0 ss) rest_is comes in
             let marked = subst (λ (ss : List SampleAt). done.0.mark ≡ mark_of done.0 (length ss)) rest_is done.4 in

@@ -8,6 +8,7 @@ use Rattle.mp4_content.proofs.ReducedTaken.{less_below}
 use Rattle.std.specs.Prelude.{Option, option_map, if◌then◌else◌, map, slice_get, fold}
 use Rattle.std.specs.List.{AllByRecursion, AllZip, sum_by}
 use Rattle.mp4_boxes.proofs.Each.{each_dropped}
+use Rattle.mp4_boxes.proofs.Plain.{get_every, get_some}
 use Rattle.mp4_head.specs.format.Tree.{TrackTree}
 use Rattle.mp4_store.specs.words.Device.{TakesPrefix}
 use Rattle.mp4_tables.specs.format.Groups.{GroupKey}
@@ -53,7 +54,6 @@ use Rattle.mp4_plan.proofs.InfosLeft.{as_many_left, info_at, left_scales}
 use Rattle.mp4_plan.proofs.SkippedTurns.{finds_none, turns_skipped}
 use Rattle.mp4_plan.proofs.TakenFrom.{TrackFacts, track_facts, has_track, few_left, all_counted}
 use Rattle.mp4_plan.proofs.TurnTaken.{TurnTaken, turn_taken, turn_fits}
-use Rattle.mp4_content.proofs.AtPlaces.{there_is}
 
 -- ---- lists
 
@@ -68,12 +68,6 @@ each_from most (p ∷ ps) = let r = most_from (max most (length p.samples)) ps i
 
 pub no_longer : (ps : List Piece) → AllByRecursion (λ (p : Piece). length p.samples ≤ longest_piece ps) ps
 no_longer ps = each_from 0 ps
-
--- what holds of a member at a place
-member_at : {A : Type 0} (P : A → Type 0) (xs : List A) (k : ℕ) (x : A) → slice_get xs k ≡ Some x → AllByRecursion P xs → P x
-member_at P [] k x is h = absurd cc
-member_at P (y ∷ xs) zero x is h = let same : y ≡ x = cc in subst P same h.0
-member_at P (y ∷ xs) (suc k) x is h = member_at P xs k x is h.1
 
 -- how many samples a schedule has left behind a turn
 passed_left : (s : Schedule) (time : Option ℕ) → (track_passed s time).left ≡ s.left
@@ -176,7 +170,7 @@ module _ (leaving : Without) (file : List ℕ) (tree : FileTree) (m : MovieSeen)
       → s.track < s.tracks → s.tracks ≡ length m.tracks → length walks ≡ length m.tracks → AtTurn s walks nexts rows h.lefts h.comings
   at_turn s sequence sent walks nexts rows Took held o h lt tracks each =
       let a = come_at leaving file tree m tree.movie.tracks walks h.lefts s.track h.come (omega (arith, lt, tracks, each)) in
-      let i = there_is m.tracks s.track (omega (arith, lt, tracks)) in
+      let i = get_some m.tracks s.track (omega (arith, lt, tracks)) in
       let f = (has_track file m tree s.track i.0 o i.1).facts in
       let taken = turn_taken file (infos_left leaving m.tracks) s h.lefts h.comings (info_left leaving (s.track + 1) i.0) a.left h.turn lt (info_at leaving m.tracks s.track i.0 i.1) a.is_left in
       record {
@@ -192,7 +186,7 @@ module _ (leaving : Without) (file : List ℕ) (tree : FileTree) (m : MovieSeen)
         is_marked = marked_at walks h.lefts s.track a.walk a.left h.marked a.is_walk a.is_left;
         keys = record { apart = f.apart; named = f.named; few = f.few_keys };
         taken = taken;
-        below = member_at (λ (left : List SampleAt). AllByRecursion (IsBelow (length file)) left) h.lefts s.track a.left a.is_left h.lie;
+        below = get_every (λ (left : List SampleAt). AllByRecursion (IsBelow (length file)) left) h.lefts s.track a.left a.is_left h.lie;
         fits = (turn_fits rows file (infos_left leaving m.tracks) s h.lefts h.comings (info_left leaving (s.track + 1) i.0) a.left taken h.fits).0;
         shown = ap (λ xs. slice_get xs s.track) h.shown ∙ first_at h.lefts s.track a.left a.is_left;
       }

@@ -27,6 +27,7 @@ use Rattle.mp4_plan.proofs.ComeAt.{set_same, set_there, set_twice}
 use Rattle.mp4_plan.proofs.TrafsAhead.{again_less, ahead_of, between, held_some, last_more, last_of, not_before, one_place, steps_append, way_some}
 use Rattle.mp4_content.proofs.ReducedTaken.{less_length}
 use Rattle.mp4_content.proofs.WalksGone.{stays_holding, still_marked}
+use Rattle.mp4_boxes.proofs.Plain.{nat_lt_is}
 
 -- ---- tests
 
@@ -37,9 +38,6 @@ and_left false b e = absurd cc
 and_right : (a b : Bool) → (a && b) ≡ true → b ≡ true
 and_right true b e = e
 and_right false b e = absurd cc
-
-lt_of : (n k : ℕ) → nat_lt n k ≡ true → n < k
-lt_of n k e = search rules
 
 not_lt : (n k : ℕ) → nat_lt n k ≡ false → k ≤ n
 not_lt n k e = search rules
@@ -317,7 +315,7 @@ module _ (file : List ℕ) (m : MovieSeen) (tree : FileTree) (o : IsOpenedAs fil
       → ((if v then now else rest) ≤ now) × (new + (if v then now else rest) ≤ old + own)
   farther_fits w set mid now rest true is at place mark walk ahead new old own within =
       let e : mid.next ≡ mid.mark.next = eqb-true mid.next mid.mark.next (and_left (mid.next == mid.mark.next) (nat_lt (steps_to mid.place) (steps_to mid.mark.place)) is) in
-      let lt : steps_to mid.place < steps_to mid.mark.place = lt_of (steps_to mid.place) (steps_to mid.mark.place) (and_right (mid.next == mid.mark.next) (nat_lt (steps_to mid.place) (steps_to mid.mark.place)) is) in
+      let lt : steps_to mid.place < steps_to mid.mark.place = nat_lt_is (steps_to mid.place) (steps_to mid.mark.place) (and_right (mid.next == mid.mark.next) (nat_lt (steps_to mid.place) (steps_to mid.mark.place)) is) in
       let steps = ap steps_to place in
       let few = mark ahead (e ∙ at) (omega (arith, lt, steps)) in
       (omega arith, omega (arith, few, within))

@@ -1,5 +1,5 @@
 -- The `moof` of a piece: its tree, what it says, and how long it is.
-use Rattle.std.proofs.Common.{◌≡◌, ℕ, ◌+◌, ◌*◌, ◌^◌, ◌<◌, ◌≤◌, Bool, true, false, cond, eqb, List, [], ◌∷◌, ◌++◌, length, refl, sym, ap, ◌∙◌, append_assoc, arith, length-append, mul-le-mul_right}
+use Rattle.std.proofs.Common.{◌≡◌, ℕ, ◌+◌, ◌*◌, ◌^◌, ◌<◌, ◌≤◌, Bool, true, false, cond, eqb, List, [], ◌∷◌, ◌++◌, length, refl, sym, ap, ◌∙◌, arith, length-append, mul-le-mul_right}
 use Rattle.std.specs.Prelude.{codes, map, flat_map}
 use Rattle.std.specs.List.{AllByRecursion}
 use Rattle.std.proofs.lemmas.List.{append-nil, length-map}
@@ -10,6 +10,7 @@ use Rattle.mp4_boxes.specs.declared.rule.Rule.TheVariants as rules
 use Rattle.mp4_boxes.proofs.Among.{all_append}
 use Rattle.mp4_boxes.proofs.Joined.{all_first, all_last}
 use Rattle.mp4_boxes.proofs.WrittenBoxes.{Content, written, placed, typed, length-box_bytes}
+use Rattle.mp4_boxes.proofs.Plain.{append_four}
 use Rattle.mp4_tables.specs.format.Groups.{GroupKey, Groups, groupings_of, index_at, key_rank, is_in_order, max_index}
 use Rattle.mp4_tables.proofs.NamedKeys.{IsAmong}
 use Rattle.mp4_present.specs.format.Presentation.{IsGroup}
@@ -88,17 +89,13 @@ groups_written : (samples : List TimedSample) (keys : List GroupKey) → flat_ma
 groups_written samples [] = refl
 groups_written samples (key ∷ keys) = ap (λ (l : List ℕ). sbgp_bytes samples key ++ l) (groups_written samples keys)
 
--- four lists joined, bracketed to the right
-four_parts : (a b c d : List ℕ) → a ++ b ++ c ++ d ≡ a ++ (b ++ (c ++ d))
-four_parts a b c d = simp append_assoc
-
 -- a `traf` is written as its contents
 pub traf_written : (data_offset : ℕ) (piece : Piece) → traf_payload data_offset piece ≡ written (traf_contents data_offset piece)
 traf_written data_offset piece =
     let tfhd = tfhd_bytes piece in
     let time = box_bytes (codes "tfdt") (time_payload (first_time piece.samples)) in
     let run = trun_bytes data_offset piece.samples in
-    four_parts tfhd time run (flat_map (sbgp_bytes piece.samples) (piece_keys piece.samples))
+    append_four tfhd time run (flat_map (sbgp_bytes piece.samples) (piece_keys piece.samples))
     ∙ ap (λ (l : List ℕ). tfhd ++ (time ++ (run ++ l))) (groups_written piece.samples (piece_keys piece.samples))
 
 -- a `moof` is written as its contents

@@ -7,6 +7,7 @@ use Rattle.mp4_boxes.specs.format.Bytes.{spelled, field, rows}
 use Rattle.mp4_boxes.specs.format.Layout.{sbgp, row, IsSound}
 use Rattle.mp4_boxes.proofs.Fields.{AllFit, none, more, rows_again, field_again}
 use Rattle.mp4_boxes.proofs.WrittenBoxes.{placed}
+use Rattle.mp4_boxes.proofs.Plain.{four_items}
 use Rattle.mp4_tables.specs.format.Repeated.{total}
 use Rattle.mp4_tables.specs.format.Groups.{GroupKey, Grouping, Groups, grouping_of, index_at, put_indexes, maps_of, max_index}
 use Rattle.mp4_tables.specs.format.PlainSamples.{PlacedSample, with_groups}
@@ -16,7 +17,6 @@ use Rattle.mp4_content.specs.format.TimedSamples.{TimedSample}
 use Rattle.mp4_plan.specs.format.Normal.{key_bytes, put_run, longest_runs}
 use Rattle.mp4_plan.proofs.Maps.{made, made_again, Covers}
 use Rattle.mp4_plan.specs.format.TableLaws.{IsKey}
-use Rattle.mp4_plan.proofs.KeyOrder.{four_bytes}
 use Rattle.mp4_plan.proofs.RunLists.{IsFoundAs}
 use Rattle.mp4_plan.proofs.Shared.{longest_runs_again}
 
@@ -105,7 +105,7 @@ by_parameter a b c d (Some p) runs h lt fits =
 -- An `sbgp` that was written is read again.
 pub group_again : (key : GroupKey) (runs : List (ℕ × ℕ)) → IsKey key → length runs < 2 ^ 32 → FitRuns runs → ReadsGroup key runs
 group_again key runs h lt fits =
-    subst (λ (kind : List ℕ). ReadsGroup (record { kind = kind; parameter = key.parameter }) runs) (sym (four_bytes key.kind h.kind_length))
+    subst (λ (kind : List ℕ). ReadsGroup (record { kind = kind; parameter = key.parameter }) runs) (sym (four_items key.kind h.kind_length))
     (by_parameter (slice_index key.kind 0) (slice_index key.kind 1) (slice_index key.kind 2) (slice_index key.kind 3) key.parameter runs h.parameter lt fits)
 
 -- ---- runs of equal indexes

@@ -12,6 +12,7 @@ pub mod Plain
 pub mod Carried
 pub mod Opening
 pub mod OpenedMovie
+pub mod OpeningLaws
 pub mod TrackTrees
 pub mod Measured
 pub mod Passing

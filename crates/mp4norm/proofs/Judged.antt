@@ -1,8 +1,9 @@
 -- Files that are judged one after the other.
-use Rattle.std.proofs.Common.{◌≡◌, ℕ, zero, suc, ◌+◌, ◌<◌, ◌≤◌, max, List, [], ◌∷◌, length, get_or, drop, refl, sym, ap, subst, ◌∙◌, arith}
+use Rattle.std.proofs.Common.{◌≡◌, ℕ, suc, ◌+◌, ◌<◌, ◌≤◌, max, List, [], ◌∷◌, length, get_or, drop, refl, sym, ap, subst, ◌∙◌, arith}
 use Rattle.std.proofs.Math.Seq.{drop-cons}
 use Rattle.std.specs.Prelude.{Option, Result}
 use Rattle.mp4_boxes.specs.declared.refusal.Refusal.{Refusal}
+use Rattle.mp4_boxes.proofs.Plain.{drop_all}
 use Rattle.mp4_answers.specs.format.Verdicts.{verdict_status}
 use Rattle.mp4norm.specs.declared.judging.ListedFile.{ListedFile}
 use Rattle.mp4norm.specs.format.Lists.{ended_names}
@@ -80,11 +81,5 @@ left_at {A = A} list k d a lt is =
     let next : suc k ≡ k + 1 = omega arith in
     drop-cons list k d lt ∙ ap (λ (x : A). x ∷ drop (suc k) list) (sym is) ∙ ap (λ (n : ℕ). a ∷ drop n list) next
 
-pub all_dropped : {A : Type 0} (list : List A) (k : ℕ) → length list ≤ k → drop k list ≡ []
-all_dropped [] zero le = refl
-all_dropped [] (suc k) le = refl
-all_dropped (a ∷ list) zero le = absurd (omega (arith, le))
-all_dropped (a ∷ list) (suc k) le = all_dropped list k (let h : suc (length list) ≤ suc k = le in omega (arith, h))
-
 pub none_left : {A J : Type 0} (Goes : List A → J → ℕ → Type 0) (list : List A) (k : ℕ) → length list ≤ k → (at : J) (worst : ℕ) → Goes (drop k list) at worst → Goes [] at worst
-none_left Goes list k le at worst g = subst (λ (left : List _). Goes left at worst) (all_dropped list k le) g
+none_left Goes list k le at worst g = subst (λ (left : List _). Goes left at worst) (drop_all list k le) g

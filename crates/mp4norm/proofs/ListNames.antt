@@ -5,18 +5,16 @@ use Rattle.std.proofs.lemmas.List.{length-map, map-append}
 use Rattle.std.proofs.lemmas.Bool.Decides.{nat_tests}
 use Rattle.std.specs.declared.alloc.Global.{Global}
 use Rattle.mp4norm.specs.format.Lists.{FirstPart, IsPartLength, AreTaken, HasOdd, bytes_of, is_name, is_odd, lines_of, names_of, parts_of, without_return}
+use Rattle.mp4_boxes.proofs.Plain.{same_eq}
 
 -- ---- a list is its first line and the lines behind
 
 differs : (a b : ℕ) → (a ≡ b → ⊥) → (a == b) ≡ false
 differs a b e = grind (arith, nat_tests)
 
-same : (a : ℕ) → (a == a) ≡ true
-same a = grind (arith, nat_tests)
-
 parts_first : (end : ℕ) (list : List ℕ) (n : ℕ) → 0 < length list → IsPartLength end list n → parts_of end list ≡ take n list ∷ parts_of end (drop 1 (drop n list))
 parts_first end [] n some h = absurd (omega (arith, some))
-parts_first end (b ∷ bs) zero some (le, before, is) = let e : b ≡ end = is (omega arith) in rw (e, same end) refl
+parts_first end (b ∷ bs) zero some (le, before, is) = let e : b ≡ end = is (omega arith) in rw (e, same_eq end) refl
 parts_first end (b ∷ []) (suc zero) some (le, before, is) = rw (differs b end (before 0 (omega arith))) refl
 parts_first end (b ∷ []) (suc (suc n)) some (le, before, is) = absurd (omega (arith, le))
 parts_first end (b ∷ c ∷ bs) (suc n) some (le, before, is) =

@@ -100,7 +100,11 @@ pub fn losses(alloc: Global, found: &FreedBoxes) -> Result<Vec<u8>, AllocError> 
 }
 
 /// What is told of the boxes that become free space, where more than their numbers is.
-pub fn find_told<S: Store>(alloc: Global, store: &mut S, names: &[Name]) -> Result<FreedBoxes, Refusal>
+pub fn find_told<S: Store>(
+    alloc: Global,
+    store: &mut S,
+    names: &[Name],
+) -> Result<FreedBoxes, Refusal>
     ensures store { OnlyReads S.Store store.old store.new result }
     ensures first { WhereRead S.Store store.old result (λ file found.
         FindsIf (asks_which names.now) names.now file found.first_loss) }

@@ -32,7 +32,11 @@ pub(crate) fn tell_losses(
 
 // What is said of boxes that are read as free space, behind the name of their file, where that is
 // given; nothing where there are none.
-fn freed_text(alloc: Global, name: Option<&str>, found: &FreedBoxes) -> Result<Vec<u8>, AllocError> {
+fn freed_text(
+    alloc: Global,
+    name: Option<&str>,
+    found: &FreedBoxes,
+) -> Result<Vec<u8>, AllocError> {
     let names = [Name::Foreign];
     let mut text = Vec::new(alloc);
     let lines = count_lines(alloc, &names, &[0], found)?;

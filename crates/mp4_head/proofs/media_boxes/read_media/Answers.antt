@@ -22,7 +22,8 @@ loop-child-preserved-then-is c =
     let k : bytes_eq (codes "mdhd") (box_seen c.in-Some.child).kind ≡ true = sym c.is.ensures ∙ c.if-is.true in (
       tt,
       tt,
-      media_header (box_seen c.args.mdia) _ c.loop-child.child-iterator c.next.new.self (box_seen c.in-Some.child) _ _ _ _ _ h c.loop-child.invariant.2 c.in-Some.ensures.steps k (leaf_sound mdhd (box_seen c.in-Some.child) c.in_ok-read_media_header.ensures.exact) c.in_ok-read_media_header.ensures.says,
+      media_header (box_seen c.args.mdia) _ c.loop-child.child-iterator c.next.new.self (box_seen c.in-Some.child) _ _ _ _ _ h c.loop-child.invariant.2 c.in-Some.ensures.steps k
+          (leaf_sound mdhd (box_seen c.in-Some.child) c.in_ok-read_media_header.ensures.exact) c.in_ok-read_media_header.ensures.says,
       λ n ids. fault_more _ _ _ _ _ (c.loop-child.invariant.3 n ids) c.in-Some.ensures.steps (λ before e. mdhd_fault (suc (suc (suc n))) ids (box_seen c.args.mdia) before (box_seen c.in-Some.child) k0 ∙ c.in_ok-read_media_header.ensures.exact),
     )
 

@@ -31,7 +31,8 @@ loop-child-preserved-then-is c =
     let k : bytes_eq (codes "mvhd") (box_seen c.in-Some.child).kind ≡ true = sym c.is.ensures ∙ c.if-is.true in (
       tt,
       tt,
-      movie_header (box_seen c.args.moov) _ c.loop-child.child-iterator c.next.new.self (box_seen c.in-Some.child) _ _ _ _ _ h c.loop-child.invariant.2 c.in-Some.ensures.steps _ k (leaf_sound mvhd (box_seen c.in-Some.child) c.in_ok-read_movie_header.ensures.exact) c.in_ok-read_movie_header.ensures.says,
+      movie_header (box_seen c.args.moov) _ c.loop-child.child-iterator c.next.new.self (box_seen c.in-Some.child) _ _ _ _ _ h c.loop-child.invariant.2 c.in-Some.ensures.steps _ k
+          (leaf_sound mvhd (box_seen c.in-Some.child) c.in_ok-read_movie_header.ensures.exact) c.in_ok-read_movie_header.ensures.says,
       λ n. fault_more _ _ _ _ _ (c.loop-child.invariant.3 n) c.in-Some.ensures.steps (λ before is. mvhd_fault (suc (suc (suc (suc (suc n))))) (box_seen c.args.moov) before (box_seen c.in-Some.child) k0 ∙ c.in_ok-read_movie_header.ensures.exact),
     )
 

@@ -38,13 +38,13 @@ returns-then-all_end_before-clause-first c = λ lt.
           let here = get_or-take m (drop guess places) r 0 (omega (arith, few, count)) ∙ get_or-drop guess places r 0 in
           subst (λ p. c.args.at < p + 4) here (c.first_from.ensures.first few)
       | inr all ↦ elim (c.if-end-places.branch) [
-          | then-end-places w ↦ let end = w.if-end-places.true in absurd (omega (arith, lt, all, count, end))
-          | else-end-places w ↦
-              let end = c.min-end.result in
-              let here : end ≡ guess + r = omega (arith, lt, all, within, count, guess_within) in
-              elim (cases_lt c.args.at (get_or places end 0 + 4)) [
-                | inl less ↦ subst (λ k. c.args.at < get_or places k 0 + 4) here less
-                | inr ends ↦ absurd (ends_not w.ends_before.result (sym w.is_behind-is ∙ c.if-is_behind.true) (w.ends_before.ensures.1 ends))
-              ]
-        ]
+        | then-end-places w ↦ let end = w.if-end-places.true in absurd (omega (arith, lt, all, count, end))
+        | else-end-places w ↦
+            let end = c.min-end.result in
+            let here : end ≡ guess + r = omega (arith, lt, all, within, count, guess_within) in
+            elim (cases_lt c.args.at (get_or places end 0 + 4)) [
+              | inl less ↦ subst (λ k. c.args.at < get_or places k 0 + 4) here less
+              | inr ends ↦ absurd (ends_not w.ends_before.result (sym w.is_behind-is ∙ c.if-is_behind.true) (w.ends_before.ensures.1 ends))
+            ]
+      ]
     ]

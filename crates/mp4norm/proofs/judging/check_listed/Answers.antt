@@ -1,7 +1,8 @@
 use Rattle.std.proofs.Common.{rules, ◌<◌, ◌≤◌, ◌+◌, List, length, drop, subst}
 use Rattle.mp4norm.specs.declared.judging.ListedFile.{ListedFile}
-use Rattle.mp4norm.proofs.Judged.{SumsOn, all_dropped, left_at, sums_from, sums_on, sums_whole}
+use Rattle.mp4norm.proofs.Judged.{SumsOn, left_at, sums_from, sums_on, sums_whole}
 use Rattle.mp4norm.proofs.judging.check_listed.Goals as goal
+use Rattle.mp4_boxes.proofs.Plain.{drop_all}
 
 pub loop-file-init : goal.loop-file-init
 loop-file-init g c =
@@ -27,6 +28,6 @@ loop-file-preserved g c =
 pub returns-clause-each : goal.returns-clause-each
 returns-clause-each g c =
     let end : length c.args.files.now ≤ c.loop-file.file-index = search rules in
-    let none = all_dropped c.args.files.now c.loop-file.file-index end in
+    let none = drop_all c.args.files.now c.loop-file.file-index end in
     sums_whole g.J.SumJudge.finds c.args.files.now c.args.judge.now c.loop-file.judge c.loop-file.worst c.loop-file.without c.loop-file.other
     (subst (λ (files : List ListedFile). SumsOn g.J.SumJudge.finds c.args.files.now c.args.judge.now files c.loop-file.judge c.loop-file.worst c.loop-file.without c.loop-file.other) none c.loop-file.invariant.sums)

@@ -1,9 +1,9 @@
 use Rattle.std.proofs.Common.{rules, refl, sym, ◌<◌, ◌≤◌, ◌∙◌, ap, length, List}
 use Rattle.mp4_tables.specs.declared.keys.GroupKey.{GroupKey}
 use Rattle.mp4_content.specs.words.SamePairs.{indexes_differ}
-use Rattle.mp4_content.proofs.Differing.{none_behind}
 use Rattle.mp4_content.proofs.PairsPassed.{index_more}
 use Rattle.mp4_content.proofs.comparing.same_pairs.have_same_indexes.Goals as goal
+use Rattle.mp4_boxes.proofs.Plain.{drop_all}
 
 pub loop-k-init : goal.loop-k-init
 loop-k-init c of = refl
@@ -18,4 +18,4 @@ pub returns : goal.returns
 returns c same of =
     let by = c.args.by.now in
     let le : length by.keys.items ≤ c.loop-k.k = search rules in
-    sym (c.loop-k.invariant of) ∙ ap (λ (keys : List GroupKey). indexes_differ of keys by.left c.args.left by.right c.args.right) (none_behind by.keys.items c.loop-k.k le)
+    sym (c.loop-k.invariant of) ∙ ap (λ (keys : List GroupKey). indexes_differ of keys by.left c.args.left by.right c.args.right) (drop_all by.keys.items c.loop-k.k le)

@@ -1,9 +1,9 @@
 use Rattle.std.proofs.Common.{rules, ◌≡◌, ◌≤◌, [], List, length, ap}
 use Rattle.mp4_tables.specs.declared.keys.GroupKey.{GroupKey}
 use Rattle.mp4_content.specs.words.SamePairs.{indexes_differ}
-use Rattle.mp4_content.proofs.Differing.{none_behind}
 use Rattle.mp4_content.proofs.PairsPassed.{none_said}
 use Rattle.mp4_content.proofs.comparing.same_pairs.say_the_same.Goals as goal
+use Rattle.mp4_boxes.proofs.Plain.{drop_all}
 
 pub returns-then-len-eq0 : goal.returns-then-len-eq0
 returns-then-len-eq0 c same =
@@ -12,7 +12,7 @@ returns-then-len-eq0 c same =
     let y = c.args.right.now in
     let times = c.have_same_times.ensures (search rules) in
     let few : length by.keys.items ≤ 0 = search rules in
-    let empty : by.keys.items ≡ [] = none_behind by.keys.items 0 few in
+    let empty : by.keys.items ≡ [] = drop_all by.keys.items 0 few in
     record {
       none = λ of. none_said by.leaving of by.keys.items by.left by.right by.left_edges by.right_edges x y times.duration times.offset (search rules) (search rules) (ap (λ (keys : List GroupKey). indexes_differ of keys by.left x.groups by.right y.groups) empty) (search rules);
       size = search rules;

@@ -13,14 +13,14 @@ use Rattle.mp4_plan.specs.words.Writers.{turn_head}
 use Rattle.mp4_plan.specs.words.WriterSteps.{MayWrite}
 use Rattle.mp4_plan.specs.declared.planner.Planned.{Planned}
 use Rattle.mp4_plan.proofs.AllMay.{one_ends}
-use Rattle.mp4_content.proofs.AtPlaces.{one_there, read_at, there_is}
+use Rattle.mp4_content.proofs.AtPlaces.{one_there, read_at}
 use Rattle.mp4_plan.proofs.ComeAt.{set_same}
 use Rattle.mp4_plan.proofs.NextSamples.{none_goes, some_goes, no_head, no_rows}
 use Rattle.mp4_plan.proofs.PlannerSteps.{fed_none}
 use Rattle.mp4_content.proofs.WalksGone.{still_marked}
 use Rattle.mp4_plan.proofs.WritingSteps.{all_noted, none_noted}
 use Rattle.mp4_plan.proofs.writer.Writer.note_turn.Goals as goal
-use Rattle.mp4_boxes.proofs.Plain.{get_every}
+use Rattle.mp4_boxes.proofs.Plain.{get_every, get_some}
 
 pub returns-then-not-first_goes-clause-noted : goal.returns-then-not-first_goes-clause-noted
 returns-then-not-first_goes-clause-noted g c told tree o t walk left is by comes marked shown =
@@ -53,10 +53,10 @@ returns-then-not-first_goes-clause-work g c told tree o n h =
     let w = c.args.self.now in
     let lt = c.requires.track in
     let many = c.requires.writer.walks.count in
-    let there = there_is w.walks.items k (omega (arith, lt, many)) in
+    let there = get_some w.walks.items k (omega (arith, lt, many)) in
     let empty = c.piece.ensures.is ∙ ap (λ (p : Planning). planned_of p.gathered) c.new.ensures in
     let many_by = c.requires.writer.content.many in
-    let by = there_is w.content.of_tracks.items k (omega (arith, lt, many_by)) in
+    let by = get_some w.content.of_tracks.items k (omega (arith, lt, many_by)) in
     none_noted w.content.of_tracks.items by.0 file m tree o w.walks.items k c.piece.result.count there.0 n h there.1 by.1 _ (get_every (IsWalkOf m) w.walks.items k there.0 there.1 c.requires.writer.walks.each) (ap (λ (p : Planned). p.count) empty)
 
 pub returns-in_err-planned-clause-unchanged : goal.returns-in_err-planned-clause-unchanged
