@@ -22,7 +22,7 @@ use std::alloc::Global;
 use std::sync::ledger::{Blank, Ledger};
 
 /// Does a job: all that is put is the job's own text of the file. The steps are counted, and
-/// are those of one run; those of `boxes` and `strip`, which only look at headers, are not.
+/// are those of one run; those of `boxes` and `strip` are not.
 pub fn perform<S: Store, K: Sink, L: Ledger, M: Ledger>(
     alloc: Global,
     job: Job,

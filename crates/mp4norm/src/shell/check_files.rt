@@ -125,14 +125,8 @@ fn judged<L: Ledger, M: Ledger>(
     } else {
         None
     };
-    explain_refusal(
-        rt,
-        told.name,
-        refusal,
-        manner.telling,
-        &mut opened.source,
-        steps,
-    );
+    let source = &mut opened.source;
+    explain_refusal(rt, told.name, refusal, manner.telling, source, steps);
     if matches!(refusal, Refusal::StoreFailed) {
         report.concerns_part(rt, opened.source.below())?;
     }
@@ -397,11 +391,16 @@ fn put_each<K: Sink + Drop, L: Ledger, M: Ledger>(
         held: Vec::new(rt.alloc()),
         steps,
     };
-    let worst = judge_all(files, list, &mut judge);
-    let put = judge.end();
-    let worst = worst?;
-    put?;
-    Ok(worst)
+    match judge_all(files, list, &mut judge) {
+        Ok(worst) => {
+            judge.end()?;
+            Ok(worst)
+        }
+        Err(refusal) => {
+            let _ = judge.lines.flush();
+            Err(refusal)
+        }
+    }
 }
 
 // The same, to standard output.

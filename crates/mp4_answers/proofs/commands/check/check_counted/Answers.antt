@@ -37,7 +37,7 @@ returns-in_err-open_movie-clause-work g c = λ told.
 pub returns-clause-work : goal.returns-clause-work
 returns-clause-work g c = λ told.
     let o = c.in_ok-open_movie.ensures.movie told in
-    looked_within _ _ _ c.in_ok-open_movie.field-0 o.0 o.1 ((c.in_ok-open_movie.ensures.work told).work.work o.0 o.1.is_tree)
+    looked_within _ _ _ c.in_ok-open_movie.field-0 o.0 o.1 ((c.in_ok-open_movie.ensures.work told).work o.0 o.1.is_tree)
 
 pub returns-in_err-open_movie-clause-looks : goal.returns-in_err-open_movie-clause-looks
 returns-in_err-open_movie-clause-looks g c = λ told.

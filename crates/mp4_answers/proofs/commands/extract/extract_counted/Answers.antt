@@ -61,12 +61,12 @@ returns-clause-store g c =
 
 pub returns-in_err-movie-clause-work : goal.returns-in_err-movie-clause-work
 returns-in_err-movie-clause-work g c = λ told.
-    not_looked _ _ _ _ _ _ c.in_err-movie.field-0.0 told c.in_err-movie.ensures.refusal (c.in_err-movie.ensures.work told).work.work (c.in_err-movie.ensures.work told).within
+    not_looked _ _ _ _ _ _ c.in_err-movie.field-0.0 told c.in_err-movie.ensures.refusal (c.in_err-movie.ensures.work told).work (c.in_err-movie.ensures.work told).within
 
 pub returns-in_err-track-clause-work : goal.returns-in_err-track-clause-work
 returns-in_err-track-clause-work g c = λ told.
     let o = c.in_ok-movie.ensures.movie told in
-    looked_within _ _ _ c.in_ok-movie.movie o.0 o.1 ((c.in_ok-movie.ensures.work told).work.work o.0 o.1.is_tree)
+    looked_within _ _ _ c.in_ok-movie.movie o.0 o.1 ((c.in_ok-movie.ensures.work told).work o.0 o.1.is_tree)
 
 pub returns-clause-work : goal.returns-clause-work
 returns-clause-work g c = λ told.
@@ -74,7 +74,7 @@ returns-clause-work g c = λ told.
     let o = c.in_ok-movie.ensures.movie told in
     let f = track_found file c.in_ok-movie.movie o.0 c.in_ok-track.track c.args.id o.1 (rw c.tracks.ensures at c.in_ok-track.ensures.within) (rw c.tracks.ensures at c.in_ok-track.ensures.track) in
     let walk = (rw (c.in_ok-movie.ensures.store.honesty, c.in_ok-movie.ensures.store.file) at c.copy_track.ensures.work) told o.0 f.t o.1 f.is_there in
-    walked_within file _ _ c.in_ok-movie.movie o.0 _ c.in_ok-track.track f.t o.1 ((c.in_ok-movie.ensures.work told).work.work o.0 o.1.is_tree) f.is_there walk
+    walked_within file _ _ c.in_ok-movie.movie o.0 _ c.in_ok-track.track f.t o.1 ((c.in_ok-movie.ensures.work told).work o.0 o.1.is_tree) f.is_there walk
 
 pub returns-in_err-movie-clause-least : goal.returns-in_err-movie-clause-least
 returns-in_err-movie-clause-least g c =

@@ -92,27 +92,27 @@ returns-clause-store g c =
 
 pub returns-in_err-movie-clause-work : goal.returns-in_err-movie-clause-work
 returns-in_err-movie-clause-work g c = λ told.
-    not_looked _ _ _ _ _ _ c.in_err-movie.field-0.0 told c.in_err-movie.ensures.refusal (c.in_err-movie.ensures.work told).work.work (c.in_err-movie.ensures.work told).within
+    not_looked _ _ _ _ _ _ c.in_err-movie.field-0.0 told c.in_err-movie.ensures.refusal (c.in_err-movie.ensures.work told).work (c.in_err-movie.ensures.work told).within
 
 pub returns-in_err-track-clause-work : goal.returns-in_err-track-clause-work
 returns-in_err-track-clause-work g c = λ told.
     let o = c.in_ok-movie.ensures.movie told in
-    looked_within _ _ _ c.in_ok-movie.movie o.0 o.1 ((c.in_ok-movie.ensures.work told).work.work o.0 o.1.is_tree)
+    looked_within _ _ _ c.in_ok-movie.movie o.0 o.1 ((c.in_ok-movie.ensures.work told).work o.0 o.1.is_tree)
 
 pub returns-in_err-walk-clause-work : goal.returns-in_err-walk-clause-work
 returns-in_err-walk-clause-work g c = λ told.
     let o = c.in_ok-movie.ensures.movie told in
-    looked_within _ _ _ c.in_ok-movie.movie o.0 o.1 ((c.in_ok-movie.ensures.work told).work.work o.0 o.1.is_tree)
+    looked_within _ _ _ c.in_ok-movie.movie o.0 o.1 ((c.in_ok-movie.ensures.work told).work o.0 o.1.is_tree)
 
 pub returns-in_err-carrier-clause-work : goal.returns-in_err-carrier-clause-work
 returns-in_err-carrier-clause-work g c = λ told.
     let o = c.in_ok-movie.ensures.movie told in
-    looked_within _ _ _ c.in_ok-movie.movie o.0 o.1 ((c.in_ok-movie.ensures.work told).work.work o.0 o.1.is_tree)
+    looked_within _ _ _ c.in_ok-movie.movie o.0 o.1 ((c.in_ok-movie.ensures.work told).work o.0 o.1.is_tree)
 
 pub returns-in_err-carry-clause-work : goal.returns-in_err-carry-clause-work
 returns-in_err-carry-clause-work g c = λ told.
     let o = c.in_ok-movie.ensures.movie told in
-    looked_within _ _ _ c.in_ok-movie.movie o.0 o.1 ((c.in_ok-movie.ensures.work told).work.work o.0 o.1.is_tree)
+    looked_within _ _ _ c.in_ok-movie.movie o.0 o.1 ((c.in_ok-movie.ensures.work told).work o.0 o.1.is_tree)
 
 pub returns-clause-work : goal.returns-clause-work
 returns-clause-work g c = λ told.
@@ -122,7 +122,7 @@ returns-clause-work g c = λ told.
     let may = c.in_ok-walk.ensures.may file o.0 f.t o.1 f.is_there in
     let few = may.2 in
     let walk = (rw (c.in_ok-movie.ensures.store.honesty, c.in_ok-movie.ensures.store.file) at c.put_walk.ensures.work) told o.0 f.t may.0 o.1 may.1 in
-    walked_within file _ _ c.in_ok-movie.movie o.0 _ c.in_ok-track.track f.t o.1 ((c.in_ok-movie.ensures.work told).work.work o.0 o.1.is_tree) f.is_there (omega (arith, few, walk))
+    walked_within file _ _ c.in_ok-movie.movie o.0 _ c.in_ok-track.track f.t o.1 ((c.in_ok-movie.ensures.work told).work o.0 o.1.is_tree) f.is_there (omega (arith, few, walk))
 
 pub returns-in_err-movie-clause-least : goal.returns-in_err-movie-clause-least
 returns-in_err-movie-clause-least g c =
