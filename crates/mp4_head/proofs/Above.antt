@@ -8,11 +8,9 @@ use Rattle.mp4_boxes.specs.format.BoxFaults.{IsChildFault}
 use Rattle.mp4_boxes.specs.declared.rule.Rule.{Rule}
 use Rattle.mp4_boxes.specs.declared.rule.Rule.TheVariants as rules
 use Rattle.mp4_boxes.specs.declared.fault.Fault.{Fault}
-use Rattle.mp4_boxes.specs.declared.refusal.Refusal.{Refusal}
-use Rattle.mp4_boxes.specs.declared.refusal.Refusal.TheVariants as refusals
 use Rattle.mp4_head.specs.format.HeadFaults.{IsTakenId, is_table, HeadStands, HeaderStands, ChildStands, MissingStands, LeafStands}
 use Rattle.mp4_head.specs.words.Leaves.{IsFaultOf}
-use Rattle.mp4_head.specs.words.Refuses.{RefusesLeaf, RefusesIn, place_of}
+use Rattle.mp4_head.specs.words.Refuses.{place_of}
 
 -- ---- where boxes stand
 
@@ -89,24 +87,6 @@ leaf_here place before b leaf f s l n h =
     inr (inr (inr (inl (record { fault = record { place = place; before = before; b = b; stands = here place before b s; leaf = leaf; read = l; kind = h.kind; fails = h.fails; named = h.named }; no_table = n }))))
 
 -- ---- refusals
-
--- a leaf refuses
-pub refuses_leaf : (place : Place) (before : List Box) (b : Box) (leaf : Leaf) (r : Refusal) → StandsAfter place.container before b → leaf_of place.scope b.kind ≡ Some leaf → is_table leaf ≡ false → RefusesLeaf leaf b r → RefusesIn place r
-refuses_leaf place before b leaf (refusals.Fault f) s l n h = leaf_here place before b leaf f s l n h
-refuses_leaf place before b leaf refusals.Memory s l n h = tt
-refuses_leaf place before b leaf refusals.StoreFailed s l n h = h
-refuses_leaf place before b leaf refusals.StoreChanged s l n h = h
-refuses_leaf place before b leaf refusals.WriteFailed s l n h = h
-refuses_leaf place before b leaf refusals.NoSuchTrack s l n h = h
-
--- a container in it does
-pub refuses_above : (from next : Place) (before : List Box) (b : Box) (r : Refusal) → StandsAfter from.container before b → inside from b ≡ Some next → RefusesIn next r → RefusesIn from r
-refuses_above from next before b (refusals.Fault f) s i h = head_above from next before b f s i h
-refuses_above from next before b refusals.Memory s i h = tt
-refuses_above from next before b refusals.StoreFailed s i h = h
-refuses_above from next before b refusals.StoreChanged s i h = h
-refuses_above from next before b refusals.WriteFailed s i h = h
-refuses_above from next before b refusals.NoSuchTrack s i h = h
 
 -- ---- with tables
 

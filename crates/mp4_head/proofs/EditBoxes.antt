@@ -6,13 +6,10 @@ use Rattle.mp4_boxes.specs.format.Children.{Holds, payload_if}
 use Rattle.mp4_boxes.specs.format.Layout.{elst, IsSound}
 use Rattle.mp4_boxes.specs.format.Places.{ruled, AreSound}
 use Rattle.mp4_boxes.specs.declared.rule.Rule.TheVariants as rules
-use Rattle.mp4_boxes.specs.declared.refusal.Refusal.{Refusal}
 use Rattle.mp4_boxes.proofs.Refusing.{holds_few}
 use Rattle.mp4_head.specs.format.Head as heads
 use Rattle.mp4_head.specs.format.Tree.{edits_of}
 use Rattle.mp4_head.specs.words.Containers.{SaysEdits}
-use Rattle.mp4_head.specs.words.Refuses.{RefusesLeaf, RefusesIn, place_of}
-use Rattle.mp4_head.proofs.Above.{stands_of, refuses_leaf}
 use Rattle.mp4_head.proofs.Walks.{Walk, walk_none, walk_more, walk_here, walk_all, none_before, payload_other, payload_this, sound_more}
 
 -- what was read of the boxes that were passed
@@ -54,9 +51,3 @@ edits_all b all left edits h p e =
       sound = subst (λ (bs : List Box). AreSound (ruled rules.Edits) bs) (sym same) p.sound;
       says = p.says ∙ ap (λ (bs : List Box). edits_of (payload_if (codes "elst") bs)) (sym same);
     }
-
--- the `elst` in hand refuses
-pub edits_refuse : (b : Box) (all left later : List Box) (child : Box) (edits : List heads.Edit) (r : Refusal) → Holds rules.Edits (box_container b) all → EditsPassed all left edits → left ≡ child ∷ later
-    → bytes_eq (codes "elst") child.kind ≡ true → RefusesLeaf elst child r → RefusesIn (place_of (ruled rules.Edits) b) r
-edits_refuse b all left later child edits r h p e k q =
-    refuses_leaf (place_of (ruled rules.Edits) b) p.walk.passed child elst r (stands_of b all p.walk.passed later child h.tiles (walk_here all left later child p.walk e)) (rw k refl) refl q

@@ -9,18 +9,13 @@ use Rattle.mp4_boxes.specs.format.Children.{Holds, of_kind}
 use Rattle.mp4_boxes.specs.format.Layout.{trex, IsSound}
 use Rattle.mp4_boxes.specs.format.Places.{ruled, AreSound}
 use Rattle.mp4_boxes.specs.declared.rule.Rule.TheVariants as kinds
-use Rattle.mp4_boxes.specs.declared.fault.Fault.{Fault}
-use Rattle.mp4_boxes.specs.declared.refusal.Refusal.TheVariants as refusals
 use Rattle.mp4_frag.specs.declared.trex.Trex.{Trex}
 use Rattle.mp4_frag.specs.format.Fragments.{trex_of}
 use Rattle.mp4_head.specs.format.Tree.{are_distinct}
 use Rattle.mp4_head.specs.words.Containers.{SaysExtends}
 use Rattle.mp4_head.specs.words.Ids.{HasIds, AddsId}
-use Rattle.mp4_head.specs.words.Leaves.{IsFaultOf}
-use Rattle.mp4_head.specs.words.Refuses.{RefusesIn, place_of}
-use Rattle.mp4_head.proofs.Above.{stands_of, leaf_here}
 use Rattle.mp4_head.proofs.Taken.{no_ids, more_ids, distinct_more}
-use Rattle.mp4_head.proofs.Walks.{Walk, walk_none, walk_more, walk_here, walk_all, sound_more, of_kind_this, of_kind_other}
+use Rattle.mp4_head.proofs.Walks.{Walk, walk_none, walk_more, walk_all, sound_more, of_kind_this, of_kind_other}
 
 -- what was read of the boxes that were passed
 pub record ExtendsPassed (all left : List Box) (trexes : List Trex) (ids : BTreeSet ℕ) : Type 0 where
@@ -73,9 +68,3 @@ extends_all b all left trexes ids h p e =
       says = p.says ∙ ap (λ (bs : List Box). map (λ (c : Box). trex_of c.payload) (of_kind (codes "trex") bs)) (sym same);
       distinct = p.distinct;
     }
-
--- the `trex` in hand is at fault
-pub extends_refuse : (b : Box) (all left later : List Box) (child : Box) (trexes : List Trex) (ids : BTreeSet ℕ) (f : Fault) → Holds kinds.MovieExtends (box_container b) all → ExtendsPassed all left trexes ids → left ≡ child ∷ later
-    → bytes_eq (codes "trex") child.kind ≡ true → IsFaultOf trex child f → RefusesIn (place_of (ruled kinds.MovieExtends) b) (refusals.Fault f)
-extends_refuse b all left later child trexes ids f h p e k q =
-    leaf_here (place_of (ruled kinds.MovieExtends) b) p.walk.passed child trex f (stands_of b all p.walk.passed later child h.tiles (walk_here all left later child p.walk e)) (rw k refl) refl q

@@ -1,43 +1,35 @@
 -- The boxes of a `moov`, one after the other.
-use Rattle.std.proofs.Common.{◌≡◌, ℕ, ◌+◌, inl, inr, true, false, List, [], ◌∷◌, ◌++◌, map, Option, Some, None, refl, sym, ap, subst, ◌∙◌, arith}
-use Rattle.std.specs.Prelude.{codes, bytes_eq, nat_eq, slice_index}
+use Rattle.std.proofs.Common.{◌≡◌, ℕ, ◌+◌, true, false, List, [], ◌∷◌, ◌++◌, map, Option, Some, None, refl, sym, ap, subst, ◌∙◌, arith}
+use Rattle.std.specs.Prelude.{codes, bytes_eq, nat_eq}
 use Rattle.std.specs.List.{AllByRecursion, AllZip, list_any}
 use Rattle.std.specs.BTreeSet.{BTreeSet, IsEmpty}
 use Rattle.std.proofs.lemmas.List.{map-append}
 use Rattle.mp4_boxes.specs.format.Box.{Box, box_container, StandsAfter}
-use Rattle.mp4_boxes.specs.format.BoxFaults.{fault_of}
 use Rattle.mp4_boxes.specs.format.Children.{Holds, of_kind, is_among, kept_kinds}
-use Rattle.mp4_boxes.specs.format.Layout.{mvhd, tkhd, leaf_fields, IsSound}
-use Rattle.mp4_boxes.specs.format.Places.{ruled, AreSound, IsSoundAs, leaf_of, inside}
+use Rattle.mp4_boxes.specs.format.Layout.{mvhd, IsSound}
+use Rattle.mp4_boxes.specs.format.Places.{ruled, AreSound}
 use Rattle.mp4_boxes.specs.words.View.{box_seen}
 use Rattle.mp4_boxes.specs.declared.rule.Rule.TheVariants as kinds
-use Rattle.mp4_boxes.specs.declared.refusal.Refusal.{Refusal}
-use Rattle.mp4_boxes.specs.declared.refusal.Refusal.TheVariants as refusals
-use Rattle.mp4_boxes.specs.declared.fault.Fault.{Fault}
-use Rattle.mp4_boxes.specs.declared.fault.Kind.TheVariants.{ItemLocation}
-use Rattle.mp4_boxes.proofs.Among.{all_at, all_in}
 use Rattle.mp4_boxes.proofs.Refusing.{holds_only, holds_few}
 use Rattle.mp4_boxes.proofs.Sound.{same_kind}
 use Rattle.mp4_frag.specs.declared.trex.Trex.{Trex}
 use Rattle.mp4_frag.specs.format.Fragments.{trex_of}
 use Rattle.mp4_head.specs.format.Head as heads
 use Rattle.mp4_head.specs.format.Head.{names_item_location}
-use Rattle.mp4_head.specs.format.Tree.{first_of, TrackTree, IsTrackTree, IsSoundTrack, HoldsIfThere, are_distinct, track_head_of, movie_head_of, stbl_of}
+use Rattle.mp4_head.specs.format.Tree.{TrackTree, IsTrackTree, IsSoundTrack, HoldsIfThere, are_distinct, track_head_of, movie_head_of, stbl_of}
 use Rattle.mp4_head.specs.words.Seen.{track_seen, movie_seen}
 use Rattle.mp4_head.specs.declared.movie_header.MovieHeader.{MovieHeader}
 use Rattle.mp4_head.specs.declared.heads.TrackHead.{TrackHead}
 use Rattle.mp4_head.specs.declared.heads.MovieHead.{MovieHead}
 use Rattle.mp4_head.specs.words.Containers.{SaysExtends, kept_of}
 use Rattle.mp4_head.specs.words.Found.{LiesIn, HasTrackHead, IsFoundIn, SaysHead, movie_joined}
-use Rattle.mp4_head.specs.format.HeadFaults.{IsTakenId}
-use Rattle.mp4_head.specs.words.Ids.{HasIds, AddsId, MeetsId, RefusesTrack}
-use Rattle.mp4_head.specs.words.Leaves.{IsFaultOf, SaysMovie}
-use Rattle.mp4_head.specs.words.Refuses.{RefusesIn, place_of}
-use Rattle.mp4_head.proofs.Above.{stands_of, here, leaf_here, head_above, refuses_above}
+use Rattle.mp4_head.specs.words.Ids.{HasIds, AddsId}
+use Rattle.mp4_head.specs.words.Leaves.{SaysMovie}
+use Rattle.mp4_head.proofs.Above.{stands_of}
 use Rattle.mp4_head.proofs.Distinct.{payload_first, map_twice}
-use Rattle.mp4_head.proofs.Inside.{LiesAt, all_lie, tiles_lie, stands_before, first_is, stbls_lie}
+use Rattle.mp4_head.proofs.Inside.{stbls_lie}
 use Rattle.mp4_head.proofs.KeptWalks.{KeptPassed, keeps_none, keeps_this, keeps_other, keeps_all, another, ReadIf, not_there, was_there, if_other, if_this, holds_there, holds_none}
-use Rattle.mp4_head.proofs.Taken.{no_ids, more_ids, distinct_more, whose}
+use Rattle.mp4_head.proofs.Taken.{no_ids, more_ids, distinct_more}
 use Rattle.mp4_head.proofs.Walks.{Walk, walk_none, walk_more, walk_here, walk_all, none_before, sound_more, of_kind_this, of_kind_other, FirstRead, not_yet, was_read, first_other, first_this, first_read, first_missing}
 
 -- what is said of an `mvhd` and of a `trak`
@@ -163,67 +155,6 @@ module _ (b : Box) (all left later : List Box) (child : Box) (header : Option Mo
     met = p.met;
     extends_are = if_other SaysExtends (codes "mvex") [] p.walk.passed child trexes n3 p.extends_are;
   }
-
-  -- the `mvhd` in hand is at fault
-  pub header_refuse : (f : Fault) → bytes_eq (codes "mvhd") child.kind ≡ true → IsFaultOf mvhd child f → RefusesIn (place_of (ruled kinds.Movie) b) (refusals.Fault f)
-  header_refuse f k q = leaf_here (place_of (ruled kinds.Movie) b) p.walk.passed child mvhd f stands (rw k refl) refl q
-
-  -- the box that is to be kept names file offsets of items
-  pub kept_refuse : (f : Fault) → is_among (kept_kinds kinds.Movie) child.kind ≡ true → names_item_location child.payload ≡ true → f ≡ fault_of ItemLocation child → RefusesIn (place_of (ruled kinds.Movie) b) (refusals.Fault f)
-  kept_refuse f k names named =
-      inr (inr (inr (inr (inr (inr (inr (record { place = place_of (ruled kinds.Movie) b; before = p.walk.passed; b = child; stands = here (place_of (ruled kinds.Movie) b) p.walk.passed child stands; kept = inl (refl, k); names = names; named = named })))))))
-
-  -- the `mvex` in hand refuses
-  pub extends_refuse : (r : Refusal) → bytes_eq (codes "mvex") child.kind ≡ true → RefusesIn (place_of (ruled kinds.MovieExtends) child) r → RefusesIn (place_of (ruled kinds.Movie) b) r
-  extends_refuse r k q = refuses_above (place_of (ruled kinds.Movie) b) (place_of (ruled kinds.MovieExtends) child) p.walk.passed child r stands (rw (same_kind (codes "mvex") child.kind k) refl) q
-
-  -- the `tkhd` in the `trak` in hand has an ID that one before it has
-  taken : (f : Fault) → bytes_eq (codes "trak") child.kind ≡ true → MeetsId ids child f → IsTakenId (place_of (ruled kinds.Movie) b) tkhd 4 f
-  taken f k q =
-      let here_is : inside (place_of (ruled kinds.Movie) b) child ≡ Some (place_of (ruled kinds.Track) child) = rw k refl in
-      let n = slice_index (leaf_fields tkhd q.b.payload) 4 in
-      let o = whose IsTrack (λ (t : TrackHead). t.id) (codes "trak") p.walk.passed tracks n p.tracks_are (sym (p.met n) ∙ q.met.met) in
-      let trak = o.b in
-      let found = o.goes.says in
-      let tree = found.tree in
-      let there_is : inside (place_of (ruled kinds.Movie) b) trak ≡ Some (place_of (ruled kinds.Track) trak) = rw o.is_kind refl in
-      let before = stands_before b all p.walk.passed later child trak h.tiles split o.among in
-      let track = subst (λ (x : Box). Holds kinds.Track (box_container x) tree.track) found.is_trak found.is_tree.track in
-      let one = holds_only track (codes "tkhd") refl in
-      let first = first_is (codes "tkhd") tree.track one in
-      let earlier = first_of (codes "tkhd") tree.track in
-      let lies = all_in (LiesAt (trak.offset + trak.header) trak.payload) tree.track earlier first.0 (tiles_lie trak tree.track track.tiles) in
-      let sound : IsSound tkhd earlier.payload = rw first.1 at (all_in (λ (x : Box). IsSoundAs (leaf_of (ruled kinds.Track) x.kind) x.payload) tree.track earlier first.0 found.is_sound.track) in
-      let mine = all_at (LiesAt (child.offset + child.header) child.payload) q.before [] q.b (all_lie (child.offset + child.header) child.payload (q.before ++ q.b ∷ []) q.stands.0) in
-      let number : slice_index (leaf_fields tkhd earlier.payload) 4 ≡ n =
-      ap (λ (payload : List ℕ). slice_index (leaf_fields tkhd payload) 4) (sym (payload_first (codes "tkhd") tree.track)) ∙ sym (ap (λ (t : heads.TrackHead). t.id) found.says) ∙ o.number in
-      record {
-        place = place_of (ruled kinds.Track) child;
-        before = q.before;
-        b = q.b;
-        stands = record { reaches = (child ∷ [], (p.walk.passed, stands, place_of (ruled kinds.Track) child, here_is, refl)); after = q.stands };
-        leaf_is = rw q.is_header refl;
-        readable = q.met.sound.readable;
-        earlier_place = place_of (ruled kinds.Track) trak;
-        earlier_before = first.0.before;
-        earlier = earlier;
-        earlier_stands = record { reaches = (trak ∷ [], (before.before, before.stands, place_of (ruled kinds.Track) trak, there_is, refl)); after = stands_of trak tree.track first.0.before first.0.after earlier track.tiles first.0.is };
-        earlier_leaf_is = rw first.1 refl;
-        earlier_readable = sound.readable;
-        order = omega (arith, before.order, lies.ends, lies.header, mine.begins);
-        same_id = sym number;
-        named = q.met.named;
-      }
-
-  -- the `trak` in hand refuses
-  pub track_refuse : (r : Refusal) → bytes_eq (codes "trak") child.kind ≡ true → RefusesTrack ids child r → RefusesIn (place_of (ruled kinds.Movie) b) r
-  track_refuse (refusals.Fault f) k (inl q) = head_above (place_of (ruled kinds.Movie) b) (place_of (ruled kinds.Track) child) p.walk.passed child f stands (rw k refl) q
-  track_refuse (refusals.Fault f) k (inr q) = inr (inr (inr (inr (inl (taken f k q)))))
-  track_refuse refusals.Memory k q = tt
-  track_refuse refusals.StoreFailed k q = q
-  track_refuse refusals.StoreChanged k q = q
-  track_refuse refusals.WriteFailed k q = q
-  track_refuse refusals.NoSuchTrack k q = q
 
 -- ---- the whole `moov`
 

@@ -1,18 +1,13 @@
 -- The boxes of a `trak`, one after the other.
-use Rattle.std.proofs.Common.{◌≡◌, ℕ, inl, inr, true, false, List, [], ◌∷◌, ◌++◌, map, Option, Some, None, refl, sym, subst, ◌∙◌, arith}
+use Rattle.std.proofs.Common.{◌≡◌, ℕ, true, false, List, [], ◌∷◌, ◌++◌, map, Option, Some, None, refl, sym, subst, ◌∙◌, arith}
 use Rattle.std.specs.Prelude.{codes, bytes_eq}
 use Rattle.std.specs.BTreeSet.{BTreeSet}
 use Rattle.mp4_boxes.specs.format.Box.{Box, box_container, StandsAfter}
-use Rattle.mp4_boxes.specs.format.BoxFaults.{fault_of}
 use Rattle.mp4_boxes.specs.format.Children.{Holds, of_kind, is_among, payload_if, kept_kinds}
 use Rattle.mp4_boxes.specs.format.Layout.{tkhd, stsd, IsSound}
 use Rattle.mp4_boxes.specs.format.Places.{ruled, AreSound}
 use Rattle.mp4_boxes.specs.words.View.{box_seen}
 use Rattle.mp4_boxes.specs.declared.rule.Rule.TheVariants as kinds
-use Rattle.mp4_boxes.specs.declared.refusal.Refusal.{Refusal}
-use Rattle.mp4_boxes.specs.declared.refusal.Refusal.TheVariants as refusals
-use Rattle.mp4_boxes.specs.declared.fault.Fault.{Fault}
-use Rattle.mp4_boxes.specs.declared.fault.Kind.TheVariants.{ItemLocation}
 use Rattle.mp4_boxes.proofs.Refusing.{holds_only, holds_few}
 use Rattle.mp4_boxes.proofs.Sound.{same_kind}
 use Rattle.mp4_head.specs.format.Head as heads
@@ -23,10 +18,9 @@ use Rattle.mp4_head.specs.declared.track_header.TrackHeader.{TrackHeader}
 use Rattle.mp4_head.specs.declared.media_boxes.MediaParts.{MediaParts}
 use Rattle.mp4_head.specs.words.Containers.{SaysEdits, SaysMediaBoxes, kept_of}
 use Rattle.mp4_head.specs.words.Found.{track_joined, HasTrackHead}
-use Rattle.mp4_head.specs.words.Ids.{AddsId, IsMet, RefusesTrackHeader, RefusesTrack}
+use Rattle.mp4_head.specs.words.Ids.{AddsId}
 use Rattle.mp4_head.specs.words.Leaves.{SaysTrack, SaysMedia}
-use Rattle.mp4_head.specs.words.Refuses.{RefusesIn, place_of}
-use Rattle.mp4_head.proofs.Above.{stands_of, here, leaf_here, refuses_above}
+use Rattle.mp4_head.proofs.Above.{stands_of}
 use Rattle.mp4_head.proofs.Distinct.{payload_first}
 use Rattle.mp4_head.proofs.KeptWalks.{KeptPassed, keeps_none, keeps_this, keeps_other, keeps_all, another, ReadIf, not_there, was_there, if_other, if_this, still_none, holds_there, holds_none}
 use Rattle.mp4_head.proofs.Walks.{Walk, walk_none, walk_more, walk_here, walk_all, none_before, sound_more, FirstRead, not_yet, was_read, first_other, first_this, first_read, first_missing}
@@ -60,15 +54,6 @@ track_none old all = record { walk = walk_none all; sound = tt; header_says = no
 unchanged : (old ids : BTreeSet ℕ) (header : Option (TrackHeader × ℕ)) → header ≡ None → IdsAfter old ids header → ids ≡ old
 unchanged old ids None e (as_before same) = same
 unchanged old ids (Some x) e i = absurd cc
-
--- what stands in the `trak` refuses it
-pub track_stands : (ids : BTreeSet ℕ) (b : Box) (r : Refusal) → RefusesIn (place_of (ruled kinds.Track) b) r → RefusesTrack ids b r
-track_stands ids b (refusals.Fault f) q = inl q
-track_stands ids b refusals.Memory q = tt
-track_stands ids b refusals.StoreFailed q = q
-track_stands ids b refusals.StoreChanged q = q
-track_stands ids b refusals.WriteFailed q = q
-track_stands ids b refusals.NoSuchTrack q = q
 
 module _ (b : Box) (old : BTreeSet ℕ) (all left later : List Box) (child : Box) (ids : BTreeSet ℕ) (header : Option (TrackHeader × ℕ)) (edits : List heads.Edit) (kept : List heads.Kept) (media : Option MediaParts)
     (h : Holds kinds.Track (box_container b) all) (p : TrackPassed old all left ids header edits kept media) (e : left ≡ child ∷ later) where
@@ -157,28 +142,6 @@ module _ (b : Box) (old : BTreeSet ℕ) (all left later : List Box) (child : Box
     kept_are = keeps_other (kept_kinds kinds.Track) p.walk.passed child kept p.kept_are n2;
     media_is = first_other IsMedia (codes "mdia") p.walk.passed child media n3 p.media_is;
   }
-
-  -- the `tkhd` in hand refuses
-  pub header_refuse : (r : Refusal) → bytes_eq (codes "tkhd") child.kind ≡ true → RefusesTrackHeader ids child r → RefusesTrack old b r
-  header_refuse (refusals.Fault f) k (inl q) = inl (leaf_here (place_of (ruled kinds.Track) b) p.walk.passed child tkhd f stands (rw k refl) refl q)
-  header_refuse (refusals.Fault f) k (inr q) = inr (record { before = p.walk.passed; b = child; stands = stands; is_header = k; met = subst (λ (s : BTreeSet ℕ). IsMet s child f) (ids_before k) q })
-  header_refuse refusals.Memory k q = tt
-  header_refuse refusals.StoreFailed k q = q
-  header_refuse refusals.StoreChanged k q = q
-  header_refuse refusals.WriteFailed k q = q
-  header_refuse refusals.NoSuchTrack k q = q
-
-  -- the box that is to be kept names file offsets of items
-  pub kept_refuse : (f : Fault) → is_among (kept_kinds kinds.Track) child.kind ≡ true → names_item_location child.payload ≡ true → f ≡ fault_of ItemLocation child → RefusesTrack old b (refusals.Fault f)
-  kept_refuse f k names named =
-      inl (inr (inr (inr (inr (inr (inr (inr (record { place = place_of (ruled kinds.Track) b; before = p.walk.passed; b = child; stands = here (place_of (ruled kinds.Track) b) p.walk.passed child stands; kept = inr (refl, k); names = names; named = named }))))))))
-
-  -- a container in hand refuses
-  pub edits_refuse : (r : Refusal) → bytes_eq (codes "edts") child.kind ≡ true → RefusesIn (place_of (ruled kinds.Edits) child) r → RefusesTrack old b r
-  edits_refuse r k q = track_stands old b r (refuses_above (place_of (ruled kinds.Track) b) (place_of (ruled kinds.Edits) child) p.walk.passed child r stands (rw k refl) q)
-
-  pub media_refuse : (r : Refusal) → bytes_eq (codes "mdia") child.kind ≡ true → RefusesIn (place_of (ruled kinds.Media) child) r → RefusesTrack old b r
-  media_refuse r k q = track_stands old b r (refuses_above (place_of (ruled kinds.Track) b) (place_of (ruled kinds.Media) child) p.walk.passed child r stands (rw (same_kind (codes "mdia") child.kind k) refl) q)
 
 -- ---- the whole `trak`
 
