@@ -50,7 +50,8 @@ pub fn say_counted(
     say(text, end)
 }
 
-fn say_signed(text: &mut Vec<u8>, number: i64) -> Result<(), AllocError>
+/// Adds a number that may be negative.
+pub(crate) fn say_signed(text: &mut Vec<u8>, number: i64) -> Result<(), AllocError>
     ensures { OnOk result (text.new.items ≡ text.old.items ++ signed_decimal number) }
 {
     if number < 0 {

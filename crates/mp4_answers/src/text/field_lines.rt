@@ -8,9 +8,9 @@ ghost use Rattle.mp4_answers.specs.format.Texts.{hex_text};
 ghost use Rattle.mp4_answers.specs.words.LayoutsSeen.{field_seen, fields_seen};
 
 use crate::layouts::{Field, FieldKind, Head};
-use crate::text::digits::{hex_digit, write_digits};
+use crate::text::difference_lines::{say_number, say_signed};
+use crate::text::digits::hex_digit;
 use crate::text::json_text::push_printable;
-use crate::text::named_lines::write_signed;
 use crate::text::type_names::is_text;
 use byteorder::{BigEndian, ByteOrder};
 use mp4_boxes::i32_at;
@@ -35,26 +35,8 @@ pub(crate) fn push_levels(text: &mut Vec<u8>, levels: u8) -> Result<(), AllocErr
     Ok(())
 }
 
-// Adds a number.
-pub(crate) fn push_number(text: &mut Vec<u8>, number: u64) -> Result<(), AllocError>
-    ensures { OnOk result (text.new.items ≡ text.old.items ++ decimal number) }
-{
-    let mut digits = [0; 20];
-    let start = write_digits(&mut digits, 20, number);
-    text.extend_from_slice(&digits[start..])
-}
-
-// Adds a number that may be negative.
-fn push_signed(text: &mut Vec<u8>, number: i64) -> Result<(), AllocError>
-    ensures { OnOk result (text.new.items ≡ text.old.items ++ signed_decimal number) }
-{
-    let mut digits = [0; 21];
-    let start = write_signed(&mut digits, 21, number);
-    text.extend_from_slice(&digits[start..])
-}
-
-// Adds bytes in two hexadecimal digits each.
-fn push_hex(text: &mut Vec<u8>, bytes: &[u8]) -> Result<(), AllocError>
+/// Adds bytes in two hexadecimal digits each.
+pub(crate) fn push_hex(text: &mut Vec<u8>, bytes: &[u8]) -> Result<(), AllocError>
     ensures { OnOk result (text.new.items ≡ text.old.items ++ hex_text bytes.now) }
 {
     for byte in bytes {
@@ -157,7 +139,7 @@ fn push_next(text: &mut Vec<u8>, spot: Spot, before: usize, bytes: &[u8]) -> Res
         ++ signed_decimal (signed_field bytes.now (4 * before) 4))) }
 {
     push_apart(text, spot, before)?;
-    push_signed(text, i64::from(i32_at(bytes, 4 * before)))
+    say_signed(text, i64::from(i32_at(bytes, 4 * before)))
 }
 
 // Adds so many numbers of four bytes each.
@@ -222,11 +204,11 @@ fn push_value(
     let size = bytes.len().min(8);
     match kind {
         FieldKind::Offset if head.version > 0 => {
-            push_signed(text, BigEndian::read_int(bytes, size))
+            say_signed(text, BigEndian::read_int(bytes, size))
         }
-        FieldKind::Signed => push_signed(text, BigEndian::read_int(bytes, size)),
+        FieldKind::Signed => say_signed(text, BigEndian::read_int(bytes, size)),
         FieldKind::Number | FieldKind::Offset => {
-            push_number(text, BigEndian::read_uint(bytes, size))
+            say_number(text, BigEndian::read_uint(bytes, size))
         }
         FieldKind::Hex => push_digits(text, spot, bytes),
         FieldKind::Code => push_type(text, spot, bytes),
@@ -290,7 +272,7 @@ pub(crate) fn push_count(
         ≡ text.old.items ++ named_text spot (name.now ++ more.now) (decimal number)) }
 {
     push_name(text, spot, name, more)?;
-    push_number(text, number)?;
+    say_number(text, number)?;
     push_end(text, spot)
 }
 
@@ -341,7 +323,7 @@ pub(crate) fn push_row(
         Spot::Line(levels) => {
             push_levels(text, levels)?;
             text.extend_from_slice(b"row ")?;
-            push_number(text, number)?;
+            say_number(text, number)?;
             text.push(b':')?;
             push_fields(text, Spot::Cell, head, columns, bytes)?;
             text.extend_from_slice(b"\n")
@@ -351,7 +333,7 @@ pub(crate) fn push_row(
                 text.push(b',')?;
             }
             text.extend_from_slice(b"{\"row\":")?;
-            push_number(text, number)?;
+            say_number(text, number)?;
             push_fields(text, Spot::Member, head, columns, bytes)?;
             text.extend_from_slice(b"}")
         }
@@ -398,7 +380,7 @@ fn push_payload(text: &mut Vec<u8>, len: u64) -> Result<(), AllocError>
         ≡ text.old.items ++ codes ",\"fields\":{\"bytes\":" ++ decimal len) }
 {
     text.extend_from_slice(b",\"fields\":{\"bytes\":")?;
-    push_number(text, len)
+    say_number(text, len)
 }
 
 /// Adds what stands before the fields of a box with a payload of so many bytes.

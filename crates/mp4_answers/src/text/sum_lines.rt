@@ -9,7 +9,7 @@ ghost use Rattle.mp4_answers.specs.format.Texts.{hex_text, line_feed};
 use crate::digests::DIGEST;
 use crate::text::cutting::{byte_of, cut};
 use crate::text::difference_lines::{say_counted, say_number};
-use crate::text::digits::hex_digit;
+use crate::text::field_lines::push_hex;
 use crate::text::json_text::name_json;
 use crate::text::plain_names::push_plain;
 use crate::text::tally::say_words;
@@ -29,17 +29,6 @@ const BYTES: &[u8] = b"# mp4norm sum: bytes of files without a normal form";
 
 /// How many digits a digest has.
 const DIGITS: usize = 2 * DIGEST;
-
-// Adds the digits of a digest.
-fn push_digest(text: &mut Vec<u8>, digest: &[u8; DIGEST]) -> Result<(), AllocError>
-    ensures { OnOk result (text.new.items ≡ text.old.items ++ hex_text digest.now) }
-{
-    for byte in digest {
-        text.push(hex_digit(*byte >> 4))?;
-        text.push(hex_digit(*byte & 15))?;
-    }
-    Ok(())
-}
 
 /// The line that says of which normal form, and of what is left of files, the sums behind it are.
 pub fn header_line(alloc: Global, leaving: Without) -> Result<Vec<u8>, AllocError>
@@ -140,7 +129,7 @@ fn push_sum(
     if is_escaped {
         line.push(b'\\')?;
     }
-    push_digest(line, digest)?;
+    push_hex(line, digest)?;
     line.extend_from_slice(b"  ")?;
     if is_escaped {
         push_escaped(line, name)?;
@@ -178,7 +167,7 @@ pub fn sum_object(
     line.extend_from_slice(b"{\"file\":")?;
     line.extend_from_slice(name_json(alloc, name)?.as_slice())?;
     line.extend_from_slice(b",\"sha256\":\"")?;
-    push_digest(&mut line, digest)?;
+    push_hex(&mut line, digest)?;
     line.extend_from_slice(b"\",\"status\":0}")?;
     line.push(end)?;
     Ok(line)

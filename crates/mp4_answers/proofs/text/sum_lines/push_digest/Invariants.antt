@@ -1,7 +1,0 @@
-use Rattle.std.proofs.Common.{◌≡◌, ◌++◌, take}
-use Rattle.mp4_answers.specs.format.Texts.{hex_text}
-use Rattle.mp4_answers.proofs.text.sum_lines.push_digest.Given as goal
-
--- those so far are added
-abbrev pub invariant-loop-byte : goal.invariant-loop-byte
-invariant-loop-byte l = l.text.items ≡ l.fn.text.items ++ hex_text (take l.byte-index l.digest)
