@@ -116,17 +116,19 @@ fn open_and_answer<'a, L: Ledger, M: Ledger>(
     report: &mut Report<'a>,
 ) -> Result<(), Refusal> {
     let mut opened = opened_for(rt, &job, order, report)?;
-    let source = &mut opened.source;
-    let answer = match (&opened.freed, job) {
-        (Err(refusal), _) => Err(*refusal),
-        (Ok(_), Job::Strip { names }) => strip_and_tell(rt, names, source, order, steps, report),
-        (Ok(_), job) => write_to(rt, job, source, order, steps, report),
+    let answer = match (opened.readable(), job) {
+        (Err(refusal), _) => Err(refusal),
+        (Ok(()), Job::Strip { names }) => {
+            strip_and_tell(rt, names, &mut opened.source, order, steps, report)
+        }
+        (Ok(()), job) => write_to(rt, job, &mut opened.source, order, steps, report),
     };
     report.end();
     let Err(refusal) = &answer else {
         opened.tell(rt);
         return answer;
     };
+    let source = &mut opened.source;
     explain_refusal(rt, None, refusal, order.telling, source, steps);
     if matches!(refusal, Refusal::StoreFailed) {
         report.concerns_part(rt, opened.source.below())?;
