@@ -1,8 +1,9 @@
 //! The walks over all tracks of a movie, and the first sample of each.
-ghost use Rattle.std.specs.Prelude.{◌≡◌, ◌-◌, ◌<◌, ◌≤◌, List, length, Some, IfOk, IfErr, OnOk};
+ghost use Rattle.std.specs.Prelude.{◌≡◌, ◌-◌, ◌<◌, List, length, Some, IfOk, IfErr, OnOk};
 ghost use Rattle.mp4_boxes.specs.declared.refusal.Refusal.TheVariants as refusals;
 ghost use Rattle.mp4_tables.specs.declared.sample.SampleAt.{SampleAt};
 ghost use Rattle.mp4_present.specs.words.StoresRead.{IsUnchanged, OnlyReads, Refused};
+ghost use Rattle.mp4_plan.specs.words.WriterSteps.{OnlyPasses};
 ghost use Rattle.mp4_plan.specs.words.WriterWalks.{AllComeLess, AllStart, HaveRooms, StepsOfAll, StepsToWrite, WhereAllCome};
 ghost use Rattle.mp4_plan.specs.words.MadeWriters.{AreWalksStill};
 ghost use Rattle.mp4_present.specs.declared.walking.Walk.{Walk};
@@ -42,8 +43,8 @@ pub(crate) fn peek_each<S: Store, L: Ledger, M: Ledger>(
     steps: &mut Steps<L, M>,
 ) -> Result<(), Refusal>
     requires walks { AreWalksOf movie.now walks.old }
-    requires nexts { length nexts.old ≡ length walks.old }
-    requires content { length content.now.of_tracks.items ≡ length walks.old }
+    requires many { (length nexts.old ≡ length walks.old)
+        × (length content.now.of_tracks.items ≡ length walks.old) }
     ensures walks { AreWalksStill movie.now walks.old walks.new result }
     ensures store { OnlyReads S.Store store.old store.new result }
     ensures shown { WhereAllCome S.Store store.old movie.now content.now walks.old
@@ -54,12 +55,12 @@ pub(crate) fn peek_each<S: Store, L: Ledger, M: Ledger>(
     ensures unchanged { WhereAllCome S.Store store.old movie.now content.now walks.old
         (λ file tree lefts. IsUnchanged result) }
     ensures refusal { Refused S.Store store.old store.new result RefusesLoad }
-    ensures grows { OnOk result (steps.old.passed ≤ steps.new.passed) }
     ensures work { StepsOfAll S.Store store.old movie.now walks.old walks.new result
         steps.old.passed steps.new.passed }
     ensures writes { StepsToWrite S.Store store.old movie.now walks.old walks.new result
         steps.old.passed steps.new.passed }
-    ensures looks { steps.new.looks ≡ steps.old.looks }
+    ensures steps { OnlyPasses steps.old.passed steps.new.passed steps.old.looks
+        steps.new.looks result }
 {
     for k in 0..walks.len() {
         let reduction = content.reduction(k);

@@ -245,15 +245,14 @@ impl Schedule {
     ) -> Result<(), Refusal>
         requires track { self.old.track < self.old.tracks }
         requires infos { self.old.tracks ≡ length tracks.now }
-        requires tree { IsDueTree due.old }
-        requires tracks { due.old.leaves ≡ self.old.tracks }
+        requires tree { IsDueTree due.old × (due.old.leaves ≡ self.old.tracks) }
         ensures tracks { OnOk result (self.new.tracks ≡ self.old.tracks) }
         ensures turned { OnOk result
             (Skips due.new (turned self.old turn.now.end count sample) self.new) }
-        ensures left { OnOk result (self.new.left ≡ self.old.left - count) }
-        ensures enough { OnOk result (count ≤ self.old.left) }
-        ensures less { OnOk result (turns_left self.new < turns_left self.old) }
-        ensures some { OnOk result (IsSomeLeft self.new) }
+        ensures left { OnOk result
+            ((count ≤ self.old.left) × (self.new.left ≡ self.old.left - count)) }
+        ensures less { OnOk result
+            ((turns_left self.new < turns_left self.old) × IsSomeLeft self.new) }
         ensures tree { OnOk result (IsDueTree due.new × (due.new.leaves ≡ self.old.tracks)) }
         ensures due { (nexts : List (Option SampleAt))
             → AreTimes tracks.now nexts self.old.first due.old

@@ -6,7 +6,7 @@ ghost use Rattle.mp4_present.specs.words.StoresRead.{IsUnchanged};
 ghost use Rattle.mp4_present.specs.words.TrackWalks.{TakesSteps};
 ghost use Rattle.mp4_plan.specs.words.Gathering.{count_of, more_of, planned_of, piece_from, piece_fed, samples_after};
 ghost use Rattle.mp4_content.specs.words.GoneOn.{ComesMarked, WentOn};
-ghost use Rattle.mp4_plan.specs.words.WriterSteps.{FinishesOn, WritesOn};
+ghost use Rattle.mp4_plan.specs.words.WriterSteps.{FinishesOn, OnlyPasses, WritesOn};
 ghost use Rattle.mp4_plan.specs.words.HandsFed.{stop_of, HandFed, HandNoted, Notes};
 ghost use Rattle.mp4_content.specs.words.GoneOn.{KeepsOn};
 ghost use Rattle.mp4_content.specs.words.ComingLess.{ComesLess, less};
@@ -386,12 +386,12 @@ pub(crate) fn note_marked<S: Store, L: Ledger, M: Ledger>(
     ensures some { IfOk result (λ p. 0 < p.count) }
     ensures room { length notes.new.rows.items ≡ length notes.old.rows.items }
     ensures bounds { IfOk result (HasBounds (length notes.old.rows.items)) }
-    ensures grows { OnOk result (steps.old.passed ≤ steps.new.passed) }
     ensures work { WhereMayWrite S.Store store.old movie.now walk.old (λ file tree t n.
         MatchResult result (λ p. FinishesOn portion.reduction file tree movie.now p.count t n
         walk.new steps.old.passed steps.new.passed)
         (λ r. steps.new.passed ≤ steps.old.passed + n)) }
-    ensures looks { steps.new.looks ≡ steps.old.looks }
+    ensures steps { OnlyPasses steps.old.passed steps.new.passed steps.old.looks
+        steps.new.looks result }
 {
     let left = walk.to_come();
     let planned = note_piece(walk, portion, notes, movie, store, steps)?;

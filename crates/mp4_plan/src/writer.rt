@@ -18,7 +18,7 @@ ghost use Rattle.mp4_present.specs.words.StoresRead.{IsUnchanged, OnlyReads, Ref
 ghost use Rattle.mp4_present.specs.words.WalkSteps.{walks_steps};
 ghost use Rattle.mp4_plan.specs.format.Normal.{normal};
 ghost use Rattle.mp4_plan.specs.words.PutPieces.{IsHeadLeft, PiecesFollow, IsPutWhole};
-ghost use Rattle.mp4_plan.specs.words.WriterSteps.{MayAllWrite, WriteAllBegin, writing_steps};
+ghost use Rattle.mp4_plan.specs.words.WriterSteps.{MayAllWrite, OnlyPasses, WriteAllBegin, writing_steps};
 ghost use Rattle.mp4_plan.specs.words.CarriedSamples.{AreThere};
 ghost use Rattle.mp4_plan.specs.words.WriterWalks.{IsPlanned, MayCarry, OnTurn, OnlyCarries, OnlyNotes, StepsToCarry, StepsToNote, WhereNoted, WithKeys};
 ghost use Rattle.mp4_plan.specs.words.MadeWriters.{IsMade, TellsLong};
@@ -151,11 +151,10 @@ impl Writer {
         ensures made { IfOk result (IsMade movie.now leaving) }
         ensures store { OnlyReads S.Store store.old store.new result }
         ensures ready { OverOpened S.Store store.old movie.now
-            (λ file tree. IfOk result (IsReadyWithin file tree movie.now)) }
+            (λ file tree. IfOk result (λ w. IsReadyWithin file tree movie.now w
+            × ReducesInLimits leaving (presentation_of file tree))) }
         ensures unchanged { OverOpened S.Store store.old movie.now
             (λ file tree. IsUnchanged result) }
-        ensures in_limits { OverOpened S.Store store.old movie.now
-            (λ file tree. OnOk result (ReducesInLimits leaving (presentation_of file tree))) }
         ensures fault { OverOpened S.Store store.old movie.now
             (λ file tree. IfErr result (NamesLong leaving file tree)) }
         ensures refusal { Refused S.Store store.old store.new result (RefusesLeft leaving) }
@@ -228,13 +227,13 @@ impl Writer {
             (λ file tree t left.
             more_of (piece_from turn.now.end) left ≤ length self.old.notes.rows.items
             → IsUnchanged result) }
-        ensures planned { IfOk result (IsPlanned (length self.old.notes.rows.items)) }
-        ensures track { IfOk result (λ n. n.track ≡ turn.now.track) }
+        ensures planned { IfOk result (λ n. IsPlanned (length self.old.notes.rows.items) n
+            × (n.track ≡ turn.now.track)) }
         ensures refusal { Refused S.Store store.old store.new result RefusesLoad }
-        ensures grows { OnOk result (steps.old.passed ≤ steps.new.passed) }
         ensures work { StepsToNote S.Store store.old movie.now turn.now.track self.old self.new
             result steps.old.passed steps.new.passed }
-        ensures looks { steps.new.looks ≡ steps.old.looks }
+        ensures steps { OnlyPasses steps.old.passed steps.new.passed steps.old.looks
+            steps.new.looks result }
     {
         self.notes.stretches.clear();
         let first = self.nexts[turn.track];
@@ -282,17 +281,15 @@ impl Writer {
         ensures copied { WhereNoted S.Store store.old movie.now noted.now self.old
             (λ file tree t samples. OnOk result
             (HaveCopied file tree movie.now t noted.now.track noted.now.planned.count samples
-            self.old self.new)) }
-        ensures unchanged { WhereNoted S.Store store.old movie.now noted.now self.old
-            (λ file tree t samples.
-            AreThere file noted.now.planned.count noted.now.planned.bytes samples
-            → IsUnchanged result) }
+            self.old self.new)
+            × (AreThere file noted.now.planned.count noted.now.planned.bytes samples
+            → IsUnchanged result)) }
         ensures refusal { RefusedByBoth S.Store store.old store.new K.Sink sink.old sink.new result
             RefusesCarry }
-        ensures grows { OnOk result (steps.old.passed ≤ steps.new.passed) }
         ensures work { StepsToCarry S.Store store.old movie.now noted.now self.old self.new result
             steps.old.passed steps.new.passed }
-        ensures looks { steps.new.looks ≡ steps.old.looks }
+        ensures steps { OnlyPasses steps.old.passed steps.new.passed steps.old.looks
+            steps.new.looks result }
     {
         let Noted { track, planned, .. } = *noted;
         let bytes = NotedBytes {
@@ -340,17 +337,15 @@ impl Writer {
         ensures copied { WhereNoted S.Store store.old movie.now noted.now self.old
             (λ file tree t samples. OnOk result
             (HaveCopied file tree movie.now t noted.now.track noted.now.planned.count samples
-            self.old self.new)) }
-        ensures unchanged { WhereNoted S.Store store.old movie.now noted.now self.old
-            (λ file tree t samples.
-            AreThere file noted.now.planned.count noted.now.planned.bytes samples
-            → IsUnchanged result) }
+            self.old self.new)
+            × (AreThere file noted.now.planned.count noted.now.planned.bytes samples
+            → IsUnchanged result)) }
         ensures refusal { RefusedByBoth S.Store store.old store.new K.Sink sink.old sink.new result
             RefusesCarry }
-        ensures grows { OnOk result (steps.old.passed ≤ steps.new.passed) }
         ensures work { StepsToCarry S.Store store.old movie.now noted.now self.old self.new result
             steps.old.passed steps.new.passed }
-        ensures looks { steps.new.looks ≡ steps.old.looks }
+        ensures steps { OnlyPasses steps.old.passed steps.new.passed steps.old.looks
+            steps.new.looks result }
     {
         let Some(head) = noted.head else {
             return Ok(());
@@ -396,11 +391,11 @@ impl Writer {
             (waiting self.old.carrier ++ self.old.head.items)) }
         ensures refusal { RefusedByBoth S.Store store.old store.new K.Sink sink.old sink.new result
             RefusesCarry }
-        ensures grows { OnOk result (steps.old.passed ≤ steps.new.passed) }
         ensures work { OverOpened S.Store store.old movie.now (λ file tree. (n : ℕ)
             → MayAllWrite file tree movie.now self.old.walks.items n
             → steps.new.passed ≤ steps.old.passed + n) }
-        ensures turns { steps.new.looks ≤ steps.old.looks + movie_turns movie.now }
+        ensures steps { OnOk result (steps.old.passed ≤ steps.new.passed)
+            × (steps.new.looks ≤ steps.old.looks + movie_turns movie.now) }
     {
         self.carrier.carry(self.head.as_slice(), sink)?;
         let walks = self.walks.as_mut_slice();

@@ -1,5 +1,5 @@
 -- The steps of walks over all tracks of a file.
-use Rattle.std.specs.Prelude.{◌≡◌, ◌⊎◌, ℕ, ◌+◌, ◌*◌, ◌≤◌, List, [], ◌∷◌, length, slice_get, slice_set, Some}
+use Rattle.std.specs.Prelude.{◌≡◌, ◌⊎◌, ℕ, ◌+◌, ◌*◌, ◌≤◌, List, [], ◌∷◌, length, slice_get, slice_set, Some, Result, OnOk}
 use Rattle.mp4_boxes.specs.format.Bytes.{sum_of}
 use Rattle.mp4_tables.specs.declared.sample.SampleAt.{SampleAt}
 use Rattle.mp4_frag.specs.words.OwnTrafs.{PlacedTraf, traf_steps}
@@ -12,6 +12,12 @@ use Rattle.mp4_present.specs.words.WalkSteps.{MayTake, trafs_steps, walk_steps, 
 use Rattle.mp4_content.specs.declared.reduced.Reduction.{Reduction}
 use Rattle.mp4_present.specs.declared.walking.Walk.{Walk}
 use Rattle.mp4_content.specs.words.GoneOn.{ComesMarked, HasLoaded, Stays, GoesPast}
+
+-- At Ok no step was taken back, and never was a look taken. The numbers are the steps before and
+-- after, and the looks.
+abbrev pub OnlyPasses : {T E : Type 0} → ℕ → ℕ → ℕ → ℕ → Result T E → Type 0
+OnlyPasses passed passed_after looks looks_after result = OnOk result (passed ≤ passed_after)
+    × (looks_after ≡ looks)
 
 -- each of these walks, one for each track, may take some steps, and all may take so many together
 abbrev pub MayAll : (TrackTree → Walk → ℕ → Type 0) → List TrackTree → List Walk → ℕ → Type 0

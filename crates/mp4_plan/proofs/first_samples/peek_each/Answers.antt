@@ -14,7 +14,7 @@ use Rattle.mp4_plan.proofs.first_samples.peek_each.Goals as goal
 pub loop-k-init : goal.loop-k-init
 loop-k-init g c = record {
   walks = c.requires.walks;
-  nexts = c.requires.nexts;
+  nexts = c.requires.many.0;
   many = search rules;
   rooms = search rules;
   honesty = search rules;

@@ -102,9 +102,9 @@ loop-turn-preserved g c =
           all_then file tree walks (slice_set walks k c.count_turn.new.walk) (walks_steps tree) _ _ _ (i.7 told tree o)
           (λ rest h. one_takes file tree tree.movie.tracks walks k c.index_mut-walk.result.now c.count_turn.new.walk rest _ _ h there (λ t own may. (rw (i.5, i.2, c.in-Some.ensures.passed) at p.work) told tree t own o may)),
       search rules,
-      looks_on s c.pass.new.self c.args.steps.now.looks _ _ (movie_turns m) i.9 (p.looks ∙ c.in-Some.ensures.looks) c.in_ok-pass.ensures.less,
+      looks_on s c.pass.new.self c.args.steps.now.looks _ _ (movie_turns m) i.9 (p.looks ∙ c.in-Some.ensures.looks) c.in_ok-pass.ensures.less.0,
       due_next,
-      c.in_ok-pass.ensures.some,
+      c.in_ok-pass.ensures.less.1,
       (let more = p.grows in let so = i.12 in let same = c.in-Some.ensures.passed in omega (arith, more, so, same)),
     )
 

@@ -25,7 +25,7 @@ returns-clause-bytes g c = λ told tree o.
     let bytes = still_opened _ _ _ _ c.args.movie.now (λ file t. IsReady file t c.args.movie.now c.in_ok-writer.writer → OnOk c.write.result (g.K.Sink.takes c.args.sink.now c.write.new.sink (normal (reduce c.in_ok-writer.writer.content.leaving (presentation_of file t)))))
     c.in_ok-writer.ensures.store.honesty c.in_ok-writer.ensures.store.file c.write.ensures.bytes in
     subst (λ (l : Without). OnOk c.write.result (g.K.Sink.takes c.args.sink.now c.write.new.sink (normal (reduce l (presentation_of (g.S.Store.file c.args.store.now) tree)))))
-    c.in_ok-writer.ensures.made.left (bytes told tree o (c.in_ok-writer.ensures.ready told tree o).ready)
+    c.in_ok-writer.ensures.made.left (bytes told tree o (c.in_ok-writer.ensures.ready told tree o).0.ready)
 
 pub returns-clause-prefix : goal.returns-clause-prefix
 returns-clause-prefix g c = λ told tree o.
@@ -33,7 +33,7 @@ returns-clause-prefix g c = λ told tree o.
     → OnErr c.write.result (TakesPrefix (g.K.Sink.takes c.args.sink.now c.write.new.sink) (normal (reduce c.in_ok-writer.writer.content.leaving (presentation_of file t)))))
     c.in_ok-writer.ensures.store.honesty c.in_ok-writer.ensures.store.file c.write.ensures.prefix in
     subst (λ (l : Without). OnErr c.write.result (TakesPrefix (g.K.Sink.takes c.args.sink.now c.write.new.sink) (normal (reduce l (presentation_of (g.S.Store.file c.args.store.now) tree)))))
-    c.in_ok-writer.ensures.made.left (prefix told tree o (c.in_ok-writer.ensures.ready told tree o).ready)
+    c.in_ok-writer.ensures.made.left (prefix told tree o (c.in_ok-writer.ensures.ready told tree o).0.ready)
 
 pub returns-clause-whole : goal.returns-clause-whole
 returns-clause-whole g c =
@@ -45,7 +45,7 @@ returns-clause-whole g c =
 pub returns-clause-unchanged : goal.returns-clause-unchanged
 returns-clause-unchanged g c = λ told tree o.
     let unchanged = rw (c.in_ok-writer.ensures.store.honesty, c.in_ok-writer.ensures.store.file) at c.write.ensures.unchanged in
-    unchanged told tree o (c.in_ok-writer.ensures.ready told tree o).ready
+    unchanged told tree o (c.in_ok-writer.ensures.ready told tree o).0.ready
 
 pub returns-clause-work : goal.returns-clause-work
 returns-clause-work g c = λ told tree o.
@@ -64,7 +64,7 @@ returns-in_err-writer-clause-long g c = λ told tree o.
 pub returns-clause-long : goal.returns-clause-long
 returns-clause-long g c = λ told tree o.
     let file = g.S.Store.file c.args.store.now in
-    let in_limits = c.in_ok-writer.ensures.in_limits told tree o in
+    let in_limits = (c.in_ok-writer.ensures.ready told tree o).1 in
     record {
       in_limits = so_if_ok c.write.result (ReducesInLimits c.args.leaving (presentation_of file tree)) in_limits;
       fault = carried_names c.args.leaving file tree c.write.result _ _ _ _ c.write.ensures.refusal;
@@ -78,4 +78,4 @@ returns-clause-refusal g c = carried_left c.args.leaving c.write.result (g.K.Sin
 pub returns-clause-grows : goal.returns-clause-grows
 returns-clause-grows g c =
     let planned = c.in_ok-writer.ensures.grows in
-    on_ok_weaker c.write.result (λ more. omega (arith, planned, more)) c.write.ensures.grows
+    on_ok_weaker c.write.result (λ more. omega (arith, planned, more)) c.write.ensures.steps.0

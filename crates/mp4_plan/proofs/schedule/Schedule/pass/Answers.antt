@@ -13,19 +13,19 @@ pub returns-clause-tracks : goal.returns-clause-tracks
 returns-clause-tracks c = (turn_keeps c.if-track-gt0.due c.args.self.now c.take.new.self c.skip.new.self c.args.turn.now.end c.args.count c.args.sample c.in_ok-take.ensures.turned c.skip.ensures.skips).0
 
 pub returns-clause-left : goal.returns-clause-left
-returns-clause-left c = (turn_keeps c.if-track-gt0.due c.args.self.now c.take.new.self c.skip.new.self c.args.turn.now.end c.args.count c.args.sample c.in_ok-take.ensures.turned c.skip.ensures.skips).2
+returns-clause-left c = (search rules, (turn_keeps c.if-track-gt0.due c.args.self.now c.take.new.self c.skip.new.self c.args.turn.now.end c.args.count c.args.sample c.in_ok-take.ensures.turned c.skip.ensures.skips).2)
 
 pub returns-clause-less : goal.returns-clause-less
 returns-clause-less c =
     let less = c.in_ok-take.ensures.less in
     let few = (skips_keep c.if-track-gt0.due c.take.new.self c.skip.new.self c.skip.ensures.skips).turns in
-    omega (arith, less, few)
+    (omega (arith, less, few), search rules)
 
 pub returns-clause-due : goal.returns-clause-due
 returns-clause-due c nexts times =
     let s = c.args.self.now in
     let k = turn_keeps c.if-track-gt0.due s c.take.new.self c.skip.new.self c.args.turn.now.end c.args.count c.args.sample c.in_ok-take.ensures.turned c.skip.ensures.skips in
-    let many = c.requires.tracks in
+    let many = c.requires.tree.1 in
     let infos = c.requires.infos in
     let first = ap (λ (p : Schedule). p.first) c.in_ok-take.ensures.turned ∙ (turned_keeps s c.args.turn.now.end c.args.count c.args.sample).1 in
     record {
@@ -45,7 +45,7 @@ returns-then-finds_more-clause-sticks c nexts times =
     let s = c.args.self.now in
     let more = c.finds_more.ensures.more c.if-finds_more.true in
     let k = turn_keeps c.if-track-gt0.due s c.take.new.self c.skip.new.self c.args.turn.now.end c.args.count c.args.sample c.in_ok-take.ensures.turned c.skip.ensures.skips in
-    let many = c.requires.tracks in
+    let many = c.requires.tree.1 in
     let infos = c.requires.infos in
     let first = ap (λ (p : Schedule). p.first) c.in_ok-take.ensures.turned ∙ (turned_keeps s c.args.turn.now.end c.args.count c.args.sample).1 in
     inr (record {

@@ -21,8 +21,8 @@ returns-in_err-self-clause-put g c told tree o samples noted =
     (subst (λ (v : Walk). ComesMarked (track_reduction w.content.leaving tree noted.t) file tree noted.t m v c.args.noted.now.planned.count samples) (sym same) noted.comes) in
     rw e.1 (c.in_err-self.ensures.put told tree noted.t samples o comes noted.stretches)
 
-pub returns-in_err-self-clause-unchanged : goal.returns-in_err-self-clause-unchanged
-returns-in_err-self-clause-unchanged g c told tree o samples noted there =
+pub returns-in_err-self-clause-copied : goal.returns-in_err-self-clause-copied
+returns-in_err-self-clause-copied g c told tree o samples noted =
     let e = err_from_is_err_and c.from_residual.result c.from_residual.ensures.1 in
     let file = g.S.Store.file c.args.store.now in
     let m = c.args.movie.now in
@@ -31,7 +31,7 @@ returns-in_err-self-clause-unchanged g c told tree o samples noted there =
     let by = one_there w.content.of_tracks.items c.args.noted.now.track _ _ c.reduction.ensures noted.reduction in
     let comes = subst (λ (r : Reduction). ComesMarked r file tree noted.t m c.index_mut.result.now c.args.noted.now.planned.count samples) (sym by)
     (subst (λ (v : Walk). ComesMarked (track_reduction w.content.leaving tree noted.t) file tree noted.t m v c.args.noted.now.planned.count samples) (sym same) noted.comes) in
-    rw (e.1, e.2) (c.in_err-self.ensures.unchanged told tree noted.t samples o comes noted.stretches there)
+    (rw e.1 tt, λ there. rw (e.1, e.2) (c.in_err-self.ensures.unchanged told tree noted.t samples o comes noted.stretches there))
 
 pub returns-in_err-self-clause-work : goal.returns-in_err-self-clause-work
 returns-in_err-self-clause-work g c told tree o n h =
@@ -67,7 +67,7 @@ returns-clause-copied g c told tree o samples noted =
     (subst (λ (v : Walk). ComesMarked (track_reduction w.content.leaving tree noted.t) file tree noted.t m v c.args.noted.now.planned.count samples) (sym same) noted.comes) in
     let x = c.in_ok-self.ensures.next told tree noted.t samples o comes noted.stretches in
     let on = subst (λ (r : Reduction). ComesLess r file tree noted.t m c.carry_noted.new.walk (drop c.args.noted.now.planned.count samples)) by x.0 in
-    (c.carry_noted.new.walk, refl, ap (slice_set w.nexts.items c.args.noted.now.track) x.2, on, x.1)
+    ((c.carry_noted.new.walk, refl, ap (slice_set w.nexts.items c.args.noted.now.track) x.2, on, x.1), λ there. tt)
 
 pub returns-clause-work : goal.returns-clause-work
 returns-clause-work g c told tree o n h =

@@ -152,31 +152,25 @@ returns-clause-copied g c told_honest tree o samples noted_are =
     let here = noted_with file tree c.args.movie.now c.args.noted.now.track c.args.noted.now.planned.count samples c.args.self.now c.carry-2.new.self noted_are in
     c.carry_data.ensures.copied told_honest tree o samples here
 
-pub returns-clause-unchanged : goal.returns-clause-unchanged
-returns-clause-unchanged g c told_honest tree o samples noted_are there =
-    let file = g.S.Store.file c.args.store.now in
-    let here = noted_with file tree c.args.movie.now c.args.noted.now.track c.args.noted.now.planned.count samples c.args.self.now c.carry-2.new.self noted_are in
-    c.carry_data.ensures.unchanged told_honest tree o samples here there
-
-pub returns-in_err-carry-clause-unchanged : goal.returns-in_err-carry-clause-unchanged
-returns-in_err-carry-clause-unchanged g c told_honest tree o samples noted_are there =
+pub returns-in_err-carry-clause-copied : goal.returns-in_err-carry-clause-copied
+returns-in_err-carry-clause-copied g c told_honest tree o samples noted_are =
     let e = err_from_is_err_and c.from_residual.result c.from_residual.ensures.1 in
-    rw (e.1, e.2) (put_unchanged _ _ _ c.in_err-carry.ensures.refusal)
+    (rw e.1 tt, λ there. rw (e.1, e.2) (put_unchanged _ _ _ c.in_err-carry.ensures.refusal))
 
-pub returns-in_err-carry_run-clause-unchanged : goal.returns-in_err-carry_run-clause-unchanged
-returns-in_err-carry_run-clause-unchanged g c told_honest tree o samples noted_are there =
+pub returns-in_err-carry_run-clause-copied : goal.returns-in_err-carry_run-clause-copied
+returns-in_err-carry_run-clause-copied g c told_honest tree o samples noted_are =
     let e = err_from_is_err_and c.from_residual-in_err-carry_run.result c.from_residual-in_err-carry_run.ensures.1 in
-    rw (e.1, e.2) (put_unchanged _ _ _ c.in_err-carry_run.ensures.sink.refusal)
+    (rw e.1 tt, λ there. rw (e.1, e.2) (put_unchanged _ _ _ c.in_err-carry_run.ensures.sink.refusal))
 
-pub returns-in_err-carry_groups-clause-unchanged : goal.returns-in_err-carry_groups-clause-unchanged
-returns-in_err-carry_groups-clause-unchanged g c told_honest tree o samples noted_are there =
+pub returns-in_err-carry_groups-clause-copied : goal.returns-in_err-carry_groups-clause-copied
+returns-in_err-carry_groups-clause-copied g c told_honest tree o samples noted_are =
     let e = err_from_is_err_and c.from_residual-in_err-carry_groups.result c.from_residual-in_err-carry_groups.ensures.1 in
-    rw (e.1, e.2) (put_unchanged _ _ _ c.in_err-carry_groups.ensures.sink.refusal)
+    (rw e.1 tt, λ there. rw (e.1, e.2) (put_unchanged _ _ _ c.in_err-carry_groups.ensures.sink.refusal))
 
-pub returns-in_err-carry-2-clause-unchanged : goal.returns-in_err-carry-2-clause-unchanged
-returns-in_err-carry-2-clause-unchanged g c told_honest tree o samples noted_are there =
+pub returns-in_err-carry-2-clause-copied : goal.returns-in_err-carry-2-clause-copied
+returns-in_err-carry-2-clause-copied g c told_honest tree o samples noted_are =
     let e = err_from_is_err_and c.from_residual-in_err-carry-2.result c.from_residual-in_err-carry-2.ensures.1 in
-    rw (e.1, e.2) (put_unchanged _ _ _ c.in_err-carry-2.ensures.refusal)
+    (rw e.1 tt, λ there. rw (e.1, e.2) (put_unchanged _ _ _ c.in_err-carry-2.ensures.refusal))
 
 pub returns-clause-work : goal.returns-clause-work
 returns-clause-work g c told_honest tree o n h = c.carry_data.ensures.work told_honest tree o n h
@@ -189,11 +183,14 @@ returns-in_default-clause-copied g c told tree o samples noted =
     let w = c.args.self.now in
     let none = c.requires.none c.in_default.is in
     let all : drop c.args.noted.now.planned.count samples ≡ samples = ap (λ n. drop n samples) none in (
-      noted.walk,
-      sym (set_same w.walks.items c.args.noted.now.track noted.walk noted.is_walk),
-      sym (set_same w.nexts.items c.args.noted.now.track (slice_get (drop c.args.noted.now.planned.count samples) 0) (noted.next ∙ ap (λ (ss : List SampleAt). Some (slice_get ss 0)) (sym all))),
-      noted.comes.comes,
-      noted.none none ∙ ap (λ (ss : List SampleAt). mark_of noted.walk (length ss)) (sym all),
+      (
+        noted.walk,
+        sym (set_same w.walks.items c.args.noted.now.track noted.walk noted.is_walk),
+        sym (set_same w.nexts.items c.args.noted.now.track (slice_get (drop c.args.noted.now.planned.count samples) 0) (noted.next ∙ ap (λ (ss : List SampleAt). Some (slice_get ss 0)) (sym all))),
+        noted.comes.comes,
+        noted.none none ∙ ap (λ (ss : List SampleAt). mark_of noted.walk (length ss)) (sym all),
+      ),
+      λ there. tt,
     )
 
 pub returns-in_default-clause-work : goal.returns-in_default-clause-work

@@ -15,27 +15,24 @@ returns-clause-ready g c told tree o =
     let made = c.in_ok-content.ensures in
     let left = made.left told tree o in
     let l = c.in_ok-content.content.leaving in
-    let longest = (rw (made.store.honesty, made.store.file) at c.in_ok-longest.ensures.longest) told tree o left.reductions left.in_limits.in_range in
-    record {
-      ready = record {
-        head = (λ i. c.in_ok-new.ensures.empty i ++ c.in_ok-head_of.field-0.items) ∙ c.in_ok-head_of.ensures.head file tree o left;
-        rows = sym c.in_ok-vec.field-0.ok.0 ∙ c.in_ok-vec.ensures.len ∙ longest;
-        range = left.in_limits.in_range;
-        reductions = left.reductions;
-        walks = c.in_ok-walks_of.ensures.start.begin file tree o l;
-        marked = c.in_ok-walks_of.ensures.start.marked file tree o l;
-      };
-      rooms = rooms_fit file c.args.movie.now tree o;
-      trafs = trafs_few file tree o.is_tree;
-    }
+    let longest = (rw (made.store.honesty, made.store.file) at c.in_ok-longest.ensures.longest) told tree o left.reductions left.in_limits.in_range in (
+      record {
+        ready = record {
+          head = (λ i. c.in_ok-new.ensures.empty i ++ c.in_ok-head_of.field-0.items) ∙ c.in_ok-head_of.ensures.head file tree o left;
+          rows = sym c.in_ok-vec.field-0.ok.0 ∙ c.in_ok-vec.ensures.len ∙ longest;
+          range = left.in_limits.in_range;
+          reductions = left.reductions;
+          walks = c.in_ok-walks_of.ensures.start.begin file tree o l;
+          marked = c.in_ok-walks_of.ensures.start.marked file tree o l;
+        };
+        rooms = rooms_fit file c.args.movie.now tree o;
+        trafs = trafs_few file tree o.is_tree;
+      },
+      subst (λ (l : Without). ReducesInLimits l (presentation_of file tree)) made.leaving left.in_limits,
+    )
 
 pub returns-clause-may : goal.returns-clause-may
 returns-clause-may g c told tree o = c.in_ok-walks_of.ensures.start.writes (g.S.Store.file c.args.store.now) tree o
-
-pub returns-clause-in_limits : goal.returns-clause-in_limits
-returns-clause-in_limits g c told tree o =
-    let made = c.in_ok-content.ensures in
-    subst (λ (l : Without). ReducesInLimits l (presentation_of (g.S.Store.file c.args.store.now) tree)) made.leaving (made.left told tree o).in_limits
 
 -- ---- where there is no memory
 

@@ -92,10 +92,10 @@ loop-turn-init g c =
           (rw walks shown.1) (rw walks marked) (nexts ∙ shown.0) (rw c.as_slice.ensures.value at c.in_ok-carry.ensures.bytes);
       within = λ told tree o n may. rw walks (e.writes told tree o n (rw c.as_mut_slice-walks.ensures.value may));
       some = search rules;
-      looks = rw e.looks (begins_within c.args.movie.now.tracks c.new-schedule.result c.args.steps.now.looks (s.tracks ∙ tracks_many l all_tracks) (s.left ∙ tracks_samples l all_tracks) c.new-schedule.ensures.starts.0);
+      looks = rw e.steps.1 (begins_within c.args.movie.now.tracks c.new-schedule.result c.args.steps.now.looks (s.tracks ∙ tracks_many l all_tracks) (s.left ∙ tracks_samples l all_tracks) c.new-schedule.ensures.starts.0);
       due = λ told tree o ready.
           subst (λ (xs : List (Option SampleAt)). IsDueAt (tracks_left l all_tracks) xs c.new-schedule.result c.begin.new.due) c.as_slice-3.ensures.value (rw (c.tracks-2.ensures ∙ c.requires.content.tracks) at c.begin.ensures);
-      grows = e.grows;
+      grows = e.steps.0;
     }
 
 pub returns-in_err-noted-clause-prefix : goal.returns-in_err-noted-clause-prefix
@@ -142,10 +142,10 @@ returns-in_err-carry_turn-clause-prefix g c told tree o ready =
     let here = c.in-Some.ensures.track in
     let own = rw (c.tracks-in-loop-turn.ensures ∙ ap (λ (x : Content). x.tracks.items) i.content ∙ c.requires.content.tracks) at c.in-Some.ensures.own in
     let noted = (rw (i.honesty, i.file) at c.in_ok-noted.ensures.noted) told tree o in
-    let few : IsFew c.in_ok-noted.noted.planned = record { count = no_more _ _ _ c.in_ok-noted.ensures.planned.bounds.few i.writer.few; rows = c.in_ok-noted.ensures.planned.bounds.rows } in
+    let few : IsFew c.in_ok-noted.noted.planned = record { count = no_more _ _ _ c.in_ok-noted.ensures.planned.0.bounds.few i.writer.few; rows = c.in_ok-noted.ensures.planned.0.bounds.rows } in
     rw e.1 (carry_stops c.args.self.now.content.leaving file tree m o s c.loop-turn.sequence c.loop-turn.bytes w g.met.K.Sink.takes_on before after h c.in-Some.turn here own i.tracks i.writer (ap (λ (x : Content). x.leaving) i.content)
     (ap (λ (x : Content). x.of_tracks.items) i.content ∙ ready.reductions) c.note_turn.new.self c.in_ok-noted.noted noted c.in_ok-noted.ensures.writer.content c.in_ok-noted.ensures.writer.keeps few
-    c.carry_turn.new.sink ((rw (c.in_ok-noted.ensures.track, c.in_ok-noted.ensures.store.honesty, c.in_ok-noted.ensures.store.file, i.honesty, i.file) at c.in_err-carry_turn.ensures.put) told tree o))
+    c.carry_turn.new.sink ((rw (c.in_ok-noted.ensures.planned.1, c.in_ok-noted.ensures.store.honesty, c.in_ok-noted.ensures.store.file, i.honesty, i.file) at c.in_err-carry_turn.ensures.put) told tree o))
 
 pub returns-in_err-carry_turn-clause-unchanged : goal.returns-in_err-carry_turn-clause-unchanged
 returns-in_err-carry_turn-clause-unchanged g c told tree o ready =
@@ -161,11 +161,11 @@ returns-in_err-carry_turn-clause-unchanged g c told tree o ready =
     let here = c.in-Some.ensures.track in
     let own = rw (c.tracks-in-loop-turn.ensures ∙ ap (λ (x : Content). x.tracks.items) i.content ∙ c.requires.content.tracks) at c.in-Some.ensures.own in
     let noted = (rw (i.honesty, i.file) at c.in_ok-noted.ensures.noted) told tree o in
-    let few : IsFew c.in_ok-noted.noted.planned = record { count = no_more _ _ _ c.in_ok-noted.ensures.planned.bounds.few i.writer.few; rows = c.in_ok-noted.ensures.planned.bounds.rows } in
+    let few : IsFew c.in_ok-noted.noted.planned = record { count = no_more _ _ _ c.in_ok-noted.ensures.planned.0.bounds.few i.writer.few; rows = c.in_ok-noted.ensures.planned.0.bounds.rows } in
     rw (e.1, e.2)
     (carry_lacks c.args.self.now.content.leaving file tree m o s c.loop-turn.sequence c.loop-turn.bytes w g.met.K.Sink.takes_on before after h c.in-Some.turn here own i.tracks i.writer (ap (λ (x : Content). x.leaving) i.content) (ap (λ (x : Content). x.of_tracks.items) i.content
     ∙ ready.reductions) c.note_turn.new.self c.in_ok-noted.noted noted c.in_ok-noted.ensures.writer.content c.in_ok-noted.ensures.writer.keeps few _
-    ((rw (c.in_ok-noted.ensures.track, c.in_ok-noted.ensures.store.honesty, c.in_ok-noted.ensures.store.file, i.honesty, i.file) at c.in_err-carry_turn.ensures.unchanged) told tree o))
+    (λ samples is. ((rw (c.in_ok-noted.ensures.planned.1, c.in_ok-noted.ensures.store.honesty, c.in_ok-noted.ensures.store.file, i.honesty, i.file) at c.in_err-carry_turn.ensures.copied) told tree o samples is).1))
 
 pub returns-in_err-pass-clause-prefix : goal.returns-in_err-pass-clause-prefix
 returns-in_err-pass-clause-prefix g c told tree o ready =
@@ -181,11 +181,11 @@ returns-in_err-pass-clause-prefix g c told tree o ready =
     let here = c.in-Some.ensures.track in
     let own = rw (c.tracks-in-loop-turn.ensures ∙ ap (λ (x : Content). x.tracks.items) i.content ∙ c.requires.content.tracks) at c.in-Some.ensures.own in
     let noted = (rw (i.honesty, i.file) at c.in_ok-noted.ensures.noted) told tree o in
-    let few : IsFew c.in_ok-noted.noted.planned = record { count = no_more _ _ _ c.in_ok-noted.ensures.planned.bounds.few i.writer.few; rows = c.in_ok-noted.ensures.planned.bounds.rows } in
-    let put = (rw (c.in_ok-noted.ensures.track, c.in_ok-noted.ensures.store.honesty, c.in_ok-noted.ensures.store.file, i.honesty, i.file) at c.in_ok-carry_turn.ensures.put) told tree o in
-    let copied = (rw (c.in_ok-noted.ensures.track, c.in_ok-noted.ensures.store.honesty, c.in_ok-noted.ensures.store.file, i.honesty, i.file) at c.in_ok-carry_turn.ensures.copied) told tree o in
+    let few : IsFew c.in_ok-noted.noted.planned = record { count = no_more _ _ _ c.in_ok-noted.ensures.planned.0.bounds.few i.writer.few; rows = c.in_ok-noted.ensures.planned.0.bounds.rows } in
+    let put = (rw (c.in_ok-noted.ensures.planned.1, c.in_ok-noted.ensures.store.honesty, c.in_ok-noted.ensures.store.file, i.honesty, i.file) at c.in_ok-carry_turn.ensures.put) told tree o in
+    let copied = (rw (c.in_ok-noted.ensures.planned.1, c.in_ok-noted.ensures.store.honesty, c.in_ok-noted.ensures.store.file, i.honesty, i.file) at c.in_ok-carry_turn.ensures.copied) told tree o in
     let on = turn_goes c.args.self.now.content.leaving file tree m o s c.loop-turn.sequence c.loop-turn.bytes w g.met.K.Sink.takes_on before after h c.in-Some.turn here own i.tracks i.writer (ap (λ (x : Content). x.leaving) i.content)
-    (ap (λ (x : Content). x.of_tracks.items) i.content ∙ ready.reductions) c.note_turn.new.self c.in_ok-noted.noted noted c.in_ok-noted.ensures.writer.content c.in_ok-noted.ensures.writer.keeps few c.carry_turn.new.self _ copied
+    (ap (λ (x : Content). x.of_tracks.items) i.content ∙ ready.reductions) c.note_turn.new.self c.in_ok-noted.noted noted c.in_ok-noted.ensures.writer.content c.in_ok-noted.ensures.writer.keeps few c.carry_turn.new.self _ (λ samples is. (copied samples is).0)
     (λ x is. read_at c.carry_turn.new.self.nexts.items c.in-Some.turn.track x _ is c.index.ensures) c.carry_turn.new.sink _ put c.in_ok-carry_turn.ensures.writer.keeps refl in
     rw e.1 (stopped c.args.self.now.content.leaving file tree m _ _ _ _ _ _ g.met.K.Sink.takes_on _ _ _ on)
 
@@ -203,26 +203,26 @@ returns-in_err-pass-clause-unchanged g c told tree o ready =
     let here = c.in-Some.ensures.track in
     let own = rw (c.tracks-in-loop-turn.ensures ∙ ap (λ (x : Content). x.tracks.items) i.content ∙ c.requires.content.tracks) at c.in-Some.ensures.own in
     let noted = (rw (i.honesty, i.file) at c.in_ok-noted.ensures.noted) told tree o in
-    let few : IsFew c.in_ok-noted.noted.planned = record { count = no_more _ _ _ c.in_ok-noted.ensures.planned.bounds.few i.writer.few; rows = c.in_ok-noted.ensures.planned.bounds.rows } in
-    let copied = (rw (c.in_ok-noted.ensures.track, c.in_ok-noted.ensures.store.honesty, c.in_ok-noted.ensures.store.file, i.honesty, i.file) at c.in_ok-carry_turn.ensures.copied) told tree o in
-    let put = (rw (c.in_ok-noted.ensures.track, c.in_ok-noted.ensures.store.honesty, c.in_ok-noted.ensures.store.file, i.honesty, i.file) at c.in_ok-carry_turn.ensures.put) told tree o in
+    let few : IsFew c.in_ok-noted.noted.planned = record { count = no_more _ _ _ c.in_ok-noted.ensures.planned.0.bounds.few i.writer.few; rows = c.in_ok-noted.ensures.planned.0.bounds.rows } in
+    let copied = (rw (c.in_ok-noted.ensures.planned.1, c.in_ok-noted.ensures.store.honesty, c.in_ok-noted.ensures.store.file, i.honesty, i.file) at c.in_ok-carry_turn.ensures.copied) told tree o in
+    let put = (rw (c.in_ok-noted.ensures.planned.1, c.in_ok-noted.ensures.store.honesty, c.in_ok-noted.ensures.store.file, i.honesty, i.file) at c.in_ok-carry_turn.ensures.put) told tree o in
     let next = turned s c.in-Some.turn.end c.in_ok-noted.noted.planned.count c.index.result.now in
     let read : (x : Option SampleAt) → slice_get c.carry_turn.new.self.nexts.items c.in-Some.turn.track ≡ Some x → c.index.result.now ≡ x = λ x is. read_at c.carry_turn.new.self.nexts.items c.in-Some.turn.track x _ is c.index.ensures in
     let on = turn_goes c.args.self.now.content.leaving file tree m o s c.loop-turn.sequence c.loop-turn.bytes w
     g.met.K.Sink.takes_on before after h c.in-Some.turn here own i.tracks i.writer (ap (λ (x : Content). x.leaving) i.content) (ap (λ (x : Content). x.of_tracks.items) i.content
     ∙ ready.reductions) c.note_turn.new.self c.in_ok-noted.noted noted c.in_ok-noted.ensures.writer.content c.in_ok-noted.ensures.writer.keeps few c.carry_turn.new.self
-    c.index.result.now copied read c.carry_turn.new.sink next put c.in_ok-carry_turn.ensures.writer.keeps refl in
+    c.index.result.now (λ samples is. (copied samples is).0) read c.carry_turn.new.sink next put c.in_ok-carry_turn.ensures.writer.keeps refl in
     let stuck = with_times c.args.self.now.content.leaving file tree m o s c.loop-turn.sequence c.loop-turn.bytes w g.met.K.Sink.takes_on before after h c.in-Some.turn here own i.tracks i.writer (ap (λ (x : Content). x.leaving) i.content)
     (ap (λ (x : Content). x.of_tracks.items) i.content
     ∙ ready.reductions) c.note_turn.new.self c.in_ok-noted.noted noted c.in_ok-noted.ensures.writer.content c.in_ok-noted.ensures.writer.keeps few
-    c.carry_turn.new.self c.index.result.now copied
+    c.carry_turn.new.self c.index.result.now (λ samples is. (copied samples is).0)
     read (λ (xs : List (Option SampleAt)). Sticks s c.in_ok-noted.noted.planned.count c.index.result.now ⊎ FindsMore (tracks_left c.args.self.now.content.leaving m.tracks) xs next c.pass.new.self c.pass.new.due) (i.due told tree o ready) c.in_ok-carry_turn.ensures.writer.keeps.1
     (rw (c.tracks-in-Some.ensures ∙ ap (λ (x : Content). x.tracks.items) (c.in_ok-carry_turn.ensures.writer.content ∙ c.in_ok-noted.ensures.writer.content ∙ i.content) ∙ c.requires.content.tracks) at c.in_err-pass.ensures.sticks) in
     rw (e.1, e.2)
     (λ r. either stuck
     (pass_lacks c.args.self.now.content.leaving file tree m o s c.loop-turn.sequence c.loop-turn.bytes w g.met.K.Sink.takes_on before after h c.in-Some.turn here own i.tracks i.writer (ap (λ (x : Content). x.leaving) i.content) (ap (λ (x : Content). x.of_tracks.items) i.content
     ∙ ready.reductions) c.note_turn.new.self c.in_ok-noted.noted noted c.in_ok-noted.ensures.writer.content c.in_ok-noted.ensures.writer.keeps few
-    c.carry_turn.new.self c.index.result.now copied read (i.due told tree o ready))
+    c.carry_turn.new.self c.index.result.now (λ samples is. (copied samples is).0) read (i.due told tree o ready))
     (writes_no_more c.args.self.now.content.leaving file tree m next c.pass.new.self _ _ _ _ _ _ _ c.pass.new.due o on))
 
 pub loop-turn-preserved : goal.loop-turn-preserved
@@ -240,16 +240,16 @@ loop-turn-preserved g c =
       puts = c.in_ok-carry_turn.ensures.devices.puts ∙ i.puts;
       content = c.in_ok-carry_turn.ensures.writer.content ∙ c.in_ok-noted.ensures.writer.content ∙ i.content;
       rows = ap (λ v. length v.items) c.in_ok-carry_turn.ensures.writer.keeps.0 ∙ c.in_ok-noted.ensures.writer.keeps.1 ∙ i.rows;
-      few = (let left = c.in_ok-pass.ensures.left in
-          rw c.from-bytes.ensures (still_fits c.loop-turn.bytes c.loop-turn.schedule.left c.in_ok-noted.noted.planned.bytes c.in_ok-noted.noted.planned.count c.pass.new.self.left _ i.few c.in_ok-noted.ensures.planned.bounds.bytes c.in_ok-pass.ensures.enough left));
+      few = (let left = c.in_ok-pass.ensures.left.1 in
+          rw c.from-bytes.ensures (still_fits c.loop-turn.bytes c.loop-turn.schedule.left c.in_ok-noted.noted.planned.bytes c.in_ok-noted.noted.planned.count c.pass.new.self.left _ i.few c.in_ok-noted.ensures.planned.0.bounds.bytes c.in_ok-pass.ensures.left.0 left));
       sent =
           let count = c.in_ok-noted.noted.planned.count in
           let bytes = c.in_ok-noted.noted.planned.bytes in
-          let left = c.in_ok-pass.ensures.left in
+          let left = c.in_ok-pass.ensures.left.1 in
           let more = subst (λ (k : OutBuffer). PiecesFollow (g.K.Sink.takes c.loop-turn.sink c.carry_turn.new.sink) (waiting k) (waiting c.carry_turn.new.self.carrier) [] count bytes) c.in_ok-noted.ensures.writer.keeps.0 c.in_ok-carry_turn.ensures.many in
           rw c.from-bytes.ensures (
             i.sent.0 + count,
-            fewer_to_come i.sent.0 c.loop-turn.schedule.left count c.pass.new.self.left _ i.sent.1 c.in_ok-pass.ensures.enough left,
+            fewer_to_come i.sent.0 c.loop-turn.schedule.left count c.pass.new.self.left _ i.sent.1 c.in_ok-pass.ensures.left.0 left,
             follow_then g.met.K.Sink.takes_on c.args.sink.now c.loop-turn.sink c.carry_turn.new.sink (waiting c.args.self.now.carrier) (waiting c.loop-turn.self.carrier) (waiting c.carry_turn.new.self.carrier) c.args.self.now.head.items i.sent.0
                 c.loop-turn.bytes count bytes i.sent.2 more,
           );
@@ -264,23 +264,23 @@ loop-turn-preserved g c =
           let here = c.in-Some.ensures.track in
           let own = rw (c.tracks-in-loop-turn.ensures ∙ ap (λ (x : Content). x.tracks.items) i.content ∙ c.requires.content.tracks) at c.in-Some.ensures.own in
           let noted = (rw (i.honesty, i.file) at c.in_ok-noted.ensures.noted) told tree o in
-          let few : IsFew c.in_ok-noted.noted.planned = record { count = no_more _ _ _ c.in_ok-noted.ensures.planned.bounds.few i.writer.few; rows = c.in_ok-noted.ensures.planned.bounds.rows } in
-          let put = (rw (c.in_ok-noted.ensures.track, c.in_ok-noted.ensures.store.honesty, c.in_ok-noted.ensures.store.file, i.honesty, i.file) at c.in_ok-carry_turn.ensures.put) told tree o in
-          let copied = (rw (c.in_ok-noted.ensures.track, c.in_ok-noted.ensures.store.honesty, c.in_ok-noted.ensures.store.file, i.honesty, i.file) at c.in_ok-carry_turn.ensures.copied) told tree o in
+          let few : IsFew c.in_ok-noted.noted.planned = record { count = no_more _ _ _ c.in_ok-noted.ensures.planned.0.bounds.few i.writer.few; rows = c.in_ok-noted.ensures.planned.0.bounds.rows } in
+          let put = (rw (c.in_ok-noted.ensures.planned.1, c.in_ok-noted.ensures.store.honesty, c.in_ok-noted.ensures.store.file, i.honesty, i.file) at c.in_ok-carry_turn.ensures.put) told tree o in
+          let copied = (rw (c.in_ok-noted.ensures.planned.1, c.in_ok-noted.ensures.store.honesty, c.in_ok-noted.ensures.store.file, i.honesty, i.file) at c.in_ok-carry_turn.ensures.copied) told tree o in
           let next = turned s c.in-Some.turn.end c.in_ok-noted.noted.planned.count c.index.result.now in
           let read : (x : Option SampleAt) → slice_get c.carry_turn.new.self.nexts.items c.in-Some.turn.track ≡ Some x → c.index.result.now ≡ x = λ x is. read_at c.carry_turn.new.self.nexts.items c.in-Some.turn.track x _ is c.index.ensures in
           let due_next =
           with_times c.args.self.now.content.leaving file tree m o s c.loop-turn.sequence c.loop-turn.bytes w
           g.met.K.Sink.takes_on before after h c.in-Some.turn here own i.tracks i.writer (ap (λ (x : Content). x.leaving) i.content) (ap (λ (x : Content). x.of_tracks.items) i.content
           ∙ ready.reductions) c.note_turn.new.self c.in_ok-noted.noted noted c.in_ok-noted.ensures.writer.content c.in_ok-noted.ensures.writer.keeps few c.carry_turn.new.self
-          c.index.result.now copied read (λ (xs : List (Option SampleAt)). IsDueAt (tracks_left c.args.self.now.content.leaving m.tracks) xs c.pass.new.self c.pass.new.due) (i.due told tree o ready) c.in_ok-carry_turn.ensures.writer.keeps.1
+          c.index.result.now (λ samples is. (copied samples is).0) read (λ (xs : List (Option SampleAt)). IsDueAt (tracks_left c.args.self.now.content.leaving m.tracks) xs c.pass.new.self c.pass.new.due) (i.due told tree o ready) c.in_ok-carry_turn.ensures.writer.keeps.1
           (rw (c.tracks-in-Some.ensures ∙ ap (λ (x : Content). x.tracks.items) (c.in_ok-carry_turn.ensures.writer.content ∙ c.in_ok-noted.ensures.writer.content ∙ i.content) ∙ c.requires.content.tracks) at c.in_ok-pass.ensures.due) in
           rw (c.sequence_behind-sequence.ensures, c.from-bytes.ensures)
           (writes_skips c.args.self.now.content.leaving file tree m next c.pass.new.self _ _ _ _ _ _ _ c.pass.new.due o
           (turn_goes c.args.self.now.content.leaving file tree m o s c.loop-turn.sequence c.loop-turn.bytes w
           g.met.K.Sink.takes_on before after h c.in-Some.turn here own i.tracks i.writer (ap (λ (x : Content). x.leaving) i.content) (ap (λ (x : Content). x.of_tracks.items) i.content
           ∙ ready.reductions) c.note_turn.new.self c.in_ok-noted.noted noted c.in_ok-noted.ensures.writer.content c.in_ok-noted.ensures.writer.keeps few c.carry_turn.new.self
-          c.index.result.now copied read c.carry_turn.new.sink next put c.in_ok-carry_turn.ensures.writer.keeps refl)
+          c.index.result.now (λ samples is. (copied samples is).0) read c.carry_turn.new.sink next put c.in_ok-carry_turn.ensures.writer.keeps refl)
           c.in_ok-pass.ensures.turned due_next);
       due = λ told tree o ready.
           let file = g.S.Store.file c.args.store.now in
@@ -293,22 +293,22 @@ loop-turn-preserved g c =
           let here = c.in-Some.ensures.track in
           let own = rw (c.tracks-in-loop-turn.ensures ∙ ap (λ (x : Content). x.tracks.items) i.content ∙ c.requires.content.tracks) at c.in-Some.ensures.own in
           let noted = (rw (i.honesty, i.file) at c.in_ok-noted.ensures.noted) told tree o in
-          let few : IsFew c.in_ok-noted.noted.planned = record { count = no_more _ _ _ c.in_ok-noted.ensures.planned.bounds.few i.writer.few; rows = c.in_ok-noted.ensures.planned.bounds.rows } in
-          let copied = (rw (c.in_ok-noted.ensures.track, c.in_ok-noted.ensures.store.honesty, c.in_ok-noted.ensures.store.file, i.honesty, i.file) at c.in_ok-carry_turn.ensures.copied) told tree o in
+          let few : IsFew c.in_ok-noted.noted.planned = record { count = no_more _ _ _ c.in_ok-noted.ensures.planned.0.bounds.few i.writer.few; rows = c.in_ok-noted.ensures.planned.0.bounds.rows } in
+          let copied = (rw (c.in_ok-noted.ensures.planned.1, c.in_ok-noted.ensures.store.honesty, c.in_ok-noted.ensures.store.file, i.honesty, i.file) at c.in_ok-carry_turn.ensures.copied) told tree o in
           let read : (x : Option SampleAt) → slice_get c.carry_turn.new.self.nexts.items c.in-Some.turn.track ≡ Some x → c.index.result.now ≡ x = λ x is. read_at c.carry_turn.new.self.nexts.items c.in-Some.turn.track x _ is c.index.ensures in
           with_times c.args.self.now.content.leaving file tree m o s c.loop-turn.sequence c.loop-turn.bytes w g.met.K.Sink.takes_on before after h c.in-Some.turn here own i.tracks i.writer (ap (λ (x : Content). x.leaving) i.content) (ap (λ (x : Content). x.of_tracks.items) i.content
           ∙ ready.reductions) c.note_turn.new.self c.in_ok-noted.noted noted c.in_ok-noted.ensures.writer.content c.in_ok-noted.ensures.writer.keeps few
-          c.carry_turn.new.self c.index.result.now copied
+          c.carry_turn.new.self c.index.result.now (λ samples is. (copied samples is).0)
           read (λ (xs : List (Option SampleAt)). IsDueAt (tracks_left c.args.self.now.content.leaving m.tracks) xs c.pass.new.self c.pass.new.due) (i.due told tree o ready) c.in_ok-carry_turn.ensures.writer.keeps.1
           (rw (c.tracks-in-Some.ensures ∙ ap (λ (x : Content). x.tracks.items) (c.in_ok-carry_turn.ensures.writer.content ∙ c.in_ok-noted.ensures.writer.content ∙ i.content) ∙ c.requires.content.tracks) at c.in_ok-pass.ensures.due);
       within = λ told tree o n may.
           let w = c.loop-turn.self in
           turn_then (g.S.Store.file c.args.store.now) tree c.args.movie.now w.content.of_tracks.items w.walks.items c.note_turn.new.self.walks.items c.in-Some.turn.track c.in_ok-noted.noted.planned.count n _ _ _ (i.within told tree o n may)
           ((rw (i.honesty, i.file, c.in-Some.ensures.passed) at c.in_ok-noted.ensures.work) told tree o) c.carry_turn.new.self.walks.items _
-          (rw c.in_ok-noted.ensures.writer.content at ((rw (c.in_ok-noted.ensures.track, c.in_ok-noted.ensures.store.honesty, c.in_ok-noted.ensures.store.file, i.honesty, i.file) at c.in_ok-carry_turn.ensures.work) told tree o));
-      some = c.in_ok-pass.ensures.some;
-      looks = looks_on c.loop-turn.schedule c.pass.new.self c.args.steps.now.looks _ _ (movie_turns c.args.movie.now) i.looks (c.in_ok-carry_turn.ensures.looks ∙ c.in_ok-noted.ensures.looks ∙ c.in-Some.ensures.looks) c.in_ok-pass.ensures.less;
-      grows = (let noted = c.in_ok-noted.ensures.grows in let carried = c.in_ok-carry_turn.ensures.grows in let so = i.grows in let same = c.in-Some.ensures.passed in omega (arith, noted, carried, so, same));
+          (rw c.in_ok-noted.ensures.writer.content at ((rw (c.in_ok-noted.ensures.planned.1, c.in_ok-noted.ensures.store.honesty, c.in_ok-noted.ensures.store.file, i.honesty, i.file) at c.in_ok-carry_turn.ensures.work) told tree o));
+      some = c.in_ok-pass.ensures.less.1;
+      looks = looks_on c.loop-turn.schedule c.pass.new.self c.args.steps.now.looks _ _ (movie_turns c.args.movie.now) i.looks (c.in_ok-carry_turn.ensures.steps.1 ∙ c.in_ok-noted.ensures.steps.1 ∙ c.in-Some.ensures.looks) c.in_ok-pass.ensures.less.0;
+      grows = (let noted = c.in_ok-noted.ensures.steps.0 in let carried = c.in_ok-carry_turn.ensures.steps.0 in let so = i.grows in let same = c.in-Some.ensures.passed in omega (arith, noted, carried, so, same));
     }
 
 pub returns-clause-bytes : goal.returns-clause-bytes
@@ -355,7 +355,7 @@ returns-in_err-carry_turn-clause-work g c told tree o n may =
     let w = c.loop-turn.self in
     turn_then_stop (g.S.Store.file c.args.store.now) tree c.args.movie.now w.content.of_tracks.items w.walks.items c.note_turn.new.self.walks.items c.in-Some.turn.track c.in_ok-noted.noted.planned.count n _ _ _ (i.within told tree o n may)
     ((rw (i.honesty, i.file, c.in-Some.ensures.passed) at c.in_ok-noted.ensures.work) told tree o) _
-    (rw c.in_ok-noted.ensures.writer.content at ((rw (c.in_ok-noted.ensures.track, c.in_ok-noted.ensures.store.honesty, c.in_ok-noted.ensures.store.file, i.honesty, i.file) at c.in_err-carry_turn.ensures.work) told tree o))
+    (rw c.in_ok-noted.ensures.writer.content at ((rw (c.in_ok-noted.ensures.planned.1, c.in_ok-noted.ensures.store.honesty, c.in_ok-noted.ensures.store.file, i.honesty, i.file) at c.in_err-carry_turn.ensures.work) told tree o))
 
 pub returns-in_err-pass-clause-work : goal.returns-in_err-pass-clause-work
 returns-in_err-pass-clause-work g c told tree o n may =
@@ -365,14 +365,14 @@ returns-in_err-pass-clause-work g c told tree o n may =
     all_written file tree c.args.movie.now c.carry_turn.new.self.walks.items n _ _
     (turn_then file tree c.args.movie.now w.content.of_tracks.items w.walks.items c.note_turn.new.self.walks.items c.in-Some.turn.track c.in_ok-noted.noted.planned.count n _ _ _ (i.within told tree o n may)
     ((rw (i.honesty, i.file, c.in-Some.ensures.passed) at c.in_ok-noted.ensures.work) told tree o) c.carry_turn.new.self.walks.items _
-    (rw c.in_ok-noted.ensures.writer.content at ((rw (c.in_ok-noted.ensures.track, c.in_ok-noted.ensures.store.honesty, c.in_ok-noted.ensures.store.file, i.honesty, i.file) at c.in_ok-carry_turn.ensures.work) told tree o)))
+    (rw c.in_ok-noted.ensures.writer.content at ((rw (c.in_ok-noted.ensures.planned.1, c.in_ok-noted.ensures.store.honesty, c.in_ok-noted.ensures.store.file, i.honesty, i.file) at c.in_ok-carry_turn.ensures.work) told tree o)))
 
 pub returns-clause-work : goal.returns-clause-work
 returns-clause-work g c told tree o n may = rw c.in_default.ensures.passed (all_written (g.S.Store.file c.args.store.now) tree c.args.movie.now c.loop-turn.self.walks.items n _ _ (c.loop-turn.invariant.within told tree o n may))
 
 pub overflow_add-bytes : goal.overflow_add-bytes
 overflow_add-bytes g c =
-    let sum = sum_fits c.loop-turn.bytes c.loop-turn.schedule.left c.in_ok-noted.noted.planned.bytes c.loop-turn.invariant.few c.in_ok-noted.ensures.planned.room in
+    let sum = sum_fits c.loop-turn.bytes c.loop-turn.schedule.left c.in_ok-noted.noted.planned.bytes c.loop-turn.invariant.few c.in_ok-noted.ensures.planned.0.room in
     let same = c.from-bytes.ensures in
     omega (arith, sum, same)
 
@@ -411,25 +411,31 @@ returns-clause-whole g c =
     ∙ tracks_bytes c.args.self.now.content.leaving c.args.movie.now.tracks) x)
     c.flush.ensures.bytes
 
-pub returns-in_err-noted-clause-turns : goal.returns-in_err-noted-clause-turns
-returns-in_err-noted-clause-turns g c = looks_within c.loop-turn.schedule c.args.steps.now.looks _ _ (movie_turns c.args.movie.now) c.loop-turn.invariant.looks (c.in_err-noted.ensures.looks ∙ c.in-Some.ensures.looks) c.in-Some.ensures.track.1 c.loop-turn.invariant.some
+pub returns-in_err-noted-clause-steps : goal.returns-in_err-noted-clause-steps
+returns-in_err-noted-clause-steps g c = (search rules, looks_within c.loop-turn.schedule c.args.steps.now.looks _ _ (movie_turns c.args.movie.now) c.loop-turn.invariant.looks (c.in_err-noted.ensures.steps.1 ∙ c.in-Some.ensures.looks) c.in-Some.ensures.track.1 c.loop-turn.invariant.some)
 
-pub returns-in_err-carry_turn-clause-turns : goal.returns-in_err-carry_turn-clause-turns
-returns-in_err-carry_turn-clause-turns g c = looks_within c.loop-turn.schedule c.args.steps.now.looks _ _ (movie_turns c.args.movie.now) c.loop-turn.invariant.looks
-    (c.in_err-carry_turn.ensures.looks ∙ c.in_ok-noted.ensures.looks ∙ c.in-Some.ensures.looks) c.in-Some.ensures.track.1 c.loop-turn.invariant.some
+pub returns-in_err-carry_turn-clause-steps : goal.returns-in_err-carry_turn-clause-steps
+returns-in_err-carry_turn-clause-steps g c = (
+  search rules,
+  looks_within c.loop-turn.schedule c.args.steps.now.looks _ _ (movie_turns c.args.movie.now) c.loop-turn.invariant.looks
+      (c.in_err-carry_turn.ensures.steps.1 ∙ c.in_ok-noted.ensures.steps.1 ∙ c.in-Some.ensures.looks) c.in-Some.ensures.track.1 c.loop-turn.invariant.some,
+)
 
-pub returns-in_err-pass-clause-turns : goal.returns-in_err-pass-clause-turns
-returns-in_err-pass-clause-turns g c = looks_within c.loop-turn.schedule c.args.steps.now.looks _ _ (movie_turns c.args.movie.now) c.loop-turn.invariant.looks
-    (c.in_ok-carry_turn.ensures.looks ∙ c.in_ok-noted.ensures.looks ∙ c.in-Some.ensures.looks) c.in-Some.ensures.track.1 c.loop-turn.invariant.some
+pub returns-in_err-pass-clause-steps : goal.returns-in_err-pass-clause-steps
+returns-in_err-pass-clause-steps g c = (
+  search rules,
+  looks_within c.loop-turn.schedule c.args.steps.now.looks _ _ (movie_turns c.args.movie.now) c.loop-turn.invariant.looks
+      (c.in_ok-carry_turn.ensures.steps.1 ∙ c.in_ok-noted.ensures.steps.1 ∙ c.in-Some.ensures.looks) c.in-Some.ensures.track.1 c.loop-turn.invariant.some,
+)
 
-pub returns-then-not-are_all-clause-turns : goal.returns-then-not-are_all-clause-turns
-returns-then-not-are_all-clause-turns g c =
+pub returns-then-not-are_all-clause-steps : goal.returns-then-not-are_all-clause-steps
+returns-then-not-are_all-clause-steps g c =
     let within = c.loop-turn.invariant.looks in
     let same = c.in_default.ensures.looks in
-    omega (arith, within, same)
+    (search rules, omega (arith, within, same))
 
-pub returns-clause-turns : goal.returns-clause-turns
-returns-clause-turns g c =
+pub returns-clause-steps : goal.returns-clause-steps
+returns-clause-steps g c =
     let within = c.loop-turn.invariant.looks in
     let same = c.in_default.ensures.looks in
-    omega (arith, within, same)
+    (search rules, omega (arith, within, same))
