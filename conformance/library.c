@@ -37,7 +37,8 @@ void __wrap_free(void *block) {
 }
 
 static const char *const NAMES[] = {"check", "sum", "normal_range", "print_range", "show_range", "samples_range",
-                                    "extract_range", "boxes_range", "compare", "compare_range", "normal_len"};
+                                    "extract_range", "boxes_range", "compare", "compare_range", "normal_len",
+                                    "fields_range"};
 static uint8_t file[ROOM], other[ROOM], due[ROOM], out[ROOM], before[ROOM];
 static size_t len, other_len;
 static uint32_t track;
@@ -60,7 +61,8 @@ static struct mp4norm_answer call(size_t which, long at, uint8_t *put) {
     case 7: mp4norm_boxes_range(file, len, MP4NORM_JSON, 0, put, ROOM, &answer); break;
     case 8: mp4norm_compare(file, len, other, other_len, 0, put, ROOM, &answer); break;
     case 9: mp4norm_compare_range(file, len, other, other_len, &how, 0, put, ROOM, &answer); break;
-    default: mp4norm_normal_len(file, len, 0, &answer);
+    case 10: mp4norm_normal_len(file, len, 0, &answer); break;
+    default: mp4norm_fields_range(file, len, MP4NORM_LINES, 16, 0, put, ROOM, &answer);
     }
     refused = 0;
     return answer;

@@ -18,10 +18,11 @@
 
 /* The longest file, the largest buffer, the most files, what a buffer holds, and the largest allocation that is granted. */
 enum { LONGEST = 1 << 14, MOST_ROOM = 1 << 13, MOST_FILES = 4096, BEFORE = 0xA5, LARGEST = 1 << 26 };
-enum { CHECK, LENGTH, SUM, NORMAL, PRINT, SHOW, SAMPLES, EXTRACT, BOXES, COMPARE, COMPARE_RANGE, CALLS };
+enum { CHECK, LENGTH, SUM, NORMAL, PRINT, SHOW, SAMPLES, EXTRACT, BOXES, FIELDS, COMPARE, COMPARE_RANGE, CALLS };
 
 static const char *const NAMES[CALLS] = {"check", "normal_len", "sum", "normal_range", "print_range", "show_range",
-                                         "samples_range", "extract_range", "boxes_range", "compare", "compare_range"};
+                                         "samples_range", "extract_range", "boxes_range", "fields_range", "compare",
+                                         "compare_range"};
 static long asked, refused, held, refusals;
 
 void *__real_malloc(size_t len);
@@ -159,6 +160,7 @@ static struct mp4norm_answer ask(const struct call *call, long number) {
     case SAMPLES: mp4norm_samples_range(file, len, call->track, call->number, call->from, out, room, &answer); break;
     case EXTRACT: mp4norm_extract_range(file, len, call->track, call->from, out, room, &answer); break;
     case BOXES: mp4norm_boxes_range(file, len, call->number, call->from, out, room, &answer); break;
+    case FIELDS: mp4norm_fields_range(file, len, call->number, call->track, call->from, out, room, &answer); break;
     case COMPARE: mp4norm_compare(file, len, other, now[1].len, call->words, out, room, &answer); break;
     default: mp4norm_compare_range(file, len, other, now[1].len, &call->how, call->from, out, room, &answer);
     }

@@ -176,6 +176,12 @@ void mp4norm_extract_range(const uint8_t *file, size_t file_len, uint32_t track,
 void mp4norm_boxes_range(const uint8_t *file, size_t file_len, uint32_t syntax, uint64_t from,
                          uint8_t *out, size_t out_len, struct mp4norm_answer *answer);
 
+/* The same, with the fields of each box by their names in the standard, and at most so many of its rows,
+ * as `mp4norm boxes --fields --rows N`. */
+void mp4norm_fields_range(const uint8_t *file, size_t file_len, uint32_t syntax, uint64_t rows,
+                          uint64_t from, uint8_t *out, size_t out_len,
+                          struct mp4norm_answer *answer);
+
 /* Whether the same is left of two files: MP4NORM_DONE if it is, and MP4NORM_DIFFER if not. Then the line
  * of the first difference, as `mp4norm compare`, is put into `out`, at most out_len bytes of it, which
  * may be 0; answer->len says how many. MP4NORM_REFUSED if a file has no normal form: answer->file says

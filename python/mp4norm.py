@@ -32,7 +32,7 @@ import struct
 import subprocess
 import tempfile
 import unicodedata
-from dataclasses import dataclass, fields
+from dataclasses import dataclass, field, fields
 from fractions import Fraction
 from typing import (Any, Callable, Dict, Iterable, List, Mapping, Optional, Sequence, Tuple, Type,
                     TypeVar, Union, cast)
@@ -175,7 +175,9 @@ class Sample:
 @dataclass(frozen=True)
 class Box:
     """`depth` is the number of containers around it, `size` has its header in it. `foreign` says
-    that the profile doesn't have the box there. `uuid` is the extended type of a `uuid` box."""
+    that the profile doesn't have the box there. `uuid` is the extended type of a `uuid` box.
+    `fields`, where they are asked for and the profile reads the box, has what it says by the names
+    in the standard, as the objects of docs/OUTPUT.md have them."""
 
     depth: int
     type: str
@@ -183,6 +185,7 @@ class Box:
     size: int
     uuid: Optional[str] = None
     foreign: bool = False
+    fields: Optional[Dict[str, Any]] = field(default=None, hash=False)
 
 
 @dataclass(frozen=True)
@@ -285,10 +288,18 @@ def columns(file: File, track: int) -> Dict[str, List[Any]]:
     return made
 
 
-def boxes(file: File) -> List[Box]:
-    """The boxes of the file, in their order, containers before what is in them."""
-    found = _text("boxes", file, 1)
-    found = _run(["boxes", "--json"], [file]) if found is None else found
+def boxes(file: File, rows: Optional[int] = None) -> List[Box]:
+    """The boxes of the file, in their order, containers before what is in them. With `rows`, from 0
+    to 2^64 - 1, each that the profile reads has its `fields`, and at most so many of its rows."""
+    if rows is None:
+        found = _text("boxes", file, 1)
+        found = _run(["boxes", "--json"], [file]) if found is None else found
+    else:
+        if not 0 <= rows < 1 << 64:
+            raise ValueError(f"no number of rows: {rows}")
+        found = _text("fields", file, 1, rows)
+        asked = ["boxes", "--json", "--fields", "--rows", str(rows)]
+        found = _run(asked, [file]) if found is None else found
     return [_made(Box, told) for told in _objects(found)]
 
 
@@ -455,11 +466,16 @@ def _windows(ask: Callable[..., int], room: int, step: int) -> bytes:
 def _text(call: str, file: File, *numbers: int) -> Optional[bytes]:
     """All that a call of the library puts; None where the program has to be run."""
     library = _library()
-    content = None if library is None else _bytes_of(file)
+    # A library of before has no fields.
+    if not hasattr(library, f"mp4norm_{call}_range"):
+        return None
+    content = _bytes_of(file)
     if content is None:
         return None
-    from ctypes import c_uint32
-    words = _given(content) + tuple(map(c_uint32, numbers))
+    from ctypes import c_uint32, c_uint64
+    # The rows of fields are the one number of 64 bits.
+    words = _given(content) + tuple(c_uint64(it) if call == "fields" and at else c_uint32(it)
+                                    for at, it in enumerate(numbers))
 
     def ask(*window: Any) -> int:
         return _ask(library, [file], f"{call}_range", *words, *window)

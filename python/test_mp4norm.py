@@ -164,6 +164,20 @@ class Answers(Case):
         self.assertEqual(found[-2:], [Box(5, 'stco', 521, 20), Box(0, 'mdat', 541, 20)])
         self.assertEqual(mp4norm.boxes(PLAIN), found)
 
+    def test_fields(self):
+        for file in ('plain.mp4', PLAIN):
+            found = mp4norm.boxes(file, rows=1)
+            self.assertEqual([(it.depth, it.type, it.offset, it.size) for it in found],
+                             [(it.depth, it.type, it.offset, it.size) for it in mp4norm.boxes(file)])
+            self.assertEqual(found[0].fields, {'bytes': 16, 'major_brand': 'iso6', 'minor_version': 0,
+                                               'rows': [{'row': 1, 'compatible_brand': 'iso6'}]})
+            self.assertEqual(found[1], Box(0, 'moov', 24, 517))
+            self.assertEqual(mp4norm.boxes(file, rows=0)[0].fields['rows'], [])
+            self.assertEqual(mp4norm.boxes(file, 2 ** 64 - 1)[2].fields['timescale'], 1000)
+            for none in (-1, 2 ** 64):
+                with self.assertRaises(ValueError):
+                    mp4norm.boxes(file, none)
+
     def test_boxes_of_others(self):
         number = bytes.fromhex('be7acfcb97a942e89c71999491e3afac')
         data = (PLAIN + b'\0\0\0\x1auuid' + number + b'xy' + b'\0\0\0\x0auuidno'

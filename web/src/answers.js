@@ -9,6 +9,8 @@ import { beforeFault } from './refused.js';
 export const MOST_SAMPLES = 1 << 22;
 /** Of so many tracks at most samples are drawn. */
 export const MOST_LANES = 40;
+/** So many rows of a box are shown at most. */
+export const MOST_ROWS = 16;
 /** So many boxes are drawn at most. */
 export const MOST_BOXES = 1 << 18;
 /**
@@ -32,6 +34,16 @@ export function boxesOf(open, bytes) {
 /** The samples of a track; none where there are too many. */
 export function columnsOf(open, track) {
     return samplesOf(track.samples > MOST_SAMPLES ? '' : open.samplesText(track.id));
+}
+
+/** The fields of the box that these bytes are; nothing where it has none, or can't be read. */
+export function fieldsOf(lib, bytes) {
+    try {
+        return lib.fields(bytes, MOST_ROWS)[0]?.fields ?? null;
+    } catch (error) {
+        if (error.code === 'refused') return null;
+        throw error;
+    }
 }
 
 /** What `outline` says of a file; without fragments where not all boxes are there. */

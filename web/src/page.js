@@ -81,7 +81,10 @@ function drawMaps() {
     for (const [name, slot] of shown) {
         if (maps.get(name)?.slot === slot) continue;
         maps.get(name)?.element.remove();
-        const map = new BoxPicture(name, slot);
+        const ask = async ({ offset, size }) =>
+            (await work.ask({ work: 'fields', ...held(name), offset, size }, { isQuiet: true }))
+                .fields;
+        const map = new BoxPicture(name, slot, ask);
         map.element = map.card();
         maps.set(name, map);
     }

@@ -1,6 +1,7 @@
 // The two pictures on the page: files in time, and their boxes by place.
 import { boxAt, boxed, drawBoxes, listed, meant, sorts } from './boxes.js';
 import { button, element, keep, one } from './dom.js';
+import { mayHaveFields, shownFields } from './fields.js';
 import { extent, sampleAt } from './film.js';
 import { described, drawLanes } from './lanes.js';
 import { ON_PAGE, PALETTE } from './palette.js';
@@ -167,10 +168,10 @@ export class TimePicture {
     }
 }
 
-/** The picture of the boxes of a file, and their names. */
+/** The picture of the boxes of a file, their names, and the fields of one; `ask` answers these. */
 export class BoxPicture {
-    constructor(name, slot) {
-        Object.assign(this, { name, slot, chosen: -1 });
+    constructor(name, slot, ask) {
+        Object.assign(this, { name, slot, ask, chosen: -1 });
         const { verdict } = slot;
         this.fault = verdict.status === 1 ? slot.boxes.findIndex(
                          box => Number(box.offset) === Number(verdict.offset)
@@ -198,9 +199,10 @@ export class BoxPicture {
             tools(this.pane, () => this.save()));
         this.list =
             element('ol', { className: 'names', aria: { label: 'Boxes by name' } }, this.rows());
+        this.fields = element('div', { className: 'fields', aria: { label: 'Fields' } });
         return element(
             'section', { className: 'card map-card', data: { slot: this.name } }, head,
-            this.pane.host, this.told, this.list);
+            this.pane.host, this.told, this.fields, this.list);
     }
 
     rows() {
@@ -266,6 +268,16 @@ export class BoxPicture {
         ].filter(Boolean));
     }
 
+    // Shows the fields of a box, once they are there, unless another one was chosen meanwhile.
+    async show(k) {
+        const box = this.slot.boxes[k];
+        this.fields.replaceChildren();
+        if (!mayHaveFields(box)) return;
+        const fields = await this.ask(box).catch(() => null);
+        if (this.chosen === k)
+            this.fields.replaceChildren(...shownFields(fields).filter(Boolean));
+    }
+
     /** Chooses a box; near enough to be seen, where that is asked for. */
     choose(k, isNear) {
         if (k < 0) return;
@@ -281,6 +293,7 @@ export class BoxPicture {
             this.list.scrollTop +=
                 row.getBoundingClientRect().top - this.list.getBoundingClientRect().top - 100;
         this.tell(k);
+        this.show(k);
         this.pane.refresh();
     }
 

@@ -4,6 +4,7 @@ import {
     boxesOf,
     columnsOf,
     cutsOf,
+    fieldsOf,
     isShort,
     MOST_LANES,
     numbersTold,
@@ -191,6 +192,8 @@ const WORK = {
         tell({ part: 'step', text: 'Printing the content' });
         return { bytes: open.printBytes(message.words) };
     },
+    fields: async ({ file, offset, size }) =>
+        ({ fields: fieldsOf(lib, await piece(file, Number(offset), Number(size))) }),
     drop: async message => {
         drop(message.slot);
         return {};

@@ -16,7 +16,7 @@ mod window_answers;
 
 ghost use Rattle.std.specs.Prelude.{◌≡◌, Some};
 ghost use Rattle.mp4_answers.specs.declared.jobs.Job.TheVariants as jobs;
-ghost use Rattle.mp4norm_c.specs.format.Exports.{Answers, Checks, Compares, Measures, Sums, boxes_job, comparison_asked, first_asked, form_of, print_job, reduce_job, samples_job, syntax_of, version_here, without_of};
+ghost use Rattle.mp4norm_c.specs.format.Exports.{Answers, Checks, Compares, Measures, Sums, boxes_job, comparison_asked, fields_job, first_asked, form_of, print_job, reduce_job, samples_job, syntax_of, version_here, without_of};
 
 use crate::asked::{comparison_asked, first_asked, form_of, syntax_of, without_of};
 use crate::compared::answer_compare;
@@ -151,6 +151,26 @@ pub extern "C" fn mp4norm_boxes_range(
     ensures { Answers (boxes_job (syntax_of syntax)) file.now from out.old out.new answer.new }
 {
     let job = syntax_of(syntax).map(|syntax| Job::Boxes { syntax });
+    *answer = answer_window(alloc, job, file, from, out);
+}
+
+/// The boxes of a file, each with its fields by their names in the standard (ISO/IEC 14496-12) and
+/// at most so many of its rows, in a syntax (0: lines, 1: objects of JSON), from the place `from`
+/// on.
+#[unsafe(no_mangle)]
+pub extern "C" fn mp4norm_fields_range(
+    alloc: Global,
+    file: &[u8],
+    syntax: u32,
+    rows: u64,
+    from: u64,
+    out: &mut [u8],
+    answer: &mut Answer,
+)
+    ensures { Answers (fields_job rows (syntax_of syntax)) file.now from out.old out.new
+        answer.new }
+{
+    let job = syntax_of(syntax).map(|syntax| Job::Fields { syntax, rows });
     *answer = answer_window(alloc, job, file, from, out);
 }
 

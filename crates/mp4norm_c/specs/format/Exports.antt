@@ -129,6 +129,10 @@ samples_job track = option_map (λ form. jobs.Samples track form)
 abbrev pub boxes_job : Option Syntax → Option Job
 boxes_job = option_map jobs.Boxes
 
+-- of each box so many rows
+abbrev pub fields_job : ℕ → Option Syntax → Option Job
+fields_job rows = option_map (λ syntax. jobs.Fields syntax rows)
+
 -- How two files are told of that differ: by the first difference, or by all, of which at most so
 -- many are listed; in this syntax.
 abbrev pub listing_of : ℕ → ℕ → Option Syntax → Option Listing
