@@ -28,6 +28,17 @@ pub mod ComparisonTurned
 pub mod ComparisonVectors
 pub mod CourseSteps
 pub mod Reducing
+pub mod TimescalesDivisors
+pub mod TimescalesFractions
+pub mod TimescalesChanged
+pub mod TimescalesReduced
+pub mod TimescalesWords
+pub mod TimescalesLengths
+pub mod TimescalesExact
+pub mod TimescalesValid
+pub mod TimescalesEdits
+pub mod TimescalesOrder
+pub mod TimescalesVectors
 pub mod Covering
 pub mod FieldValues
 pub mod PairsPassed

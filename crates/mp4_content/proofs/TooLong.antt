@@ -46,19 +46,19 @@ edit = record { segment_duration = 1; media_time = pos 0; rate_integer = pos 1; 
 abbrev head : List Edit → TrackHead
 head edits = record { flags = 0; creation = 0; modification = 0; id = 1; layer = pos 0; alternate_group = pos 0; volume = pos 0; matrix = matrix; width = 0; height = 0; edits = edits; kept = []; media = media; group_descriptions = [] }
 
-abbrev sample : ℕ → ℤ → Sample
+abbrev pub sample : ℕ → ℤ → Sample
 sample duration offset = record { duration = duration; offset = offset; flags = 0; description = 1; bytes = []; groups = [] }
 
-abbrev track : List Edit → List Sample → Track
+abbrev pub track : List Edit → List Sample → Track
 track edits samples = record { head = head edits; start = 0; samples = samples }
 
-abbrev movie : MovieHead
+abbrev pub movie : MovieHead
 movie = record { creation = 0; modification = 0; timescale = 2 ^ 32 - 1; rate = pos 0; volume = pos 0; matrix = matrix; kept = [] }
 
-abbrev one_track : List Edit → List Sample → Presentation
+abbrev pub one_track : List Edit → List Sample → Presentation
 one_track edits samples = record { movie = movie; tracks = track edits samples ∷ [] }
 
-fits_32 : FitsSigned w32 (pos 0)
+pub fits_32 : FitsSigned w32 (pos 0)
 fits_32 = omega arith
 
 fits_16 : FitsSigned w16 (pos 0)
@@ -114,7 +114,7 @@ head_good edits h = record {
   group_descriptions = tt;
 }
 
-sample_good : (duration : ℕ) (offset : ℤ) → duration < 2 ^ 32 → FitsSigned w32 offset → IsSample 1 (sample duration offset)
+pub sample_good : (duration : ℕ) (offset : ℤ) → duration < 2 ^ 32 → FitsSigned w32 offset → IsSample 1 (sample duration offset)
 sample_good duration offset h k =
     record { duration = h; offset = k; flags = omega arith; description_from_1 = omega arith; description = omega arith; bytes = no_bytes; size = omega arith; groups = tt; groups_in_order = refl }
 
@@ -124,7 +124,7 @@ track_good edits samples e h few = record { head = head_good edits e; samples = 
 movie_good : IsMovieHead movie
 movie_good = record { creation = omega arith; modification = omega arith; timescale = omega arith; timescale_not_0 = omega arith; rate = fits_32; volume = fits_16; matrix = matrix_good; kept = tt }
 
-one_track_good : (edits : List Edit) (samples : List Sample) → AllByRecursion IsEdit edits → AllByRecursion (IsSample 1) samples → length (keys_of samples) ≤ max_keys → IsWithinLimits (one_track edits samples) → Valid (one_track edits samples)
+pub one_track_good : (edits : List Edit) (samples : List Sample) → AllByRecursion IsEdit edits → AllByRecursion (IsSample 1) samples → length (keys_of samples) ≤ max_keys → IsWithinLimits (one_track edits samples) → Valid (one_track edits samples)
 one_track_good edits samples e h few limits = record { movie = movie_good; tracks = (track_good edits samples e h few, tt); ids = refl; limits = limits }
 
 -- ---- too long: by its second sample, since the first and the last may last 1

@@ -10,4 +10,6 @@ pub mod CompleteLaws
 pub mod ReducedTimes
 pub mod ReducedLaws
 pub mod CoveringLaws
+pub mod Timescales
+pub mod TimescalesLaws
 pub mod TimedSamples

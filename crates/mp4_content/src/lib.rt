@@ -57,6 +57,7 @@ mod reduced;
 mod reduced_head;
 pub mod reduced_laws;
 mod reduced_lengths;
+pub mod timescales_laws;
 mod without;
 
 pub use comparing::differences::{Difference, Differences, Entries, Field, Part, Subject, Value};
