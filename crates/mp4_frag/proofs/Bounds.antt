@@ -9,10 +9,10 @@ use Rattle.mp4_boxes.specs.format.Bytes.{AreBytes}
 use Rattle.mp4_boxes.specs.format.Layout.{flags, column_values, trun_columns}
 use Rattle.mp4_boxes.proofs.OfBytes.{signed_32, bytes_dropped}
 use Rattle.mp4_boxes.proofs.Plain.{and_is_true}
-use Rattle.mp4_frag.specs.format.Fragments.{RunRow, column, sample_run_of}
+use Rattle.mp4_frag.specs.format.Fragments.{RunRow, TrackFragment, column, sample_run_of}
 use Rattle.mp4_frag.specs.declared.heads.Inherited.{Inherited}
 use Rattle.mp4_frag.proofs.Ranges.{value_below}
-use Rattle.mp4_frag.specs.format.FragmentSamples.{run_start}
+use Rattle.mp4_frag.specs.format.FragmentSamples.{base_of, run_start}
 use Rattle.mp4_frag.specs.words.Passing.{IsNearer, IsUpTo, within_from, end_from, IsRunPassed}
 
 pub up_to_more : (n m : ℕ) (z : ℤ) → n ≤ m → IsUpTo n z → IsUpTo m z
@@ -41,14 +41,14 @@ up_to_end : (n L size : ℕ) (at : ℤ) → L ≤ n → lies_within L at size �
 up_to_end n L size (pos k) h lies = let le : k + size ≤ L = search rules in omega arith
 up_to_end n L size (negsuc k) h lies = absurd cc
 
-rows_up_to : (n L size : ℕ) (at : ℤ) (rows : List RunRow) → L ≤ n → within_from L size at rows ≡ true → IsUpTo n at → IsUpTo n (end_from size at rows)
+pub rows_up_to : (n L size : ℕ) (at : ℤ) (rows : List RunRow) → L ≤ n → within_from L size at rows ≡ true → IsUpTo n at → IsUpTo n (end_from size at rows)
 rows_up_to n L size at [] h within b = b
 rows_up_to n L size at (row ∷ rows) h within b =
     let one = unwrap_or row.size size in
     let parts = and_is_true (lies_within L at one) (within_from L size (at +ℤ pos one) rows) within in
     rows_up_to n L size (at +ℤ pos one) rows h parts.1 (up_to_end n L one at h parts.0)
 
-start_up_to : (n : ℕ) (base before : ℤ) (offset : Option ℤ) → IfSome offset (FitsSigned w32) → IsUpTo n base → IsUpTo (n + 2 ^ 31) before → IsUpTo (n + 2 ^ 31) (run_start base before offset)
+pub start_up_to : (n : ℕ) (base before : ℤ) (offset : Option ℤ) → IfSome offset (FitsSigned w32) → IsUpTo n base → IsUpTo (n + 2 ^ 31) before → IsUpTo (n + 2 ^ 31) (run_start base before offset)
 start_up_to n base before None f b c = c
 start_up_to n base before (Some offset) f b c = up_to_offset n base offset f b
 
@@ -69,3 +69,17 @@ run_up_to n L inherited base before payload ends samples lasts fills bytes short
     let run = sample_run_of payload in
     let start = start_up_to n base before run.data_offset (offset_of_bytes payload bytes) b c in
     subst (IsUpTo (n + 2 ^ 31)) (sym p.end) (rows_up_to (n + 2 ^ 31) L inherited.size (run_start base before run.data_offset) run.rows (omega arith) p.within start)
+
+-- where the runs of a `traf` are counted from
+pub base_up_to : (n moof : ℕ) (before : ℤ) (traf : TrackFragment) → moof ≤ n → IfSome traf.base_data_offset (λ at. at ≤ n) → IsUpTo n before → IsUpTo n (base_of moof before traf)
+base_up_to n moof before traf h f b = choice traf.base_data_offset traf.base_is_moof f
+  where
+    based : Option ℕ → Bool → ℤ
+    based (Some at) is_moof = pos at
+    based None true = pos moof
+    based None false = before
+
+    choice : (o : Option ℕ) (v : Bool) → IfSome o (λ at. at ≤ n) → IsUpTo n (based o v)
+    choice (Some at) v g = g
+    choice None true g = h
+    choice None false g = b

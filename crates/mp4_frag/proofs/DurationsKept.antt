@@ -12,7 +12,7 @@ use Rattle.mp4_frag.specs.words.Durations.{durations_of, rows_durations, rows_la
 use Rattle.mp4_frag.specs.words.Times.{lasting}
 use Rattle.mp4_frag.specs.words.Walks.{Reached, can_read, rows_of, rows_here, rows_coming, run_coming, runs_coming, boxes_from, before_run, behind_row, reached, coming}
 use Rattle.mp4_frag.specs.declared.heads.Inherited.{Inherited}
-use Rattle.mp4_frag.specs.declared.places.FragPlace.{FragPlace}
+use Rattle.mp4_frag.specs.declared.places.TrafPlace.{TrafPlace}
 use Rattle.mp4_frag.specs.declared.places.RowPlace.{RowPlace}
 use Rattle.mp4_frag.proofs.Comings.{rows_done}
 
@@ -48,7 +48,7 @@ rows_left_out : (rows : List RunRow) (s t : Reached) (first : Option ℕ) (m : R
 rows_left_out [] s t first m a f = f s t a
 rows_left_out (row ∷ rows) s t first m a f = ap (λ (ns : List ℕ). unwrap_or row.duration s.inherited.duration ∷ ns) (rows_left_out rows (behind_row s row) t None m a f)
 
-pub run_left_out : (payload : List ℕ) (p q : FragPlace) → q.run.left ≡ 0 → q.next ≡ p.next → q.inherited ≡ p.inherited → durations_of (coming payload p) ≡ rows_durations p.inherited.duration (rows_here payload p.run) ++ durations_of (coming payload q)
+pub run_left_out : (payload : List ℕ) (p q : TrafPlace) → q.run.left ≡ 0 → q.next ≡ p.next → q.inherited ≡ p.inherited → durations_of (coming payload p) ≡ rows_durations p.inherited.duration (rows_here payload p.run) ++ durations_of (coming payload q)
 unfolding coming
 run_left_out payload p q none next inherited =
     let more : Reached → List SampleAt = λ s. runs_coming s (boxes_from payload p.next) in
@@ -82,14 +82,14 @@ split_lasting inherited rows before after e =
     ∙ (λ i. sym (sum_of_mapped (λ (row : RunRow). unwrap_or row.duration inherited) rows) i + sym (sum_of_mapped (λ (s : SampleAt). s.duration) after) i)
 
 -- at least those of the rows left are to come
-pub as_many : (payload : List ℕ) (p : FragPlace) → p.run.left ≤ length (coming payload p)
+pub as_many : (payload : List ℕ) (p : TrafPlace) → p.run.left ≤ length (coming payload p)
 as_many payload p =
-    let q : FragPlace = record p { run = record p.run { left = 0 } } in
+    let q : TrafPlace = record p { run = record p.run { left = 0 } } in
     let split = split_count p.inherited.duration (rows_here payload p.run) (coming payload p) (coming payload q) (run_left_out payload p q refl refl refl) in
     omega (arith, split, rows_left payload p.run)
 
 -- What is counted where the rows left of a run are left out, and boxes are passed: so many samples more, and so long.
-pub counted_on : (payload bytes : List ℕ) (p q r : FragPlace) → bytes ≡ payload
+pub counted_on : (payload bytes : List ℕ) (p q r : TrafPlace) → bytes ≡ payload
     → durations_of (coming bytes p) ≡ rows_durations p.inherited.duration (rows_here bytes p.run) ++ durations_of (coming bytes q) → coming bytes r ≡ coming bytes q
     → (length (coming payload p) ≡ p.run.left + length (coming payload r)) × (lasting (coming payload p) ≡ rows_lasting p.inherited.duration (rows_here bytes p.run) + lasting (coming payload r))
 counted_on payload bytes p q r here split on =

@@ -45,3 +45,6 @@ pub mod DurationsKept
 pub mod OwnTied
 pub mod OwnNoted
 pub mod OwnParts
+pub mod MoofSteps
+pub mod EndsTied
+pub mod MoofTied

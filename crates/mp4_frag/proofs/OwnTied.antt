@@ -25,7 +25,7 @@ use Rattle.mp4_frag.proofs.TrafsTied.{traf_tied}
 -- ---- one of those of a `moof`
 
 -- what a `traf` says, with these defaults, whose runs are counted from this base
-abbrev part_from : ℤ → Trex → TrackFragment → Part
+abbrev pub part_from : ℤ → Trex → TrackFragment → Part
 part_from base trex traf = record { id = traf.id; decode_time = traf.decode_time; runs = runs_samples trex traf base base traf.runs; groups = traf.groups }
 
 -- one that stands in a sound `moof`
@@ -59,7 +59,7 @@ one_among P xs x h c = subst P c.2 (at_place P xs c.0 x h c.1)
 -- ---- its samples
 
 -- by the defaults of its track
-part_tied : (keys : List GroupKey) (L id number dts : ℕ) (base : ℤ) (b : Box) (boxes : List Box) (trex : Trex) → L < 2 ^ 64 → length keys ≤ 4 → AreDistinct keys → Holds rules.TrackFragment (box_container b) boxes → AreSound (ruled rules.TrackFragment) boxes
+pub part_tied : (keys : List GroupKey) (L id number dts : ℕ) (base : ℤ) (b : Box) (boxes : List Box) (trex : Trex) → L < 2 ^ 64 → length keys ≤ 4 → AreDistinct keys → Holds rules.TrackFragment (box_container b) boxes → AreSound (ruled rules.TrackFragment) boxes
     → (track_fragment_of boxes).id ≡ id → IsPlacedWithin L (part_from base trex (track_fragment_of boxes)) → IsGrouped (part_from base trex (track_fragment_of boxes))
     → number + length (part_samples (part_from base trex (track_fragment_of boxes))) < 2 ^ 32 → dts + duration_of (part_samples (part_from base trex (track_fragment_of boxes))) < 2 ^ 64
     → samples_in b.payload base id trex number dts keys ≡ timed keys number dts (part_samples (part_from base trex (track_fragment_of boxes)))

@@ -72,7 +72,7 @@ abbrev samples_inside : TrackFragment → Trex → ℤ → List Box → List Pla
 samples_inside traf trex base boxes = samples_of_runs traf trex base base (of_kind (codes "trun") boxes)
 
 -- the boxes of the `traf` in the walk are its boxes
-inside_is : (b : Box) (boxes : List Box) → Holds rule_names.TrackFragment (box_container b) boxes → boxes_in (b.offset + b.header) b.payload ≡ boxes
+pub inside_is : (b : Box) (boxes : List Box) → Holds rule_names.TrackFragment (box_container b) boxes → boxes_in (b.offset + b.header) b.payload ≡ boxes
 unfolding boxes_of
 inside_is b boxes h = boxes_are b boxes h.tiles
 

@@ -17,7 +17,7 @@ use Rattle.mp4_frag.specs.words.RunsJudged.{children_of, runs_in, runs_total}
 use Rattle.mp4_frag.specs.words.TrafFaults.{HoldsBoxes}
 use Rattle.mp4_frag.specs.words.Walks.{can_read}
 use Rattle.mp4_frag.specs.format.FragmentRows.{group_rows, fragment_length, moof_says}
-use Rattle.mp4_frag.specs.declared.places.FragPlace.{FragPlace}
+use Rattle.mp4_frag.specs.declared.places.TrafPlace.{TrafPlace}
 use Rattle.mp4_frag.specs.declared.state.TrackState.{TrackState}
 use Rattle.mp4_frag.proofs.BoxPlaces.{all_boxes}
 use Rattle.mp4_frag.proofs.Costs.{many_rows}
@@ -154,7 +154,7 @@ unfolding traf_steps
 walk_said traf = omega (arith, work_is traf, said_runs (children_of traf), said_groups (children_of traf))
 
 -- so to each of its places
-pub place_said : (traf : Box) (place : FragPlace) → IsPlaceIn traf.payload place → place.passed ≤ traf_steps traf
+pub place_said : (traf : Box) (place : TrafPlace) → IsPlaceIn traf.payload place → place.passed ≤ traf_steps traf
 place_said traf place p = let work = p.lies.work in omega (arith, work, walk_said traf)
 
 length_said : (trafs : List Box) → sum_of (λ (traf : TrackFragment). sum_of (λ (run : SampleRun). length run.rows) traf.runs) (map track_fragment_of (map children_of trafs)) ≡ trafs_samples trafs

@@ -18,3 +18,4 @@ pub mod Durations
 pub mod CheckWork
 pub mod OwnTrafs
 pub mod Noted
+pub mod MoofWalks

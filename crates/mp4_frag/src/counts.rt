@@ -7,7 +7,7 @@ ghost use Rattle.mp4_frag.specs.words.PlacesIn.{LiesIn, IsRowPlace};
 ghost use Rattle.mp4_frag.specs.words.Walks.{coming, rows_here};
 
 use crate::opened_runs::{next_row, row_here};
-use crate::places::{FragPlace, RowPlace};
+use crate::places::{RowPlace, TrafPlace};
 
 /// Samples that were counted: how many there are, how long they last together, as far as 64 bits
 /// go, and how many steps lead behind them from the front of the `traf` on.
@@ -36,7 +36,7 @@ fn rows_duration(payload: &[u8], run: RowPlace, inherited: u32) -> u64
 
 // Leaves out the rows left of a run, and says how long they last. The samples behind come with the
 // same durations; when they are due, and where they lie, is no longer known.
-pub(crate) fn leave_run(payload: &[u8], place: &mut FragPlace) -> u64
+pub(crate) fn leave_run(payload: &[u8], place: &mut TrafPlace) -> u64
     requires { LiesIn payload.now place.old }
     ensures place { LiesIn payload.now place.new }
     ensures none { place.new.run.left ≡ 0 }

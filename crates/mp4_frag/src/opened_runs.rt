@@ -10,7 +10,7 @@ ghost use Rattle.mp4_frag.specs.words.Walks.{Reached, first_byte, rows_here, row
 use crate::box_places::{Lying, box_at};
 use crate::check::TRUN;
 use crate::heads::Inherited;
-use crate::places::{FragPlace, RowPlace};
+use crate::places::{RowPlace, TrafPlace};
 use crate::run_rows::{Row, Said, row_at, row_size, said_at};
 use crate::trun::read_run;
 use mp4_boxes::Ticket;
@@ -71,7 +71,7 @@ fn begin(base: i128, before: u64, data_offset: Option<i32>) -> u64
 }
 
 // Goes to the samples of a run. Those to come are the same as before it.
-fn open_run(payload: &[u8], lying: Lying, place: &mut FragPlace)
+fn open_run(payload: &[u8], lying: Lying, place: &mut TrafPlace)
     requires lies { IsBoxIn payload.now lying }
     requires none { place.old.run.left ≡ 0 }
     requires place { LiesIn payload.now place.old }
@@ -102,7 +102,7 @@ fn open_run(payload: &[u8], lying: Lying, place: &mut FragPlace)
 }
 
 // Goes behind the next box. The same samples are to come.
-fn pass_box(payload: &[u8], place: &mut FragPlace)
+fn pass_box(payload: &[u8], place: &mut TrafPlace)
     requires none { place.old.run.left ≡ 0 }
     requires some { place.old.next < length payload.now }
     requires place { LiesIn payload.now place.old }
@@ -126,7 +126,7 @@ fn pass_box(payload: &[u8], place: &mut FragPlace)
 /// Passes boxes until a sample is left. The same samples are to come.
 #[cold]
 #[inline(never)]
-pub(crate) fn settle(payload: &[u8], place: &mut FragPlace)
+pub(crate) fn settle(payload: &[u8], place: &mut TrafPlace)
     requires { LiesIn payload.now place.old }
     ensures place { IsPlaceIn payload.now place.new }
     ensures on { place.old.passed ≤ place.new.passed }

@@ -8,13 +8,13 @@ ghost use Rattle.mp4_frag.specs.words.Walks.{are_named, boxes_from, names, with_
 use crate::box_places::{Lying, box_at};
 use crate::check::{SBGP, TFHD};
 use crate::heads::{read_head, what_is_inherited};
-use crate::places::FragPlace;
+use crate::places::TrafPlace;
 use crate::trex::Trex;
 use mp4_tables::{Keys, open_rows, read_group};
 
 // Takes the rows of an `sbgp`, if its key is one of the track's: its indexes are to come there, at
 // a step for each row.
-fn open_group(payload: &[u8], keys: Keys, lying: Lying, place: &mut FragPlace)
+fn open_group(payload: &[u8], keys: Keys, lying: Lying, place: &mut TrafPlace)
     requires lies { IsBoxIn payload.now lying }
     requires places { AreIndexPlaces payload.now place.old.index_rows place.old.indexes }
     ensures places { AreIndexPlaces payload.now place.new.index_rows place.new.indexes }
@@ -46,7 +46,7 @@ fn open_group(payload: &[u8], keys: Keys, lying: Lying, place: &mut FragPlace)
 }
 
 // Takes what the `tfhd` says, and says whether it names the track with this ID.
-fn open_head(payload: &[u8], id: u32, trex: Trex, lying: Lying, place: &mut FragPlace) -> bool
+fn open_head(payload: &[u8], id: u32, trex: Trex, lying: Lying, place: &mut TrafPlace) -> bool
     requires lies { IsBoxIn payload.now lying }
     ensures same { ChangesHead place.old place.new }
     ensures named { result ≡ names id (bytes_inside payload.now lying) }
@@ -67,7 +67,7 @@ pub(crate) fn open_traf(
     id: u32,
     trex: Trex,
     keys: Keys,
-    place: &mut FragPlace,
+    place: &mut TrafPlace,
 ) -> bool
     requires indexes { AreIndexPlaces payload.now place.old.index_rows place.old.indexes }
     ensures indexes { AreIndexPlaces payload.now place.new.index_rows place.new.indexes }

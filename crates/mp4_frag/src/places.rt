@@ -1,6 +1,6 @@
-//! How far a walk has come in a `traf`: plain numbers.
+//! How far a walk has come in a `traf`, or in a `moof`: plain numbers.
 use crate::heads::Inherited;
-use mp4_tables::{IndexPlaces, IndexRows};
+use mp4_tables::{IndexPlaces, IndexRows, Keys};
 
 /// A place in the rows of a `trun`.
 #[derive(Clone, Copy)]
@@ -17,7 +17,7 @@ pub(crate) struct RowPlace {
 
 /// A place in a `traf`: which samples come next.
 #[derive(Clone, Copy)]
-pub struct FragPlace {
+pub struct TrafPlace {
     /// How many samples of the track come before those behind the run: so the rows left say the
     /// number of the next one.
     pub(crate) number: u64,
@@ -38,7 +38,7 @@ pub struct FragPlace {
     pub(crate) passed: u64,
 }
 
-impl FragPlace {
+impl TrafPlace {
     ghost use Rattle.std.specs.Prelude.{◌≡◌};
 
     /// How many steps the walk took to come here.
@@ -54,4 +54,22 @@ impl FragPlace {
     {
         self.dts
     }
+}
+
+/// A place in a `moof`: which samples of a track come next.
+#[derive(Clone, Copy)]
+pub struct FragPlace {
+    /// The ID of the track, and the keys by which its samples are grouped.
+    pub(crate) id: u32,
+    pub(crate) keys: Keys,
+    /// How many samples of the track were passed.
+    pub(crate) number: u32,
+    /// Where the next box begins in the payload of the `moof`.
+    pub(crate) next: usize,
+    /// Where the data of the last `traf` so far ends.
+    pub(crate) before: i128,
+    /// Where the payload of the `traf` in hand begins and ends, and the place in it.
+    pub(crate) begins: usize,
+    pub(crate) ends: usize,
+    pub(crate) traf: TrafPlace,
 }

@@ -14,7 +14,7 @@ ghost use Rattle.mp4_frag.specs.words.Walks.{at_first, number_here as number_by,
 use crate::heads::nothing_inherited;
 use crate::opened_runs::{file_place, next_row, row_here, said_here, settle};
 use crate::opened_trafs::open_traf;
-use crate::places::{FragPlace, RowPlace};
+use crate::places::{RowPlace, TrafPlace};
 use crate::trex::Trex;
 use mp4_tables::{Keys, SampleAt, no_indexes};
 
@@ -49,7 +49,7 @@ fn number_here(behind: u64, left: u32) -> u32
 
 /// The sample before which the place lies.
 #[inline(always)]
-pub(crate) fn sample_here(payload: &[u8], place: &FragPlace) -> SampleAt
+pub(crate) fn sample_here(payload: &[u8], place: &TrafPlace) -> SampleAt
     requires some { 0 < place.now.run.left }
     requires place { LiesIn payload.now place.now }
     ensures { slice_get (coming payload.now place.now) 0 ≡ Some result }
@@ -71,7 +71,7 @@ pub(crate) fn sample_here(payload: &[u8], place: &FragPlace) -> SampleAt
 // Passes the next sample, which has the duration and the size of this one and may be the last of
 // its run: those behind it are to come, with their numbers and times.
 #[inline(always)]
-fn pass_row(payload: &[u8], place: &mut FragPlace, sample: &SampleAt)
+fn pass_row(payload: &[u8], place: &mut TrafPlace, sample: &SampleAt)
     requires some { 0 < place.old.run.left }
     requires place { LiesIn payload.now place.old }
     requires next { IsNext sample.now (coming payload.now place.old) }
@@ -90,7 +90,7 @@ fn pass_row(payload: &[u8], place: &mut FragPlace, sample: &SampleAt)
 /// Goes one sample on, which has the duration and the size of this one: those behind it are to
 /// come, at their times.
 #[inline(always)]
-pub(crate) fn pass_sample(payload: &[u8], place: &mut FragPlace, sample: &SampleAt)
+pub(crate) fn pass_sample(payload: &[u8], place: &mut TrafPlace, sample: &SampleAt)
     requires some { 0 < place.old.run.left }
     requires place { LiesIn payload.now place.old }
     requires next { IsNext sample.now (coming payload.now place.old) }
@@ -107,7 +107,7 @@ pub(crate) fn pass_sample(payload: &[u8], place: &mut FragPlace, sample: &Sample
 
 // Passes samples of the run in hand that are no sync samples and have this description, at most so
 // many, where no index is left. How long they last and how many bytes they take is summed up first.
-fn pass_rows(payload: &[u8], place: &mut FragPlace, description: u32, most: u32) -> u32
+fn pass_rows(payload: &[u8], place: &mut TrafPlace, description: u32, most: u32) -> u32
     requires { LiesIn payload.now place.old }
     ensures place { LiesIn payload.now place.new }
     ensures on { place.old.passed ≤ place.new.passed }
@@ -146,7 +146,7 @@ fn pass_rows(payload: &[u8], place: &mut FragPlace, description: u32, most: u32)
 /// many these are: those behind it are to come, with their numbers and times.
 pub(crate) fn pass_non_sync(
     payload: &[u8],
-    place: &mut FragPlace,
+    place: &mut TrafPlace,
     description: u32,
     most: u32,
 ) -> u32
@@ -165,8 +165,8 @@ pub(crate) fn pass_non_sync(
     count
 }
 
-// Before the boxes of a `traf` whose runs are counted from this base. It is a step itself.
-fn first_place(base: i128, number: u32, dts: u64) -> FragPlace
+/// Before the boxes of a `traf` whose runs are counted from this base. It is a step itself.
+pub(crate) fn first_place(base: i128, number: u32, dts: u64) -> TrafPlace
     ensures first { (result.next ≡ 0) × (result.run.left ≡ 0) × (result.run.row ≡ 0)
         × (result.passed ≡ 1) }
     ensures width { result.run.width ≡ row_room result.run.bits }
@@ -176,7 +176,7 @@ fn first_place(base: i128, number: u32, dts: u64) -> FragPlace
     ensures reached { (payload : List ℕ) → reached payload result ≡ at_first base number dts }
 {
     let (index_rows, indexes) = no_indexes();
-    FragPlace {
+    TrafPlace {
         number: u64::from(number),
         dts,
         at: file_place(base),
@@ -213,7 +213,7 @@ pub(crate) fn begin_traf(
     id: u32,
     trex: Trex,
     keys: Keys,
-) -> FragPlace
+) -> TrafPlace
     ensures bytes { AreBytes payload.now }
     ensures place { IsPlaceIn payload.now result }
     ensures time { result.dts ≡ from.dts }

@@ -18,7 +18,7 @@ use Rattle.mp4_tables.proofs.TableRows.{rows_are}
 use Rattle.mp4_frag.specs.words.OwnTrafs.{PlacedTraf, traf_steps}
 use Rattle.mp4_frag.specs.words.FragmentsSeen.{CursorSeen as TrafView}
 use Rattle.mp4_frag.specs.declared.next_traf.OwnTraf.{OwnTraf}
-use Rattle.mp4_frag.specs.declared.places.FragPlace.{FragPlace}
+use Rattle.mp4_frag.specs.declared.places.TrafPlace.{TrafPlace}
 use Rattle.mp4_frag.proofs.WalkBound.{place_said}
 use Rattle.mp4_frag.specs.words.Walks.{boxes_in}
 use Rattle.mp4_frag.specs.format.FragmentRows.{traf_rows, traf_length}
@@ -68,7 +68,7 @@ ahead_at : (m : MovieSeen) (t : TrackTree) (w : Walk) (q : Place) (a b : InHand)
 ahead_at m t w (places.Tables q) (hands.Tables a) (hands.Tables b) (places.Tables p) h f i =
     (between (passed a.place) (passed q) (passed b.place) (passed p) (ap (λ (c : TableView). passed c.place) h.2) f.1 (ap passed i.0), refl)
 ahead_at m t w (places.Fragment q) (hands.Fragment a) (hands.Fragment b) (places.Fragment p) h f i =
-    (between a.place.passed q.passed b.place.passed p.passed (ap (λ (c : TrafView). c.place.passed) h) f.1 (ap (λ (x : FragPlace). x.passed) i.0), refl)
+    (between a.place.passed q.passed b.place.passed p.passed (ap (λ (c : TrafView). c.place.passed) h) f.1 (ap (λ (x : TrafPlace). x.passed) i.0), refl)
 ahead_at m t w (places.Tables q) (hands.Fragment a) b p h f i = absurd h
 ahead_at m t w (places.Fragment q) (hands.Tables a) b p h f i = absurd h
 ahead_at m t w (places.Tables q) (hands.Tables a) (hands.Fragment b) p h f i = absurd f

@@ -7,7 +7,7 @@ use Rattle.mp4_frag.specs.words.ColumnsRead.{row_room}
 use Rattle.mp4_tables.specs.declared.sample.SampleAt.{SampleAt}
 use Rattle.mp4_frag.specs.words.Walks.{Reached, can_read, part_of, boxes_from, rows_here, rows_coming, reached, coming}
 use Rattle.mp4_frag.specs.declared.box_places.Lying.{Lying}
-use Rattle.mp4_frag.specs.declared.places.FragPlace.{FragPlace}
+use Rattle.mp4_frag.specs.declared.places.TrafPlace.{TrafPlace}
 use Rattle.mp4_frag.specs.declared.places.RowPlace.{RowPlace}
 
 -- a box lies in the payload
@@ -67,7 +67,7 @@ unfoldable pub work_behind : List ℕ → ℕ → ℕ
 work_behind payload next = runs_work (boxes_from payload next)
 
 -- all that the place speaks of lies in the payload
-pub record LiesIn (payload : List ℕ) (place : FragPlace) : Type 0 where
+pub record LiesIn (payload : List ℕ) (place : TrafPlace) : Type 0 where
   pub next : place.next ≤ length payload
   pub rows : IsRowPlace payload place.run
   pub width : place.run.width ≡ row_room place.run.bits
@@ -78,14 +78,14 @@ pub record LiesIn (payload : List ℕ) (place : FragPlace) : Type 0 where
   pub work : place.passed + place.run.left + work_behind payload place.next ≤ traf_work payload
 
 -- so it does, and a sample is in hand, or no box is left
-pub record IsPlaceIn (payload : List ℕ) (place : FragPlace) : Type 0 where
+pub record IsPlaceIn (payload : List ℕ) (place : TrafPlace) : Type 0 where
   pub lies : LiesIn payload place
   pub settled : place.run.left ≡ 0 → place.next ≡ length payload
 
 -- ---- from place to place
 
 -- only the indexes to come and the steps are others
-abbrev pub ChangesIndexes : FragPlace → FragPlace → Type 0
+abbrev pub ChangesIndexes : TrafPlace → TrafPlace → Type 0
 ChangesIndexes old new = new ≡ record old {
   index_rows = new.index_rows;
   indexes = new.indexes;
@@ -93,14 +93,14 @@ ChangesIndexes old new = new ≡ record old {
 }
 
 -- only what the samples inherit is another
-abbrev pub ChangesHead : FragPlace → FragPlace → Type 0
+abbrev pub ChangesHead : TrafPlace → TrafPlace → Type 0
 ChangesHead old new = new ≡ record old { inherited = new.inherited }
 
 -- the same samples are to come
-abbrev pub SameToCome : List ℕ → FragPlace → FragPlace → Type 0
+abbrev pub SameToCome : List ℕ → TrafPlace → TrafPlace → Type 0
 SameToCome payload old new = coming payload new ≡ coming payload old
 
 -- the samples of the rows left of a run, and then those of what is behind it
-abbrev pub left_coming : List ℕ → FragPlace → (Reached → List SampleAt) → List SampleAt
+abbrev pub left_coming : List ℕ → TrafPlace → (Reached → List SampleAt) → List SampleAt
 left_coming payload p more = rows_coming (reached payload p) p.run.first_flags
     (rows_here payload p.run) more

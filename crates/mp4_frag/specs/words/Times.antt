@@ -4,14 +4,14 @@ use Rattle.mp4_boxes.specs.format.Bytes.{sum_of}
 use Rattle.mp4_tables.specs.declared.sample.SampleAt.{SampleAt}
 use Rattle.mp4_frag.specs.words.FragmentsSeen.{CursorSeen}
 use Rattle.mp4_frag.specs.words.Walks.{capped, coming, samples_coming}
-use Rattle.mp4_frag.specs.declared.places.FragPlace.{FragPlace}
+use Rattle.mp4_frag.specs.declared.places.TrafPlace.{TrafPlace}
 
 -- how long samples last
 abbrev pub lasting : List SampleAt → ℕ
 lasting samples = sum_of (λ (s : SampleAt). s.duration) samples
 
 -- the time behind all samples to come from a place on, as far as 64 bits hold it
-abbrev pub time_behind : List ℕ → FragPlace → ℕ
+abbrev pub time_behind : List ℕ → TrafPlace → ℕ
 time_behind payload p = capped (p.dts + lasting (coming payload p))
 
 -- the time went on by the samples that were handed out, as far as 64 bits hold it

@@ -19,7 +19,7 @@ use Rattle.mp4_frag.specs.format.FragmentSamples.{flags_of}
 use Rattle.mp4_frag.specs.words.Reading.{inheritance}
 use Rattle.mp4_frag.specs.words.FragmentsSeen.{CursorSeen}
 use Rattle.mp4_frag.specs.declared.heads.Inherited.{Inherited}
-use Rattle.mp4_frag.specs.declared.places.FragPlace.{FragPlace}
+use Rattle.mp4_frag.specs.declared.places.TrafPlace.{TrafPlace}
 use Rattle.mp4_frag.specs.declared.places.RowPlace.{RowPlace}
 use Rattle.mp4_frag.specs.declared.run_rows.Row.{Row}
 use Rattle.mp4_frag.specs.declared.state.TrackState.{TrackState}
@@ -242,7 +242,7 @@ abbrev pub number_here : ℕ → ℕ → ℕ
 number_here behind left = min (behind - left) (2 ^ 32 - 1)
 
 -- what goes for the next sample at a place
-abbrev pub reached : List ℕ → FragPlace → Reached
+abbrev pub reached : List ℕ → TrafPlace → Reached
 reached payload p = record {
   number = number_here p.number p.run.left;
   dts = p.dts;
@@ -258,7 +258,7 @@ boxes_from payload at = boxes_between payload at (length payload)
 
 -- the samples to come from a place on: those of the rows left of its run, and of the boxes behind
 -- it
-unfoldable pub coming : List ℕ → FragPlace → List SampleAt
+unfoldable pub coming : List ℕ → TrafPlace → List SampleAt
 coming payload p = rows_coming (reached payload p) p.run.first_flags (rows_here payload p.run)
     (λ s. runs_coming s (boxes_from payload p.next))
 

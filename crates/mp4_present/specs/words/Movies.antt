@@ -12,7 +12,7 @@ use Rattle.mp4_frag.specs.words.FragmentsSeen.{CursorSeen}
 use Rattle.mp4_frag.specs.words.Walks.{samples_coming, samples_in}
 use Rattle.mp4_frag.specs.words.OwnTrafs.{OwnSeen}
 use Rattle.mp4_frag.specs.format.FragmentSamples.{no_trex}
-use Rattle.mp4_frag.specs.declared.places.FragPlace.{FragPlace}
+use Rattle.mp4_frag.specs.declared.places.TrafPlace.{TrafPlace}
 use Rattle.mp4_frag.specs.declared.state.TrackState.{TrackState}
 use Rattle.mp4_frag.specs.declared.trex.Trex.{Trex}
 use Rattle.mp4_store.specs.words.Device.{HasRisen}
@@ -131,7 +131,7 @@ abbrev pub all_in_traf : MovieSeen → Walk → TrackInfo → Due → List Sampl
 all_in_traf m w info before = samples_in (traf_bytes w) w.traf.base info.id (trex_at m w.track)
     (info.samples - before.left) before.time (keys_seen info.keys)
 
-abbrev pub traf_hand : Walk → FragPlace → CursorSeen
+abbrev pub traf_hand : Walk → TrafPlace → CursorSeen
 traf_hand w p = record { payload = traf_bytes w; place = p }
 
 -- the samples from a place on are the last of the tables, or of the `traf` in hand, before which

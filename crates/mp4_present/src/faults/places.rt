@@ -7,7 +7,7 @@ use crate::faults::FaultNumbers;
 use crate::faults::counts::{chunks_in, number_at, samples_in, sizes_of};
 use crate::faults::gaps::{TFHD, child_at, child_of, state_with, track_in};
 use mp4_boxes::{BoxView, FourCc, u16_at, u64_at};
-use mp4_frag::{FragCursor, TrackState};
+use mp4_frag::{TrafCursor, TrackState};
 use mp4_head::MovieHead;
 use mp4_tables::{Keys, Samples};
 
@@ -154,7 +154,7 @@ pub(crate) fn outside_in_fragment(
     let track = track_in(child_of(traf, TFHD)?.payload())?;
     let trex = state_with(states, track)?.trex?;
     let bytes = traf.payload();
-    let mut cursor = FragCursor::start(bytes, base, track, trex, 0, 0, Keys::new());
+    let mut cursor = TrafCursor::start(bytes, base, track, trex, 0, 0, Keys::new());
     let told = first_outside(&mut cursor, file_len);
     if !is_told_at(told, u64::MAX) {
         return told;
@@ -162,7 +162,7 @@ pub(crate) fn outside_in_fragment(
     // A place below 0, or of more than 64 bits, is handed out as the last one of 64 bits. It is
     // that one only if it lies a byte before where the runs are counted from a byte before.
     let before = base.checked_sub(1)?;
-    let mut cursor = FragCursor::start(bytes, before, track, trex, 0, 0, Keys::new());
+    let mut cursor = TrafCursor::start(bytes, before, track, trex, 0, 0, Keys::new());
     if is_told_at(first_outside(&mut cursor, file_len), u64::MAX - 1) {
         return told;
     }

@@ -19,7 +19,7 @@ use crate::reading::read_range;
 use crate::walking::in_hand::Place;
 use crate::walking::{Due, Mark, Walk};
 use mp4_boxes::{Refusal, Steps};
-use mp4_frag::FragCursor;
+use mp4_frag::TrafCursor;
 use mp4_store::Store;
 use mp4_tables::Samples;
 use std::sync::ledger::Ledger;
@@ -115,7 +115,7 @@ impl Walk {
         let (base, trex) = (self.traf.base, movie.trex_of(self.track));
         let bytes = &self.bytes[..self.used];
         let number = info.samples.saturating_sub(before.left);
-        let cursor = FragCursor::start(bytes, base, info.id, trex, number, before.time, info.keys);
+        let cursor = TrafCursor::start(bytes, base, info.id, trex, number, before.time, info.keys);
         self.place = Place::Fragment(cursor.place());
         self.before = Some(before);
         steps.add(self.place.passed());

@@ -1,14 +1,14 @@
 //! The samples of a track that are in memory: of its tables, or of one `traf`.
 ghost use Rattle.std.specs.Prelude.{◌≡◌};
 
-use mp4_frag::{FragCursor, FragPlace};
+use mp4_frag::{TrafCursor, TrafPlace};
 use mp4_tables::{SampleAt, Samples, TableCursor, TablePlace};
 
 /// A place among the samples in hand: plain numbers.
 #[derive(Clone, Copy)]
 pub enum Place {
     Tables(TablePlace),
-    Fragment(FragPlace),
+    Fragment(TrafPlace),
 }
 
 impl Place {
@@ -30,7 +30,7 @@ impl Place {
 #[derive(Drop)]
 pub enum InHand<'a> {
     Tables(TableCursor<'a>),
-    Fragment(FragCursor<'a>),
+    Fragment(TrafCursor<'a>),
 }
 
 impl<'a> InHand<'a> {

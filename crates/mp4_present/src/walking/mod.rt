@@ -26,7 +26,7 @@ use crate::opening::totals::in_64_bits;
 use crate::reading::read_range;
 use crate::walking::in_hand::{InHand, Place};
 use mp4_boxes::{Memory, Refusal, Steps};
-use mp4_frag::{FragCursor, OwnTraf};
+use mp4_frag::{TrafCursor, OwnTraf};
 use mp4_store::Store;
 use mp4_tables::TableCursor;
 use std::alloc::Global;
@@ -160,7 +160,7 @@ impl Walk {
                 InHand::Tables(TableCursor::at(&movie.tables_of(self.track), place))
             }
             Place::Fragment(place) => {
-                InHand::Fragment(FragCursor::at(&self.bytes[..self.used], place))
+                InHand::Fragment(TrafCursor::at(&self.bytes[..self.used], place))
             }
         }
     }
@@ -203,7 +203,7 @@ impl Walk {
         let (base, trex) = (self.traf.base, movie.trex_of(self.track));
         let bytes = &self.bytes[..self.used];
         let number = info.samples.saturating_sub(self.left);
-        let cursor = FragCursor::start(bytes, base, info.id, trex, number, self.due, info.keys);
+        let cursor = TrafCursor::start(bytes, base, info.id, trex, number, self.due, info.keys);
         let Some(counts) = cursor.counts(self.left) else {
             return Err(Refusal::StoreChanged);
         };

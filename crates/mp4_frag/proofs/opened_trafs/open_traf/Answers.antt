@@ -1,7 +1,7 @@
 use Rattle.std.proofs.Common.{◌≡◌, ◌∙◌, sym, ap, rules, arith}
 use Rattle.mp4_tables.specs.words.Keys.{keys_seen}
 use Rattle.mp4_frag.specs.words.Walks.{are_named, boxes_from, reached}
-use Rattle.mp4_frag.specs.declared.places.FragPlace.{FragPlace}
+use Rattle.mp4_frag.specs.declared.places.TrafPlace.{TrafPlace}
 use Rattle.mp4_frag.proofs.BoxPlaces.{box_end}
 use Rattle.mp4_frag.proofs.Comings.{leaf_other, leaves_done, named_on, named_still, named_done}
 use Rattle.mp4_frag.proofs.WalkWork.{groups_fall}
@@ -29,7 +29,7 @@ loop-at-preserved-then-eq c =
     let child = c.in-Some.child in
     let o = c.in-Some.ensures.order in
     let there = c.in-Some.ensures.some in
-    let passed : c.open_head-is_named.new.place.passed ≡ c.loop-at.place.passed = ap (λ (p : FragPlace). p.passed) c.open_head-is_named.ensures.same in
+    let passed : c.open_head-is_named.new.place.passed ≡ c.loop-at.place.passed = ap (λ (p : TrafPlace). p.passed) c.open_head-is_named.ensures.same in
     record {
       within = o.2;
       indexes = search rules;

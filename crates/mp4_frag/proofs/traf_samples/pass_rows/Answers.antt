@@ -7,7 +7,7 @@ use Rattle.mp4_tables.proofs.NonSyncPassed.{passes_one}
 use Rattle.mp4_frag.specs.words.PlacesIn.{row_behind}
 use Rattle.mp4_frag.specs.words.Times.{lasting}
 use Rattle.mp4_frag.specs.words.Walks.{capped, coming, next_number, number_here, reached, row_signed, rows_here, sample_of}
-use Rattle.mp4_frag.specs.declared.places.FragPlace.{FragPlace}
+use Rattle.mp4_frag.specs.declared.places.TrafPlace.{TrafPlace}
 use Rattle.mp4_frag.specs.declared.places.RowPlace.{RowPlace}
 use Rattle.mp4_frag.proofs.Comings.{row_passed, steps_apart, sums_taken}
 use Rattle.mp4_frag.proofs.TimesKept.{time_kept}
@@ -18,8 +18,8 @@ loop-count-preserved c =
     let payload = c.args.payload.now in
     let place = c.args.place.now in
     let i = c.loop-count.invariant in
-    let p : FragPlace = record place { run = c.loop-count.run; dts = capped (place.dts + c.loop-count.lasts); at = capped (place.at + c.loop-count.bytes) } in
-    let q : FragPlace = record place { run = c.next_row-run.result; dts = capped (place.dts + (c.loop-count.lasts + c.from-lasts.result)); at = capped (place.at + (c.loop-count.bytes + c.from-bytes.result)) } in
+    let p : TrafPlace = record place { run = c.loop-count.run; dts = capped (place.dts + c.loop-count.lasts); at = capped (place.at + c.loop-count.bytes) } in
+    let q : TrafPlace = record place { run = c.next_row-run.result; dts = capped (place.dts + (c.loop-count.lasts + c.from-lasts.result)); at = capped (place.at + (c.loop-count.bytes + c.from-bytes.result)) } in
     let row = row_signed c.row_here-row.result in
     let s = sample_of (reached payload p) p.run.first_flags row in
     let next : q.run ≡ row_behind p.run = c.next_row-run.ensures in
@@ -51,7 +51,7 @@ returns-clause-time c =
     let payload = c.args.payload.now in
     let place = c.args.place.now in
     let i = c.loop-count.invariant in
-    let p : FragPlace = record place { run = c.loop-count.run; dts = c.saturating_add-place.result; at = c.saturating_add-place-2.result } in
+    let p : TrafPlace = record place { run = c.loop-count.run; dts = c.saturating_add-place.result; at = c.saturating_add-place-2.result } in
     let same = sums_taken payload place c.loop-count.run c.loop-count.lasts c.loop-count.bytes p.dts p.at c.saturating_add-place.ensures c.saturating_add-place-2.ensures in
     (λ j. capped (c.saturating_add-place.ensures j + lasting ((steps_apart payload p c.saturating_add-place-3.result ∙ same) j))) ∙ i.time
 
@@ -59,6 +59,6 @@ pub returns-clause-passed : goal.returns-clause-passed
 returns-clause-passed c =
     let payload = c.args.payload.now in
     let place = c.args.place.now in
-    let p : FragPlace = record place { run = c.loop-count.run; dts = c.saturating_add-place.result; at = c.saturating_add-place-2.result } in
+    let p : TrafPlace = record place { run = c.loop-count.run; dts = c.saturating_add-place.result; at = c.saturating_add-place-2.result } in
     let same = sums_taken payload place c.loop-count.run c.loop-count.lasts c.loop-count.bytes p.dts p.at c.saturating_add-place.ensures c.saturating_add-place-2.ensures in
     subst (λ (l : List SampleAt). PassesNonSync c.args.description c.loop-count.count (coming payload place) l) (sym (steps_apart payload p c.saturating_add-place-3.result ∙ same)) c.loop-count.invariant.passed

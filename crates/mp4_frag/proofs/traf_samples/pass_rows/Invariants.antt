@@ -4,13 +4,13 @@ use Rattle.mp4_frag.specs.words.ColumnsRead.{row_room}
 use Rattle.mp4_frag.specs.words.PlacesIn.{IsRowPlace}
 use Rattle.mp4_frag.specs.words.Times.{time_behind}
 use Rattle.mp4_frag.specs.words.Walks.{capped, coming}
-use Rattle.mp4_frag.specs.declared.places.FragPlace.{FragPlace}
+use Rattle.mp4_frag.specs.declared.places.TrafPlace.{TrafPlace}
 use Rattle.mp4_frag.proofs.traf_samples.pass_rows.Given as goal
 
 -- so many rows were passed
 abbrev pub invariant-loop-count : goal.invariant-loop-count
 invariant-loop-count l =
-    let here : FragPlace = record l.place { run = l.run; dts = capped (l.place.dts + l.lasts); at = capped (l.place.at + l.bytes) } in
+    let here : TrafPlace = record l.place { run = l.run; dts = capped (l.place.dts + l.lasts); at = capped (l.place.at + l.bytes) } in
     record {
       rows : IsRowPlace l.payload l.run;
       width : l.run.width ≡ row_room l.run.bits;
