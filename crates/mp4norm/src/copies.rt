@@ -7,7 +7,7 @@ ghost use Rattle.mp4_answers.specs.declared.box_names.Name.TheVariants.{Foreign}
 ghost use Rattle.mp4_present.specs.words.StoresRead.{WhereHonest};
 ghost use Rattle.mp4norm.specs.format.Runs.{RefusesCopy};
 
-use crate::running::{Kept, settled};
+use crate::running::{KeptStore, settled};
 use crate::shell::action::Freeing;
 use mp4_answers::commands::stripped_store::{WithoutForeign, read_without_foreign};
 use mp4_boxes::Refusal;
@@ -19,7 +19,7 @@ pub(crate) type Freed = Result<Option<WithoutForeign>, Refusal>;
 
 /// What is read, as the copy that `strip --foreign` makes of it where that is asked for, unless
 /// something is lost which may not be; and what is found of such boxes.
-pub(crate) fn read_as_asked<S: Kept>(
+pub(crate) fn read_as_asked<S: KeptStore>(
     alloc: Global,
     freeing: Freeing,
     store: S,

@@ -3,7 +3,7 @@ ghost use Rattle.std.specs.Prelude.{◌≡◌, ◌+◌, ◌≤◌, length, IfErr
 ghost use Rattle.mp4norm.specs.format.Judging.{has_another, has_none, one_if, tally_status, JudgesBoth, JudgesEach, SumsEach};
 ghost use Rattle.mp4norm.specs.format.Lists.{ended_names};
 
-use crate::running::{DIFFER, Found, found_status};
+use crate::running::{DIFFER, FoundSum, found_status};
 use crate::shell::action::Input;
 use crate::shell::lists::first_name;
 use mp4_answers::digests::DIGEST;
@@ -26,12 +26,12 @@ pub(crate) trait Judge {
     ghost refuses: { Self → Refusal → Type 0 };
 
     /// Judges what a word names. It fails where nothing can be put.
-    fn judge_word(&mut self, input: Input) -> Result<Found, Refusal>
+    fn judge_word(&mut self, input: Input) -> Result<FoundSum, Refusal>
         ensures found { IfOk result (finds_word self.old self.new input.entry) }
         ensures refusal { IfErr result (refuses self.new) };
 
     /// Judges the file of a name. It fails where nothing can be put.
-    fn judge_name(&mut self, name: &[u8]) -> Result<Found, Refusal>
+    fn judge_name(&mut self, name: &[u8]) -> Result<FoundSum, Refusal>
         ensures found { IfOk result (finds_name self.old self.new name.now) }
         ensures refusal { IfErr result (refuses self.new) };
 }
@@ -103,13 +103,13 @@ pub(crate) trait SumJudge {
     ghost refuses: { Self → Refusal → Type 0 };
 
     /// Sums a file. It fails where nothing can be put.
-    fn judge_sum(&mut self, file: &ListedFile) -> Result<Found, Refusal>
+    fn judge_sum(&mut self, file: &ListedFile) -> Result<FoundSum, Refusal>
         ensures found { IfOk result (finds self.old self.new file.now) }
         ensures refusal { IfErr result (refuses self.new) };
 }
 
 /// Whether a file has another sum than this one.
-pub(crate) fn has_another(digest: &[u8; DIGEST], found: &Found) -> bool
+pub(crate) fn has_another(digest: &[u8; DIGEST], found: &FoundSum) -> bool
     ensures { result ≡ has_another digest.now found.now }
 {
     match found {
@@ -142,7 +142,7 @@ pub(crate) fn tally_status(tally: Tally) -> u8
 }
 
 // How many files have no sum, and how many another one than this: of one file.
-fn counted(digest: &[u8; DIGEST], found: &Found) -> (usize, usize)
+fn counted(digest: &[u8; DIGEST], found: &FoundSum) -> (usize, usize)
     ensures none { result.0 ≡ one_if (has_none found.now) }
     ensures another { result.1 ≡ one_if (has_another digest.now found.now) }
     ensures one { result.0 + result.1 ≤ 1 }

@@ -28,7 +28,7 @@ use std::process::ExitCode;
 use std::sync::ledger::Ledger;
 
 /// What is read, of which it can be told whether it is as it was when it was opened.
-pub(crate) trait Kept: Store {
+pub(crate) trait KeptStore: Store {
     /// It may be another by now.
     ghost may_change: { Self → Bool };
 
@@ -92,7 +92,7 @@ pub(crate) fn is_of_file(refusal: &Refusal) -> bool
 }
 
 // Whether an answer stands only if what was read is as it was.
-fn asks_again<S: Kept, T>(store: &S, answer: &Result<T, Refusal>) -> bool {
+fn asks_again<S: KeptStore, T>(store: &S, answer: &Result<T, Refusal>) -> bool {
     match answer {
         Ok(_) => true,
         Err(Refusal::StoreFailed) => store.fails_by_change(),
@@ -102,7 +102,10 @@ fn asks_again<S: Kept, T>(store: &S, answer: &Result<T, Refusal>) -> bool {
 
 /// An answer that says something of the file, if the file is still as it was; else that it has
 /// changed. A failure stays as it is.
-pub(crate) fn settled<S: Kept, T: Drop>(store: &S, answer: Result<T, Refusal>) -> Result<T, Refusal>
+pub(crate) fn settled<S: KeptStore, T: Drop>(
+    store: &S,
+    answer: Result<T, Refusal>,
+) -> Result<T, Refusal>
     ensures { IsSettled (S.may_change store.now) answer result }
 {
     if asks_again(store, &answer) {
@@ -112,7 +115,7 @@ pub(crate) fn settled<S: Kept, T: Drop>(store: &S, answer: Result<T, Refusal>) -
 }
 
 // How many bytes the text has, where that is to be told, or may be too many.
-fn measured<S: Kept, L: Ledger, M: Ledger>(
+fn measured<S: KeptStore, L: Ledger, M: Ledger>(
     alloc: Global,
     job: Job,
     most: Option<u64>,
@@ -154,7 +157,7 @@ fn open_for<K: Outlet>(out: &mut K, len: Option<u64>, most: Option<u64>) -> Resu
 /// looks whether what was read has changed, and closes what was written: that stays only where the
 /// whole answer is in it, and is given up else. No text is put that has more bytes than `most`, and
 /// such a text alone is refused for its length.
-pub(crate) fn run_job<S: Kept, K: Outlet, L: Ledger, M: Ledger>(
+pub(crate) fn run_job<S: KeptStore, K: Outlet, L: Ledger, M: Ledger>(
     alloc: Global,
     job: Job,
     most: Option<u64>,
@@ -212,7 +215,7 @@ pub(crate) fn ended<E: Sink>(errors: &mut E, answer: &Result<(), Refusal>) -> Ex
 }
 
 /// What was found of a file: its sum, where that was asked for, or that it is accepted.
-pub(crate) type Found = Result<Option<[u8; DIGEST]>, Refusal>;
+pub(crate) type FoundSum = Result<Option<[u8; DIGEST]>, Refusal>;
 
 /// Finds what is asked for of what is read.
 pub(crate) fn find<S: Store, L: Ledger, M: Ledger>(
@@ -220,7 +223,7 @@ pub(crate) fn find<S: Store, L: Ledger, M: Ledger>(
     finding: Finding,
     store: &mut S,
     steps: &mut Steps<L, M>,
-) -> Found
+) -> FoundSum
     ensures store { KeepsFile S.Store store.old store.new }
     ensures answer { IsFound finding (look_of S.Store store.old store.new) result }
 {
@@ -247,7 +250,7 @@ pub(crate) fn find<S: Store, L: Ledger, M: Ledger>(
 }
 
 /// The status of what was found of a file.
-pub(crate) fn found_status(found: &Found) -> u8
+pub(crate) fn found_status(found: &FoundSum) -> u8
     ensures { result ≡ verdict_status found.now }
 {
     match found {

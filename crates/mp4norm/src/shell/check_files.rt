@@ -1,11 +1,11 @@
 //! Many files, judged or summed one after the other.
 use crate::judging::{Judge, judge_all};
-use crate::running::{Found, find, is_of_file, settled};
+use crate::running::{FoundSum, find, is_of_file, settled};
 use crate::shell::action::{Finding, Freeing, Input, Telling};
 use crate::shell::file_names::{shown, word_of};
 use crate::shell::foreign::{Opened, Told, lay_free};
-use crate::shell::gathered::Gathered;
-use crate::shell::reports::{Noted, Report, tell_of};
+use crate::shell::gathered::GatheredLines;
+use crate::shell::reports::{NotedStream, Report, tell_of};
 use crate::shell::run_command::explain_refusal;
 use crate::shell::sources::{open, read_whole, sum_of_source};
 use mp4_answers::digests::DIGEST;
@@ -79,15 +79,15 @@ impl Manner {
 
 /// What was found of a file; and the sum of its bytes, where it is refused and that is asked for.
 #[derive(Drop)]
-pub(crate) struct Answer {
-    pub(crate) found: Found,
+pub(crate) struct JudgedFile {
+    pub(crate) found: FoundSum,
     bytes: Option<[u8; DIGEST]>,
 }
 
-impl Answer {
+impl JudgedFile {
     // Of a file of which no more is asked for.
-    fn of(found: Found) -> Answer {
-        Answer { found, bytes: None }
+    fn of(found: FoundSum) -> JudgedFile {
+        JudgedFile { found, bytes: None }
     }
 }
 
@@ -99,7 +99,7 @@ fn judged<L: Ledger, M: Ledger>(
     manner: Manner,
     report: &mut Report,
     steps: &mut Steps<L, M>,
-) -> Result<Answer, Refusal> {
+) -> Result<JudgedFile, Refusal> {
     let source = open(rt, input, report)?;
     let told = Told {
         name: manner.is_named.then_some(input.name()),
@@ -118,7 +118,7 @@ fn judged<L: Ledger, M: Ledger>(
     let answer = settled(&opened.source, answer);
     let Err(refusal) = &answer else {
         opened.tell(rt);
-        return Ok(Answer::of(answer));
+        return Ok(JudgedFile::of(answer));
     };
     let bytes = if manner.sums_bytes(refusal) {
         Some(sum_of_source(rt, input, opened.source.below(), report)?)
@@ -130,7 +130,7 @@ fn judged<L: Ledger, M: Ledger>(
     if matches!(refusal, Refusal::StoreFailed) {
         report.concerns_part(rt, opened.source.below())?;
     }
-    Ok(Answer {
+    Ok(JudgedFile {
         found: answer,
         bytes,
     })
@@ -142,11 +142,11 @@ pub(crate) fn answer_of<L: Ledger, M: Ledger>(
     input: Input,
     manner: Manner,
     steps: &mut Steps<L, M>,
-) -> Answer {
+) -> JudgedFile {
     let mut report = Report::new(manner.telling);
     let answer = match judged(rt, input, manner, &mut report, steps) {
         Ok(answer) => answer,
-        Err(refusal) => Answer::of(Err(refusal)),
+        Err(refusal) => JudgedFile::of(Err(refusal)),
     };
     if matches!(answer.found, Err(Refusal::StoreFailed)) {
         report.tell_input(rt, input.name());
@@ -160,10 +160,10 @@ fn answer_of_listed<L: Ledger, M: Ledger>(
     name: &[u8],
     manner: Manner,
     steps: &mut Steps<L, M>,
-) -> Answer {
+) -> JudgedFile {
     let word = match word_of(rt.alloc(), name) {
         Ok(word) => word,
-        Err(failed) => return Answer::of(Err(Refusal::from(failed))),
+        Err(failed) => return JudgedFile::of(Err(Refusal::from(failed))),
     };
     let name = word.as_str();
     answer_of(rt, Input::File { name }, manner, steps)
@@ -221,7 +221,7 @@ fn put_answer<K: Sink>(
     name: &[u8],
     answer: &Result<(), Refusal>,
     style: VerdictStyle,
-    lines: &mut Gathered<K>,
+    lines: &mut GatheredLines<K>,
 ) -> Result<(), Refusal> {
     let name = named(alloc, name, style)?;
     put_verdict(alloc, name.as_slice(), answer, style, lines.sink()?)
@@ -248,7 +248,7 @@ fn put_sum<K: Sink>(
     named: GivenName,
     digest: &[u8; DIGEST],
     style: VerdictStyle,
-    lines: &mut Gathered<K>,
+    lines: &mut GatheredLines<K>,
 ) -> Result<(), Refusal> {
     let GivenName { name, is_file } = named;
     let line = match style.syntax {
@@ -266,9 +266,9 @@ fn put_sum<K: Sink>(
 fn put_named<K: Sink>(
     rt: &HostRuntime,
     named: GivenName,
-    found: &Found,
+    found: &FoundSum,
     manner: Manner,
-    lines: &mut Gathered<K>,
+    lines: &mut GatheredLines<K>,
 ) -> Result<(), Refusal> {
     let (alloc, style, name) = (rt.alloc(), manner.style, named.name);
     match (found, manner.finding) {
@@ -287,7 +287,7 @@ fn put_named<K: Sink>(
 fn hold_bytes(
     alloc: Global,
     named: GivenName,
-    answer: &Answer,
+    answer: &JudgedFile,
     style: VerdictStyle,
     held: &mut Vec<u8>,
 ) -> Result<(), AllocError> {
@@ -305,14 +305,14 @@ fn hold_bytes(
 struct FileJudge<'a, 'c, K, L: Ledger, M: Ledger> {
     rt: &'a HostRuntime,
     manner: Manner,
-    lines: Gathered<'a, K>,
+    lines: GatheredLines<'a, K>,
     held: Vec<u8>,
     steps: &'c mut Steps<L, M>,
 }
 
 impl<'a, 'c, K: Sink, L: Ledger, M: Ledger> FileJudge<'a, 'c, K, L, M> {
     // Puts what was found of a file of this name, and holds the sum of its bytes.
-    fn note(&mut self, named: GivenName, answer: Answer) -> Result<Found, Refusal> {
+    fn note(&mut self, named: GivenName, answer: JudgedFile) -> Result<FoundSum, Refusal> {
         let style = self.manner.style;
         put_named(self.rt, named, &answer.found, self.manner, &mut self.lines)?;
         hold_bytes(self.rt.alloc(), named, &answer, style, &mut self.held)?;
@@ -337,7 +337,7 @@ impl<'a, 'c, K: Sink, L: Ledger, M: Ledger> Judge for FileJudge<'a, 'c, K, L, M>
 
     ghost refuses = { λ to refusal. Unit {0} };
 
-    fn judge_word(&mut self, input: Input) -> Result<Found, Refusal> {
+    fn judge_word(&mut self, input: Input) -> Result<FoundSum, Refusal> {
         let answer = answer_of(self.rt, input, self.manner, self.steps);
         let named = GivenName {
             name: input.name().as_bytes(),
@@ -346,7 +346,7 @@ impl<'a, 'c, K: Sink, L: Ledger, M: Ledger> Judge for FileJudge<'a, 'c, K, L, M>
         self.note(named, answer)
     }
 
-    fn judge_name(&mut self, name: &[u8]) -> Result<Found, Refusal> {
+    fn judge_name(&mut self, name: &[u8]) -> Result<FoundSum, Refusal> {
         let answer = answer_of_listed(self.rt, name, self.manner, self.steps);
         let is_file = true;
         self.note(GivenName { name, is_file }, answer)
@@ -357,7 +357,7 @@ impl<'a, 'c, K: Sink, L: Ledger, M: Ledger> Judge for FileJudge<'a, 'c, K, L, M>
 fn put_header<K: Sink>(
     alloc: Global,
     manner: Manner,
-    lines: &mut Gathered<K>,
+    lines: &mut GatheredLines<K>,
 ) -> Result<(), Refusal> {
     if let Finding::Sum {
         what: SumOf::Form(leaving),
@@ -382,7 +382,7 @@ fn put_each<K: Sink + Drop, L: Ledger, M: Ledger>(
     steps: &mut Steps<L, M>,
 ) -> Result<u8, Refusal> {
     let gathers = matches!(manner.finding, Finding::Sum { .. }) && !manner.telling.explain;
-    let mut lines = Gathered::new(rt, sink, gathers)?;
+    let mut lines = GatheredLines::new(rt, sink, gathers)?;
     put_header(rt.alloc(), manner, &mut lines)?;
     let mut judge = FileJudge {
         rt,
@@ -413,7 +413,7 @@ fn check_each<L: Ledger, M: Ledger>(
     steps: &mut Steps<L, M>,
 ) -> Result<u8, Refusal> {
     let out = &mut rt.stdout();
-    let sink = IoSink::new(Noted { out, report });
+    let sink = IoSink::new(NotedStream { out, report });
     put_each(rt, files, list, manner, sink, steps)
 }
 

@@ -235,7 +235,7 @@ fn say_told(text: &mut Vec<u8>, numbers: FaultNumbers) -> Result<(), AllocError>
 // What is found of a fault beside the way to its box: whether the file begins like an MP4 file, and
 // numbers.
 #[derive(Clone, Copy)]
-struct Found {
+struct FaultFacts {
     is_mp4: bool,
     numbers: Option<FaultNumbers>,
 }
@@ -246,13 +246,13 @@ fn find<S: Store, L: Ledger, M: Ledger>(
     store: &mut S,
     fault: &Fault,
     steps: &mut Steps<L, M>,
-) -> Result<Found, Refusal>
+) -> Result<FaultFacts, Refusal>
     ensures honesty { S.is_honest store.new ≡ S.is_honest store.old }
     ensures file { S.file store.new ≡ S.file store.old }
 {
     let is_mp4 = begins_with_box(store)?;
     let numbers = numbers_of(alloc, store, fault, steps)?;
-    Ok(Found { is_mp4, numbers })
+    Ok(FaultFacts { is_mp4, numbers })
 }
 
 // Adds the name of the file, where it is given.
@@ -269,7 +269,7 @@ fn explanation(
     name: Option<&str>,
     fault: &Fault,
     way: &[u8],
-    found: Found,
+    found: FaultFacts,
 ) -> Result<Vec<u8>, AllocError> {
     let mut text = Vec::new(alloc);
     push_file(&mut text, alloc, name)?;
@@ -295,7 +295,7 @@ fn explanation(
 fn brief_explanation(
     alloc: Global,
     name: Option<&str>,
-    found: Found,
+    found: FaultFacts,
 ) -> Result<Vec<u8>, AllocError> {
     let mut text = Vec::new(alloc);
     if found.is_mp4 && found.numbers.is_none() {

@@ -16,7 +16,7 @@ const APART: u64 = 1;
 /// them has what came a second before; where each line is to be there by itself, as on a terminal,
 /// nothing is gathered.
 #[derive(Drop)]
-pub(crate) struct Gathered<'a, K> {
+pub(crate) struct GatheredLines<'a, K> {
     rt: &'a HostRuntime,
     sink: K,
     held: Vec<u8>,
@@ -24,13 +24,13 @@ pub(crate) struct Gathered<'a, K> {
     last: Option<Instant>,
 }
 
-impl<'a, K: Sink + Drop> Gathered<'a, K> {
+impl<'a, K: Sink + Drop> GatheredLines<'a, K> {
     /// Nothing is gathered yet; nothing ever is, where it isn't to be.
     pub(crate) fn new(
         rt: &'a HostRuntime,
         sink: K,
         gathers: bool,
-    ) -> Result<Gathered<'a, K>, AllocError> {
+    ) -> Result<GatheredLines<'a, K>, AllocError> {
         let is_alone = !gathers || rt.stdout().is_terminal();
         let mut held = Vec::new(rt.alloc());
         held.reserve(ROOM)?;
@@ -39,7 +39,7 @@ impl<'a, K: Sink + Drop> Gathered<'a, K> {
         } else {
             Instant::now(rt).ok()
         };
-        Ok(Gathered {
+        Ok(GatheredLines {
             rt,
             sink,
             held,
@@ -48,7 +48,7 @@ impl<'a, K: Sink + Drop> Gathered<'a, K> {
     }
 }
 
-impl<'a, K: Sink> Gathered<'a, K> {
+impl<'a, K: Sink> GatheredLines<'a, K> {
     // Whether lines may be kept a while longer.
     fn may_wait(&self) -> bool {
         match (self.last, Instant::now(self.rt)) {

@@ -20,7 +20,7 @@ use std::{fs, io};
 // The files of a list: their names as the list has them, those by which they are opened, how they
 // were, and where each ends.
 #[derive(Drop)]
-struct Listed {
+struct ListedParts {
     names: Vec<Vec<u8>>,
     paths: Vec<String>,
     states: Vec<State>,
@@ -32,7 +32,7 @@ struct Listed {
 pub(crate) struct ListSource<'a> {
     rt: &'a HostRuntime,
     pub(crate) store: NearStore<BufferedStore<ListStore<'a>>>,
-    listed: Listed,
+    listed: ListedParts,
 }
 
 // Reads a list whole.
@@ -99,7 +99,7 @@ pub(crate) fn open_list<'a>(
         }
     };
     let folder = if list == "-" { "" } else { list };
-    let mut listed = Listed {
+    let mut listed = ListedParts {
         names,
         paths: Vec::new(alloc),
         states: Vec::new(alloc),
@@ -164,7 +164,7 @@ impl<'a> ListSource<'a> {
     }
 }
 
-impl Listed {
+impl ListedParts {
     // The files, of which nothing is read yet.
     fn files<'a>(&self, rt: &'a HostRuntime) -> Result<Vec<NamedFile<'a>>, AllocError> {
         let alloc = rt.alloc();

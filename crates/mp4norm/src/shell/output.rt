@@ -5,7 +5,7 @@ ghost use Rattle.mp4norm.specs.format.Runs.{RefusesOutlet};
 
 use crate::running::Outlet;
 use crate::shell::action::Target;
-use crate::shell::part_files::{Part, put_in_place, replaced};
+use crate::shell::part_files::{PartFile, put_in_place, replaced};
 use crate::shell::reports::{Heard, Report};
 use mp4_boxes::Refusal;
 use mp4_store::{IoSink, Sink, WriteFailed};
@@ -18,7 +18,7 @@ use std::io::{Stdout, Write};
 pub(crate) enum Out {
     Standard(Stdout),
     File(File),
-    Part(Part),
+    PartFile(PartFile),
 }
 
 impl Write for Out {
@@ -26,7 +26,7 @@ impl Write for Out {
         match self {
             Out::Standard(output) => output.write(piece),
             Out::File(file) => file.write(piece),
-            Out::Part(part) => part.file.write(piece),
+            Out::PartFile(part) => part.file.write(piece),
         }
     }
 
@@ -85,16 +85,16 @@ fn make_out(rt: &HostRuntime, target: Target, report: &mut Report) -> Result<Out
         }
         Target::Replaced { name } => {
             report.outcome(replaced(rt, name), Refusal::WriteFailed)?;
-            Ok(Out::Part(Part::new(rt, name, report)?))
+            Ok(Out::PartFile(PartFile::new(rt, name, report)?))
         }
     }
 }
 
 // The file that is to take the place of another, where that is open.
-fn part_of(sink: &Option<IoSink<Heard<Out>>>) -> Option<&Part> {
+fn part_of(sink: &Option<IoSink<Heard<Out>>>) -> Option<&PartFile> {
     match sink {
         Some(sink) => match &sink.get_ref().out {
-            Out::Part(part) => Some(part),
+            Out::PartFile(part) => Some(part),
             _ => None,
         },
         None => None,

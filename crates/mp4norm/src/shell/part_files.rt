@@ -32,7 +32,7 @@ const USUAL_MASK: u32 = 0o022;
 
 /// A file that was made, and its name.
 #[derive(Drop)]
-pub(crate) struct Part {
+pub(crate) struct PartFile {
     pub(crate) file: File,
     name: String,
 }
@@ -129,14 +129,14 @@ fn create(rt: &HostRuntime, name: &str) -> io::Result<File> {
         .open(rt, name)
 }
 
-impl Part {
+impl PartFile {
     /// Makes a file beside another one, and locks it. What interrupted runs left there is taken
     /// away.
     pub(crate) fn new(
         rt: &HostRuntime,
         beside: &str,
         report: &mut Report,
-    ) -> Result<Part, Refusal> {
+    ) -> Result<PartFile, Refusal> {
         let _ = take_leftovers(rt, beside, report.explains());
         let front = name_of_process(rt.alloc(), beside, process::id(rt.process()))?;
         for number in 0..MOST_NAMES {
@@ -144,7 +144,7 @@ impl Part {
             match create(rt, name.as_str()) {
                 Ok(file) => {
                     let _ = file.try_lock();
-                    return Ok(Part { file, name });
+                    return Ok(PartFile { file, name });
                 }
                 Err(error) if error.kind() == ErrorKind::AlreadyExists => {}
                 Err(error) => return report.outcome(Err(error), Refusal::WriteFailed),
@@ -188,7 +188,7 @@ impl Part {
 /// Gives a new file its name. The cause is kept where that can't be done.
 pub(crate) fn put_in_place(
     rt: &HostRuntime,
-    part: &Part,
+    part: &PartFile,
     name: &str,
     report: &mut Report,
 ) -> Result<(), Refusal> {

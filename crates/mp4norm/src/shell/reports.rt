@@ -262,12 +262,12 @@ impl<W: Write> Write for Heard<W> {
 
 /// A writer or a reader, and where the cause is kept if it fails.
 #[derive(Drop)]
-pub(crate) struct Noted<'a, 'r, W> {
+pub(crate) struct NotedStream<'a, 'r, W> {
     pub(crate) out: &'a mut W,
     pub(crate) report: &'a mut Report<'r>,
 }
 
-impl<'a, 'r, R: Read> Read for Noted<'a, 'r, R> {
+impl<'a, 'r, R: Read> Read for NotedStream<'a, 'r, R> {
     fn read(&mut self, piece: &mut [u8]) -> io::Result<usize> {
         let read = self.out.read(piece);
         if let Err(error) = &read {
@@ -277,7 +277,7 @@ impl<'a, 'r, R: Read> Read for Noted<'a, 'r, R> {
     }
 }
 
-impl<'a, 'r, W: Write> Write for Noted<'a, 'r, W> {
+impl<'a, 'r, W: Write> Write for NotedStream<'a, 'r, W> {
     // What the writer behind it holds, where that is known.
     ghost contents = { λ noted. W.contents noted.out.now };
 

@@ -1,9 +1,9 @@
 //! Comparing, from the names of two files to what is printed.
-use crate::running::{Kept, comparison_status, is_of_file};
+use crate::running::{KeptStore, comparison_status, is_of_file};
 use crate::shell::action::{Comparison, Input, Telling};
 use crate::shell::file_names::push_shown;
 use crate::shell::foreign::{Opened, Told, lay_free};
-use crate::shell::reports::{Noted, Report};
+use crate::shell::reports::{NotedStream, Report};
 use crate::shell::run_command::explain_refusal;
 use crate::shell::sources::{LaidSource, Source, open};
 use mp4_answers::commands::compare::{Asked, Failure, Side, compare_files};
@@ -100,7 +100,7 @@ fn compared<L: Ledger, M: Ledger>(
         listing: asked.listing,
     };
     let out = &mut rt.stdout();
-    let mut sink = IoSink::new(Noted { out, report });
+    let mut sink = IoSink::new(NotedStream { out, report });
     let (left, right) = (&mut first.source, &mut second.source);
     compare_files(rt.alloc(), left, right, looks, &mut sink, steps)
 }

@@ -1,6 +1,6 @@
 //! What a command reads: a file, by place, or standard input, whole.
 
-use crate::running::{Kept, settled};
+use crate::running::{KeptStore, settled};
 use crate::shell::action::Input;
 use crate::shell::file_change::Watched;
 use crate::shell::file_names::push_shown;
@@ -8,7 +8,7 @@ use crate::shell::input::read_input;
 use crate::shell::list_sources::{ListSource, open_list};
 use crate::shell::named_files::ListStore;
 use crate::shell::near_store::NearStore;
-use crate::shell::reports::{Noted, Report};
+use crate::shell::reports::{NotedStream, Report};
 use mp4_answers::commands::sum::sum_bytes;
 use mp4_answers::digests::DIGEST;
 use mp4_answers::text::difference_lines::say_number;
@@ -63,7 +63,7 @@ pub(crate) fn read_whole<R: Read>(
     out: &mut R,
     report: &mut Report,
 ) -> Result<Vec<u8>, Refusal> {
-    let answer = read_input(alloc, &mut Noted { out, report }, MOST_INPUT);
+    let answer = read_input(alloc, &mut NotedStream { out, report }, MOST_INPUT);
     match answer {
         Err(Refusal::StoreFailed) if !report.has_cause() => {
             Err(report.failure(TOO_LONG_INPUT, Refusal::StoreFailed))
@@ -211,7 +211,7 @@ impl<'a> Store for Source<'a> {
     }
 }
 
-impl<'a> Kept for Source<'a> {
+impl<'a> KeptStore for Source<'a> {
     ghost use Rattle.mp4norm.specs.words.Sources.{may_change};
 
     ghost may_change = { may_change };
@@ -231,7 +231,7 @@ impl<'a> Kept for Source<'a> {
     }
 }
 
-impl<S: Kept> Kept for LaidStore<S> {
+impl<S: KeptStore> KeptStore for LaidStore<S> {
     ghost may_change = { λ s. S.may_change s.0 };
 
     fn stays(&self) -> Result<(), Refusal> {

@@ -3,14 +3,14 @@
 ghost use Rattle.std.specs.Prelude.{◌+◌, ◌≤◌, length, IfOk};
 
 use crate::judging::{ListedFile, SumJudge, Tally, check_listed, has_another, tally_status};
-use crate::running::{DIFFER, Found};
+use crate::running::{DIFFER, FoundSum};
 use crate::shell::action::{Finding, Input, SumCheck, Telling};
 use crate::shell::check_files::{Manner, answer_of, name_in_list, read_list, read_names};
 use crate::shell::command_line::input_of;
 use crate::shell::file_names::word_of;
 use crate::shell::list_sources::tell_fault;
 use crate::shell::lists::{ListFault, first_line, first_name, without_return};
-use crate::shell::reports::{Noted, Report, tell_of};
+use crate::shell::reports::{NotedStream, Report, tell_of};
 use mp4_answers::jobs::{Syntax, VerdictStyle};
 use mp4_answers::text::fault_text::fault_line;
 use mp4_answers::text::new_names::new_lines;
@@ -52,7 +52,7 @@ fn sum_of<L: Ledger, M: Ledger>(
     file: &ListedFile,
     how: SumCheck,
     steps: &mut Steps<L, M>,
-) -> Found {
+) -> FoundSum {
     let word = word_of(rt.alloc(), file.name.as_slice())?;
     let input = input_of(word.as_str(), how.most_parts);
     let finding = Finding::Sum {
@@ -69,7 +69,7 @@ fn sum_of<L: Ledger, M: Ledger>(
 }
 
 // What is said of a file; nothing where it has its sum and that isn't told, or none was found.
-fn verdict_on(file: &ListedFile, found: &Found, is_quiet: bool) -> Option<&'static str> {
+fn verdict_on(file: &ListedFile, found: &FoundSum, is_quiet: bool) -> Option<&'static str> {
     match found {
         Ok(_) if has_another(&file.digest, found) => Some("FAILED"),
         Ok(_) => (!is_quiet).then_some("OK"),
@@ -81,7 +81,7 @@ fn verdict_on(file: &ListedFile, found: &Found, is_quiet: bool) -> Option<&'stat
 fn line_of(
     alloc: Global,
     file: &ListedFile,
-    found: &Found,
+    found: &FoundSum,
     is_quiet: bool,
 ) -> Result<Vec<u8>, AllocError> {
     let mut line = Vec::new(alloc);
@@ -114,7 +114,7 @@ impl<'a, 'c, K: Sink, L: Ledger, M: Ledger> SumJudge for SumChecker<'a, 'c, K, L
 
     ghost refuses = { λ to refusal. Unit {0} };
 
-    fn judge_sum(&mut self, file: &ListedFile) -> Result<Found, Refusal> {
+    fn judge_sum(&mut self, file: &ListedFile) -> Result<FoundSum, Refusal> {
         let found = sum_of(self.rt, file, self.how, self.steps);
         let line = line_of(self.rt.alloc(), file, &found, self.how.quiet)?;
         if !line.is_empty() {
@@ -154,7 +154,7 @@ fn check_files<L: Ledger, M: Ledger>(
     ensures { IfOk result (λ t. t.other + t.without ≤ length files.now) }
 {
     let out = &mut rt.stdout();
-    let sink = IoSink::new(Noted { out, report });
+    let sink = IoSink::new(NotedStream { out, report });
     put_each(rt, files, how, sink, steps)
 }
 
@@ -313,6 +313,6 @@ pub(crate) fn tell_new(
 // Puts lines to standard output.
 fn put_lines(rt: &HostRuntime, lines: &[u8], report: &mut Report) -> Result<(), Refusal> {
     let out = &mut rt.stdout();
-    IoSink::new(Noted { out, report }).put(lines)?;
+    IoSink::new(NotedStream { out, report }).put(lines)?;
     Ok(())
 }

@@ -1,4 +1,4 @@
-use Rattle.mp4norm.proofs.shell.sources.SourceKept.stays.Goals as goal
+use Rattle.mp4norm.proofs.shell.sources.SourceKeptStore.stays.Goals as goal
 
 pub returns-in-File : goal.returns-in-File
 returns-in-File c = rw c.in-File.is c.stays.ensures
