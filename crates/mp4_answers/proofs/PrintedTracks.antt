@@ -16,7 +16,6 @@ use Rattle.mp4_present.specs.format.Presentation.{Track}
 use Rattle.mp4_content.specs.format.Reduced.{number_head, number_heads, number_track, number_tracks, reduce_track, reduce_track_head, start_left}
 use Rattle.mp4_present.specs.words.Carried.{BytesGoOn}
 use Rattle.mp4_present.specs.words.Movies.{MovieSeen}
-use Rattle.mp4_content.specs.words.PayloadsLeft.{keeping_payloads, track_payloads_left}
 use Rattle.mp4_present.specs.words.OpenedMovie.{IsOpenedAs, IsInfoOf}
 use Rattle.mp4_present.specs.words.WalkSteps.{walk_steps, walks_steps}
 use Rattle.mp4_present.specs.declared.track_info.TrackInfo.{TrackInfo}
@@ -73,8 +72,8 @@ first_of_two R (v ∷ xs) (w ∷ ys) (suc k) y z e = first_of_two R xs ys k y z.
 -- ---- the text of a track
 
 -- what it says before its samples
-abbrev pub front_of : Without → heads.TrackHead → ℕ → List ℕ
-front_of l h start = head_lines (reduce_track_head (keeping_payloads l) h) ++ number_line (codes "start") start ++ samples_heading h.id
+abbrev pub front_of : heads.TrackHead → ℕ → List ℕ
+front_of h start = head_lines h ++ number_line (codes "start") start ++ samples_heading h.id
 
 -- the tracks that are left
 abbrev pub tracks_left : Without → List ℕ → FileTree → List Track
@@ -122,31 +121,31 @@ head_from l place (suc k) (x ∷ known) t e =
 infos_all : (file : List ℕ) (m : MovieSeen) (tree : FileTree) → IsOpenedAs file m tree → length m.tracks ≡ length tree.movie.tracks
 infos_all file m tree o = sym (length_zip (IsInfoOf file tree) tree.movie.tracks m.tracks o.tracks)
 
-heads_all : (l : Without) (tree : FileTree) (known : List TrackHead) → map track_seen known ≡ number_heads l 1 (map (track_payloads_left l) (map track_head_of tree.movie.tracks)) → length known ≡ length tree.movie.tracks
-heads_all l tree known e = sym (length-map known track_seen) ∙ ap length e ∙ heads_many l 1 (map (track_payloads_left l) (map track_head_of tree.movie.tracks)) ∙ length-map (map track_head_of tree.movie.tracks) (track_payloads_left l) ∙ length-map tree.movie.tracks track_head_of
+heads_all : (l : Without) (tree : FileTree) (known : List TrackHead) → map track_seen known ≡ number_heads l 1 (map (reduce_track_head l) (map track_head_of tree.movie.tracks)) → length known ≡ length tree.movie.tracks
+heads_all l tree known e = sym (length-map known track_seen) ∙ ap length e ∙ heads_many l 1 (map (reduce_track_head l) (map track_head_of tree.movie.tracks)) ∙ length-map (map track_head_of tree.movie.tracks) (reduce_track_head l) ∙ length-map tree.movie.tracks track_head_of
 
 -- no track is left
 pub tracks_end : (l : Without) (file : List ℕ) (m : MovieSeen) (tree : FileTree) (known : List TrackHead) (k : ℕ) (Took : List ℕ → Type 0) (held held_b : List ℕ) (old new : ℕ) → IsOpenedAs file m tree
-    → map track_seen known ≡ number_heads l 1 (map (track_payloads_left l) (map track_head_of tree.movie.tracks))
+    → map track_seen known ≡ number_heads l 1 (map (reduce_track_head l) (map track_head_of tree.movie.tracks))
     → (length m.tracks ≡ length tree.movie.tracks → length known ≡ length tree.movie.tracks → length tree.movie.tracks ≤ k) → TracksTold l file tree k Took held held_b old new → BytesGoOn Took held held_b (text_from l file tree 0)
 tracks_end l file m tree known k Took held held_b old new o e over h =
     let many = tracks_many l file tree in
     let end = over (infos_all file m tree o) (heads_all l tree known e) in
     texts_all Took held held_b (text_from l file tree k) (text_from l file tree 0) h.goes (ap (flat_map track_text) (drop_all (tracks_left l file tree) k (omega (arith, many, end))))
 
-module _ (l : Without) (file : List ℕ) (m : MovieSeen) (tree : FileTree) (known : List TrackHead) (k : ℕ) (o : IsOpenedAs file m tree) (same : map track_seen known ≡ number_heads l 1 (map (track_payloads_left l) (map track_head_of tree.movie.tracks))) (head : TrackHead) (info : TrackInfo)
+module _ (l : Without) (file : List ℕ) (m : MovieSeen) (tree : FileTree) (known : List TrackHead) (k : ℕ) (o : IsOpenedAs file m tree) (same : map track_seen known ≡ number_heads l 1 (map (reduce_track_head l) (map track_head_of tree.movie.tracks))) (head : TrackHead) (info : TrackInfo)
     (h_at : slice_get known k ≡ Some head) (i_at : slice_get m.tracks k ≡ Some info) where
   -- the track of the file
   pub track_there : (t : TrackTree) × (slice_get tree.movie.tracks k ≡ Some t)
   track_there = first_of_two (IsInfoOf file tree) tree.movie.tracks m.tracks k info o.tracks i_at
 
-  head_is : track_seen head ≡ number_head l (k + 1) (track_payloads_left l (track_head_of track_there.0))
-  head_is = some_is (track_seen head) (number_head l (k + 1) (track_payloads_left l (track_head_of track_there.0))) (sym (get_map track_seen known k head h_at) ∙ ap (λ (hs : List heads.TrackHead). slice_get hs k) same
-      ∙ head_from l 1 k (map (track_payloads_left l) (map track_head_of tree.movie.tracks)) (track_payloads_left l (track_head_of track_there.0))
-      (get_map (track_payloads_left l) (map track_head_of tree.movie.tracks) k (track_head_of track_there.0) (get_map track_head_of tree.movie.tracks k track_there.0 track_there.1)))
+  head_is : track_seen head ≡ number_head l (k + 1) (reduce_track_head l (track_head_of track_there.0))
+  head_is = some_is (track_seen head) (number_head l (k + 1) (reduce_track_head l (track_head_of track_there.0))) (sym (get_map track_seen known k head h_at) ∙ ap (λ (hs : List heads.TrackHead). slice_get hs k) same
+      ∙ head_from l 1 k (map (reduce_track_head l) (map track_head_of tree.movie.tracks)) (reduce_track_head l (track_head_of track_there.0))
+      (get_map (reduce_track_head l) (map track_head_of tree.movie.tracks) k (track_head_of track_there.0) (get_map track_head_of tree.movie.tracks k track_there.0 track_there.1)))
 
   abbrev pub front : List ℕ
-  front = front_of l (track_seen head) (start_left l info.start)
+  front = front_of (track_seen head) (start_left l info.start)
 
   -- the lines of its samples
   abbrev pub lines : List ℕ
@@ -156,7 +155,7 @@ module _ (l : Without) (file : List ℕ) (m : MovieSeen) (tree : FileTree) (know
   track_is =
       let t = track_there.0 in
       let start = (get_zip (IsInfoOf file tree) tree.movie.tracks m.tracks k t info o.tracks track_there.1 i_at).start in
-      λ i. head_lines (reduce_track_head (keeping_payloads l) (head_is i)) ++ number_line (codes "start") (start_left l (start i)) ++ samples_heading (head_is i).id ++ lines
+      λ i. head_lines (head_is i) ++ number_line (codes "start") (start_left l (start i)) ++ samples_heading (head_is i).id ++ lines
 
   -- first what the track says before its samples, then their lines
   two_parts : text_from l file tree k ≡ front ++ (lines ++ text_from l file tree (k + 1))

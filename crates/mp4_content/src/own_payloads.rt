@@ -233,7 +233,7 @@ fn put_tracks_left<'a>(
 }
 
 /// Puts what is left of payloads into a head, where they don't all stay.
-pub fn put_payloads_left<'a>(
+pub(crate) fn put_payloads_left<'a>(
     alloc: Global,
     head: &mut MovieHead<'a>,
     leaving: Without,

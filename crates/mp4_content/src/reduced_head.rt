@@ -71,8 +71,8 @@ fn reduce_tracks(tracks: &mut Vec<TrackHead>, leaving: Without)
     }
 }
 
-/// Gives each head of a track its place, from 1, as its ID where IDs don't count.
-pub fn number_heads(heads: &mut Vec<TrackHead>, leaving: Without)
+// Gives each head of a track its place, from 1, as its ID where IDs don't count.
+fn number_heads(heads: &mut Vec<TrackHead>, leaving: Without)
     ensures { map track_seen heads.new.items
         ≡ number_heads leaving 1 (map track_seen heads.old.items) }
 {
@@ -100,7 +100,7 @@ fn reduce_head(head: &mut MovieHead, leaving: Without)
 
 /// What is left of the head of a movie, of which this is left of the payloads of media
 /// (`payloads_left`).
-pub(crate) fn head_left<'a>(
+pub fn head_left<'a>(
     alloc: Global,
     head: MovieHead<'a>,
     leaving: Without,

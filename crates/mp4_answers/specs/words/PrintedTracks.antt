@@ -11,11 +11,10 @@ use Rattle.mp4_head.specs.format.Tree.{TrackTree, track_head_of}
 use Rattle.mp4_head.specs.words.Seen.{track_seen}
 use Rattle.mp4_head.specs.declared.heads.TrackHead.{TrackHead}
 use Rattle.mp4_present.specs.format.Denotes.{FileTree, file_parts, presentation_of, track_of}
-use Rattle.mp4_content.specs.format.Reduced.{number_heads, reduce, reduce_track}
+use Rattle.mp4_content.specs.format.Reduced.{number_heads, reduce, reduce_track, reduce_track_head}
 use Rattle.mp4_present.specs.words.Joined.{IsBelow}
 use Rattle.mp4_present.specs.words.InHand.{left_in_hand}
 use Rattle.mp4_present.specs.words.HandCarried.{OfHand}
-use Rattle.mp4_content.specs.words.PayloadsLeft.{track_payloads_left}
 use Rattle.mp4_present.specs.words.Movies.{MovieSeen, IsWalkOf}
 use Rattle.mp4_present.specs.words.OpenedMovie.{IsOpenedAs}
 use Rattle.mp4_present.specs.words.SamplesComing.{Comes, track_samples}
@@ -96,11 +95,11 @@ pub record TellsTracks {Y T : Type 0} (l : Without) (file : List ℕ) (tree : Fi
   pub steps : new ≤ old + walks_steps tree
 
 -- over an honest store that has the file from which the movie was opened, and whose tracks have
--- these heads, without labels where these are left out, and numbered where IDs are
+-- these heads left
 abbrev pub WhereHeads : {X : Type 0} → Store X → X → MovieSeen → Without → List TrackHead
     → (List ℕ → FileTree → Type 0) → Type 0
 WhereHeads S store m l heads P = IsTrue (S.is_honest store) → (tree : FileTree)
     → IsOpenedAs (S.file store) m tree
     → map track_seen heads
-    ≡ number_heads l 1 (map (track_payloads_left l) (map track_head_of tree.movie.tracks))
+    ≡ number_heads l 1 (map (reduce_track_head l) (map track_head_of tree.movie.tracks))
     → P (S.file store) tree

@@ -10,8 +10,6 @@ ghost use Rattle.mp4_present.specs.words.Movies.{IsWalkOf};
 ghost use Rattle.mp4_present.specs.words.OutBuffers.{OnlyCopies, PutsFrontOf, TakesBytes};
 ghost use Rattle.mp4_present.specs.words.StoresRead.{IsUnchanged, OnlyReads, Refused, WhereHonest};
 ghost use Rattle.mp4_present.specs.words.TrackWalks.{WhereMayTake};
-ghost use Rattle.mp4_content.specs.format.Reduced.{reduce_track_head};
-ghost use Rattle.mp4_content.specs.words.PayloadsLeft.{keeping_payloads};
 ghost use Rattle.mp4_answers.specs.format.Answers.{Printed};
 ghost use Rattle.mp4_answers.specs.format.Run.{KeepsFile, run_of};
 ghost use Rattle.mp4_answers.specs.format.Steps.{FindsWithin, TakesEach, WalksWithin};
@@ -31,7 +29,7 @@ use crate::text::named_lines::{number, put_all_named};
 use crate::text::sample_texts::{LONGEST, SampleStyle, write_sample};
 use crate::text::tally::say_words;
 use mp4_boxes::{Memory, Refusal, Steps};
-use mp4_content::{Without, edges_of, number_heads, payloads_left, put_payloads_left};
+use mp4_content::{Without, edges_of, head_left, payloads_left};
 use mp4_head::TrackHead;
 use mp4_present::{Movie, OutBuffer, Stretch, Walk, open_movie};
 use mp4_store::{Sink, Store};
@@ -411,17 +409,16 @@ fn put_samples<S: Store, K: Sink, L: Ledger, M: Ledger>(
 
 // Puts what a track says before its samples.
 fn put_front<K: Sink>(
-    leaving: Without,
     head: &TrackHead,
     start: u64,
     text: &mut OutBuffer,
     sink: &mut K,
 ) -> Result<(), Refusal>
     ensures { Tells K.Sink sink.old sink.new text.old text.new
-        (head_lines (reduce_track_head (keeping_payloads leaving) (track_seen head.now))
+        (head_lines (track_seen head.now)
         ++ number_line (codes "start") start ++ samples_heading head.now.id) result }
 {
-    put_head(leaving, head, text, sink)?;
+    put_head(head, text, sink)?;
     put_all_named(&[number(b"start", start)], text, sink)?;
     let end = b": duration, offset, flags, description, size, SHA-256, groups\n";
     put_heading(b"samples of track ", head.id, end, text, sink)
@@ -473,13 +470,7 @@ fn put_tracks<S: Store, K: Sink, L: Ledger, M: Ledger>(
         };
         let head = &heads[track];
         let info = movie.tracks()[track];
-        put_front(
-            leaving,
-            head,
-            leaving.start(info.start),
-            &mut desk.text,
-            sink,
-        )?;
+        put_front(head, leaving.start(info.start), &mut desk.text, sink)?;
         put_samples(of, info.keys, &mut walk, desk, store, sink, steps)?;
     }
     Ok(())
@@ -507,16 +498,13 @@ pub fn print<S: Store, K: Sink, L: Ledger, M: Ledger>(
 {
     let movie = open_movie(alloc, store, steps)?;
     let head = movie.head(alloc)?;
-    let tracks = head.tracks.as_slice();
-    let lefts = payloads_left(alloc, leaving, tracks)?;
-    let mut left = head;
-    put_payloads_left(alloc, &mut left, leaving, &lefts)?;
-    number_heads(&mut left.tracks, leaving);
+    let own = payloads_left(alloc, leaving, head.tracks.as_slice())?;
+    let left = head_left(alloc, head, leaving, &own)?;
     let front = front_lines(alloc, leaving)?;
     let mut walks = walks_of(alloc, &movie)?;
     let mut desk = Desk::new(alloc)?;
     desk.text.carry(front.as_slice(), sink)?;
-    put_movie(leaving, &left, &mut desk.text, sink)?;
+    put_movie(&left, &mut desk.text, sink)?;
     let heads = left.tracks.as_slice();
     let of = PrintedMovie {
         movie: &movie,

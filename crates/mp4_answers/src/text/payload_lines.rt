@@ -1,8 +1,6 @@
 //! Payloads, spelled line by line, or told by their digests.
 ghost use Rattle.std.specs.Prelude.{◌≡◌, ◌+◌, ◌*◌, ◌/◌, ◌<◌, ◌≤◌, ◌==◌, ◌&&◌, ◌||◌, not, [], ◌∷◌, ◌++◌, length, drop, map, flat_map, codes};
-ghost use Rattle.mp4_boxes.specs.format.Children.{is_among};
 ghost use Rattle.mp4_head.specs.words.Seen.{kept_seen};
-ghost use Rattle.mp4_content.specs.format.Reduced.{metadata_kinds, reduce_kept};
 ghost use Rattle.mp4_answers.specs.format.Texts.{hex_text};
 ghost use Rattle.mp4_answers.specs.format.Text.{dump_line, dump_lines, is_plain_type, kept_lines, payload_lines, shown_byte, spelled_type};
 ghost use Rattle.mp4_answers.specs.words.Telling.{Tells};
@@ -11,7 +9,6 @@ use crate::digests::{DIGEST, digest};
 use crate::text::digits::{hex_digit, write_byte, write_bytes, write_digits};
 use crate::text::text_parts::{LINE_FEED, SPACE, put_parts};
 use mp4_boxes::{FourCc, Refusal};
-use mp4_content::{Without, Word};
 use mp4_head::Kept;
 use mp4_present::OutBuffer;
 use mp4_store::Sink;
@@ -231,13 +228,6 @@ pub(crate) fn put_kept<K: Sink>(
     put_payload(name, kind, kept.payload, carrier, sink)
 }
 
-// Whether a kept box of this type is metadata.
-fn is_metadata(kind: FourCc) -> bool
-    ensures { result ≡ is_among metadata_kinds kind.0 }
-{
-    kind == FourCc(*b"udta") || kind == FourCc(*b"meta") || kind == FourCc(*b"iods")
-}
-
 /// Puts each of some boxes under a name.
 pub(crate) fn put_boxes<K: Sink>(
     name: &[u8],
@@ -250,48 +240,6 @@ pub(crate) fn put_boxes<K: Sink>(
 {
     for kept in boxes {
         put_kept(name, kept, carrier, sink)?;
-    }
-    Ok(())
-}
-
-// Whether a kept box of this type is left.
-fn is_left(leaving: Without, kind: FourCc) -> bool
-    ensures { result ≡ not leaving.metadata || not (is_among metadata_kinds kind.0) }
-{
-    !leaving.has(Word::Metadata) || !is_metadata(kind)
-}
-
-// Puts a kept box of a head; nothing, where it is metadata, which is left out.
-fn put_left<K: Sink>(
-    leaving: Without,
-    kept: &Kept,
-    carrier: &mut OutBuffer,
-    sink: &mut K,
-) -> Result<(), Refusal>
-    ensures { Tells K.Sink sink.old sink.new carrier.old carrier.new
-        (flat_map (kept_lines (codes "kept")) (reduce_kept leaving (kept_seen kept.now ∷ [])))
-        result }
-{
-    if is_left(leaving, kept.kind) {
-        put_kept(b"kept", kept, carrier, sink)
-    } else {
-        carrier.carry(b"", sink)
-    }
-}
-
-/// Puts the kept boxes of a head, without metadata where that is left out.
-pub(crate) fn put_kept_boxes<K: Sink>(
-    leaving: Without,
-    boxes: &[Kept],
-    carrier: &mut OutBuffer,
-    sink: &mut K,
-) -> Result<(), Refusal>
-    ensures { Tells K.Sink sink.old sink.new carrier.old carrier.new
-        (flat_map (kept_lines (codes "kept")) (reduce_kept leaving (map kept_seen boxes.now)))
-        result }
-{
-    for kept in boxes {
-        put_left(leaving, kept, carrier, sink)?;
     }
     Ok(())
 }

@@ -1,10 +1,9 @@
-use Rattle.std.proofs.Common.{arith, ap, subst, map, ◌∙◌, [], ◌++◌}
+use Rattle.std.proofs.Common.{arith, ap, subst, map, ◌∙◌, List, [], ◌++◌}
 use Rattle.std.proofs.lemmas.Result.{err_from_is_err_and, on_ok_weaker}
-use Rattle.mp4_head.specs.format.Head.{MovieHead}
+use Rattle.mp4_head.specs.format.Head.{MovieHead, TrackHead}
 use Rattle.mp4_store.specs.words.Device.{TakesPrefix}
-use Rattle.mp4_content.specs.format.Reduced.{number_heads, reduce_movie_head}
+use Rattle.mp4_content.specs.format.Reduced.{number_heads, reduce_track_head}
 use Rattle.mp4_present.specs.words.Carried.{BytesGoOn, waiting}
-use Rattle.mp4_content.specs.words.PayloadsLeft.{track_payloads_left}
 use Rattle.mp4_present.proofs.WalkCopied.{on_err, on_ok}
 use Rattle.mp4_answers.specs.format.Answers.{IsFaultOf}
 use Rattle.mp4_answers.specs.format.FileTexts.{PrintsText}
@@ -29,14 +28,14 @@ returns-in_err-head-clause-answer g c =
     let p = err_from_is_err_and c.from_residual-in_err-head.result c.from_residual-in_err-head.ensures.1 in
     rw (p.1, p.2) (g.met.K.Sink.takes_nothing c.args.sink.now)
 
-pub returns-in_err-lefts-clause-answer : goal.returns-in_err-lefts-clause-answer
-returns-in_err-lefts-clause-answer g c =
-    let p = err_from_is_err_and c.from_residual-in_err-lefts.result c.from_residual-in_err-lefts.ensures.1 in
+pub returns-in_err-own-clause-answer : goal.returns-in_err-own-clause-answer
+returns-in_err-own-clause-answer g c =
+    let p = err_from_is_err_and c.from_residual-in_err-own.result c.from_residual-in_err-own.ensures.1 in
     rw (p.1, p.2) (g.met.K.Sink.takes_nothing c.args.sink.now)
 
-pub returns-in_err-put_payloads_left-clause-answer : goal.returns-in_err-put_payloads_left-clause-answer
-returns-in_err-put_payloads_left-clause-answer g c =
-    let p = err_from_is_err_and c.from_residual-in_err-put_payloads_left.result c.from_residual-in_err-put_payloads_left.ensures.1 in
+pub returns-in_err-left-clause-answer : goal.returns-in_err-left-clause-answer
+returns-in_err-left-clause-answer g c =
+    let p = err_from_is_err_and c.from_residual-in_err-left.result c.from_residual-in_err-left.ensures.1 in
     rw (p.1, p.2) (g.met.K.Sink.takes_nothing c.args.sink.now)
 
 pub returns-in_err-front-clause-answer : goal.returns-in_err-front-clause-answer
@@ -88,7 +87,7 @@ returns-in_err-put_movie-clause-answer g c =
     rw (p.1, p.2) (put_fails (Unit {0}) r (PrintsText l file) (IsFaultOf file) ⊥ c.in_err-put_movie.field-0.0 (rw c.in_ok-carry.ensures.puts at c.in_err-put_movie.ensures.refusal)
     (λ told. let o = c.in_ok-movie.ensures.movie told in
     movie_fails l file m o.0 head o.1 says joins sink c.carry.new.sink new new new new nothing (waiting c.carry.new.self) [] [] [] first
-    (subst (λ (x : MovieHead). TakesPrefix (g.K.Sink.takes c.carry.new.sink new) (waiting c.carry.new.self ++ movie_lines (reduce_movie_head l x))) c.in_ok-put_payloads_left.ensures.movie c.in_err-put_movie.ensures.front)))
+    (subst (λ (x : MovieHead). TakesPrefix (g.K.Sink.takes c.carry.new.sink new) (waiting c.carry.new.self ++ movie_lines x)) c.in_ok-left.ensures.movie c.in_err-put_movie.ensures.front)))
 
 pub returns-in_err-put_tracks-clause-answer : goal.returns-in_err-put_tracks-clause-answer
 returns-in_err-put_tracks-clause-answer g c =
@@ -106,15 +105,15 @@ returns-in_err-put_tracks-clause-answer g c =
     let y = c.in_err-put_tracks.ensures in
     let r = run_of g.S.Store c.args.store.now c.put_tracks.new.store g.K.Sink sink new in
     let first = rw (c.in_ok-desk.ensures.text, c.as_slice.ensures.value, c.in_ok-front.ensures) at c.in_ok-carry.ensures.bytes in
-    let movie = subst (λ (x : MovieHead). BytesGoOn (g.K.Sink.takes c.carry.new.sink c.put_movie.new.sink) (waiting c.carry.new.self) (waiting c.put_movie.new.carrier) (movie_lines (reduce_movie_head l x)))
-    c.in_ok-put_payloads_left.ensures.movie c.in_ok-put_movie.ensures.all in
+    let movie = subst (λ (x : MovieHead). BytesGoOn (g.K.Sink.takes c.carry.new.sink c.put_movie.new.sink) (waiting c.carry.new.self) (waiting c.put_movie.new.carrier) (movie_lines x))
+    c.in_ok-left.ensures.movie c.in_ok-put_movie.ensures.all in
     let tracks = rw (e.honesty, e.file, c.as_slice-heads.ensures.value) at y.told in
     rw (p.1, p.2) (carry_fails (Unit {0}) r (PrintsText l file) (IsFaultOf file) ⊥ c.in_err-put_tracks.field-0.0 (rw (e.reads, c.in_ok-put_movie.ensures.puts ∙ c.in_ok-carry.ensures.puts) at y.refusal)
     (λ told.
     let o = c.in_ok-movie.ensures.movie told in
-    let t = tracks told o.0 o.1 (c.number_heads.ensures ∙ ap (number_heads l 1) (c.in_ok-put_payloads_left.ensures.tracks ∙ ap (map (track_payloads_left l)) (heads_are l file m o.0 head o.1 says))) in
+    let t = tracks told o.0 o.1 (c.in_ok-left.ensures.tracks ∙ ap (λ (hs : List TrackHead). number_heads l 1 (map (reduce_track_head l) hs)) (heads_are l file m o.0 head o.1 says)) in
     tracks_fail l file m o.0 head o.1 says joins sink c.carry.new.sink c.put_movie.new.sink new new new nothing (waiting c.carry.new.self) (waiting c.put_movie.new.carrier) [] [] first movie t.lines.text.front)
-    (λ told. let o = c.in_ok-movie.ensures.movie told in (tracks told o.0 o.1 (c.number_heads.ensures ∙ ap (number_heads l 1) (c.in_ok-put_payloads_left.ensures.tracks ∙ ap (map (track_payloads_left l)) (heads_are l file m o.0 head o.1 says)))).lines.unchanged))
+    (λ told. let o = c.in_ok-movie.ensures.movie told in (tracks told o.0 o.1 (c.in_ok-left.ensures.tracks ∙ ap (λ (hs : List TrackHead). number_heads l 1 (map (reduce_track_head l) hs)) (heads_are l file m o.0 head o.1 says))).lines.unchanged))
 
 pub returns-in_err-carry-2-clause-answer : goal.returns-in_err-carry-2-clause-answer
 returns-in_err-carry-2-clause-answer g c =
@@ -132,13 +131,13 @@ returns-in_err-carry-2-clause-answer g c =
     let y = c.in_ok-put_tracks.ensures in
     let r = run_of g.S.Store c.args.store.now c.put_tracks.new.store g.K.Sink sink new in
     let first = rw (c.in_ok-desk.ensures.text, c.as_slice.ensures.value, c.in_ok-front.ensures) at c.in_ok-carry.ensures.bytes in
-    let movie = subst (λ (x : MovieHead). BytesGoOn (g.K.Sink.takes c.carry.new.sink c.put_movie.new.sink) (waiting c.carry.new.self) (waiting c.put_movie.new.carrier) (movie_lines (reduce_movie_head l x)))
-    c.in_ok-put_payloads_left.ensures.movie c.in_ok-put_movie.ensures.all in
+    let movie = subst (λ (x : MovieHead). BytesGoOn (g.K.Sink.takes c.carry.new.sink c.put_movie.new.sink) (waiting c.carry.new.self) (waiting c.put_movie.new.carrier) (movie_lines x))
+    c.in_ok-left.ensures.movie c.in_ok-put_movie.ensures.all in
     let tracks = rw (e.honesty, e.file, c.as_slice-heads.ensures.value) at y.told in
     rw (p.1, p.2) (put_fails (Unit {0}) r (PrintsText l file) (IsFaultOf file) ⊥ c.in_err-carry-2.field-0.0 (rw (y.store.puts ∙ c.in_ok-put_movie.ensures.puts ∙ c.in_ok-carry.ensures.puts) at c.in_err-carry-2.ensures.refusal)
     (λ told.
     let o = c.in_ok-movie.ensures.movie told in
-    let t = tracks told o.0 o.1 (c.number_heads.ensures ∙ ap (number_heads l 1) (c.in_ok-put_payloads_left.ensures.tracks ∙ ap (map (track_payloads_left l)) (heads_are l file m o.0 head o.1 says))) in
+    let t = tracks told o.0 o.1 (c.in_ok-left.ensures.tracks ∙ ap (λ (hs : List TrackHead). number_heads l 1 (map (reduce_track_head l) hs)) (heads_are l file m o.0 head o.1 says)) in
     last_fails l file m o.0 head o.1 says joins sink c.carry.new.sink c.put_movie.new.sink c.put_tracks.new.sink new new nothing (waiting c.carry.new.self) (waiting c.put_movie.new.carrier) (waiting c.put_tracks.new.desk.text) [] first movie t.lines.text.all
     c.in_err-carry-2.ensures.prefix))
 
@@ -157,14 +156,14 @@ returns-clause-answer g c =
     let y = c.in_ok-put_tracks.ensures in
     let r = run_of g.S.Store c.args.store.now c.put_tracks.new.store g.K.Sink sink new in
     let first = rw (c.in_ok-desk.ensures.text, c.as_slice.ensures.value, c.in_ok-front.ensures) at c.in_ok-carry.ensures.bytes in
-    let movie = subst (λ (x : MovieHead). BytesGoOn (g.K.Sink.takes c.carry.new.sink c.put_movie.new.sink) (waiting c.carry.new.self) (waiting c.put_movie.new.carrier) (movie_lines (reduce_movie_head l x)))
-    c.in_ok-put_payloads_left.ensures.movie c.in_ok-put_movie.ensures.all in
+    let movie = subst (λ (x : MovieHead). BytesGoOn (g.K.Sink.takes c.carry.new.sink c.put_movie.new.sink) (waiting c.carry.new.self) (waiting c.put_movie.new.carrier) (movie_lines x))
+    c.in_ok-left.ensures.movie c.in_ok-put_movie.ensures.all in
     let tracks = rw (e.honesty, e.file, c.as_slice-heads.ensures.value) at y.told in
     let same = c.in_ok-carry-2.ensures.puts ∙ y.store.puts ∙ c.in_ok-put_movie.ensures.puts ∙ c.in_ok-carry.ensures.puts in
     put_answers (Unit {0}) r (PrintsText l file) (IsFaultOf file) ⊥ c.flush.result (ok_anyway _ c.flush.result (y.store.reads ∙ e.reads)) (rw same at c.flush.ensures.puts)
     (told_ok _ _ c.flush.result (λ told.
     let o = c.in_ok-movie.ensures.movie told in
-    let t = tracks told o.0 o.1 (c.number_heads.ensures ∙ ap (number_heads l 1) (c.in_ok-put_payloads_left.ensures.tracks ∙ ap (map (track_payloads_left l)) (heads_are l file m o.0 head o.1 says))) in
+    let t = tracks told o.0 o.1 (c.in_ok-left.ensures.tracks ∙ ap (λ (hs : List TrackHead). number_heads l 1 (map (reduce_track_head l) hs)) (heads_are l file m o.0 head o.1 says)) in
     on_ok _ _ c.flush.result
     (λ put. all_printed l file m o.0 head o.1 says joins sink c.carry.new.sink c.put_movie.new.sink c.put_tracks.new.sink c.carry-2.new.sink new nothing (waiting c.carry.new.self) (waiting c.put_movie.new.carrier) (waiting c.put_tracks.new.desk.text) (waiting c.carry-2.new.self)
     first movie t.lines.text.all c.in_ok-carry-2.ensures.bytes put)
@@ -172,7 +171,7 @@ returns-clause-answer g c =
     (rw same at c.flush.ensures.refusal)
     (λ told.
     let o = c.in_ok-movie.ensures.movie told in
-    let t = tracks told o.0 o.1 (c.number_heads.ensures ∙ ap (number_heads l 1) (c.in_ok-put_payloads_left.ensures.tracks ∙ ap (map (track_payloads_left l)) (heads_are l file m o.0 head o.1 says))) in
+    let t = tracks told o.0 o.1 (c.in_ok-left.ensures.tracks ∙ ap (λ (hs : List TrackHead). number_heads l 1 (map (reduce_track_head l) hs)) (heads_are l file m o.0 head o.1 says)) in
     on_err _ _ c.flush.result
     (λ put. end_fails l file m o.0 head o.1 says joins sink c.carry.new.sink c.put_movie.new.sink c.put_tracks.new.sink c.carry-2.new.sink new nothing (waiting c.carry.new.self) (waiting c.put_movie.new.carrier) (waiting c.put_tracks.new.desk.text) (waiting c.carry-2.new.self)
     first movie t.lines.text.all c.in_ok-carry-2.ensures.bytes put)
@@ -209,13 +208,13 @@ returns-in_err-head-clause-work g c = λ told.
     let o = c.in_ok-movie.ensures.movie told in
     looked_within _ _ _ c.in_ok-movie.movie o.0 o.1 ((c.in_ok-movie.ensures.work told).work o.0 o.1.is_tree)
 
-pub returns-in_err-lefts-clause-work : goal.returns-in_err-lefts-clause-work
-returns-in_err-lefts-clause-work g c = λ told.
+pub returns-in_err-own-clause-work : goal.returns-in_err-own-clause-work
+returns-in_err-own-clause-work g c = λ told.
     let o = c.in_ok-movie.ensures.movie told in
     looked_within _ _ _ c.in_ok-movie.movie o.0 o.1 ((c.in_ok-movie.ensures.work told).work o.0 o.1.is_tree)
 
-pub returns-in_err-put_payloads_left-clause-work : goal.returns-in_err-put_payloads_left-clause-work
-returns-in_err-put_payloads_left-clause-work g c = λ told.
+pub returns-in_err-left-clause-work : goal.returns-in_err-left-clause-work
+returns-in_err-left-clause-work g c = λ told.
     let o = c.in_ok-movie.ensures.movie told in
     looked_within _ _ _ c.in_ok-movie.movie o.0 o.1 ((c.in_ok-movie.ensures.work told).work o.0 o.1.is_tree)
 
@@ -249,8 +248,8 @@ returns-in_err-put_tracks-clause-work g c = λ told.
     let file = g.S.Store.file c.args.store.now in
     let o = c.in_ok-movie.ensures.movie told in
     let e = c.in_ok-movie.ensures.store in
-    let walks = ((rw (e.honesty, e.file, c.as_slice-heads.ensures.value) at c.in_err-put_tracks.ensures.told) told o.0 o.1 (c.number_heads.ensures ∙ ap (number_heads c.args.leaving 1) (c.in_ok-put_payloads_left.ensures.tracks
-    ∙ ap (map (track_payloads_left c.args.leaving)) (heads_are c.args.leaving file c.in_ok-movie.movie o.0 c.in_ok-head.head o.1 c.in_ok-head.ensures)))).steps in
+    let walks = ((rw (e.honesty, e.file, c.as_slice-heads.ensures.value) at c.in_err-put_tracks.ensures.told) told o.0 o.1 (c.in_ok-left.ensures.tracks
+    ∙ ap (λ (hs : List TrackHead). number_heads c.args.leaving 1 (map (reduce_track_head c.args.leaving) hs)) (heads_are c.args.leaving file c.in_ok-movie.movie o.0 c.in_ok-head.head o.1 c.in_ok-head.ensures))).steps in
     all_walked_within file _ _ c.in_ok-movie.movie o.0 _ o.1 ((c.in_ok-movie.ensures.work told).work o.0 o.1.is_tree) walks
 
 pub returns-in_err-carry-2-clause-work : goal.returns-in_err-carry-2-clause-work
@@ -258,8 +257,8 @@ returns-in_err-carry-2-clause-work g c = λ told.
     let file = g.S.Store.file c.args.store.now in
     let o = c.in_ok-movie.ensures.movie told in
     let e = c.in_ok-movie.ensures.store in
-    let walks = ((rw (e.honesty, e.file, c.as_slice-heads.ensures.value) at c.in_ok-put_tracks.ensures.told) told o.0 o.1 (c.number_heads.ensures ∙ ap (number_heads c.args.leaving 1) (c.in_ok-put_payloads_left.ensures.tracks
-    ∙ ap (map (track_payloads_left c.args.leaving)) (heads_are c.args.leaving file c.in_ok-movie.movie o.0 c.in_ok-head.head o.1 c.in_ok-head.ensures)))).steps in
+    let walks = ((rw (e.honesty, e.file, c.as_slice-heads.ensures.value) at c.in_ok-put_tracks.ensures.told) told o.0 o.1 (c.in_ok-left.ensures.tracks
+    ∙ ap (λ (hs : List TrackHead). number_heads c.args.leaving 1 (map (reduce_track_head c.args.leaving) hs)) (heads_are c.args.leaving file c.in_ok-movie.movie o.0 c.in_ok-head.head o.1 c.in_ok-head.ensures))).steps in
     all_walked_within file _ _ c.in_ok-movie.movie o.0 _ o.1 ((c.in_ok-movie.ensures.work told).work o.0 o.1.is_tree) walks
 
 pub returns-clause-work : goal.returns-clause-work
@@ -267,8 +266,8 @@ returns-clause-work g c = λ told.
     let file = g.S.Store.file c.args.store.now in
     let o = c.in_ok-movie.ensures.movie told in
     let e = c.in_ok-movie.ensures.store in
-    let walks = ((rw (e.honesty, e.file, c.as_slice-heads.ensures.value) at c.in_ok-put_tracks.ensures.told) told o.0 o.1 (c.number_heads.ensures ∙ ap (number_heads c.args.leaving 1) (c.in_ok-put_payloads_left.ensures.tracks
-    ∙ ap (map (track_payloads_left c.args.leaving)) (heads_are c.args.leaving file c.in_ok-movie.movie o.0 c.in_ok-head.head o.1 c.in_ok-head.ensures)))).steps in
+    let walks = ((rw (e.honesty, e.file, c.as_slice-heads.ensures.value) at c.in_ok-put_tracks.ensures.told) told o.0 o.1 (c.in_ok-left.ensures.tracks
+    ∙ ap (λ (hs : List TrackHead). number_heads c.args.leaving 1 (map (reduce_track_head c.args.leaving) hs)) (heads_are c.args.leaving file c.in_ok-movie.movie o.0 c.in_ok-head.head o.1 c.in_ok-head.ensures))).steps in
     all_walked_within file _ _ c.in_ok-movie.movie o.0 _ o.1 ((c.in_ok-movie.ensures.work told).work o.0 o.1.is_tree) walks
 
 pub returns-clause-least : goal.returns-clause-least
@@ -290,12 +289,12 @@ pub returns-in_err-head-clause-looks : goal.returns-in_err-head-clause-looks
 returns-in_err-head-clause-looks g c = λ told.
     finds_taken _ c.in_ok-movie.movie _ _ (c.in_ok-movie.ensures.movie told) (c.in_ok-movie.ensures.work told).looks.said
 
-pub returns-in_err-lefts-clause-looks : goal.returns-in_err-lefts-clause-looks
-returns-in_err-lefts-clause-looks g c = λ told.
+pub returns-in_err-own-clause-looks : goal.returns-in_err-own-clause-looks
+returns-in_err-own-clause-looks g c = λ told.
     finds_taken _ c.in_ok-movie.movie _ _ (c.in_ok-movie.ensures.movie told) (c.in_ok-movie.ensures.work told).looks.said
 
-pub returns-in_err-put_payloads_left-clause-looks : goal.returns-in_err-put_payloads_left-clause-looks
-returns-in_err-put_payloads_left-clause-looks g c = λ told.
+pub returns-in_err-left-clause-looks : goal.returns-in_err-left-clause-looks
+returns-in_err-left-clause-looks g c = λ told.
     finds_taken _ c.in_ok-movie.movie _ _ (c.in_ok-movie.ensures.movie told) (c.in_ok-movie.ensures.work told).looks.said
 
 pub returns-in_err-front-clause-looks : goal.returns-in_err-front-clause-looks

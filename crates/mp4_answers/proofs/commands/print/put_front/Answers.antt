@@ -3,8 +3,6 @@ use Rattle.std.specs.Prelude.{flat_map}
 use Rattle.std.proofs.lemmas.List.{append-nil}
 use Rattle.std.proofs.lemmas.Result.{err_from_is_err_and}
 use Rattle.mp4_head.specs.words.Seen.{track_seen}
-use Rattle.mp4_content.specs.format.Reduced.{reduce_track_head}
-use Rattle.mp4_content.specs.words.PayloadsLeft.{keeping_payloads}
 use Rattle.mp4_answers.specs.format.Text.{head_lines, number_line, samples_heading}
 use Rattle.mp4_answers.specs.words.Telling.{said_line}
 use Rattle.mp4_answers.proofs.HeadTexts.{chain3, said_is}
@@ -14,7 +12,7 @@ use Rattle.mp4_answers.proofs.commands.print.put_front.Goals as goal
 pub returns-in_err-put_head : goal.returns-in_err-put_head
 returns-in_err-put_head g c =
     let p = err_from_is_err_and c.from_residual.result c.from_residual.ensures.1 in
-    let t = reduce_track_head (keeping_payloads c.args.leaving) (track_seen c.args.head.now) in
+    let t = track_seen c.args.head.now in
     let head = head_lines t in
     let start = number_line (codes "start") c.args.start in
     let heading = samples_heading c.args.head.now.id in
@@ -26,7 +24,7 @@ returns-in_err-put_head g c =
 pub returns-in_err-put_all_named : goal.returns-in_err-put_all_named
 returns-in_err-put_all_named g c =
     let p = err_from_is_err_and c.from_residual-in_err-put_all_named.result c.from_residual-in_err-put_all_named.ensures.1 in
-    let t = reduce_track_head (keeping_payloads c.args.leaving) (track_seen c.args.head.now) in
+    let t = track_seen c.args.head.now in
     let head = head_lines t in
     let start = number_line (codes "start") c.args.start in
     let heading = samples_heading c.args.head.now.id in
@@ -40,7 +38,7 @@ returns-in_err-put_all_named g c =
 
 pub returns : goal.returns
 returns g c =
-    let t = reduce_track_head (keeping_payloads c.args.leaving) (track_seen c.args.head.now) in
+    let t = track_seen c.args.head.now in
     let head = head_lines t in
     let start = number_line (codes "start") c.args.start in
     let heading = samples_heading c.args.head.now.id in

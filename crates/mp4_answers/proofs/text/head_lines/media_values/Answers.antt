@@ -4,8 +4,8 @@ use Rattle.mp4_answers.proofs.text.head_lines.media_values.Goals as goal
 
 pub returns : goal.returns
 returns c =
-    let e0 = said_is c.number.result _ _ _ c.number.ensures.name c.number.ensures.said (ap (λ n. decimal n ∷ []) c.time_left.ensures) in
-    let e1 = said_is c.number-2.result _ _ _ c.number-2.ensures.name c.number-2.ensures.said (ap (λ n. decimal n ∷ []) c.time_left-2.ensures) in
-    let e2 = said_is c.number-3.result _ _ _ c.number-3.ensures.name c.number-3.ensures.said (ap (λ n. decimal n ∷ []) (c.from.ensures ∙ c.timescale.ensures)) in
+    let e0 = said_is c.number.result _ _ _ c.number.ensures.name c.number.ensures.said (refl) in
+    let e1 = said_is c.number-2.result _ _ _ c.number-2.ensures.name c.number-2.ensures.said (refl) in
+    let e2 = said_is c.number-3.result _ _ _ c.number-3.ensures.name c.number-3.ensures.said (ap (λ n. decimal n ∷ []) c.from.ensures) in
     let e3 = said_is c.saying.result _ _ _ c.saying.ensures.name c.saying.ensures.said (refl) in
     λ i. e0 i ∷ e1 i ∷ e2 i ∷ e3 i ∷ []

@@ -2,8 +2,6 @@ use Rattle.std.proofs.Common.{[], ◌++◌, codes, refl}
 use Rattle.std.specs.Prelude.{flat_map}
 use Rattle.std.proofs.lemmas.Result.{err_from_is_err_and}
 use Rattle.mp4_head.specs.words.Seen.{media_seen}
-use Rattle.mp4_content.specs.format.Reduced.{reduce_media}
-use Rattle.mp4_content.specs.words.PayloadsLeft.{keeping_payloads}
 use Rattle.mp4_answers.specs.format.Text.{kept_lines, media_lines, payload_lines}
 use Rattle.mp4_answers.specs.words.Telling.{said_line}
 use Rattle.mp4_answers.proofs.HeadTexts.{chain5, lines_are, media_is}
@@ -13,7 +11,7 @@ use Rattle.mp4_answers.proofs.text.head_lines.put_media.Goals as goal
 pub returns-in_err-put_all_named : goal.returns-in_err-put_all_named
 returns-in_err-put_all_named g c =
     let p = err_from_is_err_and c.from_residual.result c.from_residual.ensures.1 in
-    let m = reduce_media (keeping_payloads c.args.leaving) (media_seen c.args.media.now) in
+    let m = media_seen c.args.media.now in
     let whole = media_lines m in
     let front = flat_map said_line c.media_values.result in
     let handler = payload_lines (codes "handler") m.handler in
@@ -28,7 +26,7 @@ returns-in_err-put_all_named g c =
 pub returns-in_err-put_payload : goal.returns-in_err-put_payload
 returns-in_err-put_payload g c =
     let p = err_from_is_err_and c.from_residual-in_err-put_payload.result c.from_residual-in_err-put_payload.ensures.1 in
-    let m = reduce_media (keeping_payloads c.args.leaving) (media_seen c.args.media.now) in
+    let m = media_seen c.args.media.now in
     let whole = media_lines m in
     let front = flat_map said_line c.media_values.result in
     let handler = payload_lines (codes "handler") m.handler in
@@ -44,7 +42,7 @@ returns-in_err-put_payload g c =
 pub returns-in_err-put_payloads : goal.returns-in_err-put_payloads
 returns-in_err-put_payloads g c =
     let p = err_from_is_err_and c.from_residual-in_err-put_payloads.result c.from_residual-in_err-put_payloads.ensures.1 in
-    let m = reduce_media (keeping_payloads c.args.leaving) (media_seen c.args.media.now) in
+    let m = media_seen c.args.media.now in
     let whole = media_lines m in
     let front = flat_map said_line c.media_values.result in
     let handler = payload_lines (codes "handler") m.handler in
@@ -62,7 +60,7 @@ returns-in_err-put_payloads g c =
 pub returns-in_err-put_kept : goal.returns-in_err-put_kept
 returns-in_err-put_kept g c =
     let p = err_from_is_err_and c.from_residual-in_err-put_kept.result c.from_residual-in_err-put_kept.ensures.1 in
-    let m = reduce_media (keeping_payloads c.args.leaving) (media_seen c.args.media.now) in
+    let m = media_seen c.args.media.now in
     let whole = media_lines m in
     let front = flat_map said_line c.media_values.result in
     let handler = payload_lines (codes "handler") m.handler in
@@ -81,7 +79,7 @@ returns-in_err-put_kept g c =
 
 pub returns : goal.returns
 returns g c =
-    let m = reduce_media (keeping_payloads c.args.leaving) (media_seen c.args.media.now) in
+    let m = media_seen c.args.media.now in
     let whole = media_lines m in
     let front = flat_map said_line c.media_values.result in
     let handler = payload_lines (codes "handler") m.handler in

@@ -1,20 +1,18 @@
 use Rattle.std.proofs.Common.{ℕ, List, [], ◌++◌, codes, decimal, refl}
 use Rattle.std.specs.Prelude.{flat_map}
 use Rattle.std.proofs.lemmas.Result.{err_from_is_err_and}
-use Rattle.mp4_head.specs.words.Seen.{edit_seen, track_seen}
-use Rattle.mp4_content.specs.format.Reduced.{reduce_track_head}
-use Rattle.mp4_content.specs.words.PayloadsLeft.{keeping_payloads}
+use Rattle.mp4_head.specs.words.Seen.{track_seen}
 use Rattle.mp4_answers.specs.format.Text.{edit_line, kept_lines, track_lines}
 use Rattle.mp4_answers.specs.format.Texts.{line_feed}
 use Rattle.mp4_answers.specs.words.Telling.{said_line, track_front}
-use Rattle.mp4_answers.proofs.HeadTexts.{chain4, lines_are, map_unless, track_is}
+use Rattle.mp4_answers.proofs.HeadTexts.{chain4, lines_are, track_is}
 use Rattle.mp4_answers.proofs.Told.{told_last, told_more, told_none, told_stops}
 use Rattle.mp4_answers.proofs.text.head_lines.put_track.Goals as goal
 
 pub returns-in_err-put_heading : goal.returns-in_err-put_heading
 returns-in_err-put_heading g c =
     let p = err_from_is_err_and c.from_residual.result c.from_residual.ensures.1 in
-    let t = reduce_track_head (keeping_payloads c.args.leaving) (track_seen c.args.head.now) in
+    let t = track_seen c.args.head.now in
     let whole = track_lines t in
     let h : List ℕ = codes "track " ++ decimal t.id ++ line_feed in
     let edits = flat_map edit_line t.edits in
@@ -28,7 +26,7 @@ returns-in_err-put_heading g c =
 pub returns-in_err-put_all_named : goal.returns-in_err-put_all_named
 returns-in_err-put_all_named g c =
     let p = err_from_is_err_and c.from_residual-in_err-put_all_named.result c.from_residual-in_err-put_all_named.ensures.1 in
-    let t = reduce_track_head (keeping_payloads c.args.leaving) (track_seen c.args.head.now) in
+    let t = track_seen c.args.head.now in
     let whole = track_lines t in
     let h : List ℕ = codes "track " ++ decimal t.id ++ line_feed in
     let edits = flat_map edit_line t.edits in
@@ -44,7 +42,7 @@ returns-in_err-put_all_named g c =
 pub returns-in_err-put_edits : goal.returns-in_err-put_edits
 returns-in_err-put_edits g c =
     let p = err_from_is_err_and c.from_residual-in_err-put_edits.result c.from_residual-in_err-put_edits.ensures.1 in
-    let t = reduce_track_head (keeping_payloads c.args.leaving) (track_seen c.args.head.now) in
+    let t = track_seen c.args.head.now in
     let whole = track_lines t in
     let h : List ℕ = codes "track " ++ decimal t.id ++ line_feed in
     let edits = flat_map edit_line t.edits in
@@ -52,7 +50,7 @@ returns-in_err-put_edits g c =
     let front = flat_map said_line c.track_values.result in
     let is = track_is t front (lines_are _ _ c.track_values.ensures) in
     let n = chain4 whole h front edits kept is in
-    let e = rw (map_unless c.args.leaving.edits edit_seen _ _ c.edits_left.ensures, c.as_slice.ensures.value) at c.in_err-put_edits.ensures in
+    let e = rw c.as_slice.ensures.value at c.in_err-put_edits.ensures in
     rw (p.1, p.2) (told_stops g.K.Sink g.met.K.Sink.takes_on c.args.sink.now c.put_all_named.new.sink c.put_edits.new.sink c.args.carrier.now c.put_all_named.new.carrier c.put_edits.new.carrier (h ++ front) edits kept whole _
     (told_more g.K.Sink g.met.K.Sink.takes_on c.args.sink.now c.put_heading.new.sink c.put_all_named.new.sink c.args.carrier.now c.put_heading.new.carrier c.put_all_named.new.carrier h front (h
     ++ front) (told_more g.K.Sink g.met.K.Sink.takes_on c.args.sink.now c.args.sink.now c.put_heading.new.sink c.args.carrier.now c.args.carrier.now c.put_heading.new.carrier [] h h
@@ -60,7 +58,7 @@ returns-in_err-put_edits g c =
 
 pub returns : goal.returns
 returns g c =
-    let t = reduce_track_head (keeping_payloads c.args.leaving) (track_seen c.args.head.now) in
+    let t = track_seen c.args.head.now in
     let whole = track_lines t in
     let h : List ℕ = codes "track " ++ decimal t.id ++ line_feed in
     let edits = flat_map edit_line t.edits in
@@ -68,10 +66,10 @@ returns g c =
     let front = flat_map said_line c.track_values.result in
     let is = track_is t front (lines_are _ _ c.track_values.ensures) in
     let n = chain4 whole h front edits kept is in
-    let e = rw (map_unless c.args.leaving.edits edit_seen _ _ c.edits_left.ensures, c.as_slice.ensures.value) at c.in_ok-put_edits.ensures in
-    told_last g.K.Sink g.met.K.Sink.takes_on c.args.sink.now c.put_edits.new.sink c.put_kept_boxes.new.sink c.args.carrier.now c.put_edits.new.carrier c.put_kept_boxes.new.carrier (h ++ front ++ edits) kept whole c.put_kept_boxes.result
+    let e = rw c.as_slice.ensures.value at c.in_ok-put_edits.ensures in
+    told_last g.K.Sink g.met.K.Sink.takes_on c.args.sink.now c.put_edits.new.sink c.put_boxes.new.sink c.args.carrier.now c.put_edits.new.carrier c.put_boxes.new.carrier (h ++ front ++ edits) kept whole c.put_boxes.result
     (told_more g.K.Sink g.met.K.Sink.takes_on c.args.sink.now c.put_all_named.new.sink c.put_edits.new.sink c.args.carrier.now c.put_all_named.new.carrier c.put_edits.new.carrier (h ++ front) edits ((h ++ front)
     ++ edits) (told_more g.K.Sink g.met.K.Sink.takes_on c.args.sink.now c.put_heading.new.sink c.put_all_named.new.sink c.args.carrier.now c.put_heading.new.carrier c.put_all_named.new.carrier h front (h
     ++ front) (told_more g.K.Sink g.met.K.Sink.takes_on c.args.sink.now c.args.sink.now c.put_heading.new.sink c.args.carrier.now c.args.carrier.now c.put_heading.new.carrier [] h h
     (told_none g.K.Sink g.met.K.Sink.takes_on c.args.sink.now c.args.carrier.now (g.met.K.Sink.takes_nothing c.args.sink.now)) c.in_ok-put_heading.ensures.all c.in_ok-put_heading.ensures.puts refl) c.in_ok-put_all_named.ensures.all c.in_ok-put_all_named.ensures.puts refl) e.all e.puts refl)
-    (rw c.as_slice-2.ensures.value at c.put_kept_boxes.ensures) is
+    (rw c.as_slice-2.ensures.value at c.put_boxes.ensures) is
