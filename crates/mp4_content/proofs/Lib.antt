@@ -36,6 +36,7 @@ pub mod TimescalesWords
 pub mod TimescalesLengths
 pub mod TimescalesExact
 pub mod TimescalesValid
+pub mod TimescalesEdits
 pub mod TimescalesOrder
 pub mod TimescalesVectors
 pub mod Covering

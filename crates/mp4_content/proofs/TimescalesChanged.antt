@@ -1,27 +1,14 @@
 -- A track whose times are changed: its times then, and that one change after another is one.
 use Rattle.std.proofs.Common.{◌≡◌, ℕ, zero, suc, ◌*◌, ◌/◌, Bool, true, false, if◌then◌else◌, List, [], ◌∷◌, ◌++◌, length, map, refl, sym, ap, ◌∙◌, ℤ, pos, negsuc, unsigned_abs}
-use Rattle.std.specs.List.{AllByRecursion}
 use Rattle.std.specs.Int.{◌∣◌}
 use Rattle.std.proofs.Math.Nat.{zero-div, div-div-eq-div-mul, eq-one_of_dvd-one}
+use Rattle.std.proofs.lemmas.List.{map-append}
+use Rattle.mp4_boxes.proofs.Joined.{all_first}
 use Rattle.mp4_head.specs.format.Head.{Edit}
 use Rattle.mp4_present.specs.format.Presentation.{Sample, Track}
 use Rattle.mp4_content.specs.declared.without.Without.{Without}
 use Rattle.mp4_content.specs.format.Timescales.{leaves_duration, sample_times, counted_media_time, track_times, segment_times, sized, sample_by, samples_by, media_time_by, edit_by, track_by, divided, divisor_of, lowest_track}
 use Rattle.mp4_content.proofs.TimescalesDivisors.{Divides, sized_twice, divisor_of_divided}
-
--- ---- lists
-
-pub map_joined : {A B : Type 0} (f : A → B) (xs ys : List A) → map f (xs ++ ys) ≡ map f xs ++ map f ys
-map_joined f [] ys = refl
-map_joined f (x ∷ xs) ys = λ i. f x ∷ map_joined f xs ys i
-
-pub first_part : {A : Type 0} (P : A → Type 0) (xs ys : List A) → AllByRecursion P (xs ++ ys) → AllByRecursion P xs
-first_part P [] ys h = tt
-first_part P (x ∷ xs) ys h = (h.0, first_part P xs ys h.1)
-
-pub last_part : {A : Type 0} (P : A → Type 0) (xs ys : List A) → AllByRecursion P (xs ++ ys) → AllByRecursion P ys
-last_part P [] ys h = h
-last_part P (x ∷ xs) ys h = last_part P xs ys h.1
 
 -- ---- edits
 
@@ -100,10 +87,10 @@ module _ (l : Without) where
       let once = samples_by l (divided g) count 0 all in
       let times = sample_times l count 0 all in
       let edits = media_times t.head.edits in
-      let left : media_times (map (edit_by a (divided g)) t.head.edits) ≡ map (sized (divided g)) edits = media_times_divided a g t.head.edits (first_part (λ (time : ℤ). g ∣ unsigned_abs time) edits times h.1.1) in
+      let left : media_times (map (edit_by a (divided g)) t.head.edits) ≡ map (sized (divided g)) edits = media_times_divided a g t.head.edits (all_first (λ (time : ℤ). g ∣ unsigned_abs time) edits times h.1.1) in
       let right : sample_times l (length once) 0 once ≡ map (sized (divided g)) times = ap (λ n. sample_times l n 0 once) (many_stay (divided g) count 0 all) ∙ sample_times_by (divided g) (zero-div g) count 0 all in
       let scale = duration_by (divided g) (zero-div g) l.timing t.head.media.timescale in
-      let joined = (λ i. left i ++ right i) ∙ sym (map_joined (sized (divided g)) edits times) in
+      let joined = (λ i. left i ++ right i) ∙ sym (map-append (sized (divided g)) edits times) in
       λ i. pos (scale i) ∷ pos (divided g t.start) ∷ joined i
 
   -- A track that is divided by what divides its times is, in lowest terms, as it was before.
@@ -120,4 +107,4 @@ module _ (l : Without) where
 pub segment_times_by : (l : Without) (a : ℕ → ℕ) (f : Track → ℕ → ℕ) (tracks : List Track) → segment_times (map (λ (t : Track). track_by l a (f t) t) tracks) ≡ map (sized a) (segment_times tracks)
 segment_times_by l a f [] = refl
 segment_times_by l a f (t ∷ tracks) =
-    (λ i. lasting_by a (f t) t.head.edits i ++ segment_times_by l a f tracks i) ∙ sym (map_joined (sized a) (lasting t.head.edits) (segment_times tracks))
+    (λ i. lasting_by a (f t) t.head.edits i ++ segment_times_by l a f tracks i) ∙ sym (map-append (sized a) (lasting t.head.edits) (segment_times tracks))

@@ -8,13 +8,14 @@ use Rattle.std.proofs.lemmas.Grind.{div_ceil_times}
 use Rattle.std.proofs.lemmas.Int.{ints}
 use Rattle.std.proofs.Math.Nat.{mul-div_cancel', dvd-mul_left, zero-div, pos_of_dvd_of_pos, le_of_mul-le-mul_left}
 use Rattle.mp4_boxes.specs.format.Bytes.{sum_of}
+use Rattle.mp4_boxes.proofs.Joined.{all_first, all_last}
 use Rattle.mp4_head.specs.format.Head.{Edit}
 use Rattle.mp4_present.specs.format.Presentation.{Sample, Track, Presentation, IsInTime, says_all, total_duration}
 use Rattle.mp4_content.specs.format.Reduced.{is_at_end, HasNearOffsets}
 use Rattle.mp4_content.specs.declared.without.Without.{Without}
 use Rattle.mp4_content.specs.format.Timescales.{leaves_duration, counted_duration, sample_times, track_times, segment_times, movie_times, sized, timescale_by, samples_by, edit_by, divided, divisor_of, lowest_track, lowest}
 use Rattle.mp4_content.proofs.TimescalesDivisors.{Divides, divisor_divides}
-use Rattle.mp4_content.proofs.TimescalesChanged.{first_part, last_part, media_times, lasting}
+use Rattle.mp4_content.proofs.TimescalesChanged.{media_times, lasting}
 
 -- ---- numbers
 
@@ -80,7 +81,7 @@ module _ (l : Without) where
       by true = omega arith
       by false = div-le_self d g
 
-  total_less : (g count n : ℕ) (samples : List Sample) → total_duration (samples_by l (divided g) count n samples) ≤ total_duration samples
+  pub total_less : (g count n : ℕ) (samples : List Sample) → total_duration (samples_by l (divided g) count n samples) ≤ total_duration samples
   total_less g count n [] = omega arith
   total_less g count n (s ∷ samples) = let one = duration_less g count n s.duration in let rest = total_less g count (suc n) samples in omega (arith, one, rest)
 
@@ -146,7 +147,7 @@ module _ (l : Without) where
         let divides : g ∣ media = subst (λ (b : Bool). g ∣ (if b then 0 else media)) counts all.0 in
         let above : 0 < g = pos_of_dvd_of_pos divides other in
         let a = total_duration (samples_by l (divided g) (length t.samples) 0 t.samples) in
-        let total : g * a ≡ total_duration t.samples = total_divided g (length t.samples) 0 t.samples (last_part (λ (time : ℤ). g ∣ unsigned_abs time) (media_times t.head.edits) (sample_times l (length t.samples) 0 t.samples) all.1.1) in
+        let total : g * a ≡ total_duration t.samples = total_divided g (length t.samples) 0 t.samples (all_last (λ (time : ℤ). g ∣ unsigned_abs time) (media_times t.head.edits) (sample_times l (length t.samples) 0 t.samples) all.1.1) in
         let product : g * (a * scale) ≡ total_duration t.samples * scale = sym (mul_assoc g a scale) ∙ ap (λ n. n * scale) total in
         let ceil : by_samples a (divided h scale) (divided g media) ≤ by_samples (total_duration t.samples) scale media =
         subst (λ n. by_samples a (divided h scale) (divided g media) ≤ div_ceil n media) product (subst (λ n. by_samples a (divided h scale) (divided g media) ≤ div_ceil (g * (a * scale)) n) (mul-div_cancel' g divides)
@@ -163,8 +164,8 @@ module _ (l : Without) where
   all_in_time less scale h [] q r within = tt
   all_in_time less scale h (t ∷ tracks) q r within =
       let divides = λ (time : ℤ). h ∣ unsigned_abs time in (
-        in_time_by scale h t (first_part divides (lasting t.head.edits) (segment_times tracks) q) (less scale h t r.0) within.0,
-        all_in_time less scale h tracks (last_part divides (lasting t.head.edits) (segment_times tracks) q) r.1 within.1,
+        in_time_by scale h t (all_first divides (lasting t.head.edits) (segment_times tracks) q) (less scale h t r.0) within.0,
+        all_in_time less scale h tracks (all_last divides (lasting t.head.edits) (segment_times tracks) q) r.1 within.1,
       )
 
   -- no track is longer

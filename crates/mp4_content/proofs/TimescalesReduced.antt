@@ -5,6 +5,8 @@ use Rattle.std.specs.Int.{◌∣◌}
 use Rattle.std.proofs.lemmas.Nat.Gcd.{dvd-zero}
 use Rattle.std.proofs.Math.Nat.{zero-div, div-div-eq-div-mul}
 use Rattle.mp4_boxes.proofs.Among.{all_append}
+use Rattle.mp4_boxes.proofs.Plain.{false_true}
+use Rattle.mp4_boxes.proofs.Joined.{all_first, all_last}
 use Rattle.mp4_head.specs.format.Head.{Edit}
 use Rattle.mp4_present.specs.format.Presentation.{Sample, Track, Presentation}
 use Rattle.mp4_content.specs.format.Reduced.{is_at_end, duration_left, offset_left, start_left, timescale_left, first_offset, reduce_sample, reduce_from, reduce_samples, reduce_track, number_track, number_tracks, reduce}
@@ -12,10 +14,7 @@ use Rattle.mp4_content.specs.declared.without.Without.{Without}
 use Rattle.mp4_content.specs.format.Timescales.{counted_timescale, leaves_duration, counted_duration, sample_times, track_times, segment_times, movie_times, sized, timescale_by, sample_by, samples_by, edit_by, track_by, divided, divisor_of, lowest_track, lowest}
 use Rattle.mp4_content.proofs.ReducedSamples.{left_many}
 use Rattle.mp4_content.proofs.TimescalesDivisors.{Divides, divides_minus, minus_divided, divisor_divides, divisor_of_divided}
-use Rattle.mp4_content.proofs.TimescalesChanged.{first_part, last_part, media_times, many_stay, duration_twice, duration_by, lowest_of_divided, segment_times_by}
-
-no : false ≡ true → ⊥
-no x = cc
+use Rattle.mp4_content.proofs.TimescalesChanged.{media_times, many_stay, duration_twice, duration_by, lowest_of_divided, segment_times_by}
 
 -- `l` leaves out ends and timing if `m` does
 module _ (m l : Without) (ends : m.ends ≡ true → l.ends ≡ true) (timing : m.timing ≡ true → l.timing ≡ true) where
@@ -33,11 +32,11 @@ module _ (m l : Without) (ends : m.ends ≡ true → l.ends ≡ true) (timing : 
             → (if lt then 1 else if le && at then 1 else if mt || (me && at) then d else f d)
             ≡ (if lt || (le && at) then (if lt then 1 else if le && at then 1 else d) else f (if lt then 1 else if le && at then 1 else d))
         by true mt le me at e h = refl
-        by false true le me at e h = absurd (no (e refl))
+        by false true le me at e h = absurd (false_true (e refl))
         by false false true me true e h = refl
         by false false true true false e h = refl
         by false false true false false e h = refl
-        by false false false true at e h = absurd (no (h refl))
+        by false false false true at e h = absurd (false_true (h refl))
         by false false false false at e h = refl
 
     offset_between : (first offset : ℤ) → g ∣ unsigned_abs first → g ∣ unsigned_abs offset → offset_left l (sized f first) (sized f offset) ≡ sized f (offset_left l first offset)
@@ -62,11 +61,11 @@ module _ (m l : Without) (ends : m.ends ≡ true → l.ends ≡ true) (timing : 
         by : (lt mt le me at : Bool) → (mt ≡ true → lt ≡ true) → (me ≡ true → le ≡ true) → g ∣ (if mt || (me && at) then 0 else d)
             → g ∣ (if lt || (le && at) then 0 else if lt then 1 else if le && at then 1 else d)
         by true mt le me at e h q = dvd-zero g
-        by false true le me at e h q = absurd (no (e refl))
+        by false true le me at e h q = absurd (false_true (e refl))
         by false false true me true e h q = dvd-zero g
         by false false true true false e h q = q
         by false false true false false e h q = q
-        by false false false true at e h q = absurd (no (h refl))
+        by false false false true at e h q = absurd (false_true (h refl))
         by false false false false at e h q = q
 
     -- ---- samples
@@ -145,7 +144,7 @@ module _ (m l : Without) (ends : m.ends ≡ true → l.ends ≡ true) (timing : 
       where
         by : (lt mt : Bool) → (mt ≡ true → lt ≡ true) → (if lt then 1000 else if mt then n else f n) ≡ (if lt then (if lt then 1000 else n) else f (if lt then 1000 else n))
         by true mt e = refl
-        by false true e = absurd (no (e refl))
+        by false true e = absurd (false_true (e refl))
         by false false e = refl
 
     scale_divides : (n : ℕ) → g ∣ counted_timescale m n → g ∣ counted_timescale l (timescale_left l n)
@@ -153,13 +152,13 @@ module _ (m l : Without) (ends : m.ends ≡ true → l.ends ≡ true) (timing : 
       where
         by : (lt mt : Bool) → (mt ≡ true → lt ≡ true) → g ∣ (if mt then 0 else n) → g ∣ (if lt then 0 else if lt then 1000 else n)
         by true mt e q = dvd-zero g
-        by false true e q = absurd (no (e refl))
+        by false true e q = absurd (false_true (e refl))
         by false false e q = q
 
     track_between : (a : ℕ → ℕ) (t : Track) → Divides g (track_times m t) → reduce_track l (track_by m a f t) ≡ track_by l a f (reduce_track l t)
     track_between a t h =
         let r = reduce_track l t in
-        let same = samples_between t.samples (last_part (λ (time : ℤ). g ∣ unsigned_abs time) (media_times t.head.edits) (sample_times m (length t.samples) 0 t.samples) h.1.1) in
+        let same = samples_between t.samples (all_last (λ (time : ℤ). g ∣ unsigned_abs time) (media_times t.head.edits) (sample_times m (length t.samples) 0 t.samples) h.1.1) in
         λ i. record r {
           head = record r.head { edits = edits_between a t.head.edits i; media = record r.head.media { timescale = scale_between t.head.media.timescale i } };
           start = start_between t.start i;
@@ -174,8 +173,8 @@ module _ (m l : Without) (ends : m.ends ≡ true → l.ends ≡ true) (timing : 
           (
             start_divides t.start h.1.0,
             all_append (λ (time : ℤ). g ∣ unsigned_abs time) (media_times (if l.edits then [] else t.head.edits)) (sample_times l (length (reduce_samples l t.samples)) 0 (reduce_samples l t.samples))
-                (edits_divide t.head.edits (first_part (λ (time : ℤ). g ∣ unsigned_abs time) edits times h.1.1))
-                (samples_divide t.samples (last_part (λ (time : ℤ). g ∣ unsigned_abs time) edits times h.1.1)),
+                (edits_divide t.head.edits (all_first (λ (time : ℤ). g ∣ unsigned_abs time) edits times h.1.1))
+                (samples_divide t.samples (all_last (λ (time : ℤ). g ∣ unsigned_abs time) edits times h.1.1)),
           ),
         )
 

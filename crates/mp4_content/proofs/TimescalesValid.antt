@@ -4,6 +4,7 @@ use Rattle.std.specs.Prelude.{◌&&◌, flat_map}
 use Rattle.std.specs.List.{AllByRecursion}
 use Rattle.std.specs.Int.{◌∣◌, w32, w64}
 use Rattle.std.proofs.lemmas.Int.{ints}
+use Rattle.std.proofs.lemmas.List.{nil_from_length}
 use Rattle.std.proofs.Math.Nat.{zero-div}
 use Rattle.mp4_boxes.specs.format.Bytes.{sum_of}
 use Rattle.mp4_boxes.proofs.Each.{each_value, each_weaker}
@@ -20,16 +21,12 @@ use Rattle.mp4_content.specs.format.ReducedLaws.{KeepsLimits}
 use Rattle.mp4_content.specs.format.ReducedTimes.{ReducesInLimits}
 use Rattle.mp4_content.specs.format.Timescales.{counted_timescale, track_times, movie_times, sized, timescale_by, sample_by, samples_by, media_time_by, edit_by, divided, divisor_of, lowest_track, lowest, scaled}
 use Rattle.mp4_content.specs.format.TimescalesLaws.{ScaledInLimits, ScaledIsValid, ScaledStaysValid}
-use Rattle.mp4_content.proofs.Numbered.{each_before, numbered_each}
+use Rattle.mp4_content.proofs.Numbered.{each_before, ids_of, numbered_each}
 use Rattle.mp4_content.proofs.ReducedSamples.{by_case, left_many}
 use Rattle.mp4_content.proofs.ReducedValid.{near_of, reduced_is_valid, reduced_stays_valid, shorter_moov}
 use Rattle.mp4_content.proofs.TimescalesDivisors.{divisor_divides}
 use Rattle.mp4_content.proofs.TimescalesChanged.{many_stay}
 use Rattle.mp4_content.proofs.TimescalesLengths.{some_divided, duration_less, lowest_in_time, near_tracks}
-
-none_of : {A : Type 0} (xs : List A) → length xs ≡ 0 → xs ≡ []
-none_of [] e = refl
-none_of (x ∷ xs) e = absurd (omega (arith, e))
 
 -- ---- numbers that are divided
 
@@ -75,7 +72,7 @@ module _ (l : Without) where
   scale_less : (g n : ℕ) → timescale_by l (divided g) n ≤ n
   scale_less g n = by_case (λ m. m ≤ n) l.timing n (divided g n) (omega arith) (div-le_self n g)
 
-  scale_some_by : (g n : ℕ) → g ∣ counted_timescale l n → 0 < n → 0 < timescale_by l (divided g) n
+  pub scale_some_by : (g n : ℕ) → g ∣ counted_timescale l n → 0 < n → 0 < timescale_by l (divided g) n
   scale_some_by g n = by l.timing
     where
       by : (b : Bool) → g ∣ (if b then 0 else n) → 0 < n → 0 < (if b then n else divided g n)
@@ -139,7 +136,7 @@ module _ (l : Without) where
 
   -- ---- tracks
 
-  abbrev scaled_at : ℕ → ℕ → Track → Track
+  abbrev pub scaled_at : ℕ → ℕ → Track → Track
   scaled_at a place t = lowest_track l a (number_track l place (reduce_track l t))
 
   as_many : (a place : ℕ) (t : Track) → length (scaled_at a place t).samples ≡ length t.samples
@@ -198,7 +195,7 @@ module _ (l : Without) where
         samples = samples_good g count (length t.samples) (first_offset t.samples) (length u.head.media.descriptions) 0 t.samples h.samples near;
         keys = subst (λ (keys : List GroupKey). length (keys_with [] keys) ≤ max_keys) (sym (named_same g count (length t.samples) (first_offset t.samples) 0 t.samples)) h.keys;
         empty = λ e.
-            let none : t.samples ≡ [] = none_of t.samples (sym (as_many a place t) ∙ ap length e) in
+            let none : t.samples ≡ [] = nil_from_length t.samples (sym (as_many a place t) ∙ ap length e) in
             start_none g t.start (h.empty (ap (reduce_samples kept) none));
       }
 
@@ -206,9 +203,6 @@ module _ (l : Without) where
       → AllByRecursion IsTrack (map (lowest_track l a) (number_tracks l place (map (reduce_track l) tracks)))
   tracks_good a place [] h near = tt
   tracks_good a place (t ∷ tracks) h near = (track_good a place t h.0 near.0, tracks_good a (suc place) tracks h.1 near.1)
-
-  abbrev ids_of : List Track → List ℕ
-  ids_of tracks = map (λ (h : TrackHead). h.id) (map (λ (t : Track). t.head) tracks)
 
   ids_same : (a place : ℕ) (tracks : List Track) → ids_of (map (lowest_track l a) (number_tracks l place (map (reduce_track l) tracks))) ≡ ids_of (number_tracks kept place (map (reduce_track kept) tracks))
   ids_same a place [] = refl
@@ -262,7 +256,7 @@ module _ (l : Without) where
         };
       }
 
-  near_each : (p : Presentation) → Valid p → AllByRecursion HasNearOffsets p.tracks
+  pub near_each : (p : Presentation) → Valid p → AllByRecursion HasNearOffsets p.tracks
   near_each p v = each_weaker IsTrack HasNearOffsets (near_of l) p.tracks v.tracks
 
   each_left : (P : Track → Type 0) (tracks : List Track) → AllByRecursion P (map (reduce_track l) tracks) → AllByRecursion (λ (t : Track). P (reduce_track l t)) tracks
@@ -281,7 +275,7 @@ module _ (l : Without) where
 limits_of : (b : Bool) (l : Without) (p : Presentation) → Valid (scaled b l p) → ScaledInLimits b l p
 limits_of b l p v = record { in_time = v.limits.times; in_range = near_each l (scaled b l p) v }
 
-scaled_from : (b : Bool) (l : Without) (p : Presentation) → Valid p → ScaledInLimits b l p → Valid (scaled b l p)
+pub scaled_from : (b : Bool) (l : Without) (p : Presentation) → Valid p → ScaledInLimits b l p → Valid (scaled b l p)
 scaled_from true l p v limits = lowest_from l p v limits
 scaled_from false l p v limits = (reduced_is_valid l p v).1 (reduced_limits l p limits)
 

@@ -1,7 +1,7 @@
 -- Times in lowest terms by several sets of words.
 use Rattle.std.proofs.Common.{◌≡◌, Bool, true, false, refl, sym, ap, ◌∙◌}
 use Rattle.std.specs.Prelude.{◌||◌}
-use Rattle.mp4_boxes.proofs.Plain.{or_false, or_true, or_same}
+use Rattle.mp4_boxes.proofs.Plain.{false_true, or_false, or_true, or_same}
 use Rattle.mp4_present.specs.format.Presentation.{Presentation}
 use Rattle.mp4_content.specs.format.Reduced.{reduce}
 use Rattle.mp4_content.specs.declared.without.Without.{Without}
@@ -27,10 +27,7 @@ lowest_both m l p h = lowest_by l (both l m) p (joined m.ends l.ends h.0) (joine
 
 pub scales_once : ScalesOnce
 scales_once true true m l p h covers = lowest_between m l covers.0 covers.1 (reduce m p) ∙ ap (lowest l) (reduces_once l m p) ∙ lowest_both m l (reduce (both l m) p) covers
-scales_once true false m l p h covers = absurd (no (h refl))
-  where
-    no : false ≡ true → ⊥
-    no x = cc
+scales_once true false m l p h covers = absurd (false_true (h refl))
 scales_once false true m l p h covers = ap (lowest l) (reduces_once l m p) ∙ lowest_both m l (reduce (both l m) p) covers
 scales_once false false m l p h covers = reduces_once l m p
 

@@ -1,6 +1,6 @@
 //! Laws of what is left where it doesn't count in which timescale times are said.
 
-ghost use Rattle.mp4_content.specs.format.TimescalesLaws.{DivisorIsGreatest, SameScaledWithoutMore, ScaledFirstIsOther, ScaledIsExact, ScaledIsFixed, ScaledIsValid, ScaledStaysValid, ScaledTwiceIsOther, ScalesInAnyOrder, ScalesMore, ScalesOnce, TimescalesAreTheirs};
+ghost use Rattle.mp4_content.specs.format.TimescalesLaws.{DivisorIsGreatest, EditsHoldNoScaledTime, SameScaledWithoutMore, ScaledFirstIsOther, ScaledIsExact, ScaledIsFixed, ScaledIsValid, ScaledStaysValid, ScaledTwiceIsOther, ScalesInAnyOrder, ScalesMore, ScalesOnce, TimescalesAreTheirs};
 
 /// What Euclid's algorithm finds is the greatest common divisor.
 pub fn divisor_is_greatest()
@@ -65,4 +65,9 @@ pub fn scaled_is_valid()
 /// count.
 pub fn scaled_stays_valid()
     ensures { ScaledStaysValid }
+{}
+
+/// Where timescales don't count it is so if ends and origins stay, whether edits do or not.
+pub fn edits_hold_no_scaled_time()
+    ensures { EditsHoldNoScaledTime }
 {}

@@ -1,6 +1,6 @@
 -- Laws of what is left where it doesn't count in which timescale times are said (`scaled`). Whether
 -- that counts is a value beside the other words here.
-use Rattle.std.specs.Prelude.{◌≡◌, ◌↔◌, ◌⊎◌, ℕ, ◌<◌, Bool, true, List, ◌∷◌, map, ℤ, pos, ◌*ℤ◌}
+use Rattle.std.specs.Prelude.{◌≡◌, ◌↔◌, ◌⊎◌, ℕ, ◌<◌, Bool, false, true, List, ◌∷◌, map, ℤ, pos, ◌*ℤ◌}
 use Rattle.std.specs.Int.{IsGcd}
 use Rattle.std.specs.List.{AllByRecursion, AllZip}
 use Rattle.mp4_present.specs.format.Presentation.{Track, Presentation, Valid, IsInTime}
@@ -127,3 +127,9 @@ ScaledIsValid = (b : Bool) (l : Without) (p : Presentation) → Valid p
 abbrev pub ScaledStaysValid : Type 0
 ScaledStaysValid = (b : Bool) (l : Without) (p : Presentation) → Valid p
     → KeepsLimits l ⊎ (l.timing ≡ true) → ScaledInLimits b l p × Valid (scaled b l p)
+
+-- Where timescales don't count it is so too if ends and origins stay, whether edits do or not:
+-- where no track has edits the movie's timescale is 1.
+abbrev pub EditsHoldNoScaledTime : Type 0
+EditsHoldNoScaledTime = (l : Without) (p : Presentation) → Valid p → l.ends ≡ false
+    → l.origins ≡ false → ScaledInLimits true l p × Valid (scaled true l p)
