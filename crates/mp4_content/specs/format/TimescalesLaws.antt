@@ -128,8 +128,8 @@ abbrev pub ScaledStaysValid : Type 0
 ScaledStaysValid = (b : Bool) (l : Without) (p : Presentation) → Valid p
     → KeepsLimits l ⊎ (l.timing ≡ true) → ScaledInLimits b l p × Valid (scaled b l p)
 
--- Where timescales don't count it is so too if ends and origins stay, whether edits do or not: where
--- no track has edits the movie's timescale is 1.
+-- Where timescales don't count it is so too if ends and origins stay, whether edits do or not:
+-- where no track has edits the movie's timescale is 1.
 abbrev pub EditsHoldNoScaledTime : Type 0
 EditsHoldNoScaledTime = (l : Without) (p : Presentation) → Valid p → l.ends ≡ false
     → l.origins ≡ false → ScaledInLimits true l p × Valid (scaled true l p)
