@@ -1,7 +1,7 @@
 -- The lines of heads.
 use Rattle.std.proofs.Common.{◌≡◌, ℕ, List, [], ◌∷◌, ◌++◌, append_assoc, sym, ap, ◌∙◌, codes, decimal}
 use Rattle.std.specs.Fmt.{signed_decimal}
-use Rattle.std.specs.Prelude.{Bool, true, false, if◌then◌else◌, map, flat_map}
+use Rattle.std.specs.Prelude.{map, flat_map}
 use Rattle.mp4_head.specs.format.Head.{Media, MovieHead, TrackHead}
 use Rattle.std.proofs.lemmas.List.{append-nil}
 use Rattle.mp4_answers.specs.format.Text.{edit_line, kept_lines, media_lines, movie_lines, named_line, number_line, payload_lines, track_lines}
@@ -41,11 +41,6 @@ chain5 whole a b c d f e =
     let last = e ∙ append_assoc (a ++ b ++ c) d f in
     let more = chain4 whole a b c (d ++ f) last in
     (more.0, more.1, last)
-
--- none, or what is said of each
-pub map_unless : {A B : Type 0} (b : Bool) (f : A → B) (xs ys : List A) → ys ≡ (if b then [] else xs) → map f ys ≡ (if b then [] else map f xs)
-map_unless true f xs ys e = ap (map f) e
-map_unless false f xs ys e = ap (map f) e
 
 -- ---- heads
 

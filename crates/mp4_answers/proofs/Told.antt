@@ -1,13 +1,7 @@
 -- Texts that are taken along to a sink, one after the other.
 use Rattle.std.proofs.Common.{◌≡◌, ℕ, zero, suc, ◌+◌, ◌<◌, ◌≤◌, List, [], ◌∷◌, ◌++◌, length, take, drop, get_or, refl, sym, ap, subst, ◌∙◌, append_assoc, arith}
-use Rattle.std.specs.Prelude.{Bool, true, false, not, ◌||◌, if◌then◌else◌, filter, map, flat_map, Result, Ok, Err}
+use Rattle.std.specs.Prelude.{map, flat_map, Result, Ok, Err}
 use Rattle.std.proofs.lemmas.List.{append-nil}
-use Rattle.mp4_boxes.specs.format.Children.{is_among}
-use Rattle.mp4_head.specs.format.Head as heads
-use Rattle.mp4_head.specs.words.Seen.{kept_seen}
-use Rattle.mp4_head.specs.declared.kept_boxes.Kept.{Kept}
-use Rattle.mp4_content.specs.format.Reduced.{metadata_kinds, reduce_kept}
-use Rattle.mp4_content.specs.declared.without.Without.{Without}
 use Rattle.mp4_boxes.specs.declared.refusal.Refusal.{Refusal}
 use Rattle.mp4_boxes.proofs.Plain.{plus_one, take_everything}
 use Rattle.mp4_store.specs.words.Device.{TakesPrefix}
@@ -47,42 +41,6 @@ flat_all f xs k le = ap (flat_map f) (take_everything xs k le)
 pub flat_of_map : {A B : Type 0} (f : B → List ℕ) (g : A → B) (xs : List A) → flat_map f (map g xs) ≡ flat_map (λ (x : A). f (g x)) xs
 flat_of_map f g [] = refl
 flat_of_map f g (x ∷ xs) = ap (λ (bs : List ℕ). f (g x) ++ bs) (flat_of_map f g xs)
-
-one_kept : {A : Type 0} (b : Bool) (x : A) (ys : List A) → (if b then x ∷ ys else ys) ≡ (if b then x ∷ [] else []) ++ ys
-one_kept true x ys = refl
-one_kept false x ys = refl
-
-apart : (b : Bool) (f : heads.Kept → List ℕ) (boxes : List Kept) → flat_map f (if b then filter (λ (k : heads.Kept). not (is_among metadata_kinds k.kind)) (map kept_seen boxes) else map kept_seen boxes)
-    ≡ flat_map (λ (k : Kept). flat_map f (if b then filter (λ (k : heads.Kept). not (is_among metadata_kinds k.kind)) (kept_seen k ∷ []) else kept_seen k ∷ [])) boxes
-apart true f [] = refl
-apart false f [] = refl
-apart true f (x ∷ boxes) =
-    let P : heads.Kept → Bool = λ k. not (is_among metadata_kinds k.kind) in
-    ap (flat_map f) (one_kept (P (kept_seen x)) (kept_seen x) (filter P (map kept_seen boxes))) ∙ flat_two f (filter P (kept_seen x ∷ [])) (filter P (map kept_seen boxes)) ∙ ap (λ (bs : List ℕ). flat_map f (filter P (kept_seen x ∷ [])) ++ bs) (apart true f boxes)
-apart false f (x ∷ boxes) = ap (λ (bs : List ℕ). f (kept_seen x) ++ bs) (apart false f boxes) ∙ ap (λ (bs : List ℕ). bs ++ flat_map (λ (k : Kept). flat_map f (kept_seen k ∷ [])) boxes) (sym (append-nil (f (kept_seen x))))
-
--- the kept boxes that are left, one by one
-pub kept_apart : (l : Without) (f : heads.Kept → List ℕ) (boxes : List Kept) → flat_map f (reduce_kept l (map kept_seen boxes)) ≡ flat_map (λ (k : Kept). flat_map f (reduce_kept l (kept_seen k ∷ []))) boxes
-kept_apart l f boxes = apart l.metadata f boxes
-
--- one that is left, and one that isn't
-pub one_left : (l : Without) (f : heads.Kept → List ℕ) (k : heads.Kept) (b : Bool) → b ≡ not l.metadata || not (is_among metadata_kinds k.kind) → b ≡ true → f k ≡ flat_map f (reduce_kept l (k ∷ []))
-one_left l f k b e t = by l.metadata (is_among metadata_kinds k.kind) (sym t ∙ e)
-  where
-    by : (m a : Bool) → true ≡ not m || not a → f k ≡ flat_map f (if m then (if not a then k ∷ [] else []) else k ∷ [])
-    by true true e = absurd cc
-    by true false e = sym (append-nil (f k))
-    by false true e = sym (append-nil (f k))
-    by false false e = sym (append-nil (f k))
-
-pub none_of : (l : Without) (f : heads.Kept → List ℕ) (k : heads.Kept) (b : Bool) → b ≡ not l.metadata || not (is_among metadata_kinds k.kind) → b ≡ false → [] ≡ flat_map f (reduce_kept l (k ∷ []))
-none_of l f k b e t = by l.metadata (is_among metadata_kinds k.kind) (sym t ∙ e)
-  where
-    by : (m a : Bool) → false ≡ not m || not a → [] ≡ flat_map f (if m then (if not a then k ∷ [] else []) else k ∷ [])
-    by true true e = refl
-    by true false e = absurd cc
-    by false true e = absurd cc
-    by false false e = absurd cc
 
 -- ---- text after text
 

@@ -1,4 +1,4 @@
-use Rattle.std.proofs.Common.{[], ◌∷◌, decimal, ap, refl, ◌∙◌}
+use Rattle.std.proofs.Common.{[], ◌∷◌, decimal, ap, refl}
 use Rattle.mp4_answers.proofs.HeadTexts.{said_is}
 use Rattle.mp4_answers.proofs.text.head_lines.media_values.Goals as goal
 

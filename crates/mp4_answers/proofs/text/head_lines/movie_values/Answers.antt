@@ -1,4 +1,4 @@
-use Rattle.std.proofs.Common.{rules, [], ◌∷◌, decimal, ap, refl, ◌∙◌}
+use Rattle.std.proofs.Common.{rules, [], ◌∷◌, decimal, ap, refl}
 use Rattle.std.specs.Fmt.{signed_decimal}
 use Rattle.mp4_answers.proofs.HeadTexts.{said_is}
 use Rattle.mp4_answers.proofs.text.head_lines.movie_values.Goals as goal
