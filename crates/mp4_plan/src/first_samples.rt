@@ -56,8 +56,8 @@ pub(crate) fn peek_each<S: Store, L: Ledger, M: Ledger>(
         (λ file tree lefts. IsUnchanged result) }
     ensures refusal { Refused S.Store store.old store.new result RefusesLoad }
     ensures work { StepsOfAll S.Store store.old movie.now walks.old walks.new result
-        steps.old.passed steps.new.passed }
-    ensures writes { StepsToWrite S.Store store.old movie.now walks.old walks.new result
+        steps.old.passed steps.new.passed
+        × StepsToWrite S.Store store.old movie.now walks.old walks.new result
         steps.old.passed steps.new.passed }
     ensures steps { OnlyPasses steps.old.passed steps.new.passed steps.old.looks
         steps.new.looks result }

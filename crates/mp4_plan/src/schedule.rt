@@ -243,8 +243,8 @@ impl Schedule {
         tracks: &[TrackLeft],
         due: &mut DueTracks,
     ) -> Result<(), Refusal>
-        requires track { self.old.track < self.old.tracks }
-        requires infos { self.old.tracks ≡ length tracks.now }
+        requires track { (self.old.track < self.old.tracks)
+            × (self.old.tracks ≡ length tracks.now) }
         requires tree { IsDueTree due.old × (due.old.leaves ≡ self.old.tracks) }
         ensures tracks { OnOk result (self.new.tracks ≡ self.old.tracks) }
         ensures turned { OnOk result

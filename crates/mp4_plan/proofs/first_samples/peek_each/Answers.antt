@@ -79,15 +79,19 @@ returns-in_err-nexts-clause-unchanged g c told tree o lefts by h =
     rw (p.1, p.2) ((rw (i.honesty, i.file, own) at c.in_err-nexts.ensures.unchanged) told tree r.t r.left o r.comes)
 
 pub returns-in_err-nexts-clause-work : goal.returns-in_err-nexts-clause-work
-returns-in_err-nexts-clause-work g c told tree o n h =
+returns-in_err-nexts-clause-work g c =
     let p = err_from_is_err_and c.from_residual.result c.from_residual.ensures.1 in
     let i = c.loop-k.invariant in
     let file = g.S.Store.file c.args.store.now in
+    let m = c.args.movie.now in
     let walks = c.loop-k.walks in
     let lt = c.loop-k-test.true in
-    let many = i.many in
-    rw p.1 (all_then_stop file tree walks n _ _ _ (i.takes told tree o n h) (λ rest may. one_stops file tree tree.movie.tracks walks c.loop-k.k _ rest _ _ may (slice_get-get_or walks c.loop-k.k c.index-walks-k.result (omega (arith, lt, many))) (λ t own own_may.
-    (rw (i.honesty, i.file) at c.in_err-nexts.ensures.work) told tree t own o own_may)))
+    let many = i.many in (
+      λ told tree o n h. rw p.1 (all_then_stop file tree walks n _ _ _ (i.takes told tree o n h) (λ rest may. one_stops file tree tree.movie.tracks walks c.loop-k.k _ rest _ _ may (slice_get-get_or walks c.loop-k.k c.index-walks-k.result (omega (arith, lt, many))) (λ t own own_may.
+          (rw (i.honesty, i.file) at c.in_err-nexts.ensures.work) told tree t own o own_may))),
+      λ told tree o n h. rw p.1 (write_then_stop file tree m walks n _ _ _ (i.writes told tree o n h) (λ rest may. one_ends (MayWrite file tree m) tree.movie.tracks walks c.loop-k.k _ rest _ _ may (slice_get-get_or walks c.loop-k.k c.index-walks-k.result (omega (arith, lt, many)))
+          (λ t own own_may. (let most = (rw (i.honesty, i.file) at c.in_err-nexts.ensures.work) told tree t own_may.own o own_may.may in let sum = own_may.sum in omega (arith, most, sum))))),
+    )
 
 pub returns-clause-shown : goal.returns-clause-shown
 returns-clause-shown g c told tree o lefts by h =
@@ -98,15 +102,3 @@ returns-clause-shown g c told tree o lefts by h =
     let each = i.nexts in
     let all = come_length c.args.content.now.leaving (g.S.Store.file c.args.store.now) tree c.args.movie.now tree.movie.tracks c.loop-k.walks lefts was.0 in
     (noted_all c.loop-k.nexts lefts c.loop-k.k was.1 (omega (arith, last, many, each)) (omega (arith, last, many, all)), was.0)
-
-pub returns-in_err-nexts-clause-writes : goal.returns-in_err-nexts-clause-writes
-returns-in_err-nexts-clause-writes g c told tree o n h =
-    let p = err_from_is_err_and c.from_residual.result c.from_residual.ensures.1 in
-    let i = c.loop-k.invariant in
-    let file = g.S.Store.file c.args.store.now in
-    let m = c.args.movie.now in
-    let walks = c.loop-k.walks in
-    let lt = c.loop-k-test.true in
-    let many = i.many in
-    rw p.1 (write_then_stop file tree m walks n _ _ _ (i.writes told tree o n h) (λ rest may. one_ends (MayWrite file tree m) tree.movie.tracks walks c.loop-k.k _ rest _ _ may (slice_get-get_or walks c.loop-k.k c.index-walks-k.result (omega (arith, lt, many)))
-    (λ t own own_may. (let most = (rw (i.honesty, i.file) at c.in_err-nexts.ensures.work) told tree t own_may.own o own_may.may in let sum = own_may.sum in omega (arith, most, sum)))))

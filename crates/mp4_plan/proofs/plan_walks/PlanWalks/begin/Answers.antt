@@ -59,7 +59,7 @@ returns-clause-work g c told tree o =
     let before = c.in_ok-walks.ensures.walks.walks.count in
     let same = with_items_is walks c.peek_each.new.walks (e.walks.walks.count ∙ sym before ∙ sym walks.ok.0) in
     let begin = c.in_ok-walks.ensures.start.may (g.S.Store.file c.args.store.now) tree o in
-    rw same (all_within (g.S.Store.file c.args.store.now) tree c.peek_each.new.walks begin.0 (walks_steps tree) _ _ begin.2 (e.work told tree o begin.0 (rw c.as_mut_slice-all.ensures.value begin.1)))
+    rw same (all_within (g.S.Store.file c.args.store.now) tree c.peek_each.new.walks begin.0 (walks_steps tree) _ _ begin.2 (e.work.0 told tree o begin.0 (rw c.as_mut_slice-all.ensures.value begin.1)))
 
 pub returns-in_err-peek_each-clause-unchanged : goal.returns-in_err-peek_each-clause-unchanged
 returns-in_err-peek_each-clause-unchanged g c told tree o by near =
@@ -72,6 +72,6 @@ pub returns-in_err-peek_each-clause-work : goal.returns-in_err-peek_each-clause-
 returns-in_err-peek_each-clause-work g c told tree o =
     let p = err_from_is_err_and c.from_residual-in_err-peek_each.result c.from_residual-in_err-peek_each.ensures.1 in
     let begin = c.in_ok-walks.ensures.start.may (g.S.Store.file c.args.store.now) tree o in
-    let most = c.in_err-peek_each.ensures.work told tree o begin.0 (rw c.as_mut_slice-all.ensures.value begin.1) in
+    let most = c.in_err-peek_each.ensures.work.0 told tree o begin.0 (rw c.as_mut_slice-all.ensures.value begin.1) in
     let few = begin.2 in
     rw p.1 (omega (arith, most, few))

@@ -26,7 +26,7 @@ returns-clause-due c nexts times =
     let s = c.args.self.now in
     let k = turn_keeps c.if-track-gt0.due s c.take.new.self c.skip.new.self c.args.turn.now.end c.args.count c.args.sample c.in_ok-take.ensures.turned c.skip.ensures.skips in
     let many = c.requires.tree.1 in
-    let infos = c.requires.infos in
+    let infos = c.requires.track.1 in
     let first = ap (λ (p : Schedule). p.first) c.in_ok-take.ensures.turned ∙ (turned_keeps s c.args.turn.now.end c.args.count c.args.sample).1 in
     record {
       tree = search rules;
@@ -46,7 +46,7 @@ returns-then-finds_more-clause-sticks c nexts times =
     let more = c.finds_more.ensures.more c.if-finds_more.true in
     let k = turn_keeps c.if-track-gt0.due s c.take.new.self c.skip.new.self c.args.turn.now.end c.args.count c.args.sample c.in_ok-take.ensures.turned c.skip.ensures.skips in
     let many = c.requires.tree.1 in
-    let infos = c.requires.infos in
+    let infos = c.requires.track.1 in
     let first = ap (λ (p : Schedule). p.first) c.in_ok-take.ensures.turned ∙ (turned_keeps s c.args.turn.now.end c.args.count c.args.sample).1 in
     inr (record {
       skips = subst (λ p. Skips c.if-track-gt0.due p c.skip.new.self) c.in_ok-take.ensures.turned c.skip.ensures.skips;

@@ -90,7 +90,7 @@ loop-turn-init g c =
           begins c.args.self.now.content.leaving file tree m c.new-schedule.result w (with_items w.walks c.peek_each.new.walks).items (with_items w.nexts c.peek_each.new.nexts).items (g.K.Sink.takes c.args.sink.now c.carry.new.sink)
           (waiting c.carry.new.self) o ready refl first
           (rw walks shown.1) (rw walks marked) (nexts ∙ shown.0) (rw c.as_slice.ensures.value at c.in_ok-carry.ensures.bytes);
-      within = λ told tree o n may. rw walks (e.writes told tree o n (rw c.as_mut_slice-walks.ensures.value may));
+      within = λ told tree o n may. rw walks (e.work.1 told tree o n (rw c.as_mut_slice-walks.ensures.value may));
       some = search rules;
       looks = rw e.steps.1 (begins_within c.args.movie.now.tracks c.new-schedule.result c.args.steps.now.looks (s.tracks ∙ tracks_many l all_tracks) (s.left ∙ tracks_samples l all_tracks) c.new-schedule.ensures.starts.0);
       due = λ told tree o ready.
@@ -342,7 +342,7 @@ returns-clause-unchanged g c told tree o ready =
     if_err _ _ c.flush.result (λ r x. put_unchanged _ _ r x) c.flush.ensures.refusal
 
 pub returns-in_err-peek_each-clause-work : goal.returns-in_err-peek_each-clause-work
-returns-in_err-peek_each-clause-work g c told tree o n may = c.in_err-peek_each.ensures.writes told tree o n (rw c.as_mut_slice-walks.ensures.value may)
+returns-in_err-peek_each-clause-work g c told tree o n may = c.in_err-peek_each.ensures.work.1 told tree o n (rw c.as_mut_slice-walks.ensures.value may)
 
 pub returns-in_err-noted-clause-work : goal.returns-in_err-noted-clause-work
 returns-in_err-noted-clause-work g c told tree o n may =
