@@ -48,3 +48,5 @@ pub mod OwnParts
 pub mod MoofSteps
 pub mod EndsTied
 pub mod MoofTied
+pub mod FrontsCut
+pub mod FrontPassed

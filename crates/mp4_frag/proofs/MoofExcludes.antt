@@ -237,7 +237,7 @@ known_by : (moof : ℕ) (before : ℤ) (boxes : List Box) (now new : List TrackS
 known_by moof before boxes now new room less m = ap (λ (o : Option TrackState). unwrap_or (option_map (λ (s : TrackState). s.trex) o) None) m.found ∙ m.defaults
 
 -- by a list that agrees with the tracks, the parts begin with that of the track that moves on
-next_part : (trexes : List Trex) (moof : ℕ) (before : ℤ) (boxes : List Box) (now new : List TrackState) (room less : ℕ) (more : List TrackFragment) → Agree trexes now → (m : IsMovedOn moof before boxes now new room less)
+pub next_part : (trexes : List Trex) (moof : ℕ) (before : ℤ) (boxes : List Box) (now new : List TrackState) (room less : ℕ) (more : List TrackFragment) → Agree trexes now → (m : IsMovedOn moof before boxes now new room less)
     → parts_after trexes moof before (track_fragment_of boxes ∷ more) ≡ part_with moof before m.trex (track_fragment_of boxes) ∷ parts_after trexes moof (end_with moof before m.trex (track_fragment_of boxes)) more
 next_part trexes moof before boxes now new room less more h m =
     let same = h (track_fragment_of boxes).id m.trex (known_by moof before boxes now new room less m) moof before (track_fragment_of boxes) in

@@ -29,10 +29,10 @@ pub record MoofSeen (L moof : ℕ) (first : List TrackState) (all left : List Bo
   pub passed : count + length left ≤ length all
   pub same : (id : ℕ) → trex_among tracks id ≡ trex_among first id
 
-other_kept : (b : Box) (boxes : List Box) → bytes_eq b.kind (codes "traf") ≡ false → of_kind (codes "traf") (b ∷ boxes) ≡ of_kind (codes "traf") boxes
+pub other_kept : (b : Box) (boxes : List Box) → bytes_eq b.kind (codes "traf") ≡ false → of_kind (codes "traf") (b ∷ boxes) ≡ of_kind (codes "traf") boxes
 other_kept b boxes e = rw (turned (codes "traf") b.kind ∙ e) refl
 
-traf_kept : (b : Box) (boxes : List Box) → bytes_eq b.kind (codes "traf") ≡ true → of_kind (codes "traf") (b ∷ boxes) ≡ b ∷ of_kind (codes "traf") boxes
+pub traf_kept : (b : Box) (boxes : List Box) → bytes_eq b.kind (codes "traf") ≡ true → of_kind (codes "traf") (b ∷ boxes) ≡ b ∷ of_kind (codes "traf") boxes
 traf_kept b boxes e = rw (turned (codes "traf") b.kind ∙ e) refl
 
 -- the same `traf` by what was known first

@@ -23,11 +23,12 @@ use Rattle.mp4_tables.specs.declared.sample.SampleAt.{SampleAt}
 use Rattle.mp4_tables.proofs.LeafLists.{boxes_are}
 use Rattle.mp4_frag.specs.format.Fragments.{TrackFragment, FragmentTree, AreTrafs, column, track_fragment_of}
 use Rattle.mp4_frag.specs.format.FragmentSamples.{Part, base_of, duration_of, fragment_samples, part_samples, parts_after, parts_for, trex_for, no_trex}
-use Rattle.mp4_frag.specs.words.Judged.{AreTrexesOf, IsGrouped, IsPlacedWithin, IsSoundMoof, is_known_among, part_with, end_with, samples_of_track}
+use Rattle.mp4_frag.specs.words.Judged.{AreMovedOn, AreTrexesOf, IsGrouped, IsMoofMovedOn, IsPlacedWithin, IsSoundMoof, is_known_among, part_with, end_with, samples_of_track, tree_of}
 use Rattle.mp4_frag.specs.words.MoofWalks.{Between, InheritAlike, MoofWalk, behind_samples, head_among, head_if, headed, inheriting, runs_end_held, traf_coming, trafs_coming}
 use Rattle.mp4_frag.specs.words.OwnTrafs.{trex_by}
 use Rattle.mp4_frag.specs.words.Passing.{IsUpTo}
 use Rattle.mp4_frag.specs.words.Reading.{inheritance}
+use Rattle.mp4_frag.specs.words.RunsJudged.{children_of}
 use Rattle.mp4_frag.specs.words.Times.{lasting}
 use Rattle.mp4_frag.specs.words.Walks.{are_named, boxes_coming, boxes_in, capped, head_of, samples_in, trex_among}
 use Rattle.mp4_frag.specs.declared.state.TrackState.{TrackState}
@@ -37,9 +38,12 @@ use Rattle.mp4_frag.proofs.BoxesMoved.{end_moved, head_moved, traf_moved, trafs_
 use Rattle.mp4_frag.proofs.EndsTied.{ends_tied}
 use Rattle.mp4_frag.proofs.LeavesRead.{read}
 use Rattle.mp4_frag.proofs.LeavesTied.{named_tied}
+use Rattle.mp4_frag.proofs.OwnTrexes.{Agree, agree_of}
 use Rattle.mp4_frag.proofs.OwnTied.{part_tied}
+use Rattle.mp4_frag.proofs.MoofExcludes.{next_part}
 use Rattle.mp4_frag.proofs.MoofSteps.{none_behind}
 use Rattle.mp4_frag.proofs.Ranges.{trafs_of_bytes, value_below}
+use Rattle.mp4_frag.proofs.SeenLists.{trex_kept}
 use Rattle.mp4_frag.proofs.RunsTied.{duration-append, timed-append}
 use Rattle.mp4_frag.proofs.TrafsTied.{inside_is, some_known, trex_found}
 
@@ -273,6 +277,32 @@ trafs_count (b ∷ trafs) (boxes ∷ lists) z = omega (arith, trafs_count trafs 
 moof_boxes : (t : FragmentTree) → boxes_of t.moof ≡ t.children → boxes_in (t.moof.offset + t.moof.header) t.moof.payload ≡ t.children
 unfolding boxes_of
 moof_boxes t e = e
+
+-- where the tracks were moved on by `traf`s, there was room for the samples of each
+own_few : (id : ℕ) (part : Part) (parts : List Part) → length (fragment_samples id (part ∷ parts)) ≤ length (part_samples part) + length (fragment_samples id parts)
+own_few id part parts = choice (part.id == id)
+  where
+    choice : (v : Bool) → length (flat_map part_samples (cond v (part ∷ parts_for id parts) (parts_for id parts))) ≤ length (part_samples part) + length (fragment_samples id parts)
+    choice true = omega (arith, length-append (part_samples part) (fragment_samples id parts))
+    choice false = omega arith
+
+few_moved : (trexes : List Trex) (id moof : ℕ) (before : ℤ) (trafs : List Box) (old new : List TrackState) (room less : ℕ) → Agree trexes old → AreMovedOn moof before trafs old new room less
+    → length (fragment_samples id (parts_after trexes moof before (map track_fragment_of (map children_of trafs)))) ≤ room
+few_moved trexes id moof before [] old new room less agree moved = omega arith
+few_moved trexes id moof before (b ∷ trafs) old new room less agree moved =
+    let between = moved.0 in
+    let rest = moved.1 in
+    let m = moved.2.0 in
+    let traf = track_fragment_of (children_of b) in
+    let part = part_with moof before m.trex traf in
+    let later = map track_fragment_of (map children_of trafs) in
+    let parts = next_part trexes moof before (children_of b) old between room rest later agree m in
+    let on : Agree trexes between = λ other trex e. agree other trex (sym (trex_kept other old between m.place m.track part m.there m.moved) ∙ e) in
+    let more = few_moved trexes id moof (end_with moof before m.trex traf) trafs between new rest less on moved.2.1 in
+    omega (arith, ap (λ (ps : List Part). length (fragment_samples id ps)) parts, own_few id part (parts_after trexes moof (end_with moof before m.trex traf) later), more, m.taken)
+
+pub moof_few : (trexes : List Trex) (id : ℕ) (moof : Box) (states after : List TrackState) (room less : ℕ) → AreTrexesOf trexes states → IsMoofMovedOn moof states after room less → length (samples_of_track trexes id (tree_of moof)) ≤ room
+moof_few trexes id moof states after room less defaults moved = few_moved trexes id moof.offset (pos moof.offset) (of_kind (codes "traf") (children_of moof)) states after room less (agree_of trexes states defaults) moved
 
 -- the samples of a track, from a decode time on, where its tracks inherit what those did with which it was accepted
 pub moof_tied : (L : ℕ) (trexes : List Trex) (states tracks : List TrackState) (t : FragmentTree) (id dts : ℕ) (keys : List GroupKey) → t.moof.offset < 2 ^ 64 → length t.moof.payload < 2 ^ 64 → AreBytes t.moof.payload → length keys ≤ 4 → AreDistinct keys

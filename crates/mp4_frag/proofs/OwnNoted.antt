@@ -11,7 +11,7 @@ use Rattle.mp4_frag.specs.format.Fragments.{TrackFragment, track_fragment_of}
 use Rattle.mp4_frag.specs.format.FragmentSamples.{trex_for, no_trex, base_of, has_samples, part_samples}
 use Rattle.mp4_frag.specs.words.Judged.{AreTrexesOf, IsTrafSound, part_with, end_with, tree_of}
 use Rattle.mp4_frag.specs.words.Noted.{with_note, noted_at, noted_if, note_if, ids_of, IsNotable}
-use Rattle.mp4_frag.specs.words.OwnTrafs.{OwnSeen, AreApart, PlacedTraf, placed_with, trex_by, placed_after, placed_in, data_end, is_own, own_in, note_of, longest_of, with_notes, noted_in}
+use Rattle.mp4_frag.specs.words.OwnTrafs.{OwnSeen, AreApart, PlacedTraf, placed_with, trex_by, placed_after, placed_in, is_own, own_in, note_of, longest_of, with_notes, noted_in}
 use Rattle.mp4_frag.specs.words.Reading.{IsHead, as_traf}
 use Rattle.mp4_frag.specs.words.RunsJudged.{children_of, runs_total}
 use Rattle.mp4_frag.specs.words.Tracking.{WhereNoted}
@@ -164,7 +164,6 @@ pub record NotesSeen (moof : ℕ) (first : List TrackState) (all left : List Box
   pub notes : (trexes : List Trex) → AreTrexesOf trexes first → AreApart first
       → WhereNoted owns now
       (λ os ns. length os ≡ length first → noted_all (placed_from trexes moof before (of_kind (codes "traf") left)) first ns ≡ noted_all (placed_from trexes moof (pos moof) (of_kind (codes "traf") all)) first os)
-  pub ends : (trexes : List Trex) → AreTrexesOf trexes first → data_end trexes moof before (of_kind (codes "traf") left) ≡ data_end trexes moof (pos moof) (of_kind (codes "traf") all)
 
 -- another box
 pub notes_other : (moof : ℕ) (first : List TrackState) (all left later : List Box) (b : Box) (before : ℤ) (tracks : List TrackState) (owns now : Option (List OwnSeen)) → NotesSeen moof first all left before tracks owns now → left ≡ b ∷ later → bytes_eq b.kind (codes "traf") ≡ false
@@ -176,7 +175,6 @@ notes_other moof first all left later b before tracks owns now s e k =
       each = s.each;
       notes = λ trexes defaults apart.
           subst (λ (bs : List Box). WhereNoted owns now (λ os ns. length os ≡ length first → noted_all (placed_from trexes moof before bs) first ns ≡ noted_all (placed_from trexes moof (pos moof) (of_kind (codes "traf") all)) first os)) kept (s.notes trexes defaults apart);
-      ends = λ trexes defaults. ap (data_end trexes moof before) (sym kept) ∙ s.ends trexes defaults;
     }
 
 -- with the same defaults
@@ -212,19 +210,7 @@ notes_traf L moof first all left later b before ends tracks new owns now next p 
           ∙ noted_where behind q p.track first ys (has_samples q.part) refl apart (so.0 ∙ long) (ap (λ (is : List ℕ). slice_get is p.track) (sym s.ids) ∙ n.there)
           ∙ ap (λ (bs : List Box). noted_all (placed_from trexes moof before bs) first ys) (sym kept)
           ∙ so.1 long) (noted_both owns now (λ os ns. length ns ≡ length os) So s.each (s.notes trexes defaults apart)) noted;
-      ends = λ trexes defaults.
-          ap (λ (at : ℤ). data_end trexes moof at (of_kind (codes "traf") later)) (end trexes defaults)
-          ∙ ap (data_end trexes moof before) (sym kept)
-          ∙ s.ends trexes defaults;
     }
-
--- the data of the last one ends behind the last box
-pub data_ended : (trexes : List Trex) (moof : Box) (first : List TrackState) (all left : List Box) (before : ℤ) (tracks : List TrackState) (owns now : Option (List OwnSeen)) → NotesSeen moof.offset first all left before tracks owns now → left ≡ []
-    → all ≡ children_of moof → AreTrexesOf trexes first → before ≡ data_end trexes moof.offset (pos moof.offset) (of_kind (codes "traf") (children_of moof))
-data_ended trexes moof first all left before tracks owns now s e same defaults =
-    ap (λ (bs : List Box). data_end trexes moof.offset before (of_kind (codes "traf") bs)) (sym e)
-    ∙ s.ends trexes defaults
-    ∙ ap (λ (bs : List Box). data_end trexes moof.offset (pos moof.offset) (of_kind (codes "traf") bs)) same
 
 -- behind the last box
 pub notes_ended : (trexes : List Trex) (moof : Box) (first : List TrackState) (all left : List Box) (before : ℤ) (tracks : List TrackState) (owns now : Option (List OwnSeen)) → NotesSeen moof.offset first all left before tracks owns now → left ≡ []

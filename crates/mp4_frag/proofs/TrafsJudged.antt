@@ -1,14 +1,14 @@
--- A whole `moof`, or the front of one, by its `traf`s.
+-- A whole `moof` by its `traf`s.
 use Rattle.std.proofs.Common.{ℕ, ◌^◌, ◌<◌, List, subst}
-use Rattle.mp4_boxes.specs.format.Box.{Box, Tiles, box_container}
+use Rattle.mp4_boxes.specs.format.Box.{Box, box_container}
 use Rattle.mp4_boxes.specs.format.Children.{Holds}
 use Rattle.mp4_boxes.specs.declared.rule.Rule.TheVariants as rules
-use Rattle.mp4_frag.specs.words.Judged.{AreTrexesOf, AreTrafsPassed, IsAccepted, IsSoundFront, IsSoundMoof, own_trexes, tree_of}
+use Rattle.mp4_frag.specs.words.Judged.{AreTrexesOf, AreTrafsPassed, IsAccepted, IsSoundMoof, own_trexes, tree_of}
 use Rattle.mp4_frag.specs.words.RunsJudged.{children_of}
 use Rattle.mp4_frag.specs.declared.state.TrackState.{TrackState}
 use Rattle.mp4_frag.specs.declared.trex.Trex.{Trex}
-use Rattle.mp4_frag.proofs.HeadsFound.{holds_boxes, holds_children}
-use Rattle.mp4_frag.proofs.MoofPassed.{front_sound, moof_sound}
+use Rattle.mp4_frag.proofs.HeadsFound.{holds_children}
+use Rattle.mp4_frag.proofs.MoofPassed.{moof_sound}
 use Rattle.mp4_frag.proofs.OwnTrexes.{agree_of, own_agree}
 
 -- what a `moof` holds are its children
@@ -21,6 +21,3 @@ module _ (L : ℕ) (moof : Box) (boxes : List Box) (old new : List TrackState) (
 
   pub passed_accepted : Holds rules.MovieFragment (box_container moof) boxes → IsAccepted L moof old new room less
   passed_accepted h = record { own = moof_sound (own_trexes old) L moof old short (held_by moof boxes h) p.sound (own_agree old); kept = p.kept }
-
-  pub passed_front : Tiles (box_container moof) boxes → (trexes : List Trex) → AreTrexesOf trexes old → IsSoundFront L trexes (tree_of moof)
-  passed_front t trexes defaults = front_sound trexes L moof old (subst (Tiles (box_container moof)) (holds_boxes moof boxes t) t) p.sound (agree_of trexes old defaults)

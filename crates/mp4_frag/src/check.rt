@@ -1,5 +1,5 @@
 //! A `moof`, checked behind what came before it (ISO/IEC 14496-12, 8.8).
-ghost use Rattle.std.specs.Prelude.{ℕ, List, pos, nat_lt, not, ◌&&◌, ◌≡◌, ◌+◌, ◌*◌, ◌^◌, ◌<◌, ◌≤◌, ◌==◌, [], length, None, Some, option_map, codes, if◌then◌else◌, IfOk, OnOk, MatchResult};
+ghost use Rattle.std.specs.Prelude.{ℕ, List, pos, nat_lt, not, ◌&&◌, ◌⊎◌, ◌≡◌, ◌+◌, ◌*◌, ◌^◌, ◌<◌, ◌≤◌, ◌==◌, [], length, None, Some, option_map, codes, if◌then◌else◌, IfOk, IfErr, OnOk, MatchResult};
 ghost use Rattle.mp4_boxes.specs.format.Box.{Tiles, box_container};
 ghost use Rattle.mp4_boxes.specs.declared.rule.Rule.TheVariants as rules;
 ghost use Rattle.mp4_boxes.specs.words.View.{box_seen};
@@ -7,7 +7,7 @@ ghost use Rattle.mp4_tables.specs.format.Groups.{groupings_of, keys_after};
 ghost use Rattle.mp4_tables.specs.words.Keys.{keys_seen};
 ghost use Rattle.mp4_frag.specs.words.CheckWork.{TrafWork, TrafLooks, MoofWork, MoofLooks};
 ghost use Rattle.mp4_boxes.specs.format.FirstFault.{FirstNamed, leaf_tests, naming};
-ghost use Rattle.mp4_frag.specs.words.TrafTests.{ListsBoxes, NamesOne, NamesFirst, MoofFirst, FrontFirst, TrafsFirst, time_tests, traf_fault};
+ghost use Rattle.mp4_frag.specs.words.TrafTests.{ListsBoxes, NamesOne, NamesFirst, MoofFirst, TrafsFirst, time_tests, traf_fault};
 ghost use Rattle.mp4_frag.specs.words.FragmentTests.{runs_tests, traf_groups_tests};
 ghost use Rattle.mp4_frag.specs.words.FragmentsSeen.{moof_seen};
 ghost use Rattle.mp4_frag.specs.words.GroupsJudged.{groups_in, AreGroupsSound};
@@ -17,14 +17,14 @@ ghost use Rattle.mp4_boxes.specs.format.Layout.{IsSound, tfdt as tfdt_leaf, tfhd
 ghost use Rattle.std.specs.List.{AllByRecursion};
 ghost use Rattle.mp4_frag.specs.words.Reading.{IsBaseIn, IsHead};
 ghost use Rattle.mp4_frag.specs.words.RunsJudged.{children_of, HoldsChildren, only_list, runs_in, AreRunsPassed};
-ghost use Rattle.mp4_frag.specs.words.Judged.{AreTrexesOf, AreTrafsPassed, IsAcceptable, IsAccepted, IsSoundFront, IsSoundMoof, IsTrafPassed, IsMoofMovedOn, KeepRoom, tree_of};
+ghost use Rattle.mp4_frag.specs.words.Judged.{AreTrexesOf, AreTrafsPassed, IsAcceptable, IsAccepted, IsSoundMoof, IsTrafPassed, IsMoofMovedOn, KeepRoom, tree_of};
 ghost use Rattle.mp4_tables.specs.format.TableRules.{is_index};
 ghost use Rattle.mp4_frag.specs.declared.trex.Trex.{Trex};
 ghost use Rattle.mp4_frag.specs.words.States.{HasRoom, IsRoomFor};
 ghost use Rattle.mp4_frag.specs.words.TrafFaults.{HoldsBoxes, traf_in};
-ghost use Rattle.mp4_frag.specs.words.OwnTrafs.{AreApart, data_end, noted_in};
+ghost use Rattle.mp4_frag.specs.words.OwnTrafs.{AreApart, noted_in};
 ghost use Rattle.mp4_frag.specs.words.Noted.{IsNotable, ids_of, noted_if};
-ghost use Rattle.mp4_frag.specs.words.Tracking.{WhereNoted};
+ghost use Rattle.mp4_frag.specs.words.Tracking.{TellsRefused, WhereNoted};
 ghost use Rattle.mp4_boxes.specs.declared.fault.Fault.{Fault};
 ghost use Rattle.mp4_frag.specs.format.FragmentRows.{group_rows};
 ghost use Rattle.mp4_frag.specs.declared.state.TrackState.{TrackState};
@@ -35,7 +35,7 @@ use crate::next_traf::OwnTraf;
 use crate::sample_runs::{Judged, Passed, check_run};
 use crate::state::TrackState;
 use crate::tfdt::read_time;
-use crate::tracking::{OneByOne, Tracking};
+use crate::tracking::{OneByOne, Standing, Tracking};
 use crate::view::FragView;
 use mp4_boxes::{
     BoxView, Children, Count, Fault, FourCc, Kind, Rule, Steps, check_children, children,
@@ -233,15 +233,6 @@ fn moved_on(state: TrackState, time: Option<u64>, passed: Passed, keys: Keys) ->
     }
 }
 
-// Where a `traf` stands: in a `moof` at this place of a file of so many bytes, where the data of
-// the `traf` before ends there.
-#[derive(Clone, Copy)]
-struct Standing {
-    file_len: u64,
-    moof: u64,
-    before: i128,
-}
-
 // A `traf` that passed: where its data ends, the place of its track, and what is noted of it, if it
 // has samples.
 #[derive(Clone, Copy)]
@@ -298,6 +289,7 @@ fn check_traf<T: Tracking, L: Ledger, M: Ledger>(
     ensures looks { TrafLooks (T.most (length tracks.old)) steps.old.looks
         steps.new.looks result }
     ensures many { length tracks.new ≡ length tracks.old }
+    ensures stays { IfErr result (λ f. tracks.new ≡ tracks.old) }
 {
     let heads = check_boxes(traf)?;
     let Some(tfhd) = heads.head else {
@@ -338,6 +330,7 @@ fn check_traf<T: Tracking, L: Ledger, M: Ledger>(
 // Notes a `traf` that passed, if it has samples.
 fn note_traf<T: Tracking>(tracking: &mut T, passed: PassedTraf)
     ensures knows { (ids : List ℕ) → T.knows tracking.old ids → T.knows tracking.new ids }
+    ensures silent { T.is_silent tracking.old → T.is_silent tracking.new }
     ensures noted { WhereNoted (T.noted tracking.old) (T.noted tracking.new)
         (λ owns now. now ≡ noted_if passed.track passed.own owns) }
 {
@@ -346,7 +339,7 @@ fn note_traf<T: Tracking>(tracking: &mut T, passed: PassedTraf)
     }
 }
 
-// The boxes of a `moof` of a file of so many bytes, or the first of them.
+// The boxes of a `moof` of a file of so many bytes.
 struct MoofBoxes<'a> {
     moof: BoxView<'a>,
     boxes: Children<'a>,
@@ -355,14 +348,14 @@ struct MoofBoxes<'a> {
 
 // Checks the `traf`s among the boxes of a `moof` in file order, behind what came before it: all
 // pass, and the tracks, what is noted and the room are those behind them; or the first that has a
-// fault is refused. The answer is where the data of the last one ends.
+// fault is refused, and the companion is told of it.
 fn check_trafs<'a, T: Tracking, L: Ledger, M: Ledger>(
     all: MoofBoxes<'a>,
     tracks: &mut [TrackState],
     tracking: &mut T,
     room: &mut u32,
     steps: &mut Steps<L, M>,
-) -> Result<i128, Fault>
+) -> Result<(), Fault>
     requires boxes { Tiles (box_container (box_seen all.moof)) all.boxes }
     requires room { IsRoomFor tracks.old room.old }
     requires knows { T.knows tracking.old (ids_of tracks.old) }
@@ -378,10 +371,10 @@ fn check_trafs<'a, T: Tracking, L: Ledger, M: Ledger>(
     ensures each { OnOk result (WhereNoted (T.noted tracking.old) (T.noted tracking.new)
         (λ owns now. length now ≡ length owns)) }
     ensures knows { (ids : List ℕ) → T.knows tracking.old ids → T.knows tracking.new ids }
-    ensures ends { IfOk result (λ ends. (trexes : List Trex) → AreTrexesOf trexes tracks.old
-        → ends ≡ data_end trexes (box_seen all.entry.moof).offset
-        (pos (box_seen all.entry.moof).offset)
-        (of_kind (codes "traf") (children_of (box_seen all.entry.moof)))) }
+    ensures told { MatchResult result
+        (λ _. T.is_silent tracking.old → T.is_silent tracking.new)
+        (TellsRefused (T.tells tracking.new) all.entry.file_len (box_seen all.entry.moof)
+        tracks.old room.old) }
     ensures work { MoofWork (box_seen all.entry.moof) steps.old.passed steps.new.passed
         room.old room.new result }
     ensures looks { MoofLooks (box_seen all.entry.moof) (T.most (length tracks.old))
@@ -401,19 +394,25 @@ fn check_trafs<'a, T: Tracking, L: Ledger, M: Ledger>(
                 moof: moof.offset(),
                 before,
             };
-            let passed = check_traf(child, at, tracks, tracking, room, steps)?;
+            let passed = match check_traf(child, at, tracks, tracking, room, steps) {
+                Ok(passed) => passed,
+                Err(fault) => {
+                    tracking.refuse(child, at, tracks, &fault);
+                    return Err(fault);
+                }
+            };
             note_traf(tracking, passed);
             before = passed.ends;
         }
     }
-    Ok(before)
+    Ok(())
 }
 
 /// Checks a `moof` of a file of so many bytes behind what came before it. The tracks move on by its
 /// samples, and the room for samples falls by their number. The companion finds the track of each
-/// `traf`, and notes each `traf` with samples. After a fault all of these may have any values. A
-/// step is taken for each `traf`, run, row and sample, and for each `traf` one look at least, and
-/// no more than the companion says.
+/// `traf`, notes each `traf` with samples, and is told of one that is refused. After a fault all of
+/// these may have any values. A step is taken for each `traf`, run, row and sample, and for each
+/// `traf` one look at least, and no more than the companion says.
 pub fn check_moof_by<'a, T: Tracking, L: Ledger, M: Ledger>(
     moof: BoxView<'a>,
     file_len: u64,
@@ -443,6 +442,10 @@ pub fn check_moof_by<'a, T: Tracking, L: Ledger, M: Ledger>(
     ensures each { OnOk result (WhereNoted (T.noted tracking.old) (T.noted tracking.new)
         (λ owns now. length now ≡ length owns)) }
     ensures knows { (ids : List ℕ) → T.knows tracking.old ids → T.knows tracking.new ids }
+    ensures told { T.is_silent tracking.old → MatchResult result
+        (λ _. T.is_silent tracking.new)
+        (λ f. T.is_silent tracking.new ⊎ TellsRefused (T.tells tracking.new) file_len
+        (box_seen moof.entry) tracks.old room.old f) }
     ensures work { MoofWork (box_seen moof.entry) steps.old.passed steps.new.passed
         room.old room.new result }
     ensures looks { MoofLooks (box_seen moof.entry) (T.most (length tracks.old))
@@ -454,7 +457,7 @@ pub fn check_moof_by<'a, T: Tracking, L: Ledger, M: Ledger>(
         boxes,
         file_len,
     };
-    let _ends = check_trafs(all, tracks, tracking, room, steps)?;
+    check_trafs(all, tracks, tracking, room, steps)?;
     Ok(FragView::again(moof))
 }
 
@@ -488,44 +491,6 @@ pub fn check_moof<'a, L: Ledger, M: Ledger>(
         steps.old.looks steps.new.looks result }
 {
     check_moof_by(moof, file_len, tracks, &mut OneByOne, room, steps)
-}
-
-/// Moves tracks on by the first boxes of a `moof`, up to a place, where the rest may hold boxes
-/// that it has to have. The room for samples falls by their number. The companion finds the track
-/// of each `traf`. The answer is where the data of the last of its `traf`s ends, or the place of
-/// the `moof` without one.
-pub fn check_front<T: Tracking, L: Ledger, M: Ledger>(
-    front: BoxView,
-    file_len: u64,
-    tracks: &mut [TrackState],
-    tracking: &mut T,
-    room: &mut u32,
-    steps: &mut Steps<L, M>,
-) -> Result<i128, Fault>
-    requires room { IsRoomFor tracks.old room.old }
-    requires knows { T.knows tracking.old (ids_of tracks.old) }
-    ensures sound { OnOk result ((trexes : List Trex) → AreTrexesOf trexes tracks.old
-        → IsSoundFront file_len trexes (tree_of (box_seen front.entry))) }
-    ensures moved { OnOk result
-        (IsMoofMovedOn (box_seen front.entry) tracks.old tracks.new room.old room.new) }
-    ensures ends { IfOk result (λ ends. (trexes : List Trex) → AreTrexesOf trexes tracks.old
-        → ends ≡ data_end trexes (box_seen front.entry).offset (pos (box_seen front.entry).offset)
-        (of_kind (codes "traf") (children_of (box_seen front.entry)))) }
-    ensures exact { NamesFirst
-        (FrontFirst file_len tracks.old room.old (box_seen front.entry)) result }
-    ensures knows { (ids : List ℕ) → T.knows tracking.old ids → T.knows tracking.new ids }
-    ensures work { MoofWork (box_seen front.entry) steps.old.passed steps.new.passed
-        room.old room.new result }
-    ensures looks { MoofLooks (box_seen front.entry) (T.most (length tracks.old))
-        steps.old.looks steps.new.looks result }
-{
-    let boxes = children(front.payload(), front.payload_offset(), front.kind())?;
-    let all = MoofBoxes {
-        moof: front,
-        boxes,
-        file_len,
-    };
-    check_trafs(all, tracks, tracking, room, steps)
 }
 
 /// Where the runs of a `traf` with this `tfhd` are counted from, in a `moof` at this place, where

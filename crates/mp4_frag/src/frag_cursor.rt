@@ -34,14 +34,13 @@ impl<'a> Model for FragCursor<'a> {
 }
 
 impl<'a> FragCursor<'a> {
-    ghost use Rattle.std.specs.Prelude.{ℕ, List, ◌≡◌, ◌+◌, ◌^◌, ◌<◌, length, pos};
+    ghost use Rattle.std.specs.Prelude.{ℕ, List, ◌≡◌, ◌+◌, ◌^◌, ◌<◌, pos};
     ghost use Rattle.mp4_tables.specs.words.Accepted.{AreDistinct};
     ghost use Rattle.mp4_tables.specs.words.Keys.{keys_seen};
     ghost use Rattle.mp4_tables.specs.words.Timed.{timed};
-    ghost use Rattle.mp4_frag.specs.format.Fragments.{FragmentTree};
     ghost use Rattle.mp4_frag.specs.format.FragmentSamples.{duration_of};
     ghost use Rattle.mp4_frag.specs.words.FragmentsSeen.{moof_seen};
-    ghost use Rattle.mp4_frag.specs.words.Judged.{AreTrexesOf, IsSoundMoof, samples_of_track};
+    ghost use Rattle.mp4_frag.specs.words.Judged.{AreTrexesOf, IsMoofMovedOn, IsSoundMoof, samples_of_track, tree_of};
     ghost use Rattle.mp4_frag.specs.words.MoofWalks.{IsInMoof, InheritAlike, frag_samples, trafs_coming, walk_with};
     ghost use Rattle.mp4_frag.specs.words.Walks.{boxes_in};
     ghost use Rattle.mp4_frag.specs.declared.state.TrackState.{TrackState};
@@ -64,13 +63,16 @@ impl<'a> FragCursor<'a> {
             ≡ trafs_coming (walk_with (moof_seen view.now).offset tracks.now track keys)
             (record { number = 0; dts = dts; before = pos (moof_seen view.now).offset })
             (boxes_in 0 (moof_seen view.now).payload) }
-        ensures definition { (file_length : ℕ) (trexes : List Trex) (states : List TrackState)
-            (t : FragmentTree) → t.moof ≡ moof_seen view.now
-            → IsSoundMoof file_length trexes states t → AreTrexesOf trexes states
-            → InheritAlike states tracks.now → AreDistinct (keys_seen keys)
-            → length (samples_of_track trexes track t) < 2 ^ 32
-            → dts + duration_of (samples_of_track trexes track t) < 2 ^ 64
-            → frag_samples result ≡ timed (keys_seen keys) 0 dts (samples_of_track trexes track t) }
+        ensures definition { (file_length room less : ℕ) (trexes : List Trex)
+            (states after : List TrackState)
+            → IsSoundMoof file_length trexes states (tree_of (moof_seen view.now))
+            → IsMoofMovedOn (moof_seen view.now) states after room less → room < 2 ^ 32
+            → AreTrexesOf trexes states → InheritAlike states tracks.now
+            → AreDistinct (keys_seen keys)
+            → dts + duration_of (samples_of_track trexes track (tree_of (moof_seen view.now)))
+            < 2 ^ 64
+            → frag_samples result ≡ timed (keys_seen keys) 0 dts
+            (samples_of_track trexes track (tree_of (moof_seen view.now))) }
     {
         let moof = view.moof();
         let mut place = first_place(moof.offset(), track, dts, keys);

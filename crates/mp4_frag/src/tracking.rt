@@ -1,20 +1,32 @@
 //! What the check of a `moof` asks of its caller: the track with an ID, and a note of each `traf`.
 ghost use Rattle.std.specs.Prelude.{ℕ, List, Option, ◌≡◌, ◌<◌, length, None, IfSome, ⊤};
+ghost use Rattle.mp4_boxes.specs.format.Box.{Box};
+ghost use Rattle.mp4_boxes.specs.words.View.{box_seen};
 ghost use Rattle.mp4_frag.specs.words.CheckWork.{FindLooks};
 ghost use Rattle.mp4_frag.specs.words.Finding.{IsFirstWith, track_with};
 ghost use Rattle.mp4_frag.specs.words.Noted.{ids_of, noted_at};
 ghost use Rattle.mp4_frag.specs.words.OwnTrafs.{OwnSeen};
 ghost use Rattle.mp4_frag.specs.words.Tracking.{WhereNoted};
+ghost use Rattle.mp4_frag.specs.declared.state.TrackState.{TrackState};
 
 use crate::next_traf::OwnTraf;
 use crate::state::TrackState;
-use mp4_boxes::Steps;
+use mp4_boxes::{BoxView, Fault, Steps};
 use std::sync::ledger::Ledger;
 
-/// Who finds the track of each `traf` while a `moof` is checked, and notes each `traf` that has
-/// samples. So the check itself takes no memory: a caller that keeps a map or lists of notes gives
-/// them here. Where it has no memory for a note, it remembers that, and what is noted is told no
-/// more.
+/// Where a `traf` stands: in a `moof` at this place of a file of so many bytes, where the data of
+/// the `traf` before ends there.
+#[derive(Clone, Copy)]
+pub struct Standing {
+    pub file_len: u64,
+    pub moof: u64,
+    pub before: i128,
+}
+
+/// Who finds the track of each `traf` while a `moof` is checked, notes each `traf` that has
+/// samples, and is told of one that is refused. So the check itself takes no memory: a caller that
+/// keeps a map or lists of notes gives them here. Where it has no memory for a note, it remembers
+/// that, and what is noted is told no more.
 pub trait Tracking {
     /// It finds the tracks of these IDs, in this order.
     ghost knows: { Self → List ℕ → Type 0 };
@@ -24,6 +36,13 @@ pub trait Tracking {
 
     /// What is noted of each track, where that is told.
     ghost noted: { Self → Option (List OwnSeen) };
+
+    /// It was told of no `traf` that was refused.
+    ghost is_silent: { Self → Type 0 };
+
+    /// What it says goes with this `traf` behind tracks that stand so, in a file of so many bytes,
+    /// and a fault at this place.
+    ghost tells: { Self → Box → List TrackState → ℕ → ℕ → Type 0 };
 
     /// The place of the first track with this ID, at one look at least.
     fn find<L: Ledger, M: Ledger>(
@@ -43,8 +62,15 @@ pub trait Tracking {
     /// The `traf` has samples of the track at this place.
     fn note(&mut self, track: usize, traf: OwnTraf)
         ensures knows { (ids : List ℕ) → knows self.old ids → knows self.new ids }
+        ensures silent { is_silent self.old → is_silent self.new }
         ensures noted { WhereNoted (noted self.old) (noted self.new)
             (λ owns now. now ≡ noted_at track traf owns) };
+
+    /// The `traf` that stands there is refused for this fault, behind tracks that stand so.
+    fn refuse(&mut self, traf: BoxView, at: Standing, tracks: &[TrackState], fault: &Fault)
+        ensures knows { (ids : List ℕ) → knows self.old ids → knows self.new ids }
+        ensures tells { tells self.new (box_seen traf.entry) tracks.now at.file_len
+            fault.now.offset };
 }
 
 // The tracks are searched one after the other, and nothing is noted.
@@ -57,6 +83,10 @@ impl Tracking for OneByOne {
     ghost most = { λ tracks. tracks };
 
     ghost noted = { λ _. None };
+
+    ghost is_silent = { λ _. ⊤ };
+
+    ghost tells = { λ _ _ _ _ _. ⊤ };
 
     fn find<L: Ledger, M: Ledger>(
         &self,
@@ -74,4 +104,6 @@ impl Tracking for OneByOne {
     }
 
     fn note(&mut self, _track: usize, _traf: OwnTraf) {}
+
+    fn refuse(&mut self, _traf: BoxView, _at: Standing, _tracks: &[TrackState], _fault: &Fault) {}
 }

@@ -1,14 +1,12 @@
 -- The `moof` in which a place lies, looked for behind those before it.
-use Rattle.std.proofs.Common.{◌≡◌, ℕ, ◌+◌, ◌^◌, ◌≤◌, Bool, true, false, List, [], ◌∷◌, Option, Some, None, find, cond, refl, sym, subst, arith}
+use Rattle.std.proofs.Common.{◌≡◌, ℕ, ◌+◌, ◌≤◌, Bool, true, false, List, [], ◌∷◌, Option, Some, None, find, cond, refl, sym, subst, arith}
 use Rattle.std.specs.Prelude.{IsTrue, Contains, IfSome, suc}
 use Rattle.std.proofs.lemmas.List.Elements.{Contains-append_right}
 use Rattle.mp4_boxes.specs.declared.refusal.Refusal.{Refusal}
 use Rattle.mp4_boxes.specs.declared.refusal.Refusal.TheVariants as refusals
-use Rattle.mp4_present.specs.words.NumbersTold.{StepsFit}
-use Rattle.mp4_present.specs.words.Refusing.{MeetsFault, RefusesSearch}
+use Rattle.mp4_present.specs.words.Refusing.{MeetsFault, ReadsToFault, RefusesSearch}
 use Rattle.mp4_present.specs.words.Reading.{RefusesPayload}
 use Rattle.mp4_present.specs.declared.reading.TopBox.{TopBox}
-use Rattle.mp4_present.proofs.MoofBytes.{MoofsFit}
 
 -- one was not read, where there is room for it
 pub not_read : (honest : Bool) (top : TopBox) (room reads reads_after : ℕ) (r : Refusal) → (IsTrue honest → top.header.end ≤ top.offset + room) → RefusesPayload room top reads reads_after r → RefusesSearch honest reads reads_after r
@@ -18,6 +16,15 @@ not_read honest top room reads reads_after refusals.StoreFailed n w = w
 not_read honest top room reads reads_after refusals.StoreChanged n w = λ told. let short = n told in omega (arith, short, w)
 not_read honest top room reads reads_after refusals.WriteFailed n w = w
 not_read honest top room reads reads_after refusals.NoSuchTrack n w = w
+
+-- no fault is met where one was not read
+pub unread_faultless : (room : ℕ) (top : TopBox) (reads reads_after : ℕ) (r : Refusal) → RefusesPayload room top reads reads_after r → ReadsToFault reads reads_after r
+unread_faultless room top reads reads_after (refusals.Fault f) w = absurd w
+unread_faultless room top reads reads_after refusals.Memory w = tt
+unread_faultless room top reads reads_after refusals.StoreFailed w = tt
+unread_faultless room top reads reads_after refusals.StoreChanged w = tt
+unread_faultless room top reads reads_after refusals.WriteFailed w = tt
+unread_faultless room top reads reads_after refusals.NoSuchTrack w = tt
 
 -- one that was not checked to its end
 pub not_searched : (honest : Bool) (reads reads_after : ℕ) (r : Refusal) → MeetsFault r → RefusesSearch honest reads reads_after r
@@ -52,12 +59,7 @@ pub some_so : {A : Type 0} (P Q : A → Type 0) (o : Option A) → ((x : A) → 
 some_so P Q None f h = tt
 some_so P Q (Some x) f h = f x h
 
--- ---- steps
-
--- the steps that are left before a `moof` behind a place
-pub left_before : (file_length at offset room old new : ℕ) → at ≤ offset → MoofsFit file_length at room old new → StepsFit file_length offset room old new
-left_before file_length at offset room old new on h = omega (arith, on, h)
-
--- nothing more was taken
-pub all_left : (file_length at room old new : ℕ) → StepsFit file_length at room old new → new ≤ old + (2 ^ 24 + file_length)
-all_left file_length at room old new h = omega (arith, h)
+-- what is so of it under a premise
+pub so_where : {A : Type 0} (P : Type 0) (Q : A → Type 0) (o : Option A) → (P → IfSome o Q) → IfSome o (λ x. P → Q x)
+so_where P Q None f = tt
+so_where P Q (Some x) f = f

@@ -67,12 +67,6 @@ none_looked file_length at tracks start =
 pub all_looked : (file_length at tracks old new : ℕ) → LooksFit file_length at tracks old new → 8 * new ≤ 8 * old + tracks * file_length
 all_looked file_length at tracks old new h = omega (arith, h)
 
--- those left before a `moof` behind a place
-pub looks_before : (file_length at offset tracks old new : ℕ) → at ≤ offset → LooksFit file_length at tracks old new → LooksFit file_length offset tracks old new
-looks_before file_length at offset tracks old new on h =
-    let less : file_length - offset ≤ file_length - at = omega (arith, on) in
-    omega (arith, h, mul-le-mul_left tracks less)
-
 looks_sum : (tracks left len whole all old before after : ℕ) → left + len ≤ whole → 8 * after ≤ 8 * before + tracks * len → 8 * before + tracks * whole ≤ 8 * old + all → 8 * after + tracks * left ≤ 8 * old + all
 looks_sum tracks left len whole all old before after taken check h =
     let each = mul-le-mul_left tracks taken in

@@ -10,7 +10,6 @@ use Rattle.mp4_boxes.proofs.Among.{all_append, of_kind-append}
 use Rattle.mp4_boxes.proofs.Tiling.{sizes-append, sizes-cons}
 use Rattle.mp4_present.specs.words.Reading.{IsTopHeader, top_box}
 use Rattle.mp4_present.specs.format.Denotes.{begins_with_movie}
-use Rattle.mp4_present.specs.format.Stands.{header, order}
 use Rattle.mp4_present.specs.words.Outline.{AreSeen, AreMoofsFrom, IsOutline, IsOrdered, longest, moov_seen}
 use Rattle.mp4_present.specs.declared.reading.TopBox.{TopBox}
 use Rattle.mp4_present.specs.declared.opening.outline.Outline.{Outline}

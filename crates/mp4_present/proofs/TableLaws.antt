@@ -4,7 +4,6 @@ use Rattle.std.specs.Prelude.{length, ◌⊎◌}
 use Rattle.std.specs.List.{AllByRecursion}
 use Rattle.mp4_boxes.specs.format.Bytes.{sum_of}
 use Rattle.mp4_boxes.specs.format.Box.{Box, box_container}
-use Rattle.mp4_boxes.specs.format.Layout.{stsd}
 use Rattle.mp4_boxes.specs.format.Places.{ruled, AreSound}
 use Rattle.mp4_boxes.specs.format.FirstFault.{first_failed}
 use Rattle.mp4_boxes.specs.declared.rule.Rule.TheVariants.{SampleTable}

@@ -4,9 +4,10 @@ ghost use Rattle.mp4_frag.specs.words.Noted.{ids_of};
 ghost use Rattle.mp4_present.specs.words.OwnTrafs.{none_noted, own_seen};
 ghost use Rattle.mp4_present.specs.words.TrackPlaces.{ArePlacesOf};
 
+use crate::faults::{FaultNumbers, numbers_in_traf};
 use crate::own_trafs::OwnTrafs;
-use mp4_boxes::{Memory, Steps};
-use mp4_frag::{OwnTraf, TrackState, Tracking};
+use mp4_boxes::{BoxView, Fault, Memory, Steps};
+use mp4_frag::{OwnTraf, Standing, TrackState, Tracking};
 use std::alloc::Global;
 use std::collections::BTreeMap;
 use std::sync::ledger::Ledger;
@@ -44,18 +45,20 @@ fn begin_own(alloc: Global, tracks: usize) -> Result<Vec<OwnTrafs>, Memory>
     Ok(own)
 }
 
-/// The tracks of a file while its `moof`s are checked: one look finds one by its ID, and the
-/// `traf`s with samples of each are noted, where they are asked for.
+/// The tracks of a file while its `moof`s are checked: one look finds one by its ID, the `traf`s
+/// with samples of each are noted, and numbers go with one that is refused.
 #[derive(Drop)]
 pub(crate) struct NotedTracks {
     pub(crate) places: TrackPlaces,
     pub(crate) own: Vec<OwnTrafs>,
     /// There was no memory for a note: then what is noted is no more told.
     pub(crate) is_refused: bool,
+    /// What is told of the `traf` that was refused.
+    pub(crate) told: Option<FaultNumbers>,
 }
 
 impl NotedTracks {
-    ghost use Rattle.std.specs.Prelude.{◌≡◌, [], false, map, replicate, length, IfOk};
+    ghost use Rattle.std.specs.Prelude.{◌≡◌, None, false, map, replicate, length, IfOk};
     ghost use Rattle.mp4_frag.specs.words.Noted.{ids_of};
     ghost use Rattle.mp4_present.specs.words.OwnTrafs.{none_noted, own_seen};
     ghost use Rattle.mp4_present.specs.words.TrackPlaces.{ArePlacesOf};
@@ -65,30 +68,20 @@ impl NotedTracks {
         ensures places { IfOk result (λ t. ArePlacesOf (ids_of tracks.now) t.places) }
         ensures own { IfOk result
             (λ t. map own_seen t.own.items ≡ replicate (length tracks.now) none_noted) }
-        ensures told { IfOk result (λ t. t.is_refused ≡ false) }
+        ensures told { IfOk result (λ t. (t.is_refused ≡ false) × (t.told ≡ None)) }
     {
         Ok(NotedTracks {
             places: places_of(alloc, tracks)?,
             own: begin_own(alloc, tracks.len())?,
             is_refused: false,
-        })
-    }
-
-    /// These tracks, of which nothing is noted.
-    pub(crate) fn found(alloc: Global, tracks: &[TrackState]) -> Result<NotedTracks, Memory>
-        ensures places { IfOk result (λ t. ArePlacesOf (ids_of tracks.now) t.places) }
-        ensures own { IfOk result (λ t. t.own.items ≡ []) }
-    {
-        Ok(NotedTracks {
-            places: places_of(alloc, tracks)?,
-            own: Vec::new(alloc),
-            is_refused: false,
+            told: None,
         })
     }
 }
 
 impl Tracking for NotedTracks {
-    ghost use Rattle.std.specs.Prelude.{min};
+    ghost use Rattle.std.specs.Prelude.{◌≡◌, min, None, IfSome};
+    ghost use Rattle.mp4_present.specs.words.NumbersTold.{TellsTraf};
     ghost use Rattle.mp4_present.specs.words.OwnTrafs.{told_of};
     ghost use Rattle.mp4_present.specs.words.TrackPlaces.{ArePlacesOf};
 
@@ -97,6 +90,11 @@ impl Tracking for NotedTracks {
     ghost most = { λ tracks. min 1 tracks };
 
     ghost noted = { told_of };
+
+    ghost is_silent = { λ t. t.told ≡ None };
+
+    ghost tells = { λ t traf tracks file_length place.
+        IfSome t.told (TellsTraf traf tracks file_length place) };
 
     fn find<L: Ledger, M: Ledger>(
         &self,
@@ -117,5 +115,9 @@ impl Tracking for NotedTracks {
             self.is_refused = true;
             return;
         };
+    }
+
+    fn refuse(&mut self, traf: BoxView, at: Standing, tracks: &[TrackState], fault: &Fault) {
+        self.told = numbers_in_traf(traf, at, tracks, fault);
     }
 }

@@ -9,7 +9,6 @@ use Rattle.mp4_frag.specs.format.FragmentRows.{traf_rows, traf_length}
 use Rattle.mp4_frag.specs.format.FragmentSamples.{Part, trex_for, no_trex, base_of, part_samples, has_samples}
 use Rattle.mp4_frag.specs.format.Fragments.{FragmentTree, track_fragment_of}
 use Rattle.mp4_frag.specs.words.Judged.{part_with, end_with}
-use Rattle.mp4_frag.specs.words.RunsJudged.{children_of}
 use Rattle.mp4_frag.specs.words.TrafFaults.{traf_in}
 use Rattle.mp4_frag.specs.declared.next_traf.OwnTraf.{OwnTraf}
 use Rattle.mp4_frag.specs.declared.state.TrackState.{TrackState}
@@ -59,14 +58,6 @@ placed_after trexes moof before _ _ = []
 abbrev pub placed_in : List Trex → FragmentTree → List PlacedTraf
 placed_in trexes t = placed_after trexes t.moof.offset (pos t.moof.offset)
     (of_kind (codes "traf") t.children) t.trafs
-
--- where the data of the last of these `traf`s of a `moof` ends, behind data that ends at a place;
--- there without one
-abbrev pub data_end : List Trex → ℕ → ℤ → List Box → ℤ
-data_end trexes moof before [] = before
-data_end trexes moof before (b ∷ trafs) = data_end trexes moof
-    (end_with moof before (trex_by trexes (children_of b)) (track_fragment_of (children_of b)))
-    trafs
 
 -- it is of the track with this ID, and has samples
 abbrev pub is_own : ℕ → PlacedTraf → Bool

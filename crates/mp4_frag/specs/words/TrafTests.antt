@@ -4,7 +4,7 @@ use Rattle.mp4_boxes.specs.format.Box.{Box, Container, box_container, bytes_cont
 use Rattle.mp4_boxes.specs.format.BoxFaults.{fault_of}
 use Rattle.mp4_boxes.specs.format.Children.{of_kind}
 use Rattle.mp4_boxes.specs.format.Layout.{tfhd, tfdt}
-use Rattle.mp4_boxes.specs.format.FirstFault.{Test, first_failed, naming, leaf_tests, no_tests, boxes_or_fault, children_or_fault}
+use Rattle.mp4_boxes.specs.format.FirstFault.{Test, first_failed, naming, leaf_tests, children_or_fault}
 use Rattle.mp4_boxes.specs.declared.rule.Rule.{Rule}
 use Rattle.mp4_boxes.specs.declared.rule.Rule.TheVariants as rules
 use Rattle.mp4_boxes.specs.declared.fault.Fault.{Fault}
@@ -114,14 +114,6 @@ MoofFirst file_length tracks room moof o =
 -- the bytes in a box
 abbrev inside : Box → Container
 inside b = bytes_container b.kind (b.offset + b.header) b.payload
-
--- the first fault of the first boxes of a `moof`: of their headers, then of the `traf`s among them
-abbrev pub FrontFirst : ℕ → List TrackState → ℕ → Box → Option Fault → Type 0
-FrontFirst file_length tracks room front o =
-    ((f : Fault) × (boxes_or_fault no_tests (inside front) ≡ Err f) × (o ≡ Some f))
-    ⊎ ((boxes_or_fault no_tests (inside front) ≡ Ok (children_of front))
-    × TrafsFirst file_length front.offset (pos front.offset) tracks room
-    (of_kind (codes "traf") (children_of front)) o)
 
 -- an answer names the first fault, and is Ok where there is none
 pub record NamesFirst {T : Type 0} (IsFirst : Option Fault → Type 0) (result : Result T Fault)

@@ -1,6 +1,6 @@
 -- Why a file is refused, apart from which fault it has. The numbers are counts of failed reads,
 -- before and after.
-use Rattle.std.specs.Prelude.{ℕ, Bool, IsTrue}
+use Rattle.std.specs.Prelude.{◌≡◌, ℕ, Bool, IsTrue}
 use Rattle.mp4_store.specs.words.Device.{HasRisen}
 use Rattle.mp4_boxes.specs.declared.refusal.Refusal.{Refusal}
 use Rattle.mp4_boxes.specs.declared.refusal.Refusal.TheVariants as refusals
@@ -22,3 +22,8 @@ abbrev pub MeetsFault : Refusal → Type 0
 MeetsFault (refusals.Fault f) = Unit {0}
 MeetsFault refusals.Memory = Unit {0}
 MeetsFault _ = ⊥
+
+-- where a fault is met, no read failed
+abbrev pub ReadsToFault : ℕ → ℕ → Refusal → Type 0
+ReadsToFault reads reads_after (refusals.Fault f) = reads_after ≡ reads
+ReadsToFault reads reads_after r = Unit {0}

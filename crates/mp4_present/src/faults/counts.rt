@@ -128,12 +128,10 @@ pub(crate) fn counts_in_tables(head: &MovieHead, place: u64) -> Option<FaultNumb
     None
 }
 
-/// What the `sbgp` at a place of the file counts, in a `traf` of this `moof`, and how many samples
-/// the `traf` has.
-pub(crate) fn counts_in_fragment(moof: BoxView, place: u64) -> Option<FaultNumbers>
+/// What the `sbgp` at a place of the file counts, in this `traf`, and how many samples that has.
+pub(crate) fn counts_in_traf(traf: BoxView, place: u64) -> Option<FaultNumbers>
     ensures { (file_len : ℕ) → IfSome result (IsPlain file_len) }
 {
-    let traf = child_at(moof, place)?;
     let leaf = child_at(traf, place)?;
     if leaf.kind() != FourCc(*b"sbgp") {
         return None;

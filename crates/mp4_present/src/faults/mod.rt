@@ -2,7 +2,8 @@
 //! sample would end.
 ghost use Rattle.std.specs.Prelude.{◌≡◌, length, IfOk, IfErr, IfSome, IsTrue};
 ghost use Rattle.mp4_present.specs.format.FaultNumbers.{Tells};
-ghost use Rattle.mp4_present.specs.words.NumbersTold.{IsPlain};
+ghost use Rattle.mp4_present.specs.words.NumbersTold.{IsPlain, TellsTraf};
+ghost use Rattle.mp4_boxes.specs.words.View.{box_seen};
 ghost use Rattle.mp4_present.specs.words.Refusing.{RefusesNumbers, RefusesSearch};
 ghost use Rattle.std.specs.List.{AllByRecursion};
 ghost use Rattle.mp4_present.specs.words.Movies.{Fills, IsWhole};
@@ -16,14 +17,15 @@ pub mod counts;
 pub mod gaps;
 pub mod places;
 
-use crate::faults::counts::counts_in_tables;
-use crate::faults::gaps::numbers_in_fragments;
-use crate::faults::places::outside_in_tables;
-use crate::opening::fragments::Known;
+use crate::faults::counts::{counts_in_tables, counts_in_traf};
+use crate::faults::gaps::gap_in;
+use crate::faults::places::{outside_in_tables, outside_in_traf};
+use crate::opening::fragments::{Known, check_fragments};
 use crate::opening::outline::{Outline, read_outline};
 use crate::opening::tables_pass::check_tables;
 use crate::reading::read_bytes;
-use mp4_boxes::{Fault, Kind, Refusal, Steps};
+use mp4_boxes::{BoxView, Fault, Kind, Refusal, Steps};
+use mp4_frag::{Standing, TrackState};
 use mp4_head::{MovieHead, read_head};
 use mp4_store::Store;
 use std::alloc::Global;
@@ -48,6 +50,25 @@ fn numbers_in_tables(head: &MovieHead, fault: &Fault, file_len: u64) -> Option<F
     match fault.kind {
         Kind::CountMismatch => counts_in_tables(head, fault.offset),
         Kind::SampleOutsideFile => outside_in_tables(head, fault.offset, file_len),
+        _ => None,
+    }
+}
+
+/// The same, of a `traf` that stands there and is refused for this fault. These are the states of
+/// the tracks behind what comes before it.
+pub(crate) fn numbers_in_traf(
+    traf: BoxView,
+    at: Standing,
+    states: &[TrackState],
+    fault: &Fault,
+) -> Option<FaultNumbers>
+    ensures { IfSome result
+        (TellsTraf (box_seen traf.entry) states.now at.file_len fault.now.offset) }
+{
+    match fault.kind {
+        Kind::Gap => gap_in(traf, fault.offset, states),
+        Kind::CountMismatch => counts_in_traf(traf, fault.offset),
+        Kind::SampleOutsideFile => outside_in_traf(traf, at, states),
         _ => None,
     }
 }
@@ -91,8 +112,12 @@ fn numbers_behind<S: Store, L: Ledger, M: Ledger>(
         outline,
         plain: &plain,
     };
-    let told = numbers_in_fragments(alloc, store, known, fault, steps)?;
-    Ok(told)
+    let mut told = None;
+    match check_fragments(alloc, store, known, &mut told, steps) {
+        Ok(_) => Ok(None),
+        Err(Refusal::Fault(found)) if found.offset == fault.offset => Ok(told),
+        Err(refusal) => Err(refusal),
+    }
 }
 
 // The same, of a file that is read once more.

@@ -7,7 +7,7 @@ use crate::faults::FaultNumbers;
 use crate::faults::counts::{chunks_in, number_at, samples_in, sizes_of};
 use crate::faults::gaps::{TFHD, child_at, child_of, state_with, track_in};
 use mp4_boxes::{BoxView, FourCc, u16_at, u64_at};
-use mp4_frag::{TrafCursor, TrackState};
+use mp4_frag::{Standing, TrackState, TrafCursor, base_in};
 use mp4_head::MovieHead;
 use mp4_tables::{Keys, Samples};
 
@@ -140,18 +140,21 @@ fn is_told_at(told: Option<FaultNumbers>, place: u64) -> bool {
     matches!(told, Some(FaultNumbers::Outside { at, .. }) if at == place)
 }
 
-/// The first sample of a `traf` that does not lie in the file, where its runs are counted from this
-/// base; nothing, if it lies before the file or beyond all places of 64 bits. These are the states
-/// of the tracks.
-pub(crate) fn outside_in_fragment(
+/// The first sample of a `traf` that does not lie in the file; nothing, if it lies before the file
+/// or beyond all places of 64 bits. These are the states of the tracks.
+pub(crate) fn outside_in_traf(
     traf: BoxView,
-    base: i128,
+    at: Standing,
     states: &[TrackState],
-    file_len: u64,
 ) -> Option<FaultNumbers>
-    ensures { IfSome result (IsPlain file_len) }
+    ensures { IfSome result (IsPlain at.file_len) }
 {
-    let track = track_in(child_of(traf, TFHD)?.payload())?;
+    let file_len = at.file_len;
+    let tfhd = child_of(traf, TFHD)?;
+    let Ok(base) = base_in(tfhd, at.moof, at.before) else {
+        return None;
+    };
+    let track = track_in(tfhd.payload())?;
     let trex = state_with(states, track)?.trex?;
     let bytes = traf.payload();
     let mut cursor = TrafCursor::start(bytes, base, track, trex, 0, 0, Keys::new());

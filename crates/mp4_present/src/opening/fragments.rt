@@ -1,19 +1,21 @@
 //! The `moof`s of a file: each is read, checked and given up before the next.
-ghost use Rattle.std.specs.Prelude.{◌≤◌, min, length, IfOk, ◌≡◌, ◌^◌, map, OnOk, false};
+ghost use Rattle.std.specs.Prelude.{◌≤◌, min, length, IfOk, IfErr, ◌≡◌, ◌^◌, map, None, OnOk, false};
 ghost use Rattle.std.specs.List.{AllByRecursion};
 ghost use Rattle.mp4_present.specs.words.Movies.{IsWhole};
 ghost use Rattle.mp4_present.specs.words.ToOpen.{PassesNoting, PassesOn};
-ghost use Rattle.mp4_present.specs.words.StoresRead.{OnlyReads, WhereRead, RefusedOf, WhereHonest};
+ghost use Rattle.mp4_present.specs.words.StoresRead.{OnlyReads, WhereRead, Refused, RefusedOf, WhereHonest};
 ghost use Rattle.mp4_frag.specs.words.Noted.{ids_of};
 ghost use Rattle.mp4_present.specs.words.OwnTrafs.{own_seen};
 ghost use Rattle.mp4_present.specs.words.TrackPlaces.{ArePlacesOf};
 ghost use Rattle.mp4_frag.specs.words.States.{HaveRoom};
 ghost use Rattle.mp4_present.specs.words.Opening.{HasOutline};
+ghost use Rattle.mp4_present.specs.words.FaultSearches.{TellsBehind};
 ghost use Rattle.mp4_present.specs.words.MoofsJudged.{NamesMoofs};
 ghost use Rattle.mp4_present.specs.words.OpeningWork.{ChecksMoofs, NotesOn};
-ghost use Rattle.mp4_present.specs.words.Refusing.{RefusesSearch};
+ghost use Rattle.mp4_present.specs.words.Refusing.{ReadsToFault, RefusesSearch};
 ghost use Rattle.mp4_present.specs.words.WalkSteps.{ChecksAll};
 
+use crate::faults::FaultNumbers;
 use crate::opening::outline::Outline;
 use crate::opening::tables_pass::PlainTracks;
 use crate::own_trafs::OwnTrafs;
@@ -45,7 +47,7 @@ fn pass_fragments<S: Store, L: Ledger, M: Ledger>(
 ) -> Result<(), Refusal>
     requires room { (start.room ≤ 2 ^ 24) × HaveRoom start.room states.old }
     requires tracks { ArePlacesOf (ids_of states.old) tracks.old.places
-        × (tracks.old.is_refused ≡ false) }
+        × (tracks.old.is_refused ≡ false) × (tracks.old.told ≡ None) }
     requires outline { HasOutline (S.is_honest store.old) (S.file store.old) start.outline.now }
     requires whole { AllByRecursion (IsWhole (length (S.file store.old)))
         start.outline.now.moofs.items }
@@ -65,8 +67,11 @@ fn pass_fragments<S: Store, L: Ledger, M: Ledger>(
         ChecksAll file steps.old.passed steps.new.passed)) }
     ensures refusal { RefusedOf S.Store store.old store.new result
         (λ honest file. RefusesSearch honest) }
+    ensures reads { Refused S.Store store.old store.new result ReadsToFault }
     ensures exact { WhereHonest S.Store store.old (λ file.
         NamesMoofs file states.old start.entry.room (λ _. states.new) result) }
+    ensures told { WhereHonest S.Store store.old (λ file. IfErr result
+        (TellsBehind file states.old start.entry.room tracks.new.told)) }
 {
     let file_len = store.len();
     let Start { outline, room } = start;
@@ -98,11 +103,12 @@ pub(crate) struct PassedTracks {
 }
 
 /// Reads and checks each `moof` of the file: the tracks of the movie behind all of their samples,
-/// and which `traf`s have samples of each.
+/// and which `traf`s have samples of each. Numbers go with one that is refused.
 pub(crate) fn check_fragments<S: Store, L: Ledger, M: Ledger>(
     alloc: Global,
     store: &mut S,
     known: Known,
+    told: &mut Option<FaultNumbers>,
     steps: &mut Steps<L, M>,
 ) -> Result<PassedTracks, Refusal>
     requires room { (known.plain.now.room ≤ 2 ^ 24)
@@ -124,9 +130,12 @@ pub(crate) fn check_fragments<S: Store, L: Ledger, M: Ledger>(
         ChecksAll file steps.old.passed steps.new.passed)) }
     ensures refusal { RefusedOf S.Store store.old store.new result
         (λ honest file. RefusesSearch honest) }
+    ensures reads { Refused S.Store store.old store.new result ReadsToFault }
     ensures exact { WhereHonest S.Store store.old (λ file. NamesMoofs file
         known.entry.plain.now.states.items known.entry.plain.now.room
         (λ p. p.states.items) result) }
+    ensures told { WhereHonest S.Store store.old (λ file. IfErr result (TellsBehind file
+        known.entry.plain.now.states.items known.entry.plain.now.room told.new)) }
 {
     let mut states = Vec::new(alloc);
     let Known { outline, plain } = known;
@@ -138,7 +147,9 @@ pub(crate) fn check_fragments<S: Store, L: Ledger, M: Ledger>(
         outline,
         room: plain.room,
     };
-    pass_fragments(store, start, all, &mut tracks, bytes, steps)?;
+    let passed = pass_fragments(store, start, all, &mut tracks, bytes, steps);
+    *told = tracks.told;
+    passed?;
     Ok(PassedTracks {
         states,
         own: tracks.own,

@@ -111,7 +111,7 @@ fn find<S: Store, L: Ledger, M: Ledger>(
         outline,
         plain: &plain,
     };
-    let passed = check_fragments(alloc, store, known, steps)?;
+    let passed = check_fragments(alloc, store, known, &mut None, steps)?;
     let mehd = check_limits(view, &head, passed.states.as_slice())?;
     let tracks = infos_of(alloc, &head, passed.states.as_slice())?;
     Ok(Found {

@@ -26,7 +26,7 @@ use crate::opening::totals::in_64_bits;
 use crate::reading::read_range;
 use crate::walking::in_hand::{InHand, Place};
 use mp4_boxes::{Memory, Refusal, Steps};
-use mp4_frag::{TrafCursor, OwnTraf};
+use mp4_frag::{OwnTraf, TrafCursor};
 use mp4_store::Store;
 use mp4_tables::TableCursor;
 use std::alloc::Global;

@@ -12,12 +12,12 @@ use Rattle.mp4_frag.proofs.check.check_moof_by.Goals as goal
 pub returns-clause-sound : goal.returns-clause-sound
 returns-clause-sound g c =
     let short : c.args.file_len < 2 ^ 64 = search rules in
-    passed_sound c.args.file_len (box_seen c.args.moof) _ _ _ _ _ short c.in_ok-_ends.ensures.passed c.in_ok-boxes.ensures.holds
+    passed_sound c.args.file_len (box_seen c.args.moof) _ _ _ _ _ short c.in_ok-check_trafs.ensures.passed c.in_ok-boxes.ensures.holds
 
 pub returns-clause-accepted : goal.returns-clause-accepted
 returns-clause-accepted g c =
     let short : c.args.file_len < 2 ^ 64 = search rules in
-    passed_accepted c.args.file_len (box_seen c.args.moof) _ _ _ _ _ short c.in_ok-_ends.ensures.passed c.in_ok-boxes.ensures.holds
+    passed_accepted c.args.file_len (box_seen c.args.moof) _ _ _ _ _ short c.in_ok-check_trafs.ensures.passed c.in_ok-boxes.ensures.holds
 
 -- ---- the first fault
 
@@ -26,18 +26,18 @@ returns-in_err-boxes-clause-exact g c =
     let p = err_from_is_err_and c.from_residual.result c.from_residual.ensures.1 in
     record { names = rw (p.1, p.2) (inl (c.in_err-boxes.field-0.0, c.in_err-boxes.ensures.exact.same, refl)) }
 
-pub returns-in_err-_ends-clause-exact : goal.returns-in_err-_ends-clause-exact
-returns-in_err-_ends-clause-exact g c =
+pub returns-in_err-check_trafs-clause-exact : goal.returns-in_err-check_trafs-clause-exact
+returns-in_err-check_trafs-clause-exact g c =
     let moof = box_seen c.args.moof in
     let held = held_are rules.MovieFragment (box_container moof) (children_of moof) (held_by moof _ c.in_ok-boxes.ensures.holds) in
-    let p = err_from_is_err_and c.from_residual-in_err-_ends.result c.from_residual-in_err-_ends.ensures.1 in
-    record { names = rw (p.1, p.2) (inr (held, c.in_err-_ends.ensures.exact.names)) }
+    let p = err_from_is_err_and c.from_residual-in_err-check_trafs.result c.from_residual-in_err-check_trafs.ensures.1 in
+    record { names = rw (p.1, p.2) (inr (held, c.in_err-check_trafs.ensures.exact.names)) }
 
 pub returns-clause-exact : goal.returns-clause-exact
 returns-clause-exact g c =
     let moof = box_seen c.args.moof in
     let held = held_are rules.MovieFragment (box_container moof) (children_of moof) (held_by moof _ c.in_ok-boxes.ensures.holds) in
-    record { names = inr (held, c.in_ok-_ends.ensures.exact.names) }
+    record { names = inr (held, c.in_ok-check_trafs.ensures.exact.names) }
 
 -- ---- it is accepted exactly if it may be
 
@@ -48,18 +48,18 @@ returns-in_err-boxes-clause-only g c =
     let p = err_from_is_err_and c.from_residual.result c.from_residual.ensures.1 in
     rw p.1 (decided.some c.in_err-boxes.field-0.0 (inl (c.in_err-boxes.field-0.0, c.in_err-boxes.ensures.exact.same, refl)))
 
-pub returns-in_err-_ends-clause-only : goal.returns-in_err-_ends-clause-only
-returns-in_err-_ends-clause-only g c =
+pub returns-in_err-check_trafs-clause-only : goal.returns-in_err-check_trafs-clause-only
+returns-in_err-check_trafs-clause-only g c =
     let moof = box_seen c.args.moof in
     let short : c.args.file_len < 2 ^ 64 = search rules in
     let decided = moof_decided c.args.file_len c.args.tracks.now c.args.room.now moof short in
     let held = held_are rules.MovieFragment (box_container moof) (children_of moof) (held_by moof _ c.in_ok-boxes.ensures.holds) in
-    let p = err_from_is_err_and c.from_residual-in_err-_ends.result c.from_residual-in_err-_ends.ensures.1 in
-    rw p.1 (decided.some c.in_err-_ends.field-0.0 (inr (held, c.in_err-_ends.ensures.exact.names)))
+    let p = err_from_is_err_and c.from_residual-in_err-check_trafs.result c.from_residual-in_err-check_trafs.ensures.1 in
+    rw p.1 (decided.some c.in_err-check_trafs.field-0.0 (inr (held, c.in_err-check_trafs.ensures.exact.names)))
 
 pub returns-clause-only : goal.returns-clause-only
 returns-clause-only g c =
     let moof = box_seen c.args.moof in
     let short : c.args.file_len < 2 ^ 64 = search rules in
     let held = held_are rules.MovieFragment (box_container moof) (children_of moof) (held_by moof _ c.in_ok-boxes.ensures.holds) in
-    (moof_decided c.args.file_len c.args.tracks.now c.args.room.now moof short).accepted (inr (held, c.in_ok-_ends.ensures.exact.names))
+    (moof_decided c.args.file_len c.args.tracks.now c.args.room.now moof short).accepted (inr (held, c.in_ok-check_trafs.ensures.exact.names))

@@ -1,12 +1,13 @@
-use Rattle.std.proofs.Common.{◌≡◌, ◌≤◌, ◌∙◌, sym, to_z, of_z, rules, arith}
-use Rattle.std.proofs.lemmas.Result.{err_from_is_err_and}
+use Rattle.std.proofs.Common.{◌≡◌, ◌≤◌, ◌∙◌, sym, subst, to_z, of_z, rules, arith}
 use Rattle.std.specs.Int.{w128}
+use Rattle.mp4_boxes.specs.format.Box.{Tiles, box_container}
 use Rattle.mp4_boxes.specs.words.View.{box_seen}
+use Rattle.mp4_frag.proofs.FrontPassed.{front_other, front_traf, stands_here}
 use Rattle.mp4_frag.proofs.HeadsFound.{holds_boxes}
 use Rattle.mp4_frag.proofs.Costs.{moof_cost_traf, moof_cost_said, moof_cost_ended, moof_cost_fault}
 use Rattle.mp4_frag.proofs.CheckLooks.{looked_traf, looked_one, looked_each, looked_ended, looked_fault}
 use Rattle.mp4_frag.proofs.MoofPassed.{moof_traf, moof_ended, moves_traf, moves_first, moves_none, moves_ended}
-use Rattle.mp4_frag.proofs.OwnNoted.{data_ended, notes_other, notes_traf, notes_ended}
+use Rattle.mp4_frag.proofs.OwnNoted.{notes_other, notes_traf, notes_ended}
 use Rattle.mp4_frag.proofs.check.check_trafs.Goals as goal
 
 pub loop-child-preserved : goal.loop-child-preserved
@@ -25,13 +26,15 @@ loop-child-preserved g c =
       i.9,
       notes_other _ _ _ _ _ (box_seen c.in-Some.child) _ _ _ _ i.10 c.in-Some.ensures.steps other,
       i.11,
+      i.12,
+      front_other _ _ _ _ _ _ _ (box_seen c.in-Some.child) _ _ _ i.13 c.in-Some.ensures.steps other,
     )
 
 pub loop-child-preserved-then-eq : goal.loop-child-preserved-then-eq
 loop-child-preserved-then-eq g c =
     let i = c.loop-child.invariant in
-    let r = c.in_ok-passed.ensures in
-    let ends = c.in_ok-passed.passed.ends in
+    let r = c.in-Ok.ensures in
+    let ends = c.in-Ok.passed.ends in
     let kept : to_z w128 (of_z w128 ends) ≡ ends = search rules in
     let room = i.2 in
     let less = r.kept.few in
@@ -50,8 +53,10 @@ loop-child-preserved-then-eq g c =
       r.ids ∙ i.7,
       looked_traf _ _ _ (box_seen c.in-Some.child) _ _ _ _ i.8 c.in-Some.ensures.steps is_traf (let t = r.looks.some in let k = c.tick.ensures.looks in omega (arith, t, k)) (let t = rw i.9 at r.looks.most in let k = c.tick.ensures.looks in omega (arith, t, k)),
       r.many ∙ i.9,
-      rw kept (notes_traf c.args.all.file_len _ _ _ _ _ (box_seen c.in-Some.child) _ ends _ _ _ _ _ c.in_ok-passed.passed i.10 c.in-Some.ensures.steps is_traf i.4.same sound (rw there at r.own) r.ids noted.noted),
+      rw kept (notes_traf c.args.all.file_len _ _ _ _ _ (box_seen c.in-Some.child) _ ends _ _ _ _ _ c.in-Ok.passed i.10 c.in-Some.ensures.steps is_traf i.4.same sound (rw there at r.own) r.ids noted.noted),
       λ ids knows. noted.knows ids (i.11 ids knows),
+      λ quiet. noted.silent (i.12 quiet),
+      rw kept (front_traf _ _ _ _ _ _ _ (box_seen c.in-Some.child) _ ends _ _ _ _ i.13 c.in-Some.ensures.steps is_traf r.passed.holds i.4.same sound (rw there at r.passed.moved)),
     )
 
 pub returns-clause-passed : goal.returns-clause-passed
@@ -83,39 +88,40 @@ returns-clause-looks g c =
       most = looked_ended _ _ _ (box_seen c.args.all.moof) _ _ _ h c.into_iter-child-iterator.ensures.into_iter_gives c.requires.boxes;
     }
 
-pub returns-in_err-passed-clause-work : goal.returns-in_err-passed-clause-work
-returns-in_err-passed-clause-work g c =
-    let p = err_from_is_err_and c.from_residual.result c.from_residual.ensures.1 in
+pub returns-in-Err-clause-work : goal.returns-in-Err-clause-work
+returns-in-Err-clause-work g c =
     let most = moof_cost_fault _ _ _ _ (box_seen c.in-Some.child) (box_seen c.args.all.moof) _ _ _ _ _ c.loop-child.invariant.6 c.in-Some.ensures.steps c.into_iter-child-iterator.ensures.into_iter_gives c.requires.boxes
-    (let t = c.in_err-passed.ensures.work.most in omega (arith, t)) in
-    rw p.1 (record { cost = tt; within = tt; most = most })
+    (let t = c.in-Err.ensures.work.most in omega (arith, t)) in
+    record { cost = tt; within = tt; most = most }
 
-pub returns-in_err-passed-clause-looks : goal.returns-in_err-passed-clause-looks
-returns-in_err-passed-clause-looks g c =
-    let p = err_from_is_err_and c.from_residual.result c.from_residual.ensures.1 in
+pub returns-in-Err-clause-looks : goal.returns-in-Err-clause-looks
+returns-in-Err-clause-looks g c =
     let most = looked_fault _ _ _ _ (box_seen c.in-Some.child) (box_seen c.args.all.moof) _ _ _ _ c.loop-child.invariant.8 c.in-Some.ensures.steps c.into_iter-child-iterator.ensures.into_iter_gives c.requires.boxes
-    (let t = rw c.loop-child.invariant.9 at c.in_err-passed.ensures.looks.most in let k = c.tick.ensures.looks in omega (arith, t, k)) in
-    rw p.1 (record { some = tt; each = tt; most = most })
+    (let t = rw c.loop-child.invariant.9 at c.in-Err.ensures.looks.most in let k = c.tick.ensures.looks in omega (arith, t, k)) in
+    record { some = tt; each = tt; most = most }
 
 pub returns-clause-own : goal.returns-clause-own
 returns-clause-own g c trexes defaults apart =
     let all = holds_boxes (box_seen c.args.all.moof) _ c.requires.boxes in
     notes_ended trexes (box_seen c.args.all.moof) c.args.tracks.now _ _ _ _ _ _ c.loop-child.invariant.10 c.in-None.ensures.steps.0 (c.into_iter-child-iterator.ensures.into_iter_gives ∙ all) defaults apart
 
-pub returns-clause-ends : goal.returns-clause-ends
-returns-clause-ends g c trexes defaults =
-    let all = holds_boxes (box_seen c.args.all.moof) _ c.requires.boxes in
-    data_ended trexes (box_seen c.args.all.moof) _ _ _ _ _ _ _ c.loop-child.invariant.10 c.in-None.ensures.steps.0 (c.into_iter-child-iterator.ensures.into_iter_gives ∙ all) defaults
+-- ---- what is told
+
+pub returns-in-Err-clause-told : goal.returns-in-Err-clause-told
+returns-in-Err-clause-told g c =
+    let moof = box_seen c.args.all.moof in
+    let traf = box_seen c.in-Some.child in
+    let tiles = subst (Tiles (box_container moof)) (sym c.into_iter-child-iterator.ensures.into_iter_gives) c.requires.boxes in
+    (traf, c.loop-child.tracks, stands_here c.args.all.file_len moof c.args.tracks.now c.args.room.now _ _ _ traf _ c.loop-child.tracks _ c.loop-child.invariant.13 c.in-Some.ensures.steps tiles, rw c.in-Err.ensures.stays at c.refuse.ensures.tells)
 
 -- ---- the first fault
 
-pub returns-in_err-passed-clause-exact : goal.returns-in_err-passed-clause-exact
-returns-in_err-passed-clause-exact g c =
-    let p = err_from_is_err_and c.from_residual.result c.from_residual.ensures.1 in
+pub returns-in-Err-clause-exact : goal.returns-in-Err-clause-exact
+returns-in-Err-clause-exact g c =
     let all = holds_boxes (box_seen c.args.all.moof) _ c.requires.boxes in
     record {
-      names = rw (p.1, p.2) (moves_first c.args.all.file_len _ _ _ _ _ _ _ (box_seen c.in-Some.child) _ _ _ c.in_err-passed.field-0.0 c.loop-child.invariant.5 c.in-Some.ensures.steps (rw c.kind.ensures at (sym c.if-eq.ensures))
-          (c.into_iter-child-iterator.ensures.into_iter_gives ∙ all) (rw c.offset-then-eq.ensures at c.in_err-passed.ensures.exact.names));
+      names = (moves_first c.args.all.file_len _ _ _ _ _ _ _ (box_seen c.in-Some.child) _ _ _ c.in-Err.fault c.loop-child.invariant.5 c.in-Some.ensures.steps (rw c.kind.ensures at (sym c.if-eq.ensures))
+          (c.into_iter-child-iterator.ensures.into_iter_gives ∙ all) (rw c.offset-then-eq.ensures at c.in-Err.ensures.exact.names));
     }
 
 pub returns-clause-exact : goal.returns-clause-exact

@@ -4,6 +4,7 @@ use Rattle.mp4_frag.specs.words.Noted.{ids_of}
 use Rattle.mp4_frag.specs.words.States.{HaveRoom}
 use Rattle.mp4_frag.proofs.Costs.{MoofCost}
 use Rattle.mp4_frag.proofs.CheckLooks.{MoofLooked}
+use Rattle.mp4_frag.proofs.FrontPassed.{FrontSeen}
 use Rattle.mp4_frag.proofs.MoofPassed.{MoofSeen, MovesSeen}
 use Rattle.mp4_frag.proofs.OwnNoted.{NotesSeen}
 use Rattle.mp4_frag.proofs.check.check_trafs.Given as goal
@@ -23,3 +24,5 @@ invariant-loop-child g l =
     × (length l.tracks ≡ length l.fn.tracks)
     × NotesSeen (box_seen l.fn.all.moof).offset l.fn.tracks l.initial.child-iterator l.child-iterator l.before l.tracks (g.T.Tracking.noted l.fn.tracking) (g.T.Tracking.noted l.tracking)
     × ((ids : List ℕ) → g.T.Tracking.knows l.fn.tracking ids → g.T.Tracking.knows l.tracking ids)
+    × (g.T.Tracking.is_silent l.fn.tracking → g.T.Tracking.is_silent l.tracking)
+    × FrontSeen l.fn.all.file_len (box_seen l.fn.all.moof).offset l.fn.tracks l.fn.room l.initial.child-iterator l.child-iterator l.before l.tracks l.room

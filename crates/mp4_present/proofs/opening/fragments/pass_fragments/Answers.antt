@@ -1,12 +1,14 @@
-use Rattle.std.proofs.Common.{◌≡◌, rules, min, length, map, refl, sym, ◌∙◌}
+use Rattle.std.proofs.Common.{◌≡◌, rules, min, length, map, refl, sym, subst, ◌∙◌}
 use Rattle.std.specs.Prelude.{IsTrue, codes}
 use Rattle.mp4_boxes.specs.format.Children.{of_kind}
 use Rattle.std.proofs.lemmas.Result.{err_from_is_err_and}
 use Rattle.mp4_present.proofs.FragmentPass.{last_moof, left_first, left_next, next_moof, next_whole, stands_behind, top_at}
 use Rattle.mp4_present.specs.words.OwnTrafs.{own_seen}
 use Rattle.mp4_present.proofs.TrafsNoted.{owns_first, owns_next, all_noted}
-use Rattle.mp4_present.proofs.FaultGaps.{not_read}
-use Rattle.mp4_present.proofs.MoofsPassed.{IsRead, under_way_first, all_passed, next_passed}
+use Rattle.mp4_present.proofs.FaultGaps.{not_read, unread_faultless}
+use Rattle.mp4_present.specs.words.Passing.{IsNextMoof}
+use Rattle.mp4_present.proofs.GapsTold.{tells_refused, untold}
+use Rattle.mp4_present.proofs.MoofsPassed.{IsRead, read_is, stands_next, under_way_first, all_passed, next_passed}
 use Rattle.mp4_present.proofs.MoofsJudged.{judged_first, judged_next, judged_refused, all_judged, unread_judged}
 use Rattle.mp4_boxes.specs.words.View.{box_seen}
 use Rattle.mp4_present.proofs.ChecksCounted.{steps_first, next_checked, checks_all, checks_done}
@@ -39,6 +41,7 @@ loop-top-init g c =
         first = λ told movie boxes b. let o = c.requires.outline told in judged_first file movie boxes o.0 outline c.args.states.now c.args.start.room o.1 o.3 b;
         each = c.requires.rooms.1;
         told = c.requires.tracks.1;
+        silent = c.requires.tracks.2;
         ids = refl;
         places = c.requires.tracks.0;
         own = λ told movie boxes b own. let o = c.requires.outline told in owns_first file movie boxes o.0 outline c.args.states.now c.args.start.room (map own_seen c.args.tracks.now.own.items) o.1 o.3 b own;
@@ -114,6 +117,7 @@ loop-top-preserved g c =
             c.check_moof_by.new.tracks c.check_moof_by.new.room c.in_ok-check_moof_by.ensures.sound c.in_ok-check_moof_by.ensures.moved c.in_ok-check_moof_by.ensures.exact.names;
         each = each;
         told = c.if-tracks.false;
+        silent = c.in_ok-check_moof_by.ensures.told i.silent;
         ids = c.in_ok-check_moof_by.ensures.accepted.kept.ids ∙ i.ids;
         places = rw c.in_ok-check_moof_by.ensures.accepted.kept.ids (c.check_moof_by.ensures.knows _ i.places);
         own = λ told movie boxes b own.
@@ -324,3 +328,46 @@ returns-clause-exact g c = λ told. record {
       let file = g.S.Store.file c.args.store.now in
       all_judged file movie boxes at c.args.start.outline.now.longest c.loop-top.states c.args.start.room c.loop-top.room u (last_moof file at c.deref-top-items.result.now c.loop-top.top-index c.loop-top-test.false (i.to_come told) u.0.left.boxes u.0.left.are_from);
 }
+
+-- ---- what is told
+
+pub returns-in_err-len-clause-told : goal.returns-in_err-len-clause-told
+returns-in_err-len-clause-told g c =
+    let p = err_from_is_err_and c.from_residual.result c.from_residual.ensures.1 in
+    rw (p.1, p.2) (λ told. untold _ _ _ _ c.in_err-len.field-0.0 c.loop-top.invariant.1.silent)
+
+pub returns-in_err-check_moof_by-clause-told : goal.returns-in_err-check_moof_by-clause-told
+returns-in_err-check_moof_by-clause-told g c =
+    let p = err_from_is_err_and c.from_residual-in_err-check_moof_by.result c.from_residual-in_err-check_moof_by.ensures.1 in
+    let at = c.loop-top.invariant.0 in
+    let i = c.loop-top.invariant.1 in
+    let file = g.S.Store.file c.args.store.now in
+    let items = c.deref-top-items.result.now in
+    let k = c.loop-top.top-index in
+    let top = top_at items k in
+    let whole = next_whole items k c.loop-top-test.true (length file) i.whole in
+    let coming = λ (told : IsTrue (g.S.Store.is_honest c.args.store.now)). next_moof items k c.loop-top-test.true file at (i.to_come told) in
+    rw (p.1, p.2) (λ told.
+    let r : IsRead file top (box_seen c.view-moof.result) c.read_payload.new.room c.in_ok-len.len = record {
+      is = c.view-moof.ensures;
+      fills = c.in_ok-len.ensures.fills.0;
+      within = c.in_ok-len.ensures.fills.1;
+      read = (rw (i.honesty, i.file) at c.in_ok-len.ensures.bytes) told;
+      of_bytes = c.in_ok-len.ensures.room;
+    } in
+    tells_refused file c.len-file_len.result c.args.states.now c.loop-top.states c.args.start.room c.loop-top.room (box_seen c.view-moof.result) c.in_err-check_moof_by.field-0.0 _ c.len-file_len.ensures
+    (λ movie boxes b.
+    let u = i.so told movie boxes b in
+    record {
+      earlier = u.fragments;
+      before = _;
+      next = subst (IsNextMoof file movie u.fragments _) (sym (read_is file top (box_seen c.view-moof.result) c.read_payload.new.room c.in_ok-len.len r))
+          (stands_next file movie boxes at c.args.start.outline.now.longest c.args.states.now c.loop-top.states c.args.start.room c.loop-top.room b u top whole.0 ((coming told).0 u.left.boxes u.left.are_from));
+      behind = u.behind;
+    })
+    (c.in_err-check_moof_by.ensures.told i.silent))
+
+pub returns-in_err-len-clause-reads : goal.returns-in_err-len-clause-reads
+returns-in_err-len-clause-reads g c =
+    let p = err_from_is_err_and c.from_residual.result c.from_residual.ensures.1 in
+    rw (p.1, p.2) (unread_faultless _ (top_at c.deref-top-items.result.now c.loop-top.top-index) _ _ c.in_err-len.field-0.0 (rw c.loop-top.invariant.1.reads at c.in_err-len.ensures.refusal))

@@ -1,4 +1,4 @@
-use Rattle.std.proofs.Common.{◌≡◌, false, ℕ, ◌^◌, ◌≤◌, List, min, length, map, drop}
+use Rattle.std.proofs.Common.{◌≡◌, None, false, ℕ, ◌^◌, ◌≤◌, List, min, length, map, drop}
 use Rattle.std.specs.List.{AllByRecursion}
 use Rattle.mp4_present.specs.words.Movies.{IsWhole}
 use Rattle.mp4_present.specs.words.Outline.{AreMoofsFrom}
@@ -38,6 +38,7 @@ invariant-loop-top g l =
           → JudgedUnderWay (g.S.Store.file l.fn.store) movie boxes next l.start.outline.now.longest l.states l.fn.start.room l.room;
       each : length l.tracks.own.items ≡ length l.fn.states;
       told : l.tracks.is_refused ≡ false;
+      silent : l.tracks.told ≡ None;
       ids : ids_of l.states ≡ ids_of l.fn.states;
       places : ArePlacesOf (ids_of l.states) l.tracks.places;
       own : IsTrue (g.S.Store.is_honest l.fn.store) → (movie : MovieTree) (boxes : List Box) → IsBegun (g.S.Store.file l.fn.store) movie boxes l.fn.states l.fn.start.room → map own_seen l.fn.tracks.own.items ≡ map (λ _. none_noted) l.fn.states
