@@ -39,6 +39,7 @@ pub mod TimescalesValid
 pub mod TimescalesEdits
 pub mod TimescalesOrder
 pub mod TimescalesVectors
+pub mod LeadInsVectors
 pub mod Covering
 pub mod FieldValues
 pub mod PairsPassed

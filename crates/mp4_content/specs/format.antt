@@ -12,4 +12,5 @@ pub mod ReducedLaws
 pub mod CoveringLaws
 pub mod Timescales
 pub mod TimescalesLaws
+pub mod LeadIns
 pub mod TimedSamples
