@@ -39,6 +39,8 @@ pub mod TimescalesValid
 pub mod TimescalesEdits
 pub mod TimescalesOrder
 pub mod TimescalesVectors
+pub mod LeadInsMoments
+pub mod LeadInsTracks
 pub mod LeadInsVectors
 pub mod Covering
 pub mod FieldValues

@@ -13,4 +13,5 @@ pub mod CoveringLaws
 pub mod Timescales
 pub mod TimescalesLaws
 pub mod LeadIns
+pub mod LeadInsLaws
 pub mod TimedSamples
