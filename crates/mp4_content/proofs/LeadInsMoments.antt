@@ -67,8 +67,8 @@ stepped a b x u h =
     omega (arith, out, left, right, whole)
 
 -- What begins by the same step later is as much later than what does so too.
-pub step_counts_not : (a : ℤ) (b : ℕ) → 0 < b → (x y u v : Moment) → 0 < x.scale → 0 < y.scale → 0 < u.scale → 0 < v.scale → BeginsLater a b x u → BeginsLater a b y v → later x y ≡ later u v
-step_counts_not a b above x y u v some more third fourth h k =
+pub same_step : (a : ℤ) (b : ℕ) → 0 < b → (x y u v : Moment) → 0 < x.scale → 0 < y.scale → 0 < u.scale → 0 < v.scale → BeginsLater a b x u → BeginsLater a b y v → later x y ≡ later u v
+same_step a b above x y u v some more third fourth h k =
     let one : _ ≡ _ = ap (λ n. n * (y.scale * v.scale)) (stepped a b x u h) in
     let two : _ ≡ _ = ap (λ n. n * (x.scale * u.scale)) (stepped a b y v k) in
     same_later x y u v some more third fourth (cancel b _ _ above (omega (arith, one, two)))

@@ -55,7 +55,7 @@ in_microseconds_simple scale t =
     let f = edit_in_microseconds scale in
     λ i. has_samples t.samples && (last_same f (λ e. refl) (λ e. refl) t.head.edits i || lead_in_same f (λ e. refl) (λ e. refl) t.head.edits i)
 
-waits_said : (wait : ℕ) → waits (waiting wait) ≡ wait
+pub waits_said : (wait : ℕ) → waits (waiting wait) ≡ wait
 waits_said wait = by (wait == 0) refl
   where
     by : (b : Bool) → (wait == 0) ≡ b → waits (waiting_if b wait) ≡ wait

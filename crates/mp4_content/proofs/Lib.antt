@@ -41,6 +41,7 @@ pub mod TimescalesOrder
 pub mod TimescalesVectors
 pub mod LeadInsMoments
 pub mod LeadInsTracks
+pub mod LeadInsSteps
 pub mod LeadInsVectors
 pub mod Covering
 pub mod FieldValues
