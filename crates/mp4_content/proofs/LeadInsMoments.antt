@@ -9,7 +9,7 @@ use Rattle.mp4_content.specs.format.LeadInsLaws.{BeginsLater}
 
 -- ---- in numbers from 0 on
 
-parts : (z : ℤ) (k : ℕ) → (up (z *ℤ pos k) ≡ up z * k) × (down (z *ℤ pos k) ≡ down z * k)
+pub parts : (z : ℤ) (k : ℕ) → (up (z *ℤ pos k) ≡ up z * k) × (down (z *ℤ pos k) ≡ down z * k)
 parts (pos n) k = (refl, omega arith)
 parts (negsuc n) k = let is = neg_is (pos (suc n * k)) in (omega (arith, is), omega (arith, is))
 

@@ -189,7 +189,7 @@ waited_is_exact p q = (
 -- ---- one step of all
 
 module _ (step : ℤ) (scale : ℕ) (some : 0 < scale) where
-  one_step : (x u : Moment) → HasScale x → HasScale u → BeginsLater step scale x u → (xs us : List Moment) → AllByRecursion HasScale xs → AllByRecursion HasScale us → AllZip (BeginsLater step scale) xs us → delay xs x ≡ delay us u
+  pub one_step : (x u : Moment) → HasScale x → HasScale u → BeginsLater step scale x u → (xs us : List Moment) → AllByRecursion HasScale xs → AllByRecursion HasScale us → AllZip (BeginsLater step scale) xs us → delay xs x ≡ delay us u
   one_step x u a b h [] [] xa ub all = refl
   one_step x u a b h [] (v ∷ us) xa ub all = absurd all
   one_step x u a b h (y ∷ xs) [] xa ub all = absurd all

@@ -37,7 +37,7 @@ mapped_has f [] = refl
 mapped_has f (s ∷ samples) = refl
 
 -- the edits of a track that waits so long, by whether that is 0
-abbrev waiting_if : Bool → ℕ → List Edit
+abbrev pub waiting_if : Bool → ℕ → List Edit
 waiting_if b wait = if b then [] else record { segment_duration = wait; media_time = negsuc 0; rate_integer = pos 1; rate_fraction = pos 0 } ∷ record { segment_duration = 0; media_time = pos 0; rate_integer = pos 1; rate_fraction = pos 0 } ∷ []
 
 waiting_leads : (wait : ℕ) → (is_last (waiting wait) || is_lead_in (waiting wait)) ≡ true

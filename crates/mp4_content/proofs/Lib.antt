@@ -42,6 +42,10 @@ pub mod TimescalesVectors
 pub mod LeadInsMoments
 pub mod LeadInsTracks
 pub mod LeadInsSteps
+pub mod LeadInsLess
+pub mod LeadInsDivided
+pub mod LeadInsMore
+pub mod LeadInsOrder
 pub mod LeadInsVectors
 pub mod Covering
 pub mod FieldValues

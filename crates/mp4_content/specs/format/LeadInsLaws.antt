@@ -1,9 +1,14 @@
 -- Laws of what is left where it doesn't count how tracks begin, but how long each of them waits
 -- (`waited`). Whether that counts is a value beside the other words here.
-use Rattle.std.specs.Prelude.{◌≡◌, ◌↔◌, ℕ, ◌+◌, ◌*◌, ◌<◌, true, if◌then◌else◌, List, map, ℤ, pos, ◌+ℤ◌, ◌*ℤ◌}
+use Rattle.std.specs.Prelude.{◌≡◌, ◌↔◌, ◌⊎◌, ℕ, ◌+◌, ◌*◌, ◌<◌, Bool, false, true, if◌then◌else◌, List, map, ℤ, pos, ◌+ℤ◌, ◌*ℤ◌}
 use Rattle.std.specs.List.{AllByRecursion, AllZip}
-use Rattle.mp4_present.specs.format.Presentation.{Track, Presentation}
-use Rattle.mp4_content.specs.format.LeadIns.{is_simple, Moment, first_moments, delay, wait_each, waited}
+use Rattle.mp4_present.specs.format.Presentation.{Track, Presentation, Valid}
+use Rattle.mp4_content.specs.format.LeadIns.{is_simple, Moment, first_moments, delay, wait_each, waited, kept}
+use Rattle.mp4_content.specs.format.Reduced.{reduce}
+use Rattle.mp4_content.specs.format.ReducedLaws.{nothing}
+use Rattle.mp4_content.specs.format.CoveringLaws.{Covers}
+use Rattle.mp4_content.specs.format.TimescalesLaws.{Implies, only_origins}
+use Rattle.mp4_content.specs.declared.without.Without.{Without}
 
 -- all timescales are above 0, as in what is valid
 abbrev pub HasTimescales : Presentation → Type 0
@@ -60,3 +65,70 @@ all_later seconds p = record p { tracks = map (start_later seconds) p.tracks }
 abbrev pub SecondsCountNot : Type 0
 SecondsCountNot = (seconds : ℕ) (p : Presentation) → HasTimescales p
     → waited true (all_later seconds p) ≡ waited true p
+
+-- ---- more left out
+
+-- Words that leave what says how tracks begin: edits and timing stay, and so do origins, but where
+-- it was left out how tracks begin.
+abbrev pub KeepsBeginnings : Bool → Without → Type 0
+KeepsBeginnings b m = (m.edits ≡ false) × (m.timing ≡ false) × ((m.origins ≡ false) ⊎ (b ≡ true))
+
+-- To leave out more of what is left of less is to leave out more at once, if what is left of less
+-- says how tracks begin.
+abbrev pub KeepsMore : Type 0
+KeepsMore = (b c d e : Bool) (m l : Without) (p : Presentation) → HasTimescales p → Implies b d
+    → Implies c e → Covers m l → KeepsBeginnings b m → kept d e l (kept b c m p) ≡ kept d e l p
+
+-- Where it is left out how tracks begin, or isn't, what is the same without some things is the same
+-- without these and more.
+abbrev pub SameKeptWithoutMore : Type 0
+SameKeptWithoutMore = (b c e : Bool) (l m : Without) (p q : Presentation) → Implies c e
+    → Covers l m → kept b c l p ≡ kept b c l q → kept b e m p ≡ kept b e m q
+
+-- It is so too if how tracks begin is left out with more, where what is left says it.
+abbrev pub SameKeptWithoutBeginnings : Type 0
+SameKeptWithoutBeginnings = (c e : Bool) (l m : Without) (p q : Presentation) → HasTimescales p
+    → HasTimescales q → Implies c e → Covers l m → KeepsBeginnings false l
+    → kept false c l p ≡ kept false c l q → kept true e m p ≡ kept true e m q
+
+-- Twice by the same words is once, where they leave what says how tracks begin.
+abbrev pub KeptIsFixed : Type 0
+KeptIsFixed = (b c : Bool) (l : Without) (p : Presentation) → HasTimescales p → KeepsBeginnings b l
+    → kept b c l (kept b c l p) ≡ kept b c l p
+
+-- ---- where order matters
+
+abbrev pub only_edits : Without
+only_edits = record nothing { edits = true }
+
+abbrev pub only_timing : Without
+only_timing = record nothing { timing = true }
+
+-- Two presentations are the same without some things, and not without these and how tracks begin.
+abbrev pub HidesBeginnings : Without → Type 0
+HidesBeginnings l = (p : Presentation) × (q : Presentation) × Valid p × Valid q
+    × (reduce l p ≡ reduce l q) × (kept true false l p ≡ kept true false l q → ⊥)
+
+-- Origins hide when samples begin, of which how long a track waits is made. So does timing. Edits
+-- hide that a track isn't simple.
+abbrev pub OriginsHideBeginnings : Type 0
+OriginsHideBeginnings = HidesBeginnings only_origins
+
+abbrev pub TimingHidesBeginnings : Type 0
+TimingHidesBeginnings = HidesBeginnings only_timing
+
+abbrev pub EditsHideBeginnings : Type 0
+EditsHideBeginnings = HidesBeginnings only_edits
+
+-- Twice by these words isn't once.
+abbrev pub ChangesAgain : Without → Type 0
+ChangesAgain l = (p : Presentation) × Valid p
+    × (kept true false l (kept true false l p) ≡ kept true false l p → ⊥)
+
+-- Without timing the edits that stay are in microseconds, and the movie's timescale is 1,000.
+abbrev pub TimingChangesAgain : Type 0
+TimingChangesAgain = ChangesAgain only_timing
+
+-- Without edits a track that isn't simple begins where it did, and is simple then.
+abbrev pub EditsChangeAgain : Type 0
+EditsChangeAgain = ChangesAgain only_edits
