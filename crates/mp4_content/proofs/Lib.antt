@@ -39,6 +39,14 @@ pub mod TimescalesValid
 pub mod TimescalesEdits
 pub mod TimescalesOrder
 pub mod TimescalesVectors
+pub mod LeadInsMoments
+pub mod LeadInsTracks
+pub mod LeadInsSteps
+pub mod LeadInsLess
+pub mod LeadInsDivided
+pub mod LeadInsMore
+pub mod LeadInsOrder
+pub mod LeadInsVectors
 pub mod Covering
 pub mod FieldValues
 pub mod PairsPassed

@@ -155,7 +155,7 @@ module _ (m l : Without) (ends : m.ends ≡ true → l.ends ≡ true) (timing : 
         by false true e q = absurd (false_true (e refl))
         by false false e q = q
 
-    track_between : (a : ℕ → ℕ) (t : Track) → Divides g (track_times m t) → reduce_track l (track_by m a f t) ≡ track_by l a f (reduce_track l t)
+    pub track_between : (a : ℕ → ℕ) (t : Track) → Divides g (track_times m t) → reduce_track l (track_by m a f t) ≡ track_by l a f (reduce_track l t)
     track_between a t h =
         let r = reduce_track l t in
         let same = samples_between t.samples (all_last (λ (time : ℤ). g ∣ unsigned_abs time) (media_times t.head.edits) (sample_times m (length t.samples) 0 t.samples) h.1.1) in
@@ -165,7 +165,7 @@ module _ (m l : Without) (ends : m.ends ≡ true → l.ends ≡ true) (timing : 
           samples = same i;
         }
 
-    track_divides : (t : Track) → Divides g (track_times m t) → Divides g (track_times l (reduce_track l t))
+    pub track_divides : (t : Track) → Divides g (track_times m t) → Divides g (track_times l (reduce_track l t))
     track_divides t h =
         let edits = media_times t.head.edits in
         let times = sample_times m (length t.samples) 0 t.samples in (

@@ -31,13 +31,13 @@ scales_once true false m l p h covers = absurd (false_true (h refl))
 scales_once false true m l p h covers = ap (lowest l) (reduces_once l m p) ∙ lowest_both m l (reduce (both l m) p) covers
 scales_once false false m l p h covers = reduces_once l m p
 
-implied : (m l : Without) → Covers m l → CoversTimes m l
+pub implied : (m l : Without) → Covers m l → CoversTimes m l
 implied m l c = (λ e. sym (ap (λ (x : Without). x.ends) c) ∙ ap (λ b. b || l.ends) e, λ e. sym (ap (λ (x : Without). x.timing) c) ∙ ap (λ b. b || l.timing) e)
 
 pub scales_more : ScalesMore
 scales_more b c m l p h covers = scales_once b c m l p h (implied m l covers) ∙ ap (λ (words : Without). scaled c words p) (both_turned l m ∙ covers)
 
-covers_itself : (l : Without) → Covers l l
+pub covers_itself : (l : Without) → Covers l l
 covers_itself l = λ i. each (λ word. or_same (has l word) i)
 
 pub scaled_is_fixed : ScaledIsFixed

@@ -40,7 +40,7 @@ media = record {
   descriptions = record { kind = codes "avc1"; payload = 0 ∷ 0 ∷ 0 ∷ 0 ∷ 0 ∷ 0 ∷ 0 ∷ 1 ∷ [] } ∷ [];
 }
 
-abbrev edit : Edit
+abbrev pub edit : Edit
 edit = record { segment_duration = 1; media_time = pos 0; rate_integer = pos 1; rate_fraction = pos 0 }
 
 abbrev head : List Edit → TrackHead
@@ -92,7 +92,7 @@ media_good = record {
   descriptions = (record { kind_length = refl; kind = letters; bytes = eight; room = omega arith; data_reference = refl }, tt);
 }
 
-edit_good : IsEdit edit
+pub edit_good : IsEdit edit
 edit_good = record { segment_duration = omega arith; media_time = omega arith; rate_integer = omega arith; rate_fraction = fits_16 }
 
 head_good : (edits : List Edit) → AllByRecursion IsEdit edits → IsTrackHead (head edits)

@@ -12,4 +12,6 @@ pub mod ReducedLaws
 pub mod CoveringLaws
 pub mod Timescales
 pub mod TimescalesLaws
+pub mod LeadIns
+pub mod LeadInsLaws
 pub mod TimedSamples

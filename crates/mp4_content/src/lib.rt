@@ -50,6 +50,7 @@ mod content;
 pub mod covering_laws;
 mod edges;
 mod file_window;
+pub mod lead_ins_laws;
 mod measures;
 mod own_payloads;
 mod peeking;

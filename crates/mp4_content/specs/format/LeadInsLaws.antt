@@ -1,0 +1,134 @@
+-- Laws of what is left where it doesn't count how tracks begin, but how long each of them waits
+-- (`waited`). Whether that counts is a value beside the other words here.
+use Rattle.std.specs.Prelude.{◌≡◌, ◌↔◌, ◌⊎◌, ℕ, ◌+◌, ◌*◌, ◌<◌, Bool, false, true, if◌then◌else◌, List, map, ℤ, pos, ◌+ℤ◌, ◌*ℤ◌}
+use Rattle.std.specs.List.{AllByRecursion, AllZip}
+use Rattle.mp4_present.specs.format.Presentation.{Track, Presentation, Valid}
+use Rattle.mp4_content.specs.format.LeadIns.{is_simple, Moment, first_moments, delay, wait_each, waited, kept}
+use Rattle.mp4_content.specs.format.Reduced.{reduce}
+use Rattle.mp4_content.specs.format.ReducedLaws.{nothing}
+use Rattle.mp4_content.specs.format.CoveringLaws.{Covers}
+use Rattle.mp4_content.specs.format.TimescalesLaws.{Implies, only_origins}
+use Rattle.mp4_content.specs.declared.without.Without.{Without}
+
+-- all timescales are above 0, as in what is valid
+abbrev pub HasTimescales : Presentation → Type 0
+HasTimescales p = (0 < p.movie.timescale)
+    × AllByRecursion (λ (t : Track). 0 < t.head.media.timescale) p.tracks
+
+-- Twice is once.
+abbrev pub WaitedIsFixed : Type 0
+WaitedIsFixed = (p : Presentation) → HasTimescales p → waited true (waited true p) ≡ waited true p
+
+-- ---- what counts
+
+-- how many microseconds each simple track waits
+abbrev pub delays : Presentation → List ℕ
+delays p =
+    let moments = first_moments p.movie.timescale p.tracks in
+    map (delay moments) moments
+
+-- a presentation apart from how its simple tracks begin: none of them waits
+abbrev pub unwaited : Presentation → Presentation
+unwaited p = wait_each (λ x. 0) p
+
+-- The same is left exactly if all else is the same, and each simple track waits as long.
+abbrev pub WaitedIsExact : Type 0
+WaitedIsExact = (p q : Presentation) → (waited true p ≡ waited true q)
+    ↔ ((unwaited p ≡ unwaited q) × (delays p ≡ delays q))
+
+-- ---- one step of all
+
+-- The second moment is later than the first by so many ticks, of which so many are a second: as
+-- fractions, the second is the first and this.
+abbrev pub BeginsLater : ℤ → ℕ → Moment → Moment → Type 0
+BeginsLater step scale x y =
+    y.ticks *ℤ pos (x.scale * scale) ≡ (x.ticks *ℤ pos scale +ℤ step *ℤ pos x.scale) *ℤ pos y.scale
+
+-- Where each simple track of one begins by the same step later than that of the other, and all else
+-- is the same, the same is left: also where it isn't a whole number of microseconds.
+abbrev pub StepCountsNot : Type 0
+StepCountsNot = (p q : Presentation) (step : ℤ) (scale : ℕ) → HasTimescales p → HasTimescales q
+    → 0 < scale → unwaited p ≡ unwaited q
+    → AllZip (BeginsLater step scale) (first_moments p.movie.timescale p.tracks)
+    (first_moments q.movie.timescale q.tracks)
+    → waited true p ≡ waited true q
+
+-- a presentation whose simple tracks begin so many seconds later
+abbrev pub start_later : ℕ → Track → Track
+start_later seconds t = if is_simple t
+    then record t { start = t.start + seconds * t.head.media.timescale } else t
+
+abbrev pub all_later : ℕ → Presentation → Presentation
+all_later seconds p = record p { tracks = map (start_later seconds) p.tracks }
+
+-- So it is if each begins some seconds later.
+abbrev pub SecondsCountNot : Type 0
+SecondsCountNot = (seconds : ℕ) (p : Presentation) → HasTimescales p
+    → waited true (all_later seconds p) ≡ waited true p
+
+-- ---- more left out
+
+-- Words that leave what says how tracks begin: edits and timing stay, and so do origins, but where
+-- it was left out how tracks begin.
+abbrev pub KeepsBeginnings : Bool → Without → Type 0
+KeepsBeginnings b m = (m.edits ≡ false) × (m.timing ≡ false) × ((m.origins ≡ false) ⊎ (b ≡ true))
+
+-- To leave out more of what is left of less is to leave out more at once, if what is left of less
+-- says how tracks begin.
+abbrev pub KeepsMore : Type 0
+KeepsMore = (b c d e : Bool) (m l : Without) (p : Presentation) → HasTimescales p → Implies b d
+    → Implies c e → Covers m l → KeepsBeginnings b m → kept d e l (kept b c m p) ≡ kept d e l p
+
+-- Where it is left out how tracks begin, or isn't, what is the same without some things is the same
+-- without these and more.
+abbrev pub SameKeptWithoutMore : Type 0
+SameKeptWithoutMore = (b c e : Bool) (l m : Without) (p q : Presentation) → Implies c e
+    → Covers l m → kept b c l p ≡ kept b c l q → kept b e m p ≡ kept b e m q
+
+-- It is so too if how tracks begin is left out with more, where what is left says it.
+abbrev pub SameKeptWithoutBeginnings : Type 0
+SameKeptWithoutBeginnings = (c e : Bool) (l m : Without) (p q : Presentation) → HasTimescales p
+    → HasTimescales q → Implies c e → Covers l m → KeepsBeginnings false l
+    → kept false c l p ≡ kept false c l q → kept true e m p ≡ kept true e m q
+
+-- Twice by the same words is once, where they leave what says how tracks begin.
+abbrev pub KeptIsFixed : Type 0
+KeptIsFixed = (b c : Bool) (l : Without) (p : Presentation) → HasTimescales p → KeepsBeginnings b l
+    → kept b c l (kept b c l p) ≡ kept b c l p
+
+-- ---- where order matters
+
+abbrev pub only_edits : Without
+only_edits = record nothing { edits = true }
+
+abbrev pub only_timing : Without
+only_timing = record nothing { timing = true }
+
+-- Two presentations are the same without some things, and not without these and how tracks begin.
+abbrev pub HidesBeginnings : Without → Type 0
+HidesBeginnings l = (p : Presentation) × (q : Presentation) × Valid p × Valid q
+    × (reduce l p ≡ reduce l q) × (kept true false l p ≡ kept true false l q → ⊥)
+
+-- Origins hide when samples begin, of which how long a track waits is made. So does timing. Edits
+-- hide that a track isn't simple.
+abbrev pub OriginsHideBeginnings : Type 0
+OriginsHideBeginnings = HidesBeginnings only_origins
+
+abbrev pub TimingHidesBeginnings : Type 0
+TimingHidesBeginnings = HidesBeginnings only_timing
+
+abbrev pub EditsHideBeginnings : Type 0
+EditsHideBeginnings = HidesBeginnings only_edits
+
+-- Twice by these words isn't once.
+abbrev pub ChangesAgain : Without → Type 0
+ChangesAgain l = (p : Presentation) × Valid p
+    × (kept true false l (kept true false l p) ≡ kept true false l p → ⊥)
+
+-- Without timing the edits that stay are in microseconds, and the movie's timescale is 1,000.
+abbrev pub TimingChangesAgain : Type 0
+TimingChangesAgain = ChangesAgain only_timing
+
+-- Without edits a track that isn't simple begins where it did, and is simple then.
+abbrev pub EditsChangeAgain : Type 0
+EditsChangeAgain = ChangesAgain only_edits

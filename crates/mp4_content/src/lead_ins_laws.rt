@@ -1,0 +1,70 @@
+//! Laws of what is left where it doesn't count how tracks begin, but how long each of them waits.
+
+ghost use Rattle.mp4_content.specs.format.LeadInsLaws.{EditsChangeAgain, EditsHideBeginnings, KeepsMore, KeptIsFixed, OriginsHideBeginnings, SameKeptWithoutBeginnings, SameKeptWithoutMore, SecondsCountNot, StepCountsNot, TimingChangesAgain, TimingHidesBeginnings, WaitedIsExact, WaitedIsFixed};
+
+/// Twice is once.
+pub fn waited_is_fixed()
+    ensures { WaitedIsFixed }
+{}
+
+/// The same is left of two presentations exactly if they are the same apart from how their simple
+/// tracks begin, and each of these waits as many microseconds.
+pub fn waited_is_exact()
+    ensures { WaitedIsExact }
+{}
+
+/// If all begin by one step later, the same is left.
+pub fn step_counts_not()
+    ensures { StepCountsNot }
+{}
+
+/// So it is if all begin some seconds later.
+pub fn seconds_count_not()
+    ensures { SecondsCountNot }
+{}
+
+/// To leave out more of what is left of less is to leave out more at once, if what is left of less
+/// says how tracks begin.
+pub fn keeps_more()
+    ensures { KeepsMore }
+{}
+
+/// What is the same without some things is the same without these and more.
+pub fn same_kept_without_more()
+    ensures { SameKeptWithoutMore }
+{}
+
+/// It is so too if how tracks begin is left out with more, where what is left says it.
+pub fn same_kept_without_beginnings()
+    ensures { SameKeptWithoutBeginnings }
+{}
+
+/// Twice by the same words is once, where they leave what says how tracks begin.
+pub fn kept_is_fixed()
+    ensures { KeptIsFixed }
+{}
+
+/// Two presentations that are the same without origins wait for different times.
+pub fn origins_hide_beginnings()
+    ensures { OriginsHideBeginnings }
+{}
+
+/// Two that are the same without timing do.
+pub fn timing_hides_beginnings()
+    ensures { TimingHidesBeginnings }
+{}
+
+/// Of two that are the same without edits one is simple.
+pub fn edits_hide_beginnings()
+    ensures { EditsHideBeginnings }
+{}
+
+/// Without timing what is left of how tracks begin waits longer the second time.
+pub fn timing_changes_again()
+    ensures { TimingChangesAgain }
+{}
+
+/// Without edits what is left of a track that isn't simple is simple the second time.
+pub fn edits_change_again()
+    ensures { EditsChangeAgain }
+{}
