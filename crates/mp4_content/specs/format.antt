@@ -11,3 +11,5 @@ pub mod ReducedTimes
 pub mod ReducedLaws
 pub mod CoveringLaws
 pub mod TimedSamples
+pub mod Alignment
+pub mod AlignmentLaws
