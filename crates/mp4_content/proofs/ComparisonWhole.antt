@@ -26,7 +26,7 @@ HasMap s = IsMap s.groups
 bytes_equal : (of : Subject) (xs ys : List ℕ) → Tells (byte_differences of xs ys) (xs ≡ ys)
 bytes_equal of xs ys = weaker (both (number_tells of fields.Size (length xs) (length ys)) (bytes_tell of (λ (k : ℕ). fields.Byte k (length xs)) xs ys)) (λ h. h.1 h.0)
 
-sample_tells : (track n : ℕ) (a b : Sample) → Tells (sample_differences track n a b) (HasMap a → HasMap b → a ≡ b)
+pub sample_tells : (track n : ℕ) (a b : Sample) → Tells (sample_differences track n a b) (HasMap a → HasMap b → a ≡ b)
 sample_tells track n a b =
     let of = subjects.Sample track n in
     let times = both (number_tells of fields.Duration a.duration b.duration) (signed_tells of fields.Offset a.offset b.offset) in
@@ -40,7 +40,7 @@ sample_tells track n a b =
       bytes = h.1 i;
     })
 
-sample_self : (track n : ℕ) (a : Sample) → sample_differences track n a a ≡ []
+pub sample_self : (track n : ℕ) (a : Sample) → sample_differences track n a a ≡ []
 sample_self track n a = rw (index_self (subjects.Sample track n) a.groups) (simp (differ_self, bytes_self))
 
 -- ---- tracks
@@ -92,7 +92,7 @@ each_difference_is_one p q = (whole_tells p q).each
 
 -- ---- what is left of what is valid
 
-map_left : (b : Bool) (groups : Groups) → IsMap groups → IsMap (if b then [] else groups)
+pub map_left : (b : Bool) (groups : Groups) → IsMap groups → IsMap (if b then [] else groups)
 map_left true groups h = record { each = tt; order = refl }
 map_left false groups h = h
 

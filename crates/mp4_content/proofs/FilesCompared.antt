@@ -1,7 +1,7 @@
 -- Files that are compared track by track.
-use Rattle.std.proofs.Common.{◌≡◌, ℕ, zero, suc, ◌+◌, ◌<◌, ◌≤◌, min, Bool, true, List, [], ◌∷◌, ◌++◌, length, take, drop, Option, Some, None, sym, ap, subst, ◌∙◌, arith, append_assoc}
+use Rattle.std.proofs.Common.{◌≡◌, ℕ, zero, suc, ◌+◌, ◌<◌, ◌≤◌, min, Bool, true, false, if◌then◌else◌, List, [], ◌∷◌, ◌++◌, length, take, drop, Option, Some, None, sym, ap, subst, ◌∙◌, arith, append_assoc}
 use Rattle.std.specs.List.{slice_get}
-use Rattle.std.specs.Prelude.{map, Result, Ok, Err, IfOk}
+use Rattle.std.specs.Prelude.{not, ◌&&◌, ◌==◌, map, Result, Ok, Err, IfOk}
 use Rattle.std.proofs.lemmas.List.{append-nil, length-map}
 use Rattle.mp4_boxes.specs.format.Bytes.{sum_of}
 use Rattle.mp4_boxes.proofs.Plain.{drop_plus, get_map, get_zip, length_zip, some_is}
@@ -12,12 +12,12 @@ use Rattle.mp4_head.specs.words.Seen.{head_seen, movie_seen, track_seen}
 use Rattle.mp4_head.specs.declared.heads.MovieHead.{MovieHead}
 use Rattle.mp4_head.specs.declared.heads.TrackHead.{TrackHead}
 use Rattle.mp4_head.proofs.ReadAgain.{said_of}
-use Rattle.mp4_content.specs.format.Comparison as whole
+use Rattle.mp4_content.specs.format.Alignment.{listed_track}
 use Rattle.mp4_content.specs.format.Differences.{numbers_differ, each_differ, head_differences, movie_differences}
 use Rattle.mp4_present.specs.format.Denotes.{FileTree, file_parts, track_of}
 use Rattle.mp4_present.specs.format.Presentation.{Sample, Track}
 use Rattle.mp4_content.specs.format.Reduced.{start_left, first_offset, number_head, number_track, number_tracks, reduce_track, reduce_track_head, reduce_movie_head}
-use Rattle.mp4_content.specs.words.Compared.{TakesFront, samples_differ, tracks_differ, files_differ}
+use Rattle.mp4_content.specs.words.Compared.{TakesFront, samples_differ, tracks_differ, files_listed}
 use Rattle.mp4_content.specs.words.Differing.{as_list, is_none_yet}
 use Rattle.mp4_present.specs.words.Movies.{MovieSeen, moov_box}
 use Rattle.mp4_present.specs.words.OpenedMovie.{IsOpenedAs, IsInfoOf}
@@ -39,12 +39,12 @@ if_ok P Q (Err e) f h = tt
 -- ---- the heads of two tracks
 
 -- what was found of them is what differs between the tracks apart from their samples
-heads_differ : (l : Without) (number k : ℕ) (file other : List ℕ) (m n : MovieSeen) (tree other_tree : FileTree) (t u : TrackTree) (info other_info : TrackInfo) (head other_head : TrackHead) → IsOpenedAs file m tree → IsOpenedAs other n other_tree
+heads_differ : (aligned : Bool) (l : Without) (number k : ℕ) (file other : List ℕ) (m n : MovieSeen) (tree other_tree : FileTree) (t u : TrackTree) (info other_info : TrackInfo) (head other_head : TrackHead) → IsOpenedAs file m tree → IsOpenedAs other n other_tree
     → slice_get tree.movie.tracks k ≡ Some t → slice_get other_tree.movie.tracks k ≡ Some u → slice_get m.tracks k ≡ Some info → slice_get n.tracks k ≡ Some other_info → track_seen head ≡ track_head_of t → track_seen other_head ≡ track_head_of u
     → (head_differences (subjects.Track number) (number_head l number (reduce_track_head l (track_seen head))) (number_head l number (reduce_track_head l (track_seen other_head))) ++ numbers_differ (subjects.Track number) fields.Start (start_left l info.start) (start_left l other_info.start)
     ++ numbers_differ (subjects.Track number) fields.Samples info.samples other_info.samples)
-    ++ samples_differ l number file tree t other other_tree u ≡ tracks_differ l number file tree t other other_tree u
-heads_differ l number k file other m n tree other_tree t u info other_info head other_head o p at bt it jt e f =
+    ++ (if aligned && not (info.samples == other_info.samples) then [] else samples_differ l number file tree t other other_tree u) ≡ tracks_differ aligned l number file tree t other other_tree u
+heads_differ aligned l number k file other m n tree other_tree t u info other_info head other_head o p at bt it jt e f =
     let of = subjects.Track number in
     let left_many = λ (samples : List Sample). reduced_length l (length samples) (first_offset samples) 0 samples in
     let x = get_zip (IsInfoOf file tree) tree.movie.tracks m.tracks k t info o.tracks at it in
@@ -52,17 +52,26 @@ heads_differ l number k file other m n tree other_tree t u info other_info head 
     let count = x.samples ∙ sym (left_many (track_of file (file_parts tree) t).samples) in
     let other_count = y.samples ∙ sym (left_many (track_of other (file_parts other_tree) u).samples) in
     λ i. (head_differences of (number_head l number (reduce_track_head l (e i))) (number_head l number (reduce_track_head l (f i)))
-    ++ numbers_differ of fields.Start (start_left l (x.start i)) (start_left l (y.start i)) ++ numbers_differ of fields.Samples (count i) (other_count i)) ++ samples_differ l number file tree t other other_tree u
+    ++ numbers_differ of fields.Start (start_left l (x.start i)) (start_left l (y.start i)) ++ numbers_differ of fields.Samples (count i) (other_count i))
+    ++ (if aligned && not (count i == other_count i) then [] else samples_differ l number file tree t other other_tree u)
 
--- Two tracks whose heads were compared: their samples are left.
-pub track_begun : (l : Without) (number k : ℕ) (file other : List ℕ) (m n : MovieSeen) (tree other_tree : FileTree) (t u : TrackTree) (info other_info : TrackInfo) (head other_head : TrackHead) → IsOpenedAs file m tree → IsOpenedAs other n other_tree
+-- Two tracks whose heads were compared: their samples are left, where these are compared.
+pub track_begun : (aligned : Bool) (l : Without) (number k : ℕ) (file other : List ℕ) (m n : MovieSeen) (tree other_tree : FileTree) (t u : TrackTree) (info other_info : TrackInfo) (head other_head : TrackHead) → IsOpenedAs file m tree → IsOpenedAs other n other_tree
     → slice_get tree.movie.tracks k ≡ Some t → slice_get other_tree.movie.tracks k ≡ Some u → slice_get m.tracks k ≡ Some info → slice_get n.tracks k ≡ Some other_info → track_seen head ≡ track_head_of t → track_seen other_head ≡ track_head_of u
     → (found : List Difference) → found ≡ head_differences (subjects.Track number) (number_head l number (reduce_track_head l (track_seen head))) (number_head l number (reduce_track_head l (track_seen other_head)))
     ++ numbers_differ (subjects.Track number) fields.Start (start_left l info.start) (start_left l other_info.start)
     ++ numbers_differ (subjects.Track number) fields.Samples info.samples other_info.samples
-    → tracks_differ l number file tree t other other_tree u ≡ found ++ samples_differ l number file tree t other other_tree u
-track_begun l number k file other m n tree other_tree t u info other_info head other_head o p at bt it jt e f found is =
-    sym (ap (λ (ds : List Difference). ds ++ samples_differ l number file tree t other other_tree u) is ∙ heads_differ l number k file other m n tree other_tree t u info other_info head other_head o p at bt it jt e f)
+    → tracks_differ aligned l number file tree t other other_tree u ≡ found ++ (if aligned && not (info.samples == other_info.samples) then [] else samples_differ l number file tree t other other_tree u)
+track_begun aligned l number k file other m n tree other_tree t u info other_info head other_head o p at bt it jt e f found is =
+    sym (ap (λ (ds : List Difference). ds ++ (if aligned && not (info.samples == other_info.samples) then [] else samples_differ l number file tree t other other_tree u)) is ∙ heads_differ aligned l number k file other m n tree other_tree t u info other_info head other_head o p at bt it jt e f)
+
+-- which they are
+pub not_by : (b : Bool) (ds : List Difference) → b ≡ false → (if b then [] else ds) ≡ ds
+not_by b ds e = ap (λ (v : Bool). if v then [] else ds) e
+
+-- or are not
+pub skipped_by : (b : Bool) (ds : List Difference) → b ≡ true → (if b then [] else ds) ≡ []
+skipped_by b ds e = ap (λ (v : Bool). if v then [] else ds) e
 
 -- ---- a list of two parts
 
@@ -77,6 +86,10 @@ second_part before mid next whole more rest e f p = grows_part before mid next w
 -- or all of it
 pub both_parts : (before mid next whole more rest : List Difference) → whole ≡ more ++ rest → mid ≡ before ++ more → next ≡ mid ++ rest → next ≡ before ++ whole
 both_parts before mid next whole more rest e f h = h ∙ ap (λ (ds : List Difference). ds ++ rest) f ∙ append_assoc before more rest ∙ ap (λ (ds : List Difference). before ++ ds) (sym e)
+
+-- all that were taken are a front
+pub takes_all : (before next whole : List Difference) → next ≡ before ++ whole → TakesFront before next whole
+takes_all before next whole e = grows_front before next whole [] (whole, e, sym (append-nil whole))
 
 -- ---- the heads of two movies
 
@@ -103,21 +116,21 @@ tracks_left l file tree = number_tracks l 1 (map (reduce_track l) (map (track_of
 tracks_many : (l : Without) (file : List ℕ) (tree : FileTree) → length (tracks_left l file tree) ≡ length tree.movie.tracks
 tracks_many l file tree = numbered_many l 1 (map (reduce_track l) (map (track_of file (file_parts tree)) tree.movie.tracks)) ∙ length-map (map (track_of file (file_parts tree)) tree.movie.tracks) (reduce_track l) ∙ length-map tree.movie.tracks (track_of file (file_parts tree))
 
-abbrev tracks_from : Without → List ℕ → FileTree → List ℕ → FileTree → ℕ → List Difference
-tracks_from l file tree other other_tree k = each_differ whole.track_differences (k + 1) (drop k (tracks_left l file tree)) (drop k (tracks_left l other other_tree))
+abbrev tracks_from : Bool → Without → List ℕ → FileTree → List ℕ → FileTree → ℕ → List Difference
+tracks_from aligned l file tree other other_tree k = each_differ (listed_track aligned) (k + 1) (drop k (tracks_left l file tree)) (drop k (tracks_left l other other_tree))
 
 -- Two movies whose heads were compared: their tracks are left.
-pub movie_begun : (l : Without) (file other : List ℕ) (m n : MovieSeen) (tree other_tree : FileTree) (head other_head : MovieHead) → IsOpenedAs file m tree → IsOpenedAs other n other_tree → SaysHead (moov_box m) head → SaysHead (moov_box n) other_head
+pub movie_begun : (aligned : Bool) (l : Without) (file other : List ℕ) (m n : MovieSeen) (tree other_tree : FileTree) (head other_head : MovieHead) → IsOpenedAs file m tree → IsOpenedAs other n other_tree → SaysHead (moov_box m) head → SaysHead (moov_box n) other_head
     → (found : List Difference)
     → found ≡ movie_differences (reduce_movie_head l (movie_seen head)) (reduce_movie_head l (movie_seen other_head)) ++ numbers_differ subjects.Movie fields.Tracks (length head.tracks.items) (length other_head.tracks.items)
-    → files_differ l file tree other other_tree ≡ found ++ tracks_from l file tree other other_tree 0
-movie_begun l file other m n tree other_tree head other_head o p says other_says found is =
+    → files_listed aligned l file tree other other_tree ≡ found ++ tracks_from aligned l file tree other other_tree 0
+movie_begun aligned l file other m n tree other_tree head other_head o p says other_says found is =
     let first = ap (λ (h : heads.Head). h.movie) (said file m tree head o says) in
     let second = ap (λ (h : heads.Head). h.movie) (said other n other_tree other_head p other_says) in
     let count = heads_all file m tree head o says ∙ sym (tracks_many l file tree) in
     let other_count = heads_all other n other_tree other_head p other_says ∙ sym (tracks_many l other other_tree) in
-    sym (ap (λ (ds : List Difference). ds ++ tracks_from l file tree other other_tree 0) is
-    ∙ (λ i. (movie_differences (reduce_movie_head l (first i)) (reduce_movie_head l (second i)) ++ numbers_differ subjects.Movie fields.Tracks (count i) (other_count i)) ++ tracks_from l file tree other other_tree 0))
+    sym (ap (λ (ds : List Difference). ds ++ tracks_from aligned l file tree other other_tree 0) is
+    ∙ (λ i. (movie_differences (reduce_movie_head l (first i)) (reduce_movie_head l (second i)) ++ numbers_differ subjects.Movie fields.Tracks (count i) (other_count i)) ++ tracks_from aligned l file tree other other_tree 0))
 
 -- ---- track after track
 
@@ -128,14 +141,14 @@ track_left l file tree k t at =
     numbered_at l k (map (reduce_track l) (map own tree.movie.tracks)) (reduce_track l (own t)) (get_map (reduce_track l) (map own tree.movie.tracks) k (own t) (get_map own tree.movie.tracks k t at))
 
 -- what differs of the tracks from a place on begins with what differs there
-track_next : (l : Without) (file : List ℕ) (tree : FileTree) (other : List ℕ) (other_tree : FileTree) (k : ℕ) (t u : TrackTree) → slice_get tree.movie.tracks k ≡ Some t → slice_get other_tree.movie.tracks k ≡ Some u
-    → tracks_from l file tree other other_tree k ≡ tracks_differ l (k + 1) file tree t other other_tree u ++ tracks_from l file tree other other_tree (k + 1)
-track_next l file tree other other_tree k t u at bt =
+track_next : (aligned : Bool) (l : Without) (file : List ℕ) (tree : FileTree) (other : List ℕ) (other_tree : FileTree) (k : ℕ) (t u : TrackTree) → slice_get tree.movie.tracks k ≡ Some t → slice_get other_tree.movie.tracks k ≡ Some u
+    → tracks_from aligned l file tree other other_tree k ≡ tracks_differ aligned l (k + 1) file tree t other other_tree u ++ tracks_from aligned l file tree other other_tree (k + 1)
+track_next aligned l file tree other other_tree k t u at bt =
     let xs = tracks_left l file tree in
     let ys = tracks_left l other other_tree in
     let x = number_track l (k + 1) (reduce_track l (track_of file (file_parts tree) t)) in
     let y = number_track l (k + 1) (reduce_track l (track_of other (file_parts other_tree) u)) in
-    each_next whole.track_differences k xs ys (drop (k + 1) xs) (drop (k + 1) ys) x y
+    each_next (listed_track aligned) k xs ys (drop (k + 1) xs) (drop (k + 1) ys) x y
     (drop_plus xs k x (track_left l file tree k t at)) (drop_plus ys k y (track_left l other other_tree k u bt))
 
 -- how many steps the walks over the tracks of two files from a place on may take
@@ -143,16 +156,16 @@ abbrev steps_left : FileTree → FileTree → ℕ → ℕ
 steps_left tree other k = sum_of (walk_steps tree) (drop k tree.movie.tracks) + sum_of (walk_steps other) (drop k other.movie.tracks)
 
 -- the tracks of two files in front of a place were compared
-pub record FilesGo (l : Without) (file : List ℕ) (tree : FileTree) (other : List ℕ) (other_tree : FileTree) (k : ℕ) (before now : List Difference) (old new : ℕ) : Type 0 where
-  pub grows : GrowsTo before now (files_differ l file tree other other_tree) (tracks_from l file tree other other_tree k)
+pub record FilesGo (aligned : Bool) (l : Without) (file : List ℕ) (tree : FileTree) (other : List ℕ) (other_tree : FileTree) (k : ℕ) (before now : List Difference) (old new : ℕ) : Type 0 where
+  pub grows : GrowsTo before now (files_listed aligned l file tree other other_tree) (tracks_from aligned l file tree other other_tree k)
   pub takes : new + steps_left tree other_tree k ≤ old + (walks_steps tree + walks_steps other_tree)
 
-module _ (l : Without) (file : List ℕ) (tree : FileTree) (other : List ℕ) (other_tree : FileTree) (before : List Difference) (old : ℕ) where
+module _ (aligned : Bool) (l : Without) (file : List ℕ) (tree : FileTree) (other : List ℕ) (other_tree : FileTree) (before : List Difference) (old : ℕ) where
   -- before the first
-  pub files_first : (now found : List Difference) → files_differ l file tree other other_tree ≡ found ++ tracks_from l file tree other other_tree 0 → now ≡ before ++ found → FilesGo l file tree other other_tree 0 before now old old
-  files_first now found e f = record { grows = grows_more before before now _ _ found (tracks_from l file tree other other_tree 0) (grows_none before _) e f; takes = omega arith }
+  pub files_first : (now found : List Difference) → files_listed aligned l file tree other other_tree ≡ found ++ tracks_from aligned l file tree other other_tree 0 → now ≡ before ++ found → FilesGo aligned l file tree other other_tree 0 before now old old
+  files_first now found e f = record { grows = grows_more before before now _ _ found (tracks_from aligned l file tree other other_tree 0) (grows_none before _) e f; takes = omega arith }
 
-  module _ (k : ℕ) (now : List Difference) (mid : ℕ) (h : FilesGo l file tree other other_tree k before now old mid) where
+  module _ (k : ℕ) (now : List Difference) (mid : ℕ) (h : FilesGo aligned l file tree other other_tree k before now old mid) where
     module _ (t u : TrackTree) (at : slice_get tree.movie.tracks k ≡ Some t) (bt : slice_get other_tree.movie.tracks k ≡ Some u) where
       steps_next : steps_left tree other_tree k ≡ (walk_steps tree t + walk_steps other_tree u) + steps_left tree other_tree (k + 1)
       steps_next =
@@ -161,26 +174,26 @@ module _ (l : Without) (file : List ℕ) (tree : FileTree) (other : List ℕ) (o
           omega (arith, first, second)
 
       -- one more
-      pub files_next : (next : List Difference) (new : ℕ) → next ≡ now ++ tracks_differ l (k + 1) file tree t other other_tree u → new ≤ mid + (walk_steps tree t + walk_steps other_tree u) → FilesGo l file tree other other_tree (k + 1) before next old new
+      pub files_next : (next : List Difference) (new : ℕ) → next ≡ now ++ tracks_differ aligned l (k + 1) file tree t other other_tree u → new ≤ mid + (walk_steps tree t + walk_steps other_tree u) → FilesGo aligned l file tree other other_tree (k + 1) before next old new
       files_next next new e work =
           let all = h.takes in
-          record { grows = grows_more before now next _ _ _ _ h.grows (track_next l file tree other other_tree k t u at bt) e; takes = omega (arith, all, steps_next, work) }
+          record { grows = grows_more before now next _ _ _ _ h.grows (track_next aligned l file tree other other_tree k t u at bt) e; takes = omega (arith, all, steps_next, work) }
 
       -- no further difference was taken
-      pub files_stop : (next : List Difference) → TakesFront now next (tracks_differ l (k + 1) file tree t other other_tree u) → TakesFront before next (files_differ l file tree other other_tree)
-      files_stop next p = grows_part before now next _ _ _ _ h.grows (track_next l file tree other other_tree k t u at bt) p
+      pub files_stop : (next : List Difference) → TakesFront now next (tracks_differ aligned l (k + 1) file tree t other other_tree u) → TakesFront before next (files_listed aligned l file tree other other_tree)
+      files_stop next p = grows_part before now next _ _ _ _ h.grows (track_next aligned l file tree other other_tree k t u at bt) p
 
       pub files_most : (new : ℕ) → new ≤ mid + (walk_steps tree t + walk_steps other_tree u) → new ≤ old + (walks_steps tree + walks_steps other_tree)
       files_most new work = let all = h.takes in omega (arith, all, steps_next, work)
 
     -- all were compared
-    pub files_all : min (length tree.movie.tracks) (length other_tree.movie.tracks) ≤ k → now ≡ before ++ files_differ l file tree other other_tree
+    pub files_all : min (length tree.movie.tracks) (length other_tree.movie.tracks) ≤ k → now ≡ before ++ files_listed aligned l file tree other other_tree
     files_all le =
         let count = sym (tracks_many l file tree) in
         let other_count = sym (tracks_many l other other_tree) in
-        grows_all before now _ _ h.grows (each_over whole.track_differences k (tracks_left l file tree) (tracks_left l other other_tree) (subst (λ (j : ℕ). min j (length (tracks_left l other other_tree)) ≤ k) count (subst (λ (j : ℕ). min (length tree.movie.tracks) j ≤ k) other_count le)))
+        grows_all before now _ _ h.grows (each_over (listed_track aligned) k (tracks_left l file tree) (tracks_left l other other_tree) (subst (λ (j : ℕ). min j (length (tracks_left l other other_tree)) ≤ k) count (subst (λ (j : ℕ). min (length tree.movie.tracks) j ≤ k) other_count le)))
 
-    pub files_front : TakesFront before now (files_differ l file tree other other_tree)
+    pub files_front : TakesFront before now (files_listed aligned l file tree other other_tree)
     files_front = grows_front before now _ _ h.grows
 
     pub files_work : mid ≤ old + (walks_steps tree + walks_steps other_tree)

@@ -54,6 +54,13 @@ pub mod KeysOfBoth
 pub mod SamplesDiffer
 pub mod TrackEdges
 pub mod TracksCompared
+pub mod EndsPassed
+pub mod LastPairs
+pub mod SamplesShifted
+pub mod CommonEnds
+pub mod EndsCompared
+pub mod Aligned
+pub mod AlignmentOne
 pub mod FilesCompared
 pub mod HeadLess
 pub mod LeftTimes

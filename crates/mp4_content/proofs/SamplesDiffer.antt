@@ -92,7 +92,7 @@ abbrev keys_in : Groups → List GroupKey
 keys_in groups = map (λ (group : GroupKey × ℕ). group.0) groups
 
 -- the keys of a track, and the map of a sample of it
-record AreKeysOf (keys : List GroupKey) (groups : Groups) : Type 0 where
+pub record AreKeysOf (keys : List GroupKey) (groups : Groups) : Type 0 where
   pub are : AllByRecursion IsKey keys
   pub few : length keys ≤ 4
   pub map : IsMap IsIndex keys groups
@@ -190,7 +190,7 @@ module _ (of : Subject) (file other : List ℕ) (s t : PlacedSample) (hs : IsInF
 -- ---- two samples
 
 -- a sample of a track with these keys lies in the file
-abbrev IsSampleOf : List ℕ → List GroupKey → PlacedSample → Type 0
+abbrev pub IsSampleOf : List ℕ → List GroupKey → PlacedSample → Type 0
 IsSampleOf file keys s = AreKeysOf keys s.groups × IsInFile (length file) s
 
 module _ (l : Without) (track : ℕ) (keys : List KeyNamed) (lk rk : Keys) (le re : Edges) (left right : List GroupKey) (file other : List ℕ) (el : keys_seen lk ≡ left) (er : keys_seen rk ≡ right) (joined : map key_seen keys ≡ (if l.groups then [] else fold with_key [] (left ++ right))) where
@@ -209,7 +209,7 @@ module _ (l : Without) (track : ℕ) (keys : List KeyNamed) (lk rk : Keys) (le r
       (bytes_differ of (λ (k : ℕ). fields.Byte k s.size) s.size t.size (range file (place_of s.at) s.size) (range other (place_of t.at) s.size))
       ∙ (λ j. values (groups j) ++ (numbers_differ of fields.Size (first j) (second j) ++ bytes j))
 
-  all_samples : (n a b dts later : ℕ) (xs ys : List PlacedSample) → AllByRecursion (IsSampleOf file left) xs → AllByRecursion (IsSampleOf other right) ys
+  pub all_samples : (n a b dts later : ℕ) (xs ys : List PlacedSample) → AllByRecursion (IsSampleOf file left) xs → AllByRecursion (IsSampleOf other right) ys
       → each_differ (pair_differences l track keys lk le file rk re other) n (timed left a dts xs) (timed right b later ys)
       ≡ each_differ (sample_differences track) n (reduce_from l le.samples le.first_offset a (map (sample_of file) xs)) (reduce_from l re.samples re.first_offset b (map (sample_of other) ys))
   all_samples n a b dts later [] ys hs ht = refl
@@ -226,7 +226,7 @@ samples_of : (file : List ℕ) (tree : FileTree) (t : TrackTree) → IsTrackPlac
 samples_of file tree t h lie =
     each_from (IsOfTrack (length t.descriptions) (track_keys tree t)) (IsInFile (length file)) (IsSampleOf file (track_keys tree t)) (λ s k i. (record { are = h.keys; few = h.few; map = k.groups }, i)) (placed_of (file_parts tree) t) h.placed lie
 
-opened_samples : (file : List ℕ) (m : MovieSeen) (tree : FileTree) (t : TrackTree) (k : ℕ) → IsOpenedAs file m tree → slice_get tree.movie.tracks k ≡ Some t → AllByRecursion (IsSampleOf file (track_keys tree t)) (placed_of (file_parts tree) t)
+pub opened_samples : (file : List ℕ) (m : MovieSeen) (tree : FileTree) (t : TrackTree) (k : ℕ) → IsOpenedAs file m tree → slice_get tree.movie.tracks k ≡ Some t → AllByRecursion (IsSampleOf file (track_keys tree t)) (placed_of (file_parts tree) t)
 opened_samples file m tree t k o is =
     let Lie : TrackTree → Type 0 = λ u. AllByRecursion (IsInFile (length file)) (placed_of (file_parts tree) u) in
     let lie = get_every Lie tree.movie.tracks k t is (each_member Lie tree.movie.tracks (λ u i. placed_lie file tree u o.is_consistent i)) in

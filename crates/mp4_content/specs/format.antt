@@ -15,3 +15,5 @@ pub mod TimescalesLaws
 pub mod LeadIns
 pub mod LeadInsLaws
 pub mod TimedSamples
+pub mod Alignment
+pub mod AlignmentLaws

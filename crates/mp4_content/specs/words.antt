@@ -2,6 +2,7 @@ pub mod ComingLess
 pub mod Differing
 pub mod Windows
 pub mod Compared
+pub mod Aligning
 pub mod Contents
 pub mod GoneOn
 pub mod HeadsLeft

@@ -5,6 +5,9 @@
 //!   ([`reduced_laws`], [`covering_laws`]).
 //! - [`compare`] names the first [`Difference`] between two opened files, the two [`Movies`];
 //!   [`compare_all`] hands each to a [`Differences`] ([`comparing_laws`], [`complete_laws`]).
+//! - [`align`] says of each two tracks whose samples are not the same how many of them are the same
+//!   in front and at the end, an [`Alignment`], and what stands [`Between`] ([`aligning_laws`]).
+//!   [`compare_listed`] leaves out the samples that it tells of.
 //! - [`Content`] is what is left of an opened movie: what is left of each track in numbers, its
 //!   [`TrackLeft`], and what its samples are left by, its [`Reduction`]; how long all of it is, and
 //!   its head. Without edits, ends or origins a track may have no normal form, which is a fault.
@@ -42,7 +45,10 @@
 //! ```
 #![tactic(auto)]
 
+mod aligning;
+pub mod aligning_laws;
 mod bit_rates;
+mod common_ends;
 mod comparing;
 pub mod comparing_laws;
 pub mod complete_laws;
@@ -61,9 +67,10 @@ mod reduced_lengths;
 pub mod timescales_laws;
 mod without;
 
+pub use aligning::{Alignment, Between, align};
 pub use comparing::differences::{Difference, Differences, Entries, Field, Part, Subject, Value};
 pub use comparing::movies::Movies;
-pub use comparing::{compare, compare_all};
+pub use comparing::{compare, compare_all, compare_listed};
 pub use content::{Content, TrackLeft};
 pub use edges::{Edges, edges_of};
 pub use own_payloads::{BoxLeft, MediaLeft, payloads_left};

@@ -6,7 +6,8 @@ use Rattle.mp4_tables.specs.declared.sample.SampleAt.{SampleAt}
 use Rattle.mp4_head.specs.format.Tree.{TrackTree, track_head_of}
 use Rattle.mp4_head.specs.words.Seen.{track_seen}
 use Rattle.mp4_head.specs.declared.heads.TrackHead.{TrackHead}
-use Rattle.mp4_content.specs.format.Comparison.{with_key, sample_differences, track_differences, differences}
+use Rattle.mp4_content.specs.format.Alignment.{listed_track, listed}
+use Rattle.mp4_content.specs.format.Comparison.{with_key, sample_differences, differences}
 use Rattle.mp4_present.specs.format.Denotes.{FileTree, file_parts, track_of, presentation_of}
 use Rattle.mp4_content.specs.format.Differences.{each_differ}
 use Rattle.mp4_content.specs.format.Reduced.{number_track, reduce_samples, reduce_track, reduce}
@@ -87,10 +88,11 @@ abbrev pub AtHeads : ℕ → FileTree → FileTree → TrackHead → TrackHead
 AtHeads track tree other head other_head P = AtTracks track tree other
     (λ t u. track_seen head ≡ track_head_of t → track_seen other_head ≡ track_head_of u → P t u)
 
--- what differs between two tracks with this number, behind what was left out
-abbrev pub tracks_differ : Without → ℕ → List ℕ → FileTree → TrackTree → List ℕ → FileTree
+-- what differs between two tracks with this number, behind what was left out, and whether tracks
+-- are aligned
+abbrev pub tracks_differ : Bool → Without → ℕ → List ℕ → FileTree → TrackTree → List ℕ → FileTree
     → TrackTree → List Difference
-tracks_differ l number file tree t file_right other u = track_differences number
+tracks_differ aligned l number file tree t file_right other u = listed_track aligned number
     (number_track l number (reduce_track l (track_of file (file_parts tree) t)))
     (number_track l number (reduce_track l (track_of file_right (file_parts other) u)))
 
@@ -98,6 +100,11 @@ tracks_differ l number file tree t file_right other u = track_differences number
 abbrev pub files_differ : Without → List ℕ → FileTree → List ℕ → FileTree → List Difference
 files_differ l file tree file_right other =
     differences (reduce l (presentation_of file tree)) (reduce l (presentation_of file_right other))
+
+-- the same where tracks are aligned, or are not
+abbrev pub files_listed : Bool → Without → List ℕ → FileTree → List ℕ → FileTree → List Difference
+files_listed aligned l file tree file_right other = listed aligned
+    (reduce l (presentation_of file tree)) (reduce l (presentation_of file_right other))
 
 -- ---- clauses of calls
 
@@ -112,6 +119,12 @@ abbrev pub OfFiles : {X Y : Type 0} → Store X → X → MovieSeen → Store Y 
     → (List Difference → Type 0) → Type 0
 OfFiles S a m T b n l P = WhereOpenedBoth S a m T b n
     (λ tree other. P (files_differ l (S.file a) tree (T.file b) other))
+
+-- the same where tracks are aligned, or are not
+abbrev pub OfListed : {X Y : Type 0} → Store X → X → MovieSeen → Store Y → Y → MovieSeen → Bool
+    → Without → (List Difference → Type 0) → Type 0
+OfListed S a m T b n aligned l P = WhereOpenedBoth S a m T b n
+    (λ tree other. P (files_listed aligned l (S.file a) tree (T.file b) other))
 
 -- both movies have a track at this place
 pub record HaveTracks (track : ℕ) (m n : MovieSeen) : Type 0 where
@@ -138,11 +151,11 @@ OfSamples S a m T b n track l P = WhereTracks S a m T b n track (λ tree t other
 
 -- the same, of what differs between them, where these heads were read
 abbrev pub OfTracks : {X Y : Type 0} → Store X → X → MovieSeen → TrackHead → Store Y → Y → MovieSeen
-    → TrackHead → ℕ → Without → (List Difference → Type 0) → Type 0
-OfTracks S a m head T b n other_head track l P =
+    → TrackHead → ℕ → Bool → Without → (List Difference → Type 0) → Type 0
+OfTracks S a m head T b n other_head track aligned l P =
     WhereBothOpened (S.is_honest a) (S.file a) m (T.is_honest b) (T.file b) n
     (λ tree other. AtHeads track tree other head other_head (λ t u.
-    P (tracks_differ l (track + 1) (S.file a) tree t (T.file b) other u)))
+    P (tracks_differ aligned l (track + 1) (S.file a) tree t (T.file b) other u)))
 
 -- walks over both take no more than these steps
 abbrev pub TracksWork : {X Y : Type 0} → Store X → X → MovieSeen → Store Y → Y → MovieSeen → ℕ

@@ -1,6 +1,6 @@
 //! Two opened files, compared by what they say.
-ghost use Rattle.std.specs.Prelude.{◌≡◌, ◌+◌, ◌<◌, ◌≤◌, ℕ, ◌++◌, take, true, slice_get, IfOk, OnOk};
-ghost use Rattle.mp4_content.specs.words.Compared.{WhereOpenedBoth, HaveTracks, OfFiles, WhereTracks, OfSamples, OfTracks, TakesFront, TracksWork};
+ghost use Rattle.std.specs.Prelude.{◌≡◌, ◌+◌, ◌<◌, ◌≤◌, ℕ, ◌++◌, ◌&&◌, ◌==◌, not, take, true, slice_get, IfOk, OnOk};
+ghost use Rattle.mp4_content.specs.words.Compared.{WhereOpenedBoth, HaveTracks, OfFiles, OfListed, WhereTracks, OfSamples, OfTracks, TakesFront, TracksWork};
 ghost use Rattle.mp4_content.specs.words.Differing.{RefusesSample, RefusedBoth};
 ghost use Rattle.mp4_content.specs.words.HeadsLeft.{begun_differ};
 ghost use Rattle.mp4_content.specs.words.TwoStores.{HandsOver, OnlyReadsBoth};
@@ -24,7 +24,7 @@ use crate::comparing::heads::{movie_differences, track_differences};
 use crate::comparing::movies::Movies;
 use crate::comparing::same_pairs::{Pause, pass_same};
 use crate::comparing::samples::{Next, begin_pairs, compare_pair, refill_both};
-use crate::comparing::tracks::Tracks;
+use crate::comparing::tracks::{Heads, Tracks};
 use crate::without::Without;
 use mp4_boxes::{Memory, Refusal, Steps};
 use mp4_present::TrackInfo;
@@ -49,7 +49,7 @@ fn hand_over<D: Differences>(found: &[Difference], seen: &mut D) -> bool
 }
 
 // Compares the samples of two tracks: what differs is handed over until no more is taken.
-fn compare_track_samples<S: Store, T: Store, D: Differences, L: Ledger, M: Ledger>(
+pub(crate) fn compare_track_samples<S: Store, T: Store, D: Differences, L: Ledger, M: Ledger>(
     alloc: Global,
     tracks: Tracks,
     left: &mut S,
@@ -106,17 +106,17 @@ fn compare_track_samples<S: Store, T: Store, D: Differences, L: Ledger, M: Ledge
 // Compares two tracks with this number by their heads, their starts and their numbers of samples.
 fn compare_track_heads(
     alloc: Global,
-    tracks: Tracks,
+    leaving: Without,
+    heads: Heads,
     number: u64,
     info: &TrackInfo,
     other: &TrackInfo,
 ) -> Result<Vec<Difference>, Memory>
-    ensures { IfOk result (λ found. found.items ≡ begun_differ tracks.entry.leaving number
-        tracks.entry.left.now info.now tracks.entry.right.now other.now) }
+    ensures { IfOk result (λ found. found.items ≡ begun_differ leaving number
+        heads.entry.left.now info.now heads.entry.right.now other.now) }
 {
-    let leaving = tracks.leaving;
     let of = Subject::Track(number);
-    let mut found = track_differences(alloc, leaving, number, tracks.left, tracks.right)?;
+    let mut found = track_differences(alloc, leaving, number, heads.left, heads.right)?;
     let start = leaving.start(info.start);
     compare_numbers(
         of,
@@ -131,10 +131,21 @@ fn compare_track_heads(
     Ok(found)
 }
 
-// Compares two tracks: what differs is handed over until no more is taken.
+// Whether the samples of two tracks are not compared one by one: where tracks are aligned, and
+// these are not as many.
+fn skips_samples(aligned: bool, samples: u32, others: u32) -> bool
+    ensures { result ≡ aligned && not (samples == others) }
+{
+    aligned && samples != others
+}
+
+// Compares two tracks: what differs is handed over until no more is taken. Where tracks are
+// aligned, samples are compared only if they are as many.
 fn compare_tracks<S: Store, T: Store, D: Differences, L: Ledger, M: Ledger>(
     alloc: Global,
     tracks: Tracks,
+    heads: Heads,
+    aligned: bool,
     left: &mut S,
     right: &mut T,
     seen: &mut D,
@@ -144,8 +155,8 @@ fn compare_tracks<S: Store, T: Store, D: Differences, L: Ledger, M: Ledger>(
     requires goes { D.is_open seen.old ≡ true }
     ensures stores { OnlyReadsBoth S.Store left.old left.new T.Store right.old right.new result }
     ensures handed { HandsOver D.Differences seen.old seen.new result (OfTracks S.Store left.old
-        tracks.entry.movies.now.left tracks.entry.left.now T.Store right.old
-        tracks.entry.movies.now.right tracks.entry.right.now tracks.entry.place
+        tracks.entry.movies.now.left heads.entry.left.now T.Store right.old
+        tracks.entry.movies.now.right heads.entry.right.now tracks.entry.place aligned
         tracks.entry.leaving) }
     ensures unchanged { WhereTracks S.Store left.old tracks.entry.movies.now.left T.Store
         right.old tracks.entry.movies.now.right tracks.entry.place
@@ -157,14 +168,81 @@ fn compare_tracks<S: Store, T: Store, D: Differences, L: Ledger, M: Ledger>(
     ensures grows { OnOk result (steps.old.passed ≤ steps.new.passed) }
     ensures looks { steps.new.looks ≡ steps.old.looks }
 {
-    let Tracks { movies, place, .. } = tracks;
+    let Tracks {
+        movies,
+        place,
+        leaving,
+    } = tracks;
     let info = movies.left.tracks()[place];
     let other = movies.right.tracks()[place];
-    let found = compare_track_heads(alloc, tracks, place as u64 + 1, &info, &other)?;
+    let number = place as u64 + 1;
+    let found = compare_track_heads(alloc, leaving, heads, number, &info, &other)?;
     if !hand_over(found.as_slice(), seen) {
         return Ok(false);
     }
+    if skips_samples(aligned, info.samples, other.samples) {
+        return Ok(true);
+    }
     compare_track_samples(alloc, tracks, left, right, seen, steps)
+}
+
+/// The same as [`compare_all`] where tracks are not aligned. Where they are, samples of two tracks
+/// are compared only if they are as many; how they lie beside each other is what
+/// [`align`](crate::align) says.
+pub fn compare_listed<S: Store, T: Store, D: Differences, L: Ledger, M: Ledger>(
+    alloc: Global,
+    movies: &Movies,
+    left: &mut S,
+    right: &mut T,
+    leaving: Without,
+    aligned: bool,
+    seen: &mut D,
+    steps: &mut Steps<L, M>,
+) -> Result<bool, Refusal>
+    requires { D.is_open seen.old ≡ true }
+    ensures left { OnlyReads S.Store left.old left.new result }
+    ensures right { OnlyReads T.Store right.old right.new result }
+    ensures goes { IfOk result (λ all. all ≡ D.is_open seen.new) }
+    ensures all { IfOk result (λ all. all ≡ true → OfListed S.Store left.old
+        movies.now.left T.Store right.old movies.now.right aligned leaving
+        (λ found. D.taken seen.new ≡ D.taken seen.old ++ found)) }
+    ensures front { OfListed S.Store left.old movies.now.left T.Store right.old movies.now.right
+        aligned leaving (TakesFront (D.taken seen.old) (D.taken seen.new)) }
+    ensures unchanged { WhereOpenedBoth S.Store left.old movies.now.left T.Store right.old
+        movies.now.right (λ tree other. IsUnchanged result) }
+    ensures work { WhereOpenedBoth S.Store left.old movies.now.left T.Store right.old
+        movies.now.right
+        (λ tree other. steps.new.passed ≤ steps.old.passed
+        + (walks_steps tree + walks_steps other)) }
+    ensures refusal { RefusedBoth S.Store left.old left.new T.Store right.old right.new result
+        RefusesSample }
+    ensures grows { OnOk result (steps.old.passed ≤ steps.new.passed) }
+    ensures looks { steps.new.looks ≡ steps.old.looks }
+{
+    let head = movies.left.head(alloc)?;
+    let other_head = movies.right.head(alloc)?;
+    let found = movie_differences(alloc, leaving, &head, &other_head)?;
+    if !hand_over(found.as_slice(), seen) {
+        return Ok(false);
+    }
+    let count = movies.left.tracks().len().min(movies.right.tracks().len());
+    for track in 0..count.min(head.tracks.len()).min(other_head.tracks.len()) {
+        let first = &head.tracks[track];
+        let second = &other_head.tracks[track];
+        let tracks = Tracks {
+            movies,
+            place: track,
+            leaving,
+        };
+        let heads = Heads {
+            left: first,
+            right: second,
+        };
+        if !compare_tracks(alloc, tracks, heads, aligned, left, right, seen, steps)? {
+            return Ok(false);
+        }
+    }
+    Ok(true)
 }
 
 /// Compares two opened files by what they say, without what is left out, and hands each difference
@@ -200,34 +278,13 @@ pub fn compare_all<S: Store, T: Store, D: Differences, L: Ledger, M: Ledger>(
     ensures grows { OnOk result (steps.old.passed ≤ steps.new.passed) }
     ensures looks { steps.new.looks ≡ steps.old.looks }
 {
-    let head = movies.left.head(alloc)?;
-    let other_head = movies.right.head(alloc)?;
-    let found = movie_differences(alloc, leaving, &head, &other_head)?;
-    if !hand_over(found.as_slice(), seen) {
-        return Ok(false);
-    }
-    let count = movies.left.tracks().len().min(movies.right.tracks().len());
-    for track in 0..count.min(head.tracks.len()).min(other_head.tracks.len()) {
-        let first = &head.tracks[track];
-        let second = &other_head.tracks[track];
-        let tracks = Tracks {
-            movies,
-            place: track,
-            left: first,
-            right: second,
-            leaving,
-        };
-        if !compare_tracks(alloc, tracks, left, right, seen, steps)? {
-            return Ok(false);
-        }
-    }
-    Ok(true)
+    compare_listed(alloc, movies, left, right, leaving, false, seen, steps)
 }
 
 // The first difference that comes.
 #[derive(Drop)]
-struct FirstDifference {
-    first: Option<Difference>,
+pub(crate) struct FirstDifference {
+    pub(crate) first: Option<Difference>,
 }
 
 impl Differences for FirstDifference {

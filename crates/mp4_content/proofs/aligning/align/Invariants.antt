@@ -1,20 +1,19 @@
-use Rattle.std.proofs.Common.{◌≡◌, ◌≤◌, true}
+use Rattle.std.proofs.Common.{◌≡◌, ◌≤◌}
 use Rattle.mp4_content.specs.words.Compared.{WhereBothOpened}
-use Rattle.mp4_content.proofs.FilesCompared.{FilesGo}
-use Rattle.mp4_content.proofs.comparing.compare_all.Given as goal
+use Rattle.mp4_content.proofs.Aligned.{AlignsTo}
+use Rattle.mp4_content.proofs.aligning.align.Given as goal
 
--- both files stay, a further difference is taken, and what differs in front was taken
-abbrev pub invariant-loop-track : goal.invariant-loop-track
-invariant-loop-track g l = record {
+-- both files stay, and the pairs in front are aligned
+abbrev pub invariant-loop-place : goal.invariant-loop-place
+invariant-loop-place g l = record {
   honesty : g.S.Store.is_honest l.left ≡ g.S.Store.is_honest l.fn.left;
   file : g.S.Store.file l.left ≡ g.S.Store.file l.fn.left;
   reads : g.S.Store.read_failures l.left ≡ g.S.Store.read_failures l.fn.left;
   honesty_right : g.T.Store.is_honest l.right ≡ g.T.Store.is_honest l.fn.right;
   file_right : g.T.Store.file l.right ≡ g.T.Store.file l.fn.right;
   reads_right : g.T.Store.read_failures l.right ≡ g.T.Store.read_failures l.fn.right;
-  goes : g.D.Differences.is_open l.seen ≡ true;
   looks : l.steps.looks ≡ l.fn.steps.looks;
   grows : l.fn.steps.passed ≤ l.steps.passed;
   going : WhereBothOpened (g.S.Store.is_honest l.fn.left) (g.S.Store.file l.fn.left) l.movies.left (g.T.Store.is_honest l.fn.right) (g.T.Store.file l.fn.right) l.movies.right
-      (λ tree other. FilesGo l.leaving (g.S.Store.file l.fn.left) tree (g.T.Store.file l.fn.right) other l.track (g.D.Differences.taken l.fn.seen) (g.D.Differences.taken l.seen) l.fn.steps.passed l.steps.passed);
+      (λ tree other. AlignsTo l.leaving (g.S.Store.file l.fn.left) tree (g.T.Store.file l.fn.right) other l.place l.found.items l.fn.steps.passed l.steps.passed);
 }

@@ -1,0 +1,98 @@
+-- The samples of two tracks behind some of each, as they are handed out and as the presentations have them.
+use Rattle.std.proofs.Common.{◌≡◌, ℕ, zero, suc, ◌+◌, if◌then◌else◌, List, [], ◌∷◌, ◌++◌, length, drop, Some, refl, sym, ◌∙◌, arith}
+use Rattle.std.specs.Prelude.{map, fold, ℤ}
+use Rattle.std.specs.List.{AllByRecursion, slice_get}
+use Rattle.std.proofs.lemmas.List.{drop-map}
+use Rattle.mp4_boxes.proofs.Each.{each_dropped, each_value, each_weaker}
+use Rattle.mp4_tables.specs.format.Groups.{GroupKey}
+use Rattle.mp4_tables.specs.format.PlainSamples.{PlacedSample}
+use Rattle.mp4_tables.specs.words.Keys.{key_seen}
+use Rattle.mp4_tables.specs.words.Timed.{timed}
+use Rattle.mp4_tables.proofs.GroupMaps.{order_test}
+use Rattle.mp4_tables.proofs.Placed.{IsIndex}
+use Rattle.mp4_head.specs.format.Tree.{TrackTree}
+use Rattle.mp4_present.specs.format.Denotes.{FileTree, sample_of, file_parts, placed_of, track_of}
+use Rattle.mp4_present.specs.format.Presentation.{Sample, IsGroup}
+use Rattle.mp4_present.specs.words.Movies.{MovieSeen}
+use Rattle.mp4_present.specs.words.OpenedMovie.{IsOpenedAs}
+use Rattle.mp4_present.specs.words.SamplesComing.{track_keys, track_samples}
+use Rattle.mp4_present.specs.declared.track_info.TrackInfo.{TrackInfo}
+use Rattle.mp4_present.proofs.ValidSamples.{is_group}
+use Rattle.mp4_content.specs.format.Alignment.{time_of}
+use Rattle.mp4_content.specs.format.Comparison.{with_key, sample_differences}
+use Rattle.mp4_content.specs.format.Differences.{each_differ}
+use Rattle.mp4_content.specs.format.Reduced.{first_offset, reduce_from, reduce_samples}
+use Rattle.mp4_content.specs.format.TimedSamples.{timed_from}
+use Rattle.mp4_content.specs.words.Aligning.{due}
+use Rattle.mp4_content.specs.words.Compared.{IsPairingOf}
+use Rattle.mp4_content.specs.words.Differing.{pair_differences}
+use Rattle.mp4_content.specs.words.TrackEdges.{edges_left}
+use Rattle.mp4_content.specs.declared.comparing.pairing.Pairing.{Pairing}
+use Rattle.mp4_content.specs.declared.without.Without.{Without}
+use Rattle.mp4_content.proofs.ComparisonWhole.{HasMap, map_left}
+use Rattle.mp4_content.proofs.SamplesDiffer.{IsSampleOf, all_samples, opened_samples, own_keys}
+use Rattle.mp4_content.proofs.SamplesReduced.{reduced_by_edges, reduced_each}
+
+-- ---- behind some
+
+-- samples with their times behind some of them
+timed_behind : (keys : List GroupKey) (i n dts : ℕ) (placed : List PlacedSample) → (later : ℕ) × (drop i (timed keys n dts placed) ≡ timed keys (n + i) later (drop i placed))
+timed_behind keys zero n dts placed = let e : n ≡ n + 0 = omega arith in (dts, λ j. timed keys (e j) dts placed)
+timed_behind keys (suc i) n dts [] = (dts, refl)
+timed_behind keys (suc i) n dts (s ∷ placed) =
+    let more = timed_behind keys i (n + 1) (dts + s.duration) placed in
+    let e : n + 1 + i ≡ n + suc i = omega arith in
+    (more.0, more.1 ∙ (λ j. timed keys (e j) more.0 (drop i placed)))
+
+-- what is left of samples behind some of them
+reduced_behind : (l : Without) (count : ℕ) (first : ℤ) (i n : ℕ) (samples : List Sample) → reduce_from l count first (n + i) (drop i samples) ≡ drop i (reduce_from l count first n samples)
+reduced_behind l count first zero n samples = let e : n + 0 ≡ n = omega arith in λ j. reduce_from l count first (e j) samples
+reduced_behind l count first (suc i) n [] = refl
+reduced_behind l count first (suc i) n (s ∷ samples) =
+    let e : n + suc i ≡ suc n + i = omega arith in
+    (λ j. reduce_from l count first (e j) (drop i samples)) ∙ reduced_behind l count first i (suc n) samples
+
+-- What differs from two places on differs so between the samples of the presentations.
+pub differ_behind : (l : Without) (k : ℕ) (by : Pairing) (file other : List ℕ) (m n : MovieSeen) (tree other_tree : FileTree) (t u : TrackTree) (info other_info : TrackInfo) → IsPairingOf l k info other_info by → IsOpenedAs file m tree → IsOpenedAs other n other_tree
+    → slice_get tree.movie.tracks k ≡ Some t → slice_get other_tree.movie.tracks k ≡ Some u → slice_get m.tracks k ≡ Some info → slice_get n.tracks k ≡ Some other_info
+    → by.left_edges ≡ edges_left l (track_samples tree t) → by.right_edges ≡ edges_left l (track_samples other_tree u) → (i j number : ℕ)
+    → each_differ (pair_differences by.leaving by.track by.keys.items by.left by.left_edges file by.right by.right_edges other) number (drop i (track_samples tree t)) (drop j (track_samples other_tree u))
+    ≡ each_differ (sample_differences (k + 1)) number (drop i (reduce_samples l (track_of file (file_parts tree) t).samples)) (drop j (reduce_samples l (track_of other (file_parts other_tree) u).samples))
+differ_behind l k by file other m n tree other_tree t u info other_info h o p at bt it jt left_is right_is i j number =
+    let el = own_keys file m tree t k info o at it in
+    let er = own_keys other n other_tree u k other_info p bt jt in
+    let joined : map key_seen by.keys.items ≡ (if l.groups then [] else fold with_key [] (track_keys tree t ++ track_keys other_tree u)) =
+    h.all_keys ∙ (λ x. if l.groups then [] else fold with_key [] (el x ++ er x)) in
+    let placed = placed_of (file_parts tree) t in
+    let others = placed_of (file_parts other_tree) u in
+    let xs = timed_behind (track_keys tree t) i 0 (track_of file (file_parts tree) t).start placed in
+    let ys = timed_behind (track_keys other_tree u) j 0 (track_of other (file_parts other_tree) u).start others in
+    let le = by.left_edges in
+    let re = by.right_edges in
+    let first = reduced_by_edges l le file (track_keys tree t) 0 _ placed left_is in
+    let second = reduced_by_edges l re other (track_keys other_tree u) 0 _ others right_is in
+    (λ x. each_differ (pair_differences (h.left_out x) (h.number x) by.keys.items (h.left_keys x) le file (h.right_keys x) re other) number (xs.1 x) (ys.1 x))
+    ∙ all_samples l (k + 1) by.keys.items info.keys other_info.keys le re (track_keys tree t) (track_keys other_tree u) file other el er joined number (0 + i) (0 + j) xs.0 ys.0 (drop i placed) (drop j others)
+    (each_dropped (IsSampleOf file (track_keys tree t)) i placed (opened_samples file m tree t k o at)) (each_dropped (IsSampleOf other (track_keys other_tree u)) j others (opened_samples other n other_tree u k p bt))
+    ∙ (λ x. each_differ (sample_differences (k + 1)) number (reduce_from l le.samples le.first_offset (0 + i) (sym (drop-map (sample_of file) i placed) x)) (reduce_from l re.samples re.first_offset (0 + j) (sym (drop-map (sample_of other) j others) x)))
+    ∙ (λ x. each_differ (sample_differences (k + 1)) number (reduced_behind l le.samples le.first_offset i 0 (map (sample_of file) placed) x) (reduced_behind l re.samples re.first_offset j 0 (map (sample_of other) others) x))
+    ∙ (λ x. each_differ (sample_differences (k + 1)) number (drop i (first x)) (drop j (second x)))
+
+-- ---- times
+
+-- a sample is due when the presentation says
+pub due_is : (file : List ℕ) (keys : List GroupKey) (k n number dts : ℕ) (placed : List PlacedSample) → due (slice_get (timed keys n dts placed) k) ≡ time_of (slice_get (timed_from number dts (map (sample_of file) placed)) k)
+due_is file keys zero n number dts [] = refl
+due_is file keys zero n number dts (s ∷ placed) = refl
+due_is file keys (suc k) n number dts [] = refl
+due_is file keys (suc k) n number dts (s ∷ placed) = due_is file keys k (n + 1) (number + 1) (dts + s.duration) placed
+
+-- ---- groups in maps
+
+-- what is left of the samples of a track that was opened has its groups in maps
+pub maps_left : (l : Without) (file : List ℕ) (m : MovieSeen) (tree : FileTree) (t : TrackTree) (k : ℕ) → IsOpenedAs file m tree → slice_get tree.movie.tracks k ≡ Some t → AllByRecursion HasMap (reduce_samples l (track_of file (file_parts tree) t).samples)
+maps_left l file m tree t k o at =
+    let placed = placed_of (file_parts tree) t in
+    let samples = map (sample_of file) placed in
+    reduced_each HasMap HasMap l (length samples) (first_offset samples) (λ n s h. map_left l.groups s.groups h) 0 samples
+    (each_value (IsSampleOf file (track_keys tree t)) HasMap (sample_of file) (λ s h. record { each = each_weaker IsIndex IsGroup is_group s.groups h.0.map.each; order = order_test s.groups h.0.map.order }) placed (opened_samples file m tree t k o at))
