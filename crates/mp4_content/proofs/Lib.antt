@@ -46,6 +46,8 @@ pub mod LeadInsLess
 pub mod LeadInsDivided
 pub mod LeadInsMore
 pub mod LeadInsOrder
+pub mod LeadInsFlat
+pub mod LeadInsValid
 pub mod LeadInsVectors
 pub mod Covering
 pub mod FieldValues

@@ -185,7 +185,7 @@ module _ (l : Without) where
     group_descriptions = by_case (AllByRecursion IsGroupDescription) l.groups [] t.group_descriptions tt h.group_descriptions;
   }
 
-  movie_head_good : (m : MovieHead) → IsMovieHead m → IsMovieHead (reduce_movie_head l m)
+  pub movie_head_good : (m : MovieHead) → IsMovieHead m → IsMovieHead (reduce_movie_head l m)
   movie_head_good m h = record {
     creation = time_good m.creation h.creation;
     modification = time_good m.modification h.modification;
@@ -220,7 +220,7 @@ module _ (l : Without) where
   start_none : (start : ℕ) → start ≡ 0 → start_left l start ≡ 0
   start_none start e = by_case (λ n. n ≡ 0) l.timing 0 (if l.origins then 0 else start) refl (by_case (λ n. n ≡ 0) l.origins 0 start refl e)
 
-  track_good : (t : Track) → IsTrack t → HasNearOffsets (reduce_track l t) → IsTrack (reduce_track l t)
+  pub track_good : (t : Track) → IsTrack t → HasNearOffsets (reduce_track l t) → IsTrack (reduce_track l t)
   track_good t h near = record {
     head = track_head_good t.head h.head;
     samples = subst (λ n. AllByRecursion (IsSample n) (reduce_samples l t.samples)) (sym (descriptions_many l t.head.media.handler t.head.media.descriptions))
@@ -235,7 +235,7 @@ module _ (l : Without) where
 
   -- ---- the whole
 
-  number_good : (place : ℕ) (t : Track) → 0 < place → IsTrack t → IsTrack (number_track l place t)
+  pub number_good : (place : ℕ) (t : Track) → 0 < place → IsTrack t → IsTrack (number_track l place t)
   number_good place t some h = record {
     head = record {
       flags = h.head.flags;

@@ -33,7 +33,7 @@ use Rattle.mp4_content.proofs.TimescalesLengths.{some_divided, duration_less, lo
 below : (n m k : ℕ) → m ≤ n → n < k → m < k
 below n m k less h = omega (arith, less, h)
 
-media_time_good : (g : ℕ) (z : ℤ) → FitsSigned w64 z → FitsSigned w64 (media_time_by (divided g) z)
+pub media_time_good : (g : ℕ) (z : ℤ) → FitsSigned w64 z → FitsSigned w64 (media_time_by (divided g) z)
 media_time_good g (pos n) h = let less = div-le_self n g in omega (arith, ints, less, h)
 media_time_good g (negsuc n) h = h
 
@@ -69,7 +69,7 @@ module _ (l : Without) where
   abbrev kept : Without
   kept = record l { edits = false; ends = false; origins = false }
 
-  scale_less : (g n : ℕ) → timescale_by l (divided g) n ≤ n
+  pub scale_less : (g n : ℕ) → timescale_by l (divided g) n ≤ n
   scale_less g n = by_case (λ m. m ≤ n) l.timing n (divided g n) (omega arith) (div-le_self n g)
 
   pub scale_some_by : (g n : ℕ) → g ∣ counted_timescale l n → 0 < n → 0 < timescale_by l (divided g) n
@@ -216,7 +216,7 @@ module _ (l : Without) where
 
   -- ---- the whole
 
-  movie_good : (p : Presentation) → IsMovieHead (reduce_movie_head l p.movie) → IsMovieHead (lowest l (reduce l p)).movie
+  pub movie_good : (p : Presentation) → IsMovieHead (reduce_movie_head l p.movie) → IsMovieHead (lowest l (reduce l p)).movie
   movie_good p h =
       let a = divisor_of (movie_times l (reduce l p)) in
       let scale = timescale_left l p.movie.timescale in

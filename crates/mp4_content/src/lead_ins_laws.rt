@@ -1,6 +1,6 @@
 //! Laws of what is left where it doesn't count how tracks begin, but how long each of them waits.
 
-ghost use Rattle.mp4_content.specs.format.LeadInsLaws.{EditsChangeAgain, EditsHideBeginnings, KeepsMore, KeptIsFixed, OriginsHideBeginnings, SameKeptWithoutBeginnings, SameKeptWithoutMore, SecondsCountNot, StepCountsNot, TimingChangesAgain, TimingHidesBeginnings, WaitedIsExact, WaitedIsFixed};
+ghost use Rattle.mp4_content.specs.format.LeadInsLaws.{EditsChangeAgain, EditsHideBeginnings, KeepsMore, KeptIsFixed, KeptIsValid, OriginsHideBeginnings, SameKeptWithoutBeginnings, SameKeptWithoutMore, SecondsCountNot, StepCountsNot, TimingChangesAgain, TimingHidesBeginnings, WaitedIsExact, WaitedIsFixed};
 
 /// Twice is once.
 pub fn waited_is_fixed()
@@ -67,4 +67,10 @@ pub fn timing_changes_again()
 /// Without edits what is left of a track that isn't simple is simple the second time.
 pub fn edits_change_again()
     ensures { EditsChangeAgain }
+{}
+
+/// What is left of what is valid is valid exactly if its tracks are not too long, their edits and
+/// offsets fit, and the `moov` isn't too long.
+pub fn kept_is_valid()
+    ensures { KeptIsValid }
 {}
