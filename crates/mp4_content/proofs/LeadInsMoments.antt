@@ -1,11 +1,11 @@
 -- How much later one moment is than another, and that one of them is the first.
-use Rattle.std.proofs.Common.{◌≡◌, ◌⊎◌, inl, inr, ⊎_elim, ℕ, suc, ◌+◌, ◌-◌, ◌*◌, ◌/◌, ◌<◌, ◌≤◌, max, List, [], ◌∷◌, refl, sym, ap, ◌∙◌, arith, mul-pos, mul_comm, ℤ, pos, negsuc, ◌+ℤ◌, ◌-ℤ◌, ◌*ℤ◌}
+use Rattle.std.proofs.Common.{◌≡◌, ◌⊎◌, inl, inr, ⊎_elim, ℕ, suc, ◌+◌, ◌-◌, ◌*◌, ◌/◌, ◌<◌, ◌≤◌, max, List, [], ◌∷◌, refl, sym, ap, subst, ◌∙◌, arith, mul-pos, mul_comm, ℤ, pos, negsuc, ◌+ℤ◌, ◌-ℤ◌, ◌*ℤ◌}
 use Rattle.std.specs.List.{AllByRecursion}
 use Rattle.std.proofs.lemmas.Int.{ints}
-use Rattle.std.proofs.Math.Nat.{zero-div, mul-sub, mul-div-mul_left, mul-div_right, mul-le-mul_left, le_of_mul-le-mul_left, sub-eq-zero_of_le}
+use Rattle.std.proofs.Math.Nat.{zero-div, mul-sub, mul-div-mul_left, mul-div_right, mul-le-mul_left, mul-le-mul_right, div-mul-le_self, le-div_iff_mul-le, le_of_mul-le-mul_left, sub-eq-zero_of_le}
 use borrow.Author.Differences.{up, down, neg_is, same_out}
 use Rattle.mp4_content.specs.format.LeadIns.{Moment, from_0, microseconds, later, delay}
-use Rattle.mp4_content.specs.format.LeadInsLaws.{BeginsLater}
+use Rattle.mp4_content.specs.format.LeadInsLaws.{Among, DelayIsFromFirst, BeginsLater}
 
 -- ---- in numbers from 0 on
 
@@ -81,6 +81,35 @@ AtMost x y = ahead x y ≤ ahead y x
 not_later : (x y : Moment) → AtMost x y → later x y ≡ 0
 not_later x y h = later_is x y ∙ (λ i. sub-eq-zero_of_le h i * microseconds / (x.scale * y.scale)) ∙ zero-div (x.scale * y.scale)
 
+divided_less : (m n k : ℕ) → 0 < k → m ≤ n → m / k ≤ n / k
+divided_less m n k some h = let down = div-mul-le_self m k in (le-div_iff_mul-le {x = m / k} some).1 (omega (arith, down, h))
+
+less_quotient : (n a b e f : ℕ) → 0 < e → 0 < f → a * f ≤ b * e → a * n / e ≤ b * n / f
+less_quotient n a b e f some other h =
+    let more = mul-le-mul_right n h in
+    let less : f * (a * n) ≤ e * (b * n) = omega (arith, more) in
+    let left = mul-div-mul_left (a * n) e other in
+    let right = mul-div-mul_left (b * n) f some in
+    let same : f * e ≡ e * f = mul_comm f e in
+    let whole : f * (a * n) / (f * e) ≤ e * (b * n) / (e * f) = subst (λ k. f * (a * n) / (f * e) ≤ e * (b * n) / k) same (divided_less (f * (a * n)) (e * (b * n)) (f * e) (mul-pos other some) less) in
+    omega (arith, left, right, whole)
+
+minus_less : (p q r s e f : ℕ) → p * f + s * e ≤ r * e + q * f → (p - q) * f ≤ (r - s) * e
+minus_less p q r s e f h =
+    let left = mul_comm (p - q) f ∙ mul-sub f p q in
+    let right = mul_comm (r - s) e ∙ mul-sub e r s in
+    omega (arith, left, right, h)
+
+-- the earlier of two is passed by more
+later_more : (w y z : Moment) → 0 < w.scale → 0 < y.scale → 0 < z.scale → AtMost y z → later w z ≤ later w y
+later_more w y z some more third h =
+    let many = mul-le-mul_left (w.scale * w.scale) h in
+    let less = less_quotient microseconds (ahead w z - ahead z w) (ahead w y - ahead y w) (w.scale * z.scale) (w.scale * y.scale) (mul-pos some third) (mul-pos some more)
+    (minus_less (ahead w z) (ahead z w) (ahead w y) (ahead y w) (w.scale * z.scale) (w.scale * y.scale) (omega (arith, many))) in
+    let left = later_is w z in
+    let right = later_is w y in
+    omega (arith, less, left, right)
+
 then_most : (x y z : Moment) → 0 < y.scale → AtMost x y → AtMost y z → AtMost x z
 then_most x y z some h k =
     let one = mul-le-mul_left z.scale h in
@@ -94,10 +123,10 @@ AnyOf P (x ∷ xs) = P x ⊎ AnyOf P xs
 abbrev pub HasScale : Moment → Type 0
 HasScale x = 0 < x.scale
 
-record First (xs : List Moment) : Type 0 where
+record Least (xs : List Moment) : Type 0 where
   x : Moment
   scale : 0 < x.scale
-  among : AnyOf (λ y. y ≡ x) xs
+  among : Among x xs
   least : AllByRecursion (AtMost x) xs
 
 all_after : (x y : Moment) → 0 < y.scale → AtMost x y → (xs : List Moment) → AllByRecursion (AtMost y) xs → AllByRecursion (AtMost x) xs
@@ -107,29 +136,57 @@ all_after x y some h (z ∷ xs) all = (then_most x y z some h all.0, all_after x
 either : (m n : ℕ) → (m ≤ n) ⊎ (n ≤ m)
 either m n = grind arith
 
-first_of : (x : Moment) (xs : List Moment) → AllByRecursion HasScale (x ∷ xs) → First (x ∷ xs)
-first_of x [] h = record { x = x; scale = h.0; among = inl refl; least = (omega arith, tt) }
-first_of x (y ∷ xs) h =
-    let rest = first_of y xs h.1 in
+least_of : (x : Moment) (xs : List Moment) → AllByRecursion HasScale (x ∷ xs) → Least (x ∷ xs)
+least_of x [] h = record { x = x; scale = h.0; among = inl refl; least = (omega arith, tt) }
+least_of x (y ∷ xs) h =
+    let rest = least_of y xs h.1 in
     ⊎_elim
     (λ less. record { x = x; scale = h.0; among = inl refl; least = (omega arith, all_after x rest.x rest.scale less (y ∷ xs) rest.least) })
     (λ more. record { x = rest.x; scale = rest.scale; among = inr rest.among; least = (more, rest.least) })
     (either (ahead x rest.x) (ahead rest.x x))
 
-no_delay : (x : Moment) (xs : List Moment) → AllByRecursion (AtMost x) xs → delay xs x ≡ 0
-no_delay x [] h = refl
-no_delay x (y ∷ xs) h = let a = not_later x y h.0 in let b = no_delay x xs h.1 in omega (arith, a, b)
+no_delay : (x : Moment) (xs : List Moment) → AllByRecursion (AtMost x) xs → AllByRecursion (λ y. later x y ≡ 0) xs
+no_delay x [] h = tt
+no_delay x (y ∷ xs) h = (not_later x y h.0, no_delay x xs h.1)
 
-any_to : {A : Type 0} (P Q : A → Type 0) → ((x : A) → P x → Q x) → (xs : List A) → AnyOf P xs → AnyOf Q xs
-any_to P Q f [] h = h
-any_to P Q f (x ∷ xs) (inl h) = inl (f x h)
-any_to P Q f (x ∷ xs) (inr h) = inr (any_to P Q f xs h)
+-- what is 0 by each is 0
+none_later : (x : Moment) (xs : List Moment) → AllByRecursion (λ y. later x y ≡ 0) xs → delay xs x ≡ 0
+none_later x [] h = refl
+none_later x (y ∷ xs) h = let a = h.0 in let b = none_later x xs h.1 in omega (arith, a, b)
+
+-- no delay is more than from the first
+delay_less : (w x : Moment) (xs : List Moment) → 0 < w.scale → 0 < x.scale → AllByRecursion HasScale xs → AllByRecursion (AtMost x) xs → delay xs w ≤ later w x
+delay_less w x [] some more has h = omega arith
+delay_less w x (y ∷ xs) some more has h = let a = later_more w x y some more has.0 h.0 in let b = delay_less w x xs some more has.1 h.1 in omega (arith, a, b)
+
+delay_more : (w x : Moment) (xs : List Moment) → Among x xs → later w x ≤ delay xs w
+delay_more w x [] h = absurd h
+delay_more w x (y ∷ xs) (inl e) = let same = ap (later w) e in omega (arith, same)
+delay_more w x (y ∷ xs) (inr h) = let rest = delay_more w x xs h in omega (arith, rest)
+
+pub delay_is_from_first : DelayIsFromFirst
+delay_is_from_first y xs h =
+    let first = least_of y xs h in
+    record {
+      x = first.x;
+      among = first.among;
+      not_later = no_delay first.x (y ∷ xs) first.least;
+      from = λ w some.
+          let less = delay_less w first.x (y ∷ xs) some first.scale h first.least in
+          let more = delay_more w first.x (y ∷ xs) first.among in
+          omega (arith, less, more);
+    }
+
+any_from : (P : Moment → Type 0) (x : Moment) → P x → (xs : List Moment) → Among x xs → AnyOf P xs
+any_from P x h [] k = k
+any_from P x h (y ∷ xs) (inl e) = inl (subst P e h)
+any_from P x h (y ∷ xs) (inr k) = inr (any_from P x h xs k)
 
 -- One of them has no delay.
 pub some_at_once : (x : Moment) (xs : List Moment) → AllByRecursion HasScale (x ∷ xs) → AnyOf (λ y. delay (x ∷ xs) y ≡ 0) (x ∷ xs)
 some_at_once x xs h =
-    let first = first_of x xs h in
-    any_to (λ y. y ≡ first.x) (λ y. delay (x ∷ xs) y ≡ 0) (λ y e. ap (delay (x ∷ xs)) e ∙ no_delay first.x (x ∷ xs) first.least) (x ∷ xs) first.among
+    let first = delay_is_from_first x xs h in
+    any_from (λ y. delay (x ∷ xs) y ≡ 0) first.x (none_later first.x (x ∷ xs) first.not_later) (x ∷ xs) first.among
 
 -- ---- delays that were said in microseconds
 

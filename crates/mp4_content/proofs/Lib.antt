@@ -45,6 +45,7 @@ pub mod LeadInsSteps
 pub mod LeadInsLess
 pub mod LeadInsDivided
 pub mod LeadInsMore
+pub mod LeadInsUntimed
 pub mod LeadInsOrder
 pub mod LeadInsFlat
 pub mod LeadInsValid

@@ -1,6 +1,11 @@
 //! Laws of what is left where it doesn't count how tracks begin, but how long each of them waits.
 
-ghost use Rattle.mp4_content.specs.format.LeadInsLaws.{EditsChangeAgain, EditsHideBeginnings, KeepsMore, KeptIsFixed, KeptIsValid, OriginsHideBeginnings, SameKeptWithoutBeginnings, SameKeptWithoutMore, SecondsCountNot, StepCountsNot, TimingChangesAgain, TimingHidesBeginnings, WaitedIsExact, WaitedIsFixed};
+ghost use Rattle.mp4_content.specs.format.LeadInsLaws.{DelayIsFromFirst, EditsChangeAgain, EditsHideBeginnings, KeepsMore, KeptIsFixed, KeptIsValid, KeptWithoutTimes, OriginsHideBeginnings, SameKeptWithoutBeginnings, SameKeptWithoutMore, SecondsCountNot, StepCountsNot, TimingChangesAgain, TimingHidesBeginnings, WaitedIsExact, WaitedIsFixed};
+
+/// How long a track waits is how much later it begins than the first.
+pub fn delay_is_from_first()
+    ensures { DelayIsFromFirst }
+{}
 
 /// Twice is once.
 pub fn waited_is_fixed()
@@ -73,4 +78,10 @@ pub fn edits_change_again()
 /// offsets fit, and the `moov` isn't too long.
 pub fn kept_is_valid()
     ensures { KeptIsValid }
+{}
+
+/// Where neither edits nor timing count either, it doesn't matter whether it counts how tracks
+/// begin.
+pub fn kept_without_times()
+    ensures { KeptWithoutTimes }
 {}

@@ -1,13 +1,14 @@
 -- Laws of what is left where it doesn't count how tracks begin, but how long each of them waits
 -- (`waited`). Whether that counts is a value beside the other words here.
-use Rattle.std.specs.Prelude.{◌≡◌, ◌↔◌, ◌⊎◌, ℕ, ◌+◌, ◌*◌, ◌^◌, ◌<◌, ◌≤◌, Bool, false, true, if◌then◌else◌, List, map, ℤ, pos, ◌+ℤ◌, ◌*ℤ◌}
+use Rattle.std.specs.Prelude.{◌≡◌, ◌↔◌, ◌⊎◌, ℕ, ◌+◌, ◌*◌, ◌^◌, ◌<◌, ◌≤◌, Bool, false, true, if◌then◌else◌, List, [], ◌∷◌, map, ℤ, pos, ◌+ℤ◌, ◌*ℤ◌}
 use Rattle.std.specs.List.{AllByRecursion, AllZip}
 use Rattle.mp4_head.specs.format.Head.{Edit}
 use Rattle.mp4_present.specs.format.Presentation.{Track, Presentation, Valid, IsInTime, normal_moov_length, max_moov}
-use Rattle.mp4_content.specs.format.LeadIns.{is_simple, Moment, first_moments, delay, wait_each, waited, kept}
+use Rattle.mp4_content.specs.format.LeadIns.{is_simple, Moment, first_moments, later, delay, wait_each, waited, kept}
 use Rattle.mp4_content.specs.format.Reduced.{reduce, HasNearOffsets}
 use Rattle.mp4_content.specs.format.ReducedLaws.{nothing}
 use Rattle.mp4_content.specs.format.CoveringLaws.{Covers}
+use Rattle.mp4_content.specs.format.Timescales.{scaled}
 use Rattle.mp4_content.specs.format.TimescalesLaws.{Implies, only_origins}
 use Rattle.mp4_content.specs.declared.without.Without.{Without}
 
@@ -19,6 +20,25 @@ HasTimescales p = (0 < p.movie.timescale)
 -- Twice is once.
 abbrev pub WaitedIsFixed : Type 0
 WaitedIsFixed = (p : Presentation) → HasTimescales p → waited true (waited true p) ≡ waited true p
+
+-- ---- delays
+
+abbrev pub Among : Moment → List Moment → Type 0
+Among x [] = ⊥
+Among x (y ∷ moments) = (x ≡ y) ⊎ Among x moments
+
+-- one of these moments, which is no later than any of them, and how much later each moment is than
+-- it
+pub record First (moments : List Moment) : Type 0 where
+  pub x : Moment
+  pub among : Among x moments
+  pub not_later : AllByRecursion (λ y. later x y ≡ 0) moments
+  pub from : (y : Moment) → 0 < y.scale → delay moments y ≡ later y x
+
+-- The most by which a moment is later than any of these is how much later it is than the first.
+abbrev pub DelayIsFromFirst : Type 0
+DelayIsFromFirst = (y : Moment) (moments : List Moment)
+    → AllByRecursion (λ (x : Moment). 0 < x.scale) (y ∷ moments) → First (y ∷ moments)
 
 -- ---- what counts
 
@@ -91,6 +111,12 @@ abbrev pub SameKeptWithoutBeginnings : Type 0
 SameKeptWithoutBeginnings = (c e : Bool) (l m : Without) (p q : Presentation) → HasTimescales p
     → HasTimescales q → Implies c e → Covers l m → KeepsBeginnings false l
     → kept false c l p ≡ kept false c l q → kept true e m p ≡ kept true e m q
+
+-- Where neither edits nor timing count either, it doesn't matter whether it counts how tracks
+-- begin.
+abbrev pub KeptWithoutTimes : Type 0
+KeptWithoutTimes = (b c : Bool) (l : Without) (p : Presentation) → l.edits ≡ true
+    → l.timing ≡ true → kept b c l p ≡ scaled c l p
 
 -- Twice by the same words is once, where they leave what says how tracks begin.
 abbrev pub KeptIsFixed : Type 0
