@@ -9,7 +9,7 @@ use Rattle.std.proofs.Math.Nat.{zero-div, div-one, mul-div_cancel', mul-div-mul_
 use borrow.Author.Differences.{up, down, same_in}
 use Rattle.mp4_boxes.proofs.Among.{all_append}
 use Rattle.mp4_boxes.proofs.Joined.{all_first, all_last}
-use Rattle.mp4_boxes.proofs.Plain.{false_true, length_mapped, or_true}
+use Rattle.mp4_boxes.proofs.Plain.{false_true, and_is_true, length_mapped, or_true}
 use Rattle.mp4_head.specs.format.Head.{Edit, MovieHead}
 use Rattle.mp4_present.specs.format.Presentation.{Sample, Track, Presentation}
 use Rattle.mp4_content.specs.format.Reduced.{first_offset, reduce_track, number_track, number_tracks, reduce}
@@ -112,10 +112,6 @@ time_many : (g : ℕ) (z : ℤ) → is_from_0 z ≡ true → g ∣ unsigned_abs 
 time_many g (pos n) e h = ap pos (sym (mul-div_cancel' g h) ∙ mul_comm g (n / g))
 time_many g (negsuc n) e h = absurd (false_true e)
 
-left_of : (a b : Bool) → (a && b) ≡ true → a ≡ true
-left_of true b e = refl
-left_of false b e = e
-
 -- the media time of the edits of a simple track
 shown_divided : (a : ℕ → ℕ) (g : ℕ) (edits : List Edit) → (is_last edits || is_lead_in edits) ≡ true → Divides g (media_times edits) → shown_from edits ≡ shown_from (map (edit_by a (divided g)) edits) *ℤ pos g
 shown_divided a g [] e h = ap pos (omega arith)
@@ -132,17 +128,13 @@ shown_divided a g (x ∷ edits) e h = by (is_empty x) refl (shown_divided a g ed
         ∙ rest (ap (λ b. is_last edits || b) leads ∙ or_true (is_last edits)) h.1
         ∙ ap (λ z. z *ℤ pos g) (sym (shown_empty (edit_by a (divided g) x) (map (edit_by a (divided g)) edits) (empty_stays a (divided g) x ∙ k)))
     by false k rest =
-        let plain : is_plain x ≡ true = left_of (is_plain x) (is_last edits) (sym (ap (λ b. if b then is_lead_in edits else is_plain x && is_last edits) k) ∙ e) in
-        let from : is_from_0 x.media_time ≡ true = left_of (is_from_0 x.media_time) (is_number 1 x.rate_integer) (left_of (is_from_0 x.media_time && is_number 1 x.rate_integer) (is_number 0 x.rate_fraction) plain) in
+        let plain : is_plain x ≡ true = (and_is_true (is_plain x) (is_last edits) (sym (ap (λ b. if b then is_lead_in edits else is_plain x && is_last edits) k) ∙ e)).0 in
+        let from : is_from_0 x.media_time ≡ true = (and_is_true (is_from_0 x.media_time) (is_number 1 x.rate_integer) (and_is_true (is_from_0 x.media_time && is_number 1 x.rate_integer) (is_number 0 x.rate_fraction) plain).0).0 in
         shown_other x edits k
         ∙ time_many g x.media_time from h.0
         ∙ ap (λ z. z *ℤ pos g) (sym (shown_other (edit_by a (divided g) x) (map (edit_by a (divided g)) edits) (empty_stays a (divided g) x ∙ k)))
 
 -- ---- a track
-
-and_right : (a b : Bool) → (a && b) ≡ true → b ≡ true
-and_right true b e = e
-and_right false b e = absurd (false_true e)
 
 module _ (words : Without) where
   -- the same words, but timing stays
@@ -186,7 +178,7 @@ module _ (words : Without) where
         let start = sym (mul-div_cancel' g all.1.0) in
         let movie = sym (mul-div_cancel' a whole) in
         let first = many_times g (first_offset t.samples) (first_divides g (length t.samples) t.samples of_samples) ∙ ap (λ z. z *ℤ pos g) (sym (first_divided g (length t.samples) t.samples)) in
-        let shown = shown_divided (divided a) g t.head.edits (and_right (has_samples t.samples) (is_last t.head.edits || is_lead_in t.head.edits) simple) of_edits in
+        let shown = shown_divided (divided a) g t.head.edits (and_is_true (has_samples t.samples) (is_last t.head.edits || is_lead_in t.head.edits) simple).1 of_edits in
         let is : first_shown scale t ≡ record {
           ticks = pos (a * waits u.head.edits * (g * u.head.media.timescale)) +ℤ ((pos (g * u.start) +ℤ first_offset u.samples *ℤ pos g) -ℤ shown_from u.head.edits *ℤ pos g) *ℤ pos (a * divided a scale);
           scale = a * divided a scale * (g * u.head.media.timescale);

@@ -1,14 +1,13 @@
 -- To leave out what says nothing of how tracks begin, before how they begin or behind it, is the same.
-use Rattle.std.proofs.Common.{◌≡◌, ℕ, suc, ◌*◌, Bool, true, false, if◌then◌else◌, List, [], ◌∷◌, length, map, refl, sym, ap, subst, ◌∙◌, arith, ℤ, pos, ◌+ℤ◌, ◌-ℤ◌, ◌*ℤ◌}
+use Rattle.std.proofs.Common.{◌≡◌, ℕ, suc, ◌*◌, Bool, true, false, if◌then◌else◌, List, [], ◌∷◌, length, map, refl, sym, ap, subst, ◌∙◌, ℤ, pos, ◌+ℤ◌, ◌-ℤ◌, ◌*ℤ◌}
 use Rattle.std.specs.Prelude.{◌&&◌, ◌||◌}
 use Rattle.std.specs.List.{AllByRecursion, list_any}
-use Rattle.std.proofs.lemmas.Int.{ints}
-use Rattle.mp4_boxes.proofs.Plain.{false_true, length_mapped}
+use Rattle.mp4_boxes.proofs.Plain.{false_true, or_is_false, length_mapped}
 use Rattle.mp4_present.specs.format.Presentation.{Sample, Track, Presentation}
 use Rattle.mp4_content.specs.format.Reduced.{offset_left, start_left, first_offset, reduce_sample, reduce_from, reduce_samples, reduce_track, number_track, number_tracks, reduce}
 use Rattle.mp4_content.specs.declared.without.Without.{Without}
 use Rattle.mp4_content.specs.format.LeadIns.{is_last, is_lead_in, waits, shown_from, has_samples, is_simple, first_shown, first_moments, microseconds, Moment, delay, waiting, offset_less, begin_after, in_microseconds, wait_track, waited}
-use Rattle.mp4_content.proofs.LeadInsTracks.{stays_simple, wait_of_simple, wait_of_other, first_at_0, moments_of_simple, moments_of_other, where_some, where_none}
+use Rattle.mp4_content.proofs.LeadInsTracks.{less_itself, stays_simple, wait_of_simple, wait_of_other, first_at_0, moments_of_simple, moments_of_other, where_some, where_none}
 
 module _ (words : Without) where
   -- the same words, but edits and timing stay
@@ -26,9 +25,6 @@ module _ (words : Without) where
 
   as_simple : (place : ℕ) (t : Track) → is_simple (left place t) ≡ is_simple t
   as_simple place t = λ i. some_left t.samples i && (is_last t.head.edits || is_lead_in t.head.edits)
-
-  less_itself : (z : ℤ) → z -ℤ z ≡ pos 0
-  less_itself z = omega (arith, ints)
 
   abbrev first_left : ℤ → ℤ
   first_left first = offset_left m first first
@@ -174,11 +170,7 @@ module _ (words : Without) where
 
   none_begin : (scale : ℕ) (tracks : List Track) → list_any is_simple tracks ≡ false → AllByRecursion (IfSimple scale) tracks
   none_begin scale [] e = tt
-  none_begin scale (t ∷ tracks) e = (λ simple. absurd (false_true (sym e ∙ ap (λ b. b || list_any is_simple tracks) simple)), none_begin scale tracks (rest (is_simple t) (list_any is_simple tracks) e))
-    where
-      rest : (a b : Bool) → (a || b) ≡ false → b ≡ false
-      rest true b k = absurd (false_true (sym k))
-      rest false b k = k
+  none_begin scale (t ∷ tracks) e = (λ simple. absurd (false_true (sym e ∙ ap (λ b. b || list_any is_simple tracks) simple)), none_begin scale tracks (or_is_false (is_simple t) (list_any is_simple tracks) e).1)
 
   pub all_waited : (p : Presentation) → AllByRecursion (IfSimple (waited true p).movie.timescale) (waited true p).tracks
   all_waited p = by (list_any is_simple p.tracks) refl

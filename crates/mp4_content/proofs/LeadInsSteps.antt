@@ -4,7 +4,7 @@ use Rattle.std.specs.Prelude.{◌||◌, filter}
 use Rattle.std.specs.List.{AllByRecursion, AllZip, list_any}
 use Rattle.std.proofs.lemmas.Int.{ints}
 use borrow.Author.Differences.{up, down}
-use Rattle.mp4_boxes.proofs.Plain.{false_true}
+use Rattle.mp4_boxes.proofs.Plain.{or_is_false}
 use Rattle.mp4_present.specs.format.Presentation.{Track, Presentation}
 use Rattle.mp4_content.specs.format.Reduced.{first_offset}
 use Rattle.mp4_content.specs.format.LeadIns.{waits, shown_from, is_simple, Moment, first_shown, first_moments, microseconds, delay, waiting, begin_after, in_microseconds, wait_track, waited}
@@ -50,11 +50,9 @@ begun_with wait t = refl
 
 none_simple : (scale : ℕ) (tracks : List Track) → list_any is_simple tracks ≡ false → first_moments scale tracks ≡ []
 none_simple scale [] e = refl
-none_simple scale (t ∷ tracks) e = by (is_simple t) refl (none_simple scale tracks)
-  where
-    by : (b : Bool) → is_simple t ≡ b → (list_any is_simple tracks ≡ false → first_moments scale tracks ≡ []) → first_moments scale (t ∷ tracks) ≡ []
-    by true k rest = absurd (false_true (sym e ∙ ap (λ b. b || list_any is_simple tracks) k))
-    by false k rest = moments_of_other scale t tracks k ∙ rest (sym (ap (λ b. b || list_any is_simple tracks) k) ∙ e)
+none_simple scale (t ∷ tracks) e =
+    let none = or_is_false (is_simple t) (list_any is_simple tracks) e in
+    moments_of_other scale t tracks none.0 ∙ none_simple scale tracks none.1
 
 module _ (scale : ℕ) (wait : Moment → ℕ) where
   abbrev none : Moment → ℕ
@@ -279,11 +277,9 @@ module _ (seconds : ℕ) where
 
   none_moved : (tracks : List Track) → list_any is_simple tracks ≡ false → map (start_later seconds) tracks ≡ tracks
   none_moved [] e = refl
-  none_moved (t ∷ tracks) e = by (is_simple t) refl (none_moved tracks)
-    where
-      by : (b : Bool) → is_simple t ≡ b → (list_any is_simple tracks ≡ false → map (start_later seconds) tracks ≡ tracks) → map (start_later seconds) (t ∷ tracks) ≡ t ∷ tracks
-      by true k rest = absurd (false_true (sym e ∙ ap (λ b. b || list_any is_simple tracks) k))
-      by false k rest = λ i. start_other t k i ∷ rest (sym (ap (λ b. b || list_any is_simple tracks) k) ∙ e) i
+  none_moved (t ∷ tracks) e =
+      let none = or_is_false (is_simple t) (list_any is_simple tracks) e in
+      λ i. start_other t none.0 i ∷ none_moved tracks none.1 i
 
   scales_stay : (tracks : List Track) → AllByRecursion HasTimescale tracks → AllByRecursion HasTimescale (map (start_later seconds) tracks)
   scales_stay [] h = tt

@@ -4,7 +4,7 @@ use Rattle.std.specs.Prelude.{◌&&◌, ◌||◌}
 use Rattle.std.specs.List.{AllByRecursion, list_any}
 use Rattle.std.proofs.lemmas.Bool.Decides.{nat_tests}
 use Rattle.std.proofs.lemmas.Int.{ints}
-use Rattle.mp4_boxes.proofs.Plain.{false_true}
+use Rattle.mp4_boxes.proofs.Plain.{false_true, and_is_true}
 use Rattle.mp4_head.specs.format.Head.{Edit}
 use Rattle.mp4_present.specs.format.Presentation.{Sample, Track, Presentation}
 use Rattle.mp4_content.specs.format.Reduced.{first_offset}
@@ -25,12 +25,8 @@ module _ (f : Edit → Edit) (empty : (e : Edit) → is_empty (f e) ≡ is_empty
 
 -- ---- a track
 
-and_left : (a b : Bool) → (a && b) ≡ true → a ≡ true
-and_left true b e = refl
-and_left false b e = e
-
 pub samples_of_simple : (t : Track) → is_simple t ≡ true → has_samples t.samples ≡ true
-samples_of_simple t e = and_left (has_samples t.samples) (is_last t.head.edits || is_lead_in t.head.edits) e
+samples_of_simple t e = (and_is_true (has_samples t.samples) (is_last t.head.edits || is_lead_in t.head.edits) e).0
 
 mapped_has : (f : Sample → Sample) (samples : List Sample) → has_samples (map f samples) ≡ has_samples samples
 mapped_has f [] = refl
@@ -69,7 +65,7 @@ shown_at_0 wait = by (wait == 0)
     by true = refl
     by false = refl
 
-less_itself : (z : ℤ) → z -ℤ z ≡ pos 0
+pub less_itself : (z : ℤ) → z -ℤ z ≡ pos 0
 less_itself z = omega (arith, ints)
 
 pub first_at_0 : (samples : List Sample) → first_offset (map (offset_less (first_offset samples)) samples) ≡ pos 0

@@ -7,7 +7,8 @@ use Rattle.mp4_content.specs.format.Reduced.{first_offset, reduce_sample, reduce
 use Rattle.mp4_content.specs.declared.without.Without.{Without}
 use Rattle.mp4_content.specs.format.Timescales.{scaled, lowest}
 use Rattle.mp4_content.specs.format.LeadIns.{is_simple, first_shown, first_moments, Moment, delay, offset_less, begin_after, wait_track, waited, kept}
-use Rattle.mp4_content.specs.format.LeadInsLaws.{KeptWithoutTimes}
+use Rattle.mp4_content.specs.format.LeadInsLaws.{KeptWithoutTimes, KeepsMoreWithoutTimes}
+use Rattle.mp4_content.proofs.TimescalesWords.{scales_more}
 use Rattle.mp4_content.proofs.LeadInsTracks.{wait_of_simple, wait_of_other, where_some, where_none}
 
 module _ (words : Without) where
@@ -58,3 +59,10 @@ pub kept_without_times : KeptWithoutTimes
 kept_without_times b c l p edits timing =
     let same : l ≡ m l = λ i. record l { edits = edits i; timing = timing i } in
     ap (λ words. kept b c words p) same ∙ kept_less l b c p ∙ ap (λ words. scaled c words p) (sym same)
+
+pub keeps_more_without_times : KeepsMoreWithoutTimes
+keeps_more_without_times b c d e m l p with_c covers edits timing =
+    kept_without_times d e l (kept b c m p) edits timing
+    ∙ scales_more c e m l (waited b p) with_c covers
+    ∙ kept_without_times b e l p edits timing
+    ∙ sym (kept_without_times d e l p edits timing)

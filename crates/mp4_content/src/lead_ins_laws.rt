@@ -1,6 +1,6 @@
 //! Laws of what is left where it doesn't count how tracks begin, but how long each of them waits.
 
-ghost use Rattle.mp4_content.specs.format.LeadInsLaws.{DelayIsFromFirst, EditsChangeAgain, EditsHideBeginnings, KeepsMore, KeptIsFixed, KeptIsValid, KeptWithoutTimes, OriginsHideBeginnings, SameKeptWithoutBeginnings, SameKeptWithoutMore, SecondsCountNot, StepCountsNot, TimingChangesAgain, TimingHidesBeginnings, WaitedIsExact, WaitedIsFixed};
+ghost use Rattle.mp4_content.specs.format.LeadInsLaws.{DelayIsFromFirst, EditsChangeAgain, EditsHideBeginnings, KeepsMore, KeepsMoreWithoutTimes, KeptIsFixed, KeptIsValid, KeptWithoutTimes, OriginsHideBeginnings, SameKeptWithoutBeginnings, SameKeptWithoutMore, SecondsCountNot, StepCountsNot, TimingChangesAgain, TimingHidesBeginnings, WaitedIsExact, WaitedIsFixed};
 
 /// How long a track waits is how much later it begins than the first.
 pub fn delay_is_from_first()
@@ -84,4 +84,9 @@ pub fn kept_is_valid()
 /// begin.
 pub fn kept_without_times()
     ensures { KeptWithoutTimes }
+{}
+
+/// So to leave out these and more of what is left of less is to leave out all at once.
+pub fn keeps_more_without_times()
+    ensures { KeepsMoreWithoutTimes }
 {}

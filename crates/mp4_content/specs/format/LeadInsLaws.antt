@@ -118,6 +118,12 @@ abbrev pub KeptWithoutTimes : Type 0
 KeptWithoutTimes = (b c : Bool) (l : Without) (p : Presentation) → l.edits ≡ true
     → l.timing ≡ true → kept b c l p ≡ scaled c l p
 
+-- So to leave out these and more of what is left of less is to leave out all at once, whatever the
+-- less is.
+abbrev pub KeepsMoreWithoutTimes : Type 0
+KeepsMoreWithoutTimes = (b c d e : Bool) (m l : Without) (p : Presentation) → Implies c e
+    → Covers m l → l.edits ≡ true → l.timing ≡ true → kept d e l (kept b c m p) ≡ kept d e l p
+
 -- Twice by the same words is once, where they leave what says how tracks begin.
 abbrev pub KeptIsFixed : Type 0
 KeptIsFixed = (b c : Bool) (l : Without) (p : Presentation) → HasTimescales p → KeepsBeginnings b l
