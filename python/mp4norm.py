@@ -295,7 +295,7 @@ def boxes(file: File, rows: Optional[int] = None) -> List[Box]:
         found = _text("boxes", file, 1)
         found = _run(["boxes", "--json"], [file]) if found is None else found
     else:
-        if not 0 <= rows < 1 << 64:
+        if not isinstance(rows, int) or not 0 <= rows < 1 << 64:
             raise ValueError(f"no number of rows: {rows}")
         found = _text("fields", file, 1, rows)
         asked = ["boxes", "--json", "--fields", "--rows", str(rows)]

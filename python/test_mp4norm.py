@@ -174,7 +174,7 @@ class Answers(Case):
             self.assertEqual(found[1], Box(0, 'moov', 24, 517))
             self.assertEqual(mp4norm.boxes(file, rows=0)[0].fields['rows'], [])
             self.assertEqual(mp4norm.boxes(file, 2 ** 64 - 1)[2].fields['timescale'], 1000)
-            for none in (-1, 2 ** 64):
+            for none in (-1, 2 ** 64, 1.5):
                 with self.assertRaises(ValueError):
                     mp4norm.boxes(file, none)
 

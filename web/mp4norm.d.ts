@@ -148,7 +148,7 @@ export interface Mp4File {
     /** Throws Mp4Fault only for a header that is broken. */
     boxes(): Box[];
     boxesText(syntax?: 'lines' | 'json'): string;
-    /** The boxes with their fields, and at most so many of each one's rows, 16 where that isn't given. */
+    /** The boxes with their fields, and at most so many of each one's rows: up to 2^32 - 1. */
     fields(rows?: number): BoxWithFields[];
     fieldsText(rows?: number, syntax?: 'lines' | 'json'): string;
     /** What the file says as text, a line for each value and sample. */

@@ -5,12 +5,19 @@ import { grouped } from './pen.js';
 /** Fields of a longer box are not shown. */
 export const MOST_BOX = 1 << 26;
 
+// Boxes that only hold others, or bytes that no field names.
+const BARE = new Set(
+    'moov trak mdia minf stbl edts dinf mvex moof traf mfra mdat free skip wide'.split(' '));
+
 // Counts that the list of fields has beside them.
 const BESIDE = new Set(['bytes', 'rows', 'more_rows']);
 
-/** Whether a box may have fields that are shown: its header is whole, and it isn't long. */
+/**
+ * Whether a box may have fields that are shown: it isn't bare, its header is whole, and it isn't
+ * long.
+ */
 export function mayHaveFields(box) {
-    return !box.isBroken && box.type !== 'mdat' && Number(box.size) <= MOST_BOX;
+    return !box.isBroken && !BARE.has(box.type) && Number(box.size) <= MOST_BOX;
 }
 
 // A value as it is read: numbers of a list apart by spaces, a part of a box by its names.
@@ -41,5 +48,7 @@ export function shownFields(fields) {
             ([name, value]) => [element('dt', {}, name), element('dd', {}, spelled(value))]));
     const rows = fields.rows ?? [];
     const more = fields.more_rows ? `${grouped(fields.more_rows)} more rows` : '';
-    return [list, rows.length > 0 && table(rows), more && element('p', { className: 'more' }, more)];
+    return [
+        list, rows.length > 0 && table(rows), more && element('p', { className: 'more' }, more)
+    ];
 }

@@ -14,6 +14,12 @@ function saved() {
     return matchMedia('(prefers-color-scheme: dark)').matches ? PALETTE.dark : PALETTE.light;
 }
 
+// Why the fields of a box aren't shown.
+function untold(trouble) {
+    if (trouble.kind === 'changed') return 'The file has changed: its fields can\'t be read.';
+    return trouble.kind === 'memory' ? 'There is no memory for its fields.' : '';
+}
+
 // Parts of a line, the first one strong.
 function readout(host, parts) {
     host.replaceChildren(...parts.map((part, k) => element(k ? 'span' : 'b', {}, part)));
@@ -199,7 +205,8 @@ export class BoxPicture {
             tools(this.pane, () => this.save()));
         this.list =
             element('ol', { className: 'names', aria: { label: 'Boxes by name' } }, this.rows());
-        this.fields = element('div', { className: 'fields', aria: { label: 'Fields' } });
+        this.fields =
+            element('div', { className: 'fields', role: 'group', aria: { label: 'Fields' } });
         return element(
             'section', { className: 'card map-card', data: { slot: this.name } }, head,
             this.pane.host, this.told, this.fields, this.list);
@@ -273,9 +280,9 @@ export class BoxPicture {
         const box = this.slot.boxes[k];
         this.fields.replaceChildren();
         if (!mayHaveFields(box)) return;
-        const fields = await this.ask(box).catch(() => null);
-        if (this.chosen === k)
-            this.fields.replaceChildren(...shownFields(fields).filter(Boolean));
+        const shown = await this.ask(box).then(
+            shownFields, trouble => [element('p', { className: 'more' }, untold(trouble))]);
+        if (this.chosen === k) this.fields.replaceChildren(...shown.filter(Boolean));
     }
 
     /** Chooses a box; near enough to be seen, where that is asked for. */

@@ -13,7 +13,8 @@ pub fn waited_is_fixed()
 {}
 
 /// The same is left of two presentations exactly if they are the same apart from how their simple
-/// tracks begin, and each of these waits as many microseconds.
+/// tracks begin and where edits cut these off, with other edits in whole microseconds, and each
+/// simple track waits as many microseconds.
 pub fn waited_is_exact()
     ensures { WaitedIsExact }
 {}

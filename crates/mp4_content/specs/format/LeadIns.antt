@@ -1,6 +1,8 @@
 -- What is left of a presentation where it doesn't count how its tracks begin, but how long each of
 -- them waits. That a track begins later can be said by when its samples begin (8.8.12), by their
--- composition offsets (8.6.1.3) and by edits (8.6.6). Here it is said by one empty edit.
+-- composition offsets (8.6.1.3) and by edits (8.6.6). Here it is said by one empty edit. Nothing
+-- else stays of the edits of such a track, also not where the last one cuts it off; other edits
+-- last whole microseconds.
 use Rattle.std.specs.Prelude.{ℕ, zero, ◌*◌, ◌/◌, ◌^◌, ◌==◌, max, ◌&&◌, ◌||◌, Bool, true, false, if◌then◌else◌, List, [], ◌∷◌, map, filter, ℤ, pos, negsuc, ◌+ℤ◌, ◌-ℤ◌, ◌*ℤ◌}
 use Rattle.std.specs.List.{list_any}
 use Rattle.mp4_boxes.specs.format.Bytes.{sum_of}

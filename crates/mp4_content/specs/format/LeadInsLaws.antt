@@ -48,11 +48,12 @@ delays p =
     let moments = first_moments p.movie.timescale p.tracks in
     map (delay moments) moments
 
--- a presentation apart from how its simple tracks begin: none of them waits
+-- what is left apart from how long its simple tracks wait: none of them waits, and none is cut off
 abbrev pub unwaited : Presentation → Presentation
 unwaited p = wait_each (λ x. 0) p
 
--- The same is left exactly if all else is the same, and each simple track waits as long.
+-- The same is left exactly if what is left apart from that is the same, and each simple track waits
+-- as long.
 abbrev pub WaitedIsExact : Type 0
 WaitedIsExact = (p q : Presentation) → (waited true p ≡ waited true q)
     ↔ ((unwaited p ≡ unwaited q) × (delays p ≡ delays q))
