@@ -66,7 +66,7 @@ returns-in_err-carry-clause-answer g c =
     let nothing = g.met.K.Sink.takes_nothing sink in
     let r = run_of g.S.Store c.args.store.now c.open_movie.new.store g.K.Sink sink c.carry.new.sink in
     let new = c.carry.new.sink in
-    let first = rw (c.in_ok-desk.ensures.text, c.as_slice.ensures.value, c.in_ok-front.ensures) at c.in_err-carry.ensures.prefix in
+    let first = rw (c.in_ok-desk.ensures.text, c.as_slice-2.ensures.value, c.in_ok-front.ensures) at c.in_err-carry.ensures.prefix in
     rw (p.1, p.2) (put_fails (Unit {0}) r (PrintsText l file) (IsFaultOf file) ⊥ c.in_err-carry.field-0.0 c.in_err-carry.ensures.refusal
     (λ told. let o = c.in_ok-movie.ensures.movie told in first_fails l file m o.0 head o.1 says joins sink new new new new new nothing [] [] [] [] first))
 
@@ -83,7 +83,7 @@ returns-in_err-put_movie-clause-answer g c =
     let nothing = g.met.K.Sink.takes_nothing sink in
     let new = c.put_movie.new.sink in
     let r = run_of g.S.Store c.args.store.now c.open_movie.new.store g.K.Sink sink new in
-    let first = rw (c.in_ok-desk.ensures.text, c.as_slice.ensures.value, c.in_ok-front.ensures) at c.in_ok-carry.ensures.bytes in
+    let first = rw (c.in_ok-desk.ensures.text, c.as_slice-2.ensures.value, c.in_ok-front.ensures) at c.in_ok-carry.ensures.bytes in
     rw (p.1, p.2) (put_fails (Unit {0}) r (PrintsText l file) (IsFaultOf file) ⊥ c.in_err-put_movie.field-0.0 (rw c.in_ok-carry.ensures.puts at c.in_err-put_movie.ensures.refusal)
     (λ told. let o = c.in_ok-movie.ensures.movie told in
     movie_fails l file m o.0 head o.1 says joins sink c.carry.new.sink new new new new nothing (waiting c.carry.new.self) [] [] [] first
@@ -104,7 +104,7 @@ returns-in_err-put_tracks-clause-answer g c =
     let e = c.in_ok-movie.ensures.store in
     let y = c.in_err-put_tracks.ensures in
     let r = run_of g.S.Store c.args.store.now c.put_tracks.new.store g.K.Sink sink new in
-    let first = rw (c.in_ok-desk.ensures.text, c.as_slice.ensures.value, c.in_ok-front.ensures) at c.in_ok-carry.ensures.bytes in
+    let first = rw (c.in_ok-desk.ensures.text, c.as_slice-2.ensures.value, c.in_ok-front.ensures) at c.in_ok-carry.ensures.bytes in
     let movie = subst (λ (x : MovieHead). BytesGoOn (g.K.Sink.takes c.carry.new.sink c.put_movie.new.sink) (waiting c.carry.new.self) (waiting c.put_movie.new.carrier) (movie_lines x))
     c.in_ok-left.ensures.movie c.in_ok-put_movie.ensures.all in
     let tracks = rw (e.honesty, e.file, c.as_slice-heads.ensures.value) at y.told in
@@ -130,7 +130,7 @@ returns-in_err-carry-2-clause-answer g c =
     let e = c.in_ok-movie.ensures.store in
     let y = c.in_ok-put_tracks.ensures in
     let r = run_of g.S.Store c.args.store.now c.put_tracks.new.store g.K.Sink sink new in
-    let first = rw (c.in_ok-desk.ensures.text, c.as_slice.ensures.value, c.in_ok-front.ensures) at c.in_ok-carry.ensures.bytes in
+    let first = rw (c.in_ok-desk.ensures.text, c.as_slice-2.ensures.value, c.in_ok-front.ensures) at c.in_ok-carry.ensures.bytes in
     let movie = subst (λ (x : MovieHead). BytesGoOn (g.K.Sink.takes c.carry.new.sink c.put_movie.new.sink) (waiting c.carry.new.self) (waiting c.put_movie.new.carrier) (movie_lines x))
     c.in_ok-left.ensures.movie c.in_ok-put_movie.ensures.all in
     let tracks = rw (e.honesty, e.file, c.as_slice-heads.ensures.value) at y.told in
@@ -155,7 +155,7 @@ returns-clause-answer g c =
     let e = c.in_ok-movie.ensures.store in
     let y = c.in_ok-put_tracks.ensures in
     let r = run_of g.S.Store c.args.store.now c.put_tracks.new.store g.K.Sink sink new in
-    let first = rw (c.in_ok-desk.ensures.text, c.as_slice.ensures.value, c.in_ok-front.ensures) at c.in_ok-carry.ensures.bytes in
+    let first = rw (c.in_ok-desk.ensures.text, c.as_slice-2.ensures.value, c.in_ok-front.ensures) at c.in_ok-carry.ensures.bytes in
     let movie = subst (λ (x : MovieHead). BytesGoOn (g.K.Sink.takes c.carry.new.sink c.put_movie.new.sink) (waiting c.carry.new.self) (waiting c.put_movie.new.carrier) (movie_lines x))
     c.in_ok-left.ensures.movie c.in_ok-put_movie.ensures.all in
     let tracks = rw (e.honesty, e.file, c.as_slice-heads.ensures.value) at y.told in
