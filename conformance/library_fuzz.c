@@ -216,7 +216,7 @@ static const char *otherwise(const struct call *call, const struct mp4norm_answe
     if (answer->status == MP4NORM_MEMORY || again.status == MP4NORM_MEMORY) return NULL;
     if (memcmp(answer, &again, sizeof again) != 0) return "another answer to the same call";
     if (memcmp(out_kept, out_end - call->room, call->room) != 0) return "other bytes of the same call";
-    if (call->which == BOXES || call->which >= COMPARE || answer->status == MP4NORM_USAGE) return NULL;
+    if (call->which == BOXES || call->which == FIELDS || call->which >= COMPARE || answer->status == MP4NORM_USAGE) return NULL;
     if ((call->which == LENGTH || call->which == SUM || call->which == NORMAL) && call->words != 0) return NULL;
     struct call checks = {.which = CHECK};
     struct mp4norm_answer judged = ask(&checks, 0);

@@ -169,8 +169,9 @@ class Answers(Case):
             found = mp4norm.boxes(file, rows=1)
             self.assertEqual([(it.depth, it.type, it.offset, it.size) for it in found],
                              [(it.depth, it.type, it.offset, it.size) for it in mp4norm.boxes(file)])
-            self.assertEqual(found[0].fields, {'bytes': 16, 'major_brand': 'iso6', 'minor_version': 0,
-                                               'rows': [{'row': 1, 'compatible_brand': 'iso6'}]})
+            self.assertEqual(found[0].fields, {
+                'bytes': 16, 'major_brand': 'isom', 'minor_version': 512, 'more_rows': 1,
+                'rows': [{'row': 1, 'compatible_brand': 'isom'}]})
             self.assertEqual(found[1], Box(0, 'moov', 24, 517))
             self.assertEqual(mp4norm.boxes(file, rows=0)[0].fields['rows'], [])
             self.assertEqual(mp4norm.boxes(file, 2 ** 64 - 1)[2].fields['timescale'], 1000)

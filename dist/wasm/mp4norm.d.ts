@@ -100,6 +100,12 @@ export interface Box {
     foreign?: true;
 }
 
+/** A box with its fields, by their names in the standard. */
+export interface BoxWithFields extends Box {
+    /** Where the profile reads a box of this type; docs/OUTPUT.md has their names and values. */
+    fields?: Record<string, unknown>;
+}
+
 export interface Difference {
     /** The path to the value. */
     at: (string | number)[];
@@ -142,6 +148,9 @@ export interface Mp4File {
     /** Throws Mp4Fault only for a header that is broken. */
     boxes(): Box[];
     boxesText(syntax?: 'lines' | 'json'): string;
+    /** The boxes with their fields, and at most so many of each one's rows: up to 2^32 - 1. */
+    fields(rows?: number): BoxWithFields[];
+    fieldsText(rows?: number, syntax?: 'lines' | 'json'): string;
     /** What the file says as text, a line for each value and sample. */
     print(words?: Words): string;
     /** The same in UTF-8. */
@@ -169,6 +178,8 @@ export interface Mp4Norm {
     samplesText(file: Bytes | Mp4File, track: number, form?: 'plain' | 'named' | 'json'): string;
     boxes(file: Bytes | Mp4File): Box[];
     boxesText(file: Bytes | Mp4File, syntax?: 'lines' | 'json'): string;
+    fields(file: Bytes | Mp4File, rows?: number): BoxWithFields[];
+    fieldsText(file: Bytes | Mp4File, rows?: number, syntax?: 'lines' | 'json'): string;
     print(file: Bytes | Mp4File, words?: Words): string;
     printBytes(file: Bytes | Mp4File, words?: Words): Uint8Array;
     extract(file: Bytes | Mp4File, track: number): Uint8Array;

@@ -146,6 +146,8 @@ class Mp4Norm {
     samplesText(file, track, form) { return this.#once(file, it => it.samplesText(track, form)); }
     boxes(file) { return this.#once(file, it => it.boxes()); }
     boxesText(file, syntax) { return this.#once(file, it => it.boxesText(syntax)); }
+    fields(file, rows) { return this.#once(file, it => it.fields(rows)); }
+    fieldsText(file, rows, syntax) { return this.#once(file, it => it.fieldsText(rows, syntax)); }
     print(file, words) { return this.#once(file, it => it.print(words)); }
     printBytes(file, words) { return this.#once(file, it => it.printBytes(words)); }
     extract(file, track) { return this.#once(file, it => it.extract(track)); }
@@ -240,6 +242,17 @@ class Mp4File {
     boxesText(syntax = 'lines') {
         const words = [numberOf(SYNTAXES, syntax, 'syntax')];
         return decoded(this.#of.text('boxes_range', [...this.#place, ...words]));
+    }
+
+    /** An object for each box, with its fields and at most so many of its rows (docs/OUTPUT.md, `boxes --fields`). */
+    fields(rows = 16) {
+        return objects(this.fieldsText(rows, 'json'));
+    }
+
+    /** The same as text: `lines` or `json`. */
+    fieldsText(rows = 16, syntax = 'lines') {
+        const words = [numberOf(SYNTAXES, syntax, 'syntax'), BigInt(limitOf(rows))];
+        return decoded(this.#of.text('fields_range', [...this.#place, ...words]));
     }
 
     /** What is left of the file as text, a line for each value and sample. */
