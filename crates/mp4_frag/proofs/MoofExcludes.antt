@@ -1,6 +1,6 @@
 -- A `moof` may be accepted exactly where no fault of it is the first.
-use Rattle.std.proofs.Common.{◌≡◌, ℕ, ◌+◌, ◌-◌, ◌^◌, ◌<◌, ◌≤◌, ◌==◌, not, nat_lt, Bool, true, false, List, [], ◌∷◌, ◌++◌, length, map, take, Option, Some, None, Ok, Err, inl, inr, refl, sym, ap, subst, ◌∙◌, arith, append_assoc, slice_set}
-use Rattle.std.specs.Prelude.{ℤ, pos, codes, find, nat_le, IsTrue, unwrap_or, option_map, slice_get}
+use Rattle.std.proofs.Common.{◌≡◌, ℕ, ◌+◌, ◌-◌, ◌^◌, ◌<◌, ◌≤◌, ◌==◌, not, nat_lt, Bool, true, false, List, [], ◌∷◌, ◌++◌, length, map, take, Option, Some, None, Result, Ok, Err, inl, inr, refl, sym, ap, subst, ◌∙◌, arith, append_assoc, slice_set}
+use Rattle.std.specs.Prelude.{ℤ, pos, codes, MatchResult, find, nat_le, IsTrue, unwrap_or, option_map, slice_get}
 use Rattle.std.specs.List.{AllByRecursion}
 use Rattle.std.proofs.lemmas.Bool.{and_parts, ltb-true}
 use Rattle.mp4_boxes.specs.format.Box.{Box, box_container}
@@ -33,7 +33,7 @@ use Rattle.mp4_frag.specs.words.Passing.{is_late_at, within_from}
 use Rattle.mp4_frag.specs.words.Reading.{inheritance}
 use Rattle.mp4_frag.specs.words.RunsJudged.{children_of, runs_in, runs_total, run_begins, run_ends}
 use Rattle.mp4_frag.specs.words.TrafFaults.{HoldsBoxes, traf_in}
-use Rattle.mp4_frag.specs.words.TrafTests.{for_only, time_tests, late_tests, lacks, known_tests, track_tests, traf_fault, TrafsFirst, MoofFirst}
+use Rattle.mp4_frag.specs.words.TrafTests.{for_only, time_tests, late_tests, lacks, known_tests, track_tests, traf_fault, NamesFirst, TrafsFirst, MoofFirst}
 use Rattle.mp4_frag.specs.words.Walks.{trex_among}
 use Rattle.mp4_frag.specs.declared.state.TrackState.{TrackState}
 use Rattle.mp4_frag.specs.declared.trex.Trex.{Trex}
@@ -373,3 +373,9 @@ pub record MoofDecided (file_length : ℕ) (tracks : List TrackState) (room : �
 
 pub moof_decided : (file_length : ℕ) (tracks : List TrackState) (room : ℕ) (moof : Box) → file_length < 2 ^ 64 → MoofDecided file_length tracks room moof
 moof_decided file_length tracks room moof short = record { accepted = moof_accepted file_length tracks room moof short; none = moof_passes file_length tracks room moof; some = moof_excluded file_length tracks room moof }
+
+-- so it is by an answer that names its first fault
+pub decided_by : {T : Type 0} (file_length : ℕ) (tracks : List TrackState) (room : ℕ) (moof : Box) → file_length < 2 ^ 64 → (result : Result T Fault) → NamesFirst (MoofFirst file_length tracks room moof) result
+    → MatchResult result (λ v. IsAcceptable file_length tracks room moof) (λ f. IsAcceptable file_length tracks room moof → ⊥)
+decided_by file_length tracks room moof short (Ok v) first = (moof_decided file_length tracks room moof short).accepted first.names
+decided_by file_length tracks room moof short (Err f) first = (moof_decided file_length tracks room moof short).some f first.names

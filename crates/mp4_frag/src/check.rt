@@ -1,5 +1,5 @@
 //! A `moof`, checked behind what came before it (ISO/IEC 14496-12, 8.8).
-ghost use Rattle.std.specs.Prelude.{ℕ, List, pos, nat_lt, not, ◌&&◌, ◌⊎◌, ◌≡◌, ◌+◌, ◌*◌, ◌^◌, ◌<◌, ◌≤◌, ◌==◌, [], length, None, Some, option_map, codes, if◌then◌else◌, IfOk, IfErr, OnOk, MatchResult};
+ghost use Rattle.std.specs.Prelude.{ℕ, List, pos, nat_lt, not, ◌&&◌, ◌⊎◌, ◌≡◌, ◌+◌, ◌*◌, ◌^◌, ◌<◌, ◌≤◌, ◌==◌, [], length, None, Some, option_map, codes, if◌then◌else◌, IfOk, OnOk, MatchResult};
 ghost use Rattle.mp4_boxes.specs.format.Box.{Tiles, box_container};
 ghost use Rattle.mp4_boxes.specs.declared.rule.Rule.TheVariants as rules;
 ghost use Rattle.mp4_boxes.specs.words.View.{box_seen};
@@ -22,9 +22,8 @@ ghost use Rattle.mp4_tables.specs.format.TableRules.{is_index};
 ghost use Rattle.mp4_frag.specs.declared.trex.Trex.{Trex};
 ghost use Rattle.mp4_frag.specs.words.States.{HasRoom, IsRoomFor};
 ghost use Rattle.mp4_frag.specs.words.TrafFaults.{HoldsBoxes, traf_in};
-ghost use Rattle.mp4_frag.specs.words.OwnTrafs.{AreApart, noted_in};
 ghost use Rattle.mp4_frag.specs.words.Noted.{IsNotable, ids_of, noted_if};
-ghost use Rattle.mp4_frag.specs.words.Tracking.{TellsRefused, WhereNoted};
+ghost use Rattle.mp4_frag.specs.words.Tracking.{NotesAll, TellsRefused, WhereNoted};
 ghost use Rattle.mp4_boxes.specs.declared.fault.Fault.{Fault};
 ghost use Rattle.mp4_frag.specs.format.FragmentRows.{group_rows};
 ghost use Rattle.mp4_frag.specs.declared.state.TrackState.{TrackState};
@@ -128,8 +127,6 @@ fn check_runs<L: Ledger>(
     ensures bound { IfOk result (λ p. EndsNear judged.base p.at) }
     ensures exact { HoldsChildren (box_seen traf.entry) → FirstNamed
         (runs_tests judged judged.base room.old (runs_in (box_seen traf.entry))) result }
-    ensures cost { IfOk result (λ p. steps.new ≤ steps.old
-        + length (traf_in (box_seen traf.entry)).runs + p.count) }
     ensures within { IfOk result (λ p. 8 * steps.new ≤ 8 * steps.old
         + length (box_seen traf.entry).payload + 8 * p.count) }
     ensures work { 8 * steps.new ≤ 8 * steps.old + length (box_seen traf.entry).payload
@@ -168,8 +165,6 @@ fn check_groups<L: Ledger>(
         ≡ keys_after (keys_seen keys) (groupings_of (groups_in (box_seen traf.entry)))) }
     ensures exact { HoldsChildren (box_seen traf.entry) → FirstNamed
         (traf_groups_tests n (keys_seen keys) [] (groups_in (box_seen traf.entry))) result }
-    ensures cost { IfOk result (λ k. steps.new ≤ steps.old
-        + group_rows (traf_in (box_seen traf.entry)).groups) }
     ensures work { 8 * steps.new ≤ 8 * steps.old + length (box_seen traf.entry).payload }
     ensures counted { IfOk result (λ k. steps.new ≡ steps.old
         + group_rows (traf_in (box_seen traf.entry)).groups) }
@@ -275,12 +270,10 @@ fn check_traf<T: Tracking, L: Ledger, M: Ledger>(
     requires near { IsUpTo (2 ^ 98) at.before }
     requires knows { T.knows tracking.now (ids_of tracks.old) }
     ensures passed { IfOk result (λ p. IsTrafPassed at.file_len at.moof at.before
-        (box_seen traf.entry)
-        tracks.old tracks.new room.old room.new p.ends) }
-    ensures kept { IfOk result (λ p. KeepRoom tracks.old tracks.new room.old room.new) }
+        (box_seen traf.entry) tracks.old tracks.new room.old room.new p.ends
+        × KeepRoom tracks.old tracks.new room.old room.new) }
     ensures own { IfOk result
         (IsNotable at.moof at.before (box_seen traf.entry) tracks.old) }
-    ensures ids { IfOk result (λ p. ids_of tracks.new ≡ ids_of tracks.old) }
     ensures exact { NamesOne
         (traf_fault at.file_len at.moof at.before tracks.old room.old
         (box_seen traf.entry)) result }
@@ -289,7 +282,8 @@ fn check_traf<T: Tracking, L: Ledger, M: Ledger>(
     ensures looks { TrafLooks (T.most (length tracks.old)) steps.old.looks
         steps.new.looks result }
     ensures many { length tracks.new ≡ length tracks.old }
-    ensures stays { IfErr result (λ f. tracks.new ≡ tracks.old) }
+    ensures stays { MatchResult result (λ p. ids_of tracks.new ≡ ids_of tracks.old)
+        (λ f. tracks.new ≡ tracks.old) }
 {
     let heads = check_boxes(traf)?;
     let Some(tfhd) = heads.head else {
@@ -364,12 +358,8 @@ fn check_trafs<'a, T: Tracking, L: Ledger, M: Ledger>(
     ensures exact { NamesFirst (TrafsFirst all.entry.file_len (box_seen all.entry.moof).offset
         (pos (box_seen all.entry.moof).offset) tracks.old room.old
         (of_kind (codes "traf") (children_of (box_seen all.entry.moof)))) result }
-    ensures own { OnOk result ((trexes : List Trex) → AreTrexesOf trexes tracks.old
-        → AreApart tracks.old → WhereNoted (T.noted tracking.old) (T.noted tracking.new)
-        (λ owns now. length owns ≡ length tracks.old
-        → now ≡ noted_in trexes (tree_of (box_seen all.entry.moof)) tracks.old owns)) }
-    ensures each { OnOk result (WhereNoted (T.noted tracking.old) (T.noted tracking.new)
-        (λ owns now. length now ≡ length owns)) }
+    ensures own { OnOk result (NotesAll (box_seen all.entry.moof) tracks.old
+        (T.noted tracking.old) (T.noted tracking.new)) }
     ensures knows { (ids : List ℕ) → T.knows tracking.old ids → T.knows tracking.new ids }
     ensures told { MatchResult result
         (λ _. T.is_silent tracking.old → T.is_silent tracking.new)
@@ -423,24 +413,15 @@ pub fn check_moof_by<'a, T: Tracking, L: Ledger, M: Ledger>(
 ) -> Result<FragView<'a>, Fault>
     requires room { IsRoomFor tracks.old room.old }
     requires knows { T.knows tracking.old (ids_of tracks.old) }
-    ensures sound { OnOk result ((trexes : List Trex) → AreTrexesOf trexes tracks.old
-        → IsSoundMoof file_len trexes tracks.old (tree_of (box_seen moof.entry))) }
-    ensures accepted { OnOk result (IsAccepted file_len (box_seen moof.entry)
-        tracks.old tracks.new room.old room.new) }
-    ensures view { IfOk result (λ v. moof_seen v ≡ box_seen moof.entry) }
+    ensures sound { OnOk result (((trexes : List Trex) → AreTrexesOf trexes tracks.old
+        → IsSoundMoof file_len trexes tracks.old (tree_of (box_seen moof.entry)))
+        × IsMoofMovedOn (box_seen moof.entry) tracks.old tracks.new room.old room.new) }
+    ensures accepted { IfOk result (λ v. (moof_seen v ≡ box_seen moof.entry)
+        × IsAccepted file_len (box_seen moof.entry) tracks.old tracks.new room.old room.new) }
     ensures exact { NamesFirst
         (MoofFirst file_len tracks.old room.old (box_seen moof.entry)) result }
-    ensures only { MatchResult result
-        (λ _. IsAcceptable file_len tracks.old room.old (box_seen moof.entry))
-        (λ _. IsAcceptable file_len tracks.old room.old (box_seen moof.entry) → ⊥) }
-    ensures moved { OnOk result
-        (IsMoofMovedOn (box_seen moof.entry) tracks.old tracks.new room.old room.new) }
-    ensures own { OnOk result ((trexes : List Trex) → AreTrexesOf trexes tracks.old
-        → AreApart tracks.old → WhereNoted (T.noted tracking.old) (T.noted tracking.new)
-        (λ owns now. length owns ≡ length tracks.old
-        → now ≡ noted_in trexes (tree_of (box_seen moof.entry)) tracks.old owns)) }
-    ensures each { OnOk result (WhereNoted (T.noted tracking.old) (T.noted tracking.new)
-        (λ owns now. length now ≡ length owns)) }
+    ensures own { OnOk result (NotesAll (box_seen moof.entry) tracks.old
+        (T.noted tracking.old) (T.noted tracking.new)) }
     ensures knows { (ids : List ℕ) → T.knows tracking.old ids → T.knows tracking.new ids }
     ensures told { T.is_silent tracking.old → MatchResult result
         (λ _. T.is_silent tracking.new)

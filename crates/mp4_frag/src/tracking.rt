@@ -1,4 +1,5 @@
-//! What the check of a `moof` asks of its caller: the track with an ID, and a note of each `traf`.
+//! What the check of a `moof` asks of its caller: the track with an ID, a note of each `traf`, and
+//! to be told of one that is refused.
 ghost use Rattle.std.specs.Prelude.{ℕ, List, Option, ◌≡◌, ◌<◌, length, None, IfSome, ⊤};
 ghost use Rattle.mp4_boxes.specs.format.Box.{Box};
 ghost use Rattle.mp4_boxes.specs.words.View.{box_seen};

@@ -1,9 +1,9 @@
 -- What is noted of `traf`s, where it is told, and what is told of one that is refused.
-use Rattle.std.specs.Prelude.{ℕ, ◌+◌, ◌-◌, List, ◌∷◌, ◌++◌, take, Option, Some, None}
+use Rattle.std.specs.Prelude.{◌≡◌, ℕ, ◌+◌, ◌-◌, List, ◌∷◌, ◌++◌, length, take, Option, Some, None}
 use Rattle.mp4_boxes.specs.format.Box.{Box, Tiles, box_container}
 use Rattle.mp4_boxes.specs.declared.fault.Fault.{Fault}
 use Rattle.mp4_frag.specs.words.Judged.{AreTrexesOf, IsSoundFront, IsMoofMovedOn, tree_of}
-use Rattle.mp4_frag.specs.words.OwnTrafs.{OwnSeen}
+use Rattle.mp4_frag.specs.words.OwnTrafs.{AreApart, OwnSeen, noted_in}
 use Rattle.mp4_frag.specs.declared.state.TrackState.{TrackState}
 use Rattle.mp4_frag.specs.declared.trex.Trex.{Trex}
 
@@ -13,6 +13,15 @@ abbrev pub WhereNoted : Option (List OwnSeen) → Option (List OwnSeen)
 WhereNoted before None P = Unit {0}
 WhereNoted None (Some now) P = ⊥
 WhereNoted (Some owns) (Some now) P = P owns now
+
+-- Where it is told, after a `moof` behind tracks that stand so: of each track as many notes as
+-- before are there, and behind them those of its `traf`s.
+pub record NotesAll (moof : Box) (tracks : List TrackState) (before now : Option (List OwnSeen))
+    : Type 0 where
+  pub each : WhereNoted before now (λ owns news. length news ≡ length owns)
+  pub all : (trexes : List Trex) → AreTrexesOf trexes tracks → AreApart tracks
+      → WhereNoted before now (λ owns news. length owns ≡ length tracks
+      → news ≡ noted_in trexes (tree_of moof) tracks owns)
 
 -- a box up to a box in it
 abbrev pub front_before : Box → Box → Box

@@ -1,6 +1,6 @@
 -- What is tested of a `traf`, in order, behind what is known of the tracks.
 use Rattle.std.specs.Prelude.{◌≡◌, ◌⊎◌, ◌+◌, ℕ, ℤ, pos, nat_lt, not, ◌&&◌, Bool, false, List, [], ◌∷◌, ◌++◌, Option, Some, None, Result, Ok, Err, MatchResult, codes}
-use Rattle.mp4_boxes.specs.format.Box.{Box, Container, box_container, bytes_container}
+use Rattle.mp4_boxes.specs.format.Box.{Box, box_container}
 use Rattle.mp4_boxes.specs.format.BoxFaults.{fault_of}
 use Rattle.mp4_boxes.specs.format.Children.{of_kind}
 use Rattle.mp4_boxes.specs.format.Layout.{tfhd, tfdt}
@@ -110,10 +110,6 @@ MoofFirst file_length tracks room moof o =
     ⊎ ((children_or_fault rules.MovieFragment (box_container moof) ≡ Ok (children_of moof))
     × TrafsFirst file_length moof.offset (pos moof.offset) tracks room
     (of_kind (codes "traf") (children_of moof)) o)
-
--- the bytes in a box
-abbrev inside : Box → Container
-inside b = bytes_container b.kind (b.offset + b.header) b.payload
 
 -- an answer names the first fault, and is Ok where there is none
 pub record NamesFirst {T : Type 0} (IsFirst : Option Fault → Type 0) (result : Result T Fault)

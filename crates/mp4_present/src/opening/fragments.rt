@@ -45,26 +45,23 @@ fn pass_fragments<S: Store, L: Ledger, M: Ledger>(
     bytes: &mut [u8],
     steps: &mut Steps<L, M>,
 ) -> Result<(), Refusal>
-    requires room { (start.room ≤ 2 ^ 24) × HaveRoom start.room states.old }
+    requires room { (start.room ≤ 2 ^ 24) × HaveRoom start.room states.old
+        × (length bytes.old ≡ start.outline.now.longest)
+        × (length tracks.old.own.items ≡ length states.old) }
     requires tracks { ArePlacesOf (ids_of states.old) tracks.old.places
         × (tracks.old.is_refused ≡ false) × (tracks.old.told ≡ None) }
-    requires outline { HasOutline (S.is_honest store.old) (S.file store.old) start.outline.now }
-    requires whole { AllByRecursion (IsWhole (length (S.file store.old)))
-        start.outline.now.moofs.items }
-    requires rooms { (length bytes.old ≡ start.outline.now.longest)
-        × (length tracks.old.own.items ≡ length states.old) }
+    requires outline { HasOutline (S.is_honest store.old) (S.file store.old) start.outline.now
+        × AllByRecursion (IsWhole (length (S.file store.old))) start.outline.now.moofs.items }
     ensures store { OnlyReads S.Store store.old store.new result }
-    ensures passed { OnOk result (WhereHonest S.Store store.old (λ file.
-        PassesOn file states.old start.entry.room states.new)) }
-    ensures own { OnOk result (WhereHonest S.Store store.old (λ file.
-        NotesOn file states.old start.entry.room states.new
+    ensures passed { OnOk result ((length tracks.new.own.items ≡ length states.old)
+        × WhereHonest S.Store store.old (λ file.
+        PassesOn file states.old start.entry.room states.new
+        × NotesOn file states.old start.entry.room states.new
         tracks.old.own.items tracks.new.own.items)) }
-    ensures each { OnOk result (length tracks.new.own.items ≡ length states.old) }
     ensures work { WhereHonest S.Store store.old (λ file. ChecksMoofs file
         (min 1 (length states.old)) result steps.old.passed steps.new.passed
-        steps.old.looks steps.new.looks) }
-    ensures least { OnOk result (WhereHonest S.Store store.old (λ file.
-        ChecksAll file steps.old.passed steps.new.passed)) }
+        steps.old.looks steps.new.looks
+        × OnOk result (ChecksAll file steps.old.passed steps.new.passed)) }
     ensures refusal { RefusedOf S.Store store.old store.new result
         (λ honest file. RefusesSearch honest) }
     ensures reads { Refused S.Store store.old store.new result ReadsToFault }
@@ -113,9 +110,8 @@ pub(crate) fn check_fragments<S: Store, L: Ledger, M: Ledger>(
 ) -> Result<PassedTracks, Refusal>
     requires room { (known.plain.now.room ≤ 2 ^ 24)
         × HaveRoom known.plain.now.room known.plain.now.states.items }
-    requires outline { HasOutline (S.is_honest store.old) (S.file store.old) known.outline.now }
-    requires whole { AllByRecursion (IsWhole (length (S.file store.old)))
-        known.outline.now.moofs.items }
+    requires outline { HasOutline (S.is_honest store.old) (S.file store.old) known.outline.now
+        × AllByRecursion (IsWhole (length (S.file store.old))) known.outline.now.moofs.items }
     ensures each { IfOk result
         (λ p. (length p.states.items ≡ length known.entry.plain.now.states.items)
         × (length p.own.items ≡ length known.entry.plain.now.states.items)) }
@@ -125,9 +121,8 @@ pub(crate) fn check_fragments<S: Store, L: Ledger, M: Ledger>(
         (map own_seen p.own.items)) }
     ensures work { WhereHonest S.Store store.old (λ file. ChecksMoofs file
         (min 1 (length known.entry.plain.now.states.items))
-        result steps.old.passed steps.new.passed steps.old.looks steps.new.looks) }
-    ensures least { OnOk result (WhereHonest S.Store store.old (λ file.
-        ChecksAll file steps.old.passed steps.new.passed)) }
+        result steps.old.passed steps.new.passed steps.old.looks steps.new.looks
+        × OnOk result (ChecksAll file steps.old.passed steps.new.passed)) }
     ensures refusal { RefusedOf S.Store store.old store.new result
         (λ honest file. RefusesSearch honest) }
     ensures reads { Refused S.Store store.old store.new result ReadsToFault }

@@ -89,8 +89,8 @@ fn find<S: Store, L: Ledger, M: Ledger>(
 ) -> Result<Found, Refusal>
     requires moov { Fills (length moov.now) outline.now.moov
         × WhereHonest S.Store store.old (λ file. IsPayloadIn file outline.now moov.now) }
-    requires outline { HasOutline (S.is_honest store.old) (S.file store.old) outline.now }
-    requires whole { AllByRecursion (IsWhole (length (S.file store.old))) outline.now.moofs.items }
+    requires outline { HasOutline (S.is_honest store.old) (S.file store.old) outline.now
+        × AllByRecursion (IsWhole (length (S.file store.old))) outline.now.moofs.items }
     ensures store { OnlyReads S.Store store.old store.new result }
     ensures tables { IfOk result (HasTables moov.now) }
     ensures movie { WhereRead S.Store store.old result (λ file f. (t : FileTree)

@@ -138,10 +138,10 @@ impl Walk {
         ensures taken { ReadsMarked S.Store store.old movie.now self.old self.new before result
             steps.old.passed steps.new.passed }
         ensures idle { OnErr result (steps.new.passed ≡ steps.old.passed) }
-        ensures grows { steps.old.passed ≤ steps.new.passed }
+        ensures steps { (steps.old.passed ≤ steps.new.passed)
+            × (steps.new.looks ≡ steps.old.looks) }
         ensures length { KnowsLength S.Store store.old movie.now result }
         ensures refusal { Refused S.Store store.old store.new result RefusesLoad }
-        ensures looks { steps.new.looks ≡ steps.old.looks }
     {
         let mark = self.mark;
         if store.len() != movie.file_len {
@@ -200,8 +200,8 @@ impl Walk {
         requires { IsWalkOf movie.now self.old }
         ensures store { OnlyReads S.Store store.old store.new result }
         ensures walk { OnOk result (IsWalkOf movie.now self.new) }
-        ensures room { length self.new.bytes.items ≡ length self.old.bytes.items }
-        ensures mark { OnOk result (IsAtMark self.old self.new) }
+        ensures mark { (length self.new.bytes.items ≡ length self.old.bytes.items)
+            × OnOk result (IsAtMark self.old self.new) }
         ensures back { WhereMarked S.Store store.old movie.now self.old
             (λ file tree t samples. MatchResult result
             (λ _. Comes file tree t movie.now self.new samples)
@@ -212,11 +212,9 @@ impl Walk {
             (λ _. TakesOn file tree t (n + back_steps begun self.old) self.new
             steps.old.passed steps.new.passed)
             (λ _. steps.new.passed ≤ steps.old.passed + back_steps begun self.old)) }
-        ensures still { is_at_hand self.old ≡ true → IsOk result × (store.new ≡ store.old)
-            × (steps.new.passed ≡ steps.old.passed) × (self.new ≡ back_at_mark self.old) }
-        ensures length { is_at_hand self.old ≡ false
-            → (length (S.file store.old) ≡ movie.now.file_len → ⊥)
-            → result ≡ Err refusals.StoreChanged }
+        ensures still { (is_at_hand self.old ≡ true → IsOk result × (store.new ≡ store.old)
+            × (steps.new.passed ≡ steps.old.passed) × (self.new ≡ back_at_mark self.old))
+            × (is_at_hand self.old ≡ false → KnowsLength S.Store store.old movie.now result) }
         ensures refusal { Refused S.Store store.old store.new result RefusesLoad }
         ensures looks { steps.new.looks ≡ steps.old.looks }
     {

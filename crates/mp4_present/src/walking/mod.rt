@@ -192,12 +192,12 @@ impl Walk {
         ensures keeps { KeepsRoom self.old self.new }
         ensures taken { TakesNextTraf movie.now self.old self.new result }
         ensures some { IfOk result (λ some. IsTrue some → HasSome movie.now self.new) }
-        ensures grows { steps.old.passed ≤ steps.new.passed }
+        ensures steps { (steps.old.passed ≤ steps.new.passed)
+            × (steps.new.looks ≡ steps.old.looks) }
         ensures work { MatchResult result (λ _. steps.new.passed ≤ steps.old.passed
             + traf_steps (traf_box self.old) + steps_to self.new.place)
             (λ _. steps.new.passed ≡ steps.old.passed) }
         ensures refusal { IfErr result (λ r. r ≡ refusals.StoreChanged) }
-        ensures looks { steps.new.looks ≡ steps.old.looks }
     {
         let info = movie.tracks()[self.track];
         let (base, trex) = (self.traf.base, movie.trex_of(self.track));
@@ -236,11 +236,11 @@ impl Walk {
             (λ file tree t earlier later. MatchResult result
             (λ more. Loads file tree t movie.now (samples_behind tree t earlier later) self.new
             more) (λ r. r ≡ refusals.StoreChanged → ⊥)) }
-        ensures ended { WhereStands S.Store store.old movie.now self.old
+        ensures answer { IfOk result (IsLoaded movie.now self.old self.new)
+            × WhereStands S.Store store.old movie.now self.old
             (λ file tree t earlier later. (hand : InHand) → InHandOf movie.now self.old hand
             → left_in_hand hand ≡ []
             → IfOk result (λ more. more ≡ false → Comes file tree t movie.now self.new [])) }
-        ensures answer { IfOk result (IsLoaded movie.now self.old self.new) }
         ensures grows { steps.old.passed ≤ steps.new.passed }
         ensures work { TakesSteps S.Store store.old movie.now self.old self.new result
             steps.old.passed steps.new.passed }

@@ -90,12 +90,12 @@ impl Movie {
             → PutsMany (K.takes sink.old sink.new) info.bytes) }
         ensures unchanged { WhereTrack S.Store store.old self.now track
             (λ file tree t. IsUnchanged result) }
-        ensures grows { steps.old.passed ≤ steps.new.passed }
+        ensures steps { (steps.old.passed ≤ steps.new.passed)
+            × (steps.new.looks ≡ steps.old.looks) }
         ensures work { WhereTrack S.Store store.old self.now track
             (λ file tree t. steps.new.passed ≤ steps.old.passed + walk_steps tree t) }
         ensures refusal { RefusedByBoth S.Store store.old store.new K.Sink sink.old sink.new result
             (RefusesCopy (K.takes sink.old sink.new)) }
-        ensures looks { steps.new.looks ≡ steps.old.looks }
     {
         let mut walk = self.walk(alloc, track)?;
         let mut carrier = OutBuffer::new(alloc, PIECE)?;

@@ -5,19 +5,19 @@ use Rattle.mp4_boxes.specs.declared.rule.Rule.TheVariants as rules
 use Rattle.mp4_boxes.specs.words.View.{box_seen}
 use Rattle.mp4_boxes.proofs.ChildrenJudged.{held_are}
 use Rattle.mp4_frag.specs.words.RunsJudged.{children_of}
-use Rattle.mp4_frag.proofs.MoofExcludes.{moof_decided}
 use Rattle.mp4_frag.proofs.TrafsJudged.{held_by, passed_accepted, passed_sound}
 use Rattle.mp4_frag.proofs.check.check_moof_by.Goals as goal
 
 pub returns-clause-sound : goal.returns-clause-sound
 returns-clause-sound g c =
     let short : c.args.file_len < 2 ^ 64 = search rules in
-    passed_sound c.args.file_len (box_seen c.args.moof) _ _ _ _ _ short c.in_ok-check_trafs.ensures.passed c.in_ok-boxes.ensures.holds
+    (passed_sound c.args.file_len (box_seen c.args.moof) _ _ _ _ _ short c.in_ok-check_trafs.ensures.passed c.in_ok-boxes.ensures.holds,
+    c.in_ok-check_trafs.ensures.passed.moved)
 
 pub returns-clause-accepted : goal.returns-clause-accepted
 returns-clause-accepted g c =
     let short : c.args.file_len < 2 ^ 64 = search rules in
-    passed_accepted c.args.file_len (box_seen c.args.moof) _ _ _ _ _ short c.in_ok-check_trafs.ensures.passed c.in_ok-boxes.ensures.holds
+    (c.again.ensures, passed_accepted c.args.file_len (box_seen c.args.moof) _ _ _ _ _ short c.in_ok-check_trafs.ensures.passed c.in_ok-boxes.ensures.holds)
 
 -- ---- the first fault
 
@@ -38,28 +38,3 @@ returns-clause-exact g c =
     let moof = box_seen c.args.moof in
     let held = held_are rules.MovieFragment (box_container moof) (children_of moof) (held_by moof _ c.in_ok-boxes.ensures.holds) in
     record { names = inr (held, c.in_ok-check_trafs.ensures.exact.names) }
-
--- ---- it is accepted exactly if it may be
-
-pub returns-in_err-boxes-clause-only : goal.returns-in_err-boxes-clause-only
-returns-in_err-boxes-clause-only g c =
-    let short : c.args.file_len < 2 ^ 64 = search rules in
-    let decided = moof_decided c.args.file_len c.args.tracks.now c.args.room.now (box_seen c.args.moof) short in
-    let p = err_from_is_err_and c.from_residual.result c.from_residual.ensures.1 in
-    rw p.1 (decided.some c.in_err-boxes.field-0.0 (inl (c.in_err-boxes.field-0.0, c.in_err-boxes.ensures.exact.same, refl)))
-
-pub returns-in_err-check_trafs-clause-only : goal.returns-in_err-check_trafs-clause-only
-returns-in_err-check_trafs-clause-only g c =
-    let moof = box_seen c.args.moof in
-    let short : c.args.file_len < 2 ^ 64 = search rules in
-    let decided = moof_decided c.args.file_len c.args.tracks.now c.args.room.now moof short in
-    let held = held_are rules.MovieFragment (box_container moof) (children_of moof) (held_by moof _ c.in_ok-boxes.ensures.holds) in
-    let p = err_from_is_err_and c.from_residual-in_err-check_trafs.result c.from_residual-in_err-check_trafs.ensures.1 in
-    rw p.1 (decided.some c.in_err-check_trafs.field-0.0 (inr (held, c.in_err-check_trafs.ensures.exact.names)))
-
-pub returns-clause-only : goal.returns-clause-only
-returns-clause-only g c =
-    let moof = box_seen c.args.moof in
-    let short : c.args.file_len < 2 ^ 64 = search rules in
-    let held = held_are rules.MovieFragment (box_container moof) (children_of moof) (held_by moof _ c.in_ok-boxes.ensures.holds) in
-    (moof_decided c.args.file_len c.args.tracks.now c.args.room.now moof short).accepted (inr (held, c.in_ok-check_trafs.ensures.exact.names))

@@ -42,9 +42,6 @@ returns-clause-counted g c =
     let all = all_children (box_seen c.args.traf) _ _ _ _ c.payload.ensures c.payload_offset.ensures c.in_ok-child-items.ensures.tiles in
     runs_cost_said _ _ _ _ _ _ c.loop-child.invariant.6 c.in-None.ensures.steps.0 (c.into_iter-child-iterator.ensures.into_iter_gives ∙ all)
 
-pub returns-clause-cost : goal.returns-clause-cost
-returns-clause-cost g c = let counted = returns-clause-counted g c in omega (arith, counted)
-
 pub returns-clause-within : goal.returns-clause-within
 returns-clause-within g c = runs_cost_ended _ _ _ _ _ _ _ _ _ _ c.loop-child.invariant.6 c.into_iter-child-iterator.ensures.into_iter_gives c.in_ok-child-items.ensures.tiles c.payload.ensures
 

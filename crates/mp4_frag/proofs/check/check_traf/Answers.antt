@@ -49,24 +49,6 @@ moved_on-requires-clause-room g c =
     let taken = c.in_ok-passed.ensures.taken in
     record { few = omega arith; time = before.time; bytes = before.bytes }
 
-pub returns-clause-kept : goal.returns-clause-kept
-returns-clause-kept g c =
-    let before : HasRoom c.args.room.now c.index-tracks-k.result = rw (c.index-tracks-k.is) (has_room c.args.room.now c.in-Some-find.k c.args.tracks.now _ c.in-Some-find.ensures.inside c.requires.room.each) in
-    let room = before.few in
-    let count = c.moved_on.ensures.count in
-    let taken = c.in_ok-passed.ensures.taken in
-    let few : c.moved_on.result.count + c.check_runs.new.room ≤ 2 ^ 24 = rw count (omega arith) in
-    let less : c.check_runs.new.room ≤ c.args.room.now = omega arith in
-    let with : HasRoom c.check_runs.new.room c.moved_on.result = record { few = few; time = c.moved_on.ensures.room.time; bytes = c.moved_on.ensures.room.bytes } in
-    record {
-      few = less;
-      each = room_with c.check_runs.new.room c.in-Some-find.k c.args.tracks.now c.moved_on.result with
-          (less_room c.args.room.now c.check_runs.new.room c.args.tracks.now less c.requires.room.each);
-      same = λ id.
-          trex_same c.args.tracks.now c.in-Some-find.k _ c.moved_on.result id c.in-Some-find.ensures.inside (c.moved_on.ensures.same.0 ∙ ap (λ t. t.id) c.index-tracks-k.is) (c.moved_on.ensures.same.1 ∙ ap (λ t. t.trex) c.index-tracks-k.is);
-      ids = ids_set c.in-Some-find.k c.args.tracks.now _ c.moved_on.result c.in-Some-find.ensures.inside (c.moved_on.ensures.same.0 ∙ ap (λ (t : TrackState). t.id) c.index-tracks-k.is);
-    }
-
 pub returns-clause-passed : goal.returns-clause-passed
 returns-clause-passed g c =
     let boxes = children_of (box_seen c.args.traf) in
@@ -84,7 +66,14 @@ returns-clause-passed g c =
           let none = no_time boxes (sym c.in_ok-heads.ensures.time ∙ ap (λ (o : Option BoxView). only_list (option_map box_seen o)) w.in_default-time.is) in
           ap (λ (o : Option ℕ). is_late_at c.index-tracks-k.result o c.in_ok-passed.passed.count) (sym c.in_ok-time.ensures.time ∙ none)
     ] in
-    record {
+    let room_before : HasRoom c.args.room.now c.index-tracks-k.result = rw (c.index-tracks-k.is) (has_room c.args.room.now c.in-Some-find.k c.args.tracks.now _ c.in-Some-find.ensures.inside c.requires.room.each) in
+    let room = room_before.few in
+    let count = c.moved_on.ensures.count in
+    let taken = c.in_ok-passed.ensures.taken in
+    let few : c.moved_on.result.count + c.check_runs.new.room ≤ 2 ^ 24 = rw count (omega arith) in
+    let less : c.check_runs.new.room ≤ c.args.room.now = omega arith in
+    let with : HasRoom c.check_runs.new.room c.moved_on.result = record { few = few; time = c.moved_on.ensures.room.time; bytes = c.moved_on.ensures.room.bytes } in
+    (record {
       holds = c.in_ok-heads.ensures.holds;
       sound = rw kept (traf_sound c.args.at.file_len c.args.at.moof c.in_ok-passed.passed.count c.args.at.before c.base_of.result c.in_ok-passed.passed.at c.args.tracks.now boxes (box_seen c.in-Some.tfhd) c.in_ok-head.head c.in-Some-trex.trex
           c.what_is_inherited.result (keys_seen c.index-tracks-k.result.keys)
@@ -97,10 +86,18 @@ returns-clause-passed g c =
           head c.in_ok-head.ensures.head
           c.in-Some-find.ensures.inside c.in-Some-find.ensures.there.found c.in-Some-find.ensures.there.first c.index-tracks-k.is c.in-Some-trex.is c.what_is_inherited.ensures c.in_ok-passed.ensures.runs.count c.in_ok-passed.ensures.runs.lasting c.in_ok-passed.ensures.runs.filling
           c.in_ok-keys.ensures.sound c.in_ok-keys.ensures.keys (sym c.if-lacks_description.ensures) late c.in_ok-time.ensures.time m.none m.some c.in_ok-passed.ensures.taken;
-    }
+    },
+    record {
+      few = less;
+      each = room_with c.check_runs.new.room c.in-Some-find.k c.args.tracks.now c.moved_on.result with
+          (less_room c.args.room.now c.check_runs.new.room c.args.tracks.now less c.requires.room.each);
+      same = λ id.
+          trex_same c.args.tracks.now c.in-Some-find.k _ c.moved_on.result id c.in-Some-find.ensures.inside (c.moved_on.ensures.same.0 ∙ ap (λ t. t.id) c.index-tracks-k.is) (c.moved_on.ensures.same.1 ∙ ap (λ t. t.trex) c.index-tracks-k.is);
+      ids = ids_set c.in-Some-find.k c.args.tracks.now _ c.moved_on.result c.in-Some-find.ensures.inside (c.moved_on.ensures.same.0 ∙ ap (λ (t : TrackState). t.id) c.index-tracks-k.is);
+    })
 
-pub returns-clause-ids : goal.returns-clause-ids
-returns-clause-ids g c =
+pub returns-clause-stays : goal.returns-clause-stays
+returns-clause-stays g c =
     ids_set c.in-Some-find.k c.args.tracks.now _ c.moved_on.result c.in-Some-find.ensures.inside (c.moved_on.ensures.same.0 ∙ ap (λ (t : TrackState). t.id) c.index-tracks-k.is)
 
 pub returns-clause-own : goal.returns-clause-own

@@ -37,26 +37,26 @@ loop-child-preserved-then-eq g c =
     let ends = c.in-Ok.passed.ends in
     let kept : to_z w128 (of_z w128 ends) ≡ ends = search rules in
     let room = i.2 in
-    let less = r.kept.few in
+    let less = r.passed.1.few in
     let fits : c.check_traf.new.room ≤ c.args.room.now = omega arith in
     let is_traf = rw c.kind.ensures at (sym c.if-eq.ensures) in
     let there = c.offset-then-eq.ensures in
-    let sound = rw there at r.passed.sound in
+    let sound = rw there at r.passed.0.sound in
     let noted = c.note_traf.ensures in (
       tt,
       tt,
       fits,
-      r.kept.each,
-      rw kept (moof_traf c.args.all.file_len _ _ _ _ _ (box_seen c.in-Some.child) _ ends _ _ i.4 c.in-Some.ensures.steps is_traf r.passed.holds sound r.passed.bound r.kept.same),
-      rw kept (moves_traf c.args.all.file_len _ _ _ _ _ _ (box_seen c.in-Some.child) _ ends _ _ _ _ i.5 c.in-Some.ensures.steps is_traf r.passed.holds sound (rw there at r.passed.moved) (rw there at r.exact.names)),
+      r.passed.1.each,
+      rw kept (moof_traf c.args.all.file_len _ _ _ _ _ (box_seen c.in-Some.child) _ ends _ _ i.4 c.in-Some.ensures.steps is_traf r.passed.0.holds sound r.passed.0.bound r.passed.1.same),
+      rw kept (moves_traf c.args.all.file_len _ _ _ _ _ _ (box_seen c.in-Some.child) _ ends _ _ _ _ i.5 c.in-Some.ensures.steps is_traf r.passed.0.holds sound (rw there at r.passed.0.moved) (rw there at r.exact.names)),
       moof_cost_traf _ _ _ (box_seen c.in-Some.child) _ _ _ _ _ _ i.6 c.in-Some.ensures.steps is_traf (let t = r.work.cost in omega (arith, t)) (let t = r.work.within in omega (arith, t)),
-      r.ids ∙ i.7,
+      r.stays ∙ i.7,
       looked_traf _ _ _ (box_seen c.in-Some.child) _ _ _ _ i.8 c.in-Some.ensures.steps is_traf (let t = r.looks.some in let k = c.tick.ensures.looks in omega (arith, t, k)) (let t = rw i.9 at r.looks.most in let k = c.tick.ensures.looks in omega (arith, t, k)),
       r.many ∙ i.9,
-      rw kept (notes_traf c.args.all.file_len _ _ _ _ _ (box_seen c.in-Some.child) _ ends _ _ _ _ _ c.in-Ok.passed i.10 c.in-Some.ensures.steps is_traf i.4.same sound (rw there at r.own) r.ids noted.noted),
+      rw kept (notes_traf c.args.all.file_len _ _ _ _ _ (box_seen c.in-Some.child) _ ends _ _ _ _ _ c.in-Ok.passed i.10 c.in-Some.ensures.steps is_traf i.4.same sound (rw there at r.own) r.stays noted.noted),
       λ ids knows. noted.knows ids (i.11 ids knows),
       λ quiet. noted.silent (i.12 quiet),
-      rw kept (front_traf _ _ _ _ _ _ _ (box_seen c.in-Some.child) _ ends _ _ _ _ i.13 c.in-Some.ensures.steps is_traf r.passed.holds i.4.same sound (rw there at r.passed.moved)),
+      rw kept (front_traf _ _ _ _ _ _ _ (box_seen c.in-Some.child) _ ends _ _ _ _ i.13 c.in-Some.ensures.steps is_traf r.passed.0.holds i.4.same sound (rw there at r.passed.0.moved)),
     )
 
 pub returns-clause-passed : goal.returns-clause-passed
@@ -101,9 +101,11 @@ returns-in-Err-clause-looks g c =
     record { some = tt; each = tt; most = most }
 
 pub returns-clause-own : goal.returns-clause-own
-returns-clause-own g c trexes defaults apart =
-    let all = holds_boxes (box_seen c.args.all.moof) _ c.requires.boxes in
-    notes_ended trexes (box_seen c.args.all.moof) c.args.tracks.now _ _ _ _ _ _ c.loop-child.invariant.10 c.in-None.ensures.steps.0 (c.into_iter-child-iterator.ensures.into_iter_gives ∙ all) defaults apart
+returns-clause-own g c =
+    let all = holds_boxes (box_seen c.args.all.moof) _ c.requires.boxes in record {
+      each = c.loop-child.invariant.10.each;
+      all = λ trexes defaults apart. notes_ended trexes (box_seen c.args.all.moof) c.args.tracks.now _ _ _ _ _ _ c.loop-child.invariant.10 c.in-None.ensures.steps.0 (c.into_iter-child-iterator.ensures.into_iter_gives ∙ all) defaults apart;
+    }
 
 -- ---- what is told
 

@@ -39,7 +39,7 @@ returns-clause-movie g c =
     let honest = g.S.Store.is_honest c.args.store.now in
     let file = g.S.Store.file c.args.store.now in
     let b = box_seen c.view-view.result in
-    let r : IsRead honest file c.args.outline.now c.args.moov.now b = record { outline = c.requires.outline; is = c.view-view.ensures; fills = c.requires.moov.0; bytes = c.requires.moov.1 } in
+    let r : IsRead honest file c.args.outline.now c.args.moov.now b = record { outline = c.requires.outline.0; is = c.view-view.ensures; fills = c.requires.moov.0; bytes = c.requires.moov.1 } in
     let bytes : AreBytes c.args.moov.now = λ k. search rules in
     let says = c.in_ok-head.ensures.head in
     let outline = c.args.outline.now in
@@ -59,7 +59,7 @@ returns-clause-movie g c =
 
 pub returns-clause-ids : goal.returns-clause-ids
 returns-clause-ids g c =
-    let r : IsRead (g.S.Store.is_honest c.args.store.now) (g.S.Store.file c.args.store.now) c.args.outline.now c.args.moov.now _ = record { outline = c.requires.outline; is = c.view-view.ensures; fills = c.requires.moov.0; bytes = c.requires.moov.1 } in
+    let r : IsRead (g.S.Store.is_honest c.args.store.now) (g.S.Store.file c.args.store.now) c.args.outline.now c.args.moov.now _ = record { outline = c.requires.outline.0; is = c.view-view.ensures; fills = c.requires.moov.0; bytes = c.requires.moov.1 } in
     its_movie _ _ c.args.outline.now c.args.moov.now _ c.in_ok-head.head _ r c.in_ok-head.ensures.head c.in_ok-tracks.ensures.infos.ids
 
 pub returns-in_err-head-clause-work : goal.returns-in_err-head-clause-work
@@ -73,7 +73,7 @@ returns-in_err-plain-clause-work g c =
     let outline = c.args.outline.now in
     let moov = c.args.moov.now in
     let b = box_seen c.view-view.result in
-    let r : IsRead honest file outline moov b = record { outline = c.requires.outline; is = c.view-view.ensures; fills = c.requires.moov.0; bytes = c.requires.moov.1 } in
+    let r : IsRead honest file outline moov b = record { outline = c.requires.outline.0; is = c.view-view.ensures; fills = c.requires.moov.0; bytes = c.requires.moov.1 } in
     λ told. record {
       work = rw (p.1, p.2) (λ tree is. handed_on Found _ _ _ (tables_counted honest file outline moov b c.in_ok-head.head r c.in_ok-head.ensures.head told tree is _ _) c.in_err-plain.ensures.work);
       within = tables_open honest file outline moov b c.in_ok-head.head r c.in_ok-head.ensures.head told _ _ c.in_err-plain.ensures.within;
@@ -88,14 +88,14 @@ returns-in_err-passed-clause-work g c =
     let outline = c.args.outline.now in
     let moov = c.args.moov.now in
     let b = box_seen c.view-view.result in
-    let r : IsRead honest file outline moov b = record { outline = c.requires.outline; is = c.view-view.ensures; fills = c.requires.moov.0; bytes = c.requires.moov.1 } in
+    let r : IsRead honest file outline moov b = record { outline = c.requires.outline.0; is = c.view-view.ensures; fills = c.requires.moov.0; bytes = c.requires.moov.1 } in
     let head = c.in_ok-head.head in
     let says = c.in_ok-head.ensures.head in
     let many : length c.in_ok-plain.plain.states.items ≡ length head.tracks.items = search rules in
     λ told. record {
-      work = rw (p.1, p.2) (λ tree is. handed_on Found _ _ _ (moofs_counted honest file outline moov b c.in_ok-head.head r c.in_ok-head.ensures.head told tree is _ _ _ c.in_ok-plain.ensures.work) (c.in_err-passed.ensures.work told).work);
-      within = moofs_open honest file outline moov b head r says told _ _ _ c.in_ok-plain.ensures.within (c.in_err-passed.ensures.work told).within;
-      looks = rw (p.1, p.2) (let l = rw c.check_tables.ensures.looks at (c.in_err-passed.ensures.work told).looks in
+      work = rw (p.1, p.2) (λ tree is. handed_on Found _ _ _ (moofs_counted honest file outline moov b c.in_ok-head.head r c.in_ok-head.ensures.head told tree is _ _ _ c.in_ok-plain.ensures.work) (c.in_err-passed.ensures.work told).0.work);
+      within = moofs_open honest file outline moov b head r says told _ _ _ c.in_ok-plain.ensures.within (c.in_err-passed.ensures.work told).0.within;
+      looks = rw (p.1, p.2) (let l = rw c.check_tables.ensures.looks at (c.in_err-passed.ensures.work told).0.looks in
           record {
             said = λ tree is. handed_on Found _ _ _ (looks_counted honest file outline moov b head r says told tree is _ _ _) l.said;
             within = looks_open honest file outline moov b head r says told _ _ (rw many at l.within);
@@ -109,14 +109,14 @@ returns-in_err-mehd-clause-work g c =
     let outline = c.args.outline.now in
     let moov = c.args.moov.now in
     let b = box_seen c.view-view.result in
-    let r : IsRead honest file outline moov b = record { outline = c.requires.outline; is = c.view-view.ensures; fills = c.requires.moov.0; bytes = c.requires.moov.1 } in
+    let r : IsRead honest file outline moov b = record { outline = c.requires.outline.0; is = c.view-view.ensures; fills = c.requires.moov.0; bytes = c.requires.moov.1 } in
     let head = c.in_ok-head.head in
     let says = c.in_ok-head.ensures.head in
     let many : length c.in_ok-plain.plain.states.items ≡ length head.tracks.items = search rules in
     λ told. record {
-      work = λ tree is. if_no_fault _ _ (moofs_counted honest file outline moov b c.in_ok-head.head r c.in_ok-head.ensures.head told tree is _ _ _ c.in_ok-plain.ensures.work (c.in_ok-passed.ensures.work told).work);
-      within = moofs_open honest file outline moov b head r says told _ _ _ c.in_ok-plain.ensures.within (c.in_ok-passed.ensures.work told).within;
-      looks = let l = rw c.check_tables.ensures.looks at (c.in_ok-passed.ensures.work told).looks in
+      work = λ tree is. if_no_fault _ _ (moofs_counted honest file outline moov b c.in_ok-head.head r c.in_ok-head.ensures.head told tree is _ _ _ c.in_ok-plain.ensures.work (c.in_ok-passed.ensures.work told).0.work);
+      within = moofs_open honest file outline moov b head r says told _ _ _ c.in_ok-plain.ensures.within (c.in_ok-passed.ensures.work told).0.within;
+      looks = let l = rw c.check_tables.ensures.looks at (c.in_ok-passed.ensures.work told).0.looks in
           record {
             said = λ tree is. if_no_fault _ _ (looks_counted honest file outline moov b head r says told tree is _ _ _ l.said);
             within = looks_open honest file outline moov b head r says told _ _ (rw many at l.within);
@@ -130,14 +130,14 @@ returns-in_err-tracks-clause-work g c =
     let outline = c.args.outline.now in
     let moov = c.args.moov.now in
     let b = box_seen c.view-view.result in
-    let r : IsRead honest file outline moov b = record { outline = c.requires.outline; is = c.view-view.ensures; fills = c.requires.moov.0; bytes = c.requires.moov.1 } in
+    let r : IsRead honest file outline moov b = record { outline = c.requires.outline.0; is = c.view-view.ensures; fills = c.requires.moov.0; bytes = c.requires.moov.1 } in
     let head = c.in_ok-head.head in
     let says = c.in_ok-head.ensures.head in
     let many : length c.in_ok-plain.plain.states.items ≡ length head.tracks.items = search rules in
     λ told. record {
-      work = λ tree is. if_no_fault _ _ (moofs_counted honest file outline moov b c.in_ok-head.head r c.in_ok-head.ensures.head told tree is _ _ _ c.in_ok-plain.ensures.work (c.in_ok-passed.ensures.work told).work);
-      within = moofs_open honest file outline moov b head r says told _ _ _ c.in_ok-plain.ensures.within (c.in_ok-passed.ensures.work told).within;
-      looks = let l = rw c.check_tables.ensures.looks at (c.in_ok-passed.ensures.work told).looks in
+      work = λ tree is. if_no_fault _ _ (moofs_counted honest file outline moov b c.in_ok-head.head r c.in_ok-head.ensures.head told tree is _ _ _ c.in_ok-plain.ensures.work (c.in_ok-passed.ensures.work told).0.work);
+      within = moofs_open honest file outline moov b head r says told _ _ _ c.in_ok-plain.ensures.within (c.in_ok-passed.ensures.work told).0.within;
+      looks = let l = rw c.check_tables.ensures.looks at (c.in_ok-passed.ensures.work told).0.looks in
           record {
             said = λ tree is. if_no_fault _ _ (looks_counted honest file outline moov b head r says told tree is _ _ _ l.said);
             within = looks_open honest file outline moov b head r says told _ _ (rw many at l.within);
@@ -151,14 +151,14 @@ returns-clause-work g c =
     let outline = c.args.outline.now in
     let moov = c.args.moov.now in
     let b = box_seen c.view-view.result in
-    let r : IsRead honest file outline moov b = record { outline = c.requires.outline; is = c.view-view.ensures; fills = c.requires.moov.0; bytes = c.requires.moov.1 } in
+    let r : IsRead honest file outline moov b = record { outline = c.requires.outline.0; is = c.view-view.ensures; fills = c.requires.moov.0; bytes = c.requires.moov.1 } in
     let head = c.in_ok-head.head in
     let says = c.in_ok-head.ensures.head in
     let many : length c.in_ok-plain.plain.states.items ≡ length head.tracks.items = search rules in
     λ told. record {
-      work = λ tree is. moofs_counted honest file outline moov b c.in_ok-head.head r c.in_ok-head.ensures.head told tree is _ _ _ c.in_ok-plain.ensures.work (c.in_ok-passed.ensures.work told).work;
-      within = moofs_open honest file outline moov b head r says told _ _ _ c.in_ok-plain.ensures.within (c.in_ok-passed.ensures.work told).within;
-      looks = let l = rw c.check_tables.ensures.looks at (c.in_ok-passed.ensures.work told).looks in
+      work = λ tree is. moofs_counted honest file outline moov b c.in_ok-head.head r c.in_ok-head.ensures.head told tree is _ _ _ c.in_ok-plain.ensures.work (c.in_ok-passed.ensures.work told).0.work;
+      within = moofs_open honest file outline moov b head r says told _ _ _ c.in_ok-plain.ensures.within (c.in_ok-passed.ensures.work told).0.within;
+      looks = let l = rw c.check_tables.ensures.looks at (c.in_ok-passed.ensures.work told).0.looks in
           record {
             said = λ tree is. looks_counted honest file outline moov b head r says told tree is _ _ _ l.said;
             within = looks_open honest file outline moov b head r says told _ _ (rw many at l.within);
@@ -170,8 +170,8 @@ returns-clause-least g c =
     let honest = g.S.Store.is_honest c.args.store.now in
     let file = g.S.Store.file c.args.store.now in
     let b = box_seen c.view-view.result in
-    let r : IsRead honest file c.args.outline.now c.args.moov.now b = record { outline = c.requires.outline; is = c.view-view.ensures; fills = c.requires.moov.0; bytes = c.requires.moov.1 } in
-    λ told tree is. all_taken honest file c.args.outline.now c.args.moov.now b c.in_ok-head.head r c.in_ok-head.ensures.head told tree is _ _ _ c.in_ok-plain.ensures.least (c.in_ok-passed.ensures.least told)
+    let r : IsRead honest file c.args.outline.now c.args.moov.now b = record { outline = c.requires.outline.0; is = c.view-view.ensures; fills = c.requires.moov.0; bytes = c.requires.moov.1 } in
+    λ told tree is. all_taken honest file c.args.outline.now c.args.moov.now b c.in_ok-head.head r c.in_ok-head.ensures.head told tree is _ _ _ c.in_ok-plain.ensures.least (c.in_ok-passed.ensures.work told).1
 
 pub returns-in_err-head-clause-exact : goal.returns-in_err-head-clause-exact
 returns-in_err-head-clause-exact g c =
@@ -181,7 +181,7 @@ returns-in_err-head-clause-exact g c =
     let outline = c.args.outline.now in
     let moov = c.args.moov.now in
     let b = box_seen c.view-view.result in
-    let r : IsRead honest file outline moov b = record { outline = c.requires.outline; is = c.view-view.ensures; fills = c.requires.moov.0; bytes = c.requires.moov.1 } in
+    let r : IsRead honest file outline moov b = record { outline = c.requires.outline.0; is = c.view-view.ensures; fills = c.requires.moov.0; bytes = c.requires.moov.1 } in
     rw (p.1, p.2) (λ told known e. record { names = head_refused honest file outline moov b r told known e c.in_err-head.field-0.0 (c.in_err-head.ensures.exact 0).names })
 
 pub returns-in_err-plain-clause-exact : goal.returns-in_err-plain-clause-exact
@@ -192,7 +192,7 @@ returns-in_err-plain-clause-exact g c =
     let outline = c.args.outline.now in
     let moov = c.args.moov.now in
     let b = box_seen c.view-view.result in
-    let r : IsRead honest file outline moov b = record { outline = c.requires.outline; is = c.view-view.ensures; fills = c.requires.moov.0; bytes = c.requires.moov.1 } in
+    let r : IsRead honest file outline moov b = record { outline = c.requires.outline.0; is = c.view-view.ensures; fills = c.requires.moov.0; bytes = c.requires.moov.1 } in
     let head = c.in_ok-head.head in
     let says = c.in_ok-head.ensures.head in
     let sound = (c.in_ok-head.ensures.exact 0).names in
@@ -207,7 +207,7 @@ returns-in_err-passed-clause-exact g c =
     let outline = c.args.outline.now in
     let moov = c.args.moov.now in
     let b = box_seen c.view-view.result in
-    let r : IsRead honest file outline moov b = record { outline = c.requires.outline; is = c.view-view.ensures; fills = c.requires.moov.0; bytes = c.requires.moov.1 } in
+    let r : IsRead honest file outline moov b = record { outline = c.requires.outline.0; is = c.view-view.ensures; fills = c.requires.moov.0; bytes = c.requires.moov.1 } in
     let bytes : AreBytes c.args.moov.now = λ k. search rules in
     let head = c.in_ok-head.head in
     let says = c.in_ok-head.ensures.head in
@@ -227,7 +227,7 @@ returns-in_err-mehd-clause-exact g c =
     let outline = c.args.outline.now in
     let moov = c.args.moov.now in
     let b = box_seen c.view-view.result in
-    let r : IsRead honest file outline moov b = record { outline = c.requires.outline; is = c.view-view.ensures; fills = c.requires.moov.0; bytes = c.requires.moov.1 } in
+    let r : IsRead honest file outline moov b = record { outline = c.requires.outline.0; is = c.view-view.ensures; fills = c.requires.moov.0; bytes = c.requires.moov.1 } in
     let bytes : AreBytes c.args.moov.now = λ k. search rules in
     let head = c.in_ok-head.head in
     let says = c.in_ok-head.ensures.head in
@@ -252,7 +252,7 @@ returns-clause-exact g c =
     let outline = c.args.outline.now in
     let moov = c.args.moov.now in
     let b = box_seen c.view-view.result in
-    let r : IsRead honest file outline moov b = record { outline = c.requires.outline; is = c.view-view.ensures; fills = c.requires.moov.0; bytes = c.requires.moov.1 } in
+    let r : IsRead honest file outline moov b = record { outline = c.requires.outline.0; is = c.view-view.ensures; fills = c.requires.moov.0; bytes = c.requires.moov.1 } in
     let bytes : AreBytes c.args.moov.now = λ k. search rules in
     let head = c.in_ok-head.head in
     let says = c.in_ok-head.ensures.head in

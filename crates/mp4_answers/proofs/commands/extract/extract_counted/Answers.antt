@@ -91,7 +91,7 @@ pub returns-clause-least : goal.returns-clause-least
 returns-clause-least g c = on_judged c.copy_track.result
     (λ told p d.
     let taken = c.in_ok-movie.ensures.least told d.tree d.is_tree in
-    let grown = c.copy_track.ensures.grows in
+    let grown = c.copy_track.ensures.steps.0 in
     omega (arith, taken, grown, opened_least _ p d))
 
 -- ---- looks
@@ -107,4 +107,4 @@ returns-in_err-track-clause-looks g c = λ told.
 
 pub returns-clause-looks : goal.returns-clause-looks
 returns-clause-looks g c = λ told.
-    rw c.copy_track.ensures.looks (finds_taken _ c.in_ok-movie.movie _ _ (c.in_ok-movie.ensures.movie told) (c.in_ok-movie.ensures.work told).looks.said)
+    rw c.copy_track.ensures.steps.1 (finds_taken _ c.in_ok-movie.movie _ _ (c.in_ok-movie.ensures.movie told) (c.in_ok-movie.ensures.work told).looks.said)

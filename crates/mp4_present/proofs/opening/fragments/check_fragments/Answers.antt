@@ -24,7 +24,7 @@ returns-clause-own g c =
     λ told movie boxes b.
     let file = g.S.Store.file c.args.store.now in
     let begun : IsBegun file movie boxes start room = subst (λ (xs : List TrackState). IsBegun file movie boxes xs room) old b in
-    let noted = c.in_ok-passed.ensures.own told first movie boxes begun in
+    let noted = (c.in_ok-passed.ensures.passed.1 told).1 first movie boxes begun in
     subst (λ (xs : List TrackState). AreOwnBehind file movie boxes xs (map own_seen owns)) s noted
 
 pub returns-clause-exact : goal.returns-clause-exact

@@ -34,17 +34,17 @@ loop-top-init g c =
         states = search rules;
         few = search rules;
         longest = search rules;
-        whole = rw c.deref-top-items.ensures.value c.requires.whole;
-        to_come = λ told. let o = c.requires.outline told in rw c.deref-top-items.ensures.value o.3.moofs;
-        left = λ told. let o = c.requires.outline told in left_first file o.0 outline o.1 o.3;
-        so = λ told movie boxes b. let o = c.requires.outline told in under_way_first file movie boxes o.0 outline c.args.states.now c.args.start.room o.1 o.3 b;
-        first = λ told movie boxes b. let o = c.requires.outline told in judged_first file movie boxes o.0 outline c.args.states.now c.args.start.room o.1 o.3 b;
-        each = c.requires.rooms.1;
+        whole = rw c.deref-top-items.ensures.value c.requires.outline.1;
+        to_come = λ told. let o = c.requires.outline.0 told in rw c.deref-top-items.ensures.value o.3.moofs;
+        left = λ told. let o = c.requires.outline.0 told in left_first file o.0 outline o.1 o.3;
+        so = λ told movie boxes b. let o = c.requires.outline.0 told in under_way_first file movie boxes o.0 outline c.args.states.now c.args.start.room o.1 o.3 b;
+        first = λ told movie boxes b. let o = c.requires.outline.0 told in judged_first file movie boxes o.0 outline c.args.states.now c.args.start.room o.1 o.3 b;
+        each = c.requires.room.3;
         told = c.requires.tracks.1;
         silent = c.requires.tracks.2;
         ids = refl;
         places = c.requires.tracks.0;
-        own = λ told movie boxes b own. let o = c.requires.outline told in owns_first file movie boxes o.0 outline c.args.states.now c.args.start.room (map own_seen c.args.tracks.now.own.items) o.1 o.3 b own;
+        own = λ told movie boxes b own. let o = c.requires.outline.0 told in owns_first file movie boxes o.0 outline c.args.states.now c.args.start.room (map own_seen c.args.tracks.now.own.items) o.1 o.3 b own;
         work = λ told. steps_first file _;
         looked = λ told. looks_first file _ _;
         looks = λ told. none_looked _ _ _ _;
@@ -78,7 +78,7 @@ loop-top-preserved g c =
     let whole = next_whole items k c.loop-top-test.true (length file) i.whole in
     let coming = λ (told : IsTrue (g.S.Store.is_honest c.args.store.now)). next_moof items k c.loop-top-test.true file at (i.to_come told) in
     let many : length c.loop-top.states ≡ length c.args.states.now = search rules in
-    let same = told_both c.loop-top.tracks c.check_moof_by.new.tracking (λ owns now. length now ≡ length owns) i.told c.if-tracks.false c.in_ok-check_moof_by.ensures.each in
+    let same = told_both c.loop-top.tracks c.check_moof_by.new.tracking (λ owns now. length now ≡ length owns) i.told c.if-tracks.false c.in_ok-check_moof_by.ensures.own.each in
     let each = sym (length-map c.check_moof_by.new.tracking.own.items own_seen) ∙ same ∙ length-map c.loop-top.tracks.own.items own_seen ∙ i.each in (
       top.header.end,
       record {
@@ -102,7 +102,7 @@ loop-top-preserved g c =
             } in
             next_passed file movie boxes at c.args.start.outline.now.longest c.args.states.now c.loop-top.states c.args.start.room c.loop-top.room b u top whole.0 ((coming told).0 u.left.boxes u.left.are_from)
             (box_seen c.view-moof.result) c.read_payload.new.room c.in_ok-len.len c.len-file_len.result r c.len-file_len.ensures
-            c.check_moof_by.new.tracks c.check_moof_by.new.room c.in_ok-check_moof_by.ensures.sound c.in_ok-check_moof_by.ensures.moved;
+            c.check_moof_by.new.tracks c.check_moof_by.new.room c.in_ok-check_moof_by.ensures.sound.0 c.in_ok-check_moof_by.ensures.sound.1;
         first = λ told movie boxes b.
             let u = i.first told movie boxes b in
             let r : IsRead file top (box_seen c.view-moof.result) c.read_payload.new.room c.in_ok-len.len = record {
@@ -114,12 +114,12 @@ loop-top-preserved g c =
             } in
             judged_next file movie boxes at c.args.start.outline.now.longest c.args.states.now c.loop-top.states c.args.start.room c.loop-top.room b u top whole.0 ((coming told).0 u.0.left.boxes u.0.left.are_from)
             (box_seen c.view-moof.result) c.read_payload.new.room c.in_ok-len.len c.len-file_len.result r c.len-file_len.ensures
-            c.check_moof_by.new.tracks c.check_moof_by.new.room c.in_ok-check_moof_by.ensures.sound c.in_ok-check_moof_by.ensures.moved c.in_ok-check_moof_by.ensures.exact.names;
+            c.check_moof_by.new.tracks c.check_moof_by.new.room c.in_ok-check_moof_by.ensures.sound.0 c.in_ok-check_moof_by.ensures.sound.1 c.in_ok-check_moof_by.ensures.exact.names;
         each = each;
         told = c.if-tracks.false;
         silent = c.in_ok-check_moof_by.ensures.told i.silent;
-        ids = c.in_ok-check_moof_by.ensures.accepted.kept.ids ∙ i.ids;
-        places = rw c.in_ok-check_moof_by.ensures.accepted.kept.ids (c.check_moof_by.ensures.knows _ i.places);
+        ids = c.in_ok-check_moof_by.ensures.accepted.1.kept.ids ∙ i.ids;
+        places = rw c.in_ok-check_moof_by.ensures.accepted.1.kept.ids (c.check_moof_by.ensures.knows _ i.places);
         own = λ told movie boxes b own.
             let u = i.own told movie boxes b own in
             let r : IsRead file top (box_seen c.view-moof.result) c.read_payload.new.room c.in_ok-len.len = record {
@@ -131,9 +131,9 @@ loop-top-preserved g c =
             } in
             owns_next file movie boxes at c.args.start.outline.now.longest c.args.states.now c.loop-top.states c.args.start.room c.loop-top.room (map own_seen c.loop-top.tracks.own.items) b u top whole.0 ((coming told).0 u.0.left.boxes u.0.left.are_from)
             (box_seen c.view-moof.result) c.read_payload.new.room c.in_ok-len.len c.len-file_len.result r c.len-file_len.ensures
-            c.check_moof_by.new.tracks c.check_moof_by.new.room (map own_seen c.check_moof_by.new.tracking.own.items) c.in_ok-check_moof_by.ensures.sound c.in_ok-check_moof_by.ensures.moved
+            c.check_moof_by.new.tracks c.check_moof_by.new.room (map own_seen c.check_moof_by.new.tracking.own.items) c.in_ok-check_moof_by.ensures.sound.0 c.in_ok-check_moof_by.ensures.sound.1
             (λ trexes defaults apart. told_both c.loop-top.tracks c.check_moof_by.new.tracking (λ owns now. length owns ≡ length c.loop-top.states → now ≡ noted_in trexes (tree_of (box_seen c.view-moof.result)) c.loop-top.states owns) i.told c.if-tracks.false
-            (c.in_ok-check_moof_by.ensures.own trexes defaults apart) (length-map c.loop-top.tracks.own.items own_seen ∙ i.each ∙ sym many));
+            (c.in_ok-check_moof_by.ensures.own.all trexes defaults apart) (length-map c.loop-top.tracks.own.items own_seen ∙ i.each ∙ sym many));
         work = λ told all h.
             let u = i.work told all h in
             let r : IsRead file top (box_seen c.view-moof.result) c.read_payload.new.room c.in_ok-len.len = record {
@@ -145,7 +145,7 @@ loop-top-preserved g c =
             } in
             let e = c.in_ok-check_moof_by.ensures in
             next_checked file at top all whole.0 u.0 u.1.0 ((coming told).0 u.0 u.1.0) (box_seen c.view-moof.result) c.read_payload.new.room c.in_ok-len.len r
-            _ _ _ (checked_all _ _ _ _ _ _ _ (box_seen c.view-moof.result) refl e.moved e.work.cost) u.1.1;
+            _ _ _ (checked_all _ _ _ _ _ _ _ (box_seen c.view-moof.result) refl e.sound.1 e.work.cost) u.1.1;
         looked = λ told all h.
             let u = i.looked told all h in
             let r : IsRead file top (box_seen c.view-moof.result) c.read_payload.new.room c.in_ok-len.len = record {
@@ -180,42 +180,40 @@ loop-top-preserved g c =
     )
 
 pub returns-clause-passed : goal.returns-clause-passed
-returns-clause-passed g c = λ told movie boxes b.
+returns-clause-passed g c =
     let at = c.loop-top.invariant.0 in
     let i = c.loop-top.invariant.1 in
-    let u = i.so told movie boxes b in
-    let file = g.S.Store.file c.args.store.now in
-    all_passed file movie boxes at c.args.start.outline.now.longest c.loop-top.states c.loop-top.room u (last_moof file at c.deref-top-items.result.now c.loop-top.top-index c.loop-top-test.false (i.to_come told) u.left.boxes u.left.are_from)
-
-pub returns-clause-own : goal.returns-clause-own
-returns-clause-own g c = λ told own movie boxes b.
-    let at = c.loop-top.invariant.0 in
-    let i = c.loop-top.invariant.1 in
-    let u = i.own told movie boxes b own in
-    let file = g.S.Store.file c.args.store.now in
-    all_noted file movie boxes at c.args.start.outline.now.longest c.loop-top.states c.loop-top.room (map own_seen c.loop-top.tracks.own.items) u (last_moof file at c.deref-top-items.result.now c.loop-top.top-index c.loop-top-test.false (i.to_come told) u.0.left.boxes u.0.left.are_from)
+    let file = g.S.Store.file c.args.store.now in (
+      i.each,
+      λ told. (
+        (λ movie boxes b.
+        let u = i.so told movie boxes b in
+        all_passed file movie boxes at c.args.start.outline.now.longest c.loop-top.states c.loop-top.room u (last_moof file at c.deref-top-items.result.now c.loop-top.top-index c.loop-top-test.false (i.to_come told) u.left.boxes u.left.are_from)),
+        (λ own movie boxes b.
+        let u = i.own told movie boxes b own in
+        all_noted file movie boxes at c.args.start.outline.now.longest c.loop-top.states c.loop-top.room (map own_seen c.loop-top.tracks.own.items) u (last_moof file at c.deref-top-items.result.now c.loop-top.top-index c.loop-top-test.false (i.to_come told) u.0.left.boxes u.0.left.are_from)),
+      ),
+    )
 
 pub returns-clause-work : goal.returns-clause-work
-returns-clause-work g c =
-    λ told. record {
-      work = checks_done _ _ _ _ (c.loop-top.invariant.1.work told);
-      within = all_fit _ _ _ _ _ (c.loop-top.invariant.1.fit told);
-      looks = record { said = looks_done _ _ _ _ _ (c.loop-top.invariant.1.looked told); within = all_looked _ _ _ _ _ (c.loop-top.invariant.1.looks told) };
-    }
-
-pub returns-clause-least : goal.returns-clause-least
-returns-clause-least g c = λ told.
+returns-clause-work g c = λ told.
     let at = c.loop-top.invariant.0 in
-    let i = c.loop-top.invariant.1 in
-    checks_all _ at _ _ (i.work told) (last_moof (g.S.Store.file c.args.store.now) at c.deref-top-items.result.now c.loop-top.top-index c.loop-top-test.false (i.to_come told))
+    let i = c.loop-top.invariant.1 in (
+      record {
+        work = checks_done _ _ _ _ (i.work told);
+        within = all_fit _ _ _ _ _ (i.fit told);
+        looks = record { said = looks_done _ _ _ _ _ (i.looked told); within = all_looked _ _ _ _ _ (i.looks told) };
+      },
+      checks_all _ at _ _ (i.work told) (last_moof (g.S.Store.file c.args.store.now) at c.deref-top-items.result.now c.loop-top.top-index c.loop-top-test.false (i.to_come told)),
+    )
 
 pub returns-in_err-len-clause-work : goal.returns-in_err-len-clause-work
 returns-in_err-len-clause-work g c =
-    λ told. record {
+    λ told. (record {
       work = if_no_fault _ _ (checks_done _ _ _ _ (c.loop-top.invariant.1.work told));
       within = all_fit _ _ _ _ _ (c.loop-top.invariant.1.fit told);
       looks = record { said = if_no_fault _ _ (looks_done _ _ _ _ _ (c.loop-top.invariant.1.looked told)); within = all_looked _ _ _ _ _ (c.loop-top.invariant.1.looks told) };
-    }
+    }, tt)
 
 pub returns-in_err-check_moof_by-clause-work : goal.returns-in_err-check_moof_by-clause-work
 returns-in_err-check_moof_by-clause-work g c =
@@ -239,14 +237,14 @@ returns-in_err-check_moof_by-clause-work g c =
       of_bytes = c.in_ok-len.ensures.room;
     } in
     let stands = let l = i.left told in stands_behind file at top l.boxes ((coming told).0 l.boxes l.are_from) in
-    record {
+    (record {
       work = tt;
       within = refused_fits file at top whole.0 stands moof c.read_payload.new.room c.in_ok-len.len r _ _ _ _ c.check_moof_by.ensures.work.most (i.fit told);
       looks = record {
         said = tt;
         within = refused_looks file at top whole.0 stands moof c.read_payload.new.room c.in_ok-len.len r (min 1 (length c.args.states.now)) _ _ _ (rw many at c.check_moof_by.ensures.looks.most) (i.looks told);
       };
-    })
+    }, tt))
 
 pub returns-then-tracks-clause-work : goal.returns-then-tracks-clause-work
 returns-then-tracks-clause-work g c =
@@ -270,10 +268,10 @@ returns-then-tracks-clause-work g c =
       of_bytes = c.in_ok-len.ensures.room;
     } in
     let stands = let l = i.left told in stands_behind file at top l.boxes ((coming told).0 l.boxes l.are_from) in
-    record {
+    (record {
       work = checks_done file top.header.end _ _ (λ all h.
           let u = i.work told all h in
-          next_checked file at top all whole.0 u.0 u.1.0 ((coming told).0 u.0 u.1.0) moof c.read_payload.new.room c.in_ok-len.len r _ _ _ (checked_all _ _ _ _ _ _ _ moof refl e.moved e.work.cost) u.1.1);
+          next_checked file at top all whole.0 u.0 u.1.0 ((coming told).0 u.0 u.1.0) moof c.read_payload.new.room c.in_ok-len.len r _ _ _ (checked_all _ _ _ _ _ _ _ moof refl e.sound.1 e.work.cost) u.1.1);
       within = all_fit _ _ _ _ _ (next_fits file at top whole.0 stands moof c.read_payload.new.room c.in_ok-len.len r _ _ _ _ _ e.work.within (i.fit told));
       looks = record {
         said = looks_done file top.header.end _ _ _ (λ all h.
@@ -281,7 +279,7 @@ returns-then-tracks-clause-work g c =
             next_looked file at top all whole.0 u.0 u.1.0 ((coming told).0 u.0 u.1.0) moof c.read_payload.new.room c.in_ok-len.len r (min 1 (length c.args.states.now)) _ _ _ (rw many at e.looks.each) u.1.1);
         within = all_looked _ _ _ _ _ (next_looks file at top whole.0 stands moof c.read_payload.new.room c.in_ok-len.len r (min 1 (length c.args.states.now)) _ _ _ (rw many at c.check_moof_by.ensures.looks.most) (i.looks told));
       };
-    }
+    }, tt)
 
 pub returns-in_err-len-clause-exact : goal.returns-in_err-len-clause-exact
 returns-in_err-len-clause-exact g c =

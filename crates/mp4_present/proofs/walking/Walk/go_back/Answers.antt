@@ -1,4 +1,4 @@
-use Rattle.std.proofs.Common.{refl, true, ◌≡◌, ◌+◌, ◌-◌, ◌∙◌, ℕ, [], ◌∷◌, ◌++◌, None, Some, length, drop, sym, ap, subst, arith}
+use Rattle.std.proofs.Common.{refl, true, false, Bool, is_none, ◌≡◌, ◌+◌, ◌-◌, ◌∙◌, ℕ, [], ◌∷◌, ◌++◌, None, Some, length, drop, sym, ap, subst, arith}
 use Rattle.std.proofs.lemmas.Result.{err_from_is_err_and}
 use Rattle.mp4_frag.specs.words.OwnTrafs.{traf_steps}
 use Rattle.mp4_present.specs.words.SamplesComing.{Comes}
@@ -14,6 +14,9 @@ use Rattle.mp4_present.proofs.WalkCopied.{hand_one}
 use Rattle.mp4_present.proofs.WayThrough.{takes_then}
 use Rattle.mp4_present.proofs.walking.Walk.go_back.Goals as goal
 use Rattle.mp4_boxes.proofs.Plain.{get_some}
+
+no_more : {b : Bool} → b ≡ false → b ≡ true → ⊥
+no_more no yes = cc
 
 -- ---- what was in hand is at hand
 
@@ -43,9 +46,10 @@ returns-in_default-clause-work g c told tree t begun to_come n o h may =
     (n, c.mark.ensures.may file tree t n (subst (λ (v : Walk). MayTake file tree t v n) (sym c.set_back.ensures) (may_back file m tree t begun w to_come h c.requires at n may)), omega arith)
 
 pub returns-in_default-clause-still : goal.returns-in_default-clause-still
-returns-in_default-clause-still g c none =
+returns-in_default-clause-still g c =
     let w = c.args.self.now in
-    (refl, refl, refl, c.mark.ensures.mark ∙ ap (λ (v : Walk). record v { mark = mark_of v w.mark.to_come }) c.set_back.ensures)
+    ((λ _. (refl, refl, refl, c.mark.ensures.mark ∙ ap (λ (v : Walk). record v { mark = mark_of v w.mark.to_come }) c.set_back.ensures)),
+    λ again. absurd (no_more again (ap is_none (sym c.again_from.ensures ∙ c.in_default.is))))
 
 -- ---- the `traf` of the mark is read again
 
