@@ -21,9 +21,10 @@ use Rattle.mp4_present.proofs.OwnPlaced.{own_steps}
 use Rattle.mp4_present.proofs.OwnSums.{owns_few}
 use Rattle.mp4_present.proofs.PartsOnce.{parts_once}
 use Rattle.mp4_plan.specs.words.WriterSteps.{track_writes, writing_steps}
-use Rattle.mp4_present.proofs.Counts.{parts_total, sum-append, sizes_few, fragments_total, total_is, all_belong}
+use Rattle.mp4_present.proofs.Counts.{parts_total, sizes_few, fragments_total, total_is, all_belong}
 use Rattle.mp4_answers.specs.format.CompareHeadline.{most_walks}
 use Rattle.mp4_answers.specs.format.Steps.{row_total}
+use Rattle.mp4_tables.proofs.Sums.{sum_joined}
 
 -- ---- sums over tracks
 
@@ -74,7 +75,7 @@ moofs_sum trexes [] h = refl
 moofs_sum trexes (f ∷ fragments) h =
     let own = one_moof f h.0 in
     let others = moofs_sum trexes fragments h.1 in
-    let split = sum-append (λ (q : Part). length (part_samples q)) (parts_of trexes (fragment_of f)) (all_parts trexes (map fragment_of fragments)) in
+    let split = sum_joined (λ (q : Part). length (part_samples q)) (parts_of trexes (fragment_of f)) (all_parts trexes (map fragment_of fragments)) in
     let samples = parts_said trexes (fragment_of f) in
     omega (arith, own, others, split, samples)
 

@@ -14,7 +14,6 @@ use Rattle.mp4_boxes.specs.declared.rule.Rule.{Rule}
 use Rattle.mp4_boxes.specs.declared.rule.Rule.TheVariants.{File, Movie, Track, Edits, Media, MediaInformation, DataInformation, SampleTable, MovieExtends, MovieFragment, TrackFragment}
 use Rattle.mp4_boxes.proofs.Tiling.{IsRead, header_is}
 use Rattle.mp4_boxes.proofs.Plain.{false_and_true}
-use Rattle.mp4_tables.proofs.RowLists.{field_behind}
 use Rattle.mp4_answers.specs.declared.box_names.Name.{Name}
 use Rattle.mp4_answers.specs.format.BoxWalk.{rule_inside}
 use Rattle.mp4_answers.specs.format.Texts.{uuid_in}
@@ -22,6 +21,7 @@ use Rattle.mp4_answers.specs.format.Strips.{is_top, is_named, freed, payload_beh
 use Rattle.mp4_answers.specs.format.StripLaws.{NamedBoxAt, at_front, further, inside, SparesFree, StripLeavesNone, StripTwiceIsOnce, ForeignSparesFree}
 use Rattle.mp4_answers.proofs.StripCopies.{same_header, no_header}
 use Rattle.mp4_answers.proofs.StripLaws.{length_box, length_freed, length_payload, strip_length, four_first, unnamed_is_copied}
+use Rattle.mp4_boxes.proofs.OfBytes.{field_dropped}
 
 -- ---- a header with another type
 
@@ -148,7 +148,7 @@ freed_header is_open bytes rest h e long =
     let wide_box : h.length ≡ 16 → 8 ≤ length (drop 8 box) = λ wide. let d : length (drop 8 box) ≡ length box - 8 = length-drop 8 box in omega (arith, d, l, wide, from) in
     let second : h.length ≡ 16 → field text 8 8 ≡ field bytes 8 8 =
     λ wide.
-    sym (field_behind 8 0 8 text) ∙ ap (λ (xs : List ℕ). field xs 0 8) (behind_eight box rest long_box) ∙ big_from-append 8 (drop 8 box) rest (wide_box wide) ∙ field_behind 8 0 8 box
+    sym (field_dropped 8 0 8 text) ∙ ap (λ (xs : List ℕ). field xs 0 8) (behind_eight box rest long_box) ∙ big_from-append 8 (drop 8 box) rest (wide_box wide) ∙ field_dropped 8 0 8 box
     ∙ big_from-take 8 8 h.size bytes (omega (arith, wide, from))
     in
     let x = header_again is_open bytes text h e long first second in

@@ -25,22 +25,22 @@ abbrev Outcome : Rule → Container → Result (List Box) Fault → Type 0
 Outcome rule c (Ok bs) = Good rule c bs × IsFull c.extent (length c.bytes) bs
 Outcome rule c (Err f) = IsHeaderFault c f ⊎ (IsNotInProfile rule c f ⊎ IsDuplicate rule c f)
 
-length_few : (is_open : Bool) (at : ℕ) (bytes : List ℕ) (bs : List Box) → LieEndToEnd is_open at bytes bs → length bs ≤ sizes bs
+pub length_few : (is_open : Bool) (at : ℕ) (bytes : List ℕ) (bs : List Box) → LieEndToEnd is_open at bytes bs → length bs ≤ sizes bs
 length_few is_open at bytes [] l = omega arith
 length_few is_open at bytes (b ∷ bs) l =
     omega (arith, sizes-cons b bs, length_few is_open (at + size b) (drop (size b) bytes) bs l.1, (first_fits is_open at bytes b bs l).0)
 
-due_is : (e : Extent) (left : ℕ) (bs : List Box) → is_due e left (length bs) (sizes bs) ≡ true → IsDue e left bs
+pub due_is : (e : Extent) (left : ℕ) (bs : List Box) → is_due e left (length bs) (sizes bs) ≡ true → IsDue e left bs
 due_is to_end_of_file left bs d = ltb-true (sizes bs) left d
 due_is to_end_of_box left bs d = ltb-true (sizes bs) left d
 due_is (counted n) left bs d = ltb-true (length bs) n d
 
-full_is : (e : Extent) (left : ℕ) (bs : List Box) → is_due e left (length bs) (sizes bs) ≡ false → sizes bs ≤ left → IsCounted e bs → IsFull e left bs
+pub full_is : (e : Extent) (left : ℕ) (bs : List Box) → is_due e left (length bs) (sizes bs) ≡ false → sizes bs ≤ left → IsCounted e bs → IsFull e left bs
 full_is to_end_of_file left bs d le c = let g = ltb-false (sizes bs) left d in omega arith
 full_is to_end_of_box left bs d le c = let g = ltb-false (sizes bs) left d in omega arith
 full_is (counted n) left bs d le c = let g = ltb-false (length bs) n d in omega arith
 
-one_more : (e : Extent) (left : ℕ) (bs : List Box) (b : Box) → IsDue e left bs → IsCounted e (bs ++ b ∷ [])
+pub one_more : (e : Extent) (left : ℕ) (bs : List Box) (b : Box) → IsDue e left bs → IsCounted e (bs ++ b ∷ [])
 one_more to_end_of_file left bs b d = tt
 one_more to_end_of_box left bs b d = tt
 one_more (counted n) left bs b d = omega (arith, d, length-append bs (b ∷ []))
@@ -106,7 +106,7 @@ judged_by rule c (Ok bs) o = by (lacks rule bs) refl
     by true l = rw l (inr (inr (inr (record { boxes = bs; tiles = record { front = o.0.front; full = o.1 }; lacking = l; named = refl }))))
     by false l = rw l (record { tiles = record { front = o.0.front; full = o.1 }; allowed = o.0.allowed; quantities = quantities_are (table rule) bs o.0.few l })
 
-none_counted : (e : Extent) → IsCounted e []
+pub none_counted : (e : Extent) → IsCounted e []
 none_counted to_end_of_file = tt
 none_counted to_end_of_box = tt
 none_counted (counted n) = omega arith

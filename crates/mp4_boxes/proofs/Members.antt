@@ -5,6 +5,7 @@ use Rattle.std.proofs.lemmas.Bool.{cases_lt}
 use Rattle.mp4_boxes.specs.format.Box.{Box, Extent, to_end_of_file, to_end_of_box, counted, may_be_open, sizes, LieEndToEnd, Container, IsFull, IsCounted, Tiles, StandsAfter}
 use Rattle.mp4_boxes.specs.format.Children.{count_among}
 use Rattle.mp4_boxes.proofs.Tiling.{front_by_length, lies_behind, first_fits, sizes-cons, sizes-append, sizes_fit}
+use Rattle.mp4_boxes.proofs.Among.{hit_counts}
 
 one_more : (before more : List Box) (b : Box) → before ++ b ∷ more ≡ (before ++ b ∷ []) ++ more
 one_more before more b = simp append_assoc
@@ -14,9 +15,6 @@ count_one : (kind : List ℕ) (before after : List Box) (b : Box) → bytes_eq k
 count_one kind [] after b e = rw e (omega arith)
 count_one kind (c ∷ before) after b e = omega (arith, count_one kind before after b e)
 
-count_head : (kind : List ℕ) (c : Box) (bs : List Box) → bytes_eq kind c.kind ≡ true → count_among (kind ∷ []) (c ∷ bs) ≡ 1 + count_among (kind ∷ []) bs
-count_head kind c bs e = rw e refl
-
 count_skip : (kind : List ℕ) (c : Box) (bs : List Box) → bytes_eq kind c.kind ≡ false → count_among (kind ∷ []) (c ∷ bs) ≡ 0 + count_among (kind ∷ []) bs
 count_skip kind c bs e = rw e refl
 
@@ -25,7 +23,7 @@ found kind empty boxes = unwrap_or (find (λ (x : Box). bytes_eq kind x.kind) bo
 
 found_behind : (kind : List ℕ) (c b empty : Box) (bs : List Box) (v : Bool) → bytes_eq kind c.kind ≡ v → 1 ≤ count_among (kind ∷ []) bs → count_among (kind ∷ []) (c ∷ bs) ≡ 1
     → (count_among (kind ∷ []) bs ≡ 1 → found kind empty bs ≡ b) → found kind empty (c ∷ bs) ≡ b
-found_behind kind c b empty bs true h some n behind = absurd (omega (arith, count_head kind c bs h, some, n))
+found_behind kind c b empty bs true h some n behind = absurd (omega (arith, hit_counts kind c bs h, some, n))
 found_behind kind c b empty bs false h some n behind = rw h (behind (omega (arith, count_skip kind c bs h, n)))
 
 -- where one box of a type stands, it is the one that is found

@@ -33,7 +33,7 @@ passed_more base bytes count at h p e =
     }
 
 -- each box takes some bytes
-length_few : (base : ℕ) (bytes : List ℕ) (boxes : List Box) → LieEndToEnd false base bytes boxes → length boxes ≤ sizes boxes
+pub length_few : (base : ℕ) (bytes : List ℕ) (boxes : List Box) → LieEndToEnd false base bytes boxes → length boxes ≤ sizes boxes
 length_few base bytes [] l = omega arith
 length_few base bytes (b ∷ boxes) l =
     omega (arith, sizes-cons b boxes, length_few (base + size b) (drop (size b) bytes) boxes l.1, (first_fits false base bytes b boxes l).0)
@@ -53,7 +53,7 @@ pub passed_within : (base : ℕ) (bytes : List ℕ) (count at : ℕ) → Passed 
 passed_within base bytes count at p = omega (arith, sizes_fit false base bytes p.boxes p.lie, p.taken)
 
 -- a box in front, where its header can be read
-first_then : (at : ℕ) (bytes : List ℕ) (b : Box) (more : List Box) (r : Result Header Kind) (h : Header) (behind : Header → List Box) → r ≡ Ok h → b ≡ box_of at bytes h → more ≡ behind h
+pub first_then : (at : ℕ) (bytes : List ℕ) (b : Box) (more : List Box) (r : Result Header Kind) (h : Header) (behind : Header → List Box) → r ≡ Ok h → b ≡ box_of at bytes h → more ≡ behind h
     → box_and_more at bytes r behind ≡ b ∷ more
 first_then at bytes b more (Ok g) h behind e f m = let same : g ≡ h = cc in rw (same, f, m) refl
 first_then at bytes b more (Err k) h behind e f m = absurd cc

@@ -12,13 +12,13 @@ use Rattle.mp4_present.specs.words.SamplesComing.{track_samples}
 use Rattle.mp4_present.specs.words.WalkSteps.{walk_steps, walks_steps}
 use Rattle.mp4_present.specs.declared.track_info.TrackInfo.{TrackInfo}
 use Rattle.mp4_content.specs.declared.without.Without.{Without}
-use Rattle.mp4_present.proofs.Counts.{sum-append}
 use Rattle.mp4_content.specs.words.ComingLess.{asks_first, plain_reduction, reduction_by, track_reduction, reductions_of}
 use Rattle.mp4_content.specs.words.Measuring.{AreTotals, no_total, total_from, track_total}
 use Rattle.mp4_content.specs.declared.measures.Total.{Total}
 use Rattle.mp4_content.specs.declared.reduced.Reduction.{Reduction}
 use Rattle.mp4_content.proofs.AtPlaces.{read_at, taken_next}
 use Rattle.mp4_content.proofs.SamplesTaken.{as_many}
+use Rattle.mp4_tables.proofs.Sums.{sum_joined}
 
 totals_behind : (l : Without) (tree : FileTree) (ts : List TrackTree) (infos : List TrackInfo) (xs : List Total) (t : TrackTree) (info : TrackInfo) (x : Total) → AreTotals l tree ts infos xs → x ≡ track_total l tree t info → AreTotals l tree (ts ++ t ∷ []) (infos ++ info ∷ []) (xs ++ x ∷ [])
 totals_behind l tree [] [] [] t info x h e = (e, tt)
@@ -74,7 +74,7 @@ module _ (l : Without) (file : List ℕ) (m : MovieSeen) (tree : FileTree) (o : 
   -- in so many steps
   pub steps_more : (k old before now : ℕ) (a : IsAt k) → before ≤ old + sum_of (walk_steps tree) (take k tree.movie.tracks) → now ≤ before + walk_steps tree a.t → now ≤ old + sum_of (walk_steps tree) (take (k + 1) tree.movie.tracks)
   steps_more k old before now a h e =
-      let next = ap (sum_of (walk_steps tree)) (taken_next tree.movie.tracks k a.t a.is_tree) ∙ sum-append (walk_steps tree) (take k tree.movie.tracks) (a.t ∷ []) in
+      let next = ap (sum_of (walk_steps tree)) (taken_next tree.movie.tracks k a.t a.is_tree) ∙ sum_joined (walk_steps tree) (take k tree.movie.tracks) (a.t ∷ []) in
       omega (arith, h, e, next)
 
   take_fewer : {A : Type 0} (f : A → ℕ) (xs : List A) (k : ℕ) → sum_of f (take k xs) ≤ sum_of f xs

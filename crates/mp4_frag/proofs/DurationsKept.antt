@@ -62,7 +62,7 @@ sum_of_mapped : {A : Type 0} (f : A → ℕ) (xs : List A) → sum_of f xs ≡ s
 sum_of_mapped f [] = refl
 sum_of_mapped f (x ∷ xs) = ap (λ n. f x + n) (sum_of_mapped f xs)
 
-rows_count : (n v bits : ℕ) (bytes : List ℕ) → length (run_rows n v bits bytes) ≡ n
+pub rows_count : (n v bits : ℕ) (bytes : List ℕ) → length (run_rows n v bits bytes) ≡ n
 rows_count zero v bits bytes = refl
 rows_count (suc n) v bits bytes = ap suc (rows_count n v bits (drop (width_of (present bits sample_columns)) bytes))
 

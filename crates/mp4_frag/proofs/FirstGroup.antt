@@ -6,7 +6,8 @@ use Rattle.mp4_boxes.specs.declared.fault.Kind.{Kind}
 use Rattle.mp4_boxes.specs.declared.fault.Kind.TheVariants.{DuplicateBox, BadValue, CountMismatch, OutsideData, OffsetTooLarge}
 use Rattle.mp4_tables.specs.format.Groups.{GroupKey, Grouping, one_of_key, few_keys, index_range, group_counts, grouping_of, keeps}
 use Rattle.mp4_frag.specs.words.FragmentTests.{shape_tests, name_tests, one_group_tests}
-use Rattle.mp4_frag.proofs.FirstRun.{in_front, behind_all}
+use Rattle.mp4_frag.proofs.FirstRun.{behind_all}
+use Rattle.mp4_tables.proofs.InOrder.{fails_first}
 
 -- where a leaf has none of these values, what is tested of it is its shape
 abbrev fine : List (Test Kind)
@@ -18,7 +19,7 @@ rest n first before payload =
     (keeps one_of_key n first before (grouping_of payload), DuplicateBox) ∷ (keeps few_keys n first before (grouping_of payload), BadValue) ∷ (keeps index_range n first before (grouping_of payload), BadValue) ∷ (keeps group_counts n first before (grouping_of payload), CountMismatch) ∷ fine
 
 pub group_shape : (n : ℕ) (first : List GroupKey) (before : List Grouping) (payload : List ℕ) (k : Kind) → first_failed (leaf_tests sbgp payload) ≡ Some k → first_failed (one_group_tests n first before payload) ≡ Some k
-group_shape n first before payload k e = in_front (shape_tests sbgp payload) (rest n first before payload) k (by (shape_tests sbgp payload) e)
+group_shape n first before payload k e = fails_first (shape_tests sbgp payload) (rest n first before payload) k (by (shape_tests sbgp payload) e)
   where
     by : (shape : List (Test Kind)) → first_failed (shape ++ fine) ≡ Some k → first_failed shape ≡ Some k
     by [] f = absurd cc
@@ -42,7 +43,7 @@ module _ (n : ℕ) (first : List GroupKey) (before : List Grouping) (payload : L
 
   -- its key is refused
   pub group_name : (k : Kind) → first_failed (name_tests first before (grouping_of payload)) ≡ Some k → first_failed (one_group_tests n first before payload) ≡ Some k
-  group_name k e = behind (Some k) (in_front (name_tests first before (grouping_of payload)) ((keeps index_range n first before (grouping_of payload), BadValue) ∷ (keeps group_counts n first before (grouping_of payload), CountMismatch) ∷ fine) k e)
+  group_name k e = behind (Some k) (fails_first (name_tests first before (grouping_of payload)) ((keeps index_range n first before (grouping_of payload), BadValue) ∷ (keeps group_counts n first before (grouping_of payload), CountMismatch) ∷ fine) k e)
 
   -- it isn't, and these are its indexes and counts
   pub group_rest : (v w : Bool) → first_failed (name_tests first before (grouping_of payload)) ≡ None → keeps index_range n first before (grouping_of payload) ≡ v → keeps group_counts n first before (grouping_of payload) ≡ w

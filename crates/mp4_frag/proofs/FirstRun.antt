@@ -10,15 +10,7 @@ use Rattle.mp4_frag.specs.words.Passing.{within_from}
 use Rattle.mp4_frag.specs.words.RunsJudged.{run_begins}
 use Rattle.mp4_frag.specs.words.FragmentTests.{shape_tests, one_run_tests}
 use Rattle.mp4_frag.specs.declared.sample_runs.Judged.{Judged}
-
--- a test that fails among the first ones, and first ones that don't
-pub in_front : {F : Type 0} (xs ys : List (Test F)) (f : F) → first_failed xs ≡ Some f → first_failed (xs ++ ys) ≡ Some f
-in_front [] ys f e = absurd cc
-in_front (x ∷ xs) ys f e = by x.0 refl (λ more. in_front xs ys f more)
-  where
-    by : (v : Bool) → x.0 ≡ v → (first_failed xs ≡ Some f → first_failed (xs ++ ys) ≡ Some f) → first_failed ((x ∷ xs) ++ ys) ≡ Some f
-    by true k on = let r = (rw k at e) in rw k (on r)
-    by false k on = let r = (rw k at e) in rw k r
+use Rattle.mp4_tables.proofs.InOrder.{fails_first}
 
 pub behind_all : {F : Type 0} (xs ys : List (Test F)) (o : Option F) → first_failed xs ≡ None → first_failed ys ≡ o → first_failed (xs ++ ys) ≡ o
 behind_all [] ys o e g = g
@@ -39,7 +31,7 @@ module _ (judged : Judged) (before : ℤ) (room : ℕ) (payload : List ℕ) wher
   within = within_from judged.file_len judged.inherited.size (run_begins judged.base before payload) (sample_run_of payload).rows
 
   pub run_shape : (k : Kind) → first_failed (shape_tests trun payload) ≡ Some k → first_failed (one_run_tests judged before room payload) ≡ Some k
-  run_shape k e = in_front (shape_tests trun payload) (rest_tests judged before room payload) k e
+  run_shape k e = fails_first (shape_tests trun payload) (rest_tests judged before room payload) k e
 
   pub run_many : first_failed (shape_tests trun payload) ≡ None → nat_le (row_count trun payload) room ≡ false → first_failed (one_run_tests judged before room payload) ≡ Some TooManySamples
   run_many e m = behind_all (shape_tests trun payload) (rest_tests judged before room payload) (Some TooManySamples) e (rw m refl)

@@ -23,9 +23,10 @@ use Rattle.mp4_frag.specs.declared.heads.Inherited.{Inherited}
 use Rattle.mp4_frag.specs.declared.sample_runs.Judged.{Judged}
 use Rattle.mp4_frag.specs.declared.state.TrackState.{TrackState}
 use Rattle.mp4_frag.specs.declared.trex.Trex.{Trex}
-use Rattle.mp4_frag.proofs.FirstRun.{in_front, behind_all}
+use Rattle.mp4_frag.proofs.FirstRun.{behind_all}
 use Rattle.mp4_frag.proofs.RunsPassed.{judged_by}
 use Rattle.mp4_frag.proofs.TrafRefused.{IsOpened}
+use Rattle.mp4_tables.proofs.InOrder.{fails_first}
 
 abbrev Listed : Box → Type 0
 Listed b = children_or_fault rules.TrackFragment (box_container b) ≡ Ok (children_of b)
@@ -38,7 +39,7 @@ list_first L moof before tracks room b f e = rw e refl
 
 module _ (L moof : ℕ) (before : ℤ) (tracks : List TrackState) (room : ℕ) (b h : Box) (listed : children_or_fault rules.TrackFragment (box_container b) ≡ Ok (children_of b)) (only : IsOnly (codes "tfhd") b h) where
   pub head_first : (f : Fault) → first_failed (naming h (leaf_tests tfhd h.payload)) ≡ Some f → traf_fault L moof before tracks room b ≡ Some f
-  head_first f e = rw (listed, only) (in_front (head_tests h) (track_tests L moof before room b h (track_with (traf_in b).id tracks)) f e)
+  head_first f e = rw (listed, only) (fails_first (head_tests h) (track_tests L moof before room b h (track_with (traf_in b).id tracks)) f e)
 
   pub behind_head : (o : Option Fault) → first_failed (naming h (leaf_tests tfhd h.payload)) ≡ None → first_failed (track_tests L moof before room b h (track_with (traf_in b).id tracks)) ≡ o → traf_fault L moof before tracks room b ≡ o
   behind_head o e g = rw (listed, only) (behind_all (head_tests h) (track_tests L moof before room b h (track_with (traf_in b).id tracks)) o e g)
@@ -83,10 +84,10 @@ module _ (judged : Judged) (room : ℕ) (b h : Box) (t : TrackState) where
   described = (not (lacks t judged.inherited.description (runs_total (runs_in b))), fault_of BadDescriptionIndex h) ∷ (groups ++ late)
 
   pub time_first : (f : Fault) → first_failed (time_tests (of_kind (codes "tfdt") (children_of b))) ≡ Some f → first_failed (known_tests judged room b h t) ≡ Some f
-  time_first f e = in_front (time_tests times) (runs ++ described) f e
+  time_first f e = fails_first (time_tests times) (runs ++ described) f e
 
   pub runs_then : (f : Fault) → first_failed (time_tests (of_kind (codes "tfdt") (children_of b))) ≡ None → first_failed (runs_tests judged judged.base room (runs_in b)) ≡ Some f → first_failed (known_tests judged room b h t) ≡ Some f
-  runs_then f e g = behind_all (time_tests times) (runs ++ described) (Some f) e (in_front runs described f g)
+  runs_then f e g = behind_all (time_tests times) (runs ++ described) (Some f) e (fails_first runs described f g)
 
   pub description_then : first_failed (time_tests (of_kind (codes "tfdt") (children_of b))) ≡ None → first_failed (runs_tests judged judged.base room (runs_in b)) ≡ None → lacks t judged.inherited.description (runs_total (runs_in b)) ≡ true
       → first_failed (known_tests judged room b h t) ≡ Some (fault_of BadDescriptionIndex h)
@@ -94,7 +95,7 @@ module _ (judged : Judged) (room : ℕ) (b h : Box) (t : TrackState) where
 
   pub groups_then : (f : Fault) → first_failed (time_tests (of_kind (codes "tfdt") (children_of b))) ≡ None → first_failed (runs_tests judged judged.base room (runs_in b)) ≡ None → lacks t judged.inherited.description (runs_total (runs_in b)) ≡ false
       → first_failed (traf_groups_tests (runs_total (runs_in b)) (keys_seen t.keys) [] (groups_in b)) ≡ Some f → first_failed (known_tests judged room b h t) ≡ Some f
-  groups_then f e g l k = behind_all (time_tests times) (runs ++ described) (Some f) e (behind_all runs described (Some f) g (rw l (in_front groups late f k)))
+  groups_then f e g l k = behind_all (time_tests times) (runs ++ described) (Some f) e (behind_all runs described (Some f) g (rw l (fails_first groups late f k)))
 
   pub rest_then : (o : Option Fault) → first_failed (time_tests (of_kind (codes "tfdt") (children_of b))) ≡ None → first_failed (runs_tests judged judged.base room (runs_in b)) ≡ None → lacks t judged.inherited.description (runs_total (runs_in b)) ≡ false
       → first_failed (traf_groups_tests (runs_total (runs_in b)) (keys_seen t.keys) [] (groups_in b)) ≡ None → first_failed (late_tests t (traf_in b).decode_time (runs_total (runs_in b)) (of_kind (codes "tfdt") (children_of b))) ≡ o → first_failed (known_tests judged room b h t) ≡ o

@@ -9,14 +9,10 @@ use Rattle.mp4_boxes.specs.declared.fault.Kind.{Kind}
 use Rattle.mp4_boxes.specs.declared.fault.Kind.TheVariants.{ShortHeader, BadSize, Overrun}
 use Rattle.mp4_boxes.proofs.HeaderFronts.{header_there-take}
 use Rattle.mp4_boxes.proofs.Walking.{located_ok}
-use Rattle.mp4_boxes.proofs.Tiling.{box_size, header_is, lies_behind, sizes-cons, sizes_fit}
+use Rattle.mp4_boxes.proofs.Tiling.{box_size, header_is, lies_behind, sizes-cons, sizes_fit, guard}
 use Rattle.mp4_frag.specs.words.Tracking.{front_before}
 
 -- ---- a header
-
-guard : {A : Type 0} (b : Bool) (k : Kind) (r : Result A Kind) (y : A) → cond b (Err k) r ≡ Ok y → (b ≡ false) × (r ≡ Ok y)
-guard true k r y e = absurd cc
-guard false k r y e = (refl, e)
 
 ok_same : {A : Type 0} (x y : A) → ◌≡◌ {A = Result A Kind} (Ok x) (Ok y) → x ≡ y
 ok_same x y e = cc

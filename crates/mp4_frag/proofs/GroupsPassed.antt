@@ -19,8 +19,9 @@ use Rattle.std.specs.Prelude.{option_map}
 use Rattle.mp4_boxes.specs.format.FirstFault.{first_failed, naming}
 use Rattle.mp4_tables.proofs.FirstGroups.{named_first}
 use Rattle.mp4_frag.specs.words.FragmentTests.{one_group_tests, traf_groups_tests}
-use Rattle.mp4_frag.proofs.FirstRun.{in_front, behind_all}
+use Rattle.mp4_frag.proofs.FirstRun.{behind_all}
 use Rattle.mp4_frag.proofs.Comings.{turned}
+use Rattle.mp4_tables.proofs.InOrder.{fails_first}
 
 -- ---- one `sbgp`
 
@@ -110,7 +111,7 @@ pub group_first : (n : ℕ) (first : List GroupKey) (all left later : List Box) 
 group_first n first all left later b now named kind s e k h =
     let same : groups_of left ≡ b ∷ groups_of later = ap groups_of e ∙ group_kept b later k in
     s.names_first ∙ ap (λ (boxes : List Box). first_failed (traf_groups_tests n first s.before boxes)) same
-    ∙ in_front (naming b (one_group_tests n first s.before b.payload)) (traf_groups_tests n first (s.before ++ grouping_of b.payload ∷ []) (groups_of later)) (fault_of kind b)
+    ∙ fails_first (naming b (one_group_tests n first s.before b.payload)) (traf_groups_tests n first (s.before ++ grouping_of b.payload ∷ []) (groups_of later)) (fault_of kind b)
     (named_first b (one_group_tests n first s.before b.payload) ∙ ap (option_map (λ (k : Kind). fault_of k b)) (h first s.before s.names))
 
 -- none is

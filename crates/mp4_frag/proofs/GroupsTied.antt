@@ -4,54 +4,21 @@ use Rattle.std.specs.Prelude.{min, nat_le, slice_set, IsTrue}
 use Rattle.std.specs.List.{AllByRecursion, list_any, list_all, slice_get, position_from}
 use Rattle.std.proofs.lemmas.Bool.{or_parts}
 use Rattle.std.proofs.lemmas.Bool.Decides.{nat_tests}
-use Rattle.mp4_tables.specs.format.Groups.{GroupKey, Grouping, Groups, GroupRule, one_of_key, index_range, group_counts, max_index, group_test, keeps, same_key, index_at, put_indexes, maps_of}
+use Rattle.mp4_tables.specs.format.Groups.{GroupKey, Grouping, Groups, GroupRule, one_of_key, index_range, group_counts, max_index, group_test, keeps, same_key, index_at, maps_of}
 use Rattle.mp4_tables.specs.words.Keys.{key_place}
 use Rattle.mp4_tables.specs.format.Repeated.{repeated, total}
 use Rattle.mp4_tables.specs.words.Timed.{padded, indexes}
 use Rattle.mp4_tables.specs.words.Accepted.{AreDistinct}
-use Rattle.mp4_tables.proofs.SampleLists.{NotIn, put_one, put_not_in, absent, put_there, put_beside, same_both, maps_length}
+use Rattle.mp4_tables.proofs.SampleLists.{put_one, same_both, maps_length}
 use Rattle.mp4_tables.specs.words.Indexes.{low_half}
 use Rattle.mp4_frag.specs.words.Walks.{with_key, no_indexes}
 use Rattle.mp4_boxes.proofs.Plain.{and_is_true}
+use Rattle.mp4_tables.proofs.IndexLists.{put_indexes_at, one_there, one_beside, key_absent}
 
 -- ---- one index in the map of a sample
 
-put_indexes_at : (key : GroupKey) (is : List ℕ) (maps : List Groups) (k : ℕ) → k < length maps → get_or (put_indexes key is maps) k [] ≡ put_one key (slice_index is k) (get_or maps k [])
-put_indexes_at key [] maps zero h = refl
-put_indexes_at key [] maps (suc k) h = refl
-put_indexes_at key (i ∷ is) [] k h = absurd (omega arith)
-put_indexes_at key (i ∷ is) (m ∷ maps) zero h = refl
-put_indexes_at key (i ∷ is) (m ∷ maps) (suc k) h = put_indexes_at key is maps k (omega arith)
-
-one_not_in : (other key : GroupKey) (index : ℕ) (groups : Groups) (v : Bool) → (index == 0) ≡ v → same_key other key ≡ false → NotIn other groups → NotIn other (put_one key index groups)
-one_not_in other key index groups true e h n = rw e n
-one_not_in other key index groups false e h n = rw e (put_not_in other key index groups h n)
-
-one_there : (key : GroupKey) (index : ℕ) (groups : Groups) (v : Bool) → (index == 0) ≡ v → NotIn key groups → index_at key (put_one key index groups) ≡ index
-one_there key index groups true e n = let z : index ≡ 0 = grind (arith, nat_tests) in rw e (absent key groups n ∙ sym z)
-one_there key index groups false e n = rw e (put_there key index groups n)
-
-one_beside : (other key : GroupKey) (index : ℕ) (groups : Groups) (v : Bool) → (index == 0) ≡ v → same_key other key ≡ false → index_at other (put_one key index groups) ≡ index_at other groups
-one_beside other key index groups true e h = rw e refl
-one_beside other key index groups false e h = rw e (put_beside other key index groups h)
-
--- a key that no grouping has is in no map
-key_absent : (other : GroupKey) (n k : ℕ) (gs : List Grouping) → k < n → AllByRecursion (λ key. same_key other key ≡ false) (map (λ (g : Grouping). g.key) gs) → NotIn other (get_or (maps_of n gs) k [])
-key_absent other n k [] h d = nothing_there n k
-  where
-    nothing_there : (n k : ℕ) → NotIn other (get_or (replicate n []) k [])
-    nothing_there zero zero = tt
-    nothing_there zero (suc k) = tt
-    nothing_there (suc n) zero = tt
-    nothing_there (suc n) (suc k) = nothing_there n k
-key_absent other n k (g ∷ gs) h d =
-    let i = slice_index (repeated g.rows) k in
-    let long = maps_length n gs in
-    let at = put_indexes_at g.key (repeated g.rows) (maps_of n gs) k (omega arith) in
-    rw at (one_not_in other g.key i (get_or (maps_of n gs) k []) (i == 0) refl d.0 (key_absent other n k gs h d.1))
-
 -- keys of one rank have one index
-same_test : (a b c : GroupKey) → same_key a b ≡ true → same_key a c ≡ same_key b c
+pub same_test : (a b c : GroupKey) → same_key a b ≡ true → same_key a c ≡ same_key b c
 same_test a b c e = grind (arith, nat_tests)
 
 index_alike : (a b : GroupKey) (groups : Groups) → same_key a b ≡ true → index_at a groups ≡ index_at b groups
@@ -68,7 +35,7 @@ rows_for none key (g ∷ gs) = cond (same_key key g.key) (repeated g.rows) (rows
 abbrev Differ : List Grouping → Type 0
 Differ gs = AreDistinct (map (λ (g : Grouping). g.key) gs)
 
-nothing_at : (n k : ℕ) (key : GroupKey) → index_at key (get_or (replicate n []) k []) ≡ 0
+pub nothing_at : (n k : ℕ) (key : GroupKey) → index_at key (get_or (replicate n []) k []) ≡ 0
 nothing_at zero zero key = refl
 nothing_at zero (suc k) key = refl
 nothing_at (suc n) zero key = refl

@@ -46,6 +46,8 @@ use Rattle.mp4_frag.proofs.RunsPassed.{judged_by}
 use Rattle.mp4_frag.proofs.RunsTied.{run_in}
 use Rattle.mp4_frag.proofs.SamplesOfRows.{within_is, end_is}
 use Rattle.mp4_frag.proofs.SeenLists.{IsFirst, find_map, first_seen, same_place, trex_kept}
+use Rattle.mp4_frag.proofs.FirstTraf.{late_none}
+use Rattle.mp4_tables.proofs.GroupWalks.{mapped_snoc}
 
 no_test : {A : Type 0} (x : A) (o : Option A) → o ≡ None → o ≡ Some x → ⊥
 no_test x o e f = none_some x (sym e ∙ f)
@@ -101,20 +103,16 @@ runs_pass L traf trex base before room (b ∷ runs) s few p =
     (subst (λ (e : ℤ). first_failed (runs_tests judged e (room - n) runs) ≡ None) (end_is trex traf run.first_sample_flags at run.rows) later)
 
 -- the test of an `sbgp` behind others is that of the list at its place
-rule_at : (n : ℕ) (keys : List GroupKey) (gs : List Grouping) (rule : GroupRule) (k : ℕ) (g : Grouping) → slice_get gs k ≡ Some g → group_test rule n keys gs k ≡ keeps rule n keys (take k gs) g
+pub rule_at : (n : ℕ) (keys : List GroupKey) (gs : List Grouping) (rule : GroupRule) (k : ℕ) (g : Grouping) → slice_get gs k ≡ Some g → group_test rule n keys gs k ≡ keeps rule n keys (take k gs) g
 rule_at n keys gs rule k g e = rw e refl
 
-there : (front : List Box) (b : Box) (after : List Box) → slice_get (groupings_of (front ++ b ∷ after)) (length front) ≡ Some (grouping_of b.payload)
+pub there : (front : List Box) (b : Box) (after : List Box) → slice_get (groupings_of (front ++ b ∷ after)) (length front) ≡ Some (grouping_of b.payload)
 there [] b after = refl
 there (c ∷ front) b after = there front b after
 
-before_it : (front : List Box) (b : Box) (after : List Box) → take (length front) (groupings_of (front ++ b ∷ after)) ≡ groupings_of front
+pub before_it : (front : List Box) (b : Box) (after : List Box) → take (length front) (groupings_of (front ++ b ∷ after)) ≡ groupings_of front
 before_it [] b after = refl
 before_it (c ∷ front) b after = ap (λ gs. grouping_of c.payload ∷ gs) (before_it front b after)
-
-more_groups : (front : List Box) (b : Box) → groupings_of (front ++ b ∷ []) ≡ groupings_of front ++ grouping_of b.payload ∷ []
-more_groups [] b = refl
-more_groups (c ∷ front) b = ap (λ gs. grouping_of c.payload ∷ gs) (more_groups front b)
 
 groups_pass : (n : ℕ) (keys : List GroupKey) (front groups : List Box) → AllByRecursion (λ (b : Box). IsSound sbgp b.payload) groups → ((rule : GroupRule) (k : ℕ) → IsTrue (group_test rule n keys (groupings_of (front ++ groups)) k))
     → first_failed (traf_groups_tests n keys (groupings_of front) groups) ≡ None
@@ -126,11 +124,7 @@ groups_pass n keys front (b ∷ groups) s h =
     let own = sound_passes sbgp (map (λ rule. (keeps rule n keys (groupings_of front) g, group_kind rule)) group_rules) b.payload s.0 (rw (kept one_of_key, kept few_keys, kept index_range, kept group_counts) refl) in
     let later = groups_pass n keys (front ++ b ∷ []) groups s.1 (λ rule k. subst (λ (bs : List Box). IsTrue (group_test rule n keys (groupings_of bs) k)) (sym (append_assoc front (b ∷ []) groups)) (h rule k)) in
     behind_all (naming b (one_group_tests n keys (groupings_of front) b.payload)) (traf_groups_tests n keys (groupings_of front ++ g ∷ []) groups) None (naming_pass b (one_group_tests n keys (groupings_of front) b.payload) own)
-    (subst (λ gs. first_failed (traf_groups_tests n keys gs groups) ≡ None) (more_groups front b) later)
-
-late_passes : (t : TrackState) (time : Option ℕ) (n : ℕ) (times : List Box) → is_late_at t time n ≡ false → first_failed (late_tests t time n times) ≡ None
-late_passes t time n [] e = refl
-late_passes t time n (d ∷ times) e = rw e refl
+    (subst (λ gs. first_failed (traf_groups_tests n keys gs groups) ≡ None) (mapped_snoc front b) later)
 
 -- ---- one `traf`
 
@@ -190,7 +184,7 @@ module _ (L moof : ℕ) (before : ℤ) (now other new : List TrackState) (room l
       let runs = runs_pass L (traf_in b) m.trex base base room (runs_in b) (sound_each (ruled rules_of.TrackFragment) (codes "trun") trun refl (children_of b) sound) few placed in
       let groups = groups_pass n (keys_seen t.keys) [] (groups_in b) (sound_each (ruled rules_of.TrackFragment) (codes "sbgp") sbgp refl (children_of b) sound) (λ rule k. subst (λ (j : ℕ). IsTrue (group_test rule j (keys_seen t.keys) (groupings_of (groups_in b)) k)) count
       (subst (λ ks. IsTrue (has_groups rule ks (part_with moof before m.trex (traf_in b)) k)) (sym keys) (m.due.groups rule k))) in
-      let late = late_passes t (traf_in b).decode_time n times (on_time t same) in
+      let late = late_none t (traf_in b).decode_time n times (on_time t same) in
       let rest = behind_all (traf_groups_tests n (keys_seen t.keys) [] (groups_in b)) (late_tests t (traf_in b).decode_time n times) None groups late in
       behind_all (time_tests times) (runs_tests judged base room (runs_in b) ++ ((not (lacks t judged.inherited.description n), fault_of BadDescriptionIndex h) ∷ (traf_groups_tests n (keys_seen t.keys) [] (groups_in b) ++ late_tests t (traf_in b).decode_time n times))) None first
       (behind_all (runs_tests judged base room (runs_in b)) ((not (lacks t judged.inherited.description n), fault_of BadDescriptionIndex h) ∷ (traf_groups_tests n (keys_seen t.keys) [] (groups_in b) ++ late_tests t (traf_in b).decode_time n times)) None runs (rw (described t same) rest))
@@ -214,7 +208,7 @@ module _ (L moof : ℕ) (before : ℤ) (now other new : List TrackState) (room l
 
 -- ---- one after the other
 
-same_some : (x y : Trex) → ◌≡◌ {A = Option Trex} (Some x) (Some y) → x ≡ y
+pub same_some : (x y : Trex) → ◌≡◌ {A = Option Trex} (Some x) (Some y) → x ≡ y
 same_some x y e = cc
 
 same_room : (less rest n k room : ℕ) → less + n ≡ room → rest + k ≡ room → n ≡ k → less ≡ rest

@@ -5,7 +5,7 @@ use Rattle.std.specs.List.{AllByRecursion}
 use Rattle.std.proofs.lemmas.Bool.{eqb-true}
 use Rattle.std.proofs.lemmas.List.{length-append}
 use Rattle.mp4_boxes.specs.format.Bytes.{AreBytes}
-use Rattle.mp4_boxes.specs.format.Box.{Box, box_container, size, sizes, LieEndToEnd}
+use Rattle.mp4_boxes.specs.format.Box.{Box, box_container, size}
 use Rattle.mp4_boxes.specs.format.Children.{of_kind, payload_of, payload_if, count_among, Holds}
 use Rattle.mp4_boxes.specs.format.Layout.{tfhd, trun, flags, column_values, tfhd_columns, IsReadable}
 use Rattle.mp4_boxes.specs.format.Places.{ruled, AreSound}
@@ -13,7 +13,6 @@ use Rattle.mp4_boxes.specs.declared.rule.Rule.TheVariants as rule_names
 use Rattle.mp4_boxes.proofs.Each.{each_weaker}
 use Rattle.mp4_boxes.proofs.OfBytes.{IsOfBytes, bytes_dropped, tiled_of_bytes, payload_of_bytes, payloads_of_bytes}
 use Rattle.mp4_boxes.proofs.Sound.{sound_one, sound_each}
-use Rattle.mp4_boxes.proofs.Tiling.{first_fits, sizes-cons}
 use Rattle.mp4_tables.specs.format.Groups.{GroupKey}
 use Rattle.mp4_tables.specs.format.PlainSamples.{PlacedSample}
 use Rattle.mp4_tables.specs.words.Accepted.{AreDistinct}
@@ -46,13 +45,10 @@ use Rattle.mp4_frag.proofs.Ranges.{trafs_of_bytes, value_below}
 use Rattle.mp4_frag.proofs.SeenLists.{trex_kept}
 use Rattle.mp4_frag.proofs.RunsTied.{duration-append, timed-append}
 use Rattle.mp4_frag.proofs.TrafsTied.{inside_is, some_known, trex_found}
+use Rattle.mp4_boxes.proofs.ChildrenJudged.{length_few}
+use Rattle.mp4_tables.proofs.SampleLists.{timed_length}
 
 -- ---- timed samples
-
--- as many, that last as long
-timed_count : (keys : List GroupKey) (number dts : ℕ) (xs : List PlacedSample) → length (timed keys number dts xs) ≡ length xs
-timed_count keys number dts [] = refl
-timed_count keys number dts (x ∷ xs) = ap suc (timed_count keys (number + 1) (dts + x.duration) xs)
 
 timed_lasts : (keys : List GroupKey) (number dts : ℕ) (xs : List PlacedSample) → lasting (timed keys number dts xs) ≡ duration_of xs
 timed_lasts keys number dts [] = refl
@@ -83,7 +79,7 @@ head_one before (b ∷ boxes) n = choice (bytes_eq (codes "tfhd") b.kind) n (hea
 behind_timed : (keys : List GroupKey) (number dts : ℕ) (xs : List PlacedSample) (ends : ℤ) → number + length xs < 2 ^ 32 → dts + duration_of xs < 2 ^ 64
     → behind_samples number dts (timed keys number dts xs) ends ≡ record { number = number + length xs; dts = dts + duration_of xs; before = ends }
 behind_timed keys number dts xs ends room fits =
-    let count : min (number + length (timed keys number dts xs)) (2 ^ 32 - 1) ≡ number + length xs = omega (arith, room, timed_count keys number dts xs) in
+    let count : min (number + length (timed keys number dts xs)) (2 ^ 32 - 1) ≡ number + length xs = omega (arith, room, timed_length keys number dts xs) in
     let time : capped (dts + lasting (timed keys number dts xs)) ≡ dts + duration_of xs = omega (arith, fits, timed_lasts keys number dts xs) in
     λ i. record { number = count i; dts = time i; before = ends }
 
@@ -255,11 +251,6 @@ module _ (w : MoofWalk) (L : ℕ) (trexes : List Trex) (ready : IsReady w L trex
 
 -- ---- a `moof`
 
--- there are no more boxes than bytes
-boxes_few : (is_open : Bool) (at : ℕ) (bytes : List ℕ) (boxes : List Box) → LieEndToEnd is_open at bytes boxes → length boxes ≤ sizes boxes
-boxes_few is_open at bytes [] l = omega arith
-boxes_few is_open at bytes (b ∷ boxes) l = omega (arith, sizes-cons b boxes, boxes_few is_open (at + size b) (drop (size b) bytes) boxes l.1, (first_fits is_open at bytes b boxes l).0)
-
 kept_by : (b : Box) (boxes kept : List Box) (v : Bool) → length kept ≤ length boxes → length (cond v (b ∷ kept) kept) ≤ suc (length boxes)
 kept_by b boxes kept true h = omega (arith, h)
 kept_by b boxes kept false h = omega (arith, h)
@@ -316,7 +307,7 @@ moof_tied L trexes states tracks t id dts keys early small bytes few distinct so
     let trafs = of_kind (codes "traf") t.children in
     let children = tiled_of_bytes (box_container t.moof) t.children bytes tiles in
     let full = tiles.full in
-    let many = boxes_few false (t.moof.offset + t.moof.header) t.moof.payload t.children tiles.front.0 in
+    let many = length_few false (t.moof.offset + t.moof.header) t.moof.payload t.children tiles.front.0 in
     let kept = kept_few (codes "traf") t.children in
     let count = trafs_count trafs t.trafs tree.trafs in
     let ready : IsReady w L trexes = record { short = sound.short; moof = early; defaults = λ other trex e. trex_found trexes states other trex defaults (sym (alike other) ∙ e); few = few; distinct = distinct } in

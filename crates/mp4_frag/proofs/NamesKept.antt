@@ -10,11 +10,9 @@ use Rattle.mp4_tables.proofs.KeyLists.{not_named_yet, named_before}
 use Rattle.mp4_tables.proofs.SampleLists.{same_both}
 use Rattle.mp4_frag.specs.words.GroupsJudged.{is_named_at, AreNamed, NamesOneMore}
 use Rattle.mp4_boxes.proofs.Plain.{or_false, or_true, true_false}
+use Rattle.mp4_frag.proofs.GroupsTied.{same_test}
 
 -- ---- places of keys
-
-same_test : (a b c : GroupKey) → same_key a b ≡ true → same_key a c ≡ same_key b c
-same_test a b c e = grind (arith, nat_tests)
 
 -- keys of one rank have one place
 place_alike : (a b : GroupKey) (i : ℕ) (keys : List GroupKey) → same_key a b ≡ true → position_from (same_key a) i keys ≡ position_from (same_key b) i keys
@@ -66,7 +64,7 @@ place_before a k i j (key ∷ keys) e = by_first (same_key a key) e (λ f. place
 
 -- ---- keys in order
 
-keys_with-append : (keys xs ys : List GroupKey) → keys_with keys (xs ++ ys) ≡ keys_with (keys_with keys xs) ys
+pub keys_with-append : (keys xs ys : List GroupKey) → keys_with keys (xs ++ ys) ≡ keys_with (keys_with keys xs) ys
 keys_with-append keys [] ys = refl
 keys_with-append keys (x ∷ xs) ys = keys_with-append (cond (list_any (same_key x) keys) keys (keys ++ x ∷ [])) xs ys
 
@@ -95,7 +93,7 @@ yes_same before g key e = list_any-append (λ (h : Grouping). same_key key h.key
 no_same : (before : List Grouping) (g : Grouping) (key : GroupKey) → same_key key g.key ≡ false → list_any (λ (h : Grouping). same_key key h.key) (before ++ g ∷ []) ≡ list_any (λ (h : Grouping). same_key key h.key) before
 no_same before g key e = list_any-append (λ (h : Grouping). same_key key h.key) before (g ∷ []) ∙ rw e (or_false (list_any (λ (h : Grouping). same_key key h.key) before))
 
-some_is : (i j : ℕ) → ◌≡◌ {A = Option ℕ} (Some i) (Some j) → i ≡ j
+pub some_is : (i j : ℕ) → ◌≡◌ {A = Option ℕ} (Some i) (Some j) → i ≡ j
 some_is i j e = cc
 
 none_some : (j : ℕ) → ◌≡◌ {A = Option ℕ} None (Some j) → ⊥

@@ -26,6 +26,8 @@ use Rattle.mp4_frag.proofs.LeavesRead.{head_is}
 use Rattle.mp4_frag.proofs.PartReasons.{part_counts}
 use Rattle.mp4_frag.proofs.TrafPassed.{payload_is}
 use Rattle.mp4_frag.proofs.TrafsTied.{trex_found}
+use Rattle.mp4_frag.proofs.MoofExcludes.{same_some}
+use Rattle.mp4_frag.proofs.MoofPassed.{traf_kept}
 
 -- ---- lists of notes
 
@@ -126,9 +128,6 @@ noted_where placed q k states owns false has apart long e = none_of_them placed 
 abbrev placed_from : List Trex → ℕ → ℤ → List Box → List PlacedTraf
 placed_from trexes moof before trafs = placed_after trexes moof before trafs (map children_of trafs)
 
-traf_kept : (b : Box) (boxes : List Box) → bytes_eq b.kind (codes "traf") ≡ true → of_kind (codes "traf") (b ∷ boxes) ≡ b ∷ of_kind (codes "traf") boxes
-traf_kept b boxes e = rw (turned (codes "traf") b.kind ∙ e) refl
-
 -- ---- where it is told what is noted
 
 pub noted_with : (a b : Option (List OwnSeen)) (P Q : List OwnSeen → List OwnSeen → Type 0) → ((xs ys : List OwnSeen) → P xs ys → Q xs ys) → WhereNoted a b P → WhereNoted a b Q
@@ -177,10 +176,6 @@ notes_other moof first all left later b before tracks owns now s e k =
           subst (λ (bs : List Box). WhereNoted owns now (λ os ns. length os ≡ length first → noted_all (placed_from trexes moof before bs) first ns ≡ noted_all (placed_from trexes moof (pos moof) (of_kind (codes "traf") all)) first os)) kept (s.notes trexes defaults apart);
     }
 
--- with the same defaults
-one_trex : (x y : Trex) → ◌≡◌ {A = Option Trex} (Some x) (Some y) → x ≡ y
-one_trex x y e = cc
-
 -- a `traf`
 pub notes_traf : (L moof : ℕ) (first : List TrackState) (all left later : List Box) (b : Box) (before ends : ℤ) (tracks new : List TrackState) (owns now next : Option (List OwnSeen)) (p : PassedTraf)
     → NotesSeen moof first all left before tracks owns now → left ≡ b ∷ later → bytes_eq b.kind (codes "traf") ≡ true
@@ -190,7 +185,7 @@ notes_traf L moof first all left later b before ends tracks new owns now next p 
     let boxes = children_of b in
     let traf = track_fragment_of boxes in
     let kept : of_kind (codes "traf") left ≡ b ∷ of_kind (codes "traf") later = ap (of_kind (codes "traf")) e ∙ traf_kept b later k in
-    let trex : sound.trex ≡ n.trex = one_trex sound.trex n.trex (sym sound.known ∙ n.known) in
+    let trex : sound.trex ≡ n.trex = same_some sound.trex n.trex (sym sound.known ∙ n.known) in
     let found : (trexes : List Trex) → AreTrexesOf trexes first → trex_for trexes traf.id ≡ Some n.trex = λ trexes defaults. trex_found trexes first traf.id n.trex defaults (sym (same traf.id) ∙ n.known) in
     let by : (trexes : List Trex) → AreTrexesOf trexes first → n.trex ≡ trex_by trexes boxes = λ trexes defaults. sym (ap (λ (o : Option Trex). unwrap_or o no_trex) (found trexes defaults)) in
     let end : (trexes : List Trex) → AreTrexesOf trexes first → ends ≡ end_with moof before (trex_by trexes boxes) traf = λ trexes defaults. sound.end ∙ ap (λ (x : Trex). end_with moof before x traf) (trex ∙ by trexes defaults) in

@@ -19,8 +19,9 @@ use Rattle.mp4_frag.specs.words.Walks.{samples_in}
 use Rattle.mp4_frag.specs.declared.state.TrackState.{TrackState}
 use Rattle.mp4_frag.specs.declared.trex.Trex.{Trex}
 use Rattle.mp4_frag.proofs.GroupsTied.{KeepRules}
-use Rattle.mp4_frag.proofs.RunsTied.{duration_grouped, grouped_length}
+use Rattle.mp4_frag.proofs.RunsTied.{duration_grouped}
 use Rattle.mp4_frag.proofs.TrafsTied.{traf_tied}
+use Rattle.mp4_tables.proofs.Counts.{groups_length}
 
 -- ---- one of those of a `moof`
 
@@ -66,9 +67,9 @@ pub part_tied : (keys : List GroupKey) (L id number dts : ℕ) (base : ℤ) (b :
 part_tied keys L id number dts base b boxes trex short few distinct holds sound same places groups room fits =
     let traf = track_fragment_of boxes in
     let xs = flat_map (λ samples. samples) (runs_samples trex traf base base traf.runs) in
-    let count = grouped_length (maps_of (length xs) traf.groups) xs in
+    let count = groups_length (maps_of (length xs) traf.groups) xs in
     let kept : KeepRules (length xs) traf.groups = subst (λ m. KeepRules m traf.groups) count groups in
-    traf_tied keys L id (length xs) number dts base b boxes trex short few distinct holds sound same places kept (omega (arith, room, grouped_length (maps_of (length xs) traf.groups) xs)) (omega (arith, fits, duration_grouped (maps_of (length xs) traf.groups) xs))
+    traf_tied keys L id (length xs) number dts base b boxes trex short few distinct holds sound same places kept (omega (arith, room, groups_length (maps_of (length xs) traf.groups) xs)) (omega (arith, fits, duration_grouped (maps_of (length xs) traf.groups) xs))
 
 -- those of one of a track's own
 pub own_tied : (keys : List GroupKey) (L id number dts : ℕ) (trexes : List Trex) (tracks : List TrackState) (t : FragmentTree) (p : PlacedTraf) (trex : Trex) → length keys ≤ 4 → AreDistinct keys → IsSoundMoof L trexes tracks t → Contains (own_in trexes id t) p → trex_for trexes id ≡ Some trex

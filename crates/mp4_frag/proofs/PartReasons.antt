@@ -18,7 +18,7 @@ use Rattle.mp4_frag.specs.declared.state.TrackState.{TrackState}
 use Rattle.mp4_frag.specs.declared.trex.Trex.{Trex}
 use Rattle.mp4_frag.proofs.TracksMoved.{IsTested, part_tested}
 use Rattle.mp4_frag.proofs.TrafPassed.{runs_count}
-use Rattle.mp4_frag.proofs.RunsTied.{grouped_length}
+use Rattle.mp4_tables.proofs.Counts.{groups_length}
 
 -- a `traf` has as many samples as its runs
 pub part_counts : (moof : ℕ) (before : ℤ) (trex : Trex) (boxes : List Box) → length (part_samples (part_with moof before trex (track_fragment_of boxes))) ≡ runs_total (of_kind (codes "trun") boxes)
@@ -27,7 +27,7 @@ part_counts moof before trex boxes =
     let start = base_of moof before traf in
     let part = part_with moof before trex traf in
     let flat = flat_map (λ samples. samples) part.runs in
-    grouped_length (maps_of (length flat) part.groups) flat ∙ sym (runs_count traf trex start start (of_kind (codes "trun") boxes))
+    groups_length (maps_of (length flat) part.groups) flat ∙ sym (runs_count traf trex start start (of_kind (codes "trun") boxes))
 
 -- ---- descriptions
 

@@ -2,24 +2,16 @@
 use Rattle.std.proofs.Common.{◌≡◌, ℕ, zero, suc, ◌+◌, ◌-◌, ◌*◌, ◌≤◌, Bool, true, false, cond, List, [], ◌∷◌, length, take, drop, map, Option, Some, None, refl, sym, ap, ◌∙◌, arith}
 use Rattle.std.proofs.lemmas.List.{drop-take}
 use Rattle.byteorder.specs.Numbers.{big_from-take}
-use Rattle.mp4_boxes.specs.format.Bytes.{field, rows, numbers, width_of}
+use Rattle.mp4_boxes.specs.format.Bytes.{field, rows, width_of}
 use Rattle.mp4_boxes.specs.format.Layout.{Column, has, present, column_values, sample_columns}
 use Rattle.mp4_tables.specs.words.Rows.{run_of, runs_at}
 use Rattle.mp4_frag.specs.words.ColumnsRead.{row_room}
 use Rattle.mp4_frag.specs.format.Fragments.{run_rows, run_row_of}
 use Rattle.mp4_frag.specs.words.Walks.{part_of}
 use Rattle.mp4_frag.proofs.BoxPlaces.{part_behind, part_length}
+use Rattle.mp4_tables.proofs.LeafRows.{numbers_cut}
 
 -- ---- rows of numbers
-
-numbers_cut : (m : ℕ) (widths bytes : List ℕ) → width_of widths ≤ m → numbers widths (take m bytes) ≡ numbers widths bytes
-numbers_cut m [] bytes h = refl
-numbers_cut m (w ∷ widths) bytes h =
-    let first : field (take m bytes) 0 w ≡ field bytes 0 w = big_from-take 0 w m bytes (omega arith) in
-    let n : m ≡ w + (m - w) = omega arith in
-    let behind : drop w (take m bytes) ≡ take (m - w) (drop w bytes) = ap (λ k. drop w (take k bytes)) n ∙ drop-take w (m - w) bytes in
-    let more : numbers widths (drop w (take m bytes)) ≡ numbers widths (drop w bytes) = ap (numbers widths) behind ∙ numbers_cut (m - w) widths (drop w bytes) (omega arith) in
-    λ i. first i ∷ more i
 
 rows_cut : (n m width : ℕ) (widths bytes : List ℕ) → width_of widths ≡ width → width * n ≤ m → rows n widths (take m bytes) ≡ rows n widths bytes
 rows_cut zero m width widths bytes e h = refl

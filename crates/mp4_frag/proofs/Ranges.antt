@@ -52,7 +52,7 @@ pub record IsRow (r : RunRow) : Type 0 where
   pub offset : IfSome r.offset (FitsSigned w32)
 
 -- an offset that is not too large, if it is there
-first_small : (o : Option ℕ) (os : List (Option ℕ)) → too_large (o ∷ os) ≡ false → IfSome o (λ n. n < 2 ^ 31) × (too_large os ≡ false)
+pub first_small : (o : Option ℕ) (os : List (Option ℕ)) → too_large (o ∷ os) ≡ false → IfSome o (λ n. n < 2 ^ 31) × (too_large os ≡ false)
 first_small None os e = (tt, e)
 first_small (Some n) os e = let p = or_parts (leb (2 ^ 31) n) (too_large os) e in (leb-false (2 ^ 31) n p.0, p.1)
 

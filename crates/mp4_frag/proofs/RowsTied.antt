@@ -1,7 +1,6 @@
 -- The samples of a run as a walk hands them out are those of the definition, with times and groups.
-use Rattle.std.proofs.Common.{◌≡◌, ℕ, zero, suc, ◌+◌, ◌^◌, ◌<◌, ◌≤◌, ◌%◌, true, false, leb, List, [], ◌∷◌, ◌++◌, length, drop, map, Option, Some, None, get_or, refl, sym, ap, ◌∙◌, rules, arith}
+use Rattle.std.proofs.Common.{◌≡◌, ℕ, zero, suc, ◌+◌, ◌^◌, ◌<◌, ◌≤◌, ◌%◌, true, false, List, [], ◌∷◌, ◌++◌, length, drop, map, Option, Some, None, get_or, refl, sym, ap, ◌∙◌, rules, arith}
 use Rattle.std.specs.Prelude.{ℤ, pos, ◌+ℤ◌, unwrap_or, option_map, IfSome, slice_index}
-use Rattle.std.proofs.lemmas.Bool.{leb-false, or_parts}
 use Rattle.std.proofs.lemmas.List.{get_or-drop, drop-drop}
 use Rattle.mp4_boxes.specs.format.Bytes.{width_of}
 use Rattle.mp4_boxes.specs.format.Layout.{column_values, sample_columns, present, run_offsets, too_large}
@@ -19,12 +18,9 @@ use Rattle.mp4_frag.specs.words.Reading.{inheritance}
 use Rattle.mp4_frag.specs.words.Walks.{Reached, capped, sample_of, next_number, rows_coming}
 use Rattle.mp4_frag.specs.declared.trex.Trex.{Trex}
 use Rattle.mp4_frag.proofs.SamplesOfRows.{inherited_is}
+use Rattle.mp4_frag.proofs.Ranges.{first_small}
 
 -- ---- composition offsets of version 0
-
-first_small : (o : Option ℕ) (os : List (Option ℕ)) → too_large (o ∷ os) ≡ false → IfSome o (λ n. n < 2 ^ 31) × (too_large os ≡ false)
-first_small None os e = (tt, e)
-first_small (Some n) os e = let p = or_parts (leb (2 ^ 31) n) (too_large os) e in (leb-false (2 ^ 31) n p.0, p.1)
 
 offset_alike : (o : Option ℕ) → IfSome o (λ n. n < 2 ^ 31) → option_map (composition_offset 1) o ≡ option_map (composition_offset 0) o
 offset_alike None h = refl
@@ -68,7 +64,7 @@ later_lists k i (l ∷ lists) = let one = get_or-drop k l i 0 in let more = late
 pub shown_later : (keys : List GroupKey) (k : ℕ) (lists : List (List ℕ)) (maps : List Groups) → AreShown keys lists maps → AreShown keys (map (drop k) lists) (drop k maps)
 shown_later keys k lists maps h i = later_lists k i lists ∙ h (k + i) ∙ ap (indexes keys) (sym (get_or-drop k maps i []))
 
-none_grouped : (samples : List PlacedSample) → with_groups [] samples ≡ samples
+pub none_grouped : (samples : List PlacedSample) → with_groups [] samples ≡ samples
 none_grouped [] = refl
 none_grouped (s ∷ samples) = refl
 

@@ -17,8 +17,9 @@ use Rattle.mp4_boxes.specs.format.FirstFault.{first_failed, naming}
 use Rattle.mp4_tables.proofs.FirstGroups.{named_first}
 use Rattle.mp4_frag.specs.declared.sample_runs.Judged.{Judged}
 use Rattle.mp4_frag.specs.words.FragmentTests.{one_run_tests, runs_tests}
-use Rattle.mp4_frag.proofs.FirstRun.{in_front, behind_all}
+use Rattle.mp4_frag.proofs.FirstRun.{behind_all}
 use Rattle.mp4_frag.proofs.Comings.{turned}
+use Rattle.mp4_tables.proofs.InOrder.{fails_first}
 
 -- what is known of the track of a `traf`
 abbrev pub judged_by : ℕ → Inherited → ℤ → Judged
@@ -65,7 +66,7 @@ pub run_first : (L : ℕ) (inherited : Inherited) (base : ℤ) (all left later :
 run_first L inherited base all left later b whole room at count lasts fills kind s e k named =
     let same : runs_of left ≡ b ∷ runs_of later = ap runs_of e ∙ run_kept b later k in
     s.first ∙ ap (λ (runs : List Box). first_failed (runs_tests (judged_by L inherited base) at room runs)) same
-    ∙ in_front (naming b (one_run_tests (judged_by L inherited base) at room b.payload)) (runs_tests (judged_by L inherited base) (run_ends inherited base at b.payload) (room - row_count trun b.payload) (runs_of later)) (fault_of kind b)
+    ∙ fails_first (naming b (one_run_tests (judged_by L inherited base) at room b.payload)) (runs_tests (judged_by L inherited base) (run_ends inherited base at b.payload) (room - row_count trun b.payload) (runs_of later)) (fault_of kind b)
     (named_first b (one_run_tests (judged_by L inherited base) at room b.payload) ∙ ap (option_map (λ (k : Kind). fault_of k b)) named)
 
 -- none is

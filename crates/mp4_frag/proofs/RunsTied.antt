@@ -21,7 +21,8 @@ use Rattle.mp4_frag.specs.words.Walks.{Reached, begin, first_byte, held, rows_of
 use Rattle.mp4_frag.specs.declared.trex.Trex.{Trex}
 use Rattle.mp4_frag.proofs.LeavesRead.{read}
 use Rattle.mp4_frag.proofs.SamplesOfRows.{within_is, lasting_is, end_is}
-use Rattle.mp4_frag.proofs.RowsTied.{rows_alike, rows_tied, AreShown, shown_later, stand, size_of, lasts_of, end_at, end_at_is}
+use Rattle.mp4_frag.proofs.RowsTied.{rows_alike, rows_tied, AreShown, shown_later, stand, size_of, lasts_of, end_at, end_at_is, none_grouped}
+use Rattle.mp4_tables.proofs.Counts.{groups_length}
 
 -- ---- one run
 
@@ -120,10 +121,6 @@ run_tied keys L traf trex number dts kept at base lists payload maps more short 
 
 -- ---- lists of samples in two parts
 
-none_grouped : (samples : List PlacedSample) → with_groups [] samples ≡ samples
-none_grouped [] = refl
-none_grouped (s ∷ samples) = refl
-
 pub grouped-append : (maps : List Groups) (xs ys : List PlacedSample) → with_groups maps (xs ++ ys) ≡ with_groups maps xs ++ with_groups (drop (length xs) maps) ys
 grouped-append maps [] ys = refl-none maps
   where
@@ -142,12 +139,6 @@ duration_grouped [] [] = refl
 duration_grouped [] (x ∷ xs) = refl
 duration_grouped (m ∷ maps) [] = refl
 duration_grouped (m ∷ maps) (x ∷ xs) = ap (λ n. x.duration + n) (duration_grouped maps xs)
-
-pub grouped_length : (maps : List Groups) (xs : List PlacedSample) → length (with_groups maps xs) ≡ length xs
-grouped_length [] [] = refl
-grouped_length [] (x ∷ xs) = refl
-grouped_length (m ∷ maps) [] = refl
-grouped_length (m ∷ maps) (x ∷ xs) = ap suc (grouped_length maps xs)
 
 pub bytes-append : (xs ys : List PlacedSample) → bytes_of (xs ++ ys) ≡ bytes_of xs + bytes_of ys
 bytes-append [] ys = omega arith
@@ -171,7 +162,7 @@ pub parts_joined : (keys : List GroupKey) (number dts : ℕ) (maps : List Groups
     → timed keys number dts (with_groups maps (xs ++ ys)) ≡ timed keys number dts (with_groups maps xs) ++ timed keys (number + length xs) (dts + duration_of xs) (with_groups (drop (length xs) maps) ys)
 parts_joined keys number dts maps xs ys =
     ap (timed keys number dts) (grouped-append maps xs ys) ∙ timed-append keys number dts (with_groups maps xs) (with_groups (drop (length xs) maps) ys)
-    ∙ (λ i. timed keys number dts (with_groups maps xs) ++ timed keys (number + grouped_length maps xs i) (dts + duration_grouped maps xs i) (with_groups (drop (length xs) maps) ys))
+    ∙ (λ i. timed keys number dts (with_groups maps xs) ++ timed keys (number + groups_length maps xs i) (dts + duration_grouped maps xs i) (with_groups (drop (length xs) maps) ys))
 
 -- ---- the runs among boxes
 

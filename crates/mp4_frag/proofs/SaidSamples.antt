@@ -13,9 +13,9 @@ use Rattle.mp4_frag.specs.words.RunsJudged.{children_of}
 use Rattle.mp4_frag.specs.format.FragmentRows.{fragment_length, moof_says}
 use Rattle.mp4_frag.specs.declared.trex.Trex.{Trex}
 use Rattle.mp4_frag.proofs.HeadsFound.{holds_children}
-use Rattle.mp4_frag.proofs.RunsTied.{grouped_length}
+use Rattle.mp4_tables.proofs.Counts.{groups_length}
 
-rows_said : (trex : Trex) (traf : TrackFragment) (first : Option ℕ) (at : ℤ) (rows : List RunRow) → length (run_samples trex traf first at rows) ≡ length rows
+pub rows_said : (trex : Trex) (traf : TrackFragment) (first : Option ℕ) (at : ℤ) (rows : List RunRow) → length (run_samples trex traf first at rows) ≡ length rows
 rows_said trex traf first at [] = refl
 rows_said trex traf first at (row ∷ rows) = ap suc (rows_said trex traf None _ rows)
 
@@ -35,7 +35,7 @@ trafs_said trexes moof before (traf ∷ trafs) =
     let trex = unwrap_or (trex_for trexes traf.id) no_trex in
     let base = base_of moof before traf in
     let flat = flat_map (λ samples. samples) (runs_samples trex traf base base traf.runs) in
-    let grouped = grouped_length (maps_of (length flat) traf.groups) flat in
+    let grouped = groups_length (maps_of (length flat) traf.groups) flat in
     let one = runs_said trex traf base base traf.runs in
     let others = trafs_said trexes moof (runs_end trex traf base base traf.runs) trafs in
     omega (arith, grouped, one, others)

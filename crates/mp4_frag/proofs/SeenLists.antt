@@ -23,7 +23,7 @@ take_map f zero xs = refl
 take_map f (suc n) [] = refl
 take_map f (suc n) (x ∷ xs) = ap (λ ys. f x ∷ ys) (take_map f n xs)
 
-found_passes : {A : Type 0} (p : A → Bool) (xs : List A) (x : A) → find p xs ≡ Some x → p x ≡ true
+pub found_passes : {A : Type 0} (p : A → Bool) (xs : List A) (x : A) → find p xs ≡ Some x → p x ≡ true
 found_passes p [] x e = absurd cc
 found_passes p (y ∷ xs) x e = choice (p y) refl e (λ h. found_passes p xs x h)
   where

@@ -24,7 +24,7 @@ use Rattle.mp4_frag.specs.declared.trex.Trex.{Trex}
 use Rattle.mp4_frag.proofs.LeavesRead.{head_is, got}
 use Rattle.mp4_frag.proofs.RunsTied.{duration_grouped, bytes_grouped}
 use Rattle.mp4_frag.proofs.TrafPassed.{runs_count, runs_last, runs_fill, rules_kept, payload_is, payload_there}
-use Rattle.mp4_frag.proofs.RunsTied.{grouped_length}
+use Rattle.mp4_tables.proofs.Counts.{groups_length}
 
 -- ---- descriptions
 
@@ -148,7 +148,7 @@ traf_moved moof n lasts fills k room less before tracks d state new boxes b head
     let taken_over : inherited ≡ inheritance traf trex = ei ∙ ap (λ (t : TrackFragment). inheritance t trex) same in
     let part = part_with moof before trex traf in
     let flat = flat_map (λ samples. samples) part.runs in
-    let count : n ≡ length (part_samples part) = en ∙ runs_count traf trex start start runs ∙ sym (grouped_length (maps_of (length flat) part.groups) flat) in
+    let count : n ≡ length (part_samples part) = en ∙ runs_count traf trex start start runs ∙ sym (groups_length (maps_of (length flat) part.groups) flat) in
     let lasting : lasts ≡ duration_of (part_samples part) = el ∙ ap (λ (inh : Inherited). runs_lasting inh runs) taken_over ∙ runs_last traf trex start start runs ∙ sym (duration_grouped (maps_of (length flat) part.groups) flat) in
     let filling : fills ≡ bytes_of (part_samples part) = ez ∙ ap (λ (inh : Inherited). runs_filling inh runs) taken_over ∙ runs_fill traf trex start start runs ∙ sym (bytes_grouped (maps_of (length flat) part.groups) flat) in
     let there : slice_get tracks k ≡ Some state = got k tracks d lt ∙ ap Some (sym at) in

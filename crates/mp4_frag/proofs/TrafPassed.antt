@@ -1,17 +1,16 @@
 -- A `traf` whose runs and `sbgp`s were checked.
-use Rattle.std.proofs.Common.{◌≡◌, ℕ, zero, suc, ◌<◌, ◌==◌, Bool, true, false, cond, List, [], ◌∷◌, ◌++◌, length, take, map, drop, Option, Some, None, IsTrue, refl, sym, ap, subst, ◌∙◌, rules, arith, slice_set, slice_index_or, length-append}
+use Rattle.std.proofs.Common.{◌≡◌, ℕ, zero, suc, ◌<◌, ◌==◌, Bool, true, false, cond, List, [], ◌∷◌, ◌++◌, length, take, map, Option, Some, None, IsTrue, refl, sym, ap, subst, ◌∙◌, rules, arith, slice_set, slice_index_or, length-append}
 use Rattle.std.specs.Prelude.{ℤ, codes, bytes_eq, unwrap_or, option_map, find, flat_map}
 use Rattle.std.specs.List.{AllByRecursion, slice_get}
 use Rattle.std.proofs.lemmas.List.{append_assoc}
-use Rattle.mp4_boxes.specs.format.Bytes.{width_of}
 use Rattle.mp4_boxes.specs.format.Box.{Box}
 use Rattle.mp4_boxes.specs.format.Children.{of_kind, payload_if, payload_of}
-use Rattle.mp4_boxes.specs.format.Layout.{Leaf, tfhd, tfdt, trun, sbgp, row_count, present, sample_columns, IsSound, IsReadable}
+use Rattle.mp4_boxes.specs.format.Layout.{Leaf, tfhd, tfdt, trun, sbgp, row_count, IsSound, IsReadable}
 use Rattle.mp4_boxes.specs.format.Places.{ruled, IsSoundAs, AreSound}
 use Rattle.mp4_boxes.specs.declared.rule.Rule.TheVariants as rules
 use Rattle.mp4_tables.specs.format.Groups.{GroupKey, Grouping, GroupRule, grouping_of, groupings_of, group_test, keeps}
 use Rattle.mp4_tables.specs.format.PlainSamples.{PlacedSample}
-use Rattle.mp4_frag.specs.format.Fragments.{RunRow, TrackFragment, run_rows, sample_run_of}
+use Rattle.mp4_frag.specs.format.Fragments.{TrackFragment, sample_run_of}
 use Rattle.mp4_frag.specs.format.FragmentSamples.{run_samples, runs_samples, runs_end, end_of_data, duration_of, bytes_of}
 use Rattle.mp4_frag.specs.format.FragmentRules.{is_within}
 use Rattle.mp4_frag.specs.words.GroupsJudged.{AreGroupsSound}
@@ -28,9 +27,11 @@ use Rattle.mp4_frag.specs.declared.heads.Head.{Head}
 use Rattle.mp4_frag.specs.declared.heads.Inherited.{Inherited}
 use Rattle.mp4_frag.specs.declared.state.TrackState.{TrackState}
 use Rattle.mp4_frag.proofs.LeavesRead.{head_is, got}
-use Rattle.mp4_frag.proofs.RunsTied.{grouped_length}
 use Rattle.mp4_frag.proofs.RunsTied.{run_in, duration-append, bytes-append}
 use Rattle.mp4_frag.proofs.SamplesOfRows.{within_is, lasting_is, end_is, filling_is}
+use Rattle.mp4_frag.proofs.DurationsKept.{rows_count}
+use Rattle.mp4_frag.proofs.SaidSamples.{rows_said}
+use Rattle.mp4_tables.proofs.Counts.{groups_length}
 
 -- ---- runs
 
@@ -56,21 +57,13 @@ runs_end_are traf trex base before [] = refl
 runs_end_are traf trex base before (b ∷ runs) =
     ap (λ (place : ℤ). all_end (inheritance traf trex) base place runs) (sym (ends_are traf trex base before b)) ∙ runs_end_are traf trex base (end_of_data (run_begins base before b.payload) (samples_at traf trex base before b)) runs
 
-rows_count : (n v bits : ℕ) (bytes : List ℕ) → length (run_rows n v bits bytes) ≡ n
-rows_count zero v bits bytes = refl
-rows_count (suc n) v bits bytes = ap suc (rows_count n v bits (drop (width_of (present bits sample_columns)) bytes))
-
-samples_count : (trex : Trex) (traf : TrackFragment) (first : Option ℕ) (at : ℤ) (rows : List RunRow) → length (run_samples trex traf first at rows) ≡ length rows
-samples_count trex traf first at [] = refl
-samples_count trex traf first at (row ∷ rows) = ap suc (samples_count trex traf None _ rows)
-
 -- how many samples they have
 pub runs_count : (traf : TrackFragment) (trex : Trex) (base before : ℤ) (runs : List Box) → runs_total runs ≡ length (flat_map (λ samples. samples) (runs_samples trex traf base before (map run_in runs)))
 runs_count traf trex base before [] = refl
 runs_count traf trex base before (b ∷ runs) =
     let samples = samples_at traf trex base before b in
     let more = flat_map (λ samples. samples) (runs_samples trex traf base (end_of_data (run_begins base before b.payload) samples) (map run_in runs)) in
-    let one : length samples ≡ row_count trun b.payload = samples_count trex traf (sample_run_of b.payload).first_sample_flags (run_begins base before b.payload) (sample_run_of b.payload).rows ∙ rows_count (row_count trun b.payload) _ _ _ in
+    let one : length samples ≡ row_count trun b.payload = rows_said trex traf (sample_run_of b.payload).first_sample_flags (run_begins base before b.payload) (sample_run_of b.payload).rows ∙ rows_count (row_count trun b.payload) _ _ _ in
     let others = runs_count traf trex base (end_of_data (run_begins base before b.payload) samples) runs in
     let both = length-append samples more in
     omega arith
@@ -202,7 +195,7 @@ traf_sound L moof n before base ends tracks boxes b head trex inherited keys one
     let end : ends ≡ all_end (inheritance traf trex) start start runs = ee ∙ (λ i. all_end (taken i) (from i) (from i) runs) in
     let part = part_with moof before trex traf in
     let flat = flat_map (λ samples. samples) part.runs in
-    let count : n ≡ length (part_samples part) = en ∙ runs_count traf trex start start runs ∙ sym (grouped_length (maps_of (length flat) part.groups) flat) in
+    let count : n ≡ length (part_samples part) = en ∙ runs_count traf trex start start runs ∙ sym (groups_length (maps_of (length flat) part.groups) flat) in
     record {
       leaves = leaves_sound boxes (only_sound (codes "tfhd") tfhd b boxes one (head_sound b.payload h.readable)) times (runs_leaves L inherited base base runs sound) (groups_readable n keys [] (of_kind (codes "sbgp") boxes) groups);
       trex = trex;

@@ -2,14 +2,14 @@
 use Rattle.std.proofs.Common.{◌≡◌, ℕ, zero, suc, ◌+◌, ◌*◌, ◌≤◌, nat_le, ◌&&◌, false, Bool, true, cond, List, [], ◌∷◌, length, drop, map, Result, Ok, Err, refl, ap, ◌∙◌, rules, arith}
 use Rattle.std.specs.Prelude.{ℤ, pos, codes, bytes_eq}
 use Rattle.std.proofs.lemmas.Bool.{and_parts}
-use Rattle.mp4_boxes.specs.format.Bytes.{sum_of, width_of}
+use Rattle.mp4_boxes.specs.format.Bytes.{sum_of}
 use Rattle.mp4_boxes.specs.format.Box.{Box, Header, LieEndToEnd, header_at, box_of, box_and_more, first_boxes, size, sizes}
 use Rattle.mp4_boxes.specs.format.Children.{of_kind}
-use Rattle.mp4_boxes.specs.format.Layout.{trun, sbgp, row_count, needed, knows_version, knows_flags, present, sample_columns}
+use Rattle.mp4_boxes.specs.format.Layout.{trun, sbgp, row_count, needed, knows_version, knows_flags}
 use Rattle.mp4_boxes.specs.declared.fault.Kind.{Kind}
 use Rattle.mp4_boxes.proofs.Tiling.{header_is, sizes_fit}
 use Rattle.mp4_tables.specs.format.Groups.{grouping_of, groupings_of}
-use Rattle.mp4_frag.specs.format.Fragments.{SampleRun, TrackFragment, sample_run_of, run_rows, track_fragment_of}
+use Rattle.mp4_frag.specs.format.Fragments.{SampleRun, TrackFragment, sample_run_of, track_fragment_of}
 use Rattle.mp4_frag.specs.words.Judged.{AreMovedOn, end_with}
 use Rattle.mp4_frag.specs.words.OwnTrafs.{traf_steps}
 use Rattle.mp4_frag.specs.words.PlacesIn.{run_work, runs_work, group_work, groups_work, traf_work, IsPlaceIn}
@@ -22,6 +22,7 @@ use Rattle.mp4_frag.specs.declared.state.TrackState.{TrackState}
 use Rattle.mp4_frag.proofs.BoxPlaces.{all_boxes}
 use Rattle.mp4_frag.proofs.Costs.{many_rows}
 use Rattle.mp4_frag.proofs.PartReasons.{part_counts}
+use Rattle.mp4_frag.proofs.DurationsKept.{rows_count}
 
 -- ---- what boxes cost does not depend on where they are said to lie
 
@@ -117,10 +118,6 @@ samples_taken moof before (b ∷ trafs) old new room less m =
     (samples_taken moof (end_with moof before one.trex (track_fragment_of (children_of b))) trafs m.0 new m.1 less m.2.1)
 
 -- ---- by what the boxes say
-
-rows_count : (n v bits : ℕ) (bytes : List ℕ) → length (run_rows n v bits bytes) ≡ n
-rows_count zero v bits bytes = refl
-rows_count (suc n) v bits bytes = ap suc (rows_count n v bits (drop (width_of (present bits sample_columns)) bytes))
 
 -- runs, and their samples
 abbrev runs_say : List SampleRun → ℕ

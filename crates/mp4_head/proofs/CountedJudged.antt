@@ -1,19 +1,13 @@
 -- The counted boxes or the first fault of a container by the definition: it is tiled by the boxes, or no header can be read where one is due.
-use Rattle.std.proofs.Common.{◌≡◌, ℕ, zero, suc, ◌+◌, ◌<◌, ◌≤◌, Bool, true, false, ltb, List, [], ◌∷◌, ◌++◌, length, drop, Result, Ok, Err, refl, subst, arith, length-append}
+use Rattle.std.proofs.Common.{◌≡◌, ℕ, zero, suc, ◌+◌, ◌<◌, Bool, true, false, ltb, List, [], ◌∷◌, ◌++◌, length, drop, Result, Ok, Err, refl, subst, arith, length-append}
 use Rattle.std.proofs.lemmas.Bool.{ltb-true, ltb-false}
-use Rattle.mp4_boxes.specs.format.Box.{Box, Header, Container, header_at, box_of, size, sizes, LieEndToEnd, IsFront, Tiles, counted_container}
+use Rattle.mp4_boxes.specs.format.Box.{Box, Header, Container, header_at, box_of, sizes, IsFront, Tiles, counted_container}
 use Rattle.mp4_boxes.specs.format.BoxFaults.{header_there, type_of, IsHeaderFault}
 use Rattle.mp4_boxes.specs.format.FirstFault.{boxes_behind, counted_or_fault, no_tests, and_then}
 use Rattle.mp4_boxes.specs.declared.fault.Fault.{Fault}
 use Rattle.mp4_boxes.proofs.CountedFaults.{counted_in}
-use Rattle.mp4_boxes.proofs.Tiling.{first_fits, lies_push, sizes-cons, sizes_fit}
-use Rattle.mp4_boxes.proofs.Walking.{located_err, located_ok}
-
--- each box takes some bytes
-length_few : (at : ℕ) (bytes : List ℕ) (bs : List Box) → LieEndToEnd false at bytes bs → length bs ≤ sizes bs
-length_few at bytes [] l = omega arith
-length_few at bytes (b ∷ bs) l =
-    omega (arith, sizes-cons b bs, length_few (at + size b) (drop (size b) bytes) bs l.1, (first_fits false at bytes b bs l).0)
+use Rattle.mp4_boxes.proofs.Tiling.{lies_push, sizes_fit}
+use Rattle.mp4_boxes.proofs.Walking.{located_err, located_ok, length_few}
 
 -- so many boxes of these bytes, of a box of this type and place
 module _ (kind : List ℕ) (offset at : ℕ) (bytes : List ℕ) (count : ℕ) where

@@ -15,7 +15,7 @@ use Rattle.mp4_boxes.specs.format.Bytes.{field}
 use Rattle.mp4_head.proofs.SoundJudged.{outside_judged}
 use Rattle.mp4_head.specs.words.Leaves.{IsOpen}
 use Rattle.mp4_head.proofs.Entries.{references_readable, reference_count}
-use Rattle.mp4_head.proofs.FaultWalks.{fault_at}
+use Rattle.mp4_head.proofs.FaultWalks.{fault_at, or_none}
 
 none_is_some : (f : Fault) (o : Option Fault) → o ≡ None → o ≡ Some f → ⊥
 none_is_some f o e g = cc
@@ -74,10 +74,6 @@ descriptions_list_fails n ids b f e = rw e refl
 pub descriptions_list_holds : (n : ℕ) (ids : List ℕ) (b : Box) (all : List Box) → counted_or_fault (counted_container b) ≡ Ok all
     → fault_within (suc n) ids (place_of sample_entries b) ≡ each_fault (fault_at n ids (place_of sample_entries b)) [] all
 descriptions_list_holds n ids b all e = rw e refl
-
-or_none : (first : Option Fault) → or_else first (λ u. None) ≡ first
-or_none None = refl
-or_none (Some f) = refl
 
 -- an entry of a `dref` by its own tests, and of an `stsd` as a leaf
 pub reference_at : (n : ℕ) (ids : List ℕ) (d : Box) (before : List Box) (b : Box) → fault_at n ids (place_of data_entries d) before b ≡ first_failed (own_tests data_entries [] [] b)

@@ -15,7 +15,8 @@ use Rattle.mp4_head.specs.format.Tree.{are_distinct}
 use Rattle.mp4_head.specs.words.Containers.{SaysExtends}
 use Rattle.mp4_head.specs.words.Ids.{HasIds, AddsId}
 use Rattle.mp4_head.proofs.Taken.{no_ids, more_ids, distinct_more}
-use Rattle.mp4_head.proofs.Walks.{Walk, walk_none, walk_more, walk_all, sound_more, of_kind_this, of_kind_other}
+use Rattle.mp4_head.proofs.Walks.{Walk, walk_none, walk_more, walk_all, sound_more}
+use Rattle.mp4_tables.proofs.GroupWalks.{kind_snoc, kind_snoc_other}
 
 -- what was read of the boxes that were passed
 pub record ExtendsPassed (all left : List Box) (trexes : List Trex) (ids : BTreeSet ℕ) : Type 0 where
@@ -42,7 +43,7 @@ extends_this all left later child trexes more old new x p e k s r a added =
           ∙ ap (λ (ts : List Trex). ts ++ x ∷ []) p.says
           ∙ ap (λ (y : Trex). map (λ (b : Box). trex_of b.payload) (of_kind (codes "trex") p.walk.passed) ++ y ∷ []) r
           ∙ sym (map-append (λ (b : Box). trex_of b.payload) (of_kind (codes "trex") p.walk.passed) (child ∷ []))
-          ∙ ap (map (λ (b : Box). trex_of b.payload)) (sym (of_kind_this (codes "trex") p.walk.passed child k));
+          ∙ ap (map (λ (b : Box). trex_of b.payload)) (sym (kind_snoc (codes "trex") p.walk.passed child k));
       distinct = ap are_distinct ids ∙ distinct_more (map (λ (y : Trex). y.id) trexes) x.id p.distinct none;
       met = subst (λ (numbers : List ℕ). HasIds new numbers) (sym ids) (more_ids old new (map (λ (y : Trex). y.id) trexes) x.id p.met a);
     }
@@ -52,7 +53,7 @@ pub extends_other : (all left later : List Box) (child : Box) (trexes : List Tre
 extends_other all left later child trexes ids p e k = record {
   walk = walk_more all left later child p.walk e;
   sound = sound_more (ruled kinds.MovieExtends) p.walk.passed child p.sound (rw k tt);
-  says = p.says ∙ ap (map (λ (b : Box). trex_of b.payload)) (sym (of_kind_other (codes "trex") p.walk.passed child k));
+  says = p.says ∙ ap (map (λ (b : Box). trex_of b.payload)) (sym (kind_snoc_other (codes "trex") p.walk.passed child k));
   distinct = p.distinct;
   met = p.met;
 }

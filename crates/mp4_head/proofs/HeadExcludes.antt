@@ -24,7 +24,7 @@ use Rattle.mp4_head.proofs.Distinct.{distinct_same, map_twice, kept_names_none, 
 use Rattle.mp4_head.proofs.HeadPlaces.{HoldsAs, IsNamed, tiled, reached, standing, among, is_first, track_tree}
 
 -- a leaf among sound ones is sound
-leaf_among : (scope : Scope) (boxes bs : List Box) (b : Box) (l : Leaf) → boxes ≡ bs → AreSound scope bs → IsIn boxes b → leaf_of scope b.kind ≡ Some l → IsSound l b.payload
+pub leaf_among : (scope : Scope) (boxes bs : List Box) (b : Box) (l : Leaf) → boxes ≡ bs → AreSound scope bs → IsIn boxes b → leaf_of scope b.kind ≡ Some l → IsSound l b.payload
 leaf_among scope boxes bs b l same s i e =
     let k = all_in (λ (x : Box). IsSoundAs (leaf_of scope x.kind) x.payload) bs b (among boxes bs b same i) s in
     subst (λ (o : Option Leaf). IsSoundAs o b.payload) e k
@@ -85,7 +85,7 @@ leaf_excludes m f q h s =
 
 -- ---- the list of boxes of a container
 
-held_under : (scope : Scope) (rule : Rule) (c : Container) (boxes : List Box) → scope ≡ ruled rule → HoldsAs scope c boxes → Holds rule c boxes
+pub held_under : (scope : Scope) (rule : Rule) (c : Container) (boxes : List Box) → scope ≡ ruled rule → HoldsAs scope c boxes → Holds rule c boxes
 held_under scope rule c boxes e h = subst (λ (x : Scope). HoldsAs x c boxes) e h
 
 header_excludes : (m : MovieTree) (f : Fault) → HeaderStands (place_of (ruled Movie) m.moov) f → IsMovieTree m → ⊥
@@ -110,7 +110,7 @@ missing_excludes m f q h =
 -- ---- which scope reads a box as the leaf
 
 -- a value that the table has at a type passes a test that it passes
-has_any : {A : Type 0} (test : A → Bool) (entries : List (List ℕ × A)) (kind : List ℕ) (x : A) → test x ≡ true → at_kind entries kind ≡ Some x → list_any (λ (entry : List ℕ × A). test entry.1) entries ≡ true
+pub has_any : {A : Type 0} (test : A → Bool) (entries : List (List ℕ × A)) (kind : List ℕ) (x : A) → test x ≡ true → at_kind entries kind ≡ Some x → list_any (λ (entry : List ℕ × A). test entry.1) entries ≡ true
 has_any test [] kind x t e = absurd (none_some x e)
 has_any test (entry ∷ entries) kind x t e = elim (entry_or kind entry.0 entry.1 x entries e) [
   | inl m ↦ left (test entry.1) (list_any (λ y. test y.1) entries) (ap test m.1 ∙ t)
@@ -132,15 +132,15 @@ abbrev is_trex : Leaf → Bool
 is_trex trex = true
 is_trex _ = false
 
-other_leaf : (x y : Leaf) (test : Leaf → Bool) → ◌≡◌ {A = Option Leaf} (Some x) (Some y) → test x ≡ false → test y ≡ true → ⊥
+pub other_leaf : (x y : Leaf) (test : Leaf → Bool) → ◌≡◌ {A = Option Leaf} (Some x) (Some y) → test x ≡ false → test y ≡ true → ⊥
 other_leaf x y test e f t = let same : x ≡ y = cc in true_false (test x) (ap test same ∙ t) f
 
-tkhd_scope : (scope : Scope) (kind : List ℕ) → leaf_of scope kind ≡ Some tkhd → (scope ≡ ruled Track) × (bytes_eq (codes "tkhd") kind ≡ true)
+pub tkhd_scope : (scope : Scope) (kind : List ℕ) → leaf_of scope kind ≡ Some tkhd → (scope ≡ ruled Track) × (bytes_eq (codes "tkhd") kind ≡ true)
 tkhd_scope (ruled Track) kind e = (refl, (only_entry kind (codes "tkhd") tkhd tkhd e).0)
 tkhd_scope sample_entries kind e = absurd (other_leaf sample_entry tkhd is_tkhd e refl refl)
 tkhd_scope scope kind e = absurd (true_false _ (has_any is_tkhd (leaves scope) kind tkhd refl e) refl)
 
-trex_scope : (scope : Scope) (kind : List ℕ) → leaf_of scope kind ≡ Some trex → (scope ≡ ruled MovieExtends) × (bytes_eq (codes "trex") kind ≡ true)
+pub trex_scope : (scope : Scope) (kind : List ℕ) → leaf_of scope kind ≡ Some trex → (scope ≡ ruled MovieExtends) × (bytes_eq (codes "trex") kind ≡ true)
 trex_scope (ruled MovieExtends) kind e = (refl, (only_entry kind (codes "trex") trex trex e).0)
 trex_scope sample_entries kind e = absurd (other_leaf sample_entry trex is_trex e refl refl)
 trex_scope scope kind e = absurd (true_false _ (has_any is_trex (leaves scope) kind trex refl e) refl)
@@ -193,7 +193,7 @@ taken_trex_excludes m f s h sound =
 
 -- ---- entries of `dref`, kept boxes
 
-url_is_leaf : (kind : List ℕ) → kind ≡ codes "url " → leaf_of data_entries kind ≡ None → ⊥
+pub url_is_leaf : (kind : List ℕ) → kind ≡ codes "url " → leaf_of data_entries kind ≡ None → ⊥
 url_is_leaf kind e n = let k : ◌≡◌ {A = Option Leaf} (Some data_entry_url) None = sym (ap (leaf_of data_entries) e) ∙ n in cc
 
 foreign_excludes : (m : MovieTree) (f : Fault) → IsForeignReference (place_of (ruled Movie) m.moov) f → IsMovieTree m → IsSoundMovie m → ⊥

@@ -12,6 +12,7 @@ use Rattle.mp4_head.specs.format.Head.{Kept, Edit, Media, TrackHead, MovieHead}
 use Rattle.mp4_head.specs.format.Writing.{mvhd_bytes, tkhd_bytes, mdhd_bytes, edts_bytes, edit_bytes, kept_bytes, dinf_bytes, stbl_bytes, mdia_bytes, trak_bytes, trex_bytes, mvex_bytes, moov_bytes, head_bytes, ftyp_bytes, next_track_id}
 use Rattle.mp4_head.specs.words.Parts.{capped, descriptions_bytes}
 use Rattle.mp4_head.proofs.Pieces.{appended, of_nine}
+use Rattle.mp4_boxes.proofs.WrittenBoxes.{length-box_bytes}
 
 -- A number was counted up by the members of a list before a place.
 pub record Counted {A : Type 0} (g : A → ℕ) (before : ℕ) (all : List A) (i n : ℕ) : Type 0 where
@@ -56,16 +57,12 @@ length_appended : (out : List ℕ) (ps : List (List ℕ)) → length (appended o
 length_appended out [] = omega arith
 length_appended out (p ∷ ps) = omega (arith, length_appended (out ++ p) ps, length-append out p)
 
--- a box has 8 bytes more than its payload
-pub length_box : (kind payload : List ℕ) → length kind ≡ 4 → length (box_bytes kind payload) ≡ 8 + length payload
-length_box kind payload k = omega (arith, length-append (big_bytes 4 (8 + length payload) ++ kind) payload, length-append (big_bytes 4 (8 + length payload)) kind, length-bytes_high_first 4 (8 + length payload), k)
-
 -- any box
 pub length_any : (kind payload : List ℕ) → length (box_bytes kind payload) ≡ 4 + length kind + length payload
 length_any kind payload = omega (arith, length-append (big_bytes 4 (8 + length payload) ++ kind) payload, length-append (big_bytes 4 (8 + length payload)) kind, length-bytes_high_first 4 (8 + length payload))
 
 -- rows of `elst`
-length_rows : (edits : List Edit) → length (flat_map edit_bytes edits) ≡ 20 * length edits
+pub length_rows : (edits : List Edit) → length (flat_map edit_bytes edits) ≡ 20 * length edits
 length_rows [] = refl
 length_rows (e ∷ edits) =
     let one : length (edit_bytes e) ≡ 20 = refl in
@@ -95,7 +92,7 @@ length_table descriptions groups =
     let d : length four ≡ 16 = refl in
     let e : length stsd_is ≡ 16 + length (flat_map kept_bytes descriptions) = omega arith in
     let f : length (appended stsd_is (one ∷ two ∷ three ∷ four ∷ five ∷ [])) ≡ length stsd_is + (length one + (length two + (length three + (length four + (length five + 0))))) = length_appended stsd_is (one ∷ two ∷ three ∷ four ∷ five ∷ []) in
-    let g : length (stbl_bytes descriptions groups) ≡ 8 + length (appended stsd_is (one ∷ two ∷ three ∷ four ∷ five ∷ [])) = length_box (codes "stbl") (appended stsd_is (one ∷ two ∷ three ∷ four ∷ five ∷ [])) refl in
+    let g : length (stbl_bytes descriptions groups) ≡ 8 + length (appended stsd_is (one ∷ two ∷ three ∷ four ∷ five ∷ [])) = length-box_bytes (codes "stbl") (appended stsd_is (one ∷ two ∷ three ∷ four ∷ five ∷ [])) refl in
     omega (arith, a, b, c, d, e, f, g)
 
 length_media : (m : Media) (groups : List (List ℕ)) → length (mdia_bytes m groups) ≡ 188 + length (box_bytes (codes "hdlr") m.handler) + length (flat_map (box_bytes (codes "elng")) m.extended_languages) + length (kept_bytes m.header) + length (flat_map kept_bytes m.descriptions)
@@ -106,13 +103,13 @@ length_media m groups =
     let dinf : length dinf_bytes ≡ 36 = refl in
     let inner = appended (kept_bytes m.header) (dinf_bytes ∷ table ∷ []) in
     let a : length inner ≡ length (kept_bytes m.header) + (length dinf_bytes + (length table + 0)) = length_appended (kept_bytes m.header) (dinf_bytes ∷ table ∷ []) in
-    let b : length (box_bytes (codes "minf") inner) ≡ 8 + length inner = length_box (codes "minf") inner refl in
+    let b : length (box_bytes (codes "minf") inner) ≡ 8 + length inner = length-box_bytes (codes "minf") inner refl in
     let h = box_bytes (codes "hdlr") m.handler in
-    let c : length h ≡ 8 + length m.handler = length_box (codes "hdlr") m.handler refl in
+    let c : length h ≡ 8 + length m.handler = length-box_bytes (codes "hdlr") m.handler refl in
     let l = flat_map (box_bytes (codes "elng")) m.extended_languages in
     let outer = appended (mdhd_bytes m) (h ∷ l ∷ box_bytes (codes "minf") inner ∷ []) in
     let e : length outer ≡ length (mdhd_bytes m) + (length h + (length l + (length (box_bytes (codes "minf") inner) + 0))) = length_appended (mdhd_bytes m) (h ∷ l ∷ box_bytes (codes "minf") inner ∷ []) in
-    let f : length (mdia_bytes m groups) ≡ 8 + length outer = length_box (codes "mdia") outer refl in
+    let f : length (mdia_bytes m groups) ≡ 8 + length outer = length-box_bytes (codes "mdia") outer refl in
     omega (arith, header, dinf, a, b, c, e, f, length_table m.descriptions groups)
 
 length_track_header : (t : TrackHead) → length t.matrix ≡ 9 → length (tkhd_bytes t) ≡ 104
@@ -128,7 +125,7 @@ length_track t n =
     let a : length (appended (tkhd_bytes t) (edts_bytes t.edits ∷ flat_map kept_bytes t.kept ∷ mdia_bytes t.media t.group_descriptions ∷ [])) ≡ length (tkhd_bytes t) + (length (edts_bytes t.edits) + (length (flat_map kept_bytes t.kept) + (length (mdia_bytes t.media t.group_descriptions) + 0))) =
     length_appended (tkhd_bytes t) ps in
     let b : length (trak_bytes t) ≡ 8 + length (appended (tkhd_bytes t) (edts_bytes t.edits ∷ flat_map kept_bytes t.kept ∷ mdia_bytes t.media t.group_descriptions ∷ [])) =
-    length_box (codes "trak") (appended (tkhd_bytes t) (edts_bytes t.edits ∷ flat_map kept_bytes t.kept ∷ mdia_bytes t.media t.group_descriptions ∷ [])) refl in
+    length-box_bytes (codes "trak") (appended (tkhd_bytes t) (edts_bytes t.edits ∷ flat_map kept_bytes t.kept ∷ mdia_bytes t.media t.group_descriptions ∷ [])) refl in
     omega (arith, extends, a, b, length_track_header t n, length_media t.media t.group_descriptions)
 
 length_movie_header : (m : MovieHead) (next : ℕ) → length m.matrix ≡ 9 → length (mvhd_bytes m next) ≡ 120
@@ -146,9 +143,9 @@ length_head m tracks mehd n =
     let ftyp : length ftyp_bytes ≡ 24 = refl in
     let front = box_bytes (codes "mehd") (spelled (1 ∷ 3 ∷ 8 ∷ []) (1 ∷ 0 ∷ mehd ∷ [])) in
     let a : length front ≡ 20 = refl in
-    let b : length (mvex_bytes tracks mehd) ≡ 8 + length (front ++ flat_map trex_bytes tracks) = length_box (codes "mvex") (front ++ flat_map trex_bytes tracks) refl in
+    let b : length (mvex_bytes tracks mehd) ≡ 8 + length (front ++ flat_map trex_bytes tracks) = length-box_bytes (codes "mvex") (front ++ flat_map trex_bytes tracks) refl in
     let c = length-append front (flat_map trex_bytes tracks) in
     let inner = appended header (flat_map kept_bytes m.kept ∷ flat_map trak_bytes tracks ∷ mvex_bytes tracks mehd ∷ []) in
     let d : length inner ≡ length header + (length (flat_map kept_bytes m.kept) + (length (flat_map trak_bytes tracks) + (length (mvex_bytes tracks mehd) + 0))) = length_appended header (flat_map kept_bytes m.kept ∷ flat_map trak_bytes tracks ∷ mvex_bytes tracks mehd ∷ []) in
-    let e : length (moov_bytes m tracks mehd) ≡ 8 + length inner = length_box (codes "moov") inner refl in
+    let e : length (moov_bytes m tracks mehd) ≡ 8 + length inner = length-box_bytes (codes "moov") inner refl in
     omega (arith, ftyp, a, b, c, d, e, length_movie_header m (next_track_id tracks) n, length-append ftyp_bytes (moov_bytes m tracks mehd), length_both trak_bytes trex_bytes tracks)

@@ -54,7 +54,7 @@ is_first kind bs b i e n =
     ap (first_of kind) i.is ∙ only_one kind i.before i.after b (record { kind = kind; offset = 0; header = 0; payload = [] }) e (sym (ap (count_among (kind ∷ [])) i.is) ∙ n)
 
 -- the boxes of a container that is there
-there : (rule : Rule) (kind : List ℕ) (bs boxes : List Box) (b : Box) → IsIn bs b → bytes_eq kind b.kind ≡ true → count_among (kind ∷ []) bs ≤ 1
+pub there : (rule : Rule) (kind : List ℕ) (bs boxes : List Box) (b : Box) → IsIn bs b → bytes_eq kind b.kind ≡ true → count_among (kind ∷ []) bs ≤ 1
     → HoldsIfThere rule (of_kind kind bs) boxes → Holds rule (box_container b) boxes
 there rule kind bs boxes b i e n h = subst (λ (found : List Box). HoldsIfThere rule found boxes) (first_there kind bs b i e n) h
 
@@ -62,10 +62,10 @@ there rule kind bs boxes b i e n h = subst (λ (found : List Box). HoldsIfThere 
 pub track_tree : (m : MovieTree) → IsMovieTree m → (track : TrackTree) → IsIn m.tracks track → IsTrackTree track
 track_tree m h track i = all_in IsTrackTree m.tracks track i h.tracks
 
-held_by : (rule : Rule) (boxes : List Box) (x y : Box) → x ≡ y → Holds rule (box_container x) boxes → Holds rule (box_container y) boxes
+pub held_by : (rule : Rule) (boxes : List Box) (x y : Box) → x ≡ y → Holds rule (box_container x) boxes → Holds rule (box_container y) boxes
 held_by rule boxes x y e h = subst (λ (z : Box). Holds rule (box_container z) boxes) e h
 
-counted_by : (boxes : List Box) (x y : Box) → x ≡ y → Tiles (counted_container x) boxes → Tiles (counted_container y) boxes
+pub counted_by : (boxes : List Box) (x y : Box) → x ≡ y → Tiles (counted_container x) boxes → Tiles (counted_container y) boxes
 counted_by boxes x y e h = subst (λ (z : Box). Tiles (counted_container z) boxes) e h
 
 module _ (m : MovieTree) (h : IsMovieTree m) (b : Box) where

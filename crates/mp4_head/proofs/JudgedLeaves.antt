@@ -1,15 +1,16 @@
 -- The tests of a leaf: where none fails the leaf is sound, and where one fails the leaf is at fault for that.
-use Rattle.std.proofs.Common.{◌≡◌, ℕ, ◌≤◌, Bool, true, false, cond, List, length, Option, Some, None, inl, inr, refl, arith}
-use Rattle.std.specs.Prelude.{◌⊎◌, not, nat_le, ◌==◌}
+use Rattle.std.proofs.Common.{◌≡◌, Bool, true, false, cond, length, Option, Some, None, inl, inr, refl, arith}
+use Rattle.std.specs.Prelude.{◌⊎◌, not, nat_le}
 use Rattle.std.proofs.lemmas.Bool.{leb-true, leb-false}
 use Rattle.mp4_boxes.specs.format.Box.{Box}
 use Rattle.mp4_boxes.specs.format.BoxFaults.{fault_of}
 use Rattle.mp4_boxes.specs.format.FirstFault.{leaf_fault}
-use Rattle.mp4_boxes.specs.format.Layout.{Leaf, sbgp, version, needed, knows_version, knows_flags, has_bad_value, is_outside_data, has_large_offset, IsReadable, IsSound}
+use Rattle.mp4_boxes.specs.format.Layout.{Leaf, version, needed, knows_version, knows_flags, has_bad_value, is_outside_data, has_large_offset, IsReadable, IsSound}
 use Rattle.mp4_boxes.specs.declared.fault.Fault.{Fault}
 use Rattle.mp4_boxes.specs.declared.fault.Kind.TheVariants.{ShortBox, BadVersion, BadFlags, BadValue, OutsideData, OffsetTooLarge}
 use Rattle.mp4_boxes.proofs.Plain.{not_is_false, not_is_true}
 use Rattle.mp4_head.specs.words.Leaves.{IsFaultOf}
+use Rattle.mp4_tables.proofs.LeafJudged.{four_needed}
 
 -- where a test's fault is not named, it passes, and the rest
 passed : (v : Bool) (rest : Option Fault) (g : Fault) → cond v rest (Some g) ≡ None → (v ≡ true) × (rest ≡ None)
@@ -37,15 +38,6 @@ leaf_sound leaf b e =
       inside = not_is_true (is_outside_data leaf b.payload) inside.0;
       offsets = not_is_true (has_large_offset leaf b.payload) offsets.0;
     }
-
--- each leaf takes four bytes at least
-four_needed : (leaf : Leaf) (payload : List ℕ) → 4 ≤ needed leaf payload
-four_needed sbgp payload = by (version payload == 0) refl
-  where
-    by : (v : Bool) → (version payload == 0) ≡ v → 4 ≤ needed sbgp payload
-    by true e = rw e (omega arith)
-    by false e = rw e (omega arith)
-four_needed leaf payload = omega arith
 
 -- Where a test of a leaf fails, the leaf is at fault.
 pub leaf_fails : (leaf : Leaf) (b : Box) (f : Fault) → leaf_fault leaf b ≡ Some f → IsFaultOf leaf b f

@@ -35,7 +35,7 @@ use Rattle.mp4_head.proofs.JudgedLeaves.{leaf_sound}
 use Rattle.mp4_head.proofs.JudgedWalks.{neither_fails, Passes, passes, box_passes, passes_leaf, first_passes}
 use Rattle.mp4_head.proofs.MovieJudged.{trak_fault, mvex_fault, kept_in_movie}
 use Rattle.mp4_head.proofs.Taken.{distinct_more}
-use Rattle.mp4_head.proofs.Walks.{of_kind_this, of_kind_other}
+use Rattle.mp4_tables.proofs.GroupWalks.{kind_snoc, kind_snoc_other}
 
 -- ---- leaves
 
@@ -132,10 +132,10 @@ distinct_behind f kind passed (c ∷ left) d h = by (bytes_eq kind c.kind) refl 
 
     by : (v : Bool) → bytes_eq kind c.kind ≡ v → (are_distinct (map f (of_kind kind (passed ++ c ∷ []))) ≡ true → are_distinct (map f (of_kind kind ((passed ++ c ∷ []) ++ left))) ≡ true)
         → are_distinct (map f (of_kind kind (passed ++ c ∷ left))) ≡ true
-    by false k more = grouped more (ap (λ (bs : List Box). are_distinct (map f bs)) (of_kind_other kind passed c k) ∙ d)
+    by false k more = grouped more (ap (λ (bs : List Box). are_distinct (map f bs)) (kind_snoc_other kind passed c k) ∙ d)
     by true k more =
         let none : list_any (nat_eq (f c)) (map f (of_kind kind passed)) ≡ false = ap (λ (bs : List Box). list_any (nat_eq (f c)) (map f (of_kind kind bs))) (sym (append-nil passed)) ∙ h [] left c refl k in
-        let numbers : map f (of_kind kind (passed ++ c ∷ [])) ≡ map f (of_kind kind passed) ++ f c ∷ [] = ap (map f) (of_kind_this kind passed c k) ∙ map-append f (of_kind kind passed) (c ∷ []) in
+        let numbers : map f (of_kind kind (passed ++ c ∷ [])) ≡ map f (of_kind kind passed) ++ f c ∷ [] = ap (map f) (kind_snoc kind passed c k) ∙ map-append f (of_kind kind passed) (c ∷ []) in
         grouped more (ap are_distinct numbers ∙ distinct_more (map f (of_kind kind passed)) (f c) d none)
 
 -- ---- entries

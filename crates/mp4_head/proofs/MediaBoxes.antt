@@ -15,7 +15,8 @@ use Rattle.mp4_head.specs.declared.media_boxes.MediaHeader.{MediaHeader}
 use Rattle.mp4_head.specs.declared.information.Information.{Information}
 use Rattle.mp4_head.specs.words.Containers.{SaysInformation, SaysMediaBoxes}
 use Rattle.mp4_head.specs.words.Leaves.{SaysMedia}
-use Rattle.mp4_head.proofs.Walks.{Walk, walk_none, walk_more, walk_here, walk_all, none_before, sound_more, FirstRead, not_yet, first_other, first_this, first_read, first_missing, of_kind_this, of_kind_other}
+use Rattle.mp4_head.proofs.Walks.{Walk, walk_none, walk_more, walk_here, walk_all, none_before, sound_more, FirstRead, not_yet, first_other, first_this, first_read, first_missing}
+use Rattle.mp4_tables.proofs.GroupWalks.{kind_snoc, kind_snoc_other}
 
 -- what is said of the boxes of which one stands
 abbrev pub IsMediaHeader : Box → MediaHeader → Type 0
@@ -52,7 +53,7 @@ media_header b all left later child header handler languages information x h p e
       sound = sound_more (ruled kinds.Media) p.walk.passed child p.sound (rw k q);
       header_says = first_this IsMediaHeader (codes "mdhd") p.walk.passed child x k none s;
       handler_is = first_other IsHandler (codes "hdlr") p.walk.passed child handler (rw is refl) p.handler_is;
-      languages_are = p.languages_are ∙ ap (map (λ (c : Box). c.payload)) (sym (of_kind_other (codes "elng") p.walk.passed child (rw is refl)));
+      languages_are = p.languages_are ∙ ap (map (λ (c : Box). c.payload)) (sym (kind_snoc_other (codes "elng") p.walk.passed child (rw is refl)));
       inside = first_other IsInformation (codes "minf") p.walk.passed child information (rw is refl) p.inside;
     }
 
@@ -70,7 +71,7 @@ media_handler b all left later child header handler languages information x h p 
       sound = sound_more (ruled kinds.Media) p.walk.passed child p.sound (rw is q);
       header_says = first_other IsMediaHeader (codes "mdhd") p.walk.passed child header n0 p.header_says;
       handler_is = first_this IsHandler (codes "hdlr") p.walk.passed child x k none s;
-      languages_are = p.languages_are ∙ ap (map (λ (c : Box). c.payload)) (sym (of_kind_other (codes "elng") p.walk.passed child (rw is refl)));
+      languages_are = p.languages_are ∙ ap (map (λ (c : Box). c.payload)) (sym (kind_snoc_other (codes "elng") p.walk.passed child (rw is refl)));
       inside = first_other IsInformation (codes "minf") p.walk.passed child information (rw is refl) p.inside;
     }
 
@@ -87,7 +88,7 @@ media_language b all left later child header handler languages information x h p
       sound = sound_more (ruled kinds.Media) p.walk.passed child p.sound (rw is tt);
       header_says = first_other IsMediaHeader (codes "mdhd") p.walk.passed child header n0 p.header_says;
       handler_is = first_other IsHandler (codes "hdlr") p.walk.passed child handler n1 p.handler_is;
-      languages_are = added ∙ ap (λ (g : List (List ℕ)). g ++ child.payload ∷ []) p.languages_are ∙ sym (map-append (λ (c : Box). c.payload) (of_kind (codes "elng") p.walk.passed) (child ∷ [])) ∙ ap (map (λ (c : Box). c.payload)) (sym (of_kind_this (codes "elng") p.walk.passed child k));
+      languages_are = added ∙ ap (λ (g : List (List ℕ)). g ++ child.payload ∷ []) p.languages_are ∙ sym (map-append (λ (c : Box). c.payload) (of_kind (codes "elng") p.walk.passed) (child ∷ [])) ∙ ap (map (λ (c : Box). c.payload)) (sym (kind_snoc (codes "elng") p.walk.passed child k));
       inside = first_other IsInformation (codes "minf") p.walk.passed child information (rw is refl) p.inside;
     }
 
@@ -107,7 +108,7 @@ media_information b all left later child header handler languages information x 
       sound = sound_more (ruled kinds.Media) p.walk.passed child p.sound (rw is tt);
       header_says = first_other IsMediaHeader (codes "mdhd") p.walk.passed child header n0 p.header_says;
       handler_is = first_other IsHandler (codes "hdlr") p.walk.passed child handler n1 p.handler_is;
-      languages_are = p.languages_are ∙ ap (map (λ (c : Box). c.payload)) (sym (of_kind_other (codes "elng") p.walk.passed child n2));
+      languages_are = p.languages_are ∙ ap (map (λ (c : Box). c.payload)) (sym (kind_snoc_other (codes "elng") p.walk.passed child n2));
       inside = first_this IsInformation (codes "minf") p.walk.passed child x k none s;
     }
 
@@ -124,7 +125,7 @@ media_other b all left later child header handler languages information h p e n0
       sound = sound_more (ruled kinds.Media) p.walk.passed child p.sound (rw (n0, n1) tt);
       header_says = first_other IsMediaHeader (codes "mdhd") p.walk.passed child header n0 p.header_says;
       handler_is = first_other IsHandler (codes "hdlr") p.walk.passed child handler n1 p.handler_is;
-      languages_are = p.languages_are ∙ ap (map (λ (c : Box). c.payload)) (sym (of_kind_other (codes "elng") p.walk.passed child n2));
+      languages_are = p.languages_are ∙ ap (map (λ (c : Box). c.payload)) (sym (kind_snoc_other (codes "elng") p.walk.passed child n2));
       inside = first_other IsInformation (codes "minf") p.walk.passed child information n3 p.inside;
     }
 

@@ -30,7 +30,8 @@ use Rattle.mp4_head.proofs.Distinct.{payload_first, map_twice}
 use Rattle.mp4_head.proofs.Inside.{stbls_lie}
 use Rattle.mp4_head.proofs.KeptWalks.{KeptPassed, keeps_none, keeps_this, keeps_other, keeps_all, another, ReadIf, not_there, was_there, if_other, if_this, holds_there, holds_none}
 use Rattle.mp4_head.proofs.Taken.{no_ids, more_ids, distinct_more}
-use Rattle.mp4_head.proofs.Walks.{Walk, walk_none, walk_more, walk_here, walk_all, none_before, sound_more, of_kind_this, of_kind_other, FirstRead, not_yet, was_read, first_other, first_this, first_read, first_missing}
+use Rattle.mp4_head.proofs.Walks.{Walk, walk_none, walk_more, walk_here, walk_all, none_before, sound_more, FirstRead, not_yet, was_read, first_other, first_this, first_read, first_missing}
+use Rattle.mp4_tables.proofs.GroupWalks.{kind_snoc, kind_snoc_other}
 
 -- what is said of an `mvhd` and of a `trak`
 abbrev pub IsMovieHeader : Box → MovieHeader → Type 0
@@ -58,7 +59,7 @@ pub movie_none : (all : List Box) (ids : BTreeSet ℕ) → IsEmpty ids → Movie
 movie_none all ids e = record { walk = walk_none all; sound = tt; header_says = not_yet refl; kept_are = keeps_none (kept_kinds kinds.Movie); tracks_are = tt; distinct = refl; met = no_ids ids e; extends_are = not_there refl refl }
 
 -- lists that go together, with one more in each
-zip_more : {A B : Type 0} (R : A → B → Type 0) (xs : List A) (ys : List B) (x : A) (y : B) → AllZip R xs ys → R x y → AllZip R (xs ++ x ∷ []) (ys ++ y ∷ [])
+pub zip_more : {A B : Type 0} (R : A → B → Type 0) (xs : List A) (ys : List B) (x : A) (y : B) → AllZip R xs ys → R x y → AllZip R (xs ++ x ∷ []) (ys ++ y ∷ [])
 zip_more R [] [] x y z r = (r, tt)
 zip_more R [] (w ∷ ys) x y z r = absurd z
 zip_more R (v ∷ xs) [] x y z r = absurd z
@@ -73,7 +74,7 @@ module _ (b : Box) (all left later : List Box) (child : Box) (header : Option Mo
   stands = stands_of b all p.walk.passed later child h.tiles split
 
   no_track : bytes_eq (codes "trak") child.kind ≡ false → AllZip IsTrack (of_kind (codes "trak") (p.walk.passed ++ child ∷ [])) tracks
-  no_track n = subst (λ (bs : List Box). AllZip IsTrack bs tracks) (sym (of_kind_other (codes "trak") p.walk.passed child n)) p.tracks_are
+  no_track n = subst (λ (bs : List Box). AllZip IsTrack bs tracks) (sym (kind_snoc_other (codes "trak") p.walk.passed child n)) p.tracks_are
 
   -- the `mvhd` was read
   pub movie_header : (x : MovieHeader) → bytes_eq (codes "mvhd") child.kind ≡ true → IsSound mvhd child.payload → IsMovieHeader child x → MoviePassed all later (Some x) kept tracks ids trexes
@@ -114,7 +115,7 @@ module _ (b : Box) (all left later : List Box) (child : Box) (header : Option Mo
       let numbers : ids_of more ≡ ids_of tracks ++ t.id ∷ [] = ap ids_of added ∙ map-append (λ (x : TrackHead). x.id) tracks (t ∷ []) in
       let none : list_any (nat_eq t.id) (ids_of tracks) ≡ false = sym (p.met t.id) ∙ a.new_there in
       let zip = zip_more IsTrack (of_kind (codes "trak") p.walk.passed) tracks child t p.tracks_are r in
-      let there = subst (λ (bs : List Box). AllZip IsTrack bs (tracks ++ t ∷ [])) (sym (of_kind_this (codes "trak") p.walk.passed child k)) zip in
+      let there = subst (λ (bs : List Box). AllZip IsTrack bs (tracks ++ t ∷ [])) (sym (kind_snoc (codes "trak") p.walk.passed child k)) zip in
       record {
         walk = walk_more all left later child p.walk e;
         sound = sound_more (ruled kinds.Movie) p.walk.passed child p.sound (rw n0 tt);

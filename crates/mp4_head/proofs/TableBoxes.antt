@@ -11,7 +11,8 @@ use Rattle.mp4_boxes.proofs.Refusing.{holds_only}
 use Rattle.mp4_boxes.proofs.Sound.{same_kind}
 use Rattle.mp4_head.specs.format.Head.{Kept}
 use Rattle.mp4_head.specs.words.Containers.{SaysReferences, SaysDataInformation, SaysDescriptions, SaysTable}
-use Rattle.mp4_head.proofs.Walks.{Walk, walk_none, walk_more, walk_here, walk_all, none_before, sound_more, IfPassed, passed_other, passed_this, passed_must, of_kind_this, of_kind_other}
+use Rattle.mp4_head.proofs.Walks.{Walk, walk_none, walk_more, walk_here, walk_all, none_before, sound_more, IfPassed, passed_other, passed_this, passed_must}
+use Rattle.mp4_tables.proofs.GroupWalks.{kind_snoc, kind_snoc_other}
 
 -- ---- `dinf`
 
@@ -76,7 +77,7 @@ table_descriptions b all left later child descriptions read groups h p e k s =
     record {
       walk = walk_more all left later child p.walk e;
       entries = passed_this (λ c. SaysDescriptions c read) (codes "stsd") p.walk.passed child k none s;
-      says = p.says ∙ ap (map (λ (c : Box). c.payload)) (sym (of_kind_other (codes "sgpd") p.walk.passed child other));
+      says = p.says ∙ ap (map (λ (c : Box). c.payload)) (sym (kind_snoc_other (codes "sgpd") p.walk.passed child other));
     }
 
 -- an `sgpd` was kept
@@ -85,7 +86,7 @@ pub table_group : (all left later : List Box) (child : Box) (descriptions : List
 table_group all left later child descriptions groups more p e n k added = record {
   walk = walk_more all left later child p.walk e;
   entries = passed_other (λ c. SaysDescriptions c descriptions) (codes "stsd") p.walk.passed child n p.entries;
-  says = added ∙ ap (λ (g : List (List ℕ)). g ++ child.payload ∷ []) p.says ∙ sym (map-append (λ (c : Box). c.payload) (of_kind (codes "sgpd") p.walk.passed) (child ∷ [])) ∙ ap (map (λ (c : Box). c.payload)) (sym (of_kind_this (codes "sgpd") p.walk.passed child k));
+  says = added ∙ ap (λ (g : List (List ℕ)). g ++ child.payload ∷ []) p.says ∙ sym (map-append (λ (c : Box). c.payload) (of_kind (codes "sgpd") p.walk.passed) (child ∷ [])) ∙ ap (map (λ (c : Box). c.payload)) (sym (kind_snoc (codes "sgpd") p.walk.passed child k));
 }
 
 -- another box was passed
@@ -94,7 +95,7 @@ pub table_other : (all left later : List Box) (child : Box) (descriptions : List
 table_other all left later child descriptions groups p e n k = record {
   walk = walk_more all left later child p.walk e;
   entries = passed_other (λ c. SaysDescriptions c descriptions) (codes "stsd") p.walk.passed child n p.entries;
-  says = p.says ∙ ap (map (λ (c : Box). c.payload)) (sym (of_kind_other (codes "sgpd") p.walk.passed child k));
+  says = p.says ∙ ap (map (λ (c : Box). c.payload)) (sym (kind_snoc_other (codes "sgpd") p.walk.passed child k));
 }
 
 -- all were

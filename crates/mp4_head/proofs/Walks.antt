@@ -3,9 +3,9 @@ use Rattle.std.proofs.Common.{◌≡◌, ℕ, ◌+◌, ◌<◌, ◌≤◌, Bool,
 use Rattle.std.specs.Prelude.{bytes_eq, cond}
 use Rattle.std.proofs.lemmas.List.{append-nil}
 use Rattle.mp4_boxes.specs.format.Box.{Box}
-use Rattle.mp4_boxes.specs.format.Children.{of_kind, payload_if, count_among}
+use Rattle.mp4_boxes.specs.format.Children.{payload_if, count_among}
 use Rattle.mp4_boxes.specs.format.Places.{Scope, IsSoundAs, leaf_of, AreSound}
-use Rattle.mp4_boxes.proofs.Among.{of_kind-append, count-append, all_append}
+use Rattle.mp4_boxes.proofs.Among.{count-append, all_append}
 use Rattle.mp4_head.specs.format.Tree.{first_of}
 
 -- Of all boxes of a container some were passed, and these are left.
@@ -117,14 +117,6 @@ payload_this kind [] b k none = rw k refl
 payload_this kind (c ∷ passed) b k none = payload_step kind c passed b (bytes_eq kind c.kind) refl none (λ n. payload_this kind passed b k n)
 
 -- ---- all boxes of a type
-
--- one more of the type
-pub of_kind_this : (kind : List ℕ) (passed : List Box) (b : Box) → bytes_eq kind b.kind ≡ true → of_kind kind (passed ++ b ∷ []) ≡ of_kind kind passed ++ b ∷ []
-of_kind_this kind passed b k = of_kind-append kind passed (b ∷ []) ∙ ap (λ (bs : List Box). of_kind kind passed ++ bs) (rw k refl)
-
--- one of another
-pub of_kind_other : (kind : List ℕ) (passed : List Box) (b : Box) → bytes_eq kind b.kind ≡ false → of_kind kind (passed ++ b ∷ []) ≡ of_kind kind passed
-of_kind_other kind passed b k = of_kind-append kind passed (b ∷ []) ∙ ap (λ (bs : List Box). of_kind kind passed ++ bs) (rw k refl) ∙ append-nil (of_kind kind passed)
 
 -- ---- leaves
 

@@ -1,5 +1,5 @@
 -- The leaves of a head that was written: they can be read, and say what was written.
-use Rattle.std.proofs.Common.{◌≡◌, ℕ, ◌+◌, ◌^◌, ◌<◌, false, eqb, List, [], ◌∷◌, ◌++◌, length, drop, take, refl, sym, ap, subst, ◌∙◌, append_assoc, slice_index, lit<, lit≤, arith, length-append}
+use Rattle.std.proofs.Common.{◌≡◌, ℕ, ◌+◌, ◌^◌, ◌<◌, false, eqb, List, [], ◌∷◌, ◌++◌, length, drop, take, refl, sym, ap, subst, ◌∙◌, append_assoc, slice_index, lit<, lit≤, arith}
 use Rattle.std.specs.Prelude.{map, replicate, flat_map, Some, not, ◌*◌}
 use Rattle.std.proofs.lemmas.Bool.{ne_eqb, le-leb}
 use Rattle.std.proofs.lemmas.List.{append-nil, length-map, drop_at, get_or-drop}
@@ -14,6 +14,7 @@ use Rattle.mp4_head.specs.format.Tree.{matrix_of, edit_of, edits_of}
 use Rattle.mp4_head.specs.format.Writing.{edit_bytes, kept_bytes}
 use Rattle.std.specs.List.{AllByRecursion}
 use Rattle.byteorder.specs.Endian.{twos_complement}
+use Rattle.mp4_head.proofs.HeadLengths.{length_rows}
 
 -- what was spelled, with nothing behind it, is read
 pub alone_again : (widths values : List ℕ) → FitWidths widths values → numbers widths (spelled widths values) ≡ values
@@ -214,11 +215,6 @@ each_again : (edits : List Edit) → AllByRecursion IsEdit edits → map (edit_o
 each_again [] h = refl
 each_again (e ∷ edits) h = λ i. edit_again e h.0 i ∷ each_again edits h.1 i
 
--- an edit takes 20 bytes
-pub length-edits : (edits : List Edit) → length (flat_map edit_bytes edits) ≡ 20 * length edits
-length-edits [] = refl
-length-edits (e ∷ edits) = omega (arith, length-append (edit_bytes e) (flat_map edit_bytes edits), length-edits edits)
-
 -- the number of edits is read again
 edit_count : (edits : List Edit) → length edits < 2 ^ 32 → field (elst_payload edits) 4 4 ≡ length edits
 edit_count edits lt = field_again 4 (length edits) (flat_map edit_bytes edits) lt
@@ -237,7 +233,7 @@ edits_again edits h lt =
 -- an `elst` is sound
 pub elst_sound : (edits : List Edit) → length edits < 2 ^ 32 → IsSound elst (elst_payload edits)
 elst_sound edits lt = record {
-  readable = record { version = refl; flags = refl; room = omega (arith, edit_count edits lt, length-edits edits) };
+  readable = record { version = refl; flags = refl; room = omega (arith, edit_count edits lt, length_rows edits) };
   value = refl;
   inside = refl;
   offsets = refl;

@@ -16,8 +16,9 @@ use Rattle.mp4_boxes.proofs.WrittenBoxes.{Content, written, placed, placed_box, 
 use Rattle.mp4_head.specs.format.Head.{Edit, TrackHead, IsEdit, IsTrackHead}
 use Rattle.mp4_head.specs.format.Tree.{TrackTree, first_of, HoldsIfThere, IsTrackTree, edits_of}
 use Rattle.mp4_head.specs.format.Writing.{edts_bytes, tkhd_bytes, kept_bytes, edit_bytes}
-use Rattle.mp4_head.proofs.WrittenLeaves.{tkhd_payload, elst_payload, elst_sound, edits_again, length-edits, stsd_payload}
+use Rattle.mp4_head.proofs.WrittenLeaves.{tkhd_payload, elst_payload, elst_sound, edits_again, stsd_payload}
 use Rattle.mp4_head.proofs.WrittenContents.{contents_of, all_kept, first_written, url_content, dinf_payload, dinf_contents, dinf_holds, dref_tiles, table_contents, stbl_payload, stbl_written, table_types, stbl_holds, stsd_tiles, information_contents, minf_payload, minf_written, minf_types, minf_holds, dinf_found, stbl_found, media_contents, mdia_payload, mdia_written, all_media, mdia_holds, minf_found, edits_contents, edts_contents, track_back, track_contents, trak_payload, trak_written, all_track, trak_holds, mdia_found}
+use Rattle.mp4_head.proofs.HeadLengths.{length_rows}
 
 -- ---- the tree
 
@@ -84,7 +85,7 @@ elst_small t le =
 
 -- there are not too many edits
 few_edits : (edits : List Edit) → length (elst_payload edits) < 2 ^ 31 → length edits < 2 ^ 31
-few_edits edits le = omega (arith, length-edits edits, length-append (spelled (fields elst 1) (1 ∷ 0 ∷ length edits ∷ [])) (flat_map edit_bytes edits))
+few_edits edits le = omega (arith, length_rows edits, length-append (spelled (fields elst 1) (1 ∷ 0 ∷ length edits ∷ [])) (flat_map edit_bytes edits))
 
 -- what follows from there being no `edts`, and from the `edts` that was written
 edts_cases : (P : List Box → List Edit → Type 0) (at : ℕ) (payload : List ℕ) (edits : List Edit) (others : List Content) → AreOther (codes "edts") others → P [] []

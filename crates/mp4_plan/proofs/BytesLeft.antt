@@ -7,7 +7,7 @@ use Rattle.std.proofs.lemmas.List.Sums.{sum_by-cons}
 use Rattle.mp4_head.specs.format.Tree.{TrackTree}
 use Rattle.mp4_tables.specs.words.Keys.{keys_seen}
 use Rattle.mp4_tables.specs.declared.sample.SampleAt.{SampleAt}
-use Rattle.mp4_tables.proofs.Sums.{timed_bytes}
+use Rattle.mp4_tables.proofs.Sums.{timed_bytes, sum_joined}
 use Rattle.mp4_frag.specs.format.FragmentSamples.{start_of}
 use Rattle.mp4_present.specs.format.Denotes.{FileTree, file_parts, parts_of_track, placed_of, plain_of}
 use Rattle.mp4_present.specs.words.Movies.{MovieSeen}
@@ -15,7 +15,6 @@ use Rattle.mp4_present.specs.words.OpenedMovie.{IsInfoOf, IsOpenedAs}
 use Rattle.mp4_present.specs.words.SamplesComing.{track_keys, track_samples}
 use Rattle.mp4_content.specs.declared.without.Without.{Without}
 use Rattle.mp4_present.specs.declared.track_info.TrackInfo.{TrackInfo}
-use Rattle.mp4_present.proofs.Counts.{sum-append}
 use Rattle.mp4_content.specs.format.TimedSamples.{TimedSample}
 use Rattle.mp4_content.specs.words.ComingLess.{left_samples, track_reduction}
 use Rattle.mp4_plan.specs.words.HandsFed.{sizes_of}
@@ -49,7 +48,7 @@ bytes_set (l ∷ lefts) (suc k) left behind e =
     omega (arith, n, a, b)
 
 sizes_split : (n : ℕ) (samples : List SampleAt) → sizes_of samples ≡ sizes_of (take n samples) + sizes_of (drop n samples)
-sizes_split n samples = ap sizes_of (sym (take-append-drop n samples)) ∙ sum-append (λ (s : SampleAt). s.size) (take n samples) (drop n samples)
+sizes_split n samples = ap sizes_of (sym (take-append-drop n samples)) ∙ sum_joined (λ (s : SampleAt). s.size) (take n samples) (drop n samples)
 
 -- Behind a turn that took so many samples there are as many bytes fewer as these have.
 pub bytes_behind : (lefts : List (List SampleAt)) (k n sent bytes all : ℕ) (left : List SampleAt) → slice_get lefts k ≡ Some left → bytes ≡ sizes_of (take n left) → sent + left_bytes lefts ≡ all → sent + bytes + left_bytes (slice_set lefts k (drop n left)) ≡ all

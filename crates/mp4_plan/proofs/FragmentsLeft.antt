@@ -11,9 +11,10 @@ use Rattle.mp4_plan.specs.format.PieceLaws.{NeverFalls}
 use Rattle.mp4_plan.specs.words.PiecesComing.{Coming, coming_of, stops, front, rest, end_of_other, others_before, others_behind, fragments_left, all_left, BeginsWithAll, TurnsBeginWithAll}
 use Rattle.mp4_plan.specs.declared.ends.End.{End}
 use Rattle.mp4_plan.specs.declared.ends.End.TheVariants.{Sync, Before}
-use Rattle.mp4_plan.proofs.Filters.{numbered, all_weaker}
+use Rattle.mp4_plan.proofs.Filters.{numbered}
 use Rattle.mp4_plan.proofs.Fragments.{first_never_falls, other_never_falls}
-use Rattle.mp4_plan.proofs.FrontLists.{Agree, none, ends, goes, front_same, rest_same, numbered_front, rest_above, numbered_rest, first_passes, FirstIsLeast, place_behind, least_first}
+use Rattle.mp4_plan.proofs.FrontLists.{Agree, none, ends, goes, front_same, rest_same, numbered_front, rest_above, numbered_rest, first_passes, FirstIsLeast, place_behind, least_first, agree_all}
+use Rattle.mp4_boxes.proofs.Each.{each_weaker as all_weaker}
 
 -- ---- numbers and times along samples
 
@@ -153,14 +154,6 @@ module _ (all done later : List TimedSample) (k : ℕ) (is : all ≡ done ++ lat
 abbrev pieces_of : ℕ → List TimedSample → List Piece
 pieces_of id samples = map (λ ss. record { id = id; samples = ss }) (by_description samples)
 
-agree_with : {A : Type 0} (t u : A → Bool) → ((x : A) → t x ≡ u x) → (xs : List A) → Agree t u xs
-agree_with t u f [] = none
-agree_with t u f (x ∷ xs) = by (agree_with t u f xs) (t x) refl
-  where
-    by : Agree t u xs → (v : Bool) → t x ≡ v → Agree t u (x ∷ xs)
-    by h true e = ends e (sym (f x) ∙ e)
-    by h false e = goes e (sym (f x) ∙ e) h
-
 -- where a piece's end agrees with that of the fragment
 module _ (f : TimedSample → ℕ) (k : ℕ) (end : End) (xs : List TimedSample) (falls : NeverFalls f k xs) (agree : Agree (stops end) (λ x. nat_lt k (f x)) xs) where
   -- the samples of the fragment are those before the end
@@ -189,7 +182,7 @@ OthersFall all first k others = AllByRecursion (λ (t : Coming). NeverFalls (fra
 module _ (all done later : List TimedSample) (k : ℕ) (is : all ≡ done ++ later) (long : length done ≡ k + 1) (first : ℕ) (sorted : Sorted (λ c. c.time) later) where
   other_agrees : (t : Coming) → Agree (stops (end_of_other (next_time later) first t)) (λ x. nat_lt k (fragment_by_time all first t.timescale x)) t.samples
   other_agrees t =
-      agree_with (stops (end_of_other (next_time later) first t)) (λ x. nat_lt k (fragment_by_time all first t.timescale x))
+      agree_all (stops (end_of_other (next_time later) first t)) (λ x. nat_lt k (fragment_by_time all first t.timescale x))
       (λ x. sym (other_beyond all done later k is long first t.timescale sorted x)) t.samples
 
   others_here : (others : List Coming) → OthersFall all first k others → flat_map (of_others all first k) others ≡ others_before (next_time later) first others

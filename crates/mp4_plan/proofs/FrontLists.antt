@@ -6,8 +6,9 @@ use Rattle.std.proofs.lemmas.Bool.{lt-ltb, le-ltb, ltb-true, ltb-false, leb-fals
 use Rattle.mp4_plan.specs.format.Pieces.{last_place}
 use Rattle.mp4_plan.specs.format.PieceLaws.{NeverFalls}
 use Rattle.mp4_plan.specs.words.PiecesComing.{front, rest}
-use Rattle.mp4_plan.proofs.Filters.{numbered, all_weaker}
+use Rattle.mp4_plan.proofs.Filters.{numbered}
 use Rattle.mp4_plan.proofs.Fragments.{last_place_within}
+use Rattle.mp4_boxes.proofs.Each.{each_weaker}
 
 -- ---- tests that agree up to the first that passes
 
@@ -152,4 +153,4 @@ place_behind {A = A} test done more k e h = ap (nat_lt k) (place_append test don
 pub least_first : {A : Type 0} (w : A → ℕ) (v : ℕ) (x : A) (xs : List A) → AllByRecursion (λ y. w x ≤ w y) xs → nat_le (w x) v ≡ false → AllByRecursion (λ y. nat_le (w y) v ≡ false) xs
 least_first w v x xs h e =
     let lt : v < w x = leb-false (w x) v e in
-    all_weaker (λ y. w x ≤ w y) (λ y. nat_le (w y) v ≡ false) (λ y le. lt-leb (w y) v (omega (arith, lt, le))) xs h
+    each_weaker (λ y. w x ≤ w y) (λ y. nat_le (w y) v ≡ false) (λ y le. lt-leb (w y) v (omega (arith, lt, le))) xs h

@@ -4,7 +4,7 @@ use Rattle.std.specs.Prelude.{map, flat_map, ◌==◌, unwrap_or, option_map, fi
 use Rattle.std.specs.List.{AllByRecursion}
 use Rattle.std.proofs.lemmas.List.{length-map}
 use Rattle.mp4_boxes.proofs.Among.{all_append}
-use Rattle.mp4_boxes.proofs.Each.{each_from}
+use Rattle.mp4_boxes.proofs.Each.{each_from, each_weaker as all_weaker}
 use Rattle.mp4_boxes.proofs.Joined.{all_first, all_last}
 use Rattle.mp4_tables.specs.format.Groups.{GroupKey}
 use Rattle.mp4_tables.proofs.NamedKeys.{IsAmong, each_named, no_more}
@@ -19,7 +19,7 @@ use Rattle.mp4_content.specs.format.TimedSamples.{TimedSample, timed}
 use Rattle.mp4_plan.specs.format.Pieces.{Piece, pieces}
 use Rattle.mp4_plan.specs.format.Normal.{first_time, first_description, piece_keys}
 use Rattle.mp4_plan.specs.format.PieceLaws.{IsOnePiece}
-use Rattle.mp4_plan.proofs.Filters.{all_weaker, all_from_splits, found_by_id}
+use Rattle.mp4_plan.proofs.Filters.{all_from_splits, found_by_id}
 use Rattle.mp4_plan.proofs.PieceLists.{pieces_one, ids_apart}
 use Rattle.mp4_plan.proofs.PieceFacts.{all_timed, ids_in_pieces, samples_in_pieces, pieces_within, pieces_in_time}
 use Rattle.mp4_plan.proofs.KeyOrder.{order_each, order_rises, rising_once}

@@ -10,11 +10,12 @@ use Rattle.mp4_plan.specs.words.HandsFed.{TakesFirst, Notes}
 use Rattle.mp4_plan.specs.words.Taken.{row_seen}
 use Rattle.mp4_plan.specs.declared.noted_rows.Row.{Row}
 use Rattle.mp4_plan.proofs.HandsTaken.{few_more}
-use Rattle.mp4_plan.proofs.PlannerSteps.{first_is, none_is, fed_more, fed_none, more_of_yes, more_of_no, more_of-nil}
+use Rattle.mp4_plan.proofs.PlannerSteps.{none_is, fed_more, fed_none, more_of_yes, more_of_no, more_of-nil}
+use Rattle.mp4_present.proofs.JoinedSamples.{first_of}
 
 -- one sample
 pub takes_one : (left : ℕ) (xs ys : List SampleAt) (s : SampleAt) → 0 < left → Some s ≡ slice_get xs 0 → ys ≡ drop 1 xs → TakesFirst left (left - 1) xs ys
-takes_one left xs ys s lt e r = record { taken = s ∷ []; less = omega (arith, lt); whole = first_is xs s e ∙ ap (λ l. s ∷ l) (sym r) }
+takes_one left xs ys s lt e r = record { taken = s ∷ []; less = omega (arith, lt); whole = first_of xs s e ∙ ap (λ l. s ∷ l) (sym r) }
 
 -- ---- samples that are noted
 
@@ -35,7 +36,7 @@ notes_none p all rows =
 
 -- where there is a row, the first of those that are left is shown
 shown_first : (m n : ℕ) (left : List SampleAt) (s : SampleAt) → m ≡ suc n → Some s ≡ slice_get left 0 → take m left ≡ s ∷ take n (drop 1 left)
-shown_first m n left s e first = λ i. take (e i) (first_is left s first i)
+shown_first m n left s e first = λ i. take (e i) (first_of left s first i)
 
 -- one more
 pub notes_one : (before p q : Planning) (k : ℕ) (all left later : List SampleAt) (rows now : List Row) (s : SampleAt) (row : Row) → NotesUpTo before p k all left rows now → k < length rows → Some s ≡ slice_get left 0
@@ -47,7 +48,7 @@ notes_one before p q k all left later rows now s row h lt first goes is next see
     let one = ap (more_of p) shown ∙ more_of_yes p s (take n later) goes ∙ ap (λ (r : Planning). suc (more_of r (take n later))) (sym is) in
     let count = h.count in
     let many = h.many in
-    let front : take (k + 1) all ≡ take k all ++ s ∷ [] = take-add k 1 all ∙ ap (λ (l : List SampleAt). take k all ++ take 1 l) (sym h.rest ∙ first_is left s first) in
+    let front : take (k + 1) all ≡ take k all ++ s ∷ [] = take-add k 1 all ∙ ap (λ (l : List SampleAt). take k all ++ take 1 l) (sym h.rest ∙ first_of left s first) in
     record {
       within = omega (arith, lt);
       many = length-set now k row ∙ h.many;
@@ -89,7 +90,7 @@ notes_full before p k all left rows now h le =
 
 -- one more was taken
 pub taken_more : (before p : Planning) (k : ℕ) (all left : List SampleAt) (rows now : List Row) (s : SampleAt) → NotesUpTo before p k all left rows now → Some s ≡ slice_get left 0 → take (k + 1) all ≡ take k all ++ s ∷ []
-taken_more before p k all left rows now s h first = take-add k 1 all ∙ ap (λ (l : List SampleAt). take k all ++ take 1 l) (sym h.rest ∙ first_is left s first)
+taken_more before p k all left rows now s h first = take-add k 1 all ∙ ap (λ (l : List SampleAt). take k all ++ take 1 l) (sym h.rest ∙ first_of left s first)
 
 -- as many as are counted
 pub taken_counted : (n before after : ℕ) (all : List SampleAt) → after ≡ before + n → take n all ≡ take (after - before) all

@@ -1,12 +1,9 @@
 -- The bytes of samples in hand, taken along stretch by stretch.
 use Rattle.std.proofs.Common.{◌≡◌, ℕ, ◌+◌, ◌-◌, ◌≤◌, List, [], ◌∷◌, ◌++◌, length, take, drop, refl, sym, ap, ◌∙◌, append_assoc, length-append, arith, subst}
-use Rattle.std.specs.Prelude.{replicate}
 use Rattle.std.specs.List.{AllByRecursion}
 use Rattle.std.proofs.lemmas.Grind.{flat_map-append}
-use Rattle.std.proofs.lemmas.List.{take-append-drop, length-take, length-drop, length-replicate}
+use Rattle.std.proofs.lemmas.List.{take-append-drop, length-take}
 use Rattle.std.proofs.Math.Seq.{take-add, take-append-add}
-use Rattle.mp4_boxes.specs.format.Bytes.{sum_of}
-use Rattle.mp4_boxes.proofs.Each.{each_taken}
 use Rattle.mp4_boxes.proofs.Joined.{all_last}
 use Rattle.mp4_store.specs.words.Device.{range, TakesPrefix}
 use Rattle.mp4_store.proofs.Known.{IsJoining, TakesPrefix-longer}
@@ -14,41 +11,17 @@ use Rattle.mp4_tables.specs.declared.sample.SampleAt.{SampleAt}
 use Rattle.mp4_present.specs.words.Carried.{BytesGoOn}
 use Rattle.mp4_present.specs.words.Joined.{AreJoined, IsBelow, sample_bytes}
 use Rattle.mp4_present.proofs.Carrying.{BytesGoOn-nothing, BytesGoOn-then, BytesGoOn-fails, BytesGoOn-front}
-use Rattle.mp4_present.proofs.Counts.{sum-append}
 use Rattle.mp4_present.proofs.Hands.{bytes_of_two}
 use Rattle.mp4_plan.specs.words.HandsFed.{BytesCarried, sizes_of}
 use Rattle.mp4_plan.specs.declared.carrying.Load.{Load}
+use Rattle.mp4_present.proofs.HandSizes.{far, below_far, joined_size}
+use Rattle.mp4_tables.proofs.Sums.{sum_joined as sum-append}
 
 -- ---- sizes
 
--- all end before the sum of their ends
-far : List SampleAt → ℕ
-far samples = sum_of (λ (s : SampleAt). s.at + s.size) samples
-
-below_far : (samples : List SampleAt) (n : ℕ) → far samples ≤ n → AllByRecursion (IsBelow n) samples
 unfolding far
 below_far [] n le = tt
 below_far (s ∷ samples) n le = (omega (arith, le), below_far samples n (omega (arith, le)))
-
--- samples that lie in a file have as many bytes as their sizes say
-length_bytes : (file : List ℕ) (samples : List SampleAt) → AllByRecursion (IsBelow (length file)) samples → length (sample_bytes file samples) ≡ sizes_of samples
-length_bytes file [] h = refl
-length_bytes file (s ∷ samples) h =
-    let e = length_bytes file samples h.1 in
-    let below = h.0 in
-    omega (arith, e, below, length-append (range file s.at s.size) (sample_bytes file samples), length-take s.size (drop s.at file), length-drop s.at file)
-
--- so a stretch of them has as many
-pub stretch_size : (samples : List SampleAt) (n at len : ℕ) → AreJoined (take n samples) at len → ((m : ℕ) → AllByRecursion (IsBelow m) samples → at + len ≤ m) → len ≡ sizes_of (take n samples)
-stretch_size samples n at len joined within =
-    let m = far samples in
-    let file = replicate m 0 in
-    let long : length file ≡ m = length-replicate m 0 in
-    let below : AllByRecursion (IsBelow (length file)) samples = below_far samples (length file) (omega (arith, long)) in
-    let ends = within (length file) below in
-    let same = ap (λ (bs : List ℕ). length bs) (joined file) in
-    let sizes = length_bytes file (take n samples) (each_taken (IsBelow (length file)) n samples below) in
-    omega (arith, ends, same, sizes, length-take len (drop at file), length-drop at file)
 
 -- ---- bytes
 
@@ -63,7 +36,7 @@ pub carried_more : (file : List ℕ) {Y : Type 0} {takes : Y → Y → List ℕ 
 carried_more file joins a b c held held_b held_c all to_come later load left next n at len h joined within few most room less fewer is more =
     let count = h.count in
     let sizes = h.sizes in
-    let own = stretch_size to_come n at len joined within in
+    let own = joined_size to_come n at len joined within in
     let min_is = length-take n to_come in
     let long : length (take n to_come) ≡ n = omega (arith, min_is, few) in
     record {
@@ -103,7 +76,7 @@ module _ (file : List ℕ) (Took : List ℕ → Type 0) (held held_b : List ℕ)
   stretch_fits n at len joined within most fits =
       let rest = take (left.samples - n) (drop n to_come) in
       let two : take left.samples to_come ≡ take n to_come ++ rest = (let split : left.samples ≡ n + (left.samples - n) = omega (arith, most) in ap (λ k. take k to_come) split ∙ take-add n (left.samples - n) to_come) in
-      let own = stretch_size to_come n at len joined within in
+      let own = joined_size to_come n at len joined within in
       let size : SampleAt → ℕ = λ s. s.size in
       let whole = ap sizes_of load_is ∙ sum-append size h.done (take left.samples to_come) in
       let split = ap sizes_of two ∙ sum-append size (take n to_come) rest in

@@ -22,8 +22,9 @@ use Rattle.mp4_plan.specs.declared.ends.End.{End}
 use Rattle.mp4_plan.proofs.HandsTaken.{counted_fed}
 use Rattle.mp4_plan.proofs.PieceCarried.{LoadsFor, EndsFor}
 use Rattle.mp4_plan.proofs.PieceFed.{fed_coming, hand_less, nothing_left}
-use Rattle.mp4_plan.proofs.PlannerSteps.{first_is, none_is}
+use Rattle.mp4_plan.proofs.PlannerSteps.{none_is}
 use Rattle.mp4_content.proofs.WalksOn.{hand_none, loads_none, loads_on}
+use Rattle.mp4_present.proofs.JoinedSamples.{first_of}
 
 -- ---- one sample after the other
 
@@ -35,7 +36,7 @@ module _ (test : SampleAt → Bool) where
   -- one more
   pub counts_one : (n : ℕ) (all left later : List SampleAt) (s : SampleAt) → CountsFirst test n all left → Some s ≡ slice_get left 0 → test s ≡ true → later ≡ drop 1 left → CountsFirst test (n + 1) all later
   counts_one n all left later s h first passes next =
-      let is = first_is left s first in
+      let is = first_of left s first in
       let one : prefix_len test left ≡ 1 + prefix_len test (drop 1 left) = ap (prefix_len test) is ∙ ap (λ b. cond b (1 + prefix_len test (drop 1 left)) 0) passes in
       let same = h.same in
       let few = h.few in
@@ -88,7 +89,7 @@ module _ (test : SampleAt → Bool) where
 
   -- the next one does not pass, so none does
   none_passes : (left : List SampleAt) (s : SampleAt) → Some s ≡ slice_get left 0 → test s ≡ false → prefix_len test left ≡ 0
-  none_passes left s first stops = ap (prefix_len test) (first_is left s first) ∙ ap (λ b. cond b (1 + prefix_len test (drop 1 left)) 0) stops
+  none_passes left s first stops = ap (prefix_len test) (first_of left s first) ∙ ap (λ b. cond b (1 + prefix_len test (drop 1 left)) 0) stops
 
 -- ---- over a walk
 
@@ -156,7 +157,7 @@ module _ (leaving : Reduction) (file : List ℕ) (m : MovieSeen) (begun w now : 
       let u = r.0 in
       let full = h.stops s e passes in
       let few = u.first.few in
-      let long = ap (λ (l : List SampleAt). length l) (sym u.first.rest ∙ first_is u.left s (sym e ∙ r.1)) in
+      let long = ap (λ (l : List SampleAt). length l) (sym u.first.rest ∙ first_of u.left s (sym e ∙ r.1)) in
       omega (arith, full, few, long, length-drop (n + more) samples)
 
   -- none is left in hand
@@ -197,7 +198,7 @@ module _ (leaving : Reduction) (file : List ℕ) (m : MovieSeen) (begun w next :
 -- as many as pass go into a piece that the first one begins
 begun_by : (end : End) (s : SampleAt) (samples : List SampleAt) → Some s ≡ slice_get samples 0 → more_of (piece_from end) samples ≡ prefix_len (goes_in end s.description) samples
 unfolding more_of
-begun_by end s samples first = ap (more_of (piece_from end)) (first_is samples s first) ∙ sym (ap (prefix_len (goes_in end s.description)) (first_is samples s first))
+begun_by end s samples first = ap (more_of (piece_from end)) (first_of samples s first) ∙ sym (ap (prefix_len (goes_in end s.description)) (first_of samples s first))
 
 pub turn_counted : (leaving : Reduction) (file : List ℕ) (tree : FileTree) (t : TrackTree) (m : MovieSeen) (w : Walk) (end : End) (s : SampleAt) (samples : List SampleAt) (n : ℕ) (next : Option SampleAt) → Some s ≡ slice_get samples 0
     → HasCounted leaving file tree t m w (goes_in end s.description) samples n next → PieceCounted leaving file tree t m w end samples n next

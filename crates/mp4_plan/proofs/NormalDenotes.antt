@@ -4,7 +4,7 @@ use Rattle.std.specs.Prelude.{map, find, is_some, option_map, codes}
 use Rattle.std.specs.List.{AllByRecursion, AllZip, list_all}
 use Rattle.std.proofs.lemmas.Bool.{and_from}
 use Rattle.std.proofs.lemmas.List.{length-map}
-use Rattle.mp4_boxes.proofs.Each.{each_from}
+use Rattle.mp4_boxes.proofs.Each.{each_from, each_weaker as all_weaker}
 use Rattle.mp4_boxes.proofs.WrittenBoxes.{written, length-placed}
 use Rattle.mp4_tables.specs.format.Tables.{Tables, tables_of}
 use Rattle.mp4_tables.specs.format.Groups.{GroupKey, keys_after}
@@ -28,7 +28,6 @@ use Rattle.mp4_plan.specs.format.Pieces.{pieces}
 use Rattle.mp4_plan.specs.format.Normal.{normal}
 use Rattle.mp4_plan.specs.format.PieceLaws.{pieces_for}
 use Rattle.mp4_plan.specs.format.Laws.{NormalDenotes}
-use Rattle.mp4_plan.proofs.Filters.{all_weaker}
 use Rattle.mp4_plan.proofs.PieceFacts.{ids_in_pieces, samples_in_pieces, all_timed}
 use Rattle.mp4_plan.proofs.PartLists.{Says, IsReadAgain, tracks_again, ids_in_parts, samples_in_parts}
 use Rattle.mp4_plan.proofs.PieceSays.{Spells}

@@ -5,7 +5,7 @@ use Rattle.std.specs.List.{AllByRecursion, AllZip, list_any, list_all, slice_get
 use Rattle.std.proofs.lemmas.Bool.{le-leb, ne_eqb, eqb-true, and_from, or_from}
 use Rattle.std.proofs.lemmas.List.{append-nil, length-map}
 use Rattle.mp4_boxes.proofs.Among.{all_append}
-use Rattle.mp4_boxes.proofs.Each.{each_kept}
+use Rattle.mp4_boxes.proofs.Each.{each_kept, each_weaker}
 use Rattle.mp4_tables.specs.format.Repeated.{total}
 use Rattle.mp4_tables.specs.format.Groups.{GroupRule, one_of_key, few_keys, index_range, group_counts, GroupKey, Grouping, key_rank, same_key, index_at, keys_with, keys_after, keeps, group_test, max_index, max_keys}
 use Rattle.mp4_tables.proofs.NamedKeys.{IsAmong, few_with}
@@ -14,13 +14,13 @@ use Rattle.mp4_content.specs.format.TimedSamples.{TimedSample}
 use Rattle.mp4_plan.specs.format.Pieces.{Piece}
 use Rattle.mp4_plan.specs.format.Normal.{piece_keys, longest_runs}
 use Rattle.mp4_plan.specs.format.PieceLaws.{pieces_for}
-use Rattle.mp4_plan.proofs.Filters.{all_weaker}
 use Rattle.mp4_plan.proofs.Maps.{KeysAbove}
 use Rattle.mp4_plan.proofs.KeyOrder.{AreRising, order_rises}
 use Rattle.mp4_plan.proofs.WrittenGroups.{grouped_by, indexes_at, total_runs, values_in_runs}
 use Rattle.mp4_plan.proofs.WrittenFragment.{HasGroups, keys_in, indexes_within}
 use Rattle.mp4_plan.proofs.PieceSays.{Spells}
 use Rattle.mp4_plan.proofs.GoodPieces.{IsWritableSample, NamesAmong, keys_named}
+use Rattle.mp4_frag.proofs.NamesKept.{keys_with-append}
 
 -- ---- a rule for each of a list
 
@@ -77,11 +77,6 @@ one_each n named samples before (key ∷ keys) r a = (
 
 -- ---- few keys
 
--- keys that are named one list after the other
-with-append : (keys xs ys : List GroupKey) → keys_with keys (xs ++ ys) ≡ keys_with (keys_with keys xs) ys
-with-append keys [] ys = refl
-with-append keys (x ∷ xs) ys = with-append (cond (list_any (same_key x) keys) keys (keys ++ x ∷ [])) xs ys
-
 -- a list with one more of at most four had not four
 few_by : (named : List GroupKey) (key : GroupKey) (v : Bool) → length (cond v named (named ++ key ∷ [])) ≤ 4 → v || not (length named == max_keys) ≡ true
 few_by named key true le = refl
@@ -97,7 +92,7 @@ not_fifth all more before key few h k a =
     let named = keys_with (keys_with [] more) before in
     let listed = more ++ (before ++ key ∷ []) in
     let within = few_with [] listed all tt tt (all_append (IsAmong all) more (before ++ key ∷ []) h (all_append (IsAmong all) before (key ∷ []) k (a, tt))) in
-    let same : keys_with [] listed ≡ keys_with named (key ∷ []) = with-append [] more (before ++ key ∷ []) ∙ with-append (keys_with [] more) before (key ∷ []) in
+    let same : keys_with [] listed ≡ keys_with named (key ∷ []) = keys_with-append [] more (before ++ key ∷ []) ∙ keys_with-append (keys_with [] more) before (key ∷ []) in
     few_by named key (list_any (same_key key) named) (subst (λ (n : ℕ). n ≤ 4) (ap (λ (l : List GroupKey). length l) same) (omega arith))
 
 -- the keys of groupings
@@ -164,14 +159,14 @@ parts_grouped file all more (part ∷ parts) [] z few h w = absurd z
 parts_grouped file all more (part ∷ parts) (piece ∷ list) z few h w =
     let samples = piece.samples in
     let keys = piece_keys samples in
-    let among = keys_named all samples (all_weaker (IsWritableSample all) (λ (s : TimedSample). NamesAmong all s.sample) (λ x y. y.names) samples w.0) in
-    let groups = all_weaker (IsWritableSample all) HasGroups (λ x y. y.groups) samples w.0 in
+    let among = keys_named all samples (each_weaker (IsWritableSample all) (λ (s : TimedSample). NamesAmong all s.sample) (λ x y. y.names) samples w.0) in
+    let groups = each_weaker (IsWritableSample all) HasGroups (λ x y. y.groups) samples w.0 in
     let n = length (part_samples part) in
     let here = λ (rule : GroupRule) (k : ℕ).
     subst (λ (l : List Grouping). IsTrue (group_test rule n (keys_with [] more) l k)) (sym z.0.groups)
     (kept_by_all rule n (keys_with [] more) (map (grouped_by samples) keys) (piece_keeps n all more samples few h among groups z.0.many rule) k) in
     let next : keys_after (keys_with [] more) part.groups ≡ keys_with [] (more ++ keys) =
-    ap (keys_after (keys_with [] more)) z.0.groups ∙ ap (keys_with (keys_with [] more)) (keys_of_groupings samples keys) ∙ sym (with-append [] more keys) in
+    ap (keys_after (keys_with [] more)) z.0.groups ∙ ap (keys_with (keys_with [] more)) (keys_of_groupings samples keys) ∙ sym (keys_with-append [] more keys) in
     (here, subst (λ (l : List GroupKey). AreGrouped l parts) (sym next) (parts_grouped file all (more ++ keys) parts list z.1 few (all_append (IsAmong all) more keys h among) w.1))
 
 -- ---- by tracks
@@ -192,5 +187,5 @@ track_spells file id (part ∷ parts) (piece ∷ list) h = spells_at file id par
 -- What holds of each piece with its ID holds of those of a track with that of the track.
 pub of_track : (P : ℕ → Piece → Type 0) (id : ℕ) (list : List Piece) → AllByRecursion (λ (piece : Piece). P piece.id piece) list → AllByRecursion (λ (piece : Piece). P id piece) (pieces_for id list)
 of_track P id list h =
-    all_weaker (λ (piece : Piece). P piece.id piece × ((piece.id == id) ≡ true)) (λ (piece : Piece). P id piece) (λ piece k. subst (λ (n : ℕ). P n piece) (eqb-true piece.id id k.1) k.0) (pieces_for id list)
+    each_weaker (λ (piece : Piece). P piece.id piece × ((piece.id == id) ≡ true)) (λ (piece : Piece). P id piece) (λ piece k. subst (λ (n : ℕ). P n piece) (eqb-true piece.id id k.1) k.0) (pieces_for id list)
     (each_kept (λ (piece : Piece). P piece.id piece) (λ (piece : Piece). piece.id == id) list h)

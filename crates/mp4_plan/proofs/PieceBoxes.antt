@@ -47,7 +47,7 @@ data_fits piece h =
     omega arith
 
 -- a header has at most 16 bytes
-header_small : (n : ℕ) → header_length n ≤ 16
+pub header_small : (n : ℕ) → header_length n ≤ 16
 header_small n = by_size (nat_lt (8 + n) (2 ^ 32))
   where
     by_size : (v : Bool) → cond v 8 16 ≤ 16

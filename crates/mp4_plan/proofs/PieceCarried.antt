@@ -21,13 +21,13 @@ use Rattle.mp4_present.specs.declared.walking.in_hand.InHand.{InHand}
 use Rattle.mp4_present.specs.declared.walking.in_hand.Place.{Place}
 use Rattle.mp4_present.specs.declared.walking.Walk.{Walk}
 use Rattle.mp4_present.proofs.Carrying.{BytesGoOn-then}
-use Rattle.mp4_present.proofs.Counts.{sum-append}
 use Rattle.mp4_present.proofs.Hands.{bytes_of_two}
 use Rattle.mp4_plan.specs.words.HandsFed.{BytesCarried, sizes_of}
 use Rattle.mp4_plan.specs.words.CarriedSamples.{AreThere}
 use Rattle.mp4_plan.specs.declared.carrying.Load.{Load}
 use Rattle.mp4_plan.proofs.HandsCarried.{carried_front, carried_fails, load_is, next_below}
 use Rattle.mp4_content.proofs.WalksOn.{hand_first, loads_on, loads_none, kept_coming}
+use Rattle.mp4_tables.proofs.Sums.{sum_joined as sum-append}
 
 -- The bytes of some samples that were to come are taken along, and the others still come.
 abbrev pub CarriesOn : List ℕ → MovieSeen → Walk → Walk → (List ℕ → Type 0) → List ℕ → List ℕ → Load → Load → Type 0

@@ -1,5 +1,5 @@
 -- What is planned of the pieces of an opened file, turn by turn.
-use Rattle.std.proofs.Common.{◌≡◌, ℕ, zero, suc, ◌+◌, ◌-◌, ◌*◌, ◌^◌, ◌<◌, ◌≤◌, nat_lt, Bool, true, false, cond, List, [], ◌∷◌, ◌++◌, length, take, map, Option, Some, None, refl, sym, ap, subst, ◌∙◌, arith, length-append, append-nil}
+use Rattle.std.proofs.Common.{◌≡◌, ℕ, zero, suc, ◌+◌, ◌-◌, ◌*◌, ◌^◌, ◌<◌, ◌≤◌, List, [], ◌∷◌, ◌++◌, length, take, map, Option, Some, None, refl, sym, ap, subst, ◌∙◌, arith, length-append, append-nil}
 use Rattle.mp4_content.specs.declared.without.Without.{Without}
 use Rattle.mp4_content.specs.words.ComingLess.{ComesLess, left_samples, track_reduction}
 use Rattle.mp4_content.specs.format.Reduced.{id_left, ReducesInRange, reduce, timescale_left}
@@ -7,7 +7,6 @@ use Rattle.mp4_plan.proofs.Lefts.{less_counted, left_count, pieces_from, IsTurn}
 use Rattle.std.specs.Prelude.{slice_get, slice_set, slice_index_or, min, max, fold}
 use Rattle.std.specs.List.{sum_by}
 use Rattle.std.proofs.lemmas.List.{length-take-le}
-use Rattle.mp4_boxes.specs.format.Written.{header_length}
 use Rattle.mp4_boxes.proofs.Plain.{get_some}
 use Rattle.mp4_head.specs.format.Tree.{TrackTree}
 use Rattle.mp4_tables.specs.format.Groups.{GroupKey}
@@ -47,7 +46,9 @@ use Rattle.mp4_plan.proofs.SkippedTurns.{due_here, finds_none, turns_skipped}
 use Rattle.mp4_plan.proofs.SpelledPiece.{piece_length, taken_count}
 use Rattle.mp4_plan.proofs.TakenFrom.{track_facts_at, all_counted}
 use Rattle.mp4_plan.proofs.TakenFrom as taken_from
-use Rattle.mp4_plan.proofs.TurnTaken.{TurnTakes, turn_taken, turn_moves, turns_end, turn_tracks, more_few, few_left, count_behind}
+use Rattle.mp4_plan.proofs.TurnTaken.{TurnTakes, turn_taken, turn_moves, turns_end, turn_tracks, few_left, count_behind}
+use Rattle.mp4_plan.proofs.PieceBoxes.{header_small}
+use Rattle.mp4_plan.proofs.HandsTaken.{few_more}
 
 -- ---- the longest piece
 
@@ -63,13 +64,6 @@ turn_longest most id n [] behind e = let z : 0 ≡ n = e in omega (arith, z)
 turn_longest most id n (s ∷ samples) behind e = let a = longest_from (max 0 (length (s ∷ samples))) behind in omega (arith, a, e)
 
 -- ---- the bytes of a turn
-
-header_small : (n : ℕ) → header_length n ≤ 16
-header_small n = by (nat_lt (8 + n) (2 ^ 32))
-  where
-    by : (v : Bool) → cond v 8 16 ≤ 16
-    by true = omega arith
-    by false = omega arith
 
 -- few samples were planned, each with less than 2^32 bytes
 pub record IsSmall (p : Planned) : Type 0 where
@@ -279,7 +273,7 @@ module _ (leaving : Without) (file : List ℕ) (tree : FileTree) (m : MovieSeen)
         subst (λ i. ¬ Sticks s i next) (sym is) (subst (λ x. ¬ Sticks s piece_size x) (sym after) at_end)
 
     within_left : piece_size ≤ length t.left
-    within_left = more_few (piece_from end) t.left
+    within_left = few_more (piece_from end) t.left
 
     fewer_left : piece_size ≤ left_count lefts
     fewer_left = few_left lefts s.track piece_size t.left t.is_left within_left

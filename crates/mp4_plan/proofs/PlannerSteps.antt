@@ -6,13 +6,9 @@ use Rattle.mp4_tables.specs.declared.sample.SampleAt.{SampleAt}
 use Rattle.mp4_plan.specs.words.Ends.{goes_in}
 use Rattle.mp4_plan.specs.declared.gathered.Gathered.{Gathered}
 use Rattle.mp4_plan.specs.words.Gathering.{gather, gather_all, Planning, description_in, more_of, piece_fed, samples_after, count_of, planned_of}
+use Rattle.mp4_present.proofs.JoinedSamples.{first_of}
 
 -- ---- one sample after the other
-
--- the first of a list, where there is one
-pub first_is : (xs : List SampleAt) (s : SampleAt) → Some s ≡ slice_get xs 0 → xs ≡ s ∷ drop 1 xs
-first_is [] s e = cc
-first_is (x ∷ xs) s e = let same : s ≡ x = cc in ap (λ y. y ∷ xs) (sym same)
 
 pub none_is : (xs : List SampleAt) → None ≡ slice_get xs 0 → xs ≡ []
 none_is [] e = refl
@@ -51,13 +47,13 @@ more_of-nil p = refl
 
 pub fed_more : (p q : Planning) (s : SampleAt) (xs : List SampleAt) → Some s ≡ slice_get xs 0 → q ≡ with_sample p s → goes_in p.end (description_in p.gathered (s ∷ [])) s ≡ true → piece_fed q (drop 1 xs) ≡ piece_fed p xs
 fed_more p q s xs first is goes =
-    let e = first_is xs s first in
+    let e = first_of xs s first in
     let n = more_of_yes p s (drop 1 xs) goes in
     ap (λ r. piece_fed r (drop 1 xs)) is ∙ sym (ap (piece_fed p) e ∙ ap (λ k. let r : Planning = record { end = p.end; gathered = gather_all p.gathered (take k (s ∷ drop 1 xs)) } in r) n)
 
 pub after_more : (p q : Planning) (s : SampleAt) (xs : List SampleAt) → Some s ≡ slice_get xs 0 → q ≡ with_sample p s → goes_in p.end (description_in p.gathered (s ∷ [])) s ≡ true → samples_after q (drop 1 xs) ≡ samples_after p xs
 after_more p q s xs first is goes =
-    let e = first_is xs s first in
+    let e = first_of xs s first in
     let n = more_of_yes p s (drop 1 xs) goes in
     ap (λ r. samples_after r (drop 1 xs)) is ∙ sym (ap (samples_after p) e ∙ ap (λ k. drop k (s ∷ drop 1 xs)) n)
 
@@ -69,7 +65,7 @@ pub after_none : (p : Planning) (xs : List SampleAt) → more_of p xs ≡ 0 → 
 after_none p xs e = ap (λ k. drop k xs) e
 
 pub closed : (p : Planning) (s : SampleAt) (xs : List SampleAt) → Some s ≡ slice_get xs 0 → goes_in p.end (description_in p.gathered (s ∷ [])) s ≡ false → more_of p xs ≡ 0
-closed p s xs first stops = ap (more_of p) (first_is xs s first) ∙ more_of_no p s (drop 1 xs) stops
+closed p s xs first stops = ap (more_of p) (first_of xs s first) ∙ more_of_no p s (drop 1 xs) stops
 
 one_counted : (g : Option Gathered) (s : SampleAt) → count_of (gather g s) ≡ count_of g + 1
 one_counted None s = refl

@@ -4,7 +4,6 @@ use Rattle.mp4_content.specs.declared.without.Without.{Without}
 use Rattle.mp4_content.specs.words.ComingLess.{ComesLess, left_samples, track_reduction, reductions_of}
 use Rattle.mp4_content.specs.declared.reduced.Reduction.{Reduction}
 use Rattle.std.specs.Prelude.{slice_get, slice_set, slice_index_or}
-use Rattle.std.specs.List.{AllByRecursion}
 use Rattle.std.proofs.lemmas.List.{take_all, map-append}
 use Rattle.std.proofs.lemmas.List.Sums.{sum_by-append, sum_by-cons}
 use Rattle.mp4_boxes.specs.format.Bytes.{sum_of}
@@ -17,7 +16,6 @@ use Rattle.mp4_present.specs.words.Movies.{MovieSeen, IsWalkOf, mark_of, own_roo
 use Rattle.mp4_present.specs.words.OpenedMovie.{IsInfoOf, IsOpenedAs}
 use Rattle.mp4_present.specs.declared.walking.Walk.{Walk}
 use Rattle.mp4_present.specs.declared.track_info.TrackInfo.{TrackInfo}
-use Rattle.mp4_present.proofs.Counts.{sum-append}
 use Rattle.mp4_present.proofs.OwnSums.{rooms_within}
 use Rattle.mp4_present.proofs.WalkRooms.{room_opened}
 use Rattle.mp4_plan.specs.words.Writers.{AreWalksOf, AreMarked, AllCome, AllBegin}
@@ -27,6 +25,9 @@ use Rattle.mp4_plan.proofs.ComeAt.{come_at, come_with, come_more, set_same}
 use Rattle.mp4_content.proofs.ReducedTaken.{less_length}
 use Rattle.mp4_content.proofs.SamplesTaken.{as_many}
 use Rattle.mp4_content.proofs.AtPlaces.{taken_next}
+use Rattle.mp4_present.proofs.Lengths.{got}
+use Rattle.mp4_tables.proofs.GroupsKept.{all_set}
+use Rattle.mp4_tables.proofs.Sums.{sum_joined}
 
 -- ---- walks that begin
 
@@ -117,16 +118,11 @@ pub record ComesThere (leaving : Without) (file : List ℕ) (tree : FileTree) (m
   pub is_left : slice_get lefts k ≡ Some left
   pub comes : ComesLess (track_reduction leaving tree t) file tree t m walk left
 
-got_there : {A : Type 0} (xs : List A) (k : ℕ) (d : A) → k < length xs → slice_get xs k ≡ Some (slice_index_or xs k d)
-got_there [] k d lt = absurd (omega (arith, lt))
-got_there (x ∷ xs) zero d lt = refl
-got_there (x ∷ xs) (suc k) d lt = got_there xs k d (omega (arith, lt))
-
 pub comes_there : (leaving : Without) (file : List ℕ) (tree : FileTree) (m : MovieSeen) (walks : List Walk) (lefts : List (List SampleAt)) (k : ℕ) (d : Walk) → AllCome leaving file tree m tree.movie.tracks walks lefts → k < length walks
     → ComesThere leaving file tree m lefts k (slice_index_or walks k d)
 comes_there leaving file tree m walks lefts k d h lt =
     let r = come_at leaving file tree m tree.movie.tracks walks lefts k h lt in
-    let same = some_is r.walk (slice_index_or walks k d) (sym r.is_walk ∙ got_there walks k d lt) in
+    let same = some_is r.walk (slice_index_or walks k d) (sym r.is_walk ∙ got walks k d lt) in
     record { t = r.t; left = r.left; is_tree = r.is_tree; is_left = r.is_left; comes = subst (λ (w : Walk). ComesLess (track_reduction leaving tree r.t) file tree r.t m w r.left) same r.comes }
 
 -- what is left of its samples, by what is said of that track
@@ -144,14 +140,8 @@ pub same_come : (leaving : Without) (file : List ℕ) (tree : FileTree) (m : Mov
 same_come leaving file tree m walks lefts k walk next h r c =
     subst (λ (ls : List (List SampleAt)). AllCome leaving file tree m tree.movie.tracks (slice_set walks k next) ls) (set_same lefts k r.left r.is_left) (come_with leaving file tree m tree.movie.tracks walks lefts k r.t next r.left h r.is_tree c)
 
--- a walk of the same movie at a place
-each_set : {A : Type 0} (P : A → Type 0) (xs : List A) (k : ℕ) (x : A) → AllByRecursion P xs → P x → AllByRecursion P (slice_set xs k x)
-each_set P [] k x h p = tt
-each_set P (y ∷ xs) zero x h p = (p, h.1)
-each_set P (y ∷ xs) (suc k) x h p = (h.0, each_set P xs k x h.1 p)
-
 pub walks_set : (m : MovieSeen) (walks : List Walk) (k : ℕ) (next : Walk) → AreWalksOf m walks → IsWalkOf m next → AreWalksOf m (slice_set walks k next)
-walks_set m walks k next h w = record { each = each_set (IsWalkOf m) walks k next h.each w; count = length-set walks k next ∙ h.count }
+walks_set m walks k next h w = record { each = all_set (IsWalkOf m) walks k next h.each w; count = length-set walks k next ∙ h.count }
 
 -- ---- the rooms of walks over all tracks
 
@@ -163,7 +153,7 @@ rooms_sum file m tree o (suc k) le =
     let e : suc k ≡ k + 1 = omega arith in
     let more = rooms_sum file m tree o k (omega (arith, le)) in
     let here = room_opened file m tree t.0 k o t.1 in
-    let taken = ap (λ n. sum_of (walk_room tree) (take n tracks)) e ∙ ap (sum_of (walk_room tree)) (taken_next tracks k t.0 t.1) ∙ sum-append (walk_room tree) (take k tracks) (t.0 ∷ []) in
+    let taken = ap (λ n. sum_of (walk_room tree) (take n tracks)) e ∙ ap (sum_of (walk_room tree)) (taken_next tracks k t.0 t.1) ∙ sum_joined (walk_room tree) (take k tracks) (t.0 ∷ []) in
     omega (arith, more, here, taken)
 
 -- together they are no longer than the `traf`s of the file

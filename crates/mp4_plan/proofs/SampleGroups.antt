@@ -1,14 +1,15 @@
 -- Each sample has at each key the index that the `sbgp` of the key gives it.
-use Rattle.std.proofs.Common.{◌≡◌, ℕ, zero, suc, ◌<◌, Bool, true, false, cond, eqb, ltb, List, [], ◌∷◌, length, get_or, replicate, refl, sym, ap, ◌∙◌, arith}
+use Rattle.std.proofs.Common.{◌≡◌, ℕ, zero, suc, ◌<◌, Bool, true, false, cond, eqb, ltb, List, [], ◌∷◌, length, get_or, refl, sym, ap, ◌∙◌, arith}
 use Rattle.std.specs.Prelude.{slice_index}
 use Rattle.std.specs.List.{AllByRecursion, list_any}
 use Rattle.std.proofs.lemmas.Bool.{eqb-true, ne_eqb}
-use Rattle.std.proofs.lemmas.List.{length-replicate}
 use Rattle.mp4_boxes.proofs.Each.{each_member}
 use Rattle.mp4_tables.specs.format.Repeated.{repeated}
 use Rattle.mp4_tables.specs.format.Groups.{GroupKey, Grouping, Groups, key_rank, same_key, index_at, put_group, put_indexes, maps_of}
 use Rattle.mp4_tables.proofs.GroupMaps.{IsMap, keys_named, AreApart, are_apart, others_differ, maps_made}
 use Rattle.mp4_plan.specs.format.TableLaws.{index_by, GroupsAreIndexes}
+use Rattle.mp4_frag.proofs.GroupsTied.{nothing_at as nothing}
+use Rattle.mp4_tables.proofs.SampleLists.{maps_length}
 
 -- each key of the map has another rank than this one
 abbrev Differ : GroupKey → Groups → Type 0
@@ -46,17 +47,6 @@ index_case x key index groups true e h = by_key (same_key x key) refl
     by_key true f = nothing_at x key groups (eqb-true (key_rank x) (key_rank key) f) h ∙ sym (eqb-true index 0 e)
     by_key false f = refl
 
--- there are as many maps as before
-put_length : (key : GroupKey) (indexes : List ℕ) (maps : List Groups) → length (put_indexes key indexes maps) ≡ length maps
-put_length key [] maps = refl
-put_length key (index ∷ indexes) [] = refl
-put_length key (index ∷ indexes) (groups ∷ maps) = ap suc (put_length key indexes maps)
-
--- and as many as samples
-maps_length : (n : ℕ) (groupings : List Grouping) → length (maps_of n groupings) ≡ n
-maps_length n [] = length-replicate n []
-maps_length n (g ∷ groupings) = put_length g.key (repeated g.rows) (maps_of n groupings) ∙ maps_length n groupings
-
 -- the maps of samples in a row have at a key what the rows give, or what they had
 put_indexes_at : (x key : GroupKey) (indexes : List ℕ) (maps : List Groups) (i : ℕ) → i < length maps → AllByRecursion (Differ key) maps
     → index_at x (get_or (put_indexes key indexes maps) i []) ≡ cond (same_key x key) (slice_index indexes i) (index_at x (get_or maps i []))
@@ -74,12 +64,6 @@ all_differ keys key (groups ∷ maps) n h = (others_differ keys key groups n h.0
 -- of any rows nothing is asked
 any_rows : (groupings : List Grouping) → AllByRecursion (λ (g : Grouping). AllByRecursion (λ (row : ℕ × ℕ). eqb row.1 0 ≡ false → Unit {0}) g.rows) groupings
 any_rows groupings = each_member _ groupings (λ g i. each_member _ g.rows (λ row j e. tt))
-
--- without an `sbgp` there is no index
-nothing : (n i : ℕ) (x : GroupKey) → index_at x (get_or (replicate n []) i []) ≡ 0
-nothing zero i x = refl
-nothing (suc n) zero x = refl
-nothing (suc n) (suc i) x = nothing n i x
 
 -- by the `sbgp`s, one after the other
 indexes_at : (n : ℕ) (groupings : List Grouping) → AreApart groupings → (i : ℕ) → i < n → (x : GroupKey) → index_at x (get_or (maps_of n groupings) i []) ≡ index_by x groupings i

@@ -21,13 +21,15 @@ use Rattle.mp4_plan.specs.words.Taken.{row_seen}
 use Rattle.mp4_plan.specs.words.UsedKeys.{AreApart, IsKeyAt, place_at, used_from, key_front, group_front, group_bytes, groups_bytes}
 use Rattle.mp4_plan.specs.declared.planner.Planned.{Planned}
 use Rattle.mp4_plan.specs.declared.noted_rows.Row.{Row}
-use Rattle.mp4_plan.proofs.Filters.{flat_map_agree, all_append, all_weaker}
+use Rattle.mp4_plan.proofs.Filters.{flat_map_agree}
 use Rattle.mp4_plan.specs.format.TableLaws.{IsKey}
 use Rattle.mp4_plan.proofs.KeyOrder.{key_of_group, order_each}
 use Rattle.mp4_plan.proofs.NextKeys.{one_of, each_other, used_apart, place_is, key_behind, has_at}
 use Rattle.mp4_plan.proofs.UsedLists.{same_order, at_within, next_from, used_each, indexes_are, are_none, some_named, named_index}
 use Rattle.mp4_plan.proofs.WrittenGroups.{length-runs}
 use Rattle.mp4_plan.proofs.SpelledBoxes.{box_is, short_is}
+use Rattle.mp4_boxes.proofs.Among.{all_append}
+use Rattle.mp4_boxes.proofs.Each.{each_weaker as all_weaker}
 
 -- ---- one `sbgp`
 

@@ -10,11 +10,11 @@ use Rattle.mp4_tables.specs.declared.sample.SampleAt.{SampleAt}
 use Rattle.mp4_present.specs.words.Carried.{BytesGoOn}
 use Rattle.mp4_present.specs.words.Joined.{IsBelow}
 use Rattle.mp4_present.proofs.Carrying.{BytesGoOn-then, BytesGoOn-fails, BytesGoOn-front}
-use Rattle.mp4_present.proofs.Counts.{sum-append}
 use Rattle.mp4_plan.specs.words.Stretches.{span_len, span_bytes, EndsBelow, spans_len, spans_bytes, AreBytesOf, Tells, JoinsOn}
 use Rattle.mp4_plan.specs.declared.stretches.Span.{Span}
 use Rattle.mp4_plan.specs.declared.stretches.Stretches.{Stretches}
 use Rattle.mp4_plan.proofs.EachAt.{holds_push}
+use Rattle.mp4_tables.proofs.Sums.{sum_joined}
 
 size_of : SampleAt → ℕ
 size_of s = s.size
@@ -45,7 +45,7 @@ bytes_longer front last grown xs s ordered behind at end h =
           ∙ append_assoc (spans_bytes file front) (span_bytes file last) (range file s.at s.size)
           ∙ ap (λ (bs : List ℕ). spans_bytes file front ++ bs) (sym one ∙ sym (append-nil (span_bytes file grown)))
           ∙ sym (flat_map-append (span_bytes file) front (grown ∷ []));
-      len = (let a = sum-append span_len front (last ∷ []) in let b = sum-append span_len front (grown ∷ []) in let c = sum-append (λ (t : SampleAt). t.size) xs (s ∷ []) in let d = h.len in omega (arith, a, b, c, d, more));
+      len = (let a = sum_joined span_len front (last ∷ []) in let b = sum_joined span_len front (grown ∷ []) in let c = sum_joined (λ (t : SampleAt). t.size) xs (s ∷ []) in let d = h.len in omega (arith, a, b, c, d, more));
       below = λ n all.
           let inside = h.below n (all_first (IsBelow n) xs (s ∷ []) all) in
           let own = (all_last (IsBelow n) xs (s ∷ []) all).0 in
@@ -61,7 +61,7 @@ bytes_more spans one xs s at end h =
           flat_map-append (λ (t : SampleAt). range file t.at t.size) xs (s ∷ [])
           ∙ (λ i. h.bytes file i ++ (range file (sym at i) (sym size i) ++ []))
           ∙ sym (flat_map-append (span_bytes file) spans (one ∷ []));
-      len = (let b = sum-append span_len spans (one ∷ []) in let c = sum-append (λ (t : SampleAt). t.size) xs (s ∷ []) in let d = h.len in omega (arith, b, c, d, size));
+      len = (let b = sum_joined span_len spans (one ∷ []) in let c = sum_joined (λ (t : SampleAt). t.size) xs (s ∷ []) in let d = h.len in omega (arith, b, c, d, size));
       below = λ n all.
           let own = (all_last (IsBelow n) xs (s ∷ []) all).0 in
           holds_push (EndsBelow n) spans one (omega (arith, own, at, size)) (h.below n (all_first (IsBelow n) xs (s ∷ []) all));
@@ -73,7 +73,7 @@ bytes_without front last xs le h =
     let none : span_len last ≡ 0 = omega (arith, le) in
     record {
       bytes = λ file. h.bytes file ∙ flat_map-append (span_bytes file) front (last ∷ []) ∙ ap (λ n. spans_bytes file front ++ (range file last.at n ++ [])) none ∙ append-nil (spans_bytes file front);
-      len = (let a = sum-append span_len front (last ∷ []) in let d = h.len in omega (arith, a, d, none));
+      len = (let a = sum_joined span_len front (last ∷ []) in let d = h.len in omega (arith, a, d, none));
       below = λ n all. all_first (EndsBelow n) front (last ∷ []) (h.below n all);
     }
 
@@ -133,7 +133,7 @@ module _ (honest : Type 0) (file : List ℕ) (Took : List ℕ → Type 0) (held 
   pub span_fits : (span : Span) (later : List Span) → to_come ≡ span ∷ later → spans_len all ≡ bytes → span_len span ≤ left
   span_fits span later is same =
       let count = h.count in
-      let sums = ap spans_len (h.whole ∙ ap (λ (l : List Span). h.done ++ l) is) ∙ sum-append span_len h.done (span ∷ later) in
+      let sums = ap spans_len (h.whole ∙ ap (λ (l : List Span). h.done ++ l) is) ∙ sum_joined span_len h.done (span ∷ later) in
       omega (arith, count, sums, same)
 
 module _ (honest : Type 0) (file : List ℕ) {Y : Type 0} {takes : Y → Y → List ℕ → Type 0} (joins : IsJoining takes) (a b : Y) (held held_b : List ℕ) (all to_come : List Span) (bytes left : ℕ) (h : SpansCarried honest file (takes a b) held held_b all to_come bytes left) where
@@ -141,7 +141,7 @@ module _ (honest : Type 0) (file : List ℕ) {Y : Type 0} {takes : Y → Y → L
   pub spans_more : (c : Y) (held_c : List ℕ) (span : Span) (later : List Span) (next : ℕ) → to_come ≡ span ∷ later → next + span_len span ≡ left → (honest → BytesGoOn (takes b c) held_b held_c (span_bytes file span)) → SpansCarried honest file (takes a c) held held_c all later bytes next
   spans_more c held_c span later next is fewer more =
       let count = h.count in
-      let sums = sum-append span_len h.done (span ∷ []) in
+      let sums = sum_joined span_len h.done (span ∷ []) in
       record {
         done = h.done ++ span ∷ [];
         whole = h.whole ∙ ap (λ (l : List Span). h.done ++ l) is ∙ sym (append_assoc h.done (span ∷ []) later);

@@ -22,12 +22,12 @@ use Rattle.mp4_present.specs.declared.walking.in_hand.Place.TheVariants.{Tables,
 use Rattle.mp4_present.specs.declared.track_info.TrackInfo.{TrackInfo}
 use Rattle.mp4_present.specs.declared.walking.Due.{Due}
 use Rattle.mp4_present.specs.declared.walking.Walk.{Walk}
-use Rattle.mp4_present.proofs.Counts.{sum-append}
 use Rattle.mp4_present.proofs.OwnPlaced.{placed_append}
 use Rattle.mp4_present.proofs.WayThrough.{same_steps}
 use Rattle.mp4_plan.specs.words.WriterSteps.{last_steps, again_steps}
 use Rattle.mp4_content.proofs.WalksOn.{one_hand}
 use Rattle.mp4_boxes.proofs.Plain.{get_some}
+use Rattle.mp4_tables.proofs.Sums.{sum_joined}
 
 -- ---- lists
 
@@ -63,7 +63,7 @@ lt_or_le (suc n) (suc k) = by (lt_or_le n k)
 -- ---- steps
 
 pub steps_append : (xs ys : List PlacedTraf) → trafs_steps (xs ++ ys) ≡ trafs_steps xs + trafs_steps ys
-steps_append xs ys = sum-append (λ (p : PlacedTraf). traf_steps p.traf) xs ys
+steps_append xs ys = sum_joined (λ (p : PlacedTraf). traf_steps p.traf) xs ys
 
 last_append : (n : ℕ) (xs ys : List PlacedTraf) → last_steps n (xs ++ ys) ≡ last_steps (last_steps n xs) ys
 last_append n [] ys = refl

@@ -13,8 +13,8 @@ use Rattle.mp4_plan.specs.words.TurnLaws.{goes, turn_count, piece_if, taken_by, 
 use Rattle.mp4_plan.specs.declared.ends.End.{End}
 use Rattle.mp4_plan.specs.declared.ends.End.TheVariants.{Sync}
 use Rattle.mp4_plan.specs.declared.schedule.Schedule.{Schedule}
-use Rattle.mp4_plan.proofs.Filters.{all_append}
 use Rattle.mp4_plan.proofs.FragmentsLeft.{not_itself}
+use Rattle.mp4_boxes.proofs.Among.{all_append}
 
 -- ---- a run of one description
 

@@ -12,7 +12,7 @@ use Rattle.mp4_present.specs.declared.track_info.TrackInfo.{TrackInfo}
 use Rattle.mp4_content.specs.format.TimedSamples.{TimedSample}
 use Rattle.mp4_plan.specs.format.Pieces.{is_sync, Piece}
 use Rattle.mp4_plan.specs.words.Ends.{has_ended, goes_in}
-use Rattle.mp4_plan.specs.words.Gathering.{Planning, piece_from, more_of, samples_after}
+use Rattle.mp4_plan.specs.words.Gathering.{piece_from, more_of, samples_after}
 use Rattle.mp4_plan.specs.words.PiecesComing.{Coming, end_of_first, end_of_other, pieces_left}
 use Rattle.mp4_content.specs.words.TakenSamples.{AreTaken}
 use Rattle.mp4_plan.specs.words.Turns.{turn_end, turned, track_passed, wrapped, is_over, MayPass, Sticks, to_come}
@@ -20,13 +20,14 @@ use Rattle.mp4_plan.specs.words.TurnLaws.{IsAmong, IsOver, next_time, piece_if, 
 use Rattle.mp4_plan.specs.declared.ends.End.{End}
 use Rattle.mp4_plan.specs.declared.ends.End.TheVariants.{Sync, Before}
 use Rattle.mp4_plan.specs.declared.schedule.Schedule.{Schedule}
-use Rattle.mp4_plan.proofs.Filters.{all_append}
 use Rattle.mp4_plan.proofs.FragmentsLeft.{not_itself}
 use Rattle.mp4_plan.proofs.Lefts.{IsLeft, AreLeft, left_count, IsFresh, StandsIn, pieces_from, IsTurn}
 use Rattle.mp4_plan.proofs.TakenTurns.{ended_same, turn_same, taken_front, taken_behind}
 use Rattle.mp4_plan.proofs.TurnOrder.{less_on, less_over}
 use Rattle.mp4_plan.proofs.TurnSteps.{turns_take_all}
 use Rattle.mp4_boxes.proofs.Plain.{get_some, some_is}
+use Rattle.mp4_plan.proofs.HandsTaken.{few_more}
+use Rattle.mp4_boxes.proofs.Among.{all_append}
 
 -- ---- how many are left
 
@@ -54,10 +55,8 @@ prefix_few p (x ∷ xs) = by (p x) (prefix_few p xs)
     by true h = omega (arith, h)
     by false h = omega arith
 
--- A piece has no more samples than are left.
-pub more_few : (p : Planning) (xs : List SampleAt) → more_of p xs ≤ length xs
 unfolding more_of
-more_few p xs = prefix_few _ xs
+few_more p xs = prefix_few _ xs
 
 -- So many fewer are left behind it.
 pub count_behind : (lefts : List (List SampleAt)) (k n : ℕ) (left : List SampleAt) → slice_get lefts k ≡ Some left → n ≤ length left → left_count lefts - n ≡ left_count (slice_set lefts k (drop n left))
@@ -294,9 +293,9 @@ first_taken file i infos s l lefts first others end z e h =
       on = record {
         each = subst (λ k. AreLeft file (i ∷ infos) (slice_set (l ∷ lefts) k behind) (u ∷ others)) (sym z) (record { id = each.id; timescale = each.timescale; taken = left_over }, h.each.1);
         among = on.stands;
-        left = on.left_is ∙ ap (λ m. m - n) h.left ∙ count_behind (l ∷ lefts) s.track n l at (more_few (piece_from end) l);
+        left = on.left_is ∙ ap (λ m. m - n) h.left ∙ count_behind (l ∷ lefts) s.track n l at (few_more (piece_from end) l);
       };
-      few = subst (λ m. n ≤ m) (sym h.left) (few_left (l ∷ lefts) s.track n l at (more_few (piece_from end) l));
+      few = subst (λ m. n ≤ m) (sym h.left) (few_left (l ∷ lefts) s.track n l at (few_more (piece_from end) l));
       moves = λ m. (none_over end l m, λ _. first_moves file keys end l first.samples each.taken (subst (λ x. IsFresh x first.samples) (sym is) (st.fresh z)) m);
     }
 
@@ -328,9 +327,9 @@ other_taken file i infos s l lefts first others end k info left z e h a b =
       on = record {
         each = subst (λ k. AreLeft file (i ∷ infos) (slice_set (l ∷ lefts) k behind) (first ∷ (at.before ++ u ∷ at.after))) (sym z) (h.each.0, at.put behind u (record { id = each.id; timescale = each.timescale; taken = left_over }));
         among = on.stands;
-        left = on.left_is ∙ ap (λ m. m - n) h.left ∙ count_behind (l ∷ lefts) s.track n left there (more_few (piece_from end) left);
+        left = on.left_is ∙ ap (λ m. m - n) h.left ∙ count_behind (l ∷ lefts) s.track n left there (few_more (piece_from end) left);
       };
-      few = subst (λ m. n ≤ m) (sym h.left) (few_left (l ∷ lefts) s.track n left there (more_few (piece_from end) left));
+      few = subst (λ m. n ≤ m) (sym h.left) (few_left (l ∷ lefts) s.track n left there (few_more (piece_from end) left));
       moves = λ m. (none_over end left m, λ y. absurd (omega (arith, y, z)));
     }
 
@@ -499,7 +498,7 @@ pieces_few (suc fuel) most file infos s lefts comings less le h = by (nat_lt s.t
         let behind = drop n left in
         let p = turned s end n (slice_get behind 0) in
         let fewer = turn_less file infos s lefts comings info left t lt in
-        let size = more_few (piece_from end) left in
+        let size = few_more (piece_from end) left in
         let a = count_set lefts s.track left behind own.1 in
         let b = length-drop n left in
         let c = length-take-le n left size in
@@ -521,7 +520,7 @@ turn_fits most file infos s lefts comings info left t h =
     let n = more_of (piece_from end) left in
     let behind = pieces_from (turned s end n (slice_get (drop n left) 0)) t.later in
     let parts = all_parts (λ (p : Piece). length p.samples ≤ most) (piece_if info.id t.samples) behind (subst (λ l. AllByRecursion (λ (p : Piece). length p.samples ≤ most) l) t.pieces h) in
-    let a = length-take-le n left (more_few (piece_from end) left) in
+    let a = length-take-le n left (few_more (piece_from end) left) in
     let b = taken_many file (keys_seen info.keys) (take n left) t.samples t.taken in
     let c = one_fits info.id t.samples parts.0 in
     (omega (arith, a, b, c), parts.1)

@@ -6,7 +6,7 @@ use Rattle.std.proofs.lemmas.Bool.{ltb-true, eqb-true, ne_eqb, or_cases, or_left
 use Rattle.mp4_tables.specs.format.Groups.{GroupKey, Groups, key_rank, same_key, index_at}
 use Rattle.mp4_tables.specs.words.Timed.{padded}
 use Rattle.mp4_tables.specs.declared.sample.SampleAt.{SampleAt}
-use Rattle.mp4_tables.proofs.NamedKeys.{IsAmong, among_through}
+use Rattle.mp4_tables.proofs.NamedKeys.{IsAmong, among_through, among_front}
 use Rattle.mp4_present.specs.format.Presentation.{IsGroup}
 use Rattle.mp4_content.specs.format.TimedSamples.{TimedSample}
 use Rattle.mp4_plan.specs.format.Normal.{in_key_order}
@@ -102,11 +102,6 @@ indexes_are file keys j key (a ∷ taken) (s ∷ samples) z e lt =
 
 -- ---- used keys are named by samples, and named ones are used
 
-among_left : (xs ys : List GroupKey) (key : GroupKey) → IsAmong xs key → IsAmong (xs ++ ys) key
-among_left [] ys key h = absurd (cc)
-among_left (x ∷ xs) ys key h = elim (or_cases (same_key key x) (list_any (same_key key) xs) h) [
-  | inl s ↦ or_left (same_key key x) (list_any (same_key key) (xs ++ ys)) s
-  | inr r ↦ or_right (same_key key x) (list_any (same_key key) (xs ++ ys)) (among_left xs ys key r)
 ]
 
 among_behind : (xs ys : List GroupKey) (key : GroupKey) → IsAmong ys key → IsAmong (xs ++ ys) key
@@ -144,6 +139,6 @@ are_none key samples = list_all (λ index. index == 0) (map (λ (s : TimedSample
 pub some_named : (key : GroupKey) (samples : List TimedSample) → are_none key samples ≡ false → IsAmong (sample_keys samples) key
 some_named key [] e = absurd (cc)
 some_named key (s ∷ samples) e = elim (and_cases (index_at key s.sample.groups == 0) (are_none key samples) e) [
-  | inl n ↦ among_left (names s.sample.groups) (sample_keys samples) key (index_named key s.sample.groups n)
+  | inl n ↦ among_front (names s.sample.groups) (sample_keys samples) key (index_named key s.sample.groups n)
   | inr r ↦ among_behind (names s.sample.groups) (sample_keys samples) key (some_named key samples r)
 ]

@@ -34,10 +34,11 @@ use Rattle.mp4_present.specs.words.TrackTrees.{IsTrackOf, AreTracksOf, HaveTable
 use Rattle.mp4_present.specs.declared.opening.outline.Outline.{Outline}
 use Rattle.mp4_present.specs.declared.opening.tables_pass.PlainTracks.{PlainTracks}
 use Rattle.mp4_present.specs.declared.track_info.TrackInfo.{TrackInfo}
-use Rattle.mp4_present.proofs.Counts.{sum-append}
 use Rattle.mp4_present.proofs.MoofBehind.{begins_behind}
 use Rattle.mp4_present.proofs.SampleTotals.{few_samples}
 use Rattle.mp4_present.proofs.Opened.{IsRead, its_moov, tracks_read}
+use Rattle.mp4_frag.proofs.RunsTied.{duration-append}
+use Rattle.mp4_tables.proofs.Sums.{sum_joined as sum-append}
 
 -- ---- behind the tables
 
@@ -98,12 +99,9 @@ module _ (honest : Bool) (file : List ℕ) (o : Outline) (moov : List ℕ) (b : 
 
 -- ---- behind all samples
 
-total_is : (file : List ℕ) (samples : List PlacedSample) → total_duration (map (sample_of file) samples) ≡ duration_of samples
+pub total_is : (file : List ℕ) (samples : List PlacedSample) → total_duration (map (sample_of file) samples) ≡ duration_of samples
 total_is file [] = refl
 total_is file (s ∷ samples) = ap (λ (n : ℕ). s.duration + n) (total_is file samples)
-
-duration-append : (xs ys : List PlacedSample) → duration_of (xs ++ ys) ≡ duration_of xs + duration_of ys
-duration-append xs ys = sum-append (λ (s : PlacedSample). s.duration) xs ys
 
 -- a track's timescale is not 0
 pub timescale_there : (t : TrackTree) → IsTrackTree t → IsSoundTrack t → 0 < (track_head_of t).media.timescale

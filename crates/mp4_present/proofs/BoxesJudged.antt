@@ -1,14 +1,14 @@
 -- Boxes by the definition, with any tests of their headers: they fill the container.
-use Rattle.std.proofs.Common.{◌≡◌, ◌⊎◌, ℕ, zero, suc, ◌+◌, ◌<◌, ◌≤◌, Bool, true, false, List, [], ◌∷◌, ◌++◌, length, drop, Option, Some, None, Result, Ok, Err, inl, inr, refl, sym, ap, ◌∙◌, arith, length-append}
-use Rattle.std.proofs.lemmas.Bool.{ltb-true, ltb-false}
-use Rattle.mp4_boxes.specs.format.Box.{Box, Header, Extent, to_end_of_file, to_end_of_box, counted, may_be_open, Container, header_at, box_of, size, sizes, LieEndToEnd, IsCounted, IsFront, IsDue, IsFull, Tiles}
+use Rattle.std.proofs.Common.{◌≡◌, ◌⊎◌, ℕ, zero, suc, ◌+◌, ◌<◌, Bool, true, false, List, [], ◌∷◌, ◌++◌, length, drop, Option, Some, None, Result, Ok, Err, inl, inr, refl, sym, ap, ◌∙◌, arith, length-append}
+use Rattle.mp4_boxes.specs.format.Box.{Box, Header, may_be_open, Container, header_at, box_of, sizes, IsFront, IsDue, Tiles}
 use Rattle.mp4_boxes.specs.format.BoxFaults.{header_there, type_of, IsHeaderFault}
 use Rattle.mp4_boxes.specs.format.Children.{lacks}
 use Rattle.mp4_boxes.specs.format.FirstFault.{HeaderTests, boxes_behind, boxes_or_fault, top_or_fault, top_tests, counted_or_fault, no_tests, first_failed, naming, is_due, and_then, unless_failed, none_lacking}
 use Rattle.mp4_boxes.specs.declared.rule.Rule.TheVariants.{File}
 use Rattle.mp4_boxes.specs.declared.fault.Fault.{Fault}
-use Rattle.mp4_boxes.proofs.Tiling.{first_fits, header_fault_refuses, lies_push, sizes-cons, sizes_fit, tiles_one}
+use Rattle.mp4_boxes.proofs.Tiling.{header_fault_refuses, lies_push, sizes_fit, tiles_one}
 use Rattle.mp4_boxes.proofs.Walking.{located_err, located_ok}
+use Rattle.mp4_boxes.proofs.ChildrenJudged.{length_few, due_is, full_is, one_more, none_counted}
 
 -- a header fails one of these tests
 abbrev FailsTest : HeaderTests → Fault → Type 0
@@ -18,30 +18,6 @@ FailsTest tests f = (before : List Box) × (b : Box) × (first_failed (naming b 
 abbrev Outcome : HeaderTests → Container → Result (List Box) Fault → Type 0
 Outcome tests c (Ok bs) = Tiles c bs
 Outcome tests c (Err f) = IsHeaderFault c f ⊎ FailsTest tests f
-
--- boxes are no more than bytes
-length_few : (is_open : Bool) (at : ℕ) (bytes : List ℕ) (bs : List Box) → LieEndToEnd is_open at bytes bs → length bs ≤ sizes bs
-length_few is_open at bytes [] l = omega arith
-length_few is_open at bytes (b ∷ bs) l =
-    omega (arith, sizes-cons b bs, length_few is_open (at + size b) (drop (size b) bytes) bs l.1, (first_fits is_open at bytes b bs l).0)
-
--- one more box is due
-due_is : (e : Extent) (left : ℕ) (bs : List Box) → is_due e left (length bs) (sizes bs) ≡ true → IsDue e left bs
-due_is to_end_of_file left bs d = ltb-true (sizes bs) left d
-due_is to_end_of_box left bs d = ltb-true (sizes bs) left d
-due_is (counted n) left bs d = ltb-true (length bs) n d
-
--- none is: the container is full
-full_is : (e : Extent) (left : ℕ) (bs : List Box) → is_due e left (length bs) (sizes bs) ≡ false → sizes bs ≤ left → IsCounted e bs → IsFull e left bs
-full_is to_end_of_file left bs d le c = let g = ltb-false (sizes bs) left d in omega arith
-full_is to_end_of_box left bs d le c = let g = ltb-false (sizes bs) left d in omega arith
-full_is (counted n) left bs d le c = let g = ltb-false (length bs) n d in omega arith
-
--- one more may stand where it is due
-one_more : (e : Extent) (left : ℕ) (bs : List Box) (b : Box) → IsDue e left bs → IsCounted e (bs ++ b ∷ [])
-one_more to_end_of_file left bs b d = tt
-one_more to_end_of_box left bs b d = tt
-one_more (counted n) left bs b d = omega (arith, d, length-append bs (b ∷ []))
 
 -- the bytes behind some boxes
 abbrev rest_of : Container → List Box → List ℕ
@@ -82,12 +58,6 @@ walk (suc n) tests c bs g f = by_due (is_due c.extent (length c.bytes) (length b
         → Outcome tests c (boxes_behind (suc n) tests c bs)
     by_due false d on = rw d (record { front = g; full = full_is c.extent (length c.bytes) bs d (sizes_fit (may_be_open c.extent) c.at c.bytes bs g.0) g.1 })
     by_due true d on = rw d (by_header (there c bs) refl (due_is c.extent (length c.bytes) bs d) on)
-
--- no boxes are within any count
-none_counted : (e : Extent) → IsCounted e []
-none_counted to_end_of_file = tt
-none_counted to_end_of_box = tt
-none_counted (counted n) = omega arith
 
 -- the whole walk
 judged : (tests : HeaderTests) (c : Container) → Outcome tests c (boxes_or_fault tests c)

@@ -1,13 +1,13 @@
 -- Where more samples are named than the limit allows, nothing is denoted.
-use Rattle.std.proofs.Common.{◌≡◌, ℕ, zero, suc, ◌+◌, ◌<◌, ◌≤◌, Bool, true, false, cond, eqb, List, [], ◌∷◌, ◌++◌, Option, None, length, refl, sym, ap, subst, ◌∙◌, arith, length-append, inl, inr, eq-eqb, append_assoc}
-use Rattle.std.specs.Prelude.{◌⊎◌, map, flat_map, codes, bytes_eq, is_some, unwrap_or, ◌&&◌, IsTrue, ℤ, pos, drop}
+use Rattle.std.proofs.Common.{◌≡◌, ℕ, ◌+◌, ◌<◌, ◌≤◌, Bool, true, false, cond, eqb, List, [], ◌∷◌, ◌++◌, length, refl, sym, ap, subst, ◌∙◌, arith, length-append, inl, inr, eq-eqb, append_assoc}
+use Rattle.std.specs.Prelude.{◌⊎◌, map, flat_map, codes, bytes_eq, is_some, unwrap_or, ◌&&◌, IsTrue, ℤ, pos}
 use Rattle.std.specs.List.{AllByRecursion}
 use Rattle.std.proofs.lemmas.List.{length-map}
 use borrow.Author.Tests.{true-eqb}
-use Rattle.mp4_boxes.specs.format.Bytes.{sum_of, width_of}
+use Rattle.mp4_boxes.specs.format.Bytes.{sum_of}
 use Rattle.mp4_boxes.specs.format.Box.{Box, Container, file_container}
 use Rattle.mp4_boxes.specs.format.Children.{of_kind, payload_among, sample_sizes, count_among}
-use Rattle.mp4_boxes.specs.format.Layout.{trun, row_count, present, sample_columns}
+use Rattle.mp4_boxes.specs.format.Layout.{trun, row_count}
 use Rattle.mp4_boxes.specs.declared.fault.Fault.{Fault}
 use Rattle.mp4_boxes.proofs.Among.{in_of_kind}
 use Rattle.mp4_boxes.proofs.Refusing.{stands_in, line_has}
@@ -19,7 +19,7 @@ use Rattle.mp4_tables.specs.format.TableRules.{Fit}
 use Rattle.mp4_tables.proofs.Counts.{samples_counted, groups_length}
 use Rattle.mp4_tables.specs.format.Groups.{maps_of}
 use Rattle.mp4_frag.specs.declared.trex.Trex.{Trex}
-use Rattle.mp4_frag.specs.format.Fragments.{RunRow, TrackFragment, FragmentTree, run_rows, sample_run_of, fragment_of, track_fragment_of}
+use Rattle.mp4_frag.specs.format.Fragments.{TrackFragment, FragmentTree, sample_run_of, fragment_of, track_fragment_of}
 use Rattle.mp4_frag.specs.format.FragmentSamples.{Part, part_samples, run_samples, runs_samples, run_start, runs_end, end_of_data, base_of, trex_for, no_trex, parts_after, parts_of, all_parts, fragment_samples}
 use Rattle.mp4_frag.specs.format.FragmentRules.{TrackFacts, track_for, is_known}
 use Rattle.mp4_head.specs.format.Tree.{TrackTree, MovieTree, IsTrackTree, track_head_of, trexes_of}
@@ -30,24 +30,15 @@ use Rattle.mp4_present.specs.format.Stands.{StandsBy, count, TablePasses, RunPas
 use Rattle.mp4_present.proofs.Chain.{only_box}
 use Rattle.mp4_present.proofs.Fronts.{begun, parts_begun}
 use Rattle.mp4_present.proofs.Limits.{within}
+use Rattle.mp4_frag.proofs.DurationsKept.{rows_count}
+use Rattle.mp4_frag.proofs.SaidSamples.{rows_said}
+use Rattle.mp4_tables.proofs.Sums.{sum_joined}
 
 -- how many samples some parts have
 abbrev pub parts_total : List Part → ℕ
 parts_total parts = sum_of (λ (q : Part). length (part_samples q)) parts
 
-pub sum-append : {A : Type 0} (f : A → ℕ) (xs ys : List A) → sum_of f (xs ++ ys) ≡ sum_of f xs + sum_of f ys
-sum-append f [] ys = omega arith
-sum-append f (x ∷ xs) ys = omega (arith, sum-append f xs ys)
-
 -- ---- the samples of the runs
-
-rows_count : (n v bits : ℕ) (bytes : List ℕ) → length (run_rows n v bits bytes) ≡ n
-rows_count zero v bits bytes = refl
-rows_count (suc n) v bits bytes = ap suc (rows_count n v bits (drop (width_of (present bits sample_columns)) bytes))
-
-run_length : (trex : Trex) (traf : TrackFragment) (first : Option ℕ) (at : ℤ) (rows : List RunRow) → length (run_samples trex traf first at rows) ≡ length rows
-run_length trex traf first at [] = refl
-run_length trex traf first at (row ∷ rows) = ap suc (run_length trex traf None _ rows)
 
 runs_length : (trex : Trex) (traf : TrackFragment) (base before : ℤ) (bs : List Box)
     → length (flat_map (λ (samples : List PlacedSample). samples) (runs_samples trex traf base before (map (λ (b : Box). sample_run_of b.payload) bs))) ≡ run_total bs
@@ -57,7 +48,7 @@ runs_length trex traf base before (b ∷ bs) =
     let at = run_start base before run.data_offset in
     let samples = run_samples trex traf run.first_sample_flags at run.rows in
     let more = runs_samples trex traf base (end_of_data at samples) (map (λ (c : Box). sample_run_of c.payload) bs) in
-    let own : length samples ≡ row_count trun b.payload = run_length trex traf run.first_sample_flags at run.rows ∙ rows_count (row_count trun b.payload) _ _ _ in
+    let own : length samples ≡ row_count trun b.payload = rows_said trex traf run.first_sample_flags at run.rows ∙ rows_count (row_count trun b.payload) _ _ _ in
     length-append samples (flat_map (λ (samples : List PlacedSample). samples) more) ∙ (λ i. own i + runs_length trex traf base (end_of_data at samples) bs i)
 
 -- the parts of some `traf`s have as many samples as their runs name
@@ -74,7 +65,7 @@ trafs_length trexes moof before (inside ∷ trafs) =
 pub fragments_length : (trexes : List Trex) (es : List FragmentTree) → parts_total (all_parts trexes (map fragment_of es)) ≡ sum_of (λ (e : FragmentTree). trafs_total e.trafs) es
 fragments_length trexes [] = refl
 fragments_length trexes (e ∷ es) =
-    sum-append (λ (q : Part). length (part_samples q)) (parts_of trexes (fragment_of e)) (all_parts trexes (map fragment_of es))
+    sum_joined (λ (q : Part). length (part_samples q)) (parts_of trexes (fragment_of e)) (all_parts trexes (map fragment_of es))
     ∙ (λ i. trafs_length trexes e.moof.offset (pos e.moof.offset) e.trafs i + fragments_length trexes es i)
 
 -- ---- the samples of the tracks
@@ -183,7 +174,7 @@ table_refuses file f p s d =
     let movie = movie_tree_one s.movie d.tree.movie (sym same) s.movie_tree d.is_tree.movie in
     let one = λ (t : TrackTree). sample_count (payload_among sample_sizes t.table) in
     let all : table_total d.tree.movie.tracks ≡ table_total (s.before ++ s.t ∷ []) + table_total s.after =
-    ap (λ (m : MovieTree). table_total m.tracks) (sym movie) ∙ ap table_total (s.tracks ∙ sym (append_assoc s.before (s.t ∷ []) s.after)) ∙ sum-append one (s.before ++ s.t ∷ []) s.after in
+    ap (λ (m : MovieTree). table_total m.tracks) (sym movie) ∙ ap table_total (s.tracks ∙ sym (append_assoc s.before (s.t ∷ []) s.after)) ∙ sum_joined one (s.before ++ s.t ∷ []) s.after in
     some_pass (table_total (s.before ++ s.t ∷ [])) (table_total s.after) (table_total d.tree.movie.tracks) 0 (parts_total (file_parts d.tree)) max_samples s.passes all (within_count file p d)
 
 run_pass : (tables earlier front before after own rest all m total : ℕ) → total ≡ tables + earlier + front → m < total + before → own ≡ before + after
@@ -200,13 +191,13 @@ run_refuses file f p s d =
     let run = λ (c : Box). row_count trun c.payload in
     let here = parts_of trexes (record { at = b.moof.offset; trafs = map track_fragment_of (b.inside_before ++ b.inside ∷ []) }) in
     let own : run_total (of_kind (codes "trun") b.inside) ≡ run_total (s.before ++ s.run ∷ []) + run_total s.after =
-    ap run_total (s.runs ∙ sym (append_assoc s.before (s.run ∷ []) s.after)) ∙ sum-append run (s.before ++ s.run ∷ []) s.after in
+    ap run_total (s.runs ∙ sym (append_assoc s.before (s.run ∷ []) s.after)) ∙ sum_joined run (s.before ++ s.run ∷ []) s.after in
     let inside : parts_total here ≡ trafs_total b.inside_before + (run_total (of_kind (codes "trun") b.inside) + 0) =
-    trafs_length trexes b.moof.offset (pos b.moof.offset) (b.inside_before ++ b.inside ∷ []) ∙ sum-append (λ (inside : List Box). run_total (of_kind (codes "trun") inside)) b.inside_before (b.inside ∷ []) in
+    trafs_length trexes b.moof.offset (pos b.moof.offset) (b.inside_before ++ b.inside ∷ []) ∙ sum_joined (λ (inside : List Box). run_total (of_kind (codes "trun") inside)) b.inside_before (b.inside ∷ []) in
     let with_it : parts_total (parts_with b) ≡ sum_of (λ (e : FragmentTree). trafs_total e.trafs) b.earlier + (trafs_total b.inside_before + (run_total (of_kind (codes "trun") b.inside) + 0)) =
-    sum-append one (all_parts trexes (map fragment_of b.earlier)) here ∙ (λ i. fragments_length trexes b.earlier i + inside i) in
+    sum_joined one (all_parts trexes (map fragment_of b.earlier)) here ∙ (λ i. fragments_length trexes b.earlier i + inside i) in
     let all : parts_total (file_parts d.tree) ≡ (sum_of (λ (e : FragmentTree). trafs_total e.trafs) b.earlier + (trafs_total b.inside_before + (run_total (of_kind (codes "trun") b.inside) + 0))) + parts_total r.0 =
-    ap parts_total r.1 ∙ sum-append one (parts_with b) r.0 ∙ ap (λ (n : ℕ). n + parts_total r.0) with_it in
+    ap parts_total r.1 ∙ sum_joined one (parts_with b) r.0 ∙ ap (λ (n : ℕ). n + parts_total r.0) with_it in
     let limit : table_total b.movie.tracks + parts_total (file_parts d.tree) ≤ max_samples =
     subst (λ (m : MovieTree). table_total m.tracks + parts_total (file_parts d.tree) ≤ max_samples) (sym g.movie) (within_count file p d) in
     run_pass (table_total b.movie.tracks) (sum_of (λ (e : FragmentTree). trafs_total e.trafs) b.earlier) (trafs_total b.inside_before) (run_total (s.before ++ s.run ∷ [])) (run_total s.after)

@@ -36,7 +36,7 @@ use Rattle.mp4_present.proofs.BoxesJudged.{top_are}
 use Rattle.mp4_present.proofs.LimitsJudged.{limits_fine, limits_first}
 use Rattle.mp4_present.proofs.MovieJudged.{movie_is}
 use Rattle.mp4_present.proofs.Opened.{IsRead, its_moov, tracks_read}
-use Rattle.mp4_present.proofs.TrafStates.{first_there}
+use Rattle.mp4_present.proofs.FirstKept.{first_kept}
 
 -- ---- one answer behind another
 
@@ -155,7 +155,7 @@ module _ (honest : Bool) (file : List ℕ) (o : Outline) (moov : List ℕ) (b : 
 
   -- the `moov` is the one that was read
   moov_is : first_of (codes "moov") boxes ≡ b
-  moov_is = first_there (codes "moov") boxes b [] (its_moov honest file o moov b r told)
+  moov_is = first_kept (codes "moov") boxes b [] (its_moov honest file o moov b r told)
 
   -- its head is at fault
   pub head_refused : (n : Refusal) → RefusesFirst (fault_within depth [] (place_of (ruled Movie) b)) n → RefusesJudged file n

@@ -1,20 +1,22 @@
 -- Where a `traf` breaks a rule behind all that is as it should be, nothing is denoted.
 use Rattle.std.proofs.Common.{◌≡◌, ℕ, zero, suc, ◌+◌, Bool, true, false, cond, List, [], ◌∷◌, ◌++◌, Option, Some, refl, sym, ap, subst, ◌∙◌, arith, eqb, eq-eqb, append_assoc}
 use Rattle.std.specs.Prelude.{flat_map, find, not, ◌||◌, ◌==◌, IsTrue, slice_get, length, unwrap_or, option_map}
-use Rattle.std.specs.List.{AllByRecursion, list_any}
+use Rattle.std.specs.List.{AllByRecursion}
 use Rattle.mp4_boxes.specs.declared.fault.Fault.{Fault}
 use Rattle.mp4_boxes.proofs.Among.{all_at}
 use Rattle.mp4_boxes.proofs.Plain.{true_false}
 use Rattle.mp4_tables.specs.format.PlainSamples.{PlacedSample}
 use Rattle.mp4_frag.specs.format.FragmentSamples.{Part, part_samples, parts_for, has_samples, start_of, duration_of, is_on_time, AreOnTime, has_groups, keys_behind, AreGrouped}
 use Rattle.mp4_frag.specs.format.FragmentRules.{is_known, has_indexes, is_within}
-use Rattle.mp4_tables.specs.format.Groups.{GroupRule, GroupKey, Grouping, same_key, keys_after}
+use Rattle.mp4_tables.specs.format.Groups.{GroupRule, GroupKey, keys_after}
 use Rattle.mp4_head.specs.format.Tree.{TrackTree, MovieTree, track_head_of, trexes_of}
 use Rattle.mp4_present.specs.format.Presentation.{Presentation}
 use Rattle.mp4_present.specs.format.Denotes.{Denotes, track_infos, plain_of, plain_keys, file_parts, first_due}
 use Rattle.mp4_present.specs.format.Stands.{StandsBy, fragment, Behind, earlier_parts, parts_with, FragmentRule, unknown_track, description_index, place, fragment_group, decode_time, PartFails}
 use Rattle.mp4_present.proofs.Fronts.{begun, parts_begun}
 use Rattle.std.proofs.lemmas.List.Elements.{All-from_recursion, All-contains}
+use Rattle.mp4_frag.proofs.RunsTied.{duration-append}
+use Rattle.mp4_tables.proofs.GroupMaps.{after-append}
 
 -- what holds of each holds of the one at a place
 all_got : {A : Type 0} (P : A → Type 0) (xs : List A) (k : ℕ) (x : A) → AllByRecursion P xs → slice_get xs k ≡ Some x → P x
@@ -23,10 +25,6 @@ all_got {A} P (y ∷ ys) zero x h e = let s : ◌≡◌ {A = Option A} (Some y) 
 all_got P (y ∷ ys) (suc k) x h e = all_got P ys k x h.1 e
 
 -- ---- decode times
-
-duration-append : (xs ys : List PlacedSample) → duration_of (xs ++ ys) ≡ duration_of xs + duration_of ys
-duration-append [] ys = omega arith
-duration-append (x ∷ xs) ys = omega (arith, duration-append xs ys)
 
 sum_first : (a b c : ℕ) → (a + b) + c ≡ a + (b + c)
 sum_first a b c = omega arith
@@ -61,7 +59,7 @@ found_first : (before xs ys : List Part) (part : Part) → has_samples part ≡ 
 found_first [] xs ys part e = rw e refl
 found_first (c ∷ before) xs ys part e = ap (λ (o : Option Part). cond (has_samples c) (Some c) o) (found_first before xs ys part e)
 
-start_by : (plain : List PlacedSample) (xs ys : List Part) → find has_samples xs ≡ find has_samples ys → start_of plain xs ≡ start_of plain ys
+pub start_by : (plain : List PlacedSample) (xs ys : List Part) → find has_samples xs ≡ find has_samples ys → start_of plain xs ≡ start_of plain ys
 start_by (s ∷ plain) xs ys e = refl
 start_by [] xs ys e = rw e refl
 
@@ -90,17 +88,13 @@ in_time plain id before more part same h late =
 
 -- ---- groups
 
-keys_join : (keys : List GroupKey) (xs ys : List Grouping) → keys_after keys (xs ++ ys) ≡ keys_after (keys_after keys xs) ys
-keys_join keys [] ys = refl
-keys_join keys (g ∷ xs) ys = keys_join (cond (list_any (same_key g.key) keys) keys (keys ++ g.key ∷ [])) xs ys
-
 -- where the groups of a track are as they should be, so are those of a part behind others
 grouped_at : (keys : List GroupKey) (before after : List Part) (part : Part) → AreGrouped keys (before ++ part ∷ after)
     → (rule : GroupRule) (k : ℕ) → IsTrue (has_groups rule (keys_behind keys before) part k)
 grouped_at keys [] after part h rule k = h.0 rule k
 grouped_at keys (b ∷ before) after part h rule k =
     let r = grouped_at (keys_after keys b.groups) before after part h.1 rule k in
-    let joined : keys_behind keys (b ∷ before) ≡ keys_behind (keys_after keys b.groups) before = keys_join keys b.groups (flat_map (λ (q : Part). q.groups) before) in
+    let joined : keys_behind keys (b ∷ before) ≡ keys_behind (keys_after keys b.groups) before = after-append keys b.groups (flat_map (λ (q : Part). q.groups) before) in
     subst (λ (ks : List GroupKey). IsTrue (has_groups rule ks part k)) (sym joined) r
 
 -- ---- the rules

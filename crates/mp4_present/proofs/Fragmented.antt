@@ -13,7 +13,7 @@ use Rattle.mp4_present.specs.words.Reading.{IsTopHeader, top_box}
 use Rattle.mp4_present.specs.words.Outline.{AreFrom, AreMoofsFrom, IsNextFragment}
 use Rattle.mp4_present.specs.declared.reading.TopBox.{TopBox}
 use Rattle.mp4_present.proofs.TopLevel.{read_there}
-use Rattle.mp4_present.proofs.Outlines.{push_other}
+use Rattle.mp4_tables.proofs.GroupWalks.{kind_snoc_other}
 
 -- Some first of the boxes were passed, up to a place, and no `moof` is among them.
 pub record Passing (file : List ℕ) (from at : ℕ) (boxes : List Box) : Type 0 where
@@ -73,7 +73,7 @@ passing_more file from at boxes h p lt e le other =
       before = p.before ++ b ∷ [];
       after = f.rest;
       whole = p.whole ∙ ap (λ (bs : List Box). p.before ++ bs) f.is ∙ sym (append_assoc p.before (b ∷ []) f.rest);
-      none = push_other (codes "moof") p.before b other ∙ p.none;
+      none = kind_snoc_other (codes "moof") p.before b other ∙ p.none;
       taken = omega (arith, t, u, v, after, sizes-cons b f.rest, sizes-append p.before (b ∷ []), sizes-cons b []);
       are_from = f.are_from;
     }

@@ -17,6 +17,7 @@ use Rattle.mp4_head.specs.format.Tree.{MovieTree, trexes_of}
 use Rattle.mp4_head.proofs.Trees.{movie_tree_one}
 use Rattle.mp4_present.specs.format.Denotes.{FileTree, IsFileTree, file_parts}
 use Rattle.mp4_present.specs.format.Stands.{Behind, parts_with}
+use Rattle.mp4_boxes.proofs.Joined.{all_first}
 
 -- a list whose values are two lists joined is two lists joined
 pub split_map : {A B : Type 0} (f : A → B) (xs : List A) (ys zs : List B) → map f xs ≡ ys ++ zs
@@ -46,11 +47,6 @@ split_zip R (a ∷ cs) bs (y ∷ ys) h =
 next_zip : {A B : Type 0} (R : A → B → Type 0) (a : A) (cs : List A) (ys : List B) → AllZip R (a ∷ cs) ys → (y : B) × (more : List B) × (ys ≡ y ∷ more) × R a y
 next_zip R a cs [] h = absurd h
 next_zip R a cs (y ∷ ys) h = (y, ys, refl, h.0)
-
--- what holds of each of two lists joined holds of each of the first
-pub all_front : {A : Type 0} (P : A → Type 0) (xs ys : List A) → AllByRecursion P (xs ++ ys) → AllByRecursion P xs
-all_front P [] ys h = tt
-all_front P (x ∷ xs) ys h = (h.0, all_front P xs ys h.1)
 
 -- what comes before a fault in a `traf` is what the file's tree begins with
 pub record IsBegun (file : List ℕ) (t : FileTree) (b : Behind file) : Type 0 where
@@ -88,7 +84,7 @@ begun file t h b =
     let n = next_map (λ (f : FragmentTree). f.moof) r.1 b.moof (of_kind (codes "moof") m.0) r.4 in
     let joined : t.fragments ≡ r.0 ++ n.0 ∷ n.1 = r.2 ∙ ap (λ zs. r.0 ++ zs) n.2 in
     let trees = subst (λ (zs : List FragmentTree). AllByRecursion IsFragmentTree zs) joined h.fragments in
-    let earlier : r.0 ≡ b.earlier = fragment_trees_one r.0 b.earlier r.3 (all_front IsFragmentTree r.0 (n.0 ∷ n.1) trees) b.earlier_trees in
+    let earlier : r.0 ≡ b.earlier = fragment_trees_one r.0 b.earlier r.3 (all_first IsFragmentTree r.0 (n.0 ∷ n.1) trees) b.earlier_trees in
     let tree = all_at IsFragmentTree r.0 n.1 n.0 trees in
     let children : n.0.children ≡ b.children = holds_one rules.MovieFragment rules.MovieFragment (box_container n.0.moof) (box_container b.moof) n.0.children b.children (ap box_container n.3) tree.children b.holds in
     let zipped : AreTrafs (b.trafs_before ++ b.traf ∷ b.trafs_after) n.0.trafs =

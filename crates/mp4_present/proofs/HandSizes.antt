@@ -8,19 +8,19 @@ use Rattle.mp4_boxes.proofs.Each.{each_taken}
 use Rattle.mp4_store.specs.words.Device.{range}
 use Rattle.mp4_tables.specs.declared.sample.SampleAt.{SampleAt}
 use Rattle.mp4_present.specs.words.Joined.{AreJoined, IsBelow, sample_bytes, sizes_of}
-use Rattle.mp4_present.proofs.Counts.{sum-append}
+use Rattle.mp4_tables.proofs.Sums.{sum_joined}
 
 -- all end before the sum of their ends
-far : List SampleAt → ℕ
+pub far : List SampleAt → ℕ
 far samples = sum_of (λ (s : SampleAt). s.at + s.size) samples
 
-below_far : (samples : List SampleAt) (n : ℕ) → far samples ≤ n → AllByRecursion (IsBelow n) samples
+pub below_far : (samples : List SampleAt) (n : ℕ) → far samples ≤ n → AllByRecursion (IsBelow n) samples
 unfolding far
 below_far [] n le = tt
 below_far (s ∷ samples) n le = (omega (arith, le), below_far samples n (omega (arith, le)))
 
 -- samples that lie in a file have as many bytes as their sizes say
-length_bytes : (file : List ℕ) (samples : List SampleAt) → AllByRecursion (IsBelow (length file)) samples → length (sample_bytes file samples) ≡ sizes_of samples
+pub length_bytes : (file : List ℕ) (samples : List SampleAt) → AllByRecursion (IsBelow (length file)) samples → length (sample_bytes file samples) ≡ sizes_of samples
 length_bytes file [] h = refl
 length_bytes file (s ∷ samples) h =
     let e = length_bytes file samples h.1 in
@@ -40,7 +40,7 @@ joined_size samples n at len joined within =
     omega (arith, ends, same, sizes, length-take len (drop at file), length-drop at file)
 
 pub sizes_of_two : (xs ys : List SampleAt) → sizes_of (xs ++ ys) ≡ sizes_of xs + sizes_of ys
-sizes_of_two xs ys = sum-append (λ (s : SampleAt). s.size) xs ys
+sizes_of_two xs ys = sum_joined (λ (s : SampleAt). s.size) xs ys
 
 -- with the samples to come as many bytes are left as with all of them
 abbrev pub SizesGoOn : List SampleAt → List SampleAt → ℕ → ℕ → Type 0

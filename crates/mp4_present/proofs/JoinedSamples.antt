@@ -26,9 +26,6 @@ one_less xs ys s e d =
     let others = ap (λ (zs : List SampleAt). length zs) d in
     omega (arith, all, others)
 
-some_is : (x y : SampleAt) → Some x ≡ Some y → x ≡ y
-some_is x y e = cc
-
 -- where a sample is given, the list has one more
 one_more : (k : ℕ) (xs : List SampleAt) (s : SampleAt) → drop k xs ≡ s ∷ drop 1 (drop k xs) → (suc k ≤ length xs) × (take (suc k) xs ≡ take k xs ++ s ∷ []) × (drop 1 (drop k xs) ≡ drop (suc k) xs)
 one_more zero [] s e = absurd (cc)

@@ -1,7 +1,7 @@
 -- What is so of the `moof`s of a file that are judged without a fault: they are trees of sound leaves, and their parts keep the rules.
 use Rattle.std.proofs.Common.{◌≡◌, ℕ, ◌+◌, ◌-◌, ◌≤◌, true, List, [], ◌∷◌, ◌++◌, length, map, Option, Some, None, Result, Ok, Err, refl, sym, ap, subst, ◌∙◌, arith, append_assoc}
 use Rattle.std.specs.Prelude.{codes}
-use Rattle.std.specs.List.{AllByRecursion, AllZip}
+use Rattle.std.specs.List.{AllByRecursion}
 use Rattle.std.proofs.lemmas.List.{append-nil}
 use Rattle.mp4_boxes.specs.format.Box.{Box, box_container}
 use Rattle.mp4_boxes.specs.format.Children.{Holds, of_kind}
@@ -20,13 +20,14 @@ use Rattle.mp4_present.specs.format.Judge.{Passed, traf_tests, last_part, trafs_
 use Rattle.mp4_present.specs.format.Presentation.{max_samples}
 use Rattle.mp4_present.specs.format.Stands.{AreConsistent, run_total, table_total, trafs_total}
 use Rattle.mp4_present.specs.words.Passing.{parts_behind}
-use Rattle.mp4_present.proofs.Counts.{sum-append}
-use Rattle.mp4_present.proofs.MoofBehind.{counted, parts_joined}
+use Rattle.mp4_present.proofs.MoofBehind.{counted, parts_joined, counted_more}
 use Rattle.mp4_present.proofs.PartsBehind.{ids_of}
 use Rattle.mp4_present.proofs.PartsKept.{consistent_more}
 use Rattle.mp4_present.proofs.PartsLast.{parts_in, trex_of_part, last_is}
 use Rattle.mp4_present.proofs.PlainLists.{all_push}
 use Rattle.mp4_present.proofs.TrafJudged.{TrafPasses, traf_passes}
+use Rattle.mp4_head.proofs.MovieBoxes.{zip_more as zip_push}
+use Rattle.mp4_tables.proofs.Sums.{sum_joined}
 
 -- These `moof`s were judged without a fault: they are as they should be, and this is what comes of them.
 pub record AreJudged (file : List ℕ) (movie : MovieTree) (earlier : List FragmentTree) (passed : Passed) : Type 0 where
@@ -56,7 +57,7 @@ total_more : (insides : List (List Box)) (inside : List Box) → trafs_total (in
 total_more insides inside =
     let n = run_total (of_kind (codes "trun") inside) in
     let none : trafs_total insides + (n + 0) ≡ trafs_total insides + n = omega arith in
-    sum-append (λ (i : List Box). run_total (of_kind (codes "trun") i)) insides (inside ∷ []) ∙ none
+    sum_joined (λ (i : List Box). run_total (of_kind (codes "trun") i)) insides (inside ∷ []) ∙ none
 
 still_left : (room count tables front all n m : ℕ) → room + (tables + front) ≡ m → count ≡ n → count ≤ room → all ≡ front + n → (room - count) + (tables + all) ≡ m
 still_left room count tables front all n m e f le g = omega arith
@@ -88,13 +89,6 @@ reached_more file movie earlier at before passed inside distinct h t =
       consistent = consistent_more file movie passed.parts part distinct h.consistent t.kept;
       left = still_left passed.room (length (part_samples part)) (counted movie earlier) (trafs_total before) (trafs_total (before ++ inside ∷ [])) (run_total (of_kind (codes "trun") inside)) max_samples h.left (last_counts movie at before inside) few (total_more before inside);
     }
-
--- one more pair at the end of two lists that go together
-pub zip_push : {A B : Type 0} (R : A → B → Type 0) (xs : List A) (ys : List B) (x : A) (y : B) → AllZip R xs ys → R x y → AllZip R (xs ++ x ∷ []) (ys ++ y ∷ [])
-zip_push R [] [] x y h r = (r, tt)
-zip_push R [] (b ∷ ys) x y h r = absurd h
-zip_push R (a ∷ xs) [] x y h r = absurd h
-zip_push R (a ∷ xs) (b ∷ ys) x y h r = (h.0, zip_push R xs ys x y h.1 r)
 
 -- ---- all `traf`s of a `moof`
 
@@ -137,13 +131,6 @@ module _ (file : List ℕ) (movie : MovieTree) (distinct : are_distinct (ids_of 
           by_tests inside k (first_failed (traf_tests (length file) movie passed (last_part movie at (before ++ inside ∷ [])) inside)) refl e (on inside k)
 
 -- ---- all `moof`s
-
--- the samples of one `moof` more
-counted_more : (movie : MovieTree) (earlier : List FragmentTree) (t : FragmentTree) → counted movie (earlier ++ t ∷ []) ≡ counted movie earlier + trafs_total t.trafs
-counted_more movie earlier t = joined (table_total movie.tracks) _ _ _ (sum-append (λ (e : FragmentTree). trafs_total e.trafs) earlier (t ∷ []))
-  where
-    joined : (tables before one all : ℕ) → all ≡ before + (one + 0) → tables + all ≡ (tables + before) + one
-    joined tables before one all e = omega arith
 
 -- before the first `traf` of a `moof`
 pub reached_none : (file : List ℕ) (movie : MovieTree) (earlier : List FragmentTree) (at : ℕ) (passed : Passed) → AreJudged file movie earlier passed → AreReached file movie earlier at [] passed

@@ -18,11 +18,12 @@ use Rattle.mp4_present.specs.format.Judge.{Passed, traf_tests, last_part, trafs_
 use Rattle.mp4_present.specs.format.Presentation.{max_samples}
 use Rattle.mp4_present.specs.format.Stands.{Stands, table_total}
 use Rattle.mp4_present.specs.words.Passing.{IsMovieOf, IsNextMoof}
-use Rattle.mp4_present.proofs.JudgedFragments.{AreJudged, AreReached, passed_more, last_passes, reached_more, zip_push, trafs_judged, reached_none, judged_more, none_judged}
+use Rattle.mp4_present.proofs.JudgedFragments.{AreJudged, AreReached, passed_more, last_passes, reached_more, trafs_judged, reached_none, judged_more, none_judged}
 use Rattle.mp4_present.proofs.MoofsPassed.{moov_before}
 use Rattle.mp4_present.proofs.PartsBehind.{ids_of}
 use Rattle.mp4_present.proofs.TrafFails.{IsUnder, children_stand, traf_fails}
 use Rattle.mp4_present.proofs.TrafPlaces.{moof_reached, child_stands}
+use Rattle.mp4_head.proofs.MovieBoxes.{zip_more as zip_push}
 
 err_is : {A F : Type 0} (x y : F) → ◌≡◌ {A = Result A F} (Err x) (Err y) → x ≡ y
 err_is x y e = cc

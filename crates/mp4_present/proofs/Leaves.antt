@@ -1,15 +1,14 @@
 -- Where a leaf, an entry or a kept box has a fault, nothing is denoted.
-use Rattle.std.proofs.Common.{◌≡◌, ℕ, Bool, true, false, List, [], ◌∷◌, Option, Some, None, refl, sym, ap, subst, ◌∙◌, arith, inl, inr}
+use Rattle.std.proofs.Common.{◌≡◌, ℕ, Bool, true, false, List, Some, refl, sym, ap, subst, ◌∙◌, arith, inl, inr}
 use Rattle.std.specs.Prelude.{codes, bytes_eq, slice_index, ◌||◌}
-use Rattle.std.specs.List.{list_any}
 use Rattle.mp4_boxes.specs.format.Box.{Box}
 use Rattle.mp4_boxes.specs.format.Children.{of_kind, kept_kinds}
-use Rattle.mp4_boxes.specs.format.Layout.{Leaf, tkhd, data_entry_url, sample_entry, trex, leaf_fields, IsSound}
-use Rattle.mp4_boxes.specs.format.Places.{Scope, ruled, data_entries, sample_entries, Place, whole, at_kind, leaves, leaf_of, IsSoundAs, AreSound, StandsIn}
+use Rattle.mp4_boxes.specs.format.Layout.{Leaf, tkhd, trex, leaf_fields, IsSound}
+use Rattle.mp4_boxes.specs.format.Places.{Scope, ruled, data_entries, sample_entries, Place, whole, leaf_of, AreSound, StandsIn}
 use Rattle.mp4_boxes.specs.format.BoxFaults.{IsLeafFault}
 use Rattle.mp4_boxes.specs.declared.rule.Rule.TheVariants.{File, Movie, Track, Edits, Media, MediaInformation, DataInformation, SampleTable, MovieExtends, MovieFragment, TrackFragment}
 use Rattle.mp4_boxes.specs.declared.fault.Fault.{Fault}
-use Rattle.mp4_boxes.proofs.Among.{IsIn, all_in, in_of_kind, only_entry, entry_or}
+use Rattle.mp4_boxes.proofs.Among.{IsIn, all_in, in_of_kind}
 use Rattle.mp4_boxes.proofs.Refusing.{stands_in, unsound, holds_only}
 use Rattle.mp4_boxes.proofs.Plain.{none_some, true_false}
 use Rattle.mp4_frag.specs.format.Fragments.{trex_of}
@@ -19,13 +18,9 @@ use Rattle.mp4_head.proofs.Distinct.{distinct_same, map_twice, kept_names_none, 
 use Rattle.mp4_present.specs.format.Presentation.{Presentation}
 use Rattle.mp4_present.specs.format.Denotes.{FileTree, IsFileTree, IsSoundFile, IsSoundFragment, Denotes}
 use Rattle.mp4_present.specs.format.Stands.{StandsBy, leaf, IsTakenId, IsForeignReference, IsItemLocation}
-use Rattle.mp4_present.proofs.Chain.{AreOf, IsNamed, tiled, reached, among, is_first, track_tree}
-
--- a leaf among sound ones is sound
-leaf_among : (scope : Scope) (boxes bs : List Box) (b : Box) (l : Leaf) → boxes ≡ bs → AreSound scope bs → IsIn boxes b → leaf_of scope b.kind ≡ Some l → IsSound l b.payload
-leaf_among scope boxes bs b l same s i e =
-    let k = all_in (λ (x : Box). IsSoundAs (leaf_of scope x.kind) x.payload) bs b (among boxes bs b same i) s in
-    subst (λ (o : Option Leaf). IsSoundAs o b.payload) e k
+use Rattle.mp4_present.proofs.Chain.{AreOf, IsNamed, reached, track_tree}
+use Rattle.mp4_head.proofs.HeadExcludes.{leaf_among, tkhd_scope, trex_scope, url_is_leaf}
+use Rattle.mp4_head.proofs.HeadPlaces.{tiled, among, is_first}
 
 -- what is read as a leaf in a container of a sound tree is sound
 pub sound_leaf : (t : FileTree) → IsSoundFile t → (scope : Scope) (boxes : List Box) → IsNamed t scope boxes → (b : Box) → IsIn boxes b → (l : Leaf) → leaf_of scope b.kind ≡ Some l → IsSound l b.payload
@@ -59,12 +54,6 @@ leaf_fault_refuses file f p s d =
 
 -- ---- which scope reads a box as the leaf
 
--- a value that the table has at a type passes a test that it passes
-has_any : {A : Type 0} (test : A → Bool) (entries : List (List ℕ × A)) (kind : List ℕ) (x : A) → test x ≡ true → at_kind entries kind ≡ Some x → list_any (λ (entry : List ℕ × A). test entry.1) entries ≡ true
-has_any test [] kind x t e = absurd (none_some x e)
-has_any test (entry ∷ entries) kind x t e = elim (entry_or kind entry.0 entry.1 x entries e) [
-  | inl m ↦ left (test entry.1) (list_any (λ y. test y.1) entries) (ap test m.1 ∙ t)
-  | inr n ↦ right (test entry.1) (list_any (λ y. test y.1) entries) (has_any test entries kind x t n)
 ]
   where
     left : (p q : Bool) → p ≡ true → p || q ≡ true
@@ -81,19 +70,6 @@ is_tkhd _ = false
 abbrev is_trex : Leaf → Bool
 is_trex trex = true
 is_trex _ = false
-
-other_leaf : (x y : Leaf) (test : Leaf → Bool) → ◌≡◌ {A = Option Leaf} (Some x) (Some y) → test x ≡ false → test y ≡ true → ⊥
-other_leaf x y test e f t = let same : x ≡ y = cc in true_false (test x) (ap test same ∙ t) f
-
-tkhd_scope : (scope : Scope) (kind : List ℕ) → leaf_of scope kind ≡ Some tkhd → (scope ≡ ruled Track) × (bytes_eq (codes "tkhd") kind ≡ true)
-tkhd_scope (ruled Track) kind e = (refl, (only_entry kind (codes "tkhd") tkhd tkhd e).0)
-tkhd_scope sample_entries kind e = absurd (other_leaf sample_entry tkhd is_tkhd e refl refl)
-tkhd_scope scope kind e = absurd (true_false _ (has_any is_tkhd (leaves scope) kind tkhd refl e) refl)
-
-trex_scope : (scope : Scope) (kind : List ℕ) → leaf_of scope kind ≡ Some trex → (scope ≡ ruled MovieExtends) × (bytes_eq (codes "trex") kind ≡ true)
-trex_scope (ruled MovieExtends) kind e = (refl, (only_entry kind (codes "trex") trex trex e).0)
-trex_scope sample_entries kind e = absurd (other_leaf sample_entry trex is_trex e refl refl)
-trex_scope scope kind e = absurd (true_false _ (has_any is_trex (leaves scope) kind trex refl e) refl)
 
 -- ---- an ID that an earlier one has
 
@@ -143,9 +119,6 @@ taken_trex_refuses file f p s d =
     omega (arith, s.order, ap (λ (b : Box). b.offset) boxes)
 
 -- ---- entries of `dref`, kept boxes
-
-url_is_leaf : (kind : List ℕ) → kind ≡ codes "url " → leaf_of data_entries kind ≡ None → ⊥
-url_is_leaf kind e n = let k : ◌≡◌ {A = Option Leaf} (Some data_entry_url) None = sym (ap (leaf_of data_entries) e) ∙ n in cc
 
 foreign_refuses : (file : List ℕ) (f : Fault) (p : Presentation) → IsForeignReference (whole file) f → Denotes file p → ⊥
 foreign_refuses file f p s d =

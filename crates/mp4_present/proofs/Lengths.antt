@@ -53,7 +53,7 @@ as_many (t ∷ tracks) [] ss m = absurd m
 as_many (t ∷ tracks) (x ∷ hs) [] m = absurd m
 as_many (t ∷ tracks) (x ∷ hs) (y ∷ ss) m = ap suc (as_many tracks hs ss m.1)
 
-got : {A : Type 0} (xs : List A) (k : ℕ) (d : A) → k < length xs → slice_get xs k ≡ Some (slice_index_or xs k d)
+pub got : {A : Type 0} (xs : List A) (k : ℕ) (d : A) → k < length xs → slice_get xs k ≡ Some (slice_index_or xs k d)
 got [] k d lt = absurd (omega (arith, lt))
 got (x ∷ xs) zero d lt = refl
 got (x ∷ xs) (suc k) d lt = got xs k d (omega (arith, lt))

@@ -12,7 +12,7 @@ use Rattle.mp4_boxes.proofs.Refusing.{holds_only}
 use Rattle.mp4_boxes.proofs.Sound.{same_kind}
 use Rattle.mp4_boxes.proofs.Plain.{some_is}
 use Rattle.mp4_frag.specs.format.FragmentSamples.{Part}
-use Rattle.mp4_frag.proofs.FirstRun.{in_front, behind_all}
+use Rattle.mp4_frag.proofs.FirstRun.{behind_all}
 use Rattle.mp4_head.specs.format.Tree.{TrackTree, first_of}
 use Rattle.mp4_head.specs.declared.heads.MovieHead.{MovieHead}
 use Rattle.mp4_head.specs.declared.heads.TrackHead.{TrackHead}
@@ -22,6 +22,7 @@ use Rattle.mp4_present.specs.format.Judge.{times_tests, limit_tests}
 use Rattle.mp4_present.specs.format.Presentation.{Track, Presentation, IsInTime, end_time, track_length, normal_moov_length, max_time, max_moov}
 use Rattle.mp4_present.specs.words.Measured.{TimeFails, MovieFails, LimitFails}
 use Rattle.mp4_present.specs.words.TrackTrees.{IsTrackOf, AreTracksOf}
+use Rattle.mp4_tables.proofs.InOrder.{fails_first}
 
 -- both are true
 both_true : (v w : Bool) → v ≡ true → w ≡ true → (v && w) ≡ true
@@ -85,7 +86,7 @@ module _ (file : List ℕ) (tree : FileTree) (head : MovieHead) (are : AreTracks
   -- the first track that is too long
   time_first : (f : Fault) → TimeFails p head f → first_failed (limit_tests tree p) ≡ Some f
   time_first f q =
-      in_front (times_tests p.movie.timescale tree.movie.tracks p.tracks) _ f
+      fails_first (times_tests p.movie.timescale tree.movie.tracks p.tracks) _ f
       (times_first file (file_parts tree) p.movie.timescale tree.movie.tracks head.tracks.items q.k q.h q.t are q.head_is q.there q.in_time q.passes ∙ ap (λ (x : Fault). Some x) (sym q.named))
 
   -- no track is, and the `moov` of the normal form is

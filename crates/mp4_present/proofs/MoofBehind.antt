@@ -22,9 +22,9 @@ use Rattle.mp4_present.specs.format.Denotes.{IsSoundFragment}
 use Rattle.mp4_present.specs.format.Presentation.{max_samples}
 use Rattle.mp4_present.specs.format.Stands.{run_total, table_total, trafs_total}
 use Rattle.mp4_present.specs.words.Passing.{AreBehind, BeginsBehind, IsMovieOf, PassesMoof, TrexesBehind, parts_behind, seen_behind}
-use Rattle.mp4_present.proofs.Counts.{sum-append}
 use Rattle.mp4_present.proofs.PlainLists.{all_push}
 use Rattle.mp4_present.proofs.PartsBehind.{HavePassed, ComesNext, tracked, trex_known, part_passes, ids_of}
+use Rattle.mp4_tables.proofs.Sums.{sum_joined as sum-append}
 
 -- what `traf`s say
 abbrev pub said_by : List Box → List TrackFragment

@@ -20,13 +20,10 @@ use Rattle.mp4_present.specs.words.Passing.{parts_behind}
 use Rattle.mp4_present.specs.words.Movies.{MovieSeen}
 use Rattle.mp4_present.specs.words.OpenedMovie.{IsOpenedAs, plain_seen}
 use Rattle.mp4_present.proofs.DueBehind.{parts_more}
+use Rattle.mp4_boxes.proofs.Each.{each_weaker as each_turned}
 
 abbrev id_of : TrackTree → ℕ
 id_of t = (track_head_of t).id
-
-each_turned : {A : Type 0} (P Q : A → Type 0) → ((x : A) → P x → Q x) → (xs : List A) → AllByRecursion P xs → AllByRecursion Q xs
-each_turned P Q f [] h = tt
-each_turned P Q f (x ∷ xs) h = (f x h.0, each_turned P Q f xs h.1)
 
 -- ---- what fragments of a track inherit
 

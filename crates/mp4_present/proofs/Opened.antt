@@ -3,7 +3,7 @@ use Rattle.std.proofs.Common.{◌⊎◌, ◌≡◌, ℕ, ◌+◌, ◌-◌, Bool,
 use Rattle.std.specs.Prelude.{codes, bytes_eq, map, IsTrue, cond}
 use Rattle.std.proofs.lemmas.Slice.Eq.{bytes_eq-Decides}
 use Rattle.mp4_store.specs.words.Device.{range}
-use Rattle.mp4_boxes.specs.format.Box.{Box, LieEndToEnd, file_container, size, StandsAfter}
+use Rattle.mp4_boxes.specs.format.Box.{Box, LieEndToEnd, file_container, StandsAfter}
 use Rattle.mp4_boxes.specs.format.Children.{Holds, of_kind}
 use Rattle.mp4_boxes.specs.format.Places.{whole, ruled}
 use Rattle.mp4_boxes.specs.declared.rule.Rule.TheVariants.{File, Movie}
@@ -18,7 +18,7 @@ use Rattle.std.specs.List.{AllByRecursion, AllZip}
 use Rattle.mp4_head.specs.words.Seen.{track_seen}
 use Rattle.mp4_head.specs.declared.heads.TrackHead.{TrackHead}
 use Rattle.mp4_head.specs.declared.heads.MovieHead.{MovieHead}
-use Rattle.mp4_head.proofs.Above.{stands_in_file}
+use Rattle.mp4_head.proofs.Above.{stands_in_file, lies_front}
 use Rattle.mp4_present.specs.words.Movies.{Fills}
 use Rattle.mp4_present.specs.words.Outline.{box_at}
 use Rattle.mp4_present.specs.words.Opening.{HasOutline}
@@ -54,11 +54,6 @@ is_among : (kind : List ℕ) (boxes : List Box) (b : Box) (rest : List Box) → 
 is_among kind [] b rest e = absurd cc
 is_among kind (c ∷ boxes) b rest e = one_more kind c b boxes rest (bytes_eq kind c.kind) refl e (is_among kind boxes b rest)
 
--- some first of the boxes lie there too
-lies_first : (is_open : Bool) (at : ℕ) (bytes : List ℕ) (bs cs : List Box) → LieEndToEnd is_open at bytes (bs ++ cs) → LieEndToEnd is_open at bytes bs
-lies_first is_open at bytes [] cs l = tt
-lies_first is_open at bytes (b ∷ bs) cs l = (l.0, lies_first is_open (at + size b) (drop (size b) bytes) bs cs l.1)
-
 -- a box that was read is the one that stands in the file
 pub moov_is : (file moov : List ℕ) (top : TopBox) (b : Box) → b ≡ record { kind = top.header.kind.0; offset = top.offset; header = top.header.header; payload = moov } → Fills (length moov) top
     → moov ≡ range file (top.offset + top.header.header) (length moov) → b ≡ box_at file top
@@ -78,7 +73,7 @@ pub head_stands : (file : List ℕ) (boxes : List Box) (b : Box) (f : Fault) →
 head_stands file boxes b f holds one h =
     let i = is_among (codes "moov") boxes b [] one in
     let all : LieEndToEnd true 0 file ((i.before ++ b ∷ []) ++ i.after) = subst (λ (bs : List Box). LieEndToEnd true 0 file bs) (i.is ∙ sym (append_assoc i.before (b ∷ []) i.after)) holds.tiles.front.0 in
-    let stands : StandsAfter (file_container file) i.before b = (lies_first true 0 file (i.before ++ b ∷ []) i.after all, tt) in
+    let stands : StandsAfter (file_container file) i.before b = (lies_front true 0 file (i.before ++ b ∷ []) i.after all, tt) in
     by_reason file f (stands_in_file file i.before b f stands (rw i.kind_is refl) h)
 
 -- ---- the IDs
@@ -134,7 +129,7 @@ pub moov_there : (file : List ℕ) (boxes : List Box) (b : Box) (m : MovieTree) 
 moov_there file boxes b m holds one e =
     let i = is_among (codes "moov") boxes b [] one in
     let all : LieEndToEnd true 0 file ((i.before ++ b ∷ []) ++ i.after) = subst (λ (bs : List Box). LieEndToEnd true 0 file bs) (i.is ∙ sym (append_assoc i.before (b ∷ []) i.after)) holds.tiles.front.0 in
-    let stands : StandsAfter (file_container file) i.before b = (lies_first true 0 file (i.before ++ b ∷ []) i.after all, tt) in
+    let stands : StandsAfter (file_container file) i.before b = (lies_front true 0 file (i.before ++ b ∷ []) i.after all, tt) in
     record { before = i.before; stands = subst (λ (c : Box). StandsAfter (file_container file) i.before c) (sym e) stands; kind = subst (λ (c : Box). c.kind ≡ codes "moov") (sym e) i.kind_is }
 
 -- what is said of a head is said of each track by its tree

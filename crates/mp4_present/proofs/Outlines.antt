@@ -6,7 +6,7 @@ use Rattle.mp4_boxes.specs.format.Box.{Box, IsFront, Tiles, size, sizes, file_co
 use Rattle.mp4_boxes.specs.format.Children.{of_kind, count_among, allows, Holds}
 use Rattle.mp4_boxes.specs.declared.rule.Rule.TheVariants.{File}
 use Rattle.mp4_boxes.specs.declared.headers.TopHeader.{TopHeader}
-use Rattle.mp4_boxes.proofs.Among.{all_append, of_kind-append}
+use Rattle.mp4_boxes.proofs.Among.{all_append}
 use Rattle.mp4_boxes.proofs.Tiling.{sizes-append, sizes-cons}
 use Rattle.mp4_present.specs.words.Reading.{IsTopHeader, top_box}
 use Rattle.mp4_present.specs.format.Denotes.{begins_with_movie}
@@ -17,23 +17,9 @@ use Rattle.mp4_present.specs.declared.opening.outline.Seen.{Seen}
 use Rattle.mp4_present.proofs.OutlineCounts.{not_both, count_is}
 use Rattle.mp4_present.proofs.TopJudged.{TopGoes, top_goes_none}
 use Rattle.mp4_present.proofs.TopLevel.{TopPassed, top_more, top_tiles}
+use Rattle.mp4_tables.proofs.GroupWalks.{kind_snoc, kind_snoc_other}
 
 -- ---- boxes of one type, with one box more
-
--- one box more, of another type
-pub push_other : (kind : List ℕ) (boxes : List Box) (b : Box) → bytes_eq kind b.kind ≡ false → of_kind kind (boxes ++ b ∷ []) ≡ of_kind kind boxes
-push_other kind boxes b e =
-    let none : of_kind kind (b ∷ []) ≡ [] = rw e refl in
-    of_kind-append kind boxes (b ∷ []) ∙ ap (λ (bs : List Box). of_kind kind boxes ++ bs) none ∙ append_nil (of_kind kind boxes)
-  where
-    append_nil : (xs : List Box) → xs ++ [] ≡ xs
-    append_nil [] = refl
-    append_nil (x ∷ xs) = ap (λ (ys : List Box). x ∷ ys) (append_nil xs)
-
-push_this : (kind : List ℕ) (boxes : List Box) (b : Box) → bytes_eq kind b.kind ≡ true → of_kind kind (boxes ++ b ∷ []) ≡ of_kind kind boxes ++ b ∷ []
-push_this kind boxes b e =
-    let one : of_kind kind (b ∷ []) ≡ b ∷ [] = rw e refl in
-    of_kind-append kind boxes (b ∷ []) ∙ ap (λ (bs : List Box). of_kind kind boxes ++ bs) one
 
 -- ---- the order of `moov` and `moof`
 
@@ -91,13 +77,13 @@ seen_movie file boxes at h seen n s a e k =
     let before : of_kind (codes "moof") boxes ≡ [] = subst (λ (o : Option TopBox). IsOrdered o boxes) e s.order in
     record {
       allowed = all_append (λ (c : Box). IsTrue (allows File c.kind)) boxes (b ∷ []) s.allowed (a, tt);
-      moov = push_this (codes "moov") boxes b k ∙ ap (λ (bs : List Box). bs ++ b ∷ []) none;
+      moov = kind_snoc (codes "moov") boxes b k ∙ ap (λ (bs : List Box). bs ++ b ∷ []) none;
       order = begins_here boxes b before k;
-      longest = s.longest ∙ ap longest (sym (push_other (codes "moof") boxes b other));
+      longest = s.longest ∙ ap longest (sym (kind_snoc_other (codes "moof") boxes b other));
     }
 
 order_on : (file : List ℕ) (o : Option TopBox) (boxes : List Box) (b : Box) → of_kind (codes "moov") boxes ≡ moov_seen file o → bytes_eq (codes "moof") b.kind ≡ false → IsOrdered o boxes → IsOrdered o (boxes ++ b ∷ [])
-order_on file None boxes b m e h = push_other (codes "moof") boxes b e ∙ h
+order_on file None boxes b m e h = kind_snoc_other (codes "moof") boxes b e ∙ h
 order_on file (Some top) boxes b m e h = begins_on boxes b _ m h
 
 -- a box that is neither
@@ -107,9 +93,9 @@ seen_other file boxes at h seen n s a j k =
     let b = top_box file at h in
     record {
       allowed = all_append (λ (c : Box). IsTrue (allows File c.kind)) boxes (b ∷ []) s.allowed (a, tt);
-      moov = push_other (codes "moov") boxes b j ∙ s.moov;
+      moov = kind_snoc_other (codes "moov") boxes b j ∙ s.moov;
       order = order_on file seen.moov boxes b s.moov k s.order;
-      longest = s.longest ∙ ap longest (sym (push_other (codes "moof") boxes b k));
+      longest = s.longest ∙ ap longest (sym (kind_snoc_other (codes "moof") boxes b k));
     }
 
 order_in : (file : List ℕ) (o : Option TopBox) (boxes : List Box) (b : Box) → of_kind (codes "moov") boxes ≡ moov_seen file o → (o ≡ None → ⊥) → IsOrdered o boxes → IsOrdered o (boxes ++ b ∷ [])
@@ -125,9 +111,9 @@ seen_fragment file boxes at h seen most n s a j k some m =
     let len = size_is file boxes at h n in
     record {
       allowed = all_append (λ (c : Box). IsTrue (allows File c.kind)) boxes (b ∷ []) s.allowed (a, tt);
-      moov = push_other (codes "moov") boxes b j ∙ s.moov;
+      moov = kind_snoc_other (codes "moov") boxes b j ∙ s.moov;
       order = order_in file seen.moov boxes b s.moov some s.order;
-      longest = m ∙ (λ i. max (s.longest i) (sym len i)) ∙ sym (longest_more (of_kind (codes "moof") boxes) b) ∙ ap longest (sym (push_this (codes "moof") boxes b k));
+      longest = m ∙ (λ i. max (s.longest i) (sym len i)) ∙ sym (longest_more (of_kind (codes "moof") boxes) b) ∙ ap longest (sym (kind_snoc (codes "moof") boxes b k));
     }
 
 -- ---- the whole file

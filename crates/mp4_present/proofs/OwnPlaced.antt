@@ -26,10 +26,10 @@ use Rattle.mp4_present.specs.words.OwnTrafs.{own_of}
 use Rattle.mp4_present.specs.words.Passing.{parts_behind}
 use Rattle.mp4_present.specs.words.SamplesComing.{own_trafs}
 use Rattle.mp4_present.specs.words.WalkSteps.{moof_steps, moofs_steps, trafs_steps}
-use Rattle.mp4_present.proofs.Counts.{sum-append}
 use Rattle.mp4_present.proofs.DueBehind.{own_samples, one_moof}
 use Rattle.mp4_present.proofs.FragmentPass.{longest_from}
 use Rattle.mp4_present.proofs.TrafPlaces.{IsKept, kept}
+use Rattle.mp4_tables.proofs.Sums.{sum_joined as sum-append}
 
 -- ---- lists
 

@@ -17,7 +17,7 @@ use Rattle.mp4_present.specs.format.Denotes.{FileTree, IsFileTree}
 use Rattle.mp4_present.specs.words.OwnTrafs.{own_of}
 use Rattle.mp4_present.specs.words.SamplesComing.{own_trafs, traf_total, walk_room}
 use Rattle.mp4_present.specs.words.WalkSteps.{moof_steps, moofs_steps, trafs_steps}
-use Rattle.mp4_present.proofs.Counts.{sum-append}
+use Rattle.mp4_tables.proofs.Sums.{sum_joined}
 
 abbrev pub ids_of : List TrackTree → List ℕ
 ids_of tracks = map (λ (t : TrackTree). (track_head_of t).id) tracks
@@ -43,7 +43,7 @@ module _ (w : PlacedTraf → ℕ) (bound : FragmentTree → ℕ) (movie : MovieT
   more_by : (f : FragmentTree) (fs : List FragmentTree) (tracks : List TrackTree) → all_by (f ∷ fs) tracks ≡ one_by f tracks + all_by fs tracks
   more_by f fs [] = omega arith
   more_by f fs (t ∷ tracks) =
-      let one = sum-append w (own_in (trexes_of movie) (track_head_of t).id f) (own_of movie (track_head_of t).id fs) in
+      let one = sum_joined w (own_in (trexes_of movie) (track_head_of t).id f) (own_of movie (track_head_of t).id fs) in
       omega (arith, one, more_by f fs tracks)
 
   all_few : (fs : List FragmentTree) (tracks : List TrackTree) → AllByRecursion IsFragmentTree fs → AreApartIds (ids_of tracks) → all_by fs tracks ≤ sum_of bound fs

@@ -1,5 +1,5 @@
 -- The tracks of a movie and the rules of fragments behind one more part.
-use Rattle.std.proofs.Common.{◌≡◌, ℕ, zero, suc, ◌+◌, ◌==◌, ◌&&◌, ◌||◌, Bool, true, false, cond, List, [], ◌∷◌, ◌++◌, Option, Some, length, map, refl, sym, ap, subst, ◌∙◌, rules, slice_set}
+use Rattle.std.proofs.Common.{◌≡◌, ℕ, zero, suc, ◌+◌, ◌==◌, ◌&&◌, ◌||◌, Bool, true, false, List, [], ◌∷◌, ◌++◌, Option, Some, length, map, refl, sym, ap, subst, ◌∙◌, rules, slice_set}
 use Rattle.std.specs.Prelude.{find, not, nat_eq, IsTrue, is_some, unwrap_or, option_map, slice_get}
 use Rattle.std.specs.List.{AllByRecursion, list_any, list_all}
 use Rattle.std.proofs.lemmas.Option.{slice_get-map}
@@ -10,7 +10,7 @@ use Rattle.mp4_frag.specs.declared.trex.Trex.{Trex}
 use Rattle.mp4_frag.specs.format.FragmentSamples.{Part, part_samples, parts_for, trex_for, start_of, duration_of, AreOnTime, AreGrouped}
 use Rattle.mp4_frag.specs.format.FragmentRules.{TrackFacts, track_for, is_known, has_indexes, is_within}
 use Rattle.mp4_frag.specs.words.Judged.{TrackSeen, track_behind, IsDue, IsPlacedWithin}
-use Rattle.mp4_frag.proofs.SeenLists.{find_map}
+use Rattle.mp4_frag.proofs.SeenLists.{find_map, found_passes}
 use Rattle.mp4_head.specs.format.Head.{TrackHead}
 use Rattle.mp4_head.specs.format.Tree.{TrackTree, MovieTree, track_head_of, trexes_of, are_distinct}
 use Rattle.mp4_present.specs.format.Denotes.{plain_of, plain_keys, track_infos}
@@ -22,15 +22,6 @@ use Rattle.mp4_present.proofs.TracksBehind.{seen_after, track_more, grouped_more
 use Rattle.mp4_boxes.proofs.Plain.{eq_other, map_some, not_is_true, some_is}
 
 -- ---- lists
-
--- what is found passes
-pub found_passes : {A : Type 0} (p : A → Bool) (xs : List A) (x : A) → find p xs ≡ Some x → p x ≡ true
-found_passes p [] x e = absurd cc
-found_passes p (y ∷ xs) x e = choice (p y) refl e (λ h. found_passes p xs x h)
-  where
-    choice : (v : Bool) → p y ≡ v → cond v (Some y) (find p xs) ≡ Some x → (find p xs ≡ Some x → p x ≡ true) → p x ≡ true
-    choice true h e later = ap p (sym (some_is y x e)) ∙ h
-    choice false h e later = later e
 
 -- ---- tracks of distinct IDs
 

@@ -8,12 +8,12 @@ use Rattle.mp4_frag.specs.declared.trex.Trex.{Trex}
 use Rattle.mp4_frag.specs.format.FragmentSamples.{Part, part_samples, parts_for, trex_for, start_of, duration_of, is_on_time, has_groups, keys_behind}
 use Rattle.mp4_frag.specs.format.FragmentRules.{track_for, is_known, has_indexes}
 use Rattle.mp4_frag.specs.words.Judged.{TrackSeen, IsPlacedWithin}
-use Rattle.mp4_frag.proofs.SeenLists.{find_map}
+use Rattle.mp4_frag.proofs.SeenLists.{find_map, found_passes}
 use Rattle.mp4_head.specs.format.Tree.{TrackTree, MovieTree, trexes_of, are_distinct}
 use Rattle.mp4_present.specs.format.Denotes.{plain_of, plain_keys, track_infos}
 use Rattle.mp4_present.specs.format.Stands.{AreConsistent}
 use Rattle.mp4_present.specs.words.Passing.{seen_behind}
-use Rattle.mp4_present.proofs.PartsBehind.{id_of, ids_of, found_passes, own_more, ComesNext, IsTracked, indexes_same, part_passes}
+use Rattle.mp4_present.proofs.PartsBehind.{id_of, ids_of, own_more, ComesNext, IsTracked, indexes_same, part_passes}
 use Rattle.mp4_present.proofs.TracksBehind.{start_came}
 
 -- when a part of a track is due behind these

@@ -36,7 +36,7 @@ one_more : (q : Part) (parts : List Part) (tracks : List TrackTree) → AreApart
 one_more q parts [] apart = omega arith
 one_more q parts (u ∷ tracks) apart = at_one q parts u tracks (eqb q.id (track_head_of u).id) refl apart.0 (one_more q parts tracks apart.1)
 
-none : (tracks : List TrackTree) → fragments_total [] tracks ≡ 0
+pub none : (tracks : List TrackTree) → fragments_total [] tracks ≡ 0
 none [] = refl
 none (u ∷ tracks) = omega (arith, none tracks)
 

@@ -16,6 +16,7 @@ use Rattle.mp4_present.specs.format.Presentation.{max_samples, sample_total}
 use Rattle.mp4_present.specs.format.Stands.{table_total, trafs_total}
 use Rattle.mp4_frag.specs.declared.state.TrackState.{TrackState}
 use Rattle.mp4_present.proofs.Counts.{parts_total, fragments_total, fragments_length, total_is, with_part}
+use Rattle.mp4_present.proofs.PartsOnce.{none}
 
 abbrev id_of : TrackTree → ℕ
 id_of t = (track_head_of t).id
@@ -50,12 +51,8 @@ part_most q parts (u ∷ tracks) d = either (eqb q.id (id_of u)) refl (part_most
         let own : length (fragment_samples (id_of u) (q ∷ parts)) ≡ 0 + length (fragment_samples (id_of u) parts) = with_part (id_of u) q parts false e in
         omega (arith, own, more)
 
-none_total : (tracks : List TrackTree) → fragments_total [] tracks ≡ 0
-none_total [] = refl
-none_total (u ∷ tracks) = omega (arith, none_total tracks)
-
 pub parts_most : (parts : List Part) (tracks : List TrackTree) → are_distinct (map id_of tracks) ≡ true → fragments_total parts tracks ≤ parts_total parts
-parts_most [] tracks d = let e = none_total tracks in omega (arith, e)
+parts_most [] tracks d = let e = none tracks in omega (arith, e)
 parts_most (q ∷ parts) tracks d = omega (arith, part_most q parts tracks d, parts_most parts tracks d)
 
 -- a file of which all `moof`s were passed has no more samples than the limit allows

@@ -16,8 +16,9 @@ use Rattle.mp4_head.proofs.Distinct.{payload_first}
 use Rattle.mp4_present.specs.format.Presentation.{Presentation}
 use Rattle.mp4_present.specs.format.Denotes.{Denotes, surroundings}
 use Rattle.mp4_present.specs.format.Stands.{StandsBy, tables}
-use Rattle.mp4_present.proofs.Chain.{reached, tiled, track_tree}
+use Rattle.mp4_present.proofs.Chain.{reached, track_tree}
 use Rattle.mp4_present.proofs.Leaves.{named_in}
+use Rattle.mp4_head.proofs.HeadPlaces.{tiled}
 
 true_false : (b c : Bool) → b ≡ c → b ≡ true → c ≡ false → ⊥
 true_false b c s e f = cc

@@ -12,7 +12,7 @@ use Rattle.mp4_tables.specs.format.FirstFault.{table_tests}
 use Rattle.mp4_tables.specs.words.Leaves.{boxes_of}
 use Rattle.mp4_tables.proofs.LeafLists.{boxes_are}
 use Rattle.mp4_present.specs.words.TablesFirst.{RefusedFirst}
-use Rattle.mp4_frag.proofs.FirstRun.{in_front, behind_all}
+use Rattle.mp4_frag.proofs.FirstRun.{behind_all}
 use Rattle.mp4_frag.specs.declared.trex.Trex.{Trex}
 use Rattle.mp4_head.specs.format.Tree.{TrackTree, stbl_of}
 use Rattle.mp4_head.specs.declared.heads.TrackHead.{TrackHead}
@@ -22,9 +22,10 @@ use Rattle.mp4_present.specs.format.Presentation.{max_samples}
 use Rattle.mp4_present.specs.format.Stands.{table_total}
 use Rattle.mp4_present.specs.words.TrackTrees.{IsTrackOf, AreTracksOf, HaveTables}
 use Rattle.mp4_present.specs.declared.opening.tables_pass.PlainTracks.{PlainTracks}
-use Rattle.mp4_present.proofs.Counts.{sum-append}
 use Rattle.mp4_present.proofs.TablesKept.{as_many}
 use Rattle.mp4_present.proofs.TracksPassed.{IsBeside, beside}
+use Rattle.mp4_tables.proofs.InOrder.{fails_first}
+use Rattle.mp4_tables.proofs.Sums.{sum_joined}
 
 -- what is tested of the `stbl` that was read is what is tested of the track's tree
 pub tests_are : (L n room : ℕ) (h : TrackHead) (t : TrackTree) (file : List ℕ) → length file ≡ L → IsTrackOf t h → AreBytes (box_seen h.stbl).payload → n ≡ min (length h.media.descriptions.items) (2 ^ 32 - 1)
@@ -55,7 +56,7 @@ less_room : (L : ℕ) (moov : List ℕ) (trexes : List Trex) (trees : List Track
 less_room L moov trexes trees t old new h k =
     let before = h.room in
     let after = k.room in
-    let total = sum-append count_of trees (t ∷ []) in
+    let total = sum_joined count_of trees (t ∷ []) in
     falls old.room new.room (table_total trees) (count_of t) (table_total (trees ++ t ∷ [])) before after total
   where
     falls : (old new before own all : ℕ) → old + before ≡ max_samples → new + all ≡ max_samples → all ≡ before + (own + 0) → old - own ≡ new
@@ -91,7 +92,7 @@ module _ (L : ℕ) (moov : List ℕ) (trexes : List Trex) (tracks : List TrackHe
   tables_refused (refusals.Fault f) fails file e trees a =
       let b = beside IsTrackOf trees tracks k h a lt in
       split file e trees a b
-      ∙ in_front (table_tests plain.room (surroundings file b.x) b.x.table) (tables_tests file (plain.room - count_of b.x) (drop (suc k) trees)) f (fails file e b.x (subst (IsTrackOf b.x) (sym is) b.goes))
+      ∙ fails_first (table_tests plain.room (surroundings file b.x) b.x.table) (tables_tests file (plain.room - count_of b.x) (drop (suc k) trees)) f (fails file e b.x (subst (IsTrackOf b.x) (sym is) b.goes))
   tables_refused refusals.Memory fails file e trees a = tt
   tables_refused refusals.StoreFailed fails file e trees a = tt
   tables_refused refusals.StoreChanged fails file e trees a = tt

@@ -10,7 +10,7 @@ use Rattle.mp4_boxes.specs.format.Layout.{Leaf, stts, ctts, stsc, stsz, stz2, st
 use Rattle.mp4_boxes.specs.format.Places.{at_kind, ruled, AreSound, IsSoundAs}
 use Rattle.mp4_boxes.specs.words.View.{box_seen}
 use Rattle.mp4_boxes.specs.declared.rule.Rule.TheVariants.{SampleTable}
-use Rattle.mp4_boxes.proofs.Among.{IsIn, all_in, all_append}
+use Rattle.mp4_boxes.proofs.Among.{IsIn, all_in}
 use Rattle.mp4_boxes.proofs.Each.{each_member, each_weaker}
 use Rattle.mp4_boxes.proofs.OfBytes.{field_below, tiled_of_bytes, payload_of_bytes}
 use Rattle.mp4_boxes.proofs.Refusing.{holds_only}
@@ -20,7 +20,7 @@ use Rattle.mp4_tables.specs.words.Keys.{keys_seen}
 use Rattle.mp4_tables.specs.declared.keys.Keys.{Keys}
 use Rattle.mp4_tables.specs.words.TablesSeen.{TablesSeen, tables_seen}
 use Rattle.mp4_tables.specs.words.Leaves.{AllOf, AreAccepted, TablesRead, boxes_of, tables_in}
-use Rattle.mp4_tables.proofs.Sums.{timed_lasts, timed_bytes}
+use Rattle.mp4_tables.proofs.Sums.{timed_lasts, timed_bytes, sum_joined}
 use Rattle.mp4_tables.specs.format.PlainSamples.{PlacedSample, plain_samples}
 use Rattle.mp4_tables.specs.format.TableRules.{Fit}
 use Rattle.mp4_tables.specs.format.Tables.{Tables, tables_of, sample_count}
@@ -47,9 +47,11 @@ use Rattle.mp4_present.specs.format.Stands.{table_total}
 use Rattle.mp4_present.specs.words.TrackTrees.{IsTrackOf, HaveTables, surroundings_in}
 use Rattle.mp4_present.specs.declared.movie.TrackTables.{TrackTables}
 use Rattle.mp4_present.specs.declared.opening.tables_pass.PlainTracks.{PlainTracks}
-use Rattle.mp4_present.proofs.Chain.{is_first}
-use Rattle.mp4_present.proofs.Counts.{sizes_few, sum-append}
+use Rattle.mp4_present.proofs.Counts.{sizes_few}
 use Rattle.mp4_present.proofs.TableReasons.{descriptions_counted}
+use Rattle.mp4_head.proofs.MovieBoxes.{zip_more}
+use Rattle.mp4_present.proofs.PlainLists.{all_push as each_more}
+use Rattle.mp4_head.proofs.HeadPlaces.{is_first}
 
 -- ---- leaves
 
@@ -107,16 +109,6 @@ as_many t h n i bytes e =
     capped n m d f e i c b = omega arith
 
 -- ---- one track
-
--- lists with one more
-each_more : {A : Type 0} (P : A → Type 0) (xs : List A) (x : A) → AllByRecursion P xs → P x → AllByRecursion P (xs ++ x ∷ [])
-each_more P xs x h p = all_append P xs (x ∷ []) h (p, tt)
-
-zip_more : {A B : Type 0} (R : A → B → Type 0) (xs : List A) (ys : List B) (x : A) (y : B) → AllZip R xs ys → R x y → AllZip R (xs ++ x ∷ []) (ys ++ y ∷ [])
-zip_more R [] [] x y z r = (r, tt)
-zip_more R [] (w ∷ ys) x y z r = absurd z
-zip_more R (v ∷ xs) [] x y z r = absurd z
-zip_more R (v ∷ xs) (w ∷ ys) x y z r = (z.0, zip_more R xs ys x y z.1 r)
 
 -- what was read of the tables of a track, and what their samples came to
 pub record IsRead (file_length n room count lasts bytes : ℕ) (h : TrackHead) (v : TablesSeen) (keys : Keys) : Type 0 where
@@ -243,7 +235,7 @@ module _ (file_length n room count lasts bytes : ℕ) (moov : Box) (h : TrackHea
       → new.tables.items ≡ old.tables.items ++ x ∷ [] → new.states.items ≡ old.states.items ++ s ∷ []
       → HaveTables file_length moov.payload trexes (trees ++ t ∷ []) new
   tables_more trexes trees old new x s a k e f tables state xs ss =
-      let total : table_total (trees ++ t ∷ []) ≡ table_total trees + (sample_count (payload_among sample_sizes t.table) + 0) = sum-append (λ (u : TrackTree). sample_count (payload_among sample_sizes u.table)) trees (t ∷ []) in
+      let total : table_total (trees ++ t ∷ []) ≡ table_total trees + (sample_count (payload_among sample_sizes t.table) + 0) = sum_joined (λ (u : TrackTree). sample_count (payload_among sample_sizes u.table)) trees (t ∷ []) in
       let left = left_is old.room new.room (table_total trees) a.room f e in
       record {
         sound = each_more (λ (u : TrackTree). AreSound (ruled SampleTable) u.table) trees t a.sound sound_is;

@@ -1,12 +1,11 @@
 -- A fault in the tables of a track stands in the file.
 use Rattle.std.proofs.Common.{◌≡◌, ℕ, ◌+◌, ◌<◌, ◌≤◌, inl, inr, Bool, true, false, List, [], ◌∷◌, ◌++◌, length, Some, refl, sym, ap, subst, ◌∙◌, arith}
-use Rattle.std.specs.Prelude.{codes, bytes_eq, IsTrue, Option, None, option_map}
+use Rattle.std.specs.Prelude.{codes, bytes_eq, IsTrue, option_map}
 use Rattle.std.specs.List.{AllByRecursion}
 use Rattle.mp4_boxes.specs.format.Bytes.{field}
 use Rattle.mp4_boxes.specs.format.Box.{Box, file_container, box_container, StandsAfter, Tiles}
 use Rattle.mp4_boxes.specs.format.BoxFaults.{fault_of}
 use Rattle.mp4_boxes.specs.format.Children.{payload_of, payload_among, sample_sizes, is_among, count_among}
-use Rattle.mp4_boxes.specs.format.Layout.{Leaf}
 use Rattle.mp4_boxes.specs.format.Places.{Scope, ruled, at_kind, containers, as_container, Place, whole, Reaches, AreSound, IsSoundAs, inside, leaf_of}
 use Rattle.mp4_boxes.specs.declared.fault.Fault.{Fault}
 use Rattle.mp4_boxes.specs.declared.fault.Kind.TheVariants.{TooManySamples}
@@ -28,8 +27,10 @@ use Rattle.mp4_head.proofs.Inside.{first_is}
 use Rattle.mp4_present.specs.format.Presentation.{max_samples}
 use Rattle.mp4_present.specs.format.Stands.{Stands, leaf, tables, count, table_total}
 use Rattle.mp4_present.specs.words.TrackTrees.{TablesFail, TableFails}
-use Rattle.mp4_present.proofs.Counts.{sizes_few, sum-append}
+use Rattle.mp4_present.proofs.Counts.{sizes_few}
 use Rattle.mp4_present.proofs.TableReasons.{descriptions_counted}
+use Rattle.mp4_tables.proofs.FirstJudged.{sound_as}
+use Rattle.mp4_tables.proofs.Sums.{sum_joined}
 
 -- ---- where the tables are
 
@@ -98,15 +99,10 @@ first_only kinds (c ∷ before) after b e n = either (is_among kinds c.kind) ref
     either true f more = absurd (omega (arith, n, both f, count-append kinds before (b ∷ after), hit e))
     either false f more = let r = more (omega (arith, n, less f)) in (rw f r.0, rw f r.1)
 
--- what is sound can be read
-readable_as : (o : Option Leaf) (payload : List ℕ) → IsSoundAs o payload → IsReadableAs o payload
-readable_as None payload h = tt
-readable_as (Some l) payload h = h.readable
-
 sound_readable : (t : TrackTree) → AreSound (ruled SampleTable) t.table → AreReadable sample_sizes t.table
 sound_readable t h =
     each_weaker (λ (b : Box). IsSoundAs (leaf_of (ruled SampleTable) b.kind) b.payload) (λ (b : Box). IsTrue (is_among sample_sizes b.kind) → IsReadableAs (leaf_of (ruled SampleTable) b.kind) b.payload)
-    (λ b s e. readable_as (leaf_of (ruled SampleTable) b.kind) b.payload s) t.table h
+    (λ b s e. sound_as (leaf_of (ruled SampleTable) b.kind) b.payload s) t.table h
 
 over : (room before own most : ℕ) → room + before ≡ most → room < own → most < before + (own + 0)
 over room before own most e h = omega arith
@@ -159,7 +155,7 @@ module _ (file : List ℕ) (moov_before : List Box) (m : MovieTree) (s : StandsA
   many_stand q =
       let split : t.table ≡ q.before ++ q.b ∷ q.after = sym same ∙ q.stands in
       let first = first_only sample_sizes q.before q.after q.b q.sizes (subst (λ (bs : List Box). count_among sample_sizes bs ≤ 1) split (sizes_few k.table)) in
-      let total : table_total (before ++ t ∷ []) ≡ table_total before + (sample_count (payload_among sample_sizes t.table) + 0) = sum-append (λ (u : TrackTree). sample_count (payload_among sample_sizes u.table)) before (t ∷ []) in
+      let total : table_total (before ++ t ∷ []) ≡ table_total before + (sample_count (payload_among sample_sizes t.table) + 0) = sum_joined (λ (u : TrackTree). sample_count (payload_among sample_sizes u.table)) before (t ∷ []) in
       let own : payload_among sample_sizes t.table ≡ q.b.payload = ap (payload_among sample_sizes) split ∙ first.1 in
       let many : room < sample_count (payload_among sample_sizes t.table) = subst (λ (payload : List ℕ). room < sample_count payload) (sym own) q.many in (
         count,

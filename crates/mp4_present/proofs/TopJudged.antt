@@ -13,7 +13,7 @@ use Rattle.mp4_boxes.specs.declared.fault.Fault.{Fault}
 use Rattle.mp4_boxes.specs.declared.fault.Kind.TheVariants.{BoxNotInProfile, DuplicateBox, MissingBox, FragmentBeforeMovie}
 use Rattle.mp4_boxes.specs.declared.refusal.Refusal.{Refusal}
 use Rattle.mp4_boxes.specs.declared.refusal.Refusal.TheVariants as refusals
-use Rattle.mp4_boxes.proofs.Tiling.{first_fits, sizes-cons, sizes_fit}
+use Rattle.mp4_boxes.proofs.Tiling.{sizes_fit}
 use Rattle.mp4_boxes.proofs.Plain.{ltb_by, ltb_not_by}
 use Rattle.mp4_present.specs.words.Reading.{IsTopHeader, RefusesHeader, top_box}
 use Rattle.mp4_present.specs.words.Outline.{AreSeen, moov_seen}
@@ -21,6 +21,7 @@ use Rattle.mp4_present.specs.words.TopJudged.{RefusesTop}
 use Rattle.mp4_present.specs.declared.reading.TopBox.{TopBox}
 use Rattle.mp4_present.specs.declared.opening.outline.Seen.{Seen}
 use Rattle.mp4_present.proofs.OutlineCounts.{count_is, not_both}
+use Rattle.mp4_boxes.proofs.ChildrenJudged.{length_few}
 
 -- ---- what is tested of one header
 
@@ -72,16 +73,12 @@ TopGoes file boxes = boxes_or_fault top_tests (file_container file) ≡ boxes_be
 pub top_goes_none : (file : List ℕ) → TopGoes file []
 top_goes_none file = let e : suc (length file) - 0 ≡ suc (length file) = omega arith in rw e refl
 
-few : (is_open : Bool) (at : ℕ) (bytes : List ℕ) (bs : List Box) → LieEndToEnd is_open at bytes bs → length bs ≤ sizes bs
-few is_open at bytes [] l = omega arith
-few is_open at bytes (b ∷ bs) l = omega (arith, sizes-cons b bs, few is_open (at + (b.header + length b.payload)) (drop (b.header + length b.payload) bytes) bs l.1, (first_fits is_open at bytes b bs l).0)
-
 module _ (file : List ℕ) (boxes : List Box) (at : ℕ) (lie : LieEndToEnd true 0 file boxes) (taken : sizes boxes ≡ at) (goes : TopGoes file boxes) where
   -- with one step left at least
   one_left : boxes_or_fault top_tests (file_container file) ≡ boxes_behind (suc (length file - length boxes)) top_tests (file_container file) boxes
   one_left =
       let fits = sizes_fit true 0 file boxes lie in
-      let many = few true 0 file boxes lie in
+      let many = length_few true 0 file boxes lie in
       let k : suc (length file) - length boxes ≡ suc (length file - length boxes) = omega (arith, fits, many) in
       goes ∙ (λ i. boxes_behind (k i) top_tests (file_container file) boxes)
 
@@ -120,7 +117,7 @@ module _ (file : List ℕ) (boxes : List Box) (at : ℕ) (lie : LieEndToEnd true
   pub top_goes_more : (h : TopHeader) → at < length file → IsTopHeader file at h → first_failed (naming (top_box file at h) (top_tests boxes h.kind.0)) ≡ None → TopGoes file (boxes ++ top_box file at h ∷ [])
   top_goes_more h lt e t =
       let fits = sizes_fit true 0 file boxes lie in
-      let many = few true 0 file boxes lie in
+      let many = length_few true 0 file boxes lie in
       let b = top_box file at h in
       let k : length file - length boxes ≡ suc (length file) - length (boxes ++ b ∷ []) = omega (arith, fits, many, length-append boxes (b ∷ [])) in
       one_left ∙ step (due lt) (there (Ok (top_header_seen at h)) e) (ap (λ (c : Box). first_failed (naming c (top_tests boxes h.kind.0))) (same_box h) ∙ t)

@@ -4,13 +4,15 @@ use Rattle.std.specs.Prelude.{flat_map, find, not, nat_lt, ◌||◌, if◌then�
 use Rattle.std.proofs.lemmas.Grind.{flat_map-append}
 use Rattle.std.proofs.lemmas.Bool.{ltb-false}
 use Rattle.std.proofs.lemmas.List.{append-nil}
-use Rattle.mp4_tables.specs.format.Groups.{GroupKey, GroupRule, Grouping, keys_after, keys_with}
+use Rattle.mp4_tables.specs.format.Groups.{GroupKey, GroupRule, keys_after}
 use Rattle.mp4_tables.specs.format.PlainSamples.{PlacedSample}
 use Rattle.mp4_frag.specs.declared.trex.Trex.{Trex}
 use Rattle.mp4_frag.specs.format.FragmentSamples.{Part, part_samples, has_samples, start_of, duration_of, is_on_time, AreOnTime, has_groups, keys_behind, AreGrouped, bytes_of}
 use Rattle.mp4_frag.specs.words.Judged.{TrackSeen, track_behind}
 use Rattle.mp4_frag.proofs.RunsTied.{duration-append, bytes-append}
 use Rattle.mp4_boxes.proofs.Plain.{or_true}
+use Rattle.mp4_present.proofs.FragmentReasons.{start_by}
+use Rattle.mp4_tables.proofs.GroupMaps.{after-append}
 
 -- ---- the samples of parts
 
@@ -73,10 +75,6 @@ find_other (c ∷ own) part e = ap (λ o. cond (has_samples c) (Some c) o) (find
 abbrev pub says_time : Part → ℕ
 says_time part = unwrap_or part.decode_time 0
 
-pub start_by : (plain : List PlacedSample) (xs ys : List Part) → find has_samples xs ≡ find has_samples ys → start_of plain xs ≡ start_of plain ys
-start_by (s ∷ plain) xs ys e = refl
-start_by [] xs ys e = rw e refl
-
 one_starts : (part : Part) → has_samples part ≡ true → start_of [] (part ∷ []) ≡ says_time part
 one_starts part e = rw e refl
 
@@ -93,14 +91,10 @@ start_other plain own part e = start_by plain (own ++ part ∷ []) own (find_oth
 
 -- ---- keys
 
-keys_join : (keys : List GroupKey) (xs ys : List Grouping) → keys_after keys (xs ++ ys) ≡ keys_after (keys_after keys xs) ys
-keys_join keys [] ys = refl
-keys_join keys (g ∷ xs) ys = keys_join (keys_with keys (g.key ∷ [])) xs ys
-
 keys_more : (keys : List GroupKey) (own : List Part) (part : Part) → keys_after (keys_behind keys own) part.groups ≡ keys_behind keys (own ++ part ∷ [])
 keys_more keys own part =
     sym (ap (keys_after keys) (flat_map-append (λ (p : Part). p.groups) own (part ∷ []) ∙ ap (λ gs. flat_map (λ (p : Part). p.groups) own ++ gs) (append-nil part.groups))
-    ∙ keys_join keys (flat_map (λ (p : Part). p.groups) own) part.groups)
+    ∙ after-append keys (flat_map (λ (p : Part). p.groups) own) part.groups)
 
 -- ---- the track
 
@@ -239,7 +233,7 @@ track_more id descriptions trex plain keys own part = by_samples id descriptions
 pub grouped_more : (keys : List GroupKey) (own : List Part) (part : Part) → AreGrouped keys own → ((rule : GroupRule) (k : ℕ) → IsTrue (has_groups rule (keys_behind keys own) part k)) → AreGrouped keys (own ++ part ∷ [])
 grouped_more keys [] part h g = (g, tt)
 grouped_more keys (c ∷ own) part h g =
-    let joined : keys_behind keys (c ∷ own) ≡ keys_behind (keys_after keys c.groups) own = keys_join keys c.groups (flat_map (λ (p : Part). p.groups) own) in
+    let joined : keys_behind keys (c ∷ own) ≡ keys_behind (keys_after keys c.groups) own = after-append keys c.groups (flat_map (λ (p : Part). p.groups) own) in
     (h.0, grouped_more (keys_after keys c.groups) own part h.1 (λ rule k. subst (λ ks. IsTrue (has_groups rule ks part k)) joined (g rule k)))
 
 on_time_more : (due : ℕ) (own : List Part) (part : Part) → AreOnTime due own → IsTrue (is_on_time (due + duration_of (samples_of own)) part) → AreOnTime due (own ++ part ∷ [])

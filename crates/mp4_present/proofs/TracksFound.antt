@@ -9,6 +9,7 @@ use Rattle.mp4_frag.specs.words.Finding.{IsFirstWith, track_with}
 use Rattle.mp4_present.specs.words.TrackPlaces.{place_from}
 use Rattle.mp4_frag.specs.words.Noted.{ids_of}
 use Rattle.mp4_frag.specs.declared.state.TrackState.{TrackState}
+use Rattle.mp4_frag.proofs.NamesKept.{some_is}
 
 -- ---- what is found
 
@@ -18,9 +19,6 @@ record FoundAt (tracks : List TrackState) (id at place : ℕ) : Type 0 where
   pub place_is : place ≡ at + behind
   pub inside : behind < length tracks
   pub there : IsFirstWith tracks id behind
-
-some_is : (x y : ℕ) → ◌≡◌ {A = Option ℕ} (Some x) (Some y) → x ≡ y
-some_is x y e = cc
 
 found_from : (id at place : ℕ) (tracks : List TrackState) → place_from id at (ids_of tracks) ≡ Some place → FoundAt tracks id at place
 found_from id at place [] e = absurd cc

@@ -1,6 +1,6 @@
 -- A fault that is named in a `traf` behind all that is as it should be stands in the file.
-use Rattle.std.proofs.Common.{◌≡◌, ℕ, suc, ◌+◌, ◌-◌, ◌<◌, ◌≤◌, ◌==◌, Bool, true, false, cond, List, [], ◌∷◌, ◌++◌, length, take, Option, Some, None, inl, inr, refl, sym, ap, subst, ◌∙◌, arith, append_assoc}
-use Rattle.std.specs.Prelude.{codes, find, is_some, unwrap_or, slice_get, Contains}
+use Rattle.std.proofs.Common.{◌≡◌, ℕ, suc, ◌+◌, ◌-◌, ◌<◌, ◌≤◌, ◌==◌, Bool, true, false, List, [], ◌∷◌, ◌++◌, length, take, Option, Some, None, inl, inr, refl, sym, ap, subst, ◌∙◌, arith, append_assoc}
+use Rattle.std.specs.Prelude.{codes, is_some, unwrap_or, slice_get}
 use Rattle.std.specs.List.{AllByRecursion}
 use Rattle.std.proofs.lemmas.Bool.{and_parts, eqb-true}
 use Rattle.mp4_boxes.specs.format.Box.{Box, box_container}
@@ -35,10 +35,9 @@ use Rattle.mp4_present.specs.format.Judge.{Passed, track_at, is_due_time, named_
 use Rattle.mp4_present.specs.format.Presentation.{max_samples}
 use Rattle.mp4_present.specs.format.Stands.{Stands, leaf as of_leaf, fragment, count, Behind, parts_with, AreConsistent, FragmentRule, unknown_track, description_index, place, fragment_group, decode_time, AreSoundOf, RunsReadable, LeavesReadable, KnownFor, PartFails, fragment_fault, run_total, trafs_total}
 use Rattle.mp4_present.specs.words.Passing.{IsMovieOf, IsNextMoof, parts_behind}
-use Rattle.mp4_present.proofs.Counts.{sum-append}
 use Rattle.mp4_present.proofs.JudgedFragments.{AreReached}
 use Rattle.mp4_present.proofs.MoofBehind.{counted}
-use Rattle.mp4_present.proofs.PartsBehind.{id_of, found_passes}
+use Rattle.mp4_present.proofs.PartsBehind.{id_of}
 use Rattle.mp4_present.proofs.PartsLast.{parts_in, trex_of_part, last_is}
 use Rattle.mp4_present.proofs.PlainLists.{all_push}
 use Rattle.mp4_present.proofs.RunsFail.{FailsAs, ManyIn, OutsideIn, FailingRun, runs_fail, Breaks, FailingGroup, groups_fail}
@@ -46,6 +45,9 @@ use Rattle.mp4_present.proofs.RunsPassed.{runs_pass}
 use Rattle.mp4_present.proofs.TrafJudged.{only_first, track_found, head_passes, runs_many}
 use Rattle.mp4_present.proofs.TrafPlaces.{place_of, kept, moof_reached, child_stands, sound_of}
 use Rattle.mp4_present.proofs.FirstKept.{first_kept}
+use Rattle.mp4_present.proofs.FaultGaps.{found_there as contains_found}
+use Rattle.mp4_tables.proofs.Sums.{sum_joined}
+use Rattle.mp4_frag.proofs.SeenLists.{found_passes}
 
 -- ---- boxes of a type
 
@@ -56,15 +58,6 @@ only_of_kind kind boxes b i n =
     let here : count_among (kind ∷ []) (b ∷ i.after) ≡ 1 + count_among (kind ∷ []) i.after = rw type refl in
     let others : count_among (kind ∷ []) i.after ≡ 0 = omega (arith, n, i.none, ap (count_among (kind ∷ [])) i.is, count-append (kind ∷ []) i.before (b ∷ i.after), here) in
     first_there kind boxes b (record { before = i.before; after = i.after; is = i.is }) type n ∙ ap (λ (bs : List Box). b ∷ bs) (none_counted kind i.after others)
-
--- what is found is there
-contains_found : {A : Type 0} (p : A → Bool) (xs : List A) (x : A) → find p xs ≡ Some x → Contains xs x
-contains_found p [] x e = absurd cc
-contains_found {A} p (y ∷ xs) x e = by (p y) e (contains_found p xs x)
-  where
-    by : (v : Bool) → cond v (Some y) (find p xs) ≡ Some x → (find p xs ≡ Some x → Contains xs x) → Contains (y ∷ xs) x
-    by true e more = let s : ◌≡◌ {A = Option A} (Some y) (Some x) = e in let same : y ≡ x = cc in (0, omega arith, same)
-    by false e more = let r = more e in let less = r.1 in (suc r.0, omega arith, r.2)
 
 -- ---- the context
 
@@ -274,7 +267,7 @@ module _ (file : List ℕ) (movie : MovieTree) (earlier : List FragmentTree) (be
     -- ---- its runs
 
     run_joined : (front : List Box) (run : Box) → run_total (front ++ run ∷ []) ≡ run_total front + (row_count trun run.payload + 0)
-    run_joined front run = sum-append (λ (c : Box). row_count trun c.payload) front (run ∷ [])
+    run_joined front run = sum_joined (λ (c : Box). row_count trun c.payload) front (run ∷ [])
 
     many_passed : (room total front row all m : ℕ) → room + total ≡ m → front ≤ room → room - front < row → all ≡ front + (row + 0) → m < total + all
     many_passed room total front row all m e le lt j = omega arith

@@ -41,6 +41,7 @@ use Rattle.mp4_present.specs.words.Passing.{seen_behind, parts_behind}
 use Rattle.mp4_present.proofs.MoofBehind.{IsInside, parts_until, said_by}
 use Rattle.mp4_present.proofs.PartsBehind.{IsTracked, tracked, trex_known, part_known, id_of}
 use Rattle.mp4_present.proofs.TrafTests.{first_behind, naming-append, only_box, runs_same, groups_same, described, due_same}
+use Rattle.mp4_present.proofs.FirstKept.{first_kept}
 
 -- ---- boxes of a type
 
@@ -53,10 +54,6 @@ found_kind kind (b ∷ boxes) h more e = by (bytes_eq kind b.kind) refl e (λ f.
         → cond v (Some b) (find (λ (c : Box). bytes_eq kind c.kind) boxes) ≡ Some h
     by true k f on = cc
     by false k f on = on f
-
--- the first box of a type
-pub first_there : (kind : List ℕ) (boxes : List Box) (h : Box) (more : List Box) → of_kind kind boxes ≡ h ∷ more → first_of kind boxes ≡ h
-first_there kind boxes h more e = ap (λ (o : Option Box). unwrap_or o (record { kind = kind; offset = 0; header = 0; payload = [] })) (found_kind kind boxes h more e)
 
 -- the one box of a type
 pub one_there : (kind : List ℕ) (boxes : List Box) → count_among (kind ∷ []) boxes ≡ 1 → (h : Box) × (of_kind kind boxes ≡ h ∷ [])
@@ -260,7 +257,7 @@ module _ (file : List ℕ) (movie : MovieTree) (earlier : List FragmentTree) (mo
   tests_same holds =
       let one = one_there (codes "tfhd") (children_of b) (holds_only holds (codes "tfhd") refl) in
       let h = one.0 in
-      let first = first_there (codes "tfhd") (children_of b) h [] one.1 in
+      let first = first_kept (codes "tfhd") (children_of b) h [] one.1 in
       let rest = rest_tests (length file) movie parts_before room its_part (track_at movie (traf_in b).id) h (children_of b) in
       let unknown : Test Kind = (is_known (track_infos movie) (trexes_of movie) its_part, UnknownTrack) in
       ap (λ (hs : List Box). first_failed (for_only (λ (x : Box). head_tests x ++ track_tests (length file) moof at room b x (track_with (traf_in b).id states)) hs)) one.1

@@ -42,6 +42,7 @@ use Rattle.mp4_present.proofs.KeysExtended.{distinct_keys}
 use Rattle.mp4_present.proofs.MoofSound.{moof_sound, kept_trexes}
 use Rattle.mp4_present.proofs.OwnPlaced.{StandsIn, all_placed, contains_in, its_moof, its_tree, of_part, one_placed, passed, placed_append}
 use Rattle.mp4_present.proofs.TrafInHand.{behind_split, due_more}
+use Rattle.mp4_present.proofs.Assembled.{total_is}
 
 -- ---- a track at its place
 
@@ -57,10 +58,6 @@ one_of_sum f (y ∷ xs) zero x e = let same = ap f (some_is y x e) in omega (ari
 one_of_sum f (y ∷ xs) (suc k) x e = let more = one_of_sum f xs k x e in omega (arith, more)
 
 -- ---- times
-
-lasts_mapped : (file : List ℕ) (ss : List PlacedSample) → total_duration (map (sample_of file) ss) ≡ duration_of ss
-lasts_mapped file [] = refl
-lasts_mapped file (s ∷ ss) = ap (λ n. s.duration + n) (lasts_mapped file ss)
 
 module _ (file : List ℕ) (m : MovieSeen) (tree : FileTree) (t : TrackTree) (earlier : List PlacedTraf) (next : PlacedTraf) (later : List PlacedTraf) (o : IsOpenedAs file m tree) (k : ℕ) (at : slice_get tree.movie.tracks k ≡ Some t)
     (split : own_trafs tree t ≡ earlier ++ next ∷ later) where
@@ -78,7 +75,7 @@ module _ (file : List ℕ) (m : MovieSeen) (tree : FileTree) (t : TrackTree) (ea
       let all : fragment_samples id (file_parts tree) ≡ placed_samples earlier ++ (placed_samples (next ∷ []) ++ placed_samples later) =
       sym (all_placed tree.movie id tree.fragments o.is_tree.fragments) ∙ ap placed_samples split ∙ placed_append earlier (next ∷ later) ∙ ap (λ ss. placed_samples earlier ++ ss) (placed_append (next ∷ []) later) in
       let total : total_duration (map (sample_of file) (placed_of (file_parts tree) t)) ≡ duration_of (plain_of t) + (duration_of (placed_samples earlier) + (duration_of (placed_samples (next ∷ [])) + duration_of (placed_samples later))) =
-      lasts_mapped file (placed_of (file_parts tree) t) ∙ ap (λ ss. duration_of (plain_of t ++ ss)) all ∙ duration-append (plain_of t) (placed_samples earlier ++ (placed_samples (next ∷ []) ++ placed_samples later))
+      total_is file (placed_of (file_parts tree) t) ∙ ap (λ ss. duration_of (plain_of t ++ ss)) all ∙ duration-append (plain_of t) (placed_samples earlier ++ (placed_samples (next ∷ []) ++ placed_samples later))
       ∙ ap (λ n. duration_of (plain_of t) + n) (duration-append (placed_samples earlier) (placed_samples (next ∷ []) ++ placed_samples later) ∙ ap (λ n. duration_of (placed_samples earlier) + n) (duration-append (placed_samples (next ∷ [])) (placed_samples later))) in
       sums (start_of (plain_of t) (parts_of_track (file_parts tree) t)) _ _ _ _ max_time (subst (λ n. start_of (plain_of t) (parts_of_track (file_parts tree) t) + n ≤ max_time) total ends)
 
@@ -88,7 +85,7 @@ module _ (file : List ℕ) (m : MovieSeen) (tree : FileTree) (t : TrackTree) (o 
   tables_in_time =
       let ends = (get_every (λ track. IsInTime (presentation_of file tree).movie.timescale track) (presentation_of file tree).tracks k (track_of file (file_parts tree) t)
       (slice_get-map (track_of file (file_parts tree)) tree.movie.tracks k ∙ ap (option_map (track_of file (file_parts tree))) at) o.limits.times).0 in
-      let total = lasts_mapped file (placed_of (file_parts tree) t) ∙ duration-append (plain_of t) (fragment_samples (track_head_of t).id (file_parts tree)) in
+      let total = total_is file (placed_of (file_parts tree) t) ∙ duration-append (plain_of t) (fragment_samples (track_head_of t).id (file_parts tree)) in
       omega (arith, ends, total)
 
 -- an element as it was read

@@ -1,6 +1,6 @@
 -- What is tested of a `traf` by the states of the tracks, and by the parts before it: the same tests.
-use Rattle.std.proofs.Common.{◌≡◌, ℕ, suc, ◌+◌, ◌-◌, ◌<◌, ◌==◌, ◌&&◌, ◌||◌, Bool, true, false, cond, List, [], ◌∷◌, ◌++◌, Option, Some, None, length, take, map, refl, sym, ap, subst, ◌∙◌, rules, arith, append_assoc, length-append}
-use Rattle.std.specs.Prelude.{ℤ, codes, bytes_eq, not, nat_le, nat_lt, unwrap_or, option_map, slice_get}
+use Rattle.std.proofs.Common.{◌≡◌, ℕ, suc, ◌+◌, ◌-◌, ◌<◌, ◌==◌, ◌&&◌, ◌||◌, Bool, true, false, cond, List, [], ◌∷◌, ◌++◌, Option, Some, None, length, map, refl, sym, ap, subst, ◌∙◌, rules, arith, append_assoc, length-append}
+use Rattle.std.specs.Prelude.{ℤ, codes, bytes_eq, not, nat_le, nat_lt, unwrap_or, option_map}
 use Rattle.std.specs.List.{list_all}
 use Rattle.std.proofs.lemmas.Bool.{and_parts, ltb-true, ltb-false}
 use Rattle.std.proofs.lemmas.List.{map-append}
@@ -38,6 +38,7 @@ use Rattle.mp4_present.specs.format.Judge.{run_tests, group_boxes_tests, is_due_
 use Rattle.mp4_present.specs.words.Passing.{seen_behind}
 use Rattle.mp4_present.proofs.PartsBehind.{IsTracked, id_of, indexes_same, own_more}
 use Rattle.mp4_present.proofs.TracksBehind.{samples_of, says_time, start_came, start_first, lasts_none}
+use Rattle.mp4_frag.proofs.MoofExcludes.{rule_at, there, before_it}
 
 -- ---- lists of tests
 
@@ -79,20 +80,6 @@ runs_same L traf trex base before room (b ∷ boxes) =
 
 -- ---- `sbgp`s
 
--- the grouping of an `sbgp` behind others is the one at its place
-there : (front : List Box) (b : Box) (after : List Box) → slice_get (groupings_of (front ++ b ∷ after)) (length front) ≡ Some (grouping_of b.payload)
-there [] b after = refl
-there (c ∷ front) b after = there front b after
-
--- those before it
-before_it : (front : List Box) (b : Box) (after : List Box) → take (length front) (groupings_of (front ++ b ∷ after)) ≡ groupings_of front
-before_it [] b after = refl
-before_it (c ∷ front) b after = ap (λ gs. grouping_of c.payload ∷ gs) (before_it front b after)
-
--- a rule of the k-th grouping is the rule of that one
-test_of : (n : ℕ) (keys : List GroupKey) (gs : List Grouping) (rule : GroupRule) (k : ℕ) (g : Grouping) → slice_get gs k ≡ Some g → group_test rule n keys gs k ≡ keeps rule n keys (take k gs) g
-test_of n keys gs rule k g e = rw e refl
-
 -- one box more
 one_longer : (front : List Box) (b : Box) → length (front ++ b ∷ []) ≡ suc (length front)
 one_longer front b = omega (arith, length-append front (b ∷ []))
@@ -102,7 +89,7 @@ pub groups_same : (n : ℕ) (keys : List GroupKey) (part : Part) (front boxes : 
     → traf_groups_tests n keys (groupings_of front) boxes ≡ group_boxes_tests n keys part (length front) boxes
 groups_same n keys part front [] e = refl
 groups_same n keys part front (b ∷ boxes) e =
-    let one = λ (rule : GroupRule). sym (ap (λ gs. group_test rule n keys gs (length front)) e ∙ test_of n keys (groupings_of (front ++ b ∷ boxes)) rule (length front) (grouping_of b.payload) (there front b boxes)
+    let one = λ (rule : GroupRule). sym (ap (λ gs. group_test rule n keys gs (length front)) e ∙ rule_at n keys (groupings_of (front ++ b ∷ boxes)) rule (length front) (grouping_of b.payload) (there front b boxes)
     ∙ ap (λ gs. keeps rule n keys gs (grouping_of b.payload)) (before_it front b boxes)) in
     let joined : groupings_of front ++ grouping_of b.payload ∷ [] ≡ groupings_of (front ++ b ∷ []) = sym (map-append (λ (c : Box). grouping_of c.payload) front (b ∷ [])) in
     let more = groups_same n keys part (front ++ b ∷ []) boxes (e ∙ ap groupings_of (sym (append_assoc front (b ∷ []) boxes))) in

@@ -22,9 +22,10 @@ use Rattle.mp4_tables.specs.declared.places.RowsAt.{RowsAt}
 use Rattle.mp4_tables.specs.declared.places.ChunksAt.{ChunksAt}
 use Rattle.mp4_tables.proofs.RowLists.{numbers_length}
 use Rattle.mp4_tables.proofs.Counts.{eqb_is}
-use Rattle.mp4_tables.proofs.LeafLists.{boxes_are, hit_counts, payload_first, payload_none, all_first, all_none, count_each}
+use Rattle.mp4_tables.proofs.LeafLists.{boxes_are, payload_first, payload_none, all_first, all_none, count_each}
 use Rattle.mp4_tables.proofs.LeafRows.{lies_in, first_is_child, chunk_rows_there, numbers_there, shape_readable}
 use Rattle.mp4_tables.proofs.TableReads.{payload_is, readable_more, rows_have}
+use Rattle.mp4_boxes.proofs.Among.{hit_counts}
 
 -- ---- offsets of chunks
 stco_needed : (payload : List ℕ) → needed stco payload ≡ 8 + 4 * field payload 4 4

@@ -99,7 +99,7 @@ sizes_counted : (payload : List ℕ) → length (sizes_of payload) ≡ sample_co
 sizes_counted payload =
     sizes_choice (eqb (field payload 4 4) 0) (sample_count payload) (field payload 4 4) (row stsz (version payload)) (drop (width_of (fields stsz (version payload))) payload)
 
-half_length : (n : ℕ) (bytes : List ℕ) → length (half_bytes n bytes) ≡ n
+pub half_length : (n : ℕ) (bytes : List ℕ) → length (half_bytes n bytes) ≡ n
 half_length zero bytes = refl
 half_length (suc zero) bytes = refl
 half_length (suc (suc n)) bytes = ap suc (ap suc (half_length n (drop 1 bytes)))

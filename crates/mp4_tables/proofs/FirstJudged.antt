@@ -25,7 +25,7 @@ abbrev pub ReadableTable : Box → Type 0
 ReadableTable b = IsReadableAs (leaf_of (ruled SampleTable) b.kind) b.payload
 
 -- what is sound as a leaf can be read as it
-sound_as : (o : Option Leaf) (payload : List ℕ) → IsSoundAs o payload → IsReadableAs o payload
+pub sound_as : (o : Option Leaf) (payload : List ℕ) → IsSoundAs o payload → IsReadableAs o payload
 sound_as None payload h = tt
 sound_as (Some leaf) payload h = h.readable
 

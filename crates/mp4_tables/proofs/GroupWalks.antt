@@ -118,13 +118,13 @@ next_child stbl b n at left later p e = record { before = p.passed; after = late
 all_snoc : (kind : List ℕ) (P : List ℕ → Type 0) (boxes : List Box) (b : Box) → AllOf kind P boxes → (bytes_eq kind b.kind ≡ true → P b.payload) → AllOf kind P (boxes ++ b ∷ [])
 all_snoc kind P boxes b h p = all_append (λ (c : Box). bytes_eq kind c.kind ≡ true → P c.payload) boxes (b ∷ []) h (p, tt)
 
-kind_snoc_other : (kind : List ℕ) (boxes : List Box) (b : Box) → bytes_eq kind b.kind ≡ false → of_kind kind (boxes ++ b ∷ []) ≡ of_kind kind boxes
+pub kind_snoc_other : (kind : List ℕ) (boxes : List Box) (b : Box) → bytes_eq kind b.kind ≡ false → of_kind kind (boxes ++ b ∷ []) ≡ of_kind kind boxes
 kind_snoc_other kind boxes b e = of_kind-append kind boxes (b ∷ []) ∙ rw e (append-nil (of_kind kind boxes))
 
-kind_snoc : (kind : List ℕ) (boxes : List Box) (b : Box) → bytes_eq kind b.kind ≡ true → of_kind kind (boxes ++ b ∷ []) ≡ of_kind kind boxes ++ b ∷ []
+pub kind_snoc : (kind : List ℕ) (boxes : List Box) (b : Box) → bytes_eq kind b.kind ≡ true → of_kind kind (boxes ++ b ∷ []) ≡ of_kind kind boxes ++ b ∷ []
 kind_snoc kind boxes b e = of_kind-append kind boxes (b ∷ []) ∙ rw e refl
 
-mapped_snoc : (gs : List Box) (b : Box) → groupings_of (gs ++ b ∷ []) ≡ groupings_of gs ++ grouping_of b.payload ∷ []
+pub mapped_snoc : (gs : List Box) (b : Box) → groupings_of (gs ++ b ∷ []) ≡ groupings_of gs ++ grouping_of b.payload ∷ []
 mapped_snoc [] b = refl
 mapped_snoc (g ∷ gs) b = ap (λ xs. grouping_of g.payload ∷ xs) (mapped_snoc gs b)
 

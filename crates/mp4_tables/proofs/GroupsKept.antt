@@ -118,7 +118,7 @@ shape payload keys [] k r l u = absurd (omega (arith, l))
 shape payload [] (s ∷ rows) k r l u = (refl, u.1)
 shape payload (a ∷ keys) (s ∷ rows) k r l u = let h = shape payload keys rows k r (omega (arith, l)) u in (ap (λ (gs : List Grouping). record { key = a; rows = runs_at payload s } ∷ gs) h.0, h.1)
 
-all_set : {A : Type 0} (P : A → Type 0) (xs : List A) (j : ℕ) (x : A) → AllByRecursion P xs → P x → AllByRecursion P (slice_set xs j x)
+pub all_set : {A : Type 0} (P : A → Type 0) (xs : List A) (j : ℕ) (x : A) → AllByRecursion P xs → P x → AllByRecursion P (slice_set xs j x)
 all_set P [] j x h own = tt
 all_set P (y ∷ xs) zero x h own = (own, h.1)
 all_set P (y ∷ xs) (suc j) x h own = (h.0, all_set P xs j x h.1 own)

@@ -15,27 +15,27 @@ abbrev key_of_group : Grouping → GroupKey
 key_of_group g = g.key
 
 -- the map of the k-th sample
-put_indexes_at : (key : GroupKey) (is : List ℕ) (maps : List Groups) (k : ℕ) → k < length maps → get_or (put_indexes key is maps) k [] ≡ put_one key (slice_index is k) (get_or maps k [])
+pub put_indexes_at : (key : GroupKey) (is : List ℕ) (maps : List Groups) (k : ℕ) → k < length maps → get_or (put_indexes key is maps) k [] ≡ put_one key (slice_index is k) (get_or maps k [])
 put_indexes_at key [] maps zero h = refl
 put_indexes_at key [] maps (suc k) h = refl
 put_indexes_at key (i ∷ is) [] k h = absurd (omega arith)
 put_indexes_at key (i ∷ is) (m ∷ maps) zero h = refl
 put_indexes_at key (i ∷ is) (m ∷ maps) (suc k) h = put_indexes_at key is maps k (omega arith)
 
-one_not_in : (other key : GroupKey) (index : ℕ) (groups : Groups) (v : Bool) → (index == 0) ≡ v → same_key other key ≡ false → NotIn other groups → NotIn other (put_one key index groups)
+pub one_not_in : (other key : GroupKey) (index : ℕ) (groups : Groups) (v : Bool) → (index == 0) ≡ v → same_key other key ≡ false → NotIn other groups → NotIn other (put_one key index groups)
 one_not_in other key index groups true e h n = rw e n
 one_not_in other key index groups false e h n = rw e (put_not_in other key index groups h n)
 
-one_there : (key : GroupKey) (index : ℕ) (groups : Groups) (v : Bool) → (index == 0) ≡ v → NotIn key groups → index_at key (put_one key index groups) ≡ index
+pub one_there : (key : GroupKey) (index : ℕ) (groups : Groups) (v : Bool) → (index == 0) ≡ v → NotIn key groups → index_at key (put_one key index groups) ≡ index
 one_there key index groups true e n = let z : index ≡ 0 = grind (arith, nat_tests) in rw e (absent key groups n ∙ sym z)
 one_there key index groups false e n = rw e (put_there key index groups n)
 
-one_beside : (other key : GroupKey) (index : ℕ) (groups : Groups) (v : Bool) → (index == 0) ≡ v → same_key other key ≡ false → index_at other (put_one key index groups) ≡ index_at other groups
+pub one_beside : (other key : GroupKey) (index : ℕ) (groups : Groups) (v : Bool) → (index == 0) ≡ v → same_key other key ≡ false → index_at other (put_one key index groups) ≡ index_at other groups
 one_beside other key index groups true e h = rw e refl
 one_beside other key index groups false e h = rw e (put_beside other key index groups h)
 
 -- a key that no grouping has is in no map
-key_absent : (other : GroupKey) (n k : ℕ) (gs : List Grouping) → k < n → AllByRecursion (λ key. same_key other key ≡ false) (map (λ (g : Grouping). g.key) gs) → NotIn other (get_or (maps_of n gs) k [])
+pub key_absent : (other : GroupKey) (n k : ℕ) (gs : List Grouping) → k < n → AllByRecursion (λ key. same_key other key ≡ false) (map (λ (g : Grouping). g.key) gs) → NotIn other (get_or (maps_of n gs) k [])
 key_absent other n k [] h d = nothing_there n k
   where
     nothing_there : (n k : ℕ) → NotIn other (get_or (replicate n []) k [])

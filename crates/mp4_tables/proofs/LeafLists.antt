@@ -1,29 +1,19 @@
 -- The children of an `stbl`: the first of a type, where it lies, and what holds of all of a type.
 use Rattle.std.proofs.Common.{◌≡◌, ℕ, zero, suc, ◌+◌, ◌-◌, ◌≤◌, List, [], ◌∷◌, ◌++◌, length, take, drop, subst, refl, ap, sym, ◌∙◌, arith, Bool, true, false, Some, None, length-take, length-drop, append_assoc}
-use Rattle.std.specs.Prelude.{bytes_eq, nat_eq, Result, Ok, Err}
+use Rattle.std.specs.Prelude.{bytes_eq, nat_eq}
 use Rattle.std.specs.List.{AllByRecursion}
 use Rattle.std.proofs.lemmas.List.{drop-drop}
 use Rattle.std.proofs.lemmas.Bool.Decides.{nat_tests}
-use Rattle.mp4_boxes.specs.format.Box.{Box, Header, header_at, box_of, size, sizes, LieEndToEnd, Tiles, box_container, bytes_container, first_boxes, box_and_more}
+use Rattle.mp4_boxes.specs.format.Box.{Box, header_at, size, sizes, LieEndToEnd, Tiles, box_container, bytes_container, first_boxes}
 use Rattle.mp4_boxes.specs.format.Children.{Holds, count_among, is_among, payload_if}
 use Rattle.mp4_boxes.specs.format.Places.{leaf_of, ruled}
 use Rattle.mp4_boxes.specs.declared.rule.Rule.TheVariants.{SampleTable}
-use Rattle.mp4_boxes.specs.declared.fault.Kind.{Kind}
 use Rattle.mp4_boxes.proofs.Tiling.{header_is, box_size, sizes-cons}
-use Rattle.mp4_boxes.proofs.Among.{count-append}
+use Rattle.mp4_boxes.proofs.Among.{count-append, hit_counts}
 use Rattle.mp4_boxes.proofs.Sound.{same_kind}
 use Rattle.mp4_tables.specs.format.TableRules.{AreReadable, IsReadableAs}
 use Rattle.mp4_tables.specs.words.Leaves.{boxes_of, HasTables, AllOf, IsFirstOf, LiesIn}
-
--- a box of a type counts
-pub hit_counts : (kind : List ℕ) (b : Box) (bs : List Box) → bytes_eq kind b.kind ≡ true → count_among (kind ∷ []) (b ∷ bs) ≡ 1 + count_among (kind ∷ []) bs
-hit_counts kind b bs e = rw e refl
-
--- a box in front, where its header can be read
-first_then : (at : ℕ) (bytes : List ℕ) (b : Box) (more : List Box) (r : Result Header Kind) (h : Header) (behind : Header → List Box) → r ≡ Ok h → b ≡ box_of at bytes h → more ≡ behind h
-    → box_and_more at bytes r behind ≡ b ∷ more
-first_then at bytes b more (Ok g) h behind e f m = let same : g ≡ h = cc in rw (same, f, m) refl
-first_then at bytes b more (Err k) h behind e f m = absurd cc
+use Rattle.mp4_boxes.proofs.Walking.{length_few, first_then}
 
 -- a type is the same as itself
 itself : (kind : List ℕ) → bytes_eq kind kind ≡ true
@@ -60,18 +50,10 @@ found_all at (suc n) bytes (b ∷ boxes) l e h =
     subst (λ (m : ℕ). first_boxes n (at + m) (drop m bytes) ≡ boxes) s (found_all (at + size b) n (drop (size b) bytes) boxes l.1 left (omega (arith, h))) in
     first_then at bytes b boxes (header_at false bytes) g (λ k. first_boxes n (at + k.size) (drop k.size bytes)) l.0.1 l.0.2 (sym more)
 
-few : (at : ℕ) (bytes : List ℕ) (boxes : List Box) → LieEndToEnd false at bytes boxes → length boxes ≤ sizes boxes
-few at bytes [] l = omega arith
-few at bytes (b ∷ boxes) l =
-    let g = l.0.0 in
-    let r = header_is false bytes g l.0.1 in
-    let s : size b ≡ g.size = ap size l.0.2 ∙ box_size at bytes g r in
-    omega (arith, few (at + size b) (drop (size b) bytes) boxes l.1, sizes-cons b boxes, s, r.length, r.inside)
-
 -- the children of a container are the boxes in front of its payload
 pub boxes_are : (b : Box) (boxes : List Box) → Tiles (box_container b) boxes → boxes_of b ≡ boxes
 unfolding boxes_of
-boxes_are b boxes t = found_all (b.offset + b.header) (length b.payload) b.payload boxes t.front.0 t.full (omega (arith, few (b.offset + b.header) b.payload boxes t.front.0, t.full))
+boxes_are b boxes t = found_all (b.offset + b.header) (length b.payload) b.payload boxes t.front.0 t.full (omega (arith, length_few (b.offset + b.header) b.payload boxes t.front.0, t.full))
 
 pub tiled_as_bytes : (b : Box) (boxes : List Box) → Tiles (box_container b) boxes → Tiles (bytes_container b.kind (b.offset + b.header) b.payload) boxes
 tiled_as_bytes b boxes t = record { front = t.front; full = t.full }

@@ -17,7 +17,7 @@ use Rattle.mp4_tables.proofs.LeafLists.{child_lies}
 
 -- ---- rows of a child, where they lie in the payload of its `stbl`
 
-numbers_cut : (m : ℕ) (widths bytes : List ℕ) → width_of widths ≤ m → numbers widths (take m bytes) ≡ numbers widths bytes
+pub numbers_cut : (m : ℕ) (widths bytes : List ℕ) → width_of widths ≤ m → numbers widths (take m bytes) ≡ numbers widths bytes
 numbers_cut m [] bytes h = refl
 numbers_cut m (w ∷ widths) bytes h =
     let first : field (take m bytes) 0 w ≡ field bytes 0 w = big_from-take 0 w m bytes (omega arith) in

@@ -43,7 +43,7 @@ pub among_first : (keys : List GroupKey) (key : GroupKey) → IsAmong (key ∷ k
 among_first keys key = or_left (same_key key key) (list_any (same_key key) keys) (same_itself key)
 
 -- what is among keys is among them and more
-among_front : (keys more : List GroupKey) (key : GroupKey) → IsAmong keys key → IsAmong (keys ++ more) key
+pub among_front : (keys more : List GroupKey) (key : GroupKey) → IsAmong keys key → IsAmong (keys ++ more) key
 among_front [] more key h = absurd (cc)
 among_front (k ∷ keys) more key h = elim (or_cases (same_key key k) (list_any (same_key key) keys) h) [
   | inl s ↦ or_left (same_key key k) (list_any (same_key key) (keys ++ more)) s

@@ -9,7 +9,8 @@ use Rattle.mp4_tables.specs.words.Rows.{run_of, chunk_row_of, runs_at, chunk_row
 use Rattle.mp4_tables.specs.declared.places.RowsAt.{RowsAt}
 use Rattle.mp4_tables.specs.declared.places.SizeForm.{SizeForm}
 use Rattle.mp4_tables.specs.declared.places.SizeForm.TheVariants as forms
-use Rattle.mp4_tables.proofs.Counts.{rows_length}
+use Rattle.mp4_tables.proofs.Counts.{rows_length, half_length}
+use Rattle.mp4_boxes.proofs.OfBytes.{field_dropped}
 
 -- a number in the bytes from a place on
 from_drop : (a i n : ℕ) (bytes : List ℕ) → big_from i n (drop a bytes) ≡ big_from (a + i) n bytes
@@ -19,9 +20,6 @@ from_drop a i (suc n) bytes =
     let head = get_or-drop a bytes i 0 in
     let more : big_from (suc i) n (drop a bytes) ≡ big_from (suc (a + i)) n bytes = from_drop a (suc i) n bytes ∙ ap (λ j. big_from j n bytes) e in
     rw (head, more) refl
-
-pub field_behind : (a i n : ℕ) (bytes : List ℕ) → field (drop a bytes) i n ≡ field bytes (a + i) n
-field_behind a i n bytes = from_drop a i n bytes
 
 -- what is left from row k on is row k and what is left behind it
 pub rows_more : {R : Type 0} (f : List ℕ → R) (widths : List ℕ) (n k : ℕ) (bytes : List ℕ) → k < n
@@ -43,12 +41,12 @@ rows_all f widths n k bytes h = drop_all k (map f (rows n widths bytes)) (let e 
 -- a field of the k-th row, where rows begin at a place
 row_field : (place step k i w : ℕ) (payload : List ℕ) → field (drop i (drop (step * k) (drop place payload))) 0 w ≡ field payload (place + step * k + i) w
 row_field place step k i w payload =
-    field_behind i 0 w (drop (step * k) (drop place payload)) ∙ field_behind (step * k) (i + 0) w (drop place payload) ∙ field_behind place (step * k + (i + 0)) w payload
+    field_dropped i 0 w (drop (step * k) (drop place payload)) ∙ field_dropped (step * k) (i + 0) w (drop place payload) ∙ field_dropped place (step * k + (i + 0)) w payload
     ∙ (let e : place + (step * k + (i + 0)) ≡ place + step * k + i = omega arith in ap (λ j. field payload j w) e)
 
 row_first : (place step k w : ℕ) (payload : List ℕ) → field (drop (step * k) (drop place payload)) 0 w ≡ field payload (place + step * k) w
 row_first place step k w payload =
-    field_behind (step * k) 0 w (drop place payload) ∙ field_behind place (step * k + 0) w payload
+    field_dropped (step * k) 0 w (drop place payload) ∙ field_dropped place (step * k + 0) w payload
     ∙ (let e : place + (step * k + 0) ≡ place + step * k = omega arith in ap (λ j. field payload j w) e)
 
 -- rows of a count and a value
@@ -113,7 +111,7 @@ half_even (suc m) (suc (suc n)) bytes h =
     let e : 2 * suc m ≡ suc (suc (2 * m)) = omega arith in
     let f : 2 * suc m + 1 ≡ suc (suc (2 * m + 1)) = omega arith in
     let up : 1 + m ≡ suc m = omega arith in
-    rw (f, e) (half_even m n (drop 1 bytes) (omega arith) ∙ ap (λ x. x / 16 ∷ drop (2 * m + 1) (half_bytes n (drop 1 bytes))) (field_behind 1 m 1 bytes ∙ ap (λ j. field bytes j 1) up))
+    rw (f, e) (half_even m n (drop 1 bytes) (omega arith) ∙ ap (λ x. x / 16 ∷ drop (2 * m + 1) (half_bytes n (drop 1 bytes))) (field_dropped 1 m 1 bytes ∙ ap (λ j. field bytes j 1) up))
 
 pub half_odd : (m n : ℕ) (bytes : List ℕ) → 2 * m + 1 < n → drop (2 * m + 1) (half_bytes n bytes) ≡ field bytes m 1 % 16 ∷ drop (2 * m + 2) (half_bytes n bytes)
 half_odd m zero bytes h = absurd (omega arith)
@@ -123,12 +121,7 @@ half_odd (suc m) (suc (suc n)) bytes h =
     let e : 2 * suc m + 1 ≡ suc (suc (2 * m + 1)) = omega arith in
     let f : 2 * suc m + 2 ≡ suc (suc (2 * m + 2)) = omega arith in
     let up : 1 + m ≡ suc m = omega arith in
-    rw (f, e) (half_odd m n (drop 1 bytes) (omega arith) ∙ ap (λ x. x % 16 ∷ drop (2 * m + 2) (half_bytes n (drop 1 bytes))) (field_behind 1 m 1 bytes ∙ ap (λ j. field bytes j 1) up))
-
-pub half_length : (n : ℕ) (bytes : List ℕ) → length (half_bytes n bytes) ≡ n
-half_length zero bytes = refl
-half_length (suc zero) bytes = refl
-half_length (suc (suc n)) bytes = ap suc (ap suc (half_length n (drop 1 bytes)))
+    rw (f, e) (half_odd m n (drop 1 bytes) (omega arith) ∙ ap (λ x. x % 16 ∷ drop (2 * m + 2) (half_bytes n (drop 1 bytes))) (field_dropped 1 m 1 bytes ∙ ap (λ j. field bytes j 1) up))
 
 -- ---- sizes, by their form
 pub sizes_length : (form : SizeForm) (payload : List ℕ) (at : RowsAt) → length (sizes_in form payload at) ≡ at.count
@@ -170,14 +163,14 @@ unfolding sizes_in
 even_size payload at k m h e =
     let one : field payload (at.place + m) 1 ≡ slice_index payload (at.place + m) = omega arith in
     ap (slice_index (half_bytes at.count (drop at.place payload))) e ∙ first_left _ _ (2 * m) _ (half_even m at.count (drop at.place payload) (omega arith))
-    ∙ ap (λ x. x / 16) (field_behind at.place m 1 payload ∙ one)
+    ∙ ap (λ x. x / 16) (field_dropped at.place m 1 payload ∙ one)
 
 pub odd_size : (payload : List ℕ) (at : RowsAt) (k m : ℕ) → k < at.count → k ≡ 2 * m + 1 → slice_index (sizes_in forms.HalfBytes payload at) k ≡ slice_index payload (at.place + m) % 16
 unfolding sizes_in
 odd_size payload at k m h e =
     let one : field payload (at.place + m) 1 ≡ slice_index payload (at.place + m) = omega arith in
     ap (slice_index (half_bytes at.count (drop at.place payload))) e ∙ first_left _ _ (2 * m + 1) _ (half_odd m at.count (drop at.place payload) (omega arith))
-    ∙ ap (λ x. x % 16) (field_behind at.place m 1 payload ∙ one)
+    ∙ ap (λ x. x % 16) (field_dropped at.place m 1 payload ∙ one)
 
 -- a member stands in front of what is left behind it
 pub sizes_more : (form : SizeForm) (payload : List ℕ) (at : RowsAt) (k : ℕ) → k < at.count → drop k (sizes_in form payload at) ≡ slice_index (sizes_in form payload at) k ∷ drop (k + 1) (sizes_in form payload at)

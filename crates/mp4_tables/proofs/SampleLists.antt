@@ -10,6 +10,7 @@ use Rattle.mp4_tables.specs.format.Tables.{Tables}
 use Rattle.mp4_tables.specs.format.PlainSamples.{PlacedSample, Spot, with_groups, non_sync, flags_from, joined, spots_of, plain_samples}
 use Rattle.mp4_tables.specs.words.Timed.{sample_at, timed, samples_of}
 use Rattle.mp4_tables.proofs.SpotLists.{drop_next}
+use Rattle.mp4_tables.proofs.NamedKeys.{same_itself}
 
 -- ---- parts side by side
 
@@ -119,9 +120,6 @@ put_not_in other key index (e ∷ groups) h n = put_in other key index e groups 
 pub absent : (key : GroupKey) (groups : Groups) → NotIn key groups → index_at key groups ≡ 0
 absent key [] n = refl
 absent key (e ∷ groups) n = rw n.0 (absent key groups n.1)
-
-same_itself : (key : GroupKey) → same_key key key ≡ true
-same_itself key = grind (arith, nat_tests)
 
 put_at : (key : GroupKey) (index : ℕ) (e : GroupKey × ℕ) (groups : Groups) (v : Bool) → nat_lt (key_rank key) (key_rank e.0) ≡ v → same_key key e.0 ≡ false → index_at key (put_group key index groups) ≡ index → index_at key (put_group key index (e ∷ groups)) ≡ index
 put_at key index e groups true f n h = rw (f, same_itself key) refl

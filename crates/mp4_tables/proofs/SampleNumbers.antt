@@ -6,7 +6,7 @@ use Rattle.mp4_tables.specs.format.PlainSamples.{PlacedSample}
 use Rattle.mp4_tables.specs.words.Timed.{sample_at, timed}
 use Rattle.mp4_tables.specs.declared.sample.SampleAt.{SampleAt}
 
-some_is : (x y : SampleAt) → Some x ≡ Some y → x ≡ y
+pub some_is : (x y : SampleAt) → Some x ≡ Some y → x ≡ y
 some_is x y e = cc
 
 -- each sample has the number of the first, and one more for each that stands before it

@@ -1,9 +1,9 @@
 use Rattle.std.proofs.Common.{rules, ◌<◌, [], ◌∷◌, length}
 use Rattle.mp4_present.specs.words.Movies.{IsWalkOf}
-use Rattle.mp4_plan.proofs.Filters.{all_append}
 use Rattle.mp4_plan.proofs.Planning.{one_room, one_within, one_begins, all_begin, one_marked, all_marked, first_marked}
 use Rattle.mp4_plan.proofs.AllTake.{one_to_take, all_to_take, one_to_write, all_to_write}
 use Rattle.mp4_plan.proofs.first_samples.walks_of.Goals as goal
+use Rattle.mp4_boxes.proofs.Among.{all_append}
 
 pub loop-track-preserved : goal.loop-track-preserved
 loop-track-preserved c =

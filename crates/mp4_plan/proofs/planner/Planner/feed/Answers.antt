@@ -1,8 +1,9 @@
 use Rattle.std.proofs.Common.{◌∙◌, ap, sym, arith}
 use Rattle.mp4_plan.specs.words.Gathering.{answer, more_of, piece_fed, samples_after}
-use Rattle.mp4_plan.proofs.PlannerSteps.{fed_more, after_more, fed_none, after_none, closed, none_is, more_of-nil, first_is, count_with, length_rest}
+use Rattle.mp4_plan.proofs.PlannerSteps.{fed_more, after_more, fed_none, after_none, closed, none_is, more_of-nil, count_with, length_rest}
 use Rattle.mp4_plan.proofs.NonSyncCounted.{next_seen}
 use Rattle.mp4_plan.proofs.planner.Planner.feed.Goals as goal
+use Rattle.mp4_present.proofs.JoinedSamples.{first_of}
 
 pub returns-then-not-takes-clause-piece : goal.returns-then-not-takes-clause-piece
 returns-then-not-takes-clause-piece g c = sym (fed_none _ _ (closed _ _ _ c.in-Some.ensures (sym c.if-not-takes.ensures))) ∙ c.loop-sample.invariant.piece
@@ -13,7 +14,7 @@ returns-then-not-takes-clause-rest g c = sym (after_none _ _ (closed _ _ _ c.in-
 pub returns-then-not-takes-clause-fed : goal.returns-then-not-takes-clause-fed
 returns-then-not-takes-clause-fed g c =
     let rest = g.S.Samples.rest c.loop-sample.samples in
-    ap answer (sym (first_is rest _ c.in-Some.ensures) ∙ sym (after_none _ _ (closed _ _ _ c.in-Some.ensures (sym c.if-not-takes.ensures))) ∙ c.loop-sample.invariant.left)
+    ap answer (sym (first_of rest _ c.in-Some.ensures) ∙ sym (after_none _ _ (closed _ _ _ c.in-Some.ensures (sym c.if-not-takes.ensures))) ∙ c.loop-sample.invariant.left)
 
 pub loop-sample-preserved : goal.loop-sample-preserved
 loop-sample-preserved g c =
