@@ -19,7 +19,7 @@ use Rattle.mp4_boxes.specs.format.BoxFaults.{Fails}
 use Rattle.mp4_boxes.specs.declared.fault.Kind.{Kind}
 use Rattle.mp4_boxes.specs.declared.fault.Kind.TheVariants as kinds
 use Rattle.mp4_boxes.proofs.Plain.{and_false}
-use Rattle.mp4_frag.specs.declared.heads.Head.{Head}
+use Rattle.mp4_frag.specs.declared.heads.TrafHead.{TrafHead}
 use Rattle.mp4_frag.specs.declared.trun.Run.{Run}
 use Rattle.mp4_frag.specs.declared.state.TrackState.{TrackState}
 use Rattle.mp4_frag.specs.declared.trex.Trex.{Trex}
@@ -57,7 +57,7 @@ column_of : (values : List (Option ℕ)) (k : ℕ) (more : List (Option ℕ)) �
 column_of values k more e = ap (λ vs. slice_index_or vs k None) e
 
 -- a `tfhd` says what was read of it
-pub head_is : (part : List ℕ) (head : Head) → IsHead part head → as_traf head ≡ head_of part
+pub head_is : (part : List ℕ) (head : TrafHead) → IsHead part head → as_traf head ≡ head_of part
 head_is part head h =
     let values = h.values in
     let id = h.id in
@@ -70,14 +70,14 @@ head_is part head h =
     λ i. record { id = id i; base_data_offset = base i; description = description i; duration = duration i; size = size i; flags = flags i; base_is_moof = is_moof i; decode_time = None; runs = []; groups = [] }
 
 -- what it says is taken
-pub head_taken : (trex : Trex) (s : Reached) (part : List ℕ) (head : Head) → IsHead part head → record s { inherited = inheritance (as_traf head) trex } ≡ with_head trex s part
+pub head_taken : (trex : Trex) (s : Reached) (part : List ℕ) (head : TrafHead) → IsHead part head → record s { inherited = inheritance (as_traf head) trex } ≡ with_head trex s part
 head_taken trex s part head h =
     let there = read tfhd part h.readable in
     let same = head_is part head h in
     rw there (λ i. record s { inherited = inheritance (same i) trex })
 
 -- whether it names a track
-pub head_names : (id : ℕ) (part : List ℕ) (head : Head) → IsHead part head → (head.id == id) ≡ names id part
+pub head_names : (id : ℕ) (part : List ℕ) (head : TrafHead) → IsHead part head → (head.id == id) ≡ names id part
 unfolding names
 head_names id part head h =
     let there = read tfhd part h.readable in

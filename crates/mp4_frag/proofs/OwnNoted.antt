@@ -17,7 +17,7 @@ use Rattle.mp4_frag.specs.words.RunsJudged.{children_of, runs_total}
 use Rattle.mp4_frag.specs.words.Tracking.{WhereNoted}
 use Rattle.mp4_frag.specs.words.Walks.{head_of, trex_among}
 use Rattle.mp4_frag.specs.declared.check.PassedTraf.{PassedTraf}
-use Rattle.mp4_frag.specs.declared.heads.Head.{Head}
+use Rattle.mp4_frag.specs.declared.heads.TrafHead.{TrafHead}
 use Rattle.mp4_frag.specs.declared.next_traf.OwnTraf.{OwnTraf}
 use Rattle.mp4_frag.specs.declared.state.TrackState.{TrackState}
 use Rattle.mp4_frag.specs.declared.trex.Trex.{Trex}
@@ -252,7 +252,7 @@ found_id id k tracks lt e =
     is_there (suc j) (t ∷ ts) h = is_there j ts (omega arith)
 
 -- it is that of the samples that were passed
-pub traf_notable : (moof n k : ℕ) (before base ends : ℤ) (tracks : List TrackState) (b h : Box) (head : Head) (trex : Trex) (own : Option OwnTraf) → of_kind (codes "tfhd") (children_of b) ≡ h ∷ [] → IsHead h.payload head → trex_among tracks head.id ≡ Some trex
+pub traf_notable : (moof n k : ℕ) (before base ends : ℤ) (tracks : List TrackState) (b h : Box) (head : TrafHead) (trex : Trex) (own : Option OwnTraf) → of_kind (codes "tfhd") (children_of b) ≡ h ∷ [] → IsHead h.payload head → trex_among tracks head.id ≡ Some trex
     → k < length tracks → find (λ (t : TrackState). t.id == head.id) tracks ≡ slice_get tracks k → base ≡ base_of moof before (as_traf head) → n ≡ runs_total (of_kind (codes "trun") (children_of b))
     → own ≡ (if nat_lt 0 n then Some (record { at = b.offset + b.header; len = length b.payload; base = base }) else None)
     → IsNotable moof before b tracks (record { ends = ends; track = k; own = own })

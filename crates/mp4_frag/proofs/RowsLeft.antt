@@ -13,7 +13,7 @@ use Rattle.mp4_frag.specs.words.Reading.{row_values}
 use Rattle.mp4_frag.specs.words.PlacesIn.{IsRowPlace, row_behind}
 use Rattle.mp4_frag.specs.words.Walks.{rows_here, row_signed}
 use Rattle.mp4_frag.specs.declared.places.RowPlace.{RowPlace}
-use Rattle.mp4_frag.specs.declared.run_rows.Row.{Row}
+use Rattle.mp4_frag.specs.declared.run_rows.ReadRow.{ReadRow}
 
 rows_next : (n bits place : ℕ) (payload : List ℕ) → 0 < n
     → run_rows n 1 bits (drop place payload) ≡ run_row_of 1 (column_values bits sample_columns (drop place payload)) ∷ run_rows (n - 1) 1 bits (drop (place + row_room bits) payload)
@@ -24,7 +24,7 @@ rows_next (suc n) bits place payload h =
     λ i. run_row_of 1 (column_values bits sample_columns (drop place payload)) ∷ run_rows (less i) 1 bits (behind i)
 
 -- the row in hand stands in front of those behind it
-pub row_in_hand : (payload : List ℕ) (run : RowPlace) (row : Row) → 0 < run.left → row_values row ≡ column_values run.bits sample_columns (drop run.row payload)
+pub row_in_hand : (payload : List ℕ) (run : RowPlace) (row : ReadRow) → 0 < run.left → row_values row ≡ column_values run.bits sample_columns (drop run.row payload)
     → rows_here payload run ≡ row_signed row ∷ rows_here payload (record run { row = run.row + row_room run.bits; left = run.left - 1; first_flags = None })
 unfolding rows_here
 row_in_hand payload run row h e =

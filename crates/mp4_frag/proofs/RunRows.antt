@@ -10,9 +10,9 @@ use Rattle.mp4_frag.specs.words.ColumnsRead.{row_room}
 use Rattle.mp4_frag.specs.format.Fragments.{RunRow, run_rows}
 use Rattle.mp4_frag.specs.words.Reading.{row_values}
 use Rattle.mp4_frag.specs.words.Passing.{AreSamplesOf, rows_left, offsets_left, bytes_left, row_seen, run_version, IsNear, IsNearer, within_from, end_from, lasting, filling}
-use Rattle.mp4_frag.specs.declared.run_rows.Row.{Row}
+use Rattle.mp4_frag.specs.declared.run_rows.ReadRow.{ReadRow}
 use Rattle.mp4_frag.specs.declared.sample_runs.Judged.{Judged}
-use Rattle.mp4_frag.specs.declared.sample_runs.Samples.{Samples}
+use Rattle.mp4_frag.specs.declared.sample_runs.JudgedSamples.{JudgedSamples}
 use Rattle.mp4_frag.specs.declared.trun.Run.{Run}
 
 -- one less is left behind a row
@@ -24,14 +24,14 @@ bytes_behind : (payload : List ℕ) (run : Run) (k : ℕ) → drop (row_room run
 bytes_behind payload run k = drop-drop (row_room run.bits) (run.rows + k * row_room run.bits) payload ∙ ap (λ n. drop n payload) (omega arith)
 
 -- row k stands in front of the rows behind it
-pub row_more : (payload : List ℕ) (run : Run) (k : ℕ) (row : Row) → k < run.count → row_values row ≡ column_values run.bits sample_columns (bytes_left payload run k)
+pub row_more : (payload : List ℕ) (run : Run) (k : ℕ) (row : ReadRow) → k < run.count → row_values row ≡ column_values run.bits sample_columns (bytes_left payload run k)
     → rows_left payload run k ≡ row_seen run row ∷ rows_left payload run (k + 1)
 unfolding rows_left
 row_more payload run k row lt e =
     rw (less_left run.count k lt, sym e, bytes_behind payload run k) refl
 
 -- and so do the offsets
-pub offset_more : (payload : List ℕ) (run : Run) (k : ℕ) (row : Row) → k < run.count → row_values row ≡ column_values run.bits sample_columns (bytes_left payload run k)
+pub offset_more : (payload : List ℕ) (run : Run) (k : ℕ) (row : ReadRow) → k < run.count → row_values row ≡ column_values run.bits sample_columns (bytes_left payload run k)
     → offsets_left payload run k ≡ row.offset ∷ offsets_left payload run (k + 1)
 unfolding offsets_left
 offset_more payload run k row lt e =
@@ -97,17 +97,17 @@ none_within length size at payload run out =
     none_in length size at (run.count - 0) (run_version run) run.bits (bytes_left payload run 0) out ∙ ap (λ n. n == 0) all
 
 -- so where no row is there nothing was passed
-pub none_taken : (judged : Judged) (at : ℤ) (payload : List ℕ) (run : Run) (s : Samples) → s ≡ record { end = at; duration = 0; bytes = 0; are_within = run.count == 0; are_large = false } → s.are_within ≡ true → AreSamplesOf judged at payload run s
+pub none_taken : (judged : Judged) (at : ℤ) (payload : List ℕ) (run : Run) (s : JudgedSamples) → s ≡ record { end = at; duration = 0; bytes = 0; are_within = run.count == 0; are_large = false } → s.are_within ≡ true → AreSamplesOf judged at payload run s
 none_taken judged at payload run s e within =
-    let no : (run.count == 0) ≡ true = sym (ap (λ (s : Samples). s.are_within) e) ∙ within in
+    let no : (run.count == 0) ≡ true = sym (ap (λ (s : JudgedSamples). s.are_within) e) ∙ within in
     let count : run.count ≤ 0 = search (rules, no) in
     let rows = rows_none payload run 0 count in
     let offsets = offsets_none payload run 0 count in
     record {
-      end = ap (λ (s : Samples). s.end) e ∙ sym (ap (end_from judged.inherited.size at) rows);
-      duration = ap (λ (s : Samples). s.duration) e ∙ sym (ap (lasting judged.inherited.duration) rows);
-      bytes = ap (λ (s : Samples). s.bytes) e ∙ sym (ap (filling judged.inherited.size) rows);
-      large = ap (λ (s : Samples). s.are_large) e ∙ sym (ap too_large offsets);
+      end = ap (λ (s : JudgedSamples). s.end) e ∙ sym (ap (end_from judged.inherited.size at) rows);
+      duration = ap (λ (s : JudgedSamples). s.duration) e ∙ sym (ap (lasting judged.inherited.duration) rows);
+      bytes = ap (λ (s : JudgedSamples). s.bytes) e ∙ sym (ap (filling judged.inherited.size) rows);
+      large = ap (λ (s : JudgedSamples). s.are_large) e ∙ sym (ap too_large offsets);
     }
 
 pub fills_on : (a l d b u e f : ℕ) → a + l ≡ d + b → b ≡ u + e → f ≡ u → u ≤ l → a + (l - f) ≡ d + e

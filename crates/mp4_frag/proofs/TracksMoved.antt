@@ -17,7 +17,7 @@ use Rattle.mp4_frag.specs.words.Passing.{is_late_at, start_with, due_with}
 use Rattle.mp4_frag.specs.words.Reading.{IsHead, as_traf, inheritance}
 use Rattle.mp4_frag.specs.words.RunsJudged.{runs_total, runs_lasting, runs_filling}
 use Rattle.mp4_frag.specs.words.Walks.{head_of}
-use Rattle.mp4_frag.specs.declared.heads.Head.{Head}
+use Rattle.mp4_frag.specs.declared.heads.TrafHead.{TrafHead}
 use Rattle.mp4_frag.specs.declared.heads.Inherited.{Inherited}
 use Rattle.mp4_frag.specs.declared.state.TrackState.{TrackState}
 use Rattle.mp4_frag.specs.declared.trex.Trex.{Trex}
@@ -131,7 +131,7 @@ its_time b boxes time e t = ap (option_map decode_time_of) (payload_there (codes
 
 -- ---- the whole `traf`
 
-pub traf_moved : (moof n lasts fills k room less : ℕ) (before : ℤ) (tracks : List TrackState) (d state new : TrackState) (boxes : List Box) (b : Box) (head : Head) (trex : Trex) (inherited : Inherited) (keys : Keys) (time : Option ℕ)
+pub traf_moved : (moof n lasts fills k room less : ℕ) (before : ℤ) (tracks : List TrackState) (d state new : TrackState) (boxes : List Box) (b : Box) (head : TrafHead) (trex : Trex) (inherited : Inherited) (keys : Keys) (time : Option ℕ)
     → of_kind (codes "tfhd") boxes ≡ b ∷ [] → IsHead b.payload head → k < length tracks → find (λ (t : TrackState). t.id == head.id) tracks ≡ slice_get tracks k → find (λ (t : TrackState). t.id == head.id) (take k tracks) ≡ None → state ≡ slice_index_or tracks k d → state.trex ≡ Some trex
     → inherited ≡ inheritance (as_traf head) trex → n ≡ runs_total (of_kind (codes "trun") boxes) → lasts ≡ runs_lasting inherited (of_kind (codes "trun") boxes)
     → fills ≡ runs_filling inherited (of_kind (codes "trun") boxes)

@@ -23,7 +23,7 @@ use Rattle.mp4_frag.specs.format.FragmentSamples.{base_of, part_samples}
 use Rattle.mp4_frag.specs.words.Judged.{part_with, IsTrafSound}
 use Rattle.mp4_frag.specs.words.Reading.{IsHead, as_traf}
 use Rattle.mp4_frag.specs.words.Walks.{head_of, trex_among}
-use Rattle.mp4_frag.specs.declared.heads.Head.{Head}
+use Rattle.mp4_frag.specs.declared.heads.TrafHead.{TrafHead}
 use Rattle.mp4_frag.specs.declared.heads.Inherited.{Inherited}
 use Rattle.mp4_frag.specs.declared.state.TrackState.{TrackState}
 use Rattle.mp4_frag.proofs.LeavesRead.{head_is, got}
@@ -178,7 +178,7 @@ runs_leaves L inherited base before (b ∷ runs) h = (h.0.sound, runs_leaves L i
 
 -- ---- the whole `traf`
 
-pub traf_sound : (L moof n : ℕ) (before base ends : ℤ) (tracks : List TrackState) (boxes : List Box) (b : Box) (head : Head) (trex : Trex) (inherited : Inherited) (keys : List GroupKey)
+pub traf_sound : (L moof n : ℕ) (before base ends : ℤ) (tracks : List TrackState) (boxes : List Box) (b : Box) (head : TrafHead) (trex : Trex) (inherited : Inherited) (keys : List GroupKey)
     → of_kind (codes "tfhd") boxes ≡ b ∷ [] → IsHead b.payload head → trex_among tracks head.id ≡ Some trex → AllByRecursion (λ (c : Box). IsSound tfdt c.payload) (of_kind (codes "tfdt") boxes)
     → base ≡ base_of moof before (as_traf head) → inherited ≡ inheritance (as_traf head) trex
     → AreRunsSound L inherited base base (of_kind (codes "trun") boxes) → ends ≡ all_end inherited base base (of_kind (codes "trun") boxes) → n ≡ runs_total (of_kind (codes "trun") boxes)

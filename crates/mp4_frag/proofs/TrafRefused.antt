@@ -11,7 +11,7 @@ use Rattle.mp4_frag.specs.words.Reading.{IsHead, as_traf, inheritance}
 use Rattle.mp4_frag.specs.words.RunsJudged.{children_of}
 use Rattle.mp4_frag.specs.words.TrafFaults.{traf_in, HoldsBoxes, HasHead, IsOnly, IsTrackOf}
 use Rattle.mp4_frag.specs.words.Walks.{head_of}
-use Rattle.mp4_frag.specs.declared.heads.Head.{Head}
+use Rattle.mp4_frag.specs.declared.heads.TrafHead.{TrafHead}
 use Rattle.mp4_frag.specs.declared.heads.Inherited.{Inherited}
 use Rattle.mp4_frag.specs.declared.state.TrackState.{TrackState}
 use Rattle.mp4_frag.specs.declared.trex.Trex.{Trex}
@@ -19,7 +19,7 @@ use Rattle.mp4_frag.proofs.LeavesRead.{head_is, got}
 use Rattle.mp4_frag.proofs.HeadsFound.{kept_count}
 use Rattle.mp4_frag.proofs.TrafPassed.{payload_is}
 
-pub same_head : (b h : Box) (head : Head) → IsOnly (codes "tfhd") b h → IsHead h.payload head → as_traf head ≡ head_of (payload_of (codes "tfhd") (children_of b))
+pub same_head : (b h : Box) (head : TrafHead) → IsOnly (codes "tfhd") b h → IsHead h.payload head → as_traf head ≡ head_of (payload_of (codes "tfhd") (children_of b))
 same_head b h head one is = head_is h.payload head is ∙ ap head_of (sym (payload_is (codes "tfhd") h (children_of b) one))
 
 -- what is known of a `traf` whose track is there
@@ -29,7 +29,7 @@ pub record IsOpened (moof : ℕ) (before base : ℤ) (tracks : List TrackState) 
   pub from : base ≡ base_of moof before (traf_in b)
   pub taken : inherited ≡ inheritance (traf_in b) trex
 
-pub opened : (moof k : ℕ) (before base : ℤ) (tracks : List TrackState) (d state : TrackState) (b h : Box) (head : Head) (trex : Trex) (inherited : Inherited) → HoldsBoxes b → IsOnly (codes "tfhd") b h → IsHead h.payload head → k < length tracks
+pub opened : (moof k : ℕ) (before base : ℤ) (tracks : List TrackState) (d state : TrackState) (b h : Box) (head : TrafHead) (trex : Trex) (inherited : Inherited) → HoldsBoxes b → IsOnly (codes "tfhd") b h → IsHead h.payload head → k < length tracks
     → find (λ (t : TrackState). t.id == head.id) tracks ≡ slice_get tracks k
     → state ≡ slice_index_or tracks k d → state.trex ≡ Some trex → base ≡ base_of moof before (as_traf head) → inherited ≡ inheritance (as_traf head) trex → IsOpened moof before base tracks b h state trex inherited
 opened moof k before base tracks d state b h head trex inherited holds one is lt found at some eb ei =

@@ -29,9 +29,9 @@ ghost use Rattle.mp4_frag.specs.format.FragmentRows.{group_rows};
 ghost use Rattle.mp4_frag.specs.declared.state.TrackState.{TrackState};
 
 use crate::groups::check_group;
-use crate::heads::{Head, base_of, read_head, what_is_inherited};
+use crate::heads::{TrafHead, base_of, read_head, what_is_inherited};
 use crate::next_traf::OwnTraf;
-use crate::sample_runs::{Judged, Passed, check_run};
+use crate::sample_runs::{Judged, PassedSamples, check_run};
 use crate::state::TrackState;
 use crate::tfdt::read_time;
 use crate::tracking::{OneByOne, Standing, Tracking};
@@ -52,13 +52,13 @@ pub(crate) const SBGP: FourCc = FourCc(*b"sbgp");
 
 // The `tfhd` of a `traf`, and its `tfdt` if there is one.
 #[derive(Clone, Copy)]
-struct Heads<'a> {
+struct TrafHeads<'a> {
     head: Option<BoxView<'a>>,
     time: Option<BoxView<'a>>,
 }
 
 // Checks which boxes stand in a `traf`.
-fn check_boxes<'a>(traf: BoxView<'a>) -> Result<Heads<'a>, Fault>
+fn check_boxes<'a>(traf: BoxView<'a>) -> Result<TrafHeads<'a>, Fault>
     ensures holds { IfOk result (λ h. HoldsBoxes (box_seen traf.entry)) }
     ensures head { IfOk result (λ h. only_list (option_map box_seen h.head)
         ≡ of_kind (codes "tfhd") (children_of (box_seen traf.entry))) }
@@ -66,7 +66,7 @@ fn check_boxes<'a>(traf: BoxView<'a>) -> Result<Heads<'a>, Fault>
         ≡ of_kind (codes "tfdt") (children_of (box_seen traf.entry))) }
     ensures exact { ListsBoxes rules.TrackFragment (box_seen traf.entry) result }
 {
-    let mut heads = Heads {
+    let mut heads = TrafHeads {
         head: None,
         time: None,
     };
@@ -81,7 +81,7 @@ fn check_boxes<'a>(traf: BoxView<'a>) -> Result<Heads<'a>, Fault>
 }
 
 // What the `tfhd` says.
-fn head_of(tfhd: BoxView) -> Result<Head, Fault>
+fn head_of(tfhd: BoxView) -> Result<TrafHead, Fault>
     ensures head { IfOk result (IsHead (box_seen tfhd.entry).payload) }
     ensures exact { FirstNamed (naming (box_seen tfhd.entry)
         (leaf_tests tfhd_leaf (box_seen tfhd.entry).payload)) result }
@@ -118,7 +118,7 @@ fn check_runs<L: Ledger>(
     judged: Judged,
     room: &mut u32,
     steps: &mut Count<L>,
-) -> Result<Passed, Fault>
+) -> Result<PassedSamples, Fault>
     requires few { room.old ≤ 2 ^ 24 }
     requires base { IsNearer judged.base }
     ensures passed { IfOk result IsPassed }
@@ -134,7 +134,7 @@ fn check_runs<L: Ledger>(
     ensures counted { IfOk result (λ p. steps.new ≡ steps.old
         + length (traf_in (box_seen traf.entry)).runs + p.count) }
 {
-    let mut passed = Passed {
+    let mut passed = PassedSamples {
         at: judged.base,
         count: 0,
         duration: 0,
@@ -182,14 +182,14 @@ fn check_groups<L: Ledger>(
 }
 
 // Whether samples have a description that their track has not.
-fn lacks_description(state: TrackState, index: u32, passed: Passed) -> bool
+fn lacks_description(state: TrackState, index: u32, passed: PassedSamples) -> bool
     ensures { result ≡ (nat_lt 0 passed.count && not (is_index state.descriptions index)) }
 {
     passed.count > 0 && (index < 1 || index > state.descriptions)
 }
 
 // Whether samples begin at another time than is due. The first ones of a track say when it starts.
-fn is_late(state: TrackState, time: Option<u64>, passed: Passed) -> bool
+fn is_late(state: TrackState, time: Option<u64>, passed: PassedSamples) -> bool
     ensures { result ≡ is_late_at state time passed.count }
 {
     match time {
@@ -200,7 +200,7 @@ fn is_late(state: TrackState, time: Option<u64>, passed: Passed) -> bool
 
 // The track behind these samples: with their number, their time and their bytes, if there are any,
 // and with these keys.
-fn moved_on(state: TrackState, time: Option<u64>, passed: Passed, keys: Keys) -> TrackState
+fn moved_on(state: TrackState, time: Option<u64>, passed: PassedSamples, keys: Keys) -> TrackState
     requires room { HasRoom passed.count state }
     requires sums { AreBounded passed.count passed.duration passed.bytes }
     ensures same { (result.id ≡ state.id) × (result.trex ≡ state.trex) }

@@ -30,7 +30,7 @@ const KNOWN: u32 = 0x03_003B;
 
 /// What a `tfhd` says.
 #[derive(Clone, Copy)]
-pub(crate) struct Head {
+pub(crate) struct TrafHead {
     pub(crate) id: u32,
     pub(crate) base: Option<u64>,
     pub(crate) description: Option<u32>,
@@ -63,7 +63,7 @@ fn head_size(bits: u32) -> usize
 
 // The values of a `tfhd` of these flags.
 #[tactic(auto, using(crate::proofs::ColumnValues::tfhd_width))]
-fn head_of(payload: &[u8], bits: u32) -> Head
+fn head_of(payload: &[u8], bits: u32) -> TrafHead
     requires { head_room bits ≤ length payload.now }
     ensures id { result.id ≡ field payload.now 4 4 }
     ensures values { head_values result ≡ column_values bits tfhd_columns (drop 8 payload.now) }
@@ -78,7 +78,7 @@ fn head_of(payload: &[u8], bits: u32) -> Head
     let duration = behind(description, 4, has_description);
     let size = behind(duration, 4, has_duration);
     let flags = behind(size, 4, has_size);
-    Head {
+    TrafHead {
         id: u32_at(payload, 4),
         base: wide_at(payload, 8, has_base),
         description: number_at(payload, description, has_description),
@@ -90,7 +90,7 @@ fn head_of(payload: &[u8], bits: u32) -> Head
 }
 
 /// What the `tfhd` says.
-pub(crate) fn read_head(payload: &[u8]) -> Result<Head, Kind>
+pub(crate) fn read_head(payload: &[u8]) -> Result<TrafHead, Kind>
     ensures head { IfOk result (IsHead payload.now) }
     ensures fault { IfErr result (Fails tfhd payload.now) }
     ensures exact { FirstNamed (leaf_tests tfhd payload.now) result }
@@ -109,7 +109,7 @@ pub(crate) fn read_head(payload: &[u8]) -> Result<Head, Kind>
 }
 
 /// What the samples of the `traf` inherit: from its `tfhd`, else from the `trex` of its track.
-pub(crate) fn what_is_inherited(head: Head, trex: Trex) -> Inherited
+pub(crate) fn what_is_inherited(head: TrafHead, trex: Trex) -> Inherited
     ensures { result ≡ inheritance (as_traf head) trex }
 {
     Inherited {
@@ -134,7 +134,7 @@ pub(crate) fn nothing_inherited() -> Inherited
 
 /// Where the runs of the `traf` are counted from, in a `moof` at this place, where the data of the
 /// `traf` before ends there.
-pub(crate) fn base_of(head: Head, moof: u64, before: i128) -> i128
+pub(crate) fn base_of(head: TrafHead, moof: u64, before: i128) -> i128
     ensures is { result ≡ base_by moof before (as_traf head) }
     ensures bound { (n : ℕ) → 2 ^ 64 ≤ n → IsUpTo n before → IsUpTo n result }
 {

@@ -12,7 +12,7 @@ ghost use Rattle.mp4_frag.specs.words.Walks.{boxes_from, trex_among};
 use crate::box_places::{Lying, box_at};
 use crate::check::{TFHD, TRAF};
 use crate::data_ends::data_end;
-use crate::heads::{Head, base_of, read_head, what_is_inherited};
+use crate::heads::{TrafHead, base_of, read_head, what_is_inherited};
 use crate::places::FragPlace;
 use crate::state::TrackState;
 use crate::traf_samples::{
@@ -22,7 +22,7 @@ use crate::trex::Trex;
 use mp4_tables::{Keys, SampleAt};
 
 // What the `tfhd` of a `traf` says, if it can be read.
-fn head_in(payload: &[u8]) -> Option<Head>
+fn head_in(payload: &[u8]) -> Option<TrafHead>
     ensures { option_map as_traf result ≡ head_among None (boxes_from payload.now 0) }
 {
     let mut head = None;

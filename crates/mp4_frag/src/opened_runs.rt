@@ -11,13 +11,13 @@ use crate::box_places::{Lying, box_at};
 use crate::check::TRUN;
 use crate::heads::Inherited;
 use crate::places::{RowPlace, TrafPlace};
-use crate::run_rows::{Row, Said, row_at, row_size, said_at};
+use crate::run_rows::{ReadRow, SaidRow, row_at, row_size, said_at};
 use crate::trun::read_run;
 use mp4_boxes::Ticket;
 
 /// The next row of a run.
 #[inline]
-pub(crate) fn row_here(payload: &[u8], run: RowPlace) -> Row
+pub(crate) fn row_here(payload: &[u8], run: RowPlace) -> ReadRow
     requires some { 0 < run.left }
     requires place { IsRowPlace payload.now run }
     ensures { rows_here payload.now run
@@ -28,7 +28,7 @@ pub(crate) fn row_here(payload: &[u8], run: RowPlace) -> Row
 
 /// What the next row of a run says, or what is inherited.
 #[inline(always)]
-pub(crate) fn said_here(payload: &[u8], run: RowPlace, inherited: Inherited) -> Said
+pub(crate) fn said_here(payload: &[u8], run: RowPlace, inherited: Inherited) -> SaidRow
     requires some { 0 < run.left }
     requires place { IsRowPlace payload.now run }
     ensures { SaysRow inherited

@@ -20,7 +20,7 @@ const ROW_OFFSET: u32 = 0x00_0800;
 
 /// What stands in a row.
 #[derive(Clone, Copy)]
-pub(crate) struct Row {
+pub(crate) struct ReadRow {
     pub(crate) duration: Option<u32>,
     pub(crate) size: Option<u32>,
     pub(crate) flags: Option<u32>,
@@ -29,7 +29,7 @@ pub(crate) struct Row {
 
 /// What a row says of its sample, or what that inherits where it doesn't say it.
 #[derive(Clone, Copy)]
-pub(crate) struct Said {
+pub(crate) struct SaidRow {
     pub(crate) duration: u32,
     pub(crate) size: u32,
     pub(crate) flags: u32,
@@ -52,7 +52,7 @@ pub(crate) fn row_size(bits: u32) -> usize
 
 // The row at a place.
 #[inline]
-pub(crate) fn row_at(_ticket: Ticket, bytes: &[u8], place: usize, bits: u32) -> Row
+pub(crate) fn row_at(_ticket: Ticket, bytes: &[u8], place: usize, bits: u32) -> ReadRow
     requires { place + row_room bits ≤ length bytes.now }
     ensures { row_values result ≡ column_values bits sample_columns (drop place bytes.now) }
 {
@@ -63,7 +63,7 @@ pub(crate) fn row_at(_ticket: Ticket, bytes: &[u8], place: usize, bits: u32) -> 
     let size = behind(place, 4, has_duration);
     let flags = behind(size, 4, has_size);
     let offset = behind(flags, 4, has_flags);
-    Row {
+    ReadRow {
         duration: number_at(bytes, place, has_duration),
         size: number_at(bytes, size, has_size),
         flags: number_at(bytes, flags, has_flags),
@@ -80,7 +80,7 @@ pub(crate) fn said_at(
     place: usize,
     bits: u32,
     inherited: Inherited,
-) -> Said
+) -> SaidRow
     requires { place + row_room bits ≤ length bytes.now }
     ensures { SaysRow inherited (column_values bits sample_columns (drop place bytes.now)) result }
 {
@@ -95,7 +95,7 @@ pub(crate) fn said_at(
     let has_offset = has(bits, ROW_OFFSET);
     let offset_place = behind(flags_place, 4, has_flags);
     let offset = number_at(bytes, offset_place, has_offset).unwrap_or(0);
-    Said {
+    SaidRow {
         duration,
         size,
         flags,

@@ -8,7 +8,7 @@ ghost use Rattle.mp4_boxes.specs.format.FirstFault.{FirstNamed};
 ghost use Rattle.mp4_frag.specs.words.FragmentTests.{one_run_tests};
 
 use crate::heads::Inherited;
-use crate::run_rows::{Row, row_at, row_size};
+use crate::run_rows::{ReadRow, row_at, row_size};
 use crate::trun::{Run, read_run};
 use mp4_boxes::{Count, Kind, Ticket};
 use std::sync::ledger::Ledger;
@@ -16,7 +16,7 @@ use std::sync::ledger::Ledger;
 /// Samples that were passed: where their data ends, how many there are, how long they last, and how
 /// many bytes they take.
 #[derive(Clone, Copy)]
-pub(crate) struct Passed {
+pub(crate) struct PassedSamples {
     pub(crate) at: i128,
     pub(crate) count: u32,
     pub(crate) duration: u64,
@@ -35,7 +35,7 @@ pub(crate) struct Judged {
 // Samples of a run that were judged. Where one does not lie in the file, those behind it were not
 // passed.
 #[derive(Clone, Copy)]
-struct Samples {
+struct JudgedSamples {
     end: i128,
     duration: u64,
     bytes: u64,
@@ -69,7 +69,7 @@ fn bytes_behind(file_len: u64, at: i128) -> Option<u64>
 }
 
 // What no samples come to: none is there, or one does not lie in the file.
-fn none_passed(end: i128, are_within: bool) -> Samples
+fn none_passed(end: i128, are_within: bool) -> JudgedSamples
     ensures { result ≡ record {
       end = end;
       duration = 0;
@@ -78,7 +78,7 @@ fn none_passed(end: i128, are_within: bool) -> Samples
       are_large = false;
     } }
 {
-    Samples {
+    JudgedSamples {
         end,
         duration: 0,
         bytes: 0,
@@ -89,7 +89,7 @@ fn none_passed(end: i128, are_within: bool) -> Samples
 
 // Whether the offset of the row has no place in 32 bits with a sign, or one before has none.
 #[inline]
-fn is_too_large(before: bool, row: Row) -> bool
+fn is_too_large(before: bool, row: ReadRow) -> bool
     ensures { result ≡ (before || too_large (row.offset ∷ [])) }
 {
     before || matches!(row.offset, Some(offset) if offset >= 0x8000_0000)
@@ -97,7 +97,7 @@ fn is_too_large(before: bool, row: Row) -> bool
 
 // Row `k` of a run.
 #[inline]
-fn row_of(ticket: Ticket, payload: &[u8], run: Run, k: u32) -> Row
+fn row_of(ticket: Ticket, payload: &[u8], run: Run, k: u32) -> ReadRow
     requires rows { HasRows payload.now run }
     requires inside { k < run.count }
     ensures row { rows_left payload.now run k ≡ row_seen run result
@@ -121,7 +121,7 @@ fn take_samples<L: Ledger>(
     behind: u64,
     judged: Judged,
     steps: &mut Count<L>,
-) -> Samples
+) -> JudgedSamples
     requires rows { HasRows payload.now run }
     requires within { behind ≤ judged.file_len }
     ensures within { result.are_within ≡ within_from judged.file_len judged.inherited.size
@@ -146,7 +146,7 @@ fn take_samples<L: Ledger>(
         duration += u64::from(row.duration.unwrap_or(judged.inherited.duration));
         are_large = is_too_large(are_large, row);
     }
-    Samples {
+    JudgedSamples {
         end: i128::from(judged.file_len - left),
         duration,
         bytes: behind - left,
@@ -163,7 +163,7 @@ fn pass_samples<L: Ledger>(
     at: i128,
     judged: Judged,
     steps: &mut Count<L>,
-) -> Samples
+) -> JudgedSamples
     requires rows { HasRows payload.now run }
     requires near { IsNear at }
     ensures within { result.are_within
@@ -181,7 +181,7 @@ fn pass_samples<L: Ledger>(
 }
 
 // Whether an offset is unsigned and has no place in 32 bits with a sign.
-fn have_large_offset(run: Run, samples: Samples) -> bool
+fn have_large_offset(run: Run, samples: JudgedSamples) -> bool
     ensures { result ≡ (not run.is_signed && samples.are_large) }
 {
     !run.is_signed && samples.are_large
@@ -192,10 +192,10 @@ fn have_large_offset(run: Run, samples: Samples) -> bool
 pub(crate) fn check_run<L: Ledger>(
     payload: &[u8],
     judged: Judged,
-    passed: Passed,
+    passed: PassedSamples,
     room: &mut u32,
     steps: &mut Count<L>,
-) -> Result<Passed, Kind>
+) -> Result<PassedSamples, Kind>
     requires few { passed.count + room.old ≤ 2 ^ 24 }
     requires passed { IsPassed passed }
     requires base { IsNearer judged.base }
@@ -219,7 +219,7 @@ pub(crate) fn check_run<L: Ledger>(
         if have_large_offset(run, samples) {
             return Err(Kind::OffsetTooLarge);
         }
-        return Ok(Passed {
+        return Ok(PassedSamples {
             at: samples.end,
             count: passed.count + run.count,
             duration: passed.duration + samples.duration,

@@ -22,7 +22,7 @@ use Rattle.mp4_head.specs.format.Head as heads
 use Rattle.mp4_head.specs.format.Tree.{TrackTree, MovieTree, IsTrackTree, IsSoundTrack, track_head_of, trexes_of}
 use Rattle.mp4_head.specs.declared.heads.MovieHead.{MovieHead}
 use Rattle.mp4_head.specs.declared.heads.TrackHead.{TrackHead}
-use Rattle.mp4_present.specs.declared.opening.Found.{Found}
+use Rattle.mp4_present.specs.declared.opening.FoundTracks.{FoundTracks}
 use Rattle.mp4_present.specs.format.Denotes.{Denotes, FileTree, IsFileTree, IsSoundFile, IsConsistent, sample_of, plain_of, placed_of, first_due, track_of, file_parts, presentation_of}
 use Rattle.mp4_present.specs.words.Measured.{IsMeasured, AreMeasured, IsMeasure}
 use Rattle.mp4_present.specs.words.OpenedMovie.{IsInfoBy, AreInfosBy, IsInfoOf, IsOpenedAs, kept_of, plain_seen}
@@ -240,7 +240,7 @@ module _ (honest : Bool) (file : List ℕ) (o : Outline) (moov : List ℕ) (b : 
   }
 
   -- within the limits
-  pub opened_as : (found : Found) (file_length : ℕ) → found.plain ≡ plain → AllByRecursion (IsInTime (presentation_of file tree).movie.timescale) (presentation_of file tree).tracks → found.mehd ≡ movie_length (presentation_of file tree) → normal_moov_length (presentation_of file tree) ≤ max_moov
+  pub opened_as : (found : FoundTracks) (file_length : ℕ) → found.plain ≡ plain → AllByRecursion (IsInTime (presentation_of file tree).movie.timescale) (presentation_of file tree).tracks → found.mehd ≡ movie_length (presentation_of file tree) → normal_moov_length (presentation_of file tree) ≤ max_moov
       → AreInfosBy head.tracks.items states found.tracks.items → AreOwn says.has.tree p.fragments (map own_seen found.own.items) → file_length ≡ length file → IsOpenedAs file (kept_of o moov file_length found) tree
   opened_as found file_length same times longest short infos own e =
       let k = r.outline told in

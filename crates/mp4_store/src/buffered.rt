@@ -32,7 +32,7 @@ const SHARE: usize = 4;
 
 // How a read follows those from a window.
 #[derive(Clone, Copy)]
-enum Way {
+enum ReadWay {
     On,
     Back,
     Elsewhere,
@@ -137,7 +137,7 @@ impl Window {
     }
 
     // How a read of so many bytes from a place on follows those that were answered from it.
-    fn way(&self, at: u64, count: usize) -> Way {
+    fn way(&self, at: u64, count: usize) -> ReadWay {
         let near = self.len.max(NEAR);
         let (on, back) = if count <= HEADER {
             (near, near)
@@ -145,23 +145,23 @@ impl Window {
             (GAP, GAP_BACK)
         };
         if at >= self.start && at <= self.end().saturating_add(on as u64) {
-            Way::On
+            ReadWay::On
         } else if at < self.start && self.start - at <= count.saturating_add(back) as u64 {
-            Way::Back
+            ReadWay::Back
         } else {
-            Way::Elsewhere
+            ReadWay::Elsewhere
         }
     }
 
     // How many bytes are read ahead for a read of so many: twice as many as were used, where it
     // follows; few for a header elsewhere; else none.
-    fn ahead(&self, way: Way, count: usize) -> usize
+    fn ahead(&self, way: ReadWay, count: usize) -> usize
         ensures { result ≤ 65536 }
     {
         match way {
-            Way::On | Way::Back => self.used.saturating_mul(2).clamp(FEW, MOST),
-            Way::Elsewhere if count <= HEADER => FEW,
-            Way::Elsewhere => 0,
+            ReadWay::On | ReadWay::Back => self.used.saturating_mul(2).clamp(FEW, MOST),
+            ReadWay::Elsewhere if count <= HEADER => FEW,
+            ReadWay::Elsewhere => 0,
         }
     }
 
@@ -187,14 +187,14 @@ impl Window {
     }
 
     // Notes where a read ends that nothing was read ahead for.
-    fn note(&mut self, way: Way, at: u64, count: usize)
+    fn note(&mut self, way: ReadWay, at: u64, count: usize)
         ensures bytes { self.new.bytes ≡ self.old.bytes }
         ensures start { self.new.start ≤ at + count }
         ensures len { self.new.len ≡ 0 }
     {
         self.used = match way {
-            Way::On | Way::Back => self.used_with(count),
-            Way::Elsewhere => 0,
+            ReadWay::On | ReadWay::Back => self.used_with(count),
+            ReadWay::Elsewhere => 0,
         };
         self.start = at.saturating_add(count as u64);
         self.len = 0;
@@ -202,7 +202,7 @@ impl Window {
 
     // Reads ahead for so many bytes from a place on, where that is more than they are by so much
     // that it pays; else notes where they end, if that is no more than a window could pay for.
-    fn prepare<S: Store>(&mut self, store: &mut S, way: Way, at: u64, count: usize)
+    fn prepare<S: Store>(&mut self, store: &mut S, way: ReadWay, at: u64, count: usize)
         requires place { at + count ≤ length (S.file store.old) }
         requires window { IsWindowOf (S.is_honest store.old) (S.file store.old) self.old }
         ensures honesty { S.is_honest store.new ≡ S.is_honest store.old }
@@ -213,8 +213,8 @@ impl Window {
         let ahead = self.ahead(way, count);
         if count <= ahead / SHARE {
             let front = match way {
-                Way::Back => ahead / SHARE,
-                Way::On | Way::Elsewhere => 0,
+                ReadWay::Back => ahead / SHARE,
+                ReadWay::On | ReadWay::Elsewhere => 0,
             };
             let _ = self.fill(store, at.saturating_sub(front as u64), ahead);
         } else if count <= MOST / SHARE {
@@ -324,13 +324,14 @@ impl<S: Store> BufferedStore<S> {
         ensures cause { MayRise (S.read_failures self.old.0) (S.read_failures self.new.0) }
     {
         match self.window.way(at, count) {
-            Way::On => self.window.prepare(&mut self.store, Way::On, at, count),
-            Way::Back => {
+            ReadWay::On => self.window.prepare(&mut self.store, ReadWay::On, at, count),
+            ReadWay::Back => {
                 self.other.used = self.window.used;
                 self.window.used = 0;
-                self.other.prepare(&mut self.store, Way::Back, at, count);
+                self.other
+                    .prepare(&mut self.store, ReadWay::Back, at, count);
             }
-            Way::Elsewhere => {
+            ReadWay::Elsewhere => {
                 let way = self.other.way(at, count);
                 self.other.prepare(&mut self.store, way, at, count);
             }

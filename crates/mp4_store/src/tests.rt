@@ -10,7 +10,7 @@ use std::{fs, io};
 
 // How a writer answers.
 #[derive(Clone, Copy, PartialEq)]
-enum Answer {
+enum WriterAnswer {
     OneByte,
     Nothing,
     Interrupted,
@@ -19,7 +19,7 @@ enum Answer {
 // Keeps the first bytes that it takes.
 #[derive(Drop)]
 struct Slow {
-    answer: Answer,
+    answer: WriterAnswer,
     // So many calls were interrupted.
     interrupted: u8,
     held: [u8; 8],
@@ -29,15 +29,16 @@ struct Slow {
 impl Write for &mut Slow {
     fn write(&mut self, buf: &[u8]) -> io::Result<usize> {
         match self.answer {
-            Answer::Interrupted if self.interrupted < 3 => {
+            WriterAnswer::Interrupted if self.interrupted < 3 => {
                 self.interrupted += 1;
                 Err(io::Error::from(io::ErrorKind::Interrupted))
             }
-            Answer::OneByte | Answer::Interrupted if !buf.is_empty() && self.len < 8 => {
-                self.held[self.len] = buf[0];
-                self.len += 1;
-                Ok(1)
-            }
+            WriterAnswer::OneByte | WriterAnswer::Interrupted if !buf.is_empty() && self.len < 8 =>
+                {
+                    self.held[self.len] = buf[0];
+                    self.len += 1;
+                    Ok(1)
+                }
             _ => Ok(0),
         }
     }
@@ -50,9 +51,9 @@ impl Write for &mut Slow {
 #[test]
 fn writers_of_all_kinds(rt: HostRuntime) {
     for (answer, want) in [
-        (Answer::OneByte, Ok(())),
-        (Answer::Nothing, Err(WriteFailed)),
-        (Answer::Interrupted, Ok(())),
+        (WriterAnswer::OneByte, Ok(())),
+        (WriterAnswer::Nothing, Err(WriteFailed)),
+        (WriterAnswer::Interrupted, Ok(())),
     ] {
         let mut slow = Slow {
             answer,
@@ -62,7 +63,7 @@ fn writers_of_all_kinds(rt: HostRuntime) {
         };
         let mut sink = IoSink::new(&mut slow);
         assert_eq!(rt; sink.put(b"hello"), want);
-        if answer != Answer::Nothing {
+        if answer != WriterAnswer::Nothing {
             assert_eq!(rt; slow.held, *b"hello\0\0\0");
         }
     }

@@ -10,7 +10,7 @@ use Rattle.mp4_tables.specs.words.TablesComing.{row_after, row_in_hand, IsRowPla
 use Rattle.mp4_tables.specs.words.Rows.{offsets_at, offset_width, chunk_rows_at}
 use Rattle.mp4_tables.specs.declared.places.RowsAt.{RowsAt}
 use Rattle.mp4_tables.specs.declared.places.ChunksAt.{ChunksAt}
-use Rattle.mp4_tables.specs.declared.places.RowPlace.{RowPlace}
+use Rattle.mp4_tables.specs.declared.places.ChunkRowPlace.{ChunkRowPlace}
 use Rattle.mp4_tables.specs.declared.places.ChunkPlace.{ChunkPlace}
 use Rattle.mp4_tables.proofs.RowLists.{numbers_more, numbers_all, chunk_rows_all}
 use Rattle.mp4_boxes.proofs.Plain.{and_is_true, nat_le_no, nat_le_yes, nat_lt_is, nat_lt_yes}
@@ -50,17 +50,17 @@ row_taken_up : (before r : ChunkRow) (rows : List ChunkRow) (c : ℕ) → r.firs
 row_taken_up before r rows c h = rw (nat_le_yes r.first c h) (last_from r before (filter (λ row. nat_le row.first c) rows))
 
 -- the row of the place is that of its chunk
-pub row_here : (rows : List ChunkRow) (c : ℕ) (p : RowPlace) (at : IsRowPlace rows c p) → row_of_chunk rows c ≡ row_in_hand at.first p
+pub row_here : (rows : List ChunkRow) (c : ℕ) (p : ChunkRowPlace) (at : IsRowPlace rows c p) → row_of_chunk rows c ≡ row_in_hand at.first p
 row_here rows c p at = at.same c (omega arith) ∙ none_after (row_in_hand at.first p) (drop p.row rows) c at.rising
 
-pub count_here : (rows : List ChunkRow) (c : ℕ) (p : RowPlace) → IsRowPlace rows c p → (row_of_chunk rows c).count ≡ p.samples
+pub count_here : (rows : List ChunkRow) (c : ℕ) (p : ChunkRowPlace) → IsRowPlace rows c p → (row_of_chunk rows c).count ≡ p.samples
 count_here rows c p at = ap (λ (r : ChunkRow). r.count) (row_here rows c p at)
 
-pub description_here : (rows : List ChunkRow) (c : ℕ) (p : RowPlace) → IsRowPlace rows c p → (row_of_chunk rows c).description ≡ p.description
+pub description_here : (rows : List ChunkRow) (c : ℕ) (p : ChunkRowPlace) → IsRowPlace rows c p → (row_of_chunk rows c).description ≡ p.description
 description_here rows c p at = ap (λ (r : ChunkRow). r.description) (row_here rows c p at)
 
 -- the next chunk begins with the next row
-pub row_taken : (rows : List ChunkRow) (c : ℕ) (p : RowPlace) (r : ChunkRow) → IsRowPlace rows c p → drop p.row rows ≡ r ∷ drop (p.row + 1) rows → r.first ≤ c + 1
+pub row_taken : (rows : List ChunkRow) (c : ℕ) (p : ChunkRowPlace) (r : ChunkRow) → IsRowPlace rows c p → drop p.row rows ≡ r ∷ drop (p.row + 1) rows → r.first ≤ c + 1
     → IsRowPlace rows (c + 1) (record { row = p.row + 1; samples = r.count; description = r.description })
 row_taken rows c p r at e h =
     let rise : is_rising_after c (r.first ∷ map (λ (row : ChunkRow). row.first) (drop (p.row + 1) rows)) ≡ true = ap (λ rs. is_rising_after c (map (λ (row : ChunkRow). row.first) rs)) (sym e) ∙ at.rising in
@@ -74,7 +74,7 @@ row_taken rows c p r at e h =
     }
 
 -- it does so behind the last row
-pub row_kept_last : (rows : List ChunkRow) (c : ℕ) (p : RowPlace) → IsRowPlace rows c p → drop p.row rows ≡ [] → IsRowPlace rows (c + 1) p
+pub row_kept_last : (rows : List ChunkRow) (c : ℕ) (p : ChunkRowPlace) → IsRowPlace rows c p → drop p.row rows ≡ [] → IsRowPlace rows (c + 1) p
 row_kept_last rows c p at e = record {
   first = at.first;
   same = λ d l. at.same d (omega arith);
@@ -99,7 +99,7 @@ row_none rows has_chunks e h = record {
   rising = first_order rows (ap (is_chunk_order (map (λ (row : ChunkRow). row.first) rows)) (sym h) ∙ e);
 }
 
-pub row_before : (rows : List ChunkRow) (chunks : ℕ) (p : RowPlace) → is_chunk_order (map (λ (row : ChunkRow). row.first) rows) (nat_lt 0 chunks) ≡ true → p ≡ record { row = 0; samples = 0; description = 0 } → 0 < chunks → IsRowPlace rows 0 p
+pub row_before : (rows : List ChunkRow) (chunks : ℕ) (p : ChunkRowPlace) → is_chunk_order (map (λ (row : ChunkRow). row.first) rows) (nat_lt 0 chunks) ≡ true → p ≡ record { row = 0; samples = 0; description = 0 } → 0 < chunks → IsRowPlace rows 0 p
 row_before rows chunks p e is some = subst (λ q. IsRowPlace rows 0 q) (sym is) (row_none rows (nat_lt 0 chunks) e (nat_lt_yes 0 chunks some))
 
 -- ---- the order of rows
@@ -115,7 +115,7 @@ pub ruleset rising = (rising_more, rising_all)
 -- ---- samples of chunks
 
 -- a place with nothing left opens the next chunk
-pub spots_more : (rows : List ChunkRow) (offsets : List ℕ) (k at : ℕ) (was p : RowPlace) (offset : ℕ) → drop k offsets ≡ offset ∷ drop (k + 1) offsets → IsRowPlace rows (k + 1) p
+pub spots_more : (rows : List ChunkRow) (offsets : List ℕ) (k at : ℕ) (was p : ChunkRowPlace) (offset : ℕ) → drop k offsets ≡ offset ∷ drop (k + 1) offsets → IsRowPlace rows (k + 1) p
     → spots_coming rows offsets (record { opened = k; row = was; left = 0; at = at }) ≡ spots_coming rows offsets (record { opened = k + 1; row = p; left = p.samples; at = offset })
 unfolding spots_coming
 spots_more rows offsets k at was p offset e row =
@@ -125,7 +125,7 @@ spots_more rows offsets k at was p offset e row =
     ≡ laid_out (pos offset) p.description (take p.samples sizes) ++ in_chunks rows (k + 1 + 1) (drop (k + 1) offsets) (drop p.samples sizes) = λ sizes. rw (count, description) refl in
     λ i sizes. (ap (λ os. in_chunks rows (k + 1) os sizes) e ∙ opens sizes) i
 
-pub spots_all : (rows : List ChunkRow) (offsets : List ℕ) (k at : ℕ) (was : RowPlace) → drop k offsets ≡ [] → spots_coming rows offsets (record { opened = k; row = was; left = 0; at = at }) ≡ no_spots
+pub spots_all : (rows : List ChunkRow) (offsets : List ℕ) (k at : ℕ) (was : ChunkRowPlace) → drop k offsets ≡ [] → spots_coming rows offsets (record { opened = k; row = was; left = 0; at = at }) ≡ no_spots
 unfolding spots_coming
 spots_all rows offsets k at was e = λ i sizes. ap (λ os. in_chunks rows (k + 1) os sizes) e i
 
@@ -138,7 +138,7 @@ spots_first rows offsets p size sizes h =
     ap (λ n. laid_out (pos p.at) p.row.description (take n (size ∷ sizes)) ++ in_chunks rows (p.opened + 1) (drop p.opened offsets) (drop n (size ∷ sizes))) e
 
 -- how many samples the chunks from the next one on hold
-pub samples_more : (payload : List ℕ) (chunks : ChunksAt) (rows : List ChunkRow) (k : ℕ) (p : RowPlace) → k < chunks.rows.count → IsRowPlace rows (k + 1) p
+pub samples_more : (payload : List ℕ) (chunks : ChunksAt) (rows : List ChunkRow) (k : ℕ) (p : ChunkRowPlace) → k < chunks.rows.count → IsRowPlace rows (k + 1) p
     → in_chunks_total rows (k + 1) (drop k (offsets_at payload chunks)) ≡ p.samples + in_chunks_total rows (k + 1 + 1) (drop (k + 1) (offsets_at payload chunks))
 samples_more payload chunks rows k p h at =
     ap (in_chunks_total rows (k + 1)) (numbers_more (offset_width chunks.is_wide) payload chunks.rows k h)
@@ -148,19 +148,19 @@ pub samples_all : (payload : List ℕ) (chunks : ChunksAt) (rows : List ChunkRow
 samples_all payload chunks rows k h = ap (in_chunks_total rows (k + 1)) (numbers_all (offset_width chunks.is_wide) payload chunks.rows k h)
 
 -- whether the chunks from the next one on have descriptions
-described_more : (payload : List ℕ) (chunks : ChunksAt) (rows : List ChunkRow) (n k : ℕ) (p : RowPlace) → k < chunks.rows.count → IsRowPlace rows (k + 1) p
+described_more : (payload : List ℕ) (chunks : ChunksAt) (rows : List ChunkRow) (n k : ℕ) (p : ChunkRowPlace) → k < chunks.rows.count → IsRowPlace rows (k + 1) p
     → are_described n rows (k + 1) (drop k (offsets_at payload chunks)) ≡ ((nat_eq p.samples 0 || is_index n p.description) && are_described n rows (k + 1 + 1) (drop (k + 1) (offsets_at payload chunks)))
 described_more payload chunks rows n k p h at =
     ap (are_described n rows (k + 1)) (numbers_more (offset_width chunks.is_wide) payload chunks.rows k h)
     ∙ (let count = count_here rows (k + 1) p at in let description = description_here rows (k + 1) p at in
     λ i. (nat_eq (count i) 0 || is_index n (description i)) && are_described n rows (k + 1 + 1) (drop (k + 1) (offsets_at payload chunks)))
 
-pub described_yes : (payload : List ℕ) (chunks : ChunksAt) (rows : List ChunkRow) (n k : ℕ) (p : RowPlace) → k < chunks.rows.count → IsRowPlace rows (k + 1) p
+pub described_yes : (payload : List ℕ) (chunks : ChunksAt) (rows : List ChunkRow) (n k : ℕ) (p : ChunkRowPlace) → k < chunks.rows.count → IsRowPlace rows (k + 1) p
     → (nat_eq p.samples 0 || is_index n p.description) ≡ true → are_described n rows (k + 1) (drop k (offsets_at payload chunks)) ≡ are_described n rows (k + 1 + 1) (drop (k + 1) (offsets_at payload chunks))
 described_yes payload chunks rows n k p h at e =
     described_more payload chunks rows n k p h at ∙ ap (λ b. b && are_described n rows (k + 1 + 1) (drop (k + 1) (offsets_at payload chunks))) e
 
-pub described_no : (payload : List ℕ) (chunks : ChunksAt) (rows : List ChunkRow) (n k : ℕ) (p : RowPlace) → k < chunks.rows.count → IsRowPlace rows (k + 1) p
+pub described_no : (payload : List ℕ) (chunks : ChunksAt) (rows : List ChunkRow) (n k : ℕ) (p : ChunkRowPlace) → k < chunks.rows.count → IsRowPlace rows (k + 1) p
     → (nat_eq p.samples 0 || is_index n p.description) ≡ false → are_described n rows (k + 1) (drop k (offsets_at payload chunks)) ≡ false
 described_no payload chunks rows n k p h at e =
     described_more payload chunks rows n k p h at ∙ ap (λ b. b && are_described n rows (k + 1 + 1) (drop (k + 1) (offsets_at payload chunks))) e
@@ -169,7 +169,7 @@ pub described_all : (payload : List ℕ) (chunks : ChunksAt) (rows : List ChunkR
 described_all payload chunks rows n k h = ap (are_described n rows (k + 1)) (numbers_all (offset_width chunks.is_wide) payload chunks.rows k h)
 
 -- a place with nothing left opens the next chunk, and behind the last there are no samples
-pub opened_more : (payload : List ℕ) (chunks : ChunksAt) (rows : List ChunkRow) (k at offset : ℕ) (was p : RowPlace) → drop k (offsets_at payload chunks) ≡ offset ∷ drop (k + 1) (offsets_at payload chunks) → IsRowPlace rows (k + 1) p
+pub opened_more : (payload : List ℕ) (chunks : ChunksAt) (rows : List ChunkRow) (k at offset : ℕ) (was p : ChunkRowPlace) → drop k (offsets_at payload chunks) ≡ offset ∷ drop (k + 1) (offsets_at payload chunks) → IsRowPlace rows (k + 1) p
     → spots_coming rows (offsets_at payload chunks) (record { opened = k + 1; row = p; left = p.samples; at = offset }) ≡ spots_coming rows (offsets_at payload chunks) (record { opened = k; row = was; left = 0; at = at })
 opened_more payload chunks rows k at offset was p e row = sym (spots_more rows (offsets_at payload chunks) k at was p offset e row)
 

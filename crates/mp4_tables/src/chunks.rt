@@ -8,17 +8,17 @@ ghost use Rattle.mp4_tables.specs.words.Stops.{StopsIn};
 ghost use Rattle.mp4_tables.specs.words.TablesComing.{IsRowPlace, spots_coming, no_spots, next_spot, IsChunkPlace};
 ghost use Rattle.mp4_tables.specs.words.TablesComing.{are_described as described_from};
 
-use crate::places::{ChunkPlace, ChunksAt, RowPlace, RowsAt};
+use crate::places::{ChunkPlace, ChunkRowPlace, ChunksAt, RowsAt};
 use crate::table_rows::{chunk_row_at, offset_at};
 use mp4_boxes::{Count, Ticket};
 use std::sync::ledger::Ledger;
 
 // Before the first row.
 #[inline]
-pub(crate) fn no_row() -> RowPlace
+pub(crate) fn no_row() -> ChunkRowPlace
     ensures { result ≡ record { row = 0; samples = 0; description = 0 } }
 {
-    RowPlace {
+    ChunkRowPlace {
         row: 0,
         samples: 0,
         description: 0,
@@ -32,8 +32,8 @@ pub(crate) fn next_row(
     payload: &[u8],
     rows: RowsAt,
     opened: u32,
-    place: RowPlace,
-) -> RowPlace
+    place: ChunkRowPlace,
+) -> ChunkRowPlace
     requires room { HaveRoom 12 payload.now rows }
     requires at { IsRowPlace (chunk_rows_at payload.now rows) opened place }
     requires within { place.row ≤ rows.count }
@@ -44,7 +44,7 @@ pub(crate) fn next_row(
     if place.row < rows.count {
         let row = chunk_row_at(ticket, payload, rows, place.row);
         if u64::from(row.first) <= u64::from(opened) + 1 {
-            return RowPlace {
+            return ChunkRowPlace {
                 row: place.row + 1,
                 samples: row.count,
                 description: row.description,
@@ -127,7 +127,7 @@ pub(crate) fn chunk_counts_are<L: Ledger>(
 }
 
 // Whether the chunk holds no samples, or its description is one of so many.
-fn has_description(place: RowPlace, descriptions: u32) -> bool
+fn has_description(place: ChunkRowPlace, descriptions: u32) -> bool
     ensures { result ≡ (nat_eq place.samples 0 || is_index descriptions place.description) }
 {
     place.samples == 0 || (1 <= place.description && place.description <= descriptions)

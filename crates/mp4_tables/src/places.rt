@@ -81,7 +81,7 @@ pub(crate) struct RunPlace {
 
 /// A place in the rows of `stsc`: the row behind the one that holds, and what that one says.
 #[derive(Clone, Copy)]
-pub(crate) struct RowPlace {
+pub(crate) struct ChunkRowPlace {
     pub(crate) row: u32,
     pub(crate) samples: u32,
     pub(crate) description: u32,
@@ -92,7 +92,7 @@ pub(crate) struct RowPlace {
 #[derive(Clone, Copy)]
 pub(crate) struct ChunkPlace {
     pub(crate) opened: u32,
-    pub(crate) row: RowPlace,
+    pub(crate) row: ChunkRowPlace,
     pub(crate) left: u32,
     pub(crate) at: u64,
 }

@@ -7,7 +7,7 @@ use mp4_boxes::{Ticket, u32_at, u64_at};
 
 /// A row of a count and a value: of `stts`, `ctts` or `sbgp`.
 #[derive(Clone, Copy)]
-pub(crate) struct Run {
+pub(crate) struct CountedRow {
     pub(crate) count: u32,
     pub(crate) value: u32,
 }
@@ -23,14 +23,14 @@ pub(crate) struct ChunkRow {
 // Row `k` of a count and a value.
 #[inline]
 #[tactic(auto, using(crate::proofs::RowLists::runs_more))]
-pub(crate) fn run_at(_ticket: Ticket, payload: &[u8], rows: RowsAt, k: u32) -> Run
+pub(crate) fn run_at(_ticket: Ticket, payload: &[u8], rows: RowsAt, k: u32) -> CountedRow
     requires room { HaveRoom 8 payload.now rows }
     requires inside { k < rows.count }
     ensures { drop k (runs_at payload.now rows) ≡ (result.count, result.value)
         ∷ drop (k + 1) (runs_at payload.now rows) }
 {
     let at = rows.place + 8 * k as usize;
-    Run {
+    CountedRow {
         count: u32_at(payload, at),
         value: u32_at(payload, at + 4),
     }

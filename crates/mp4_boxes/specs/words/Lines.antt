@@ -3,7 +3,7 @@ use Rattle.std.specs.Prelude.{ℕ, List, map}
 use Rattle.mp4_boxes.specs.format.Children.{Line, Quantity, one, at_most_one, any}
 use Rattle.mp4_boxes.specs.declared.rule.Quantity.{Quantity as RuleQuantity}
 use Rattle.mp4_boxes.specs.declared.rule.Quantity.TheVariants as quantities
-use Rattle.mp4_boxes.specs.declared.rule.Line.{Line as RuleLine}
+use Rattle.mp4_boxes.specs.declared.rule.RuleLine.{RuleLine}
 use Rattle.mp4_boxes.specs.declared.four_cc.FourCc.{FourCc}
 
 abbrev pub quantity_seen : RuleQuantity → Quantity

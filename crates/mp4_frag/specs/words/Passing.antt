@@ -8,11 +8,11 @@ use Rattle.mp4_frag.specs.declared.heads.Inherited.{Inherited}
 use Rattle.mp4_boxes.specs.format.Layout.{run_offsets, too_large, trun, row_count, IsSound}
 use Rattle.mp4_tables.specs.format.Tables.{composition_offset}
 use Rattle.mp4_tables.specs.declared.keys.Keys.{Keys}
-use Rattle.mp4_frag.specs.declared.run_rows.Row.{Row}
+use Rattle.mp4_frag.specs.declared.run_rows.ReadRow.{ReadRow}
 use Rattle.mp4_frag.specs.declared.trun.Run.{Run}
 use Rattle.mp4_frag.specs.declared.sample_runs.Judged.{Judged}
-use Rattle.mp4_frag.specs.declared.sample_runs.Passed.{Passed}
-use Rattle.mp4_frag.specs.declared.sample_runs.Samples.{Samples}
+use Rattle.mp4_frag.specs.declared.sample_runs.PassedSamples.{PassedSamples}
+use Rattle.mp4_frag.specs.declared.sample_runs.JudgedSamples.{JudgedSamples}
 use Rattle.mp4_frag.specs.declared.state.TrackState.{TrackState}
 
 -- places that are far from the limits of 128 bits
@@ -54,7 +54,7 @@ unfoldable pub offsets_left : List ℕ → Run → ℕ → List (Option ℕ)
 offsets_left payload run k = run_offsets (run.count - k) run.bits (bytes_left payload run k)
 
 -- what a row says
-abbrev pub row_seen : Run → Row → RunRow
+abbrev pub row_seen : Run → ReadRow → RunRow
 row_seen run row = record {
   duration = row.duration;
   size = row.size;
@@ -86,7 +86,7 @@ filling size (row ∷ rows) = unwrap_or row.size size + filling size rows
 
 -- the samples of all rows of a run, from a place on: where their data ends, how long they last, how
 -- many bytes they take, and whether an offset is too large
-pub record AreSamplesOf (judged : Judged) (at : ℤ) (payload : List ℕ) (run : Run) (s : Samples)
+pub record AreSamplesOf (judged : Judged) (at : ℤ) (payload : List ℕ) (run : Run) (s : JudgedSamples)
     : Type 0 where
   pub end : s.end ≡ end_from judged.inherited.size at (rows_left payload run 0)
   pub duration : s.duration ≡ lasting judged.inherited.duration (rows_left payload run 0)
@@ -99,7 +99,7 @@ pub record AreBounded (count lasts fills : ℕ) : Type 0 where
   pub bytes : fills ≤ 2 ^ 32 * count
 
 -- those that were passed do, and their data ends far from the limits of 128 bits
-pub record IsPassed (p : Passed) : Type 0 where
+pub record IsPassed (p : PassedSamples) : Type 0 where
   pub near : IsNear p.at
   pub sums : AreBounded p.count p.duration p.bytes
 
@@ -118,7 +118,7 @@ abbrev pub due_with : TrackState → Option ℕ → ℕ
 due_with state time = if state.count == 0 then unwrap_or time 0 else state.time
 
 -- the track behind such samples, with these keys
-abbrev pub state_with : TrackState → Option ℕ → Passed → Keys → TrackState
+abbrev pub state_with : TrackState → Option ℕ → PassedSamples → Keys → TrackState
 state_with state time passed keys = record state {
   start = start_with state time;
   count = state.count + passed.count;
@@ -143,8 +143,8 @@ pub record IsRunPassed (file_length : ℕ) (inherited : Inherited) (base before 
   pub bytes : fills ≡ filling inherited.size (sample_run_of payload).rows
 
 -- samples were passed, and now those of one run more, for which there was room
-pub record IsPassedWith (judged : Judged) (payload : List ℕ) (old : Passed) (room less : ℕ)
-    (new : Passed) : Type 0 where
+pub record IsPassedWith (judged : Judged) (payload : List ℕ) (old : PassedSamples) (room less : ℕ)
+    (new : PassedSamples) : Type 0 where
   pub run : IsRunPassed judged.file_len judged.inherited judged.base old.at payload new.at
       (new.count - old.count) (new.duration - old.duration) (new.bytes - old.bytes)
   pub count : old.count ≤ new.count

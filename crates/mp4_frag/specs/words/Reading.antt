@@ -7,18 +7,18 @@ use Rattle.mp4_frag.specs.format.Fragments.{column, TrackFragment}
 use Rattle.mp4_frag.specs.format.FragmentSamples.{base_of}
 use Rattle.mp4_frag.specs.declared.heads.Inherited.{Inherited}
 use Rattle.mp4_frag.specs.declared.trex.Trex.{Trex}
-use Rattle.mp4_frag.specs.declared.run_rows.Row.{Row}
-use Rattle.mp4_frag.specs.declared.run_rows.Said.{Said}
+use Rattle.mp4_frag.specs.declared.run_rows.ReadRow.{ReadRow}
+use Rattle.mp4_frag.specs.declared.run_rows.SaidRow.{SaidRow}
 use Rattle.mp4_frag.specs.declared.trun.Run.{Run}
-use Rattle.mp4_frag.specs.declared.heads.Head.{Head}
+use Rattle.mp4_frag.specs.declared.heads.TrafHead.{TrafHead}
 
 -- the values in a row of `trun`
-abbrev pub row_values : Row → List (Option ℕ)
+abbrev pub row_values : ReadRow → List (Option ℕ)
 row_values row = row.duration ∷ row.size ∷ row.flags ∷ row.offset ∷ []
 
 -- these are the values of a row, or what is inherited where one isn't there
-pub record SaysRow (inherited : Inherited) (values : List (Option ℕ)) (said : Said) : Type 0 where
-  pub row : Row
+pub record SaysRow (inherited : Inherited) (values : List (Option ℕ)) (said : SaidRow) : Type 0 where
+  pub row : ReadRow
   pub is : row_values row ≡ values
   pub duration : said.duration ≡ unwrap_or row.duration inherited.duration
   pub size : said.size ≡ unwrap_or row.size inherited.size
@@ -26,11 +26,11 @@ pub record SaysRow (inherited : Inherited) (values : List (Option ℕ)) (said : 
   pub offset : said.offset ≡ unwrap_or row.offset 0
 
 -- the optional values of a `tfhd`
-abbrev pub head_values : Head → List (Option ℕ)
+abbrev pub head_values : TrafHead → List (Option ℕ)
 head_values head = head.base ∷ head.description ∷ head.duration ∷ head.size ∷ head.flags ∷ []
 
 -- what was read of a `tfhd`
-pub record IsHead (payload : List ℕ) (head : Head) : Type 0 where
+pub record IsHead (payload : List ℕ) (head : TrafHead) : Type 0 where
   pub id : head.id ≡ slice_index (leaf_fields tfhd payload) 2
   pub values : head_values head ≡ column_values (flags payload) tfhd_columns (drop 8 payload)
   pub base_is_moof : head.base_is_moof ≡ has (flags payload) default_base_is_moof
@@ -51,7 +51,7 @@ pub record IsRun (payload : List ℕ) (run : Run) : Type 0 where
   pub readable : IsReadable trun payload
 
 -- a `traf` of this `tfhd`
-abbrev pub as_traf : Head → TrackFragment
+abbrev pub as_traf : TrafHead → TrackFragment
 as_traf head = record {
   id = head.id;
   base_data_offset = head.base;
@@ -69,7 +69,7 @@ as_traf head = record {
 -- of the `traf` before ends there
 abbrev pub IsBaseIn : List ℕ → ℕ → ℤ → ℤ → Type 0
 IsBaseIn payload moof before base =
-    (head : Head) × IsHead payload head × (base ≡ base_of moof before (as_traf head))
+    (head : TrafHead) × IsHead payload head × (base ≡ base_of moof before (as_traf head))
 
 -- what the samples of a `traf` inherit
 abbrev pub inheritance : TrackFragment → Trex → Inherited

@@ -10,7 +10,7 @@ use Rattle.mp4_frag.specs.words.Passing.{within_from, end_from, lasting, filling
 use Rattle.mp4_frag.specs.words.Walks.{boxes_in}
 use Rattle.mp4_frag.specs.declared.heads.Inherited.{Inherited}
 use Rattle.mp4_frag.specs.declared.sample_runs.Judged.{Judged}
-use Rattle.mp4_frag.specs.declared.sample_runs.Passed.{Passed}
+use Rattle.mp4_frag.specs.declared.sample_runs.PassedSamples.{PassedSamples}
 
 -- the boxes in a box
 abbrev pub children_of : Box → List Box
@@ -72,7 +72,7 @@ runs_filling inherited runs =
 
 -- the runs are sound, and these are their samples: where their data ends, how many there are, how
 -- long they last, and how many bytes they take
-pub record AreRunsPassed (judged : Judged) (runs : List Box) (p : Passed) : Type 0 where
+pub record AreRunsPassed (judged : Judged) (runs : List Box) (p : PassedSamples) : Type 0 where
   pub sound : AreRunsSound judged.file_len judged.inherited judged.base judged.base runs
   pub end : p.at ≡ all_end judged.inherited judged.base judged.base runs
   pub count : p.count ≡ runs_total runs

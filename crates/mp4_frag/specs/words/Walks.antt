@@ -21,7 +21,7 @@ use Rattle.mp4_frag.specs.words.FragmentsSeen.{CursorSeen}
 use Rattle.mp4_frag.specs.declared.heads.Inherited.{Inherited}
 use Rattle.mp4_frag.specs.declared.places.TrafPlace.{TrafPlace}
 use Rattle.mp4_frag.specs.declared.places.RowPlace.{RowPlace}
-use Rattle.mp4_frag.specs.declared.run_rows.Row.{Row}
+use Rattle.mp4_frag.specs.declared.run_rows.ReadRow.{ReadRow}
 use Rattle.mp4_frag.specs.declared.state.TrackState.{TrackState}
 use Rattle.mp4_frag.specs.declared.trex.Trex.{Trex}
 
@@ -224,7 +224,7 @@ boxes_coming base id trex number dts keys boxes = cond (are_named id false boxes
 -- ---- places
 
 -- what stands in a row, with its composition offset as of version 1
-abbrev pub row_signed : Row → RunRow
+abbrev pub row_signed : ReadRow → RunRow
 row_signed row = record {
   duration = row.duration;
   size = row.size;

@@ -20,7 +20,7 @@ use Rattle.mp4_present.specs.words.Movies.{MovieSeen, moov_box, table_bytes}
 use Rattle.mp4_present.specs.words.Outline.{longest}
 use Rattle.mp4_frag.specs.declared.state.TrackState.{TrackState}
 use Rattle.mp4_head.specs.declared.heads.TrackHead.{TrackHead}
-use Rattle.mp4_present.specs.declared.opening.Found.{Found}
+use Rattle.mp4_present.specs.declared.opening.FoundTracks.{FoundTracks}
 use Rattle.mp4_present.specs.declared.opening.outline.Outline.{Outline}
 use Rattle.mp4_present.specs.declared.movie.TrackTables.{TrackTables}
 use Rattle.mp4_present.specs.declared.track_info.TrackInfo.{TrackInfo}
@@ -115,7 +115,7 @@ OpensAs file m = (p : Presentation) × Denotes file p × IsMovieIn p m
 
 -- what is kept of a file of so many bytes, with this outline and this `moov`, of which this was
 -- found
-abbrev pub kept_of : Outline → List ℕ → ℕ → Found → MovieSeen
+abbrev pub kept_of : Outline → List ℕ → ℕ → FoundTracks → MovieSeen
 kept_of o moov file_length f = record {
   top = o.moov;
   moov = moov;

@@ -24,7 +24,7 @@ use Rattle.mp4_present.specs.words.OwnTrafs.{AreOwnBehind}
 use Rattle.mp4_present.specs.words.PassedMoofs.{IsBegun, IsPassed}
 use Rattle.mp4_present.specs.words.Reading.{IsTopHeader}
 use Rattle.mp4_present.specs.words.WalkSteps.{IfNoFault, least_steps, opening_steps}
-use Rattle.mp4_present.specs.declared.opening.Found.{Found}
+use Rattle.mp4_present.specs.declared.opening.FoundTracks.{FoundTracks}
 use Rattle.mp4_present.specs.declared.opening.outline.Outline.{Outline}
 use Rattle.mp4_present.specs.declared.opening.outline.Seen.{Seen}
 use Rattle.mp4_present.specs.declared.track_info.TrackInfo.{TrackInfo}
@@ -38,7 +38,7 @@ ids_of tracks = map (λ (t : TrackInfo). t.id) tracks
 
 -- the tables of all tracks that were found are plain in these bytes of a `moov`, and which `traf`s
 -- each has is noted
-pub record HasTables (moov : List ℕ) (f : Found) : Type 0 where
+pub record HasTables (moov : List ℕ) (f : FoundTracks) : Type 0 where
   pub plain : ArePlain moov (length f.tracks.items) f.plain
   pub own : length f.own.items ≡ length f.tracks.items
 

@@ -36,7 +36,7 @@ use std::sync::ledger::Ledger;
 
 // What is found of the tracks of a file.
 #[derive(Drop)]
-struct Found {
+struct FoundTracks {
     plain: PlainTracks,
     tracks: Vec<TrackInfo>,
     own: Vec<OwnTrafs>,
@@ -86,7 +86,7 @@ fn find<S: Store, L: Ledger, M: Ledger>(
     outline: &Outline,
     moov: &[u8],
     steps: &mut Steps<L, M>,
-) -> Result<Found, Refusal>
+) -> Result<FoundTracks, Refusal>
     requires moov { Fills (length moov.now) outline.now.moov
         × WhereHonest S.Store store.old (λ file. IsPayloadIn file outline.now moov.now) }
     requires outline { HasOutline (S.is_honest store.old) (S.file store.old) outline.now
@@ -114,7 +114,7 @@ fn find<S: Store, L: Ledger, M: Ledger>(
     let passed = check_fragments(alloc, store, known, &mut None, steps)?;
     let mehd = check_limits(view, &head, passed.states.as_slice())?;
     let tracks = infos_of(alloc, &head, passed.states.as_slice())?;
-    Ok(Found {
+    Ok(FoundTracks {
         plain,
         tracks,
         own: passed.own,
@@ -145,7 +145,7 @@ pub fn open_movie<S: Store, L: Ledger, M: Ledger>(
     let at = outline.moov.payload_offset();
     let moov = read_bytes(alloc, store, at, outline.moov.header.end - at)?;
     let file_len = store.len();
-    let Found {
+    let FoundTracks {
         plain,
         tracks,
         own,

@@ -6,7 +6,7 @@ use Rattle.mp4_tables.specs.format.Tables.{ChunkRow}
 use Rattle.mp4_tables.specs.format.PlainSamples.{Spot, row_of_chunk, laid_out, in_chunks}
 use Rattle.mp4_tables.specs.format.TableRules.{is_rising_after, is_index, lies_within}
 use Rattle.mp4_tables.specs.declared.places.RunPlace.{RunPlace}
-use Rattle.mp4_tables.specs.declared.places.RowPlace.{RowPlace}
+use Rattle.mp4_tables.specs.declared.places.ChunkRowPlace.{ChunkRowPlace}
 use Rattle.mp4_tables.specs.declared.places.ChunkPlace.{ChunkPlace}
 use Rattle.mp4_tables.specs.declared.places.SyncPlace.{SyncPlace}
 
@@ -30,11 +30,11 @@ all_below bound runs = list_all (λ run. nat_lt run.1 bound) runs
 abbrev pub row_after : ChunkRow → List ChunkRow → ℕ → ChunkRow
 row_after before rows c = unwrap_or (last_or None (filter (λ row. nat_le row.first c) rows)) before
 
-abbrev pub row_in_hand : ℕ → RowPlace → ChunkRow
+abbrev pub row_in_hand : ℕ → ChunkRowPlace → ChunkRow
 row_in_hand first p = record { first = first; count = p.samples; description = p.description }
 
 -- the place has the row of chunk c, and the rows behind it begin behind that chunk
-pub record IsRowPlace (rows : List ChunkRow) (c : ℕ) (p : RowPlace) : Type 0 where
+pub record IsRowPlace (rows : List ChunkRow) (c : ℕ) (p : ChunkRowPlace) : Type 0 where
   pub first : ℕ
   pub same : (d : ℕ) → c ≤ d
       → row_of_chunk rows d ≡ row_after (row_in_hand first p) (drop p.row rows) d

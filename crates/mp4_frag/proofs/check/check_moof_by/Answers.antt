@@ -10,9 +10,10 @@ use Rattle.mp4_frag.proofs.check.check_moof_by.Goals as goal
 
 pub returns-clause-sound : goal.returns-clause-sound
 returns-clause-sound g c =
-    let short : c.args.file_len < 2 ^ 64 = search rules in
-    (passed_sound c.args.file_len (box_seen c.args.moof) _ _ _ _ _ short c.in_ok-check_trafs.ensures.passed c.in_ok-boxes.ensures.holds,
-    c.in_ok-check_trafs.ensures.passed.moved)
+    let short : c.args.file_len < 2 ^ 64 = search rules in (
+      passed_sound c.args.file_len (box_seen c.args.moof) _ _ _ _ _ short c.in_ok-check_trafs.ensures.passed c.in_ok-boxes.ensures.holds,
+      c.in_ok-check_trafs.ensures.passed.moved,
+    )
 
 pub returns-clause-accepted : goal.returns-clause-accepted
 returns-clause-accepted g c =

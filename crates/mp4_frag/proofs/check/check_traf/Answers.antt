@@ -72,29 +72,30 @@ returns-clause-passed g c =
     let taken = c.in_ok-passed.ensures.taken in
     let few : c.moved_on.result.count + c.check_runs.new.room ≤ 2 ^ 24 = rw count (omega arith) in
     let less : c.check_runs.new.room ≤ c.args.room.now = omega arith in
-    let with : HasRoom c.check_runs.new.room c.moved_on.result = record { few = few; time = c.moved_on.ensures.room.time; bytes = c.moved_on.ensures.room.bytes } in
-    (record {
-      holds = c.in_ok-heads.ensures.holds;
-      sound = rw kept (traf_sound c.args.at.file_len c.args.at.moof c.in_ok-passed.passed.count c.args.at.before c.base_of.result c.in_ok-passed.passed.at c.args.tracks.now boxes (box_seen c.in-Some.tfhd) c.in_ok-head.head c.in-Some-trex.trex
-          c.what_is_inherited.result (keys_seen c.index-tracks-k.result.keys)
-          head c.in_ok-head.ensures.head known c.in_ok-time.ensures.sound (rw before at c.base_of.ensures.is) c.what_is_inherited.ensures (rw same at c.in_ok-passed.ensures.runs.sound) (rw same at c.in_ok-passed.ensures.runs.end) c.in_ok-passed.ensures.runs.count c.in_ok-keys.ensures.sound);
-      bound = λ n big near.
-          let base : IsUpTo n c.base_of.result = (rw before at c.base_of.ensures.bound) n big near in
-          rw kept ((rw same at c.in_ok-passed.ensures.bound) n big base);
-      moved = traf_moved c.args.at.moof c.in_ok-passed.passed.count c.in_ok-passed.passed.duration c.in_ok-passed.passed.bytes c.in-Some-find.k c.args.room.now c.check_runs.new.room c.args.at.before c.args.tracks.now _ c.index-tracks-k.result c.moved_on.result boxes (box_seen c.in-Some.tfhd)
-          c.in_ok-head.head c.in-Some-trex.trex c.what_is_inherited.result c.in_ok-keys.keys c.in_ok-time.time
-          head c.in_ok-head.ensures.head
-          c.in-Some-find.ensures.inside c.in-Some-find.ensures.there.found c.in-Some-find.ensures.there.first c.index-tracks-k.is c.in-Some-trex.is c.what_is_inherited.ensures c.in_ok-passed.ensures.runs.count c.in_ok-passed.ensures.runs.lasting c.in_ok-passed.ensures.runs.filling
-          c.in_ok-keys.ensures.sound c.in_ok-keys.ensures.keys (sym c.if-lacks_description.ensures) late c.in_ok-time.ensures.time m.none m.some c.in_ok-passed.ensures.taken;
-    },
-    record {
-      few = less;
-      each = room_with c.check_runs.new.room c.in-Some-find.k c.args.tracks.now c.moved_on.result with
-          (less_room c.args.room.now c.check_runs.new.room c.args.tracks.now less c.requires.room.each);
-      same = λ id.
-          trex_same c.args.tracks.now c.in-Some-find.k _ c.moved_on.result id c.in-Some-find.ensures.inside (c.moved_on.ensures.same.0 ∙ ap (λ t. t.id) c.index-tracks-k.is) (c.moved_on.ensures.same.1 ∙ ap (λ t. t.trex) c.index-tracks-k.is);
-      ids = ids_set c.in-Some-find.k c.args.tracks.now _ c.moved_on.result c.in-Some-find.ensures.inside (c.moved_on.ensures.same.0 ∙ ap (λ (t : TrackState). t.id) c.index-tracks-k.is);
-    })
+    let with : HasRoom c.check_runs.new.room c.moved_on.result = record { few = few; time = c.moved_on.ensures.room.time; bytes = c.moved_on.ensures.room.bytes } in (
+      record {
+        holds = c.in_ok-heads.ensures.holds;
+        sound = rw kept (traf_sound c.args.at.file_len c.args.at.moof c.in_ok-passed.passed.count c.args.at.before c.base_of.result c.in_ok-passed.passed.at c.args.tracks.now boxes (box_seen c.in-Some.tfhd) c.in_ok-head.head c.in-Some-trex.trex
+            c.what_is_inherited.result (keys_seen c.index-tracks-k.result.keys)
+            head c.in_ok-head.ensures.head known c.in_ok-time.ensures.sound (rw before at c.base_of.ensures.is) c.what_is_inherited.ensures (rw same at c.in_ok-passed.ensures.runs.sound) (rw same at c.in_ok-passed.ensures.runs.end) c.in_ok-passed.ensures.runs.count c.in_ok-keys.ensures.sound);
+        bound = λ n big near.
+            let base : IsUpTo n c.base_of.result = (rw before at c.base_of.ensures.bound) n big near in
+            rw kept ((rw same at c.in_ok-passed.ensures.bound) n big base);
+        moved = traf_moved c.args.at.moof c.in_ok-passed.passed.count c.in_ok-passed.passed.duration c.in_ok-passed.passed.bytes c.in-Some-find.k c.args.room.now c.check_runs.new.room c.args.at.before c.args.tracks.now _ c.index-tracks-k.result c.moved_on.result boxes (box_seen c.in-Some.tfhd)
+            c.in_ok-head.head c.in-Some-trex.trex c.what_is_inherited.result c.in_ok-keys.keys c.in_ok-time.time
+            head c.in_ok-head.ensures.head
+            c.in-Some-find.ensures.inside c.in-Some-find.ensures.there.found c.in-Some-find.ensures.there.first c.index-tracks-k.is c.in-Some-trex.is c.what_is_inherited.ensures c.in_ok-passed.ensures.runs.count c.in_ok-passed.ensures.runs.lasting c.in_ok-passed.ensures.runs.filling
+            c.in_ok-keys.ensures.sound c.in_ok-keys.ensures.keys (sym c.if-lacks_description.ensures) late c.in_ok-time.ensures.time m.none m.some c.in_ok-passed.ensures.taken;
+      },
+      record {
+        few = less;
+        each = room_with c.check_runs.new.room c.in-Some-find.k c.args.tracks.now c.moved_on.result with
+            (less_room c.args.room.now c.check_runs.new.room c.args.tracks.now less c.requires.room.each);
+        same = λ id.
+            trex_same c.args.tracks.now c.in-Some-find.k _ c.moved_on.result id c.in-Some-find.ensures.inside (c.moved_on.ensures.same.0 ∙ ap (λ t. t.id) c.index-tracks-k.is) (c.moved_on.ensures.same.1 ∙ ap (λ t. t.trex) c.index-tracks-k.is);
+        ids = ids_set c.in-Some-find.k c.args.tracks.now _ c.moved_on.result c.in-Some-find.ensures.inside (c.moved_on.ensures.same.0 ∙ ap (λ (t : TrackState). t.id) c.index-tracks-k.is);
+      },
+    )
 
 pub returns-clause-stays : goal.returns-clause-stays
 returns-clause-stays g c =

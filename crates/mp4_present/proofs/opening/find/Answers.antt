@@ -1,6 +1,6 @@
 use Rattle.std.proofs.Common.{◌≡◌, rules, refl, length}
 use Rattle.mp4_boxes.specs.words.View.{box_seen}
-use Rattle.mp4_present.specs.declared.opening.Found.{Found}
+use Rattle.mp4_present.specs.declared.opening.FoundTracks.{FoundTracks}
 use Rattle.mp4_boxes.specs.format.Bytes.{AreBytes}
 use Rattle.mp4_present.proofs.Assembled.{begun, have, opened_as, denoted, measure}
 use Rattle.std.proofs.lemmas.Result.{err_from_is_err_and}
@@ -54,7 +54,7 @@ returns-clause-movie g c =
     let passed = kept.0 in
     let within = rw c.as_slice.ensures.value at c.in_ok-mehd.ensures.within in
     let w = within _ (measure honest file outline moov b head plain r says told own begin states.items passed) in
-    let found : Found = record { plain = plain; tracks = c.in_ok-tracks.tracks; own = c.in_ok-passed.passed.own; mehd = c.in_ok-mehd.mehd } in
+    let found : FoundTracks = record { plain = plain; tracks = c.in_ok-tracks.tracks; own = c.in_ok-passed.passed.own; mehd = c.in_ok-mehd.mehd } in
     (_, opened_as honest file outline moov b head plain r says told own begin states.items passed found (length file) refl w.0 w.1 w.2 (rw c.as_slice-2.ensures.value at c.in_ok-tracks.ensures.infos.infos) kept.1 refl)
 
 pub returns-clause-ids : goal.returns-clause-ids
@@ -75,7 +75,7 @@ returns-in_err-plain-clause-work g c =
     let b = box_seen c.view-view.result in
     let r : IsRead honest file outline moov b = record { outline = c.requires.outline.0; is = c.view-view.ensures; fills = c.requires.moov.0; bytes = c.requires.moov.1 } in
     λ told. record {
-      work = rw (p.1, p.2) (λ tree is. handed_on Found _ _ _ (tables_counted honest file outline moov b c.in_ok-head.head r c.in_ok-head.ensures.head told tree is _ _) c.in_err-plain.ensures.work);
+      work = rw (p.1, p.2) (λ tree is. handed_on FoundTracks _ _ _ (tables_counted honest file outline moov b c.in_ok-head.head r c.in_ok-head.ensures.head told tree is _ _) c.in_err-plain.ensures.work);
       within = tables_open honest file outline moov b c.in_ok-head.head r c.in_ok-head.ensures.head told _ _ c.in_err-plain.ensures.within;
       looks = rw c.check_tables.ensures.looks (record { said = λ tree is. if_no_fault _ _ (none_taken _ _); within = none_looks _ _ });
     }
@@ -93,11 +93,11 @@ returns-in_err-passed-clause-work g c =
     let says = c.in_ok-head.ensures.head in
     let many : length c.in_ok-plain.plain.states.items ≡ length head.tracks.items = search rules in
     λ told. record {
-      work = rw (p.1, p.2) (λ tree is. handed_on Found _ _ _ (moofs_counted honest file outline moov b c.in_ok-head.head r c.in_ok-head.ensures.head told tree is _ _ _ c.in_ok-plain.ensures.work) (c.in_err-passed.ensures.work told).0.work);
+      work = rw (p.1, p.2) (λ tree is. handed_on FoundTracks _ _ _ (moofs_counted honest file outline moov b c.in_ok-head.head r c.in_ok-head.ensures.head told tree is _ _ _ c.in_ok-plain.ensures.work) (c.in_err-passed.ensures.work told).0.work);
       within = moofs_open honest file outline moov b head r says told _ _ _ c.in_ok-plain.ensures.within (c.in_err-passed.ensures.work told).0.within;
       looks = rw (p.1, p.2) (let l = rw c.check_tables.ensures.looks at (c.in_err-passed.ensures.work told).0.looks in
           record {
-            said = λ tree is. handed_on Found _ _ _ (looks_counted honest file outline moov b head r says told tree is _ _ _) l.said;
+            said = λ tree is. handed_on FoundTracks _ _ _ (looks_counted honest file outline moov b head r says told tree is _ _ _) l.said;
             within = looks_open honest file outline moov b head r says told _ _ (rw many at l.within);
           });
     }

@@ -1,6 +1,6 @@
 use Rattle.std.proofs.Common.{arith, ◌+◌, ap, sym, ◌∙◌, refl}
 use Rattle.mp4_tables.specs.words.Rows.{chunk_rows_at}
-use Rattle.mp4_tables.specs.declared.places.RowPlace.{RowPlace}
+use Rattle.mp4_tables.specs.declared.places.ChunkRowPlace.{ChunkRowPlace}
 use Rattle.mp4_tables.proofs.ChunkLists.{row_before, count_here, description_here, described_yes, described_no, described_all}
 use Rattle.mp4_tables.specs.words.Rows.{offsets_at, offset_width}
 use Rattle.mp4_tables.proofs.RowLists.{numbers_length}
@@ -11,7 +11,7 @@ pub loop-opened-init : goal.loop-opened-init
 loop-opened-init g c = record {
   same = refl;
   row = row_before _ _ _ c.requires.ordered c.no_row-place.ensures;
-  within = (let none = ap (λ (p : RowPlace). p.row) c.no_row-place.ensures in omega arith);
+  within = (let none = ap (λ (p : ChunkRowPlace). p.row) c.no_row-place.ensures in omega arith);
   cost = omega arith;
 }
 

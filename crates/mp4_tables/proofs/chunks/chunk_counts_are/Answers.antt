@@ -1,7 +1,7 @@
 use Rattle.std.proofs.Common.{arith, inr, ap, ◌+◌, drop}
 use Rattle.mp4_tables.specs.words.Rows.{chunk_rows_at, offsets_at}
 use Rattle.mp4_tables.specs.format.PlainSamples.{in_chunks_total}
-use Rattle.mp4_tables.specs.declared.places.RowPlace.{RowPlace}
+use Rattle.mp4_tables.specs.declared.places.ChunkRowPlace.{ChunkRowPlace}
 use Rattle.mp4_tables.proofs.ChunkLists.{row_before, samples_more, passed_by}
 use Rattle.mp4_tables.proofs.Fronts.{chunks_front}
 use Rattle.mp4_tables.proofs.chunks.chunk_counts_are.Goals as goal
@@ -11,7 +11,7 @@ loop-opened-init g c = record {
   whole = omega arith;
   few = omega arith;
   row = row_before _ _ _ c.requires.ordered c.no_row-place.ensures;
-  within = (let none = ap (λ (p : RowPlace). p.row) c.no_row-place.ensures in omega arith);
+  within = (let none = ap (λ (p : ChunkRowPlace). p.row) c.no_row-place.ensures in omega arith);
   cost = omega arith;
 }
 

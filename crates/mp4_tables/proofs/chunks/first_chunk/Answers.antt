@@ -1,6 +1,6 @@
 use Rattle.std.proofs.Common.{arith, ap}
 use Rattle.mp4_tables.specs.words.Rows.{offset_width}
-use Rattle.mp4_tables.specs.declared.places.RowPlace.{RowPlace}
+use Rattle.mp4_tables.specs.declared.places.ChunkRowPlace.{ChunkRowPlace}
 use Rattle.mp4_tables.proofs.RowLists.{chunk_rows_length, numbers_length}
 use Rattle.mp4_tables.proofs.ChunkLists.{row_before}
 use Rattle.mp4_tables.proofs.SpotLists.{spot_first}
@@ -10,7 +10,7 @@ pub open_chunk-requires-clause-place : goal.open_chunk-requires-clause-place
 open_chunk-requires-clause-place c = record {
   at = row_before _ _ _ c.requires.ordered c.no_row.ensures;
   opened = omega arith;
-  passed = let none = ap (λ (p : RowPlace). p.row) c.no_row.ensures in omega arith;
+  passed = let none = ap (λ (p : ChunkRowPlace). p.row) c.no_row.ensures in omega arith;
 }
 
 pub returns : goal.returns
@@ -20,5 +20,5 @@ returns c sizes =
     let e = c.open_chunk.ensures in
     let opened = e.place.opened in
     let passed = e.place.passed in
-    spot_first _ _ sizes c.open_chunk.new.place _ (ap (λ (r : RowPlace). record { opened = 0; row = r; left = 0; at = 0 }) c.no_row.ensures)
+    spot_first _ _ sizes c.open_chunk.new.place _ (ap (λ (r : ChunkRowPlace). record { opened = 0; row = r; left = 0; at = 0 }) c.no_row.ensures)
     e.same e.settled (λ h. e.place.at (omega arith)) (omega arith) (omega arith)

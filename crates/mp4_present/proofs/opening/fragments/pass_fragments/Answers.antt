@@ -187,11 +187,11 @@ returns-clause-passed g c =
       i.each,
       λ told. (
         (λ movie boxes b.
-        let u = i.so told movie boxes b in
-        all_passed file movie boxes at c.args.start.outline.now.longest c.loop-top.states c.loop-top.room u (last_moof file at c.deref-top-items.result.now c.loop-top.top-index c.loop-top-test.false (i.to_come told) u.left.boxes u.left.are_from)),
+            let u = i.so told movie boxes b in
+            all_passed file movie boxes at c.args.start.outline.now.longest c.loop-top.states c.loop-top.room u (last_moof file at c.deref-top-items.result.now c.loop-top.top-index c.loop-top-test.false (i.to_come told) u.left.boxes u.left.are_from)),
         (λ own movie boxes b.
-        let u = i.own told movie boxes b own in
-        all_noted file movie boxes at c.args.start.outline.now.longest c.loop-top.states c.loop-top.room (map own_seen c.loop-top.tracks.own.items) u (last_moof file at c.deref-top-items.result.now c.loop-top.top-index c.loop-top-test.false (i.to_come told) u.0.left.boxes u.0.left.are_from)),
+            let u = i.own told movie boxes b own in
+            all_noted file movie boxes at c.args.start.outline.now.longest c.loop-top.states c.loop-top.room (map own_seen c.loop-top.tracks.own.items) u (last_moof file at c.deref-top-items.result.now c.loop-top.top-index c.loop-top-test.false (i.to_come told) u.0.left.boxes u.0.left.are_from)),
       ),
     )
 
@@ -209,11 +209,14 @@ returns-clause-work g c = λ told.
 
 pub returns-in_err-len-clause-work : goal.returns-in_err-len-clause-work
 returns-in_err-len-clause-work g c =
-    λ told. (record {
-      work = if_no_fault _ _ (checks_done _ _ _ _ (c.loop-top.invariant.1.work told));
-      within = all_fit _ _ _ _ _ (c.loop-top.invariant.1.fit told);
-      looks = record { said = if_no_fault _ _ (looks_done _ _ _ _ _ (c.loop-top.invariant.1.looked told)); within = all_looked _ _ _ _ _ (c.loop-top.invariant.1.looks told) };
-    }, tt)
+    λ told. (
+      record {
+        work = if_no_fault _ _ (checks_done _ _ _ _ (c.loop-top.invariant.1.work told));
+        within = all_fit _ _ _ _ _ (c.loop-top.invariant.1.fit told);
+        looks = record { said = if_no_fault _ _ (looks_done _ _ _ _ _ (c.loop-top.invariant.1.looked told)); within = all_looked _ _ _ _ _ (c.loop-top.invariant.1.looks told) };
+      },
+      tt,
+    )
 
 pub returns-in_err-check_moof_by-clause-work : goal.returns-in_err-check_moof_by-clause-work
 returns-in_err-check_moof_by-clause-work g c =
@@ -236,15 +239,17 @@ returns-in_err-check_moof_by-clause-work g c =
       read = (rw (i.honesty, i.file) at c.in_ok-len.ensures.bytes) told;
       of_bytes = c.in_ok-len.ensures.room;
     } in
-    let stands = let l = i.left told in stands_behind file at top l.boxes ((coming told).0 l.boxes l.are_from) in
-    (record {
-      work = tt;
-      within = refused_fits file at top whole.0 stands moof c.read_payload.new.room c.in_ok-len.len r _ _ _ _ c.check_moof_by.ensures.work.most (i.fit told);
-      looks = record {
-        said = tt;
-        within = refused_looks file at top whole.0 stands moof c.read_payload.new.room c.in_ok-len.len r (min 1 (length c.args.states.now)) _ _ _ (rw many at c.check_moof_by.ensures.looks.most) (i.looks told);
-      };
-    }, tt))
+    let stands = let l = i.left told in stands_behind file at top l.boxes ((coming told).0 l.boxes l.are_from) in (
+      record {
+        work = tt;
+        within = refused_fits file at top whole.0 stands moof c.read_payload.new.room c.in_ok-len.len r _ _ _ _ c.check_moof_by.ensures.work.most (i.fit told);
+        looks = record {
+          said = tt;
+          within = refused_looks file at top whole.0 stands moof c.read_payload.new.room c.in_ok-len.len r (min 1 (length c.args.states.now)) _ _ _ (rw many at c.check_moof_by.ensures.looks.most) (i.looks told);
+        };
+      },
+      tt,
+    ))
 
 pub returns-then-tracks-clause-work : goal.returns-then-tracks-clause-work
 returns-then-tracks-clause-work g c =
@@ -267,19 +272,21 @@ returns-then-tracks-clause-work g c =
       read = (rw (i.honesty, i.file) at c.in_ok-len.ensures.bytes) told;
       of_bytes = c.in_ok-len.ensures.room;
     } in
-    let stands = let l = i.left told in stands_behind file at top l.boxes ((coming told).0 l.boxes l.are_from) in
-    (record {
-      work = checks_done file top.header.end _ _ (λ all h.
-          let u = i.work told all h in
-          next_checked file at top all whole.0 u.0 u.1.0 ((coming told).0 u.0 u.1.0) moof c.read_payload.new.room c.in_ok-len.len r _ _ _ (checked_all _ _ _ _ _ _ _ moof refl e.sound.1 e.work.cost) u.1.1);
-      within = all_fit _ _ _ _ _ (next_fits file at top whole.0 stands moof c.read_payload.new.room c.in_ok-len.len r _ _ _ _ _ e.work.within (i.fit told));
-      looks = record {
-        said = looks_done file top.header.end _ _ _ (λ all h.
-            let u = i.looked told all h in
-            next_looked file at top all whole.0 u.0 u.1.0 ((coming told).0 u.0 u.1.0) moof c.read_payload.new.room c.in_ok-len.len r (min 1 (length c.args.states.now)) _ _ _ (rw many at e.looks.each) u.1.1);
-        within = all_looked _ _ _ _ _ (next_looks file at top whole.0 stands moof c.read_payload.new.room c.in_ok-len.len r (min 1 (length c.args.states.now)) _ _ _ (rw many at c.check_moof_by.ensures.looks.most) (i.looks told));
-      };
-    }, tt)
+    let stands = let l = i.left told in stands_behind file at top l.boxes ((coming told).0 l.boxes l.are_from) in (
+      record {
+        work = checks_done file top.header.end _ _ (λ all h.
+            let u = i.work told all h in
+            next_checked file at top all whole.0 u.0 u.1.0 ((coming told).0 u.0 u.1.0) moof c.read_payload.new.room c.in_ok-len.len r _ _ _ (checked_all _ _ _ _ _ _ _ moof refl e.sound.1 e.work.cost) u.1.1);
+        within = all_fit _ _ _ _ _ (next_fits file at top whole.0 stands moof c.read_payload.new.room c.in_ok-len.len r _ _ _ _ _ e.work.within (i.fit told));
+        looks = record {
+          said = looks_done file top.header.end _ _ _ (λ all h.
+              let u = i.looked told all h in
+              next_looked file at top all whole.0 u.0 u.1.0 ((coming told).0 u.0 u.1.0) moof c.read_payload.new.room c.in_ok-len.len r (min 1 (length c.args.states.now)) _ _ _ (rw many at e.looks.each) u.1.1);
+          within = all_looked _ _ _ _ _ (next_looks file at top whole.0 stands moof c.read_payload.new.room c.in_ok-len.len r (min 1 (length c.args.states.now)) _ _ _ (rw many at c.check_moof_by.ensures.looks.most) (i.looks told));
+        };
+      },
+      tt,
+    )
 
 pub returns-in_err-len-clause-exact : goal.returns-in_err-len-clause-exact
 returns-in_err-len-clause-exact g c =

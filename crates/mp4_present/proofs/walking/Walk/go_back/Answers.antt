@@ -47,9 +47,10 @@ returns-in_default-clause-work g c told tree t begun to_come n o h may =
 
 pub returns-in_default-clause-still : goal.returns-in_default-clause-still
 returns-in_default-clause-still g c =
-    let w = c.args.self.now in
-    ((λ _. (refl, refl, refl, c.mark.ensures.mark ∙ ap (λ (v : Walk). record v { mark = mark_of v w.mark.to_come }) c.set_back.ensures)),
-    λ again. absurd (no_more again (ap is_none (sym c.again_from.ensures ∙ c.in_default.is))))
+    let w = c.args.self.now in (
+      (λ _. (refl, refl, refl, c.mark.ensures.mark ∙ ap (λ (v : Walk). record v { mark = mark_of v w.mark.to_come }) c.set_back.ensures)),
+      λ again. absurd (no_more again (ap is_none (sym c.again_from.ensures ∙ c.in_default.is))),
+    )
 
 -- ---- the `traf` of the mark is read again
 

@@ -96,9 +96,12 @@ returns-else-branch-clause-work g c told tree t n o h =
     takes_most file tree t n _ _ c.take.new.self (takes_next file tree t m n _ _ _ w _ c.take.new.self u f.next f.more c.in_ok-take.field-0 f.are held (e.taken file tree t h.earlier f.more f.next o held) e.counts.traf e.counts.bytes (e.hand.through t) e.hand.way e.work)
 
 pub returns-then-self-eq0-clause-answer : goal.returns-then-self-eq0-clause-answer
-returns-then-self-eq0-clause-answer g c = (_, λ told tree t earlier later o h hand at z _.
-    let file = g.S.Store.file c.args.store.now in
-    ends_empty file tree t c.args.movie.now earlier later hand c.args.self.now (no_samples file tree t earlier later c.args.self.now h c.if-self-eq0.true) h at z)
+returns-then-self-eq0-clause-answer g c = (
+  _,
+  λ told tree t earlier later o h hand at z _.
+      let file = g.S.Store.file c.args.store.now in
+      ends_empty file tree t c.args.movie.now earlier later hand c.args.self.now (no_samples file tree t earlier later c.args.self.now h c.if-self-eq0.true) h at z,
+)
 
 pub returns-then-branch-clause-walk : goal.returns-then-branch-clause-walk
 returns-then-branch-clause-walk g c =
