@@ -240,7 +240,8 @@ module _ (honest : Bool) (file : List ℕ) (o : Outline) (moov : List ℕ) (b : 
   }
 
   -- within the limits
-  pub opened_as : (found : FoundTracks) (file_length : ℕ) → found.plain ≡ plain → AllByRecursion (IsInTime (presentation_of file tree).movie.timescale) (presentation_of file tree).tracks → found.mehd ≡ movie_length (presentation_of file tree) → normal_moov_length (presentation_of file tree) ≤ max_moov
+  pub opened_as : (found : FoundTracks) (file_length : ℕ) → found.plain ≡ plain → AllByRecursion (IsInTime (presentation_of file tree).movie.timescale) (presentation_of file tree).tracks
+      → found.mehd ≡ movie_length (presentation_of file tree) → normal_moov_length (presentation_of file tree) ≤ max_moov
       → AreInfosBy head.tracks.items states found.tracks.items → AreOwn says.has.tree p.fragments (map own_seen found.own.items) → file_length ≡ length file → IsOpenedAs file (kept_of o moov file_length found) tree
   opened_as found file_length same times longest short infos own e =
       let k = r.outline told in

@@ -54,15 +54,6 @@ leaf_fault_refuses file f p s d =
 
 -- ---- which scope reads a box as the leaf
 
-]
-  where
-    left : (p q : Bool) → p ≡ true → p || q ≡ true
-    left p q h = rw h refl
-
-    right : (p q : Bool) → q ≡ true → p || q ≡ true
-    right true q h = refl
-    right false q h = h
-
 abbrev is_tkhd : Leaf → Bool
 is_tkhd tkhd = true
 is_tkhd _ = false

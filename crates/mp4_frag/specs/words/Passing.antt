@@ -86,8 +86,8 @@ filling size (row ∷ rows) = unwrap_or row.size size + filling size rows
 
 -- the samples of all rows of a run, from a place on: where their data ends, how long they last, how
 -- many bytes they take, and whether an offset is too large
-pub record AreSamplesOf (judged : Judged) (at : ℤ) (payload : List ℕ) (run : Run) (s : JudgedSamples)
-    : Type 0 where
+pub record AreSamplesOf (judged : Judged) (at : ℤ) (payload : List ℕ) (run : Run)
+    (s : JudgedSamples) : Type 0 where
   pub end : s.end ≡ end_from judged.inherited.size at (rows_left payload run 0)
   pub duration : s.duration ≡ lasting judged.inherited.duration (rows_left payload run 0)
   pub bytes : s.bytes ≡ filling judged.inherited.size (rows_left payload run 0)

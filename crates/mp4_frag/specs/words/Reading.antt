@@ -17,7 +17,8 @@ abbrev pub row_values : ReadRow → List (Option ℕ)
 row_values row = row.duration ∷ row.size ∷ row.flags ∷ row.offset ∷ []
 
 -- these are the values of a row, or what is inherited where one isn't there
-pub record SaysRow (inherited : Inherited) (values : List (Option ℕ)) (said : SaidRow) : Type 0 where
+pub record SaysRow (inherited : Inherited) (values : List (Option ℕ)) (said : SaidRow)
+    : Type 0 where
   pub row : ReadRow
   pub is : row_values row ≡ values
   pub duration : said.duration ≡ unwrap_or row.duration inherited.duration

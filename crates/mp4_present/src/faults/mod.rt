@@ -115,7 +115,7 @@ fn numbers_behind<S: Store, L: Ledger, M: Ledger>(
     let mut told = None;
     match check_fragments(alloc, store, known, &mut told, steps) {
         Ok(_) => Ok(None),
-        Err(Refusal::Fault(found)) if found == *fault => Ok(told),
+        Err(Refusal::Fault(found)) if found.offset == fault.offset => Ok(told),
         Err(refusal) => Err(refusal),
     }
 }

@@ -50,7 +50,7 @@ returns-in-Ok-clause-work g c =
     let says = c.in_ok-head.ensures.head in
     let many : length c.in_ok-plain.plain.states.items ≡ length head.tracks.items = search rules in
     λ told.
-    let work = c.check_fragments.ensures.work told in
+    let work = (c.check_fragments.ensures.work told).0 in
     record {
       steps = moofs_open _ _ _ c.args.moov.now b head r says told _ _ _ c.in_ok-plain.ensures.within work.within;
       looks = looks_open _ _ _ c.args.moov.now b head r says told _ _ (rw (many, c.check_tables.ensures.looks) at work.looks.within);
@@ -64,7 +64,7 @@ returns-in-Err-Fault-clause-work g c =
     let says = c.in_ok-head.ensures.head in
     let many : length c.in_ok-plain.plain.states.items ≡ length head.tracks.items = search rules in
     λ told.
-    let work = c.check_fragments.ensures.work told in
+    let work = (c.check_fragments.ensures.work told).0 in
     record {
       steps = moofs_open _ _ _ c.args.moov.now b head r says told _ _ _ c.in_ok-plain.ensures.within work.within;
       looks = looks_open _ _ _ c.args.moov.now b head r says told _ _ (rw (many, c.check_tables.ensures.looks) at work.looks.within);
@@ -78,7 +78,7 @@ returns-clause-work g c =
     let says = c.in_ok-head.ensures.head in
     let many : length c.in_ok-plain.plain.states.items ≡ length head.tracks.items = search rules in
     λ told.
-    let work = c.check_fragments.ensures.work told in
+    let work = (c.check_fragments.ensures.work told).0 in
     record {
       steps = moofs_open _ _ _ c.args.moov.now b head r says told _ _ _ c.in_ok-plain.ensures.within work.within;
       looks = looks_open _ _ _ c.args.moov.now b head r says told _ _ (rw (many, c.check_tables.ensures.looks) at work.looks.within);

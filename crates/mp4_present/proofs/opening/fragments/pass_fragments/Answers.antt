@@ -209,13 +209,14 @@ returns-clause-work g c = λ told.
 
 pub returns-in_err-len-clause-work : goal.returns-in_err-len-clause-work
 returns-in_err-len-clause-work g c =
+    let p = err_from_is_err_and c.from_residual.result c.from_residual.ensures.1 in
     λ told. (
       record {
         work = if_no_fault _ _ (checks_done _ _ _ _ (c.loop-top.invariant.1.work told));
         within = all_fit _ _ _ _ _ (c.loop-top.invariant.1.fit told);
         looks = record { said = if_no_fault _ _ (looks_done _ _ _ _ _ (c.loop-top.invariant.1.looked told)); within = all_looked _ _ _ _ _ (c.loop-top.invariant.1.looks told) };
       },
-      tt,
+      rw p.1 tt,
     )
 
 pub returns-in_err-check_moof_by-clause-work : goal.returns-in_err-check_moof_by-clause-work

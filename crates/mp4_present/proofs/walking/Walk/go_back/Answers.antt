@@ -16,7 +16,7 @@ use Rattle.mp4_present.proofs.walking.Walk.go_back.Goals as goal
 use Rattle.mp4_boxes.proofs.Plain.{get_some}
 
 no_more : {b : Bool} → b ≡ false → b ≡ true → ⊥
-no_more no yes = cc
+no_more is_false is_true = cc
 
 -- ---- what was in hand is at hand
 

@@ -96,12 +96,13 @@ returns-else-branch-clause-work g c told tree t n o h =
     takes_most file tree t n _ _ c.take.new.self (takes_next file tree t m n _ _ _ w _ c.take.new.self u f.next f.more c.in_ok-take.field-0 f.are held (e.taken file tree t h.earlier f.more f.next o held) e.counts.traf e.counts.bytes (e.hand.through t) e.hand.way e.work)
 
 pub returns-then-self-eq0-clause-answer : goal.returns-then-self-eq0-clause-answer
-returns-then-self-eq0-clause-answer g c = (
-  _,
-  λ told tree t earlier later o h hand at z _.
+returns-then-self-eq0-clause-answer g c =
+    let none = c.if-self-eq0.true in (
+      record { some = λ e. absurd cc; holds = λ e. absurd cc; next = λ e. absurd cc; fewer = λ e. absurd cc; still = λ _. refl; none = λ _. none },
+      λ told tree t earlier later o h hand at z _.
       let file = g.S.Store.file c.args.store.now in
-      ends_empty file tree t c.args.movie.now earlier later hand c.args.self.now (no_samples file tree t earlier later c.args.self.now h c.if-self-eq0.true) h at z,
-)
+      ends_empty file tree t c.args.movie.now earlier later hand c.args.self.now (no_samples file tree t earlier later c.args.self.now h none) h at z,
+    )
 
 pub returns-then-branch-clause-walk : goal.returns-then-branch-clause-walk
 returns-then-branch-clause-walk g c =
@@ -130,7 +131,7 @@ returns-then-branch-clause-answer g c =
     let long = ap (λ (ss : List SampleAt). length ss) al.2 in
     let some = s.2 in
     let sum = e.counts.counted found.0 at in
-    record {
+    (record {
       some = λ _. s;
       holds = λ _. record {
         before = record { time = w.due; left = w.left };
@@ -144,7 +145,8 @@ returns-then-branch-clause-answer g c =
       fewer = λ _. omega (arith, one, long, some, sum);
       still = λ e. absurd cc;
       none = λ e. absurd cc;
-    }
+    },
+    λ told tree t earlier later o h hand is empty no. absurd cc)
   where
     same_count : (left long now : ℕ) → left ≡ long + now → (n : ℕ) → n ≡ long → n + now ≡ left
     same_count left long now sum n same = omega (arith, sum, same)

@@ -48,7 +48,7 @@ returns-in-Some-take_in_hand-clause-work g c told tree t n o h =
 
 pub returns-in-None-clause-unchanged : goal.returns-in-None-clause-unchanged
 returns-in-None-clause-unchanged g c told tree t samples o h some e =
-    c.take_in_hand-2.ensures.some (c.in_ok-load.ensures.answer.some c.if-not-branch.false) c.in-None.is
+    c.take_in_hand-2.ensures.some (c.in_ok-load.ensures.answer.0.some c.if-not-branch.false) c.in-None.is
 
 pub returns-in-None-clause-work : goal.returns-in-None-clause-work
 returns-in-None-clause-work g c told tree t n o h =
