@@ -32,11 +32,6 @@ pub lists_seen : {A B : Type 0} (g : A → B) (of : Subject) (list : Entries) (o
     → (xs ys : List A) → list_differences of list other xs ys ≡ list_differences of list one (map g xs) (map g ys)
 lists_seen g of list one other same xs ys = rw (length-map xs g, length-map ys g) (ap (λ (ds : List Difference). numbers_differ of (fields.Count list) (length xs) (length ys) ++ ds) (each_seen g one other same 1 xs ys))
 
--- entries that count
-pub unless_seen : {A B : Type 0} (g : A → B) (b : Bool) (xs : List A) → map g (if b then [] else xs) ≡ (if b then [] else map g xs)
-unless_seen g true xs = refl
-unless_seen g false xs = refl
-
 -- ---- values
 
 four : (a b c d : List Difference) → a ++ (b ++ (c ++ (d ++ []))) ≡ (a ++ b) ++ (c ++ d)

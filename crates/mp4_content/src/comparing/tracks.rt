@@ -11,7 +11,7 @@ pub(crate) struct Tracks<'a> {
     pub(crate) leaving: Without,
 }
 
-// Their heads.
+// What is left of their heads.
 #[derive(Clone, Copy)]
 pub(crate) struct Heads<'a, 'b> {
     pub(crate) left: &'a TrackHead<'b>,
