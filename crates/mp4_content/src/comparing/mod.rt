@@ -203,14 +203,9 @@ pub fn compare_listed<S: Store, T: Store, D: Differences, L: Ledger, M: Ledger>(
     steps: &mut Steps<L, M>,
 ) -> Result<bool, Refusal>
     requires { D.is_open seen.old ≡ true }
-    ensures left { OnlyReads S.Store left.old left.new result }
-    ensures right { OnlyReads T.Store right.old right.new result }
-    ensures goes { IfOk result (λ all. all ≡ D.is_open seen.new) }
-    ensures all { IfOk result (λ all. all ≡ true → OfListed S.Store left.old
-        movies.now.left T.Store right.old movies.now.right aligned leaving
-        (λ found. D.taken seen.new ≡ D.taken seen.old ++ found)) }
-    ensures front { OfListed S.Store left.old movies.now.left T.Store right.old movies.now.right
-        aligned leaving (TakesFront (D.taken seen.old) (D.taken seen.new)) }
+    ensures stores { OnlyReadsBoth S.Store left.old left.new T.Store right.old right.new result }
+    ensures handed { HandsOver D.Differences seen.old seen.new result (OfListed S.Store left.old
+        movies.now.left T.Store right.old movies.now.right aligned leaving) }
     ensures unchanged { WhereOpenedBoth S.Store left.old movies.now.left T.Store right.old
         movies.now.right (λ tree other. IsUnchanged result) }
     ensures work { WhereOpenedBoth S.Store left.old movies.now.left T.Store right.old
@@ -266,14 +261,9 @@ pub fn compare_all<S: Store, T: Store, D: Differences, L: Ledger, M: Ledger>(
     steps: &mut Steps<L, M>,
 ) -> Result<bool, Refusal>
     requires { D.is_open seen.old ≡ true }
-    ensures left { OnlyReads S.Store left.old left.new result }
-    ensures right { OnlyReads T.Store right.old right.new result }
-    ensures goes { IfOk result (λ all. all ≡ D.is_open seen.new) }
-    ensures all { IfOk result (λ all. all ≡ true → OfFiles S.Store left.old
-        movies.now.left T.Store right.old movies.now.right leaving
-        (λ found. D.taken seen.new ≡ D.taken seen.old ++ found)) }
-    ensures front { OfFiles S.Store left.old movies.now.left T.Store right.old movies.now.right
-        leaving (TakesFront (D.taken seen.old) (D.taken seen.new)) }
+    ensures stores { OnlyReadsBoth S.Store left.old left.new T.Store right.old right.new result }
+    ensures handed { HandsOver D.Differences seen.old seen.new result (OfFiles S.Store left.old
+        movies.now.left T.Store right.old movies.now.right leaving) }
     ensures unchanged { WhereOpenedBoth S.Store left.old movies.now.left T.Store right.old
         movies.now.right (λ tree other. IsUnchanged result) }
     ensures work { WhereOpenedBoth S.Store left.old movies.now.left T.Store right.old

@@ -5,26 +5,54 @@ use Rattle.mp4_content.proofs.HeadLess.{says_left}
 use Rattle.mp4_content.proofs.FilesCompared.{first_part, movie_begun, track_at, all_over, files_first, files_next, files_stop, files_most, files_all, files_front, files_work, infos_all, heads_all}
 use Rattle.mp4_content.proofs.comparing.compare_listed.Goals as goal
 
-pub returns-in_err-read-clause-front : goal.returns-in_err-read-clause-front
-returns-in_err-read-clause-front g c told told_right tree other o p = takes_nothing (g.D.Differences.taken c.args.seen.now) _
+pub returns-in_err-read-clause-handed : goal.returns-in_err-read-clause-handed
+returns-in_err-read-clause-handed g c = record {
+  goes = search rules;
+  all = search rules;
+  front = λ told told_right tree other o p. takes_nothing (g.D.Differences.taken c.args.seen.now) _;
+}
 
-pub returns-in_err-own-clause-front : goal.returns-in_err-own-clause-front
-returns-in_err-own-clause-front g c told told_right tree other o p = takes_nothing (g.D.Differences.taken c.args.seen.now) _
+pub returns-in_err-own-clause-handed : goal.returns-in_err-own-clause-handed
+returns-in_err-own-clause-handed g c = record {
+  goes = search rules;
+  all = search rules;
+  front = λ told told_right tree other o p. takes_nothing (g.D.Differences.taken c.args.seen.now) _;
+}
 
-pub returns-in_err-head-clause-front : goal.returns-in_err-head-clause-front
-returns-in_err-head-clause-front g c told told_right tree other o p = takes_nothing (g.D.Differences.taken c.args.seen.now) _
+pub returns-in_err-head-clause-handed : goal.returns-in_err-head-clause-handed
+returns-in_err-head-clause-handed g c = record {
+  goes = search rules;
+  all = search rules;
+  front = λ told told_right tree other o p. takes_nothing (g.D.Differences.taken c.args.seen.now) _;
+}
 
-pub returns-in_err-other_read-clause-front : goal.returns-in_err-other_read-clause-front
-returns-in_err-other_read-clause-front g c told told_right tree other o p = takes_nothing (g.D.Differences.taken c.args.seen.now) _
+pub returns-in_err-other_read-clause-handed : goal.returns-in_err-other_read-clause-handed
+returns-in_err-other_read-clause-handed g c = record {
+  goes = search rules;
+  all = search rules;
+  front = λ told told_right tree other o p. takes_nothing (g.D.Differences.taken c.args.seen.now) _;
+}
 
-pub returns-in_err-other_own-clause-front : goal.returns-in_err-other_own-clause-front
-returns-in_err-other_own-clause-front g c told told_right tree other o p = takes_nothing (g.D.Differences.taken c.args.seen.now) _
+pub returns-in_err-other_own-clause-handed : goal.returns-in_err-other_own-clause-handed
+returns-in_err-other_own-clause-handed g c = record {
+  goes = search rules;
+  all = search rules;
+  front = λ told told_right tree other o p. takes_nothing (g.D.Differences.taken c.args.seen.now) _;
+}
 
-pub returns-in_err-other_head-clause-front : goal.returns-in_err-other_head-clause-front
-returns-in_err-other_head-clause-front g c told told_right tree other o p = takes_nothing (g.D.Differences.taken c.args.seen.now) _
+pub returns-in_err-other_head-clause-handed : goal.returns-in_err-other_head-clause-handed
+returns-in_err-other_head-clause-handed g c = record {
+  goes = search rules;
+  all = search rules;
+  front = λ told told_right tree other o p. takes_nothing (g.D.Differences.taken c.args.seen.now) _;
+}
 
-pub returns-in_err-found-clause-front : goal.returns-in_err-found-clause-front
-returns-in_err-found-clause-front g c told told_right tree other o p = takes_nothing (g.D.Differences.taken c.args.seen.now) _
+pub returns-in_err-found-clause-handed : goal.returns-in_err-found-clause-handed
+returns-in_err-found-clause-handed g c = record {
+  goes = search rules;
+  all = search rules;
+  front = λ told told_right tree other o p. takes_nothing (g.D.Differences.taken c.args.seen.now) _;
+}
 
 pub returns-in_err-own-clause-unchanged : goal.returns-in_err-own-clause-unchanged
 returns-in_err-own-clause-unchanged g c told told_right tree other o p =
@@ -51,14 +79,18 @@ returns-in_err-found-clause-unchanged g c told told_right tree other o p =
     let e = err_from_is_err_and c.from_residual-in_err-found.result c.from_residual-in_err-found.ensures.1 in
     rw (e.1, e.2) (λ f. absurd cc)
 
-pub returns-then-not-hand_over-clause-front : goal.returns-then-not-hand_over-clause-front
-returns-then-not-hand_over-clause-front g c told told_right tree other o p =
-    let file = g.S.Store.file c.args.left.now in
-    let right_file = g.T.Store.file c.args.right.now in
-    let says = says_left c.args.leaving file c.args.movies.now.left tree c.in_ok-read.read c.in_ok-head.head o c.in_ok-read.ensures c.in_ok-head.ensures.movie c.in_ok-head.ensures.tracks in
-    let other_says = says_left c.args.leaving right_file c.args.movies.now.right other c.in_ok-other_read.other_read c.in_ok-other_head.other_head p c.in_ok-other_read.ensures c.in_ok-other_head.ensures.movie c.in_ok-other_head.ensures.tracks in
-    let begun = movie_begun c.args.aligned c.args.leaving file right_file tree other c.in_ok-head.head c.in_ok-other_head.other_head says other_says c.in_ok-found.found.items c.in_ok-found.ensures in
-    first_part (g.D.Differences.taken c.args.seen.now) (g.D.Differences.taken c.hand_over.new.seen) _ c.in_ok-found.found.items _ begun (rw c.as_slice-3.ensures.value at c.hand_over.ensures.front)
+pub returns-then-not-hand_over-clause-handed : goal.returns-then-not-hand_over-clause-handed
+returns-then-not-hand_over-clause-handed g c = record {
+  goes = search rules;
+  all = search rules;
+  front = λ told told_right tree other o p.
+      let file = g.S.Store.file c.args.left.now in
+      let right_file = g.T.Store.file c.args.right.now in
+      let says = says_left c.args.leaving file c.args.movies.now.left tree c.in_ok-read.read c.in_ok-head.head o c.in_ok-read.ensures c.in_ok-head.ensures.movie c.in_ok-head.ensures.tracks in
+      let other_says = says_left c.args.leaving right_file c.args.movies.now.right other c.in_ok-other_read.other_read c.in_ok-other_head.other_head p c.in_ok-other_read.ensures c.in_ok-other_head.ensures.movie c.in_ok-other_head.ensures.tracks in
+      let begun = movie_begun c.args.aligned c.args.leaving file right_file tree other c.in_ok-head.head c.in_ok-other_head.other_head says other_says c.in_ok-found.found.items c.in_ok-found.ensures in
+      first_part (g.D.Differences.taken c.args.seen.now) (g.D.Differences.taken c.hand_over.new.seen) _ c.in_ok-found.found.items _ begun (rw c.as_slice-3.ensures.value at c.hand_over.ensures.front);
+}
 
 pub loop-track-init : goal.loop-track-init
 loop-track-init g c = record {
@@ -80,21 +112,25 @@ loop-track-init g c = record {
       files_first c.args.aligned c.args.leaving file tree right_file other (g.D.Differences.taken c.args.seen.now) c.args.steps.now.passed (g.D.Differences.taken c.hand_over.new.seen) c.in_ok-found.found.items begun ((rw c.as_slice-3.ensures.value at c.if-not-hand_over.ensures.all) refl);
 }
 
-pub returns-in_err-compare_tracks-clause-front : goal.returns-in_err-compare_tracks-clause-front
-returns-in_err-compare_tracks-clause-front g c told told_right tree other o p =
-    let i = c.loop-track.invariant in
-    let file = g.S.Store.file c.args.left.now in
-    let right_file = g.T.Store.file c.args.right.now in
-    let before = g.D.Differences.taken c.args.seen.now in
-    let now = g.D.Differences.taken c.loop-track.seen in
-    let h = i.going told told_right tree other o p in
-    let track = c.loop-track.track in
-    let says = says_left c.args.leaving file c.args.movies.now.left tree c.in_ok-read.read c.in_ok-head.head o c.in_ok-read.ensures c.in_ok-head.ensures.movie c.in_ok-head.ensures.tracks in
-    let other_says = says_left c.args.leaving right_file c.args.movies.now.right other c.in_ok-other_read.other_read c.in_ok-other_head.other_head p c.in_ok-other_read.ensures c.in_ok-other_head.ensures.movie c.in_ok-other_head.ensures.tracks in
-    let t = track_at c.args.leaving file tree c.in_ok-head.head says track c.index-first.result.now (search rules) (search rules) in
-    let u = track_at c.args.leaving right_file other c.in_ok-other_head.other_head other_says track c.index-second.result.now (search rules) (search rules) in
-    files_stop c.args.aligned c.args.leaving file tree right_file other before c.args.steps.now.passed track now c.loop-track.steps.passed h t.0 u.0 t.1 u.1 (g.D.Differences.taken c.compare_tracks.new.seen)
-    ((rw (i.honesty, i.file, i.honesty_right, i.file_right) at c.in_err-compare_tracks.ensures.handed.front) told told_right tree other o p t.0 u.0 t.1 u.1 t.2 u.2)
+pub returns-in_err-compare_tracks-clause-handed : goal.returns-in_err-compare_tracks-clause-handed
+returns-in_err-compare_tracks-clause-handed g c = record {
+  goes = search rules;
+  all = search rules;
+  front = λ told told_right tree other o p.
+      let i = c.loop-track.invariant in
+      let file = g.S.Store.file c.args.left.now in
+      let right_file = g.T.Store.file c.args.right.now in
+      let before = g.D.Differences.taken c.args.seen.now in
+      let now = g.D.Differences.taken c.loop-track.seen in
+      let h = i.going told told_right tree other o p in
+      let track = c.loop-track.track in
+      let says = says_left c.args.leaving file c.args.movies.now.left tree c.in_ok-read.read c.in_ok-head.head o c.in_ok-read.ensures c.in_ok-head.ensures.movie c.in_ok-head.ensures.tracks in
+      let other_says = says_left c.args.leaving right_file c.args.movies.now.right other c.in_ok-other_read.other_read c.in_ok-other_head.other_head p c.in_ok-other_read.ensures c.in_ok-other_head.ensures.movie c.in_ok-other_head.ensures.tracks in
+      let t = track_at c.args.leaving file tree c.in_ok-head.head says track c.index-first.result.now (search rules) (search rules) in
+      let u = track_at c.args.leaving right_file other c.in_ok-other_head.other_head other_says track c.index-second.result.now (search rules) (search rules) in
+      files_stop c.args.aligned c.args.leaving file tree right_file other before c.args.steps.now.passed track now c.loop-track.steps.passed h t.0 u.0 t.1 u.1 (g.D.Differences.taken c.compare_tracks.new.seen)
+      ((rw (i.honesty, i.file, i.honesty_right, i.file_right) at c.in_err-compare_tracks.ensures.handed.front) told told_right tree other o p t.0 u.0 t.1 u.1 t.2 u.2);
+}
 
 pub returns-in_err-compare_tracks-clause-unchanged : goal.returns-in_err-compare_tracks-clause-unchanged
 returns-in_err-compare_tracks-clause-unchanged g c told told_right tree other o p =
@@ -128,21 +164,25 @@ returns-in_err-compare_tracks-clause-work g c told told_right tree other o p =
     files_most c.args.aligned c.args.leaving file tree right_file other before c.args.steps.now.passed track now c.loop-track.steps.passed h t.0 u.0 t.1 u.1 c.compare_tracks.new.steps.passed
     ((rw (i.honesty, i.file, i.honesty_right, i.file_right) at c.in_err-compare_tracks.ensures.work) told told_right tree other o p t.0 u.0 t.1 u.1)
 
-pub returns-then-not-branch-clause-front : goal.returns-then-not-branch-clause-front
-returns-then-not-branch-clause-front g c told told_right tree other o p =
-    let i = c.loop-track.invariant in
-    let file = g.S.Store.file c.args.left.now in
-    let right_file = g.T.Store.file c.args.right.now in
-    let before = g.D.Differences.taken c.args.seen.now in
-    let now = g.D.Differences.taken c.loop-track.seen in
-    let h = i.going told told_right tree other o p in
-    let track = c.loop-track.track in
-    let says = says_left c.args.leaving file c.args.movies.now.left tree c.in_ok-read.read c.in_ok-head.head o c.in_ok-read.ensures c.in_ok-head.ensures.movie c.in_ok-head.ensures.tracks in
-    let other_says = says_left c.args.leaving right_file c.args.movies.now.right other c.in_ok-other_read.other_read c.in_ok-other_head.other_head p c.in_ok-other_read.ensures c.in_ok-other_head.ensures.movie c.in_ok-other_head.ensures.tracks in
-    let t = track_at c.args.leaving file tree c.in_ok-head.head says track c.index-first.result.now (search rules) (search rules) in
-    let u = track_at c.args.leaving right_file other c.in_ok-other_head.other_head other_says track c.index-second.result.now (search rules) (search rules) in
-    files_stop c.args.aligned c.args.leaving file tree right_file other before c.args.steps.now.passed track now c.loop-track.steps.passed h t.0 u.0 t.1 u.1 (g.D.Differences.taken c.compare_tracks.new.seen)
-    ((rw (i.honesty, i.file, i.honesty_right, i.file_right) at c.in_ok-compare_tracks.ensures.handed.front) told told_right tree other o p t.0 u.0 t.1 u.1 t.2 u.2)
+pub returns-then-not-branch-clause-handed : goal.returns-then-not-branch-clause-handed
+returns-then-not-branch-clause-handed g c = record {
+  goes = search rules;
+  all = search rules;
+  front = λ told told_right tree other o p.
+      let i = c.loop-track.invariant in
+      let file = g.S.Store.file c.args.left.now in
+      let right_file = g.T.Store.file c.args.right.now in
+      let before = g.D.Differences.taken c.args.seen.now in
+      let now = g.D.Differences.taken c.loop-track.seen in
+      let h = i.going told told_right tree other o p in
+      let track = c.loop-track.track in
+      let says = says_left c.args.leaving file c.args.movies.now.left tree c.in_ok-read.read c.in_ok-head.head o c.in_ok-read.ensures c.in_ok-head.ensures.movie c.in_ok-head.ensures.tracks in
+      let other_says = says_left c.args.leaving right_file c.args.movies.now.right other c.in_ok-other_read.other_read c.in_ok-other_head.other_head p c.in_ok-other_read.ensures c.in_ok-other_head.ensures.movie c.in_ok-other_head.ensures.tracks in
+      let t = track_at c.args.leaving file tree c.in_ok-head.head says track c.index-first.result.now (search rules) (search rules) in
+      let u = track_at c.args.leaving right_file other c.in_ok-other_head.other_head other_says track c.index-second.result.now (search rules) (search rules) in
+      files_stop c.args.aligned c.args.leaving file tree right_file other before c.args.steps.now.passed track now c.loop-track.steps.passed h t.0 u.0 t.1 u.1 (g.D.Differences.taken c.compare_tracks.new.seen)
+      ((rw (i.honesty, i.file, i.honesty_right, i.file_right) at c.in_ok-compare_tracks.ensures.handed.front) told told_right tree other o p t.0 u.0 t.1 u.1 t.2 u.2);
+}
 
 pub returns-then-not-branch-clause-work : goal.returns-then-not-branch-clause-work
 returns-then-not-branch-clause-work g c told told_right tree other o p =
@@ -188,30 +228,31 @@ loop-track-preserved g c = record {
       ((rw (i.honesty, i.file, i.honesty_right, i.file_right) at c.in_ok-compare_tracks.ensures.work) told told_right tree other o p t.0 u.0 t.1 u.1);
 }
 
-pub returns-clause-all : goal.returns-clause-all
-returns-clause-all g c whole told told_right tree other o p =
-    let i = c.loop-track.invariant in
-    let file = g.S.Store.file c.args.left.now in
-    let right_file = g.T.Store.file c.args.right.now in
-    let before = g.D.Differences.taken c.args.seen.now in
-    let now = g.D.Differences.taken c.loop-track.seen in
-    let h = i.going told told_right tree other o p in
-    let says = says_left c.args.leaving file c.args.movies.now.left tree c.in_ok-read.read c.in_ok-head.head o c.in_ok-read.ensures c.in_ok-head.ensures.movie c.in_ok-head.ensures.tracks in
-    let other_says = says_left c.args.leaving right_file c.args.movies.now.right other c.in_ok-other_read.other_read c.in_ok-other_head.other_head p c.in_ok-other_read.ensures c.in_ok-other_head.ensures.movie c.in_ok-other_head.ensures.tracks in
-    let le : min (min (min (length c.args.movies.now.left.tracks) (length c.args.movies.now.right.tracks)) (length c.in_ok-head.head.tracks.items)) (length c.in_ok-other_head.other_head.tracks.items) ≤ c.loop-track.track = search rules in
-    files_all c.args.aligned c.args.leaving file tree right_file other before c.args.steps.now.passed c.loop-track.track now c.loop-track.steps.passed h
-    (all_over _ _ _ _ _ _ c.loop-track.track (infos_all file c.args.movies.now.left tree o) (infos_all right_file c.args.movies.now.right other p) (heads_all c.args.leaving file tree c.in_ok-head.head says)
-    (heads_all c.args.leaving right_file other c.in_ok-other_head.other_head other_says) le)
-
-pub returns-clause-front : goal.returns-clause-front
-returns-clause-front g c told told_right tree other o p =
-    let i = c.loop-track.invariant in
-    let file = g.S.Store.file c.args.left.now in
-    let right_file = g.T.Store.file c.args.right.now in
-    let before = g.D.Differences.taken c.args.seen.now in
-    let now = g.D.Differences.taken c.loop-track.seen in
-    let h = i.going told told_right tree other o p in
-    files_front c.args.aligned c.args.leaving file tree right_file other before c.args.steps.now.passed c.loop-track.track now c.loop-track.steps.passed h
+pub returns-clause-handed : goal.returns-clause-handed
+returns-clause-handed g c = record {
+  goes = search rules;
+  all = λ whole told told_right tree other o p.
+      let i = c.loop-track.invariant in
+      let file = g.S.Store.file c.args.left.now in
+      let right_file = g.T.Store.file c.args.right.now in
+      let before = g.D.Differences.taken c.args.seen.now in
+      let now = g.D.Differences.taken c.loop-track.seen in
+      let h = i.going told told_right tree other o p in
+      let says = says_left c.args.leaving file c.args.movies.now.left tree c.in_ok-read.read c.in_ok-head.head o c.in_ok-read.ensures c.in_ok-head.ensures.movie c.in_ok-head.ensures.tracks in
+      let other_says = says_left c.args.leaving right_file c.args.movies.now.right other c.in_ok-other_read.other_read c.in_ok-other_head.other_head p c.in_ok-other_read.ensures c.in_ok-other_head.ensures.movie c.in_ok-other_head.ensures.tracks in
+      let le : min (min (min (length c.args.movies.now.left.tracks) (length c.args.movies.now.right.tracks)) (length c.in_ok-head.head.tracks.items)) (length c.in_ok-other_head.other_head.tracks.items) ≤ c.loop-track.track = search rules in
+      files_all c.args.aligned c.args.leaving file tree right_file other before c.args.steps.now.passed c.loop-track.track now c.loop-track.steps.passed h
+      (all_over _ _ _ _ _ _ c.loop-track.track (infos_all file c.args.movies.now.left tree o) (infos_all right_file c.args.movies.now.right other p) (heads_all c.args.leaving file tree c.in_ok-head.head says)
+      (heads_all c.args.leaving right_file other c.in_ok-other_head.other_head other_says) le);
+  front = λ told told_right tree other o p.
+      let i = c.loop-track.invariant in
+      let file = g.S.Store.file c.args.left.now in
+      let right_file = g.T.Store.file c.args.right.now in
+      let before = g.D.Differences.taken c.args.seen.now in
+      let now = g.D.Differences.taken c.loop-track.seen in
+      let h = i.going told told_right tree other o p in
+      files_front c.args.aligned c.args.leaving file tree right_file other before c.args.steps.now.passed c.loop-track.track now c.loop-track.steps.passed h;
+}
 
 pub returns-clause-work : goal.returns-clause-work
 returns-clause-work g c told told_right tree other o p =
