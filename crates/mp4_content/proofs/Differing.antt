@@ -1,7 +1,7 @@
 -- Lists of differences, grown value after value and entry after entry.
 use Rattle.std.proofs.Common.{◌≡◌, ℕ, zero, suc, ◌+◌, ◌-◌, ◌<◌, ◌≤◌, ◌⊎◌, inl, inr, min, Bool, true, false, if◌then◌else◌, List, [], ◌∷◌, ◌++◌, length, drop, take, slice_index_or, Option, None, Some, refl, sym, ap, subst, ◌∙◌, arith, append_assoc}
-use Rattle.std.specs.Prelude.{map, filter, not, ◌==◌, ◌||◌}
-use Rattle.std.proofs.lemmas.List.{append-nil, length-map, map-append, drop-drop, take-append-drop}
+use Rattle.std.specs.Prelude.{map, ◌==◌}
+use Rattle.std.proofs.lemmas.List.{append-nil, length-map, drop-drop, take-append-drop}
 use Rattle.std.proofs.lemmas.Bool.{eq-eqb, ne_eqb, cases_lt}
 use Rattle.mp4_boxes.proofs.Plain.{drop_all, plus_one, some_is}
 use Rattle.mp4_store.specs.words.Device.{range}

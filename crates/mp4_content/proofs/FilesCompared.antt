@@ -1,7 +1,7 @@
 -- Files that are compared track by track.
 use Rattle.std.proofs.Common.{◌≡◌, ℕ, zero, suc, ◌+◌, ◌<◌, ◌≤◌, min, Bool, true, false, if◌then◌else◌, List, [], ◌∷◌, ◌++◌, length, take, drop, Option, Some, None, sym, ap, subst, ◌∙◌, arith, append_assoc}
 use Rattle.std.specs.List.{slice_get}
-use Rattle.std.specs.Prelude.{slice_index_or, not, ◌&&◌, ◌==◌, map, Result, Ok, Err, IfOk}
+use Rattle.std.specs.Prelude.{IsTrue, slice_index_or, not, ◌&&◌, ◌==◌, map, Result, Ok, Err, IfOk}
 use Rattle.std.proofs.lemmas.List.{append-nil, length-map}
 use Rattle.mp4_boxes.specs.format.Bytes.{sum_of}
 use Rattle.mp4_boxes.proofs.Plain.{drop_plus, get_map, get_some, get_zip, length_zip, some_is}
@@ -36,6 +36,17 @@ use Rattle.mp4_content.proofs.TracksCompared.{GrowsTo, grows_none, grows_more, g
 pub if_ok : {T E : Type 0} (P Q : T → Type 0) (r : Result T E) → ((x : T) → P x → Q x) → IfOk r P → IfOk r Q
 if_ok P Q (Ok x) f h = f x h
 if_ok P Q (Err e) f h = tt
+
+-- no answer is one of which all is so
+pub err_if_ok : {T E : Type 0} (r : Result T E) (e : E) (P : T → Type 0) → r ≡ Err e → IfOk r P
+err_if_ok {T = T} {E = E} r e P same = subst (λ (x : Result T E). IfOk x P) (sym same) tt
+
+-- what is so of two files that were opened is so of them where their stores are as they were
+pub of_same : (P : List ℕ → List ℕ → Type 0) (m n : MovieSeen) (tree other : FileTree) (h h' k k' : Bool) (f f' g g' : List ℕ) → h ≡ h' → f ≡ f' → k ≡ k' → g ≡ g'
+    → (IsTrue h → IsTrue k → IsOpenedAs f m tree → IsOpenedAs g n other → P f g) → IsTrue h' → IsTrue k' → IsOpenedAs f' m tree → IsOpenedAs g' n other → P f' g'
+of_same P m n tree other h h' k k' f f' g g' a b c d q told told_right o p =
+    subst (λ (y : List ℕ). P f' y) d (subst (λ (x : List ℕ). P x g) b
+    (q (subst IsTrue (sym a) told) (subst IsTrue (sym c) told_right) (subst (λ (x : List ℕ). IsOpenedAs x m tree) (sym b) o) (subst (λ (y : List ℕ). IsOpenedAs y n other) (sym d) p)))
 
 -- ---- the heads of two tracks
 

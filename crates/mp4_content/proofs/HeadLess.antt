@@ -1,6 +1,6 @@
 -- The head of what is left of an opened file.
-use Rattle.std.proofs.Common.{◌≡◌, ℕ, zero, suc, ◌+◌, ◌<◌, ◌≤◌, max, Bool, true, false, List, [], ◌∷◌, length, map, refl, sym, ap, subst, ◌∙◌, arith}
-use Rattle.std.specs.Prelude.{filter, fold, not, slice_index_or, slice_set, ⊤}
+use Rattle.std.proofs.Common.{◌≡◌, ℕ, ◌≤◌, max, Bool, true, false, List, [], ◌∷◌, length, map, refl, sym, ap, ◌∙◌}
+use Rattle.std.specs.Prelude.{filter, fold, not}
 use Rattle.mp4_boxes.specs.format.Children.{is_among}
 use Rattle.mp4_head.specs.format.Head as heads
 use Rattle.mp4_head.specs.words.Found.{SaysHead}

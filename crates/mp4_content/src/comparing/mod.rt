@@ -1,6 +1,6 @@
 //! Two opened files, compared by what they say.
 ghost use Rattle.std.specs.Prelude.{◌≡◌, ◌+◌, ◌<◌, ◌≤◌, ℕ, ◌++◌, ◌&&◌, ◌==◌, not, take, true, slice_get, IfOk, OnOk};
-ghost use Rattle.mp4_content.specs.words.Compared.{WhereOpenedBoth, HaveTracks, OfFiles, OfListed, WhereTracks, OfSamples, OfTracks, TakesFront, TracksWork};
+ghost use Rattle.mp4_content.specs.words.Compared.{WhereOpenedBoth, HaveTracks, OfFiles, OfListed, WhereTracks, OfSamples, OfTracks, TracksWork};
 ghost use Rattle.mp4_content.specs.words.Differing.{RefusesSample, RefusedBoth};
 ghost use Rattle.mp4_content.specs.words.HeadsDiffer.{begun_differ};
 ghost use Rattle.mp4_content.specs.words.TwoStores.{HandsOver, OnlyReadsBoth};

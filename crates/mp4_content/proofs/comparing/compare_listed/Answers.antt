@@ -1,8 +1,12 @@
-use Rattle.std.proofs.Common.{rules, refl, ◌≡◌, ◌≤◌, length, min, arith}
+use Rattle.std.proofs.Common.{rules, refl, ◌≡◌, ◌+◌, ◌≤◌, ◌++◌, ◌∙◌, ℕ, List, length, min, sym, subst, arith}
+use Rattle.std.specs.Prelude.{IsTrue}
 use Rattle.std.proofs.lemmas.Result.{err_from_is_err_and}
+use Rattle.mp4_present.specs.words.OpenedMovie.{IsOpenedAs}
+use Rattle.mp4_present.specs.words.WalkSteps.{walk_steps}
+use Rattle.mp4_content.specs.words.Compared.{TakesFront, tracks_differ}
 use Rattle.mp4_content.proofs.TracksCompared.{takes_nothing}
 use Rattle.mp4_content.proofs.HeadLess.{says_left}
-use Rattle.mp4_content.proofs.FilesCompared.{first_part, movie_begun, track_at, all_over, files_first, files_next, files_stop, files_most, files_all, files_front, files_work, infos_all, heads_all}
+use Rattle.mp4_content.proofs.FilesCompared.{err_if_ok, first_part, of_same, movie_begun, track_at, all_over, files_first, files_next, files_stop, files_most, files_all, files_front, files_work, infos_all, heads_all}
 use Rattle.mp4_content.proofs.comparing.compare_listed.Goals as goal
 
 pub returns-in_err-read-clause-handed : goal.returns-in_err-read-clause-handed
@@ -48,11 +52,13 @@ returns-in_err-other_head-clause-handed g c = record {
 }
 
 pub returns-in_err-found-clause-handed : goal.returns-in_err-found-clause-handed
-returns-in_err-found-clause-handed g c = record {
-  goes = search rules;
-  all = search rules;
-  front = λ told told_right tree other o p. takes_nothing (g.D.Differences.taken c.args.seen.now) _;
-}
+returns-in_err-found-clause-handed g c =
+    let e = err_from_is_err_and c.from_residual-in_err-found.result c.from_residual-in_err-found.ensures.1 in
+    record {
+      goes = err_if_ok _ e.0 _ e.1;
+      all = err_if_ok _ e.0 _ e.1;
+      front = λ told told_right tree other o p. takes_nothing (g.D.Differences.taken c.args.seen.now) _;
+    }
 
 pub returns-in_err-own-clause-unchanged : goal.returns-in_err-own-clause-unchanged
 returns-in_err-own-clause-unchanged g c told told_right tree other o p =
@@ -112,41 +118,52 @@ loop-track-init g c = record {
       files_first c.args.aligned c.args.leaving file tree right_file other (g.D.Differences.taken c.args.seen.now) c.args.steps.now.passed (g.D.Differences.taken c.hand_over.new.seen) c.in_ok-found.found.items begun ((rw c.as_slice-3.ensures.value at c.if-not-hand_over.ensures.all) refl);
 }
 
+pub returns-in_err-compare_tracks-clause-stores : goal.returns-in_err-compare_tracks-clause-stores
+returns-in_err-compare_tracks-clause-stores g c =
+    let i = c.loop-track.invariant in
+    let s = c.in_err-compare_tracks.ensures.stores in
+    let e = err_from_is_err_and c.from_residual-in_err-compare_tracks.result c.from_residual-in_err-compare_tracks.ensures.1 in
+    record {
+      left = record { honesty = s.left.honesty ∙ i.honesty; file = s.left.file ∙ i.file; reads = err_if_ok _ e.0 _ e.1 };
+      right = record { honesty = s.right.honesty ∙ i.honesty_right; file = s.right.file ∙ i.file_right; reads = err_if_ok _ e.0 _ e.1 };
+    }
+
 pub returns-in_err-compare_tracks-clause-handed : goal.returns-in_err-compare_tracks-clause-handed
-returns-in_err-compare_tracks-clause-handed g c = record {
-  goes = search rules;
-  all = search rules;
-  front = λ told told_right tree other o p.
-      let i = c.loop-track.invariant in
-      let file = g.S.Store.file c.args.left.now in
-      let right_file = g.T.Store.file c.args.right.now in
-      let before = g.D.Differences.taken c.args.seen.now in
-      let now = g.D.Differences.taken c.loop-track.seen in
-      let h = i.going told told_right tree other o p in
-      let track = c.loop-track.track in
-      let says = says_left c.args.leaving file c.args.movies.now.left tree c.in_ok-read.read c.in_ok-head.head o c.in_ok-read.ensures c.in_ok-head.ensures.movie c.in_ok-head.ensures.tracks in
-      let other_says = says_left c.args.leaving right_file c.args.movies.now.right other c.in_ok-other_read.other_read c.in_ok-other_head.other_head p c.in_ok-other_read.ensures c.in_ok-other_head.ensures.movie c.in_ok-other_head.ensures.tracks in
-      let t = track_at c.args.leaving file tree c.in_ok-head.head says track c.index-first.result.now (search rules) (search rules) in
-      let u = track_at c.args.leaving right_file other c.in_ok-other_head.other_head other_says track c.index-second.result.now (search rules) (search rules) in
-      files_stop c.args.aligned c.args.leaving file tree right_file other before c.args.steps.now.passed track now c.loop-track.steps.passed h t.0 u.0 t.1 u.1 (g.D.Differences.taken c.compare_tracks.new.seen)
-      ((rw (i.honesty, i.file, i.honesty_right, i.file_right) at c.in_err-compare_tracks.ensures.handed.front) told told_right tree other o p t.0 u.0 t.1 u.1 t.2 u.2);
-}
+returns-in_err-compare_tracks-clause-handed g c =
+    let e = err_from_is_err_and c.from_residual-in_err-compare_tracks.result c.from_residual-in_err-compare_tracks.ensures.1 in
+    record {
+      goes = err_if_ok _ e.0 _ e.1;
+      all = err_if_ok _ e.0 _ e.1;
+      front = λ told told_right tree other o p.
+          let i = c.loop-track.invariant in
+          let file = g.S.Store.file c.args.left.now in
+          let right_file = g.T.Store.file c.args.right.now in
+          let before = g.D.Differences.taken c.args.seen.now in
+          let now = g.D.Differences.taken c.loop-track.seen in
+          let h = i.going told told_right tree other o p in
+          let track = c.loop-track.track in
+          let says = says_left c.args.leaving file c.args.movies.now.left tree c.in_ok-read.read c.in_ok-head.head o c.in_ok-read.ensures c.in_ok-head.ensures.movie c.in_ok-head.ensures.tracks in
+          let other_says = says_left c.args.leaving right_file c.args.movies.now.right other c.in_ok-other_read.other_read c.in_ok-other_head.other_head p c.in_ok-other_read.ensures c.in_ok-other_head.ensures.movie c.in_ok-other_head.ensures.tracks in
+          let t = track_at c.args.leaving file tree c.in_ok-head.head says track c.index-first.result.now (search rules) (search rules) in
+          let u = track_at c.args.leaving right_file other c.in_ok-other_head.other_head other_says track c.index-second.result.now (search rules) (search rules) in
+          files_stop c.args.aligned c.args.leaving file tree right_file other before c.args.steps.now.passed track now c.loop-track.steps.passed h t.0 u.0 t.1 u.1 (g.D.Differences.taken c.compare_tracks.new.seen)
+          (of_same (λ x y. TakesFront now (g.D.Differences.taken c.compare_tracks.new.seen) (tracks_differ c.args.aligned c.args.leaving (track + 1) x tree t.0 y other u.0)) c.args.movies.now.left c.args.movies.now.right tree other _ _ _ _ _ _ _ _ i.honesty i.file i.honesty_right i.file_right
+          (λ q r v w. c.in_err-compare_tracks.ensures.handed.front q r tree other v w t.0 u.0 t.1 u.1 t.2 u.2) told told_right o p);
+    }
 
 pub returns-in_err-compare_tracks-clause-unchanged : goal.returns-in_err-compare_tracks-clause-unchanged
 returns-in_err-compare_tracks-clause-unchanged g c told told_right tree other o p =
     let i = c.loop-track.invariant in
     let file = g.S.Store.file c.args.left.now in
     let right_file = g.T.Store.file c.args.right.now in
-    let before = g.D.Differences.taken c.args.seen.now in
-    let now = g.D.Differences.taken c.loop-track.seen in
-    let h = i.going told told_right tree other o p in
     let track = c.loop-track.track in
     let says = says_left c.args.leaving file c.args.movies.now.left tree c.in_ok-read.read c.in_ok-head.head o c.in_ok-read.ensures c.in_ok-head.ensures.movie c.in_ok-head.ensures.tracks in
     let other_says = says_left c.args.leaving right_file c.args.movies.now.right other c.in_ok-other_read.other_read c.in_ok-other_head.other_head p c.in_ok-other_read.ensures c.in_ok-other_head.ensures.movie c.in_ok-other_head.ensures.tracks in
     let t = track_at c.args.leaving file tree c.in_ok-head.head says track c.index-first.result.now (search rules) (search rules) in
     let u = track_at c.args.leaving right_file other c.in_ok-other_head.other_head other_says track c.index-second.result.now (search rules) (search rules) in
-    let x = err_from_is_err_and c.from_residual-in_err-compare_tracks.result c.from_residual-in_err-compare_tracks.ensures.1 in
-    rw (x.1, x.2) ((rw (i.honesty, i.file, i.honesty_right, i.file_right) at c.in_err-compare_tracks.ensures.unchanged) told told_right tree other o p t.0 u.0 t.1 u.1)
+    let e = err_from_is_err_and c.from_residual-in_err-compare_tracks.result c.from_residual-in_err-compare_tracks.ensures.1 in
+    rw (e.1, e.2) (c.in_err-compare_tracks.ensures.unchanged (subst IsTrue (sym i.honesty) told) (subst IsTrue (sym i.honesty_right) told_right) tree other
+    (subst (λ (x : List ℕ). IsOpenedAs x c.args.movies.now.left tree) (sym i.file) o) (subst (λ (x : List ℕ). IsOpenedAs x c.args.movies.now.right other) (sym i.file_right) p) t.0 u.0 t.1 u.1)
 
 pub returns-in_err-compare_tracks-clause-work : goal.returns-in_err-compare_tracks-clause-work
 returns-in_err-compare_tracks-clause-work g c told told_right tree other o p =
@@ -162,7 +179,8 @@ returns-in_err-compare_tracks-clause-work g c told told_right tree other o p =
     let t = track_at c.args.leaving file tree c.in_ok-head.head says track c.index-first.result.now (search rules) (search rules) in
     let u = track_at c.args.leaving right_file other c.in_ok-other_head.other_head other_says track c.index-second.result.now (search rules) (search rules) in
     files_most c.args.aligned c.args.leaving file tree right_file other before c.args.steps.now.passed track now c.loop-track.steps.passed h t.0 u.0 t.1 u.1 c.compare_tracks.new.steps.passed
-    ((rw (i.honesty, i.file, i.honesty_right, i.file_right) at c.in_err-compare_tracks.ensures.work) told told_right tree other o p t.0 u.0 t.1 u.1)
+    (of_same (λ x y. c.compare_tracks.new.steps.passed ≤ c.loop-track.steps.passed + (walk_steps tree t.0 + walk_steps other u.0)) c.args.movies.now.left c.args.movies.now.right tree other _ _ _ _ _ _ _ _ i.honesty i.file i.honesty_right i.file_right
+    (λ q r v w. c.in_err-compare_tracks.ensures.work q r tree other v w t.0 u.0 t.1 u.1) told told_right o p)
 
 pub returns-then-not-branch-clause-handed : goal.returns-then-not-branch-clause-handed
 returns-then-not-branch-clause-handed g c = record {
@@ -181,7 +199,8 @@ returns-then-not-branch-clause-handed g c = record {
       let t = track_at c.args.leaving file tree c.in_ok-head.head says track c.index-first.result.now (search rules) (search rules) in
       let u = track_at c.args.leaving right_file other c.in_ok-other_head.other_head other_says track c.index-second.result.now (search rules) (search rules) in
       files_stop c.args.aligned c.args.leaving file tree right_file other before c.args.steps.now.passed track now c.loop-track.steps.passed h t.0 u.0 t.1 u.1 (g.D.Differences.taken c.compare_tracks.new.seen)
-      ((rw (i.honesty, i.file, i.honesty_right, i.file_right) at c.in_ok-compare_tracks.ensures.handed.front) told told_right tree other o p t.0 u.0 t.1 u.1 t.2 u.2);
+      (of_same (λ x y. TakesFront now (g.D.Differences.taken c.compare_tracks.new.seen) (tracks_differ c.args.aligned c.args.leaving (track + 1) x tree t.0 y other u.0)) c.args.movies.now.left c.args.movies.now.right tree other _ _ _ _ _ _ _ _ i.honesty i.file i.honesty_right i.file_right
+      (λ q r v w. c.in_ok-compare_tracks.ensures.handed.front q r tree other v w t.0 u.0 t.1 u.1 t.2 u.2) told told_right o p);
 }
 
 pub returns-then-not-branch-clause-work : goal.returns-then-not-branch-clause-work
@@ -198,7 +217,8 @@ returns-then-not-branch-clause-work g c told told_right tree other o p =
     let t = track_at c.args.leaving file tree c.in_ok-head.head says track c.index-first.result.now (search rules) (search rules) in
     let u = track_at c.args.leaving right_file other c.in_ok-other_head.other_head other_says track c.index-second.result.now (search rules) (search rules) in
     files_most c.args.aligned c.args.leaving file tree right_file other before c.args.steps.now.passed track now c.loop-track.steps.passed h t.0 u.0 t.1 u.1 c.compare_tracks.new.steps.passed
-    ((rw (i.honesty, i.file, i.honesty_right, i.file_right) at c.in_ok-compare_tracks.ensures.work) told told_right tree other o p t.0 u.0 t.1 u.1)
+    (of_same (λ x y. c.compare_tracks.new.steps.passed ≤ c.loop-track.steps.passed + (walk_steps tree t.0 + walk_steps other u.0)) c.args.movies.now.left c.args.movies.now.right tree other _ _ _ _ _ _ _ _ i.honesty i.file i.honesty_right i.file_right
+    (λ q r v w. c.in_ok-compare_tracks.ensures.work q r tree other v w t.0 u.0 t.1 u.1) told told_right o p)
 
 pub loop-track-preserved : goal.loop-track-preserved
 loop-track-preserved g c = record {
@@ -224,8 +244,10 @@ loop-track-preserved g c = record {
       let t = track_at c.args.leaving file tree c.in_ok-head.head says track c.index-first.result.now (search rules) (search rules) in
       let u = track_at c.args.leaving right_file other c.in_ok-other_head.other_head other_says track c.index-second.result.now (search rules) (search rules) in
       files_next c.args.aligned c.args.leaving file tree right_file other before c.args.steps.now.passed track now c.loop-track.steps.passed h t.0 u.0 t.1 u.1 (g.D.Differences.taken c.compare_tracks.new.seen) c.compare_tracks.new.steps.passed
-      ((rw (i.honesty, i.file, i.honesty_right, i.file_right) at c.in_ok-compare_tracks.ensures.handed.all) c.if-not-branch.false told told_right tree other o p t.0 u.0 t.1 u.1 t.2 u.2)
-      ((rw (i.honesty, i.file, i.honesty_right, i.file_right) at c.in_ok-compare_tracks.ensures.work) told told_right tree other o p t.0 u.0 t.1 u.1);
+      (of_same (λ x y. (g.D.Differences.taken c.compare_tracks.new.seen) ≡ now ++ tracks_differ c.args.aligned c.args.leaving (track + 1) x tree t.0 y other u.0) c.args.movies.now.left c.args.movies.now.right tree other _ _ _ _ _ _ _ _ i.honesty i.file i.honesty_right i.file_right
+      (λ q r v w. c.in_ok-compare_tracks.ensures.handed.all c.if-not-branch.false q r tree other v w t.0 u.0 t.1 u.1 t.2 u.2) told told_right o p)
+      (of_same (λ x y. c.compare_tracks.new.steps.passed ≤ c.loop-track.steps.passed + (walk_steps tree t.0 + walk_steps other u.0)) c.args.movies.now.left c.args.movies.now.right tree other _ _ _ _ _ _ _ _ i.honesty i.file i.honesty_right i.file_right
+      (λ q r v w. c.in_ok-compare_tracks.ensures.work q r tree other v w t.0 u.0 t.1 u.1) told told_right o p);
 }
 
 pub returns-clause-handed : goal.returns-clause-handed

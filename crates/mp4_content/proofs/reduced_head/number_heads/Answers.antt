@@ -12,7 +12,8 @@ pub loop-k-preserved : goal.loop-k-preserved
 loop-k-preserved c =
     let i = c.loop-k.invariant in
     let lt : c.loop-k.k < length c.loop-k.heads.items = search rules in
-    (search rules, changed_one track_seen (number_head c.args.leaving) 1 _ c.loop-k.heads.items c.loop-k.k c.index_mut-head.result.now _ i.1 (there_is c.loop-k.heads.items c.loop-k.k _ c.index_mut-head.result.now lt c.index_mut-head.ensures.value) (ap (λ n. track_seen (record c.index_mut-head.result.now { id = n })) c.id-head.ensures))
+    let at = there_is c.loop-k.heads.items c.loop-k.k _ c.index_mut-head.result.now lt c.index_mut-head.ensures.value in
+    (search rules, changed_one track_seen (number_head c.args.leaving) 1 _ c.loop-k.heads.items c.loop-k.k c.index_mut-head.result.now _ i.1 at (ap (λ n. track_seen (record c.index_mut-head.result.now { id = n })) c.id-head.ensures))
 
 pub returns : goal.returns
 returns c = numbered_all c.args.leaving _ c.loop-k.heads.items c.loop-k.k c.loop-k.invariant.1 (search rules)

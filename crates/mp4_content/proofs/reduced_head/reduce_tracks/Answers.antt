@@ -12,7 +12,8 @@ pub loop-k-preserved : goal.loop-k-preserved
 loop-k-preserved c =
     let i = c.loop-k.invariant in
     let lt : c.loop-k.k < length c.loop-k.tracks.items = search rules in
-    (search rules, changed_one track_seen (λ n. reduce_track_head (keeping_payloads c.args.leaving)) 0 _ c.loop-k.tracks.items c.loop-k.k c.index_mut.result.now c.reduce_track.new.track i.1 (there_is c.loop-k.tracks.items c.loop-k.k _ c.index_mut.result.now lt c.index_mut.ensures.value) c.reduce_track.ensures)
+    let at = there_is c.loop-k.tracks.items c.loop-k.k _ c.index_mut.result.now lt c.index_mut.ensures.value in
+    (search rules, changed_one track_seen (λ n. reduce_track_head (keeping_payloads c.args.leaving)) 0 _ c.loop-k.tracks.items c.loop-k.k c.index_mut.result.now c.reduce_track.new.track i.1 at c.reduce_track.ensures)
 
 pub returns : goal.returns
 returns c = all_changed track_seen (reduce_track_head (keeping_payloads c.args.leaving)) _ c.loop-k.tracks.items c.loop-k.k c.loop-k.invariant.1 (search rules)
