@@ -1,16 +1,10 @@
 -- Lists of differences, grown value after value and entry after entry.
 use Rattle.std.proofs.Common.{◌≡◌, ℕ, zero, suc, ◌+◌, ◌-◌, ◌<◌, ◌≤◌, ◌⊎◌, inl, inr, min, Bool, true, false, if◌then◌else◌, List, [], ◌∷◌, ◌++◌, length, drop, take, slice_index_or, Option, None, Some, refl, sym, ap, subst, ◌∙◌, arith, append_assoc}
-use Rattle.std.specs.Prelude.{map, filter, not, ◌==◌, ◌||◌}
-use Rattle.std.proofs.lemmas.List.{append-nil, length-map, map-append, drop-drop, take-append-drop}
+use Rattle.std.specs.Prelude.{map, ◌==◌}
+use Rattle.std.proofs.lemmas.List.{append-nil, length-map, drop-drop, take-append-drop}
 use Rattle.std.proofs.lemmas.Bool.{eq-eqb, ne_eqb, cases_lt}
-use Rattle.mp4_boxes.specs.format.Children.{is_among}
 use Rattle.mp4_boxes.proofs.Plain.{drop_all, plus_one, some_is}
-use Rattle.mp4_head.specs.format.Head.{Kept}
-use Rattle.mp4_head.specs.words.Seen.{kept_seen}
-use Rattle.mp4_head.specs.declared.kept_boxes.Kept.{Kept as KeptBox}
 use Rattle.mp4_store.specs.words.Device.{range}
-use Rattle.mp4_content.specs.format.Reduced.{metadata_kinds, reduce_kept}
-use Rattle.mp4_content.specs.declared.without.Without.{Without}
 use Rattle.mp4_content.specs.format.Differences.{numbers_differ, first_unequal, each_differ, list_differences}
 use Rattle.mp4_content.specs.declared.comparing.differences.Difference.{Difference}
 use Rattle.mp4_content.specs.declared.comparing.differences.Subject.{Subject}
@@ -110,50 +104,6 @@ pub byte_found : (k x y : ℕ) (xs ys : List ℕ) (whole : Option (ℕ × ℕ ×
     → first_unequal k (drop k xs) (drop k ys) ≡ whole → Some (k, x, y) ≡ whole
 byte_found k x y xs ys whole lx ly ex ey e h =
     sym (other_byte k x y (drop (suc k) xs) (drop (suc k) ys) e) ∙ sym (λ i. first_unequal k (at_drop xs k x lx ex i) (at_drop ys k y ly ey i)) ∙ h
-
--- ---- kept boxes
-
--- these boxes, and those that are left of the others from a place on, are all that are left
-abbrev pub KeptOn : Without → List KeptBox → ℕ → List KeptBox → Type 0
-KeptOn l kept k now = map kept_seen now ++ reduce_kept l (map kept_seen (drop k kept)) ≡ reduce_kept l (map kept_seen kept)
-
-abbrev is_other : Kept → Bool
-is_other k = not (is_among metadata_kinds k.kind)
-
-keeps : (b : Bool) (x : Kept) (xs : List Kept) → not b || is_other x ≡ true → (if b then filter is_other (x ∷ xs) else x ∷ xs) ≡ x ∷ (if b then filter is_other xs else xs)
-keeps true x xs e = rw e refl
-keeps false x xs e = refl
-
-skips : (b : Bool) (x : Kept) (xs : List Kept) → not b || is_other x ≡ false → (if b then filter is_other (x ∷ xs) else x ∷ xs) ≡ (if b then filter is_other xs else xs)
-skips true x xs e = rw e refl
-skips false x xs e = absurd cc
-
-module _ (l : Without) (kept : List KeptBox) (k : ℕ) (x : KeptBox) (lt : k < length kept) (is : x ≡ slice_index_or kept k x) where
-  first : reduce_kept l (map kept_seen (drop k kept)) ≡ reduce_kept l (kept_seen x ∷ map kept_seen (drop (suc k) kept))
-  first = ap (λ (xs : List KeptBox). reduce_kept l (map kept_seen xs)) (at_drop kept k x lt is)
-
-  pub kept_more : (now next : List KeptBox) → not l.metadata || not (is_among metadata_kinds x.kind.0) ≡ true → next ≡ now ++ x ∷ [] → KeptOn l kept k now → KeptOn l kept (k + 1) next
-  kept_more now next e is_next h =
-      let rest = reduce_kept l (map kept_seen (drop (suc k) kept)) in
-      let one : map kept_seen now ++ (kept_seen x ∷ rest) ≡ reduce_kept l (map kept_seen kept) = ap (λ (ks : List Kept). map kept_seen now ++ ks) (sym (keeps l.metadata (kept_seen x) (map kept_seen (drop (suc k) kept)) e) ∙ sym first) ∙ h in
-      let mapped : map kept_seen next ≡ map kept_seen now ++ kept_seen x ∷ [] = ap (map kept_seen) is_next ∙ map-append kept_seen now (x ∷ []) in
-      subst (λ n. map kept_seen next ++ reduce_kept l (map kept_seen (drop n kept)) ≡ reduce_kept l (map kept_seen kept)) (sym (plus_one k))
-      (ap (λ (ks : List Kept). ks ++ rest) mapped ∙ append_assoc (map kept_seen now) (kept_seen x ∷ []) rest ∙ one)
-
-  pub kept_less : (now : List KeptBox) → not l.metadata || not (is_among metadata_kinds x.kind.0) ≡ false → KeptOn l kept k now → KeptOn l kept (k + 1) now
-  kept_less now e h =
-      subst (λ n. map kept_seen now ++ reduce_kept l (map kept_seen (drop n kept)) ≡ reduce_kept l (map kept_seen kept)) (sym (plus_one k))
-      (ap (λ (ks : List Kept). map kept_seen now ++ ks) (sym (skips l.metadata (kept_seen x) (map kept_seen (drop (suc k) kept)) e) ∙ sym first) ∙ h)
-
-none_of_none : (l : Without) → reduce_kept l [] ≡ []
-none_of_none l = by l.metadata
-  where
-    by : (b : Bool) → (if b then filter is_other [] else []) ≡ []
-    by true = refl
-    by false = refl
-
-pub kept_all : (l : Without) (kept : List KeptBox) (k : ℕ) (now : List KeptBox) → length kept ≤ k → KeptOn l kept k now → map kept_seen now ≡ reduce_kept l (map kept_seen kept)
-kept_all l kept k now le h = sym (append-nil (map kept_seen now)) ∙ ap (λ (ks : List Kept). map kept_seen now ++ ks) (sym (ap (λ (xs : List KeptBox). reduce_kept l (map kept_seen xs)) (drop_all kept k le) ∙ none_of_none l)) ∙ h
 
 -- ---- parts of a file
 

@@ -1,5 +1,5 @@
 -- Values of fields and entries of lists, compared one by one: the differences of heads.
-use Rattle.std.proofs.Common.{◌≡◌, ℕ, suc, Bool, true, false, if◌then◌else◌, List, [], ◌∷◌, ◌++◌, length, refl, ap, ◌∙◌, append_assoc}
+use Rattle.std.proofs.Common.{◌≡◌, ℕ, suc, List, [], ◌∷◌, ◌++◌, length, refl, ap, ◌∙◌, append_assoc}
 use Rattle.std.specs.Prelude.{map}
 use Rattle.std.proofs.lemmas.List.{append-nil, length-map}
 use Rattle.mp4_head.specs.format.Head.{Edit, Media, TrackHead, MovieHead}
@@ -31,11 +31,6 @@ pub lists_seen : {A B : Type 0} (g : A → B) (of : Subject) (list : Entries) (o
     → ((n : ℕ) (x y : A) → other n x y ≡ one n (g x) (g y))
     → (xs ys : List A) → list_differences of list other xs ys ≡ list_differences of list one (map g xs) (map g ys)
 lists_seen g of list one other same xs ys = rw (length-map xs g, length-map ys g) (ap (λ (ds : List Difference). numbers_differ of (fields.Count list) (length xs) (length ys) ++ ds) (each_seen g one other same 1 xs ys))
-
--- entries that count
-pub unless_seen : {A B : Type 0} (g : A → B) (b : Bool) (xs : List A) → map g (if b then [] else xs) ≡ (if b then [] else map g xs)
-unless_seen g true xs = refl
-unless_seen g false xs = refl
 
 -- ---- values
 

@@ -1,25 +1,24 @@
 -- Files that are compared track by track.
 use Rattle.std.proofs.Common.{◌≡◌, ℕ, zero, suc, ◌+◌, ◌<◌, ◌≤◌, min, Bool, true, false, if◌then◌else◌, List, [], ◌∷◌, ◌++◌, length, take, drop, Option, Some, None, sym, ap, subst, ◌∙◌, arith, append_assoc}
 use Rattle.std.specs.List.{slice_get}
-use Rattle.std.specs.Prelude.{not, ◌&&◌, ◌==◌, map, Result, Ok, Err, IfOk}
+use Rattle.std.specs.Prelude.{IsTrue, slice_index_or, not, ◌&&◌, ◌==◌, map, Result, Ok, Err, IfOk}
 use Rattle.std.proofs.lemmas.List.{append-nil, length-map}
 use Rattle.mp4_boxes.specs.format.Bytes.{sum_of}
-use Rattle.mp4_boxes.proofs.Plain.{drop_plus, get_map, get_zip, length_zip, some_is}
-use Rattle.mp4_head.specs.format.Tree.{TrackTree, head_of, track_head_of}
+use Rattle.mp4_boxes.proofs.Plain.{drop_plus, get_map, get_some, get_zip, length_zip, some_is}
+use Rattle.mp4_head.specs.format.Tree.{TrackTree}
 use Rattle.mp4_head.specs.format.Head as heads
-use Rattle.mp4_head.specs.words.Found.{SaysHead}
-use Rattle.mp4_head.specs.words.Seen.{head_seen, movie_seen, track_seen}
+use Rattle.mp4_head.specs.words.Seen.{track_seen}
 use Rattle.mp4_head.specs.declared.heads.MovieHead.{MovieHead}
 use Rattle.mp4_head.specs.declared.heads.TrackHead.{TrackHead}
-use Rattle.mp4_head.proofs.ReadAgain.{said_of}
 use Rattle.mp4_content.specs.format.Alignment.{listed_track}
 use Rattle.mp4_content.specs.format.Differences.{numbers_differ, each_differ, head_differences, movie_differences}
-use Rattle.mp4_present.specs.format.Denotes.{FileTree, file_parts, track_of}
+use Rattle.mp4_present.specs.format.Denotes.{FileTree, file_parts, track_of, presentation_of}
 use Rattle.mp4_present.specs.format.Presentation.{Sample, Track}
-use Rattle.mp4_content.specs.format.Reduced.{start_left, first_offset, number_head, number_track, number_tracks, reduce_track, reduce_track_head, reduce_movie_head}
-use Rattle.mp4_content.specs.words.Compared.{TakesFront, samples_differ, tracks_differ, files_listed}
+use Rattle.mp4_content.specs.format.Reduced.{start_left, first_offset, number_track, reduce, reduce_track}
+use Rattle.mp4_content.specs.words.Compared.{TakesFront, head_left, samples_differ, tracks_differ, files_listed}
 use Rattle.mp4_content.specs.words.Differing.{as_list, is_none_yet}
-use Rattle.mp4_present.specs.words.Movies.{MovieSeen, moov_box}
+use Rattle.mp4_content.specs.words.HeadsDiffer.{begun_differ, movies_differ}
+use Rattle.mp4_present.specs.words.Movies.{MovieSeen}
 use Rattle.mp4_present.specs.words.OpenedMovie.{IsOpenedAs, IsInfoOf}
 use Rattle.mp4_present.specs.words.WalkSteps.{walk_steps, walks_steps}
 use Rattle.mp4_content.specs.declared.comparing.differences.Difference.{Difference}
@@ -27,6 +26,8 @@ use Rattle.mp4_content.specs.declared.comparing.differences.Subject.TheVariants 
 use Rattle.mp4_content.specs.declared.comparing.differences.Field.TheVariants as fields
 use Rattle.mp4_content.specs.declared.without.Without.{Without}
 use Rattle.mp4_present.specs.declared.track_info.TrackInfo.{TrackInfo}
+use Rattle.mp4_present.proofs.TrafTaken.{at_place}
+use Rattle.mp4_content.proofs.HeadLess.{SaysHeadOf}
 use Rattle.mp4_content.proofs.Numbered.{numbered_at, numbered_many}
 use Rattle.mp4_content.proofs.SamplesReduced.{reduced_length}
 use Rattle.mp4_content.proofs.TracksCompared.{GrowsTo, grows_none, grows_more, grows_front, grows_part, grows_all, each_next, each_over}
@@ -36,13 +37,23 @@ pub if_ok : {T E : Type 0} (P Q : T → Type 0) (r : Result T E) → ((x : T) �
 if_ok P Q (Ok x) f h = f x h
 if_ok P Q (Err e) f h = tt
 
+-- no answer is one of which all is so
+pub err_if_ok : {T E : Type 0} (r : Result T E) (e : E) (P : T → Type 0) → r ≡ Err e → IfOk r P
+err_if_ok {T = T} {E = E} r e P same = subst (λ (x : Result T E). IfOk x P) (sym same) tt
+
+-- what is so of two files that were opened is so of them where their stores are as they were
+pub of_same : (P : List ℕ → List ℕ → Type 0) (m n : MovieSeen) (tree other : FileTree) (h h' k k' : Bool) (f f' g g' : List ℕ) → h ≡ h' → f ≡ f' → k ≡ k' → g ≡ g'
+    → (IsTrue h → IsTrue k → IsOpenedAs f m tree → IsOpenedAs g n other → P f g) → IsTrue h' → IsTrue k' → IsOpenedAs f' m tree → IsOpenedAs g' n other → P f' g'
+of_same P m n tree other h h' k k' f f' g g' a b c d q told told_right o p =
+    subst (λ (y : List ℕ). P f' y) d (subst (λ (x : List ℕ). P x g) b
+    (q (subst IsTrue (sym a) told) (subst IsTrue (sym c) told_right) (subst (λ (x : List ℕ). IsOpenedAs x m tree) (sym b) o) (subst (λ (y : List ℕ). IsOpenedAs y n other) (sym d) p)))
+
 -- ---- the heads of two tracks
 
 -- what was found of them is what differs between the tracks apart from their samples
 heads_differ : (aligned : Bool) (l : Without) (number k : ℕ) (file other : List ℕ) (m n : MovieSeen) (tree other_tree : FileTree) (t u : TrackTree) (info other_info : TrackInfo) (head other_head : TrackHead) → IsOpenedAs file m tree → IsOpenedAs other n other_tree
-    → slice_get tree.movie.tracks k ≡ Some t → slice_get other_tree.movie.tracks k ≡ Some u → slice_get m.tracks k ≡ Some info → slice_get n.tracks k ≡ Some other_info → track_seen head ≡ track_head_of t → track_seen other_head ≡ track_head_of u
-    → (head_differences (subjects.Track number) (number_head l number (reduce_track_head l (track_seen head))) (number_head l number (reduce_track_head l (track_seen other_head))) ++ numbers_differ (subjects.Track number) fields.Start (start_left l info.start) (start_left l other_info.start)
-    ++ numbers_differ (subjects.Track number) fields.Samples info.samples other_info.samples)
+    → slice_get tree.movie.tracks k ≡ Some t → slice_get other_tree.movie.tracks k ≡ Some u → slice_get m.tracks k ≡ Some info → slice_get n.tracks k ≡ Some other_info → track_seen head ≡ head_left l number t → track_seen other_head ≡ head_left l number u
+    → begun_differ l number head info other_head other_info
     ++ (if aligned && not (info.samples == other_info.samples) then [] else samples_differ l number file tree t other other_tree u) ≡ tracks_differ aligned l number file tree t other other_tree u
 heads_differ aligned l number k file other m n tree other_tree t u info other_info head other_head o p at bt it jt e f =
     let of = subjects.Track number in
@@ -51,16 +62,14 @@ heads_differ aligned l number k file other m n tree other_tree t u info other_in
     let y = get_zip (IsInfoOf other other_tree) other_tree.movie.tracks n.tracks k u other_info p.tracks bt jt in
     let count = x.samples ∙ sym (left_many (track_of file (file_parts tree) t).samples) in
     let other_count = y.samples ∙ sym (left_many (track_of other (file_parts other_tree) u).samples) in
-    λ i. (head_differences of (number_head l number (reduce_track_head l (e i))) (number_head l number (reduce_track_head l (f i)))
+    λ i. (head_differences of (e i) (f i)
     ++ numbers_differ of fields.Start (start_left l (x.start i)) (start_left l (y.start i)) ++ numbers_differ of fields.Samples (count i) (other_count i))
     ++ (if aligned && not (count i == other_count i) then [] else samples_differ l number file tree t other other_tree u)
 
 -- Two tracks whose heads were compared: their samples are left, where these are compared.
 pub track_begun : (aligned : Bool) (l : Without) (number k : ℕ) (file other : List ℕ) (m n : MovieSeen) (tree other_tree : FileTree) (t u : TrackTree) (info other_info : TrackInfo) (head other_head : TrackHead) → IsOpenedAs file m tree → IsOpenedAs other n other_tree
-    → slice_get tree.movie.tracks k ≡ Some t → slice_get other_tree.movie.tracks k ≡ Some u → slice_get m.tracks k ≡ Some info → slice_get n.tracks k ≡ Some other_info → track_seen head ≡ track_head_of t → track_seen other_head ≡ track_head_of u
-    → (found : List Difference) → found ≡ head_differences (subjects.Track number) (number_head l number (reduce_track_head l (track_seen head))) (number_head l number (reduce_track_head l (track_seen other_head)))
-    ++ numbers_differ (subjects.Track number) fields.Start (start_left l info.start) (start_left l other_info.start)
-    ++ numbers_differ (subjects.Track number) fields.Samples info.samples other_info.samples
+    → slice_get tree.movie.tracks k ≡ Some t → slice_get other_tree.movie.tracks k ≡ Some u → slice_get m.tracks k ≡ Some info → slice_get n.tracks k ≡ Some other_info → track_seen head ≡ head_left l number t → track_seen other_head ≡ head_left l number u
+    → (found : List Difference) → found ≡ begun_differ l number head info other_head other_info
     → tracks_differ aligned l number file tree t other other_tree u ≡ found ++ (if aligned && not (info.samples == other_info.samples) then [] else samples_differ l number file tree t other other_tree u)
 track_begun aligned l number k file other m n tree other_tree t u info other_info head other_head o p at bt it jt e f found is =
     sym (ap (λ (ds : List Difference). ds ++ (if aligned && not (info.samples == other_info.samples) then [] else samples_differ l number file tree t other other_tree u)) is ∙ heads_differ aligned l number k file other m n tree other_tree t u info other_info head other_head o p at bt it jt e f)
@@ -97,21 +106,9 @@ takes_all before next whole e = grows_front before next whole [] (whole, e, sym 
 pub infos_all : (file : List ℕ) (m : MovieSeen) (tree : FileTree) → IsOpenedAs file m tree → length m.tracks ≡ length tree.movie.tracks
 infos_all file m tree o = sym (length_zip (IsInfoOf file tree) tree.movie.tracks m.tracks o.tracks)
 
-said : (file : List ℕ) (m : MovieSeen) (tree : FileTree) (head : MovieHead) → IsOpenedAs file m tree → SaysHead (moov_box m) head → head_seen head ≡ head_of tree.movie
-said file m tree head o says = (said_of (moov_box m) head tree.movie says (sym o.moov) o.is_tree.movie).0
-
-pub heads_all : (file : List ℕ) (m : MovieSeen) (tree : FileTree) (head : MovieHead) → IsOpenedAs file m tree → SaysHead (moov_box m) head → length head.tracks.items ≡ length tree.movie.tracks
-heads_all file m tree head o says =
-    sym (length-map head.tracks.items track_seen) ∙ ap (λ (h : heads.Head). length h.tracks) (said file m tree head o says) ∙ length-map tree.movie.tracks track_head_of
-
--- the head of a track that was read is its own
-pub head_own : (file : List ℕ) (m : MovieSeen) (tree : FileTree) (head : MovieHead) (k : ℕ) (t : TrackTree) (h : TrackHead) → IsOpenedAs file m tree → SaysHead (moov_box m) head → slice_get tree.movie.tracks k ≡ Some t → slice_get head.tracks.items k ≡ Some h → track_seen h ≡ track_head_of t
-head_own file m tree head k t h o says at there =
-    some_is (track_seen h) (track_head_of t) (sym (get_map track_seen head.tracks.items k h there) ∙ ap (λ (x : heads.Head). slice_get x.tracks k) (said file m tree head o says) ∙ get_map track_head_of tree.movie.tracks k t at)
-
 -- the tracks of the presentation, behind what was left out
 abbrev tracks_left : Without → List ℕ → FileTree → List Track
-tracks_left l file tree = number_tracks l 1 (map (reduce_track l) (map (track_of file (file_parts tree)) tree.movie.tracks))
+tracks_left l file tree = (reduce l (presentation_of file tree)).tracks
 
 tracks_many : (l : Without) (file : List ℕ) (tree : FileTree) → length (tracks_left l file tree) ≡ length tree.movie.tracks
 tracks_many l file tree = numbered_many l 1 (map (reduce_track l) (map (track_of file (file_parts tree)) tree.movie.tracks)) ∙ length-map (map (track_of file (file_parts tree)) tree.movie.tracks) (reduce_track l) ∙ length-map tree.movie.tracks (track_of file (file_parts tree))
@@ -119,26 +116,38 @@ tracks_many l file tree = numbered_many l 1 (map (reduce_track l) (map (track_of
 abbrev tracks_from : Bool → Without → List ℕ → FileTree → List ℕ → FileTree → ℕ → List Difference
 tracks_from aligned l file tree other other_tree k = each_differ (listed_track aligned) (k + 1) (drop k (tracks_left l file tree)) (drop k (tracks_left l other other_tree))
 
--- Two movies whose heads were compared: their tracks are left.
-pub movie_begun : (aligned : Bool) (l : Without) (file other : List ℕ) (m n : MovieSeen) (tree other_tree : FileTree) (head other_head : MovieHead) → IsOpenedAs file m tree → IsOpenedAs other n other_tree → SaysHead (moov_box m) head → SaysHead (moov_box n) other_head
-    → (found : List Difference)
-    → found ≡ movie_differences (reduce_movie_head l (movie_seen head)) (reduce_movie_head l (movie_seen other_head)) ++ numbers_differ subjects.Movie fields.Tracks (length head.tracks.items) (length other_head.tracks.items)
-    → files_listed aligned l file tree other other_tree ≡ found ++ tracks_from aligned l file tree other other_tree 0
-movie_begun aligned l file other m n tree other_tree head other_head o p says other_says found is =
-    let first = ap (λ (h : heads.Head). h.movie) (said file m tree head o says) in
-    let second = ap (λ (h : heads.Head). h.movie) (said other n other_tree other_head p other_says) in
-    let count = heads_all file m tree head o says ∙ sym (tracks_many l file tree) in
-    let other_count = heads_all other n other_tree other_head p other_says ∙ sym (tracks_many l other other_tree) in
-    sym (ap (λ (ds : List Difference). ds ++ tracks_from aligned l file tree other other_tree 0) is
-    ∙ (λ i. (movie_differences (reduce_movie_head l (first i)) (reduce_movie_head l (second i)) ++ numbers_differ subjects.Movie fields.Tracks (count i) (other_count i)) ++ tracks_from aligned l file tree other other_tree 0))
-
--- ---- track after track
-
 -- what is left of one
 track_left : (l : Without) (file : List ℕ) (tree : FileTree) (k : ℕ) (t : TrackTree) → slice_get tree.movie.tracks k ≡ Some t → slice_get (tracks_left l file tree) k ≡ Some (number_track l (k + 1) (reduce_track l (track_of file (file_parts tree) t)))
 track_left l file tree k t at =
     let own = track_of file (file_parts tree) in
     numbered_at l k (map (reduce_track l) (map own tree.movie.tracks)) (reduce_track l (own t)) (get_map (reduce_track l) (map own tree.movie.tracks) k (own t) (get_map own tree.movie.tracks k t at))
+
+module _ (l : Without) (file : List ℕ) (tree : FileTree) (head : MovieHead) (says : SaysHeadOf (reduce l (presentation_of file tree)) head) where
+  -- as many heads are left as the movie has tracks
+  pub heads_all : length head.tracks.items ≡ length tree.movie.tracks
+  heads_all = sym (length-map head.tracks.items track_seen) ∙ ap (λ (hs : List heads.TrackHead). length hs) says.tracks ∙ length-map (tracks_left l file tree) (λ (t : Track). t.head) ∙ tracks_many l file tree
+
+  -- the track at the place of a head, which is what is left of its own
+  pub track_at : (k : ℕ) (h : TrackHead) → k < length head.tracks.items → h ≡ slice_index_or head.tracks.items k h → (t : TrackTree) × (slice_get tree.movie.tracks k ≡ Some t) × (track_seen h ≡ head_left l (k + 1) t)
+  track_at k h lt is =
+      let t = get_some tree.movie.tracks k (omega (arith, heads_all, lt)) in (
+        t.0,
+        t.1,
+        some_is (track_seen h) (head_left l (k + 1) t.0)
+            (sym (get_map track_seen head.tracks.items k h (at_place head.tracks.items k h lt is)) ∙ ap (λ (hs : List heads.TrackHead). slice_get hs k) says.tracks
+            ∙ get_map (λ (x : Track). x.head) (tracks_left l file tree) k (number_track l (k + 1) (reduce_track l (track_of file (file_parts tree) t.0))) (track_left l file tree k t.0 t.1)),
+      )
+
+-- Two movies whose heads were compared: their tracks are left.
+pub movie_begun : (aligned : Bool) (l : Without) (file other : List ℕ) (tree other_tree : FileTree) (head other_head : MovieHead) → SaysHeadOf (reduce l (presentation_of file tree)) head → SaysHeadOf (reduce l (presentation_of other other_tree)) other_head
+    → (found : List Difference) → found ≡ movies_differ head other_head → files_listed aligned l file tree other other_tree ≡ found ++ tracks_from aligned l file tree other other_tree 0
+movie_begun aligned l file other tree other_tree head other_head says other_says found is =
+    let count = heads_all l file tree head says ∙ sym (tracks_many l file tree) in
+    let other_count = heads_all l other other_tree other_head other_says ∙ sym (tracks_many l other other_tree) in
+    sym (ap (λ (ds : List Difference). ds ++ tracks_from aligned l file tree other other_tree 0) is
+    ∙ (λ i. (movie_differences (says.movie i) (other_says.movie i) ++ numbers_differ subjects.Movie fields.Tracks (count i) (other_count i)) ++ tracks_from aligned l file tree other other_tree 0))
+
+-- ---- track after track
 
 -- what differs of the tracks from a place on begins with what differs there
 track_next : (aligned : Bool) (l : Without) (file : List ℕ) (tree : FileTree) (other : List ℕ) (other_tree : FileTree) (k : ℕ) (t u : TrackTree) → slice_get tree.movie.tracks k ≡ Some t → slice_get other_tree.movie.tracks k ≡ Some u

@@ -5,7 +5,7 @@ pub mod Compared
 pub mod Aligning
 pub mod Contents
 pub mod GoneOn
-pub mod HeadsLeft
+pub mod HeadsDiffer
 pub mod Opened
 pub mod LeftTimes
 pub mod Loading

@@ -12,11 +12,12 @@
 //!   [`TrackLeft`], and what its samples are left by, its [`Reduction`]; how long all of it is, and
 //!   its head. Without edits, ends or origins a track may have no normal form, which is a fault.
 //! - [`Reduced`] hands out what is left of samples, one after the other; [`reduced_sample`] is that
-//!   of one. [`payloads_left`] are the payloads of a head that are left in memory of their own.
+//!   of one. [`head_left`] is what is left of a head, [`payloads_left`] that of its payloads, in
+//!   memory of their own.
 //! - [`edges_of`] says where a track begins and ends; [`peek_sample`] looks at the next sample.
 //!
-//! A comparison holds two windows of at most 65,536 bytes, and a walk over a track of each file.
-//! A content holds some 64 bytes a track.
+//! A comparison holds two windows of at most 65,536 bytes, a walk over a track of each file, and
+//! what is left of both heads. A content holds some 64 bytes a track.
 //!
 //! ```rust
 //! use mp4_boxes::Steps;

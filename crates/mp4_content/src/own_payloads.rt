@@ -60,12 +60,8 @@ fn plain_handler(alloc: Global, payload: &[u8]) -> Result<Vec<u8>, Memory>
     Ok(plain)
 }
 
-/// What is left of the payload of `hdlr`.
-pub(crate) fn handler_left(
-    alloc: Global,
-    leaving: Without,
-    payload: &[u8],
-) -> Result<Vec<u8>, Memory>
+// What is left of the payload of `hdlr`.
+fn handler_left(alloc: Global, leaving: Without, payload: &[u8]) -> Result<Vec<u8>, Memory>
     ensures { IfOk result (λ left. left.items
         ≡ (if leaving.labels then plain_handler payload.now else payload.now)) }
 {
@@ -133,12 +129,8 @@ fn description_left(
     }
 }
 
-/// What is left of the sample descriptions of a track.
-pub(crate) fn descriptions_left(
-    alloc: Global,
-    leaving: Without,
-    media: &Media,
-) -> Result<Vec<BoxLeft>, Memory>
+// What is left of the sample descriptions of a track.
+fn descriptions_left(alloc: Global, leaving: Without, media: &Media) -> Result<Vec<BoxLeft>, Memory>
     ensures { IfOk result (λ left. map box_left_seen left.items
         ≡ (reduce_media leaving (media_seen media.now)).descriptions) }
 {

@@ -101,7 +101,7 @@ pub struct Without {
 }
 
 impl Without {
-    ghost use Rattle.std.specs.Prelude.{◌≡◌, if◌then◌else◌};
+    ghost use Rattle.std.specs.Prelude.{◌≡◌};
     ghost use Rattle.mp4_content.specs.format.Reduced.{duration_left, id_left, keeps_samples, offset_left, role_left, start_left, timescale_left, track_flags_left};
     ghost use Rattle.mp4_content.specs.format.Words.{has};
     ghost use Rattle.mp4_content.specs.words.PayloadsLeft.{leaves_payloads};
@@ -163,13 +163,6 @@ impl Without {
             roles: is_so(Word::Roles),
             ids: is_so(Word::Ids),
         }
-    }
-
-    // A time; 0 where times don't count.
-    pub(crate) fn time(self, time: u64) -> u64
-        ensures { result ≡ (if self.times then 0 else time) }
-    {
-        if self.times { 0 } else { time }
     }
 
     /// A timescale, of a movie or of media; 1,000 where timing doesn't count.

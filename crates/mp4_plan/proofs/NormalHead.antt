@@ -1,26 +1,23 @@
 -- The head of the normal form of what is left of an opened file.
-use Rattle.std.proofs.Common.{◌≡◌, ℕ, ◌+◌, ◌-◌, ◌^◌, ◌≤◌, min, List, [], ◌∷◌, length, map, refl, sym, ap, ◌∙◌, arith, length-append}
+use Rattle.std.proofs.Common.{◌≡◌, ℕ, ◌+◌, ◌-◌, ◌^◌, ◌≤◌, min, List, [], ◌∷◌, length, map, refl, ap, arith, length-append}
 use Rattle.std.specs.List.{AllByRecursion}
 use Rattle.mp4_head.specs.words.Found.{SaysHead}
-use Rattle.mp4_head.specs.format.Head as heads
 use Rattle.mp4_head.specs.format.Tree.{TrackTree}
 use Rattle.mp4_head.specs.words.Seen.{movie_seen, tracks_seen}
 use Rattle.mp4_head.specs.format.Writing.{ftyp_bytes, moov_bytes, head_bytes}
 use Rattle.mp4_head.specs.declared.heads.MovieHead.{MovieHead}
-use Rattle.mp4_head.proofs.Distinct.{map_twice}
-use Rattle.mp4_head.proofs.ReadAgain.{said_of}
 use Rattle.mp4_present.specs.format.Denotes.{FileTree, file_parts, track_of, presentation_of}
 use Rattle.mp4_present.specs.words.Movies.{MovieSeen, moov_box}
 use Rattle.mp4_present.specs.words.OpenedMovie.{IsOpenedAs}
 use Rattle.mp4_present.specs.format.Presentation.{heads as heads_of, Track, Presentation, movie_length, normal_moov_length}
-use Rattle.mp4_content.specs.format.Reduced.{number_heads, reduce, reduce_track, reduce_track_head, reduce_movie_head}
+use Rattle.mp4_content.specs.format.Reduced.{number_heads, reduce, reduce_track_head, reduce_movie_head}
 use Rattle.mp4_content.specs.declared.without.Without.{Without}
 use Rattle.mp4_head.specs.words.Parts.{capped}
 use Rattle.mp4_plan.specs.format.Normal.{normal, pieces_bytes}
 use Rattle.mp4_plan.specs.format.Pieces.{pieces}
 use Rattle.mp4_plan.specs.words.Writers.{ArePiecesLong, IsHeadOf, head_of_normal}
 use Rattle.mp4_plan.proofs.HeadAgain.{both_long}
-use Rattle.mp4_content.proofs.Numbered.{numbered_heads}
+use Rattle.mp4_content.proofs.HeadLess.{says_left}
 use Rattle.mp4_content.proofs.ReducedValid.{shorter_moov}
 
 -- ---- the head
@@ -32,16 +29,12 @@ module _ (l : Without) where
   head_left file m tree head left o says movie_is tracks_are =
       let p = presentation_of file tree in
       let mehd = movie_length (reduce l p) in
-      let said = (said_of (moov_box m) head tree.movie says (sym o.moov) o.is_tree.movie).0 in
-      let tracks : tracks_seen head ≡ map (λ (u : Track). u.head) p.tracks = ap (λ (h : heads.Head). h.tracks) said ∙ sym (map_twice (track_of file (file_parts tree)) (λ (u : Track). u.head) tree.movie.tracks) in
-      let movie = movie_is ∙ ap (λ (h : heads.Head). reduce_movie_head l h.movie) said in
-      let own = ap (map (reduce_track_head l)) tracks ∙ map_twice (λ (u : Track). u.head) (reduce_track_head l) p.tracks ∙ sym (map_twice (reduce_track l) (λ (u : Track). u.head) p.tracks) in
-      let all : tracks_seen left ≡ heads_of (reduce l p) = tracks_are ∙ ap (number_heads l 1) own ∙ sym (numbered_heads l 1 (map (reduce_track l) p.tracks)) in
+      let said = says_left l file m tree head left o says movie_is tracks_are in
       let ftyp : length ftyp_bytes ≡ 24 = refl in
       let fits : normal_moov_length p ≤ 2 ^ 30 = o.limits.moov in
       let less = shorter_moov l p refl (nine_all file tree tree.movie.tracks) in
       let both = length-append ftyp_bytes (moov_bytes (reduce l p).movie (heads_of (reduce l p)) mehd) in
-      record { bytes = λ i. head_bytes (movie i) (all i) mehd; short = omega (arith, ftyp, fits, less, both) }
+      record { bytes = λ i. head_bytes (said.movie i) (said.tracks i) mehd; short = omega (arith, ftyp, fits, less, both) }
     where
       nine_all : (file : List ℕ) (tree : FileTree) (trees : List TrackTree) → AllByRecursion (λ (t : Track). length t.head.matrix ≡ 9) (map (track_of file (file_parts tree)) trees)
       nine_all file tree [] = tt

@@ -3,6 +3,7 @@ use Rattle.std.specs.Prelude.{◌≡◌, ◌<◌, ◌≤◌, ◌+◌, ℕ, Bool,
 use Rattle.std.specs.List.{AllByRecursion}
 use Rattle.mp4_tables.specs.words.Keys.{key_seen, keys_seen}
 use Rattle.mp4_tables.specs.declared.sample.SampleAt.{SampleAt}
+use Rattle.mp4_head.specs.format.Head as heads
 use Rattle.mp4_head.specs.format.Tree.{TrackTree, track_head_of}
 use Rattle.mp4_head.specs.words.Seen.{track_seen}
 use Rattle.mp4_head.specs.declared.heads.TrackHead.{TrackHead}
@@ -10,7 +11,7 @@ use Rattle.mp4_content.specs.format.Alignment.{listed_track, listed}
 use Rattle.mp4_content.specs.format.Comparison.{with_key, sample_differences, differences}
 use Rattle.mp4_present.specs.format.Denotes.{FileTree, file_parts, track_of, presentation_of}
 use Rattle.mp4_content.specs.format.Differences.{each_differ}
-use Rattle.mp4_content.specs.format.Reduced.{number_track, reduce_samples, reduce_track, reduce}
+use Rattle.mp4_content.specs.format.Reduced.{number_head, number_track, reduce_samples, reduce_track, reduce_track_head, reduce}
 use Rattle.mp4_content.specs.words.Differing.{pair_differences}
 use Rattle.mp4_present.specs.words.Joined.{IsBelow}
 use Rattle.mp4_present.specs.words.Movies.{MovieSeen, IsWalkOf}
@@ -82,11 +83,16 @@ samples_differ l number file tree t file_right other u = each_differ (sample_dif
 abbrev pub TakesFront : List Difference → List Difference → List Difference → Type 0
 TakesFront before after differences = (n : ℕ) × (after ≡ before ++ take n differences)
 
--- it is so of two tracks of which these heads were read
-abbrev pub AtHeads : ℕ → FileTree → FileTree → TrackHead → TrackHead
+-- what is left of the head of the track with this number
+abbrev pub head_left : Without → ℕ → TrackTree → heads.TrackHead
+head_left l number t = number_head l number (reduce_track_head l (track_head_of t))
+
+-- it is so of two tracks of whose heads these are left
+abbrev pub AtHeads : Without → ℕ → FileTree → FileTree → TrackHead → TrackHead
     → (TrackTree → TrackTree → Type 0) → Type 0
-AtHeads track tree other head other_head P = AtTracks track tree other
-    (λ t u. track_seen head ≡ track_head_of t → track_seen other_head ≡ track_head_of u → P t u)
+AtHeads l track tree other head other_head P = AtTracks track tree other
+    (λ t u. track_seen head ≡ head_left l (track + 1) t
+    → track_seen other_head ≡ head_left l (track + 1) u → P t u)
 
 -- what differs between two tracks with this number, behind what was left out, and whether tracks
 -- are aligned
@@ -149,12 +155,12 @@ abbrev pub OfSamples : {X Y : Type 0} → Store X → X → MovieSeen → Store 
 OfSamples S a m T b n track l P = WhereTracks S a m T b n track (λ tree t other u.
     P (samples_differ l (track + 1) (S.file a) tree t (T.file b) other u))
 
--- the same, of what differs between them, where these heads were read
+-- the same, of what differs between them, where these are left of their heads
 abbrev pub OfTracks : {X Y : Type 0} → Store X → X → MovieSeen → TrackHead → Store Y → Y → MovieSeen
     → TrackHead → ℕ → Bool → Without → (List Difference → Type 0) → Type 0
 OfTracks S a m head T b n other_head track aligned l P =
     WhereBothOpened (S.is_honest a) (S.file a) m (T.is_honest b) (T.file b) n
-    (λ tree other. AtHeads track tree other head other_head (λ t u.
+    (λ tree other. AtHeads l track tree other head other_head (λ t u.
     P (tracks_differ aligned l (track + 1) (S.file a) tree t (T.file b) other u)))
 
 -- walks over both take no more than these steps

@@ -3,8 +3,7 @@ ghost use Rattle.std.specs.Prelude.{◌≡◌, ◌++◌, List, OnOk};
 ghost use Rattle.mp4_head.specs.words.Seen.{kept_seen, edit_seen};
 ghost use Rattle.mp4_content.specs.declared.comparing.differences.Difference.{Difference};
 ghost use Rattle.mp4_content.specs.format.Differences.{payload_differences, box_differences};
-ghost use Rattle.mp4_content.specs.words.HeadsLeft.{entries_differ};
-ghost use Rattle.mp4_content.specs.words.PayloadsLeft.{box_left_seen};
+ghost use Rattle.mp4_content.specs.words.HeadsDiffer.{entries_differ};
 ghost use Rattle.mp4_content.specs.words.Differing.{values_differ, edit_values};
 ghost use Rattle.mp4_content.specs.declared.comparing.entries.Spot.{Spot};
 
@@ -12,7 +11,6 @@ use crate::comparing::differences::{Difference, Entries, Field, Part, Subject, V
 use crate::comparing::fields::{
     compare_numbers, compare_value, compare_values, first_unequal, number, signed,
 };
-use crate::own_payloads::BoxLeft;
 use mp4_boxes::Memory;
 use mp4_head::{Edit, Kept};
 
@@ -98,18 +96,6 @@ impl<'a> Entry for Kept<'a> {
         let other_kind = Value::Kind(other.kind);
         compare_value(at.subject, at.field(Part::Kind), kind, other_kind, found)?;
         compare_payloads(at, self.payload, other.payload, found)
-    }
-}
-
-impl Entry for BoxLeft {
-    ghost differences = { λ at a b. box_differences at.subject at.list at.number (box_left_seen a)
-        (box_left_seen b) };
-
-    fn compare(&self, other: &Self, at: Spot, found: &mut Vec<Difference>) -> Result<(), Memory> {
-        let kind = Value::Kind(self.kind);
-        let other_kind = Value::Kind(other.kind);
-        compare_value(at.subject, at.field(Part::Kind), kind, other_kind, found)?;
-        compare_payloads(at, self.payload.as_slice(), other.payload.as_slice(), found)
     }
 }
 

@@ -1,8 +1,8 @@
 //! Two opened files, compared by what they say.
 ghost use Rattle.std.specs.Prelude.{◌≡◌, ◌+◌, ◌<◌, ◌≤◌, ℕ, ◌++◌, ◌&&◌, ◌==◌, not, take, true, slice_get, IfOk, OnOk};
-ghost use Rattle.mp4_content.specs.words.Compared.{WhereOpenedBoth, HaveTracks, OfFiles, OfListed, WhereTracks, OfSamples, OfTracks, TakesFront, TracksWork};
+ghost use Rattle.mp4_content.specs.words.Compared.{WhereOpenedBoth, HaveTracks, OfFiles, OfListed, WhereTracks, OfSamples, OfTracks, TracksWork};
 ghost use Rattle.mp4_content.specs.words.Differing.{RefusesSample, RefusedBoth};
-ghost use Rattle.mp4_content.specs.words.HeadsLeft.{begun_differ};
+ghost use Rattle.mp4_content.specs.words.HeadsDiffer.{begun_differ};
 ghost use Rattle.mp4_content.specs.words.TwoStores.{HandsOver, OnlyReadsBoth};
 ghost use Rattle.mp4_present.specs.words.StoresRead.{OnlyReads, IsUnchanged};
 ghost use Rattle.mp4_present.specs.words.WalkSteps.{walks_steps};
@@ -25,6 +25,8 @@ use crate::comparing::movies::Movies;
 use crate::comparing::same_pairs::{Pause, pass_same};
 use crate::comparing::samples::{Next, begin_pairs, compare_pair, refill_both};
 use crate::comparing::tracks::{Heads, Tracks};
+use crate::own_payloads::payloads_left;
+use crate::reduced_head::head_left;
 use crate::without::Without;
 use mp4_boxes::{Memory, Refusal, Steps};
 use mp4_present::TrackInfo;
@@ -103,7 +105,8 @@ pub(crate) fn compare_track_samples<S: Store, T: Store, D: Differences, L: Ledge
     Ok(true)
 }
 
-// Compares two tracks with this number by their heads, their starts and their numbers of samples.
+// Compares two tracks with this number by what is left of their heads and their starts, and by
+// their numbers of samples.
 fn compare_track_heads(
     alloc: Global,
     leaving: Without,
@@ -116,7 +119,7 @@ fn compare_track_heads(
         heads.entry.left.now info.now heads.entry.right.now other.now) }
 {
     let of = Subject::Track(number);
-    let mut found = track_differences(alloc, leaving, number, heads.left, heads.right)?;
+    let mut found = track_differences(alloc, number, heads.left, heads.right)?;
     let start = leaving.start(info.start);
     compare_numbers(
         of,
@@ -200,14 +203,9 @@ pub fn compare_listed<S: Store, T: Store, D: Differences, L: Ledger, M: Ledger>(
     steps: &mut Steps<L, M>,
 ) -> Result<bool, Refusal>
     requires { D.is_open seen.old ≡ true }
-    ensures left { OnlyReads S.Store left.old left.new result }
-    ensures right { OnlyReads T.Store right.old right.new result }
-    ensures goes { IfOk result (λ all. all ≡ D.is_open seen.new) }
-    ensures all { IfOk result (λ all. all ≡ true → OfListed S.Store left.old
-        movies.now.left T.Store right.old movies.now.right aligned leaving
-        (λ found. D.taken seen.new ≡ D.taken seen.old ++ found)) }
-    ensures front { OfListed S.Store left.old movies.now.left T.Store right.old movies.now.right
-        aligned leaving (TakesFront (D.taken seen.old) (D.taken seen.new)) }
+    ensures stores { OnlyReadsBoth S.Store left.old left.new T.Store right.old right.new result }
+    ensures handed { HandsOver D.Differences seen.old seen.new result (OfListed S.Store left.old
+        movies.now.left T.Store right.old movies.now.right aligned leaving) }
     ensures unchanged { WhereOpenedBoth S.Store left.old movies.now.left T.Store right.old
         movies.now.right (λ tree other. IsUnchanged result) }
     ensures work { WhereOpenedBoth S.Store left.old movies.now.left T.Store right.old
@@ -219,9 +217,13 @@ pub fn compare_listed<S: Store, T: Store, D: Differences, L: Ledger, M: Ledger>(
     ensures grows { OnOk result (steps.old.passed ≤ steps.new.passed) }
     ensures looks { steps.new.looks ≡ steps.old.looks }
 {
-    let head = movies.left.head(alloc)?;
-    let other_head = movies.right.head(alloc)?;
-    let found = movie_differences(alloc, leaving, &head, &other_head)?;
+    let read = movies.left.head(alloc)?;
+    let own = payloads_left(alloc, leaving, read.tracks.as_slice())?;
+    let head = head_left(alloc, read, leaving, &own)?;
+    let other_read = movies.right.head(alloc)?;
+    let other_own = payloads_left(alloc, leaving, other_read.tracks.as_slice())?;
+    let other_head = head_left(alloc, other_read, leaving, &other_own)?;
+    let found = movie_differences(alloc, &head, &other_head)?;
     if !hand_over(found.as_slice(), seen) {
         return Ok(false);
     }
@@ -259,14 +261,9 @@ pub fn compare_all<S: Store, T: Store, D: Differences, L: Ledger, M: Ledger>(
     steps: &mut Steps<L, M>,
 ) -> Result<bool, Refusal>
     requires { D.is_open seen.old ≡ true }
-    ensures left { OnlyReads S.Store left.old left.new result }
-    ensures right { OnlyReads T.Store right.old right.new result }
-    ensures goes { IfOk result (λ all. all ≡ D.is_open seen.new) }
-    ensures all { IfOk result (λ all. all ≡ true → OfFiles S.Store left.old
-        movies.now.left T.Store right.old movies.now.right leaving
-        (λ found. D.taken seen.new ≡ D.taken seen.old ++ found)) }
-    ensures front { OfFiles S.Store left.old movies.now.left T.Store right.old movies.now.right
-        leaving (TakesFront (D.taken seen.old) (D.taken seen.new)) }
+    ensures stores { OnlyReadsBoth S.Store left.old left.new T.Store right.old right.new result }
+    ensures handed { HandsOver D.Differences seen.old seen.new result (OfFiles S.Store left.old
+        movies.now.left T.Store right.old movies.now.right leaving) }
     ensures unchanged { WhereOpenedBoth S.Store left.old movies.now.left T.Store right.old
         movies.now.right (λ tree other. IsUnchanged result) }
     ensures work { WhereOpenedBoth S.Store left.old movies.now.left T.Store right.old

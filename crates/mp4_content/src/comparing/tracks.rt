@@ -11,9 +11,9 @@ pub(crate) struct Tracks<'a> {
     pub(crate) leaving: Without,
 }
 
-// Their heads.
+// What is left of their heads.
 #[derive(Clone, Copy)]
-pub(crate) struct Heads<'a, 'b> {
+pub(crate) struct Heads<'a, 'b, 'c> {
     pub(crate) left: &'a TrackHead<'b>,
-    pub(crate) right: &'a TrackHead<'b>,
+    pub(crate) right: &'a TrackHead<'c>,
 }

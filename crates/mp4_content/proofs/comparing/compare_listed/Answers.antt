@@ -1,31 +1,102 @@
-use Rattle.std.proofs.Common.{rules, refl, ◌≡◌, ◌<◌, ◌≤◌, length, min, slice_index_or, arith}
+use Rattle.std.proofs.Common.{rules, refl, ◌≡◌, ◌+◌, ◌≤◌, ◌++◌, ◌∙◌, ℕ, List, length, min, sym, subst, arith}
+use Rattle.std.specs.Prelude.{IsTrue}
 use Rattle.std.proofs.lemmas.Result.{err_from_is_err_and}
-use Rattle.mp4_present.proofs.TrafTaken.{at_place}
+use Rattle.mp4_present.specs.words.OpenedMovie.{IsOpenedAs}
+use Rattle.mp4_present.specs.words.WalkSteps.{walk_steps}
+use Rattle.mp4_content.specs.words.Compared.{TakesFront, tracks_differ}
 use Rattle.mp4_content.proofs.TracksCompared.{takes_nothing}
-use Rattle.mp4_content.proofs.FilesCompared.{below, first_part, movie_begun, all_over, files_first, files_next, files_stop, files_most, files_all, files_front, files_work, infos_all, heads_all, head_own}
+use Rattle.mp4_content.proofs.HeadLess.{says_left}
+use Rattle.mp4_content.proofs.FilesCompared.{err_if_ok, first_part, of_same, movie_begun, track_at, all_over, files_first, files_next, files_stop, files_most, files_all, files_front, files_work, infos_all, heads_all}
 use Rattle.mp4_content.proofs.comparing.compare_listed.Goals as goal
-use Rattle.mp4_boxes.proofs.Plain.{get_some}
 
-pub returns-in_err-head-clause-front : goal.returns-in_err-head-clause-front
-returns-in_err-head-clause-front g c told told_right tree other o p = takes_nothing (g.D.Differences.taken c.args.seen.now) _
+pub returns-in_err-read-clause-handed : goal.returns-in_err-read-clause-handed
+returns-in_err-read-clause-handed g c = record {
+  goes = search rules;
+  all = search rules;
+  front = λ told told_right tree other o p. takes_nothing (g.D.Differences.taken c.args.seen.now) _;
+}
 
-pub returns-in_err-other_head-clause-front : goal.returns-in_err-other_head-clause-front
-returns-in_err-other_head-clause-front g c told told_right tree other o p = takes_nothing (g.D.Differences.taken c.args.seen.now) _
+pub returns-in_err-own-clause-handed : goal.returns-in_err-own-clause-handed
+returns-in_err-own-clause-handed g c = record {
+  goes = search rules;
+  all = search rules;
+  front = λ told told_right tree other o p. takes_nothing (g.D.Differences.taken c.args.seen.now) _;
+}
 
-pub returns-in_err-found-clause-front : goal.returns-in_err-found-clause-front
-returns-in_err-found-clause-front g c told told_right tree other o p = takes_nothing (g.D.Differences.taken c.args.seen.now) _
+pub returns-in_err-head-clause-handed : goal.returns-in_err-head-clause-handed
+returns-in_err-head-clause-handed g c = record {
+  goes = search rules;
+  all = search rules;
+  front = λ told told_right tree other o p. takes_nothing (g.D.Differences.taken c.args.seen.now) _;
+}
+
+pub returns-in_err-other_read-clause-handed : goal.returns-in_err-other_read-clause-handed
+returns-in_err-other_read-clause-handed g c = record {
+  goes = search rules;
+  all = search rules;
+  front = λ told told_right tree other o p. takes_nothing (g.D.Differences.taken c.args.seen.now) _;
+}
+
+pub returns-in_err-other_own-clause-handed : goal.returns-in_err-other_own-clause-handed
+returns-in_err-other_own-clause-handed g c = record {
+  goes = search rules;
+  all = search rules;
+  front = λ told told_right tree other o p. takes_nothing (g.D.Differences.taken c.args.seen.now) _;
+}
+
+pub returns-in_err-other_head-clause-handed : goal.returns-in_err-other_head-clause-handed
+returns-in_err-other_head-clause-handed g c = record {
+  goes = search rules;
+  all = search rules;
+  front = λ told told_right tree other o p. takes_nothing (g.D.Differences.taken c.args.seen.now) _;
+}
+
+pub returns-in_err-found-clause-handed : goal.returns-in_err-found-clause-handed
+returns-in_err-found-clause-handed g c =
+    let e = err_from_is_err_and c.from_residual-in_err-found.result c.from_residual-in_err-found.ensures.1 in
+    record {
+      goes = err_if_ok _ e.0 _ e.1;
+      all = err_if_ok _ e.0 _ e.1;
+      front = λ told told_right tree other o p. takes_nothing (g.D.Differences.taken c.args.seen.now) _;
+    }
+
+pub returns-in_err-own-clause-unchanged : goal.returns-in_err-own-clause-unchanged
+returns-in_err-own-clause-unchanged g c told told_right tree other o p =
+    let e = err_from_is_err_and c.from_residual-in_err-own.result c.from_residual-in_err-own.ensures.1 in
+    rw (e.1, e.2) (λ f. absurd cc)
+
+pub returns-in_err-head-clause-unchanged : goal.returns-in_err-head-clause-unchanged
+returns-in_err-head-clause-unchanged g c told told_right tree other o p =
+    let e = err_from_is_err_and c.from_residual-in_err-head.result c.from_residual-in_err-head.ensures.1 in
+    rw (e.1, e.2) (λ f. absurd cc)
+
+pub returns-in_err-other_own-clause-unchanged : goal.returns-in_err-other_own-clause-unchanged
+returns-in_err-other_own-clause-unchanged g c told told_right tree other o p =
+    let e = err_from_is_err_and c.from_residual-in_err-other_own.result c.from_residual-in_err-other_own.ensures.1 in
+    rw (e.1, e.2) (λ f. absurd cc)
+
+pub returns-in_err-other_head-clause-unchanged : goal.returns-in_err-other_head-clause-unchanged
+returns-in_err-other_head-clause-unchanged g c told told_right tree other o p =
+    let e = err_from_is_err_and c.from_residual-in_err-other_head.result c.from_residual-in_err-other_head.ensures.1 in
+    rw (e.1, e.2) (λ f. absurd cc)
 
 pub returns-in_err-found-clause-unchanged : goal.returns-in_err-found-clause-unchanged
 returns-in_err-found-clause-unchanged g c told told_right tree other o p =
     let e = err_from_is_err_and c.from_residual-in_err-found.result c.from_residual-in_err-found.ensures.1 in
     rw (e.1, e.2) (λ f. absurd cc)
 
-pub returns-then-not-hand_over-clause-front : goal.returns-then-not-hand_over-clause-front
-returns-then-not-hand_over-clause-front g c told told_right tree other o p =
-    let file = g.S.Store.file c.args.left.now in
-    let right_file = g.T.Store.file c.args.right.now in
-    let begun = movie_begun c.args.aligned c.args.leaving file right_file c.args.movies.now.left c.args.movies.now.right tree other c.in_ok-head.head c.in_ok-other_head.other_head o p c.in_ok-head.ensures c.in_ok-other_head.ensures c.in_ok-found.found.items c.in_ok-found.ensures in
-    first_part (g.D.Differences.taken c.args.seen.now) (g.D.Differences.taken c.hand_over.new.seen) _ c.in_ok-found.found.items _ begun (rw c.as_slice.ensures.value at c.hand_over.ensures.front)
+pub returns-then-not-hand_over-clause-handed : goal.returns-then-not-hand_over-clause-handed
+returns-then-not-hand_over-clause-handed g c = record {
+  goes = search rules;
+  all = search rules;
+  front = λ told told_right tree other o p.
+      let file = g.S.Store.file c.args.left.now in
+      let right_file = g.T.Store.file c.args.right.now in
+      let says = says_left c.args.leaving file c.args.movies.now.left tree c.in_ok-read.read c.in_ok-head.head o c.in_ok-read.ensures c.in_ok-head.ensures.movie c.in_ok-head.ensures.tracks in
+      let other_says = says_left c.args.leaving right_file c.args.movies.now.right other c.in_ok-other_read.other_read c.in_ok-other_head.other_head p c.in_ok-other_read.ensures c.in_ok-other_head.ensures.movie c.in_ok-other_head.ensures.tracks in
+      let begun = movie_begun c.args.aligned c.args.leaving file right_file tree other c.in_ok-head.head c.in_ok-other_head.other_head says other_says c.in_ok-found.found.items c.in_ok-found.ensures in
+      first_part (g.D.Differences.taken c.args.seen.now) (g.D.Differences.taken c.hand_over.new.seen) _ c.in_ok-found.found.items _ begun (rw c.as_slice-3.ensures.value at c.hand_over.ensures.front);
+}
 
 pub loop-track-init : goal.loop-track-init
 loop-track-init g c = record {
@@ -41,55 +112,58 @@ loop-track-init g c = record {
   going = λ told told_right tree other o p.
       let file = g.S.Store.file c.args.left.now in
       let right_file = g.T.Store.file c.args.right.now in
-      let begun = movie_begun c.args.aligned c.args.leaving file right_file c.args.movies.now.left c.args.movies.now.right tree other c.in_ok-head.head c.in_ok-other_head.other_head o p c.in_ok-head.ensures c.in_ok-other_head.ensures c.in_ok-found.found.items c.in_ok-found.ensures in
-      files_first c.args.aligned c.args.leaving file tree right_file other (g.D.Differences.taken c.args.seen.now) c.args.steps.now.passed (g.D.Differences.taken c.hand_over.new.seen) c.in_ok-found.found.items begun ((rw c.as_slice.ensures.value at c.if-not-hand_over.ensures.all) refl);
+      let says = says_left c.args.leaving file c.args.movies.now.left tree c.in_ok-read.read c.in_ok-head.head o c.in_ok-read.ensures c.in_ok-head.ensures.movie c.in_ok-head.ensures.tracks in
+      let other_says = says_left c.args.leaving right_file c.args.movies.now.right other c.in_ok-other_read.other_read c.in_ok-other_head.other_head p c.in_ok-other_read.ensures c.in_ok-other_head.ensures.movie c.in_ok-other_head.ensures.tracks in
+      let begun = movie_begun c.args.aligned c.args.leaving file right_file tree other c.in_ok-head.head c.in_ok-other_head.other_head says other_says c.in_ok-found.found.items c.in_ok-found.ensures in
+      files_first c.args.aligned c.args.leaving file tree right_file other (g.D.Differences.taken c.args.seen.now) c.args.steps.now.passed (g.D.Differences.taken c.hand_over.new.seen) c.in_ok-found.found.items begun ((rw c.as_slice-3.ensures.value at c.if-not-hand_over.ensures.all) refl);
 }
 
-pub returns-in_err-compare_tracks-clause-front : goal.returns-in_err-compare_tracks-clause-front
-returns-in_err-compare_tracks-clause-front g c told told_right tree other o p =
+pub returns-in_err-compare_tracks-clause-stores : goal.returns-in_err-compare_tracks-clause-stores
+returns-in_err-compare_tracks-clause-stores g c =
     let i = c.loop-track.invariant in
-    let file = g.S.Store.file c.args.left.now in
-    let right_file = g.T.Store.file c.args.right.now in
-    let before = g.D.Differences.taken c.args.seen.now in
-    let now = g.D.Differences.taken c.loop-track.seen in
-    let h = i.going told told_right tree other o p in
-    let track = c.loop-track.track in
-    let first = c.index-first.result.now in
-    let second = c.index-second.result.now in
-    let head = c.in_ok-head.head in
-    let other_head = c.in_ok-other_head.other_head in
-    let lt : track < length head.tracks.items = search rules in
-    let lt_right : track < length other_head.tracks.items = search rules in
-    let is : first ≡ slice_index_or head.tracks.items track first = search rules in
-    let is_right : second ≡ slice_index_or other_head.tracks.items track second = search rules in
-    let t = get_some tree.movie.tracks track (below track _ _ (heads_all file c.args.movies.now.left tree head o c.in_ok-head.ensures) lt) in
-    let u = get_some other.movie.tracks track (below track _ _ (heads_all right_file c.args.movies.now.right other other_head p c.in_ok-other_head.ensures) lt_right) in
-    let e = head_own file c.args.movies.now.left tree head track t.0 first o c.in_ok-head.ensures t.1 (at_place head.tracks.items track first lt is) in
-    let f = head_own right_file c.args.movies.now.right other other_head track u.0 second p c.in_ok-other_head.ensures u.1 (at_place other_head.tracks.items track second lt_right is_right) in
-    files_stop c.args.aligned c.args.leaving file tree right_file other before c.args.steps.now.passed track now c.loop-track.steps.passed h t.0 u.0 t.1 u.1 (g.D.Differences.taken c.compare_tracks.new.seen)
-    ((rw (i.honesty, i.file, i.honesty_right, i.file_right) at c.in_err-compare_tracks.ensures.handed.front) told told_right tree other o p t.0 u.0 t.1 u.1 e f)
+    let s = c.in_err-compare_tracks.ensures.stores in
+    let e = err_from_is_err_and c.from_residual-in_err-compare_tracks.result c.from_residual-in_err-compare_tracks.ensures.1 in
+    record {
+      left = record { honesty = s.left.honesty ∙ i.honesty; file = s.left.file ∙ i.file; reads = err_if_ok _ e.0 _ e.1 };
+      right = record { honesty = s.right.honesty ∙ i.honesty_right; file = s.right.file ∙ i.file_right; reads = err_if_ok _ e.0 _ e.1 };
+    }
+
+pub returns-in_err-compare_tracks-clause-handed : goal.returns-in_err-compare_tracks-clause-handed
+returns-in_err-compare_tracks-clause-handed g c =
+    let e = err_from_is_err_and c.from_residual-in_err-compare_tracks.result c.from_residual-in_err-compare_tracks.ensures.1 in
+    record {
+      goes = err_if_ok _ e.0 _ e.1;
+      all = err_if_ok _ e.0 _ e.1;
+      front = λ told told_right tree other o p.
+          let i = c.loop-track.invariant in
+          let file = g.S.Store.file c.args.left.now in
+          let right_file = g.T.Store.file c.args.right.now in
+          let before = g.D.Differences.taken c.args.seen.now in
+          let now = g.D.Differences.taken c.loop-track.seen in
+          let h = i.going told told_right tree other o p in
+          let track = c.loop-track.track in
+          let says = says_left c.args.leaving file c.args.movies.now.left tree c.in_ok-read.read c.in_ok-head.head o c.in_ok-read.ensures c.in_ok-head.ensures.movie c.in_ok-head.ensures.tracks in
+          let other_says = says_left c.args.leaving right_file c.args.movies.now.right other c.in_ok-other_read.other_read c.in_ok-other_head.other_head p c.in_ok-other_read.ensures c.in_ok-other_head.ensures.movie c.in_ok-other_head.ensures.tracks in
+          let t = track_at c.args.leaving file tree c.in_ok-head.head says track c.index-first.result.now (search rules) (search rules) in
+          let u = track_at c.args.leaving right_file other c.in_ok-other_head.other_head other_says track c.index-second.result.now (search rules) (search rules) in
+          files_stop c.args.aligned c.args.leaving file tree right_file other before c.args.steps.now.passed track now c.loop-track.steps.passed h t.0 u.0 t.1 u.1 (g.D.Differences.taken c.compare_tracks.new.seen)
+          (of_same (λ x y. TakesFront now (g.D.Differences.taken c.compare_tracks.new.seen) (tracks_differ c.args.aligned c.args.leaving (track + 1) x tree t.0 y other u.0)) c.args.movies.now.left c.args.movies.now.right tree other _ _ _ _ _ _ _ _ i.honesty i.file i.honesty_right i.file_right
+          (λ q r v w. c.in_err-compare_tracks.ensures.handed.front q r tree other v w t.0 u.0 t.1 u.1 t.2 u.2) told told_right o p);
+    }
 
 pub returns-in_err-compare_tracks-clause-unchanged : goal.returns-in_err-compare_tracks-clause-unchanged
 returns-in_err-compare_tracks-clause-unchanged g c told told_right tree other o p =
     let i = c.loop-track.invariant in
     let file = g.S.Store.file c.args.left.now in
     let right_file = g.T.Store.file c.args.right.now in
-    let before = g.D.Differences.taken c.args.seen.now in
-    let now = g.D.Differences.taken c.loop-track.seen in
-    let h = i.going told told_right tree other o p in
     let track = c.loop-track.track in
-    let first = c.index-first.result.now in
-    let second = c.index-second.result.now in
-    let head = c.in_ok-head.head in
-    let other_head = c.in_ok-other_head.other_head in
-    let lt : track < length head.tracks.items = search rules in
-    let lt_right : track < length other_head.tracks.items = search rules in
-    let is : first ≡ slice_index_or head.tracks.items track first = search rules in
-    let is_right : second ≡ slice_index_or other_head.tracks.items track second = search rules in
-    let t = get_some tree.movie.tracks track (below track _ _ (heads_all file c.args.movies.now.left tree head o c.in_ok-head.ensures) lt) in
-    let u = get_some other.movie.tracks track (below track _ _ (heads_all right_file c.args.movies.now.right other other_head p c.in_ok-other_head.ensures) lt_right) in
-    let x = err_from_is_err_and c.from_residual-in_err-compare_tracks.result c.from_residual-in_err-compare_tracks.ensures.1 in
-    rw (x.1, x.2) ((rw (i.honesty, i.file, i.honesty_right, i.file_right) at c.in_err-compare_tracks.ensures.unchanged) told told_right tree other o p t.0 u.0 t.1 u.1)
+    let says = says_left c.args.leaving file c.args.movies.now.left tree c.in_ok-read.read c.in_ok-head.head o c.in_ok-read.ensures c.in_ok-head.ensures.movie c.in_ok-head.ensures.tracks in
+    let other_says = says_left c.args.leaving right_file c.args.movies.now.right other c.in_ok-other_read.other_read c.in_ok-other_head.other_head p c.in_ok-other_read.ensures c.in_ok-other_head.ensures.movie c.in_ok-other_head.ensures.tracks in
+    let t = track_at c.args.leaving file tree c.in_ok-head.head says track c.index-first.result.now (search rules) (search rules) in
+    let u = track_at c.args.leaving right_file other c.in_ok-other_head.other_head other_says track c.index-second.result.now (search rules) (search rules) in
+    let e = err_from_is_err_and c.from_residual-in_err-compare_tracks.result c.from_residual-in_err-compare_tracks.ensures.1 in
+    rw (e.1, e.2) (c.in_err-compare_tracks.ensures.unchanged (subst IsTrue (sym i.honesty) told) (subst IsTrue (sym i.honesty_right) told_right) tree other
+    (subst (λ (x : List ℕ). IsOpenedAs x c.args.movies.now.left tree) (sym i.file) o) (subst (λ (x : List ℕ). IsOpenedAs x c.args.movies.now.right other) (sym i.file_right) p) t.0 u.0 t.1 u.1)
 
 pub returns-in_err-compare_tracks-clause-work : goal.returns-in_err-compare_tracks-clause-work
 returns-in_err-compare_tracks-clause-work g c told told_right tree other o p =
@@ -100,42 +174,34 @@ returns-in_err-compare_tracks-clause-work g c told told_right tree other o p =
     let now = g.D.Differences.taken c.loop-track.seen in
     let h = i.going told told_right tree other o p in
     let track = c.loop-track.track in
-    let first = c.index-first.result.now in
-    let second = c.index-second.result.now in
-    let head = c.in_ok-head.head in
-    let other_head = c.in_ok-other_head.other_head in
-    let lt : track < length head.tracks.items = search rules in
-    let lt_right : track < length other_head.tracks.items = search rules in
-    let is : first ≡ slice_index_or head.tracks.items track first = search rules in
-    let is_right : second ≡ slice_index_or other_head.tracks.items track second = search rules in
-    let t = get_some tree.movie.tracks track (below track _ _ (heads_all file c.args.movies.now.left tree head o c.in_ok-head.ensures) lt) in
-    let u = get_some other.movie.tracks track (below track _ _ (heads_all right_file c.args.movies.now.right other other_head p c.in_ok-other_head.ensures) lt_right) in
+    let says = says_left c.args.leaving file c.args.movies.now.left tree c.in_ok-read.read c.in_ok-head.head o c.in_ok-read.ensures c.in_ok-head.ensures.movie c.in_ok-head.ensures.tracks in
+    let other_says = says_left c.args.leaving right_file c.args.movies.now.right other c.in_ok-other_read.other_read c.in_ok-other_head.other_head p c.in_ok-other_read.ensures c.in_ok-other_head.ensures.movie c.in_ok-other_head.ensures.tracks in
+    let t = track_at c.args.leaving file tree c.in_ok-head.head says track c.index-first.result.now (search rules) (search rules) in
+    let u = track_at c.args.leaving right_file other c.in_ok-other_head.other_head other_says track c.index-second.result.now (search rules) (search rules) in
     files_most c.args.aligned c.args.leaving file tree right_file other before c.args.steps.now.passed track now c.loop-track.steps.passed h t.0 u.0 t.1 u.1 c.compare_tracks.new.steps.passed
-    ((rw (i.honesty, i.file, i.honesty_right, i.file_right) at c.in_err-compare_tracks.ensures.work) told told_right tree other o p t.0 u.0 t.1 u.1)
+    (of_same (λ x y. c.compare_tracks.new.steps.passed ≤ c.loop-track.steps.passed + (walk_steps tree t.0 + walk_steps other u.0)) c.args.movies.now.left c.args.movies.now.right tree other _ _ _ _ _ _ _ _ i.honesty i.file i.honesty_right i.file_right
+    (λ q r v w. c.in_err-compare_tracks.ensures.work q r tree other v w t.0 u.0 t.1 u.1) told told_right o p)
 
-pub returns-then-not-branch-clause-front : goal.returns-then-not-branch-clause-front
-returns-then-not-branch-clause-front g c told told_right tree other o p =
-    let i = c.loop-track.invariant in
-    let file = g.S.Store.file c.args.left.now in
-    let right_file = g.T.Store.file c.args.right.now in
-    let before = g.D.Differences.taken c.args.seen.now in
-    let now = g.D.Differences.taken c.loop-track.seen in
-    let h = i.going told told_right tree other o p in
-    let track = c.loop-track.track in
-    let first = c.index-first.result.now in
-    let second = c.index-second.result.now in
-    let head = c.in_ok-head.head in
-    let other_head = c.in_ok-other_head.other_head in
-    let lt : track < length head.tracks.items = search rules in
-    let lt_right : track < length other_head.tracks.items = search rules in
-    let is : first ≡ slice_index_or head.tracks.items track first = search rules in
-    let is_right : second ≡ slice_index_or other_head.tracks.items track second = search rules in
-    let t = get_some tree.movie.tracks track (below track _ _ (heads_all file c.args.movies.now.left tree head o c.in_ok-head.ensures) lt) in
-    let u = get_some other.movie.tracks track (below track _ _ (heads_all right_file c.args.movies.now.right other other_head p c.in_ok-other_head.ensures) lt_right) in
-    let e = head_own file c.args.movies.now.left tree head track t.0 first o c.in_ok-head.ensures t.1 (at_place head.tracks.items track first lt is) in
-    let f = head_own right_file c.args.movies.now.right other other_head track u.0 second p c.in_ok-other_head.ensures u.1 (at_place other_head.tracks.items track second lt_right is_right) in
-    files_stop c.args.aligned c.args.leaving file tree right_file other before c.args.steps.now.passed track now c.loop-track.steps.passed h t.0 u.0 t.1 u.1 (g.D.Differences.taken c.compare_tracks.new.seen)
-    ((rw (i.honesty, i.file, i.honesty_right, i.file_right) at c.in_ok-compare_tracks.ensures.handed.front) told told_right tree other o p t.0 u.0 t.1 u.1 e f)
+pub returns-then-not-branch-clause-handed : goal.returns-then-not-branch-clause-handed
+returns-then-not-branch-clause-handed g c = record {
+  goes = search rules;
+  all = search rules;
+  front = λ told told_right tree other o p.
+      let i = c.loop-track.invariant in
+      let file = g.S.Store.file c.args.left.now in
+      let right_file = g.T.Store.file c.args.right.now in
+      let before = g.D.Differences.taken c.args.seen.now in
+      let now = g.D.Differences.taken c.loop-track.seen in
+      let h = i.going told told_right tree other o p in
+      let track = c.loop-track.track in
+      let says = says_left c.args.leaving file c.args.movies.now.left tree c.in_ok-read.read c.in_ok-head.head o c.in_ok-read.ensures c.in_ok-head.ensures.movie c.in_ok-head.ensures.tracks in
+      let other_says = says_left c.args.leaving right_file c.args.movies.now.right other c.in_ok-other_read.other_read c.in_ok-other_head.other_head p c.in_ok-other_read.ensures c.in_ok-other_head.ensures.movie c.in_ok-other_head.ensures.tracks in
+      let t = track_at c.args.leaving file tree c.in_ok-head.head says track c.index-first.result.now (search rules) (search rules) in
+      let u = track_at c.args.leaving right_file other c.in_ok-other_head.other_head other_says track c.index-second.result.now (search rules) (search rules) in
+      files_stop c.args.aligned c.args.leaving file tree right_file other before c.args.steps.now.passed track now c.loop-track.steps.passed h t.0 u.0 t.1 u.1 (g.D.Differences.taken c.compare_tracks.new.seen)
+      (of_same (λ x y. TakesFront now (g.D.Differences.taken c.compare_tracks.new.seen) (tracks_differ c.args.aligned c.args.leaving (track + 1) x tree t.0 y other u.0)) c.args.movies.now.left c.args.movies.now.right tree other _ _ _ _ _ _ _ _ i.honesty i.file i.honesty_right i.file_right
+      (λ q r v w. c.in_ok-compare_tracks.ensures.handed.front q r tree other v w t.0 u.0 t.1 u.1 t.2 u.2) told told_right o p);
+}
 
 pub returns-then-not-branch-clause-work : goal.returns-then-not-branch-clause-work
 returns-then-not-branch-clause-work g c told told_right tree other o p =
@@ -146,18 +212,13 @@ returns-then-not-branch-clause-work g c told told_right tree other o p =
     let now = g.D.Differences.taken c.loop-track.seen in
     let h = i.going told told_right tree other o p in
     let track = c.loop-track.track in
-    let first = c.index-first.result.now in
-    let second = c.index-second.result.now in
-    let head = c.in_ok-head.head in
-    let other_head = c.in_ok-other_head.other_head in
-    let lt : track < length head.tracks.items = search rules in
-    let lt_right : track < length other_head.tracks.items = search rules in
-    let is : first ≡ slice_index_or head.tracks.items track first = search rules in
-    let is_right : second ≡ slice_index_or other_head.tracks.items track second = search rules in
-    let t = get_some tree.movie.tracks track (below track _ _ (heads_all file c.args.movies.now.left tree head o c.in_ok-head.ensures) lt) in
-    let u = get_some other.movie.tracks track (below track _ _ (heads_all right_file c.args.movies.now.right other other_head p c.in_ok-other_head.ensures) lt_right) in
+    let says = says_left c.args.leaving file c.args.movies.now.left tree c.in_ok-read.read c.in_ok-head.head o c.in_ok-read.ensures c.in_ok-head.ensures.movie c.in_ok-head.ensures.tracks in
+    let other_says = says_left c.args.leaving right_file c.args.movies.now.right other c.in_ok-other_read.other_read c.in_ok-other_head.other_head p c.in_ok-other_read.ensures c.in_ok-other_head.ensures.movie c.in_ok-other_head.ensures.tracks in
+    let t = track_at c.args.leaving file tree c.in_ok-head.head says track c.index-first.result.now (search rules) (search rules) in
+    let u = track_at c.args.leaving right_file other c.in_ok-other_head.other_head other_says track c.index-second.result.now (search rules) (search rules) in
     files_most c.args.aligned c.args.leaving file tree right_file other before c.args.steps.now.passed track now c.loop-track.steps.passed h t.0 u.0 t.1 u.1 c.compare_tracks.new.steps.passed
-    ((rw (i.honesty, i.file, i.honesty_right, i.file_right) at c.in_ok-compare_tracks.ensures.work) told told_right tree other o p t.0 u.0 t.1 u.1)
+    (of_same (λ x y. c.compare_tracks.new.steps.passed ≤ c.loop-track.steps.passed + (walk_steps tree t.0 + walk_steps other u.0)) c.args.movies.now.left c.args.movies.now.right tree other _ _ _ _ _ _ _ _ i.honesty i.file i.honesty_right i.file_right
+    (λ q r v w. c.in_ok-compare_tracks.ensures.work q r tree other v w t.0 u.0 t.1 u.1) told told_right o p)
 
 pub loop-track-preserved : goal.loop-track-preserved
 loop-track-preserved g c = record {
@@ -178,45 +239,42 @@ loop-track-preserved g c = record {
       let now = g.D.Differences.taken c.loop-track.seen in
       let h = i.going told told_right tree other o p in
       let track = c.loop-track.track in
-      let first = c.index-first.result.now in
-      let second = c.index-second.result.now in
-      let head = c.in_ok-head.head in
-      let other_head = c.in_ok-other_head.other_head in
-      let lt : track < length head.tracks.items = search rules in
-      let lt_right : track < length other_head.tracks.items = search rules in
-      let is : first ≡ slice_index_or head.tracks.items track first = search rules in
-      let is_right : second ≡ slice_index_or other_head.tracks.items track second = search rules in
-      let t = get_some tree.movie.tracks track (below track _ _ (heads_all file c.args.movies.now.left tree head o c.in_ok-head.ensures) lt) in
-      let u = get_some other.movie.tracks track (below track _ _ (heads_all right_file c.args.movies.now.right other other_head p c.in_ok-other_head.ensures) lt_right) in
-      let e = head_own file c.args.movies.now.left tree head track t.0 first o c.in_ok-head.ensures t.1 (at_place head.tracks.items track first lt is) in
-      let f = head_own right_file c.args.movies.now.right other other_head track u.0 second p c.in_ok-other_head.ensures u.1 (at_place other_head.tracks.items track second lt_right is_right) in
+      let says = says_left c.args.leaving file c.args.movies.now.left tree c.in_ok-read.read c.in_ok-head.head o c.in_ok-read.ensures c.in_ok-head.ensures.movie c.in_ok-head.ensures.tracks in
+      let other_says = says_left c.args.leaving right_file c.args.movies.now.right other c.in_ok-other_read.other_read c.in_ok-other_head.other_head p c.in_ok-other_read.ensures c.in_ok-other_head.ensures.movie c.in_ok-other_head.ensures.tracks in
+      let t = track_at c.args.leaving file tree c.in_ok-head.head says track c.index-first.result.now (search rules) (search rules) in
+      let u = track_at c.args.leaving right_file other c.in_ok-other_head.other_head other_says track c.index-second.result.now (search rules) (search rules) in
       files_next c.args.aligned c.args.leaving file tree right_file other before c.args.steps.now.passed track now c.loop-track.steps.passed h t.0 u.0 t.1 u.1 (g.D.Differences.taken c.compare_tracks.new.seen) c.compare_tracks.new.steps.passed
-      ((rw (i.honesty, i.file, i.honesty_right, i.file_right) at c.in_ok-compare_tracks.ensures.handed.all) c.if-not-branch.false told told_right tree other o p t.0 u.0 t.1 u.1 e f)
-      ((rw (i.honesty, i.file, i.honesty_right, i.file_right) at c.in_ok-compare_tracks.ensures.work) told told_right tree other o p t.0 u.0 t.1 u.1);
+      (of_same (λ x y. (g.D.Differences.taken c.compare_tracks.new.seen) ≡ now ++ tracks_differ c.args.aligned c.args.leaving (track + 1) x tree t.0 y other u.0) c.args.movies.now.left c.args.movies.now.right tree other _ _ _ _ _ _ _ _ i.honesty i.file i.honesty_right i.file_right
+      (λ q r v w. c.in_ok-compare_tracks.ensures.handed.all c.if-not-branch.false q r tree other v w t.0 u.0 t.1 u.1 t.2 u.2) told told_right o p)
+      (of_same (λ x y. c.compare_tracks.new.steps.passed ≤ c.loop-track.steps.passed + (walk_steps tree t.0 + walk_steps other u.0)) c.args.movies.now.left c.args.movies.now.right tree other _ _ _ _ _ _ _ _ i.honesty i.file i.honesty_right i.file_right
+      (λ q r v w. c.in_ok-compare_tracks.ensures.work q r tree other v w t.0 u.0 t.1 u.1) told told_right o p);
 }
 
-pub returns-clause-all : goal.returns-clause-all
-returns-clause-all g c whole told told_right tree other o p =
-    let i = c.loop-track.invariant in
-    let file = g.S.Store.file c.args.left.now in
-    let right_file = g.T.Store.file c.args.right.now in
-    let before = g.D.Differences.taken c.args.seen.now in
-    let now = g.D.Differences.taken c.loop-track.seen in
-    let h = i.going told told_right tree other o p in
-    let le : min (min (min (length c.args.movies.now.left.tracks) (length c.args.movies.now.right.tracks)) (length c.in_ok-head.head.tracks.items)) (length c.in_ok-other_head.other_head.tracks.items) ≤ c.loop-track.track = search rules in
-    files_all c.args.aligned c.args.leaving file tree right_file other before c.args.steps.now.passed c.loop-track.track now c.loop-track.steps.passed h
-    (all_over _ _ _ _ _ _ c.loop-track.track (infos_all file c.args.movies.now.left tree o) (infos_all right_file c.args.movies.now.right other p) (heads_all file c.args.movies.now.left tree c.in_ok-head.head o c.in_ok-head.ensures)
-    (heads_all right_file c.args.movies.now.right other c.in_ok-other_head.other_head p c.in_ok-other_head.ensures) le)
-
-pub returns-clause-front : goal.returns-clause-front
-returns-clause-front g c told told_right tree other o p =
-    let i = c.loop-track.invariant in
-    let file = g.S.Store.file c.args.left.now in
-    let right_file = g.T.Store.file c.args.right.now in
-    let before = g.D.Differences.taken c.args.seen.now in
-    let now = g.D.Differences.taken c.loop-track.seen in
-    let h = i.going told told_right tree other o p in
-    files_front c.args.aligned c.args.leaving file tree right_file other before c.args.steps.now.passed c.loop-track.track now c.loop-track.steps.passed h
+pub returns-clause-handed : goal.returns-clause-handed
+returns-clause-handed g c = record {
+  goes = search rules;
+  all = λ whole told told_right tree other o p.
+      let i = c.loop-track.invariant in
+      let file = g.S.Store.file c.args.left.now in
+      let right_file = g.T.Store.file c.args.right.now in
+      let before = g.D.Differences.taken c.args.seen.now in
+      let now = g.D.Differences.taken c.loop-track.seen in
+      let h = i.going told told_right tree other o p in
+      let says = says_left c.args.leaving file c.args.movies.now.left tree c.in_ok-read.read c.in_ok-head.head o c.in_ok-read.ensures c.in_ok-head.ensures.movie c.in_ok-head.ensures.tracks in
+      let other_says = says_left c.args.leaving right_file c.args.movies.now.right other c.in_ok-other_read.other_read c.in_ok-other_head.other_head p c.in_ok-other_read.ensures c.in_ok-other_head.ensures.movie c.in_ok-other_head.ensures.tracks in
+      let le : min (min (min (length c.args.movies.now.left.tracks) (length c.args.movies.now.right.tracks)) (length c.in_ok-head.head.tracks.items)) (length c.in_ok-other_head.other_head.tracks.items) ≤ c.loop-track.track = search rules in
+      files_all c.args.aligned c.args.leaving file tree right_file other before c.args.steps.now.passed c.loop-track.track now c.loop-track.steps.passed h
+      (all_over _ _ _ _ _ _ c.loop-track.track (infos_all file c.args.movies.now.left tree o) (infos_all right_file c.args.movies.now.right other p) (heads_all c.args.leaving file tree c.in_ok-head.head says)
+      (heads_all c.args.leaving right_file other c.in_ok-other_head.other_head other_says) le);
+  front = λ told told_right tree other o p.
+      let i = c.loop-track.invariant in
+      let file = g.S.Store.file c.args.left.now in
+      let right_file = g.T.Store.file c.args.right.now in
+      let before = g.D.Differences.taken c.args.seen.now in
+      let now = g.D.Differences.taken c.loop-track.seen in
+      let h = i.going told told_right tree other o p in
+      files_front c.args.aligned c.args.leaving file tree right_file other before c.args.steps.now.passed c.loop-track.track now c.loop-track.steps.passed h;
+}
 
 pub returns-clause-work : goal.returns-clause-work
 returns-clause-work g c told told_right tree other o p =

@@ -6,4 +6,4 @@ use Rattle.mp4_content.proofs.own_payloads.put_tracks_left.Given as goal
 
 -- those before this one are there, and the others are as they were
 abbrev pub invariant-loop-k : goal.invariant-loop-k
-invariant-loop-k l = (length l.tracks.items ≡ length l.initial.tracks.items) × ChangedTo track_seen (track_payloads_left l.fn.leaving) l.initial.tracks.items l.tracks.items l.k
+invariant-loop-k l = (length l.tracks.items ≡ length l.initial.tracks.items) × ChangedTo track_seen (λ n. track_payloads_left l.fn.leaving) 0 l.initial.tracks.items l.tracks.items l.k

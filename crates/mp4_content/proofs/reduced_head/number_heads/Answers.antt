@@ -1,17 +1,19 @@
 use Rattle.std.proofs.Common.{rules, ◌<◌, ap, length, refl}
 use Rattle.mp4_head.specs.words.Seen.{track_seen}
 use Rattle.mp4_content.specs.format.Reduced.{number_head}
-use Rattle.mp4_content.proofs.HeadLess.{changed_none, changed_one, numbered_all}
+use Rattle.mp4_content.proofs.HeadLess.{numbered_all}
+use Rattle.mp4_content.proofs.OwnPayloads.{changed_none, changed_one, there_is}
 use Rattle.mp4_content.proofs.reduced_head.number_heads.Goals as goal
 
 pub loop-k-init : goal.loop-k-init
-loop-k-init c = (refl, changed_none (number_head c.args.leaving) 1 _ _ refl)
+loop-k-init c = (refl, changed_none track_seen (number_head c.args.leaving) 1 _ _ refl)
 
 pub loop-k-preserved : goal.loop-k-preserved
 loop-k-preserved c =
     let i = c.loop-k.invariant in
     let lt : c.loop-k.k < length c.loop-k.heads.items = search rules in
-    (search rules, changed_one (number_head c.args.leaving) 1 _ c.loop-k.heads.items c.loop-k.k c.index_mut-head.result.now _ _ i.1 lt c.index_mut-head.ensures.value (ap (λ n. track_seen (record c.index_mut-head.result.now { id = n })) c.id-head.ensures))
+    let at = there_is c.loop-k.heads.items c.loop-k.k _ c.index_mut-head.result.now lt c.index_mut-head.ensures.value in
+    (search rules, changed_one track_seen (number_head c.args.leaving) 1 _ c.loop-k.heads.items c.loop-k.k c.index_mut-head.result.now _ i.1 at (ap (λ n. track_seen (record c.index_mut-head.result.now { id = n })) c.id-head.ensures))
 
 pub returns : goal.returns
 returns c = numbered_all c.args.leaving _ c.loop-k.heads.items c.loop-k.k c.loop-k.invariant.1 (search rules)

@@ -1,8 +1,9 @@
 use Rattle.std.proofs.Common.{◌≡◌, length}
+use Rattle.mp4_head.specs.words.Seen.{track_seen}
 use Rattle.mp4_content.specs.format.Reduced.{number_head}
-use Rattle.mp4_content.proofs.HeadLess.{ChangedTo}
+use Rattle.mp4_content.proofs.OwnPayloads.{ChangedTo}
 use Rattle.mp4_content.proofs.reduced_head.number_heads.Given as goal
 
 -- those before this one are numbered, and the others are as they were
 abbrev pub invariant-loop-k : goal.invariant-loop-k
-invariant-loop-k l = (length l.heads.items ≡ length l.initial.heads.items) × ChangedTo (number_head l.leaving) 1 l.initial.heads.items l.heads.items l.k
+invariant-loop-k l = (length l.heads.items ≡ length l.initial.heads.items) × ChangedTo track_seen (number_head l.leaving) 1 l.initial.heads.items l.heads.items l.k

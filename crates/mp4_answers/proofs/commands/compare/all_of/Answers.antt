@@ -9,5 +9,5 @@ returns-clause-all g c = λ told right tree other o u.
     let is = c.in_ok-is_whole in
     listed_front c.in_ok-listed.listed.all.items c.compare_all.new.seen.all.items is.is_whole
     (files_differ c.args.leaving (g.S.Store.file c.args.left.now) tree (g.T.Store.file c.args.right.now) other) c.in_ok-listed.ensures
-    (λ e. is.ensures.all e told right tree other o u) (is.ensures.front told right tree other o u)
+    (λ e. is.ensures.handed.all e told right tree other o u) (is.ensures.handed.front told right tree other o u)
     (elim c.else-not-is_whole.branch [ else-not-is_whole-via-then-not-is_whole+else-len-le-MOST w ↦ inr (search rules) | else-not-is_whole-via-else-not-is_whole w ↦ inl (search rules) ])
