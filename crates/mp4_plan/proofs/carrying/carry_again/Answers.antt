@@ -57,4 +57,4 @@ returns-clause-work g c told tree t begun before own o back may =
     on_both c.carry_piece.result (λ x. (let two = x.2 in (x.0, x.1, omega (arith, one, two)))) (λ x. omega (arith, one, x)) ((rw (b.store.honesty, b.store.file) at c.carry_piece.ensures.work) told tree t k.0 o k.1)
 
 pub returns-clause-ahead : goal.returns-clause-ahead
-returns-clause-ahead g c = on_ok _ _ c.carry_piece.result (λ x. gone_past c.args.movie.now c.go_back.new.self c.carry_piece.new.walk _ c.in_ok-go_back.ensures.mark.next x.ahead) c.carry_piece.ensures.went
+returns-clause-ahead g c = on_ok _ _ c.carry_piece.result (λ x. gone_past c.args.movie.now c.go_back.new.self c.carry_piece.new.walk _ c.in_ok-go_back.ensures.mark.1.next x.ahead) c.carry_piece.ensures.went
