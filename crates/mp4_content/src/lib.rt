@@ -13,7 +13,8 @@
 //!   its head. Without edits, ends or origins a track may have no normal form, which is a fault.
 //! - [`Reduced`] hands out what is left of samples, one after the other; [`reduced_sample`] is that
 //!   of one. [`payloads_left`] are the payloads of a head that are left in memory of their own.
-//! - [`edges_of`] says where a track begins and ends; [`peek_sample`] looks at the next sample.
+//! - [`reduction_of`] says what samples of a track are left by; [`peek_sample`] looks at the next
+//!   sample.
 //!
 //! A comparison holds two windows of at most 65,536 bytes, and a walk over a track of each file.
 //! A content holds some 64 bytes a track.
@@ -54,7 +55,6 @@ pub mod comparing_laws;
 pub mod complete_laws;
 mod content;
 pub mod covering_laws;
-mod edges;
 mod file_window;
 pub mod lead_ins_laws;
 mod measures;
@@ -72,7 +72,7 @@ pub use comparing::differences::{Difference, Differences, Entries, Field, Part, 
 pub use comparing::movies::Movies;
 pub use comparing::{compare, compare_all, compare_listed};
 pub use content::{Content, TrackLeft};
-pub use edges::{Edges, edges_of};
+pub use measures::reduction_of;
 pub use own_payloads::{BoxLeft, MediaLeft, payloads_left};
 pub use peeking::peek_sample;
 pub use reduced::{Reduced, Reduction, reduced_sample};
