@@ -21,19 +21,19 @@ use Rattle.mp4_tables.proofs.Placed as placed
 use Rattle.mp4_head.specs.format.Tree.{TrackTree}
 use Rattle.mp4_present.specs.format.Denotes.{FileTree, bytes_at, sample_of, file_parts, placed_of, track_of}
 use Rattle.mp4_present.specs.format.Presentation.{IsGroup}
-use Rattle.mp4_content.specs.format.Reduced.{duration_left, offset_left, reduce_from, reduce_sample, reduce_track}
-use Rattle.mp4_content.specs.words.Differing.{index_in, flags_left}
+use Rattle.mp4_content.specs.format.Reduced.{reduce_from, reduce_sample, reduce_track}
+use Rattle.mp4_content.specs.words.ComingLess.{cto_left, flags_left, lasts_left, track_reduction}
+use Rattle.mp4_content.specs.words.Differing.{index_in}
 use Rattle.mp4_present.specs.words.Movies.{MovieSeen}
 use Rattle.mp4_present.specs.words.OpenedMovie.{IsOpenedAs, IsInfoOf}
 use Rattle.mp4_present.specs.words.SamplesComing.{track_keys, track_samples}
-use Rattle.mp4_content.specs.words.TrackEdges.{edges_left}
-use Rattle.mp4_content.specs.declared.edges.Edges.{Edges}
+use Rattle.mp4_content.specs.declared.reduced.Reduction.{Reduction}
 use Rattle.mp4_content.specs.declared.without.Without.{Without}
 use Rattle.mp4_present.specs.declared.track_info.TrackInfo.{TrackInfo}
 use Rattle.mp4_content.proofs.ComparisonGroups.{index_rank}
 use Rattle.mp4_present.proofs.PlacedTracks.{IsTrackPlaced, tracks_placed}
 use Rattle.mp4_present.proofs.SamplesLie.{IsInFile, placed_lie, bytes_whole}
-use Rattle.mp4_content.proofs.SamplesReduced.{reduced_by_edges}
+use Rattle.mp4_content.proofs.SamplesReduced.{reduced_by}
 use Rattle.mp4_present.proofs.ValidSamples.{IsOfTrack, is_group, is_parameter}
 use Rattle.mp4_plan.specs.format.Normal.{in_key_order}
 use Rattle.mp4_plan.specs.format.TableLaws.{IsKey}
@@ -151,30 +151,30 @@ there file (negsuc below) size h = absurd cc
 abbrev IsSampleOf : List ℕ → List GroupKey → PlacedSample → Type 0
 IsSampleOf file keys s = AreKeysOf keys s.groups × IsInFile (length file) s
 
-module _ (l : Without) (keys : Keys) (edges : Edges) (style : SampleStyle) (is : IsStyle l keys edges style) (file : List ℕ) (own : List GroupKey) (e : keys_seen keys ≡ own) where
-  order_is : keys_seen style.order ≡ (if l.groups then [] else in_key_order own)
-  order_is = is.order ∙ ap (λ (ks : List GroupKey). if l.groups then [] else in_key_order ks) e
+module _ (r : Reduction) (keys : Keys) (style : SampleStyle) (is : IsStyle r keys style) (file : List ℕ) (own : List GroupKey) (e : keys_seen keys ≡ own) where
+  abbrev q : Reduction
+  q = style.reduction
 
-  one_told : (number dts : ℕ) (s : PlacedSample) → IsSampleOf file own s → told_sample style file (sample_at own number dts s) ≡ sample_text (reduce_sample l edges.samples edges.first_offset number (sample_of file s))
+  order_is : keys_seen style.order ≡ (if q.leaving.groups then [] else in_key_order own)
+  order_is = is.order ∙ (λ i. if (sym is.reduction i).leaving.groups then [] else in_key_order (e i))
+
+  one_told : (number dts : ℕ) (s : PlacedSample) → IsSampleOf file own s → told_sample style file (sample_at own number dts s) ≡ sample_text (reduce_sample q.leaving q.samples q.offset number (sample_of file s))
   one_told number dts s h =
       let bytes = bytes_at file s.at s.size in
       let size : s.size ≡ length bytes = sym (bytes_whole file s.at s.size h.1) in
       let digest : sha256 (range file (place_of s.at) s.size) ≡ sha256 bytes = ap sha256 (there file s.at s.size h.1) in
-      let flags : flags_left style.leaving s.flags ≡ flags_left l s.flags = ap (λ (x : Without). flags_left x s.flags) is.leaving in
-      let groups : told_indexes style.keys (sample_at own number dts s) (keys_seen style.order) ≡ flat_map group_text (if l.groups then [] else s.groups) =
-      groups_told l.groups style.keys own (keys_seen style.order) s.groups (sample_at own number dts s) (ap keys_seen is.keys_are ∙ e) order_is refl h.0 in
-      let duration : duration_left style.leaving style.edges.samples number s.duration ≡ duration_left l edges.samples number s.duration = (λ i. duration_left (is.leaving i) (is.edges_are i).samples number s.duration) in
-      let offset : offset_left style.leaving style.edges.first_offset s.offset ≡ offset_left l edges.first_offset s.offset = (λ i. offset_left (is.leaving i) (is.edges_are i).first_offset s.offset) in
-      line_is space (decimal (duration_left style.leaving style.edges.samples number s.duration)) (signed_decimal (offset_left style.leaving style.edges.first_offset s.offset)) (hex_digits 8 (flags_left style.leaving s.flags)) (decimal s.description) (decimal s.size)
+      let groups : told_indexes style.keys (sample_at own number dts s) (keys_seen style.order) ≡ flat_map group_text (if q.leaving.groups then [] else s.groups) =
+      groups_told q.leaving.groups style.keys own (keys_seen style.order) s.groups (sample_at own number dts s) (ap keys_seen is.keys_are ∙ e) order_is refl h.0 in
+      line_is space (decimal (lasts_left q number s.duration)) (signed_decimal (cto_left q s.offset)) (hex_digits 8 (flags_left q s.flags)) (decimal s.description) (decimal s.size)
       (hex_text (sha256 (range file (place_of s.at) s.size)))
       (told_indexes style.keys (sample_at own number dts s) (keys_seen style.order)) line_feed
-      ∙ (λ i. space ++ decimal (duration i) ++ space ++ signed_decimal (offset i) ++ space ++ hex_digits 8 (flags i) ++ space ++ decimal s.description ++ space ++ decimal (size i) ++ space ++ hex_text (digest i) ++ groups i ++ line_feed)
+      ∙ (λ i. space ++ decimal (lasts_left q number s.duration) ++ space ++ signed_decimal (cto_left q s.offset) ++ space ++ hex_digits 8 (flags_left q s.flags) ++ space ++ decimal s.description ++ space ++ decimal (size i) ++ space ++ hex_text (digest i) ++ groups i ++ line_feed)
 
-  all_told : (number dts : ℕ) (samples : List PlacedSample) → AllByRecursion (IsSampleOf file own) samples → flat_map (told_sample style file) (timed own number dts samples) ≡ flat_map sample_text (reduce_from l edges.samples edges.first_offset number (map (sample_of file) samples))
+  all_told : (number dts : ℕ) (samples : List PlacedSample) → AllByRecursion (IsSampleOf file own) samples → flat_map (told_sample style file) (timed own number dts samples) ≡ flat_map sample_text (reduce_from q.leaving q.samples q.offset number (map (sample_of file) samples))
   all_told number dts [] h = refl
   all_told number dts (s ∷ samples) h =
       let one = one_told number dts s h.0 in
-      let more = all_told (number + 1) (dts + s.duration) samples h.1 ∙ (λ i. flat_map sample_text (reduce_from l edges.samples edges.first_offset (plus_one number i) (map (sample_of file) samples))) in
+      let more = all_told (number + 1) (dts + s.duration) samples h.1 ∙ (λ i. flat_map sample_text (reduce_from q.leaving q.samples q.offset (plus_one number i) (map (sample_of file) samples))) in
       λ i. one i ++ more i
 
 -- ---- a track
@@ -187,10 +187,10 @@ opened_samples file m tree t k o is =
     each_from (IsOfTrack (length t.descriptions) (track_keys tree t)) (IsInFile (length file)) (IsSampleOf file (track_keys tree t)) (λ s k i. (record { are = h.keys; few = h.few; map = k.groups }, i)) (placed_of (file_parts tree) t) h.placed lie
 
 -- The lines of a track's samples are those of the samples that are left of it.
-pub track_told : (l : Without) (style : SampleStyle) (file : List ℕ) (m : MovieSeen) (tree : FileTree) (t : TrackTree) (k : ℕ) (info : TrackInfo) (edges : Edges) → IsOpenedAs file m tree → slice_get tree.movie.tracks k ≡ Some t → slice_get m.tracks k ≡ Some info
-    → edges ≡ edges_left l (track_samples tree t) → IsStyle l info.keys edges style
+pub track_told : (l : Without) (style : SampleStyle) (file : List ℕ) (m : MovieSeen) (tree : FileTree) (t : TrackTree) (k : ℕ) (info : TrackInfo) → IsOpenedAs file m tree → slice_get tree.movie.tracks k ≡ Some t → slice_get m.tracks k ≡ Some info
+    → IsStyle (track_reduction l tree t) info.keys style
     → flat_map (told_sample style file) (track_samples tree t) ≡ flat_map sample_text (reduce_track l (track_of file (file_parts tree) t)).samples
-track_told l style file m tree t k info edges o at there found is =
+track_told l style file m tree t k info o at there is =
     let own = (get_zip (IsInfoOf file tree) tree.movie.tracks m.tracks k t info o.tracks at there).keys in
-    all_told l info.keys edges style is file (track_keys tree t) own 0 _ (placed_of (file_parts tree) t) (opened_samples file m tree t k o at)
-    ∙ ap (flat_map sample_text) (reduced_by_edges l edges file (track_keys tree t) 0 _ (placed_of (file_parts tree) t) found)
+    all_told (track_reduction l tree t) info.keys style is file (track_keys tree t) own 0 _ (placed_of (file_parts tree) t) (opened_samples file m tree t k o at)
+    ∙ ap (flat_map sample_text) (reduced_by l style.reduction file (track_keys tree t) 0 _ (placed_of (file_parts tree) t) is.reduction)

@@ -21,9 +21,9 @@ use Rattle.mp4_content.specs.format.Comparison.{sample_differences}
 use Rattle.mp4_content.specs.format.Differences.{each_differ}
 use Rattle.mp4_content.specs.format.Reduced.{first_offset, reduce_samples}
 use Rattle.mp4_content.specs.words.Aligning.{BothLie, IsLast, differ_from}
-use Rattle.mp4_content.specs.words.Compared.{HasEdges, HaveTracks, IsPairingOf}
+use Rattle.mp4_content.specs.words.Compared.{HasReductions, HaveTracks, IsPairingOf}
 use Rattle.mp4_content.specs.words.Differing.{pair_differences}
-use Rattle.mp4_content.specs.words.TrackEdges.{edges_left}
+use Rattle.mp4_content.specs.words.ComingLess.{track_reduction}
 use Rattle.mp4_content.specs.declared.comparing.pairing.Pairing.{Pairing}
 use Rattle.mp4_content.specs.declared.without.Without.{Without}
 use Rattle.mp4_content.proofs.CommonEnds.{end_is}
@@ -87,7 +87,7 @@ module _ (l : Without) (k : ℕ) (by : Pairing) (file other : List ℕ) (m n : M
       }
 
   module _ (have : HaveTracks k m n) (pairing : (info other_info : TrackInfo) → slice_get m.tracks k ≡ Some info → slice_get n.tracks k ≡ Some other_info → IsPairingOf l k info other_info by)
-      (edges : HasEdges (edges_left l (track_samples tree t)) (edges_left l (track_samples other_tree u)) by) where
+      (are : HasReductions (track_reduction l tree t) (track_reduction l other_tree u) by) where
     -- what differs from a place on
     behind : (j : ℕ) → differ_from by file (drop (f + more) (track_samples tree t)) other (drop (f + more_right) (track_samples other_tree u)) j
         ≡ each_differ (sample_differences (k + 1)) (j + 1) (drop j (drop more (drop f own))) (drop j (drop more_right (drop f others)))
@@ -96,8 +96,8 @@ module _ (l : Without) (k : ℕ) (by : Pairing) (file other : List ℕ) (m n : M
         let other_info = get_some n.tracks k have.right in
         let xs = track_samples tree t in
         let ys = track_samples other_tree u in
-        (λ i. each_differ (pair_differences by.leaving by.track by.keys.items by.left by.left_edges file by.right by.right_edges other) (j + 1) (drop-drop j (f + more) xs i) (drop-drop j (f + more_right) ys i))
-        ∙ differ_behind l k by file other m n tree other_tree t u info.0 other_info.0 (pairing info.0 other_info.0 info.1 other_info.1) o p at bt info.1 other_info.1 edges.left edges.right (f + more + j) (f + more_right + j) (j + 1)
+        (λ i. each_differ (pair_differences by file other) (j + 1) (drop-drop j (f + more) xs i) (drop-drop j (f + more_right) ys i))
+        ∙ differ_behind l k by file other m n tree other_tree t u info.0 other_info.0 (pairing info.0 other_info.0 info.1 other_info.1) o p at bt info.1 other_info.1 are (f + more + j) (f + more_right + j) (j + 1)
         ∙ (λ i. each_differ (sample_differences (k + 1)) (j + 1) (sym (drop-drop j (f + more) own) i) (sym (drop-drop j (f + more_right) others) i))
         ∙ (λ i. each_differ (sample_differences (k + 1)) (j + 1) (drop j (sym (drop-drop more f own) i)) (drop j (sym (drop-drop more_right f others) i)))
 

@@ -4,7 +4,8 @@ use Rattle.std.specs.Prelude.{map}
 use Rattle.std.proofs.lemmas.List.{append-nil, length-map}
 use Rattle.mp4_head.specs.format.Head.{Edit, Media, TrackHead, MovieHead}
 use Rattle.mp4_content.specs.format.Differences.{numbers_differ, signed, each_differ, list_differences, box_differences, payload_differences, edit_differences, matrix_differences, kept_differences, movie_differences, media_fields, media_lists, head_differences}
-use Rattle.mp4_content.specs.words.Differing.{values_differ, movie_values, track_values, size_values, media_values, edit_values, sample_values, lasts_left, cto_left, flags_left}
+use Rattle.mp4_content.specs.words.Differing.{values_differ, movie_values, track_values, size_values, media_values, edit_values, sample_values}
+use Rattle.mp4_content.specs.words.ComingLess.{cto_left, flags_left, lasts_left}
 use Rattle.mp4_content.specs.declared.comparing.differences.Difference.{Difference}
 use Rattle.mp4_content.specs.declared.comparing.differences.Subject.{Subject}
 use Rattle.mp4_content.specs.declared.comparing.differences.Subject.TheVariants as subjects
@@ -12,8 +13,7 @@ use Rattle.mp4_content.specs.declared.comparing.differences.Entries.{Entries}
 use Rattle.mp4_content.specs.declared.comparing.differences.Entries.TheVariants as lists
 use Rattle.mp4_content.specs.declared.comparing.differences.Field.TheVariants as fields
 use Rattle.mp4_content.specs.declared.comparing.differences.Part.TheVariants as parts
-use Rattle.mp4_content.specs.declared.edges.Edges.{Edges}
-use Rattle.mp4_content.specs.declared.without.Without.{Without}
+use Rattle.mp4_content.specs.declared.reduced.Reduction.{Reduction}
 use Rattle.mp4_tables.specs.declared.sample.SampleAt.{SampleAt}
 use Rattle.mp4_content.proofs.Differing.{and_then}
 
@@ -111,11 +111,11 @@ track_whole of a b f0 f1 f2 f3 f4 f5 f6 f7 e0 e1 e2 e3 e4 e5 e6 e7 =
 sample_parts : (a b c d g s : List Difference) → ((a ++ (b ++ (c ++ (d ++ [])))) ++ g) ++ s ≡ (((((a ++ b) ++ c) ++ d) ++ g) ++ s)
 sample_parts a b c d g s = simp (append_assoc, append-nil)
 
-pub samples_grown : (l : Without) (of : Subject) (le re : Edges) (a b : SampleAt) (f0 f1 f2 f3 g s : List Difference)
-    → f1 ≡ f0 ++ values_differ of (sample_values l le a) (sample_values l re b) → f2 ≡ f1 ++ g → f3 ≡ f2 ++ s
-    → f3 ≡ f0 ++ (numbers_differ of fields.Duration (lasts_left l le a) (lasts_left l re b) ++ signed of fields.Offset (cto_left l le a) (cto_left l re b)
-    ++ numbers_differ of fields.Flags (flags_left l a.flags) (flags_left l b.flags) ++ numbers_differ of fields.Description a.description b.description ++ g ++ s)
-samples_grown l of le re a b f0 f1 f2 f3 g s e1 e2 e3 =
+pub samples_grown : (r q : Reduction) (of : Subject) (a b : SampleAt) (f0 f1 f2 f3 g s : List Difference)
+    → f1 ≡ f0 ++ values_differ of (sample_values r a) (sample_values q b) → f2 ≡ f1 ++ g → f3 ≡ f2 ++ s
+    → f3 ≡ f0 ++ (numbers_differ of fields.Duration (lasts_left r a.number a.duration) (lasts_left q b.number b.duration) ++ signed of fields.Offset (cto_left r a.cto) (cto_left q b.cto)
+    ++ numbers_differ of fields.Flags (flags_left r a.flags) (flags_left q b.flags) ++ numbers_differ of fields.Description a.description b.description ++ g ++ s)
+samples_grown r q of a b f0 f1 f2 f3 g s e1 e2 e3 =
     and_then f0 f2 f3 _ _ (and_then f0 f1 f2 _ _ e1 e2) e3
-    ∙ ap (λ (ds : List Difference). f0 ++ ds) (sample_parts (numbers_differ of fields.Duration (lasts_left l le a) (lasts_left l re b)) (signed of fields.Offset (cto_left l le a) (cto_left l re b))
-    (numbers_differ of fields.Flags (flags_left l a.flags) (flags_left l b.flags)) (numbers_differ of fields.Description a.description b.description) g s)
+    ∙ ap (λ (ds : List Difference). f0 ++ ds) (sample_parts (numbers_differ of fields.Duration (lasts_left r a.number a.duration) (lasts_left q b.number b.duration)) (signed of fields.Offset (cto_left r a.cto) (cto_left q b.cto))
+    (numbers_differ of fields.Flags (flags_left r a.flags) (flags_left q b.flags)) (numbers_differ of fields.Description a.description b.description) g s)

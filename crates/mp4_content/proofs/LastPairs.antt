@@ -64,7 +64,7 @@ pub record LastGoes (by : Pairing) (file : List ℕ) (tree : FileTree) (t : Trac
 
 module _ (by : Pairing) (file : List ℕ) (tree : FileTree) (t : TrackTree) (m : MovieSeen) (xs : List SampleAt) (other : List ℕ) (other_tree : FileTree) (u : TrackTree) (n : MovieSeen) (ys : List SampleAt) where
   abbrev one : ℕ → SampleAt → SampleAt → List Difference
-  one = pair_differences by.leaving by.track by.keys.items by.left by.left_edges file by.right by.right_edges other
+  one = pair_differences by file other
 
   abbrev Goes : ℕ → ℕ → Walk → Walk → Type 0
   Goes last k w v = LastGoes by file tree t m xs other other_tree u n ys last k w v

@@ -55,7 +55,6 @@ pub mod FieldValues
 pub mod PairsPassed
 pub mod KeysOfBoth
 pub mod SamplesDiffer
-pub mod TrackEdges
 pub mod TracksCompared
 pub mod EndsPassed
 pub mod LastPairs

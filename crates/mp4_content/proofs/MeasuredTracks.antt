@@ -1,9 +1,10 @@
 -- Tracks that are measured one after the other.
 use Rattle.std.proofs.Common.{◌≡◌, ℕ, zero, suc, ◌+◌, ◌<◌, ◌≤◌, true, false, if◌then◌else◌, List, [], ◌∷◌, ◌++◌, length, take, map, Some, refl, sym, ap, subst, ◌∙◌, arith}
-use Rattle.std.specs.Prelude.{slice_get, slice_index_or}
+use Rattle.std.specs.Prelude.{slice_get}
 use Rattle.std.proofs.lemmas.List.{take_all, map-append}
 use Rattle.mp4_boxes.specs.format.Bytes.{sum_of}
 use Rattle.mp4_boxes.proofs.Plain.{get_some, get_zip, length_zip}
+use Rattle.mp4_tables.specs.declared.sample.SampleAt.{SampleAt}
 use Rattle.mp4_head.specs.format.Tree.{TrackTree}
 use Rattle.mp4_present.specs.format.Denotes.{FileTree}
 use Rattle.mp4_present.specs.words.Movies.{MovieSeen}
@@ -12,11 +13,11 @@ use Rattle.mp4_present.specs.words.SamplesComing.{track_samples}
 use Rattle.mp4_present.specs.words.WalkSteps.{walk_steps, walks_steps}
 use Rattle.mp4_present.specs.declared.track_info.TrackInfo.{TrackInfo}
 use Rattle.mp4_content.specs.declared.without.Without.{Without}
-use Rattle.mp4_content.specs.words.ComingLess.{asks_first, plain_reduction, reduction_by, track_reduction, reductions_of}
+use Rattle.mp4_content.specs.words.ComingLess.{asks_first, plain_reduction, reduction_by, reduction_of, track_reduction, reductions_of}
 use Rattle.mp4_content.specs.words.Measuring.{AreTotals, no_total, total_from, track_total}
 use Rattle.mp4_content.specs.declared.measures.Total.{Total}
 use Rattle.mp4_content.specs.declared.reduced.Reduction.{Reduction}
-use Rattle.mp4_content.proofs.AtPlaces.{read_at, taken_next}
+use Rattle.mp4_content.proofs.AtPlaces.{taken_next}
 use Rattle.mp4_content.proofs.SamplesTaken.{as_many}
 use Rattle.mp4_tables.proofs.Sums.{sum_joined}
 
@@ -86,29 +87,18 @@ module _ (l : Without) (file : List ℕ) (m : MovieSeen) (tree : FileTree) (o : 
   steps_within k old now h = let fewer = take_fewer (walk_steps tree) tree.movie.tracks k in omega (arith, h, fewer)
 
 -- a track has as many samples as opening counted
-pub counted_by : (file : List ℕ) (m : MovieSeen) (tree : FileTree) → IsOpenedAs file m tree → (k : ℕ) (t : TrackTree) → slice_get tree.movie.tracks k ≡ Some t → (d : TrackInfo) → d ≡ slice_index_or m.tracks k d → (slice_index_or m.tracks k d).samples ≡ length (track_samples tree t)
-counted_by file m tree o k t is d e =
-    let many = length_zip (IsInfoOf file tree) tree.movie.tracks m.tracks o.tracks in
-    let lt = got_within tree.movie.tracks k t is in
-    let info = get_some m.tracks k (omega (arith, lt, many)) in
-    let same : d ≡ info.0 = read_at m.tracks k info.0 d info.1 e in
-    let of = get_zip (IsInfoOf file tree) tree.movie.tracks m.tracks k t info.0 o.tracks is info.1 in
-    ap (λ (x : TrackInfo). x.samples) (sym e ∙ same) ∙ of.samples ∙ sym (as_many file tree t)
-  where
-    got_within : {A : Type 0} (xs : List A) (k : ℕ) (x : A) → slice_get xs k ≡ Some x → k < length xs
-    got_within [] k x e = absurd cc
-    got_within (y ∷ xs) zero x e = omega arith
-    got_within (y ∷ xs) (suc k) x e = let less = got_within xs k x e in omega (arith, less)
+pub count_is : (file : List ℕ) (m : MovieSeen) (tree : FileTree) (t : TrackTree) (k : ℕ) (info : TrackInfo) → IsOpenedAs file m tree → slice_get tree.movie.tracks k ≡ Some t → slice_get m.tracks k ≡ Some info → info.samples ≡ length (track_samples tree t)
+count_is file m tree t k info o at there = (get_zip (IsInfoOf file tree) tree.movie.tracks m.tracks k t info o.tracks at there).samples ∙ sym (as_many file tree t)
 
 -- what is measured, and what needn't be
-pub asked_reduction : (l : Without) (tree : FileTree) (t : TrackTree) → asks_first l ≡ true → reduction_by l (length (track_samples tree t)) (slice_get (track_samples tree t) 0) ≡ track_reduction l tree t
-asked_reduction l tree t e = λ i. if sym e i then reduction_by l (length (track_samples tree t)) (slice_get (track_samples tree t) 0) else plain_reduction l
+pub asked_reduction : (l : Without) (samples : List SampleAt) → asks_first l ≡ true → reduction_by l (length samples) (slice_get samples 0) ≡ reduction_of l samples
+asked_reduction l samples e = λ i. if sym e i then reduction_by l (length samples) (slice_get samples 0) else plain_reduction l
 
 pub asked_total : (l : Without) (tree : FileTree) (t : TrackTree) (info : TrackInfo) → asks_first l ≡ true → total_from (track_reduction l tree t) no_total (track_samples tree t) ≡ track_total l tree t info
 asked_total l tree t info e = λ i. if sym e i then total_from (track_reduction l tree t) no_total (track_samples tree t) else record { duration = info.duration; is_near = true }
 
-pub plain_is : (l : Without) (tree : FileTree) (t : TrackTree) → asks_first l ≡ false → plain_reduction l ≡ track_reduction l tree t
-plain_is l tree t e = λ i. if sym e i then reduction_by l (length (track_samples tree t)) (slice_get (track_samples tree t) 0) else plain_reduction l
+pub plain_is : (l : Without) (samples : List SampleAt) → asks_first l ≡ false → plain_reduction l ≡ reduction_of l samples
+plain_is l samples e = λ i. if sym e i then reduction_by l (length samples) (slice_get samples 0) else plain_reduction l
 
 pub counted_total : (l : Without) (tree : FileTree) (t : TrackTree) (info : TrackInfo) → asks_first l ≡ false → record { duration = info.duration; is_near = true } ≡ track_total l tree t info
 counted_total l tree t info e = λ i. if sym e i then total_from (track_reduction l tree t) no_total (track_samples tree t) else record { duration = info.duration; is_near = true }

@@ -12,7 +12,8 @@ use Rattle.mp4_tables.specs.declared.sample.SampleAt.{SampleAt}
 use Rattle.mp4_head.specs.format.Tree.{TrackTree}
 use Rattle.mp4_present.specs.format.Denotes.{FileTree}
 use Rattle.mp4_content.specs.format.Differences.{same_signed, differ, numbers_differ, signed, first_unequal, byte_at, each_differ}
-use Rattle.mp4_content.specs.words.Differing.{flags_left, lasts_left, cto_left, index_in, group_differences, differences_at, pair_differences}
+use Rattle.mp4_content.specs.words.Differing.{index_in, group_differences, differences_at, pair_differences}
+use Rattle.mp4_content.specs.words.ComingLess.{cto_left, flags_left, lasts_left}
 use Rattle.mp4_present.specs.words.InHand.{left_in_hand, Follows, IsPlaceOf}
 use Rattle.mp4_present.specs.words.Movies.{MovieSeen, InHandOf}
 use Rattle.mp4_content.specs.words.SamePairs.{indexes_differ, IsSamePair, BeginSame, SaySame}
@@ -24,11 +25,9 @@ use Rattle.mp4_content.specs.declared.comparing.differences.Field.{Field}
 use Rattle.mp4_content.specs.declared.comparing.differences.Field.TheVariants as fields
 use Rattle.mp4_content.specs.declared.comparing.differences.Subject.{Subject}
 use Rattle.mp4_content.specs.declared.comparing.differences.Subject.TheVariants as subjects
-use Rattle.mp4_content.specs.declared.edges.Edges.{Edges}
 use Rattle.mp4_content.specs.declared.file_window.FileWindow.{FileWindow}
 use Rattle.mp4_present.specs.declared.walking.in_hand.InHand.{InHand}
 use Rattle.mp4_present.specs.declared.walking.in_hand.Place.{Place}
-use Rattle.mp4_content.specs.declared.without.Without.{Without}
 use Rattle.mp4_present.specs.declared.walking.Walk.{Walk}
 use Rattle.mp4_content.proofs.Differing.{at_drop, nowhere_same}
 use Rattle.mp4_present.proofs.GoneBack.{hand_later}
@@ -56,9 +55,9 @@ none_of_signed of field a b e = subst (λ (c : ℤ). signed of field a c ≡ [])
 nothing_joined : (a b c d g s : List Difference) → a ≡ [] → b ≡ [] → c ≡ [] → d ≡ [] → g ≡ [] → s ≡ [] → a ++ b ++ c ++ d ++ g ++ s ≡ []
 nothing_joined a b c d g s ea eb ec ed eg es = λ i. ea i ++ eb i ++ ec i ++ ed i ++ eg i ++ es i
 
-pub none_said : (l : Without) (of : Subject) (keys : List GroupKey) (lk rk : Keys) (le re : Edges) (x y : SampleAt) → lasts_left l le x ≡ lasts_left l re y → cto_left l le x ≡ cto_left l re y → flags_left l x.flags ≡ flags_left l y.flags → x.description ≡ y.description
-    → group_differences of keys lk x rk y ≡ [] → x.size ≡ y.size → differences_at l of keys lk le x rk re y ≡ []
-none_said l of keys lk rk le re x y ed eo ef ei eg es =
+pub none_said : (by : Pairing) (of : Subject) (x y : SampleAt) → lasts_left by.left_reduction x.number x.duration ≡ lasts_left by.right_reduction y.number y.duration → cto_left by.left_reduction x.cto ≡ cto_left by.right_reduction y.cto
+    → flags_left by.left_reduction x.flags ≡ flags_left by.right_reduction y.flags → x.description ≡ y.description → group_differences of by.keys.items by.left x by.right y ≡ [] → x.size ≡ y.size → differences_at by of x y ≡ []
+none_said by of x y ed eo ef ei eg es =
     nothing_joined _ _ _ _ _ _ (none_of_numbers of _ _ _ ed) (none_of_signed of _ _ _ eo) (none_of_numbers of _ _ _ ef) (none_of_numbers of _ _ _ ei) eg (none_of_numbers of _ _ _ es)
 
 no_byte : (of : Subject) (f : ℕ → Field) (v : Bool) (xs ys : List ℕ) → xs ≡ ys → (if v then byte_at of f (first_unequal 0 xs ys) else []) ≡ []
@@ -116,7 +115,7 @@ module _ (by : Pairing) (w v : FileWindow) where
 
   module _ (file other : List ℕ) (p : Shows file w) (q : Shows other v) where
     abbrev one : ℕ → SampleAt → SampleAt → List Difference
-    one = pair_differences by.leaving by.track by.keys.items by.left by.left_edges file by.right by.right_edges other
+    one = pair_differences by file other
 
     -- what differs between two lists differs behind the pairs that are the same
     pub same_skipped : (n number : ℕ) (xs ys : List SampleAt) → BeginSame by w v n xs ys → each_differ one number xs ys ≡ each_differ one (number + n) (drop n xs) (drop n ys)

@@ -61,6 +61,15 @@ near_same l first offset = by l.timing l.origins
     by false true h = near_is (offset -ℤ first) h
     by false false h = refl
 
+-- an offset that is left is brought near, where the offset fits
+pub near_left_is : (l : Without) (first offset : ℤ) → FitsSigned w32 offset → near_offset (offset_left l first offset) ≡ offset_near l first offset
+near_left_is l first offset h = by l.timing l.origins
+  where
+    by : (t o : Bool) → near_offset (if t then pos 0 else if o then offset -ℤ first else offset) ≡ (if t then pos 0 else if o then near_offset (offset -ℤ first) else offset)
+    by true o = refl
+    by false true = refl
+    by false false = near_is offset h
+
 -- ---- when what is left of samples is due
 
 -- by whether timing, ends and origins are left out, and whether the sample is the first

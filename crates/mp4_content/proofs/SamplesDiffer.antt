@@ -20,16 +20,17 @@ use Rattle.mp4_tables.proofs.GroupMaps.{IsMap}
 use Rattle.mp4_tables.proofs.Placed.{IsKey, IsIndex}
 use Rattle.mp4_tables.specs.format.TableRules.{lies_within}
 use Rattle.mp4_head.specs.format.Tree.{TrackTree}
-use Rattle.mp4_present.specs.format.Denotes.{FileTree, bytes_at, sample_of, file_parts, placed_of, track_of}
-use Rattle.mp4_content.specs.format.Reduced.{duration_left, offset_left, reduce_sample, reduce_from, reduce_samples}
+use Rattle.mp4_present.specs.format.Denotes.{FileTree, bytes_at, sample_of, file_parts, placed_of}
+use Rattle.mp4_content.specs.format.Reduced.{reduce_sample, reduce_from}
 use Rattle.mp4_content.specs.format.Differences.{differ, numbers_differ, signed, first_unequal, byte_at, bytes_differ, each_differ}
 use Rattle.mp4_content.specs.format.Comparison.{with_key, keys_of_both, index_differences, sample_differences}
-use Rattle.mp4_content.specs.words.Differing.{index_in, index_of, flags_left, group_differences, pair_differences}
+use Rattle.mp4_content.specs.words.Differing.{index_in, index_of, group_differences, pair_differences}
 use Rattle.mp4_present.specs.words.OpenedMovie.{IsOpenedAs, IsInfoOf}
 use Rattle.mp4_present.specs.words.Movies.{MovieSeen}
-use Rattle.mp4_present.specs.words.SamplesComing.{track_keys, track_samples}
-use Rattle.mp4_content.specs.words.TrackEdges.{edges_left}
-use Rattle.mp4_content.specs.declared.edges.Edges.{Edges}
+use Rattle.mp4_present.specs.words.SamplesComing.{track_keys}
+use Rattle.mp4_content.specs.words.ComingLess.{cto_left, flags_left, lasts_left}
+use Rattle.mp4_content.specs.declared.comparing.pairing.Pairing.{Pairing}
+use Rattle.mp4_content.specs.declared.reduced.Reduction.{Reduction}
 use Rattle.mp4_content.specs.declared.without.Without.{Without}
 use Rattle.mp4_present.specs.declared.track_info.TrackInfo.{TrackInfo}
 use Rattle.mp4_content.specs.declared.comparing.differences.Subject.{Subject}
@@ -39,7 +40,6 @@ use Rattle.mp4_content.specs.declared.comparing.differences.Field.TheVariants as
 use Rattle.mp4_content.specs.declared.comparing.differences.Difference.{Difference}
 use Rattle.mp4_content.proofs.KeysOfBoth.{fold_rising, fold_each, fold_there, NothingElse, joint}
 use Rattle.mp4_present.proofs.PlacedTracks.{IsTrackPlaced, tracks_placed}
-use Rattle.mp4_content.proofs.SamplesReduced.{reduced_by_edges}
 use Rattle.mp4_present.proofs.SamplesLie.{IsInFile, placed_lie, bytes_whole}
 use Rattle.mp4_present.proofs.ValidSamples.{IsOfTrack}
 
@@ -193,31 +193,39 @@ module _ (of : Subject) (file other : List ℕ) (s t : PlacedSample) (hs : IsInF
 abbrev pub IsSampleOf : List ℕ → List GroupKey → PlacedSample → Type 0
 IsSampleOf file keys s = AreKeysOf keys s.groups × IsInFile (length file) s
 
-module _ (l : Without) (track : ℕ) (keys : List KeyNamed) (lk rk : Keys) (le re : Edges) (left right : List GroupKey) (file other : List ℕ) (el : keys_seen lk ≡ left) (er : keys_seen rk ≡ right) (joined : map key_seen keys ≡ (if l.groups then [] else fold with_key [] (left ++ right))) where
+module _ (by : Pairing) (l : Without) (left right : List GroupKey) (file other : List ℕ) (el : keys_seen by.left ≡ left) (er : keys_seen by.right ≡ right) (joined : map key_seen by.keys.items ≡ (if l.groups then [] else fold with_key [] (left ++ right)))
+    (first_by : by.left_reduction.leaving ≡ l) (second_by : by.right_reduction.leaving ≡ l) where
+  abbrev r : Reduction
+  r = by.left_reduction
+
+  abbrev q : Reduction
+  q = by.right_reduction
+
   two_samples : (n a b dts later : ℕ) (s t : PlacedSample) → IsSampleOf file left s → IsSampleOf other right t
-      → pair_differences l track keys lk le file rk re other n (sample_at left a dts s) (sample_at right b later t) ≡ sample_differences track n (reduce_sample l le.samples le.first_offset a (sample_of file s)) (reduce_sample l re.samples re.first_offset b (sample_of other t))
+      → pair_differences by file other n (sample_at left a dts s) (sample_at right b later t) ≡ sample_differences by.track n (reduce_sample r.leaving r.samples r.offset a (sample_of file s)) (reduce_sample q.leaving q.samples q.offset b (sample_of other t))
   two_samples n a b dts later s t hs ht =
-      let of = subjects.Sample track n in
-      let values = λ (g : List Difference). numbers_differ of fields.Duration (duration_left l le.samples a s.duration) (duration_left l re.samples b t.duration)
-      ++ signed of fields.Offset (offset_left l le.first_offset s.offset) (offset_left l re.first_offset t.offset) ++ numbers_differ of fields.Flags (flags_left l s.flags) (flags_left l t.flags)
+      let of = subjects.Sample by.track n in
+      let values = λ (g : List Difference). numbers_differ of fields.Duration (lasts_left r a s.duration) (lasts_left q b t.duration)
+      ++ signed of fields.Offset (cto_left r s.offset) (cto_left q t.offset) ++ numbers_differ of fields.Flags (flags_left r s.flags) (flags_left q t.flags)
       ++ numbers_differ of fields.Description s.description t.description ++ g in
-      let groups = groups_differ l.groups of keys lk rk left right s.groups t.groups (sample_at left a dts s) (sample_at right b later t) el er refl refl hs.0 ht.0 joined in
+      let groups = groups_differ l.groups of by.keys.items by.left by.right left right s.groups t.groups (sample_at left a dts s) (sample_at right b later t) el er refl refl hs.0 ht.0 joined
+      ∙ (λ i. index_differences of (if (sym first_by i).groups then [] else s.groups) (if (sym second_by i).groups then [] else t.groups)) in
       let bytes = bytes_are of file other s t hs.1 ht.1 in
       let first = size_is of file other s t hs.1 ht.1 in
       let second = other_is of file other s t hs.1 ht.1 in
-      append_assoc (values (group_differences of keys lk (sample_at left a dts s) rk (sample_at right b later t))) (numbers_differ of fields.Size s.size t.size)
+      append_assoc (values (group_differences of by.keys.items by.left (sample_at left a dts s) by.right (sample_at right b later t))) (numbers_differ of fields.Size s.size t.size)
       (bytes_differ of (λ (k : ℕ). fields.Byte k s.size) s.size t.size (range file (place_of s.at) s.size) (range other (place_of t.at) s.size))
       ∙ (λ j. values (groups j) ++ (numbers_differ of fields.Size (first j) (second j) ++ bytes j))
 
   pub all_samples : (n a b dts later : ℕ) (xs ys : List PlacedSample) → AllByRecursion (IsSampleOf file left) xs → AllByRecursion (IsSampleOf other right) ys
-      → each_differ (pair_differences l track keys lk le file rk re other) n (timed left a dts xs) (timed right b later ys)
-      ≡ each_differ (sample_differences track) n (reduce_from l le.samples le.first_offset a (map (sample_of file) xs)) (reduce_from l re.samples re.first_offset b (map (sample_of other) ys))
+      → each_differ (pair_differences by file other) n (timed left a dts xs) (timed right b later ys)
+      ≡ each_differ (sample_differences by.track) n (reduce_from r.leaving r.samples r.offset a (map (sample_of file) xs)) (reduce_from q.leaving q.samples q.offset b (map (sample_of other) ys))
   all_samples n a b dts later [] ys hs ht = refl
   all_samples n a b dts later (x ∷ xs) [] hs ht = refl
   all_samples n a b dts later (x ∷ xs) (y ∷ ys) hs ht =
       let one = two_samples n a b dts later x y hs.0 ht.0 in
       let more = all_samples (suc n) (a + 1) (b + 1) (dts + x.duration) (later + y.duration) xs ys hs.1 ht.1
-      ∙ (λ i. each_differ (sample_differences track) (suc n) (reduce_from l le.samples le.first_offset (plus_one a i) (map (sample_of file) xs)) (reduce_from l re.samples re.first_offset (plus_one b i) (map (sample_of other) ys))) in
+      ∙ (λ i. each_differ (sample_differences by.track) (suc n) (reduce_from r.leaving r.samples r.offset (plus_one a i) (map (sample_of file) xs)) (reduce_from q.leaving q.samples q.offset (plus_one b i) (map (sample_of other) ys))) in
       λ i. one i ++ more i
 
 -- ---- two tracks
@@ -235,20 +243,3 @@ opened_samples file m tree t k o is =
 -- the keys that are kept of a track are its own
 pub own_keys : (file : List ℕ) (m : MovieSeen) (tree : FileTree) (t : TrackTree) (k : ℕ) (info : TrackInfo) → IsOpenedAs file m tree → slice_get tree.movie.tracks k ≡ Some t → slice_get m.tracks k ≡ Some info → keys_seen info.keys ≡ track_keys tree t
 own_keys file m tree t k info o at there = (get_zip (IsInfoOf file tree) tree.movie.tracks m.tracks k t info o.tracks at there).keys
-
--- What differs between the samples of two tracks, one by one, differs between those of the two presentations.
-pub tracks_differ : (l : Without) (track k : ℕ) (keys : List KeyNamed) (le re : Edges) (file other : List ℕ) (m n : MovieSeen) (tree other_tree : FileTree) (t u : TrackTree) (info other_info : TrackInfo)
-    → map key_seen keys ≡ (if l.groups then [] else fold with_key [] (keys_seen info.keys ++ keys_seen other_info.keys)) → IsOpenedAs file m tree → IsOpenedAs other n other_tree → slice_get tree.movie.tracks k ≡ Some t → slice_get other_tree.movie.tracks k ≡ Some u
-    → slice_get m.tracks k ≡ Some info → slice_get n.tracks k ≡ Some other_info → le ≡ edges_left l (track_samples tree t) → re ≡ edges_left l (track_samples other_tree u)
-    → each_differ (pair_differences l track keys info.keys le file other_info.keys re other) 1 (track_samples tree t) (track_samples other_tree u)
-    ≡ each_differ (sample_differences track) 1 (reduce_samples l (track_of file (file_parts tree) t).samples) (reduce_samples l (track_of other (file_parts other_tree) u).samples)
-tracks_differ l track k keys le re file other m n tree other_tree t u info other_info e o p at bt it jt left_is right_is =
-    let el = own_keys file m tree t k info o at it in
-    let er = own_keys other n other_tree u k other_info p bt jt in
-    let joined : map key_seen keys ≡ (if l.groups then [] else fold with_key [] (track_keys tree t ++ track_keys other_tree u)) =
-    e ∙ (λ i. if l.groups then [] else fold with_key [] (el i ++ er i)) in
-    let first = reduced_by_edges l le file (track_keys tree t) 0 _ (placed_of (file_parts tree) t) left_is in
-    let second = reduced_by_edges l re other (track_keys other_tree u) 0 _ (placed_of (file_parts other_tree) u) right_is in
-    all_samples l track keys info.keys other_info.keys le re (track_keys tree t) (track_keys other_tree u) file other el er joined 1 0 0 _ _ (placed_of (file_parts tree) t) (placed_of (file_parts other_tree) u)
-    (opened_samples file m tree t k o at) (opened_samples other n other_tree u k p bt)
-    ∙ (λ i. each_differ (sample_differences track) 1 (first i) (second i))

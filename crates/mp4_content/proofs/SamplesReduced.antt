@@ -1,18 +1,20 @@
--- What is left of the samples of a track, and of the first offset where that isn't taken from the others.
+-- What is left of the samples of a track.
 use Rattle.std.proofs.Common.{◌≡◌, ℕ, suc, Bool, true, false, if◌then◌else◌, List, [], ◌∷◌, length, refl, sym, ap, ◌∙◌}
-use Rattle.std.specs.Prelude.{map, ℤ, pos, ◌-ℤ◌}
+use Rattle.std.specs.Prelude.{map, slice_get, ℤ}
 use Rattle.std.specs.List.{AllByRecursion}
 use Rattle.std.proofs.lemmas.List.{length-map}
 use Rattle.mp4_tables.specs.format.Groups.{GroupKey}
 use Rattle.mp4_tables.specs.format.PlainSamples.{PlacedSample}
 use Rattle.mp4_tables.specs.words.Timed.{timed}
+use Rattle.mp4_tables.specs.declared.sample.SampleAt.{SampleAt}
 use Rattle.mp4_tables.proofs.SampleLists.{timed_length}
 use Rattle.mp4_present.specs.format.Denotes.{sample_of}
 use Rattle.mp4_present.specs.format.Presentation.{Sample}
-use Rattle.mp4_content.specs.format.Reduced.{offset_left, reduce_sample, reduce_from, first_offset, reduce_samples}
-use Rattle.mp4_content.specs.words.TrackEdges.{first_cto, edges_left}
-use Rattle.mp4_content.specs.declared.edges.Edges.{Edges}
+use Rattle.mp4_content.specs.format.Reduced.{reduce_sample, reduce_from, reduce_samples}
+use Rattle.mp4_content.specs.words.ComingLess.{asks_first, plain_reduction, reduction_by, reduction_of}
+use Rattle.mp4_content.specs.declared.reduced.Reduction.{Reduction}
 use Rattle.mp4_content.specs.declared.without.Without.{Without}
+use Rattle.mp4_content.proofs.ReducedTaken.{any_samples}
 
 -- as many samples are left
 pub reduced_length : (l : Without) (count : ℕ) (first : ℤ) (n : ℕ) (samples : List Sample) → length (reduce_from l count first n samples) ≡ length samples
@@ -24,34 +26,24 @@ pub reduced_each : (P Q : Sample → Type 0) (l : Without) (count : ℕ) (first 
 reduced_each P Q l count first f n [] h = tt
 reduced_each P Q l count first f n (s ∷ samples) h = (f n s h.0, reduced_each P Q l count first f (suc n) samples h.1)
 
--- The first offset counts only where it is taken from the others.
-pub offset_by_first : (l : Without) (first offset : ℤ) → offset_left l (if l.origins then first else pos 0) offset ≡ offset_left l first offset
-offset_by_first l first offset = by l.timing l.origins
+-- Samples of a track that are left by what those are left by that are handed out.
+pub reduced_by : (l : Without) (r : Reduction) (file : List ℕ) (keys : List GroupKey) (n dts : ℕ) (placed : List PlacedSample) → r ≡ reduction_of l (timed keys n dts placed)
+    → reduce_from r.leaving r.samples r.offset 0 (map (sample_of file) placed) ≡ reduce_samples l (map (sample_of file) placed)
+reduced_by l r file keys n dts placed e = (λ i. reduce_from (e i).leaving (e i).samples (e i).offset 0 (map (sample_of file) placed)) ∙ all placed
   where
-    by : (v w : Bool) → (if v then pos 0 else if w then offset -ℤ (if w then first else pos 0) else offset) ≡ (if v then pos 0 else if w then offset -ℤ first else offset)
-    by true w = refl
-    by false true = refl
-    by false false = refl
+    all : (placed : List PlacedSample) → (let r = reduction_of l (timed keys n dts placed) in reduce_from r.leaving r.samples r.offset 0 (map (sample_of file) placed)) ≡ reduce_samples l (map (sample_of file) placed)
+    all [] = refl
+    all (s ∷ placed) = by (asks_first l) refl
+      where
+        taken : List SampleAt
+        taken = timed keys n dts (s ∷ placed)
 
-pub reduced_by_first : (l : Without) (count : ℕ) (first : ℤ) (n : ℕ) (samples : List Sample) → reduce_from l count (if l.origins then first else pos 0) n samples ≡ reduce_from l count first n samples
-reduced_by_first l count first n [] = refl
-reduced_by_first l count first n (s ∷ samples) =
-    let more = reduced_by_first l count first (suc n) samples in
-    λ i. record (reduce_sample l count first n s) { offset = offset_by_first l first s.offset i } ∷ more i
+        samples : List Sample
+        samples = map (sample_of file) (s ∷ placed)
 
--- ---- samples as they are handed out
+        count : length taken ≡ length samples
+        count = timed_length keys n dts (s ∷ placed) ∙ sym (length-map (s ∷ placed) (sample_of file))
 
--- they begin where those of the presentation do
-pub first_cto_is : (file : List ℕ) (keys : List GroupKey) (n dts : ℕ) (placed : List PlacedSample) → first_cto (timed keys n dts placed) ≡ first_offset (map (sample_of file) placed)
-first_cto_is file keys n dts [] = refl
-first_cto_is file keys n dts (s ∷ placed) = refl
-
--- Samples of a track with the edges of those that are handed out.
-pub reduced_by_edges : (l : Without) (edges : Edges) (file : List ℕ) (keys : List GroupKey) (n dts : ℕ) (placed : List PlacedSample) → edges ≡ edges_left l (timed keys n dts placed)
-    → reduce_from l edges.samples edges.first_offset 0 (map (sample_of file) placed) ≡ reduce_samples l (map (sample_of file) placed)
-reduced_by_edges l edges file keys n dts placed e =
-    let samples = map (sample_of file) placed in
-    let count : length (timed keys n dts placed) ≡ length samples = timed_length keys n dts placed ∙ sym (length-map placed (sample_of file)) in
-    (λ i. reduce_from l (e i).samples (e i).first_offset 0 samples)
-    ∙ reduced_by_first l (length (timed keys n dts placed)) (first_cto (timed keys n dts placed)) 0 samples
-    ∙ (λ i. reduce_from l (count i) (first_cto_is file keys n dts placed i) 0 samples)
+        by : (b : Bool) → asks_first l ≡ b → (let r = if b then reduction_by l (length taken) (slice_get taken 0) else plain_reduction l in reduce_from r.leaving r.samples r.offset 0 samples) ≡ reduce_samples l samples
+        by true e = λ i. reduce_from l (count i) s.offset 0 samples
+        by false e = any_samples l (length samples) s.offset 0 samples e

@@ -1,12 +1,12 @@
 -- The samples of two tracks behind some of each, as they are handed out and as the presentations have them.
-use Rattle.std.proofs.Common.{◌≡◌, ℕ, zero, suc, ◌+◌, if◌then◌else◌, List, [], ◌∷◌, ◌++◌, length, drop, Some, refl, sym, ◌∙◌, arith}
+use Rattle.std.proofs.Common.{◌≡◌, ℕ, zero, suc, ◌+◌, if◌then◌else◌, List, [], ◌∷◌, ◌++◌, length, drop, Some, refl, sym, ap, ◌∙◌, arith}
 use Rattle.std.specs.Prelude.{map, fold, ℤ}
 use Rattle.std.specs.List.{AllByRecursion, slice_get}
 use Rattle.std.proofs.lemmas.List.{drop-map}
 use Rattle.mp4_boxes.proofs.Each.{each_dropped, each_value, each_weaker}
 use Rattle.mp4_tables.specs.format.Groups.{GroupKey}
 use Rattle.mp4_tables.specs.format.PlainSamples.{PlacedSample}
-use Rattle.mp4_tables.specs.words.Keys.{key_seen}
+use Rattle.mp4_tables.specs.words.Keys.{key_seen, keys_seen}
 use Rattle.mp4_tables.specs.words.Timed.{timed}
 use Rattle.mp4_tables.proofs.GroupMaps.{order_test}
 use Rattle.mp4_tables.proofs.Placed.{IsIndex}
@@ -24,14 +24,16 @@ use Rattle.mp4_content.specs.format.Differences.{each_differ}
 use Rattle.mp4_content.specs.format.Reduced.{first_offset, reduce_from, reduce_samples}
 use Rattle.mp4_content.specs.format.TimedSamples.{timed_from}
 use Rattle.mp4_content.specs.words.Aligning.{due}
-use Rattle.mp4_content.specs.words.Compared.{IsPairingOf}
+use Rattle.mp4_content.specs.words.Compared.{HasReductions, IsPairingOf}
 use Rattle.mp4_content.specs.words.Differing.{pair_differences}
-use Rattle.mp4_content.specs.words.TrackEdges.{edges_left}
+use Rattle.mp4_content.specs.words.ComingLess.{track_reduction}
+use Rattle.mp4_content.specs.declared.reduced.Reduction.{Reduction}
 use Rattle.mp4_content.specs.declared.comparing.pairing.Pairing.{Pairing}
 use Rattle.mp4_content.specs.declared.without.Without.{Without}
 use Rattle.mp4_content.proofs.ComparisonWhole.{HasMap, map_left}
 use Rattle.mp4_content.proofs.SamplesDiffer.{IsSampleOf, all_samples, opened_samples, own_keys}
-use Rattle.mp4_content.proofs.SamplesReduced.{reduced_by_edges, reduced_each}
+use Rattle.mp4_content.proofs.SamplesReduced.{reduced_by, reduced_each}
+use Rattle.mp4_content.proofs.ReducedTaken.{left_by}
 
 -- ---- behind some
 
@@ -55,27 +57,29 @@ reduced_behind l count first (suc i) n (s ∷ samples) =
 -- What differs from two places on differs so between the samples of the presentations.
 pub differ_behind : (l : Without) (k : ℕ) (by : Pairing) (file other : List ℕ) (m n : MovieSeen) (tree other_tree : FileTree) (t u : TrackTree) (info other_info : TrackInfo) → IsPairingOf l k info other_info by → IsOpenedAs file m tree → IsOpenedAs other n other_tree
     → slice_get tree.movie.tracks k ≡ Some t → slice_get other_tree.movie.tracks k ≡ Some u → slice_get m.tracks k ≡ Some info → slice_get n.tracks k ≡ Some other_info
-    → by.left_edges ≡ edges_left l (track_samples tree t) → by.right_edges ≡ edges_left l (track_samples other_tree u) → (i j number : ℕ)
-    → each_differ (pair_differences by.leaving by.track by.keys.items by.left by.left_edges file by.right by.right_edges other) number (drop i (track_samples tree t)) (drop j (track_samples other_tree u))
+    → HasReductions (track_reduction l tree t) (track_reduction l other_tree u) by → (i j number : ℕ)
+    → each_differ (pair_differences by file other) number (drop i (track_samples tree t)) (drop j (track_samples other_tree u))
     ≡ each_differ (sample_differences (k + 1)) number (drop i (reduce_samples l (track_of file (file_parts tree) t).samples)) (drop j (reduce_samples l (track_of other (file_parts other_tree) u).samples))
-differ_behind l k by file other m n tree other_tree t u info other_info h o p at bt it jt left_is right_is i j number =
-    let el = own_keys file m tree t k info o at it in
-    let er = own_keys other n other_tree u k other_info p bt jt in
+differ_behind l k by file other m n tree other_tree t u info other_info h o p at bt it jt are i j number =
+    let el = ap keys_seen h.left_keys ∙ own_keys file m tree t k info o at it in
+    let er = ap keys_seen h.right_keys ∙ own_keys other n other_tree u k other_info p bt jt in
     let joined : map key_seen by.keys.items ≡ (if l.groups then [] else fold with_key [] (track_keys tree t ++ track_keys other_tree u)) =
-    h.all_keys ∙ (λ x. if l.groups then [] else fold with_key [] (el x ++ er x)) in
+    h.all_keys ∙ (λ x. if l.groups then [] else fold with_key [] (own_keys file m tree t k info o at it x ++ own_keys other n other_tree u k other_info p bt jt x)) in
     let placed = placed_of (file_parts tree) t in
     let others = placed_of (file_parts other_tree) u in
     let xs = timed_behind (track_keys tree t) i 0 (track_of file (file_parts tree) t).start placed in
     let ys = timed_behind (track_keys other_tree u) j 0 (track_of other (file_parts other_tree) u).start others in
-    let le = by.left_edges in
-    let re = by.right_edges in
-    let first = reduced_by_edges l le file (track_keys tree t) 0 _ placed left_is in
-    let second = reduced_by_edges l re other (track_keys other_tree u) 0 _ others right_is in
-    (λ x. each_differ (pair_differences (h.left_out x) (h.number x) by.keys.items (h.left_keys x) le file (h.right_keys x) re other) number (xs.1 x) (ys.1 x))
-    ∙ all_samples l (k + 1) by.keys.items info.keys other_info.keys le re (track_keys tree t) (track_keys other_tree u) file other el er joined number (0 + i) (0 + j) xs.0 ys.0 (drop i placed) (drop j others)
+    let r = by.left_reduction in
+    let q = by.right_reduction in
+    let first = reduced_by l r file (track_keys tree t) 0 _ placed are.left_by in
+    let second = reduced_by l q other (track_keys other_tree u) 0 _ others are.right_by in
+    let first_by = ap (λ (x : Reduction). x.leaving) are.left_by ∙ left_by l (track_samples tree t) in
+    let second_by = ap (λ (x : Reduction). x.leaving) are.right_by ∙ left_by l (track_samples other_tree u) in
+    (λ x. each_differ (pair_differences by file other) number (xs.1 x) (ys.1 x))
+    ∙ all_samples by l (track_keys tree t) (track_keys other_tree u) file other el er joined first_by second_by number (0 + i) (0 + j) xs.0 ys.0 (drop i placed) (drop j others)
     (each_dropped (IsSampleOf file (track_keys tree t)) i placed (opened_samples file m tree t k o at)) (each_dropped (IsSampleOf other (track_keys other_tree u)) j others (opened_samples other n other_tree u k p bt))
-    ∙ (λ x. each_differ (sample_differences (k + 1)) number (reduce_from l le.samples le.first_offset (0 + i) (sym (drop-map (sample_of file) i placed) x)) (reduce_from l re.samples re.first_offset (0 + j) (sym (drop-map (sample_of other) j others) x)))
-    ∙ (λ x. each_differ (sample_differences (k + 1)) number (reduced_behind l le.samples le.first_offset i 0 (map (sample_of file) placed) x) (reduced_behind l re.samples re.first_offset j 0 (map (sample_of other) others) x))
+    ∙ (λ x. each_differ (sample_differences (h.number x)) number (reduce_from r.leaving r.samples r.offset (0 + i) (sym (drop-map (sample_of file) i placed) x)) (reduce_from q.leaving q.samples q.offset (0 + j) (sym (drop-map (sample_of other) j others) x)))
+    ∙ (λ x. each_differ (sample_differences (k + 1)) number (reduced_behind r.leaving r.samples r.offset i 0 (map (sample_of file) placed) x) (reduced_behind q.leaving q.samples q.offset j 0 (map (sample_of other) others) x))
     ∙ (λ x. each_differ (sample_differences (k + 1)) number (drop i (first x)) (drop j (second x)))
 
 -- ---- times

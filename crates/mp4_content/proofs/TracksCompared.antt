@@ -8,7 +8,7 @@ use Rattle.mp4_tables.specs.declared.sample.SampleAt.{SampleAt}
 use Rattle.mp4_head.specs.format.Tree.{TrackTree}
 use Rattle.mp4_content.specs.format.Differences.{each_differ}
 use Rattle.mp4_present.specs.format.Denotes.{FileTree}
-use Rattle.mp4_content.specs.words.Compared.{IsPairingOf, BothTakeOn, LieIn, TakesFront, samples_differ}
+use Rattle.mp4_content.specs.words.Compared.{BothTakeOn, LieIn, TakesFront}
 use Rattle.mp4_content.specs.words.Differing.{pair_differences}
 use Rattle.mp4_present.specs.words.Joined.{IsBelow}
 use Rattle.mp4_present.specs.words.Movies.{MovieSeen}
@@ -18,7 +18,6 @@ use Rattle.mp4_content.specs.words.SamePairs.{PassesSame}
 use Rattle.mp4_present.specs.words.SamplesComing.{Comes, track_samples}
 use Rattle.mp4_content.specs.words.TwoStores.{HaveBegun}
 use Rattle.mp4_present.specs.words.WalkSteps.{MayTake, walk_steps}
-use Rattle.mp4_content.specs.words.TrackEdges.{edges_left}
 use Rattle.mp4_content.specs.words.Windows.{Shows}
 use Rattle.mp4_content.specs.declared.comparing.pairing.Pairing.{Pairing}
 use Rattle.mp4_content.specs.declared.comparing.samples.Side.{Side}
@@ -27,9 +26,8 @@ use Rattle.mp4_content.specs.declared.without.Without.{Without}
 use Rattle.mp4_present.specs.declared.track_info.TrackInfo.{TrackInfo}
 use Rattle.mp4_present.specs.declared.walking.Walk.{Walk}
 use Rattle.mp4_content.proofs.Differing.{each_ends, one_ends}
+use Rattle.mp4_content.proofs.MeasuredTracks.{count_is}
 use Rattle.mp4_content.proofs.PairsPassed.{same_skipped}
-use Rattle.mp4_content.proofs.TrackEdges.{count_is}
-use Rattle.mp4_content.proofs.SamplesDiffer.{tracks_differ}
 use Rattle.mp4_present.proofs.WalkCopied.{track_lies}
 
 -- ---- a list of which the first entries were taken
@@ -97,13 +95,13 @@ rest_lies file m tree t k place info o at there lt =
 pub record PairsGo (by : Pairing) (file : List ℕ) (tree : FileTree) (t : TrackTree) (m : MovieSeen) (other : List ℕ) (other_tree : FileTree) (u : TrackTree) (n : MovieSeen) (k : ℕ) (w v : Walk) (before now : List Difference) (old new : ℕ) : Type 0 where
   pub comes : Comes file tree t m w (drop k (track_samples tree t))
   pub comes_right : Comes other other_tree u n v (drop k (track_samples other_tree u))
-  pub grows : GrowsTo before now (each_differ (pair_differences by.leaving by.track by.keys.items by.left by.left_edges file by.right by.right_edges other) 1 (track_samples tree t) (track_samples other_tree u))
-      (each_differ (pair_differences by.leaving by.track by.keys.items by.left by.left_edges file by.right by.right_edges other) (k + 1) (drop k (track_samples tree t)) (drop k (track_samples other_tree u)))
+  pub grows : GrowsTo before now (each_differ (pair_differences by file other) 1 (track_samples tree t) (track_samples other_tree u))
+      (each_differ (pair_differences by file other) (k + 1) (drop k (track_samples tree t)) (drop k (track_samples other_tree u)))
   pub takes : BothTakeOn file tree t w other other_tree u v (walk_steps tree t + walk_steps other_tree u) old new
 
 module _ (by : Pairing) (file : List ℕ) (tree : FileTree) (t : TrackTree) (m : MovieSeen) (other : List ℕ) (other_tree : FileTree) (u : TrackTree) (n : MovieSeen) (before : List Difference) (old : ℕ) where
   abbrev one : ℕ → SampleAt → SampleAt → List Difference
-  one = pair_differences by.leaving by.track by.keys.items by.left by.left_edges file by.right by.right_edges other
+  one = pair_differences by file other
 
   abbrev GoOn : ℕ → Walk → Walk → List Difference → ℕ → Type 0
   GoOn k w v now new = PairsGo by file tree t m other other_tree u n k w v before now old new
@@ -192,15 +190,6 @@ module _ (by : Pairing) (file : List ℕ) (tree : FileTree) (t : TrackTree) (m :
   -- all were compared
   pub pairs_all : (k : ℕ) (w v : Walk) (now : List Difference) (new : ℕ) → GoOn k w v now new → min (length (track_samples tree t)) (length (track_samples other_tree u)) ≤ k → now ≡ before ++ each_differ one 1 (track_samples tree t) (track_samples other_tree u)
   pairs_all k w v now new h le = grows_all before now _ _ h.grows (each_over one k (track_samples tree t) (track_samples other_tree u) le)
-
--- what differs between the samples is what differs between those of the presentations
-pub pairs_are : (l : Without) (k : ℕ) (by : Pairing) (file other : List ℕ) (m n : MovieSeen) (tree other_tree : FileTree) (t u : TrackTree) (info other_info : TrackInfo) → IsPairingOf l k info other_info by → IsOpenedAs file m tree → IsOpenedAs other n other_tree
-    → slice_get tree.movie.tracks k ≡ Some t → slice_get other_tree.movie.tracks k ≡ Some u → slice_get m.tracks k ≡ Some info → slice_get n.tracks k ≡ Some other_info
-    → by.left_edges ≡ edges_left l (track_samples tree t) → by.right_edges ≡ edges_left l (track_samples other_tree u)
-    → each_differ (pair_differences by.leaving by.track by.keys.items by.left by.left_edges file by.right by.right_edges other) 1 (track_samples tree t) (track_samples other_tree u) ≡ samples_differ l (k + 1) file tree t other other_tree u
-pairs_are l k by file other m n tree other_tree t u info other_info h o p at bt it jt first second =
-    (λ i. each_differ (pair_differences (h.left_out i) (h.number i) by.keys.items (h.left_keys i) by.left_edges file (h.right_keys i) by.right_edges other) 1 (track_samples tree t) (track_samples other_tree u))
-    ∙ tracks_differ l (k + 1) k by.keys.items by.left_edges by.right_edges file other m n tree other_tree t u info other_info h.all_keys o p at bt it jt first second
 
 -- a bound of two numbers
 pub min_over : (m n a b k : ℕ) → m ≡ a → n ≡ b → min m n ≤ k → min a b ≤ k

@@ -13,5 +13,4 @@ pub mod Measuring
 pub mod PayloadsLeft
 pub mod SamePairs
 pub mod TakenSamples
-pub mod TrackEdges
 pub mod TwoStores

@@ -14,7 +14,8 @@
 //! - [`Reduced`] hands out what is left of samples, one after the other; [`reduced_sample`] is that
 //!   of one. [`head_left`] is what is left of a head, [`payloads_left`] that of its payloads, in
 //!   memory of their own.
-//! - [`edges_of`] says where a track begins and ends; [`peek_sample`] looks at the next sample.
+//! - [`reduction_of`] says what samples of a track are left by; [`peek_sample`] looks at the next
+//!   sample.
 //!
 //! A comparison holds two windows of at most 65,536 bytes, a walk over a track of each file, and
 //! what is left of both heads. A content holds some 64 bytes a track.
@@ -55,7 +56,6 @@ pub mod comparing_laws;
 pub mod complete_laws;
 mod content;
 pub mod covering_laws;
-mod edges;
 mod file_window;
 pub mod lead_ins_laws;
 mod measures;
@@ -73,7 +73,7 @@ pub use comparing::differences::{Difference, Differences, Entries, Field, Part, 
 pub use comparing::movies::Movies;
 pub use comparing::{compare, compare_all, compare_listed};
 pub use content::{Content, TrackLeft};
-pub use edges::{Edges, edges_of};
+pub use measures::reduction_of;
 pub use own_payloads::{BoxLeft, MediaLeft, payloads_left};
 pub use peeking::peek_sample;
 pub use reduced::{Reduced, Reduction, reduced_sample};

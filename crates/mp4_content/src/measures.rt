@@ -1,16 +1,16 @@
 //! What samples of a movie's tracks are left by, and what is left of them together.
-ghost use Rattle.std.specs.Prelude.{◌≡◌, ℕ, ◌+◌, ◌<◌, ◌≤◌, List, length, false, true, slice_get, IfOk, OnOk};
+ghost use Rattle.std.specs.Prelude.{◌≡◌, ℕ, ◌+◌, ◌<◌, ◌≤◌, List, length, false, true, IfOk, OnOk};
 ghost use Rattle.mp4_head.specs.format.Tree.{TrackTree};
 ghost use Rattle.mp4_present.specs.format.Denotes.{FileTree};
 ghost use Rattle.mp4_present.specs.words.HandCarried.{OfHand, StaysBefore};
 ghost use Rattle.mp4_present.specs.words.InHand.{left_in_hand};
 ghost use Rattle.mp4_present.specs.words.Movies.{IsWalkOf, RefusesLoad};
 ghost use Rattle.mp4_present.specs.words.OpenedMovie.{IsOpenedAs};
-ghost use Rattle.mp4_present.specs.words.SamplesComing.{track_samples};
+ghost use Rattle.mp4_present.specs.words.SamplesComing.{Comes, track_samples};
 ghost use Rattle.mp4_present.specs.words.StoresRead.{IsUnchanged, OnlyReads, Refused};
-ghost use Rattle.mp4_present.specs.words.TrackWalks.{WhereComes, WhereMayTake, WhereTrack};
+ghost use Rattle.mp4_present.specs.words.TrackWalks.{IsWalkStill, TakesSteps, WhereComes, WhereMayTake, WhereTrack};
 ghost use Rattle.mp4_present.specs.words.WalkSteps.{MayTake, TakesOn, walk_steps, walks_steps};
-ghost use Rattle.mp4_content.specs.words.ComingLess.{asks_first, reduction_by};
+ghost use Rattle.mp4_content.specs.words.ComingLess.{asks_first, reduction_of, track_reduction};
 ghost use Rattle.mp4_content.specs.words.Opened.{OverOpened};
 ghost use Rattle.mp4_content.specs.words.Measuring.{AreMeasured, is_near, measuring_steps, no_total, total_from, total_with};
 ghost use Rattle.mp4_content.specs.words.Opened.{RefusesPlan};
@@ -24,6 +24,40 @@ use mp4_store::Store;
 use mp4_tables::{SampleAt, Samples};
 use std::alloc::{AllocError, Global};
 use std::sync::ledger::Ledger;
+
+/// What samples of a track are left by, of a walk over it that stands before its first sample.
+/// Where what is left depends on that, it comes to be in hand, and the same samples come.
+pub fn reduction_of<S: Store, L: Ledger, M: Ledger>(
+    walk: &mut Walk,
+    leaving: Without,
+    movie: &Movie,
+    store: &mut S,
+    steps: &mut Steps<L, M>,
+) -> Result<Reduction, Refusal>
+    requires { IsWalkOf movie.now walk.old }
+    ensures walk { IsWalkStill movie.now walk.old walk.new result }
+    ensures store { OnlyReads S.Store store.old store.new result }
+    ensures coming { WhereComes S.Store store.old movie.now walk.old (λ file tree t samples.
+        OnOk result (Comes file tree t movie.now walk.new samples)) }
+    ensures reduction { WhereComes S.Store store.old movie.now walk.old (λ file tree t samples.
+        samples ≡ track_samples tree t
+        → IfOk result (λ reduction. reduction ≡ reduction_of leaving samples)) }
+    ensures unchanged { WhereComes S.Store store.old movie.now walk.old (λ file tree t samples.
+        IsUnchanged result) }
+    ensures grows { steps.old.passed ≤ steps.new.passed }
+    ensures work { TakesSteps S.Store store.old movie.now walk.old walk.new result
+        steps.old.passed steps.new.passed }
+    ensures refusal { Refused S.Store store.old store.new result RefusesLoad }
+    ensures looks { steps.new.looks ≡ steps.old.looks }
+{
+    if !asks_first(leaving) {
+        return Ok(Reduction::plain(leaving));
+    }
+    let track = walk.track();
+    let samples = movie.tracks()[track].samples;
+    let first = peek_sample(walk, movie, store, steps)?;
+    Ok(Reduction::by_first(leaving, samples, first))
+}
 
 /// What is left of samples of a track together: how long they last, as far as 64 bits go, and
 /// whether each composition offset fits its field.
@@ -51,9 +85,8 @@ fn is_near(offset: i64) -> bool
 fn total_with(reduction: Reduction, total: Total, sample: &SampleAt) -> Total
     ensures { result ≡ total_with reduction total sample.now }
 {
-    let leaving = reduction.leaving;
-    let duration = leaving.duration(reduction.samples, sample.number, sample.duration);
-    let offset = leaving.offset(reduction.offset, sample.cto);
+    let duration = reduction.duration(sample.number, sample.duration);
+    let offset = reduction.offset(sample.cto);
     Total {
         duration: total.duration.saturating_add(u64::from(duration)),
         is_near: total.is_near && is_near(offset),
@@ -131,8 +164,7 @@ fn measure_track<S: Store, L: Ledger, M: Ledger>(
     requires { track < length movie.now.tracks }
     ensures store { OnlyReads S.Store store.old store.new result }
     ensures measured { WhereTrack S.Store store.old movie.now track (λ file tree t.
-        IfOk result (λ found. (found.0 ≡ reduction_by leaving (length (track_samples tree t))
-        (slice_get (track_samples tree t) 0))
+        IfOk result (λ found. (found.0 ≡ track_reduction leaving tree t)
         × (found.1 ≡ total_from found.0 no_total (track_samples tree t)))) }
     ensures unchanged { WhereTrack S.Store store.old movie.now track (λ file tree t.
         IsUnchanged result) }
@@ -143,9 +175,7 @@ fn measure_track<S: Store, L: Ledger, M: Ledger>(
     ensures looks { steps.new.looks ≡ steps.old.looks }
 {
     let mut walk = movie.walk(alloc, track)?;
-    let first = peek_sample(&mut walk, movie, store, steps)?;
-    let samples = movie.tracks()[track].samples;
-    let reduction = Reduction::by_first(leaving, samples, first);
+    let reduction = reduction_of(&mut walk, leaving, movie, store, steps)?;
     let total = total_of(&mut walk, reduction, movie, store, steps)?;
     Ok((reduction, total))
 }

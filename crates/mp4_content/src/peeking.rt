@@ -1,5 +1,5 @@
 //! The next sample of a walk.
-ghost use Rattle.std.specs.Prelude.{◌≡◌, None, slice_get, IfOk, OnOk};
+ghost use Rattle.std.specs.Prelude.{◌≡◌, ◌≤◌, None, slice_get, IfOk, OnOk};
 ghost use Rattle.mp4_present.specs.words.Movies.{IsWalkOf, HasSome};
 ghost use Rattle.mp4_present.specs.words.SamplesComing.{Comes};
 ghost use Rattle.mp4_present.specs.words.StoresRead.{IsUnchanged};
@@ -32,6 +32,8 @@ pub fn peek_sample<S: Store, L: Ledger, M: Ledger>(
         (λ file tree t samples. IsUnchanged result) }
     ensures work { TakesSteps S.Store store.old movie.now walk.old walk.new result
         steps.old.passed steps.new.passed }
+    ensures mark { walk.new.mark ≡ walk.old.mark }
+    ensures grows { steps.old.passed ≤ steps.new.passed }
     ensures looks { steps.new.looks ≡ steps.old.looks }
 {
     let mut next = walk.in_hand(movie).peek();

@@ -1,7 +1,7 @@
 //! Samples of which something doesn't count.
 ghost use Rattle.std.specs.Prelude.{◌≡◌, ◌||◌, if◌then◌else◌, [], ◌∷◌};
-ghost use Rattle.mp4_content.specs.format.Reduced.{keeps_samples, sync_flag};
-ghost use Rattle.mp4_content.specs.words.ComingLess.{asks_first, begun_time, moved_time, near_offset, offset_near, plain_reduction, reduce_at, reduction_by};
+ghost use Rattle.mp4_content.specs.format.Reduced.{duration_left, keeps_samples, offset_left, sync_flag};
+ghost use Rattle.mp4_content.specs.words.ComingLess.{asks_first, begun_time, keeps_times, moved_time, near_offset, offset_near, plain_reduction, reduce_at, reduction_by};
 
 use crate::without::{Without, Word};
 use mp4_tables::{SampleAt, Samples};
@@ -61,6 +61,42 @@ impl Reduction {
         self.leaving.keeps_samples()
     }
 
+    // Whether durations and composition offsets of samples stay as they are.
+    pub(crate) fn keeps_times(self) -> bool
+        ensures { result ≡ keeps_times self.leaving }
+    {
+        let leaving = self.leaving;
+        !leaving.has(Word::Ends) && !leaving.has(Word::Origins) && !leaving.has(Word::Timing)
+    }
+
+    /// How long a sample lasts that has this number, from 0; 1 where timing doesn't count, or where
+    /// it is the first or the last and these don't.
+    #[inline(always)]
+    pub fn duration(self, number: u32, duration: u32) -> u32
+        ensures { result ≡ duration_left self.leaving self.samples number duration }
+    {
+        let is_at_end = number == 0 || u64::from(number) + 1 == u64::from(self.samples);
+        if self.leaving.has(Word::Timing) || (self.leaving.has(Word::Ends) && is_at_end) {
+            return 1;
+        }
+        duration
+    }
+
+    /// What is left of a composition offset, also where that doesn't fit 32 bits: less that of the
+    /// first sample where it doesn't count where tracks begin, and 0 where timing doesn't.
+    #[inline(always)]
+    pub fn offset(self, offset: i32) -> i64
+        ensures { result ≡ offset_left self.leaving self.offset offset }
+    {
+        if self.leaving.has(Word::Timing) {
+            return 0;
+        }
+        if self.leaving.has(Word::Origins) {
+            return i64::from(offset) - i64::from(self.offset);
+        }
+        i64::from(offset)
+    }
+
     // When a sample is due that is due at this time, where the track begins at 0, if it does.
     fn begun(self, time: u64) -> u64
         ensures { result ≡ begun_time self time }
@@ -102,18 +138,13 @@ impl Reduction {
     fn near(self, offset: i32) -> i32
         ensures { result ≡ offset_near self.leaving self.offset offset }
     {
-        if self.leaving.has(Word::Timing) {
-            return 0;
-        }
-        if self.leaving.has(Word::Origins) {
-            return near_offset(i64::from(offset) - i64::from(self.offset));
-        }
-        offset
+        near_offset(self.offset(offset))
     }
 
-    // What is left of the flags of a sample.
+    /// What is left of the flags of a sample: sample_is_non_sync_sample (8.8.3.1) alone, where the
+    /// others don't count.
     #[inline(always)]
-    fn flags(self, flags: u32) -> u32
+    pub fn flags(self, flags: u32) -> u32
         ensures { result ≡ (if self.leaving.flags then sync_flag flags else flags) }
     {
         if self.leaving.has(Word::Flags) {
@@ -144,6 +175,7 @@ impl Reduction {
 }
 
 // A composition offset, as far as 32 bits go.
+#[inline(always)]
 fn near_offset(offset: i64) -> i32
     ensures { result ≡ near_offset offset }
 {
@@ -162,10 +194,9 @@ fn near_offset(offset: i64) -> i32
 pub fn reduced_sample(reduction: Reduction, sample: SampleAt) -> SampleAt
     ensures { result ≡ reduce_at reduction sample }
 {
-    let leaving = reduction.leaving;
     SampleAt {
         dts: reduction.due(sample.number, sample.dts),
-        duration: leaving.duration(reduction.samples, sample.number, sample.duration),
+        duration: reduction.duration(sample.number, sample.duration),
         cto: reduction.near(sample.cto),
         flags: reduction.flags(sample.flags),
         groups: reduction.groups(sample.groups),

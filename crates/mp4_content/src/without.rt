@@ -101,11 +101,10 @@ pub struct Without {
 }
 
 impl Without {
-    ghost use Rattle.std.specs.Prelude.{◌≡◌};
-    ghost use Rattle.mp4_content.specs.format.Reduced.{duration_left, id_left, keeps_samples, offset_left, role_left, start_left, timescale_left, track_flags_left};
+    ghost use Rattle.std.specs.Prelude.{◌≡◌, if◌then◌else◌};
+    ghost use Rattle.mp4_content.specs.format.Reduced.{id_left, keeps_samples, role_left, start_left, timescale_left, track_flags_left};
     ghost use Rattle.mp4_content.specs.format.Words.{has};
     ghost use Rattle.mp4_content.specs.words.PayloadsLeft.{leaves_payloads};
-    ghost use Rattle.mp4_content.specs.words.TrackEdges.{keeps_edges};
 
     /// Nothing is left out.
     pub const NOTHING: Without = Without {
@@ -209,45 +208,11 @@ impl Without {
         }
     }
 
-    /// How long the sample of this number lasts, from 0, one of so many; 1 where timing doesn't
-    /// count, or where it is the first or the last and these don't.
-    pub fn duration(self, samples: u32, number: u32, duration: u32) -> u32
-        ensures { result ≡ duration_left self samples number duration }
-    {
-        let is_at_end = number == 0 || u64::from(number) + 1 == u64::from(samples);
-        if self.timing || (self.ends && is_at_end) {
-            return 1;
-        }
-        duration
-    }
-
-    /// A composition offset of a track whose first sample has the other one: less that where it
-    /// doesn't count where tracks begin, and 0 where timing doesn't.
-    pub fn offset(self, first: i32, offset: i32) -> i64
-        ensures { result ≡ offset_left self first offset }
-    {
-        if self.timing {
-            return 0;
-        }
-        if self.origins {
-            return i64::from(offset) - i64::from(first);
-        }
-        i64::from(offset)
-    }
-
     /// Whether samples stay as they are.
     pub fn keeps_samples(self) -> bool
         ensures { result ≡ keeps_samples self }
     {
         !self.flags && !self.groups && !self.ends && !self.origins && !self.timing
-    }
-
-    // Whether samples of one duration and one offset have these left, wherever they stand in their
-    // tracks.
-    pub(crate) fn keeps_edges(self) -> bool
-        ensures { result ≡ keeps_edges self }
-    {
-        !self.ends && !self.origins
     }
 
     // Whether payloads of media are left out, or parts of them.

@@ -9,20 +9,20 @@ use Rattle.mp4_tables.specs.format.Groups.{GroupKey}
 use Rattle.mp4_tables.specs.words.Keys.{key_place, keys_seen}
 use Rattle.mp4_tables.specs.declared.keys.Keys.{Keys}
 use Rattle.mp4_tables.specs.declared.sample.SampleAt.{SampleAt}
-use Rattle.mp4_content.specs.words.Differing.{cto_left, flags_left, index_in, lasts_left}
-use Rattle.mp4_content.specs.declared.edges.Edges.{Edges}
-use Rattle.mp4_content.specs.declared.without.Without.{Without}
+use Rattle.mp4_content.specs.words.ComingLess.{cto_left, flags_left, lasts_left}
+use Rattle.mp4_content.specs.words.Differing.{index_in}
+use Rattle.mp4_content.specs.declared.reduced.Reduction.{Reduction}
 use Rattle.mp4_plan.specs.format.Normal.{in_key_order}
 use Rattle.mp4_answers.specs.format.Text.{group_text}
 use Rattle.mp4_answers.specs.format.Texts.{hex_digits, hex_text, space, line_feed}
 use Rattle.mp4_answers.specs.declared.text.sample_texts.SampleStyle.{SampleStyle}
 
--- it tells of the samples of a track with these keys and edges, in the order of keys
-pub record IsStyle (l : Without) (keys : Keys) (edges : Edges) (style : SampleStyle) : Type 0 where
-  pub leaving : style.leaving ≡ l
-  pub edges_are : style.edges ≡ edges
+-- it tells of what this leaves of the samples of a track with these keys, in the order of keys
+pub record IsStyle (r : Reduction) (keys : Keys) (style : SampleStyle) : Type 0 where
+  pub reduction : style.reduction ≡ r
   pub keys_are : style.keys ≡ keys
-  pub order : keys_seen style.order ≡ (if l.groups then [] else in_key_order (keys_seen keys))
+  pub order : keys_seen style.order
+      ≡ (if r.leaving.groups then [] else in_key_order (keys_seen keys))
 
 -- the index at a key, where there is one
 abbrev pub index_text : GroupKey → ℕ → List ℕ
@@ -43,13 +43,13 @@ told_end style digest s = space ++ hex_text digest
 
 -- its flags, its description index and its size before that
 abbrev pub told_flags : SampleStyle → List ℕ → SampleAt → List ℕ
-told_flags style digest s = space ++ hex_digits 8 (flags_left style.leaving s.flags) ++ space
+told_flags style digest s = space ++ hex_digits 8 (flags_left style.reduction s.flags) ++ space
     ++ decimal s.description ++ space ++ decimal s.size ++ told_end style digest s
 
 -- the line of a sample whose bytes have this digest
 abbrev pub told_line : SampleStyle → List ℕ → SampleAt → List ℕ
-told_line style digest s = space ++ decimal (lasts_left style.leaving style.edges s) ++ space
-    ++ signed_decimal (cto_left style.leaving style.edges s) ++ told_flags style digest s
+told_line style digest s = space ++ decimal (lasts_left style.reduction s.number s.duration)
+    ++ space ++ signed_decimal (cto_left style.reduction s.cto) ++ told_flags style digest s
 
 -- the line of a sample of a file
 abbrev pub told_sample : SampleStyle → List ℕ → SampleAt → List ℕ

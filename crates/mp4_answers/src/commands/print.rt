@@ -29,7 +29,7 @@ use crate::text::named_lines::{number, put_all_named};
 use crate::text::sample_texts::{LONGEST, SampleStyle, write_sample};
 use crate::text::tally::say_words;
 use mp4_boxes::{Memory, Refusal, Steps};
-use mp4_content::{Without, edges_of, head_left, payloads_left};
+use mp4_content::{Without, head_left, payloads_left, reduction_of};
 use mp4_head::TrackHead;
 use mp4_present::{Movie, OutBuffer, Stretch, Walk, open_movie};
 use mp4_store::{Sink, Store};
@@ -398,8 +398,8 @@ fn put_samples<S: Store, K: Sink, L: Ledger, M: Ledger>(
     ensures looks { steps.new.looks ≡ steps.old.looks }
 {
     let movie = of.movie;
-    let edges = edges_of(walk, of.leaving, movie, store, steps)?;
-    let style = SampleStyle::new(of.leaving, keys, edges);
+    let reduction = reduction_of(walk, of.leaving, movie, store, steps)?;
+    let style = SampleStyle::new(reduction, keys);
     let of = Styled {
         movie,
         style: &style,

@@ -1,7 +1,7 @@
 //! The line of a sample in the text of a presentation.
 ghost use Rattle.std.specs.Prelude.{◌≡◌, ◌+◌, ◌<◌, ◌≤◌, ◌++◌, length, take, drop};
 ghost use Rattle.mp4_tables.specs.words.Keys.{key_place, key_seen, keys_seen};
-ghost use Rattle.mp4_content.specs.words.Differing.{cto_left, flags_left, index_in, lasts_left};
+ghost use Rattle.mp4_content.specs.words.Differing.{index_in};
 ghost use Rattle.mp4_plan.specs.format.Normal.{in_key_order, put_key};
 ghost use Rattle.mp4_answers.specs.format.Text.{group_text};
 ghost use Rattle.mp4_answers.specs.words.ToldSamples.{told_end, told_flags, told_indexes, told_line};
@@ -10,20 +10,19 @@ use crate::digests::DIGEST;
 use crate::text::digits::{write_byte, write_hex, write_short_digits};
 use crate::text::named_lines::write_signed;
 use crate::text::payload_lines::{write_bytes_in_hex, write_type};
-use mp4_content::{Edges, Without, Word};
+use mp4_content::{Reduction, Word};
 use mp4_tables::{GroupKey, Keys, SampleAt};
 
 /// At least as many bytes as a line has.
 pub(crate) const LONGEST: usize = 320;
 
-/// What of a track's samples is told: all but what is left out, as where the track begins and ends,
-/// and their groups in the order of these keys.
+/// What of a track's samples is told: what this leaves of them, and their groups in the order of
+/// these keys.
 #[derive(Clone, Copy)]
 pub(crate) struct SampleStyle {
-    leaving: Without,
+    reduction: Reduction,
     keys: Keys,
     order: Keys,
-    edges: Edges,
 }
 
 // Keys in their order, each once, and one more.
@@ -67,50 +66,23 @@ fn in_order(keys: &Keys) -> Keys
 impl SampleStyle {
     ghost use Rattle.std.specs.Prelude.{◌≡◌};
     ghost use Rattle.mp4_tables.specs.words.Keys.{key_place, key_seen, keys_seen};
-    ghost use Rattle.mp4_content.specs.words.Differing.{cto_left, flags_left, index_in, lasts_left};
+    ghost use Rattle.mp4_content.specs.words.Differing.{index_in};
     ghost use Rattle.mp4_answers.specs.words.ToldSamples.{IsStyle};
 
-    /// For a track with these edges whose samples are grouped by these keys.
-    pub(crate) fn new(leaving: Without, keys: Keys, edges: Edges) -> SampleStyle
-        ensures { IsStyle leaving keys edges result }
+    /// For a track whose samples are left by this and grouped by these keys.
+    pub(crate) fn new(reduction: Reduction, keys: Keys) -> SampleStyle
+        ensures { IsStyle reduction keys result }
     {
-        let order = if leaving.has(Word::Groups) {
+        let order = if reduction.leaving.has(Word::Groups) {
             Keys::new()
         } else {
             in_order(&keys)
         };
         SampleStyle {
-            leaving,
+            reduction,
             keys,
             order,
-            edges,
         }
-    }
-
-    // The flags that are left.
-    fn flags(&self, flags: u32) -> u32
-        ensures { result ≡ flags_left self.now.leaving flags }
-    {
-        if self.leaving.has(Word::Flags) {
-            flags / 0x1_0000 % 2 * 0x1_0000
-        } else {
-            flags
-        }
-    }
-
-    // How long a sample lasts.
-    fn duration(&self, sample: &SampleAt) -> u32
-        ensures { result ≡ lasts_left self.now.leaving self.now.edges sample.now }
-    {
-        self.leaving
-            .duration(self.edges.samples, sample.number, sample.duration)
-    }
-
-    // Its composition offset.
-    fn offset(&self, sample: &SampleAt) -> i64
-        ensures { result ≡ cto_left self.now.leaving self.now.edges sample.now }
-    {
-        self.leaving.offset(self.edges.first_offset, sample.cto)
     }
 
     // The index of a sample at a key, 0 for none.
@@ -224,7 +196,8 @@ fn write_flags(
     start = write_byte(text, start, b' ');
     start = write_short_digits(text, start, sample.description);
     start = write_byte(text, start, b' ');
-    start = write_hex(text, start, u64::from(style.flags(sample.flags)), 8);
+    let flags = style.reduction.flags(sample.flags);
+    start = write_hex(text, start, u64::from(flags), 8);
     write_byte(text, start, b' ')
 }
 
@@ -243,9 +216,10 @@ pub(crate) fn write_sample(
     ensures written { drop result text.new
         ≡ told_line style.now digest.now sample.now ++ drop end text.old }
 {
+    let duration = style.reduction.duration(sample.number, sample.duration);
     let mut start = write_flags(text, end, style, sample, digest);
-    start = write_signed(text, start, style.offset(sample));
+    start = write_signed(text, start, style.reduction.offset(sample.cto));
     start = write_byte(text, start, b' ');
-    start = write_short_digits(text, start, style.duration(sample));
+    start = write_short_digits(text, start, duration);
     write_byte(text, start, b' ')
 }

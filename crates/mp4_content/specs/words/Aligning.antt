@@ -70,8 +70,8 @@ TracksWorkTwice S a m T b n place old new = WhereTracks S a m T b n place (λ tr
 -- what differs of two lists from a place on
 abbrev pub differ_from : Pairing → List ℕ → List SampleAt → List ℕ → List SampleAt → ℕ
     → List Difference
-differ_from by file xs other ys k = each_differ (pair_differences by.leaving by.track by.keys.items
-    by.left by.left_edges file by.right by.right_edges other) (k + 1) (drop k xs) (drop k ys)
+differ_from by file xs other ys k =
+    each_differ (pair_differences by file other) (k + 1) (drop k xs) (drop k ys)
 
 -- Of the first pairs of two lists, so many, the last that differs is the one of this number, from
 -- 1; it is 0 where none differs.

@@ -3,7 +3,7 @@ use Rattle.std.specs.Prelude.{◌≡◌, ℕ, ◌+◌, ◌-◌, ◌^◌, ◌==�
 use Rattle.mp4_head.specs.format.Tree.{TrackTree}
 use Rattle.mp4_tables.specs.declared.sample.SampleAt.{SampleAt}
 use Rattle.mp4_present.specs.format.Denotes.{FileTree}
-use Rattle.mp4_content.specs.format.Reduced.{duration_left, sync_flag}
+use Rattle.mp4_content.specs.format.Reduced.{duration_left, offset_left, sync_flag}
 use Rattle.mp4_present.specs.words.Movies.{MovieSeen}
 use Rattle.mp4_present.specs.words.SamplesComing.{Comes, track_samples}
 use Rattle.mp4_content.specs.declared.without.Without.{Without}
@@ -46,6 +46,22 @@ reductions_of l tree = map (track_reduction l tree) tree.movie.tracks
 
 -- ---- samples
 
+-- durations and composition offsets of samples stay as they are
+abbrev pub keeps_times : Without → Bool
+keeps_times l = not l.ends && not l.origins && not l.timing
+
+-- what is left of how long the sample of this number lasts
+abbrev pub lasts_left : Reduction → ℕ → ℕ → ℕ
+lasts_left r n duration = duration_left r.leaving r.samples n duration
+
+-- of its composition offset
+abbrev pub cto_left : Reduction → ℤ → ℤ
+cto_left r cto = offset_left r.leaving r.offset cto
+
+-- and of its flags
+abbrev pub flags_left : Reduction → ℕ → ℕ
+flags_left r flags = if r.leaving.flags then sync_flag flags else flags
+
 -- as far as 32 bits go
 abbrev pub near_offset : ℤ → ℤ
 near_offset (pos n) = pos (min n (2 ^ 31 - 1))
@@ -70,9 +86,9 @@ moved_time r n time = if r.leaving.ends && not (n == 0)
 abbrev pub reduce_at : Reduction → SampleAt → SampleAt
 reduce_at r s = record s {
   dts = if r.leaving.timing then s.number else moved_time r s.number s.dts;
-  duration = duration_left r.leaving r.samples s.number s.duration;
+  duration = lasts_left r s.number s.duration;
   cto = offset_near r.leaving r.offset s.cto;
-  flags = if r.leaving.flags then sync_flag s.flags else s.flags;
+  flags = flags_left r s.flags;
   groups = if r.leaving.groups then 0 ∷ 0 ∷ 0 ∷ 0 ∷ [] else s.groups;
 }
 

@@ -24,7 +24,7 @@ use Rattle.mp4_store.specs.declared.store.Store.{Ghosts as Store}
 use Rattle.mp4_content.specs.declared.comparing.pairing.Pairing.{Pairing}
 use Rattle.mp4_content.specs.declared.comparing.samples.Side.{Side}
 use Rattle.mp4_content.specs.declared.comparing.differences.Difference.{Difference}
-use Rattle.mp4_content.specs.declared.edges.Edges.{Edges}
+use Rattle.mp4_content.specs.declared.reduced.Reduction.{Reduction}
 use Rattle.mp4_content.specs.declared.without.Without.{Without}
 use Rattle.mp4_present.specs.declared.track_info.TrackInfo.{TrackInfo}
 use Rattle.mp4_present.specs.declared.walking.Walk.{Walk}
@@ -40,7 +40,6 @@ WhereBothOpened honest file m honest_right file_right n P = IsTrue honest → Is
 -- the keys of both in their order.
 pub record IsPairingOf (leaving : Without) (track : ℕ) (info other : TrackInfo) (by : Pairing)
     : Type 0 where
-  pub left_out : by.leaving ≡ leaving
   pub number : by.track ≡ track + 1
   pub left_keys : by.left ≡ info.keys
   pub right_keys : by.right ≡ other.keys
@@ -52,10 +51,10 @@ abbrev pub IsPairingAt : Without → ℕ → MovieSeen → MovieSeen → Pairing
 IsPairingAt leaving track m n by = (info other : TrackInfo) → slice_get m.tracks track ≡ Some info
     → slice_get n.tracks track ≡ Some other → IsPairingOf leaving track info other by
 
--- the two tracks have these edges
-pub record HasEdges (edges others : Edges) (by : Pairing) : Type 0 where
-  pub left : by.left_edges ≡ edges
-  pub right : by.right_edges ≡ others
+-- the samples of the two tracks are left by these
+pub record HasReductions (left right : Reduction) (by : Pairing) : Type 0 where
+  pub left_by : by.left_reduction ≡ left
+  pub right_by : by.right_reduction ≡ right
 
 -- there is a sample, and all of them lie in the file
 abbrev pub LieIn : List ℕ → List SampleAt → Type 0
@@ -192,8 +191,7 @@ abbrev pub PairTaken : Pairing → ℕ → List ℕ → FileTree → TrackTree �
     → List Difference → Type 0
 PairTaken by number file tree t m left xs file_right other u n right ys found = (x y : SampleAt)
     × TakesFirst file tree t m left.walk xs x × TakesFirst file_right other u n right.walk ys y
-    × (found ≡ pair_differences by.leaving by.track by.keys.items by.left by.left_edges file
-    by.right by.right_edges file_right number x y)
+    × (found ≡ pair_differences by file file_right number x y)
 
 -- At Ok the first samples of both were taken, and what is answered are their differences.
 abbrev pub PairFound : {X Y V E : Type 0} → Pairing → ℕ → Store X → X → MovieSeen → Side → Side

@@ -1,5 +1,5 @@
 -- What two presentations don't have in common.
-use Rattle.std.specs.Prelude.{◌⊎◌, ℕ, Bool, true, false, if◌then◌else◌, List, [], ◌∷◌, ◌++◌, flat_map, slice_index, Option, None, Some, ℤ, Result, IfErr}
+use Rattle.std.specs.Prelude.{◌⊎◌, ℕ, Bool, true, false, List, [], ◌∷◌, ◌++◌, flat_map, slice_index, Option, None, Some, Result, IfErr}
 use Rattle.mp4_boxes.specs.declared.refusal.Refusal.{Refusal}
 use Rattle.mp4_boxes.specs.declared.refusal.Refusal.TheVariants as refusals
 use Rattle.mp4_tables.specs.words.Keys.{key_seen, keys_seen, key_place}
@@ -7,9 +7,9 @@ use Rattle.mp4_tables.specs.declared.keys.GroupKey.{GroupKey}
 use Rattle.mp4_tables.specs.declared.keys.Keys.{Keys}
 use Rattle.mp4_tables.specs.declared.sample.SampleAt.{SampleAt}
 use Rattle.mp4_content.specs.format.Differences.{differ, numbers_differ, signed, bytes_differ, each_differ}
-use Rattle.mp4_content.specs.format.Reduced.{duration_left, offset_left, sync_flag}
-use Rattle.mp4_content.specs.declared.edges.Edges.{Edges}
-use Rattle.mp4_content.specs.declared.without.Without.{Without}
+use Rattle.mp4_content.specs.words.ComingLess.{cto_left, flags_left, lasts_left}
+use Rattle.mp4_content.specs.declared.comparing.pairing.Pairing.{Pairing}
+use Rattle.mp4_content.specs.declared.reduced.Reduction.{Reduction}
 use Rattle.mp4_head.specs.format.Head.{Edit, Media, TrackHead, MovieHead}
 use Rattle.mp4_content.specs.declared.comparing.entries.Spot.{Spot}
 use Rattle.mp4_content.specs.declared.comparing.differences.Entries.{Entries}
@@ -110,22 +110,11 @@ index_in (Some place) groups = slice_index groups place
 abbrev pub index_of : Keys → SampleAt → GroupKey → ℕ
 index_of keys s key = index_in (key_place (key_seen key) (keys_seen keys)) s.groups
 
-abbrev pub flags_left : Without → ℕ → ℕ
-flags_left l flags = if l.flags then sync_flag flags else flags
-
--- what is left of how long a sample lasts, of a track with these edges
-abbrev pub lasts_left : Without → Edges → SampleAt → ℕ
-lasts_left l edges s = duration_left l edges.samples s.number s.duration
-
--- and of its composition offset
-abbrev pub cto_left : Without → Edges → SampleAt → ℤ
-cto_left l edges s = offset_left l edges.first_offset s.cto
-
--- what a sample of a track with these edges says before its indexes
-abbrev pub sample_values : Without → Edges → SampleAt → List (Field × Value)
-sample_values l edges s = (fields.Duration, Number (lasts_left l edges s))
-    ∷ (fields.Offset, Signed (cto_left l edges s))
-    ∷ (fields.Flags, Number (flags_left l s.flags))
+-- what is left by this of what a sample says before its indexes
+abbrev pub sample_values : Reduction → SampleAt → List (Field × Value)
+sample_values r s = (fields.Duration, Number (lasts_left r s.number s.duration))
+    ∷ (fields.Offset, Signed (cto_left r s.cto))
+    ∷ (fields.Flags, Number (flags_left r s.flags))
     ∷ (fields.Description, Number s.description) ∷ []
 
 -- what differs of the indexes at these keys
@@ -135,16 +124,17 @@ group_differences of keys left_keys a right_keys b = flat_map (λ (key : GroupKe
     numbers_differ of (fields.Group key) (index_of left_keys a key) (index_of right_keys b key))
     keys
 
--- what differs between two samples apart from their bytes, at these keys; each is of a track with
--- the keys and the edges before it
-abbrev pub differences_at : Without → Subject → List GroupKey → Keys → Edges → SampleAt → Keys
-    → Edges → SampleAt → List Difference
-differences_at l of keys left_keys left_edges a right_keys right_edges b =
-    numbers_differ of fields.Duration (lasts_left l left_edges a) (lasts_left l right_edges b)
-    ++ signed of fields.Offset (cto_left l left_edges a) (cto_left l right_edges b)
-    ++ numbers_differ of fields.Flags (flags_left l a.flags) (flags_left l b.flags)
+-- what differs between two samples apart from their bytes
+abbrev pub differences_at : Pairing → Subject → SampleAt → SampleAt → List Difference
+differences_at by of a b =
+    numbers_differ of fields.Duration (lasts_left by.left_reduction a.number a.duration)
+    (lasts_left by.right_reduction b.number b.duration)
+    ++ signed of fields.Offset (cto_left by.left_reduction a.cto)
+    (cto_left by.right_reduction b.cto)
+    ++ numbers_differ of fields.Flags (flags_left by.left_reduction a.flags)
+    (flags_left by.right_reduction b.flags)
     ++ numbers_differ of fields.Description a.description b.description
-    ++ group_differences of keys left_keys a right_keys b
+    ++ group_differences of by.keys.items by.left a by.right b
     ++ numbers_differ of fields.Size a.size b.size
 
 -- the first byte that differs, of two samples of two files and of one size
@@ -153,9 +143,7 @@ sample_bytes_differ of file a other b = bytes_differ of (λ (k : ℕ). fields.By
     b.size (range file a.at a.size) (range other b.at a.size)
 
 -- what differs between two samples of two files, which have these numbers: also the first byte
-abbrev pub pair_differences : Without → ℕ → List GroupKey → Keys → Edges → List ℕ → Keys → Edges
-    → List ℕ → ℕ → SampleAt → SampleAt → List Difference
-pair_differences l track keys left_keys left_edges file right_keys right_edges other n a b =
-    differences_at l (subjects.Sample track n) keys left_keys left_edges a right_keys right_edges b
-    ++ bytes_differ (subjects.Sample track n) (λ (k : ℕ). fields.Byte k a.size) a.size b.size
+abbrev pub pair_differences : Pairing → List ℕ → List ℕ → ℕ → SampleAt → SampleAt → List Difference
+pair_differences by file other n a b = differences_at by (subjects.Sample by.track n) a b
+    ++ bytes_differ (subjects.Sample by.track n) (λ (k : ℕ). fields.Byte k a.size) a.size b.size
     (range file a.at a.size) (range other b.at a.size)

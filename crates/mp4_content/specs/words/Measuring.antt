@@ -3,13 +3,12 @@ use Rattle.std.specs.Prelude.{◌≡◌, ℕ, ◌+◌, ◌-◌, ◌^◌, ◌&&�
 use Rattle.mp4_tables.specs.declared.sample.SampleAt.{SampleAt}
 use Rattle.mp4_head.specs.format.Tree.{TrackTree}
 use Rattle.mp4_present.specs.format.Denotes.{FileTree}
-use Rattle.mp4_content.specs.format.Reduced.{duration_left, offset_left}
 use Rattle.mp4_present.specs.words.Movies.{MovieSeen}
 use Rattle.mp4_present.specs.words.SamplesComing.{track_samples}
 use Rattle.mp4_present.specs.words.WalkSteps.{walks_steps}
 use Rattle.mp4_present.specs.declared.track_info.TrackInfo.{TrackInfo}
 use Rattle.mp4_content.specs.declared.without.Without.{Without}
-use Rattle.mp4_content.specs.words.ComingLess.{asks_first, track_reduction, reductions_of}
+use Rattle.mp4_content.specs.words.ComingLess.{asks_first, cto_left, lasts_left, track_reduction, reductions_of}
 use Rattle.mp4_content.specs.declared.measures.Measures.{Measures}
 use Rattle.mp4_content.specs.declared.measures.Total.{Total}
 use Rattle.mp4_content.specs.declared.reduced.Reduction.{Reduction}
@@ -25,9 +24,8 @@ no_total = record { duration = 0; is_near = true }
 -- with one more sample
 abbrev pub total_with : Reduction → Total → SampleAt → Total
 total_with r total s = record {
-  duration = min (total.duration + duration_left r.leaving r.samples s.number s.duration)
-      (2 ^ 64 - 1);
-  is_near = total.is_near && is_near (offset_left r.leaving r.offset s.cto);
+  duration = min (total.duration + lasts_left r s.number s.duration) (2 ^ 64 - 1);
+  is_near = total.is_near && is_near (cto_left r s.cto);
 }
 
 -- with some more

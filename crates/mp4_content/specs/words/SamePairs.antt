@@ -7,8 +7,9 @@ use Rattle.mp4_tables.specs.declared.sample.SampleAt.{SampleAt}
 use Rattle.mp4_head.specs.format.Tree.{TrackTree}
 use Rattle.mp4_present.specs.format.Denotes.{FileTree}
 use Rattle.mp4_content.specs.format.Differences.{numbers_differ}
+use Rattle.mp4_content.specs.words.ComingLess.{cto_left, lasts_left}
 use Rattle.mp4_content.specs.words.Compared.{BothTakeOn}
-use Rattle.mp4_content.specs.words.Differing.{index_in, lasts_left, cto_left, differences_at, pair_differences}
+use Rattle.mp4_content.specs.words.Differing.{index_in, differences_at, pair_differences}
 use Rattle.mp4_present.specs.words.Movies.{MovieSeen, IsWalkOf}
 use Rattle.mp4_present.specs.words.OpenedMovie.{IsOpenedAs}
 use Rattle.mp4_present.specs.words.SamplesComing.{Comes}
@@ -31,21 +32,19 @@ indexes_differ of keys left_keys a right_keys b = flat_map (λ (key : GroupKey).
 
 -- the same is left of their durations and of their composition offsets
 pub record SayTimes (by : Pairing) (x y : SampleAt) : Type 0 where
-  pub duration : lasts_left by.leaving by.left_edges x ≡ lasts_left by.leaving by.right_edges y
-  pub offset : cto_left by.leaving by.left_edges x ≡ cto_left by.leaving by.right_edges y
+  pub duration : lasts_left by.left_reduction x.number x.duration
+      ≡ lasts_left by.right_reduction y.number y.duration
+  pub offset : cto_left by.left_reduction x.cto ≡ cto_left by.right_reduction y.cto
 
 -- two samples differ in nothing but their bytes, whatever their number
 pub record SaySame (by : Pairing) (x y : SampleAt) : Type 0 where
-  pub none : (of : Subject)
-      → differences_at by.leaving of by.keys.items by.left by.left_edges x by.right by.right_edges y
-      ≡ []
+  pub none : (of : Subject) → differences_at by of x y ≡ []
   pub size : x.size ≡ y.size
 
 -- nothing differs between two samples of files that these windows show, whatever their number
 abbrev pub IsSamePair : Pairing → FileWindow → FileWindow → SampleAt → SampleAt → Type 0
 IsSamePair by w v x y = (file other : List ℕ) (number : ℕ) → Shows file w → Shows other v
-    → pair_differences by.leaving by.track by.keys.items by.left by.left_edges file by.right
-    by.right_edges other number x y ≡ []
+    → pair_differences by file other number x y ≡ []
 
 -- both lists have so many samples in front, and pair by pair nothing differs between these
 abbrev pub BeginSame : Pairing → FileWindow → FileWindow → ℕ → List SampleAt → List SampleAt

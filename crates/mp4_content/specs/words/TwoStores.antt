@@ -4,12 +4,12 @@ use Rattle.std.specs.Prelude.{◌≡◌, ℕ, ◌+◌, ◌≤◌, List, ◌++◌
 use Rattle.mp4_store.specs.declared.store.Store.{Ghosts as Store}
 use Rattle.mp4_head.specs.format.Tree.{TrackTree}
 use Rattle.mp4_present.specs.format.Denotes.{FileTree}
-use Rattle.mp4_content.specs.words.Compared.{BothTakeOn, HasEdges, StandsIn, TakesFront, WhereTrackOf}
+use Rattle.mp4_content.specs.words.ComingLess.{track_reduction}
+use Rattle.mp4_content.specs.words.Compared.{BothTakeOn, HasReductions, StandsIn, TakesFront, WhereTrackOf}
 use Rattle.mp4_present.specs.words.Movies.{MovieSeen, IsWalkOf}
 use Rattle.mp4_present.specs.words.StoresRead.{OnlyReads}
 use Rattle.mp4_present.specs.words.SamplesComing.{Comes, track_samples}
 use Rattle.mp4_present.specs.words.WalkSteps.{MayTake, walk_steps}
-use Rattle.mp4_content.specs.words.TrackEdges.{edges_left}
 use Rattle.mp4_content.specs.words.Windows.{Shows}
 use Rattle.mp4_content.specs.declared.comparing.pairing.Pairing.{Pairing}
 use Rattle.mp4_present.specs.declared.walking.Walk.{Walk}
@@ -40,13 +40,12 @@ pub record Begins (m : MovieSeen) (track : ℕ) (side : Side) : Type 0 where
       (n : ℕ) × MayTake file tree t side.walk n × (n ≤ walk_steps tree t))
   pub shows : (file : List ℕ) → Shows file side.window
 
--- Two tracks are compared by what is left of their edges, both walks stand before the first
+-- Two tracks are compared by what their samples are left by, both walks stand before the first
 -- samples, and some of the steps that they may take were taken.
 pub record HaveBegun (l : Without) (by : Pairing) (file : List ℕ) (tree : FileTree) (t : TrackTree)
     (m : MovieSeen) (w : Walk) (file_right : List ℕ) (other : FileTree) (u : TrackTree)
     (n : MovieSeen) (v : Walk) (old new : ℕ) : Type 0 where
-  pub edges : HasEdges (edges_left l (track_samples tree t)) (edges_left l (track_samples other u))
-      by
+  pub reductions : HasReductions (track_reduction l tree t) (track_reduction l other u) by
   pub comes : Comes file tree t m w (track_samples tree t)
   pub comes_right : Comes file_right other u n v (track_samples other u)
   pub takes : BothTakeOn file tree t w file_right other u v (walk_steps tree t + walk_steps other u)

@@ -1,11 +1,11 @@
 //! What samples of two tracks are compared by.
-ghost use Rattle.std.specs.Prelude.{◌≡◌, ◌++◌, [], map, fold, if◌then◌else◌, IfOk, OnOk};
+ghost use Rattle.std.specs.Prelude.{◌≡◌, ◌++◌, ◌&&◌, [], map, fold, if◌then◌else◌, IfOk, OnOk};
 ghost use Rattle.mp4_tables.specs.words.Keys.{key_seen, keys_seen};
 ghost use Rattle.mp4_content.specs.format.Comparison.{with_key};
-ghost use Rattle.mp4_content.specs.words.TrackEdges.{keeps_edges};
+ghost use Rattle.mp4_content.specs.words.ComingLess.{keeps_times};
 
 use crate::comparing::tracks::Tracks;
-use crate::edges::Edges;
+use crate::reduced::Reduction;
 use crate::without::{Without, Word};
 use mp4_boxes::Memory;
 use mp4_tables::{GroupKey, Keys};
@@ -60,37 +60,37 @@ fn joint_keys(
     Ok(keys)
 }
 
-// What samples of two tracks are compared by: what is left out, the number of the tracks, the keys
-// and the edges of each, and the keys of both in their order.
+// What samples of two tracks are compared by: the number of the tracks, the keys of each and what
+// its samples are left by, and the keys of both in their order.
 #[derive(Drop)]
 pub(crate) struct Pairing {
-    pub(crate) leaving: Without,
-    // Whether samples of one duration and one offset have these left.
+    // Whether durations and composition offsets of samples stay as they are.
     pub(crate) is_plain: bool,
     pub(crate) track: u64,
     pub(crate) left: Keys,
     pub(crate) right: Keys,
-    pub(crate) left_edges: Edges,
-    pub(crate) right_edges: Edges,
+    pub(crate) left_reduction: Reduction,
+    pub(crate) right_reduction: Reduction,
     pub(crate) keys: Vec<GroupKey>,
-    ghost plain: { is_plain ≡ keeps_edges leaving },
+    ghost plain: { is_plain ≡ keeps_times left_reduction.leaving
+        && keeps_times right_reduction.leaving },
 }
 
 impl Pairing {
     ghost use Rattle.std.specs.Prelude.{◌≡◌, IfOk};
-    ghost use Rattle.mp4_content.specs.words.Compared.{HasEdges, HaveTracks, IsPairingAt};
+    ghost use Rattle.mp4_content.specs.words.Compared.{HasReductions, HaveTracks, IsPairingAt};
 
-    // Of two tracks with these edges.
+    // Of two tracks whose samples are left by these.
     pub(crate) fn new(
         alloc: Global,
         tracks: Tracks,
-        left_edges: Edges,
-        right_edges: Edges,
+        left: Reduction,
+        right: Reduction,
     ) -> Result<Pairing, Memory>
         requires { HaveTracks tracks.place tracks.movies.now.left tracks.movies.now.right }
         ensures pairing { IfOk result (IsPairingAt tracks.entry.leaving tracks.entry.place
             tracks.entry.movies.now.left tracks.entry.movies.now.right) }
-        ensures edges { IfOk result (HasEdges left_edges right_edges) }
+        ensures reductions { IfOk result (HasReductions left right) }
     {
         let Tracks {
             movies,
@@ -102,13 +102,12 @@ impl Pairing {
         let other = movies.right.tracks()[place];
         let keys = joint_keys(alloc, leaving, &info.keys, &other.keys)?;
         Ok(Pairing {
-            leaving,
-            is_plain: leaving.keeps_edges(),
+            is_plain: left.keeps_times() && right.keeps_times(),
             track: place as u64 + 1,
             left: info.keys,
             right: other.keys,
-            left_edges,
-            right_edges,
+            left_reduction: left,
+            right_reduction: right,
             keys,
         })
     }

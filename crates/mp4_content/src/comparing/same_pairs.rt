@@ -1,7 +1,7 @@
 //! Pairs of samples that are the same, passed where both are in hand and the windows show their
 //! bytes.
 ghost use Rattle.std.specs.Prelude.{◌≡◌, ◌<◌, ◌≤◌, [], drop, IsTrue};
-ghost use Rattle.mp4_content.specs.format.Reduced.{duration_left, offset_left};
+ghost use Rattle.mp4_content.specs.words.ComingLess.{cto_left, lasts_left};
 ghost use Rattle.mp4_present.specs.words.InHand.{left_in_hand, Follows};
 ghost use Rattle.mp4_present.specs.words.Movies.{IsWalkOf};
 ghost use Rattle.mp4_content.specs.words.SamePairs.{indexes_differ, BeginSame, IsSamePair, PassesSame, SaySame, SayTimes};
@@ -9,7 +9,7 @@ ghost use Rattle.mp4_content.specs.declared.comparing.differences.Subject.{Subje
 
 use crate::comparing::movies::Movies;
 use crate::comparing::pairing::Pairing;
-use crate::comparing::samples::{Sides, flags_left, index_at};
+use crate::comparing::samples::{Sides, index_at};
 use crate::file_window::FileWindow;
 use crate::without::Word;
 use mp4_boxes::Steps;
@@ -45,19 +45,16 @@ fn have_same_times_left(
     other_duration: u32,
     other_cto: i32,
 ) -> bool
-    ensures duration { IsTrue result
-        → duration_left by.now.leaving by.now.left_edges.samples number duration
-        ≡ duration_left by.now.leaving by.now.right_edges.samples other other_duration }
-    ensures offset { IsTrue result → offset_left by.now.leaving by.now.left_edges.first_offset cto
-        ≡ offset_left by.now.leaving by.now.right_edges.first_offset other_cto }
+    ensures duration { IsTrue result → lasts_left by.now.left_reduction number duration
+        ≡ lasts_left by.now.right_reduction other other_duration }
+    ensures offset { IsTrue result → cto_left by.now.left_reduction cto
+        ≡ cto_left by.now.right_reduction other_cto }
 {
-    let leaving = by.leaving;
-    let lasts = leaving.duration(by.left_edges.samples, number, duration);
-    if lasts != leaving.duration(by.right_edges.samples, other, other_duration) {
+    let lasts = by.left_reduction.duration(number, duration);
+    if lasts != by.right_reduction.duration(other, other_duration) {
         return false;
     }
-    let offset = leaving.offset(by.left_edges.first_offset, cto);
-    offset == leaving.offset(by.right_edges.first_offset, other_cto)
+    by.left_reduction.offset(cto) == by.right_reduction.offset(other_cto)
 }
 
 // Whether two samples have the same duration and the same composition offset, or these don't count,
@@ -69,7 +66,8 @@ fn have_same_times(by: &Pairing, left: &SampleAt, right: &SampleAt) -> bool
     if by.is_plain && left.duration == right.duration && left.cto == right.cto {
         return true;
     }
-    if by.leaving.has(Word::Timing) {
+    let leaving = by.left_reduction.leaving;
+    if leaving.has(Word::Timing) && by.right_reduction.leaving.has(Word::Timing) {
         return true;
     }
     have_same_times_left(
@@ -91,7 +89,7 @@ fn say_the_same(by: &Pairing, left: &SampleAt, right: &SampleAt) -> bool
     if !have_same_times(by, left, right) {
         return false;
     }
-    if flags_left(by.leaving, left.flags) != flags_left(by.leaving, right.flags) {
+    if by.left_reduction.flags(left.flags) != by.right_reduction.flags(right.flags) {
         return false;
     }
     if left.description != right.description {

@@ -2,7 +2,7 @@
 ghost use Rattle.std.specs.Prelude.{◌≡◌, ◌<◌, ◌≤◌, ◌++◌, length, IfOk, OnOk};
 ghost use Rattle.mp4_tables.specs.words.Keys.{key_place, key_seen, keys_seen};
 ghost use Rattle.mp4_content.specs.words.Compared.{BothCome, BothWork, HaveTracks, IsPairingAt, PairFound, TracksWork, WhereBothLie, WhereTracks};
-ghost use Rattle.mp4_content.specs.words.Differing.{flags_left, lasts_left, cto_left, sample_values, index_in, group_differences, differences_at, sample_bytes_differ, RefusedBoth, RefusesSample};
+ghost use Rattle.mp4_content.specs.words.Differing.{sample_values, index_in, group_differences, differences_at, sample_bytes_differ, RefusedBoth, RefusesSample};
 ghost use Rattle.mp4_present.specs.words.Joined.{IsBelow};
 ghost use Rattle.mp4_content.specs.words.TwoStores.{BothStand, HaveBegun, OnlyReadsBoth};
 ghost use Rattle.mp4_present.specs.words.StoresRead.{WhereBothHonest, IsUnchanged};
@@ -15,9 +15,9 @@ use crate::comparing::fields::{compare_numbers, compare_value, compare_values, n
 use crate::comparing::movies::Movies;
 use crate::comparing::pairing::Pairing;
 use crate::comparing::tracks::Tracks;
-use crate::edges::{Edges, edges_of};
 use crate::file_window::FileWindow;
-use crate::without::{Without, Word};
+use crate::measures::reduction_of;
+use crate::reduced::Reduction;
 use mp4_boxes::{Memory, Refusal, Steps};
 use mp4_present::{Movie, Walk};
 use mp4_store::Store;
@@ -25,40 +25,15 @@ use mp4_tables::{GroupKey, Keys, SampleAt};
 use std::alloc::Global;
 use std::sync::ledger::Ledger;
 
-// The flags of a sample; sample_is_non_sync_sample alone, where the others are left out.
-pub(crate) fn flags_left(leaving: Without, flags: u32) -> u32
-    ensures { result ≡ flags_left leaving flags }
+// What is left by this of what a sample says before its indexes.
+fn sample_values(by: Reduction, sample: &SampleAt) -> [(Field, Value); 4]
+    ensures { result ≡ sample_values by sample.now }
 {
-    if leaving.has(Word::Flags) {
-        flags / 0x1_0000 % 2 * 0x1_0000
-    } else {
-        flags
-    }
-}
-
-// What is left of how long a sample lasts, of a track with these edges.
-fn lasts_left(leaving: Without, edges: &Edges, sample: &SampleAt) -> u32
-    ensures { result ≡ lasts_left leaving edges.now sample.now }
-{
-    leaving.duration(edges.samples, sample.number, sample.duration)
-}
-
-// What is left of its composition offset.
-fn cto_left(leaving: Without, edges: &Edges, sample: &SampleAt) -> i64
-    ensures { result ≡ cto_left leaving edges.now sample.now }
-{
-    leaving.offset(edges.first_offset, sample.cto)
-}
-
-// What a sample of a track with these edges says before its indexes.
-fn sample_values(leaving: Without, edges: &Edges, sample: &SampleAt) -> [(Field, Value); 4]
-    ensures { result ≡ sample_values leaving edges.now sample.now }
-{
-    let duration = lasts_left(leaving, edges, sample);
+    let duration = by.duration(sample.number, sample.duration);
     [
         number(Field::Duration, u64::from(duration)),
-        signed(Field::Offset, cto_left(leaving, edges, sample)),
-        number(Field::Flags, u64::from(flags_left(leaving, sample.flags))),
+        signed(Field::Offset, by.offset(sample.cto)),
+        number(Field::Flags, u64::from(by.flags(sample.flags))),
         number(Field::Description, u64::from(sample.description)),
     ]
 }
@@ -101,12 +76,11 @@ fn compare_samples(
     right: &SampleAt,
     found: &mut Vec<Difference>,
 ) -> Result<(), Memory>
-    ensures { OnOk result (found.new.items ≡ found.old.items ++ differences_at by.now.leaving of
-        by.now.keys.items by.now.left by.now.left_edges left.now by.now.right by.now.right_edges
-        right.now) }
+    ensures { OnOk result (found.new.items
+        ≡ found.old.items ++ differences_at by.now of left.now right.now) }
 {
-    let values = sample_values(by.leaving, &by.left_edges, left);
-    let others = sample_values(by.leaving, &by.right_edges, right);
+    let values = sample_values(by.left_reduction, left);
+    let others = sample_values(by.right_reduction, right);
     compare_values(of, &values, &others, found)?;
     compare_groups(of, by, left, right, found)?;
     let size = u64::from(left.size);
@@ -328,10 +302,10 @@ pub(crate) fn begin_pairs<S: Store, T: Store, L: Ledger, M: Ledger>(
     let mut right_side = Side::new(alloc, &movies.right, tracks.place)?;
     let leaving = tracks.leaving;
     let walk = &mut left_side.walk;
-    let edges = edges_of(walk, leaving, &movies.left, left, steps)?;
+    let first = reduction_of(walk, leaving, &movies.left, left, steps)?;
     let walk = &mut right_side.walk;
-    let others = edges_of(walk, leaving, &movies.right, right, steps)?;
-    let by = Pairing::new(alloc, tracks, edges, others)?;
+    let second = reduction_of(walk, leaving, &movies.right, right, steps)?;
+    let by = Pairing::new(alloc, tracks, first, second)?;
     let sides = Sides {
         left: left_side,
         right: right_side,

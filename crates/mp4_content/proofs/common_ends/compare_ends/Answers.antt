@@ -109,7 +109,7 @@ returns-clause-ends g c told told_right tree other o p t u at bt counts have =
     record {
       end = ends_are c.args.tracks.leaving c.args.tracks.place c.in_ok-by.by file right_file c.args.tracks.movies.now.left c.args.tracks.movies.now.right tree other t u o p at bt c.args.counts.left c.args.counts.right c.args.front c.saturating_sub-more.result c.saturating_sub-more-2.result
           c.saturating_sub-count.result
-          c.saturating_sub-more.ensures c.saturating_sub-more-2.ensures (c.saturating_sub-count.ensures ∙ ap (λ n. n - c.args.front) c.min.ensures) counts.0 counts.1 have.0 have.1 c.requires e0.pairing begun.edges c.in_ok-last.last is;
+          c.saturating_sub-more.ensures c.saturating_sub-more-2.ensures (c.saturating_sub-count.ensures ∙ ap (λ n. n - c.args.front) c.min.ensures) counts.0 counts.1 have.0 have.1 c.requires e0.pairing begun.reductions c.in_ok-last.last is;
       time = (rw (e0.stores.left.honesty, e0.stores.left.file) at c.in_ok-time.ensures.time) told tree t (track_samples tree t) o begun.comes ∙ due_is file _ c.args.front _ 1 _ _;
       other_time = (rw (e0.stores.right.honesty, e0.stores.right.file) at c.in_ok-other_time.ensures.time) told_right other u (track_samples other u) p begun.comes_right ∙ due_is right_file _ c.args.front _ 1 _ _;
     }

@@ -6,8 +6,9 @@ use Rattle.mp4_content.specs.declared.comparing.differences.Difference.{Differen
 use Rattle.mp4_content.specs.declared.file_window.FileWindow.{FileWindow}
 use Rattle.mp4_present.proofs.TrafTaken.{at_place}
 use Rattle.mp4_content.proofs.PairsCompared.{both_most}
-use Rattle.mp4_content.proofs.TrackEdges.{count_is}
-use Rattle.mp4_content.proofs.TracksCompared.{takes_nothing, grows_front, rest_lies, pairs_first, pairs_pass, pairs_moved, pairs_next, pairs_stop, pairs_most, pairs_work, pairs_all, pairs_are, min_over}
+use Rattle.mp4_content.proofs.MeasuredTracks.{count_is}
+use Rattle.mp4_content.proofs.SamplesShifted.{differ_behind}
+use Rattle.mp4_content.proofs.TracksCompared.{takes_nothing, grows_front, rest_lies, pairs_first, pairs_pass, pairs_moved, pairs_next, pairs_stop, pairs_most, pairs_work, pairs_all, min_over}
 use Rattle.mp4_content.proofs.comparing.compare_track_samples.Goals as goal
 
 pub returns-in_err-by-clause-handed : goal.returns-in_err-by-clause-handed
@@ -101,8 +102,8 @@ returns-in_err-_same-clause-handed g c =
           let is_right : other_info ≡ slice_index_or right.tracks c.args.tracks.place other_info = search rules in
           let there = at_place left.tracks c.args.tracks.place info c.requires.tracks.left is in
           let there_right = at_place right.tracks c.args.tracks.place other_info c.requires.tracks.right is_right in
-          let begun = (c.in_ok-by.ensures.begun told told_right tree other o p t u at bt).edges in
-          let are = pairs_are c.args.tracks.leaving c.args.tracks.place by file right_file left right tree other t u info other_info (c.in_ok-by.ensures.pairing info other_info there there_right) o p at bt there there_right begun.left begun.right in
+          let begun = (c.in_ok-by.ensures.begun told told_right tree other o p t u at bt).reductions in
+          let are = differ_behind c.args.tracks.leaving c.args.tracks.place by file right_file left right tree other t u info other_info (c.in_ok-by.ensures.pairing info other_info there there_right) o p at bt there there_right begun 0 0 1 in
           subst (TakesFront before now) are (grows_front _ _ _ _ h.grows);
     }
 
@@ -240,8 +241,8 @@ returns-in_err-found-clause-handed g c =
           let is_right : other_info ≡ slice_index_or right.tracks c.args.tracks.place other_info = search rules in
           let there = at_place left.tracks c.args.tracks.place info c.requires.tracks.left is in
           let there_right = at_place right.tracks c.args.tracks.place other_info c.requires.tracks.right is_right in
-          let begun = (c.in_ok-by.ensures.begun told told_right tree other o p t u at bt).edges in
-          let are = pairs_are c.args.tracks.leaving c.args.tracks.place by file right_file left right tree other t u info other_info (c.in_ok-by.ensures.pairing info other_info there there_right) o p at bt there there_right begun.left begun.right in
+          let begun = (c.in_ok-by.ensures.begun told told_right tree other o p t u at bt).reductions in
+          let are = differ_behind c.args.tracks.leaving c.args.tracks.place by file right_file left right tree other t u info other_info (c.in_ok-by.ensures.pairing info other_info there there_right) o p at bt there there_right begun 0 0 1 in
           subst (TakesFront before now) are (grows_front _ _ _ _ h.grows);
     }
 
@@ -317,8 +318,8 @@ returns-then-not-hand_over-clause-handed g c =
           let is_right : other_info ≡ slice_index_or right.tracks c.args.tracks.place other_info = search rules in
           let there = at_place left.tracks c.args.tracks.place info c.requires.tracks.left is in
           let there_right = at_place right.tracks c.args.tracks.place other_info c.requires.tracks.right is_right in
-          let begun = (c.in_ok-by.ensures.begun told told_right tree other o p t u at bt).edges in
-          let are = pairs_are c.args.tracks.leaving c.args.tracks.place by file right_file left right tree other t u info other_info (c.in_ok-by.ensures.pairing info other_info there there_right) o p at bt there there_right begun.left begun.right in
+          let begun = (c.in_ok-by.ensures.begun told told_right tree other o p t u at bt).reductions in
+          let are = differ_behind c.args.tracks.leaving c.args.tracks.place by file right_file left right tree other t u info other_info (c.in_ok-by.ensures.pairing info other_info there there_right) o p at bt there there_right begun 0 0 1 in
           subst (TakesFront before (g.D.Differences.taken c.hand_over.new.seen)) are
           (pairs_stop by file tree t left right_file other u right before c.args.steps.now.passed number w v c.compare_pair.new.sides.left.walk c.compare_pair.new.sides.right.walk now
           (g.D.Differences.taken c.hand_over.new.seen) c.in_ok-found.found.items passed.new.steps.passed h
@@ -367,8 +368,8 @@ returns-clause-handed g c =
           let is_right : other_info ≡ slice_index_or right.tracks c.args.tracks.place other_info = search rules in
           let there = at_place left.tracks c.args.tracks.place info c.requires.tracks.left is in
           let there_right = at_place right.tracks c.args.tracks.place other_info c.requires.tracks.right is_right in
-          let begun = (c.in_ok-by.ensures.begun told told_right tree other o p t u at bt).edges in
-          let are = pairs_are c.args.tracks.leaving c.args.tracks.place by file right_file left right tree other t u info other_info (c.in_ok-by.ensures.pairing info other_info there there_right) o p at bt there there_right begun.left begun.right in
+          let begun = (c.in_ok-by.ensures.begun told told_right tree other o p t u at bt).reductions in
+          let are = differ_behind c.args.tracks.leaving c.args.tracks.place by file right_file left right tree other t u info other_info (c.in_ok-by.ensures.pairing info other_info there there_right) o p at bt there there_right begun 0 0 1 in
           let le : min info.samples other_info.samples ≤ c.loop-number.number = search rules in
           pairs_all by file tree t left right_file other u right before c.args.steps.now.passed c.loop-number.number w v now c.loop-number.steps.passed h
           (min_over info.samples other_info.samples _ _ c.loop-number.number (count_is file left tree t c.args.tracks.place info o at there) (count_is right_file right other u c.args.tracks.place other_info p bt there_right) le)
@@ -389,8 +390,8 @@ returns-clause-handed g c =
           let is_right : other_info ≡ slice_index_or right.tracks c.args.tracks.place other_info = search rules in
           let there = at_place left.tracks c.args.tracks.place info c.requires.tracks.left is in
           let there_right = at_place right.tracks c.args.tracks.place other_info c.requires.tracks.right is_right in
-          let begun = (c.in_ok-by.ensures.begun told told_right tree other o p t u at bt).edges in
-          let are = pairs_are c.args.tracks.leaving c.args.tracks.place by file right_file left right tree other t u info other_info (c.in_ok-by.ensures.pairing info other_info there there_right) o p at bt there there_right begun.left begun.right in
+          let begun = (c.in_ok-by.ensures.begun told told_right tree other o p t u at bt).reductions in
+          let are = differ_behind c.args.tracks.leaving c.args.tracks.place by file right_file left right tree other t u info other_info (c.in_ok-by.ensures.pairing info other_info there there_right) o p at bt there there_right begun 0 0 1 in
           subst (TakesFront before now) are (grows_front _ _ _ _ h.grows);
     }
 

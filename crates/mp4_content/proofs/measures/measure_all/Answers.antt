@@ -2,7 +2,7 @@ use Rattle.std.proofs.Common.{rules, ◌<◌, length, ap, ◌∙◌, arith, refl
 use Rattle.std.proofs.lemmas.Result.{err_from_is_err_and}
 use Rattle.mp4_content.specs.words.Measuring.{no_total, total_from}
 use Rattle.mp4_present.specs.words.SamplesComing.{track_samples}
-use Rattle.mp4_content.proofs.MeasuredTracks.{asked_reduction, asked_total, is_at, so_far_all, so_far_more, so_far_none, steps_more, steps_within}
+use Rattle.mp4_content.proofs.MeasuredTracks.{asked_total, is_at, so_far_all, so_far_more, so_far_none, steps_more, steps_within}
 use Rattle.mp4_content.specs.declared.reduced.Reduction.{Reduction}
 use Rattle.mp4_content.proofs.measures.measure_all.Goals as goal
 
@@ -39,10 +39,9 @@ loop-track-preserved g c =
       measured = λ asks told tree o.
           let a = is_at l file m tree o k lt in
           let found = (rw (i.honesty, i.file) at e.measured) told tree a.t o a.is_tree in
-          let by = found.0 ∙ asked_reduction l tree a.t asks in
           rw (c.in_ok-push.ensures.items, c.in_ok-push-2.ensures.items)
-          (so_far_more l file m tree o k c.loop-track.of_tracks.items c.loop-track.totals.items c.in_ok-found.found.0 c.in_ok-found.found.1 a (i.measured asks told tree o) by
-          (found.1 ∙ ap (λ (r : Reduction). total_from r no_total (track_samples tree a.t)) by ∙ asked_total l tree a.t a.info asks));
+          (so_far_more l file m tree o k c.loop-track.of_tracks.items c.loop-track.totals.items c.in_ok-found.found.0 c.in_ok-found.found.1 a (i.measured asks told tree o) found.0
+          (found.1 ∙ ap (λ (r : Reduction). total_from r no_total (track_samples tree a.t)) found.0 ∙ asked_total l tree a.t a.info asks));
       work = λ told tree o.
           let a = is_at l file m tree o k lt in
           steps_more l file m tree o k _ _ _ a (i.work told tree o) ((rw (i.honesty, i.file) at e.work) told tree a.t o a.is_tree);

@@ -1,6 +1,7 @@
 use Rattle.std.proofs.Common.{get_or, rules, List, true, ◌≡◌, ◌<◌, length, ap, sym, ◌∙◌}
 use Rattle.mp4_present.specs.declared.track_info.TrackInfo.{TrackInfo}
 use Rattle.mp4_content.proofs.AtPlaces.{read_at}
+use Rattle.mp4_present.specs.words.SamplesComing.{track_samples}
 use Rattle.mp4_content.proofs.MeasuredTracks.{counted_total, is_at, plain_is, so_far_all, so_far_more}
 use Rattle.mp4_content.specs.declared.measures.Total.{Total}
 use Rattle.mp4_content.proofs.measures.measure_at_once.Goals as goal
@@ -21,7 +22,7 @@ loop-track-preserved c =
           let lasts = ap (λ (ts : List TrackInfo). (get_or ts k c.index-tracks-track.result).duration) c.tracks-tracks.ensures ∙ ap (λ (x : TrackInfo). x.duration) (sym at ∙ info) in
           let total : ◌≡◌ {A = Total} (record { duration = (get_or c.tracks-tracks.result.now k c.index-tracks-track.result).duration; is_near = true }) (record { duration = a.info.duration; is_near = true }) = λ i. record { duration = lasts i; is_near = true } in
           rw (c.in_ok-push.ensures.items, c.in_ok-push-2.ensures.items)
-          (so_far_more l file m tree o k c.loop-track.of_tracks.items c.loop-track.totals.items _ _ a (i.measured none file tree o) (c.plain.ensures ∙ plain_is l tree a.t none) (total ∙ counted_total l tree a.t a.info none));
+          (so_far_more l file m tree o k c.loop-track.of_tracks.items c.loop-track.totals.items _ _ a (i.measured none file tree o) (c.plain.ensures ∙ plain_is l (track_samples tree a.t) none) (total ∙ counted_total l tree a.t a.info none));
     }
 
 pub returns-clause-measured : goal.returns-clause-measured

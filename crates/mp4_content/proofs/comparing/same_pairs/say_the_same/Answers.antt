@@ -14,7 +14,7 @@ returns-then-len-eq0 c same =
     let few : length by.keys.items ≤ 0 = search rules in
     let empty : by.keys.items ≡ [] = drop_all by.keys.items 0 few in
     record {
-      none = λ of. none_said by.leaving of by.keys.items by.left by.right by.left_edges by.right_edges x y times.duration times.offset (search rules) (search rules) (ap (λ (keys : List GroupKey). indexes_differ of keys by.left x.groups by.right y.groups) empty) (search rules);
+      none = λ of. none_said by of x y times.duration times.offset (search rules) (search rules) (ap (λ (keys : List GroupKey). indexes_differ of keys by.left x.groups by.right y.groups) empty) (search rules);
       size = search rules;
     }
 
@@ -25,6 +25,6 @@ returns c same =
     let y = c.args.right.now in
     let times = c.have_same_times.ensures (search rules) in
     record {
-      none = λ of. none_said by.leaving of by.keys.items by.left by.right by.left_edges by.right_edges x y times.duration times.offset (search rules) (search rules) (c.have_same_indexes.ensures same of) (search rules);
+      none = λ of. none_said by of x y times.duration times.offset (search rules) (search rules) (c.have_same_indexes.ensures same of) (search rules);
       size = search rules;
     }

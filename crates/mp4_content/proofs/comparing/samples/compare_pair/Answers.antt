@@ -58,7 +58,7 @@ returns-in_err-compare_bytes-clause-work g c told told_right tree other o p t u 
 pub returns-clause-found : goal.returns-clause-found
 returns-clause-found g c told told_right tree other o p t u xs ys hx hy =
     let by = c.args.next.by.now in
-    let samples : c.compare_samples.new.found.items ≡ differences_at by.leaving (subjects.Sample by.track c.args.next.number) by.keys.items by.left by.left_edges c.in_ok-x.x by.right by.right_edges c.in_ok-y.y =
+    let samples : c.compare_samples.new.found.items ≡ differences_at by (subjects.Sample by.track c.args.next.number) c.in_ok-x.x c.in_ok-y.y =
     rw c.new-found.ensures.items at c.in_ok-compare_samples.ensures in
     let bytes = (rw (c.in_ok-x.ensures.store.honesty, c.in_ok-x.ensures.store.file, c.in_ok-y.ensures.store.honesty, c.in_ok-y.ensures.store.file) at c.in_ok-compare_bytes.ensures.bytes) told told_right in
     let file = g.S.Store.file c.args.left.now in
