@@ -101,7 +101,7 @@ pub struct Without {
 }
 
 impl Without {
-    ghost use Rattle.std.specs.Prelude.{◌≡◌, if◌then◌else◌};
+    ghost use Rattle.std.specs.Prelude.{◌≡◌};
     ghost use Rattle.mp4_content.specs.format.Reduced.{id_left, keeps_samples, role_left, start_left, timescale_left, track_flags_left};
     ghost use Rattle.mp4_content.specs.format.Words.{has};
     ghost use Rattle.mp4_content.specs.words.PayloadsLeft.{leaves_payloads};

@@ -1,6 +1,6 @@
 -- Where a leaf, an entry or a kept box has a fault, nothing is denoted.
 use Rattle.std.proofs.Common.{◌≡◌, ℕ, Bool, true, false, List, Some, refl, sym, ap, subst, ◌∙◌, arith, inl, inr}
-use Rattle.std.specs.Prelude.{codes, bytes_eq, slice_index, ◌||◌}
+use Rattle.std.specs.Prelude.{codes, bytes_eq, slice_index}
 use Rattle.mp4_boxes.specs.format.Box.{Box}
 use Rattle.mp4_boxes.specs.format.Children.{of_kind, kept_kinds}
 use Rattle.mp4_boxes.specs.format.Layout.{Leaf, tkhd, trex, leaf_fields, IsSound}
