@@ -46,7 +46,7 @@ loop-walk-preserved g c =
           let k = i.coming told tree t samples o h in
           loads_on (g.S.Store.file c.args.store.now) c.args.movie.now tree t c.loop-walk.walk c.load.new.self samples k i.first.0 i.first.1.0 (none_left i.first.0 c.loop-walk.next i.first.1.1 is_none) c.in_ok-load.field-0 c.if-branch.true
           ((rw (i.honesty, i.file) at e.loaded) told tree t k.0 k.1 o k.3.0);
-      went = went_loaded c.args.movie.now c.args.walk.now c.loop-walk.walk _ _ i.went c.load.new.self _ e.walk.mark e.grows (e.answer.next c.if-branch.true) (e.answer.holds c.if-branch.true);
+      went = went_loaded c.args.movie.now c.args.walk.now c.loop-walk.walk _ _ i.went c.load.new.self _ e.walk.mark e.grows (e.answer.0.next c.if-branch.true) (e.answer.0.holds c.if-branch.true);
       takes = λ told. loads_before (g.S.Store.file c.args.store.now) c.args.movie.now c.args.walk.now c.loop-walk.walk _ _ (i.takes told) c.load.new.self _ ((rw (i.honesty, i.file) at e.work) told);
     }
 
@@ -61,7 +61,7 @@ returns-else-branch-clause-coming g c told tree t samples o h =
     let w = c.loop-walk.walk in
     let z = loads_none file c.args.movie.now tree t w c.load.new.self samples k i.first.0 i.first.1.0 none c.in_ok-load.field-0 c.if-branch.false ((rw (i.honesty, i.file) at e.loaded) told tree t k.0 k.1 o k.3.0) in
     let hand_is = hand_none file c.args.movie.now tree t w c.load.new.self samples k i.first.0 i.first.1.0 none in (
-      ends_none file c.args.movie.now tree t w c.load.new.self samples k i.first.0 i.first.1.0 none z ((rw (i.honesty, i.file) at e.ended) told tree t k.0 k.1 o k.3.0 k.2 k.3.1 hand_is c.if-branch.false),
+      ends_none file c.args.movie.now tree t w c.load.new.self samples k i.first.0 i.first.1.0 none z ((rw (i.honesty, i.file) at e.answer.1) told tree t k.0 k.1 o k.3.0 k.2 k.3.1 hand_is c.if-branch.false),
       is_none ∙ sym (ap (λ ss. slice_get ss 0) z),
     )
 
@@ -88,7 +88,7 @@ returns-after-loop-walk-clause-work g c told tree t n o h = c.loop-walk.invarian
 pub returns-else-branch-clause-went : goal.returns-else-branch-clause-went
 returns-else-branch-clause-went g c =
     let e = c.in_ok-load.ensures in
-    went_ended c.args.movie.now c.args.walk.now c.loop-walk.walk _ _ c.loop-walk.invariant.went c.load.new.self _ (e.answer.still c.if-branch.false) e.grows
+    went_ended c.args.movie.now c.args.walk.now c.loop-walk.walk _ _ c.loop-walk.invariant.went c.load.new.self _ (e.answer.0.still c.if-branch.false) e.grows
 
 pub returns-after-loop-walk-clause-some : goal.returns-after-loop-walk-clause-some
 returns-after-loop-walk-clause-some g c some =

@@ -105,8 +105,8 @@ loop-left-preserved g c =
           next_carried file m c.args.walk.now c.keep.new.self c.load.new.self _ _ _ c.args.load c.in_ok-left.left later c.in_ok-load.field-0 on is_hand (e.ends (search rules)) ((rw (e.devices.honesty, i.honesty, e.devices.file, i.file) at l.loaded) told) (search rules);
       went =
           let m = c.args.movie.now in
-          let more = l.answer.next (search rules) in
-          went_loaded m c.args.walk.now c.keep.new.self _ _ (went_kept m c.args.walk.now c.loop-left.walk _ _ i.went c.place-place.result c.keep.new.self _ c.keep.ensures.place c.keep.ensures.work) c.load.new.self _ l.walk.mark l.grows more (l.answer.holds (search rules));
+          let more = l.answer.0.next (search rules) in
+          went_loaded m c.args.walk.now c.keep.new.self _ _ (went_kept m c.args.walk.now c.loop-left.walk _ _ i.went c.place-place.result c.keep.new.self _ c.keep.ensures.place c.keep.ensures.work) c.load.new.self _ l.walk.mark l.grows more (l.answer.0.holds (search rules));
       takes = λ told.
           let file = g.S.Store.file c.args.store.now in
           let m = c.args.movie.now in

@@ -80,7 +80,7 @@ returns-then-not-branch-clause-counted g c told tree t samples o h =
     let empty = count_empty c.args.portion.reduction file m c.args.walk.now c.loop-sample.walk c.keep.new.self test _ c.loop-sample.count c.count_hand-hand.result.count c.count_hand-hand.result.next c.count_hand-hand.result.place (i.counts told) counted c.keep.ensures.place is_none in
     let is_hand = subst (λ w. InHandOf m w counted.later) (sym c.keep.ensures.place) counted.is_later in
     let l = c.in_ok-load.ensures in
-    none_counted c.args.portion.reduction file m c.args.walk.now c.keep.new.self c.load.new.self test _ counted.later c.in_ok-load.field-0 on is_hand empty ((rw (i.honesty, i.file) at l.loaded) told) c.if-not-branch.true ((rw (i.honesty, i.file) at l.ended) told) tree t samples o h
+    none_counted c.args.portion.reduction file m c.args.walk.now c.keep.new.self c.load.new.self test _ counted.later c.in_ok-load.field-0 on is_hand empty ((rw (i.honesty, i.file) at l.loaded) told) c.if-not-branch.true ((rw (i.honesty, i.file) at l.answer.1) told) tree t samples o h
 
 pub returns-then-not-branch-clause-work : goal.returns-then-not-branch-clause-work
 returns-then-not-branch-clause-work g c told tree t n o h =

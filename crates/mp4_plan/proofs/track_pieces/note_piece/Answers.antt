@@ -48,7 +48,7 @@ returns-then-not-branch-clause-planned g c told tree t samples o h =
     let is_hand = subst (λ w. InHandOf m w fed.later) (sym c.keep.ensures.place) fed.is_later in
     let l = c.in_ok-load-in-Empty.ensures in
     let r = none_fed c.args.portion.reduction file m c.args.walk.now c.keep.new.self c.load.new.self _ planner fed.later c.in_ok-load-in-Empty.field-0 on is_hand fed.taken.2 ((rw (i.honesty, i.file) at l.loaded) told) c.if-not-branch.true
-    ((rw (i.honesty, i.file) at l.ended) told) tree t samples o h in
+    ((rw (i.honesty, i.file) at l.answer.1) told) tree t samples o h in
     (c.piece-then-not-branch.ensures.is ∙ ap (λ (p : Planning). planned_of p.gathered) r.0, r.1)
 
 pub loop-planner-preserved : goal.loop-planner-preserved
@@ -85,8 +85,8 @@ loop-planner-preserved g c =
           c.note_hand-hand.ensures.fed;
       went =
           let m = c.args.movie.now in
-          let more = l.answer.next (search rules) in
-          went_loaded m c.args.walk.now c.keep.new.self _ _ (went_kept m c.args.walk.now c.loop-planner.walk _ _ i.went c.note_hand-hand.result.place c.keep.new.self _ c.keep.ensures.place c.keep.ensures.work) c.load.new.self _ l.walk.mark l.grows more (l.answer.holds (search rules));
+          let more = l.answer.0.next (search rules) in
+          went_loaded m c.args.walk.now c.keep.new.self _ _ (went_kept m c.args.walk.now c.loop-planner.walk _ _ i.went c.note_hand-hand.result.place c.keep.new.self _ c.keep.ensures.place c.keep.ensures.work) c.load.new.self _ l.walk.mark l.grows more (l.answer.0.holds (search rules));
       takes = λ told.
           let file = g.S.Store.file c.args.store.now in
           let m = c.args.movie.now in
@@ -193,4 +193,4 @@ pub returns-then-not-branch-clause-went : goal.returns-then-not-branch-clause-we
 returns-then-not-branch-clause-went g c =
     let m = c.args.movie.now in
     let l = c.in_ok-load-in-Empty.ensures in
-    went_ended m c.args.walk.now c.keep.new.self _ _ (went_kept m c.args.walk.now c.loop-planner.walk _ _ c.loop-planner.invariant.went c.note_hand-hand.result.place c.keep.new.self _ c.keep.ensures.place c.keep.ensures.work) c.load.new.self _ (l.answer.still (search rules)) l.grows
+    went_ended m c.args.walk.now c.keep.new.self _ _ (went_kept m c.args.walk.now c.loop-planner.walk _ _ c.loop-planner.invariant.went c.note_hand-hand.result.place c.keep.new.self _ c.keep.ensures.place c.keep.ensures.work) c.load.new.self _ (l.answer.0.still (search rules)) l.grows

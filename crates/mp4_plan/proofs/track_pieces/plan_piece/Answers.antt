@@ -42,7 +42,7 @@ returns-then-not-branch-clause-planned g c told tree t samples o h =
     let is_hand = subst (λ w. InHandOf m w fed.later) (sym c.keep.ensures.place) fed.is_later in
     let l = c.in_ok-load-in-Empty.ensures in
     let r = none_fed c.args.portion.reduction file m c.args.walk.now c.keep.new.self c.load.new.self _ planner fed.later c.in_ok-load-in-Empty.field-0 on is_hand fed.taken.2 ((rw (i.honesty, i.file) at l.loaded) told) c.if-not-branch.true
-    ((rw (i.honesty, i.file) at l.ended) told) tree t samples o h in
+    ((rw (i.honesty, i.file) at l.answer.1) told) tree t samples o h in
     (c.piece-then-not-branch.ensures.is ∙ ap (λ (p : Planning). planned_of p.gathered) r.0, r.1)
 
 pub loop-planner-preserved : goal.loop-planner-preserved
