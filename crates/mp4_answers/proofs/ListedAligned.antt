@@ -25,25 +25,26 @@ as_many true false ds e = absurd cc
 
 module _ (aligned : Bool) where
   module _ (n : ℕ) (t u : Track) where
-    -- what is listed of two tracks, with this of their samples
-    abbrev beside : List Difference → List Difference
-    beside ds = head_differences (subjects.Track n) t.head u.head ++ numbers_differ (subjects.Track n) fields.Start t.start u.start
-        ++ numbers_differ (subjects.Track n) fields.Samples (length t.samples) (length u.samples) ++ ds
+    -- what is listed of two tracks, but for their samples
+    abbrev heads : List Difference
+    heads = head_differences (subjects.Track n) t.head u.head ++ numbers_differ (subjects.Track n) fields.Start t.start u.start
 
-    counts_same : (ds : List Difference) → beside ds ≡ [] → length t.samples ≡ length u.samples
+    abbrev counts : List Difference
+    counts = numbers_differ (subjects.Track n) fields.Samples (length t.samples) (length u.samples)
+
+    counts_same : (ds : List Difference) → heads ++ counts ++ ds ≡ [] → length t.samples ≡ length u.samples
     counts_same ds e =
-        let behind = both_none (head_differences (subjects.Track n) t.head u.head) _ e in
-        let counts = both_none (numbers_differ (subjects.Track n) fields.Start t.start u.start) _ behind.1 in
-        (number_tells (subjects.Track n) fields.Samples (length t.samples) (length u.samples)).none (both_none _ ds counts.1).0
+        let front = (both_none (heads ++ counts) ds e).0 in
+        (number_tells (subjects.Track n) fields.Samples (length t.samples) (length u.samples)).none (both_none heads counts front).1
 
     samples_same : length t.samples ≡ length u.samples → listed_samples aligned n t.samples u.samples ≡ each_differ (sample_differences n) 1 t.samples u.samples
     samples_same e = as_many aligned (length t.samples == length u.samples) _ (eq-eqb (length t.samples) (length u.samples) e)
 
     track_none : listed_track aligned n t u ≡ [] → track_differences n t u ≡ []
-    track_none e = ap beside (sym (samples_same (counts_same _ e))) ∙ e
+    track_none e = ap (λ (ds : List Difference). heads ++ counts ++ ds) (sym (samples_same (counts_same (listed_samples aligned n t.samples u.samples) e))) ∙ e
 
     no_track : track_differences n t u ≡ [] → listed_track aligned n t u ≡ []
-    no_track e = ap beside (samples_same (counts_same _ e)) ∙ e
+    no_track e = ap (λ (ds : List Difference). heads ++ counts ++ ds) (samples_same (counts_same (each_differ (sample_differences n) 1 t.samples u.samples) e)) ∙ e
 
 each_none : (f g : ℕ → Track → Track → List Difference) → ((n : ℕ) (t u : Track) → f n t u ≡ [] → g n t u ≡ []) → (n : ℕ) (ts us : List Track) → each_differ f n ts us ≡ [] → each_differ g n ts us ≡ []
 each_none f g h n [] us e = refl
@@ -53,18 +54,15 @@ each_none f g h n (t ∷ ts) (u ∷ us) e =
     join_none (g n t u) (each_differ g (suc n) ts us) (h n t u both.0) (each_none f g h (suc n) ts us both.1)
 
 module _ (p q : Presentation) where
-  -- what is listed of two presentations, with this of their tracks
-  abbrev above : List Difference → List Difference
-  above ds = movie_differences p.movie q.movie ++ numbers_differ subjects.Movie fields.Tracks (length p.tracks) (length q.tracks) ++ ds
+  -- what is listed of two presentations, but for their tracks
+  abbrev front : List Difference
+  front = movie_differences p.movie q.movie ++ numbers_differ subjects.Movie fields.Tracks (length p.tracks) (length q.tracks)
 
-  none_above : (ds es : List Difference) → (ds ≡ [] → es ≡ []) → above ds ≡ [] → above es ≡ []
-  none_above ds es h e =
-      let behind = both_none (movie_differences p.movie q.movie) _ e in
-      let tracks = both_none (numbers_differ subjects.Movie fields.Tracks (length p.tracks) (length q.tracks)) ds behind.1 in
-      join_none (movie_differences p.movie q.movie) _ behind.0 (join_none _ es tracks.0 (h tracks.1))
+  none_above : (ds es : List Difference) → (ds ≡ [] → es ≡ []) → front ++ ds ≡ [] → front ++ es ≡ []
+  none_above ds es h e = let both = both_none front ds e in join_none front es both.0 (h both.1)
 
   pub listed_none : (aligned : Bool) → listed aligned p q ≡ [] → differences p q ≡ []
-  listed_none aligned e = none_above _ _ (each_none (listed_track aligned) track_differences (track_none aligned) 1 p.tracks q.tracks) e
+  listed_none aligned e = none_above (each_differ (listed_track aligned) 1 p.tracks q.tracks) (each_differ track_differences 1 p.tracks q.tracks) (each_none (listed_track aligned) track_differences (track_none aligned) 1 p.tracks q.tracks) e
 
   pub none_listed : (aligned : Bool) → differences p q ≡ [] → listed aligned p q ≡ []
-  none_listed aligned e = none_above _ _ (each_none track_differences (listed_track aligned) (no_track aligned) 1 p.tracks q.tracks) e
+  none_listed aligned e = none_above (each_differ track_differences 1 p.tracks q.tracks) (each_differ (listed_track aligned) 1 p.tracks q.tracks) (each_none track_differences (listed_track aligned) (no_track aligned) 1 p.tracks q.tracks) e

@@ -21,12 +21,22 @@ time_text b = seconds_text b.time (max 1 b.timescale)
 
 -- ---- the line
 
+-- one sample, or several
+abbrev pub samples_of : ℕ → List ℕ
+samples_of many = if many == 1 then codes " sample of " else codes " samples of "
+
+abbrev pub not_in : ℕ → List ℕ
+not_in many = if many == 1 then codes " is not in " else codes " are not in "
+
+abbrev pub count_text : List ℕ → ℕ → List ℕ
+count_text own many = decimal many ++ samples_of many ++ own
+
+abbrev pub behind_text : List ℕ → ℕ → ℕ → List ℕ
+behind_text other front many = codes " behind " ++ decimal front ++ not_in many ++ other
+
 -- samples of the one file, where the other has none
 abbrev pub only_text : List ℕ → List ℕ → ℕ → Between → List ℕ
-only_text own other front b = decimal b.samples
-    ++ (if b.samples == 1 then codes " sample of " else codes " samples of ") ++ own
-    ++ codes " behind " ++ decimal front
-    ++ (if b.samples == 1 then codes " is not in " else codes " are not in ") ++ other
+only_text own other front b = count_text own b.samples ++ behind_text other front b.samples
     ++ time_text b
 
 -- the numbers of so many samples behind those in front
@@ -54,16 +64,23 @@ alignment_line a = alignment_text a ++ line_feed
 
 -- ---- the object
 
-abbrev pub between_object : Between → List ℕ
-between_object b = codes "{\"samples\":" ++ decimal b.samples ++ codes ",\"time\":"
-    ++ decimal b.time ++ codes ",\"timescale\":" ++ decimal b.timescale ++ codes "}"
+abbrev pub time_members : Between → List ℕ
+time_members b = codes ",\"time\":" ++ decimal b.time ++ codes ",\"timescale\":"
+    ++ decimal b.timescale
 
--- what stands between in both files, and how many samples around it are the same
-abbrev pub alignment_members : Alignment → List ℕ
-alignment_members a = codes "{\"a\":" ++ between_object a.left ++ codes ",\"b\":"
-    ++ between_object a.right ++ codes ",\"end\":" ++ decimal a.end ++ codes ",\"front\":"
-    ++ decimal a.front
+abbrev pub between_object : Between → List ℕ
+between_object b = codes "{\"samples\":" ++ decimal b.samples ++ time_members b ++ codes "}"
+
+-- what stands between in both files
+abbrev pub side_members : Alignment → List ℕ
+side_members a = codes "{\"a\":" ++ between_object a.left ++ codes ",\"b\":"
+    ++ between_object a.right
+
+-- how many samples around it are the same
+abbrev pub same_members : Alignment → List ℕ
+same_members a = codes ",\"end\":" ++ decimal a.end ++ codes ",\"front\":" ++ decimal a.front
 
 abbrev pub alignment_object : Alignment → List ℕ
-alignment_object a = alignment_members a ++ codes ",\"kind\":\"aligned\",\"line\":\""
-    ++ alignment_text a ++ codes "\",\"track\":" ++ decimal a.track ++ codes "}" ++ line_feed
+alignment_object a = side_members a ++ same_members a
+    ++ codes ",\"kind\":\"aligned\",\"line\":\"" ++ alignment_text a
+    ++ codes "\",\"track\":" ++ decimal a.track ++ codes "}" ++ line_feed

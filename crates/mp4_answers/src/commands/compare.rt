@@ -174,15 +174,23 @@ fn say_in(text: &mut Vec<u8>, difference: Difference, syntax: Syntax) -> Result<
     }
 }
 
+// Adds how two tracks lie beside each other, in this syntax.
+fn say_beside(text: &mut Vec<u8>, alignment: Alignment, syntax: Syntax) -> Result<(), AllocError>
+    ensures { OnOk result
+        (AddsAligned syntax (alignment ∷ []) text.old.items text.new.items) }
+{
+    match syntax {
+        Syntax::Text => say_alignment(text, alignment),
+        Syntax::Json => say_alignment_object(text, alignment),
+    }
+}
+
 // Adds how tracks lie beside each other, in this syntax.
 fn say_aligned(text: &mut Vec<u8>, aligned: &[Alignment], syntax: Syntax) -> Result<(), AllocError>
-    ensures lines { OnOk result (AddsAligned syntax aligned.now text.old.items text.new.items) }
+    ensures { OnOk result (AddsAligned syntax aligned.now text.old.items text.new.items) }
 {
     for alignment in aligned {
-        match syntax {
-            Syntax::Text => say_alignment(text, *alignment)?,
-            Syntax::Json => say_alignment_object(text, *alignment)?,
-        }
+        say_beside(text, *alignment, syntax)?;
     }
     Ok(())
 }

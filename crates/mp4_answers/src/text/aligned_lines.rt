@@ -1,6 +1,6 @@
 //! How two tracks that are aligned lie beside each other, as a line or as an object of JSON.
 ghost use Rattle.std.specs.Prelude.{◌≡◌, ◌+◌, ◌<◌, ◌++◌, OnOk};
-ghost use Rattle.mp4_answers.specs.format.AlignedLine.{alignment_line, alignment_members, alignment_object, alignment_text, between_object, between_text, numbers_text, only_text, some_text, three_digits, time_text};
+ghost use Rattle.mp4_answers.specs.format.AlignedLine.{alignment_line, alignment_object, alignment_text, behind_text, between_object, between_text, count_text, not_in, numbers_text, only_text, same_members, samples_of, side_members, some_text, three_digits, time_members, time_text};
 
 use crate::text::difference_lines::{end_line, say, say_counted, say_number};
 use mp4_content::{Alignment, Between};
@@ -29,6 +29,44 @@ fn say_time(text: &mut Vec<u8>, between: Between) -> Result<(), AllocError>
     say(text, " s)")
 }
 
+// What stands between a number of samples and the file that has them.
+fn samples_of(many: u32) -> &'static str
+    ensures { result.now ≡ samples_of many }
+{
+    if many == 1 {
+        " sample of "
+    } else {
+        " samples of "
+    }
+}
+
+// And before the file that has them not.
+fn not_in(many: u32) -> &'static str
+    ensures { result.now ≡ not_in many }
+{
+    if many == 1 {
+        " is not in "
+    } else {
+        " are not in "
+    }
+}
+
+// Adds how many samples a file has.
+fn say_count(text: &mut Vec<u8>, own: &str, many: u32) -> Result<(), AllocError>
+    ensures { OnOk result (text.new.items ≡ text.old.items ++ count_text own.now many) }
+{
+    say_counted(text, "", u64::from(many), samples_of(many))?;
+    say(text, own)
+}
+
+// Adds behind how many samples they stand, and which file has them not.
+fn say_behind(text: &mut Vec<u8>, other: &str, front: u32, many: u32) -> Result<(), AllocError>
+    ensures { OnOk result (text.new.items ≡ text.old.items ++ behind_text other.now front many) }
+{
+    say_counted(text, " behind ", u64::from(front), not_in(many))?;
+    say(text, other)
+}
+
 // Adds what samples one file has where the other has none.
 fn say_only(
     text: &mut Vec<u8>,
@@ -40,21 +78,8 @@ fn say_only(
     ensures { OnOk result
         (text.new.items ≡ text.old.items ++ only_text own.now other.now front between) }
 {
-    let is_one = between.samples == 1;
-    let of = if is_one {
-        " sample of "
-    } else {
-        " samples of "
-    };
-    let not_in = if is_one {
-        " is not in "
-    } else {
-        " are not in "
-    };
-    say_counted(text, "", u64::from(between.samples), of)?;
-    say(text, own)?;
-    say_counted(text, " behind ", u64::from(front), not_in)?;
-    say(text, other)?;
+    say_count(text, own, between.samples)?;
+    say_behind(text, other, front, between.samples)?;
     say_time(text, between)
 }
 
@@ -118,28 +143,37 @@ pub fn say_alignment(text: &mut Vec<u8>, alignment: Alignment) -> Result<(), All
     end_line(text)
 }
 
+// Adds when the first of some samples is decoded, in parts of a second.
+fn say_time_members(text: &mut Vec<u8>, between: Between) -> Result<(), AllocError>
+    ensures { OnOk result (text.new.items ≡ text.old.items ++ time_members between) }
+{
+    say_counted(text, ",\"time\":", between.time, ",\"timescale\":")?;
+    say_number(text, u64::from(between.timescale))
+}
+
 // Adds what one file has between, as an object.
 fn say_between_object(text: &mut Vec<u8>, between: Between) -> Result<(), AllocError>
     ensures { OnOk result (text.new.items ≡ text.old.items ++ between_object between) }
 {
-    say_counted(
-        text,
-        "{\"samples\":",
-        u64::from(between.samples),
-        ",\"time\":",
-    )?;
-    say_counted(text, "", between.time, ",\"timescale\":")?;
-    say_counted(text, "", u64::from(between.timescale), "}")
+    say_counted(text, "{\"samples\":", u64::from(between.samples), "")?;
+    say_time_members(text, between)?;
+    say(text, "}")
 }
 
-// Adds what both files have between, and how many samples around it are the same.
-fn say_members(text: &mut Vec<u8>, alignment: Alignment) -> Result<(), AllocError>
-    ensures { OnOk result (text.new.items ≡ text.old.items ++ alignment_members alignment) }
+// Adds what both files have between.
+fn say_sides(text: &mut Vec<u8>, alignment: Alignment) -> Result<(), AllocError>
+    ensures { OnOk result (text.new.items ≡ text.old.items ++ side_members alignment) }
 {
     say(text, "{\"a\":")?;
     say_between_object(text, alignment.left)?;
     say(text, ",\"b\":")?;
-    say_between_object(text, alignment.right)?;
+    say_between_object(text, alignment.right)
+}
+
+// Adds how many samples around that are the same.
+fn say_same(text: &mut Vec<u8>, alignment: Alignment) -> Result<(), AllocError>
+    ensures { OnOk result (text.new.items ≡ text.old.items ++ same_members alignment) }
+{
     say_counted(text, ",\"end\":", u64::from(alignment.end), ",\"front\":")?;
     say_number(text, u64::from(alignment.front))
 }
@@ -148,7 +182,8 @@ fn say_members(text: &mut Vec<u8>, alignment: Alignment) -> Result<(), AllocErro
 pub fn say_alignment_object(text: &mut Vec<u8>, alignment: Alignment) -> Result<(), AllocError>
     ensures { OnOk result (text.new.items ≡ text.old.items ++ alignment_object alignment) }
 {
-    say_members(text, alignment)?;
+    say_sides(text, alignment)?;
+    say_same(text, alignment)?;
     say(text, ",\"kind\":\"aligned\",\"line\":\"")?;
     say_line(text, alignment)?;
     say_counted(text, "\",\"track\":", alignment.track, "}")?;
