@@ -2,7 +2,7 @@
 use Rattle.std.proofs.Common.{◌≡◌, ℕ, suc, Bool, true, false, if◌then◌else◌, List, [], ◌∷◌, ◌++◌, length, refl, sym, ap, ◌∙◌}
 use Rattle.std.specs.Prelude.{◌==◌, ◌&&◌, not}
 use Rattle.std.proofs.lemmas.Bool.{eq-eqb}
-use Rattle.mp4_present.specs.format.Presentation.{Sample, Track, Presentation}
+use Rattle.mp4_present.specs.format.Presentation.{Track, Presentation}
 use Rattle.mp4_content.specs.format.Alignment.{listed, listed_samples, listed_track}
 use Rattle.mp4_content.specs.format.Comparison.{differences, sample_differences, track_differences}
 use Rattle.mp4_content.specs.format.Differences.{each_differ, head_differences, movie_differences, numbers_differ}

@@ -2,7 +2,7 @@
 ghost use Rattle.std.specs.Prelude.{◌≡◌, ◌&&◌, not, ◌+◌, ◌<◌, ◌≤◌, [], ◌∷◌, length, take, Some, true, false, IfOk, IfErr, IfSome, OnOk};
 ghost use Rattle.mp4_answers.specs.declared.commands.compare.Listing.TheVariants.{All};
 ghost use Rattle.mp4_answers.specs.format.Steps.{TakesEachOfBoth};
-ghost use Rattle.mp4_answers.specs.format.CompareHeadline.{AreToldAligned, IsVerdict, IsTold, aligned_walks, alignment_in, difference_in, PutsSuch, ComparesWithin, FindsBothWithin, most_walks, word_count};
+ghost use Rattle.mp4_answers.specs.format.CompareHeadline.{AreToldAligned, IsVerdict, IsTold, aligned_walks, difference_in, PutsSuch, ComparesWithin, FindsBothWithin, most_walks, word_count};
 ghost use Rattle.mp4_answers.specs.format.DifferenceObject.{last_object};
 ghost use Rattle.mp4_answers.specs.words.Compares.{side_of, says_nothing, is_silent, AddsAligned, AddsLines, AddsLast, IsCounted, AreSome, IsEnough, IsTried, IsShrunk, IsSameWith, IsFoundOf, IsSaid, ListsFront, PutsAnswer, PutsFound, PutsSame, WalksTimes, RefusesAnswer};
 ghost use Rattle.mp4_present.specs.words.StoresRead.{IsUnchanged, WhereBothHonest};
