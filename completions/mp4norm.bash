@@ -55,7 +55,7 @@ _mp4norm() {
     extract) words='--track --out --max-bytes --max-parts --replace --progress --explain --brief --help' ;;
     boxes) words='--json --fields --rows --max-parts --explain --brief --help' ;;
     strip) words='--foreign --lossy --drop --out --max-bytes --max-parts --replace --progress --explain --brief --help' ;;
-    compare) words='--without --foreign --lossy --all --limit --json --max-parts --explain --brief --help' ;;
+    compare) words='--without --foreign --lossy --all --align --limit --json --max-parts --explain --brief --help' ;;
     check) words='--names-from --zero --foreign --lossy --json --max-parts --explain --brief --help' ;;
     sum) words='--names-from --without --foreign --lossy --zero --json --no-header --bytes --check --quiet --summary --new --max-parts --explain --brief --help' ;;
     print) words='--without --foreign --lossy --out --replace --max-parts --explain --brief --help' ;;

@@ -101,6 +101,11 @@ if (open.compare && lib.version) {
     same('the same file twice', a.compare(a).same, true);
     throws('a limit that is none', () => a.compare(a, 0, -1), TypeError, 'limit');
     same('so many differences', lib.compare(copy, other, 0, 0).differences, []);
+    const changed = Uint8Array.from(copy);
+    changed[changed.length - 1] ^= 1;
+    const [apart] = lib.compare(copy, changed, 0, 9, true).aligned;
+    same('aligned', [apart.track, apart.front, apart.end, apart.a.samples, apart.b.time], [1, 2, 0, 1, 1024]);
+    same('not aligned', lib.compare(copy, changed).aligned, []);
     a.close();
     b.close();
 }

@@ -107,7 +107,9 @@ enum mp4norm_syntax {
 /* What of a comparison is told. */
 enum mp4norm_listing {
     MP4NORM_FIRST = 0, /* the first difference alone */
-    MP4NORM_ALL = 1    /* all differences, and a line or an object that counts them, as --all */
+    MP4NORM_ALL = 1,   /* all differences, and a line or an object that counts them, as --all */
+    MP4NORM_ALIGNED = 2 /* the same, and before it how tracks lie beside each other, as --align (since 0.3.0; a library of before
+                           answers MP4NORM_USAGE) */
 };
 
 /* What is asked of a comparison. */

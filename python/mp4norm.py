@@ -37,7 +37,7 @@ from fractions import Fraction
 from typing import (Any, Callable, Dict, Iterable, List, Mapping, Optional, Sequence, Tuple, Type,
                     TypeVar, Union, cast)
 
-__all__ = ["Box", "Comparison", "Difference", "Edit", "Error", "Failed", "Movie", "Refused",
+__all__ = ["Alignment", "Between", "Box", "Comparison", "Difference", "Edit", "Error", "Failed", "Movie", "Refused",
            "Sample", "Track", "boxes", "check", "columns", "compare", "normalise", "program",
            "samples", "show", "sum", "uses"]
 
@@ -54,10 +54,10 @@ DIFFERENT, INVALID = 5, 64
 # for.
 LONGEST, ROOM = 1 << 30, 1 << 16
 # What the library answers (include/mp4norm.h): status, kind, type of a box, which of two files,
-# place, length. And what it is asked of two: words, listing, limit, syntax; all, as JSON.
+# place, length. And what it is asked of two: words, listing, limit, syntax; all, as JSON, aligned.
 ANSWER, ASKED = "=4I2Q", "=4I"
 DONE, REFUSED, MEMORY, NO_TRACK = 0, 1, 2, 4
-ALL, JSON = 1, 1
+ALL, JSON, ALIGNED = 1, 1, 2
 # Where programs and libraries are, from the folder of this module: in a clone, and installed.
 PUBLISHED = "../dist/x86_64-linux"
 # Kinds of fault, from number 1 on; and words that may be left out, from the lowest bit on.
@@ -204,11 +204,44 @@ class Difference:
         return self.line
 
 
+@dataclass(frozen=True)
+class Between:
+    """How many samples of one file stand between those that are the same, and when the sample
+    behind those in front is decoded, in the track's timescale: 0 where there is none."""
+
+    samples: int
+    time: int
+    timescale: int
+
+    @property
+    def seconds(self) -> Fraction:
+        """That time in seconds."""
+        return Fraction(self.time, self.timescale)
+
+
+@dataclass(frozen=True)
+class Alignment:
+    """How two tracks lie beside each other whose samples are not the same: their number, from 1;
+    how many samples in front are the same, and of the rest how many at the end; what stands
+    between, in each file."""
+
+    track: int
+    front: int
+    end: int
+    a: Between
+    b: Between
+    line: str
+
+    def __str__(self) -> str:
+        return self.line
+
+
 @dataclass(frozen=True, repr=False)
 class Comparison:
     """True if the two say the same. `total` counts all differences, and `kinds` those of each kind;
     there may be more where `at_least`. `words` make the two the same if they are left out; None if
-    no words do. As text it is a line for each difference, and one that counts them."""
+    no words do. `aligned` says how tracks lie beside each other, where that was asked for. As text
+    it is a line for each of these, one for each difference, and one that counts them."""
 
     same: bool
     total: int
@@ -216,6 +249,7 @@ class Comparison:
     kinds: Mapping[str, int]
     words: Optional[Sequence[str]]
     differences: Sequence[Difference]
+    aligned: Sequence[Alignment] = ()
 
     def __bool__(self) -> bool:
         return self.same
@@ -228,7 +262,7 @@ class Comparison:
         last += ", ".join(f"{kind} {count}" for kind, count in self.kinds.items())
         last += ("; no words make them the same" if self.words is None
                  else f"; the same without {','.join(self.words)}")
-        return [difference.line for difference in self.differences] + [last]
+        return [it.line for it in (*self.aligned, *self.differences)] + [last]
 
     def __str__(self) -> str:
         return "\n".join(self._lines())
@@ -304,19 +338,28 @@ def boxes(file: File, rows: Optional[int] = None) -> List[Box]:
 
 
 def compare(a: File, b: File, without: Words = (), limit: int = 100, foreign: bool = False,
-            lossy: bool = False) -> Comparison:
+            lossy: bool = False, align: bool = False) -> Comparison:
     """Compares what the two say, but for what these words leave out (docs/COMPARING.md has them),
     and lists at most `limit` of the differences. With `foreign` boxes that the profile refuses are
-    read as free space; where something is lost with one, only with `lossy`."""
+    read as free space; where something is lost with one, only with `lossy`. With `align` it says
+    too how tracks lie beside each other whose samples are not the same, and lists samples only of
+    tracks that have as many."""
     left, freed = _without(without), _foreign(foreign, lossy)
-    text = None if freed else _compared(a, b, _flags(left), limit)
+    text = None if freed else _compared(a, b, _flags(left), limit, align)
     if text is None:
-        words = ["compare", "--json", "--all", "--limit", str(limit), *left, *freed]
+        listed = "--align" if align else "--all"
+        words = ["compare", "--json", listed, "--limit", str(limit), *left, *freed]
         text = _run(words, [a, b], (0, DIFFERENT))
-    *found, last = _objects(text)
-    differences = [_made(Difference, {**told, "at": tuple(told["at"])}) for told in found]
+    *told, last = _objects(text)
+    differences = [_made(Difference, {**it, "at": tuple(it["at"])}) for it in told if "at" in it]
     return Comparison(last["differences"] == 0, last["differences"], last["at_least"],
-                      last["kinds"], last["without"], differences)
+                      last["kinds"], last["without"], differences,
+                      [_aligned(it) for it in told if "at" not in it])
+
+
+def _aligned(told: Dict[str, Any]) -> Alignment:
+    sides = {side: _made(Between, told[side]) for side in ("a", "b")}
+    return _made(Alignment, {**told, **sides})
 
 
 def normalise(file: File, new: Optional[Name] = None, without: Words = (), replace: bool = False,
@@ -485,18 +528,20 @@ def _text(call: str, file: File, *numbers: int) -> Optional[bytes]:
     return _windows(ask, ROOM + (len(content) * 5 // 4 if is_normal else 0), 1 if is_normal else 4)
 
 
-def _compared(a: File, b: File, flags: Optional[int], limit: int) -> Optional[bytes]:
+def _compared(a: File, b: File, flags: Optional[int], limit: int,
+              align: bool) -> Optional[bytes]:
     """What the library tells of all differences, as JSON; None as of `_text`."""
     library = _library()
-    # A library of before doesn't compare.
+    # A library of before doesn't compare, and one that knows no fields doesn't align.
+    call = "mp4norm_fields_range" if align else "mp4norm_compare_range"
     if (flags is None or not isinstance(limit, int) or not 0 <= limit < 1 << 32
-            or not hasattr(library, "mp4norm_compare_range")):
+            or not hasattr(library, call)):
         return None
     contents = [_bytes_of(file) for file in (a, b)]
     words = [word for content in contents if content is not None for word in _given(content)]
     if None in contents:
         return None
-    asked = struct.pack(ASKED, flags, ALL, limit, JSON)
+    asked = struct.pack(ASKED, flags, ALIGNED if align else ALL, limit, JSON)
 
     def ask(*window: Any) -> int:
         return _ask(library, [a, b], "compare_range", *words, asked, *window)

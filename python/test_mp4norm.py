@@ -36,7 +36,7 @@ HERE = os.path.dirname(os.path.realpath(__file__))
 sys.path[:0] = [HERE, os.path.join(os.path.dirname(HERE), 'conformance')]
 import mp4norm
 import trials
-from mp4norm import Box, Failed, Movie, Refused, Sample, Track
+from mp4norm import Alignment, Between, Box, Failed, Movie, Refused, Sample, Track
 from suite import answers, built, differ, lister, reader
 from suite.stored import CUT, NORMAL, OTHER, PLAIN, bytes_of
 
@@ -206,6 +206,21 @@ class Answers(Case):
         self.assertEqual(str(one), 'track 1: sample 3: byte 4 of 7: 62 | 78')
         self.assertEqual(str(found), 'track 1: sample 3: byte 4 of 7: 62 | 78\n'
                                      '1 difference: bytes 1; no words make them the same')
+
+    def test_align(self):
+        """How tracks lie beside each other: sample 3 of both, decoded at 1024 of 12800."""
+        found = mp4norm.compare('plain.mp4', 'other.mp4', align=True)
+        here, lines = Between(1, 1024, 12800), (
+            'track 1: sample 3 of A (0.080 s) | sample 3 of B (0.080 s)',
+            'track 1: sample 3: byte 4 of 7: 62 | 78',
+            '1 difference: bytes 1; no words make them the same')
+        self.assertEqual(found.aligned, [Alignment(1, 2, 0, here, here, lines[0])])
+        self.assertEqual(here.seconds, Fraction(2, 25))
+        self.assertEqual(str(found), '\n'.join(lines))
+        found = mp4norm.compare('plain.mp4', 'later.mp4', limit=0, align=True)
+        self.assertEqual((found.total, found.aligned, found.differences), (1, [], []))
+        self.assertTrue(mp4norm.compare(PLAIN, 'plain.mp4', align=True))
+        self.assertEqual(mp4norm.compare('plain.mp4', 'other.mp4').aligned, [])
 
     def test_words(self):
         found = mp4norm.compare('plain.mp4', 'later.mp4')

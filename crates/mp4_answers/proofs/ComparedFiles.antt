@@ -20,11 +20,14 @@ use Rattle.mp4_content.specs.declared.without.Word.{Word}
 use Rattle.mp4_content.specs.declared.without.Without.{Without}
 use Rattle.mp4_content.proofs.ComparisonWhole.{no_difference_is_same}
 use Rattle.mp4_present.proofs.DenotedValid.{denoted_is_valid}
-use Rattle.mp4_answers.specs.format.CompareHeadline.{IsVerdict, ComparedWithin, ComparesWithin, most_counted, most_walks, word_count}
+use Rattle.mp4_answers.specs.format.CompareHeadline.{IsVerdict, ComparedWithin, ComparesWithin, aligned_walks, most_counted, most_walks, word_count}
 use Rattle.mp4_answers.specs.format.Steps.{WalksWithin, row_total}
 use Rattle.mp4_plan.proofs.Judged.{denoted_judged}
 use Rattle.mp4_answers.specs.words.Compares.{side_of, says_nothing, IsSaid, ListsFront, WalksTimes, RefusesBoth, RefusesCompare}
 use Rattle.mp4_answers.specs.declared.commands.compare.Failure.{Failure}
+use Rattle.mp4_answers.specs.declared.commands.compare.Lines.{Lines}
+use Rattle.mp4_answers.specs.declared.commands.compare.Listing.{Listing}
+use Rattle.mp4_answers.specs.declared.commands.compare.Listing.TheVariants as listings
 use Rattle.mp4_answers.proofs.StepsTaken.{looked_within, often_walked}
 
 pub listed_front : (old new : List Difference) (whole : Bool) (ds : List Difference) → old ≡ [] → (whole ≡ true → new ≡ old ++ ds) → TakesFront old new ds → (whole ≡ true) ⊎ (most_counted < length new) → ListsFront new ds
@@ -86,9 +89,21 @@ one_more_time old mid new a b first more tries e g h =
 pub two_walks : (old mid new a b : ℕ) → mid ≤ old + (a + b) → new ≤ mid + (a + b) → new ≤ old + 2 * (a + b)
 two_walks old mid new a b g h = omega (arith, g, h)
 
--- one walk to list, and those that find words
-pub listing_walks : (old mid new a b : ℕ) → mid ≤ old + (a + b) → new ≤ mid + (2 + word_count) * (a + b) → new ≤ old + most_walks * (a + b)
-listing_walks old mid new a b g h = omega (arith, g, h)
+-- one walk to list, those that align tracks, and those that find words
+pub listing_walks : (old mid behind new a b : ℕ) (lines : Lines) → mid ≤ old + (a + b) → behind ≤ mid + aligned_walks lines.aligned * (a + b) → new ≤ behind + (2 + word_count) * (a + b) → new ≤ old + most_walks (listings.All lines) * (a + b)
+listing_walks old mid behind new a b lines g h k = omega (arith, g, h, k)
+
+-- without those that find words
+pub aligning_walks : (old mid new a b : ℕ) (lines : Lines) → mid ≤ old + (a + b) → new ≤ mid + aligned_walks lines.aligned * (a + b) → new ≤ old + most_walks (listings.All lines) * (a + b)
+aligning_walks old mid new a b lines g h = omega (arith, g, h)
+
+-- three walks at least
+pub three_or_more : (listing : Listing) → 3 ≤ most_walks listing
+three_or_more (listings.First syntax) = omega arith
+three_or_more (listings.All lines) = omega arith
+
+pub some_walks : (listing : Listing) → 0 < most_walks listing
+some_walks listing = let three = three_or_more listing in omega (arith, three)
 
 -- fewer are as many at most
 pub few_times_of : (old new a b few times : ℕ) → few ≤ times → new ≤ old + few * (a + b) → new ≤ old + times * (a + b)
@@ -133,37 +148,43 @@ together First Second honest honest_right l m r s Took nothing puts refusals.NoS
 -- ---- steps
 
 -- a file that is looked at, and no more
-pub looked_alone : (file : List ℕ) (old new : ℕ) → WalksWithin file old new → ComparedWithin file old new
-looked_alone file old new h = record {
-  denoted = λ p d. let own = h.denoted p d in omega (arith, own);
+pub looked_alone : (times : ℕ) → 3 ≤ times → (file : List ℕ) (old new : ℕ) → WalksWithin file old new → ComparedWithin times file old new
+looked_alone times three file old new h = record {
+  denoted = λ p d.
+      let own = h.denoted p d in
+      let most = mul-le-mul_right (sample_total p + row_total d.tree) three in
+      omega (arith, own, most);
   refused = h.refused;
 }
 
-none_taken : (file : List ℕ) (n : ℕ) → ComparedWithin file n n
-none_taken file n = record {
+none_taken : (times : ℕ) (file : List ℕ) (n : ℕ) → ComparedWithin times file n n
+none_taken times file n = record {
   denoted = λ p d. let rest = sample_total p + row_total d.tree in omega arith;
   refused = λ nothing. inl refl;
 }
 
 -- the second file was not looked at
-pub first_alone : (file other : List ℕ) (old new : ℕ) → WalksWithin file old new → ComparesWithin file other old new
-first_alone file other old new first = record { between = new; first = looked_alone file old new first; second = none_taken other new }
+pub first_alone : (listing : Listing) (file other : List ℕ) (old new : ℕ) → WalksWithin file old new → ComparesWithin listing file other old new
+first_alone listing file other old new first = record { between = new; first = looked_alone (most_walks listing) (three_or_more listing) file old new first; second = none_taken (most_walks listing) other new }
 
 -- the first file was opened, and so were the second or not
-pub both_looked : (file other : List ℕ) (m : MovieSeen) (old mid new : ℕ) → ((tree : FileTree) × IsOpenedAs file m tree) → ((tree : FileTree) → IsFileTree file tree → mid ≤ old + opening_steps tree) → WalksWithin other mid new → ComparesWithin file other old new
-both_looked file other m old mid new a opening second = record {
+pub both_looked : (listing : Listing) (file other : List ℕ) (m : MovieSeen) (old mid new : ℕ) → ((tree : FileTree) × IsOpenedAs file m tree) → ((tree : FileTree) → IsFileTree file tree → mid ≤ old + opening_steps tree) → WalksWithin other mid new → ComparesWithin listing file other old new
+both_looked listing file other m old mid new a opening second = record {
   between = mid;
-  first = looked_alone file old mid (looked_within file old mid m a.0 a.1 (opening a.0 a.1.is_tree));
-  second = looked_alone other mid new second;
+  first = looked_alone (most_walks listing) (three_or_more listing) file old mid (looked_within file old mid m a.0 a.1 (opening a.0 a.1.is_tree));
+  second = looked_alone (most_walks listing) (three_or_more listing) other mid new second;
 }
 
 -- both were opened, and walked over as many times as may be
-pub both_walked : (file other : List ℕ) (m n : MovieSeen) (old mid behind new : ℕ) → ((tree : FileTree) × IsOpenedAs file m tree) → ((tree : FileTree) × IsOpenedAs other n tree) → ((tree : FileTree) → IsFileTree file tree → mid ≤ old + opening_steps tree)
-    → ((tree : FileTree) → IsFileTree other tree → behind ≤ mid + opening_steps tree) → ((tree next : FileTree) → IsOpenedAs file m tree → IsOpenedAs other n next → WalksTimes most_walks tree next behind new) → ComparesWithin file other old new
-both_walked file other m n old mid behind new a b opening next walks =
+pub both_walked : (listing : Listing) (file other : List ℕ) (m n : MovieSeen) (old mid behind new : ℕ) → ((tree : FileTree) × IsOpenedAs file m tree) → ((tree : FileTree) × IsOpenedAs other n tree) → ((tree : FileTree) → IsFileTree file tree → mid ≤ old + opening_steps tree)
+    → ((tree : FileTree) → IsFileTree other tree → behind ≤ mid + opening_steps tree) → ((tree next : FileTree) → IsOpenedAs file m tree → IsOpenedAs other n next → WalksTimes (most_walks listing) tree next behind new) → ComparesWithin listing file other old new
+both_walked listing file other m n old mid behind new a b opening next walks =
+    let times = most_walks listing in
+    let three : 3 ≤ times = three_or_more listing in
+    let two : 2 ≤ times = omega (arith, three) in
     record {
-      between = mid + most_walks * walks_steps a.0;
-      first = often_walked file old (mid + most_walks * walks_steps a.0) m a.0 a.1 (let opened = opening a.0 a.1.is_tree in omega (arith, opened));
-      second = often_walked other (mid + most_walks * walks_steps a.0) new n b.0 b.1
+      between = mid + times * walks_steps a.0;
+      first = often_walked file old (mid + times * walks_steps a.0) times two m a.0 a.1 (let opened = opening a.0 a.1.is_tree in omega (arith, opened));
+      second = often_walked other (mid + times * walks_steps a.0) new times two n b.0 b.1
           (let more = walks a.0 b.0 a.1 b.1 in let opened = next b.0 b.1.is_tree in omega (arith, more, opened));
     }

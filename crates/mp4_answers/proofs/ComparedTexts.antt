@@ -6,19 +6,19 @@ use Rattle.mp4_content.specs.format.Comparison.{differences}
 use Rattle.mp4_present.specs.format.Denotes.{FileTree, presentation_of}
 use Rattle.mp4_present.specs.format.Presentation.{Presentation, Valid}
 use Rattle.mp4_content.specs.format.Reduced.{reduce}
-use Rattle.mp4_content.specs.words.Compared.{files_differ}
 use Rattle.mp4_present.specs.words.Movies.{MovieSeen}
 use Rattle.mp4_present.specs.words.OpenedMovie.{IsOpenedAs}
+use Rattle.mp4_content.specs.declared.aligning.Alignment.{Alignment}
 use Rattle.mp4_content.specs.declared.comparing.differences.Difference.{Difference}
 use Rattle.mp4_content.specs.declared.without.Word.{Word}
 use Rattle.mp4_content.specs.declared.without.Without.{Without}
 use Rattle.mp4_content.proofs.ComparisonWhole.{no_difference_is_same}
 use Rattle.mp4_present.proofs.DenotedValid.{denoted_is_valid}
 use Rattle.mp4_content.specs.format.CoveringLaws.{Covers}
+use Rattle.mp4_answers.specs.declared.commands.compare.Lines.{Lines}
 use Rattle.mp4_answers.specs.declared.commands.compare.Listing.{Listing}
 use Rattle.mp4_answers.specs.declared.commands.compare.Listing.TheVariants as listings
-use Rattle.mp4_answers.specs.declared.jobs.Syntax.{Syntax}
-use Rattle.mp4_answers.specs.format.CompareHeadline.{AreEnough, IsTold, PutsSuch, TellsOf, difference_in, last_in, listing_text, most_counted}
+use Rattle.mp4_answers.specs.format.CompareHeadline.{AreEnough, IsTold, PutsSuch, TellsOf, alignment_in, difference_in, last_in, listing_text, most_counted}
 use Rattle.mp4_answers.specs.words.Compares.{AreSome, IsCounted, IsEnough, IsTried, IsShrunk, IsSameWith, IsFoundOf, IsSaid, IsSaidOf, ListsFront, PutsFound, says_nothing}
 use Rattle.mp4_answers.specs.words.SingleWords.{everything, less_word, single_words}
 use Rattle.mp4_content.proofs.Covering.{same_without_more}
@@ -45,12 +45,12 @@ module _ (most : ℕ) where
   front_whole listed ds (inl e) = ap (λ (xs : List Difference). nat_le (length xs) most) e
   front_whole listed ds (inr h) = ap (λ (xs : List Difference). nat_le (length xs) most) h.2 ∙ still_more h.1 ds (subst (λ (xs : List Difference). most < length xs) h.2 h.0)
 
-pub counted_listed : (syntax : Syntax) (limit : ℕ) (listed ds all : List Difference) (whole : Bool) (enough : Option Without) (text : List ℕ) → ListsFront listed ds → all ≡ take most_counted listed → whole ≡ nat_le (length listed) most_counted
-    → IsCounted syntax limit all whole enough text → text ≡ listing_text syntax limit ds enough
-counted_listed syntax limit listed ds all whole enough text front is so h =
+pub counted_listed : (lines : Lines) (found : List Alignment) (listed ds all : List Difference) (whole : Bool) (enough : Option Without) (text : List ℕ) → ListsFront listed ds → all ≡ take most_counted listed → whole ≡ nat_le (length listed) most_counted
+    → IsCounted lines found all whole enough text → text ≡ listing_text lines found ds enough
+counted_listed lines found listed ds all whole enough text front is so h =
     let taken : all ≡ take most_counted ds = is ∙ front_taken most_counted listed ds front in
     let told : whole ≡ nat_le (length ds) most_counted = so ∙ front_whole most_counted listed ds front in
-    h ∙ (λ i. flat_map (difference_in syntax) (take limit (taken i)) ++ last_in syntax (told i) (taken i) enough)
+    h ∙ (λ i. flat_map (alignment_in lines.syntax) found ++ flat_map (difference_in lines.syntax) (take lines.limit (taken i)) ++ last_in lines.syntax (told i) (taken i) enough)
 
 -- ---- words that are tried
 
@@ -125,12 +125,12 @@ module _ (l : Without) (p q : Presentation) (v : Valid p) (w : Valid q) where
       = λ k c d e. none_to_take l differ more_same first m k some.0 some.1 h c d (none_of k e) in
       (r.0, same_of m r.1, least, λ same k c timed e. among_others k m timed p q same e (same_of m r.1) l c r.0 least)
 
-tells_of : (listing : Listing) (l : Without) (p q : Presentation) (text : List ℕ) → Valid p → Valid q → IsSaidOf listing l (λ m. differences (reduce m p) (reduce m q)) text → TellsOf listing l p q text
+tells_of : (listing : Listing) (l : Without) (p q : Presentation) (text : List ℕ) → Valid p → Valid q → IsSaidOf listing l p q text → TellsOf listing l p q text
 tells_of (listings.First syntax) l p q text v w h = h
-tells_of (listings.All lines) l p q text v w h = (h.0, enough_of_both l p q v w h.0 h.1, h.2)
+tells_of (listings.All lines) l p q text v w h = (h.0, h.1, h.2, enough_of_both l p q v w h.2 h.3, h.4)
 
 pub told_of : {A : Type 0} (bytes : A → List ℕ) (listing : Listing) (l : Without) (file other : List ℕ) (m n : MovieSeen) (found : Option A) (same : Bool) (Took : List ℕ → Type 0) → same ≡ says_nothing found → same ≡ false → PutsFound bytes found Took
-    → (a : (tree : FileTree) × IsOpenedAs file m tree) → (b : (tree : FileTree) × IsOpenedAs other n tree) → IsFoundOf bytes listing l (λ k. files_differ k file a.0 other b.0) found → PutsSuch Took (IsTold listing l file other)
+    → (a : (tree : FileTree) × IsOpenedAs file m tree) → (b : (tree : FileTree) × IsOpenedAs other n tree) → IsFoundOf bytes listing l (presentation_of file a.0) (presentation_of other b.0) found → PutsSuch Took (IsTold listing l file other)
 told_of bytes listing l file other m n None same Took is differ put a b h = absurd (true_false (sym is ∙ differ))
 told_of bytes listing l file other m n (Some text) same Took is differ put a b h =
     let first = denotes_by file m a.0 a.1 in

@@ -37,6 +37,7 @@ pub mod Stripped
 pub mod HeadersUnder
 pub mod BoxSpans
 pub mod ReducedNormalised
+pub mod ListedAligned
 pub mod ComparedFiles
 mod WordSets
 mod WordLists

@@ -1,5 +1,6 @@
 -- The steps of opening a file, of planning and of writing are within the bound.
-use Rattle.std.proofs.Common.{◌≡◌, ℕ, zero, suc, ◌+◌, ◌*◌, ◌≤◌, Bool, true, false, if◌then◌else◌, List, [], ◌∷◌, Some, length, map, refl, sym, ap, subst, ◌∙◌, arith}
+use Rattle.std.proofs.Common.{◌≡◌, ℕ, zero, suc, ◌+◌, ◌-◌, ◌*◌, ◌≤◌, Bool, true, false, if◌then◌else◌, List, [], ◌∷◌, Some, length, map, refl, sym, ap, subst, ◌∙◌, arith}
+use Rattle.std.proofs.Math.Nat.{mul-le-mul_right}
 use Rattle.std.specs.List.{AllByRecursion, slice_get}
 use Rattle.mp4_boxes.specs.format.Bytes.{sum_of}
 use Rattle.mp4_tables.specs.format.TableRules.{Fit}
@@ -22,7 +23,6 @@ use Rattle.mp4_present.proofs.OwnSums.{owns_few}
 use Rattle.mp4_present.proofs.PartsOnce.{parts_once}
 use Rattle.mp4_plan.specs.words.WriterSteps.{track_writes, writing_steps}
 use Rattle.mp4_present.proofs.Counts.{parts_total, sizes_few, fragments_total, total_is, all_belong}
-use Rattle.mp4_answers.specs.format.CompareHeadline.{most_walks}
 use Rattle.mp4_answers.specs.format.Steps.{row_total}
 use Rattle.mp4_tables.proofs.Sums.{sum_joined}
 
@@ -161,12 +161,15 @@ tree_walks file tree h s c =
 pub walks_looks : (file : List ℕ) (p : Presentation) (d : Denotes file p) → opening_steps d.tree + walks_steps d.tree ≤ 8 * (sample_total p + row_total d.tree)
 walks_looks file p d = subst (λ (q : Presentation). opening_steps d.tree + walks_steps d.tree ≤ 8 * (sample_total q + row_total d.tree)) (sym d.says) (tree_walks file d.tree d.is_tree d.is_sound d.is_consistent)
 
--- opening a file and as many walks over each of its tracks as may be
-often_walked : (m o s f r more checks ways : ℕ) → o ≤ m → m ≤ f + more → checks ≡ 7 * r + 3 * s → ways ≡ r + 3 * s + 2 * o → (checks + m) + most_walks * ways ≤ 3 * (most_walks + 1) * ((s + f) + (r + more))
-often_walked m o s f r more checks ways own le c w = omega (arith, own, le, c, w)
+-- opening a file and so many walks over each of its tracks, two or more
+often_walked : (k m o s f r more checks ways : ℕ) → o ≤ m → m ≤ f + more → checks ≡ 7 * r + 3 * s → ways ≡ r + 3 * s + 2 * o → (checks + m) + (k + 2) * ways ≤ 3 * (k + 2 + 1) * ((s + f) + (r + more))
+often_walked k m o s f r more checks ways own le c w =
+    let one : ways ≤ 3 * ((s + f) + (r + more)) = omega (arith, own, le, w) in
+    let all : ways * k ≤ 3 * ((s + f) + (r + more)) * k = mul-le-mul_right k one in
+    omega (arith, own, le, c, w, all)
 
-tree_often : (file : List ℕ) (tree : FileTree) → IsFileTree file tree → IsSoundFile tree → IsConsistent file tree → opening_steps tree + most_walks * walks_steps tree ≤ 3 * (most_walks + 1) * (sample_total (presentation_of file tree) + row_total tree)
-tree_often file tree h s c =
+tree_often : (k : ℕ) (file : List ℕ) (tree : FileTree) → IsFileTree file tree → IsSoundFile tree → IsConsistent file tree → opening_steps tree + (k + 2) * walks_steps tree ≤ 3 * (k + 2 + 1) * (sample_total (presentation_of file tree) + row_total tree)
+tree_often k file tree h s c =
     let tracks = tree.movie.tracks in
     let fragments = tree.fragments in
     let parts = file_parts tree in
@@ -175,12 +178,16 @@ tree_often file tree h s c =
     let moofs = moofs_sum (trexes_of tree.movie) fragments h.fragments in
     let known = all_belong tree.movie parts c.known in
     let few : moofs_steps fragments ≤ fragments_total parts tracks + fragment_rows_of fragments = omega (arith, moofs, known) in
-    let all = often_walked (moofs_steps fragments) (owns_total tree tracks) (plain_total tracks) (fragments_total parts tracks) (rows_of tracks) (fragment_rows_of fragments) (sum_of table_steps tracks) (walks_steps tree)
+    let all = often_walked k (moofs_steps fragments) (owns_total tree tracks) (plain_total tracks) (fragments_total parts tracks) (rows_of tracks) (fragment_rows_of fragments) (sum_of table_steps tracks) (walks_steps tree)
     (owns_few file tree h s.movie) few (checks_sum tracks) (ways_sum tree tracks) in
-    subst (λ n. opening_steps tree + most_walks * walks_steps tree ≤ 3 * (most_walks + 1) * (n + row_total tree)) (sym total) all
+    subst (λ n. opening_steps tree + (k + 2) * walks_steps tree ≤ 3 * (k + 2 + 1) * (n + row_total tree)) (sym total) all
 
-pub often_looks : (file : List ℕ) (p : Presentation) (d : Denotes file p) → opening_steps d.tree + most_walks * walks_steps d.tree ≤ 3 * (most_walks + 1) * (sample_total p + row_total d.tree)
-often_looks file p d = subst (λ (q : Presentation). opening_steps d.tree + most_walks * walks_steps d.tree ≤ 3 * (most_walks + 1) * (sample_total q + row_total d.tree)) (sym d.says) (tree_often file d.tree d.is_tree d.is_sound d.is_consistent)
+pub often_looks : (walks : ℕ) → 2 ≤ walks → (file : List ℕ) (p : Presentation) (d : Denotes file p) → opening_steps d.tree + walks * walks_steps d.tree ≤ 3 * (walks + 1) * (sample_total p + row_total d.tree)
+often_looks walks two file p d =
+    let k = walks - 2 in
+    let many : k + 2 ≡ walks = omega (arith, two) in
+    let own = subst (λ (q : Presentation). opening_steps d.tree + (k + 2) * walks_steps d.tree ≤ 3 * (k + 2 + 1) * (sample_total q + row_total d.tree)) (sym d.says) (tree_often k file d.tree d.is_tree d.is_sound d.is_consistent) in
+    subst (λ n. opening_steps d.tree + n * walks_steps d.tree ≤ 3 * (n + 1) * (sample_total p + row_total d.tree)) many own
 
 -- opening a file takes at least a step for each sample and row
 least_of : (m s f r more leasts few : ℕ) → f ≤ few → m ≡ more + few → leasts ≡ r + 3 * s → (s + f) + (r + more) ≤ leasts + m

@@ -13,7 +13,7 @@ use Rattle.mp4_present.specs.format.ByBytes.{OpensWithin}
 use Rattle.mp4_present.specs.words.WalkSteps.{IfNoFault, opening_steps, walk_steps, walks_steps}
 use Rattle.mp4_present.proofs.One.{file_tree_one}
 use Rattle.mp4_answers.specs.format.Steps.{StepsByTracks, WorksWithin, WalksWithin, row_total}
-use Rattle.mp4_answers.specs.format.CompareHeadline.{ComparedWithin, most_walks}
+use Rattle.mp4_answers.specs.format.CompareHeadline.{ComparedWithin}
 use Rattle.mp4_answers.proofs.RunParts.{denotes_nothing}
 use Rattle.mp4_answers.proofs.ShownLines.{denoted}
 use Rattle.mp4_content.specs.declared.without.Without.{Without}
@@ -104,12 +104,12 @@ module _ (file : List ℕ) (old new : ℕ) where
   }
 
   -- a file that is opened, and of which each track is walked over at most as many times as may be
-  pub often_walked : (m : MovieSeen) (tree : FileTree) → IsOpenedAs file m tree → new ≤ old + (opening_steps tree + most_walks * walks_steps tree) → ComparedWithin file old new
-  often_walked m tree o walks = record {
+  pub often_walked : (times : ℕ) → 2 ≤ times → (m : MovieSeen) (tree : FileTree) → IsOpenedAs file m tree → new ≤ old + (opening_steps tree + times * walks_steps tree) → ComparedWithin times file old new
+  often_walked times two m tree o walks = record {
     denoted = λ p d.
         let same = file_tree_one file tree d.tree o.is_tree d.is_tree in
-        let own = subst (λ (u : FileTree). new ≤ old + (opening_steps u + most_walks * walks_steps u)) same walks in
-        let all = often_looks file p d in
+        let own = subst (λ (u : FileTree). new ≤ old + (opening_steps u + times * walks_steps u)) same walks in
+        let all = often_looks times two file p d in
         omega (arith, own, all);
     refused = λ nothing. absurd (nothing (presentation_of file tree) (denoted file m tree o));
   }

@@ -14,6 +14,7 @@ pub mod DifferenceLine
 pub mod LastLine
 pub mod WordLists
 pub mod DifferenceObject
+pub mod AlignedLine
 pub mod CompareHeadline
 pub mod FileTexts
 pub mod Lengths

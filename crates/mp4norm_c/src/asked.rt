@@ -11,7 +11,8 @@ use mp4_content::{Without, Word};
 pub struct Comparison {
     /// Flags of what is left out of both files.
     pub words: u32,
-    /// 0: the first difference alone; 1: all, and what counts them.
+    /// 0: the first difference alone; 1: all, and what counts them; 2: the same, where tracks are
+    /// aligned.
     pub listing: u32,
     /// Of all differences at most so many are listed.
     pub limit: u32,
@@ -75,7 +76,11 @@ fn listing_of(number: u32, limit: u32, syntax: Option<Syntax>) -> Option<Listing
 {
     match (number, syntax) {
         (0, Some(syntax)) => Some(Listing::First(syntax)),
-        (1, Some(syntax)) => Some(Listing::All(Lines { limit, syntax })),
+        (1 | 2, Some(syntax)) => Some(Listing::All(Lines {
+            limit,
+            syntax,
+            aligned: number == 2,
+        })),
         _ => None,
     }
 }

@@ -1,21 +1,25 @@
 -- What comparing two files answers.
-use Rattle.std.specs.Prelude.{◌≡◌, ◌↔◌, ◌≤◌, ℕ, ◌+◌, ◌*◌, nat_le, List, ◌++◌, length, take, map, flat_map, slice_get, Bool, true, Option, Some, None, Ok}
+use Rattle.std.specs.Prelude.{◌≡◌, ◌↔◌, ◌≤◌, ℕ, ◌+◌, ◌*◌, nat_le, List, [], ◌++◌, length, take, map, flat_map, slice_get, Bool, true, false, if◌then◌else◌, Option, Some, None, Ok}
 use Rattle.mp4_boxes.specs.format.Bytes.{AreBytes}
 use Rattle.mp4_present.specs.format.ByBytes.{OpensWithin}
 use Rattle.mp4_present.specs.format.Denotes.{Denotes}
 use Rattle.mp4_head.specs.format.Head.{Kept}
 use Rattle.mp4_present.specs.format.Presentation.{Track, Presentation, sample_total}
 use Rattle.mp4_present.specs.format.Judge.{judge}
+use Rattle.mp4_content.specs.format.Alignment.{AreAligned, listed}
 use Rattle.mp4_content.specs.format.Reduced.{reduce}
 use Rattle.mp4_content.specs.format.Comparison.{differences}
+use Rattle.mp4_content.specs.declared.aligning.Alignment.{Alignment}
 use Rattle.mp4_content.specs.declared.comparing.differences.Difference.{Difference}
 use Rattle.mp4_content.specs.declared.without.Without.{Without}
 use Rattle.mp4_content.specs.format.Words.{all_words}
 use Rattle.mp4_content.specs.format.CoveringLaws.{Covers}
+use Rattle.mp4_answers.specs.declared.commands.compare.Lines.{Lines}
 use Rattle.mp4_answers.specs.declared.commands.compare.Listing.{Listing}
 use Rattle.mp4_answers.specs.declared.commands.compare.Listing.TheVariants as listings
 use Rattle.mp4_answers.specs.declared.jobs.Syntax.{Syntax}
 use Rattle.mp4_answers.specs.declared.jobs.Syntax.TheVariants as syntaxes
+use Rattle.mp4_answers.specs.format.AlignedLine.{alignment_line, alignment_object}
 use Rattle.mp4_answers.specs.format.DifferenceLine.{difference_line}
 use Rattle.mp4_answers.specs.format.DifferenceObject.{difference_object, last_object}
 use Rattle.mp4_answers.specs.format.Headline.{DenotesNothing}
@@ -62,21 +66,35 @@ abbrev pub last_in : Syntax → Bool → List Difference → Option Without → 
 last_in syntaxes.Text whole ds enough = last_line whole ds enough
 last_in syntaxes.Json whole ds enough = last_object whole ds enough
 
--- the first differences, as many as are asked for, and what is said of all that are counted
-abbrev pub listing_text : Syntax → ℕ → List Difference → Option Without → List ℕ
-listing_text syntax limit ds enough =
-    flat_map (difference_in syntax) (take limit (take most_counted ds))
-    ++ last_in syntax (nat_le (length ds) most_counted) (take most_counted ds) enough
+-- how two tracks lie beside each other, as a line or as an object
+abbrev pub alignment_in : Syntax → Alignment → List ℕ
+alignment_in syntaxes.Text a = alignment_line a
+alignment_in syntaxes.Json a = alignment_object a
+
+-- Where tracks are aligned, how each two lie beside each other of which not the same samples are
+-- left; else none.
+abbrev pub AreToldAligned : Bool → Without → Presentation → Presentation → List Alignment → Type 0
+AreToldAligned true l p q found = AreAligned l 1 p.tracks q.tracks found
+AreToldAligned false l p q found = found ≡ []
+
+-- how tracks lie beside each other, the first differences, as many as are asked for, and what is
+-- said of all that are counted
+abbrev pub listing_text : Lines → List Alignment → List Difference → Option Without → List ℕ
+listing_text lines found ds enough = flat_map (alignment_in lines.syntax) found
+    ++ flat_map (difference_in lines.syntax) (take lines.limit (take most_counted ds))
+    ++ last_in lines.syntax (nat_le (length ds) most_counted) (take most_counted ds) enough
 
 -- What is said of two presentations of which not the same is left: the first difference; or all of
--- them, with the words that make the two the same.
+-- them, with the words that make the two the same. Without alignment what is listed are all
+-- `differences`.
 abbrev pub TellsOf : Listing → Without → Presentation → Presentation → List ℕ → Type 0
 TellsOf (listings.First syntax) l p q text = (first : Difference)
     × (slice_get (differences (reduce l p) (reduce l q)) 0 ≡ Some first)
     × (text ≡ difference_in syntax first)
-TellsOf (listings.All lines) l p q text = (enough : Option Without) × AreEnough l p q enough
-    × (text
-    ≡ listing_text lines.syntax lines.limit (differences (reduce l p) (reduce l q)) enough)
+TellsOf (listings.All lines) l p q text = (found : List Alignment)
+    × AreToldAligned lines.aligned l p q found
+    × (enough : Option Without) × AreEnough l p q enough
+    × (text ≡ listing_text lines found (listed lines.aligned (reduce l p) (reduce l q)) enough)
 
 -- The text tells of what the two files are judged to be.
 pub record IsTold (listing : Listing) (l : Without) (file other text : List ℕ) : Type 0 where
@@ -96,24 +114,30 @@ PutsSuch Took IsText = (text : List ℕ) × IsText text × Took text
 abbrev pub word_count : ℕ
 word_count = length all_words
 
--- A file is walked over at most so many times: to list what differs; to find words that make the
--- two the same, those that the differences ask for and then all; and without each of these words.
-abbrev pub most_walks : ℕ
-most_walks = 3 + word_count
+-- two more walks where tracks are aligned: from the first sample on, and to the last
+abbrev pub aligned_walks : Bool → ℕ
+aligned_walks aligned = if aligned then 2 else 0
+
+-- A file is walked over at most so many times: to list what differs; to align tracks; to find words
+-- that make the two the same, those that the differences ask for and then all; and without each of
+-- these words.
+abbrev pub most_walks : Listing → ℕ
+most_walks (listings.First syntax) = 3 + word_count
+most_walks (listings.All lines) = 3 + word_count + aligned_walks lines.aligned
 
 -- The steps over one of two files that are compared: those of opening it, and of so many walks over
 -- each of its tracks. Where it denotes a presentation: 3 for opening it and 3 for each walk, times
 -- the samples and rows, however many tracks there are. Where it denotes nothing: by its bytes.
-pub record ComparedWithin (file : List ℕ) (old new : ℕ) : Type 0 where
+pub record ComparedWithin (walks : ℕ) (file : List ℕ) (old new : ℕ) : Type 0 where
   pub denoted : (p : Presentation) → (d : Denotes file p)
-      → new ≤ old + 3 * (most_walks + 1) * (sample_total p + row_total d.tree)
+      → new ≤ old + 3 * (walks + 1) * (sample_total p + row_total d.tree)
   pub refused : DenotesNothing file → OpensWithin file old new
 
 -- the steps of comparing two files
-pub record ComparesWithin (file other : List ℕ) (old new : ℕ) : Type 0 where
+pub record ComparesWithin (listing : Listing) (file other : List ℕ) (old new : ℕ) : Type 0 where
   pub between : ℕ
-  pub first : ComparedWithin file old between
-  pub second : ComparedWithin other between new
+  pub first : ComparedWithin (most_walks listing) file old between
+  pub second : ComparedWithin (most_walks listing) other between new
 
 -- Their looks: those that opening each may take.
 pub record FindsBothWithin (file other : List ℕ) (old new : ℕ) : Type 0 where

@@ -4,16 +4,21 @@ use Rattle.std.specs.Prelude.{◌≡◌, ◌⊎◌, ◌+◌, ◌*◌, ◌<◌, �
 use Rattle.mp4_store.specs.words.Device.{HasRisen, TakesPrefix}
 use Rattle.mp4_boxes.specs.declared.refusal.Refusal.{Refusal}
 use Rattle.mp4_boxes.specs.declared.refusal.Refusal.TheVariants as refusals
+use Rattle.mp4_content.specs.format.Alignment.{listed}
 use Rattle.mp4_content.specs.format.Comparison.{differences}
+use Rattle.mp4_content.specs.format.Reduced.{reduce}
 use Rattle.mp4_present.specs.format.Denotes.{FileTree}
+use Rattle.mp4_present.specs.format.Presentation.{Presentation}
 use Rattle.mp4_present.specs.words.WalkSteps.{walks_steps}
+use Rattle.mp4_content.specs.declared.aligning.Alignment.{Alignment}
 use Rattle.mp4_content.specs.declared.comparing.differences.Difference.{Difference}
 use Rattle.mp4_content.specs.declared.without.Word.{Word}
 use Rattle.mp4_content.specs.declared.without.Without.{Without}
 use Rattle.mp4_content.specs.format.CoveringLaws.{Covers}
-use Rattle.mp4_answers.specs.format.CompareHeadline.{difference_in, last_in, listing_text, most_counted}
+use Rattle.mp4_answers.specs.format.CompareHeadline.{AreToldAligned, alignment_in, difference_in, last_in, listing_text, most_counted}
 use Rattle.mp4_answers.specs.format.DifferenceObject.{last_object}
 use Rattle.mp4_answers.specs.words.SingleWords.{everything, less_word, single_words}
+use Rattle.mp4_answers.specs.declared.commands.compare.Lines.{Lines}
 use Rattle.mp4_answers.specs.declared.commands.compare.Listing.{Listing}
 use Rattle.mp4_answers.specs.declared.commands.compare.Listing.TheVariants as listings
 use Rattle.mp4_answers.specs.declared.commands.compare.Side.{Side}
@@ -42,10 +47,17 @@ AddsLines syntax ds old new = new ≡ old ++ flat_map (difference_in syntax) ds
 abbrev pub AddsLast : Syntax → Bool → List Difference → Option Without → List ℕ → List ℕ → Type 0
 AddsLast syntax whole ds enough old new = new ≡ old ++ last_in syntax whole ds enough
 
--- the lines of some first of these, and the last one, which says whether these are all
-abbrev pub IsCounted : Syntax → ℕ → List Difference → Bool → Option Without → List ℕ → Type 0
-IsCounted syntax limit ds whole enough text = text
-    ≡ flat_map (difference_in syntax) (take limit ds) ++ last_in syntax whole ds enough
+-- the lines of these were added
+abbrev pub AddsAligned : Syntax → List Alignment → List ℕ → List ℕ → Type 0
+AddsAligned syntax found old new = new ≡ old ++ flat_map (alignment_in syntax) found
+
+-- the lines of how tracks lie beside each other, those of some first differences, and the last one,
+-- which says whether these are all
+abbrev pub IsCounted : Lines → List Alignment → List Difference → Bool → Option Without → List ℕ
+    → Type 0
+IsCounted lines found ds whole enough text = text ≡ flat_map (alignment_in lines.syntax) found
+    ++ flat_map (difference_in lines.syntax) (take lines.limit ds)
+    ++ last_in lines.syntax whole ds enough
 
 -- The differences are given for whatever is left out. Whether there are none without this.
 abbrev pub IsSameWith : Without → (Without → List Difference) → Bool → Type 0
@@ -77,17 +89,20 @@ IsEnough given differ (Some least) = (l : Without) × AreSome given differ (Some
     × IsShrunk single_words given differ l least
 
 -- what is said where something differs
-abbrev pub IsSaidOf : Listing → Without → (Without → List Difference) → List ℕ → Type 0
-IsSaidOf (listings.First syntax) l differ text = (first : Difference)
-    × (slice_get (differ l) 0 ≡ Some first) × (text ≡ difference_in syntax first)
-IsSaidOf (listings.All lines) l differ text = (enough : Option Without) × IsEnough l differ enough
-    × (text ≡ listing_text lines.syntax lines.limit (differ l) enough)
+abbrev pub IsSaidOf : Listing → Without → Presentation → Presentation → List ℕ → Type 0
+IsSaidOf (listings.First syntax) l p q text = (first : Difference)
+    × (slice_get (differences (reduce l p) (reduce l q)) 0 ≡ Some first)
+    × (text ≡ difference_in syntax first)
+IsSaidOf (listings.All lines) l p q text = (found : List Alignment)
+    × AreToldAligned lines.aligned l p q found
+    × (enough : Option Without) × IsEnough l (λ m. differences (reduce m p) (reduce m q)) enough
+    × (text ≡ listing_text lines found (listed lines.aligned (reduce l p) (reduce l q)) enough)
 
 -- the same of what was found
-abbrev pub IsFoundOf : {A : Type 0} → (A → List ℕ) → Listing → Without → (Without → List Difference)
-    → Option A → Type 0
-IsFoundOf bytes listing l differ None = Unit {0}
-IsFoundOf bytes listing l differ (Some text) = IsSaidOf listing l differ (bytes text)
+abbrev pub IsFoundOf : {A : Type 0} → (A → List ℕ) → Listing → Without → Presentation
+    → Presentation → Option A → Type 0
+IsFoundOf bytes listing l p q None = Unit {0}
+IsFoundOf bytes listing l p q (Some text) = IsSaidOf listing l p q (bytes text)
 
 abbrev pub says_nothing : {A : Type 0} → Option A → Bool
 says_nothing None = true

@@ -3,7 +3,8 @@ use Rattle.std.specs.Prelude.{ℕ, ◌+◌, ◌≤◌, Bool, List, Result, IfOk,
 use Rattle.mp4_boxes.specs.declared.refusal.Refusal.{Refusal}
 use Rattle.mp4_store.specs.declared.store.Store.{Ghosts as Store}
 use Rattle.mp4_store.specs.declared.sink.Sink.{Ghosts as Sink}
-use Rattle.mp4_present.specs.format.Denotes.{FileTree}
+use Rattle.mp4_present.specs.format.Denotes.{FileTree, presentation_of}
+use Rattle.mp4_present.specs.format.Presentation.{Presentation}
 use Rattle.mp4_content.specs.words.Compared.{files_differ, WhereOpenedBoth}
 use Rattle.mp4_content.specs.words.Differing.{RefusedBoth, RefusesSample}
 use Rattle.mp4_present.specs.words.Movies.{MovieSeen}
@@ -26,6 +27,12 @@ abbrev pub OfBoth : {X Y : Type 0} → Store X → X → MovieSeen → Store Y �
     → ((Without → List Difference) → Type 0) → Type 0
 OfBoth S a m T b n P = WhereOpenedBoth S a m T b n
     (λ tree other. P (λ l. files_differ l (S.file a) tree (T.file b) other))
+
+-- the same, of what both files denote
+abbrev pub OfDenoted : {X Y : Type 0} → Store X → X → MovieSeen → Store Y → Y → MovieSeen
+    → (Presentation → Presentation → Type 0) → Type 0
+OfDenoted S a m T b n P = WhereOpenedBoth S a m T b n
+    (λ tree other. P (presentation_of (S.file a) tree) (presentation_of (T.file b) other))
 
 -- why two files are not compared, and for which of them
 abbrev pub FailsCompare : {X Y Z R : Type 0} → Store X → X → X → Store Y → Y → Y

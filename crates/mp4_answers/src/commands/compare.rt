@@ -2,33 +2,39 @@
 ghost use Rattle.std.specs.Prelude.{◌≡◌, ◌&&◌, not, ◌+◌, ◌<◌, ◌≤◌, [], ◌∷◌, length, take, Some, true, false, IfOk, IfErr, IfSome, OnOk};
 ghost use Rattle.mp4_answers.specs.declared.commands.compare.Listing.TheVariants.{All};
 ghost use Rattle.mp4_answers.specs.format.Steps.{TakesEachOfBoth};
-ghost use Rattle.mp4_answers.specs.format.CompareHeadline.{IsVerdict, IsTold, difference_in, PutsSuch, ComparesWithin, FindsBothWithin, most_walks, word_count};
+ghost use Rattle.mp4_answers.specs.format.CompareHeadline.{AreToldAligned, IsVerdict, IsTold, aligned_walks, difference_in, PutsSuch, ComparesWithin, FindsBothWithin, most_walks, word_count};
 ghost use Rattle.mp4_answers.specs.format.DifferenceObject.{last_object};
-ghost use Rattle.mp4_answers.specs.words.Compares.{side_of, says_nothing, is_silent, AddsLines, AddsLast, IsCounted, AreSome, IsEnough, IsTried, IsShrunk, IsSameWith, IsFoundOf, IsSaid, ListsFront, PutsAnswer, PutsFound, PutsSame, WalksTimes, RefusesAnswer};
+ghost use Rattle.mp4_answers.specs.words.Compares.{side_of, says_nothing, is_silent, AddsAligned, AddsLines, AddsLast, IsCounted, AreSome, IsEnough, IsTried, IsShrunk, IsSameWith, IsFoundOf, IsSaid, ListsFront, PutsAnswer, PutsFound, PutsSame, WalksTimes, RefusesAnswer};
 ghost use Rattle.mp4_present.specs.words.StoresRead.{IsUnchanged, WhereBothHonest};
 ghost use Rattle.mp4_answers.specs.words.StoreAndSink.{NoPutFails};
 ghost use Rattle.mp4_content.specs.format.Words.{has};
-ghost use Rattle.mp4_content.specs.words.Compared.{OfFiles, WhereOpenedBoth};
-ghost use Rattle.mp4_answers.specs.words.TwoFiles.{ComparesBoth, OfBoth, ReadsBoth, WalksOnce};
+ghost use Rattle.mp4_content.specs.words.Compared.{OfFiles, OfListed, WhereOpenedBoth};
+ghost use Rattle.mp4_answers.specs.words.TwoFiles.{ComparesBoth, OfBoth, OfDenoted, ReadsBoth, WalksOnce};
 
 use crate::commands::guesses::guess;
 use crate::jobs::Syntax;
+use crate::text::aligned_lines::{say_alignment, say_alignment_object};
 use crate::text::difference_json::{say_difference_object, say_last_object};
 use crate::text::difference_lines::say_difference;
 use crate::text::tally::say_last;
 use crate::without_words::{TAKEN, everything, less_word};
 use mp4_boxes::{Refusal, Steps};
-use mp4_content::{Difference, Differences, Movies, Without, Word, compare, compare_all};
+use mp4_content::{
+    Alignment, Difference, Differences, Movies, Without, Word, align, compare, compare_listed,
+};
 use mp4_present::open_movie;
 use mp4_store::{Sink, Store};
 use std::alloc::{AllocError, Global};
 use std::sync::ledger::Ledger;
 
-/// How many differences are listed at most, and in which syntax.
+/// How many differences are listed at most, in which syntax, and whether tracks whose samples are
+/// not the same are aligned: it is told first how they lie beside each other, and samples are
+/// listed only of tracks that have as many.
 #[derive(Clone, Copy)]
 pub struct Lines {
     pub limit: u32,
     pub syntax: Syntax,
+    pub aligned: bool,
 }
 
 /// How a comparison is told of: by the first difference alone, or by so many and their counts.
@@ -168,6 +174,27 @@ fn say_in(text: &mut Vec<u8>, difference: Difference, syntax: Syntax) -> Result<
     }
 }
 
+// Adds how two tracks lie beside each other, in this syntax.
+fn say_beside(text: &mut Vec<u8>, alignment: Alignment, syntax: Syntax) -> Result<(), AllocError>
+    ensures { OnOk result
+        (AddsAligned syntax (alignment ∷ []) text.old.items text.new.items) }
+{
+    match syntax {
+        Syntax::Text => say_alignment(text, alignment),
+        Syntax::Json => say_alignment_object(text, alignment),
+    }
+}
+
+// Adds how tracks lie beside each other, in this syntax.
+fn say_aligned(text: &mut Vec<u8>, aligned: &[Alignment], syntax: Syntax) -> Result<(), AllocError>
+    ensures { OnOk result (AddsAligned syntax aligned.now text.old.items text.new.items) }
+{
+    for alignment in aligned {
+        say_beside(text, *alignment, syntax)?;
+    }
+    Ok(())
+}
+
 // Adds the line that ends a list, in this syntax.
 fn say_last_in(
     text: &mut Vec<u8>,
@@ -203,19 +230,22 @@ fn first_of(all: &[Difference], most: usize) -> &[Difference]
     &all[..all.len().min(most)]
 }
 
-// The text of the first of some differences, and of the counts of all.
+// The text of how tracks lie beside each other, of the first of some differences, and of the counts
+// of all.
 fn listed_text(
     alloc: Global,
+    aligned: &[Alignment],
     all: &[Difference],
     lines: Lines,
     is_whole: bool,
     enough: Option<Without>,
 ) -> Result<Vec<u8>, AllocError>
     ensures list { IfOk result (λ text.
-        IsCounted lines.syntax lines.limit all.now is_whole enough text.items) }
+        IsCounted lines aligned.now all.now is_whole enough text.items) }
     ensures some { IfOk result (λ text. 0 < length text.items) }
 {
     let mut text = Vec::new(alloc);
+    say_aligned(&mut text, aligned, lines.syntax)?;
     for difference in first_of(all, lines.limit as usize) {
         say_in(&mut text, *difference, lines.syntax)?;
     }
@@ -256,12 +286,13 @@ fn all_of<S: Store, T: Store, L: Ledger, M: Ledger>(
     left: &mut S,
     right: &mut T,
     leaving: Without,
+    aligned: bool,
     steps: &mut Steps<L, M>,
 ) -> Result<Listed, Refusal>
     ensures stores { ReadsBoth S.Store left.old left.new T.Store right.old right.new result }
     ensures all { IfOk result
-        (λ found. OfFiles S.Store left.old movies.now.left T.Store right.old movies.now.right
-        leaving (ListsFront found.all.items)) }
+        (λ found. OfListed S.Store left.old movies.now.left T.Store right.old movies.now.right
+        aligned leaving (ListsFront found.all.items)) }
     ensures opened { WhereOpenedBoth S.Store left.old movies.now.left
         T.Store right.old movies.now.right
         (λ tree other. IsUnchanged result
@@ -273,11 +304,38 @@ fn all_of<S: Store, T: Store, L: Ledger, M: Ledger>(
     if !listed.has_room() {
         return Err(Refusal::Memory);
     }
-    let is_whole = compare_all(alloc, movies, left, right, leaving, &mut listed, steps)?;
+    let seen = &mut listed;
+    let is_whole = compare_listed(alloc, movies, left, right, leaving, aligned, seen, steps)?;
     if !is_whole && listed.all.len() <= MOST {
         return Err(Refusal::Memory);
     }
     Ok(listed)
+}
+
+// How the tracks of two opened files lie beside each other; none if that isn't asked for.
+fn alignments_of<S: Store, T: Store, L: Ledger, M: Ledger>(
+    alloc: Global,
+    files: &Compared,
+    left: &mut S,
+    right: &mut T,
+    aligned: bool,
+    steps: &mut Steps<L, M>,
+) -> Result<Vec<Alignment>, Refusal>
+    ensures stores { ReadsBoth S.Store left.old left.new T.Store right.old right.new result }
+    ensures found { OfDenoted S.Store left.old files.now.movies.left
+        T.Store right.old files.now.movies.right
+        (λ p q. IfOk result (λ found. AreToldAligned aligned files.now.given p q found.items)) }
+    ensures opened { WhereOpenedBoth S.Store left.old files.now.movies.left
+        T.Store right.old files.now.movies.right
+        (λ tree other. IsUnchanged result
+        × WalksTimes (aligned_walks aligned) tree other steps.old.passed steps.new.passed) }
+    ensures grows { OnOk result (steps.old.passed ≤ steps.new.passed) }
+    ensures looks { steps.new.looks ≡ steps.old.looks }
+{
+    if !aligned {
+        return Ok(Vec::new(alloc));
+    }
+    align(alloc, &files.movies, left, right, files.given, steps)
 }
 
 // Whether two opened files are the same without this.
@@ -463,24 +521,26 @@ fn all_text<S: Store, T: Store, L: Ledger, M: Ledger>(
         T.Store right.old files.now.movies.right
         files.now.given (IsSaid text)) }
     ensures told { IfOk result
-        (λ text. OfBoth S.Store left.old files.now.movies.left
+        (λ text. OfDenoted S.Store left.old files.now.movies.left
         T.Store right.old files.now.movies.right
-        (λ differ. IsFoundOf (λ bytes. bytes.items) (All lines) files.now.given differ text)) }
+        (λ p q. IsFoundOf (λ bytes. bytes.items) (All lines) files.now.given p q text)) }
     ensures opened { WhereOpenedBoth S.Store left.old files.now.movies.left
         T.Store right.old files.now.movies.right
         (λ tree other. IsUnchanged result
-        × WalksTimes most_walks tree other steps.old.passed steps.new.passed) }
+        × WalksTimes (most_walks (All lines)) tree other steps.old.passed steps.new.passed) }
     ensures grows { OnOk result (steps.old.passed ≤ steps.new.passed) }
     ensures looks { steps.new.looks ≡ steps.old.looks }
 {
-    let listed = all_of(alloc, &files.movies, left, right, files.given, steps)?;
+    let (movies, leaving) = (&files.movies, files.given);
+    let listed = all_of(alloc, movies, left, right, leaving, lines.aligned, steps)?;
     if listed.is_empty() {
         return Ok(None);
     }
     let is_whole = listed.all.len() <= MOST;
     let all = first_of(listed.all.as_slice(), MOST);
+    let found = alignments_of(alloc, files, left, right, lines.aligned, steps)?;
     let enough = enough_for(alloc, files, left, right, all, steps)?;
-    Ok(Some(listed_text(alloc, all, lines, is_whole, enough)?))
+    Ok(Some(listed_text(alloc, found.as_slice(), all, lines, is_whole, enough)?))
 }
 
 // Compares two opened files, and gives what there is to say; nothing where they are the same.
@@ -499,13 +559,13 @@ fn text_of<S: Store, T: Store, L: Ledger, M: Ledger>(
         T.Store right.old files.now.movies.right
         files.now.given (IsSaid text)) }
     ensures told { IfOk result
-        (λ text. OfBoth S.Store left.old files.now.movies.left
+        (λ text. OfDenoted S.Store left.old files.now.movies.left
         T.Store right.old files.now.movies.right
-        (λ differ. IsFoundOf (λ bytes. bytes.items) listing files.now.given differ text)) }
+        (λ p q. IsFoundOf (λ bytes. bytes.items) listing files.now.given p q text)) }
     ensures opened { WhereOpenedBoth S.Store left.old files.now.movies.left
         T.Store right.old files.now.movies.right
         (λ tree other. IsUnchanged result
-        × WalksTimes most_walks tree other steps.old.passed steps.new.passed) }
+        × WalksTimes (most_walks listing) tree other steps.old.passed steps.new.passed) }
     ensures grows { OnOk result (steps.old.passed ≤ steps.new.passed) }
     ensures looks { steps.new.looks ≡ steps.old.looks }
 {
@@ -583,7 +643,7 @@ pub fn compare_files<S: Store, T: Store, K: Sink, L: Ledger, M: Ledger>(
         (λ file other.
         PutsSuch (K.takes sink.old sink.new) (IsTold asked.listing asked.leaving file other))) }
     ensures work { WhereBothHonest S.Store left.old T.Store right.old
-        (λ file other. ComparesWithin file other steps.old.passed steps.new.passed) }
+        (λ file other. ComparesWithin asked.listing file other steps.old.passed steps.new.passed) }
     ensures least { OnOk result (WhereBothHonest S.Store left.old T.Store right.old
         (λ file other. TakesEachOfBoth file other steps.old.passed steps.new.passed)) }
     ensures looks { WhereBothHonest S.Store left.old T.Store right.old

@@ -1,5 +1,6 @@
 //! Texts of answers: lines, objects of JSON, digits.
 
+pub mod aligned_lines;
 pub mod box_json;
 pub mod cutting;
 pub mod difference_json;

@@ -28,7 +28,7 @@ const TWO_FORMS: &str = "the argument '--header' cannot be used with '--json'";
 
 const BRIEFLY_EXPLAINED: &str = "the argument '--brief' cannot be used with '--explain'";
 
-const LIMIT_ALONE: &str = "the argument '--limit <N>' is of use only with '--all'";
+const LIMIT_ALONE: &str = "the argument '--limit <N>' is of use only with '--all' or '--align'";
 
 const ROWS_ALONE: &str = "the argument '--rows <N>' is of use only with '--fields'";
 
@@ -368,11 +368,14 @@ fn sum_asked<'a>(alloc: Global, found: &ArgMatches<'a>) -> Result<Action<'a>, Co
 // How differences are to be told of.
 fn listing_of(found: &ArgMatches) -> Listing {
     let syntax = syntax_of(found);
-    if !found.get_flag("all") {
+    if !has_any(found, &["all", "align"]) {
         return Listing::First(syntax);
     }
-    let limit = found.get_one::<u32>("limit").unwrap_or(LIMIT);
-    Listing::All(Lines { limit, syntax })
+    Listing::All(Lines {
+        limit: found.get_one::<u32>("limit").unwrap_or(LIMIT),
+        syntax,
+        aligned: found.get_flag("align"),
+    })
 }
 
 // Which files are to be compared, and how.
@@ -477,7 +480,7 @@ fn conflict_in(matches: &ArgMatches) -> Option<&'static str> {
         Some(NO_LIST)
     } else if inputs_in(found) > 1 {
         Some(INPUT_TWICE)
-    } else if found.get_one::<u32>("limit").is_some() && !found.get_flag("all") {
+    } else if found.get_one::<u32>("limit").is_some() && !has_any(found, &["all", "align"]) {
         Some(LIMIT_ALONE)
     } else if found.get_one::<u64>("rows").is_some() && !found.get_flag("fields") {
         Some(ROWS_ALONE)

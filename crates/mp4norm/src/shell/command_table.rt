@@ -75,6 +75,10 @@ With --check: open no file, and print the names of those FILEs that LIST has not
 
 const ALL: &str = "List all differences, and count them, in place of the first alone";
 
+const ALIGN: &str = "\
+The same, but say first how tracks lie beside each other whose samples are not the same, and list
+samples only of tracks that have as many";
+
 // A word that is there or not.
 fn flag<'a>(alloc: Global, name: &'a str, help: &'a str) -> Arg<'a> {
     Arg::new(alloc, name)
@@ -355,7 +359,9 @@ fn limit_arg<'a>(alloc: Global) -> Arg<'a> {
     Arg::new(alloc, "limit")
         .long("limit")
         .value_name("N")
-        .help("How many differences to list at most with --all; 100 where it isn't given")
+        .help(
+            "How many differences to list at most with --all and --align; 100 where it isn't given",
+        )
         .action(ArgAction::Set)
         .value_parser(value_parser!(u32))
 }
@@ -368,6 +374,7 @@ fn compare_command<'a>(alloc: Global) -> Result<Command<'a>, AllocError> {
         .arg(side_arg(alloc, "right", "B"))?
         .arg(without_arg(alloc))?
         .arg(flag(alloc, "all", ALL))?
+        .arg(flag(alloc, "align", ALIGN))?
         .arg(limit_arg(alloc))?
         .arg(flag(alloc, "json", JSON))?;
     with_reading(with_foreign(command, alloc)?, alloc)

@@ -19,6 +19,7 @@ use Rattle.mp4_answers.specs.declared.jobs.Syntax.{Syntax}
 use Rattle.mp4_answers.specs.declared.jobs.Syntax.TheVariants as syntaxes
 use Rattle.mp4_answers.specs.declared.commands.compare.Asked.{Asked}
 use Rattle.mp4_answers.specs.declared.commands.compare.Listing.{Listing}
+use Rattle.mp4_answers.specs.declared.commands.compare.Lines.{Lines}
 use Rattle.mp4_answers.specs.declared.commands.compare.Listing.TheVariants as listings
 use Rattle.mp4_answers.specs.format.Answers.{IsFaultOf}
 use Rattle.mp4_answers.specs.format.BoxWalk.{under, FaultSeen}
@@ -133,13 +134,16 @@ boxes_job = option_map jobs.Boxes
 abbrev pub fields_job : ℕ → Option Syntax → Option Job
 fields_job rows = option_map (λ syntax. jobs.Fields syntax rows)
 
+abbrev pub lines_of : ℕ → Syntax → Bool → Lines
+lines_of limit syntax aligned = record { limit = limit; syntax = syntax; aligned = aligned }
+
 -- How two files are told of that differ: by the first difference, or by all, of which at most so
--- many are listed; in this syntax.
+-- many are listed, where tracks are aligned or not; in this syntax.
 abbrev pub listing_of : ℕ → ℕ → Option Syntax → Option Listing
 listing_of number limit None = None
 listing_of number limit (Some syntax) = if number == 0 then Some (listings.First syntax)
-    else (if number == 1 then Some (listings.All (record { limit = limit; syntax = syntax }))
-    else None)
+    else (if number == 1 then Some (listings.All (lines_of limit syntax false))
+    else (if number == 2 then Some (listings.All (lines_of limit syntax true)) else None))
 
 -- what is asked of a comparison, where all of it is known
 abbrev pub asked_of : Option Without → Option Listing → Option Asked

@@ -1,5 +1,5 @@
 use Rattle.std.proofs.Common.{rules, inl, inr}
-use Rattle.mp4_content.specs.words.Compared.{files_differ}
+use Rattle.mp4_content.specs.words.Compared.{files_listed}
 use Rattle.mp4_answers.proofs.ComparedFiles.{listed_front}
 use Rattle.mp4_answers.proofs.commands.compare.all_of.Goals.{else-not-is_whole-via-then-not-is_whole+else-len-le-MOST, else-not-is_whole-via-else-not-is_whole}
 use Rattle.mp4_answers.proofs.commands.compare.all_of.Goals as goal
@@ -7,7 +7,7 @@ use Rattle.mp4_answers.proofs.commands.compare.all_of.Goals as goal
 pub returns-clause-all : goal.returns-clause-all
 returns-clause-all g c = λ told right tree other o u.
     let is = c.in_ok-is_whole in
-    listed_front c.in_ok-listed.listed.all.items c.compare_all.new.seen.all.items is.is_whole
-    (files_differ c.args.leaving (g.S.Store.file c.args.left.now) tree (g.T.Store.file c.args.right.now) other) c.in_ok-listed.ensures
+    listed_front c.in_ok-listed.listed.all.items c.compare_listed.new.seen.all.items is.is_whole
+    (files_listed c.args.aligned c.args.leaving (g.S.Store.file c.args.left.now) tree (g.T.Store.file c.args.right.now) other) c.in_ok-listed.ensures
     (λ e. is.ensures.handed.all e told right tree other o u) (is.ensures.handed.front told right tree other o u)
     (elim c.else-not-is_whole.branch [ else-not-is_whole-via-then-not-is_whole+else-len-le-MOST w ↦ inr (search rules) | else-not-is_whole-via-else-not-is_whole w ↦ inl (search rules) ])

@@ -1,8 +1,8 @@
-use Rattle.std.proofs.Common.{sym, ◌∙◌, arith}
+use Rattle.std.proofs.Common.{sym, ◌∙◌}
 use Rattle.mp4_present.specs.words.WalkSteps.{walks_steps}
 use Rattle.mp4_content.specs.words.Compared.{files_differ}
 use Rattle.mp4_answers.specs.format.CompareHeadline.{most_walks}
-use Rattle.mp4_answers.proofs.ComparedFiles.{first_said, one_of_times}
+use Rattle.mp4_answers.proofs.ComparedFiles.{first_said, one_of_times, some_walks}
 use Rattle.mp4_answers.proofs.commands.compare.text_of.Goals as goal
 
 pub returns-in-None-clause-said : goal.returns-in-None-clause-said
@@ -13,7 +13,7 @@ returns-in-None-clause-said g c = λ told right tree other o u.
 
 pub returns-in-None-clause-opened : goal.returns-in-None-clause-opened
 returns-in-None-clause-opened g c = λ told right tree other o u.
-    (tt, one_of_times _ _ (walks_steps tree) (walks_steps other) most_walks (omega arith) (c.in_ok-compare-in-First.ensures.work told right tree other o u))
+    (tt, one_of_times _ _ (walks_steps tree) (walks_steps other) (most_walks c.args.listing) (some_walks c.args.listing) (c.in_ok-compare-in-First.ensures.work told right tree other o u))
 
 pub returns-in_ok-first_text-in-Some-clause-said : goal.returns-in_ok-first_text-in-Some-clause-said
 returns-in_ok-first_text-in-Some-clause-said g c = λ told right tree other o u.
@@ -23,7 +23,7 @@ returns-in_ok-first_text-in-Some-clause-said g c = λ told right tree other o u.
 
 pub returns-in_ok-first_text-in-Some-clause-opened : goal.returns-in_ok-first_text-in-Some-clause-opened
 returns-in_ok-first_text-in-Some-clause-opened g c = λ told right tree other o u.
-    (tt, one_of_times _ _ (walks_steps tree) (walks_steps other) most_walks (omega arith) (c.in_ok-compare-in-First.ensures.work told right tree other o u))
+    (tt, one_of_times _ _ (walks_steps tree) (walks_steps other) (most_walks c.args.listing) (some_walks c.args.listing) (c.in_ok-compare-in-First.ensures.work told right tree other o u))
 
 -- ---- the first
 
@@ -34,3 +34,6 @@ returns-in_ok-first_text-in-Some-clause-told g c = λ told right tree other o u.
 
 pub returns-in-All-clause-told : goal.returns-in-All-clause-told
 returns-in-All-clause-told g c = rw c.in-All.is c.all_text.ensures.told
+
+pub returns-in-All-clause-opened : goal.returns-in-All-clause-opened
+returns-in-All-clause-opened g c = rw c.in-All.is c.all_text.ensures.opened
