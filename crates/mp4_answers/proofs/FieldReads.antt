@@ -3,8 +3,8 @@ use Rattle.std.proofs.Common.{◌≡◌, ℕ, zero, suc, ◌+◌, ◌-◌, ◌*�
 use Rattle.std.proofs.Math.Nat.{mul-le-mul_right, suc-mul}
 use Rattle.std.proofs.lemmas.List.{take_all, drop_all}
 use Rattle.mp4_store.specs.words.Device.{range}
-use Rattle.mp4_answers.specs.declared.layouts.Head.{Head}
-use Rattle.mp4_answers.specs.declared.text.field_lines.Spot.{Spot}
+use Rattle.mp4_answers.specs.declared.layouts.LeafHead.{LeafHead}
+use Rattle.mp4_answers.specs.declared.text.field_lines.FieldSpot.{FieldSpot}
 use Rattle.mp4_answers.specs.format.FieldTexts.{before_fields, behind_fields, box_fields, fields_text, laid_text, layout_text, notes_text, row_text, rows_text, tail_text, tail_width}
 use Rattle.mp4_answers.specs.format.Layouts.{Field, Layout, Tail, fields_of, head_of, layout_of, tail_of, width_of}
 use Rattle.mp4_answers.proofs.FieldParts.{joined}
@@ -62,7 +62,7 @@ rows_within number count width len lt le =
     omega (arith, m, e, le)
 
 -- one row more
-pub rows_more : (spot : Spot) (head : Head) (columns : List Field) (file : List ℕ) (from len number : ℕ) (old text new : List ℕ) → number * width_of head columns + width_of head columns ≤ len
+pub rows_more : (spot : FieldSpot) (head : LeafHead) (columns : List Field) (file : List ℕ) (from len number : ℕ) (old text new : List ℕ) → number * width_of head columns + width_of head columns ≤ len
     → text ≡ old ++ rows_text spot head columns number (range file from len)
     → new ≡ text ++ row_text spot head columns (number + 1) (range file (from + number * width_of head columns) (min (width_of head columns) 64))
     → new ≡ old ++ rows_text spot head columns (number + 1) (range file from len)
@@ -78,7 +78,7 @@ rows_more spot head columns file from len number old text new le p q =
 -- ---- all of a box
 
 -- its fields, what follows them, and what is missing and left over
-pub laid_joined : (spot : Spot) (most : ℕ) (head : Head) (fields : List Field) (tail : Tail) (file front : List ℕ) (from len : ℕ) (old one two new : List ℕ) → from + len ≤ length file → front ≡ take 128 (range file from len)
+pub laid_joined : (spot : FieldSpot) (most : ℕ) (head : LeafHead) (fields : List Field) (tail : Tail) (file front : List ℕ) (from len : ℕ) (old one two new : List ℕ) → from + len ≤ length file → front ≡ take 128 (range file from len)
     → one ≡ old ++ fields_text spot head fields front
     → two ≡ one ++ tail_text spot most head tail front (range file (from + min (width_of head fields) len) (len - min (width_of head fields) len))
     → new ≡ two ++ notes_text spot len (width_of head fields + tail_width head tail front (len - min (width_of head fields) len))
@@ -94,7 +94,7 @@ laid_joined spot most head fields tail file front from len old one two new w f p
     ∙ (λ i. old ++ (fields_text spot head fields (f i) ++ tail_text spot most head tail (f i) (rest i) ++ notes_text spot (l i) (width + tail_width head tail (f i) (n i))))
 
 -- the fields of a box by its layout
-pub layout_joined : (spot : Spot) (most : ℕ) (l : Layout) (head : Head) (file front : List ℕ) (from len : ℕ) (old one two new : List ℕ) → from + len ≤ length file → front ≡ take 128 (range file from len)
+pub layout_joined : (spot : FieldSpot) (most : ℕ) (l : Layout) (head : LeafHead) (file front : List ℕ) (from len : ℕ) (old one two new : List ℕ) → from + len ≤ length file → front ≡ take 128 (range file from len)
     → head ≡ head_of l.versions front
     → one ≡ old ++ before_fields spot len
     → two ≡ one ++ laid_text spot most head (fields_of l head) (tail_of l head) (range file from len)
@@ -108,7 +108,7 @@ layout_joined spot most l head file front from len old one two new w f h p q r =
     ∙ (λ i. old ++ (before_fields spot (n i) ++ laid_text spot most (e i) (fields_of l (e i)) (tail_of l (e i)) (range file from len) ++ behind_fields spot))
 
 -- the same, by the type of the box
-pub box_joined : (spot : Spot) (most : ℕ) (kind : List ℕ) (l : Layout) (file : List ℕ) (offset header end : ℕ) (old new : List ℕ) → Some l ≡ layout_of kind
+pub box_joined : (spot : FieldSpot) (most : ℕ) (kind : List ℕ) (l : Layout) (file : List ℕ) (offset header end : ℕ) (old new : List ℕ) → Some l ≡ layout_of kind
     → new ≡ old ++ layout_text spot most (Some l) (range file (offset + header) (end - (offset + header)))
     → new ≡ old ++ box_fields spot most kind (range file (offset + header) (end - offset - header))
 box_joined spot most kind l file offset header end old new e p =

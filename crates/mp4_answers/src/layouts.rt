@@ -5,8 +5,8 @@ ghost use Rattle.std.specs.Option.{option_or};
 ghost use Rattle.mp4_answers.specs.format.Layouts.{count_of, fields_of, head_of, knows, first_of, layout_of, number_at, of_file, of_fragment, of_media, of_movie, of_places, of_samples, of_track, tail_of, width, width_of};
 ghost use Rattle.mp4_answers.specs.words.LayoutsSeen.{AreFew, HasFew, field_seen, fields_seen, layout_seen, layouts_seen, tail_seen};
 
-use crate::layouts::Count::{At, ToEnd, Unless};
 use crate::layouts::FieldKind::{Code, Hex, Matrix, Number, Offset, Signed};
+use crate::layouts::RowCount::{At, ToEnd, Unless};
 use crate::layouts::Tail::{Kept, Nothing, Rows};
 use crate::layouts::Versions::{Any, UpTo, Without};
 use mp4_boxes::{FourCc, front, u32_at};
@@ -25,12 +25,12 @@ pub(crate) enum FieldKind {
 /// A field: its name, how it is shown, how many bytes it has in version 0 and how many after it,
 /// and the flag without which it isn't there; 0 where it always is.
 #[derive(Clone, Copy)]
-pub(crate) struct Field(pub(crate) &'static [u8], pub(crate) FieldKind, u8, u8, u32);
+pub(crate) struct LayoutField(pub(crate) &'static [u8], pub(crate) FieldKind, u8, u8, u32);
 
 /// How many rows there are: as the number at a place says, in version 0 and after it; as the number
 /// at the second place says, where that at the first is 0, and else none; or as many as have room.
 #[derive(Clone, Copy)]
-pub(crate) enum Count {
+pub(crate) enum RowCount {
     At(u8, u8),
     Unless(u8, u8),
     ToEnd,
@@ -40,7 +40,7 @@ pub(crate) enum Count {
 #[derive(Clone, Copy)]
 pub(crate) enum Tail {
     Nothing,
-    Rows(Count, &'static [Field]),
+    Rows(RowCount, &'static [LayoutField]),
     Kept(&'static [u8]),
 }
 
@@ -54,242 +54,250 @@ pub(crate) enum Versions {
 
 /// What a box of a type holds.
 #[derive(Clone, Copy)]
-pub(crate) struct Layout(FourCc, Versions, &'static [Field], Tail);
+pub(crate) struct Layout(FourCc, Versions, &'static [LayoutField], Tail);
 
 /// What the first bytes of a box say of its fields.
 #[derive(Clone, Copy)]
-pub(crate) struct Head {
+pub(crate) struct LeafHead {
     pub(crate) version: u8,
     pub(crate) flags: u32,
 }
 
-const VERSION: Field = Field(b"version", Number, 1, 1, 0);
+const VERSION: LayoutField = LayoutField(b"version", Number, 1, 1, 0);
 
-const FLAGS: Field = Field(b"flags", Hex, 3, 3, 0);
+const FLAGS: LayoutField = LayoutField(b"flags", Hex, 3, 3, 0);
 
 /// The fields of a box of which no more is known, but for its version and flags.
-const UNKNOWN: &[Field] = &[VERSION, FLAGS];
+const UNKNOWN: &[LayoutField] = &[VERSION, FLAGS];
 
-const COUNTED: &[Field] = &[VERSION, FLAGS, Field(b"entry_count", Number, 4, 4, 0)];
+const COUNTED: &[LayoutField] = &[VERSION, FLAGS, LayoutField(b"entry_count", Number, 4, 4, 0)];
 
-const BRANDS: &[Field] = &[
-    Field(b"major_brand", Code, 4, 4, 0),
-    Field(b"minor_version", Number, 4, 4, 0),
+const BRANDS: &[LayoutField] = &[
+    LayoutField(b"major_brand", Code, 4, 4, 0),
+    LayoutField(b"minor_version", Number, 4, 4, 0),
 ];
 
-const BRAND: &[Field] = &[Field(b"compatible_brand", Code, 4, 4, 0)];
+const BRAND: &[LayoutField] = &[LayoutField(b"compatible_brand", Code, 4, 4, 0)];
 
-const SIDX: &[Field] = &[
+const SIDX: &[LayoutField] = &[
     VERSION,
     FLAGS,
-    Field(b"reference_ID", Number, 4, 4, 0),
-    Field(b"timescale", Number, 4, 4, 0),
-    Field(b"earliest_presentation_time", Number, 4, 8, 0),
-    Field(b"first_offset", Number, 4, 8, 0),
-    Field(b"reserved", Hex, 2, 2, 0),
-    Field(b"reference_count", Number, 2, 2, 0),
+    LayoutField(b"reference_ID", Number, 4, 4, 0),
+    LayoutField(b"timescale", Number, 4, 4, 0),
+    LayoutField(b"earliest_presentation_time", Number, 4, 8, 0),
+    LayoutField(b"first_offset", Number, 4, 8, 0),
+    LayoutField(b"reserved", Hex, 2, 2, 0),
+    LayoutField(b"reference_count", Number, 2, 2, 0),
 ];
 
-const MVHD: &[Field] = &[
+const MVHD: &[LayoutField] = &[
     VERSION,
     FLAGS,
-    Field(b"creation_time", Number, 4, 8, 0),
-    Field(b"modification_time", Number, 4, 8, 0),
-    Field(b"timescale", Number, 4, 4, 0),
-    Field(b"duration", Number, 4, 8, 0),
-    Field(b"rate", Signed, 4, 4, 0),
-    Field(b"volume", Signed, 2, 2, 0),
-    Field(b"reserved", Hex, 10, 10, 0),
-    Field(b"matrix", Matrix, 36, 36, 0),
-    Field(b"pre_defined", Hex, 24, 24, 0),
-    Field(b"next_track_ID", Number, 4, 4, 0),
+    LayoutField(b"creation_time", Number, 4, 8, 0),
+    LayoutField(b"modification_time", Number, 4, 8, 0),
+    LayoutField(b"timescale", Number, 4, 4, 0),
+    LayoutField(b"duration", Number, 4, 8, 0),
+    LayoutField(b"rate", Signed, 4, 4, 0),
+    LayoutField(b"volume", Signed, 2, 2, 0),
+    LayoutField(b"reserved", Hex, 10, 10, 0),
+    LayoutField(b"matrix", Matrix, 36, 36, 0),
+    LayoutField(b"pre_defined", Hex, 24, 24, 0),
+    LayoutField(b"next_track_ID", Number, 4, 4, 0),
 ];
 
-const TKHD: &[Field] = &[
+const TKHD: &[LayoutField] = &[
     VERSION,
     FLAGS,
-    Field(b"creation_time", Number, 4, 8, 0),
-    Field(b"modification_time", Number, 4, 8, 0),
-    Field(b"track_ID", Number, 4, 4, 0),
-    Field(b"reserved_1", Hex, 4, 4, 0),
-    Field(b"duration", Number, 4, 8, 0),
-    Field(b"reserved_2", Hex, 8, 8, 0),
-    Field(b"layer", Signed, 2, 2, 0),
-    Field(b"alternate_group", Signed, 2, 2, 0),
-    Field(b"volume", Signed, 2, 2, 0),
-    Field(b"reserved_3", Hex, 2, 2, 0),
-    Field(b"matrix", Matrix, 36, 36, 0),
-    Field(b"width", Number, 4, 4, 0),
-    Field(b"height", Number, 4, 4, 0),
+    LayoutField(b"creation_time", Number, 4, 8, 0),
+    LayoutField(b"modification_time", Number, 4, 8, 0),
+    LayoutField(b"track_ID", Number, 4, 4, 0),
+    LayoutField(b"reserved_1", Hex, 4, 4, 0),
+    LayoutField(b"duration", Number, 4, 8, 0),
+    LayoutField(b"reserved_2", Hex, 8, 8, 0),
+    LayoutField(b"layer", Signed, 2, 2, 0),
+    LayoutField(b"alternate_group", Signed, 2, 2, 0),
+    LayoutField(b"volume", Signed, 2, 2, 0),
+    LayoutField(b"reserved_3", Hex, 2, 2, 0),
+    LayoutField(b"matrix", Matrix, 36, 36, 0),
+    LayoutField(b"width", Number, 4, 4, 0),
+    LayoutField(b"height", Number, 4, 4, 0),
 ];
 
-const EDIT: &[Field] = &[
-    Field(b"segment_duration", Number, 4, 8, 0),
-    Field(b"media_time", Signed, 4, 8, 0),
-    Field(b"media_rate_integer", Signed, 2, 2, 0),
-    Field(b"media_rate_fraction", Signed, 2, 2, 0),
+const EDIT: &[LayoutField] = &[
+    LayoutField(b"segment_duration", Number, 4, 8, 0),
+    LayoutField(b"media_time", Signed, 4, 8, 0),
+    LayoutField(b"media_rate_integer", Signed, 2, 2, 0),
+    LayoutField(b"media_rate_fraction", Signed, 2, 2, 0),
 ];
 
-const MDHD: &[Field] = &[
+const MDHD: &[LayoutField] = &[
     VERSION,
     FLAGS,
-    Field(b"creation_time", Number, 4, 8, 0),
-    Field(b"modification_time", Number, 4, 8, 0),
-    Field(b"timescale", Number, 4, 4, 0),
-    Field(b"duration", Number, 4, 8, 0),
-    Field(b"language", Hex, 2, 2, 0),
-    Field(b"pre_defined", Hex, 2, 2, 0),
+    LayoutField(b"creation_time", Number, 4, 8, 0),
+    LayoutField(b"modification_time", Number, 4, 8, 0),
+    LayoutField(b"timescale", Number, 4, 4, 0),
+    LayoutField(b"duration", Number, 4, 8, 0),
+    LayoutField(b"language", Hex, 2, 2, 0),
+    LayoutField(b"pre_defined", Hex, 2, 2, 0),
 ];
 
-const HDLR: &[Field] = &[
+const HDLR: &[LayoutField] = &[
     VERSION,
     FLAGS,
-    Field(b"pre_defined", Hex, 4, 4, 0),
-    Field(b"handler_type", Code, 4, 4, 0),
-    Field(b"reserved", Hex, 12, 12, 0),
+    LayoutField(b"pre_defined", Hex, 4, 4, 0),
+    LayoutField(b"handler_type", Code, 4, 4, 0),
+    LayoutField(b"reserved", Hex, 12, 12, 0),
 ];
 
-const VMHD: &[Field] = &[
+const VMHD: &[LayoutField] = &[
     VERSION,
     FLAGS,
-    Field(b"graphicsmode", Number, 2, 2, 0),
-    Field(b"opcolor", Hex, 6, 6, 0),
+    LayoutField(b"graphicsmode", Number, 2, 2, 0),
+    LayoutField(b"opcolor", Hex, 6, 6, 0),
 ];
 
-const SMHD: &[Field] = &[
+const SMHD: &[LayoutField] = &[
     VERSION,
     FLAGS,
-    Field(b"balance", Signed, 2, 2, 0),
-    Field(b"reserved", Hex, 2, 2, 0),
+    LayoutField(b"balance", Signed, 2, 2, 0),
+    LayoutField(b"reserved", Hex, 2, 2, 0),
 ];
 
-const HMHD: &[Field] = &[
+const HMHD: &[LayoutField] = &[
     VERSION,
     FLAGS,
-    Field(b"maxPDUsize", Number, 2, 2, 0),
-    Field(b"avgPDUsize", Number, 2, 2, 0),
-    Field(b"maxbitrate", Number, 4, 4, 0),
-    Field(b"avgbitrate", Number, 4, 4, 0),
-    Field(b"reserved", Hex, 4, 4, 0),
+    LayoutField(b"maxPDUsize", Number, 2, 2, 0),
+    LayoutField(b"avgPDUsize", Number, 2, 2, 0),
+    LayoutField(b"maxbitrate", Number, 4, 4, 0),
+    LayoutField(b"avgbitrate", Number, 4, 4, 0),
+    LayoutField(b"reserved", Hex, 4, 4, 0),
 ];
 
-const STTS: &[Field] = &[
-    Field(b"sample_count", Number, 4, 4, 0),
-    Field(b"sample_delta", Number, 4, 4, 0),
+const STTS: &[LayoutField] = &[
+    LayoutField(b"sample_count", Number, 4, 4, 0),
+    LayoutField(b"sample_delta", Number, 4, 4, 0),
 ];
 
-const CTTS: &[Field] = &[
-    Field(b"sample_count", Number, 4, 4, 0),
-    Field(b"sample_offset", Offset, 4, 4, 0),
+const CTTS: &[LayoutField] = &[
+    LayoutField(b"sample_count", Number, 4, 4, 0),
+    LayoutField(b"sample_offset", Offset, 4, 4, 0),
 ];
 
-const CSLG: &[Field] = &[
+const CSLG: &[LayoutField] = &[
     VERSION,
     FLAGS,
-    Field(b"compositionToDTSShift", Signed, 4, 8, 0),
-    Field(b"leastDecodeToDisplayDelta", Signed, 4, 8, 0),
-    Field(b"greatestDecodeToDisplayDelta", Signed, 4, 8, 0),
-    Field(b"compositionStartTime", Signed, 4, 8, 0),
-    Field(b"compositionEndTime", Signed, 4, 8, 0),
+    LayoutField(b"compositionToDTSShift", Signed, 4, 8, 0),
+    LayoutField(b"leastDecodeToDisplayDelta", Signed, 4, 8, 0),
+    LayoutField(b"greatestDecodeToDisplayDelta", Signed, 4, 8, 0),
+    LayoutField(b"compositionStartTime", Signed, 4, 8, 0),
+    LayoutField(b"compositionEndTime", Signed, 4, 8, 0),
 ];
 
-const STSC: &[Field] = &[
-    Field(b"first_chunk", Number, 4, 4, 0),
-    Field(b"samples_per_chunk", Number, 4, 4, 0),
-    Field(b"sample_description_index", Number, 4, 4, 0),
+const STSC: &[LayoutField] = &[
+    LayoutField(b"first_chunk", Number, 4, 4, 0),
+    LayoutField(b"samples_per_chunk", Number, 4, 4, 0),
+    LayoutField(b"sample_description_index", Number, 4, 4, 0),
 ];
 
-const STSZ: &[Field] = &[
+const STSZ: &[LayoutField] = &[
     VERSION,
     FLAGS,
-    Field(b"sample_size", Number, 4, 4, 0),
-    Field(b"sample_count", Number, 4, 4, 0),
+    LayoutField(b"sample_size", Number, 4, 4, 0),
+    LayoutField(b"sample_count", Number, 4, 4, 0),
 ];
 
-const STZ2: &[Field] = &[
+const STZ2: &[LayoutField] = &[
     VERSION,
     FLAGS,
-    Field(b"reserved", Hex, 3, 3, 0),
-    Field(b"field_size", Number, 1, 1, 0),
-    Field(b"sample_count", Number, 4, 4, 0),
+    LayoutField(b"reserved", Hex, 3, 3, 0),
+    LayoutField(b"field_size", Number, 1, 1, 0),
+    LayoutField(b"sample_count", Number, 4, 4, 0),
 ];
 
-const SBGP: &[Field] = &[
+const SBGP: &[LayoutField] = &[
     VERSION,
     FLAGS,
-    Field(b"grouping_type", Code, 4, 4, 0),
-    Field(b"grouping_type_parameter", Number, 0, 4, 0),
-    Field(b"entry_count", Number, 4, 4, 0),
+    LayoutField(b"grouping_type", Code, 4, 4, 0),
+    LayoutField(b"grouping_type_parameter", Number, 0, 4, 0),
+    LayoutField(b"entry_count", Number, 4, 4, 0),
 ];
 
-const GROUP: &[Field] = &[
-    Field(b"sample_count", Number, 4, 4, 0),
-    Field(b"group_description_index", Number, 4, 4, 0),
+const GROUP: &[LayoutField] = &[
+    LayoutField(b"sample_count", Number, 4, 4, 0),
+    LayoutField(b"group_description_index", Number, 4, 4, 0),
 ];
 
-const SGPD: &[Field] = &[
+const SGPD: &[LayoutField] = &[
     VERSION,
     FLAGS,
-    Field(b"grouping_type", Code, 4, 4, 0),
-    Field(b"default_length", Number, 0, 4, 0),
-    Field(b"entry_count", Number, 4, 4, 0),
+    LayoutField(b"grouping_type", Code, 4, 4, 0),
+    LayoutField(b"default_length", Number, 0, 4, 0),
+    LayoutField(b"entry_count", Number, 4, 4, 0),
 ];
 
-const MEHD: &[Field] = &[VERSION, FLAGS, Field(b"fragment_duration", Number, 4, 8, 0)];
-
-const TREX: &[Field] = &[
+const MEHD: &[LayoutField] = &[
     VERSION,
     FLAGS,
-    Field(b"track_ID", Number, 4, 4, 0),
-    Field(b"default_sample_description_index", Number, 4, 4, 0),
-    Field(b"default_sample_duration", Number, 4, 4, 0),
-    Field(b"default_sample_size", Number, 4, 4, 0),
-    Field(b"default_sample_flags", Hex, 4, 4, 0),
+    LayoutField(b"fragment_duration", Number, 4, 8, 0),
 ];
 
-const MFHD: &[Field] = &[VERSION, FLAGS, Field(b"sequence_number", Number, 4, 4, 0)];
-
-const TFHD: &[Field] = &[
+const TREX: &[LayoutField] = &[
     VERSION,
     FLAGS,
-    Field(b"track_ID", Number, 4, 4, 0),
-    Field(b"base_data_offset", Number, 8, 8, 0x000001),
-    Field(b"sample_description_index", Number, 4, 4, 0x000002),
-    Field(b"default_sample_duration", Number, 4, 4, 0x000008),
-    Field(b"default_sample_size", Number, 4, 4, 0x000010),
-    Field(b"default_sample_flags", Hex, 4, 4, 0x000020),
+    LayoutField(b"track_ID", Number, 4, 4, 0),
+    LayoutField(b"default_sample_description_index", Number, 4, 4, 0),
+    LayoutField(b"default_sample_duration", Number, 4, 4, 0),
+    LayoutField(b"default_sample_size", Number, 4, 4, 0),
+    LayoutField(b"default_sample_flags", Hex, 4, 4, 0),
 ];
 
-const TFDT: &[Field] = &[
+const MFHD: &[LayoutField] = &[
     VERSION,
     FLAGS,
-    Field(b"baseMediaDecodeTime", Number, 4, 8, 0),
+    LayoutField(b"sequence_number", Number, 4, 4, 0),
 ];
 
-const TRUN: &[Field] = &[
+const TFHD: &[LayoutField] = &[
     VERSION,
     FLAGS,
-    Field(b"sample_count", Number, 4, 4, 0),
-    Field(b"data_offset", Signed, 4, 4, 0x000001),
-    Field(b"first_sample_flags", Hex, 4, 4, 0x000004),
+    LayoutField(b"track_ID", Number, 4, 4, 0),
+    LayoutField(b"base_data_offset", Number, 8, 8, 0x000001),
+    LayoutField(b"sample_description_index", Number, 4, 4, 0x000002),
+    LayoutField(b"default_sample_duration", Number, 4, 4, 0x000008),
+    LayoutField(b"default_sample_size", Number, 4, 4, 0x000010),
+    LayoutField(b"default_sample_flags", Hex, 4, 4, 0x000020),
 ];
 
-const SAMPLE: &[Field] = &[
-    Field(b"sample_duration", Number, 4, 4, 0x000100),
-    Field(b"sample_size", Number, 4, 4, 0x000200),
-    Field(b"sample_flags", Hex, 4, 4, 0x000400),
-    Field(b"sample_composition_time_offset", Offset, 4, 4, 0x000800),
+const TFDT: &[LayoutField] = &[
+    VERSION,
+    FLAGS,
+    LayoutField(b"baseMediaDecodeTime", Number, 4, 8, 0),
 ];
 
-const ENTRY_SIZE: &[Field] = &[Field(b"entry_size", Number, 4, 4, 0)];
+const TRUN: &[LayoutField] = &[
+    VERSION,
+    FLAGS,
+    LayoutField(b"sample_count", Number, 4, 4, 0),
+    LayoutField(b"data_offset", Signed, 4, 4, 0x000001),
+    LayoutField(b"first_sample_flags", Hex, 4, 4, 0x000004),
+];
 
-const CHUNK: &[Field] = &[Field(b"chunk_offset", Number, 4, 4, 0)];
+const SAMPLE: &[LayoutField] = &[
+    LayoutField(b"sample_duration", Number, 4, 4, 0x000100),
+    LayoutField(b"sample_size", Number, 4, 4, 0x000200),
+    LayoutField(b"sample_flags", Hex, 4, 4, 0x000400),
+    LayoutField(b"sample_composition_time_offset", Offset, 4, 4, 0x000800),
+];
 
-const LONG_CHUNK: &[Field] = &[Field(b"chunk_offset", Number, 8, 8, 0)];
+const ENTRY_SIZE: &[LayoutField] = &[LayoutField(b"entry_size", Number, 4, 4, 0)];
 
-const SYNC: &[Field] = &[Field(b"sample_number", Number, 4, 4, 0)];
+const CHUNK: &[LayoutField] = &[LayoutField(b"chunk_offset", Number, 4, 4, 0)];
 
-const USER_TYPE: &[Field] = &[Field(b"usertype", Hex, 16, 16, 0)];
+const LONG_CHUNK: &[LayoutField] = &[LayoutField(b"chunk_offset", Number, 8, 8, 0)];
+
+const SYNC: &[LayoutField] = &[LayoutField(b"sample_number", Number, 4, 4, 0)];
+
+const USER_TYPE: &[LayoutField] = &[LayoutField(b"usertype", Hex, 16, 16, 0)];
 
 const OF_FILE: &[Layout] = &[
     Layout(FourCc(*b"ftyp"), Without, BRANDS, Rows(ToEnd, BRAND)),
@@ -362,9 +370,9 @@ const OF_FRAGMENT: &[Layout] = &[
     Layout(FourCc(*b"trun"), UpTo(1), TRUN, Rows(At(4, 4), SAMPLE)),
 ];
 
-impl Field {
+impl LayoutField {
     /// How many bytes it has; none where it isn't there.
-    pub(crate) fn width(&self, head: Head) -> usize
+    pub(crate) fn width(&self, head: LeafHead) -> usize
         ensures width { result ≡ width head (field_seen self.now) }
         ensures short { result ≤ 255 }
     {
@@ -376,7 +384,7 @@ impl Field {
 }
 
 /// How many bytes some fields have in all.
-pub(crate) fn width_of(fields: &[Field], head: Head) -> u64
+pub(crate) fn width_of(fields: &[LayoutField], head: LeafHead) -> u64
     requires { length fields.now ≤ 64 }
     ensures width { result ≡ width_of head (fields_seen fields.now) }
     ensures short { result ≤ 16320 }
@@ -400,10 +408,10 @@ fn number_at(front: &[u8], place: u8) -> u64
     u64::from(u32_at(front, place))
 }
 
-impl Count {
+impl RowCount {
     /// How many rows there are due, by the first bytes of a box; none is said where they go to its
     /// end.
-    pub(crate) fn number(self, head: Head, front: &[u8]) -> Option<u64>
+    pub(crate) fn number(self, head: LeafHead, front: &[u8]) -> Option<u64>
         ensures number { result ≡ count_of self head front.now }
         ensures short { IfSome result (λ n. n < 4294967296) }
     {
@@ -421,24 +429,24 @@ impl Count {
 
 impl Layout {
     /// What version and flags the first bytes of a box say; 0 where it has none.
-    pub(crate) fn head(&self, bytes: &[u8]) -> Head
+    pub(crate) fn head(&self, bytes: &[u8]) -> LeafHead
         ensures { result ≡ head_of (layout_seen self.now).versions bytes.now }
     {
-        let none = Head {
+        let none = LeafHead {
             version: 0,
             flags: 0,
         };
         match self.1 {
             Without => none,
             UpTo(_) | Any => match front(bytes) {
-                Ok((version, flags)) => Head { version, flags },
+                Ok((version, flags)) => LeafHead { version, flags },
                 Err(_) => none,
             },
         }
     }
 
     // Whether the table knows the version.
-    fn knows(&self, head: Head) -> bool
+    fn knows(&self, head: LeafHead) -> bool
         ensures { result ≡ knows (layout_seen self.now).versions head }
     {
         match self.1 {
@@ -448,7 +456,7 @@ impl Layout {
     }
 
     /// The fields of a box of this version; version and flags alone, where it isn't known.
-    pub(crate) fn fields(&self, head: Head) -> &'static [Field]
+    pub(crate) fn fields(&self, head: LeafHead) -> &'static [LayoutField]
         requires { AreFew (layout_seen self.now) }
         ensures fields { fields_seen result.now ≡ fields_of (layout_seen self.now) head }
         ensures few { length result.now ≤ 64 }
@@ -457,7 +465,7 @@ impl Layout {
     }
 
     /// What follows them.
-    pub(crate) fn tail(&self, head: Head) -> Tail
+    pub(crate) fn tail(&self, head: LeafHead) -> Tail
         requires { AreFew (layout_seen self.now) }
         ensures tail { tail_seen result ≡ tail_of (layout_seen self.now) head }
         ensures few { HasFew (tail_seen result) }

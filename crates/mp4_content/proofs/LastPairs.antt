@@ -20,7 +20,7 @@ use Rattle.mp4_content.specs.words.SamePairs.{PassesSame}
 use Rattle.mp4_content.specs.words.Windows.{Shows}
 use Rattle.mp4_content.specs.declared.comparing.differences.Difference.{Difference}
 use Rattle.mp4_content.specs.declared.comparing.pairing.Pairing.{Pairing}
-use Rattle.mp4_content.specs.declared.comparing.samples.Side.{Side}
+use Rattle.mp4_content.specs.declared.comparing.samples.TrackSide.{TrackSide}
 use Rattle.mp4_content.proofs.PairsPassed.{same_skipped}
 use Rattle.mp4_content.proofs.TracksCompared.{each_next}
 
@@ -77,7 +77,7 @@ module _ (by : Pairing) (file : List ℕ) (tree : FileTree) (t : TrackTree) (m :
   last_first w v h k = record { comes = h; comes_right = k; is_last = record { within = omega arith; same = refl; differs = λ j e. absurd (omega (arith, e)) } }
 
   -- so many pairs more that are the same
-  pub last_passed : (last k count : ℕ) (left left_after right right_after : Side) (mid new : ℕ) → Shows file left.window → Shows other right.window → PassesSame by m left left_after n right right_after count mid new
+  pub last_passed : (last k count : ℕ) (left left_after right right_after : TrackSide) (mid new : ℕ) → Shows file left.window → Shows other right.window → PassesSame by m left left_after n right right_after count mid new
       → Goes last k left.walk right.walk → Goes last (k + count) left_after.walk right_after.walk
   last_passed last k count left left_after right right_after mid new shows shows_right p h =
       let come = p.comes file other tree other_tree t u (drop k xs) (drop k ys) h.comes h.comes_right in

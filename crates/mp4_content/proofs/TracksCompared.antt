@@ -20,7 +20,7 @@ use Rattle.mp4_content.specs.words.TwoStores.{HaveBegun}
 use Rattle.mp4_present.specs.words.WalkSteps.{MayTake, walk_steps}
 use Rattle.mp4_content.specs.words.Windows.{Shows}
 use Rattle.mp4_content.specs.declared.comparing.pairing.Pairing.{Pairing}
-use Rattle.mp4_content.specs.declared.comparing.samples.Side.{Side}
+use Rattle.mp4_content.specs.declared.comparing.samples.TrackSide.{TrackSide}
 use Rattle.mp4_content.specs.declared.comparing.differences.Difference.{Difference}
 use Rattle.mp4_content.specs.declared.without.Without.{Without}
 use Rattle.mp4_present.specs.declared.track_info.TrackInfo.{TrackInfo}
@@ -132,7 +132,7 @@ module _ (by : Pairing) (file : List ℕ) (tree : FileTree) (t : TrackTree) (m :
       }
 
   -- so many pairs more that are the same
-  pub pairs_pass : (k count : ℕ) (left left_after right right_after : Side) (now : List Difference) (mid new : ℕ) → IsOpenedAs file m tree → IsOpenedAs other n other_tree → Shows file left.window → Shows other right.window
+  pub pairs_pass : (k count : ℕ) (left left_after right right_after : TrackSide) (now : List Difference) (mid new : ℕ) → IsOpenedAs file m tree → IsOpenedAs other n other_tree → Shows file left.window → Shows other right.window
       → PassesSame by m left left_after n right right_after count mid new → GoOn k left.walk right.walk now mid → GoOn (k + count) left_after.walk right_after.walk now new
   pairs_pass k count left left_after right right_after now mid new o q shows shows_right p h =
       let xs = track_samples tree t in

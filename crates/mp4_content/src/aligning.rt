@@ -60,7 +60,7 @@ fn front_before(first: Option<Difference>, most: u32) -> u32
 
 // How many samples of two tracks there are.
 #[derive(Clone, Copy)]
-pub(crate) struct Counts {
+pub(crate) struct SampleCounts {
     pub(crate) left: u32,
     pub(crate) right: u32,
 }
@@ -69,7 +69,7 @@ pub(crate) struct Counts {
 fn same_in_front<S: Store, T: Store, L: Ledger, M: Ledger>(
     alloc: Global,
     tracks: Tracks,
-    counts: Counts,
+    counts: SampleCounts,
     left: &mut S,
     right: &mut T,
     steps: &mut Steps<L, M>,
@@ -95,7 +95,7 @@ fn same_in_front<S: Store, T: Store, L: Ledger, M: Ledger>(
 }
 
 // Whether so many in front are all samples of both tracks.
-fn has_all(counts: Counts, front: u32) -> bool
+fn has_all(counts: SampleCounts, front: u32) -> bool
     ensures all { IsTrue result → (counts.left ≡ counts.right) × (counts.left ≤ front) }
     ensures some { result ≡ false → counts.left ≡ counts.right → counts.left ≤ front → ⊥ }
 {
@@ -141,7 +141,7 @@ fn align_tracks<S: Store, T: Store, L: Ledger, M: Ledger>(
     let Tracks { movies, place, .. } = tracks;
     let info = movies.left.tracks()[place];
     let other = movies.right.tracks()[place];
-    let counts = Counts {
+    let counts = SampleCounts {
         left: info.samples,
         right: other.samples,
     };

@@ -10,7 +10,7 @@ ghost use Rattle.mp4_present.specs.words.SamplesComing.{Comes};
 ghost use Rattle.mp4_present.specs.words.StoresRead.{IsUnchanged, OnlyReads, Refused};
 ghost use Rattle.mp4_present.specs.words.TrackWalks.{TakesSteps, WhereComes};
 
-use crate::aligning::Counts;
+use crate::aligning::SampleCounts;
 use crate::comparing::differences::Difference;
 use crate::comparing::movies::Movies;
 use crate::comparing::pairing::Pairing;
@@ -175,7 +175,7 @@ fn last_different<S: Store, T: Store, L: Ledger, M: Ledger>(
 pub(crate) fn compare_ends<S: Store, T: Store, L: Ledger, M: Ledger>(
     alloc: Global,
     tracks: Tracks,
-    counts: Counts,
+    counts: SampleCounts,
     front: u32,
     left: &mut S,
     right: &mut T,

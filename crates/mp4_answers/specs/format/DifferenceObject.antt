@@ -15,8 +15,8 @@ use Rattle.mp4_content.specs.declared.without.Word.{Word}
 use Rattle.mp4_content.specs.declared.without.Word.TheVariants as words
 use Rattle.mp4_content.specs.declared.without.Without.{Without}
 use Rattle.mp4_content.specs.format.Words.{has, word_name}
-use Rattle.mp4_answers.specs.declared.text.tally.Kind.{Kind}
-use Rattle.mp4_answers.specs.declared.text.tally.Kind.TheVariants as kinds
+use Rattle.mp4_answers.specs.declared.text.tally.DifferenceKind.{DifferenceKind}
+use Rattle.mp4_answers.specs.declared.text.tally.DifferenceKind.TheVariants as kinds
 use Rattle.mp4_answers.specs.format.Texts.{hex_digits, type_text, line_feed}
 use Rattle.mp4_answers.specs.format.DifferenceLine.{entry_name, entries_name, is_numbered, field_name, digits_of, difference_text}
 use Rattle.mp4_answers.specs.format.LastLine.{kind_name, kind_of_difference, count_of_kind}
@@ -109,17 +109,17 @@ difference_object d = value_members d ++ line_members d ++ codes "}" ++ line_fee
 
 -- ---- all of them
 
-abbrev pub kinds_by_name : List Kind
+abbrev pub kinds_by_name : List DifferenceKind
 kinds_by_name = kinds.Bytes ∷ kinds.Edits ∷ kinds.Flags ∷ kinds.Groups ∷ kinds.Heads ∷ kinds.Kept
     ∷ kinds.Samples ∷ kinds.Times ∷ []
 
 -- the count of a kind, where it isn't 0; each but the first stands behind a comma
-unfoldable pub count_member : Bool → Kind → List Difference → List ℕ
+unfoldable pub count_member : Bool → DifferenceKind → List Difference → List ℕ
 count_member first kind ds = if count_of_kind kind ds == 0 then []
     else (if first then codes "\"" else codes ",\"") ++ kind_name kind ++ codes "\":"
     ++ decimal (count_of_kind kind ds)
 
-abbrev pub count_members : Bool → List Kind → List Difference → List ℕ
+abbrev pub count_members : Bool → List DifferenceKind → List Difference → List ℕ
 count_members first [] ds = []
 count_members first (kind ∷ more) ds = count_member first kind ds
     ++ count_members (first && (count_of_kind kind ds == 0)) more ds

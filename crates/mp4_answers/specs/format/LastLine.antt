@@ -12,13 +12,13 @@ use Rattle.mp4_content.specs.declared.comparing.differences.Difference.{Differen
 use Rattle.mp4_content.specs.declared.without.Word.{Word}
 use Rattle.mp4_content.specs.declared.without.Without.{Without}
 use Rattle.mp4_content.specs.format.Words.{all_words, has, word_name}
-use Rattle.mp4_answers.specs.declared.text.tally.Kind.{Kind}
-use Rattle.mp4_answers.specs.declared.text.tally.Kind.TheVariants as kinds
+use Rattle.mp4_answers.specs.declared.text.tally.DifferenceKind.{DifferenceKind}
+use Rattle.mp4_answers.specs.declared.text.tally.DifferenceKind.TheVariants as kinds
 use Rattle.mp4_answers.specs.format.Texts.{space, line_feed}
 
 -- ---- kinds of differences
 
-abbrev pub kind_name : Kind → List ℕ
+abbrev pub kind_name : DifferenceKind → List ℕ
 kind_name kinds.Times = codes "times"
 kind_name kinds.Edits = codes "edits"
 kind_name kinds.Flags = codes "flags"
@@ -28,12 +28,12 @@ kind_name kinds.Heads = codes "heads"
 kind_name kinds.Samples = codes "samples"
 kind_name kinds.Bytes = codes "bytes"
 
-abbrev pub all_kinds : List Kind
+abbrev pub all_kinds : List DifferenceKind
 all_kinds = kinds.Times ∷ kinds.Edits ∷ kinds.Flags ∷ kinds.Groups ∷ kinds.Kept ∷ kinds.Heads
     ∷ kinds.Samples ∷ kinds.Bytes ∷ []
 
 -- their place in this order, by which they are told apart
-abbrev pub kind_place : Kind → ℕ
+abbrev pub kind_place : DifferenceKind → ℕ
 kind_place kinds.Times = 0
 kind_place kinds.Edits = 1
 kind_place kinds.Flags = 2
@@ -43,22 +43,22 @@ kind_place kinds.Heads = 5
 kind_place kinds.Samples = 6
 kind_place kinds.Bytes = 7
 
-abbrev pub kind_of_entries : Entries → Kind
+abbrev pub kind_of_entries : Entries → DifferenceKind
 kind_of_entries entries.Edits = kinds.Edits
 kind_of_entries entries.Kept = kinds.Kept
 kind_of_entries entries.GroupDescriptions = kinds.Groups
 kind_of_entries _ = kinds.Heads
 
 -- flags of a track are a field like any other
-abbrev pub kind_of_flags : Subject → Kind
+abbrev pub kind_of_flags : Subject → DifferenceKind
 kind_of_flags (subjects.Sample n k) = kinds.Flags
 kind_of_flags _ = kinds.Heads
 
-abbrev pub kind_of_others : Subject → Kind
+abbrev pub kind_of_others : Subject → DifferenceKind
 kind_of_others (subjects.Sample n k) = kinds.Samples
 kind_of_others _ = kinds.Heads
 
-abbrev pub kind_of_field : Subject → Field → Kind
+abbrev pub kind_of_field : Subject → Field → DifferenceKind
 kind_of_field of fields.Creation = kinds.Times
 kind_of_field of fields.Modification = kinds.Times
 kind_of_field of fields.MediaCreation = kinds.Times
@@ -72,11 +72,11 @@ kind_of_field of fields.Samples = kinds.Samples
 kind_of_field of fields.Flags = kind_of_flags of
 kind_of_field of _ = kind_of_others of
 
-abbrev pub kind_of_difference : Difference → Kind
+abbrev pub kind_of_difference : Difference → DifferenceKind
 kind_of_difference d = kind_of_field d.subject d.field
 
 -- how many of these are of a kind
-abbrev pub count_of_kind : Kind → List Difference → ℕ
+abbrev pub count_of_kind : DifferenceKind → List Difference → ℕ
 count_of_kind kind ds = count_by (λ d. kind_place (kind_of_difference d) == kind_place kind) ds
 
 -- ---- the line
@@ -89,12 +89,12 @@ abbrev pub total_end : ℕ → List ℕ
 total_end count = if count == 1 then codes " difference" else codes " differences"
 
 -- the count of a kind, where it isn't 0; the first stands behind other words
-unfoldable pub count_text : Bool → Kind → List Difference → List ℕ
+unfoldable pub count_text : Bool → DifferenceKind → List Difference → List ℕ
 count_text first kind ds = if count_of_kind kind ds == 0 then []
     else (if first then codes ": " else codes ", ") ++ kind_name kind ++ space
     ++ decimal (count_of_kind kind ds)
 
-abbrev pub counts_text : Bool → List Kind → List Difference → List ℕ
+abbrev pub counts_text : Bool → List DifferenceKind → List Difference → List ℕ
 counts_text first [] ds = []
 counts_text first (kind ∷ more) ds = count_text first kind ds
     ++ counts_text (first && (count_of_kind kind ds == 0)) more ds

@@ -5,11 +5,11 @@ use Rattle.std.specs.Option.{option_or}
 use Rattle.mp4_boxes.specs.format.Bytes.{field}
 use Rattle.mp4_answers.specs.declared.layouts.FieldKind.{FieldKind}
 use Rattle.mp4_answers.specs.declared.layouts.FieldKind.TheVariants as kinds
-use Rattle.mp4_answers.specs.declared.layouts.Count.{Count}
-use Rattle.mp4_answers.specs.declared.layouts.Count.TheVariants as counts
+use Rattle.mp4_answers.specs.declared.layouts.RowCount.{RowCount}
+use Rattle.mp4_answers.specs.declared.layouts.RowCount.TheVariants as counts
 use Rattle.mp4_answers.specs.declared.layouts.Versions.{Versions}
 use Rattle.mp4_answers.specs.declared.layouts.Versions.TheVariants as versions
-use Rattle.mp4_answers.specs.declared.layouts.Head.{Head}
+use Rattle.mp4_answers.specs.declared.layouts.LeafHead.{LeafHead}
 
 -- ---- the table
 
@@ -25,7 +25,7 @@ pub record Field : Type 0 where
 -- what follows the fields of a box: nothing, rows, or bytes of this name that are kept
 pub data Tail : Type 0 where
   nothing : Tail
-  rows : Count → List Field → Tail
+  rows : RowCount → List Field → Tail
   kept : List ℕ → Tail
 
 -- what a box of a type holds, in the versions that are known
@@ -291,11 +291,11 @@ layout_of kind = option_or (first_of kind of_file) (option_or (first_of kind of_
     (option_or (first_of kind of_fragment) None))))))
 
 -- how many bytes a field has; none where it isn't there
-abbrev pub width : Head → Field → ℕ
+abbrev pub width : LeafHead → Field → ℕ
 width head f = if not (f.flag == 0) && (bit_and head.flags f.flag == 0) then 0
     else (if head.version == 0 then f.short else f.long)
 
-abbrev pub width_of : Head → List Field → ℕ
+abbrev pub width_of : LeafHead → List Field → ℕ
 width_of head [] = 0
 width_of head (f ∷ fields) = width head f + width_of head fields
 
@@ -304,7 +304,7 @@ abbrev pub number_at : List ℕ → ℕ → ℕ
 number_at bytes place = if nat_lt (length bytes) (place + 4) then 0 else field bytes place 4
 
 -- how many rows are due; none is said where they go to the end of the box
-abbrev pub count_of : Count → Head → List ℕ → Option ℕ
+abbrev pub count_of : RowCount → LeafHead → List ℕ → Option ℕ
 count_of (counts.At short long) head front =
     Some (number_at front (if head.version == 0 then short else long))
 count_of (counts.Unless other place) head front =
@@ -317,18 +317,18 @@ has_version (versions.UpTo last) = true
 has_version versions.Any = true
 
 -- version and flags; 0 where a box has none
-abbrev pub head_of : Versions → List ℕ → Head
+abbrev pub head_of : Versions → List ℕ → LeafHead
 head_of known front = if has_version known && nat_le 4 (length front)
     then record { version = field front 0 1; flags = field front 1 3 }
     else record { version = 0; flags = 0 }
 
-abbrev pub knows : Versions → Head → Bool
+abbrev pub knows : Versions → LeafHead → Bool
 knows (versions.UpTo last) head = nat_le head.version last
 knows _ head = true
 
 -- the fields of a box of this version; version and flags alone where it isn't known
-abbrev pub fields_of : Layout → Head → List Field
+abbrev pub fields_of : Layout → LeafHead → List Field
 fields_of l head = if knows l.versions head then l.fields else version_and_flags
 
-abbrev pub tail_of : Layout → Head → Tail
+abbrev pub tail_of : Layout → LeafHead → Tail
 tail_of l head = if knows l.versions head then l.tail else nothing

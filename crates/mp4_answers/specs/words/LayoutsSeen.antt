@@ -1,7 +1,7 @@
 -- The layouts of the code's table as those of the definition.
 use Rattle.std.specs.Prelude.{◌≤◌, List, length, map}
 use Rattle.mp4_answers.specs.format.Layouts.{Field, Layout, Tail, nothing, rows, kept}
-use Rattle.mp4_answers.specs.declared.layouts.Field.{Field as TableField}
+use Rattle.mp4_answers.specs.declared.layouts.LayoutField.{LayoutField as TableField}
 use Rattle.mp4_answers.specs.declared.layouts.Layout.{Layout as TableLayout}
 use Rattle.mp4_answers.specs.declared.layouts.Tail.{Tail as TableTail}
 use Rattle.mp4_answers.specs.declared.layouts.Tail.TheVariants as tails

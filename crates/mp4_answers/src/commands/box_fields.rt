@@ -12,10 +12,10 @@ ghost use Rattle.mp4_answers.specs.words.LayoutsSeen.{AreFew, HasFew, fields_see
 
 use crate::commands::hash_sink::HashSink;
 use crate::digests::DIGEST;
-use crate::layouts::{Count, Field, Head, Layout, Tail, layout_of, width_of};
+use crate::layouts::{Layout, LayoutField, LeafHead, RowCount, Tail, layout_of, width_of};
 use crate::text::field_lines::{
-    Spot, close_fields, close_rows, open_fields, open_rows, push_bytes, push_count, push_fields,
-    push_notes, push_row, push_some,
+    FieldSpot, close_fields, close_rows, open_fields, open_rows, push_bytes, push_count,
+    push_fields, push_notes, push_row, push_some,
 };
 use mp4_boxes::Refusal;
 use mp4_present::{OutBuffer, TopBox};
@@ -44,15 +44,15 @@ struct Bytes {
 /// Where fields are told, and how many rows of a box at most.
 #[derive(Clone, Copy)]
 pub(crate) struct FieldStyle {
-    pub(crate) spot: Spot,
+    pub(crate) spot: FieldSpot,
     pub(crate) most: u64,
 }
 
 /// What the rows of a box hold, what its version and flags are, and how many rows have room.
 #[derive(Clone, Copy)]
 struct RowRun {
-    columns: &'static [Field],
-    head: Head,
+    columns: &'static [LayoutField],
+    head: LeafHead,
     there: u64,
 }
 
@@ -76,7 +76,7 @@ fn digest_of<S: Store>(alloc: Global, store: &mut S, bytes: Bytes) -> Result<[u8
 fn add_spelled<S: Store>(
     text: &mut Vec<u8>,
     store: &mut S,
-    spot: Spot,
+    spot: FieldSpot,
     name: &[u8],
     bytes: Bytes,
 ) -> Result<(), Refusal>
@@ -100,7 +100,7 @@ fn add_kept<S: Store>(
     text: &mut Vec<u8>,
     alloc: Global,
     store: &mut S,
-    spot: Spot,
+    spot: FieldSpot,
     name: &[u8],
     bytes: Bytes,
 ) -> Result<(), Refusal>
@@ -144,7 +144,7 @@ fn rows_due(number: Option<u64>, width: u64, room: u64) -> u64
 fn add_row<S: Store>(
     text: &mut Vec<u8>,
     store: &mut S,
-    spot: Spot,
+    spot: FieldSpot,
     run: RowRun,
     number: u64,
     at: u64,
@@ -170,7 +170,7 @@ fn add_row<S: Store>(
 fn add_rows<S: Store>(
     text: &mut Vec<u8>,
     store: &mut S,
-    spot: Spot,
+    spot: FieldSpot,
     run: RowRun,
     count: u64,
     bytes: Bytes,
@@ -221,7 +221,13 @@ fn add_run<S: Store>(
 }
 
 // The rows of a box, of which so many bytes are left, by its first bytes.
-fn run_in(columns: &'static [Field], count: Count, head: Head, front: &[u8], room: u64) -> RowRun
+fn run_in(
+    columns: &'static [LayoutField],
+    count: RowCount,
+    head: LeafHead,
+    front: &[u8],
+    room: u64,
+) -> RowRun
     requires { length columns.now ≤ 64 }
     ensures columns { result.columns.now ≡ columns.now }
     ensures head { result.head ≡ head }
@@ -246,7 +252,7 @@ fn add_tail<S: Store>(
     store: &mut S,
     style: FieldStyle,
     tail: Tail,
-    head: Head,
+    head: LeafHead,
     front: &[u8],
     bytes: Bytes,
 ) -> Result<(), Refusal>
@@ -269,7 +275,7 @@ fn add_tail<S: Store>(
 }
 
 // How many bytes are due behind the fields, of which so many are there.
-fn tail_width(tail: Tail, head: Head, front: &[u8], room: u64) -> u64
+fn tail_width(tail: Tail, head: LeafHead, front: &[u8], room: u64) -> u64
     requires few { HasFew (tail_seen tail) }
     ensures width { result ≡ tail_width head (tail_seen tail) front.now room }
     ensures short { result ≤ max room 70093866270720 }
@@ -292,7 +298,7 @@ fn add_laid<S: Store>(
     store: &mut S,
     style: FieldStyle,
     layout: &Layout,
-    head: Head,
+    head: LeafHead,
     front: &[u8],
     bytes: Bytes,
 ) -> Result<(), Refusal>

@@ -17,7 +17,7 @@ use crate::commands::box_fields::{FieldStyle, add_fields};
 use crate::commands::box_headers::read_header;
 use crate::jobs::{BoxForm, Syntax};
 use crate::text::box_json::box_json;
-use crate::text::field_lines::Spot;
+use crate::text::field_lines::FieldSpot;
 use crate::text::line::Line;
 use mp4_boxes::{FourCc, Refusal, Rule};
 use mp4_present::TopBox;
@@ -80,13 +80,13 @@ struct Level {
 }
 
 // Where the fields of a box are told that stands in so many containers.
-fn spot_of(syntax: Syntax, depth: u8) -> Spot
+fn spot_of(syntax: Syntax, depth: u8) -> FieldSpot
     requires { depth ≤ 5 }
     ensures { result ≡ spot_of syntax (depth + 1) }
 {
     match syntax {
-        Syntax::Text => Spot::Line(depth + 1),
-        Syntax::Json => Spot::Member,
+        Syntax::Text => FieldSpot::Line(depth + 1),
+        Syntax::Json => FieldSpot::Member,
     }
 }
 

@@ -135,7 +135,7 @@ fn earlier(one: Option<LostBox>, other: Option<LostBox>) -> Option<LostBox>
 /// Boxes of one type, and of one UUID where they are `uuid`, in containers of one type. They are
 /// ordered by these, and then by where the first stands.
 #[derive(Clone, Copy, PartialEq, Eq, PartialOrd, Ord)]
-pub struct Group {
+pub struct FreedGroup {
     container: u32,
     kind: u32,
     /// None where the box has fewer than 16 bytes.
@@ -147,7 +147,7 @@ pub struct Group {
     pub loss: Option<(u64, Loss)>,
 }
 
-impl Group {
+impl FreedGroup {
     pub(crate) fn container(&self) -> FourCc {
         FourCc(self.container.to_be_bytes())
     }
@@ -156,12 +156,12 @@ impl Group {
         FourCc(self.kind.to_be_bytes())
     }
 
-    fn is_like(&self, other: &Group) -> bool {
+    fn is_like(&self, other: &FreedGroup) -> bool {
         self.container == other.container && self.kind == other.kind && self.uuid == other.uuid
     }
 
     // Takes those behind its own in.
-    fn take_in(&mut self, other: &Group) {
+    fn take_in(&mut self, other: &FreedGroup) {
         self.count = self.count.saturating_add(other.count);
         self.loss = self.loss.or(other.loss);
     }
@@ -171,7 +171,7 @@ impl Group {
 #[derive(Drop)]
 pub struct FreedBoxes {
     /// Those that the profile refuses and that have no other name, group by group.
-    pub groups: Vec<Group>,
+    pub groups: Vec<FreedGroup>,
     /// The first of them with which something is lost.
     pub first_loss: Option<LostBox>,
     /// Whether others are `uuid` without which encrypted samples can't be read.
@@ -198,7 +198,7 @@ impl FreedBoxes {
         ensures { self.new.first_loss ≡ self.old.first_loss }
     {
         self.groups.as_mut_slice().sort_unstable();
-        let mut merged: Vec<Group> = Vec::new(alloc);
+        let mut merged: Vec<FreedGroup> = Vec::new(alloc);
         for group in &self.groups {
             match merged.last_mut() {
                 Some(last) if last.is_like(group) => last.take_in(group),
@@ -210,7 +210,7 @@ impl FreedBoxes {
         Ok(())
     }
 
-    fn add(&mut self, alloc: Global, group: Group) -> Result<(), AllocError>
+    fn add(&mut self, alloc: Global, group: FreedGroup) -> Result<(), AllocError>
         ensures { self.new.first_loss ≡ self.old.first_loss }
     {
         self.groups.push(group)?;
@@ -303,7 +303,7 @@ fn add_box(
         found.has_encryption |= uuid.is_some_and(|uuid| OF_ENCRYPTION.contains(&uuid));
         return Ok(());
     }
-    let group = Group {
+    let group = FreedGroup {
         container: u32::from_be_bytes(holder(within.rule).0),
         kind: u32::from_be_bytes(own.kind.0),
         uuid,

@@ -1,13 +1,13 @@
 //! Which words may leave out all of some differences.
 ghost use Rattle.mp4_content.specs.format.CoveringLaws.{Covers};
 
-use crate::text::tally::{Kind, count_of_kind};
+use crate::text::tally::{DifferenceKind, count_of_kind};
 use crate::without_words::leaving_both;
 use mp4_content::{Difference, Entries, Field, Part, Subject, Value, Without, Word};
 use mp4_present::TrackInfo;
 
 // Whether there is a difference of a kind.
-fn has(kind: Kind, all: &[Difference]) -> bool {
+fn has(kind: DifferenceKind, all: &[Difference]) -> bool {
     count_of_kind(kind, all) > 0
 }
 
@@ -90,7 +90,7 @@ fn goes_on(tracks: &[TrackInfo], last: Option<Shift>, next: Shift) -> bool {
 
 // What differences in times ask for.
 #[derive(Clone, Copy)]
-struct Asked {
+struct TimesAsked {
     ends: bool,
     origins: bool,
     /// No less will do than all times.
@@ -99,10 +99,10 @@ struct Asked {
     last: Option<Shift>,
 }
 
-impl Asked {
+impl TimesAsked {
     // Nothing.
-    fn new() -> Asked {
-        Asked {
+    fn new() -> TimesAsked {
+        TimesAsked {
             ends: false,
             origins: false,
             timing: false,
@@ -144,8 +144,8 @@ impl Asked {
 }
 
 // What these differences ask for in times, of tracks with so many samples.
-fn asked_by(tracks: &[TrackInfo], all: &[Difference]) -> Asked {
-    let mut asked = Asked::new();
+fn asked_by(tracks: &[TrackInfo], all: &[Difference]) -> TimesAsked {
+    let mut asked = TimesAsked::new();
     for difference in all {
         asked.take(tracks, difference);
     }
@@ -165,11 +165,11 @@ pub(crate) fn guess(leaving: Without, all: &[Difference], tracks: &[TrackInfo]) 
     let asked = asked_by(tracks, all);
     let timing = asked.timing || !is_through(tracks, asked.last);
     let needed = Without::each(|word| match word {
-        Word::Times => has(Kind::Times, all),
-        Word::Edits => has(Kind::Edits, all),
-        Word::Flags => has(Kind::Flags, all),
-        Word::Groups => has(Kind::Groups, all),
-        Word::Metadata => has(Kind::Kept, all),
+        Word::Times => has(DifferenceKind::Times, all),
+        Word::Edits => has(DifferenceKind::Edits, all),
+        Word::Flags => has(DifferenceKind::Flags, all),
+        Word::Groups => has(DifferenceKind::Groups, all),
+        Word::Metadata => has(DifferenceKind::Kept, all),
         Word::Bitrates => has_detail,
         // Without all times nothing is left of where tracks begin and end.
         Word::Ends => asked.ends && !asked.timing,

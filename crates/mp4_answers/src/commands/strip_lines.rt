@@ -6,7 +6,7 @@ ghost use Rattle.mp4_answers.specs.format.Strips.{RefusesLook};
 ghost use Rattle.mp4_answers.specs.words.FirstLosses.{FindsIf};
 
 use crate::box_names::Name;
-use crate::commands::freed_boxes::{FreedBoxes, Group, find_freed};
+use crate::commands::freed_boxes::{FreedBoxes, FreedGroup, find_freed};
 use crate::text::box_json::uuid_string;
 use crate::text::line::Line;
 use mp4_boxes::{Fault, FourCc, Kind, Refusal};
@@ -70,7 +70,7 @@ fn push_count(
 }
 
 // Adds the container and the type of the boxes of a group, and of `uuid` which they are.
-fn push_group(text: &mut Vec<u8>, alloc: Global, group: &Group) -> Result<(), AllocError> {
+fn push_group(text: &mut Vec<u8>, alloc: Global, group: &FreedGroup) -> Result<(), AllocError> {
     let mut line = Line::new();
     line.push_type(group.container());
     line.push(b'/');

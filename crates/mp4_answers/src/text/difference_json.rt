@@ -11,7 +11,7 @@ use crate::text::difference_lines::{
 };
 use crate::text::json_text::push_printable;
 use crate::text::line::Line;
-use crate::text::tally::{Kind, count_of_kind, kind_name, kind_of_difference};
+use crate::text::tally::{DifferenceKind, count_of_kind, kind_name, kind_of_difference};
 use mp4_boxes::FourCc;
 use mp4_content::{Difference, Entries, Field, Part, Subject, Value, Without, Word};
 use mp4_tables::GroupKey;
@@ -76,7 +76,7 @@ fn say_part(text: &mut Vec<u8>, part: Part) -> Result<(), AllocError>
 {
     match part {
         Part::Byte(number, _) => say_counted(text, ",\"byte\",", number, ""),
-        Part::Kind => say_word(text, "type"),
+        Part::DifferenceKind => say_word(text, "type"),
         Part::Length => say_word(text, "bytes"),
         Part::SegmentDuration => say_word(text, "segment duration"),
         Part::MediaTime => say_word(text, "media time"),
@@ -148,7 +148,7 @@ fn say_json_value(text: &mut Vec<u8>, value: Value, digits: u8) -> Result<(), Al
     match value {
         Value::Number(_) if digits == 0 => say_value(text, value, digits),
         Value::Signed(_) => say_value(text, value, digits),
-        Value::Kind(kind) => say_type_string(text, kind),
+        Value::DifferenceKind(kind) => say_type_string(text, kind),
         _ => {
             say(text, "\"")?;
             say_value(text, value, digits)?;
@@ -210,7 +210,7 @@ pub(crate) fn say_difference_object(
 #[tactic(auto, unfolding(crate::specs::format::DifferenceObject::count_member))]
 fn say_member(
     text: &mut Vec<u8>,
-    kind: Kind,
+    kind: DifferenceKind,
     all: &[Difference],
     is_first: bool,
 ) -> Result<bool, AllocError>
@@ -233,14 +233,14 @@ fn say_members(text: &mut Vec<u8>, all: &[Difference]) -> Result<(), AllocError>
     ensures { OnOk result
         (text.new.items ≡ text.old.items ++ count_members true kinds_by_name all.now) }
 {
-    let is_first = say_member(text, Kind::Bytes, all, true)?;
-    let is_first = say_member(text, Kind::Edits, all, is_first)?;
-    let is_first = say_member(text, Kind::Flags, all, is_first)?;
-    let is_first = say_member(text, Kind::Groups, all, is_first)?;
-    let is_first = say_member(text, Kind::Heads, all, is_first)?;
-    let is_first = say_member(text, Kind::Kept, all, is_first)?;
-    let is_first = say_member(text, Kind::Samples, all, is_first)?;
-    let _ = say_member(text, Kind::Times, all, is_first)?;
+    let is_first = say_member(text, DifferenceKind::Bytes, all, true)?;
+    let is_first = say_member(text, DifferenceKind::Edits, all, is_first)?;
+    let is_first = say_member(text, DifferenceKind::Flags, all, is_first)?;
+    let is_first = say_member(text, DifferenceKind::Groups, all, is_first)?;
+    let is_first = say_member(text, DifferenceKind::Heads, all, is_first)?;
+    let is_first = say_member(text, DifferenceKind::Kept, all, is_first)?;
+    let is_first = say_member(text, DifferenceKind::Samples, all, is_first)?;
+    let _ = say_member(text, DifferenceKind::Times, all, is_first)?;
     Ok(())
 }
 

@@ -7,7 +7,7 @@ ghost use Rattle.mp4_answers.specs.format.Layouts.{width};
 ghost use Rattle.mp4_answers.specs.format.Texts.{hex_text};
 ghost use Rattle.mp4_answers.specs.words.LayoutsSeen.{field_seen, fields_seen};
 
-use crate::layouts::{Field, FieldKind, Head};
+use crate::layouts::{FieldKind, LayoutField, LeafHead};
 use crate::text::difference_lines::{say_number, say_signed};
 use crate::text::digits::hex_digit;
 use crate::text::json_text::push_printable;
@@ -19,7 +19,7 @@ use std::alloc::AllocError;
 /// Where a field is told: in a line of its own, within so many boxes; in the line of a row; or as a
 /// member of an object of JSON.
 #[derive(Clone, Copy)]
-pub(crate) enum Spot {
+pub(crate) enum FieldSpot {
     Line(u8),
     Cell,
     Member,
@@ -47,46 +47,51 @@ pub(crate) fn push_hex(text: &mut Vec<u8>, bytes: &[u8]) -> Result<(), AllocErro
 }
 
 // Adds what stands before a value: its name, of two parts.
-fn push_name(text: &mut Vec<u8>, spot: Spot, name: &[u8], more: &[u8]) -> Result<(), AllocError>
+fn push_name(
+    text: &mut Vec<u8>,
+    spot: FieldSpot,
+    name: &[u8],
+    more: &[u8],
+) -> Result<(), AllocError>
     ensures { OnOk result (text.new.items
         ≡ text.old.items ++ before spot ++ (name.now ++ more.now) ++ between spot) }
 {
     match spot {
-        Spot::Line(levels) => push_levels(text, levels)?,
-        Spot::Cell => text.push(b' ')?,
-        Spot::Member => text.extend_from_slice(b",\"")?,
+        FieldSpot::Line(levels) => push_levels(text, levels)?,
+        FieldSpot::Cell => text.push(b' ')?,
+        FieldSpot::Member => text.extend_from_slice(b",\"")?,
     }
     text.extend_from_slice(name)?;
     text.extend_from_slice(more)?;
     match spot {
-        Spot::Line(_) => text.extend_from_slice(b": "),
-        Spot::Cell => text.extend_from_slice(b"="),
-        Spot::Member => text.extend_from_slice(b"\":"),
+        FieldSpot::Line(_) => text.extend_from_slice(b": "),
+        FieldSpot::Cell => text.extend_from_slice(b"="),
+        FieldSpot::Member => text.extend_from_slice(b"\":"),
     }
 }
 
 // Adds what stands behind a value.
-fn push_end(text: &mut Vec<u8>, spot: Spot) -> Result<(), AllocError>
+fn push_end(text: &mut Vec<u8>, spot: FieldSpot) -> Result<(), AllocError>
     ensures { OnOk result (text.new.items ≡ text.old.items ++ behind spot) }
 {
     match spot {
-        Spot::Line(_) => text.extend_from_slice(b"\n"),
-        Spot::Cell | Spot::Member => Ok(()),
+        FieldSpot::Line(_) => text.extend_from_slice(b"\n"),
+        FieldSpot::Cell | FieldSpot::Member => Ok(()),
     }
 }
 
 // Adds what stands on both sides of a text.
-fn push_quote(text: &mut Vec<u8>, spot: Spot) -> Result<(), AllocError>
+fn push_quote(text: &mut Vec<u8>, spot: FieldSpot) -> Result<(), AllocError>
     ensures { OnOk result (text.new.items ≡ text.old.items ++ quote spot) }
 {
     match spot {
-        Spot::Member => text.extend_from_slice(b"\""),
-        Spot::Line(_) | Spot::Cell => Ok(()),
+        FieldSpot::Member => text.extend_from_slice(b"\""),
+        FieldSpot::Line(_) | FieldSpot::Cell => Ok(()),
     }
 }
 
 // Adds bytes in digits, as a text.
-fn push_digits(text: &mut Vec<u8>, spot: Spot, bytes: &[u8]) -> Result<(), AllocError>
+fn push_digits(text: &mut Vec<u8>, spot: FieldSpot, bytes: &[u8]) -> Result<(), AllocError>
     ensures { OnOk result
         (text.new.items ≡ text.old.items ++ quoted spot (hex_text bytes.now)) }
 {
@@ -96,7 +101,7 @@ fn push_digits(text: &mut Vec<u8>, spot: Spot, bytes: &[u8]) -> Result<(), Alloc
 }
 
 // Adds four characters where all can be printed, and else their digits.
-fn push_code(text: &mut Vec<u8>, spot: Spot, bytes: &[u8]) -> Result<(), AllocError>
+fn push_code(text: &mut Vec<u8>, spot: FieldSpot, bytes: &[u8]) -> Result<(), AllocError>
     ensures { OnOk result (text.new.items ≡ text.old.items
         ++ (if is_printable bytes.now then code_of spot bytes.now else hex_text bytes.now)) }
 {
@@ -104,13 +109,13 @@ fn push_code(text: &mut Vec<u8>, spot: Spot, bytes: &[u8]) -> Result<(), AllocEr
         return push_hex(text, bytes);
     }
     match spot {
-        Spot::Member => push_printable(text, bytes),
-        Spot::Line(_) | Spot::Cell => text.extend_from_slice(bytes),
+        FieldSpot::Member => push_printable(text, bytes),
+        FieldSpot::Line(_) | FieldSpot::Cell => text.extend_from_slice(bytes),
     }
 }
 
 // Adds a type, as a text.
-fn push_type(text: &mut Vec<u8>, spot: Spot, bytes: &[u8]) -> Result<(), AllocError>
+fn push_type(text: &mut Vec<u8>, spot: FieldSpot, bytes: &[u8]) -> Result<(), AllocError>
     ensures { OnOk result (text.new.items ≡ text.old.items ++ quoted spot
         (if is_printable bytes.now then code_of spot bytes.now else hex_text bytes.now)) }
 {
@@ -120,19 +125,24 @@ fn push_type(text: &mut Vec<u8>, spot: Spot, bytes: &[u8]) -> Result<(), AllocEr
 }
 
 // Adds what stands before a number of a matrix, of which so many stand before it.
-fn push_apart(text: &mut Vec<u8>, spot: Spot, before: usize) -> Result<(), AllocError>
+fn push_apart(text: &mut Vec<u8>, spot: FieldSpot, before: usize) -> Result<(), AllocError>
     ensures { OnOk result (text.new.items
         ≡ text.old.items ++ (if nat_lt 0 before then apart spot else [])) }
 {
     match spot {
         _ if before == 0 => Ok(()),
-        Spot::Member => text.extend_from_slice(b","),
-        Spot::Line(_) | Spot::Cell => text.extend_from_slice(b" "),
+        FieldSpot::Member => text.extend_from_slice(b","),
+        FieldSpot::Line(_) | FieldSpot::Cell => text.extend_from_slice(b" "),
     }
 }
 
 // Adds a number of a matrix, of which so many stand before it.
-fn push_next(text: &mut Vec<u8>, spot: Spot, before: usize, bytes: &[u8]) -> Result<(), AllocError>
+fn push_next(
+    text: &mut Vec<u8>,
+    spot: FieldSpot,
+    before: usize,
+    bytes: &[u8],
+) -> Result<(), AllocError>
     requires { 4 * before + 4 ≤ length bytes.now }
     ensures { OnOk result (text.new.items ≡ text.old.items
         ++ ((if nat_lt 0 before then apart spot else [])
@@ -145,7 +155,7 @@ fn push_next(text: &mut Vec<u8>, spot: Spot, before: usize, bytes: &[u8]) -> Res
 // Adds so many numbers of four bytes each.
 fn push_numbers(
     text: &mut Vec<u8>,
-    spot: Spot,
+    spot: FieldSpot,
     count: usize,
     bytes: &[u8],
 ) -> Result<(), AllocError>
@@ -160,27 +170,27 @@ fn push_numbers(
 }
 
 // Adds what stands before the numbers of a matrix.
-fn push_opening(text: &mut Vec<u8>, spot: Spot) -> Result<(), AllocError>
+fn push_opening(text: &mut Vec<u8>, spot: FieldSpot) -> Result<(), AllocError>
     ensures { OnOk result (text.new.items ≡ text.old.items ++ opening spot) }
 {
     match spot {
-        Spot::Member => text.extend_from_slice(b"["),
-        Spot::Line(_) | Spot::Cell => Ok(()),
+        FieldSpot::Member => text.extend_from_slice(b"["),
+        FieldSpot::Line(_) | FieldSpot::Cell => Ok(()),
     }
 }
 
 // And behind them.
-fn push_closing(text: &mut Vec<u8>, spot: Spot) -> Result<(), AllocError>
+fn push_closing(text: &mut Vec<u8>, spot: FieldSpot) -> Result<(), AllocError>
     ensures { OnOk result (text.new.items ≡ text.old.items ++ closing spot) }
 {
     match spot {
-        Spot::Member => text.extend_from_slice(b"]"),
-        Spot::Line(_) | Spot::Cell => Ok(()),
+        FieldSpot::Member => text.extend_from_slice(b"]"),
+        FieldSpot::Line(_) | FieldSpot::Cell => Ok(()),
     }
 }
 
 // Adds the numbers of a matrix, of four bytes each.
-fn push_matrix(text: &mut Vec<u8>, spot: Spot, bytes: &[u8]) -> Result<(), AllocError>
+fn push_matrix(text: &mut Vec<u8>, spot: FieldSpot, bytes: &[u8]) -> Result<(), AllocError>
     ensures { OnOk result (text.new.items ≡ text.old.items ++ opening spot
         ++ numbers_of (apart spot) (length bytes.now / 4) bytes.now ++ closing spot) }
 {
@@ -192,9 +202,9 @@ fn push_matrix(text: &mut Vec<u8>, spot: Spot, bytes: &[u8]) -> Result<(), Alloc
 // Adds the value of a field, which has a byte at least.
 fn push_value(
     text: &mut Vec<u8>,
-    spot: Spot,
+    spot: FieldSpot,
     kind: FieldKind,
-    head: Head,
+    head: LeafHead,
     bytes: &[u8],
 ) -> Result<(), AllocError>
     requires { 0 < length bytes.now }
@@ -219,9 +229,9 @@ fn push_value(
 // Adds a field of these bytes; nothing where it has none.
 fn push_field(
     text: &mut Vec<u8>,
-    spot: Spot,
-    head: Head,
-    field: &Field,
+    spot: FieldSpot,
+    head: LeafHead,
+    field: &LayoutField,
     bytes: &[u8],
 ) -> Result<(), AllocError>
     requires { length bytes.now ≡ width head (field_seen field.now) }
@@ -239,9 +249,9 @@ fn push_field(
 /// Adds the fields of which all bytes are there, up to the first that lacks some.
 pub(crate) fn push_fields(
     text: &mut Vec<u8>,
-    spot: Spot,
-    head: Head,
-    fields: &[Field],
+    spot: FieldSpot,
+    head: LeafHead,
+    fields: &[LayoutField],
     bytes: &[u8],
 ) -> Result<(), AllocError>
     ensures { OnOk result (text.new.items
@@ -263,7 +273,7 @@ pub(crate) fn push_fields(
 /// Adds a number under a name of two parts.
 pub(crate) fn push_count(
     text: &mut Vec<u8>,
-    spot: Spot,
+    spot: FieldSpot,
     name: &[u8],
     more: &[u8],
     number: u64,
@@ -279,7 +289,7 @@ pub(crate) fn push_count(
 /// Adds the same where the number isn't 0.
 pub(crate) fn push_some(
     text: &mut Vec<u8>,
-    spot: Spot,
+    spot: FieldSpot,
     name: &[u8],
     number: u64,
 ) -> Result<(), AllocError>
@@ -294,7 +304,7 @@ pub(crate) fn push_some(
 /// Adds bytes in digits, under a name of two parts.
 pub(crate) fn push_bytes(
     text: &mut Vec<u8>,
-    spot: Spot,
+    spot: FieldSpot,
     name: &[u8],
     more: &[u8],
     bytes: &[u8],
@@ -310,9 +320,9 @@ pub(crate) fn push_bytes(
 /// Adds the row of this number, from 1 on.
 pub(crate) fn push_row(
     text: &mut Vec<u8>,
-    spot: Spot,
-    head: Head,
-    columns: &[Field],
+    spot: FieldSpot,
+    head: LeafHead,
+    columns: &[LayoutField],
     number: u64,
     bytes: &[u8],
 ) -> Result<(), AllocError>
@@ -320,21 +330,21 @@ pub(crate) fn push_row(
         ++ row_text spot head (fields_seen columns.now) number bytes.now) }
 {
     match spot {
-        Spot::Line(levels) => {
+        FieldSpot::Line(levels) => {
             push_levels(text, levels)?;
             text.extend_from_slice(b"row ")?;
             say_number(text, number)?;
             text.push(b':')?;
-            push_fields(text, Spot::Cell, head, columns, bytes)?;
+            push_fields(text, FieldSpot::Cell, head, columns, bytes)?;
             text.extend_from_slice(b"\n")
         }
-        Spot::Cell | Spot::Member => {
+        FieldSpot::Cell | FieldSpot::Member => {
             if number > 1 {
                 text.push(b',')?;
             }
             text.extend_from_slice(b"{\"row\":")?;
             say_number(text, number)?;
-            push_fields(text, Spot::Member, head, columns, bytes)?;
+            push_fields(text, FieldSpot::Member, head, columns, bytes)?;
             text.extend_from_slice(b"}")
         }
     }
@@ -344,7 +354,7 @@ pub(crate) fn push_row(
 /// are due.
 pub(crate) fn push_notes(
     text: &mut Vec<u8>,
-    spot: Spot,
+    spot: FieldSpot,
     there: u64,
     due: u64,
 ) -> Result<(), AllocError>
@@ -355,22 +365,22 @@ pub(crate) fn push_notes(
 }
 
 /// Adds what stands before the rows.
-pub(crate) fn open_rows(text: &mut Vec<u8>, spot: Spot) -> Result<(), AllocError>
+pub(crate) fn open_rows(text: &mut Vec<u8>, spot: FieldSpot) -> Result<(), AllocError>
     ensures { OnOk result (text.new.items ≡ text.old.items ++ before_rows spot) }
 {
     match spot {
-        Spot::Line(_) => Ok(()),
-        Spot::Cell | Spot::Member => text.extend_from_slice(b",\"rows\":["),
+        FieldSpot::Line(_) => Ok(()),
+        FieldSpot::Cell | FieldSpot::Member => text.extend_from_slice(b",\"rows\":["),
     }
 }
 
 /// And behind them.
-pub(crate) fn close_rows(text: &mut Vec<u8>, spot: Spot) -> Result<(), AllocError>
+pub(crate) fn close_rows(text: &mut Vec<u8>, spot: FieldSpot) -> Result<(), AllocError>
     ensures { OnOk result (text.new.items ≡ text.old.items ++ behind_rows spot) }
 {
     match spot {
-        Spot::Line(_) => Ok(()),
-        Spot::Cell | Spot::Member => text.extend_from_slice(b"]"),
+        FieldSpot::Line(_) => Ok(()),
+        FieldSpot::Cell | FieldSpot::Member => text.extend_from_slice(b"]"),
     }
 }
 
@@ -384,21 +394,21 @@ fn push_payload(text: &mut Vec<u8>, len: u64) -> Result<(), AllocError>
 }
 
 /// Adds what stands before the fields of a box with a payload of so many bytes.
-pub(crate) fn open_fields(text: &mut Vec<u8>, spot: Spot, len: u64) -> Result<(), AllocError>
+pub(crate) fn open_fields(text: &mut Vec<u8>, spot: FieldSpot, len: u64) -> Result<(), AllocError>
     ensures { OnOk result (text.new.items ≡ text.old.items ++ before_fields spot len) }
 {
     match spot {
-        Spot::Line(_) => Ok(()),
-        Spot::Cell | Spot::Member => push_payload(text, len),
+        FieldSpot::Line(_) => Ok(()),
+        FieldSpot::Cell | FieldSpot::Member => push_payload(text, len),
     }
 }
 
 /// And behind them.
-pub(crate) fn close_fields(text: &mut Vec<u8>, spot: Spot) -> Result<(), AllocError>
+pub(crate) fn close_fields(text: &mut Vec<u8>, spot: FieldSpot) -> Result<(), AllocError>
     ensures { OnOk result (text.new.items ≡ text.old.items ++ behind_fields spot) }
 {
     match spot {
-        Spot::Line(_) => Ok(()),
-        Spot::Cell | Spot::Member => text.extend_from_slice(b"}"),
+        FieldSpot::Line(_) => Ok(()),
+        FieldSpot::Cell | FieldSpot::Member => text.extend_from_slice(b"}"),
     }
 }

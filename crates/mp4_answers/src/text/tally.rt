@@ -8,7 +8,7 @@ use std::alloc::AllocError;
 
 /// What a difference is of, in the order in which the kinds are told of.
 #[derive(Clone, Copy)]
-pub(crate) enum Kind {
+pub(crate) enum DifferenceKind {
     Times,
     Edits,
     Flags,
@@ -20,52 +20,52 @@ pub(crate) enum Kind {
 }
 
 /// What a kind is called.
-pub(crate) fn kind_name(kind: Kind) -> &'static str
+pub(crate) fn kind_name(kind: DifferenceKind) -> &'static str
     ensures { result.now ≡ kind_name kind }
 {
     match kind {
-        Kind::Times => "times",
-        Kind::Edits => "edits",
-        Kind::Flags => "flags",
-        Kind::Groups => "groups",
-        Kind::Kept => "kept",
-        Kind::Heads => "heads",
-        Kind::Samples => "samples",
-        Kind::Bytes => "bytes",
+        DifferenceKind::Times => "times",
+        DifferenceKind::Edits => "edits",
+        DifferenceKind::Flags => "flags",
+        DifferenceKind::Groups => "groups",
+        DifferenceKind::Kept => "kept",
+        DifferenceKind::Heads => "heads",
+        DifferenceKind::Samples => "samples",
+        DifferenceKind::Bytes => "bytes",
     }
 }
 
 // The kind of a difference of heads.
-fn kind_of_entries(entries: Entries) -> Kind
+fn kind_of_entries(entries: Entries) -> DifferenceKind
     ensures { result ≡ kind_of_entries entries }
 {
     match entries {
-        Entries::Edits => Kind::Edits,
-        Entries::Kept => Kind::Kept,
-        Entries::GroupDescriptions => Kind::Groups,
-        _ => Kind::Heads,
+        Entries::Edits => DifferenceKind::Edits,
+        Entries::Kept => DifferenceKind::Kept,
+        Entries::GroupDescriptions => DifferenceKind::Groups,
+        _ => DifferenceKind::Heads,
     }
 }
 
 /// The kind of a difference.
-pub(crate) fn kind_of_difference(difference: &Difference) -> Kind
+pub(crate) fn kind_of_difference(difference: &Difference) -> DifferenceKind
     ensures { result ≡ kind_of_difference difference.now }
 {
     match (difference.field, difference.subject) {
-        (Field::Creation | Field::Modification, _) => Kind::Times,
-        (Field::MediaCreation | Field::MediaModification, _) => Kind::Times,
+        (Field::Creation | Field::Modification, _) => DifferenceKind::Times,
+        (Field::MediaCreation | Field::MediaModification, _) => DifferenceKind::Times,
         (Field::Count(entries) | Field::Entry(entries, _, _), _) => kind_of_entries(entries),
-        (Field::Group(_), _) => Kind::Groups,
-        (Field::Byte(_, _), _) => Kind::Bytes,
-        (Field::Start | Field::Samples, _) => Kind::Samples,
-        (Field::Flags, Subject::Sample(_, _)) => Kind::Flags,
-        (_, Subject::Sample(_, _)) => Kind::Samples,
-        _ => Kind::Heads,
+        (Field::Group(_), _) => DifferenceKind::Groups,
+        (Field::Byte(_, _), _) => DifferenceKind::Bytes,
+        (Field::Start | Field::Samples, _) => DifferenceKind::Samples,
+        (Field::Flags, Subject::Sample(_, _)) => DifferenceKind::Flags,
+        (_, Subject::Sample(_, _)) => DifferenceKind::Samples,
+        _ => DifferenceKind::Heads,
     }
 }
 
 /// How many of these differences are of a kind.
-pub(crate) fn count_of_kind(kind: Kind, all: &[Difference]) -> u64
+pub(crate) fn count_of_kind(kind: DifferenceKind, all: &[Difference]) -> u64
     ensures { result ≡ count_of_kind kind all.now }
 {
     let mut count = 0u64;
@@ -81,7 +81,7 @@ pub(crate) fn count_of_kind(kind: Kind, all: &[Difference]) -> u64
 #[tactic(auto, unfolding(crate::specs::format::LastLine::count_text))]
 fn say_count(
     text: &mut Vec<u8>,
-    kind: Kind,
+    kind: DifferenceKind,
     all: &[Difference],
     is_first: bool,
 ) -> Result<bool, AllocError>
@@ -103,14 +103,14 @@ fn say_count(
 fn say_counts(text: &mut Vec<u8>, all: &[Difference]) -> Result<(), AllocError>
     ensures { OnOk result (text.new.items ≡ text.old.items ++ counts_text true all_kinds all.now) }
 {
-    let is_first = say_count(text, Kind::Times, all, true)?;
-    let is_first = say_count(text, Kind::Edits, all, is_first)?;
-    let is_first = say_count(text, Kind::Flags, all, is_first)?;
-    let is_first = say_count(text, Kind::Groups, all, is_first)?;
-    let is_first = say_count(text, Kind::Kept, all, is_first)?;
-    let is_first = say_count(text, Kind::Heads, all, is_first)?;
-    let is_first = say_count(text, Kind::Samples, all, is_first)?;
-    let _ = say_count(text, Kind::Bytes, all, is_first)?;
+    let is_first = say_count(text, DifferenceKind::Times, all, true)?;
+    let is_first = say_count(text, DifferenceKind::Edits, all, is_first)?;
+    let is_first = say_count(text, DifferenceKind::Flags, all, is_first)?;
+    let is_first = say_count(text, DifferenceKind::Groups, all, is_first)?;
+    let is_first = say_count(text, DifferenceKind::Kept, all, is_first)?;
+    let is_first = say_count(text, DifferenceKind::Heads, all, is_first)?;
+    let is_first = say_count(text, DifferenceKind::Samples, all, is_first)?;
+    let _ = say_count(text, DifferenceKind::Bytes, all, is_first)?;
     Ok(())
 }
 

@@ -14,13 +14,13 @@ use Rattle.mp4_content.specs.format.Differences.{each_differ}
 use Rattle.mp4_content.specs.format.Reduced.{reduce_samples}
 use Rattle.mp4_content.specs.words.Compared.{WhereBothOpened, WhereTracks}
 use Rattle.mp4_content.specs.words.Differing.{pair_differences}
-use Rattle.mp4_content.specs.declared.aligning.Counts.{Counts}
+use Rattle.mp4_content.specs.declared.aligning.SampleCounts.{SampleCounts}
 use Rattle.mp4_content.specs.declared.common_ends.Ends.{Ends}
 use Rattle.mp4_content.specs.declared.comparing.differences.Difference.{Difference}
 use Rattle.mp4_content.specs.declared.comparing.differences.Subject.{Subject}
 use Rattle.mp4_content.specs.declared.comparing.differences.Subject.TheVariants as subjects
 use Rattle.mp4_content.specs.declared.comparing.pairing.Pairing.{Pairing}
-use Rattle.mp4_content.specs.declared.comparing.samples.Side.{Side}
+use Rattle.mp4_content.specs.declared.comparing.samples.TrackSide.{TrackSide}
 use Rattle.mp4_content.specs.declared.without.Without.{Without}
 
 -- how many samples come before the one that this is said of, no more than so many
@@ -33,7 +33,7 @@ abbrev pub front_before : Option Difference → ℕ → ℕ
 front_before None most = most
 front_before (Some d) most = front_of d.subject most
 
-abbrev pub AreCounts : Counts → Track → Track → Type 0
+abbrev pub AreCounts : SampleCounts → Track → Track → Type 0
 AreCounts counts t u = (counts.left ≡ length t.samples) × (counts.right ≡ length u.samples)
 
 -- so much in front of what is left of two tracks is the same, and no more
@@ -89,8 +89,8 @@ pub record BothLie (file other : List ℕ) (count : ℕ) (xs ys : List SampleAt)
   pub lie_right : AllByRecursion (IsBelow (length other)) ys
 
 -- no more steps were taken than both sides may take
-abbrev pub BothWithin : {X Y : Type 0} → Store X → X → MovieSeen → Side → Store Y → Y → MovieSeen
-    → Side → ℕ → ℕ → Type 0
+abbrev pub BothWithin : {X Y : Type 0} → Store X → X → MovieSeen → TrackSide → Store Y → Y → MovieSeen
+    → TrackSide → ℕ → ℕ → Type 0
 BothWithin S a m left T b n right old new =
     WhereBothOpened (S.is_honest a) (S.file a) m (T.is_honest b) (T.file b) n
     (λ tree other. (t u : TrackTree) (p q : ℕ) → MayTake (S.file a) tree t left.walk p

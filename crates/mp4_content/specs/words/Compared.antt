@@ -22,7 +22,7 @@ use Rattle.mp4_present.specs.words.WalkSteps.{MayTake, walk_steps}
 use Rattle.mp4_content.specs.words.Windows.{Shows}
 use Rattle.mp4_store.specs.declared.store.Store.{Ghosts as Store}
 use Rattle.mp4_content.specs.declared.comparing.pairing.Pairing.{Pairing}
-use Rattle.mp4_content.specs.declared.comparing.samples.Side.{Side}
+use Rattle.mp4_content.specs.declared.comparing.samples.TrackSide.{TrackSide}
 use Rattle.mp4_content.specs.declared.comparing.differences.Difference.{Difference}
 use Rattle.mp4_content.specs.declared.reduced.Reduction.{Reduction}
 use Rattle.mp4_content.specs.declared.without.Without.{Without}
@@ -169,14 +169,14 @@ TracksWork S a m T b n track old new = WhereTracks S a m T b n track (λ tree t 
     new ≤ old + (walk_steps tree t + walk_steps other u))
 
 -- A side walks over the movie, and its window shows the file of an honest store.
-pub record StandsIn {X : Type 0} (S : Store X) (store : X) (m : MovieSeen) (side : Side)
+pub record StandsIn {X : Type 0} (S : Store X) (store : X) (m : MovieSeen) (side : TrackSide)
     : Type 0 where
   pub walk : IsWalkOf m side.walk
   pub shows : IsTrue (S.is_honest store) → Shows (S.file store) side.window
 
 -- over honest stores, of the samples that come on both sides, it is so
-abbrev pub BothCome : {X Y : Type 0} → Store X → X → MovieSeen → Side → Store Y → Y → MovieSeen
-    → Side → (FileTree → TrackTree → List SampleAt → FileTree → TrackTree → List SampleAt → Type 0)
+abbrev pub BothCome : {X Y : Type 0} → Store X → X → MovieSeen → TrackSide → Store Y → Y → MovieSeen
+    → TrackSide → (FileTree → TrackTree → List SampleAt → FileTree → TrackTree → List SampleAt → Type 0)
     → Type 0
 BothCome S a m left T b n right P =
     WhereBothOpened (S.is_honest a) (S.file a) m (T.is_honest b) (T.file b) n
@@ -186,30 +186,30 @@ BothCome S a m left T b n right P =
 
 -- The first samples of both were taken, and this differs between them. The lists are the samples
 -- that came before, and the sides are those behind it.
-abbrev pub PairTaken : Pairing → ℕ → List ℕ → FileTree → TrackTree → MovieSeen → Side
-    → List SampleAt → List ℕ → FileTree → TrackTree → MovieSeen → Side → List SampleAt
+abbrev pub PairTaken : Pairing → ℕ → List ℕ → FileTree → TrackTree → MovieSeen → TrackSide
+    → List SampleAt → List ℕ → FileTree → TrackTree → MovieSeen → TrackSide → List SampleAt
     → List Difference → Type 0
 PairTaken by number file tree t m left xs file_right other u n right ys found = (x y : SampleAt)
     × TakesFirst file tree t m left.walk xs x × TakesFirst file_right other u n right.walk ys y
     × (found ≡ pair_differences by file file_right number x y)
 
 -- At Ok the first samples of both were taken, and what is answered are their differences.
-abbrev pub PairFound : {X Y V E : Type 0} → Pairing → ℕ → Store X → X → MovieSeen → Side → Side
-    → Store Y → Y → MovieSeen → Side → Side → (V → List Difference) → Result V E → Type 0
+abbrev pub PairFound : {X Y V E : Type 0} → Pairing → ℕ → Store X → X → MovieSeen → TrackSide → TrackSide
+    → Store Y → Y → MovieSeen → TrackSide → TrackSide → (V → List Difference) → Result V E → Type 0
 PairFound by number S a m left left_after T b n right right_after items result =
     BothCome S a m left T b n right (λ tree t xs other u ys. IfOk result (λ found.
     PairTaken by number (S.file a) tree t m left_after xs (T.file b) other u n right_after ys
     (items found)))
 
 -- where the samples that come on both sides lie in their files, and are some, it is so
-abbrev pub WhereBothLie : {X Y : Type 0} → Store X → X → MovieSeen → Side → Store Y → Y
-    → MovieSeen → Side → Type 0 → Type 0
+abbrev pub WhereBothLie : {X Y : Type 0} → Store X → X → MovieSeen → TrackSide → Store Y → Y
+    → MovieSeen → TrackSide → Type 0 → Type 0
 WhereBothLie S a m left T b n right P = BothCome S a m left T b n right
     (λ tree t xs other u ys. LieIn (S.file a) xs → LieIn (T.file b) ys → P)
 
 -- At Ok both sides take on what steps are left; at Err no more were taken than both may take.
-abbrev pub BothWork : {X Y T E : Type 0} → Store X → X → MovieSeen → Side → Side → Store Y → Y
-    → MovieSeen → Side → Side → Result T E → ℕ → ℕ → Type 0
+abbrev pub BothWork : {X Y T E : Type 0} → Store X → X → MovieSeen → TrackSide → TrackSide → Store Y → Y
+    → MovieSeen → TrackSide → TrackSide → Result T E → ℕ → ℕ → Type 0
 BothWork S a m left left_after T b n right right_after result old new =
     WhereBothOpened (S.is_honest a) (S.file a) m (T.is_honest b) (T.file b) n
     (λ tree other. (t u : TrackTree) (p q : ℕ) → MayTake (S.file a) tree t left.walk p

@@ -16,7 +16,7 @@ use Rattle.mp4_present.specs.words.SamplesComing.{Comes}
 use Rattle.mp4_present.specs.words.WalkSteps.{MayTake}
 use Rattle.mp4_content.specs.words.Windows.{Shows}
 use Rattle.mp4_content.specs.declared.comparing.pairing.Pairing.{Pairing}
-use Rattle.mp4_content.specs.declared.comparing.samples.Side.{Side}
+use Rattle.mp4_content.specs.declared.comparing.samples.TrackSide.{TrackSide}
 use Rattle.mp4_content.specs.declared.comparing.differences.Difference.{Difference}
 use Rattle.mp4_content.specs.declared.comparing.differences.Field.TheVariants as fields
 use Rattle.mp4_content.specs.declared.comparing.differences.Subject.{Subject}
@@ -55,8 +55,8 @@ BeginSame by w v _ _ _ = ⊥
 
 -- Both sides go on by so many samples that are the same, in whatever files; both windows show what
 -- they showed, and both walks may take the other steps.
-pub record PassesSame (by : Pairing) (m : MovieSeen) (left left_after : Side) (n : MovieSeen)
-    (right right_after : Side) (count old new : ℕ) : Type 0 where
+pub record PassesSame (by : Pairing) (m : MovieSeen) (left left_after : TrackSide) (n : MovieSeen)
+    (right right_after : TrackSide) (count old new : ℕ) : Type 0 where
   pub walk : IsWalkOf m left_after.walk
   pub walk_right : IsWalkOf n right_after.walk
   pub window : left_after.window ≡ left.window

@@ -14,7 +14,7 @@ use Rattle.mp4_content.specs.words.Windows.{Shows}
 use Rattle.mp4_content.specs.declared.comparing.pairing.Pairing.{Pairing}
 use Rattle.mp4_present.specs.declared.walking.Walk.{Walk}
 use Rattle.mp4_content.specs.declared.without.Without.{Without}
-use Rattle.mp4_content.specs.declared.comparing.samples.Side.{Side}
+use Rattle.mp4_content.specs.declared.comparing.samples.TrackSide.{TrackSide}
 use Rattle.mp4_content.specs.declared.comparing.differences.Difference.{Difference}
 use Rattle.mp4_content.specs.declared.comparing.differences.Differences.{Ghosts as Differences}
 
@@ -25,14 +25,14 @@ pub record OnlyReadsBoth {X Y V E : Type 0} (S : Store X) (a a_after : X) (T : S
   pub right : OnlyReads T b b_after result
 
 -- each side walks over its movie, and its window shows the file of its store, where this is honest
-pub record BothStand {X Y : Type 0} (S : Store X) (a : X) (m : MovieSeen) (one : Side)
-    (T : Store Y) (b : Y) (n : MovieSeen) (other : Side) : Type 0 where
+pub record BothStand {X Y : Type 0} (S : Store X) (a : X) (m : MovieSeen) (one : TrackSide)
+    (T : Store Y) (b : Y) (n : MovieSeen) (other : TrackSide) : Type 0 where
   pub left : StandsIn S a m one
   pub right : StandsIn T b n other
 
 -- A side walks over this track of the movie, before its first sample, and its window is one on
 -- whatever file.
-pub record Begins (m : MovieSeen) (track : ℕ) (side : Side) : Type 0 where
+pub record Begins (m : MovieSeen) (track : ℕ) (side : TrackSide) : Type 0 where
   pub walk : IsWalkOf m side.walk
   pub coming : WhereTrackOf m track (λ file tree t.
       Comes file tree t m side.walk (track_samples tree t))

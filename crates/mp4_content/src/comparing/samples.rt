@@ -101,32 +101,32 @@ fn window_len(bytes: u64) -> usize
 // A track whose samples are compared with those of another: a walk over them, and a window on
 // their bytes.
 #[derive(Drop)]
-pub(crate) struct Side {
+pub(crate) struct TrackSide {
     pub(crate) walk: Walk,
     pub(crate) window: FileWindow,
 }
 
-impl Side {
+impl TrackSide {
     ghost use Rattle.std.specs.Prelude.{◌<◌, length, IfOk};
     ghost use Rattle.mp4_content.specs.words.TwoStores.{Begins};
 
     // Before the first sample of the track at this place.
-    pub(crate) fn new(alloc: Global, movie: &Movie, track: usize) -> Result<Side, Memory>
+    pub(crate) fn new(alloc: Global, movie: &Movie, track: usize) -> Result<TrackSide, Memory>
         requires { track < length movie.now.tracks }
         ensures { IfOk result (Begins movie.now track) }
     {
         let walk = movie.walk(alloc, track)?;
         let len = window_len(movie.tracks()[track].bytes);
         let window = FileWindow::new(alloc, len).map_err(|_| Memory)?;
-        Ok(Side { walk, window })
+        Ok(TrackSide { walk, window })
     }
 }
 
 // Both tracks.
 #[derive(Drop)]
 pub(crate) struct Sides {
-    pub(crate) left: Side,
-    pub(crate) right: Side,
+    pub(crate) left: TrackSide,
+    pub(crate) right: TrackSide,
 }
 
 // A sample of each track.
@@ -298,8 +298,8 @@ pub(crate) fn begin_pairs<S: Store, T: Store, L: Ledger, M: Ledger>(
     ensures looks { steps.new.looks ≡ steps.old.looks }
 {
     let movies = tracks.movies;
-    let mut left_side = Side::new(alloc, &movies.left, tracks.place)?;
-    let mut right_side = Side::new(alloc, &movies.right, tracks.place)?;
+    let mut left_side = TrackSide::new(alloc, &movies.left, tracks.place)?;
+    let mut right_side = TrackSide::new(alloc, &movies.right, tracks.place)?;
     let leaving = tracks.leaving;
     let walk = &mut left_side.walk;
     let first = reduction_of(walk, leaving, &movies.left, left, steps)?;

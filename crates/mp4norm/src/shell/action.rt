@@ -116,7 +116,7 @@ pub enum Finding {
 
 /// Which files are compared, without what, with which boxes as free space, and what is told of it.
 #[derive(Clone, Copy)]
-pub struct Comparison<'a> {
+pub struct ComparedInputs<'a> {
     pub left: Input<'a>,
     pub right: Input<'a>,
     pub leaving: Without,
@@ -150,7 +150,7 @@ pub enum Action<'a> {
         end: u8,
         telling: Telling,
     },
-    Compare(Comparison<'a>),
+    Compare(ComparedInputs<'a>),
     Strip {
         names: Vec<Name>,
         order: Order<'a>,

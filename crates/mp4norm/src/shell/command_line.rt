@@ -3,7 +3,7 @@ ghost use Rattle.std.specs.Prelude.{◌≡◌, ◌≤◌, [], IfOk, IfSome, Ok};
 ghost use Rattle.mp4norm.specs.words.Actions.{IsJob, IsAction, boxes_of_input};
 
 use crate::shell::action::{
-    Action, CommandFault, Comparison, Finding, Freeing, Input, Order, SumCheck, Target, Telling,
+    Action, CommandFault, ComparedInputs, Finding, Freeing, Input, Order, SumCheck, Target, Telling,
 };
 use crate::shell::command_table::whole_command;
 use crate::shell::drop_lists::names_of;
@@ -386,7 +386,7 @@ fn compare_asked<'a>(alloc: Global, found: &ArgMatches<'a>) -> Result<Action<'a>
         return Err(missing(alloc));
     };
     let most = most_parts_of(found);
-    Ok(Action::Compare(Comparison {
+    Ok(Action::Compare(ComparedInputs {
         left: input_of(left, most),
         right: input_of(right, most),
         leaving: left_out(alloc, found)?,

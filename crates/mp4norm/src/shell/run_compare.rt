@@ -1,6 +1,6 @@
 //! Comparing, from the names of two files to what is printed.
 use crate::running::{KeptStore, comparison_status, is_of_file};
-use crate::shell::action::{Comparison, Input, Telling};
+use crate::shell::action::{ComparedInputs, Input, Telling};
 use crate::shell::file_names::push_shown;
 use crate::shell::foreign::{Opened, Told, lay_free};
 use crate::shell::reports::{NotedStream, Report};
@@ -49,7 +49,7 @@ fn open_side<'a>(
 // What is read of a side. It is said which of its boxes are read as free space.
 fn as_asked<'a>(
     rt: &HostRuntime,
-    asked: Comparison,
+    asked: ComparedInputs,
     input: Input,
     source: Source<'a>,
 ) -> Opened<'a> {
@@ -64,7 +64,7 @@ fn as_asked<'a>(
 // Says why reading or writing failed, once both files are open.
 fn tell_cause(
     rt: &HostRuntime,
-    asked: Comparison,
+    asked: ComparedInputs,
     failure: &Failure,
     first: &LaidSource,
     second: &LaidSource,
@@ -87,7 +87,7 @@ fn tell_cause(
 // Compares two opened files.
 fn compared<L: Ledger, M: Ledger>(
     rt: &HostRuntime,
-    asked: Comparison,
+    asked: ComparedInputs,
     first: &mut Opened,
     second: &mut Opened,
     report: &mut Report,
@@ -108,7 +108,7 @@ fn compared<L: Ledger, M: Ledger>(
 // Compares two opened files. Then it looks whether either has changed meanwhile.
 fn answer_of<L: Ledger, M: Ledger>(
     rt: &HostRuntime,
-    asked: Comparison,
+    asked: ComparedInputs,
     first: &mut Opened,
     second: &mut Opened,
     report: &mut Report,
@@ -129,7 +129,7 @@ fn answer_of<L: Ledger, M: Ledger>(
 // Opens both, and compares them. What is wrong is explained where that is asked for.
 fn answer<L: Ledger, M: Ledger>(
     rt: &HostRuntime,
-    asked: Comparison,
+    asked: ComparedInputs,
     steps: &mut Steps<L, M>,
 ) -> Result<bool, Failure> {
     let (left, right, telling) = (asked.left, asked.right, asked.telling);
@@ -187,7 +187,7 @@ fn tell(rt: &HostRuntime, left: Input, right: Input, failure: Failure) {
 /// Compares two files, prints where they differ, and gives the status.
 pub(crate) fn compare_named<L: Ledger, M: Ledger>(
     rt: &HostRuntime,
-    asked: Comparison,
+    asked: ComparedInputs,
     steps: &mut Steps<L, M>,
 ) -> ExitCode {
     let answer = answer(rt, asked, steps);

@@ -1,5 +1,5 @@
 use Rattle.std.proofs.Common.{rules}
-use Rattle.mp4_content.proofs.comparing.samples.Side.new.Goals as goal
+use Rattle.mp4_content.proofs.comparing.samples.TrackSide.new.Goals as goal
 
 pub returns : goal.returns
 returns c = record {
