@@ -17,7 +17,7 @@ use Rattle.mp4_answers.specs.format.Strips.{is_top, is_named, means, payload_beh
 use Rattle.mp4_answers.specs.words.CountedBoxes.{count_on, counts_on, CountsOn}
 use Rattle.mp4_answers.proofs.StripLaws.{length_payload}
 use Rattle.mp4_answers.proofs.StripWalks.{behind_it, its_payload}
-use Rattle.mp4_answers.proofs.Stripped.{whole_range}
+use Rattle.mp4_answers.proofs.BoxSpans.{whole_range}
 
 -- ---- counts that go up
 

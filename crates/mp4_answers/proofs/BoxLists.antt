@@ -145,7 +145,7 @@ stands_of c all passed left b t e many =
     let grouped : passed ++ b ∷ left ≡ (passed ++ b ∷ []) ++ left = sym (append_assoc passed (b ∷ []) left) in
     (lies_front (may_be_open c.extent) c.at c.bytes (passed ++ b ∷ []) left (subst (λ (bs : List Box). LieEndToEnd (may_be_open c.extent) c.at c.bytes bs) (e ∙ grouped) t.front.0), many (passed ++ b ∷ []))
 
-descends_is : (o : Option Scope) (rule : Rule) → descends o ≡ Some rule → o ≡ Some (ruled rule)
+pub descends_is : (o : Option Scope) (rule : Rule) → descends o ≡ Some rule → o ≡ Some (ruled rule)
 descends_is (Some (ruled r)) rule e = let same : r ≡ rule = cc in ap (λ (x : Rule). Some (ruled x)) same
 descends_is (Some data_entries) rule e = absurd cc
 descends_is (Some sample_entries) rule e = absurd cc

@@ -160,7 +160,7 @@ box_span file rule inner top e =
     let less : top.header.end - payload_at top ≡ top.header.end - top.offset - top.header.header = omega arith in
     λ i. record { kind = sym k.0 i; offset = top.offset; at = payload_at top; bytes = range file (payload_at top) (less i); extent = extent_of (k.1 i) }
 
-whole_range : (file : List ℕ) → range file 0 (length file - 0) ≡ file
+pub whole_range : (file : List ℕ) → range file 0 (length file - 0) ≡ file
 whole_range file = grind (arith, common_steps)
 
 pub file_span : (file : List ℕ) → span_of file File 0 0 (length file) ≡ file_container file

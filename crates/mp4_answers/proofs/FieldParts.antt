@@ -10,16 +10,13 @@ use Rattle.std.proofs.lemmas.List.{replicate-append-replicate}
 use Rattle.mp4_answers.specs.declared.layouts.Layout.{Layout as TableLayout}
 use Rattle.mp4_answers.specs.format.Layouts.{Layout, first_of, layout_of, of_file, of_fragment, of_media, of_movie, of_places, of_samples, of_track}
 use Rattle.mp4_answers.specs.words.LayoutsSeen.{AreFew, layout_seen}
-
--- two parts that are added to a text, one after the other
-pub joined : (old mid new a b : List ℕ) → mid ≡ old ++ a → new ≡ mid ++ b → new ≡ old ++ (a ++ b)
-joined old mid new a b p q = q ∙ ap (λ (xs : List ℕ). xs ++ b) p ∙ append_assoc old a b
+use Rattle.mp4_plan.proofs.Pushes.{behind}
 
 -- two more spaces
 pub more_spaces : (k : ℕ) (old text new : List ℕ) → text ≡ old ++ replicate (2 * k) 32 → new ≡ text ++ 32 ∷ 32 ∷ [] → new ≡ old ++ replicate (2 * (k + 1)) 32
 more_spaces k old text new p q =
     let n : 2 * k + 2 ≡ 2 * (k + 1) = omega arith in
-    joined old text new (replicate (2 * k) 32) (32 ∷ 32 ∷ []) p q ∙ ap (λ (xs : List ℕ). old ++ xs) (replicate-append-replicate (2 * k) 2 32 ∙ ap (λ (m : ℕ). replicate m 32) n)
+    behind old text new (replicate (2 * k) 32) (32 ∷ 32 ∷ []) p q ∙ ap (λ (xs : List ℕ). old ++ xs) (replicate-append-replicate (2 * k) 2 32 ∙ ap (λ (m : ℕ). replicate m 32) n)
 
 -- what follows from a fact at Ok is one at Ok
 pub on_ok : {T E P Q : Type 0} (r : Result T E) → (P → Q) → OnOk r P → OnOk r Q
@@ -36,7 +33,7 @@ pub numbers_next : (sep : List ℕ) (k : ℕ) (bytes old text new : List ℕ) �
     → new ≡ old ++ numbers_of sep (k + 1) bytes
 numbers_next sep k bytes old text new p q =
     let next : suc k ≡ k + 1 = omega arith in
-    joined old text new (numbers_of sep k bytes) _ p q ∙ ap (λ (xs : List ℕ). old ++ xs) (sym (numbers_more sep k bytes) ∙ ap (λ (n : ℕ). numbers_of sep n bytes) next)
+    behind old text new (numbers_of sep k bytes) _ p q ∙ ap (λ (xs : List ℕ). old ++ xs) (sym (numbers_more sep k bytes) ∙ ap (λ (n : ℕ). numbers_of sep n bytes) next)
 
 -- ---- few fields
 

@@ -1,5 +1,5 @@
 -- Fields of boxes as they are read by place.
-use Rattle.std.proofs.Common.{◌≡◌, ℕ, zero, suc, ◌+◌, ◌-◌, ◌*◌, ◌≤◌, ◌<◌, ◌++◌, ◌∙◌, List, ap, sym, arith, length, take, drop, min, Some, inl, inr, ◌⊎◌}
+use Rattle.std.proofs.Common.{◌≡◌, ℕ, suc, ◌+◌, ◌-◌, ◌*◌, ◌≤◌, ◌<◌, ◌++◌, ◌∙◌, List, ap, sym, arith, length, take, drop, min, Some, inl, inr, ◌⊎◌}
 use Rattle.std.proofs.Math.Nat.{mul-le-mul_right, suc-mul}
 use Rattle.std.proofs.lemmas.List.{take_all, drop_all}
 use Rattle.mp4_store.specs.words.Device.{range}
@@ -7,18 +7,10 @@ use Rattle.mp4_answers.specs.declared.layouts.LeafHead.{LeafHead}
 use Rattle.mp4_answers.specs.declared.text.field_lines.FieldSpot.{FieldSpot}
 use Rattle.mp4_answers.specs.format.FieldTexts.{before_fields, behind_fields, box_fields, fields_text, laid_text, layout_text, notes_text, row_text, rows_text, tail_text, tail_width}
 use Rattle.mp4_answers.specs.format.Layouts.{Field, Layout, Tail, fields_of, head_of, layout_of, tail_of, width_of}
-use Rattle.mp4_answers.proofs.FieldParts.{joined}
 use Rattle.mp4_answers.proofs.HeadersUnder.{length_range}
 use Rattle.mp4_answers.proofs.StripWalks.{drop_range, take_range}
-
-lt_or_le : (n k : ℕ) → (n < k) ⊎ (k ≤ n)
-lt_or_le n zero = inr (omega arith)
-lt_or_le zero (suc k) = inl (omega arith)
-lt_or_le (suc n) (suc k) = more (lt_or_le n k)
-  where
-    more : (n < k) ⊎ (k ≤ n) → (suc n < suc k) ⊎ (suc k ≤ suc n)
-    more (inl lt) = inl (omega (arith, lt))
-    more (inr le) = inr (omega (arith, le))
+use Rattle.mp4_plan.proofs.TrafsAhead.{lt_or_le}
+use Rattle.mp4_plan.proofs.Pushes.{behind}
 
 -- ---- parts of a payload
 
@@ -70,7 +62,7 @@ rows_more spot head columns file from len number old text new le p q =
     let width = width_of head columns in
     let next : suc number ≡ number + 1 = omega arith in
     let part = range_range file from len (number * width) (min width 64) (omega (arith, le)) in
-    joined old text new (rows_text spot head columns number (range file from len)) _ p q
+    behind old text new (rows_text spot head columns number (range file from len)) _ p q
     ∙ ap (λ (bytes : List ℕ). old ++ (rows_text spot head columns number (range file from len) ++ row_text spot head columns (number + 1) bytes)) (sym part)
     ∙ ap (λ (n : ℕ). old ++ (rows_text spot head columns number (range file from len) ++ row_text spot head columns n (range (range file from len) (number * width) (min width 64)))) (sym next)
     ∙ ap (λ (n : ℕ). old ++ rows_text spot head columns n (range file from len)) next
@@ -89,8 +81,8 @@ laid_joined spot most head fields tail file front from len old one two new w f p
     let l : len ≡ length payload = sym (length_range file from len w) in
     let n : len - min width len ≡ length payload - width = omega (arith, l) in
     let rest = rest_read file from len width w in
-    joined old two new (fields_text spot head fields front ++ tail_text spot most head tail front (range file (from + min width len) (len - min width len))) _
-    (joined old one two (fields_text spot head fields front) _ p q) r
+    behind old two new (fields_text spot head fields front ++ tail_text spot most head tail front (range file (from + min width len) (len - min width len))) _
+    (behind old one two (fields_text spot head fields front) _ p q) r
     ∙ (λ i. old ++ (fields_text spot head fields (f i) ++ tail_text spot most head tail (f i) (rest i) ++ notes_text spot (l i) (width + tail_width head tail (f i) (n i))))
 
 -- the fields of a box by its layout
@@ -103,8 +95,8 @@ pub layout_joined : (spot : FieldSpot) (most : ℕ) (l : Layout) (head : LeafHea
 layout_joined spot most l head file front from len old one two new w f h p q r =
     let n : len ≡ length (range file from len) = sym (length_range file from len w) in
     let e : head ≡ head_of l.versions (take 128 (range file from len)) = h ∙ ap (λ (xs : List ℕ). head_of l.versions xs) f in
-    joined old two new (before_fields spot len ++ laid_text spot most head (fields_of l head) (tail_of l head) (range file from len)) _
-    (joined old one two (before_fields spot len) _ p q) r
+    behind old two new (before_fields spot len ++ laid_text spot most head (fields_of l head) (tail_of l head) (range file from len)) _
+    (behind old one two (before_fields spot len) _ p q) r
     ∙ (λ i. old ++ (before_fields spot (n i) ++ laid_text spot most (e i) (fields_of l (e i)) (tail_of l (e i)) (range file from len) ++ behind_fields spot))
 
 -- the same, by the type of the box

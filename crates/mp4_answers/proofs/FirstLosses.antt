@@ -14,7 +14,7 @@ use Rattle.mp4_answers.specs.format.Losses.{earlier, is_fragment, lost_with, Fir
 use Rattle.mp4_answers.specs.format.Strips.{is_top, is_named, uuid_at}
 use Rattle.mp4_answers.specs.words.FirstLosses.{FindsFirst, KeepsTimeAt}
 use Rattle.mp4_answers.proofs.StripWalks.{behind_it, its_payload}
-use Rattle.mp4_answers.proofs.Stripped.{whole_range}
+use Rattle.mp4_answers.proofs.BoxSpans.{whole_range}
 
 -- ---- the first of several
 

@@ -22,8 +22,9 @@ use Rattle.mp4_answers.specs.format.Strips.{is_top, is_named, freed, uuid_at, St
 use Rattle.mp4_answers.specs.format.Losses.{FirstLost, HasBox, ends as has_none, here as has_first, behind as has_later, is_fragment, IsFirstLost, KeepsIf, KeepsTime}
 use Rattle.mp4_answers.specs.words.FreedPlaces.{IsTypeBetween, AreFreed, AddsFreed}
 use Rattle.mp4_answers.proofs.FirstLosses.{lost_ends, lost_entered, lost_kept}
-use Rattle.mp4_answers.proofs.Stripped.{of_file, whole_range}
+use Rattle.mp4_answers.proofs.Stripped.{of_file}
 use Rattle.mp4_answers.proofs.StripWalks.{freed_range, whole_box, its_header, behind_it, its_payload}
+use Rattle.mp4_answers.proofs.BoxSpans.{whole_range}
 
 -- what is read of a file with `free` at some places
 abbrev pub with_free : List ℕ → List ℕ → List ℕ

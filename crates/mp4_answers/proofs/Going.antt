@@ -1,7 +1,7 @@
 -- The lines of samples, taken along one by one.
-use Rattle.std.proofs.Common.{◌≡◌, ℕ, ◌+◌, List, [], ◌∷◌, ◌++◌, length, drop, refl, sym, ap, ◌∙◌, append_assoc, arith}
+use Rattle.std.proofs.Common.{◌≡◌, ℕ, ◌+◌, List, [], ◌∷◌, ◌++◌, drop, refl, sym, ap, ◌∙◌, append_assoc}
 use Rattle.std.proofs.lemmas.List.{append-nil}
-use Rattle.std.specs.Prelude.{Some, None, Result, Ok, Err, OnOk, OnErr, slice_get}
+use Rattle.std.specs.Prelude.{Some, Result, Ok, Err, OnOk, OnErr, slice_get}
 use Rattle.mp4_store.specs.words.Device.{TakesPrefix}
 use Rattle.mp4_present.specs.words.Carried.{BytesGoOn}
 use Rattle.mp4_present.proofs.Carrying.{BytesGoOn-then, no_room}
@@ -65,13 +65,3 @@ pub last_block_fails : {T E : Type 0} (answer : Result T E) (fits : Type 0) {Y :
     → (fits → Going (takes a b) held held_b to_come all) → OnErr answer (TakesPrefix (takes b c) held_b) → OnErr answer (fits → TakesPrefix (takes a c) (held ++ all))
 last_block_fails (Ok v) fits joins a b c held held_b to_come all g p = tt
 last_block_fails (Err e) fits joins a b c held held_b to_come all g p = λ f. block_fails joins a b c held held_b to_come all (g f) p
-
--- there is no next sample
-pub none_left : (samples : List SampleAt) → None ≡ slice_get samples 0 → samples ≡ []
-none_left [] none = refl
-none_left (x ∷ samples) none = absurd cc
-
--- one sample fewer is to come
-pub one_fewer : (samples samples_c : List SampleAt) (s : SampleAt) → Some s ≡ slice_get samples 0 → samples_c ≡ drop 1 samples → length samples ≡ length samples_c + 1
-one_fewer [] samples_c s is left = absurd cc
-one_fewer (x ∷ samples) samples_c s is left = rw left (omega arith)

@@ -1,6 +1,6 @@
 -- Names of a list, put into a set one by one.
-use Rattle.std.proofs.Common.{◌≡◌, ◌∙◌, ◌++◌, ◌+◌, ◌<◌, [], ◌∷◌, ℕ, List, Bool, true, false, cond, refl, sym, ap, length, take, get_or}
-use Rattle.std.specs.Prelude.{◌||◌, bytes_eq, filter, flat_map, not, Vec}
+use Rattle.std.proofs.Common.{◌≡◌, ◌∙◌, ◌++◌, ◌+◌, ◌<◌, [], ◌∷◌, ℕ, List, Bool, true, cond, sym, ap, length, take, get_or}
+use Rattle.std.specs.Prelude.{bytes_eq, filter, flat_map, not, Vec}
 use Rattle.std.specs.declared.alloc.Global.{Global}
 use Rattle.std.specs.Borrow.{Bor}
 use Rattle.std.specs.BTreeSet.{BTreeSet, Updates, contains_by}
@@ -14,12 +14,7 @@ use Rattle.std.proofs.lemmas.Map.Text.{is_eq-slice_cmp}
 use Rattle.mp4_frag.proofs.Comings.{turned}
 use Rattle.mp4_answers.specs.format.SumLines.{is_listed, name_line, new_text}
 use Rattle.mp4_answers.specs.words.NameSets.{bytes_of, HasNames}
-
-or_of : (p q : Bool) → cond p true q ≡ (q || (p || false))
-or_of true true = refl
-or_of true false = refl
-or_of false true = refl
-or_of false false = refl
+use Rattle.mp4_head.proofs.Taken.{or_of}
 
 -- one more
 pub more_names : (names : List (List ℕ)) (old new : BTreeSet (Bor (List ℕ))) (key : Bor (List ℕ)) → HasNames names old → Updates (λ (a b : Bor (List ℕ)). slice_cmp nat_cmp a.now b.now) old new key true → HasNames (names ++ key.now ∷ []) new

@@ -25,7 +25,7 @@ use Rattle.mp4_answers.proofs.StripCopies.{next_freed, next_kept, next_entered, 
 -- ---- copies in which boxes are free space
 
 -- where a header is read there is something
-some_there : (is_open : Bool) (bytes : List ℕ) (h : Header) → header_at is_open bytes ≡ Ok h → 0 < length bytes
+pub some_there : (is_open : Bool) (bytes : List ℕ) (h : Header) → header_at is_open bytes ≡ Ok h → 0 < length bytes
 some_there is_open bytes h e =
     let r = header_is is_open bytes h e in
     let long : 8 ≤ h.length = r.length in

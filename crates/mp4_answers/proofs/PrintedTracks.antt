@@ -4,7 +4,7 @@ use Rattle.std.specs.Prelude.{map, flat_map, slice_get}
 use Rattle.std.specs.List.{AllZip}
 use Rattle.std.proofs.lemmas.List.{length-map}
 use Rattle.mp4_boxes.specs.format.Bytes.{sum_of}
-use Rattle.mp4_boxes.proofs.Plain.{drop_all, drop_plus, get_map, get_zip, length_zip, some_is}
+use Rattle.mp4_boxes.proofs.Plain.{drop_all, drop_plus, get_map, get_zip, some_is}
 use Rattle.mp4_store.specs.words.Device.{TakesPrefix}
 use Rattle.mp4_store.proofs.Known.{IsJoining}
 use Rattle.mp4_head.specs.format.Head as heads
@@ -21,11 +21,12 @@ use Rattle.mp4_present.specs.words.WalkSteps.{walk_steps, walks_steps}
 use Rattle.mp4_present.specs.declared.track_info.TrackInfo.{TrackInfo}
 use Rattle.mp4_present.specs.declared.walking.Walk.{Walk}
 use Rattle.mp4_content.specs.declared.without.Without.{Without}
-use Rattle.mp4_content.proofs.Numbered.{numbered_at, numbered_many}
+use Rattle.mp4_content.proofs.Numbered.{numbered_at}
 use Rattle.mp4_answers.specs.format.Text.{head_lines, number_line, sample_text, samples_heading, track_text}
 use Rattle.mp4_answers.specs.words.PrintedTracks.{IsBegun, AreBegun, AreWalks}
 use Rattle.mp4_answers.proofs.Going.{Going, going_none}
 use Rattle.mp4_answers.proofs.TextsGoOn.{text_next, text_fails, texts_all}
+use Rattle.mp4_content.proofs.FilesCompared.{tracks_many, infos_all}
 
 -- ---- walks, the last track's first
 
@@ -83,9 +84,6 @@ tracks_left l file tree = number_tracks l 1 (map (reduce_track l) (map (track_of
 abbrev pub text_from : Without → List ℕ → FileTree → ℕ → List ℕ
 text_from l file tree k = flat_map track_text (drop k (tracks_left l file tree))
 
-tracks_many : (l : Without) (file : List ℕ) (tree : FileTree) → length (tracks_left l file tree) ≡ length tree.movie.tracks
-tracks_many l file tree = numbered_many l 1 (map (reduce_track l) (map (track_of file (file_parts tree)) tree.movie.tracks)) ∙ length-map (map (track_of file (file_parts tree)) tree.movie.tracks) (reduce_track l) ∙ length-map tree.movie.tracks (track_of file (file_parts tree))
-
 -- the steps of walks over the tracks from a place on
 abbrev pub steps_from : FileTree → ℕ → ℕ
 steps_from tree k = sum_of (walk_steps tree) (drop k tree.movie.tracks)
@@ -116,10 +114,6 @@ head_from l place zero (x ∷ known) t e =
 head_from l place (suc k) (x ∷ known) t e =
     let n : k + suc place ≡ suc k + place = omega arith in
     head_from l (suc place) k known t e ∙ ap (λ n. Some (number_head l n t)) n
-
--- as many tracks are known as the movie has, and as many heads
-infos_all : (file : List ℕ) (m : MovieSeen) (tree : FileTree) → IsOpenedAs file m tree → length m.tracks ≡ length tree.movie.tracks
-infos_all file m tree o = sym (length_zip (IsInfoOf file tree) tree.movie.tracks m.tracks o.tracks)
 
 heads_all : (l : Without) (tree : FileTree) (known : List TrackHead) → map track_seen known ≡ number_heads l 1 (map (reduce_track_head l) (map track_head_of tree.movie.tracks)) → length known ≡ length tree.movie.tracks
 heads_all l tree known e = sym (length-map known track_seen) ∙ ap length e ∙ heads_many l 1 (map (reduce_track_head l) (map track_head_of tree.movie.tracks)) ∙ length-map (map track_head_of tree.movie.tracks) (reduce_track_head l) ∙ length-map tree.movie.tracks track_head_of

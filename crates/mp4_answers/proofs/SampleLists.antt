@@ -1,6 +1,6 @@
 -- Samples that are read side by side, and their lines by their digests.
 use Rattle.std.proofs.Common.{◌≡◌, ℕ, zero, suc, ◌+◌, ◌*◌, ◌<◌, ◌≤◌, List, [], ◌∷◌, ◌++◌, length, take, drop, refl, sym, ap, ◌∙◌, append_assoc, arith, inl, inr}
-use Rattle.std.specs.Prelude.{Err, IfOk, Ok, OnErr, Result, Some, flat_map, slice_get, slice_index_or, slice_set}
+use Rattle.std.specs.Prelude.{Err, Ok, OnErr, Result, Some, flat_map, slice_get, slice_index_or, slice_set}
 use Rattle.std.proofs.lemmas.Bool.{cases_lt}
 use Rattle.std.proofs.lemmas.List.{get_or-set_same, get_or-set_other, get_or-take, length-take-le, take-append-drop}
 use Rattle.sha2.specs.Sha256.{sha256}
@@ -131,10 +131,6 @@ first_apart f [] lt = absurd (omega (arith, lt))
 first_apart f (x ∷ samples) lt = refl
 
 -- ---- what follows from an answer
-
-pub ok_then : {T E : Type 0} (r : Result T E) (P Q : T → Type 0) → ((x : T) → P x → Q x) → IfOk r P → IfOk r Q
-ok_then (Ok x) P Q f p = f x p
-ok_then (Err e) P Q f p = tt
 
 pub err_then : {T E : Type 0} (r : Result T E) (P Q : Type 0) → (P → Q) → OnErr r P → OnErr r Q
 err_then (Ok x) P Q f p = tt

@@ -69,7 +69,7 @@ abbrev rule_or : Rule → Option Rule → Rule
 rule_or d None = d
 rule_or d (Some r) = r
 
-some_same : (o : Option Rule) (x y : Rule) → o ≡ Some x → o ≡ Some y → x ≡ y
+pub some_same : (o : Option Rule) (x y : Rule) → o ≡ Some x → o ≡ Some y → x ≡ y
 some_same o x y p q = ap (rule_or x) (sym p ∙ q)
 
 pub next_entered : (names : List Name) (rule : Rule) (bytes text : List ℕ) (g : Header) (into : Rule) → 0 < length bytes → header_at (is_top rule) bytes ≡ Ok g → is_named names rule g.kind (uuid_at g bytes) ≡ false → rule_inside rule g.kind ≡ Some into → Strips names rule bytes text

@@ -1,11 +1,11 @@
 -- A box that `--foreign` means is a fault of the file, so a file that denotes something is copied.
-use Rattle.std.proofs.Common.{◌≡◌, ℕ, ◌+◌, ◌<◌, ◌≤◌, Bool, true, false, List, [], ◌∷◌, ◌++◌, drop, Ok, None, Some, refl, sym, ap, subst, ◌∙◌, arith, inl}
-use Rattle.std.specs.Prelude.{Option, option_map, not, ◌||◌}
+use Rattle.std.proofs.Common.{◌≡◌, ℕ, ◌+◌, ◌<◌, ◌≤◌, Bool, true, false, List, [], ◌∷◌, ◌++◌, drop, Ok, Some, refl, sym, ap, subst, ◌∙◌, arith, inl}
+use Rattle.std.specs.Prelude.{option_map, not, ◌||◌}
 use Rattle.std.proofs.lemmas.List.{drop-drop}
 use Rattle.mp4_boxes.specs.format.Box.{Box, Container, header_at, box_of, sizes, file_container, box_container, LieEndToEnd, IsFront, StandsAfter}
 use Rattle.mp4_boxes.specs.format.BoxFaults.{fault_of}
 use Rattle.mp4_boxes.specs.format.Children.{allows}
-use Rattle.mp4_boxes.specs.format.Places.{Scope, ruled, data_entries, sample_entries, Place, whole, containers, at_kind, as_container, inside, Leads, Reaches}
+use Rattle.mp4_boxes.specs.format.Places.{ruled, Place, whole, containers, at_kind, as_container, inside, Leads, Reaches}
 use Rattle.mp4_boxes.specs.declared.fault.Fault.{Fault}
 use Rattle.mp4_boxes.specs.declared.fault.Kind.TheVariants.{BoxNotInProfile}
 use Rattle.mp4_boxes.specs.declared.rule.Rule.{Rule}
@@ -16,12 +16,11 @@ use Rattle.mp4_present.specs.format.Stands.{child}
 use Rattle.mp4_present.proofs.DenotedOpens.{stands_refuses}
 use Rattle.mp4_answers.specs.declared.box_names.Name.{Name}
 use Rattle.mp4_answers.specs.declared.box_names.Name.TheVariants.{Foreign}
-use Rattle.mp4_answers.specs.format.Texts.{descends}
 use Rattle.mp4_answers.specs.format.BoxWalk.{height, rule_inside, under}
 use Rattle.mp4_answers.specs.format.Strips.{is_top, payload_behind}
 use Rattle.mp4_answers.specs.format.StripLaws.{NamedBoxAt, at_front, further, ForeignIsFault, AcceptedIsCopied}
 use Rattle.mp4_answers.specs.format.StripLaws as copies
-use Rattle.mp4_answers.proofs.BoxLists.{inside_lower}
+use Rattle.mp4_answers.proofs.BoxLists.{inside_lower, descends_is}
 use Rattle.mp4_answers.proofs.StripLaws.{unnamed_is_copied}
 
 abbrev pub foreign : List Name
@@ -59,14 +58,8 @@ not_top MovieExtends lower = refl
 not_top MovieFragment lower = refl
 not_top TrackFragment lower = refl
 
-descended : (o : Option Scope) (inner : Rule) → descends o ≡ Some inner → o ≡ Some (ruled inner)
-descended None inner e = absurd cc
-descended (Some (ruled rule)) inner e = let same : rule ≡ inner = cc in ap (λ r. Some (ruled r)) same
-descended (Some data_entries) inner e = absurd cc
-descended (Some sample_entries) inner e = absurd cc
-
 entered : (rule inner : Rule) (c : Container) (b : Box) → rule_inside rule b.kind ≡ Some inner → inside (under rule c) b ≡ Some (under inner (box_container b))
-entered rule inner c b e = ap (option_map (λ scope. record { scope = scope; container = as_container scope b })) (descended (at_kind (containers (ruled rule)) b.kind) inner e)
+entered rule inner c b e = ap (option_map (λ scope. record { scope = scope; container = as_container scope b })) (descends_is (at_kind (containers (ruled rule)) b.kind) inner e)
 
 leads_more : (from mid next : Place) (path before : List Box) (b : Box) → Leads from path mid → StandsAfter mid.container before b → inside mid b ≡ Some next → Leads from (path ++ b ∷ []) next
 leads_more from mid next [] before b l s i =

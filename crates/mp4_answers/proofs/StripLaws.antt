@@ -3,7 +3,7 @@ use Rattle.std.proofs.Common.{◌≡◌, ℕ, ◌+◌, ◌-◌, ◌<◌, ◌≤�
 use Rattle.std.proofs.lemmas.Grind.{common_steps}
 use Rattle.std.proofs.lemmas.List.{drop-drop, drop-append-le, take-append-le}
 use Rattle.std.proofs.Math.Seq.{drop-append-add}
-use Rattle.std.specs.Prelude.{codes, Bool, min}
+use Rattle.std.specs.Prelude.{codes, min}
 use Rattle.mp4_boxes.specs.format.Box.{Header, header_at}
 use Rattle.mp4_boxes.specs.declared.fault.Fault.{Fault}
 use Rattle.mp4_boxes.specs.declared.rule.Rule.{Rule}
@@ -13,6 +13,7 @@ use Rattle.mp4_answers.specs.declared.box_names.Name.{Name}
 use Rattle.mp4_answers.specs.format.Strips.{is_top, freed, payload_behind, Strips, ends, frees, keeps, enters, Halts, here, behind, within}
 use Rattle.mp4_answers.specs.format.StripLaws.{NamedBoxAt, at_front, further, inside, StripKeepsLength, UnnamedIsCopied, NamedIsFree, HaltedStripsNothing}
 use Rattle.mp4_answers.proofs.StripCopies.{same_header, next_freed, next_entered, fault_strips_nothing, no_header}
+use Rattle.mp4_answers.proofs.OneTexts.{some_there}
 
 -- ---- lengths of parts
 
@@ -139,17 +140,9 @@ first_part names rule bytes text g some read (enters _ _ _ h inner middle rest e
     let whole : length (take h.length bytes ++ middle) ≡ h.size = omega (arith, front, held, sum, from) in
     (take h.length bytes ++ middle, rest, whole ∙ ap (λ (x : Header). x.size) same, subst (λ (x : Header). Strips names rule (drop x.size bytes) rest) same s, t ∙ sym (append_assoc (take h.length bytes) middle rest))
 
-some_bytes : (is_open : Bool) (bytes : List ℕ) (h : Header) → header_at is_open bytes ≡ Ok h → 0 < length bytes
-some_bytes is_open bytes h e =
-    let r = header_is is_open bytes h e in
-    let long : 8 ≤ h.length = r.length in
-    let from : h.length ≤ h.size = r.inside in
-    let to : h.size ≤ length bytes = r.fits in
-    omega (arith, long, from, to)
-
 pub named_free : (names : List Name) (rule : Rule) (place : ℕ) (bytes text : List ℕ) → NamedBoxAt names rule place bytes → Strips names rule bytes text → take 4 (drop (place + 4) text) ≡ codes "free"
 named_free names rule place bytes text (at_front _ _ _ h e n p) s =
-    let x = next_freed names rule bytes text h (some_bytes (is_top rule) bytes h e) e n s in
+    let x = next_freed names rule bytes text h (some_there (is_top rule) bytes h e) e n s in
     let r = header_is (is_top rule) bytes h e in
     let long : 8 ≤ h.length = r.length in
     let from : h.length ≤ h.size = r.inside in
@@ -157,10 +150,10 @@ named_free names rule place bytes text (at_front _ _ _ h e n p) s =
     let whole = length_box bytes h.size to in
     ap (λ k. take 4 (drop (k + 4) text)) p ∙ ap (λ xs. take 4 (drop 4 xs)) x.2 ∙ four_first (take h.size bytes) x.0 (omega (arith, long, from, whole))
 named_free names rule place bytes text (further _ _ _ h left e x p) s =
-    let y = first_part names rule bytes text h (some_bytes (is_top rule) bytes h e) e s in
+    let y = first_part names rule bytes text h (some_there (is_top rule) bytes h e) e s in
     ap (λ k. take 4 (drop (k + 4) text)) p ∙ ap (λ xs. take 4 (drop ((h.size + left) + 4) xs)) y.4 ∙ four_behind y.0 y.1 h.size left y.2 ∙ named_free names rule left (drop h.size bytes) y.1 x y.3
 named_free names rule place bytes text (inside _ _ _ h inner left e n i x p) s =
-    let y = next_entered names rule bytes text h inner (some_bytes (is_top rule) bytes h e) e n i s in
+    let y = next_entered names rule bytes text h inner (some_there (is_top rule) bytes h e) e n i s in
     let r = header_is (is_top rule) bytes h e in
     let from : h.length ≤ h.size = r.inside in
     let to : h.size ≤ length bytes = r.fits in
@@ -177,10 +170,10 @@ named_is_free names file text place x s = named_free names File place file text 
 pub halted : (names : List Name) (f : Fault) (rule : Rule) (at : ℕ) (bytes text : List ℕ) → Halts names f rule at bytes → Strips names rule bytes text → ⊥
 halted names f rule at bytes text (here _ _ _ some x) s = fault_strips_nothing names rule at bytes text f some x s
 halted names f rule at bytes text (behind _ _ _ h e x) s =
-    let y = first_part names rule bytes text h (some_bytes (is_top rule) bytes h e) e s in
+    let y = first_part names rule bytes text h (some_there (is_top rule) bytes h e) e s in
     halted names f rule (at + h.size) (drop h.size bytes) y.1 x y.3
 halted names f rule at bytes text (within _ _ _ h inner e n i x) s =
-    let y = next_entered names rule bytes text h inner (some_bytes (is_top rule) bytes h e) e n i s in
+    let y = next_entered names rule bytes text h inner (some_there (is_top rule) bytes h e) e n i s in
     halted names f inner (at + h.length) (payload_behind h bytes) y.0 x y.2
 
 pub halted_strips_nothing : HaltedStripsNothing

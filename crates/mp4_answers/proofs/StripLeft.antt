@@ -19,7 +19,7 @@ use Rattle.mp4_answers.specs.format.BoxWalk.{rule_inside}
 use Rattle.mp4_answers.specs.format.Texts.{uuid_in}
 use Rattle.mp4_answers.specs.format.Strips.{is_top, is_named, freed, payload_behind, uuid_at, Strips, ends, frees, keeps, enters}
 use Rattle.mp4_answers.specs.format.StripLaws.{NamedBoxAt, at_front, further, inside, SparesFree, StripLeavesNone, StripTwiceIsOnce, ForeignSparesFree}
-use Rattle.mp4_answers.proofs.StripCopies.{same_header, no_header}
+use Rattle.mp4_answers.proofs.StripCopies.{same_header, no_header, some_same}
 use Rattle.mp4_answers.proofs.StripLaws.{length_box, length_freed, length_payload, strip_length, four_first, unnamed_is_copied}
 use Rattle.mp4_boxes.proofs.OfBytes.{field_dropped}
 
@@ -184,9 +184,6 @@ abbrev rule_or : Rule → Option Rule → Rule
 rule_or d None = d
 rule_or d (Some r) = r
 
-one_rule : (o : Option Rule) (x y : Rule) → o ≡ Some x → o ≡ Some y → x ≡ y
-one_rule o x y p q = ap (rule_or x) (sym p ∙ q)
-
 -- free space is no container
 nothing_in_free : (rule : Rule) → rule_inside rule (codes "free") ≡ None
 nothing_in_free File = refl
@@ -293,7 +290,7 @@ nothing_left names rule place bytes text spares (enters _ _ _ h inner middle res
           nothing_left names rule more.0 (drop h.size bytes) rest spares s
           (subst (NamedBoxAt names rule more.0) (ap (drop h.size) (sym (append_assoc (take h.length bytes) middle rest)) ∙ behind_part (take h.length bytes ++ middle) rest h.size both) more.1)
       | inr (inr into) ↦
-          let same = one_rule (rule_inside rule h.kind) into.0 inner into.2 i in
+          let same = some_same (rule_inside rule h.kind) into.0 inner into.2 i in
           let there = subst (NamedBoxAt names into.0 into.1) (middle_part (take h.length bytes) middle rest h.length (h.size - h.length) head held) into.3 in
           nothing_left names inner into.1 (payload_behind h bytes) middle spares w (subst (λ r. NamedBoxAt names r into.1 middle) same there)
     ]

@@ -1,6 +1,6 @@
 -- A copy of a whole file in which some boxes are free space: all of it is put, or the file is not judged.
-use Rattle.std.proofs.Common.{◌≡◌, inl, Bool, ℕ, ◌-◌, List, [], ◌++◌, length, take, sym, ap, subst, ◌∙◌, arith, Err}
-use Rattle.std.proofs.lemmas.List.{take_all, append-nil}
+use Rattle.std.proofs.Common.{◌≡◌, inl, Bool, ℕ, ◌-◌, List, [], ◌++◌, length, sym, subst, Err}
+use Rattle.std.proofs.lemmas.List.{append-nil}
 use Rattle.mp4_store.specs.words.Device.{TakesPrefix, range}
 use Rattle.mp4_store.proofs.Known.{IsJoining}
 use Rattle.mp4_boxes.specs.declared.refusal.Refusal.{Refusal}
@@ -13,10 +13,7 @@ use Rattle.mp4_answers.specs.format.Run.{Run, PutsNothing}
 use Rattle.mp4_answers.specs.declared.box_names.Name.{Name}
 use Rattle.mp4_answers.specs.format.Strips.{Strips, IsStripped, Halts, RefusesFind, RefusesLook, RefusesWalk}
 use Rattle.mp4_answers.proofs.StripCopies.{front_fails}
-
--- all bytes of a file
-pub whole_range : (file : List ℕ) → range file 0 (length file - 0) ≡ file
-whole_range file = let n : length file - 0 ≡ length file = omega arith in ap (λ k. take k file) n ∙ take_all (length file) file (omega arith)
+use Rattle.mp4_answers.proofs.BoxSpans.{whole_range}
 
 pub of_file : (names : List Name) (file text : List ℕ) → Strips names File (range file 0 (length file - 0)) text → IsStripped names file text
 of_file names file text s = subst (λ bs. Strips names File bs text) (whole_range file) s

@@ -1,22 +1,21 @@
 -- The lines of samples as they are handed out are those of the presentation's samples.
 use Rattle.std.proofs.Common.{◌≡◌, ℕ, zero, suc, ◌+◌, ◌<◌, ◌≤◌, Bool, true, false, List, [], ◌∷◌, ◌++◌, length, Some, refl, sym, ap, ◌∙◌, arith, append_assoc, decimal}
-use Rattle.std.specs.Prelude.{map, flat_map, slice_index, slice_get, if◌then◌else◌, ℤ, pos, negsuc, IsTrue}
+use Rattle.std.specs.Prelude.{map, flat_map, slice_index, slice_get, if◌then◌else◌}
 use Rattle.std.specs.Fmt.{signed_decimal}
 use Rattle.std.specs.List.{AllByRecursion, list_any, position_from}
 use Rattle.std.proofs.lemmas.Bool.{eqb-true, ne_eqb, or_from}
 use Rattle.sha2.specs.Sha256.{sha256}
-use Rattle.mp4_boxes.proofs.Each.{each_from, each_member, each_weaker}
-use Rattle.mp4_boxes.proofs.Plain.{get_every, get_zip, plus_one, true_false}
+use Rattle.mp4_boxes.proofs.Each.{each_weaker}
+use Rattle.mp4_boxes.proofs.Plain.{get_zip, plus_one}
 use Rattle.mp4_store.specs.words.Device.{range}
 use Rattle.mp4_tables.specs.format.Groups.{GroupKey, Groups, key_rank, same_key, index_at}
 use Rattle.mp4_tables.specs.format.PlainSamples.{PlacedSample}
-use Rattle.mp4_tables.specs.format.TableRules.{lies_within}
 use Rattle.mp4_tables.specs.words.Keys.{keys_seen, key_place}
 use Rattle.mp4_tables.specs.words.Timed.{padded, indexes, place_of, sample_at, timed}
 use Rattle.mp4_tables.specs.declared.keys.Keys.{Keys}
 use Rattle.mp4_tables.specs.declared.sample.SampleAt.{SampleAt}
 use Rattle.mp4_tables.proofs.GroupMaps.{IsMap, order_test}
-use Rattle.mp4_tables.proofs.NamedKeys.{IsAmong, IsNone, by_rank, among_through, same_itself}
+use Rattle.mp4_tables.proofs.NamedKeys.{IsAmong, IsNone, among_through, same_itself}
 use Rattle.mp4_tables.proofs.Placed as placed
 use Rattle.mp4_head.specs.format.Tree.{TrackTree}
 use Rattle.mp4_present.specs.format.Denotes.{FileTree, bytes_at, sample_of, file_parts, placed_of, track_of}
@@ -31,30 +30,21 @@ use Rattle.mp4_content.specs.declared.reduced.Reduction.{Reduction}
 use Rattle.mp4_content.specs.declared.without.Without.{Without}
 use Rattle.mp4_present.specs.declared.track_info.TrackInfo.{TrackInfo}
 use Rattle.mp4_content.proofs.ComparisonGroups.{index_rank}
-use Rattle.mp4_present.proofs.PlacedTracks.{IsTrackPlaced, tracks_placed}
-use Rattle.mp4_present.proofs.SamplesLie.{IsInFile, placed_lie, bytes_whole}
+use Rattle.mp4_present.proofs.SamplesLie.{IsInFile, bytes_whole, there}
 use Rattle.mp4_content.proofs.SamplesReduced.{reduced_by}
-use Rattle.mp4_present.proofs.ValidSamples.{IsOfTrack, is_group, is_parameter}
+use Rattle.mp4_present.proofs.ValidSamples.{is_group, is_parameter}
 use Rattle.mp4_plan.specs.format.Normal.{in_key_order}
 use Rattle.mp4_plan.specs.format.TableLaws.{IsKey}
 use Rattle.mp4_plan.proofs.KeyOrder.{order_rises, order_each, order_has, covers}
-use Rattle.mp4_plan.proofs.Maps.{AreAbove, KeysAbove, Covers}
+use Rattle.mp4_plan.proofs.Maps.{KeysAbove, Covers, not_there}
 use Rattle.mp4_plan.proofs.Maps as maps
 use Rattle.mp4_answers.specs.format.Text.{group_text, sample_text}
 use Rattle.mp4_answers.specs.format.Texts.{hex_digits, hex_text, space, line_feed}
 use Rattle.mp4_answers.specs.words.ToldSamples.{IsStyle, index_text, told_indexes, told_sample}
 use Rattle.mp4_answers.specs.declared.text.sample_texts.SampleStyle.{SampleStyle}
+use Rattle.mp4_content.proofs.SamplesDiffer.{index_there, opened_samples}
 
 -- ---- an index at a key, by its place among the keys of the track
-
--- none at a key that is none of those named
-none_at : (named : List GroupKey) (key : GroupKey) (groups : Groups) → AllByRecursion (λ (group : GroupKey × ℕ). IsAmong named group.0) groups → IsNone named key → index_at key groups ≡ 0
-none_at named key [] a n = refl
-none_at named key (group ∷ groups) a n = by (same_key key group.0) refl (none_at named key groups a.1 n)
-  where
-    by : (v : Bool) → same_key key group.0 ≡ v → index_at key groups ≡ 0 → (if v then group.1 else index_at key groups) ≡ 0
-    by true e more = absurd (true_false (list_any (same_key key) named) (by_rank named key group.0 (eqb-true (key_rank key) (key_rank group.0) e) ∙ a.0) n)
-    by false e more = more
 
 module _ (key : GroupKey) (groups : Groups) where
   place_from : (keys : List GroupKey) (m n : ℕ) (ys : List ℕ) → length keys ≤ m → ((j : ℕ) → slice_index ys (n + j) ≡ slice_index (padded m (map (λ (k : GroupKey). index_at k groups) keys)) j) → (IsNone keys key → index_at key groups ≡ 0)
@@ -71,15 +61,7 @@ module _ (key : GroupKey) (groups : Groups) where
       by true e behind = let here : n ≡ n + 0 = omega arith in ap (slice_index ys) here ∙ at 0 ∙ index_rank groups k key (sym (eqb-true (key_rank key) (key_rank k) e))
       by false e behind = behind (λ no. none (or_from (same_key key k) (list_any (same_key key) keys) e no))
 
-index_there : (keys : List GroupKey) (groups : Groups) (key : GroupKey) → length keys ≤ 4 → AllByRecursion (λ (group : GroupKey × ℕ). IsAmong keys group.0) groups → index_in (key_place key keys) (indexes keys groups) ≡ index_at key groups
-index_there keys groups key few named = place_from key groups keys 4 0 (indexes keys groups) few (λ j. let e : 0 + j ≡ j = omega arith in ap (slice_index (indexes keys groups)) e) (none_at keys key groups named)
-
 -- ---- the indexes of a sample at the keys of its track, in their order
-
--- none below all keys of a map
-index_none : (key : GroupKey) (groups : Groups) → AreAbove key groups → index_at key groups ≡ 0
-index_none key [] above = refl
-index_none key (group ∷ groups) above = rw (ne_eqb (key_rank key) (key_rank group.0) (λ e. omega (arith, above.0, e))) (index_none key groups above.1)
 
 index_first : (key : GroupKey) (index : ℕ) (groups : Groups) → index_at key ((key, index) ∷ groups) ≡ index
 index_first key index groups = rw (same_itself key) refl
@@ -104,7 +86,7 @@ some_text key index some = rw (ne_eqb index 0 (λ e. omega (arith, some, e))) re
 -- at keys that cover a map, one by one, its indexes stand in their order
 covered_text : {keys : List GroupKey} {groups : Groups} → Covers keys groups → flat_map (text_at groups) keys ≡ flat_map group_text groups
 covered_text maps.none = refl
-covered_text (maps.without {key} {keys} {groups} above others) = ap (λ n. index_text key n ++ flat_map (text_at groups) keys) (index_none key groups above) ∙ covered_text others
+covered_text (maps.without {key} {keys} {groups} above others) = ap (λ n. index_text key n ++ flat_map (text_at groups) keys) (not_there key groups above) ∙ covered_text others
 covered_text (maps.with_index {key} {index} {keys} {groups} some keys_above above others) =
     let own = ap (index_text key) (index_first key index groups) ∙ some_text key index some in
     let more = texts_past key index groups keys keys_above ∙ covered_text others in
@@ -143,10 +125,6 @@ groups_told false keys own order groups s e f g h = ap (told_indexes keys s) f �
 line_is : (sp d o fl de si di ix end : List ℕ) → sp ++ d ++ sp ++ o ++ (sp ++ fl ++ sp ++ de ++ sp ++ si ++ (sp ++ di ++ ix ++ end)) ≡ sp ++ d ++ sp ++ o ++ sp ++ fl ++ sp ++ de ++ sp ++ si ++ sp ++ di ++ ix ++ end
 line_is sp d o fl de si di ix end = simp append_assoc
 
-there : (file : List ℕ) (at : ℤ) (size : ℕ) → IsTrue (lies_within (length file) at size) → range file (place_of at) size ≡ bytes_at file at size
-there file (pos at) size h = refl
-there file (negsuc below) size h = absurd cc
-
 -- a sample of a track with these keys lies in the file
 abbrev IsSampleOf : List ℕ → List GroupKey → PlacedSample → Type 0
 IsSampleOf file keys s = AreKeysOf keys s.groups × IsInFile (length file) s
@@ -178,13 +156,6 @@ module _ (r : Reduction) (keys : Keys) (style : SampleStyle) (is : IsStyle r key
       λ i. one i ++ more i
 
 -- ---- a track
-
-opened_samples : (file : List ℕ) (m : MovieSeen) (tree : FileTree) (t : TrackTree) (k : ℕ) → IsOpenedAs file m tree → slice_get tree.movie.tracks k ≡ Some t → AllByRecursion (IsSampleOf file (track_keys tree t)) (placed_of (file_parts tree) t)
-opened_samples file m tree t k o is =
-    let Lie : TrackTree → Type 0 = λ u. AllByRecursion (IsInFile (length file)) (placed_of (file_parts tree) u) in
-    let lie = get_every Lie tree.movie.tracks k t is (each_member Lie tree.movie.tracks (λ u i. placed_lie file tree u o.is_consistent i)) in
-    let h = get_every (IsTrackPlaced tree) tree.movie.tracks k t is (tracks_placed file tree o.is_tree o.is_sound o.is_consistent o.bytes) in
-    each_from (IsOfTrack (length t.descriptions) (track_keys tree t)) (IsInFile (length file)) (IsSampleOf file (track_keys tree t)) (λ s k i. (record { are = h.keys; few = h.few; map = k.groups }, i)) (placed_of (file_parts tree) t) h.placed lie
 
 -- The lines of a track's samples are those of the samples that are left of it.
 pub track_told : (l : Without) (style : SampleStyle) (file : List ℕ) (m : MovieSeen) (tree : FileTree) (t : TrackTree) (k : ℕ) (info : TrackInfo) → IsOpenedAs file m tree → slice_get tree.movie.tracks k ≡ Some t → slice_get m.tracks k ≡ Some info

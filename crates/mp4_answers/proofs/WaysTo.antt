@@ -1,12 +1,11 @@
 -- The way to a place of a file.
-use Rattle.std.proofs.Common.{◌≡◌, ◌⊎◌, inl, inr, ℕ, ◌+◌, ◌-◌, ◌≤◌, true, List, [], ◌∷◌, ◌++◌, length, drop, Ok, Err, refl, sym, ap, subst, ◌∙◌, arith, append_assoc, length-drop}
-use Rattle.std.specs.Prelude.{Bool, IsTrue, Option, Result, codes}
+use Rattle.std.proofs.Common.{◌≡◌, ◌⊎◌, inl, inr, ℕ, ◌+◌, ◌-◌, ◌≤◌, true, List, [], ◌∷◌, ◌++◌, length, drop, Err, refl, sym, ap, subst, ◌∙◌, arith, append_assoc, length-drop}
+use Rattle.std.specs.Prelude.{Bool, IsTrue, Option, codes}
 use Rattle.std.proofs.lemmas.List.{append-nil}
 use Rattle.mp4_boxes.specs.format.Box.{Box, Header, header_at}
 use Rattle.mp4_boxes.specs.format.BoxFaults.{header_there}
 use Rattle.mp4_boxes.specs.words.View.{top_header_seen}
 use Rattle.mp4_boxes.specs.declared.fault.Fault.{Fault}
-use Rattle.mp4_boxes.specs.declared.fault.Kind.{Kind}
 use Rattle.mp4_boxes.specs.declared.headers.TopHeader.{TopHeader}
 use Rattle.mp4_boxes.specs.declared.refusal.Refusal.{Refusal}
 use Rattle.mp4_boxes.specs.declared.refusal.Refusal.TheVariants as refusals
@@ -17,6 +16,7 @@ use Rattle.mp4_present.specs.declared.reading.TopBox.{TopBox}
 use Rattle.mp4_present.proofs.TopLevel.{read_there}
 use Rattle.mp4_answers.specs.format.BoxWalk.{top_seen}
 use Rattle.mp4_answers.specs.format.Ways.{HoldsFrom, here, behind, HoldsNone, IsChildAt, step_text, IsWay, IsWayIn, ends, goes}
+use Rattle.mp4_answers.proofs.StripCopies.{same_header}
 
 -- boxes that a loop has passed, before those that are left
 pub record Passed (all left : List Box) : Type 0 where
@@ -67,15 +67,12 @@ no_header file at le h e =
     let is = header_is true (drop at file) (top_header_seen at h) (read_there file at h e) in
     absurd (omega (arith, le, length-drop at file, is.length, is.inside, is.fits))
 
-header_one : (r : Result Header Kind) (h g : Header) → r ≡ Ok h → r ≡ Ok g → h ≡ g
-header_one r h g e f = cc
-
 -- two headers that were read at one place end at one place
 ends_same : (file : List ℕ) (at : ℕ) (h g : TopHeader) → IsTopHeader file at h → IsTopHeader file at g → h.end ≡ g.end
 ends_same file at h g e f =
     let read = read_there file at h e in
     let is = header_is true (drop at file) (top_header_seen at h) read in
-    let sizes : h.end - at ≡ g.end - at = ap (λ (x : Header). x.size) (header_one (header_at true (drop at file)) (top_header_seen at h) (top_header_seen at g) read (read_there file at g f)) in
+    let sizes : h.end - at ≡ g.end - at = ap (λ (x : Header). x.size) (same_header (header_at true (drop at file)) (top_header_seen at h) (top_header_seen at g) read (read_there file at g f)) in
     omega (arith, sizes, is.length, is.inside)
 
 -- behind a box that ends before the place

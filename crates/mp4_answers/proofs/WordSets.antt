@@ -14,6 +14,7 @@ use Rattle.mp4_answers.specs.format.WordLists.{is_listed}
 use Rattle.mp4_answers.specs.words.Compares.{IsShrunk}
 use Rattle.mp4_answers.specs.words.SingleWords.{everything, less_word, single_words}
 use Rattle.mp4_boxes.proofs.Plain.{or_same, or_true}
+use Rattle.mp4_content.proofs.TimescalesWords.{covers_itself}
 
 -- what both leave out
 abbrev pub common : Without → Without → Without
@@ -111,9 +112,6 @@ within f g h = λ i. each (λ w. h w i)
 within_at : (f g : Word → Bool) → Covers (each f) (each g) → (w : Word) → (f w || g w) ≡ g w
 within_at f g c w = sym (each_has (λ v. f v || g v) w) ∙ ap (λ (x : Without). has x w) c ∙ each_has g w
 
-covers_self : (l : Without) → Covers l l
-covers_self l = within (has l) (has l) (λ w. or_same (has l w))
-
 covers_through : (k l m : Without) → Covers k l → Covers l m → Covers k m
 covers_through k l m c d = within (has k) (has m) (λ w. or_through (has k w) (has l w) (has m w) (within_at (has k) (has l) c w) (within_at (has l) (has m) d w))
 
@@ -179,7 +177,7 @@ module _ (given : Without) (differ : Without → List Difference) (more_same : (
   -- what is left is enough, and within the first
   pub shrunk : (words : List Word) (l least : Without) → Covers given l → differ l ≡ [] → IsShrunk words given differ l least → Covers given least × (differ least ≡ []) × Covers least l
   unfolding IsShrunk
-  shrunk [] l least c e h = subst (λ (x : Without). Covers given x × (differ x ≡ []) × Covers x l) (sym h) (c, e, covers_self l)
+  shrunk [] l least c e h = subst (λ (x : Without). Covers given x × (differ x ≡ []) × Covers x l) (sym h) (c, e, covers_itself l)
   shrunk (w ∷ words) l least c e (next, inl h, rest) =
       let r = shrunk words next least (subst (Covers given) (sym h.0) (covers_less given l w c)) (h.1 e) rest in
       (r.0, r.1, covers_through least next l r.2 (subst (λ (x : Without). Covers x l) (sym h.0) (less_covered given l w)))

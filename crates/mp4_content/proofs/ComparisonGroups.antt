@@ -20,18 +20,18 @@ use Rattle.mp4_content.proofs.ComparisonValues.{Tells, both, weaker, number_tell
 -- ---- a key is known by its rank
 
 -- types of one number are one type
-kind_same : (xs ys : List ℕ) → length xs ≡ 4 → length ys ≡ 4 → AreBytes xs → AreBytes ys → field xs 0 4 ≡ field ys 0 4 → xs ≡ ys
+pub kind_same : (xs ys : List ℕ) → length xs ≡ 4 → length ys ≡ 4 → AreBytes xs → AreBytes ys → field xs 0 4 ≡ field ys 0 4 → xs ≡ ys
 kind_same xs ys e f h k same =
     let d = four_digits (slice_index xs 0) (slice_index xs 1) (slice_index xs 2) (slice_index xs 3) (slice_index ys 0) (slice_index ys 1) (slice_index ys 2) (slice_index ys 3) (h 1) (h 2) (h 3) (k 1) (k 2) (k 3) same in
     four_items xs e ∙ (λ i. d.0 i ∷ d.1 i ∷ d.2 i ∷ d.3 i ∷ []) ∙ sym (four_items ys f)
 
 -- the rank of a parameter is below its bound
-parameter_small : (o : Option ℕ) → IsParameter o → parameter_rank o < 2 ^ 32 + 1
+pub parameter_small : (o : Option ℕ) → IsParameter o → parameter_rank o < 2 ^ 32 + 1
 parameter_small None h = omega arith
 parameter_small (Some n) h = omega arith
 
 -- parameters of one rank are one
-parameter_same : (o p : Option ℕ) → parameter_rank o ≡ parameter_rank p → o ≡ p
+pub parameter_same : (o p : Option ℕ) → parameter_rank o ≡ parameter_rank p → o ≡ p
 parameter_same None None e = refl
 parameter_same None (Some n) e = absurd (omega (arith, e))
 parameter_same (Some m) None e = absurd (omega (arith, e))
@@ -179,7 +179,7 @@ key_stays : (keys : List GroupKey) (key x : GroupKey) → IsAmong keys x → IsA
 key_stays [] key x h = absurd (cc)
 key_stays (first ∷ keys) key x h = stays_by key first x keys (nat_lt (key_rank key) (key_rank first)) (same_key key first) h (key_stays keys key x)
 
-stays_through : (keys more : List GroupKey) (x : GroupKey) → IsAmong keys x → IsAmong (fold with_key keys more) x
+pub stays_through : (keys more : List GroupKey) (x : GroupKey) → IsAmong keys x → IsAmong (fold with_key keys more) x
 stays_through keys [] x h = h
 stays_through keys (key ∷ more) x h = stays_through (with_key keys key) more x (key_stays keys key x h)
 

@@ -33,7 +33,7 @@ put_each : (P : GroupKey → Type 0) (keys : List GroupKey) (key : GroupKey) →
 put_each P [] key p h = (p, tt)
 put_each P (first ∷ keys) key p h = put_by P key first keys (nat_lt (key_rank key) (key_rank first)) (same_key key first) p h (put_each P keys key p h.1)
 
-all_put : (P : GroupKey → Type 0) (keys more : List GroupKey) → AllByRecursion P keys → AllByRecursion P more → AllByRecursion P (fold with_key keys more)
+pub all_put : (P : GroupKey → Type 0) (keys more : List GroupKey) → AllByRecursion P keys → AllByRecursion P more → AllByRecursion P (fold with_key keys more)
 all_put P keys [] h k = h
 all_put P keys (key ∷ more) h k = all_put P (with_key keys key) more (put_each P keys key k.0 h) k.1
 
@@ -58,7 +58,7 @@ still_rising : (keys : List GroupKey) (key : GroupKey) → AreRising keys → Ar
 still_rising [] key h = (tt, tt)
 still_rising (first ∷ keys) key h = rising_by key first keys (nat_lt (key_rank key) (key_rank first)) (same_key key first) refl refl h (still_rising keys key h.1)
 
-all_rising : (keys more : List GroupKey) → AreRising keys → AreRising (fold with_key keys more)
+pub all_rising : (keys more : List GroupKey) → AreRising keys → AreRising (fold with_key keys more)
 all_rising keys [] h = h
 all_rising keys (key ∷ more) h = all_rising (with_key keys key) more (still_rising keys key h)
 

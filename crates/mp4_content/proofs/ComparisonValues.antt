@@ -26,7 +26,7 @@ signed_to (negsuc m) (negsuc n) e = ap negsuc (eqb-true m n e)
 signed_to (pos m) (negsuc n) e = absurd cc
 signed_to (negsuc m) (pos n) e = absurd cc
 
-signed_self : (m : ℤ) → same_signed m m ≡ true
+pub signed_self : (m : ℤ) → same_signed m m ≡ true
 signed_self (pos m) = eq-eqb m m refl
 signed_self (negsuc m) = eq-eqb m m refl
 
@@ -55,7 +55,7 @@ pub record Tells (ds : List Difference) (P : Type 0) : Type 0 where
   pub none : ds ≡ [] → P
   pub each : AllByRecursion IsOneDifference ds
 
-front_none : (xs ys : List Difference) → xs ++ ys ≡ [] → xs ≡ []
+pub front_none : (xs ys : List Difference) → xs ++ ys ≡ [] → xs ≡ []
 front_none [] ys e = refl
 front_none (x ∷ xs) ys e = absurd cc
 

@@ -5,18 +5,13 @@ use Rattle.mp4_present.specs.format.Denotes.{FileTree}
 use Rattle.mp4_present.specs.words.InHand.{Follows, IsPlaceOf}
 use Rattle.mp4_present.specs.words.Movies.{MovieSeen, IsMovie, IsWalkOf, InHandOf}
 use Rattle.mp4_present.specs.words.OpenedMovie.{IsOpenedAs}
-use Rattle.mp4_present.specs.words.WalkSteps.{steps_to, way_through, MayTake, TakesOn}
+use Rattle.mp4_present.specs.words.WalkSteps.{steps_to, MayTake, TakesOn}
 use Rattle.mp4_present.specs.declared.walking.in_hand.InHand.{InHand}
 use Rattle.mp4_present.specs.declared.walking.in_hand.Place.{Place}
-use Rattle.mp4_present.specs.declared.walking.in_hand.Place.TheVariants as places
 use Rattle.mp4_present.specs.declared.walking.Walk.{Walk}
 use Rattle.mp4_present.proofs.WalkPlaces.{kept_on}
-use Rattle.mp4_present.proofs.WayThrough.{no_farther, ahead, keeps_on, takes_then, takes_most, most_then, TakesBefore}
+use Rattle.mp4_present.proofs.WayThrough.{no_farther, ahead, keeps_on, takes_then, takes_most, most_then, TakesBefore, same_way}
 use Rattle.mp4_content.specs.words.GoneOn.{KeepsOn}
-
-same_way : (t : TrackTree) (w : Walk) (p : Place) → way_through t (record w { place = p }) p ≡ way_through t w p
-same_way t w (places.Tables p) = refl
-same_way t w (places.Fragment p) = refl
 
 -- a walk may go on from a later place of what it has in hand
 pub hand_keeps : (m : MovieSeen) (w : Walk) (a b : InHand) (p : Place) → IsMovie m → IsWalkOf m w → InHandOf m w a → Follows a b → IsPlaceOf b p → KeepsOn m w p

@@ -1,7 +1,7 @@
 -- Files that are compared track by track.
 use Rattle.std.proofs.Common.{◌≡◌, ℕ, zero, suc, ◌+◌, ◌<◌, ◌≤◌, min, Bool, true, false, if◌then◌else◌, List, [], ◌∷◌, ◌++◌, length, take, drop, Option, Some, None, sym, ap, subst, ◌∙◌, arith, append_assoc}
 use Rattle.std.specs.List.{slice_get}
-use Rattle.std.specs.Prelude.{IsTrue, slice_index_or, not, ◌&&◌, ◌==◌, map, Result, Ok, Err, IfOk}
+use Rattle.std.specs.Prelude.{IsTrue, slice_index_or, not, ◌&&◌, ◌==◌, map, Result, Err, IfOk}
 use Rattle.std.proofs.lemmas.List.{append-nil, length-map}
 use Rattle.mp4_boxes.specs.format.Bytes.{sum_of}
 use Rattle.mp4_boxes.proofs.Plain.{drop_plus, get_map, get_some, get_zip, length_zip, some_is}
@@ -31,11 +31,6 @@ use Rattle.mp4_content.proofs.HeadLess.{SaysHeadOf}
 use Rattle.mp4_content.proofs.Numbered.{numbered_at, numbered_many}
 use Rattle.mp4_content.proofs.SamplesReduced.{reduced_length}
 use Rattle.mp4_content.proofs.TracksCompared.{GrowsTo, grows_none, grows_more, grows_front, grows_part, grows_all, each_next, each_over}
-
--- an answer that is more
-pub if_ok : {T E : Type 0} (P Q : T → Type 0) (r : Result T E) → ((x : T) → P x → Q x) → IfOk r P → IfOk r Q
-if_ok P Q (Ok x) f h = f x h
-if_ok P Q (Err e) f h = tt
 
 -- no answer is one of which all is so
 pub err_if_ok : {T E : Type 0} (r : Result T E) (e : E) (P : T → Type 0) → r ≡ Err e → IfOk r P
@@ -110,7 +105,7 @@ infos_all file m tree o = sym (length_zip (IsInfoOf file tree) tree.movie.tracks
 abbrev tracks_left : Without → List ℕ → FileTree → List Track
 tracks_left l file tree = (reduce l (presentation_of file tree)).tracks
 
-tracks_many : (l : Without) (file : List ℕ) (tree : FileTree) → length (tracks_left l file tree) ≡ length tree.movie.tracks
+pub tracks_many : (l : Without) (file : List ℕ) (tree : FileTree) → length (tracks_left l file tree) ≡ length tree.movie.tracks
 tracks_many l file tree = numbered_many l 1 (map (reduce_track l) (map (track_of file (file_parts tree)) tree.movie.tracks)) ∙ length-map (map (track_of file (file_parts tree)) tree.movie.tracks) (reduce_track l) ∙ length-map tree.movie.tracks (track_of file (file_parts tree))
 
 abbrev tracks_from : Bool → Without → List ℕ → FileTree → List ℕ → FileTree → ℕ → List Difference

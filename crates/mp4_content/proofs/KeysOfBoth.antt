@@ -1,17 +1,18 @@
 -- Keys that are put in their order.
 use Rattle.std.proofs.Common.{◌≡◌, ℕ, zero, suc, ◌+◌, ◌^◌, ◌<◌, ◌≤◌, Bool, true, false, ltb, Option, Some, None, List, [], ◌∷◌, ◌++◌, length, take, drop, refl, sym, ap, subst, ◌∙◌, arith, inl, inr, append_assoc}
-use Rattle.std.specs.Prelude.{map, fold, flat_map, slice_index, IfSome}
+use Rattle.std.specs.Prelude.{map, flat_map, IfSome}
 use Rattle.std.specs.List.{AllByRecursion, list_any}
 use Rattle.std.proofs.lemmas.List.{map-append, take-append-drop}
 use Rattle.std.proofs.lemmas.Bool.{lt-ltb, ltb-true, eqb-true, eq-eqb, ne_eqb, or_cases, or_left, or_from, cases_lt}
-use Rattle.mp4_boxes.specs.format.Bytes.{field, AreBytes}
-use Rattle.mp4_boxes.proofs.Plain.{drop_all, four_digits, four_items, take_everything}
+use Rattle.mp4_boxes.specs.format.Bytes.{field}
+use Rattle.mp4_boxes.proofs.Plain.{drop_all, take_everything}
 use Rattle.mp4_tables.specs.format.Groups.{GroupKey, key_rank, parameter_rank, same_key}
 use Rattle.mp4_tables.proofs.NamedKeys.{IsAmong, IsNone, among_more, among_first}
 use Rattle.mp4_tables.proofs.Placed.{IsKey}
 use Rattle.mp4_tables.specs.words.Keys.{key_seen}
 use Rattle.mp4_tables.specs.declared.keys.GroupKey.{GroupKey as KeyNamed}
 use Rattle.mp4_content.specs.format.Comparison.{with_key}
+use Rattle.mp4_content.proofs.ComparisonGroups.{kind_same, parameter_same}
 
 -- ---- a key that is put among others
 
@@ -91,7 +92,7 @@ with_cases P key first keys below same above = elim (cases_lt (key_rank key) (ke
       ]
 ]
 
-above_above : (low key : GroupKey) (keys : List GroupKey) → key_rank low < key_rank key → KeysAbove key keys → KeysAbove low keys
+pub above_above : (low key : GroupKey) (keys : List GroupKey) → key_rank low < key_rank key → KeysAbove key keys → KeysAbove low keys
 above_above low key [] l h = tt
 above_above low key (other ∷ keys) l h = (omega (arith, l, h.0), above_above low key keys l h.1)
 
@@ -120,41 +121,13 @@ with_stays key x (first ∷ keys) h = with_cases (λ ks. IsAmong ks x) key first
       | inr r ↦ among_more (with_key keys key) x first (with_stays key x keys r)
     ])
 
-pub fold_rising : (keys xs : List GroupKey) → AreRising keys → AreRising (fold with_key keys xs)
-fold_rising keys [] h = h
-fold_rising keys (x ∷ xs) h = fold_rising (with_key keys x) xs (with_rising x keys h)
-
-pub fold_each : (P : GroupKey → Type 0) (keys xs : List GroupKey) → AllByRecursion P keys → AllByRecursion P xs → AllByRecursion P (fold with_key keys xs)
-fold_each P keys [] h k = h
-fold_each P keys (x ∷ xs) h k = fold_each P (with_key keys x) xs (with_each P x keys k.0 h) k.1
-
-fold_stays : (keys xs : List GroupKey) (x : GroupKey) → IsAmong keys x → IsAmong (fold with_key keys xs) x
-fold_stays keys [] x h = h
-fold_stays keys (y ∷ xs) x h = fold_stays (with_key keys y) xs x (with_stays y x keys h)
-
--- each key that was put is there
-pub fold_there : (keys xs : List GroupKey) → AllByRecursion (IsAmong (fold with_key keys xs)) xs
-fold_there keys [] = tt
-fold_there keys (x ∷ xs) = (fold_stays (with_key keys x) xs x (with_there x keys), fold_there (with_key keys x) xs)
-
 -- ---- a key is known by its rank
-
-kind_same : (xs ys : List ℕ) → length xs ≡ 4 → length ys ≡ 4 → AreBytes xs → AreBytes ys → field xs 0 4 ≡ field ys 0 4 → xs ≡ ys
-kind_same xs ys e f h k same =
-    let d = four_digits (slice_index xs 0) (slice_index xs 1) (slice_index xs 2) (slice_index xs 3) (slice_index ys 0) (slice_index ys 1) (slice_index ys 2) (slice_index ys 3) (h 1) (h 2) (h 3) (k 1) (k 2) (k 3) same in
-    four_items xs e ∙ (λ i. d.0 i ∷ d.1 i ∷ d.2 i ∷ d.3 i ∷ []) ∙ sym (four_items ys f)
 
 parameter_small : (o : Option ℕ) → IfSome o (λ n. n < 2 ^ 32) → parameter_rank o < 2 ^ 32 + 1
 parameter_small None h = omega arith
 parameter_small (Some n) h = omega arith
 
-parameter_same : (o p : Option ℕ) → parameter_rank o ≡ parameter_rank p → o ≡ p
-parameter_same None None e = refl
-parameter_same None (Some n) e = absurd (omega (arith, e))
-parameter_same (Some m) None e = absurd (omega (arith, e))
-parameter_same (Some m) (Some n) e = let same : m ≡ n = omega (arith, e) in ap (λ (k : ℕ). Some k) same
-
-key_same : (a b : GroupKey) → IsKey a → IsKey b → key_rank a ≡ key_rank b → a ≡ b
+pub key_same : (a b : GroupKey) → IsKey a → IsKey b → key_rank a ≡ key_rank b → a ≡ b
 key_same a b h k e =
     let pa = parameter_small a.parameter h.parameter in
     let pb = parameter_small b.parameter k.parameter in
@@ -166,18 +139,18 @@ key_same a b h k e =
 
 -- ---- a list that is made of keys in their order
 
-above_none : (key : GroupKey) (keys : List GroupKey) → KeysAbove key keys → IsNone keys key
+pub above_none : (key : GroupKey) (keys : List GroupKey) → KeysAbove key keys → IsNone keys key
 above_none key [] h = refl
 above_none key (other ∷ keys) h = or_from (same_key key other) (list_any (same_key key) keys) (ne_eqb (key_rank key) (key_rank other) (λ e. omega (arith, h.0, e))) (above_none key keys h.1)
 
-among_above : (key x : GroupKey) (keys : List GroupKey) → KeysAbove key keys → IsAmong keys x → key_rank key < key_rank x
+pub among_above : (key x : GroupKey) (keys : List GroupKey) → KeysAbove key keys → IsAmong keys x → key_rank key < key_rank x
 among_above key x [] h a = absurd cc
 among_above key x (other ∷ keys) h a = elim (or_cases (same_key x other) (list_any (same_key x) keys) a) [
   | inl s ↦ let e = eqb-true (key_rank x) (key_rank other) s in omega (arith, h.0, e)
   | inr r ↦ among_above key x keys h.1 r
 ]
 
-among_rest : (key x : GroupKey) (keys : List GroupKey) → (key_rank x ≡ key_rank key → ⊥) → IsAmong (key ∷ keys) x → IsAmong keys x
+pub among_rest : (key x : GroupKey) (keys : List GroupKey) → (key_rank x ≡ key_rank key → ⊥) → IsAmong (key ∷ keys) x → IsAmong keys x
 among_rest key x keys ne a = elim (or_cases (same_key x key) (list_any (same_key x) keys) a) [
   | inl s ↦ absurd (ne (eqb-true (key_rank x) (key_rank key) s))
   | inr r ↦ r

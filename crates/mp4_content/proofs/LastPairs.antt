@@ -23,6 +23,7 @@ use Rattle.mp4_content.specs.declared.comparing.pairing.Pairing.{Pairing}
 use Rattle.mp4_content.specs.declared.comparing.samples.TrackSide.{TrackSide}
 use Rattle.mp4_content.proofs.PairsPassed.{same_skipped}
 use Rattle.mp4_content.proofs.TracksCompared.{each_next}
+use Rattle.mp4_content.proofs.ComparisonValues.{front_none}
 
 -- ---- the steps of both walks
 
@@ -51,10 +52,6 @@ pub rest_lie : (file : List ℕ) (k count : ℕ) (samples : List SampleAt) → k
 rest_lie file k count samples lt le lie = (let left = length-drop k samples in omega (arith, lt, le, left), each_dropped (IsBelow (length file)) k samples lie)
 
 -- ---- the pairs that were compared
-
-front_nothing : (xs ys : List Difference) → xs ++ ys ≡ [] → xs ≡ []
-front_nothing [] ys e = refl
-front_nothing (x ∷ xs) ys e = absurd cc
 
 -- So many pairs were compared, and the last that differs is known.
 pub record LastGoes (by : Pairing) (file : List ℕ) (tree : FileTree) (t : TrackTree) (m : MovieSeen) (xs : List SampleAt) (other : List ℕ) (other_tree : FileTree) (u : TrackTree) (n : MovieSeen) (ys : List SampleAt) (last k : ℕ) (w v : Walk) : Type 0 where
@@ -119,7 +116,7 @@ module _ (by : Pairing) (file : List ℕ) (tree : FileTree) (t : TrackTree) (m :
     last_differs some = goes_on (k + 1) (record {
       within = omega arith;
       same = refl;
-      differs = λ j e none. let same : j ≡ k = omega (arith, e) in some (front_nothing found (from (k + 1)) (sym next ∙ ap from (sym same) ∙ none));
+      differs = λ j e none. let same : j ≡ k = omega (arith, e) in some (front_none found (from (k + 1)) (sym next ∙ ap from (sym same) ∙ none));
     })
 
     -- whichever it is

@@ -18,6 +18,7 @@ use Rattle.mp4_content.proofs.TimescalesDivisors.{divisor_divides}
 use Rattle.mp4_content.proofs.TimescalesLengths.{duration_less}
 use Rattle.mp4_content.proofs.TimescalesValid.{media_time_good, scale_less, scale_some_by}
 use Rattle.mp4_content.proofs.LeadInsTracks.{waiting_if, wait_of_simple, wait_of_other}
+use Rattle.mp4_present.proofs.ValidSamples.{nothing_mapped}
 
 -- ---- in place of one thing another
 
@@ -82,7 +83,7 @@ flat t = record t { head = record t.head { edits = map flat_edit t.head.edits };
 abbrev pub IsSound : Track → Type 0
 IsSound t = IsTrack (flat t)
 
-fits_0 : FitsSigned w32 (pos 0)
+pub fits_0 : FitsSigned w32 (pos 0)
 fits_0 = omega arith
 
 flat_edits_good : (f : Edit → Edit) → ((e : Edit) → IsEdit e → IsEdit (flat_edit (f e))) → (edits : List Edit) → AllByRecursion IsEdit edits → AllByRecursion IsEdit (map flat_edit (map f edits))
@@ -116,10 +117,6 @@ samples_sound f same (s ∷ samples) = λ i. same s i ∷ samples_sound f same s
 flat_samples_good : (descriptions : ℕ) (samples : List Sample) → AllByRecursion (IsSample descriptions) samples → AllByRecursion (IsSample descriptions) (map flat_sample samples)
 flat_samples_good descriptions [] h = tt
 flat_samples_good descriptions (s ∷ samples) h = (sample_with descriptions s s.duration (pos 0) h.0 h.0.duration fits_0, flat_samples_good descriptions samples h.1)
-
-nothing_mapped : {A B : Type 0} (f : A → B) (xs : List A) → map f xs ≡ [] → xs ≡ []
-nothing_mapped f [] e = refl
-nothing_mapped f (x ∷ xs) e = absurd cc
 
 -- a track with these edits, which begins here
 sound_with : (t : Track) (edits : List Edit) (start : ℕ) → IsTrack t → AllByRecursion IsEdit (map flat_edit edits) → (t.samples ≡ [] → start ≡ 0) → IsSound (record t { head = record t.head { edits = edits }; start = start })

@@ -5,7 +5,8 @@ use Rattle.mp4_boxes.proofs.Plain.{head_is}
 use Rattle.mp4_head.specs.format.Head.{Edit, TrackHead, IsEdit, IsTrackHead}
 use Rattle.mp4_present.specs.format.Presentation.{Sample, Track, Presentation, IsTrack, IsWithinLimits, Valid}
 use Rattle.mp4_content.specs.format.LeadInsLaws.{OriginsHideBeginnings, TimingHidesBeginnings, EditsHideBeginnings, TimingChangesAgain, EditsChangeAgain}
-use Rattle.mp4_content.proofs.TooLong.{track, edit, edit_good, sample, fits_32, sample_good, one_track, one_track_good}
+use Rattle.mp4_content.proofs.TooLong.{track, edit, edit_good, sample, sample_good, one_track, one_track_good}
+use Rattle.mp4_content.proofs.LeadInsFlat.{fits_0}
 
 abbrev tick : List Sample
 tick = sample 1 (pos 0) ∷ []
@@ -17,7 +18,7 @@ track_from id start edits =
     record t { head = record t.head { id = id }; start = start }
 
 one_good : (edits : List Edit) → AllByRecursion IsEdit edits → IsWithinLimits (one_track edits tick) → Valid (one_track edits tick)
-one_good edits e limits = one_track_good edits tick e (sample_good 1 (pos 0) (omega arith) fits_32, tt) (omega arith) limits
+one_good edits e limits = one_track_good edits tick e (sample_good 1 (pos 0) (omega arith) fits_0, tt) (omega arith) limits
 
 head_good : (id : ℕ) → 0 < id → id < 2 ^ 32 → (t : TrackHead) → IsTrackHead t → IsTrackHead (record t { id = id })
 head_good id some fits t h = record {

@@ -4,7 +4,7 @@ use Rattle.std.specs.Prelude.{fold, FitsSigned}
 use Rattle.std.specs.Int.{w32}
 use Rattle.std.specs.List.{AllByRecursion, AllZip}
 use Rattle.std.proofs.lemmas.Bool.{cases_lt}
-use Rattle.std.proofs.lemmas.List.{drop_all, drop_more}
+use Rattle.std.proofs.lemmas.List.{drop_all}
 use Rattle.mp4_boxes.specs.format.Bytes.{sum_of}
 use Rattle.mp4_boxes.proofs.Each.{each_member, each_value, each_weaker}
 use Rattle.mp4_boxes.proofs.Plain.{max_swap}
@@ -30,6 +30,7 @@ use Rattle.mp4_content.specs.words.LeftTimes.{count_length, longest_count}
 use Rattle.mp4_content.proofs.HeadLess.{same_length}
 use Rattle.mp4_content.proofs.Numbered.{left_longest}
 use Rattle.mp4_content.proofs.ReducedValid.{all_counted, near_left, counted_length, counted_track_length, in_time_stays}
+use Rattle.mp4_content.proofs.Differing.{drop_at}
 
 -- the composition offsets of an opened file fit
 module _ (file : List ℕ) (m : MovieSeen) (tree : FileTree) (o : IsOpenedAs file m tree) where
@@ -64,14 +65,10 @@ edits_stay l file m tree stay counts lasts begins o =
 
 -- ---- where timing doesn't count
 
--- what is left from a place on begins with what was read there
-read_front : {A : Type 0} (xs : List A) (k : ℕ) (x : A) → k < length xs → x ≡ slice_index_or xs k x → drop k xs ≡ x ∷ drop (k + 1) xs
-read_front xs k x lt e = drop_more xs k x lt ∙ ap (λ y. y ∷ drop (k + 1) xs) (sym e)
-
 pub count_more : (l : Without) (hs : List TrackHead) (tracks : List TrackInfo) (k longest : ℕ) (h : TrackHead) (info : TrackInfo) → k < length hs → k < length tracks → h ≡ slice_index_or hs k h → info ≡ slice_index_or tracks k info
     → longest_count l longest (drop k hs) (drop k tracks) ≡ longest_count l (max (count_length l (track_seen h).edits info.samples) longest) (drop (k + 1) hs) (drop (k + 1) tracks)
 count_more l hs tracks k longest h info lt less e f =
-    (λ i. longest_count l longest (read_front hs k h lt e i) (read_front tracks k info less f i))
+    (λ i. longest_count l longest (drop_at hs k h lt e i) (drop_at tracks k info less f i))
     ∙ ap (λ n. longest_count l n (drop (k + 1) hs) (drop (k + 1) tracks)) (max_swap longest (count_length l (track_seen h).edits info.samples))
 
 pub count_end : (l : Without) (hs : List TrackHead) (tracks : List TrackInfo) (k longest : ℕ) → min (length tracks) (length hs) ≤ k → longest_count l longest (drop k hs) (drop k tracks) ≡ longest

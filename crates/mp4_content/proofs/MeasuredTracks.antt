@@ -18,8 +18,8 @@ use Rattle.mp4_content.specs.words.Measuring.{AreTotals, no_total, total_from, t
 use Rattle.mp4_content.specs.declared.measures.Total.{Total}
 use Rattle.mp4_content.specs.declared.reduced.Reduction.{Reduction}
 use Rattle.mp4_content.proofs.AtPlaces.{taken_next}
-use Rattle.mp4_content.proofs.SamplesTaken.{as_many}
 use Rattle.mp4_tables.proofs.Sums.{sum_joined}
+use Rattle.mp4_content.proofs.EndsCompared.{samples_many}
 
 totals_behind : (l : Without) (tree : FileTree) (ts : List TrackTree) (infos : List TrackInfo) (xs : List Total) (t : TrackTree) (info : TrackInfo) (x : Total) → AreTotals l tree ts infos xs → x ≡ track_total l tree t info → AreTotals l tree (ts ++ t ∷ []) (infos ++ info ∷ []) (xs ++ x ∷ [])
 totals_behind l tree [] [] [] t info x h e = (e, tt)
@@ -88,7 +88,7 @@ module _ (l : Without) (file : List ℕ) (m : MovieSeen) (tree : FileTree) (o : 
 
 -- a track has as many samples as opening counted
 pub count_is : (file : List ℕ) (m : MovieSeen) (tree : FileTree) (t : TrackTree) (k : ℕ) (info : TrackInfo) → IsOpenedAs file m tree → slice_get tree.movie.tracks k ≡ Some t → slice_get m.tracks k ≡ Some info → info.samples ≡ length (track_samples tree t)
-count_is file m tree t k info o at there = (get_zip (IsInfoOf file tree) tree.movie.tracks m.tracks k t info o.tracks at there).samples ∙ sym (as_many file tree t)
+count_is file m tree t k info o at there = (get_zip (IsInfoOf file tree) tree.movie.tracks m.tracks k t info o.tracks at there).samples ∙ sym (samples_many file tree t)
 
 -- what is measured, and what needn't be
 pub asked_reduction : (l : Without) (samples : List SampleAt) → asks_first l ≡ true → reduction_by l (length samples) (slice_get samples 0) ≡ reduction_of l samples

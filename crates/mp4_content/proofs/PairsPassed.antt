@@ -1,6 +1,6 @@
 -- Pairs of samples that are the same are passed.
 use Rattle.std.proofs.Common.{◌≡◌, ℕ, zero, suc, ◌+◌, ◌<◌, ◌≤◌, Bool, true, false, if◌then◌else◌, List, [], ◌∷◌, ◌++◌, length, drop, slice_index_or, Option, Some, refl, sym, ap, subst, ◌∙◌, arith}
-use Rattle.std.specs.Prelude.{ℤ, pos, negsuc}
+use Rattle.std.specs.Prelude.{ℤ}
 use Rattle.std.specs.List.{slice_get}
 use Rattle.std.proofs.lemmas.Bool.{eq-eqb}
 use Rattle.std.proofs.lemmas.List.{drop-append-le}
@@ -11,7 +11,7 @@ use Rattle.mp4_tables.specs.declared.keys.Keys.{Keys}
 use Rattle.mp4_tables.specs.declared.sample.SampleAt.{SampleAt}
 use Rattle.mp4_head.specs.format.Tree.{TrackTree}
 use Rattle.mp4_present.specs.format.Denotes.{FileTree}
-use Rattle.mp4_content.specs.format.Differences.{same_signed, differ, numbers_differ, signed, first_unequal, byte_at, each_differ}
+use Rattle.mp4_content.specs.format.Differences.{differ, numbers_differ, signed, first_unequal, byte_at, each_differ}
 use Rattle.mp4_content.specs.words.Differing.{index_in, group_differences, differences_at, pair_differences}
 use Rattle.mp4_content.specs.words.ComingLess.{cto_left, flags_left, lasts_left}
 use Rattle.mp4_present.specs.words.InHand.{left_in_hand, Follows, IsPlaceOf}
@@ -33,6 +33,7 @@ use Rattle.mp4_content.proofs.Differing.{at_drop, nowhere_same}
 use Rattle.mp4_present.proofs.GoneBack.{hand_later}
 use Rattle.mp4_present.proofs.WalkCopied.{hand_one, kept_before}
 use Rattle.mp4_boxes.proofs.Plain.{suc_is}
+use Rattle.mp4_content.proofs.ComparisonValues.{signed_self}
 
 -- ---- values that are the same
 
@@ -40,13 +41,9 @@ pub none_of_numbers : (of : Subject) (field : Field) (a b : ℕ) → a ≡ b →
 unfolding differ
 none_of_numbers of field a b e = rw (eq-eqb a b e) refl
 
-same_itself : (a : ℤ) → same_signed a a ≡ true
-same_itself (pos m) = eq-eqb m m refl
-same_itself (negsuc m) = eq-eqb m m refl
-
 none_of_itself : (of : Subject) (field : Field) (a : ℤ) → signed of field a a ≡ []
 unfolding differ
-none_of_itself of field a = rw (same_itself a) refl
+none_of_itself of field a = rw (signed_self a) refl
 
 none_of_signed : (of : Subject) (field : Field) (a b : ℤ) → a ≡ b → signed of field a b ≡ []
 none_of_signed of field a b e = subst (λ (c : ℤ). signed of field a c ≡ []) e (none_of_itself of field a)

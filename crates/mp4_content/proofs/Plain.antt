@@ -9,7 +9,6 @@ use Rattle.mp4_boxes.proofs.OfBytes.{bytes_taken}
 use Rattle.mp4_boxes.proofs.Plain.{length_mapped}
 use Rattle.mp4_head.specs.format.Head.{Kept, IsDescription, handler_type}
 use Rattle.mp4_head.specs.format.Writing.{kept_bytes}
-use Rattle.mp4_head.proofs.HeadLengths.{length_any}
 use Rattle.mp4_content.specs.declared.without.Without.{Without}
 use Rattle.mp4_content.specs.format.BitRates.{unrated, unrated_descriptions, unrated_payload}
 use Rattle.mp4_content.specs.format.Reduced.{reduce_descriptions, plain_handler, plain_picture, plain_descriptions, is_picture}
@@ -18,6 +17,7 @@ use Rattle.mp4_content.proofs.Zeroed.{zeroed_length}
 use Rattle.mp4_content.specs.format.ReducedLaws.{both}
 use Rattle.mp4_content.proofs.Unrated.{names_and_rates, unrated_good, unrated_short, unrated_twice}
 use Rattle.mp4_content.proofs.ZeroedAgain.{zeroed_taken, zeroed_twice, zeroed_turned, zeroed_byte}
+use Rattle.mp4_content.proofs.RatesShort.{box_short}
 
 -- ---- `hdlr`
 
@@ -180,17 +180,11 @@ descriptions_many l h ds = by l.labels l.bitrates
     by false true = length_mapped (unrated h) ds
     by false false = refl
 
-box_less : (k : Kept) (payload : List ℕ) → length payload ≤ length k.payload → length (kept_bytes (record k { payload = payload })) ≤ length (kept_bytes k)
-box_less k payload few =
-    let now = length_any k.kind payload in
-    let was = length_any k.kind k.payload in
-    omega (arith, few, now, was)
-
 picture_less : (k : Kept) → length (kept_bytes (plain_picture k)) ≤ length (kept_bytes k)
-picture_less k = let same = plain_length (nat_le 78 (length k.payload)) k.payload in box_less k (plain_picture k).payload (omega (arith, same))
+picture_less k = let same = plain_length (nat_le 78 (length k.payload)) k.payload in box_short k (plain_picture k).payload (omega (arith, same))
 
 unrated_less : (h : List ℕ) (k : Kept) → length (kept_bytes (unrated h k)) ≤ length (kept_bytes k)
-unrated_less h k = box_less k (unrated h k).payload (unrated_short (handler_type h) k.payload)
+unrated_less h k = box_short k (unrated h k).payload (unrated_short (handler_type h) k.payload)
 
 map_less : (f : Kept → Kept) → ((k : Kept) → length (kept_bytes (f k)) ≤ length (kept_bytes k)) → (ds : List Kept) → length (flat_map kept_bytes (map f ds)) ≤ length (flat_map kept_bytes ds)
 map_less f less [] = omega arith

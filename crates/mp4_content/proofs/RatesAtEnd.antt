@@ -26,7 +26,7 @@ ends_other payload not_so = not_true_is (ends_in_rates payload) (λ e. not_so (e
 
 -- ---- without them
 
-taken_long : (payload : List ℕ) → ends_in_rates payload ≡ true → length (take (length payload - 20) payload) + 20 ≡ length payload
+pub taken_long : (payload : List ℕ) → ends_in_rates payload ≡ true → length (take (length payload - 20) payload) + 20 ≡ length payload
 taken_long payload e = let long = (ends_so payload e).0 in omega (arith, long, length-take-le (length payload - 20) payload (omega (arith, long)))
 
 -- however many are asked for beyond all

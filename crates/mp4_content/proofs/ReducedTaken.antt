@@ -219,7 +219,7 @@ module _ (r : Reduction) where
 
 -- ---- all samples of a track
 
-as_many_taken : (file : List ℕ) (keys : List GroupKey) (taken : List SampleAt) (samples : List TimedSample) → AreTaken file keys taken samples → length samples ≡ length taken
+pub as_many_taken : (file : List ℕ) (keys : List GroupKey) (taken : List SampleAt) (samples : List TimedSample) → AreTaken file keys taken samples → length samples ≡ length taken
 as_many_taken file keys [] [] z = refl
 as_many_taken file keys [] (s ∷ samples) z = absurd z
 as_many_taken file keys (a ∷ taken) [] z = absurd z

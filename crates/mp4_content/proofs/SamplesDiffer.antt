@@ -1,6 +1,6 @@
 -- What differs between two samples as they are handed out is what differs between those of the presentations.
 use Rattle.std.proofs.Common.{◌≡◌, ℕ, zero, suc, ◌+◌, ◌≤◌, Bool, true, false, eqb, if◌then◌else◌, List, [], ◌∷◌, ◌++◌, length, Some, refl, sym, ap, ◌∙◌, arith, append_assoc}
-use Rattle.std.specs.Prelude.{map, fold, flat_map, slice_index, ◌==◌, ℤ, pos, negsuc, IsTrue}
+use Rattle.std.specs.Prelude.{map, fold, flat_map, slice_index, ◌==◌}
 use Rattle.std.specs.List.{AllByRecursion, list_any, position_from, slice_get}
 use Rattle.std.proofs.lemmas.Bool.{eqb-true, or_from}
 use Rattle.mp4_boxes.proofs.Among.{all_append}
@@ -18,7 +18,6 @@ use Rattle.mp4_tables.specs.declared.sample.SampleAt.{SampleAt}
 use Rattle.mp4_tables.proofs.NamedKeys.{IsAmong, IsNone, by_rank, among_through}
 use Rattle.mp4_tables.proofs.GroupMaps.{IsMap}
 use Rattle.mp4_tables.proofs.Placed.{IsKey, IsIndex}
-use Rattle.mp4_tables.specs.format.TableRules.{lies_within}
 use Rattle.mp4_head.specs.format.Tree.{TrackTree}
 use Rattle.mp4_present.specs.format.Denotes.{FileTree, bytes_at, sample_of, file_parts, placed_of}
 use Rattle.mp4_content.specs.format.Reduced.{reduce_sample, reduce_from}
@@ -38,20 +37,22 @@ use Rattle.mp4_content.specs.declared.comparing.differences.Subject.TheVariants 
 use Rattle.mp4_content.specs.declared.comparing.differences.Field.{Field}
 use Rattle.mp4_content.specs.declared.comparing.differences.Field.TheVariants as fields
 use Rattle.mp4_content.specs.declared.comparing.differences.Difference.{Difference}
-use Rattle.mp4_content.proofs.KeysOfBoth.{fold_rising, fold_each, fold_there, NothingElse, joint}
+use Rattle.mp4_content.proofs.KeysOfBoth.{NothingElse, joint}
 use Rattle.mp4_present.proofs.PlacedTracks.{IsTrackPlaced, tracks_placed}
-use Rattle.mp4_present.proofs.SamplesLie.{IsInFile, placed_lie, bytes_whole}
+use Rattle.mp4_present.proofs.SamplesLie.{IsInFile, placed_lie, bytes_whole, there}
 use Rattle.mp4_present.proofs.ValidSamples.{IsOfTrack}
+use Rattle.mp4_content.proofs.ComparisonKeys.{all_rising, all_put}
+use Rattle.mp4_content.proofs.ComparisonGroups.{each_there}
 
 -- ---- an index at a key
 
 -- the same at keys of one rank
-by_same : (x key : GroupKey) (groups : Groups) → key_rank x ≡ key_rank key → index_at x groups ≡ index_at key groups
+pub by_same : (x key : GroupKey) (groups : Groups) → key_rank x ≡ key_rank key → index_at x groups ≡ index_at key groups
 by_same x key [] e = refl
 by_same x key (group ∷ groups) e = λ i. if eqb (e i) (key_rank group.0) then group.1 else by_same x key groups e i
 
 -- none at a key that is none of those named
-none_at : (named : List GroupKey) (key : GroupKey) (groups : Groups) → AllByRecursion (λ (group : GroupKey × ℕ). IsAmong named group.0) groups → IsNone named key → index_at key groups ≡ 0
+pub none_at : (named : List GroupKey) (key : GroupKey) (groups : Groups) → AllByRecursion (λ (group : GroupKey × ℕ). IsAmong named group.0) groups → IsNone named key → index_at key groups ≡ 0
 none_at named key [] a n = refl
 none_at named key (group ∷ groups) a n = by (same_key key group.0) refl (none_at named key groups a.1 n)
   where
@@ -75,7 +76,7 @@ module _ (key : GroupKey) (groups : Groups) where
       by true e behind = let here : n ≡ n + 0 = omega arith in ap (slice_index ys) here ∙ at 0 ∙ by_same k key groups (sym (eqb-true (key_rank key) (key_rank k) e))
       by false e behind = behind (λ no. none (or_from (same_key key k) (list_any (same_key key) keys) e no))
 
-index_there : (keys : List GroupKey) (groups : Groups) (key : GroupKey) → length keys ≤ 4 → AllByRecursion (λ (group : GroupKey × ℕ). IsAmong keys group.0) groups → index_in (key_place key keys) (indexes keys groups) ≡ index_at key groups
+pub index_there : (keys : List GroupKey) (groups : Groups) (key : GroupKey) → length keys ≤ 4 → AllByRecursion (λ (group : GroupKey × ℕ). IsAmong keys group.0) groups → index_in (key_place key keys) (indexes keys groups) ≡ index_at key groups
 index_there keys groups key few named = place_from key groups keys 4 0 (indexes keys groups) few (λ j. let e : 0 + j ≡ j = omega arith in ap (slice_index (indexes keys groups)) e) (none_at keys key groups named)
 
 -- ---- the indexes of two samples
@@ -116,17 +117,17 @@ module _ (of : Subject) (left right : List GroupKey) (a b : Groups) (ha : AreKey
 
   all_among : AllByRecursion (IsAmong both_keys) (keys_of_both a b)
   all_among =
-      let there = fold_there [] (left ++ right) in
+      let there = each_there [] (left ++ right) in
       let through : (keys : List GroupKey) → AllByRecursion (IsAmong both_keys) keys → (groups : Groups) → AllByRecursion (λ (group : GroupKey × ℕ). IsAmong keys group.0) groups → AllByRecursion (IsAmong both_keys) (keys_in groups) =
       λ keys h groups n. each_weaker (IsAmong keys) (IsAmong both_keys) (λ key k. among_through keys both_keys key h k) (keys_in groups) (are_among keys groups n) in
-      fold_each (IsAmong both_keys) [] (keys_in a ++ keys_in b) tt
+      all_put (IsAmong both_keys) [] (keys_in a ++ keys_in b) tt
       (all_append (IsAmong both_keys) (keys_in a) (keys_in b) (through left (all_first (IsAmong both_keys) left right there) a ha.map.named) (through right (all_last (IsAmong both_keys) left right there) b hb.map.named))
 
   nothing_else : NothingElse (at_key of a b) (keys_of_both a b) both_keys
   nothing_else = each_member (λ (x : GroupKey). IsNone (keys_of_both a b) x → at_key of a b x ≡ []) both_keys (λ x i none. nothing x none)
     where
       there : AllByRecursion (IsAmong (keys_of_both a b)) (keys_in a ++ keys_in b)
-      there = fold_there [] (keys_in a ++ keys_in b)
+      there = each_there [] (keys_in a ++ keys_in b)
 
       nothing : (x : GroupKey) → IsNone (keys_of_both a b) x → at_key of a b x ≡ []
       nothing x none =
@@ -137,8 +138,8 @@ module _ (of : Subject) (left right : List GroupKey) (a b : Groups) (ha : AreKey
   -- what differs at all keys of two tracks differs at the keys of the two samples
   keys_joined : flat_map (at_key of a b) both_keys ≡ index_differences of a b
   keys_joined =
-      joint (at_key of a b) both_keys (keys_of_both a b) (fold_rising [] (left ++ right) tt) (fold_rising [] (keys_in a ++ keys_in b) tt) (fold_each IsKey [] (left ++ right) tt (all_append IsKey left right ha.are hb.are))
-      (fold_each IsKey [] (keys_in a ++ keys_in b) tt (all_append IsKey (keys_in a) (keys_in b) (are_keys a ha.map.each) (are_keys b hb.map.each))) all_among nothing_else
+      joint (at_key of a b) both_keys (keys_of_both a b) (all_rising [] (left ++ right) tt) (all_rising [] (keys_in a ++ keys_in b) tt) (all_put IsKey [] (left ++ right) tt (all_append IsKey left right ha.are hb.are))
+      (all_put IsKey [] (keys_in a ++ keys_in b) tt (all_append IsKey (keys_in a) (keys_in b) (are_keys a ha.map.each) (are_keys b hb.map.each))) all_among nothing_else
 
 -- as the keys are seen
 seen_at : (of : Subject) (keys : List KeyNamed) (lk rk : Keys) (left right : List GroupKey) (a b : Groups) (x y : SampleAt) → keys_seen lk ≡ left → keys_seen rk ≡ right → x.groups ≡ indexes left a → y.groups ≡ indexes right b → AreKeysOf left a → AreKeysOf right b
@@ -161,10 +162,6 @@ groups_differ false of keys lk rk left right a b x y el er gx gy ha hb e = seen_
 bytes_by : (of : Subject) (f : ℕ → Field) (v : Bool) (xs ys zs : List ℕ) → (v ≡ true → zs ≡ ys) → (if v then byte_at of f (first_unequal 0 xs zs) else []) ≡ (if v then byte_at of f (first_unequal 0 xs ys) else [])
 bytes_by of f true xs ys zs h = ap (λ (ws : List ℕ). byte_at of f (first_unequal 0 xs ws)) (h refl)
 bytes_by of f false xs ys zs h = refl
-
-there : (file : List ℕ) (at : ℤ) (size : ℕ) → IsTrue (lies_within (length file) at size) → range file (place_of at) size ≡ bytes_at file at size
-there file (pos at) size h = refl
-there file (negsuc below) size h = absurd cc
 
 module _ (of : Subject) (file other : List ℕ) (s t : PlacedSample) (hs : IsInFile (length file) s) (ht : IsInFile (length other) t) where
   abbrev own : List ℕ

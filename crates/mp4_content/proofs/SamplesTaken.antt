@@ -1,35 +1,26 @@
 -- The samples that an opened file hands out are those of the presentation that it denotes.
-use Rattle.std.proofs.Common.{◌≡◌, ℕ, ◌+◌, List, [], ◌∷◌, length, refl, sym, subst, ◌∙◌}
-use Rattle.std.specs.Prelude.{map, IsTrue, ℤ, pos, negsuc}
+use Rattle.std.proofs.Common.{ℕ, ◌+◌, List, [], ◌∷◌, length, refl, sym, subst}
+use Rattle.std.specs.Prelude.{map}
 use Rattle.std.specs.List.{AllByRecursion, AllZip}
-use Rattle.std.proofs.lemmas.List.{length-map}
 use Rattle.mp4_boxes.proofs.Each.{each_weaker, each_member}
-use Rattle.mp4_store.specs.words.Device.{range}
 use Rattle.mp4_tables.specs.format.Groups.{GroupKey}
 use Rattle.mp4_tables.specs.words.Keys.{keys_seen}
 use Rattle.mp4_tables.specs.format.PlainSamples.{PlacedSample}
-use Rattle.mp4_tables.specs.format.TableRules.{lies_within}
-use Rattle.mp4_tables.specs.words.Timed.{timed, sample_at, place_of}
-use Rattle.mp4_tables.proofs.SampleLists.{timed_length}
+use Rattle.mp4_tables.specs.words.Timed.{timed, sample_at}
 use Rattle.mp4_tables.proofs.Placed.{IsKey, IsIndex}
 use Rattle.mp4_head.specs.format.Tree.{TrackTree}
 use Rattle.mp4_present.specs.words.SamplesComing.{track_keys, track_samples}
-use Rattle.mp4_present.specs.format.Denotes.{FileTree, file_parts, placed_of, bytes_at, sample_of, track_of}
+use Rattle.mp4_present.specs.format.Denotes.{FileTree, file_parts, placed_of, sample_of, track_of}
 use Rattle.mp4_present.specs.words.Movies.{MovieSeen}
 use Rattle.mp4_present.specs.words.OpenedMovie.{IsInfoOf, IsOpenedAs}
 use Rattle.mp4_present.specs.format.Presentation.{Track, IsGroup}
 use Rattle.mp4_present.specs.declared.track_info.TrackInfo.{TrackInfo}
 use Rattle.mp4_present.proofs.PlacedTracks.{IsTrackPlaced, track_placed}
-use Rattle.mp4_present.proofs.SamplesLie.{IsInFile, placed_lie, bytes_whole}
+use Rattle.mp4_present.proofs.SamplesLie.{IsInFile, placed_lie, bytes_whole, there}
 use Rattle.mp4_present.proofs.ValidSamples.{IsOfTrack, is_parameter, is_group}
 use Rattle.mp4_content.specs.format.TimedSamples.{timed_from}
 use Rattle.mp4_content.specs.format.TimedSamples as given
 use Rattle.mp4_content.specs.words.TakenSamples.{IsTaken, AreTaken, IsNamed}
-
--- the bytes from the place of a sample on that lies in the file
-bytes_there : (file : List ℕ) (at : ℤ) (size : ℕ) → IsTrue (lies_within (length file) at size) → range file (place_of at) size ≡ bytes_at file at size
-bytes_there file (pos at) size h = refl
-bytes_there file (negsuc below) size h = absurd cc
 
 pub is_named : (key : GroupKey) → IsKey key → IsNamed key
 is_named key h = record { kind_length = h.kind_length; kind = h.kind; parameter = is_parameter key.parameter h.parameter }
@@ -44,7 +35,7 @@ is_taken file descriptions keys before number dts s h k = record {
   flags = refl;
   description = refl;
   size = sym (bytes_whole file s.at s.size h);
-  bytes = bytes_there file s.at s.size h;
+  bytes = there file s.at s.size h;
   groups = refl;
   named = k.groups.named;
   are_groups = each_weaker IsIndex IsGroup is_group s.groups k.groups.each;
@@ -79,9 +70,3 @@ tracks_taken file m tree o =
     turned (IsInfoOf file tree) (IsTrackTaken file tree) tree.movie.tracks m.tracks
     (each_member (λ (t : TrackTree). (info : TrackInfo) → IsInfoOf file tree t info → IsTrackTaken file tree info t) tree.movie.tracks
     (λ t i info h. taken_of file tree t info (placed_lie file tree t o.is_consistent i) (track_placed file tree o.is_tree o.is_sound o.is_consistent o.bytes t i) h)) o.tracks
-
--- a track has as many
-pub as_many : (file : List ℕ) (tree : FileTree) (t : TrackTree) → length (track_samples tree t) ≡ length (track_of file (file_parts tree) t).samples
-as_many file tree t =
-    let placed = placed_of (file_parts tree) t in
-    timed_length (track_keys tree t) 0 (track_of file (file_parts tree) t).start placed ∙ sym (length-map placed (sample_of file))

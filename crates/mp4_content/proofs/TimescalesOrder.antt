@@ -4,7 +4,8 @@ use Rattle.mp4_boxes.proofs.Plain.{head_is}
 use Rattle.mp4_head.specs.format.Head.{Media, TrackHead, IsMedia, IsTrackHead}
 use Rattle.mp4_present.specs.format.Presentation.{Sample, Track, Presentation, IsSample, IsTrack, IsWithinLimits, Valid}
 use Rattle.mp4_content.specs.format.TimescalesLaws.{ScaledFirstIsOther, ScaledTwiceIsOther}
-use Rattle.mp4_content.proofs.TooLong.{sample, fits_32, sample_good, one_track, one_track_good}
+use Rattle.mp4_content.proofs.TooLong.{sample, sample_good, one_track, one_track_good}
+use Rattle.mp4_content.proofs.LeadInsFlat.{fits_0}
 
 -- ---- one track with a timescale of 2
 
@@ -65,7 +66,7 @@ abbrev long_ends : List Sample
 long_ends = sample 5 (pos 0) ∷ sample 2 (pos 0) ∷ sample 2 (pos 0) ∷ sample 5 (pos 0) ∷ []
 
 lasts : (duration : ℕ) → duration < 2 ^ 32 → IsSample 1 (sample duration (pos 0))
-lasts duration h = sample_good duration (pos 0) h fits_32
+lasts duration h = sample_good duration (pos 0) h fits_0
 
 long_ends_good : Valid (halves long_ends)
 long_ends_good =

@@ -12,10 +12,8 @@ use Rattle.mp4_content.specs.format.Reduced.{is_at_end, reduce}
 use Rattle.mp4_content.specs.declared.without.Without.{Without}
 use Rattle.mp4_content.specs.format.ReducedLaws.{EditsMayHoldTime, EndsMayHoldTime, OriginsMayHoldOffsets}
 use Rattle.mp4_content.proofs.ReducedValid.{valid_to}
-
-no_bytes : AreBytes []
-no_bytes zero = omega arith
-no_bytes (suc i) = omega arith
+use Rattle.mp4_boxes.proofs.OfBytes.{no_bytes}
+use Rattle.mp4_content.proofs.LeadInsFlat.{fits_0}
 
 more_bytes : (b : ℕ) (bytes : List ℕ) → b < 256 → AreBytes bytes → AreBytes (b ∷ bytes)
 more_bytes b bytes h k zero = h
@@ -58,14 +56,11 @@ movie = record { creation = 0; modification = 0; timescale = 2 ^ 32 - 1; rate = 
 abbrev pub one_track : List Edit → List Sample → Presentation
 one_track edits samples = record { movie = movie; tracks = track edits samples ∷ [] }
 
-pub fits_32 : FitsSigned w32 (pos 0)
-fits_32 = omega arith
-
 fits_16 : FitsSigned w16 (pos 0)
 fits_16 = omega arith
 
 matrix_good : IsMatrix matrix
-matrix_good = record { nine = refl; fits = each_again (FitsSigned w32) 9 (pos 0) fits_32 }
+matrix_good = record { nine = refl; fits = each_again (FitsSigned w32) 9 (pos 0) fits_0 }
 
 letters : AreBytes (97 ∷ 118 ∷ 99 ∷ 49 ∷ [])
 letters = more_bytes 97 (118 ∷ 99 ∷ 49 ∷ []) (omega arith) (more_bytes 118 (99 ∷ 49 ∷ []) (omega arith) (more_bytes 99 (49 ∷ []) (omega arith) (more_bytes 49 [] (omega arith) no_bytes)))
@@ -122,7 +117,7 @@ track_good : (edits : List Edit) (samples : List Sample) → AllByRecursion IsEd
 track_good edits samples e h few = record { head = head_good edits e; samples = h; keys = few; empty = λ e. refl }
 
 movie_good : IsMovieHead movie
-movie_good = record { creation = omega arith; modification = omega arith; timescale = omega arith; timescale_not_0 = omega arith; rate = fits_32; volume = fits_16; matrix = matrix_good; kept = tt }
+movie_good = record { creation = omega arith; modification = omega arith; timescale = omega arith; timescale_not_0 = omega arith; rate = fits_0; volume = fits_16; matrix = matrix_good; kept = tt }
 
 pub one_track_good : (edits : List Edit) (samples : List Sample) → AllByRecursion IsEdit edits → AllByRecursion (IsSample 1) samples → length (keys_of samples) ≤ max_keys → IsWithinLimits (one_track edits samples) → Valid (one_track edits samples)
 one_track_good edits samples e h few limits = record { movie = movie_good; tracks = (track_good edits samples e h few, tt); ids = refl; limits = limits }
@@ -134,7 +129,7 @@ long = sample 1 (pos 0) ∷ sample (2 ^ 32 - 1) (pos 0) ∷ sample 1 (pos 0) ∷
 
 long_good : Valid (one_track (edit ∷ []) long)
 long_good =
-    one_track_good (edit ∷ []) long (edit_good, tt) (sample_good 1 (pos 0) (omega arith) fits_32, (sample_good (2 ^ 32 - 1) (pos 0) (omega arith) fits_32, (sample_good 1 (pos 0) (omega arith) fits_32, tt))) (omega arith)
+    one_track_good (edit ∷ []) long (edit_good, tt) (sample_good 1 (pos 0) (omega arith) fits_0, (sample_good (2 ^ 32 - 1) (pos 0) (omega arith) fits_0, (sample_good 1 (pos 0) (omega arith) fits_0, tt))) (omega arith)
     (record { samples = omega arith; times = ((omega arith, omega arith), tt); moov = omega arith })
 
 too_long : (l : Without) → l.edits ≡ true → l.timing ≡ false → Valid (reduce l (one_track (edit ∷ []) long)) → ⊥
@@ -161,7 +156,7 @@ lasting = sample 0 (pos 0) ∷ sample (2 ^ 31) (pos 0) ∷ sample 0 (pos 0) ∷ 
 
 lasting_good : Valid (one_track [] lasting)
 lasting_good =
-    one_track_good [] lasting tt (sample_good 0 (pos 0) (omega arith) fits_32, (sample_good (2 ^ 31) (pos 0) (omega arith) fits_32, (sample_good 0 (pos 0) (omega arith) fits_32, tt))) (omega arith)
+    one_track_good [] lasting tt (sample_good 0 (pos 0) (omega arith) fits_0, (sample_good (2 ^ 31) (pos 0) (omega arith) fits_0, (sample_good 0 (pos 0) (omega arith) fits_0, tt))) (omega arith)
     (record { samples = omega arith; times = ((omega arith, omega arith), tt); moov = omega arith })
 
 longer : (l : Without) → l.ends ≡ true → l.timing ≡ false → Valid (reduce l (one_track [] lasting)) → ⊥

@@ -11,7 +11,7 @@ use Rattle.mp4_content.specs.format.BitRates.{esds_left, inner_box_left, wave_le
 use Rattle.mp4_content.specs.format.Reduced.{plain_picture, is_picture}
 use Rattle.mp4_content.specs.format.Zeros.{zeroed}
 use Rattle.mp4_content.proofs.FirstBoxes.{tiles_short}
-use Rattle.mp4_content.proofs.RatesAtEnd.{ends_so, ends_short, shorter_stop}
+use Rattle.mp4_content.proofs.RatesAtEnd.{ends_so, ends_short, shorter_stop, taken_long}
 use Rattle.mp4_content.proofs.RatesPlaces.{esds_length}
 use Rattle.mp4_content.proofs.RatesShort.{boxes_no_longer, wave_short}
 use Rattle.mp4_content.proofs.Zeroed.{zeroed_length}
@@ -155,9 +155,6 @@ sound_twice payload =
 
 -- ---- any other
 
-front_shorter : (payload : List ℕ) → ends_in_rates payload ≡ true → length (take (length payload - 20) payload) + 20 ≡ length payload
-front_shorter payload e = let long = (ends_so payload e).0 in omega (arith, long, length-take-le (length payload - 20) payload (omega (arith, long)))
-
 no_end_by : (v : Bool) (payload front : List ℕ) → ends_in_rates payload ≡ v → (v ≡ true → ends_in_rates front ≡ false) → ends_in_rates (if v then front else payload) ≡ false
 no_end_by true payload front e f = f refl
 no_end_by false payload front e f = e
@@ -166,7 +163,7 @@ no_end : (n : ℕ) (payload : List ℕ) → length payload ≤ n → ends_in_rat
 no_end zero payload le = ends_short payload (omega (arith, le))
 no_end (suc n) payload le =
     let front = take (length payload - 20) payload in
-    no_end_by (ends_in_rates payload) payload (shorter_by n front) refl (λ e. let less = front_shorter payload e in no_end n front (omega (arith, less, le)))
+    no_end_by (ends_in_rates payload) payload (shorter_by n front) refl (λ e. let less = taken_long payload e in no_end n front (omega (arith, less, le)))
 
 other_twice : (payload : List ℕ) → other_left (other_left payload) ≡ other_left payload
 other_twice payload = shorter_stop (length (other_left payload)) (other_left payload) (no_end (length payload) payload (omega arith))

@@ -25,7 +25,7 @@ same_either_way m n false false e f = refl
 same_either_way m n true false e f = sym (eq-eqb n m (sym (eqb-true m n e))) ∙ f
 same_either_way m n false true e f = sym e ∙ eq-eqb m n (sym (eqb-true n m f))
 
-or_of : (p q : Bool) → cond p true q ≡ (q || (p || false))
+pub or_of : (p q : Bool) → cond p true q ≡ (q || (p || false))
 or_of true true = refl
 or_of true false = refl
 or_of false true = refl

@@ -1,51 +1,22 @@
 -- Keys in their order: each once, and none but those that were put there; they cover the map of each sample whose keys they are.
-use Rattle.std.proofs.Common.{◌≡◌, ℕ, ◌+◌, ◌^◌, ◌<◌, ◌≤◌, Bool, true, false, cond, ltb, List, [], ◌∷◌, length, Option, Some, None, refl, sym, ap, subst, ◌∙◌, arith, inl, inr}
-use Rattle.std.specs.Prelude.{slice_index, nat_lt}
+use Rattle.std.proofs.Common.{◌≡◌, ℕ, ◌<◌, ◌≤◌, Bool, true, false, cond, ltb, List, [], ◌∷◌, refl, sym, ap, subst, arith, inl, inr}
+use Rattle.std.specs.Prelude.{nat_lt}
 use Rattle.std.specs.List.{AllByRecursion, list_any, list_all}
-use Rattle.std.proofs.lemmas.Bool.{eqb-true, eq-eqb, ne_eqb, or_cases, or_left, or_from, and_parts, ltb-true, ltb-false, cases_lt}
-use Rattle.mp4_boxes.specs.format.Bytes.{field, AreBytes}
-use Rattle.mp4_boxes.proofs.Plain.{four_digits, four_items, true_false}
-use Rattle.mp4_tables.specs.format.Groups.{GroupKey, Groups, key_rank, parameter_rank, same_key, is_in_order}
-use Rattle.mp4_tables.proofs.NamedKeys.{IsAmong, IsNone, AreOnce, among_more, among_first}
-use Rattle.mp4_present.specs.format.Presentation.{IsParameter, IsGroup}
+use Rattle.std.proofs.lemmas.Bool.{eqb-true, eq-eqb, or_cases, or_left, and_parts, ltb-true, ltb-false, cases_lt}
+use Rattle.mp4_boxes.proofs.Plain.{true_false}
+use Rattle.mp4_tables.specs.format.Groups.{GroupKey, Groups, key_rank, same_key, is_in_order}
+use Rattle.mp4_tables.proofs.NamedKeys.{IsAmong, AreOnce, among_more, among_first}
+use Rattle.mp4_present.specs.format.Presentation.{IsGroup}
 use Rattle.mp4_plan.specs.format.TableLaws.{IsKey, KeysAreRanked}
 use Rattle.mp4_plan.specs.format.Normal.{put_key, in_key_order}
 use Rattle.mp4_plan.proofs.Maps.{AreAbove, KeysAbove, Covers, none, without, with_index}
+use Rattle.mp4_content.proofs.KeysOfBoth.{above_above, key_same, above_none, among_above, among_rest}
 
 -- ---- a key is known by its rank
 
 -- the key of a group is one
 pub key_of_group : (group : GroupKey × ℕ) → IsGroup group → IsKey group.0
 key_of_group group h = record { kind_length = h.kind_length; kind = h.kind; parameter = h.parameter }
-
--- types of one number are one type
-kind_same : (xs ys : List ℕ) → length xs ≡ 4 → length ys ≡ 4 → AreBytes xs → AreBytes ys → field xs 0 4 ≡ field ys 0 4 → xs ≡ ys
-kind_same xs ys e f h k same =
-    let d = four_digits (slice_index xs 0) (slice_index xs 1) (slice_index xs 2) (slice_index xs 3) (slice_index ys 0) (slice_index ys 1) (slice_index ys 2) (slice_index ys 3) (h 1) (h 2) (h 3) (k 1) (k 2) (k 3) same in
-    four_items xs e ∙ (λ i. d.0 i ∷ d.1 i ∷ d.2 i ∷ d.3 i ∷ []) ∙ sym (four_items ys f)
-
--- the rank of a parameter is below its bound
-parameter_small : (o : Option ℕ) → IsParameter o → parameter_rank o < 2 ^ 32 + 1
-parameter_small None h = omega arith
-parameter_small (Some n) h = omega arith
-
--- parameters of one rank are one
-parameter_same : (o p : Option ℕ) → parameter_rank o ≡ parameter_rank p → o ≡ p
-parameter_same None None e = refl
-parameter_same None (Some n) e = absurd (omega (arith, e))
-parameter_same (Some m) None e = absurd (omega (arith, e))
-parameter_same (Some m) (Some n) e = let same : m ≡ n = omega (arith, e) in ap (λ (k : ℕ). Some k) same
-
--- Keys of one rank are one key.
-pub key_same : (a b : GroupKey) → IsKey a → IsKey b → key_rank a ≡ key_rank b → a ≡ b
-key_same a b h k e =
-    let pa = parameter_small a.parameter h.parameter in
-    let pb = parameter_small b.parameter k.parameter in
-    let kinds : field a.kind 0 4 ≡ field b.kind 0 4 = omega (arith, e, pa, pb) in
-    let parameters : parameter_rank a.parameter ≡ parameter_rank b.parameter = omega (arith, e, pa, pb, kinds) in
-    let p = kind_same a.kind b.kind h.kind_length k.kind_length h.kind k.kind kinds in
-    let q = parameter_same a.parameter b.parameter parameters in
-    λ i. record { kind = p i; parameter = q i }
 
 pub keys_are_ranked : KeysAreRanked
 keys_are_ranked a b h k = (key_same a b h k, λ e. ap key_rank e)
@@ -67,11 +38,6 @@ put_above_by low key other keys false false l h k = (h.0, k)
 put_above : (low key : GroupKey) (keys : List GroupKey) → key_rank low < key_rank key → KeysAbove low keys → KeysAbove low (put_key key keys)
 put_above low key [] l h = (l, tt)
 put_above low key (other ∷ keys) l h = put_above_by low key other keys (same_key key other) (ltb (key_rank key) (key_rank other)) l h (put_above low key keys l h.1)
-
--- what is above a key is above those below it
-above_above : (low key : GroupKey) (keys : List GroupKey) → key_rank low < key_rank key → KeysAbove key keys → KeysAbove low keys
-above_above low key [] l h = tt
-above_above low key (other ∷ keys) l h = (omega (arith, l, h.0), above_above low key keys l h.1)
 
 put_rising_by : (key other : GroupKey) (keys : List GroupKey) (same less : Bool) → same_key key other ≡ same → ltb (key_rank key) (key_rank other) ≡ less → AreRising (other ∷ keys) → AreRising (put_key key keys)
     → AreRising (cond same (other ∷ keys) (cond less (key ∷ other ∷ keys) (other ∷ put_key key keys)))
@@ -144,32 +110,12 @@ pub order_has : (keys : List GroupKey) → AllByRecursion (IsAmong (in_key_order
 order_has [] = tt
 order_has (key ∷ keys) = (put_there key (in_key_order keys), all_stay key (in_key_order keys) keys (order_has keys))
 
--- a key is none of those above it
-above_none : (key : GroupKey) (keys : List GroupKey) → KeysAbove key keys → IsNone keys key
-above_none key [] h = refl
-above_none key (other ∷ keys) h = or_from (same_key key other) (list_any (same_key key) keys) (ne_eqb (key_rank key) (key_rank other) (λ e. omega (arith, h.0, e))) (above_none key keys h.1)
-
 -- Keys that rise are each there once.
 pub rising_once : (keys : List GroupKey) → AreRising keys → AreOnce keys
 rising_once [] h = tt
 rising_once (key ∷ keys) h = (above_none key keys h.0, rising_once keys h.1)
 
 -- ---- maps that are covered
-
--- A key among some is above what all of them are above.
-pub among_above : (key x : GroupKey) (keys : List GroupKey) → KeysAbove key keys → IsAmong keys x → key_rank key < key_rank x
-among_above key x [] h a = absurd (cc)
-among_above key x (other ∷ keys) h a = elim (or_cases (same_key x other) (list_any (same_key x) keys) a) [
-  | inl s ↦ omega (arith, h.0, eqb-true (key_rank x) (key_rank other) s)
-  | inr r ↦ among_above key x keys h.1 r
-]
-
--- A key of another rank than the first is among the rest.
-pub among_rest : (key x : GroupKey) (keys : List GroupKey) → (key_rank x ≡ key_rank key → ⊥) → IsAmong (key ∷ keys) x → IsAmong keys x
-among_rest key x keys ne a = elim (or_cases (same_key x key) (list_any (same_key x) keys) a) [
-  | inl s ↦ absurd (ne (eqb-true (key_rank x) (key_rank key) s))
-  | inr r ↦ r
-]
 
 -- so is each key of a map
 rest_among : (key : GroupKey) (keys : List GroupKey) (groups : Groups) → AreAbove key groups → AllByRecursion (λ (group : GroupKey × ℕ). IsAmong (key ∷ keys) group.0) groups → AllByRecursion (λ (group : GroupKey × ℕ). IsAmong keys group.0) groups

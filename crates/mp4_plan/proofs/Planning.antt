@@ -23,11 +23,11 @@ use Rattle.mp4_plan.specs.format.Held.{rooms}
 use Rattle.mp4_plan.specs.words.OwnRooms.{own_rooms}
 use Rattle.mp4_plan.proofs.ComeAt.{come_at, come_with, come_more, set_same}
 use Rattle.mp4_content.proofs.ReducedTaken.{less_length}
-use Rattle.mp4_content.proofs.SamplesTaken.{as_many}
 use Rattle.mp4_content.proofs.AtPlaces.{taken_next}
 use Rattle.mp4_present.proofs.Lengths.{got}
 use Rattle.mp4_tables.proofs.GroupsKept.{all_set}
 use Rattle.mp4_tables.proofs.Sums.{sum_joined}
+use Rattle.mp4_content.proofs.EndsCompared.{samples_many}
 
 -- ---- walks that begin
 
@@ -87,7 +87,7 @@ one_marked m k walks walk h lt mark file tree o leaving =
     let t = get_some tree.movie.tracks k (omega (arith, lt, many)) in
     let info = get_some m.tracks k lt in
     let is = get_zip (IsInfoOf file tree) tree.movie.tracks m.tracks k t.0 info.0 o.tracks t.1 info.1 in
-    let long = is.samples ∙ sym (less_length (track_reduction leaving tree t.0) (track_samples tree t.0) ∙ as_many file tree t.0) in
+    let long = is.samples ∙ sym (less_length (track_reduction leaving tree t.0) (track_samples tree t.0) ∙ samples_many file tree t.0) in
     let all : map (left_samples leaving tree) (take (k + 1) tree.movie.tracks) ≡ map (left_samples leaving tree) (take k tree.movie.tracks) ++ left_samples leaving tree t.0 ∷ [] =
     ap (map (left_samples leaving tree)) (taken_next tree.movie.tracks k t.0 t.1) ∙ map-append (left_samples leaving tree) (take k tree.movie.tracks) (t.0 ∷ []) in
     subst (λ (ls : List (List SampleAt)). AreMarked (walks ++ walk ∷ []) ls) (sym all) (marked_behind walks (map (left_samples leaving tree) (take k tree.movie.tracks)) walk (left_samples leaving tree t.0) (h file tree o leaving) (mark info.0 info.1 ∙ ap (mark_of walk) long))
@@ -106,7 +106,7 @@ pub first_marked : (m : MovieSeen) (walk : Walk) (k : ℕ) → ((file : List ℕ
 first_marked m walk k comes lt mark file tree t o is =
     let info = get_some m.tracks k lt in
     let of = get_zip (IsInfoOf file tree) tree.movie.tracks m.tracks k t info.0 o.tracks is info.1 in
-    (track_samples tree t, comes file tree t o is, mark info.0 info.1 ∙ ap (mark_of walk) (of.samples ∙ sym (as_many file tree t)))
+    (track_samples tree t, comes file tree t o is, mark info.0 info.1 ∙ ap (mark_of walk) (of.samples ∙ sym (samples_many file tree t)))
 
 -- ---- the walk of one track
 

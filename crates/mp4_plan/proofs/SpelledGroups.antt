@@ -30,6 +30,7 @@ use Rattle.mp4_plan.proofs.WrittenGroups.{length-runs}
 use Rattle.mp4_plan.proofs.SpelledBoxes.{box_is, short_is}
 use Rattle.mp4_boxes.proofs.Among.{all_append}
 use Rattle.mp4_boxes.proofs.Each.{each_weaker as all_weaker}
+use Rattle.mp4_content.proofs.SamplesDiffer.{by_same}
 
 -- ---- one `sbgp`
 
@@ -115,16 +116,12 @@ size_within rows j (k ∷ keys) (suc i) key at lt =
 
 -- ---- keys of one rank
 
-index_by_rank : (a b : GroupKey) (groups : Groups) → key_rank a ≡ key_rank b → index_at a groups ≡ index_at b groups
-index_by_rank a b [] e = refl
-index_by_rank a b (group ∷ groups) e = let r = index_by_rank a b groups e in λ i. cond (e i == key_rank group.0) group.1 (r i)
-
 none_by_rank : (a b : GroupKey) (samples : List TimedSample) → key_rank a ≡ key_rank b → are_none a samples ≡ are_none b samples
 none_by_rank a b samples e = ap (list_all (λ index. index == 0)) (maps a b samples e)
   where
     maps : (a b : GroupKey) (samples : List TimedSample) → key_rank a ≡ key_rank b → map (λ (s : TimedSample). index_at a s.sample.groups) samples ≡ map (λ (s : TimedSample). index_at b s.sample.groups) samples
     maps a b [] e = refl
-    maps a b (s ∷ samples) e = let x = index_by_rank a b s.sample.groups e in let r = maps a b samples e in λ i. x i ∷ r i
+    maps a b (s ∷ samples) e = let x = by_same a b s.sample.groups e in let r = maps a b samples e in λ i. x i ∷ r i
 
 some_runs : (ns : List ℕ) → list_all (λ index. index == 0) ns ≡ false → 0 < length (longest_runs ns)
 some_runs [] e = absurd (cc)

@@ -26,7 +26,8 @@ use Rattle.mp4_plan.specs.words.PiecesComing.{coming_of}
 use Rattle.mp4_content.specs.words.TakenSamples.{AreTaken, IsNamed}
 use Rattle.mp4_plan.specs.words.UsedKeys.{AreApart}
 use Rattle.mp4_plan.proofs.Lefts.{IsLeft, left_count}
-use Rattle.mp4_content.proofs.SamplesTaken.{is_named, are_taken, turned, as_many}
+use Rattle.mp4_content.proofs.SamplesTaken.{is_named, are_taken, turned}
+use Rattle.mp4_content.proofs.EndsCompared.{samples_many}
 
 -- ---- samples
 
@@ -103,7 +104,7 @@ left_total file tree [] = refl
 left_total file tree (t ∷ trees) =
     let first = sum_by-cons (λ (left : List SampleAt). length left) (track_samples tree t) (map (track_samples tree) trees) in
     let more = left_total file tree trees in
-    let same = as_many file tree t in
+    let same = samples_many file tree t in
     omega (arith, first, more, same)
 
 -- and as are kept
@@ -116,7 +117,7 @@ kept_total file tree (t ∷ trees) (info ∷ infos) z =
     let left = sum_by-cons (λ (xs : List SampleAt). length xs) (track_samples tree t) (map (track_samples tree) trees) in
     let more = kept_total file tree trees infos z.1 in
     let own = z.0.samples in
-    let same = as_many file tree t in
+    let same = samples_many file tree t in
     omega (arith, kept, left, more, own, same)
 
 -- The samples that are kept of all tracks are those of the file, which are no more than the limit allows.

@@ -51,7 +51,7 @@ cut_same (x ∷ xs) bs (y ∷ ys) cs e n =
     let r = cut_same xs bs ys cs rest (omega (arith, n)) in
     ((λ i. same i ∷ r.0 i), r.1)
 
-lt_or_le : (n k : ℕ) → (n < k) ⊎ (k ≤ n)
+pub lt_or_le : (n k : ℕ) → (n < k) ⊎ (k ≤ n)
 lt_or_le n zero = inr (omega arith)
 lt_or_le zero (suc k) = inl (omega arith)
 lt_or_le (suc n) (suc k) = by (lt_or_le n k)

@@ -28,6 +28,7 @@ use Rattle.mp4_plan.proofs.TurnSteps.{turns_take_all}
 use Rattle.mp4_boxes.proofs.Plain.{get_some, some_is}
 use Rattle.mp4_plan.proofs.HandsTaken.{few_more}
 use Rattle.mp4_boxes.proofs.Among.{all_append}
+use Rattle.mp4_content.proofs.ReducedTaken.{as_many_taken}
 
 -- ---- how many are left
 
@@ -450,12 +451,6 @@ turn_less file infos s lefts comings info left t lt = by (is_over end next) refl
     by true e = less_over s n (option_map (λ (a : SampleAt). a.dts) next) t.few lt (λ z c f. some_or n (λ m. no_time next c ((t.moves m).1 z) f))
     by false e = less_on s n t.few (some_or n (λ m. true≢false (sym (t.moves m).0 ∙ e)))
 
-taken_many : (file : List ℕ) (keys : List GroupKey) (taken : List SampleAt) (samples : List TimedSample) → AreTaken file keys taken samples → length samples ≡ length taken
-taken_many file keys [] [] z = refl
-taken_many file keys [] (s ∷ samples) z = absurd z
-taken_many file keys (a ∷ taken) [] z = absurd z
-taken_many file keys (a ∷ taken) (s ∷ samples) z = ap suc (taken_many file keys taken samples z.1)
-
 one_bounded : (id m : ℕ) (samples : List TimedSample) → length samples ≤ m → AllByRecursion (λ (p : Piece). length p.samples ≤ m) (piece_if id samples) × (length (piece_if id samples) ≤ length samples)
 one_bounded id m [] le = (tt, omega arith)
 one_bounded id m (s ∷ samples) le = ((le, tt), omega arith)
@@ -502,7 +497,7 @@ pieces_few (suc fuel) most file infos s lefts comings less le h = by (nat_lt s.t
         let a = count_set lefts s.track left behind own.1 in
         let b = length-drop n left in
         let c = length-take-le n left size in
-        let d = taken_many file (keys_seen info.keys) (take n left) t.samples t.taken in
+        let d = as_many_taken file (keys_seen info.keys) (take n left) t.samples t.taken in
         let e : n + left_count (slice_set lefts s.track behind) ≡ left_count lefts = omega (arith, a, b, size) in
         let one = one_bounded info.id most t.samples (omega (arith, c, d, e, le)) in
         let many_one = one.1 in
@@ -521,7 +516,7 @@ turn_fits most file infos s lefts comings info left t h =
     let behind = pieces_from (turned s end n (slice_get (drop n left) 0)) t.later in
     let parts = all_parts (λ (p : Piece). length p.samples ≤ most) (piece_if info.id t.samples) behind (subst (λ l. AllByRecursion (λ (p : Piece). length p.samples ≤ most) l) t.pieces h) in
     let a = length-take-le n left (few_more (piece_from end) left) in
-    let b = taken_many file (keys_seen info.keys) (take n left) t.samples t.taken in
+    let b = as_many_taken file (keys_seen info.keys) (take n left) t.samples t.taken in
     let c = one_fits info.id t.samples parts.0 in
     (omega (arith, a, b, c), parts.1)
   where

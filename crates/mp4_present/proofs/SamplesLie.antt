@@ -77,7 +77,7 @@ pub all_whole : (file : List ℕ) (placed : List PlacedSample) → AllByRecursio
 all_whole file placed h = each_weaker (IsInFile (length file)) (λ (s : PlacedSample). length (bytes_at file s.at s.size) ≡ s.size) (λ s w. bytes_whole file s.at s.size w) placed h
 
 -- those from the place of the sample on
-there : (file : List ℕ) (at : ℤ) (size : ℕ) → IsTrue (lies_within (length file) at size) → range file (place_of at) size ≡ bytes_at file at size
+pub there : (file : List ℕ) (at : ℤ) (size : ℕ) → IsTrue (lies_within (length file) at size) → range file (place_of at) size ≡ bytes_at file at size
 there file (pos at) size h = refl
 there file (negsuc below) size h = absurd cc
 

@@ -158,7 +158,7 @@ keys_few file descriptions keys samples h =
     (each_value (IsOfTrack descriptions keys) (λ (s : Sample). AllByRecursion (λ (group : GroupKey × ℕ). IsAmong keys group.0) s.groups) (sample_of file) (λ s k. k.groups.named) samples h))
 
 -- no values come from no members
-nothing_mapped : {A B : Type 0} (f : A → B) (xs : List A) → map f xs ≡ [] → xs ≡ []
+pub nothing_mapped : {A B : Type 0} (f : A → B) (xs : List A) → map f xs ≡ [] → xs ≡ []
 nothing_mapped f [] e = refl
 nothing_mapped f (x ∷ xs) e = absurd (cc)
 

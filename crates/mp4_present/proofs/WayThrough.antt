@@ -79,7 +79,7 @@ ahead_at m t w (places.Fragment q) (hands.Fragment a) (hands.Fragment b) (places
 pub ahead : (m : MovieSeen) (t : TrackTree) (w : Walk) (a b : InHand) (p : Place) → InHandOf m w a → Follows a b → IsPlaceOf b p → (steps_to w.place ≤ steps_to p) × (way_through t w p ≡ way_through t w w.place)
 ahead m t w a b p h f i = ahead_at m t w w.place a b p h f i
 
-same_way : (t : TrackTree) (w : Walk) (p : Place) → way_through t (record w { place = p }) p ≡ way_through t w p
+pub same_way : (t : TrackTree) (w : Walk) (p : Place) → way_through t (record w { place = p }) p ≡ way_through t w p
 same_way t w (places.Tables p) = refl
 same_way t w (places.Fragment p) = refl
 

@@ -2,9 +2,10 @@ use Rattle.std.proofs.Common.{rules, refl, ◌≡◌, ◌+◌, List, ◌++◌, s
 use Rattle.std.proofs.lemmas.List.{append-nil}
 use Rattle.mp4_present.proofs.TrafTaken.{at_place}
 use Rattle.mp4_content.proofs.TracksCompared.{takes_nothing}
-use Rattle.mp4_content.proofs.FilesCompared.{if_ok, takes_all, first_part, second_part, both_parts, not_by, skipped_by, track_begun}
+use Rattle.mp4_content.proofs.FilesCompared.{takes_all, first_part, second_part, both_parts, not_by, skipped_by, track_begun}
 use Rattle.mp4_content.specs.declared.comparing.differences.Difference.{Difference}
 use Rattle.mp4_content.proofs.comparing.compare_tracks.Goals as goal
+use Rattle.mp4_content.proofs.FirstBoxes.{if_ok}
 
 pub returns-in_err-found-clause-handed : goal.returns-in_err-found-clause-handed
 returns-in_err-found-clause-handed g c =

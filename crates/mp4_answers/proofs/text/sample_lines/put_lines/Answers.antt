@@ -2,10 +2,11 @@ use Rattle.std.proofs.Common.{◌≡◌, ◌+◌, ◌^◌, ◌<◌, ◌++◌, �
 use Rattle.std.proofs.lemmas.Result.{err_from_is_err_and}
 use Rattle.mp4_present.specs.words.Carried.{waiting}
 use Rattle.mp4_answers.specs.format.Texts.{sample_at_line, sample_at_lines}
-use Rattle.mp4_answers.proofs.Going.{going_more, line_added, block_fails, all_lines_put, last_block_fails, none_left, one_fewer}
+use Rattle.mp4_answers.proofs.Going.{going_more, line_added, block_fails, all_lines_put, last_block_fails}
 use Rattle.mp4_present.proofs.WalkCopied.{on_ok}
 use Rattle.mp4_answers.proofs.Matched.{match_both}
 use Rattle.mp4_answers.proofs.text.sample_lines.put_lines.Goals as goal
+use Rattle.mp4_plan.proofs.PlannerSteps.{none_is, length_rest}
 
 pub returns-in_err-make_room-clause-lines : goal.returns-in_err-make_room-clause-lines
 returns-in_err-make_room-clause-lines g c =
@@ -23,7 +24,7 @@ loop-sample-preserved g c =
     let new = c.make_room.new in
     let line = sample_at_line c.args.form l.number c.in-Some.sample in
     let e = c.in_ok-make_room.ensures in
-    let fewer = one_fewer (rest l.samples) (rest c.next.new.self) c.in-Some.sample c.in-Some.ensures.given c.next.ensures.rest in
+    let fewer = length_rest (rest l.samples) (rest c.next.new.self) c.in-Some.sample c.in-Some.ensures.given c.next.ensures.rest in
     let following = λ (fits : c.args.number.now + length (rest c.args.samples.now) < 2 ^ 64). (
     let whole = i.number fits in let least = c.saturating_add.ensures in let same : c.saturating_add.result ≡ l.number + 1 = omega arith in same) in
     record {
@@ -40,7 +41,7 @@ pub returns-clause-lines : goal.returns-clause-lines
 returns-clause-lines g c =
     let rest = g.C.Samples.rest in
     let l = c.loop-sample in
-    let none = none_left (rest l.samples) c.in_default.ensures.given in
+    let none = none_is (rest l.samples) c.in_default.ensures.given in
     match_both _ _ c.carry.result
     (on_ok _ _ c.carry.result (λ lines fits. (lines fits, (let whole = rw none at l.invariant.number fits in omega (arith, whole))))
     (all_lines_put c.carry.result (c.args.number.now + length (rest c.args.samples.now) < 2 ^ 64) c.args.form g.met.K.Sink.takes_on c.args.sink.now l.sink c.carry.new.sink
