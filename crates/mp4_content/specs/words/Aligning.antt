@@ -89,8 +89,8 @@ pub record BothLie (file other : List ℕ) (count : ℕ) (xs ys : List SampleAt)
   pub lie_right : AllByRecursion (IsBelow (length other)) ys
 
 -- no more steps were taken than both sides may take
-abbrev pub BothWithin : {X Y : Type 0} → Store X → X → MovieSeen → TrackSide → Store Y → Y → MovieSeen
-    → TrackSide → ℕ → ℕ → Type 0
+abbrev pub BothWithin : {X Y : Type 0} → Store X → X → MovieSeen → TrackSide → Store Y → Y
+    → MovieSeen → TrackSide → ℕ → ℕ → Type 0
 BothWithin S a m left T b n right old new =
     WhereBothOpened (S.is_honest a) (S.file a) m (T.is_honest b) (T.file b) n
     (λ tree other. (t u : TrackTree) (p q : ℕ) → MayTake (S.file a) tree t left.walk p

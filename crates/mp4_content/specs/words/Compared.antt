@@ -175,8 +175,9 @@ pub record StandsIn {X : Type 0} (S : Store X) (store : X) (m : MovieSeen) (side
   pub shows : IsTrue (S.is_honest store) → Shows (S.file store) side.window
 
 -- over honest stores, of the samples that come on both sides, it is so
-abbrev pub BothCome : {X Y : Type 0} → Store X → X → MovieSeen → TrackSide → Store Y → Y → MovieSeen
-    → TrackSide → (FileTree → TrackTree → List SampleAt → FileTree → TrackTree → List SampleAt → Type 0)
+abbrev pub BothCome : {X Y : Type 0} → Store X → X → MovieSeen → TrackSide → Store Y → Y
+    → MovieSeen → TrackSide
+    → (FileTree → TrackTree → List SampleAt → FileTree → TrackTree → List SampleAt → Type 0)
     → Type 0
 BothCome S a m left T b n right P =
     WhereBothOpened (S.is_honest a) (S.file a) m (T.is_honest b) (T.file b) n
@@ -194,8 +195,9 @@ PairTaken by number file tree t m left xs file_right other u n right ys found = 
     × (found ≡ pair_differences by file file_right number x y)
 
 -- At Ok the first samples of both were taken, and what is answered are their differences.
-abbrev pub PairFound : {X Y V E : Type 0} → Pairing → ℕ → Store X → X → MovieSeen → TrackSide → TrackSide
-    → Store Y → Y → MovieSeen → TrackSide → TrackSide → (V → List Difference) → Result V E → Type 0
+abbrev pub PairFound : {X Y V E : Type 0} → Pairing → ℕ → Store X → X → MovieSeen → TrackSide
+    → TrackSide → Store Y → Y → MovieSeen → TrackSide → TrackSide → (V → List Difference)
+    → Result V E → Type 0
 PairFound by number S a m left left_after T b n right right_after items result =
     BothCome S a m left T b n right (λ tree t xs other u ys. IfOk result (λ found.
     PairTaken by number (S.file a) tree t m left_after xs (T.file b) other u n right_after ys
@@ -208,8 +210,8 @@ WhereBothLie S a m left T b n right P = BothCome S a m left T b n right
     (λ tree t xs other u ys. LieIn (S.file a) xs → LieIn (T.file b) ys → P)
 
 -- At Ok both sides take on what steps are left; at Err no more were taken than both may take.
-abbrev pub BothWork : {X Y T E : Type 0} → Store X → X → MovieSeen → TrackSide → TrackSide → Store Y → Y
-    → MovieSeen → TrackSide → TrackSide → Result T E → ℕ → ℕ → Type 0
+abbrev pub BothWork : {X Y T E : Type 0} → Store X → X → MovieSeen → TrackSide → TrackSide
+    → Store Y → Y → MovieSeen → TrackSide → TrackSide → Result T E → ℕ → ℕ → Type 0
 BothWork S a m left left_after T b n right right_after result old new =
     WhereBothOpened (S.is_honest a) (S.file a) m (T.is_honest b) (T.file b) n
     (λ tree other. (t u : TrackTree) (p q : ℕ) → MayTake (S.file a) tree t left.walk p
