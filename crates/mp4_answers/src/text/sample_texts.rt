@@ -66,6 +66,7 @@ fn in_order(keys: &Keys) -> Keys
 impl SampleStyle {
     ghost use Rattle.std.specs.Prelude.{◌≡◌};
     ghost use Rattle.mp4_tables.specs.words.Keys.{key_place, key_seen, keys_seen};
+    ghost use Rattle.mp4_content.specs.words.ComingLess.{cto_left, lasts_left};
     ghost use Rattle.mp4_content.specs.words.Differing.{index_in};
     ghost use Rattle.mp4_answers.specs.words.ToldSamples.{IsStyle};
 
@@ -83,6 +84,20 @@ impl SampleStyle {
             keys,
             order,
         }
+    }
+
+    // How long a sample lasts.
+    fn duration(&self, sample: &SampleAt) -> u32
+        ensures { result ≡ lasts_left self.now.reduction sample.now.number sample.now.duration }
+    {
+        self.reduction.duration(sample.number, sample.duration)
+    }
+
+    // Its composition offset.
+    fn offset(&self, sample: &SampleAt) -> i64
+        ensures { result ≡ cto_left self.now.reduction sample.now.cto }
+    {
+        self.reduction.offset(sample.cto)
     }
 
     // The index of a sample at a key, 0 for none.
@@ -216,10 +231,9 @@ pub(crate) fn write_sample(
     ensures written { drop result text.new
         ≡ told_line style.now digest.now sample.now ++ drop end text.old }
 {
-    let duration = style.reduction.duration(sample.number, sample.duration);
     let mut start = write_flags(text, end, style, sample, digest);
-    start = write_signed(text, start, style.reduction.offset(sample.cto));
+    start = write_signed(text, start, style.offset(sample));
     start = write_byte(text, start, b' ');
-    start = write_short_digits(text, start, duration);
+    start = write_short_digits(text, start, style.duration(sample));
     write_byte(text, start, b' ')
 }
