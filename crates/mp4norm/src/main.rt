@@ -18,7 +18,7 @@ mod running;
 mod shell;
 
 pub use mp4_answers::{
-    Failure, Form, Job, Line, Lines, Listing, Name, Side, Syntax, TimesAsked, VerdictStyle, Way,
+    Asked, Failure, Form, Job, Line, Lines, Listing, Name, Side, Syntax, VerdictStyle, Way,
     answer_laws, boxes, boxes_as, boxes_with_fields, check, check_counted, compare_files,
     count_named, extract, extract_counted, fault_line, laws, normalise, normalise_counted,
     normalise_reduced, perform, print, put_lines, put_verdict, samples, samples_as,
@@ -29,7 +29,7 @@ use mp4_boxes::{Refusal, Steps};
 use mp4_store::{IoSink, Sink};
 use running::ended;
 pub use shell::action::{
-    Action, CommandFault, Comparison, Finding, Freeing, Input, Order, SumCheck, Target, Telling,
+    Action, CommandFault, ComparedInputs, Finding, Freeing, Input, Order, SumCheck, Target, Telling,
 };
 use shell::check_files::{Manner, check_all};
 pub use shell::command_line::action;

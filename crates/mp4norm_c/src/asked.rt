@@ -2,7 +2,7 @@
 ghost use Rattle.std.specs.Prelude.{◌≡◌, ◌<◌};
 ghost use Rattle.mp4norm_c.specs.format.Exports.{asked_of, comparison_asked, first_asked, form_of, has_flag, listing_of, syntax_of, without_of};
 
-use mp4_answers::{TimesAsked, Form, Lines, Listing, Syntax};
+use mp4_answers::{Asked, Form, Lines, Listing, Syntax};
 use mp4_content::{Without, Word};
 
 /// What is asked of a comparison.
@@ -86,25 +86,25 @@ fn listing_of(number: u32, limit: u32, syntax: Option<Syntax>) -> Option<Listing
 }
 
 // What is asked of a comparison; none where a part of it is not known.
-fn asked_of(leaving: Option<Without>, listing: Option<Listing>) -> Option<TimesAsked>
+fn asked_of(leaving: Option<Without>, listing: Option<Listing>) -> Option<Asked>
     ensures { result ≡ asked_of leaving listing }
 {
     match (leaving, listing) {
-        (Some(leaving), Some(listing)) => Some(TimesAsked { leaving, listing }),
+        (Some(leaving), Some(listing)) => Some(Asked { leaving, listing }),
         _ => None,
     }
 }
 
 /// What is asked of a comparison that is told of by the first difference, as a line; none where a
 /// flag is not known.
-pub(crate) fn first_asked(flags: u32) -> Option<TimesAsked>
+pub(crate) fn first_asked(flags: u32) -> Option<Asked>
     ensures { result ≡ first_asked flags }
 {
     asked_of(without_of(flags), Some(Listing::First(Syntax::Text)))
 }
 
 /// What these numbers ask of a comparison; none where one of them is not known.
-pub(crate) fn comparison_asked(comparison: Comparison) -> Option<TimesAsked>
+pub(crate) fn comparison_asked(comparison: Comparison) -> Option<Asked>
     ensures { result ≡ comparison_asked comparison }
 {
     let syntax = syntax_of(comparison.syntax);

@@ -7,7 +7,7 @@ ghost use Rattle.mp4norm_c.specs.words.Comparing.{RefusesTwo, failure_told, side
 
 use crate::answer::{Answer, of_fault, plain};
 use crate::window::WindowSink;
-use mp4_answers::{TimesAsked, Failure, Side, compare_files};
+use mp4_answers::{Asked, Failure, Side, compare_files};
 use mp4_boxes::{Refusal, Steps};
 use mp4_store::{MemSink, MemStore};
 use std::alloc::Global;
@@ -18,7 +18,7 @@ use std::sync::ledger::{Blank, Ledger};
 // ledgers, for nobody.
 fn compared<L: Ledger, M: Ledger>(
     alloc: Global,
-    asked: TimesAsked,
+    asked: Asked,
     file: &[u8],
     other: &[u8],
     text: &mut MemSink,
@@ -81,7 +81,7 @@ fn put_window(text: &[u8], from: u64, out: &mut [u8]) -> u64
 /// that was asked for is unknown, it says so.
 pub(crate) fn answer_compare(
     alloc: Global,
-    asked: Option<TimesAsked>,
+    asked: Option<Asked>,
     file: &[u8],
     other: &[u8],
     from: u64,

@@ -76,7 +76,7 @@ fn say_part(text: &mut Vec<u8>, part: Part) -> Result<(), AllocError>
 {
     match part {
         Part::Byte(number, _) => say_counted(text, ",\"byte\",", number, ""),
-        Part::DifferenceKind => say_word(text, "type"),
+        Part::Kind => say_word(text, "type"),
         Part::Length => say_word(text, "bytes"),
         Part::SegmentDuration => say_word(text, "segment duration"),
         Part::MediaTime => say_word(text, "media time"),
@@ -148,7 +148,7 @@ fn say_json_value(text: &mut Vec<u8>, value: Value, digits: u8) -> Result<(), Al
     match value {
         Value::Number(_) if digits == 0 => say_value(text, value, digits),
         Value::Signed(_) => say_value(text, value, digits),
-        Value::DifferenceKind(kind) => say_type_string(text, kind),
+        Value::Kind(kind) => say_type_string(text, kind),
         _ => {
             say(text, "\"")?;
             say_value(text, value, digits)?;
