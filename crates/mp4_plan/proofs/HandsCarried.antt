@@ -1,5 +1,5 @@
 -- The bytes of samples in hand, taken along stretch by stretch.
-use Rattle.std.proofs.Common.{◌≡◌, ℕ, ◌+◌, ◌-◌, ◌≤◌, List, [], ◌∷◌, ◌++◌, length, take, drop, refl, sym, ap, ◌∙◌, append_assoc, length-append, arith, subst}
+use Rattle.std.proofs.Common.{◌≡◌, ℕ, ◌+◌, ◌-◌, ◌≤◌, List, [], ◌++◌, length, take, drop, refl, sym, ap, ◌∙◌, append_assoc, length-append, arith, subst}
 use Rattle.std.specs.List.{AllByRecursion}
 use Rattle.std.proofs.lemmas.Grind.{flat_map-append}
 use Rattle.std.proofs.lemmas.List.{take-append-drop, length-take}
@@ -14,14 +14,8 @@ use Rattle.mp4_present.proofs.Carrying.{BytesGoOn-nothing, BytesGoOn-then, Bytes
 use Rattle.mp4_present.proofs.Hands.{bytes_of_two}
 use Rattle.mp4_plan.specs.words.HandsFed.{BytesCarried, sizes_of}
 use Rattle.mp4_plan.specs.declared.carrying.Load.{Load}
-use Rattle.mp4_present.proofs.HandSizes.{far, below_far, joined_size}
+use Rattle.mp4_present.proofs.HandSizes.{joined_size}
 use Rattle.mp4_tables.proofs.Sums.{sum_joined as sum-append}
-
--- ---- sizes
-
-unfolding far
-below_far [] n le = tt
-below_far (s ∷ samples) n le = (omega (arith, le), below_far samples n (omega (arith, le)))
 
 -- ---- bytes
 

@@ -1,22 +1,32 @@
 -- Keys in their order: each once, and none but those that were put there; they cover the map of each sample whose keys they are.
-use Rattle.std.proofs.Common.{◌≡◌, ℕ, ◌<◌, ◌≤◌, Bool, true, false, cond, ltb, List, [], ◌∷◌, refl, sym, ap, subst, arith, inl, inr}
-use Rattle.std.specs.Prelude.{nat_lt}
+use Rattle.std.proofs.Common.{◌≡◌, ℕ, ◌^◌, ◌<◌, Option, None, Some, ◌≤◌, Bool, true, false, cond, ltb, List, [], ◌∷◌, refl, sym, ap, subst, arith, inl, inr}
+use Rattle.std.specs.Prelude.{nat_lt, IfSome}
 use Rattle.std.specs.List.{AllByRecursion, list_any, list_all}
 use Rattle.std.proofs.lemmas.Bool.{eqb-true, eq-eqb, or_cases, or_left, and_parts, ltb-true, ltb-false, cases_lt}
 use Rattle.mp4_boxes.proofs.Plain.{true_false}
 use Rattle.mp4_tables.specs.format.Groups.{GroupKey, Groups, key_rank, same_key, is_in_order}
 use Rattle.mp4_tables.proofs.NamedKeys.{IsAmong, AreOnce, among_more, among_first}
-use Rattle.mp4_present.specs.format.Presentation.{IsGroup}
+use Rattle.mp4_present.specs.format.Presentation.{IsGroup, IsParameter}
 use Rattle.mp4_plan.specs.format.TableLaws.{IsKey, KeysAreRanked}
 use Rattle.mp4_plan.specs.format.Normal.{put_key, in_key_order}
 use Rattle.mp4_plan.proofs.Maps.{AreAbove, KeysAbove, Covers, none, without, with_index}
-use Rattle.mp4_content.proofs.KeysOfBoth.{above_above, key_same, above_none, among_above, among_rest}
+use Rattle.mp4_content.proofs.KeysOfBoth.{above_above, key_same as one_key, above_none, among_above, among_rest}
 
 -- ---- a key is known by its rank
 
 -- the key of a group is one
 pub key_of_group : (group : GroupKey × ℕ) → IsGroup group → IsKey group.0
 key_of_group group h = record { kind_length = h.kind_length; kind = h.kind; parameter = h.parameter }
+
+parameter_is : (o : Option ℕ) → IsParameter o → IfSome o (λ n. n < 2 ^ 32)
+parameter_is None h = tt
+parameter_is (Some n) h = h
+
+-- Keys of one rank are one key.
+pub key_same : (a b : GroupKey) → IsKey a → IsKey b → key_rank a ≡ key_rank b → a ≡ b
+key_same a b h k e =
+    one_key a b (record { kind_length = h.kind_length; kind = h.kind; parameter = parameter_is a.parameter h.parameter })
+    (record { kind_length = k.kind_length; kind = k.kind; parameter = parameter_is b.parameter k.parameter }) e
 
 pub keys_are_ranked : KeysAreRanked
 keys_are_ranked a b h k = (key_same a b h k, λ e. ap key_rank e)

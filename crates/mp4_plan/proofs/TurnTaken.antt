@@ -56,9 +56,6 @@ prefix_few p (x ∷ xs) = by (p x) (prefix_few p xs)
     by true h = omega (arith, h)
     by false h = omega arith
 
-unfolding more_of
-few_more p xs = prefix_few _ xs
-
 -- So many fewer are left behind it.
 pub count_behind : (lefts : List (List SampleAt)) (k n : ℕ) (left : List SampleAt) → slice_get lefts k ≡ Some left → n ≤ length left → left_count lefts - n ≡ left_count (slice_set lefts k (drop n left))
 count_behind lefts k n left e le =

@@ -17,10 +17,10 @@ use Rattle.mp4_content.specs.words.TakenSamples.{AreTaken}
 use Rattle.mp4_plan.specs.words.UsedKeys.{IsKeyAt, used_from}
 use Rattle.mp4_plan.proofs.Maps.{KeysAbove}
 use Rattle.mp4_plan.specs.format.TableLaws.{IsKey}
-use Rattle.mp4_plan.proofs.KeyOrder.{AreRising, order_rises, order_has, order_each}
+use Rattle.mp4_plan.proofs.KeyOrder.{key_same, AreRising, order_rises, order_has, order_each}
 use Rattle.mp4_plan.proofs.NextKeys.{has_at, key_behind}
 use Rattle.mp4_boxes.proofs.Plain.{true_false}
-use Rattle.mp4_content.proofs.KeysOfBoth.{key_same, among_above, among_rest}
+use Rattle.mp4_content.proofs.KeysOfBoth.{among_above, among_rest}
 
 -- ---- lists of keys that rise
 
@@ -102,8 +102,6 @@ indexes_are file keys j key (a ∷ taken) (s ∷ samples) z e lt =
     λ i. one i ∷ others i
 
 -- ---- used keys are named by samples, and named ones are used
-
-]
 
 among_behind : (xs ys : List GroupKey) (key : GroupKey) → IsAmong ys key → IsAmong (xs ++ ys) key
 among_behind [] ys key h = h
