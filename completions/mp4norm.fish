@@ -50,7 +50,7 @@ complete -c mp4norm -n '__fish_seen_subcommand_from normalise normalize compare 
 complete -c mp4norm -n '__fish_seen_subcommand_from boxes' -l fields -d 'Show the fields of each box'
 complete -c mp4norm -n '__fish_seen_subcommand_from boxes' -l rows -x -d 'How many rows of a box to show'
 complete -c mp4norm -n '__fish_seen_subcommand_from compare' -l all -d 'List all differences'
-complete -c mp4norm -n '__fish_seen_subcommand_from compare' -l align -d 'The same, and how tracks lie beside each other'
+complete -c mp4norm -n '__fish_seen_subcommand_from compare' -l align -d 'List all differences, and first how tracks lie beside each other'
 complete -c mp4norm -n '__fish_seen_subcommand_from compare' -l limit -x -d 'How many differences to list'
 complete -c mp4norm -n '__fish_seen_subcommand_from check sum' -l zero -d 'End lines with a zero byte'
 complete -c mp4norm -n '__fish_seen_subcommand_from sum' -l no-header -d 'Print no line before all others'

@@ -173,6 +173,8 @@ def of_two_files() -> Iterator:
     yield case('without', f'{compare} --without times,groups', both, 5, put=DIFFERENCE)
     yield case('all', f'{compare} --all', both, 5, put=DIFFERENCE + last)
     yield case('all as JSON', f'{compare} --all --json --explain', both, 5, put=parsed)
+    lies = b'track 1: sample 3 of A (0.080 s) | sample 3 of B (0.080 s)\n'
+    yield case('aligned', f'{compare} --align', both, 5, put=lies + DIFFERENCE + last)
     yield case('the same as JSON', f'{compare} --all --json', same,
                put=objects.last([], []).encode() + b'\n')
     yield case('cut', 'compare a.mp4 cut.mp4 --explain', {'a.mp4': PLAIN, 'cut.mp4': CUT}, 1,

@@ -104,7 +104,7 @@ if (open.compare && lib.version) {
     const changed = Uint8Array.from(copy);
     changed[changed.length - 1] ^= 1;
     const [apart] = lib.compare(copy, changed, 0, 9, true).aligned;
-    same('aligned', [apart.track, apart.front, apart.end, apart.a.samples, apart.b.time], [1, 2, 0, 1, 1024]);
+    same('aligned', [apart.track, apart.front, apart.end, apart.a.samples, apart.b.decode_time], [1, 2, 0, 1, 1024]);
     same('not aligned', lib.compare(copy, changed).aligned, []);
     a.close();
     b.close();

@@ -175,7 +175,7 @@ static struct call any_call(void) {
     call.track = (uint32_t)(1 + below(3)), call.number = (uint32_t)below(below(8) ? 2 : 5);
     call.from = below(8) ? below(below(2) ? 1 : 600) : UINT64_MAX - below(9);
     call.room = call.which == SUM ? 32 : below(3) ? below(MOST_ROOM) : below(40);
-    call.how.words = call.words, call.how.listing = (uint32_t)below(below(8) ? 2 : 4);
+    call.how.words = call.words, call.how.listing = (uint32_t)below(below(8) ? 3 : 5);
     call.how.limit = (uint32_t)below(20), call.how.syntax = (uint32_t)below(below(8) ? 2 : 4);
     call.refused = below(4) ? 0 : (long)(1 + below(40));
     return call;

@@ -108,8 +108,10 @@ enum mp4norm_syntax {
 enum mp4norm_listing {
     MP4NORM_FIRST = 0, /* the first difference alone */
     MP4NORM_ALL = 1,   /* all differences, and a line or an object that counts them, as --all */
-    MP4NORM_ALIGNED = 2 /* the same, and before it how tracks lie beside each other, as --align (since 0.3.0; a library of before
-                           answers MP4NORM_USAGE) */
+    /* The same, as --align: first how tracks lie beside each other, which `limit` does not count, and
+     * then samples only of tracks that have the same number of them in both files (since 0.3.0; a
+     * library of before answers MP4NORM_USAGE). */
+    MP4NORM_ALIGNED = 2
 };
 
 /* What is asked of a comparison. */

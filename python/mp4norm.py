@@ -37,9 +37,9 @@ from fractions import Fraction
 from typing import (Any, Callable, Dict, Iterable, List, Mapping, Optional, Sequence, Tuple, Type,
                     TypeVar, Union, cast)
 
-__all__ = ["Alignment", "Between", "Box", "Comparison", "Difference", "Edit", "Error", "Failed", "Movie", "Refused",
-           "Sample", "Track", "boxes", "check", "columns", "compare", "normalise", "program",
-           "samples", "show", "sum", "uses"]
+__all__ = ["Alignment", "Between", "Box", "Comparison", "Difference", "Edit", "Error", "Failed",
+           "Movie", "Refused", "Sample", "Track", "boxes", "check", "columns", "compare",
+           "normalise", "program", "samples", "show", "sum", "uses"]
 
 Name = Union[str, "os.PathLike[str]"]
 File = Union[Name, bytes]
@@ -210,13 +210,13 @@ class Between:
     behind those in front is decoded, in the track's timescale: 0 where there is none."""
 
     samples: int
-    time: int
+    decode_time: int
     timescale: int
 
     @property
-    def seconds(self) -> Fraction:
+    def decode_seconds(self) -> Fraction:
         """That time in seconds."""
-        return Fraction(self.time, self.timescale)
+        return Fraction(self.decode_time, self.timescale)
 
 
 @dataclass(frozen=True)
@@ -342,8 +342,8 @@ def compare(a: File, b: File, without: Words = (), limit: int = 100, foreign: bo
     """Compares what the two say, but for what these words leave out (docs/COMPARING.md has them),
     and lists at most `limit` of the differences. With `foreign` boxes that the profile refuses are
     read as free space; where something is lost with one, only with `lossy`. With `align` it says
-    too how tracks lie beside each other whose samples are not the same, and lists samples only of
-    tracks that have as many."""
+    too how tracks lie beside each other whose samples are not the same, and lists and counts
+    samples only of tracks that have the same number of them in both."""
     left, freed = _without(without), _foreign(foreign, lossy)
     text = None if freed else _compared(a, b, _flags(left), limit, align)
     if text is None:
@@ -351,10 +351,11 @@ def compare(a: File, b: File, without: Words = (), limit: int = 100, foreign: bo
         words = ["compare", "--json", listed, "--limit", str(limit), *left, *freed]
         text = _run(words, [a, b], (0, DIFFERENT))
     *told, last = _objects(text)
-    differences = [_made(Difference, {**it, "at": tuple(it["at"])}) for it in told if "at" in it]
+    differences = [_made(Difference, {**it, "at": tuple(it["at"])}) for it in told
+                   if it["kind"] != "aligned"]
     return Comparison(last["differences"] == 0, last["differences"], last["at_least"],
                       last["kinds"], last["without"], differences,
-                      [_aligned(it) for it in told if "at" not in it])
+                      [_aligned(it) for it in told if it["kind"] == "aligned"])
 
 
 def _aligned(told: Dict[str, Any]) -> Alignment:

@@ -215,7 +215,7 @@ class Answers(Case):
             'track 1: sample 3: byte 4 of 7: 62 | 78',
             '1 difference: bytes 1; no words make them the same')
         self.assertEqual(found.aligned, [Alignment(1, 2, 0, here, here, lines[0])])
-        self.assertEqual(here.seconds, Fraction(2, 25))
+        self.assertEqual(here.decode_seconds, Fraction(2, 25))
         self.assertEqual(str(found), '\n'.join(lines))
         found = mp4norm.compare('plain.mp4', 'later.mp4', limit=0, align=True)
         self.assertEqual((found.total, found.aligned, found.differences), (1, [], []))

@@ -121,8 +121,9 @@ export interface Difference {
 /** What stands in one file between samples that are the same. */
 export interface Between {
     samples: number;
-    /** When the sample behind those in front is decoded; 0 where there is none. */
-    time: Whole;
+    /** When the sample behind those in front is decoded, in parts of a second; 0 where there is none. */
+    decode_time: Whole;
+    /** How many parts a second has. */
     timescale: number;
 }
 
@@ -183,7 +184,7 @@ export interface Mp4File {
     extract(track: number): Uint8Array;
     /**
      * Compares two files, and lists at most `limit` differences, 100 where it isn't given. With `align`
-     * samples are listed only of tracks that have as many.
+     * samples are listed and counted only of tracks that have the same number of them in both.
      */
     compare(other: Mp4File, words?: Words, limit?: number, align?: boolean): Comparison;
     /** Gives back the file's room in the module's memory. Every later call throws. */

@@ -274,8 +274,8 @@ class Mp4File {
 
     /**
      * Compares what is left of two files, and lists at most `limit` of the differences. With `align`
-     * it says too how tracks lie beside each other whose samples are not the same, and lists samples
-     * only of tracks that have as many.
+     * it says too how tracks lie beside each other whose samples are not the same, and lists and
+     * counts samples only of tracks that have the same number of them in both.
      */
     compare(other, words, limit = 100, align = false) {
         if (!(other instanceof Mp4File)) {
@@ -426,8 +426,8 @@ class Machine {
             atLeast: last.at_least,
             kinds: last.kinds,
             words: last.without,
-            differences: told.filter(it => it.at),
-            aligned: told.filter(it => !it.at),
+            differences: told.filter(it => it.kind !== 'aligned'),
+            aligned: told.filter(it => it.kind === 'aligned'),
         };
     }
 

@@ -1,5 +1,5 @@
 -- Fields of boxes as they are read by place.
-use Rattle.std.proofs.Common.{◌≡◌, ℕ, suc, ◌+◌, ◌-◌, ◌*◌, ◌≤◌, ◌<◌, ◌++◌, ◌∙◌, List, ap, sym, arith, length, take, drop, min, Some, inl, inr, ◌⊎◌}
+use Rattle.std.proofs.Common.{◌≡◌, ℕ, zero, suc, ◌+◌, ◌-◌, ◌*◌, ◌≤◌, ◌<◌, ◌++◌, ◌∙◌, List, ap, sym, arith, length, take, drop, min, Some, inl, inr, ◌⊎◌}
 use Rattle.std.proofs.Math.Nat.{mul-le-mul_right, suc-mul}
 use Rattle.std.proofs.lemmas.List.{take_all, drop_all}
 use Rattle.mp4_store.specs.words.Device.{range}
@@ -9,8 +9,16 @@ use Rattle.mp4_answers.specs.format.FieldTexts.{before_fields, behind_fields, bo
 use Rattle.mp4_answers.specs.format.Layouts.{Field, Layout, Tail, fields_of, head_of, layout_of, tail_of, width_of}
 use Rattle.mp4_answers.proofs.HeadersUnder.{length_range}
 use Rattle.mp4_answers.proofs.StripWalks.{drop_range, take_range}
-use Rattle.mp4_plan.proofs.TrafsAhead.{lt_or_le}
 use Rattle.mp4_plan.proofs.Pushes.{behind}
+
+lt_or_le : (n k : ℕ) → (n < k) ⊎ (k ≤ n)
+lt_or_le n zero = inr (omega arith)
+lt_or_le zero (suc k) = inl (omega arith)
+lt_or_le (suc n) (suc k) = more (lt_or_le n k)
+  where
+    more : (n < k) ⊎ (k ≤ n) → (suc n < suc k) ⊎ (suc k ≤ suc n)
+    more (inl lt) = inl (omega (arith, lt))
+    more (inr le) = inr (omega (arith, le))
 
 -- ---- parts of a payload
 

@@ -30,7 +30,7 @@ use Rattle.mp4_content.specs.declared.reduced.Reduction.{Reduction}
 use Rattle.mp4_content.specs.declared.without.Without.{Without}
 use Rattle.mp4_present.specs.declared.track_info.TrackInfo.{TrackInfo}
 use Rattle.mp4_content.proofs.ComparisonGroups.{index_rank}
-use Rattle.mp4_present.proofs.SamplesLie.{IsInFile, bytes_whole, there}
+use Rattle.mp4_present.proofs.SamplesLie.{bytes_whole, there}
 use Rattle.mp4_content.proofs.SamplesReduced.{reduced_by}
 use Rattle.mp4_present.proofs.ValidSamples.{is_group, is_parameter}
 use Rattle.mp4_plan.specs.format.Normal.{in_key_order}
@@ -42,7 +42,7 @@ use Rattle.mp4_answers.specs.format.Text.{group_text, sample_text}
 use Rattle.mp4_answers.specs.format.Texts.{hex_digits, hex_text, space, line_feed}
 use Rattle.mp4_answers.specs.words.ToldSamples.{IsStyle, index_text, told_indexes, told_sample}
 use Rattle.mp4_answers.specs.declared.text.sample_texts.SampleStyle.{SampleStyle}
-use Rattle.mp4_content.proofs.SamplesDiffer.{index_there, opened_samples}
+use Rattle.mp4_content.proofs.SamplesDiffer.{IsSampleOf, index_there, opened_samples}
 
 -- ---- an index at a key, by its place among the keys of the track
 
@@ -124,10 +124,6 @@ groups_told false keys own order groups s e f g h = ap (told_indexes keys s) f �
 
 line_is : (sp d o fl de si di ix end : List ℕ) → sp ++ d ++ sp ++ o ++ (sp ++ fl ++ sp ++ de ++ sp ++ si ++ (sp ++ di ++ ix ++ end)) ≡ sp ++ d ++ sp ++ o ++ sp ++ fl ++ sp ++ de ++ sp ++ si ++ sp ++ di ++ ix ++ end
 line_is sp d o fl de si di ix end = simp append_assoc
-
--- a sample of a track with these keys lies in the file
-abbrev IsSampleOf : List ℕ → List GroupKey → PlacedSample → Type 0
-IsSampleOf file keys s = AreKeysOf keys s.groups × IsInFile (length file) s
 
 module _ (r : Reduction) (keys : Keys) (style : SampleStyle) (is : IsStyle r keys style) (file : List ℕ) (own : List GroupKey) (e : keys_seen keys ≡ own) where
   abbrev q : Reduction

@@ -86,8 +86,6 @@ pub leaf_here : (place : Place) (before : List Box) (b : Box) (leaf : Leaf) (f :
 leaf_here place before b leaf f s l n h =
     inr (inr (inr (inl (record { fault = record { place = place; before = before; b = b; stands = here place before b s; leaf = leaf; read = l; kind = h.kind; fails = h.fails; named = h.named }; no_table = n }))))
 
--- ---- refusals
-
 -- ---- with tables
 
 -- what is said apart from tables is said of the whole

@@ -16,8 +16,6 @@ use Rattle.mp4_head.specs.words.Leaves.{IsOpen}
 use Rattle.mp4_head.proofs.Opening.{open_readable, number_is}
 use Rattle.mp4_head.proofs.Walks.{Walk, walk_none, walk_more, walk_all, sound_more}
 
--- ---- `url `
-
 -- ---- `dref`
 
 -- the third number of a `dref` is its count

@@ -116,8 +116,6 @@ pub payload_this : (kind : List ℕ) (passed : List Box) (b : Box) → bytes_eq 
 payload_this kind [] b k none = rw k refl
 payload_this kind (c ∷ passed) b k none = payload_step kind c passed b (bytes_eq kind c.kind) refl none (λ n. payload_this kind passed b k n)
 
--- ---- all boxes of a type
-
 -- ---- leaves
 
 -- one more box that is sound

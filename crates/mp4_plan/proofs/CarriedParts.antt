@@ -28,5 +28,3 @@ parts_are head p sizes keys told rows noted front mdat bytes_there f s k r m =
 -- what was noted doesn't depend on what waits to be put
 unfoldable pub noted_with : (file : List ℕ) (tree : FileTree) (m : MovieSeen) (track count : ℕ) (samples : List SampleAt) (w : Writer) (c : OutBuffer) → IsNoted file tree m track count samples w → IsNoted file tree m track count samples (record w { carrier = c })
 noted_with file tree m track count samples w c h = record { t = h.t; walk = h.walk; is_walk = h.is_walk; reduction = h.reduction; comes = h.comes; none = h.none; next = h.next; rows = h.rows; stretches = h.stretches }
-
--- ---- the bytes of a piece

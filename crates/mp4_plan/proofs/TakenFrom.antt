@@ -29,8 +29,6 @@ use Rattle.mp4_plan.proofs.Lefts.{IsLeft, left_count}
 use Rattle.mp4_content.proofs.SamplesTaken.{is_named, are_taken, turned}
 use Rattle.mp4_content.proofs.EndsCompared.{samples_many}
 
--- ---- samples
-
 -- ---- keys
 
 none_same : (key : GroupKey) (keys : List GroupKey) → AllByRecursion (λ other. same_key key other ≡ false) keys → list_any (same_key key) keys ≡ false

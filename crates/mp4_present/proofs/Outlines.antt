@@ -19,8 +19,6 @@ use Rattle.mp4_present.proofs.TopJudged.{TopGoes, top_goes_none}
 use Rattle.mp4_present.proofs.TopLevel.{TopPassed, top_more, top_tiles}
 use Rattle.mp4_tables.proofs.GroupWalks.{kind_snoc, kind_snoc_other}
 
--- ---- boxes of one type, with one box more
-
 -- ---- the order of `moov` and `moof`
 
 here : (c b : Box) (bs : List Box) (u v : Bool) → bytes_eq (codes "moov") c.kind ≡ u → bytes_eq (codes "moof") c.kind ≡ v → of_kind (codes "moof") (c ∷ bs) ≡ []

@@ -21,8 +21,6 @@ use Rattle.mp4_present.proofs.PlainLists.{all_push}
 use Rattle.mp4_present.proofs.TracksBehind.{seen_after, track_more, grouped_more, times_more}
 use Rattle.mp4_boxes.proofs.Plain.{eq_other, map_some, not_is_true, some_is}
 
--- ---- lists
-
 -- ---- tracks of distinct IDs
 
 abbrev pub id_of : TrackTree → ℕ

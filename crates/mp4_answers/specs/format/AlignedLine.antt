@@ -22,21 +22,21 @@ time_text b = seconds_text b.time (max 1 b.timescale)
 -- ---- the line
 
 -- one sample, or several
-abbrev pub samples_of : ℕ → List ℕ
-samples_of many = if many == 1 then codes " sample of " else codes " samples of "
+abbrev pub noun_text : ℕ → List ℕ
+noun_text many = if many == 1 then codes " sample of " else codes " samples of "
 
 abbrev pub not_in : ℕ → List ℕ
 not_in many = if many == 1 then codes " is not in " else codes " are not in "
 
-abbrev pub count_text : List ℕ → ℕ → List ℕ
-count_text own many = decimal many ++ samples_of many ++ own
+abbrev pub own_text : List ℕ → ℕ → List ℕ
+own_text own many = decimal many ++ noun_text many ++ own
 
 abbrev pub behind_text : List ℕ → ℕ → ℕ → List ℕ
 behind_text other front many = codes " behind " ++ decimal front ++ not_in many ++ other
 
 -- samples of the one file, where the other has none
 abbrev pub only_text : List ℕ → List ℕ → ℕ → Between → List ℕ
-only_text own other front b = count_text own b.samples ++ behind_text other front b.samples
+only_text own other front b = own_text own b.samples ++ behind_text other front b.samples
     ++ time_text b
 
 -- the numbers of so many samples behind those in front
@@ -45,15 +45,15 @@ numbers_text front many = if many == 1 then codes "sample " ++ decimal (front + 
     else codes "samples " ++ decimal (front + 1) ++ codes " to " ++ decimal (front + many)
 
 -- samples of one file, where both have some
-abbrev pub some_text : List ℕ → ℕ → Between → List ℕ
-some_text own front b = numbers_text front b.samples ++ codes " of " ++ own ++ time_text b
+abbrev pub own_numbers_text : List ℕ → ℕ → Between → List ℕ
+own_numbers_text own front b = numbers_text front b.samples ++ codes " of " ++ own ++ time_text b
 
 -- A is the first file, B the second
 abbrev pub between_text : ℕ → Between → Between → List ℕ
 between_text front left right =
     if right.samples == 0 then only_text (codes "A") (codes "B") front left
     else (if left.samples == 0 then only_text (codes "B") (codes "A") front right
-    else some_text (codes "A") front left ++ codes " | " ++ some_text (codes "B") front right)
+    else own_numbers_text (codes "A") front left ++ codes " | " ++ own_numbers_text (codes "B") front right)
 
 abbrev pub alignment_text : Alignment → List ℕ
 alignment_text a = codes "track " ++ decimal a.track ++ codes ": "
@@ -64,12 +64,12 @@ alignment_line a = alignment_text a ++ line_feed
 
 -- ---- the object
 
-abbrev pub time_members : Between → List ℕ
-time_members b = codes ",\"time\":" ++ decimal b.time ++ codes ",\"timescale\":"
+abbrev pub number_members : Between → List ℕ
+number_members b = codes ",\"samples\":" ++ decimal b.samples ++ codes ",\"timescale\":"
     ++ decimal b.timescale
 
 abbrev pub between_object : Between → List ℕ
-between_object b = codes "{\"samples\":" ++ decimal b.samples ++ time_members b ++ codes "}"
+between_object b = codes "{\"decode_time\":" ++ decimal b.time ++ number_members b ++ codes "}"
 
 -- what stands between in both files
 abbrev pub side_members : Alignment → List ℕ

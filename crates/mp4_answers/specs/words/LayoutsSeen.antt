@@ -1,15 +1,15 @@
 -- The layouts of the code's table as those of the definition.
 use Rattle.std.specs.Prelude.{◌≤◌, List, length, map}
 use Rattle.mp4_answers.specs.format.Layouts.{Field, Layout, Tail, nothing, rows, kept}
-use Rattle.mp4_answers.specs.declared.layouts.LayoutField.{LayoutField as TableField}
+use Rattle.mp4_answers.specs.declared.layouts.LayoutField.{LayoutField}
 use Rattle.mp4_answers.specs.declared.layouts.Layout.{Layout as TableLayout}
 use Rattle.mp4_answers.specs.declared.layouts.Tail.{Tail as TableTail}
 use Rattle.mp4_answers.specs.declared.layouts.Tail.TheVariants as tails
 
-abbrev pub field_seen : TableField → Field
+abbrev pub field_seen : LayoutField → Field
 field_seen f = record { name = f.0.now; kind = f.1; short = f.2; long = f.3; flag = f.4 }
 
-abbrev pub fields_seen : List TableField → List Field
+abbrev pub fields_seen : List LayoutField → List Field
 fields_seen fields = map field_seen fields
 
 abbrev pub tail_seen : TableTail → Tail

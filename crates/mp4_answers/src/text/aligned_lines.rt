@@ -1,6 +1,6 @@
 //! How two tracks that are aligned lie beside each other, as a line or as an object of JSON.
 ghost use Rattle.std.specs.Prelude.{◌≡◌, ◌+◌, ◌<◌, ◌++◌, OnOk};
-ghost use Rattle.mp4_answers.specs.format.AlignedLine.{alignment_line, alignment_object, alignment_text, behind_text, between_object, between_text, count_text, not_in, numbers_text, only_text, same_members, samples_of, side_members, some_text, three_digits, time_members, time_text};
+ghost use Rattle.mp4_answers.specs.format.AlignedLine.{alignment_line, alignment_object, alignment_text, behind_text, between_object, between_text, not_in, noun_text, number_members, numbers_text, only_text, own_numbers_text, own_text, same_members, side_members, three_digits, time_text};
 
 use crate::text::difference_lines::{end_line, say, say_counted, say_number};
 use mp4_content::{Alignment, Between};
@@ -30,8 +30,8 @@ fn say_time(text: &mut Vec<u8>, between: Between) -> Result<(), AllocError>
 }
 
 // What stands between a number of samples and the file that has them.
-fn samples_of(many: u32) -> &'static str
-    ensures { result.now ≡ samples_of many }
+fn noun(many: u32) -> &'static str
+    ensures { result.now ≡ noun_text many }
 {
     if many == 1 {
         " sample of "
@@ -53,9 +53,9 @@ fn not_in(many: u32) -> &'static str
 
 // Adds how many samples a file has.
 fn say_count(text: &mut Vec<u8>, own: &str, many: u32) -> Result<(), AllocError>
-    ensures { OnOk result (text.new.items ≡ text.old.items ++ count_text own.now many) }
+    ensures { OnOk result (text.new.items ≡ text.old.items ++ own_text own.now many) }
 {
-    say_counted(text, "", u64::from(many), samples_of(many))?;
+    say_counted(text, "", u64::from(many), noun(many))?;
     say(text, own)
 }
 
@@ -97,7 +97,7 @@ fn say_numbers(text: &mut Vec<u8>, front: u32, many: u32) -> Result<(), AllocErr
 
 // Adds what samples one file has where both have some.
 fn say_some(text: &mut Vec<u8>, own: &str, front: u32, between: Between) -> Result<(), AllocError>
-    ensures { OnOk result (text.new.items ≡ text.old.items ++ some_text own.now front between) }
+    ensures { OnOk result (text.new.items ≡ text.old.items ++ own_numbers_text own.now front between) }
 {
     say_numbers(text, front, between.samples)?;
     say(text, " of ")?;
@@ -143,11 +143,12 @@ pub fn say_alignment(text: &mut Vec<u8>, alignment: Alignment) -> Result<(), All
     end_line(text)
 }
 
-// Adds when the first of some samples is decoded, in parts of a second.
-fn say_time_members(text: &mut Vec<u8>, between: Between) -> Result<(), AllocError>
-    ensures { OnOk result (text.new.items ≡ text.old.items ++ time_members between) }
+// Adds how many samples one file has between, and how many parts a second has there.
+fn say_number_members(text: &mut Vec<u8>, between: Between) -> Result<(), AllocError>
+    ensures { OnOk result (text.new.items ≡ text.old.items ++ number_members between) }
 {
-    say_counted(text, ",\"time\":", between.time, ",\"timescale\":")?;
+    let samples = u64::from(between.samples);
+    say_counted(text, ",\"samples\":", samples, ",\"timescale\":")?;
     say_number(text, u64::from(between.timescale))
 }
 
@@ -155,8 +156,8 @@ fn say_time_members(text: &mut Vec<u8>, between: Between) -> Result<(), AllocErr
 fn say_between_object(text: &mut Vec<u8>, between: Between) -> Result<(), AllocError>
     ensures { OnOk result (text.new.items ≡ text.old.items ++ between_object between) }
 {
-    say_counted(text, "{\"samples\":", u64::from(between.samples), "")?;
-    say_time_members(text, between)?;
+    say_counted(text, "{\"decode_time\":", between.time, "")?;
+    say_number_members(text, between)?;
     say(text, "}")
 }
 

@@ -77,7 +77,7 @@ const ALL: &str = "List all differences, and count them, in place of the first a
 
 const ALIGN: &str = "\
 The same, but say first how tracks lie beside each other whose samples are not the same, and list
-samples only of tracks that have as many";
+samples only of tracks that have the same number of them in both files";
 
 // A word that is there or not.
 fn flag<'a>(alloc: Global, name: &'a str, help: &'a str) -> Arg<'a> {

@@ -50,6 +50,8 @@ pub(crate) struct Report<'a> {
     // The file that the cause is about, where it is another than the one that was asked for.
     concern: Option<String>,
     progress: Option<Progress<'a>>,
+    // Whether it was told of two files that samples are not as many.
+    is_uneven: bool,
 }
 
 impl<'a> Report<'a> {
@@ -60,6 +62,7 @@ impl<'a> Report<'a> {
             cause: None,
             concern: None,
             progress: None,
+            is_uneven: false,
         }
     }
 
@@ -145,6 +148,16 @@ impl<'a> Report<'a> {
     /// An answer would have more bytes than it may.
     pub(crate) fn too_long(&mut self, most: u64) {
         self.cause = Some(Cause::TooLong(most));
+    }
+
+    /// It was told of two files that samples are not as many.
+    pub(crate) fn finds_uneven(&mut self) {
+        self.is_uneven = true;
+    }
+
+    /// Whether that was told.
+    pub(crate) fn is_uneven(&self) -> bool {
+        self.is_uneven
     }
 
     /// Whether it is asked for to say how far the job has come.

@@ -3,17 +3,21 @@ use crate::running::{KeptStore, comparison_status, is_of_file};
 use crate::shell::action::{ComparedInputs, Input, Telling};
 use crate::shell::file_names::push_shown;
 use crate::shell::foreign::{Opened, Told, lay_free};
-use crate::shell::reports::{NotedStream, Report};
+use crate::shell::reports::{NotedStream, Report, tells_more};
 use crate::shell::run_command::explain_refusal;
 use crate::shell::sources::{LaidSource, Source, open};
-use mp4_answers::commands::compare::{Asked, Failure, Side, compare_files};
+use mp4_answers::commands::compare::{Asked, Failure, Listing, Side, compare_files};
+use mp4_answers::jobs::Syntax;
 use mp4_answers::text::fault_text::fault_line;
 use mp4_boxes::{Refusal, Steps};
 use mp4_store::IoSink;
 use std::alloc::{AllocError, Global};
+use std::io;
 use std::io::Write;
 use std::process::ExitCode;
 use std::sync::ledger::Ledger;
+
+const ALIGN_HINT: &[u8] = b"hint: --align says which samples one file has alone\n";
 
 // What comes of a step over the file of this side.
 fn on_side<R>(step: Result<R, Refusal>, side: Side) -> Result<R, Failure> {
@@ -84,6 +88,44 @@ fn tell_cause(
     }
 }
 
+// The longest line that tells of one difference is shorter.
+const LONGEST: usize = 1_024;
+
+// Whether a line tells that two tracks have not as many samples.
+fn tells_counts(line: &[u8]) -> bool {
+    if line.len() > LONGEST {
+        return false;
+    }
+    for at in 0..line.len() {
+        if line[at..].starts_with(b": samples ") {
+            return true;
+        }
+    }
+    false
+}
+
+// A writer of what a comparison tells. It is noted where that is a number of samples.
+#[derive(Drop)]
+struct ToldStream<'a, 'r, W> {
+    out: NotedStream<'a, 'r, W>,
+}
+
+impl<'a, 'r, W: Write> Write for ToldStream<'a, 'r, W> {
+    // What the writer behind it holds, where that is known.
+    ghost contents = { λ told. W.contents told.out.out.now };
+
+    fn write(&mut self, piece: &[u8]) -> io::Result<usize> {
+        if tells_counts(piece) {
+            self.out.report.finds_uneven();
+        }
+        self.out.write(piece)
+    }
+
+    fn flush(&mut self) -> io::Result<()> {
+        self.out.flush()
+    }
+}
+
 // Compares two opened files.
 fn compared<L: Ledger, M: Ledger>(
     rt: &HostRuntime,
@@ -100,7 +142,9 @@ fn compared<L: Ledger, M: Ledger>(
         listing: asked.listing,
     };
     let out = &mut rt.stdout();
-    let mut sink = IoSink::new(NotedStream { out, report });
+    let mut sink = IoSink::new(ToldStream {
+        out: NotedStream { out, report },
+    });
     let (left, right) = (&mut first.source, &mut second.source);
     compare_files(rt.alloc(), left, right, looks, &mut sink, steps)
 }
@@ -126,6 +170,16 @@ fn answer_of<L: Ledger, M: Ledger>(
     answer
 }
 
+// Names the option that says which samples one file has alone, where the one difference that is
+// told is that they are not as many.
+fn hint(rt: &HostRuntime, asked: ComparedInputs, answer: &Result<bool, Failure>, report: &Report) {
+    let is_line = matches!(asked.listing, Listing::First(Syntax::Text));
+    let differ = matches!(answer, Ok(false));
+    if is_line && differ && report.is_uneven() && tells_more(rt, asked.telling) {
+        let _ = rt.stderr().write_all(ALIGN_HINT);
+    }
+}
+
 // Opens both, and compares them. What is wrong is explained where that is asked for.
 fn answer<L: Ledger, M: Ledger>(
     rt: &HostRuntime,
@@ -143,6 +197,7 @@ fn answer<L: Ledger, M: Ledger>(
     };
     let mut report = Report::new(telling);
     let answer = answer_of(rt, asked, &mut first, &mut second, &mut report, steps);
+    hint(rt, asked, &answer, &report);
     if let Err(failure) = &answer {
         let refusal = &failure.refusal;
         tell_cause(rt, asked, failure, &first.source, &second.source, &report);

@@ -134,16 +134,16 @@ boxes_job = option_map jobs.Boxes
 abbrev pub fields_job : ℕ → Option Syntax → Option Job
 fields_job rows = option_map (λ syntax. jobs.Fields syntax rows)
 
-abbrev pub lines_of : ℕ → Syntax → Bool → Lines
-lines_of limit syntax aligned = record { limit = limit; syntax = syntax; aligned = aligned }
+abbrev pub told_lines : ℕ → Syntax → Bool → Lines
+told_lines limit syntax aligned = record { limit = limit; syntax = syntax; aligned = aligned }
 
 -- How two files are told of that differ: by the first difference, or by all, of which at most so
 -- many are listed, where tracks are aligned or not; in this syntax.
 abbrev pub listing_of : ℕ → ℕ → Option Syntax → Option Listing
 listing_of number limit None = None
 listing_of number limit (Some syntax) = if number == 0 then Some (listings.First syntax)
-    else (if number == 1 then Some (listings.All (lines_of limit syntax false))
-    else (if number == 2 then Some (listings.All (lines_of limit syntax true)) else None))
+    else (if number == 1 then Some (listings.All (told_lines limit syntax false))
+    else (if number == 2 then Some (listings.All (told_lines limit syntax true)) else None))
 
 -- what is asked of a comparison, where all of it is known
 abbrev pub asked_of : Option Without → Option Listing → Option Asked
