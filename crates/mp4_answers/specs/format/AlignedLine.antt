@@ -45,15 +45,15 @@ numbers_text front many = if many == 1 then codes "sample " ++ decimal (front + 
     else codes "samples " ++ decimal (front + 1) ++ codes " to " ++ decimal (front + many)
 
 -- samples of one file, where both have some
-abbrev pub own_numbers_text : List ℕ → ℕ → Between → List ℕ
-own_numbers_text own front b = numbers_text front b.samples ++ codes " of " ++ own ++ time_text b
+abbrev pub own_stretch : List ℕ → ℕ → Between → List ℕ
+own_stretch own front b = numbers_text front b.samples ++ codes " of " ++ own ++ time_text b
 
 -- A is the first file, B the second
 abbrev pub between_text : ℕ → Between → Between → List ℕ
 between_text front left right =
     if right.samples == 0 then only_text (codes "A") (codes "B") front left
     else (if left.samples == 0 then only_text (codes "B") (codes "A") front right
-    else own_numbers_text (codes "A") front left ++ codes " | " ++ own_numbers_text (codes "B") front right)
+    else own_stretch (codes "A") front left ++ codes " | " ++ own_stretch (codes "B") front right)
 
 abbrev pub alignment_text : Alignment → List ℕ
 alignment_text a = codes "track " ++ decimal a.track ++ codes ": "

@@ -1,6 +1,6 @@
 //! How two tracks that are aligned lie beside each other, as a line or as an object of JSON.
 ghost use Rattle.std.specs.Prelude.{◌≡◌, ◌+◌, ◌<◌, ◌++◌, OnOk};
-ghost use Rattle.mp4_answers.specs.format.AlignedLine.{alignment_line, alignment_object, alignment_text, behind_text, between_object, between_text, not_in, noun_text, number_members, numbers_text, only_text, own_numbers_text, own_text, same_members, side_members, three_digits, time_text};
+ghost use Rattle.mp4_answers.specs.format.AlignedLine.{alignment_line, alignment_object, alignment_text, behind_text, between_object, between_text, not_in, noun_text, number_members, numbers_text, only_text, own_stretch, own_text, same_members, side_members, three_digits, time_text};
 
 use crate::text::difference_lines::{end_line, say, say_counted, say_number};
 use mp4_content::{Alignment, Between};
@@ -97,7 +97,7 @@ fn say_numbers(text: &mut Vec<u8>, front: u32, many: u32) -> Result<(), AllocErr
 
 // Adds what samples one file has where both have some.
 fn say_some(text: &mut Vec<u8>, own: &str, front: u32, between: Between) -> Result<(), AllocError>
-    ensures { OnOk result (text.new.items ≡ text.old.items ++ own_numbers_text own.now front between) }
+    ensures { OnOk result (text.new.items ≡ text.old.items ++ own_stretch own.now front between) }
 {
     say_numbers(text, front, between.samples)?;
     say(text, " of ")?;
