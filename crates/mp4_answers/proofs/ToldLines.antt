@@ -14,7 +14,7 @@ use Rattle.mp4_tables.specs.words.Keys.{keys_seen, key_place}
 use Rattle.mp4_tables.specs.words.Timed.{padded, indexes, place_of, sample_at, timed}
 use Rattle.mp4_tables.specs.declared.keys.Keys.{Keys}
 use Rattle.mp4_tables.specs.declared.sample.SampleAt.{SampleAt}
-use Rattle.mp4_tables.proofs.GroupMaps.{IsMap, order_test}
+use Rattle.mp4_tables.proofs.GroupMaps.{order_test}
 use Rattle.mp4_tables.proofs.NamedKeys.{IsAmong, IsNone, among_through, same_itself}
 use Rattle.mp4_tables.proofs.Placed as placed
 use Rattle.mp4_head.specs.format.Tree.{TrackTree}
@@ -42,7 +42,7 @@ use Rattle.mp4_answers.specs.format.Text.{group_text, sample_text}
 use Rattle.mp4_answers.specs.format.Texts.{hex_digits, hex_text, space, line_feed}
 use Rattle.mp4_answers.specs.words.ToldSamples.{IsStyle, index_text, told_indexes, told_sample}
 use Rattle.mp4_answers.specs.declared.text.sample_texts.SampleStyle.{SampleStyle}
-use Rattle.mp4_content.proofs.SamplesDiffer.{IsSampleOf, index_there, opened_samples}
+use Rattle.mp4_content.proofs.SamplesDiffer.{AreKeysOf, IsSampleOf, index_there, opened_samples}
 
 -- ---- an index at a key, by its place among the keys of the track
 
@@ -91,12 +91,6 @@ covered_text (maps.with_index {key} {index} {keys} {groups} some keys_above abov
     let own = ap (index_text key) (index_first key index groups) ∙ some_text key index some in
     let more = texts_past key index groups keys keys_above ∙ covered_text others in
     λ i. own i ++ more i
-
--- the keys of a track, and the map of a sample of it
-record AreKeysOf (keys : List GroupKey) (groups : Groups) : Type 0 where
-  pub are : AllByRecursion placed.IsKey keys
-  pub few : length keys ≤ 4
-  pub map : IsMap placed.IsIndex keys groups
 
 seen_at : (keys : Keys) (own order : List GroupKey) (groups : Groups) (s : SampleAt) → keys_seen keys ≡ own → s.groups ≡ indexes own groups → AreKeysOf own groups → told_indexes keys s order ≡ flat_map (text_at groups) order
 seen_at keys own [] groups s e g h = refl

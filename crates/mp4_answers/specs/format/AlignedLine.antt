@@ -64,12 +64,17 @@ alignment_line a = alignment_text a ++ line_feed
 
 -- ---- the object
 
-abbrev pub number_members : Between → List ℕ
-number_members b = codes ",\"samples\":" ++ decimal b.samples ++ codes ",\"timescale\":"
-    ++ decimal b.timescale
+abbrev pub time_member : Between → List ℕ
+time_member b = codes "{\"decode_time\":" ++ decimal b.time ++ codes ","
+
+abbrev pub samples_member : Between → List ℕ
+samples_member b = codes "\"samples\":" ++ decimal b.samples
+
+abbrev pub timescale_member : Between → List ℕ
+timescale_member b = codes ",\"timescale\":" ++ decimal b.timescale ++ codes "}"
 
 abbrev pub between_object : Between → List ℕ
-between_object b = codes "{\"decode_time\":" ++ decimal b.time ++ number_members b ++ codes "}"
+between_object b = time_member b ++ samples_member b ++ timescale_member b
 
 -- what stands between in both files
 abbrev pub side_members : Alignment → List ℕ

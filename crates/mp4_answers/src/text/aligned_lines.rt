@@ -1,6 +1,6 @@
 //! How two tracks that are aligned lie beside each other, as a line or as an object of JSON.
 ghost use Rattle.std.specs.Prelude.{◌≡◌, ◌+◌, ◌<◌, ◌++◌, OnOk};
-ghost use Rattle.mp4_answers.specs.format.AlignedLine.{alignment_line, alignment_object, alignment_text, behind_text, between_object, between_text, not_in, noun_text, number_members, numbers_text, only_text, own_stretch, own_text, same_members, side_members, three_digits, time_text};
+ghost use Rattle.mp4_answers.specs.format.AlignedLine.{alignment_line, alignment_object, alignment_text, behind_text, between_object, between_text, not_in, noun_text, numbers_text, only_text, own_stretch, own_text, same_members, samples_member, side_members, three_digits, time_member, time_text, timescale_member};
 
 use crate::text::difference_lines::{end_line, say, say_counted, say_number};
 use mp4_content::{Alignment, Between};
@@ -143,22 +143,35 @@ pub fn say_alignment(text: &mut Vec<u8>, alignment: Alignment) -> Result<(), All
     end_line(text)
 }
 
-// Adds how many samples one file has between, and how many parts a second has there.
-fn say_number_members(text: &mut Vec<u8>, between: Between) -> Result<(), AllocError>
-    ensures { OnOk result (text.new.items ≡ text.old.items ++ number_members between) }
+// Adds when the first of some samples is decoded, in parts of a second.
+fn say_decode_time(text: &mut Vec<u8>, between: Between) -> Result<(), AllocError>
+    ensures { OnOk result (text.new.items ≡ text.old.items ++ time_member between) }
 {
-    let samples = u64::from(between.samples);
-    say_counted(text, ",\"samples\":", samples, ",\"timescale\":")?;
-    say_number(text, u64::from(between.timescale))
+    say_counted(text, "{\"decode_time\":", between.time, ",")
+}
+
+// Adds how many samples one file has between.
+fn say_samples(text: &mut Vec<u8>, between: Between) -> Result<(), AllocError>
+    ensures { OnOk result (text.new.items ≡ text.old.items ++ samples_member between) }
+{
+    say(text, "\"samples\":")?;
+    say_number(text, u64::from(between.samples))
+}
+
+// Adds how many parts a second has there.
+fn say_timescale(text: &mut Vec<u8>, between: Between) -> Result<(), AllocError>
+    ensures { OnOk result (text.new.items ≡ text.old.items ++ timescale_member between) }
+{
+    say_counted(text, ",\"timescale\":", u64::from(between.timescale), "}")
 }
 
 // Adds what one file has between, as an object.
 fn say_between_object(text: &mut Vec<u8>, between: Between) -> Result<(), AllocError>
     ensures { OnOk result (text.new.items ≡ text.old.items ++ between_object between) }
 {
-    say_counted(text, "{\"decode_time\":", between.time, "")?;
-    say_number_members(text, between)?;
-    say(text, "}")
+    say_decode_time(text, between)?;
+    say_samples(text, between)?;
+    say_timescale(text, between)
 }
 
 // Adds what both files have between.
