@@ -118,6 +118,29 @@ export interface Difference {
     of?: Whole;
 }
 
+/** What stands in one file between samples that are the same. */
+export interface Between {
+    samples: number;
+    /** When the sample behind those in front is decoded, in parts of a second; 0 where there is none. */
+    decode_time: Whole;
+    /** How many parts a second has. */
+    timescale: number;
+}
+
+/** How two tracks lie beside each other whose samples are not the same. */
+export interface Alignment {
+    kind: 'aligned';
+    /** From 1. */
+    track: Whole;
+    /** How many samples in front are the same, and of the rest how many at the end. */
+    front: number;
+    end: number;
+    a: Between;
+    b: Between;
+    /** The line of `compare --align`. */
+    line: string;
+}
+
 export interface Comparison {
     same: boolean;
     /** How many differences there are; at least so many where `atLeast`. */
@@ -128,6 +151,8 @@ export interface Comparison {
     /** What has to be left out so that the two are the same; null if no words do that. */
     words: Word[] | null;
     differences: Difference[];
+    /** How tracks lie beside each other whose samples are not the same, where that was asked for. */
+    aligned: Alignment[];
 }
 
 /** The calls on a file that is open. Each throws Mp4Fault where the file has a fault. */
@@ -157,8 +182,11 @@ export interface Mp4File {
     printBytes(words?: Words): Uint8Array;
     /** The bytes of a track's samples, one after the other. */
     extract(track: number): Uint8Array;
-    /** Compares two files, and lists at most `limit` differences, 100 where it isn't given. */
-    compare(other: Mp4File, words?: Words, limit?: number): Comparison;
+    /**
+     * Compares two files, and lists at most `limit` differences, 100 where it isn't given. With `align`
+     * samples are listed and counted only of tracks that have the same number of them in both.
+     */
+    compare(other: Mp4File, words?: Words, limit?: number, align?: boolean): Comparison;
     /** Gives back the file's room in the module's memory. Every later call throws. */
     close(): void;
 }
@@ -183,7 +211,8 @@ export interface Mp4Norm {
     print(file: Bytes | Mp4File, words?: Words): string;
     printBytes(file: Bytes | Mp4File, words?: Words): Uint8Array;
     extract(file: Bytes | Mp4File, track: number): Uint8Array;
-    compare(a: Bytes | Mp4File, b: Bytes | Mp4File, words?: Words, limit?: number): Comparison;
+    compare(a: Bytes | Mp4File, b: Bytes | Mp4File, words?: Words, limit?: number,
+            align?: boolean): Comparison;
 }
 
 /** Whether this engine knows memories with addresses of 64 bits. */

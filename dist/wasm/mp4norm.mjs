@@ -152,8 +152,8 @@ class Mp4Norm {
     printBytes(file, words) { return this.#once(file, it => it.printBytes(words)); }
     extract(file, track) { return this.#once(file, it => it.extract(track)); }
 
-    compare(file, other, words, limit) {
-        return this.#once(file, a => this.#once(other, b => a.compare(b, words, limit)));
+    compare(file, other, words, limit, align) {
+        return this.#once(file, a => this.#once(other, b => a.compare(b, words, limit, align)));
     }
 }
 
@@ -272,12 +272,17 @@ class Mp4File {
         return this.#of.text('extract_range', [...this.#place, id], guess);
     }
 
-    /** Compares what is left of two files, and lists at most `limit` of the differences. */
-    compare(other, words, limit = 100) {
+    /**
+     * Compares what is left of two files, and lists at most `limit` of the differences. With `align`
+     * it says too how tracks lie beside each other whose samples are not the same, and lists and
+     * counts samples only of tracks that have the same number of them in both.
+     */
+    compare(other, words, limit = 100, align = false) {
         if (!(other instanceof Mp4File)) {
             throw new TypeError('mp4norm: a file that is open is compared with another such');
         }
-        return this.#of.compared(this.#place, other.#place, flagsOf(words), limitOf(limit));
+        const asked = [flagsOf(words), align ? 2 : 1, limitOf(limit), SYNTAXES.json];
+        return this.#of.compared(this.#place, other.#place, asked);
     }
 }
 
@@ -409,10 +414,9 @@ class Machine {
         return { at: this.take(Math.min(length, ROOM)), length: Math.min(length, ROOM) };
     }
 
-    compared(place, other, flags, limit) {
+    compared(place, other, asked) {
         const view = new DataView(this.exports.memory.buffer, Number(this.asked), ASKED);
-        // All differences, as JSON.
-        [flags, 1, limit, 1].forEach((word, at) => view.setUint32(4 * at, word, true));
+        asked.forEach((word, at) => view.setUint32(4 * at, word, true));
         const { status, bytes } = this.told('compare_range', [...place, ...other, this.asked]);
         const told = objects(decoded(bytes));
         const last = told.pop();
@@ -422,7 +426,8 @@ class Machine {
             atLeast: last.at_least,
             kinds: last.kinds,
             words: last.without,
-            differences: told,
+            differences: told.filter(it => it.kind !== 'aligned'),
+            aligned: told.filter(it => it.kind === 'aligned'),
         };
     }
 

@@ -100,8 +100,8 @@ returns-then-self-eq0-clause-answer g c =
     let none = c.if-self-eq0.true in (
       record { some = λ e. absurd cc; holds = λ e. absurd cc; next = λ e. absurd cc; fewer = λ e. absurd cc; still = λ _. refl; none = λ _. none },
       λ told tree t earlier later o h hand at z _.
-      let file = g.S.Store.file c.args.store.now in
-      ends_empty file tree t c.args.movie.now earlier later hand c.args.self.now (no_samples file tree t earlier later c.args.self.now h none) h at z,
+          let file = g.S.Store.file c.args.store.now in
+          ends_empty file tree t c.args.movie.now earlier later hand c.args.self.now (no_samples file tree t earlier later c.args.self.now h none) h at z,
     )
 
 pub returns-then-branch-clause-walk : goal.returns-then-branch-clause-walk
@@ -130,23 +130,24 @@ returns-then-branch-clause-answer g c =
     let one = ap (λ (h : InHand). length (left_in_hand h)) (hand_one m now s.0 al.0 s.1 al.1) in
     let long = ap (λ (ss : List SampleAt). length ss) al.2 in
     let some = s.2 in
-    let sum = e.counts.counted found.0 at in
-    (record {
-      some = λ _. s;
-      holds = λ _. record {
-        before = record { time = w.due; left = w.left };
-        is_before = e.counts.before;
-        some = omega (arith, one, long, some, sum);
-        all = λ info at.
-            let sum = e.counts.counted info (ap (slice_get m.tracks) (sym e.keeps.track) ∙ at) in
-            same_count _ _ _ sum _ (λ i. length (samples_in (e.counts.bytes i) (e.counts.traf i).base info.id (trex_at m (e.keeps.track i)) (info.samples - w.left) w.due (keys_seen info.keys)));
-      };
-      next = λ _. omega (arith, next);
-      fewer = λ _. omega (arith, one, long, some, sum);
-      still = λ e. absurd cc;
-      none = λ e. absurd cc;
-    },
-    λ told tree t earlier later o h hand is empty no. absurd cc)
+    let sum = e.counts.counted found.0 at in (
+      record {
+        some = λ _. s;
+        holds = λ _. record {
+          before = record { time = w.due; left = w.left };
+          is_before = e.counts.before;
+          some = omega (arith, one, long, some, sum);
+          all = λ info at.
+              let sum = e.counts.counted info (ap (slice_get m.tracks) (sym e.keeps.track) ∙ at) in
+              same_count _ _ _ sum _ (λ i. length (samples_in (e.counts.bytes i) (e.counts.traf i).base info.id (trex_at m (e.keeps.track i)) (info.samples - w.left) w.due (keys_seen info.keys)));
+        };
+        next = λ _. omega (arith, next);
+        fewer = λ _. omega (arith, one, long, some, sum);
+        still = λ e. absurd cc;
+        none = λ e. absurd cc;
+      },
+      λ told tree t earlier later o h hand is empty no. absurd cc,
+    )
   where
     same_count : (left long now : ℕ) → left ≡ long + now → (n : ℕ) → n ≡ long → n + now ≡ left
     same_count left long now sum n same = omega (arith, sum, same)
