@@ -87,6 +87,7 @@ enum mp4norm_word {
     MP4NORM_TIMING = 512,   /* when samples are decoded and shown */
     MP4NORM_ROLES = 1024,   /* flags of tracks but "track enabled", layers, alternate groups */
     MP4NORM_IDS = 2048,     /* which IDs tracks have */
+    MP4NORM_TIMESCALES = 4096, /* in which timescales times are said */
     MP4NORM_PACKAGING_1 = 255, /* what changes when a file is packed another way: never changes */
     MP4NORM_MEDIA_1 = 1023     /* the first ten of these: never changes */
 };

@@ -66,7 +66,7 @@ KINDS = ("ShortHeader BadSize Overrun ShortBox BoxNotInProfile DuplicateBox Miss
          " SampleOutsideFile UnknownTrack Gap OffsetTooLarge ItemLocation TooManySamples"
          " TimeTooLarge MovieTooLarge FragmentBeforeMovie").split()
 FLAGS = {word: 1 << bit for bit, word in enumerate(
-    "times edits flags groups metadata bitrates ends origins labels timing roles ids".split())}
+    "times edits flags groups metadata bitrates ends origins labels timing roles ids timescales".split())}
 FLAGS.update({"packaging-1": 255, "media-1": 1023})
 
 

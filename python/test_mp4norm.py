@@ -43,6 +43,8 @@ from suite.stored import CUT, NORMAL, OTHER, PLAIN, bytes_of
 COUNTS = collections.Counter()
 # The creation time of the movie, 4 bytes from 44 on, is another one.
 LATER = PLAIN[:44] + b'\0\0\0\x0b' + PLAIN[48:]
+# Its samples last 3,600 of 90,000 parts of a second, in place of 512 of 12,800.
+ANEW = PLAIN[:268] + b'\0\1\x5f\x90' + PLAIN[272:437] + b'\0\0\x0e\x10' + PLAIN[441:]
 # The fault of cut.mp4.
 FAULT = ('cut.mp4', 'Overrun', 'mdat', 541)
 LINE = re.compile(r'refused: (\w+) in (.{4}|[0-9a-f]{8}) at (\d+)')
@@ -231,6 +233,10 @@ class Answers(Case):
         for words in ('times', ['times'], ('flags', 'times'), 'flags,times'):
             self.assertTrue(mp4norm.compare('plain.mp4', 'later.mp4', without=words))
         self.assertFalse(mp4norm.compare('plain.mp4', 'later.mp4', without=['flags']))
+        anew = mp4norm.compare(PLAIN, ANEW)
+        self.assertEqual((anew.total, anew.kinds, anew.words), (4, {'heads': 1, 'samples': 3}, ['timescales']))
+        self.assertTrue(mp4norm.compare(PLAIN, ANEW, without='timescales'))
+        self.assertEqual(mp4norm.normalise(PLAIN, without='timescales'), mp4norm.normalise(ANEW, without=['timescales']))
 
     def test_bytes_of_both(self):
         """Both files may be bytes; what is wrong with either is said of `-`."""

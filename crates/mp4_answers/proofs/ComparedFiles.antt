@@ -1,5 +1,5 @@
 -- Two files compared: what is listed, and what there is to say of it.
-use Rattle.std.proofs.Common.{◌≡◌, ◌⊎◌, inl, inr, ℕ, zero, suc, ◌+◌, ◌*◌, ◌<◌, ◌≤◌, List, [], ◌∷◌, ◌++◌, length, take, nat_eq, Bool, true, false, refl, sym, ap, subst, ◌∙◌, arith, Ok}
+use Rattle.std.proofs.Common.{◌≡◌, ◌⊎◌, inl, inr, ℕ, zero, suc, ◌+◌, ◌*◌, ◌<◌, ◌≤◌, List, [], ◌∷◌, ◌++◌, length, take, nat_eq, Bool, true, false, if◌then◌else◌, refl, sym, ap, subst, ◌∙◌, arith, Ok}
 use Rattle.std.specs.Prelude.{◌↔◌, Option, None, Some, slice_get, IsTrue}
 use Rattle.std.proofs.Math.Nat.{mul-le-mul_right}
 use Rattle.std.proofs.lemmas.Bool.{ne_eqb}
@@ -9,8 +9,9 @@ use Rattle.mp4_content.specs.format.Comparison.{differences}
 use Rattle.mp4_present.specs.format.Denotes.{FileTree, IsFileTree, Denotes, presentation_of}
 use Rattle.mp4_present.specs.format.Judge.{judge}
 use Rattle.mp4_present.specs.format.Presentation.{Presentation, Valid, sample_total}
-use Rattle.mp4_content.specs.format.Reduced.{reduce}
-use Rattle.mp4_content.specs.words.Compared.{TakesFront, files_differ}
+use Rattle.mp4_content.specs.format.Remaining.{remaining}
+use Rattle.mp4_content.specs.words.Aligning.{aligning_steps}
+use Rattle.mp4_content.specs.words.Compared.{TakesFront, comparing_steps}
 use Rattle.mp4_content.specs.words.Differing.{RefusesSample}
 use Rattle.mp4_present.specs.words.Movies.{MovieSeen}
 use Rattle.mp4_present.specs.words.OpenedMovie.{IsOpenedAs}
@@ -20,10 +21,11 @@ use Rattle.mp4_content.specs.declared.without.Word.{Word}
 use Rattle.mp4_content.specs.declared.without.Without.{Without}
 use Rattle.mp4_content.proofs.ComparisonWhole.{no_difference_is_same}
 use Rattle.mp4_present.proofs.DenotedValid.{denoted_is_valid}
-use Rattle.mp4_answers.specs.format.CompareHeadline.{IsVerdict, ComparedWithin, ComparesWithin, aligned_walks, most_counted, most_walks, word_count}
+use Rattle.mp4_answers.specs.format.CompareHeadline.{IsVerdict, ComparedWithin, ComparesWithin, aligned_walks, listing_walks, most_counted, most_walks, trying_walks}
 use Rattle.mp4_answers.specs.format.Steps.{WalksWithin, row_total}
 use Rattle.mp4_plan.proofs.Judged.{denoted_judged}
 use Rattle.mp4_answers.specs.words.Compares.{side_of, says_nothing, IsSaid, ListsFront, WalksTimes, RefusesBoth, RefusesCompare}
+use Rattle.mp4_answers.specs.words.TwoFiles.{differ_without}
 use Rattle.mp4_answers.specs.declared.commands.compare.Failure.{Failure}
 use Rattle.mp4_answers.specs.declared.commands.compare.Lines.{Lines}
 use Rattle.mp4_answers.specs.declared.commands.compare.Listing.{Listing}
@@ -68,50 +70,71 @@ first_said first (d ∷ ds) e = subst (λ (f : Option Difference). IsSaid f (d �
 pub walks_joined : (old mid new a b times more : ℕ) → mid ≤ old + times * (a + b) → new ≤ mid + more * (a + b) → new ≤ old + (times + more) * (a + b)
 walks_joined old mid new a b times more g h = omega (arith, g, h)
 
-one_walk_more : (old mid new a b times : ℕ) → mid ≤ old + (a + b) → new ≤ mid + times * (a + b) → new ≤ old + suc times * (a + b)
-one_walk_more old mid new a b times g h = omega (arith, g, h)
-
-pub one_of_times : (old new a b times : ℕ) → 0 < times → new ≤ old + (a + b) → new ≤ old + times * (a + b)
-one_of_times old new a b times some h = let most = mul-le-mul_right (a + b) some in omega (arith, h, most)
-
--- one walk, of as many as there are words to be tried
-pub one_of_more : (old new a b : ℕ) (first : Word) (more tries : List Word) → tries ≡ first ∷ more → new ≤ old + (a + b) → new ≤ old + length tries * (a + b)
-one_of_more old new a b first more tries e h =
-    let long : length tries ≡ suc (length more) = ap (λ (xs : List Word). length xs) e in
-    one_of_times old new a b (length tries) (omega (arith, long)) h
-
--- one walk, and as many as there are others
-pub one_more_time : (old mid new a b : ℕ) (first : Word) (more tries : List Word) → tries ≡ first ∷ more → mid ≤ old + (a + b) → new ≤ mid + length more * (a + b) → new ≤ old + length tries * (a + b)
-one_more_time old mid new a b first more tries e g h =
-    let long : length tries ≡ suc (length more) = ap (λ (xs : List Word). length xs) e in
-    subst (λ n. new ≤ old + n * (a + b)) (sym long) (one_walk_more old mid new a b (length more) g h)
-
-pub two_walks : (old mid new a b : ℕ) → mid ≤ old + (a + b) → new ≤ mid + (a + b) → new ≤ old + 2 * (a + b)
-two_walks old mid new a b g h = omega (arith, g, h)
-
--- one walk to list, those that align tracks, and those that find words
-pub listing_walks : (old mid behind new a b : ℕ) (lines : Lines) → mid ≤ old + (a + b) → behind ≤ mid + aligned_walks lines.aligned * (a + b) → new ≤ behind + (2 + word_count) * (a + b) → new ≤ old + most_walks (listings.All lines) * (a + b)
-listing_walks old mid behind new a b lines g h k = omega (arith, g, h, k)
-
--- without those that find words
-pub aligning_walks : (old mid new a b : ℕ) (lines : Lines) → mid ≤ old + (a + b) → new ≤ mid + aligned_walks lines.aligned * (a + b) → new ≤ old + most_walks (listings.All lines) * (a + b)
-aligning_walks old mid new a b lines g h = omega (arith, g, h)
-
--- three walks at least
-pub three_or_more : (listing : Listing) → 3 ≤ most_walks listing
-three_or_more (listings.First syntax) = omega arith
-three_or_more (listings.All lines) = omega arith
-
-pub some_walks : (listing : Listing) → 0 < most_walks listing
-some_walks listing = let three = three_or_more listing in omega (arith, three)
+two_walks_more : (old mid new a b times : ℕ) → mid ≤ old + 2 * (a + b) → new ≤ mid + 2 * times * (a + b) → new ≤ old + 2 * suc times * (a + b)
+two_walks_more old mid new a b times g h = omega (arith, g, h)
 
 -- fewer are as many at most
 pub few_times_of : (old new a b few times : ℕ) → few ≤ times → new ≤ old + few * (a + b) → new ≤ old + times * (a + b)
 few_times_of old new a b few times le h = let most = mul-le-mul_right (a + b) le in omega (arith, h, most)
 
+-- walks for one word, of as many as there are words to be tried
+pub one_of_more : (old new a b : ℕ) (first : Word) (more tries : List Word) → tries ≡ first ∷ more → new ≤ old + 2 * (a + b) → new ≤ old + 2 * length tries * (a + b)
+one_of_more old new a b first more tries e h =
+    let long : length tries ≡ suc (length more) = ap (λ (xs : List Word). length xs) e in
+    few_times_of old new a b 2 (2 * length tries) (omega (arith, long)) h
+
+-- those for one word, and for as many as there are others
+pub one_more_time : (old mid new a b : ℕ) (first : Word) (more tries : List Word) → tries ≡ first ∷ more → mid ≤ old + 2 * (a + b) → new ≤ mid + 2 * length more * (a + b) → new ≤ old + 2 * length tries * (a + b)
+one_more_time old mid new a b first more tries e g h =
+    let long : length tries ≡ suc (length more) = ap (λ (xs : List Word). length xs) e in
+    subst (λ n. new ≤ old + 2 * n * (a + b)) (sym long) (two_walks_more old mid new a b (length more) g h)
+
+-- to list, to align tracks, and to find words
+pub all_joined : (old mid behind new a b : ℕ) (l : Without) (lines : Lines) → mid ≤ old + listing_walks l * (a + b) → behind ≤ mid + aligned_walks l lines.aligned * (a + b) → new ≤ behind + trying_walks * (a + b) → new ≤ old + most_walks l (listings.All lines) * (a + b)
+all_joined old mid behind new a b l lines g h k =
+    walks_joined old behind new a b (listing_walks l + aligned_walks l lines.aligned) trying_walks (walks_joined old mid behind a b (listing_walks l) (aligned_walks l lines.aligned) g h) k
+
+-- without those that find words
+pub aligning_joined : (old mid new a b : ℕ) (l : Without) (lines : Lines) → mid ≤ old + listing_walks l * (a + b) → new ≤ mid + aligned_walks l lines.aligned * (a + b) → new ≤ old + most_walks l (listings.All lines) * (a + b)
+aligning_joined old mid new a b l lines g h =
+    few_times_of old new a b (listing_walks l + aligned_walks l lines.aligned) (most_walks l (listings.All lines)) (omega arith) (walks_joined old mid new a b (listing_walks l) (aligned_walks l lines.aligned) g h)
+
+-- and without those that align tracks
+pub listing_alone : (old new a b : ℕ) (l : Without) (lines : Lines) → new ≤ old + listing_walks l * (a + b) → new ≤ old + most_walks l (listings.All lines) * (a + b)
+listing_alone old new a b l lines g = few_times_of old new a b (listing_walks l) (most_walks l (listings.All lines)) (omega arith) g
+
+-- two walks at least
+pub two_or_more : (l : Without) (listing : Listing) → 2 ≤ most_walks l listing
+two_or_more l (listings.First syntax) = omega arith
+two_or_more l (listings.All lines) = omega arith
+
+-- one comparison, where timescales are left out, or not
+comparing_is : (v : Bool) (a b : ℕ) → ((if v then a else 0) + (if v then b else 0)) + (a + b) ≡ (1 + (if v then 1 else 0)) * (a + b)
+comparing_is true a b = omega arith
+comparing_is false a b = omega arith
+
+aligning_is : (v : Bool) (a b : ℕ) → ((if v then a else 0) + (if v then b else 0)) + 2 * (a + b) ≡ (2 + (if v then 1 else 0)) * (a + b)
+aligning_is true a b = omega arith
+aligning_is false a b = omega arith
+
+at_most_two : (v : Bool) → 1 + (if v then 1 else 0) ≤ 2
+at_most_two true = omega arith
+at_most_two false = omega arith
+
+module _ (l : Without) (tree other : FileTree) (old new : ℕ) where
+  pub compared_once : new ≤ old + comparing_steps l tree other → WalksTimes (listing_walks l) tree other old new
+  compared_once h = subst (λ n. new ≤ old + n) (comparing_is l.timescales (walks_steps tree) (walks_steps other)) h
+
+  -- whatever is left out
+  pub compared_at_most : new ≤ old + comparing_steps l tree other → WalksTimes 2 tree other old new
+  compared_at_most h = few_times_of old new (walks_steps tree) (walks_steps other) (listing_walks l) 2 (at_most_two l.timescales) (compared_once h)
+
+  pub aligned_once : new ≤ old + aligning_steps l tree other → WalksTimes (aligned_walks l true) tree other old new
+  aligned_once h = subst (λ n. new ≤ old + n) (aligning_is l.timescales (walks_steps tree) (walks_steps other)) h
+
 -- ---- the answer
 
-verdict_of : (l : Without) (p q : Presentation) {A : Type 0} (found : Option A) (same : Bool) → same ≡ says_nothing found → IsSaid found (differences (reduce l p) (reduce l q)) → Valid p → Valid q → (same ≡ true) ↔ (reduce l p ≡ reduce l q)
+verdict_of : (l : Without) (p q : Presentation) {A : Type 0} (found : Option A) (same : Bool) → same ≡ says_nothing found → IsSaid found (differences (remaining l p) (remaining l q)) → Valid p → Valid q → (same ≡ true) ↔ (remaining l p ≡ remaining l q)
 verdict_of l p q None same is said v w = (λ e. (no_difference_is_same l p q v w).0 said, λ e. is)
 verdict_of l p q (Some text) same is said v w = (λ e. absurd (true_false (sym e ∙ is)), λ e. absurd (said ((no_difference_is_same l p q v w).1 e)))
 
@@ -122,14 +145,19 @@ module _ (file : List ℕ) (m : MovieSeen) (tree : FileTree) (o : IsOpenedAs fil
   pub judged_by : judge file ≡ Ok (presentation_of file tree)
   judged_by = denoted_judged file (presentation_of file tree) denotes_by
 
+said_of_both : (file : List ℕ) (tree : FileTree) (file_right : List ℕ) (other : FileTree) (l : Without) {A : Type 0} (found : Option A) → IsSaid found (differ_without file tree file_right other l) → IsSaid found
+    (differences (remaining l (presentation_of file tree)) (remaining l (presentation_of file_right other)))
+unfolding differ_without
+said_of_both file tree file_right other l found said = said
+
 pub verdict : (l : Without) (file other : List ℕ) (m n : MovieSeen) {A : Type 0} (found : Option A) (same : Bool) → same ≡ says_nothing found → (a : (tree : FileTree) × IsOpenedAs file m tree) → (b : (tree : FileTree) × IsOpenedAs other n tree)
-    → IsSaid found (files_differ l file a.0 other b.0) → IsVerdict l file other same
+    → IsSaid found (differ_without file a.0 other b.0 l) → IsVerdict l file other same
 verdict l file other m n found same is a b said = record {
   p = presentation_of file a.0;
   q = presentation_of other b.0;
   first = judged_by file m a.0 a.1;
   second = judged_by other n b.0 b.1;
-  is = λ x y. verdict_of l (presentation_of file a.0) (presentation_of other b.0) found same is said
+  is = λ x y. verdict_of l (presentation_of file a.0) (presentation_of other b.0) found same is (said_of_both file a.0 other b.0 l found said)
       (denoted_is_valid file (presentation_of file a.0) x (denotes_by file m a.0 a.1)) (denoted_is_valid other (presentation_of other b.0) y (denotes_by other n b.0 b.1));
 }
 
@@ -148,11 +176,11 @@ together First Second honest honest_right l m r s Took nothing puts refusals.NoS
 -- ---- steps
 
 -- a file that is looked at, and no more
-pub looked_alone : (times : ℕ) → 3 ≤ times → (file : List ℕ) (old new : ℕ) → WalksWithin file old new → ComparedWithin times file old new
-looked_alone times three file old new h = record {
+pub looked_alone : (times : ℕ) → 2 ≤ times → (file : List ℕ) (old new : ℕ) → WalksWithin file old new → ComparedWithin times file old new
+looked_alone times two file old new h = record {
   denoted = λ p d.
       let own = h.denoted p d in
-      let most = mul-le-mul_right (sample_total p + row_total d.tree) three in
+      let most = mul-le-mul_right (sample_total p + row_total d.tree) two in
       omega (arith, own, most);
   refused = h.refused;
 }
@@ -164,24 +192,24 @@ none_taken times file n = record {
 }
 
 -- the second file was not looked at
-pub first_alone : (listing : Listing) (file other : List ℕ) (old new : ℕ) → WalksWithin file old new → ComparesWithin listing file other old new
-first_alone listing file other old new first = record { between = new; first = looked_alone (most_walks listing) (three_or_more listing) file old new first; second = none_taken (most_walks listing) other new }
+pub first_alone : (l : Without) (listing : Listing) (file other : List ℕ) (old new : ℕ) → WalksWithin file old new → ComparesWithin l listing file other old new
+first_alone l listing file other old new first = record { between = new; first = looked_alone (most_walks l listing) (two_or_more l listing) file old new first; second = none_taken (most_walks l listing) other new }
 
 -- the first file was opened, and so were the second or not
-pub both_looked : (listing : Listing) (file other : List ℕ) (m : MovieSeen) (old mid new : ℕ) → ((tree : FileTree) × IsOpenedAs file m tree) → ((tree : FileTree) → IsFileTree file tree → mid ≤ old + opening_steps tree) → WalksWithin other mid new → ComparesWithin listing file other old new
-both_looked listing file other m old mid new a opening second = record {
+pub both_looked : (l : Without) (listing : Listing) (file other : List ℕ) (m : MovieSeen) (old mid new : ℕ) → ((tree : FileTree) × IsOpenedAs file m tree) → ((tree : FileTree) → IsFileTree file tree → mid ≤ old + opening_steps tree) → WalksWithin other mid new
+    → ComparesWithin l listing file other old new
+both_looked l listing file other m old mid new a opening second = record {
   between = mid;
-  first = looked_alone (most_walks listing) (three_or_more listing) file old mid (looked_within file old mid m a.0 a.1 (opening a.0 a.1.is_tree));
-  second = looked_alone (most_walks listing) (three_or_more listing) other mid new second;
+  first = looked_alone (most_walks l listing) (two_or_more l listing) file old mid (looked_within file old mid m a.0 a.1 (opening a.0 a.1.is_tree));
+  second = looked_alone (most_walks l listing) (two_or_more l listing) other mid new second;
 }
 
 -- both were opened, and walked over as many times as may be
-pub both_walked : (listing : Listing) (file other : List ℕ) (m n : MovieSeen) (old mid behind new : ℕ) → ((tree : FileTree) × IsOpenedAs file m tree) → ((tree : FileTree) × IsOpenedAs other n tree) → ((tree : FileTree) → IsFileTree file tree → mid ≤ old + opening_steps tree)
-    → ((tree : FileTree) → IsFileTree other tree → behind ≤ mid + opening_steps tree) → ((tree next : FileTree) → IsOpenedAs file m tree → IsOpenedAs other n next → WalksTimes (most_walks listing) tree next behind new) → ComparesWithin listing file other old new
-both_walked listing file other m n old mid behind new a b opening next walks =
-    let times = most_walks listing in
-    let three : 3 ≤ times = three_or_more listing in
-    let two : 2 ≤ times = omega (arith, three) in
+pub both_walked : (l : Without) (listing : Listing) (file other : List ℕ) (m n : MovieSeen) (old mid behind new : ℕ) → ((tree : FileTree) × IsOpenedAs file m tree) → ((tree : FileTree) × IsOpenedAs other n tree) → ((tree : FileTree) → IsFileTree file tree → mid ≤ old + opening_steps tree)
+    → ((tree : FileTree) → IsFileTree other tree → behind ≤ mid + opening_steps tree) → ((tree next : FileTree) → IsOpenedAs file m tree → IsOpenedAs other n next → WalksTimes (most_walks l listing) tree next behind new) → ComparesWithin l listing file other old new
+both_walked l listing file other m n old mid behind new a b opening next walks =
+    let times = most_walks l listing in
+    let two : 2 ≤ times = two_or_more l listing in
     record {
       between = mid + times * walks_steps a.0;
       first = often_walked file old (mid + times * walks_steps a.0) times two m a.0 a.1 (let opened = opening a.0 a.1.is_tree in omega (arith, opened));

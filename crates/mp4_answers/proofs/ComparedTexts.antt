@@ -5,7 +5,7 @@ use Rattle.std.proofs.lemmas.List.{take-take}
 use Rattle.mp4_content.specs.format.Comparison.{differences}
 use Rattle.mp4_present.specs.format.Denotes.{FileTree, presentation_of}
 use Rattle.mp4_present.specs.format.Presentation.{Presentation, Valid}
-use Rattle.mp4_content.specs.format.Reduced.{reduce}
+use Rattle.mp4_content.specs.format.Remaining.{remaining}
 use Rattle.mp4_present.specs.words.Movies.{MovieSeen}
 use Rattle.mp4_present.specs.words.OpenedMovie.{IsOpenedAs}
 use Rattle.mp4_content.specs.declared.aligning.Alignment.{Alignment}
@@ -21,8 +21,10 @@ use Rattle.mp4_answers.specs.declared.commands.compare.Listing.TheVariants as li
 use Rattle.mp4_answers.specs.format.CompareHeadline.{AreEnough, IsTold, PutsSuch, TellsOf, alignment_in, difference_in, last_in, listing_text, most_counted}
 use Rattle.mp4_answers.specs.words.Compares.{AreSome, IsCounted, IsEnough, IsTried, IsShrunk, IsSameWith, IsFoundOf, IsSaid, IsSaidOf, ListsFront, PutsFound, says_nothing}
 use Rattle.mp4_answers.specs.words.SingleWords.{everything, less_word, single_words}
-use Rattle.mp4_content.proofs.Covering.{same_without_more}
-use Rattle.mp4_answers.proofs.LeastWords.{among_others}
+use Rattle.mp4_answers.specs.words.TwoFiles.{differ_without}
+use Rattle.mp4_content.specs.words.Compared.{files_differ}
+use Rattle.mp4_content.proofs.RemainingWords.{same_remains_without_more}
+use Rattle.mp4_answers.proofs.LeastTimes.{among_others}
 use Rattle.mp4_answers.proofs.WordSets.{covers_all, none_to_take, shrunk}
 use Rattle.mp4_answers.proofs.ComparedFiles.{denotes_by, first_said, judged_by, true_false}
 use Rattle.mp4_boxes.proofs.Plain.{nat_le_no}
@@ -51,6 +53,21 @@ counted_listed lines found listed ds all whole enough text front is so h =
     let taken : all ≡ take most_counted ds = is ∙ front_taken most_counted listed ds front in
     let told : whole ≡ nat_le (length ds) most_counted = so ∙ front_whole most_counted listed ds front in
     h ∙ (λ i. flat_map (alignment_in lines.syntax) found ++ flat_map (difference_in lines.syntax) (take lines.limit (taken i)) ++ last_in lines.syntax (told i) (taken i) enough)
+
+-- ---- what differs, by what is left out
+
+module _ (file : List ℕ) (tree : FileTree) (file_right : List ℕ) (other : FileTree) where
+  -- it is what differs between what remains of both
+  pub differ_is : differ_without file tree file_right other ≡ (λ (l : Without). differences (remaining l (presentation_of file tree)) (remaining l (presentation_of file_right other)))
+  unfolding differ_without
+  differ_is = refl
+
+  pub differ_at : (l : Without) → differ_without file tree file_right other l ≡ differences (remaining l (presentation_of file tree)) (remaining l (presentation_of file_right other))
+  unfolding differ_without
+  differ_at l = refl
+
+pub first_differs : (l : Without) (file : List ℕ) (tree : FileTree) (file_right : List ℕ) (other : FileTree) (first : Option Difference) → first ≡ slice_get (files_differ l file tree file_right other) 0 → first ≡ slice_get (differ_without file tree file_right other l) 0
+first_differs l file tree file_right other first e = e ∙ ap (λ (ds : List Difference). slice_get ds 0) (sym (differ_at file tree file_right other l))
 
 -- ---- words that are tried
 
@@ -106,24 +123,24 @@ ok_weaker (Err e) P Q f h = tt
 -- words that are found are enough, and none of them can be taken away; or there are none
 module _ (l : Without) (p q : Presentation) (v : Valid p) (w : Valid q) where
   abbrev differ : Without → List Difference
-  differ m = differences (reduce m p) (reduce m q)
+  differ m = differences (remaining m p) (remaining m q)
 
-  same_of : (m : Without) → differ m ≡ [] → reduce m p ≡ reduce m q
+  same_of : (m : Without) → differ m ≡ [] → remaining m p ≡ remaining m q
   same_of m = (no_difference_is_same m p q v w).0
 
-  none_of : (m : Without) → reduce m p ≡ reduce m q → differ m ≡ []
+  none_of : (m : Without) → remaining m p ≡ remaining m q → differ m ≡ []
   none_of m = (no_difference_is_same m p q v w).1
 
   more_same : (s t : Without) → Covers s t → differ s ≡ [] → differ t ≡ []
-  more_same s t c e = none_of t (same_without_more s t p q c (same_of s e))
+  more_same s t c e = none_of t (same_remains_without_more s t p q c (same_of s e))
 
   enough_of_both : (enough : Option Without) → IsEnough l differ enough → AreEnough l p q enough
-  enough_of_both None h = λ m e. h (none_of everything (same_without_more m everything p q (covers_all m) e))
+  enough_of_both None h = λ m e. h (none_of everything (same_remains_without_more m everything p q (covers_all m) e))
   enough_of_both (Some m) (first, some, h) =
       let r = shrunk l differ more_same single_words first m some.0 some.1 h in
-      let least : (k : Without) → Covers l k → Covers k m → reduce k p ≡ reduce k q → k ≡ m
+      let least : (k : Without) → Covers l k → Covers k m → remaining k p ≡ remaining k q → k ≡ m
       = λ k c d e. none_to_take l differ more_same first m k some.0 some.1 h c d (none_of k e) in
-      (r.0, same_of m r.1, least, λ same k c timed e. among_others k m timed p q same e (same_of m r.1) l c r.0 least)
+      (r.0, same_of m r.1, least, λ same k c alike e. among_others k m l p q v w alike same e (same_of m r.1) c r.0 least)
 
 tells_of : (listing : Listing) (l : Without) (p q : Presentation) (text : List ℕ) → Valid p → Valid q → IsSaidOf listing l p q text → TellsOf listing l p q text
 tells_of (listings.First syntax) l p q text v w h = h

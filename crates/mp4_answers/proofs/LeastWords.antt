@@ -1,16 +1,15 @@
--- The least words with which two presentations are the same, where their sample descriptions are: what is the same without some things, and without others, is the same without those that are among both, if timing is among both or neither.
-use Rattle.std.proofs.Common.{◌≡◌, ℕ, suc, Bool, true, false, ◌&&◌, List, [], ◌∷◌, length, refl, sym, subst, ◌∙◌}
+-- What is left of two presentations the same, where their sample descriptions are: what is the same without some things, and without others, is the same without those that are among both, if timing is among both or neither.
+use Rattle.std.proofs.Common.{◌≡◌, ℕ, suc, Bool, true, false, ◌&&◌, List, [], ◌∷◌, length, refl, sym, ◌∙◌}
 use Rattle.std.specs.Prelude.{map, ℤ}
 use Rattle.std.specs.List.{AllZip}
 use Rattle.mp4_head.specs.format.Head.{Kept, Media, TrackHead, MovieHead}
 use Rattle.mp4_present.specs.format.Presentation.{Sample, Track, Presentation}
 use Rattle.mp4_content.specs.format.Reduced.{first_offset, is_at_end, reduce}
 use Rattle.mp4_content.specs.declared.without.Without.{Without}
-use Rattle.mp4_content.specs.format.CoveringLaws.{Covers}
 use Rattle.mp4_content.specs.format.Agreeing.{AllAgree, SamplesAgree, MediaAgree, TrackHeadsAgree, MovieHeadsAgree, TracksAgree}
 use Rattle.mp4_content.proofs.Agreed.{plain_of, reduce_is_exact, type_of_left, unrated_of}
 use Rattle.mp4_answers.specs.format.CompareHeadline.{descriptions_in}
-use Rattle.mp4_answers.proofs.WordSets.{common, common_first, common_second, covers_common}
+use Rattle.mp4_answers.proofs.WordSets.{common}
 use Rattle.mp4_boxes.proofs.Plain.{and_is_true, head_is, tail_is}
 
 -- what stays without the words of both stays without those of one
@@ -22,7 +21,7 @@ either_at : {P : Type 0} (a b c : Bool) → ((a && c) ≡ false → P) → ((b &
 either_at true b c f g e = g e
 either_at false b c f g e = f refl
 
-false_in_both : (a b : Bool) → a ≡ b → (a && b) ≡ false → (a ≡ false) × (b ≡ false)
+pub false_in_both : (a b : Bool) → a ≡ b → (a && b) ≡ false → (a ≡ false) × (b ≡ false)
 false_in_both true b same e = (same ∙ e, e)
 false_in_both false b same e = (refl, sym same)
 
@@ -118,7 +117,7 @@ module _ (k m : Without) (timed : k.timing ≡ m.timing) where
   )
 
   module _ (p q : Presentation) (same : descriptions_in p ≡ descriptions_in q) (e : reduce k p ≡ reduce k q) (f : reduce m p ≡ reduce m q) where
-    same_in_common : reduce (common k m) p ≡ reduce (common k m) q
+    pub same_in_common : reduce (common k m) p ≡ reduce (common k m) q
     same_in_common =
         let g = (reduce_is_exact k p q).0 e in
         let h = (reduce_is_exact m p q).0 f in
@@ -126,7 +125,3 @@ module _ (k m : Without) (timed : k.timing ≡ m.timing) where
           movie = movie_heads_agree p.movie q.movie g.movie h.movie;
           tracks = all_tracks_agree p.tracks q.tracks same g.tracks h.tracks;
         })
-
-    -- words of which none can be taken away are among any others
-    pub among_others : (l : Without) → Covers l k → Covers l m → ((j : Without) → Covers l j → Covers j m → reduce j p ≡ reduce j q → j ≡ m) → Covers m k
-    among_others l c d least = subst (λ (j : Without). Covers j k) (least (common k m) (covers_common k m l c d) (common_second k m) same_in_common) (common_first k m)

@@ -12,7 +12,7 @@ use Rattle.mp4_head.specs.format.Tree.{TrackTree, are_distinct, track_head_of}
 use Rattle.mp4_head.proofs.Distinct.{distinct_same, map_twice}
 use Rattle.mp4_present.specs.format.Denotes.{FileTree, Denotes, file_parts, placed_of, track_of, presentation_of}
 use Rattle.mp4_present.specs.format.Presentation.{Track, Presentation}
-use Rattle.mp4_content.specs.format.Reduced.{reduce}
+use Rattle.mp4_content.specs.format.Remaining.{remaining}
 use Rattle.mp4_present.specs.words.Movies.{MovieSeen}
 use Rattle.mp4_present.specs.words.OpenedMovie.{IsInfoOf, IsOpenedAs}
 use Rattle.mp4_present.specs.declared.track_info.TrackInfo.{TrackInfo}
@@ -59,10 +59,10 @@ form_long file m tree n o e text h =
     let same = judged_one file h.0 (presentation_of file tree) h.1 (judged file m tree o) in
     ap length h.2 ∙ ap (λ (p : Presentation). length (normal p)) same ∙ sym e
 
-pub left_long : (l : Without) (file : List ℕ) (m : MovieSeen) (tree : FileTree) (n : ℕ) → IsOpenedAs file m tree → n ≡ length (normal (reduce l (presentation_of file tree))) → AreLong (HasReducedForm l file) n
+pub left_long : (l : Without) (file : List ℕ) (m : MovieSeen) (tree : FileTree) (n : ℕ) → IsOpenedAs file m tree → n ≡ length (normal (remaining l (presentation_of file tree))) → AreLong (HasReducedForm l file) n
 left_long l file m tree n o e text h =
     let same = judged_one file h.0 (presentation_of file tree) h.1 (judged file m tree o) in
-    ap length h.3 ∙ ap (λ (p : Presentation). length (normal (reduce l p))) same ∙ sym e
+    ap length h.3 ∙ ap (λ (p : Presentation). length (normal (remaining l p))) same ∙ sym e
 
 -- the bytes that are counted of a track are those of its samples
 counted : (file : List ℕ) (tree : FileTree) (trees : List TrackTree) (infos : List TrackInfo) (k : ℕ) (t : TrackTree) (info : TrackInfo) → AllByRecursion (LieInFile file tree) trees → AllZip (IsInfoOf file tree) trees infos
@@ -99,6 +99,6 @@ module _ (honest honest_then : Bool) (file file_then : List ℕ) (m : MovieSeen)
   form_measured (Ok n) long = λ told. form_long file m (opened told).0 n (opened told).1 (so (λ f t. n ≡ length (normal (presentation_of f t))) long told)
   form_measured (Err e) long = tt
 
-  pub left_measured : (l : Without) (answer : Result ℕ Refusal) → Then honest_then file_then (λ f t. IfOk answer (λ n. n ≡ length (normal (reduce l (presentation_of f t))))) → IfOk answer (λ n. IsTrue honest → AreLong (HasReducedForm l file) n)
-  left_measured l (Ok n) long = λ told. left_long l file m (opened told).0 n (opened told).1 (so (λ f t. n ≡ length (normal (reduce l (presentation_of f t)))) long told)
+  pub left_measured : (l : Without) (answer : Result ℕ Refusal) → Then honest_then file_then (λ f t. IfOk answer (λ n. n ≡ length (normal (remaining l (presentation_of f t))))) → IfOk answer (λ n. IsTrue honest → AreLong (HasReducedForm l file) n)
+  left_measured l (Ok n) long = λ told. left_long l file m (opened told).0 n (opened told).1 (so (λ f t. n ≡ length (normal (remaining l (presentation_of f t)))) long told)
   left_measured l (Err e) long = tt

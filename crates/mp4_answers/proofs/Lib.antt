@@ -42,6 +42,7 @@ pub mod ComparedFiles
 mod WordSets
 mod WordLists
 mod LeastWords
+mod LeastTimes
 pub mod ComparedTexts
 pub mod SameAnswers
 pub mod OneTexts

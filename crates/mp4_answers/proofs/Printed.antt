@@ -1,23 +1,28 @@
--- A file that is printed: the text of what is left of it, part after part.
+-- A file that is printed: the text of what remains of it, part after part.
 use Rattle.std.proofs.Common.{◌≡◌, ℕ, List, [], ◌++◌, refl, sym, ap, ◌∙◌, append_assoc, codes}
 use Rattle.std.specs.Prelude.{map, flat_map}
 use Rattle.std.proofs.lemmas.List.{append-nil}
 use Rattle.mp4_store.specs.words.Device.{TakesPrefix}
 use Rattle.mp4_store.proofs.Known.{IsJoining}
 use Rattle.mp4_head.specs.format.Head as heads
-use Rattle.mp4_head.specs.format.Tree.{head_of, track_head_of}
+use Rattle.mp4_head.specs.format.Tree.{head_of}
 use Rattle.mp4_head.specs.words.Found.{SaysHead}
-use Rattle.mp4_head.specs.words.Seen.{head_seen, movie_seen, track_seen}
+use Rattle.mp4_head.specs.words.Seen.{head_seen, movie_seen, track_seen, tracks_seen}
 use Rattle.mp4_head.specs.declared.heads.MovieHead.{MovieHead}
+use Rattle.mp4_head.specs.declared.heads.TrackHead.{TrackHead}
 use Rattle.mp4_head.proofs.ReadAgain.{said_of}
 use Rattle.mp4_present.specs.format.Denotes.{FileTree, presentation_of}
-use Rattle.mp4_content.specs.format.Reduced.{reduce, reduce_movie_head}
+use Rattle.mp4_content.specs.format.Remaining.{remaining, remaining_heads, remaining_movie}
+use Rattle.mp4_content.specs.format.Reduced.{number_heads}
+use Rattle.mp4_content.specs.words.Scales.{AreScales}
+use Rattle.mp4_content.specs.declared.scales.Scales.{Scales}
 use Rattle.mp4_present.specs.words.Carried.{BytesGoOn}
 use Rattle.mp4_present.specs.words.Movies.{MovieSeen, moov_box}
 use Rattle.mp4_present.specs.words.OpenedMovie.{IsOpenedAs}
 use Rattle.mp4_content.specs.declared.without.Without.{Without}
 use Rattle.mp4_answers.specs.format.FileTexts.{PrintsText}
 use Rattle.mp4_answers.specs.format.Text.{front_lines, movie_lines, text, track_text}
+use Rattle.mp4_answers.specs.words.PrintedTracks.{HeadsRemain}
 use Rattle.mp4_answers.proofs.Going.{Going, going_none}
 use Rattle.mp4_answers.proofs.ShownLines.{judged}
 use Rattle.mp4_answers.proofs.TextsGoOn.{text_next, text_fails, texts_not_put, texts_put}
@@ -29,30 +34,33 @@ FrontPrinted l file Took = (bytes : List ℕ) × PrintsText l file bytes × Take
 abbrev pub AllPrinted : Without → List ℕ → (List ℕ → Type 0) → Type 0
 AllPrinted l file Took = (bytes : List ℕ) × PrintsText l file bytes × Took bytes
 
-module _ (l : Without) (file : List ℕ) (m : MovieSeen) (tree : FileTree) (head : MovieHead) (o : IsOpenedAs file m tree) (says : SaysHead (moov_box m) head) where
+module _ (l : Without) (file : List ℕ) (m : MovieSeen) (tree : FileTree) (head : MovieHead) (o : IsOpenedAs file m tree) (says : SaysHead (moov_box m) head) (scales : Scales) (are : AreScales l file tree scales) where
   said : head_seen head ≡ head_of tree.movie
   said = (said_of (moov_box m) head tree.movie says (sym o.moov) o.is_tree.movie).0
 
-  -- the heads of the tracks
-  pub heads_are : map track_seen head.tracks.items ≡ map track_head_of tree.movie.tracks
-  heads_are = ap (λ (h : heads.Head). h.tracks) said
+  -- those of the tracks remain
+  pub heads_remain : (known : List TrackHead) → map track_seen known ≡ number_heads l 1 (remaining_heads l scales.movie scales.tracks.items (tracks_seen head)) → HeadsRemain l file tree scales known
+  heads_remain known e = record {
+    scales_are = are;
+    heads_are = e ∙ ap (λ (h : heads.Head). number_heads l 1 (remaining_heads l scales.movie scales.tracks.items h.tracks)) said;
+  }
 
   abbrev whole : List ℕ
   whole = text l (presentation_of file tree)
 
   abbrev pub movie_part : List ℕ
-  movie_part = movie_lines (reduce_movie_head l (movie_seen head))
+  movie_part = movie_lines (remaining_movie l scales.movie (movie_seen head))
 
   abbrev pub tracks_part : List ℕ
-  tracks_part = flat_map track_text (reduce l (presentation_of file tree)).tracks
+  tracks_part = flat_map track_text (remaining l (presentation_of file tree)).tracks
 
   abbrev end : List ℕ
   end = codes "end\n"
 
   parts : whole ≡ front_lines l ++ (movie_part ++ (tracks_part ++ end))
   parts =
-      ap (λ (bs : List ℕ). front_lines l ++ bs) (append_assoc (movie_lines (reduce l (presentation_of file tree)).movie) tracks_part end)
-      ∙ ap (λ (h : heads.Head). front_lines l ++ (movie_lines (reduce_movie_head l h.movie) ++ (tracks_part ++ end))) (sym said)
+      ap (λ (bs : List ℕ). front_lines l ++ bs) (append_assoc (movie_lines (remaining l (presentation_of file tree)).movie) tracks_part end)
+      ∙ (λ i. front_lines l ++ (movie_lines (remaining_movie l (sym are.movie i) (sym said i).movie) ++ (tracks_part ++ end)))
 
   prints : PrintsText l file whole
   prints = (presentation_of file tree, judged file m tree o, refl)

@@ -1,6 +1,6 @@
 -- Tracks that are printed one after the other.
-use Rattle.std.proofs.Common.{◌≡◌, ℕ, zero, suc, ◌+◌, ◌-◌, ◌≤◌, List, [], ◌∷◌, ◌++◌, length, drop, Some, refl, sym, ap, subst, ◌∙◌, arith, append_assoc, length-append, codes}
-use Rattle.std.specs.Prelude.{map, flat_map, slice_get}
+use Rattle.std.proofs.Common.{◌≡◌, ℕ, zero, suc, ◌+◌, ◌-◌, ◌≤◌, List, [], ◌∷◌, ◌++◌, length, drop, Option, Some, refl, sym, ap, subst, ◌∙◌, arith, append_assoc, length-append, codes}
+use Rattle.std.specs.Prelude.{map, flat_map, slice_get, unwrap_or}
 use Rattle.std.specs.List.{AllZip}
 use Rattle.std.proofs.lemmas.List.{length-map}
 use Rattle.mp4_boxes.specs.format.Bytes.{sum_of}
@@ -11,9 +11,12 @@ use Rattle.mp4_head.specs.format.Head as heads
 use Rattle.mp4_head.specs.format.Tree.{TrackTree, track_head_of}
 use Rattle.mp4_head.specs.words.Seen.{track_seen}
 use Rattle.mp4_head.specs.declared.heads.TrackHead.{TrackHead}
-use Rattle.mp4_present.specs.format.Denotes.{FileTree, file_parts, track_of}
-use Rattle.mp4_present.specs.format.Presentation.{Track}
-use Rattle.mp4_content.specs.format.Reduced.{number_head, number_heads, number_track, number_tracks, reduce_track, reduce_track_head, start_left}
+use Rattle.mp4_present.specs.format.Denotes.{FileTree, file_parts, presentation_of, track_of}
+use Rattle.mp4_present.specs.format.Presentation.{heads as heads_of, Track}
+use Rattle.mp4_content.specs.format.Reduced.{number_heads, number_track, start_left}
+use Rattle.mp4_content.specs.format.Remaining.{divided_samples, movie_divisor, remaining, remaining_heads, remaining_track, track_divisor}
+use Rattle.mp4_content.specs.format.Timescales.{divided}
+use Rattle.mp4_content.specs.declared.scales.Scales.{Scales}
 use Rattle.mp4_present.specs.words.Carried.{BytesGoOn}
 use Rattle.mp4_present.specs.words.Movies.{MovieSeen}
 use Rattle.mp4_present.specs.words.OpenedMovie.{IsOpenedAs, IsInfoOf}
@@ -21,12 +24,12 @@ use Rattle.mp4_present.specs.words.WalkSteps.{walk_steps, walks_steps}
 use Rattle.mp4_present.specs.declared.track_info.TrackInfo.{TrackInfo}
 use Rattle.mp4_present.specs.declared.walking.Walk.{Walk}
 use Rattle.mp4_content.specs.declared.without.Without.{Without}
-use Rattle.mp4_content.proofs.Numbered.{numbered_at}
 use Rattle.mp4_answers.specs.format.Text.{head_lines, number_line, sample_text, samples_heading, track_text}
-use Rattle.mp4_answers.specs.words.PrintedTracks.{IsBegun, AreBegun, AreWalks}
+use Rattle.mp4_answers.specs.words.PrintedTracks.{IsBegun, AreBegun, AreWalks, HeadsRemain}
 use Rattle.mp4_answers.proofs.Going.{Going, going_none}
 use Rattle.mp4_answers.proofs.TextsGoOn.{text_next, text_fails, texts_all}
 use Rattle.mp4_content.proofs.FilesCompared.{tracks_many, infos_all}
+use Rattle.mp4_content.proofs.RemainingHeads.{file_divisor_at, file_heads_remain, file_track_remains}
 
 -- ---- walks, the last track's first
 
@@ -76,9 +79,13 @@ first_of_two R (v ∷ xs) (w ∷ ys) (suc k) y z e = first_of_two R xs ys k y z.
 abbrev pub front_of : heads.TrackHead → ℕ → List ℕ
 front_of h start = head_lines h ++ number_line (codes "start") start ++ samples_heading h.id
 
--- the tracks that are left
+-- the tracks that remain
 abbrev pub tracks_left : Without → List ℕ → FileTree → List Track
-tracks_left l file tree = number_tracks l 1 (map (reduce_track l) (map (track_of file (file_parts tree)) tree.movie.tracks))
+tracks_left l file tree = (remaining l (presentation_of file tree)).tracks
+
+-- one of them, but for its number
+abbrev pub one_left : Without → List ℕ → FileTree → TrackTree → Track
+one_left l file tree t = remaining_track l (movie_divisor l (presentation_of file tree)) (track_of file (file_parts tree) t)
 
 -- the text of those from a place on
 abbrev pub text_from : Without → List ℕ → FileTree → ℕ → List ℕ
@@ -100,65 +107,55 @@ tracks_begin l file tree Took nothing held old = record { goes = going_none Took
 pub tracks_most : (l : Without) (file : List ℕ) (tree : FileTree) (k : ℕ) (Took : List ℕ → Type 0) (held held_b : List ℕ) (old new : ℕ) → TracksTold l file tree k Took held held_b old new → new ≤ old + walks_steps tree
 tracks_most l file tree k Took held held_b old new h = let steps = h.steps in omega (arith, steps)
 
--- heads that are numbered are as many, and each stands at its place
-heads_many : (l : Without) (place : ℕ) (known : List heads.TrackHead) → length (number_heads l place known) ≡ length known
-heads_many l place [] = refl
-heads_many l place (t ∷ known) = ap suc (heads_many l (suc place) known)
+-- the heads are those of the tracks that remain
+heads_known : (l : Without) (file : List ℕ) (tree : FileTree) (scales : Scales) (known : List TrackHead) → HeadsRemain l file tree scales known → map track_seen known ≡ heads_of (remaining l (presentation_of file tree))
+heads_known l file tree scales known h = h.heads_are ∙ (λ i. number_heads l 1 (remaining_heads l (h.scales_are.movie i) (h.scales_are.tracks i) (map track_head_of tree.movie.tracks))) ∙ sym (file_heads_remain l file tree)
 
-head_from : (l : Without) (place k : ℕ) (known : List heads.TrackHead) (t : heads.TrackHead) → slice_get known k ≡ Some t → slice_get (number_heads l place known) k ≡ Some (number_head l (k + place) t)
-head_from l place k [] t e = absurd cc
-head_from l place zero (x ∷ known) t e =
-    let same : x ≡ t = cc in
-    let n : place ≡ 0 + place = omega arith in
-    λ i. Some (number_head l (n i) (same i))
-head_from l place (suc k) (x ∷ known) t e =
-    let n : k + suc place ≡ suc k + place = omega arith in
-    head_from l (suc place) k known t e ∙ ap (λ n. Some (number_head l n t)) n
-
-heads_all : (l : Without) (tree : FileTree) (known : List TrackHead) → map track_seen known ≡ number_heads l 1 (map (reduce_track_head l) (map track_head_of tree.movie.tracks)) → length known ≡ length tree.movie.tracks
-heads_all l tree known e = sym (length-map known track_seen) ∙ ap length e ∙ heads_many l 1 (map (reduce_track_head l) (map track_head_of tree.movie.tracks)) ∙ length-map (map track_head_of tree.movie.tracks) (reduce_track_head l) ∙ length-map tree.movie.tracks track_head_of
+heads_all : (l : Without) (file : List ℕ) (tree : FileTree) (scales : Scales) (known : List TrackHead) → HeadsRemain l file tree scales known → length known ≡ length tree.movie.tracks
+heads_all l file tree scales known h = sym (length-map known track_seen) ∙ ap length (heads_known l file tree scales known h) ∙ length-map (tracks_left l file tree) (λ (t : Track). t.head) ∙ tracks_many l file tree
 
 -- no track is left
-pub tracks_end : (l : Without) (file : List ℕ) (m : MovieSeen) (tree : FileTree) (known : List TrackHead) (k : ℕ) (Took : List ℕ → Type 0) (held held_b : List ℕ) (old new : ℕ) → IsOpenedAs file m tree
-    → map track_seen known ≡ number_heads l 1 (map (reduce_track_head l) (map track_head_of tree.movie.tracks))
+pub tracks_end : (l : Without) (file : List ℕ) (m : MovieSeen) (tree : FileTree) (scales : Scales) (known : List TrackHead) (k : ℕ) (Took : List ℕ → Type 0) (held held_b : List ℕ) (old new : ℕ) → IsOpenedAs file m tree → HeadsRemain l file tree scales known
     → (length m.tracks ≡ length tree.movie.tracks → length known ≡ length tree.movie.tracks → length tree.movie.tracks ≤ k) → TracksTold l file tree k Took held held_b old new → BytesGoOn Took held held_b (text_from l file tree 0)
-tracks_end l file m tree known k Took held held_b old new o e over h =
+tracks_end l file m tree scales known k Took held held_b old new o remains over h =
     let many = tracks_many l file tree in
-    let end = over (infos_all file m tree o) (heads_all l tree known e) in
+    let end = over (infos_all file m tree o) (heads_all l file tree scales known remains) in
     texts_all Took held held_b (text_from l file tree k) (text_from l file tree 0) h.goes (ap (flat_map track_text) (drop_all (tracks_left l file tree) k (omega (arith, many, end))))
 
-module _ (l : Without) (file : List ℕ) (m : MovieSeen) (tree : FileTree) (known : List TrackHead) (k : ℕ) (o : IsOpenedAs file m tree) (same : map track_seen known ≡ number_heads l 1 (map (reduce_track_head l) (map track_head_of tree.movie.tracks))) (head : TrackHead) (info : TrackInfo)
-    (h_at : slice_get known k ≡ Some head) (i_at : slice_get m.tracks k ≡ Some info) where
+module _ (l : Without) (file : List ℕ) (m : MovieSeen) (tree : FileTree) (scales : Scales) (known : List TrackHead) (k : ℕ) (o : IsOpenedAs file m tree) (remains : HeadsRemain l file tree scales known) (head : TrackHead) (info : TrackInfo)
+    (h_at : slice_get known k ≡ Some head) (i_at : slice_get m.tracks k ≡ Some info) (divisor : ℕ) (divides : divisor ≡ unwrap_or (slice_get scales.tracks.items k) 1) where
   -- the track of the file
   pub track_there : (t : TrackTree) × (slice_get tree.movie.tracks k ≡ Some t)
   track_there = first_of_two (IsInfoOf file tree) tree.movie.tracks m.tracks k info o.tracks i_at
 
-  head_is : track_seen head ≡ number_head l (k + 1) (reduce_track_head l (track_head_of track_there.0))
-  head_is = some_is (track_seen head) (number_head l (k + 1) (reduce_track_head l (track_head_of track_there.0))) (sym (get_map track_seen known k head h_at) ∙ ap (λ (hs : List heads.TrackHead). slice_get hs k) same
-      ∙ head_from l 1 k (map (reduce_track_head l) (map track_head_of tree.movie.tracks)) (reduce_track_head l (track_head_of track_there.0))
-      (get_map (reduce_track_head l) (map track_head_of tree.movie.tracks) k (track_head_of track_there.0) (get_map track_head_of tree.movie.tracks k track_there.0 track_there.1)))
+  left_at : slice_get (tracks_left l file tree) k ≡ Some (number_track l (k + 1) (one_left l file tree track_there.0))
+  left_at = file_track_remains l file tree k track_there.0 track_there.1
+
+  head_is : track_seen head ≡ (number_track l (k + 1) (one_left l file tree track_there.0)).head
+  head_is = some_is (track_seen head) (number_track l (k + 1) (one_left l file tree track_there.0)).head (sym (get_map track_seen known k head h_at) ∙ ap (λ (hs : List heads.TrackHead). slice_get hs k) (heads_known l file tree scales known remains)
+      ∙ get_map (λ (t : Track). t.head) (tracks_left l file tree) k (number_track l (k + 1) (one_left l file tree track_there.0)) left_at)
+
+  -- its divisor
+  own_is : divisor ≡ track_divisor l (track_of file (file_parts tree) track_there.0)
+  own_is = divides ∙ ap (λ (ds : List ℕ). unwrap_or (slice_get ds k) 1) remains.scales_are.tracks ∙ ap (λ (d : Option ℕ). unwrap_or d 1) (file_divisor_at l file tree k track_there.0 track_there.1)
 
   abbrev pub front : List ℕ
-  front = front_of (track_seen head) (start_left l info.start)
+  front = front_of (track_seen head) (divided divisor (start_left l info.start))
 
   -- the lines of its samples
   abbrev pub lines : List ℕ
-  lines = flat_map sample_text (reduce_track l (track_of file (file_parts tree) track_there.0)).samples
+  lines = flat_map sample_text (divided_samples l divisor (track_of file (file_parts tree) track_there.0))
 
-  track_is : front ++ lines ≡ track_text (number_track l (k + 1) (reduce_track l (track_of file (file_parts tree) track_there.0)))
+  track_is : front ++ lines ≡ track_text (number_track l (k + 1) (one_left l file tree track_there.0))
   track_is =
       let t = track_there.0 in
       let start = (get_zip (IsInfoOf file tree) tree.movie.tracks m.tracks k t info o.tracks track_there.1 i_at).start in
-      λ i. head_lines (head_is i) ++ number_line (codes "start") (start_left l (start i)) ++ samples_heading (head_is i).id ++ lines
+      λ i. head_lines (head_is i) ++ number_line (codes "start") (divided (own_is i) (start_left l (start i))) ++ samples_heading (head_is i).id ++ flat_map sample_text (divided_samples l (own_is i) (track_of file (file_parts tree) t))
 
   -- first what the track says before its samples, then their lines
   two_parts : text_from l file tree k ≡ front ++ (lines ++ text_from l file tree (k + 1))
   two_parts =
-      let t = track_there.0 in
-      let own = map (track_of file (file_parts tree)) tree.movie.tracks in
-      let one = track_of file (file_parts tree) t in
-      let at = numbered_at l k (map (reduce_track l) own) (reduce_track l one) (get_map (reduce_track l) own k one (get_map (track_of file (file_parts tree)) tree.movie.tracks k t track_there.1)) in
-      ap (flat_map track_text) (drop_plus (tracks_left l file tree) k (number_track l (k + 1) (reduce_track l one)) at) ∙ ap (λ (bs : List ℕ). bs ++ text_from l file tree (k + 1)) (sym track_is) ∙ append_assoc front lines (text_from l file tree (k + 1))
+      ap (flat_map track_text) (drop_plus (tracks_left l file tree) k (number_track l (k + 1) (one_left l file tree track_there.0)) left_at) ∙ ap (λ (bs : List ℕ). bs ++ text_from l file tree (k + 1)) (sym track_is) ∙ append_assoc front lines (text_from l file tree (k + 1))
 
   steps_next : steps_from tree k ≡ walk_steps tree track_there.0 + steps_from tree (k + 1)
   steps_next = ap (sum_of (walk_steps tree)) (drop_plus tree.movie.tracks k track_there.0 track_there.1)

@@ -1,4 +1,4 @@
--- The normal form of what is left of what a file denotes: all of it is put, or why it is not.
+-- The normal form of what remains of what a file denotes: all of it is put, or why it is not.
 use Rattle.std.proofs.Common.{◌≡◌, ◌⊎◌, inl, inr, ℕ, List, [], ◌∷◌, refl, subst}
 use Rattle.std.specs.Prelude.{Bool, Result, Ok, Err, IfErr, OnOk, OnErr, IsTrue}
 use Rattle.mp4_boxes.specs.declared.fault.Fault.{Fault}
@@ -7,13 +7,14 @@ use Rattle.mp4_boxes.specs.declared.refusal.Refusal.TheVariants as refusals
 use Rattle.mp4_present.specs.format.Denotes.{FileTree, presentation_of}
 use Rattle.std.specs.List.{AllByRecursion}
 use Rattle.mp4_present.specs.format.Presentation.{Presentation, Track, IsInTime}
-use Rattle.mp4_content.specs.format.Reduced.{HasNearOffsets, reduce, reduce_track, timescale_left}
+use Rattle.mp4_content.specs.format.Reduced.{HasNearOffsets}
+use Rattle.mp4_content.specs.format.Remaining.{RemainsInLimits, movie_divisor, remaining, remaining_movie, remaining_track}
 use Rattle.mp4_present.specs.words.Movies.{MovieSeen}
 use Rattle.mp4_present.specs.words.OpenedMovie.{IsOpenedAs}
 use Rattle.mp4_content.specs.declared.without.Without.{Without}
 use Rattle.mp4_present.proofs.WalkCopied.{on_err}
 use Rattle.mp4_plan.specs.format.Normal.{normal}
-use Rattle.mp4_content.specs.format.ReducedTimes.{ReducedFaultStands, ReducesInLimits}
+use Rattle.mp4_content.specs.format.ReducedTimes.{ReducedFaultStands}
 use Rattle.mp4_content.specs.words.LeftTimes.{NamesLong}
 use Rattle.mp4_plan.specs.words.LeftRefusals.{RefusesLeftCopy}
 use Rattle.mp4_plan.specs.words.MadeWriters.{TellsLong}
@@ -24,11 +25,11 @@ use Rattle.mp4_answers.specs.format.ReducedHeadline.{HasReducedForm, PassesLimit
 use Rattle.mp4_answers.specs.format.Run.{Run, Honest, PutsNothing, PutsAll, PutsFront, PutsSomeOf, Answered}
 use Rattle.mp4_answers.proofs.ShownLines.{judged}
 
--- the normal form of what is left of what was opened is one of its file
-reduced_form : (l : Without) (file : List ℕ) (m : MovieSeen) (tree : FileTree) → IsOpenedAs file m tree → ReducesInLimits l (presentation_of file tree) → HasReducedForm l file (normal (reduce l (presentation_of file tree)))
+-- the normal form of what remains of what was opened is one of its file
+reduced_form : (l : Without) (file : List ℕ) (m : MovieSeen) (tree : FileTree) → IsOpenedAs file m tree → RemainsInLimits l (presentation_of file tree) → HasReducedForm l file (normal (remaining l (presentation_of file tree)))
 reduced_form l file m tree o in_time = (presentation_of file tree, judged file m tree o, in_time, refl)
 
--- what is left is within the limits, or it is not
+-- what remains is within the limits, or it is not
 each_or : (P : Track → Type 0) → ((t : Track) → P t ⊎ (P t → ⊥)) → (tracks : List Track) → AllByRecursion P tracks ⊎ (AllByRecursion P tracks → ⊥)
 each_or P or [] = inl tt
 each_or P or (t ∷ tracks) = elim (or t) [
@@ -39,12 +40,13 @@ each_or P or (t ∷ tracks) = elim (or t) [
   | inr fails ↦ inr (λ h. fails h.0)
 ]
 
-reduces_or : (l : Without) (p : Presentation) → ReducesInLimits l p ⊎ (ReducesInLimits l p → ⊥)
-reduces_or l p =
-    let timescale = timescale_left l p.movie.timescale in
-    elim (each_or (λ (t : Track). IsInTime timescale (reduce_track l t)) (λ t. in_time_or timescale (reduce_track l t)) p.tracks) [
+remains_or : (l : Without) (p : Presentation) → RemainsInLimits l p ⊎ (RemainsInLimits l p → ⊥)
+remains_or l p =
+    let timescale = (remaining_movie l (movie_divisor l p) p.movie).timescale in
+    let left = remaining_track l (movie_divisor l p) in
+    elim (each_or (λ (t : Track). IsInTime timescale (left t)) (λ t. in_time_or timescale (left t)) p.tracks) [
       | inr long ↦ inr (λ h. long h.in_time)
-      | inl short ↦ elim (each_or (λ (t : Track). HasNearOffsets (reduce_track l t)) (λ t. near_offsets_or (reduce_track l t)) p.tracks) [
+      | inl short ↦ elim (each_or (λ (t : Track). HasNearOffsets (left t)) (λ t. near_offsets_or (left t)) p.tracks) [
         | inl near ↦ inl (record { in_time = short; in_range = near })
         | inr far ↦ inr (λ h. far h.in_range)
       ]
@@ -106,7 +108,7 @@ module _ (l : Without) (r : Run) (honest_then : Bool) (file_then : List ℕ) (m 
 
   -- the normal form of what is left
   abbrev left : List ℕ → FileTree → List ℕ
-  left f t = normal (reduce l (presentation_of f t))
+  left f t = normal (remaining l (presentation_of f t))
 
   pub reduced_written : {T : Type 0} (answer : Result T Refusal) → Then honest_then file_then (λ f t. OnOk answer (r.took (left f t))) → Then honest_then file_then (λ f t. TellsLong l f t answer (PutsNothing r))
       → OnOk answer (Honest r → PutsAll r (HasReducedForm l r.file))
@@ -116,7 +118,7 @@ module _ (l : Without) (r : Run) (honest_then : Bool) (file_then : List ℕ) (m 
   reduced_written (Err e) put long = tt
 
   -- a front of it was put, where it is not too long
-  front_in_time : (told : Honest r) → ReducesInLimits l (presentation_of r.file (opened told).0) → PutsSomeOf r (left r.file (opened told).0) → PutsFront r (HasReducedForm l r.file)
+  front_in_time : (told : Honest r) → RemainsInLimits l (presentation_of r.file (opened told).0) → PutsSomeOf r (left r.file (opened told).0) → PutsFront r (HasReducedForm l r.file)
   front_in_time told in_time put = (left r.file (opened told).0, reduced_form l r.file m (opened told).0 (opened told).1 in_time, put)
 
   pub reduced_front : {T : Type 0} (answer : Result T Refusal) → Then honest_then file_then (λ f t. OnErr answer (PutsSomeOf r (left f t))) → Then honest_then file_then (λ f t. TellsLong l f t answer (PutsNothing r))
@@ -124,14 +126,14 @@ module _ (l : Without) (r : Run) (honest_then : Bool) (file_then : List ℕ) (m 
   reduced_front answer put long told =
       let tells = so (λ f t. TellsLong l f t answer (PutsNothing r)) long told in
       on_err _ _ answer
-      (λ a. elim (reduces_or l (presentation_of r.file (opened told).0)) [
+      (λ a. elim (remains_or l (presentation_of r.file (opened told).0)) [
         | inl in_time ↦ inr (front_in_time told in_time a)
         | inr late ↦ inl (tells.nothing late)
       ])
       (so (λ f t. OnErr answer (PutsSomeOf r (left f t))) put told)
 
   begun_in_time : {T : Type 0} (answer : Result T Refusal) → Then honest_then file_then (λ f t. TellsLong l f t answer (PutsNothing r)) → (told : Honest r)
-      → IfErr answer (λ e. e ≡ refusals.WriteFailed → ReducesInLimits l (presentation_of r.file (opened told).0))
+      → IfErr answer (λ e. e ≡ refusals.WriteFailed → RemainsInLimits l (presentation_of r.file (opened told).0))
   begun_in_time answer long told = (so (λ f t. TellsLong l f t answer (PutsNothing r)) long told).begun
 
   pub reduced_begun : {T : Type 0} (answer : Result T Refusal) → Then honest_then file_then (λ f t. OnErr answer (PutsSomeOf r (left f t))) → Then honest_then file_then (λ f t. TellsLong l f t answer (PutsNothing r))
@@ -144,7 +146,7 @@ module _ (l : Without) (r : Run) (honest_then : Bool) (file_then : List ℕ) (m 
   none_too_long answer long told late =
       let tells = so (λ f t. TellsLong l f t answer (PutsNothing r)) long told in
       let same : presentation_of r.file (opened told).0 ≡ late.0 = judged_one r.file (presentation_of r.file (opened told).0) late.0 (judged r.file m (opened told).0 (opened told).1) late.1 in
-      tells.nothing (λ in_time. late.2 (subst (ReducesInLimits l) same in_time))
+      tells.nothing (λ in_time. late.2 (subst (RemainsInLimits l) same in_time))
 
   pub reduced_unchanged : {T : Type 0} (answer : Result T Refusal) → Then honest_then file_then (λ f t. IfErr answer (λ e. e ≡ refusals.StoreChanged → ⊥)) → Honest r → IfErr answer (λ e. e ≡ refusals.StoreChanged → ⊥)
   reduced_unchanged answer put told = so (λ f t. IfErr answer (λ e. e ≡ refusals.StoreChanged → ⊥)) put told

@@ -8,6 +8,7 @@ use Rattle.mp4_boxes.specs.declared.refusal.Refusal.TheVariants as refusals
 use Rattle.mp4_present.specs.words.Carried.{RefusesCarry, RefusesCopy, RefusesPut}
 use Rattle.mp4_present.specs.words.Opening.{RefusesOpen}
 use Rattle.mp4_present.specs.format.Judge.{judge}
+use Rattle.mp4_content.specs.words.Opened.{RefusesPlan}
 use Rattle.mp4_plan.proofs.Judged.{first_fault_refuses}
 use Rattle.mp4_answers.specs.format.Answers.{IsFaultOf}
 use Rattle.mp4_answers.specs.format.Headline.{DenotesNothing}
@@ -28,6 +29,15 @@ module _ (A : Type 0) (r : Run) (IsText : List ℕ → Type 0) (IsFault : Fault 
   open_fails refusals.StoreChanged i n w = w
   open_fails refusals.WriteFailed i n w = absurd w
   open_fails refusals.NoSuchTrack i n w = absurd w
+
+  -- what its times are divided by is not found
+  pub plan_fails : (e : Refusal) → PutsNothing r → RefusesPlan r.reads r.reads_after e → (Honest r → e ≡ refusals.StoreChanged → ⊥) → Answered {A = A} r IsText IsFault Lacks (Err e)
+  plan_fails (refusals.Fault f) n w u = absurd w
+  plan_fails refusals.Memory n w u = n
+  plan_fails refusals.StoreFailed n w u = (w, λ told. inl n)
+  plan_fails refusals.StoreChanged n w u = λ told. u told refl
+  plan_fails refusals.WriteFailed n w u = absurd w
+  plan_fails refusals.NoSuchTrack n w u = absurd w
 
   -- a put fails
   pub put_fails : (e : Refusal) → RefusesPut r.puts r.puts_after e → (Honest r → PutsFront r IsText) → Answered {A = A} r IsText IsFault Lacks (Err e)

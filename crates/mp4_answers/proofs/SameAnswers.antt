@@ -3,10 +3,10 @@ use Rattle.std.proofs.Common.{◌≡◌, ℕ, List, refl, sym, ap, ◌∙◌}
 use Rattle.mp4_boxes.specs.format.Bytes.{AreBytes}
 use Rattle.mp4_present.specs.format.Presentation.{Track}
 use Rattle.mp4_present.specs.format.Judge.{judge}
-use Rattle.mp4_content.specs.format.Reduced.{reduce}
+use Rattle.mp4_content.specs.format.Remaining.{remaining}
 use Rattle.mp4_present.proofs.DenotedValid.{denoted_is_valid}
 use Rattle.mp4_present.proofs.JudgedTrees.{judged_denotes}
-use Rattle.mp4_content.proofs.Covering.{same_without_more}
+use Rattle.mp4_content.proofs.RemainingWords.{same_remains_without_more}
 use Rattle.mp4_plan.proofs.Judged.{denoted_judged, judged_one, normal_judged}
 use Rattle.mp4_plan.proofs.ReducedNormal.{reduced_normal_is_exact}
 use Rattle.mp4_present.proofs.DenotedOpens.{stands_refuses}
@@ -24,15 +24,15 @@ same_is_same_bytes l file other text other_text same x y is form other_form =
     let w = denoted_is_valid other other_form.0 y (judged_denotes other other_form.0 other_form.1) in
     let exact = reduced_normal_is_exact l form.0 other_form.0 v form.2 w other_form.2 in
     let at = is.is x y in (
-      λ e. form.3 ∙ exact.1 (ap (reduce l) p ∙ at.0 e ∙ sym (ap (reduce l) q)) ∙ sym other_form.3,
-      λ e. at.1 (sym (ap (reduce l) p) ∙ exact.0 (sym form.3 ∙ e ∙ other_form.3) ∙ ap (reduce l) q),
+      λ e. form.3 ∙ exact.1 (ap (remaining l) p ∙ at.0 e ∙ sym (ap (remaining l) q)) ∙ sym other_form.3,
+      λ e. at.1 (sym (ap (remaining l) p) ∙ exact.0 (sym form.3 ∙ e ∙ other_form.3) ∙ ap (remaining l) q),
     )
 
 pub same_stays_same : SameStaysSame
 same_stays_same l m file other more x y c is is_more =
     let p : is.p ≡ is_more.p = judged_one file is.p is_more.p is.first is_more.first in
     let q : is.q ≡ is_more.q = judged_one other is.q is_more.q is.second is_more.second in
-    (is_more.is x y).1 (sym (ap (reduce m) p) ∙ same_without_more l m is.p is.q c ((is.is x y).0 refl) ∙ ap (reduce m) q)
+    (is_more.is x y).1 (sym (ap (remaining m) p) ∙ same_remains_without_more l m is.p is.q c ((is.is x y).0 refl) ∙ ap (remaining m) q)
 
 -- ---- the normal form
 

@@ -82,18 +82,20 @@ moofs_sum trexes (f ∷ fragments) h =
 -- ---- the bound
 
 -- of tracks with so many samples and rows in tables, where each `moof`'s steps are within the other samples and rows, and those of the tracks' own `traf`s within the `moof`s'
--- Where this is so each track is walked over once more.
-few_steps : (v : Bool) (m o s f r more checks ways writes : ℕ) → o ≤ m → m ≤ f + more → checks ≡ 7 * r + 3 * s → ways ≡ r + 3 * s + 2 * o → writes ≡ 2 * ways + 2 * o
-    → (checks + m) + ((if v then ways else 0) + ways + writes) ≤ (if v then 15 else 12) * ((s + f) + (r + more))
-few_steps true m o s f r more checks ways writes own le c w x = omega (arith, own, le, c, w, x)
-few_steps false m o s f r more checks ways writes own le c w x = omega (arith, own, le, c, w, x)
+-- Where these are so each track is walked over once more.
+few_steps : (v w : Bool) (m o s f r more checks ways writes : ℕ) → o ≤ m → m ≤ f + more → checks ≡ 7 * r + 3 * s → ways ≡ r + 3 * s + 2 * o → writes ≡ 2 * ways + 2 * o
+    → (checks + m) + ((if v then ways else 0) + (if w then ways else 0) + ways + writes) ≤ (12 + (if v then 3 else 0) + (if w then 3 else 0)) * ((s + f) + (r + more))
+few_steps true true m o s f r more checks ways writes own le c w x = omega (arith, own, le, c, w, x)
+few_steps true false m o s f r more checks ways writes own le c w x = omega (arith, own, le, c, w, x)
+few_steps false true m o s f r more checks ways writes own le c w x = omega (arith, own, le, c, w, x)
+few_steps false false m o s f r more checks ways writes own le c w x = omega (arith, own, le, c, w, x)
 
 -- the steps of opening, planning and writing are within the bound
-abbrev pub IsWithin : Bool → FileTree → ℕ → Type 0
-IsWithin v tree samples = opening_steps tree + ((if v then walks_steps tree else 0) + walks_steps tree + writing_steps tree) ≤ (if v then 15 else 12) * (samples + row_total tree)
+abbrev pub IsWithin : Bool → Bool → FileTree → ℕ → Type 0
+IsWithin v w tree samples = opening_steps tree + ((if v then walks_steps tree else 0) + (if w then walks_steps tree else 0) + walks_steps tree + writing_steps tree) ≤ (12 + (if v then 3 else 0) + (if w then 3 else 0)) * (samples + row_total tree)
 
-tree_within : (v : Bool) (file : List ℕ) (tree : FileTree) → IsFileTree file tree → IsSoundFile tree → IsConsistent file tree → IsWithin v tree (sample_total (presentation_of file tree))
-tree_within v file tree h s c =
+tree_within : (v w : Bool) (file : List ℕ) (tree : FileTree) → IsFileTree file tree → IsSoundFile tree → IsConsistent file tree → IsWithin v w tree (sample_total (presentation_of file tree))
+tree_within v w file tree h s c =
     let tracks = tree.movie.tracks in
     let fragments = tree.fragments in
     let parts = file_parts tree in
@@ -105,12 +107,12 @@ tree_within v file tree h s c =
     let own = owns_few file tree h s.movie in
     let m = moofs_steps fragments in
     let o = owns_total tree tracks in
-    let short = few_steps v m o (plain_total tracks) (fragments_total parts tracks) (rows_of tracks) (fragment_rows_of fragments) (sum_of table_steps tracks) (walks_steps tree) (writing_steps tree) own few (checks_sum tracks) (ways_sum tree tracks) (writes_sum tree tracks) in
-    subst (λ n. IsWithin v tree n) (sym total) short
+    let short = few_steps v w m o (plain_total tracks) (fragments_total parts tracks) (rows_of tracks) (fragment_rows_of fragments) (sum_of table_steps tracks) (walks_steps tree) (writing_steps tree) own few (checks_sum tracks) (ways_sum tree tracks) (writes_sum tree tracks) in
+    subst (λ n. IsWithin v w tree n) (sym total) short
 
 -- opening a file, planning and writing
-pub all_within : (v : Bool) (file : List ℕ) (p : Presentation) (d : Denotes file p) → IsWithin v d.tree (sample_total p)
-all_within v file p d = subst (λ (q : Presentation). IsWithin v d.tree (sample_total q)) (sym d.says) (tree_within v file d.tree d.is_tree d.is_sound d.is_consistent)
+pub all_within : (v w : Bool) (file : List ℕ) (p : Presentation) (d : Denotes file p) → IsWithin v w d.tree (sample_total p)
+all_within v w file p d = subst (λ (q : Presentation). IsWithin v w d.tree (sample_total q)) (sym d.says) (tree_within v w file d.tree d.is_tree d.is_sound d.is_consistent)
 
 -- ---- a look, and a way over one track
 
@@ -188,6 +190,11 @@ often_looks walks two file p d =
     let many : k + 2 ≡ walks = omega (arith, two) in
     let own = subst (λ (q : Presentation). opening_steps d.tree + (k + 2) * walks_steps d.tree ≤ 3 * (k + 2 + 1) * (sample_total q + row_total d.tree)) (sym d.says) (tree_often k file d.tree d.is_tree d.is_sound d.is_consistent) in
     subst (λ n. opening_steps d.tree + n * walks_steps d.tree ≤ 3 * (n + 1) * (sample_total p + row_total d.tree)) many own
+
+-- opening a file, and a walk or two over each of its tracks
+pub print_looks : (v : Bool) (file : List ℕ) (p : Presentation) (d : Denotes file p) → opening_steps d.tree + ((if v then walks_steps d.tree else 0) + walks_steps d.tree) ≤ (if v then 9 else 8) * (sample_total p + row_total d.tree)
+print_looks true file p d = let all = often_looks 2 (omega arith) file p d in omega (arith, all)
+print_looks false file p d = let all = walks_looks file p d in omega (arith, all)
 
 -- opening a file takes at least a step for each sample and row
 least_of : (m s f r more leasts few : ℕ) → f ≤ few → m ≡ more + few → leasts ≡ r + 3 * s → (s + f) + (r + more) ≤ leasts + m

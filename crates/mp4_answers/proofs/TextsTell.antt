@@ -1,6 +1,6 @@
 -- Texts tell what they are of: heads, samples, tracks, and the whole.
-use Rattle.std.proofs.Common.{◌≡◌, ◌⊎◌, inl, inr, ℕ, zero, suc, ◌%◌, ◌^◌, ◌<◌, ◌≤◌, ◌-◌, min, ltb, cond, Bool, true, false, List, [], ◌∷◌, ◌++◌, length, take, refl, sym, ap, subst, ◌∙◌, arith, append_assoc, codes, decimal}
-use Rattle.std.specs.Prelude.{Contains, ◌&&◌, map, flat_map, filter, not, if◌then◌else◌, slice_index, ℤ, pos, negsuc, ◌-ℤ◌, FitsSigned}
+use Rattle.std.proofs.Common.{◌≡◌, ◌⊎◌, inl, inr, ℕ, zero, suc, ◌%◌, ◌^◌, ◌<◌, ◌≤◌, ◌-◌, min, ltb, cond, Bool, true, false, List, [], ◌∷◌, ◌++◌, length, take, refl, sym, ap, subst, ◌∙◌, arith, append_assoc, codes, decimal, div-le_self}
+use Rattle.std.specs.Prelude.{Contains, ◌&&◌, map, flat_map, filter, not, if◌then◌else◌, slice_index, ℤ, pos, negsuc, ◌-ℤ◌, neg_ℤ, FitsSigned}
 use Rattle.std.specs.Fmt.{signed_decimal}
 use Rattle.std.specs.Int.{w16, w32, w64}
 use Rattle.std.specs.List.{AllByRecursion}
@@ -20,8 +20,12 @@ use Rattle.mp4_boxes.proofs.Plain.{tail_is}
 use Rattle.mp4_tables.specs.format.Groups.{Groups}
 use Rattle.mp4_head.specs.format.Head.{Edit, Kept, Media, TrackHead, MovieHead, IsDescription, IsEdit, IsGroupDescription, IsKept, IsMedia, IsMovieHead, IsTrackHead}
 use Rattle.mp4_present.specs.format.Presentation.{Sample, Track, Presentation, IsGroup, IsInTime, IsSample, IsTrack, Valid}
-use Rattle.mp4_content.specs.format.Reduced.{number_track, first_offset, is_at_end, metadata_kinds, plain_handler, reduce, reduce_descriptions, reduce_kept, reduce_media, reduce_movie_head, reduce_sample, reduce_track, reduce_track_head, sync_flag}
+use Rattle.mp4_content.specs.format.Reduced.{number_track, first_offset, is_at_end, metadata_kinds, plain_handler, reduce_descriptions, reduce_kept, reduce_media, reduce_movie_head, reduce_sample, reduce_track, reduce_track_head, sync_flag}
+use Rattle.mp4_content.specs.format.Remaining.{movie_divisor, remaining, remaining_movie, remaining_track, track_divisor}
+use Rattle.mp4_content.specs.format.Timescales.{divided, leaves_duration, sample_by, sized, timescale_by, track_by}
 use Rattle.mp4_content.proofs.Numbered.{numbered_each}
+use Rattle.mp4_content.proofs.RemainingValues.{divided_each}
+use Rattle.mp4_content.proofs.TimescalesValid.{edits_good}
 use Rattle.mp4_content.specs.format.Zeros.{zeroed}
 use Rattle.mp4_content.proofs.SamplesReduced.{reduced_each}
 use Rattle.mp4_content.proofs.Plain.{descriptions_good}
@@ -632,7 +636,7 @@ r_not_k e = omega (arith, e)
 n_not_k : ◌≡◌ {A = ℕ} 110 107 → ⊥
 n_not_k e = omega (arith, e)
 
--- ---- what is left of what is valid
+-- ---- what remains of what is valid
 
 below_if : (v : Bool) (m n bound : ℕ) → m < bound → n < bound → (if v then m else n) < bound
 below_if true m n bound h k = h
@@ -730,6 +734,72 @@ told_track l timescale t h few in_time =
       samples = reduced_each (IsSample many) IsToldSample l count first (λ n s i. told_sample l many count first n s few fits i) 0 t.samples h.samples;
     }
 
+-- in lowest terms too
+divided_below : (g n bound : ℕ) → n < bound → divided g n < bound
+divided_below g n bound h = let less = div-le_self n g in omega (arith, less, h)
+
+scale_below : (v : Bool) (g n : ℕ) → n < 2 ^ 64 → (if v then n else divided g n) < 2 ^ 64
+scale_below v g n h = below_if v n (divided g n) (2 ^ 64) h (divided_below g n (2 ^ 64) h)
+
+small_neg : (n : ℕ) → n < 2 ^ 64 → IsSmall (neg_ℤ (pos n))
+small_neg zero h = h
+small_neg (suc n) h = h
+
+small_divided : (g : ℕ) (z : ℤ) → IsSmall z → IsSmall (sized (divided g) z)
+small_divided g (pos n) h = divided_below g n (2 ^ 64) h
+small_divided g (negsuc n) h = small_neg (divided g (suc n)) (divided_below g (suc n) (2 ^ 64) h)
+
+movie_by : (l : Without) (a : ℕ) (m : MovieHead) → IsToldMovie m → IsToldMovie (record m { timescale = timescale_by l (divided a) m.timescale })
+movie_by l a m h = record {
+  creation = h.creation;
+  modification = h.modification;
+  timescale = scale_below l.timing a m.timescale h.timescale;
+  rate = h.rate;
+  volume = h.volume;
+  matrix = h.matrix;
+  kept = h.kept;
+}
+
+told_by : (l : Without) (a g : ℕ) (t : Track) → IsToldTrack t → IsToldTrack (track_by l (divided a) (divided g) t)
+told_by l a g t h = record {
+  head = record {
+    flags = h.head.flags;
+    creation = h.head.creation;
+    modification = h.head.modification;
+    id = h.head.id;
+    layer = h.head.layer;
+    alternate_group = h.head.alternate_group;
+    volume = h.head.volume;
+    matrix = h.head.matrix;
+    width = h.head.width;
+    height = h.head.height;
+    edits = edits_good a g t.head.edits h.head.edits;
+    kept = h.head.kept;
+    media = record {
+      creation = h.head.media.creation;
+      modification = h.head.media.modification;
+      timescale = scale_below l.timing g t.head.media.timescale h.head.media.timescale;
+      language = h.head.media.language;
+      handler = h.head.media.handler;
+      languages = h.head.media.languages;
+      header = h.head.media.header;
+      descriptions = h.head.media.descriptions;
+    };
+    group_descriptions = h.head.group_descriptions;
+  };
+  start = divided_below g t.start (2 ^ 64) h.start;
+  samples = divided_each l IsToldSample IsToldSample (divided g) (length t.samples) one 0 t.samples h.samples;
+}
+  where
+    one : (n : ℕ) (s : Sample) → IsToldSample s → IsToldSample (sample_by l (divided g) (length t.samples) n s)
+    one n s i = record {
+      duration = scale_below (leaves_duration l (length t.samples) n) g s.duration i.duration;
+      offset = small_divided g s.offset i.offset;
+      flags = i.flags;
+      description = i.description;
+      groups = i.groups;
+    }
+
 -- so it is behind its numbering
 told_numbered : (l : Without) (place : ℕ) (t : Track) → IsToldTrack t → IsToldTrack (number_track l place t)
 told_numbered l place t h = record {
@@ -753,10 +823,11 @@ told_numbered l place t h = record {
   samples = h.samples;
 }
 
-told_tracks : (l : Without) (p : Presentation) → Valid p → AllByRecursion IsToldTrack (reduce l p).tracks
+told_tracks : (l : Without) (p : Presentation) → Valid p → AllByRecursion IsToldTrack (remaining l p).tracks
 told_tracks l p v =
-    numbered_each l IsToldTrack IsToldTrack (λ place t some h. told_numbered l place t h) 1 (map (reduce_track l) p.tracks) (omega arith)
-    (each_value (λ (t : Track). CanWrite p.tracks t × IsInTime p.movie.timescale t) IsToldTrack (reduce_track l) (λ t i. told_track l p.movie.timescale t i.0.valid i.0.few i.1) p.tracks
+    let a = movie_divisor l p in
+    numbered_each l IsToldTrack IsToldTrack (λ place t some h. told_numbered l place t h) 1 (map (remaining_track l a) p.tracks) (omega arith)
+    (each_value (λ (t : Track). CanWrite p.tracks t × IsInTime p.movie.timescale t) IsToldTrack (remaining_track l a) (λ t i. told_by l a (track_divisor l t) (reduce_track l t) (told_track l p.movie.timescale t i.0.valid i.0.few i.1)) p.tracks
     (each_from (CanWrite p.tracks) (IsInTime p.movie.timescale) (λ (t : Track). CanWrite p.tracks t × IsInTime p.movie.timescale t) (λ t a b. (a, b)) p.tracks (valid_tracks p v) v.limits.times))
 
 -- ---- the whole
@@ -772,18 +843,21 @@ no_k tracks = differs_behind track_text 1 114 107 (λ x zs. refl) r_not_k tracks
 
 pub same_text_tells : TextsTell
 same_text_tells l p q v w e =
-    let m = reduce_movie_head l p.movie in
-    let n = reduce_movie_head l q.movie in
-    let ts = (reduce l p).tracks in
-    let us = (reduce l q).tracks in
-    let these = digested (reduce l p) in
-    let those = digested (reduce l q) in
+    let a = movie_divisor l p in
+    let b = movie_divisor l q in
+    let m = remaining_movie l a p.movie in
+    let n = remaining_movie l b q.movie in
+    let ts = (remaining l p).tracks in
+    let us = (remaining l q).tracks in
+    let these = digested (remaining l p) in
+    let those = digested (remaining l q) in
     let i = in_itself these in
     let o = in_itself those in
-    let whole = cancel (front_lines l) (text_of (reduce l p)) (text_of (reduce l q)) e in
+    let whole = cancel (front_lines l) (text_of (remaining l p)) (text_of (remaining l q)) e in
     let both = sym (append_assoc (movie_lines m) (flat_map track_text ts) end) ∙ whole ∙ append_assoc (movie_lines n) (flat_map track_text us) end in
     by (with_same these those ((m ≡ n) × (ts ≡ us)) m n (flat_map track_text ts ++ end) (flat_map track_text us
-    ++ end) (same_movie these those m n (flat_map track_text ts ++ end) (flat_map track_text us ++ end) (told_movie l p.movie v.movie) (told_movie l q.movie w.movie) (all_first (Contains these) (payloads_of m.kept) (flat_map digested_track ts) i)
+    ++ end) (same_movie these those m n (flat_map track_text ts ++ end) (flat_map track_text us ++ end) (movie_by l a (reduce_movie_head l p.movie) (told_movie l p.movie v.movie)) (movie_by l b (reduce_movie_head l q.movie) (told_movie l q.movie w.movie))
+    (all_first (Contains these) (payloads_of m.kept) (flat_map digested_track ts) i)
     (all_first (Contains those) (payloads_of n.kept) (flat_map digested_track us) o) (no_k ts) (no_k us) both)
     (λ movie rest.
     with_same these those ((m ≡ n)
@@ -791,6 +865,6 @@ same_text_tells l p q v w e =
     (same_tracks these those ts us (tracks_in these ts (told_tracks l p v) (all_last (Contains these) (payloads_of m.kept) (flat_map digested_track ts) i)) (tracks_in those us (told_tracks l q w) (all_last (Contains those) (payloads_of n.kept) (flat_map digested_track us) o)) rest)
     (λ tracks stop. inl (movie, tracks))))
   where
-    by : ((reduce_movie_head l p.movie ≡ reduce_movie_head l q.movie) × ((reduce l p).tracks ≡ (reduce l q).tracks)) ⊎ Collision (digested (reduce l p)) (digested (reduce l q)) → (reduce l p ≡ reduce l q) ⊎ Collision (digested (reduce l p)) (digested (reduce l q))
+    by : (((remaining l p).movie ≡ (remaining l q).movie) × ((remaining l p).tracks ≡ (remaining l q).tracks)) ⊎ Collision (digested (remaining l p)) (digested (remaining l q)) → (remaining l p ≡ remaining l q) ⊎ Collision (digested (remaining l p)) (digested (remaining l q))
     by (inl s) = inl (λ i. record { movie = s.0 i; tracks = s.1 i })
     by (inr c) = inr c

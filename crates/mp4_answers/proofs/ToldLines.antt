@@ -20,8 +20,10 @@ use Rattle.mp4_tables.proofs.Placed as placed
 use Rattle.mp4_head.specs.format.Tree.{TrackTree}
 use Rattle.mp4_present.specs.format.Denotes.{FileTree, bytes_at, sample_of, file_parts, placed_of, track_of}
 use Rattle.mp4_present.specs.format.Presentation.{IsGroup}
-use Rattle.mp4_content.specs.format.Reduced.{reduce_from, reduce_sample, reduce_track}
-use Rattle.mp4_content.specs.words.ComingLess.{cto_left, flags_left, lasts_left, track_reduction}
+use Rattle.mp4_content.specs.format.Reduced.{reduce_sample}
+use Rattle.mp4_content.specs.format.Remaining.{divided_samples}
+use Rattle.mp4_content.specs.format.Timescales.{divided, sample_by}
+use Rattle.mp4_content.specs.words.ComingLess.{cto_left, flags_left, lasts_left, reduction_of}
 use Rattle.mp4_content.specs.words.Differing.{index_in}
 use Rattle.mp4_present.specs.words.Movies.{MovieSeen}
 use Rattle.mp4_present.specs.words.OpenedMovie.{IsOpenedAs, IsInfoOf}
@@ -31,6 +33,7 @@ use Rattle.mp4_content.specs.declared.without.Without.{Without}
 use Rattle.mp4_present.specs.declared.track_info.TrackInfo.{TrackInfo}
 use Rattle.mp4_content.proofs.ComparisonGroups.{index_rank}
 use Rattle.mp4_present.proofs.SamplesLie.{bytes_whole, there}
+use Rattle.mp4_content.proofs.ReducedTaken.{remaining_from}
 use Rattle.mp4_content.proofs.SamplesReduced.{reduced_by}
 use Rattle.mp4_present.proofs.ValidSamples.{is_group, is_parameter}
 use Rattle.mp4_plan.specs.format.Normal.{in_key_order}
@@ -126,7 +129,7 @@ module _ (r : Reduction) (keys : Keys) (style : SampleStyle) (is : IsStyle r key
   order_is : keys_seen style.order ≡ (if q.leaving.groups then [] else in_key_order own)
   order_is = is.order ∙ (λ i. if (sym is.reduction i).leaving.groups then [] else in_key_order (e i))
 
-  one_told : (number dts : ℕ) (s : PlacedSample) → IsSampleOf file own s → told_sample style file (sample_at own number dts s) ≡ sample_text (reduce_sample q.leaving q.samples q.offset number (sample_of file s))
+  one_told : (number dts : ℕ) (s : PlacedSample) → IsSampleOf file own s → told_sample style file (sample_at own number dts s) ≡ sample_text (sample_by q.leaving (divided q.divisor) q.samples number (reduce_sample q.leaving q.samples q.offset number (sample_of file s)))
   one_told number dts s h =
       let bytes = bytes_at file s.at s.size in
       let size : s.size ≡ length bytes = sym (bytes_whole file s.at s.size h.1) in
@@ -138,20 +141,20 @@ module _ (r : Reduction) (keys : Keys) (style : SampleStyle) (is : IsStyle r key
       (told_indexes style.keys (sample_at own number dts s) (keys_seen style.order)) line_feed
       ∙ (λ i. space ++ decimal (lasts_left q number s.duration) ++ space ++ signed_decimal (cto_left q s.offset) ++ space ++ hex_digits 8 (flags_left q s.flags) ++ space ++ decimal s.description ++ space ++ decimal (size i) ++ space ++ hex_text (digest i) ++ groups i ++ line_feed)
 
-  all_told : (number dts : ℕ) (samples : List PlacedSample) → AllByRecursion (IsSampleOf file own) samples → flat_map (told_sample style file) (timed own number dts samples) ≡ flat_map sample_text (reduce_from q.leaving q.samples q.offset number (map (sample_of file) samples))
+  all_told : (number dts : ℕ) (samples : List PlacedSample) → AllByRecursion (IsSampleOf file own) samples → flat_map (told_sample style file) (timed own number dts samples) ≡ flat_map sample_text (remaining_from q.leaving q.divisor q.samples q.offset number (map (sample_of file) samples))
   all_told number dts [] h = refl
   all_told number dts (s ∷ samples) h =
       let one = one_told number dts s h.0 in
-      let more = all_told (number + 1) (dts + s.duration) samples h.1 ∙ (λ i. flat_map sample_text (reduce_from q.leaving q.samples q.offset (plus_one number i) (map (sample_of file) samples))) in
+      let more = all_told (number + 1) (dts + s.duration) samples h.1 ∙ (λ i. flat_map sample_text (remaining_from q.leaving q.divisor q.samples q.offset (plus_one number i) (map (sample_of file) samples))) in
       λ i. one i ++ more i
 
 -- ---- a track
 
 -- The lines of a track's samples are those of the samples that are left of it.
-pub track_told : (l : Without) (style : SampleStyle) (file : List ℕ) (m : MovieSeen) (tree : FileTree) (t : TrackTree) (k : ℕ) (info : TrackInfo) → IsOpenedAs file m tree → slice_get tree.movie.tracks k ≡ Some t → slice_get m.tracks k ≡ Some info
-    → IsStyle (track_reduction l tree t) info.keys style
-    → flat_map (told_sample style file) (track_samples tree t) ≡ flat_map sample_text (reduce_track l (track_of file (file_parts tree) t)).samples
-track_told l style file m tree t k info o at there is =
+pub track_told : (l : Without) (divisor : ℕ) (style : SampleStyle) (file : List ℕ) (m : MovieSeen) (tree : FileTree) (t : TrackTree) (k : ℕ) (info : TrackInfo) → IsOpenedAs file m tree → slice_get tree.movie.tracks k ≡ Some t → slice_get m.tracks k ≡ Some info
+    → IsStyle (reduction_of l divisor (track_samples tree t)) info.keys style
+    → flat_map (told_sample style file) (track_samples tree t) ≡ flat_map sample_text (divided_samples l divisor (track_of file (file_parts tree) t))
+track_told l divisor style file m tree t k info o at there is =
     let own = (get_zip (IsInfoOf file tree) tree.movie.tracks m.tracks k t info o.tracks at there).keys in
-    all_told (track_reduction l tree t) info.keys style is file (track_keys tree t) own 0 _ (placed_of (file_parts tree) t) (opened_samples file m tree t k o at)
-    ∙ ap (flat_map sample_text) (reduced_by l style.reduction file (track_keys tree t) 0 _ (placed_of (file_parts tree) t) is.reduction)
+    all_told (reduction_of l divisor (track_samples tree t)) info.keys style is file (track_keys tree t) own 0 _ (placed_of (file_parts tree) t) (opened_samples file m tree t k o at)
+    ∙ ap (flat_map sample_text) (reduced_by l divisor style.reduction file (track_keys tree t) 0 _ (placed_of (file_parts tree) t) is.reduction)

@@ -99,7 +99,7 @@ module _ (l : Without) where
   left_out (w ∷ ws) = if has l w then word_name w ∷ left_out ws else left_out ws
 
   lacks : (w : Word) → Lacks 44 (word_name w)
-  lacks = by_words (λ w. Lacks 44 (word_name w)) refl refl refl refl refl refl refl refl refl refl refl refl
+  lacks = by_words (λ w. Lacks 44 (word_name w)) refl refl refl refl refl refl refl refl refl refl refl refl refl
 
   -- behind a word
   printed_behind : (front : List ℕ) (ws : List Word) → Lacks 44 front → words_of (front ++ words_text l false ws) ≡ front ∷ left_out ws
@@ -125,10 +125,10 @@ module _ (l : Without) where
   -- ---- what is printed leaves the same out
 
   known : (w : Word) → word_meant (word_name w) ≡ Some (only_these (w ∷ []))
-  known = by_words (λ w. word_meant (word_name w) ≡ Some (only_these (w ∷ []))) refl refl refl refl refl refl refl refl refl refl refl refl
+  known = by_words (λ w. word_meant (word_name w) ≡ Some (only_these (w ∷ []))) refl refl refl refl refl refl refl refl refl refl refl refl refl
 
   all_listed : (w : Word) → is_listed all_words w ≡ true
-  all_listed = by_words (λ w. is_listed all_words w ≡ true) refl refl refl refl refl refl refl refl refl refl refl refl
+  all_listed = by_words (λ w. is_listed all_words w ≡ true) refl refl refl refl refl refl refl refl refl refl refl refl refl
 
   mean : (ws : List Word) → words_meant (left_out ws) ≡ Some (each (λ v. has l v && is_listed ws v))
   mean [] = ap Some (λ i. each (λ v. sym (and_false (has l v)) i))

@@ -32,7 +32,7 @@ of_listed P (v ∷ words) h w e = by (of_listed P words h.1 w) (word_number v ==
     by others false same e = others e
 
 single_listed : (w : Word) → is_listed single_words w ≡ true
-single_listed = by_words (λ w. is_listed single_words w ≡ true) refl refl refl refl refl refl refl refl refl refl refl refl
+single_listed = by_words (λ w. is_listed single_words w ≡ true) refl refl refl refl refl refl refl refl refl refl refl refl refl
 
 -- ---- one word of several sets
 

@@ -9,7 +9,7 @@ use crate::text::cutting::cut;
 use mp4_content::{Without, Word};
 
 /// The words in the order in which they are taken away where they aren't needed: `timing` before
-/// `ends` and `origins`, which leave out less.
+/// `ends`, `origins` and `timescales`, which leave out less.
 pub(crate) const TAKEN: &[Word] = &[
     Word::Times,
     Word::Edits,
@@ -23,6 +23,7 @@ pub(crate) const TAKEN: &[Word] = &[
     Word::Origins,
     Word::Roles,
     Word::Ids,
+    Word::Timescales,
 ];
 
 // The words of `packaging-1`: what changes when a file is packed another way. They never change, so

@@ -4,10 +4,10 @@ use Rattle.std.proofs.lemmas.List.{length-drop}
 use Rattle.mp4_present.specs.format.Presentation.{Sample, Track}
 use Rattle.mp4_content.specs.format.Alignment.{IsAlignment, IsEnd, IsFront, IsPairAligned, between, if_there}
 use Rattle.mp4_content.specs.format.AlignmentLaws.{AlignmentIsOne, FrontAndEndFit, NothingBesideItself, NothingIsSame}
-use Rattle.mp4_content.specs.format.Reduced.{reduce_samples}
+use Rattle.mp4_content.specs.format.Remaining.{remaining_samples, track_divisor}
 use Rattle.mp4_content.specs.declared.aligning.Alignment.{Alignment}
 use Rattle.mp4_content.specs.declared.without.Without.{Without}
-use Rattle.mp4_content.proofs.Aligned.{many_left}
+use Rattle.mp4_content.proofs.SamplesReduced.{divided_length}
 
 pub nothing_is_same : NothingIsSame
 nothing_is_same l number t u None h = (λ e. h, λ e. refl)
@@ -21,10 +21,10 @@ front_and_end_fit l number t u a h =
     let front_right = f.1 in
     let end = e.0 in
     let end_right = e.1 in
-    let many = many_left l t.samples in
-    let many_right = many_left l u.samples in
-    let left = length-drop a.front (reduce_samples l t.samples) in
-    let right = length-drop a.front (reduce_samples l u.samples) in
+    let many = divided_length l (track_divisor l t) t in
+    let many_right = divided_length l (track_divisor l u) u in
+    let left = length-drop a.front (remaining_samples l t) in
+    let right = length-drop a.front (remaining_samples l u) in
     (omega (arith, front, end, many, left), omega (arith, front_right, end_right, many_right, right))
 
 -- ---- one answer
@@ -42,10 +42,10 @@ ends_meet xs ys m n h k =
     omega (arith, few, many)
 
 module _ (l : Without) (number : ℕ) (t u : Track) where
-  one_alignment : (a b : Alignment) → IsAlignment l number t u a → IsAlignment l number t u b → a ≡ b
+  one_alignment : (a b : Alignment) → IsAlignment number t u (remaining_samples l t) (remaining_samples l u) a → IsAlignment number t u (remaining_samples l t) (remaining_samples l u) b → a ≡ b
   one_alignment a b h k =
       let front = fronts_meet _ _ a.front b.front h.is_front k.is_front in
-      let other_end = subst (λ (n : ℕ). IsEnd (drop n (reduce_samples l t.samples)) (drop n (reduce_samples l u.samples)) b.end) (sym front) k.is_end in
+      let other_end = subst (λ (n : ℕ). IsEnd (drop n (remaining_samples l t)) (drop n (remaining_samples l u)) b.end) (sym front) k.is_end in
       let end = ends_meet _ _ a.end b.end h.is_end other_end in
       let track = h.track ∙ sym k.track in
       let left = h.left ∙ (λ i. between (front i) (end i) t) ∙ sym k.left in

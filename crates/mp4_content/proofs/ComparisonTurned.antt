@@ -7,7 +7,7 @@ use Rattle.std.proofs.lemmas.Bool.{eqb-true, eq-eqb}
 use Rattle.mp4_tables.specs.format.Groups.{GroupKey, Groups, index_at}
 use Rattle.mp4_head.specs.format.Head.{Kept, Edit, TrackHead, MovieHead}
 use Rattle.mp4_present.specs.format.Presentation.{Sample, Track, Presentation}
-use Rattle.mp4_content.specs.format.Reduced.{reduce}
+use Rattle.mp4_content.specs.format.Remaining.{remaining}
 use Rattle.mp4_content.specs.format.Differences.{same_value, differ, numbers_differ, signed, first_unequal, byte_at, bytes_differ, payload_differences, each_differ, box_differences, edit_differences, matrix_differences, movie_differences, head_differences}
 use Rattle.mp4_content.specs.format.Comparison.{keys_of_both, index_differences, sample_differences, track_differences, differences}
 use Rattle.mp4_content.specs.format.ComparisonLaws.{swapped, SwappedFilesSwapValues}
@@ -163,4 +163,4 @@ whole_turned p q g h =
     joined_turned (movie ++ count) (each_differ track_differences 1 p.tracks q.tracks) front (each_turned IsPlain track_differences track_turned 1 p.tracks q.tracks g.tracks h.tracks)
 
 pub swapped_files_swap_values : SwappedFilesSwapValues
-swapped_files_swap_values l p q v w = sym (whole_turned (reduce l p) (reduce l q) (all_plain l p v) (all_plain l q w))
+swapped_files_swap_values l p q v w = sym (whole_turned (remaining l p) (remaining l q) (all_plain l p v) (all_plain l q w))

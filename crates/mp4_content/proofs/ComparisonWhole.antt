@@ -1,10 +1,12 @@
--- What the differences between two presentations tell: where there is none, what is left of them is the same.
+-- What the differences between two presentations tell: where there is none, what remains of them is the same.
 use Rattle.std.proofs.Common.{◌≡◌, ℕ, Bool, true, false, if◌then◌else◌, List, [], length, map, ℤ, refl, sym, ap, ◌∙◌, arith}
 use Rattle.std.specs.List.{AllByRecursion}
 use Rattle.mp4_boxes.proofs.Each.{each_value}
 use Rattle.mp4_tables.specs.format.Groups.{Groups}
 use Rattle.mp4_present.specs.format.Presentation.{Sample, Track, Presentation, IsSample, IsTrack, Valid}
-use Rattle.mp4_content.specs.format.Reduced.{reduce_sample, first_offset, reduce_track, reduce}
+use Rattle.mp4_content.specs.format.Reduced.{reduce_sample, first_offset, reduce_track}
+use Rattle.mp4_content.specs.format.Remaining.{movie_divisor, remaining, remaining_track, track_divisor}
+use Rattle.mp4_content.specs.format.Timescales.{divided}
 use Rattle.mp4_content.specs.declared.without.Without.{Without}
 use Rattle.mp4_content.specs.format.Comparison.{byte_differences, sample_differences, track_differences, differences}
 use Rattle.mp4_content.specs.format.Differences.{each_differ}
@@ -13,6 +15,7 @@ use Rattle.mp4_content.specs.declared.comparing.differences.Subject.{Subject}
 use Rattle.mp4_content.specs.declared.comparing.differences.Subject.TheVariants as subjects
 use Rattle.mp4_content.specs.declared.comparing.differences.Field.TheVariants as fields
 use Rattle.mp4_content.proofs.Numbered.{numbered_each}
+use Rattle.mp4_content.proofs.RemainingValues.{divided_each}
 use Rattle.mp4_content.proofs.SamplesReduced.{reduced_each}
 use Rattle.mp4_content.proofs.ComparisonValues.{Tells, both, weaker, number_tells, signed_tells, bytes_tell, each_tells, differ_self, bytes_self, each_self}
 use Rattle.mp4_content.proofs.ComparisonHeads.{head_tells, movie_tells, head_self, movie_self}
@@ -90,7 +93,7 @@ whole_self p = rw (movie_self p.movie) (simp (differ_self, tracks_self))
 pub each_difference_is_one : EachDifferenceIsOne
 each_difference_is_one p q = (whole_tells p q).each
 
--- ---- what is left of what is valid
+-- ---- what remains of what is valid
 
 pub map_left : (b : Bool) (groups : Groups) → IsMap groups → IsMap (if b then [] else groups)
 map_left true groups h = record { each = tt; order = refl }
@@ -109,11 +112,20 @@ module _ (l : Without) where
         reduced_each (IsSample many) HasMap l (length t.samples) first (sample_plain many (length t.samples) first) 0 t.samples h.samples;
   }
 
-  pub all_plain : (p : Presentation) → Valid p → IsAllPlain (reduce l p)
-  all_plain p v = record { nine = v.movie.matrix.nine; tracks = numbered_each l IsPlain IsPlain (λ place t some h. record { nine = h.nine; maps = h.maps }) 1 (map (reduce_track l) p.tracks) (omega arith) (each_value IsTrack IsPlain (reduce_track l) track_plain p.tracks v.tracks) }
+  -- in lowest terms too
+  divided_plain : (divisor : ℕ) (t : Track) → IsTrack t → IsPlain (remaining_track l divisor t)
+  divided_plain divisor t h =
+      let left = track_plain t h in
+      let samples = (reduce_track l t).samples in
+      record { nine = left.nine; maps = divided_each l HasMap HasMap (divided (track_divisor l t)) (length samples) (λ n s m. m) 0 samples left.maps }
+
+  pub all_plain : (p : Presentation) → Valid p → IsAllPlain (remaining l p)
+  all_plain p v =
+      let left = remaining_track l (movie_divisor l p) in
+      record { nine = v.movie.matrix.nine; tracks = numbered_each l IsPlain IsPlain (λ place t some h. record { nine = h.nine; maps = h.maps }) 1 (map left p.tracks) (omega arith) (each_value IsTrack IsPlain left (divided_plain (movie_divisor l p)) p.tracks v.tracks) }
 
 pub no_difference_is_same : NoDifferenceIsSame
 no_difference_is_same l p q v w = (
-  λ e. (whole_tells (reduce l p) (reduce l q)).none e (all_plain l p v) (all_plain l q w),
-  λ e. ap (λ (x : Presentation). differences x (reduce l q)) e ∙ whole_self (reduce l q),
+  λ e. (whole_tells (remaining l p) (remaining l q)).none e (all_plain l p v) (all_plain l q w),
+  λ e. ap (λ (x : Presentation). differences x (remaining l q)) e ∙ whole_self (remaining l q),
 )

@@ -19,16 +19,16 @@ use Rattle.mp4_present.proofs.WalkCopied.{track_lies}
 use Rattle.mp4_content.specs.format.Alignment.{IsEnd}
 use Rattle.mp4_content.specs.format.Comparison.{sample_differences}
 use Rattle.mp4_content.specs.format.Differences.{each_differ}
-use Rattle.mp4_content.specs.format.Reduced.{first_offset, reduce_samples}
+use Rattle.mp4_content.specs.format.Remaining.{divided_samples}
 use Rattle.mp4_content.specs.words.Aligning.{BothLie, IsLast, differ_from}
 use Rattle.mp4_content.specs.words.Compared.{HasReductions, HaveTracks, IsPairingOf}
 use Rattle.mp4_content.specs.words.Differing.{pair_differences}
-use Rattle.mp4_content.specs.words.ComingLess.{track_reduction}
+use Rattle.mp4_content.specs.words.ComingLess.{reduction_of}
 use Rattle.mp4_content.specs.declared.comparing.pairing.Pairing.{Pairing}
 use Rattle.mp4_content.specs.declared.without.Without.{Without}
 use Rattle.mp4_content.proofs.CommonEnds.{end_is}
 use Rattle.mp4_content.proofs.ComparisonWhole.{HasMap}
-use Rattle.mp4_content.proofs.SamplesReduced.{reduced_length}
+use Rattle.mp4_content.proofs.SamplesReduced.{divided_length}
 use Rattle.mp4_content.proofs.SamplesShifted.{differ_behind, maps_left}
 
 -- a track has as many samples as come
@@ -59,16 +59,16 @@ other_left a b f more count n e g is le le_right = omega (arith, e, g, is, le, l
 other_enough : (a b f more count n : ℕ) → more ≡ b - a → count ≡ min a b - f → b ≡ n → f ≤ a → f ≤ n → count ≤ n - (f + more)
 other_enough a b f more count n e g is le le_right = omega (arith, e, g, is, le, le_right)
 
-module _ (l : Without) (k : ℕ) (by : Pairing) (file other : List ℕ) (m n : MovieSeen) (tree other_tree : FileTree) (t u : TrackTree)
+module _ (l : Without) (d e : ℕ) (k : ℕ) (by : Pairing) (file other : List ℕ) (m n : MovieSeen) (tree other_tree : FileTree) (t u : TrackTree)
     (o : IsOpenedAs file m tree) (p : IsOpenedAs other n other_tree) (at : slice_get tree.movie.tracks k ≡ Some t) (bt : slice_get other_tree.movie.tracks k ≡ Some u)
     (a b f more more_right count : ℕ) (more_is : more ≡ a - b) (right_is : more_right ≡ b - a) (count_is : count ≡ min a b - f)
     (counted : a ≡ length (track_of file (file_parts tree) t).samples) (counted_right : b ≡ length (track_of other (file_parts other_tree) u).samples)
     (within : f ≤ length (track_of file (file_parts tree) t).samples) (within_right : f ≤ length (track_of other (file_parts other_tree) u).samples) where
   abbrev own : List Sample
-  own = reduce_samples l (track_of file (file_parts tree) t).samples
+  own = divided_samples l d (track_of file (file_parts tree) t)
 
   abbrev others : List Sample
-  others = reduce_samples l (track_of other (file_parts other_tree) u).samples
+  others = divided_samples l e (track_of other (file_parts other_tree) u)
 
   -- as many pairs come as are compared, and lie in their files
   pub both_lie : BothLie file other count (drop (f + more) (track_samples tree t)) (drop (f + more_right) (track_samples other_tree u))
@@ -87,7 +87,7 @@ module _ (l : Without) (k : ℕ) (by : Pairing) (file other : List ℕ) (m n : M
       }
 
   module _ (have : HaveTracks k m n) (pairing : (info other_info : TrackInfo) → slice_get m.tracks k ≡ Some info → slice_get n.tracks k ≡ Some other_info → IsPairingOf l k info other_info by)
-      (are : HasReductions (track_reduction l tree t) (track_reduction l other_tree u) by) where
+      (are : HasReductions (reduction_of l d (track_samples tree t)) (reduction_of l e (track_samples other_tree u)) by) where
     -- what differs from a place on
     behind : (j : ℕ) → differ_from by file (drop (f + more) (track_samples tree t)) other (drop (f + more_right) (track_samples other_tree u)) j
         ≡ each_differ (sample_differences (k + 1)) (j + 1) (drop j (drop more (drop f own))) (drop j (drop more_right (drop f others)))
@@ -97,15 +97,15 @@ module _ (l : Without) (k : ℕ) (by : Pairing) (file other : List ℕ) (m n : M
         let xs = track_samples tree t in
         let ys = track_samples other_tree u in
         (λ i. each_differ (pair_differences by file other) (j + 1) (drop-drop j (f + more) xs i) (drop-drop j (f + more_right) ys i))
-        ∙ differ_behind l k by file other m n tree other_tree t u info.0 other_info.0 (pairing info.0 other_info.0 info.1 other_info.1) o p at bt info.1 other_info.1 are (f + more + j) (f + more_right + j) (j + 1)
+        ∙ differ_behind l d e k by file other m n tree other_tree t u info.0 other_info.0 (pairing info.0 other_info.0 info.1 other_info.1) o p at bt info.1 other_info.1 are (f + more + j) (f + more_right + j) (j + 1)
         ∙ (λ i. each_differ (sample_differences (k + 1)) (j + 1) (sym (drop-drop j (f + more) own) i) (sym (drop-drop j (f + more_right) others) i))
         ∙ (λ i. each_differ (sample_differences (k + 1)) (j + 1) (drop j (sym (drop-drop more f own) i)) (drop j (sym (drop-drop more_right f others) i)))
 
     -- the samples behind the last pair that differs are the longest end
     pub ends_are : (last : ℕ) → IsLast by file (drop (f + more) (track_samples tree t)) other (drop (f + more_right) (track_samples other_tree u)) last count → IsEnd (drop f own) (drop f others) (count - last)
     ends_are last is =
-        let many = reduced_length l (length (track_of file (file_parts tree) t).samples) (first_offset (track_of file (file_parts tree) t).samples) 0 (track_of file (file_parts tree) t).samples in
-        let many_right = reduced_length l (length (track_of other (file_parts other_tree) u).samples) (first_offset (track_of other (file_parts other_tree) u).samples) 0 (track_of other (file_parts other_tree) u).samples in
+        let many = divided_length l d (track_of file (file_parts tree) t) in
+        let many_right = divided_length l e (track_of other (file_parts other_tree) u) in
         let left = length-drop f own in
         let right = length-drop f others in
         let some = some_left a b f more count _ more_is count_is counted within (omega (arith, within_right, counted_right)) in
@@ -113,10 +113,10 @@ module _ (l : Without) (k : ℕ) (by : Pairing) (file other : List ℕ) (m n : M
         end_is (k + 1) (drop f own) (drop f others) (drop more (drop f own)) (drop more_right (drop f others)) more more_right count refl refl (omega (arith, some, left, many)) (omega (arith, some_right, right, many_right))
         (λ j le le_right. no_more a b f count _ _ j count_is counted counted_right (omega (arith, le, left, many)) (omega (arith, le_right, right, many_right)))
         last is.within
-        (each_dropped HasMap more (drop f own) (each_dropped HasMap f own (maps_left l file m tree t k o at)))
-        (each_dropped HasMap more_right (drop f others) (each_dropped HasMap f others (maps_left l other n other_tree u k p bt)))
+        (each_dropped HasMap more (drop f own) (each_dropped HasMap f own (maps_left l d file m tree t k o at)))
+        (each_dropped HasMap more_right (drop f others) (each_dropped HasMap f others (maps_left l e other n other_tree u k p bt)))
         (sym (behind last) ∙ is.same ∙ behind count)
-        (λ j e none. is.differs j e (behind j ∙ none))
+        (λ j f none. is.differs j f (behind j ∙ none))
 
 -- ---- steps
 

@@ -13,9 +13,11 @@ use Rattle.mp4_head.specs.declared.heads.TrackHead.{TrackHead}
 use Rattle.mp4_content.specs.format.Alignment.{listed_track}
 use Rattle.mp4_content.specs.format.Differences.{numbers_differ, each_differ, head_differences, movie_differences}
 use Rattle.mp4_present.specs.format.Denotes.{FileTree, file_parts, track_of, presentation_of}
-use Rattle.mp4_present.specs.format.Presentation.{Sample, Track}
-use Rattle.mp4_content.specs.format.Reduced.{start_left, first_offset, number_track, reduce, reduce_track}
-use Rattle.mp4_content.specs.words.Compared.{TakesFront, head_left, samples_differ, tracks_differ, files_listed}
+use Rattle.mp4_present.specs.format.Presentation.{Track}
+use Rattle.mp4_content.specs.format.Reduced.{start_left, number_track}
+use Rattle.mp4_content.specs.format.Remaining.{divided_samples, divided_track, movie_divisor, remaining, remaining_track, track_divisor}
+use Rattle.mp4_content.specs.format.Timescales.{divided}
+use Rattle.mp4_content.specs.words.Compared.{TakesFront, samples_differ, tracks_differ, files_listed}
 use Rattle.mp4_content.specs.words.Differing.{as_list, is_none_yet}
 use Rattle.mp4_content.specs.words.HeadsDiffer.{begun_differ, movies_differ}
 use Rattle.mp4_present.specs.words.Movies.{MovieSeen}
@@ -24,12 +26,14 @@ use Rattle.mp4_present.specs.words.WalkSteps.{walk_steps, walks_steps}
 use Rattle.mp4_content.specs.declared.comparing.differences.Difference.{Difference}
 use Rattle.mp4_content.specs.declared.comparing.differences.Subject.TheVariants as subjects
 use Rattle.mp4_content.specs.declared.comparing.differences.Field.TheVariants as fields
+use Rattle.mp4_content.specs.declared.comparing.tracks.Divisors.{Divisors}
 use Rattle.mp4_content.specs.declared.without.Without.{Without}
 use Rattle.mp4_present.specs.declared.track_info.TrackInfo.{TrackInfo}
 use Rattle.mp4_present.proofs.TrafTaken.{at_place}
 use Rattle.mp4_content.proofs.HeadLess.{SaysHeadOf}
-use Rattle.mp4_content.proofs.Numbered.{numbered_at, numbered_many}
-use Rattle.mp4_content.proofs.SamplesReduced.{reduced_length}
+use Rattle.mp4_content.proofs.Numbered.{numbered_many}
+use Rattle.mp4_content.proofs.RemainingHeads.{file_track_remains}
+use Rattle.mp4_content.proofs.SamplesReduced.{divided_length}
 use Rattle.mp4_content.proofs.TracksCompared.{GrowsTo, grows_none, grows_more, grows_front, grows_part, grows_all, each_next, each_over}
 
 -- no answer is one of which all is so
@@ -46,28 +50,28 @@ of_same P m n tree other h h' k k' f f' g g' a b c d q told told_right o p =
 -- ---- the heads of two tracks
 
 -- what was found of them is what differs between the tracks apart from their samples
-heads_differ : (aligned : Bool) (l : Without) (number k : ℕ) (file other : List ℕ) (m n : MovieSeen) (tree other_tree : FileTree) (t u : TrackTree) (info other_info : TrackInfo) (head other_head : TrackHead) → IsOpenedAs file m tree → IsOpenedAs other n other_tree
-    → slice_get tree.movie.tracks k ≡ Some t → slice_get other_tree.movie.tracks k ≡ Some u → slice_get m.tracks k ≡ Some info → slice_get n.tracks k ≡ Some other_info → track_seen head ≡ head_left l number t → track_seen other_head ≡ head_left l number u
-    → begun_differ l number head info other_head other_info
-    ++ (if aligned && not (info.samples == other_info.samples) then [] else samples_differ l number file tree t other other_tree u) ≡ tracks_differ aligned l number file tree t other other_tree u
-heads_differ aligned l number k file other m n tree other_tree t u info other_info head other_head o p at bt it jt e f =
+heads_differ : (aligned : Bool) (l : Without) (ds : Divisors) (number k : ℕ) (file other : List ℕ) (m n : MovieSeen) (tree other_tree : FileTree) (t u : TrackTree) (info other_info : TrackInfo) (head other_head : TrackHead) → IsOpenedAs file m tree → IsOpenedAs other n other_tree
+    → slice_get tree.movie.tracks k ≡ Some t → slice_get other_tree.movie.tracks k ≡ Some u → slice_get m.tracks k ≡ Some info → slice_get n.tracks k ≡ Some other_info
+    → begun_differ l ds number head info other_head other_info
+    ++ (if aligned && not (info.samples == other_info.samples) then [] else samples_differ l ds number file tree t other other_tree u) ≡ tracks_differ aligned l ds number head file tree t other_head other other_tree u
+heads_differ aligned l ds number k file other m n tree other_tree t u info other_info head other_head o p at bt it jt =
     let of = subjects.Track number in
-    let left_many = λ (samples : List Sample). reduced_length l (length samples) (first_offset samples) 0 samples in
     let x = get_zip (IsInfoOf file tree) tree.movie.tracks m.tracks k t info o.tracks at it in
     let y = get_zip (IsInfoOf other other_tree) other_tree.movie.tracks n.tracks k u other_info p.tracks bt jt in
-    let count = x.samples ∙ sym (left_many (track_of file (file_parts tree) t).samples) in
-    let other_count = y.samples ∙ sym (left_many (track_of other (file_parts other_tree) u).samples) in
-    λ i. (head_differences of (e i) (f i)
-    ++ numbers_differ of fields.Start (start_left l (x.start i)) (start_left l (y.start i)) ++ numbers_differ of fields.Samples (count i) (other_count i))
-    ++ (if aligned && not (count i == other_count i) then [] else samples_differ l number file tree t other other_tree u)
+    let count = x.samples ∙ sym (divided_length l ds.left (track_of file (file_parts tree) t)) in
+    let other_count = y.samples ∙ sym (divided_length l ds.right (track_of other (file_parts other_tree) u)) in
+    λ i. (head_differences of (track_seen head) (track_seen other_head)
+    ++ numbers_differ of fields.Start (divided ds.left (start_left l (x.start i))) (divided ds.right (start_left l (y.start i))) ++ numbers_differ of fields.Samples (count i) (other_count i))
+    ++ (if aligned && not (count i == other_count i) then [] else samples_differ l ds number file tree t other other_tree u)
 
 -- Two tracks whose heads were compared: their samples are left, where these are compared.
-pub track_begun : (aligned : Bool) (l : Without) (number k : ℕ) (file other : List ℕ) (m n : MovieSeen) (tree other_tree : FileTree) (t u : TrackTree) (info other_info : TrackInfo) (head other_head : TrackHead) → IsOpenedAs file m tree → IsOpenedAs other n other_tree
-    → slice_get tree.movie.tracks k ≡ Some t → slice_get other_tree.movie.tracks k ≡ Some u → slice_get m.tracks k ≡ Some info → slice_get n.tracks k ≡ Some other_info → track_seen head ≡ head_left l number t → track_seen other_head ≡ head_left l number u
-    → (found : List Difference) → found ≡ begun_differ l number head info other_head other_info
-    → tracks_differ aligned l number file tree t other other_tree u ≡ found ++ (if aligned && not (info.samples == other_info.samples) then [] else samples_differ l number file tree t other other_tree u)
-track_begun aligned l number k file other m n tree other_tree t u info other_info head other_head o p at bt it jt e f found is =
-    sym (ap (λ (ds : List Difference). ds ++ (if aligned && not (info.samples == other_info.samples) then [] else samples_differ l number file tree t other other_tree u)) is ∙ heads_differ aligned l number k file other m n tree other_tree t u info other_info head other_head o p at bt it jt e f)
+pub track_begun : (aligned : Bool) (l : Without) (ds : Divisors) (number k : ℕ) (file other : List ℕ) (m n : MovieSeen) (tree other_tree : FileTree) (t u : TrackTree) (info other_info : TrackInfo) (head other_head : TrackHead) → IsOpenedAs file m tree → IsOpenedAs other n other_tree
+    → slice_get tree.movie.tracks k ≡ Some t → slice_get other_tree.movie.tracks k ≡ Some u → slice_get m.tracks k ≡ Some info → slice_get n.tracks k ≡ Some other_info
+    → (found : List Difference) → found ≡ begun_differ l ds number head info other_head other_info
+    → tracks_differ aligned l ds number head file tree t other_head other other_tree u ≡ found ++ (if aligned && not (info.samples == other_info.samples) then [] else samples_differ l ds number file tree t other other_tree u)
+track_begun aligned l ds number k file other m n tree other_tree t u info other_info head other_head o p at bt it jt found is =
+    sym (ap (λ (more : List Difference). more ++ (if aligned && not (info.samples == other_info.samples) then [] else samples_differ l ds number file tree t other other_tree u)) is
+    ∙ heads_differ aligned l ds number k file other m n tree other_tree t u info other_info head other_head o p at bt it jt)
 
 -- which they are
 pub not_by : (b : Bool) (ds : List Difference) → b ≡ false → (if b then [] else ds) ≡ ds
@@ -103,38 +107,39 @@ infos_all file m tree o = sym (length_zip (IsInfoOf file tree) tree.movie.tracks
 
 -- the tracks of the presentation, behind what was left out
 abbrev tracks_left : Without → List ℕ → FileTree → List Track
-tracks_left l file tree = (reduce l (presentation_of file tree)).tracks
+tracks_left l file tree = (remaining l (presentation_of file tree)).tracks
+
+-- one of them
+abbrev pub one_left : Without → List ℕ → FileTree → TrackTree → Track
+one_left l file tree t = remaining_track l (movie_divisor l (presentation_of file tree)) (track_of file (file_parts tree) t)
 
 pub tracks_many : (l : Without) (file : List ℕ) (tree : FileTree) → length (tracks_left l file tree) ≡ length tree.movie.tracks
-tracks_many l file tree = numbered_many l 1 (map (reduce_track l) (map (track_of file (file_parts tree)) tree.movie.tracks)) ∙ length-map (map (track_of file (file_parts tree)) tree.movie.tracks) (reduce_track l) ∙ length-map tree.movie.tracks (track_of file (file_parts tree))
+tracks_many l file tree =
+    let left = remaining_track l (movie_divisor l (presentation_of file tree)) in
+    let own = map (track_of file (file_parts tree)) tree.movie.tracks in
+    numbered_many l 1 (map left own) ∙ length-map own left ∙ length-map tree.movie.tracks (track_of file (file_parts tree))
 
 abbrev tracks_from : Bool → Without → List ℕ → FileTree → List ℕ → FileTree → ℕ → List Difference
 tracks_from aligned l file tree other other_tree k = each_differ (listed_track aligned) (k + 1) (drop k (tracks_left l file tree)) (drop k (tracks_left l other other_tree))
 
--- what is left of one
-track_left : (l : Without) (file : List ℕ) (tree : FileTree) (k : ℕ) (t : TrackTree) → slice_get tree.movie.tracks k ≡ Some t → slice_get (tracks_left l file tree) k ≡ Some (number_track l (k + 1) (reduce_track l (track_of file (file_parts tree) t)))
-track_left l file tree k t at =
-    let own = track_of file (file_parts tree) in
-    numbered_at l k (map (reduce_track l) (map own tree.movie.tracks)) (reduce_track l (own t)) (get_map (reduce_track l) (map own tree.movie.tracks) k (own t) (get_map own tree.movie.tracks k t at))
-
-module _ (l : Without) (file : List ℕ) (tree : FileTree) (head : MovieHead) (says : SaysHeadOf (reduce l (presentation_of file tree)) head) where
+module _ (l : Without) (file : List ℕ) (tree : FileTree) (head : MovieHead) (says : SaysHeadOf (remaining l (presentation_of file tree)) head) where
   -- as many heads are left as the movie has tracks
   pub heads_all : length head.tracks.items ≡ length tree.movie.tracks
   heads_all = sym (length-map head.tracks.items track_seen) ∙ ap (λ (hs : List heads.TrackHead). length hs) says.tracks ∙ length-map (tracks_left l file tree) (λ (t : Track). t.head) ∙ tracks_many l file tree
 
   -- the track at the place of a head, which is what is left of its own
-  pub track_at : (k : ℕ) (h : TrackHead) → k < length head.tracks.items → h ≡ slice_index_or head.tracks.items k h → (t : TrackTree) × (slice_get tree.movie.tracks k ≡ Some t) × (track_seen h ≡ head_left l (k + 1) t)
+  pub track_at : (k : ℕ) (h : TrackHead) → k < length head.tracks.items → h ≡ slice_index_or head.tracks.items k h → (t : TrackTree) × (slice_get tree.movie.tracks k ≡ Some t) × (track_seen h ≡ (number_track l (k + 1) (one_left l file tree t)).head)
   track_at k h lt is =
       let t = get_some tree.movie.tracks k (omega (arith, heads_all, lt)) in (
         t.0,
         t.1,
-        some_is (track_seen h) (head_left l (k + 1) t.0)
+        some_is (track_seen h) (number_track l (k + 1) (one_left l file tree t.0)).head
             (sym (get_map track_seen head.tracks.items k h (at_place head.tracks.items k h lt is)) ∙ ap (λ (hs : List heads.TrackHead). slice_get hs k) says.tracks
-            ∙ get_map (λ (x : Track). x.head) (tracks_left l file tree) k (number_track l (k + 1) (reduce_track l (track_of file (file_parts tree) t.0))) (track_left l file tree k t.0 t.1)),
+            ∙ get_map (λ (x : Track). x.head) (tracks_left l file tree) k (number_track l (k + 1) (one_left l file tree t.0)) (file_track_remains l file tree k t.0 t.1)),
       )
 
 -- Two movies whose heads were compared: their tracks are left.
-pub movie_begun : (aligned : Bool) (l : Without) (file other : List ℕ) (tree other_tree : FileTree) (head other_head : MovieHead) → SaysHeadOf (reduce l (presentation_of file tree)) head → SaysHeadOf (reduce l (presentation_of other other_tree)) other_head
+pub movie_begun : (aligned : Bool) (l : Without) (file other : List ℕ) (tree other_tree : FileTree) (head other_head : MovieHead) → SaysHeadOf (remaining l (presentation_of file tree)) head → SaysHeadOf (remaining l (presentation_of other other_tree)) other_head
     → (found : List Difference) → found ≡ movies_differ head other_head → files_listed aligned l file tree other other_tree ≡ found ++ tracks_from aligned l file tree other other_tree 0
 movie_begun aligned l file other tree other_tree head other_head says other_says found is =
     let count = heads_all l file tree head says ∙ sym (tracks_many l file tree) in
@@ -144,16 +149,24 @@ movie_begun aligned l file other tree other_tree head other_head says other_says
 
 -- ---- track after track
 
+-- what is left of a track, by its head and its divisor
+by_head : (l : Without) (file : List ℕ) (tree : FileTree) (k d : ℕ) (t : TrackTree) (head : TrackHead) → track_seen head ≡ (number_track l (k + 1) (one_left l file tree t)).head → d ≡ track_divisor l (track_of file (file_parts tree) t)
+    → number_track l (k + 1) (one_left l file tree t) ≡ record (divided_track l 1 d (track_of file (file_parts tree) t)) { head = track_seen head }
+by_head l file tree k d t head e f = λ i. record { head = sym e i; start = divided (sym f i) (start_left l (track_of file (file_parts tree) t).start); samples = divided_samples l (sym f i) (track_of file (file_parts tree) t) }
+
 -- what differs of the tracks from a place on begins with what differs there
-track_next : (aligned : Bool) (l : Without) (file : List ℕ) (tree : FileTree) (other : List ℕ) (other_tree : FileTree) (k : ℕ) (t u : TrackTree) → slice_get tree.movie.tracks k ≡ Some t → slice_get other_tree.movie.tracks k ≡ Some u
-    → tracks_from aligned l file tree other other_tree k ≡ tracks_differ aligned l (k + 1) file tree t other other_tree u ++ tracks_from aligned l file tree other other_tree (k + 1)
-track_next aligned l file tree other other_tree k t u at bt =
+track_next : (aligned : Bool) (l : Without) (ds : Divisors) (file : List ℕ) (tree : FileTree) (other : List ℕ) (other_tree : FileTree) (k : ℕ) (t u : TrackTree) (head other_head : TrackHead) → slice_get tree.movie.tracks k ≡ Some t → slice_get other_tree.movie.tracks k ≡ Some u
+    → track_seen head ≡ (number_track l (k + 1) (one_left l file tree t)).head → track_seen other_head ≡ (number_track l (k + 1) (one_left l other other_tree u)).head → ds.left ≡ track_divisor l (track_of file (file_parts tree) t) → ds.right ≡ track_divisor l
+    (track_of other (file_parts other_tree) u)
+    → tracks_from aligned l file tree other other_tree k ≡ tracks_differ aligned l ds (k + 1) head file tree t other_head other other_tree u ++ tracks_from aligned l file tree other other_tree (k + 1)
+track_next aligned l ds file tree other other_tree k t u head other_head at bt e f d d_right =
     let xs = tracks_left l file tree in
     let ys = tracks_left l other other_tree in
-    let x = number_track l (k + 1) (reduce_track l (track_of file (file_parts tree) t)) in
-    let y = number_track l (k + 1) (reduce_track l (track_of other (file_parts other_tree) u)) in
+    let x = number_track l (k + 1) (one_left l file tree t) in
+    let y = number_track l (k + 1) (one_left l other other_tree u) in
     each_next (listed_track aligned) k xs ys (drop (k + 1) xs) (drop (k + 1) ys) x y
-    (drop_plus xs k x (track_left l file tree k t at)) (drop_plus ys k y (track_left l other other_tree k u bt))
+    (drop_plus xs k x (file_track_remains l file tree k t at)) (drop_plus ys k y (file_track_remains l other other_tree k u bt))
+    ∙ (λ i. listed_track aligned (k + 1) (by_head l file tree k ds.left t head e d i) (by_head l other other_tree k ds.right u other_head f d_right i) ++ tracks_from aligned l file tree other other_tree (k + 1))
 
 -- how many steps the walks over the tracks of two files from a place on may take
 abbrev steps_left : FileTree → FileTree → ℕ → ℕ
@@ -177,18 +190,20 @@ module _ (aligned : Bool) (l : Without) (file : List ℕ) (tree : FileTree) (oth
           let second = ap (sum_of (walk_steps other_tree)) (drop_plus other_tree.movie.tracks k u bt) in
           omega (arith, first, second)
 
-      -- one more
-      pub files_next : (next : List Difference) (new : ℕ) → next ≡ now ++ tracks_differ aligned l (k + 1) file tree t other other_tree u → new ≤ mid + (walk_steps tree t + walk_steps other_tree u) → FilesGo aligned l file tree other other_tree (k + 1) before next old new
-      files_next next new e work =
-          let all = h.takes in
-          record { grows = grows_more before now next _ _ _ _ h.grows (track_next aligned l file tree other other_tree k t u at bt) e; takes = omega (arith, all, steps_next, work) }
-
-      -- no further difference was taken
-      pub files_stop : (next : List Difference) → TakesFront now next (tracks_differ aligned l (k + 1) file tree t other other_tree u) → TakesFront before next (files_listed aligned l file tree other other_tree)
-      files_stop next p = grows_part before now next _ _ _ _ h.grows (track_next aligned l file tree other other_tree k t u at bt) p
-
       pub files_most : (new : ℕ) → new ≤ mid + (walk_steps tree t + walk_steps other_tree u) → new ≤ old + (walks_steps tree + walks_steps other_tree)
       files_most new work = let all = h.takes in omega (arith, all, steps_next, work)
+
+      module _ (ds : Divisors) (head other_head : TrackHead) (e : track_seen head ≡ (number_track l (k + 1) (one_left l file tree t)).head) (f : track_seen other_head ≡ (number_track l (k + 1) (one_left l other other_tree u)).head)
+          (d : ds.left ≡ track_divisor l (track_of file (file_parts tree) t)) (d_right : ds.right ≡ track_divisor l (track_of other (file_parts other_tree) u)) where
+        -- one more
+        pub files_next : (next : List Difference) (new : ℕ) → next ≡ now ++ tracks_differ aligned l ds (k + 1) head file tree t other_head other other_tree u → new ≤ mid + (walk_steps tree t + walk_steps other_tree u) → FilesGo aligned l file tree other other_tree (k + 1) before next old new
+        files_next next new is work =
+            let all = h.takes in
+            record { grows = grows_more before now next _ _ _ _ h.grows (track_next aligned l ds file tree other other_tree k t u head other_head at bt e f d d_right) is; takes = omega (arith, all, steps_next, work) }
+
+        -- no further difference was taken
+        pub files_stop : (next : List Difference) → TakesFront now next (tracks_differ aligned l ds (k + 1) head file tree t other_head other other_tree u) → TakesFront before next (files_listed aligned l file tree other other_tree)
+        files_stop next p = grows_part before now next _ _ _ _ h.grows (track_next aligned l ds file tree other other_tree k t u head other_head at bt e f d d_right) p
 
     -- all were compared
     pub files_all : min (length tree.movie.tracks) (length other_tree.movie.tracks) ≤ k → now ≡ before ++ files_listed aligned l file tree other other_tree

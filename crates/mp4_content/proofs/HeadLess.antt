@@ -1,23 +1,19 @@
 -- The head of what is left of an opened file.
-use Rattle.std.proofs.Common.{◌≡◌, ℕ, ◌≤◌, max, Bool, true, false, List, [], ◌∷◌, length, map, refl, sym, ap, ◌∙◌}
-use Rattle.std.specs.Prelude.{filter, fold, not}
+use Rattle.std.proofs.Common.{◌≡◌, ℕ, zero, suc, ◌≤◌, max, Bool, true, false, List, [], ◌∷◌, length, map, refl, sym, ap, ◌∙◌}
+use Rattle.std.specs.Prelude.{Some, filter, fold, not, slice_get, slice_set}
 use Rattle.mp4_boxes.specs.format.Children.{is_among}
 use Rattle.mp4_head.specs.format.Head as heads
-use Rattle.mp4_head.specs.words.Found.{SaysHead}
 use Rattle.mp4_head.specs.words.Seen.{kept_seen, movie_seen, track_seen, tracks_seen}
 use Rattle.mp4_head.specs.declared.heads.MovieHead.{MovieHead}
 use Rattle.mp4_head.specs.declared.heads.TrackHead.{TrackHead}
 use Rattle.mp4_head.specs.declared.kept_boxes.Kept.{Kept}
-use Rattle.mp4_head.proofs.Distinct.{map_twice}
-use Rattle.mp4_head.proofs.ReadAgain.{said_of}
-use Rattle.mp4_present.specs.format.Denotes.{FileTree, file_parts, track_of, presentation_of}
 use Rattle.mp4_present.specs.format.Presentation.{heads as heads_of, Track, Presentation, movie_length, track_length}
-use Rattle.mp4_present.specs.words.Movies.{MovieSeen, moov_box}
-use Rattle.mp4_present.specs.words.OpenedMovie.{IsOpenedAs}
-use Rattle.mp4_content.specs.format.Reduced.{metadata_kinds, number_head, number_heads, reduce, reduce_movie_head, reduce_track, reduce_track_head, timescale_left}
+use Rattle.mp4_content.specs.format.Reduced.{metadata_kinds, number_head, number_heads, reduce, reduce_track, reduce_track_head, timescale_left}
+use Rattle.mp4_content.specs.format.Remaining.{remaining_head, remaining_heads}
+use Rattle.mp4_content.specs.words.Divided.{divided_head, divided_heads, divisor_at, heads_at}
 use Rattle.mp4_content.specs.words.PayloadsLeft.{keeping_payloads, track_payloads_left}
 use Rattle.mp4_content.specs.declared.without.Without.{Without}
-use Rattle.mp4_content.proofs.Numbered.{left_longest, numbered_heads}
+use Rattle.mp4_content.proofs.Numbered.{left_longest}
 use Rattle.mp4_content.proofs.OwnPayloads.{ChangedTo, changed_all}
 use Rattle.mp4_content.proofs.ReducedValid.{same_track_length}
 
@@ -49,11 +45,45 @@ module _ (l : Without) (stay : l.edits ≡ false) (counts : l.timing ≡ false) 
 pub numbered_all : (l : Without) (old now : List TrackHead) (k : ℕ) → ChangedTo track_seen (number_head l) 1 old now k → length now ≤ k → map track_seen now ≡ number_heads l 1 (map track_seen old)
 numbered_all l = changed_all track_seen (number_head l) (number_heads l) (λ n. refl) (λ n t ts. refl) 1
 
--- ---- payloads first, and then all else
+-- ---- tracks whose times are divided
 
-pub both_left : (l : Without) (tracks : List heads.TrackHead) → map (reduce_track_head (keeping_payloads l)) (map (track_payloads_left l) tracks) ≡ map (reduce_track_head l) tracks
-both_left l [] = refl
-both_left l (t ∷ tracks) = λ i. reduce_track_head l t ∷ both_left l tracks i
+pub divided_all : (l : Without) (divisor : ℕ) (owns : List ℕ) (old now : List TrackHead) (k : ℕ) → ChangedTo track_seen (λ n. divided_head l divisor (divisor_at owns n)) 0 old now k → length now ≤ k
+    → map track_seen now ≡ divided_heads l divisor owns 0 (map track_seen old)
+divided_all l divisor owns = changed_all track_seen (λ n. divided_head l divisor (divisor_at owns n)) (divided_heads l divisor owns) (λ n. refl) (λ n t ts. refl) 0
+
+-- ---- the place of a head that changes
+
+pub places_stay : (heads : List TrackHead) (k : ℕ) (was is : TrackHead) → slice_get heads k ≡ Some was → is.offset ≡ was.offset → heads_at (slice_set heads k is) ≡ heads_at heads
+places_stay [] k was is at e = refl
+places_stay (h ∷ heads) zero was is at e = let same : h ≡ was = cc in ap (λ n. n ∷ heads_at heads) (e ∙ ap (λ (x : TrackHead). x.offset) (sym same))
+places_stay (h ∷ heads) (suc k) was is at e = ap (λ places. h.offset ∷ places) (places_stay heads k was is at e)
+
+-- ---- first what is left, and then by what it is divided
+
+module _ (l : Without) (divisor : ℕ) where
+  divided_none : (n m : ℕ) (ts : List heads.TrackHead) → divided_heads l divisor [] n ts ≡ divided_heads l divisor [] m ts
+  divided_none n m [] = refl
+  divided_none n m (t ∷ ts) = ap (λ us. divided_head l divisor 1 t ∷ us) (divided_none (suc n) (suc m) ts)
+
+  divided_next : (own : ℕ) (owns : List ℕ) (n : ℕ) (ts : List heads.TrackHead) → divided_heads l divisor (own ∷ owns) (suc n) ts ≡ divided_heads l divisor owns n ts
+  divided_next own owns n [] = refl
+  divided_next own owns n (t ∷ ts) = ap (λ us. divided_head l divisor (divisor_at owns n) t ∷ us) (divided_next own owns (suc n) ts)
+
+  pub divided_left : (place : ℕ) (owns : List ℕ) (ts : List heads.TrackHead)
+      → divided_heads l divisor owns 0 (number_heads l place (map (reduce_track_head (keeping_payloads l)) ts)) ≡ number_heads l place (remaining_heads (keeping_payloads l) divisor owns ts)
+  divided_left place owns [] = refl
+  divided_left place [] (t ∷ ts) =
+      ap (λ us. number_head l place (remaining_head (keeping_payloads l) divisor 1 t) ∷ us)
+      (divided_none 1 0 (number_heads l (suc place) (map (reduce_track_head (keeping_payloads l)) ts)) ∙ divided_left (suc place) [] ts)
+  divided_left place (own ∷ owns) (t ∷ ts) =
+      ap (λ us. number_head l place (remaining_head (keeping_payloads l) divisor own t) ∷ us)
+      (divided_next own owns 0 (number_heads l (suc place) (map (reduce_track_head (keeping_payloads l)) ts)) ∙ divided_left (suc place) owns ts)
+
+  -- payloads first, and then all else
+  pub both_left : (owns : List ℕ) (ts : List heads.TrackHead) → remaining_heads (keeping_payloads l) divisor owns (map (track_payloads_left l) ts) ≡ remaining_heads l divisor owns ts
+  both_left owns [] = refl
+  both_left [] (t ∷ ts) = ap (λ us. remaining_head l divisor 1 t ∷ us) (both_left [] ts)
+  both_left (own ∷ owns) (t ∷ ts) = ap (λ us. remaining_head l divisor own t ∷ us) (both_left owns ts)
 
 -- ---- a head that was read, of which something was left out
 
@@ -61,16 +91,3 @@ both_left l (t ∷ tracks) = λ i. reduce_track_head l t ∷ both_left l tracks 
 pub record SaysHeadOf (p : Presentation) (head : MovieHead) : Type 0 where
   pub movie : movie_seen head ≡ p.movie
   pub tracks : tracks_seen head ≡ heads_of p
-
--- then it says what is left of the presentation
-pub says_left : (l : Without) (file : List ℕ) (m : MovieSeen) (tree : FileTree) (read head : MovieHead) → IsOpenedAs file m tree → SaysHead (moov_box m) read → movie_seen head ≡ reduce_movie_head l (movie_seen read) → tracks_seen head ≡ number_heads l 1 (map (reduce_track_head l) (tracks_seen read))
-    → SaysHeadOf (reduce l (presentation_of file tree)) head
-says_left l file m tree read head o says movie_is tracks_are =
-    let own : List Track = (presentation_of file tree).tracks in
-    let said = (said_of (moov_box m) read tree.movie says (sym o.moov) o.is_tree.movie).0 in
-    let first : tracks_seen read ≡ map (λ (t : Track). t.head) own = ap (λ (h : heads.Head). h.tracks) said ∙ sym (map_twice (track_of file (file_parts tree)) (λ (t : Track). t.head) tree.movie.tracks) in
-    let less = ap (map (reduce_track_head l)) first ∙ map_twice (λ (t : Track). t.head) (reduce_track_head l) own ∙ sym (map_twice (reduce_track l) (λ (t : Track). t.head) own) in
-    record {
-      movie = movie_is ∙ ap (λ (h : heads.Head). reduce_movie_head l h.movie) said;
-      tracks = tracks_are ∙ ap (number_heads l 1) less ∙ sym (numbered_heads l 1 (map (reduce_track l) own));
-    }

@@ -29,6 +29,9 @@ pub mod ComparisonVectors
 pub mod CourseSteps
 pub mod Reducing
 pub mod TimescalesDivisors
+pub mod DivisorsFound
+pub mod SampleTimes
+pub mod TrackDivisors
 pub mod TimescalesFractions
 pub mod TimescalesChanged
 pub mod TimescalesReduced
@@ -38,6 +41,11 @@ pub mod TimescalesExact
 pub mod TimescalesValid
 pub mod TimescalesEdits
 pub mod TimescalesOrder
+pub mod RemainingScaled
+pub mod RemainingWords
+pub mod RemainingValid
+pub mod RemainingHeads
+pub mod RemainingValues
 pub mod TimescalesVectors
 pub mod LeadInsMoments
 pub mod LeadInsTracks

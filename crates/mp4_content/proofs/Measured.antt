@@ -8,7 +8,7 @@ use Rattle.mp4_head.specs.format.Tree.{TrackTree}
 use Rattle.mp4_tables.specs.format.Groups.{GroupKey}
 use Rattle.mp4_tables.specs.declared.sample.SampleAt.{SampleAt}
 use Rattle.mp4_present.specs.format.Presentation.{Sample, total_duration}
-use Rattle.mp4_content.specs.format.Reduced.{duration_left, offset_left, reduce_from}
+use Rattle.mp4_content.specs.words.ComingLess.{cto_left, lasts_left}
 use Rattle.mp4_present.specs.format.Denotes.{FileTree}
 use Rattle.mp4_present.specs.words.HandCarried.{OfHand}
 use Rattle.mp4_present.specs.words.InHand.{left_in_hand}
@@ -22,7 +22,7 @@ use Rattle.mp4_content.specs.words.Measuring.{is_near, no_total, total_from, tot
 use Rattle.mp4_content.specs.words.TakenSamples.{AreTaken}
 use Rattle.mp4_content.specs.declared.measures.Total.{Total}
 use Rattle.mp4_content.specs.declared.reduced.Reduction.{Reduction}
-use Rattle.mp4_content.proofs.ReducedTaken.{AreNumbered}
+use Rattle.mp4_content.proofs.ReducedTaken.{AreNumbered, remaining_from}
 use Rattle.mp4_boxes.proofs.Plain.{and_is_true}
 
 -- ---- an offset that fits
@@ -81,18 +81,18 @@ hand_added r file tree t m total next w now all to_come h k x on =
 
 module _ (r : Reduction) (file : List ℕ) (keys : List GroupKey) where
   pub total_lasts : (total : Total) (number time place : ℕ) (taken : List SampleAt) (samples : List Sample) → total.duration ≤ 2 ^ 64 - 1 → AreNumbered place taken → AreTaken file keys taken (timed_from number time samples)
-      → (total_from r total taken).duration ≡ min (total.duration + total_duration (reduce_from r.leaving r.samples r.offset place samples)) (2 ^ 64 - 1)
+      → (total_from r total taken).duration ≡ min (total.duration + total_duration (remaining_from r.leaving r.divisor r.samples r.offset place samples)) (2 ^ 64 - 1)
   total_lasts total number time place [] [] le n h = omega (arith, le)
   total_lasts total number time place [] (s ∷ samples) le n h = absurd h
   total_lasts total number time place (a ∷ taken) [] le n h = absurd h
   total_lasts total number time place (a ∷ taken) (s ∷ samples) le n h =
       let next : place + 1 ≡ suc place = omega arith in
-      let d : duration_left r.leaving r.samples a.number a.duration ≡ duration_left r.leaving r.samples place s.duration = λ i. duration_left r.leaving r.samples (n.0 i) (h.0.duration i) in
+      let d : lasts_left r a.number a.duration ≡ lasts_left r place s.duration = λ i. lasts_left r (n.0 i) (h.0.duration i) in
       let more = total_lasts (total_with r total a) (number + 1) (time + s.duration) (suc place) taken samples (omega arith) (subst (λ k. AreNumbered k taken) next n.1) h.1 in
       omega (arith, le, d, more)
 
   abbrev AreNear : List Sample → Type 0
-  AreNear samples = AllByRecursion (λ (s : Sample). FitsSigned w32 (offset_left r.leaving r.offset s.offset)) samples
+  AreNear samples = AllByRecursion (λ (s : Sample). FitsSigned w32 (cto_left r s.offset)) samples
 
   pub total_near : (total : Total) (number time : ℕ) (taken : List SampleAt) (samples : List Sample) → AreTaken file keys taken (timed_from number time samples) → (total_from r total taken).is_near ≡ true → (total.is_near ≡ true) × AreNear samples
   total_near total number time [] [] h e = (e, tt)
@@ -100,13 +100,13 @@ module _ (r : Reduction) (file : List ℕ) (keys : List GroupKey) where
   total_near total number time (a ∷ taken) [] h e = absurd h
   total_near total number time (a ∷ taken) (s ∷ samples) h e =
       let more = total_near (total_with r total a) (number + 1) (time + s.duration) taken samples h.1 e in
-      let here = and_is_true total.is_near (is_near (offset_left r.leaving r.offset a.cto)) more.0 in
-      (here.0, (subst (λ (z : ℤ). FitsSigned w32 (offset_left r.leaving r.offset z)) h.0.offset (near_fits (offset_left r.leaving r.offset a.cto) here.1), more.1))
+      let here = and_is_true total.is_near (is_near (cto_left r a.cto)) more.0 in
+      (here.0, (subst (λ (z : ℤ). FitsSigned w32 (cto_left r z)) h.0.offset (near_fits (cto_left r a.cto) here.1), more.1))
 
   pub near_total : (total : Total) (number time : ℕ) (taken : List SampleAt) (samples : List Sample) → AreTaken file keys taken (timed_from number time samples) → total.is_near ≡ true → AreNear samples → (total_from r total taken).is_near ≡ true
   near_total total number time [] [] h e near = e
   near_total total number time [] (s ∷ samples) h e near = absurd h
   near_total total number time (a ∷ taken) [] h e near = absurd h
   near_total total number time (a ∷ taken) (s ∷ samples) h e near =
-      let here = fits_near (offset_left r.leaving r.offset a.cto) (subst (λ (z : ℤ). FitsSigned w32 (offset_left r.leaving r.offset z)) (sym h.0.offset) near.0) in
+      let here = fits_near (cto_left r a.cto) (subst (λ (z : ℤ). FitsSigned w32 (cto_left r z)) (sym h.0.offset) near.0) in
       near_total (total_with r total a) (number + 1) (time + s.duration) taken samples h.1 (λ i. e i && here i) near.1

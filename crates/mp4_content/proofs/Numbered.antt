@@ -8,6 +8,7 @@ use Rattle.mp4_head.specs.format.Head.{TrackHead}
 use Rattle.mp4_head.specs.format.Tree.{are_distinct}
 use Rattle.mp4_present.specs.format.Presentation.{Track, Presentation, movie_length, track_length}
 use Rattle.mp4_content.specs.format.Reduced.{number_head, number_heads, number_track, number_tracks, reduce, reduce_track, timescale_left}
+use Rattle.mp4_content.specs.format.Remaining.{movie_divisor, remaining, remaining_movie, remaining_track}
 use Rattle.mp4_content.specs.declared.without.Without.{Without}
 
 -- ---- places that differ
@@ -85,6 +86,11 @@ module _ (l : Without) where
   -- how long the longest track of what is left is
   pub left_longest : (p : Presentation) → movie_length (reduce l p) ≡ fold (λ longest (t : Track). max longest (track_length (timescale_left l p.movie.timescale) t)) 0 (map (reduce_track l) p.tracks)
   left_longest p = numbered_longest (timescale_left l p.movie.timescale) 0 1 (map (reduce_track l) p.tracks)
+
+  -- and that of what remains
+  pub remaining_longest : (p : Presentation)
+      → movie_length (remaining l p) ≡ fold (λ longest (t : Track). max longest (track_length (remaining_movie l (movie_divisor l p) p.movie).timescale t)) 0 (map (remaining_track l (movie_divisor l p)) p.tracks)
+  remaining_longest p = numbered_longest (remaining_movie l (movie_divisor l p) p.movie).timescale 0 1 (map (remaining_track l (movie_divisor l p)) p.tracks)
 
   -- ---- their heads, and one of them
 

@@ -1,4 +1,4 @@
--- The fault that names the first track of which what is left is too long, or has an offset that doesn't fit.
+-- The fault that names the first track of which what remains is too long, or has an offset that doesn't fit.
 use Rattle.std.proofs.Common.{◌≡◌, ℕ, ◌^◌, ◌⊎◌, inl, inr, List, [], ◌∷◌, ◌++◌, map, refl, sym, ap, subst, ◌∙◌, arith}
 use Rattle.std.specs.Prelude.{codes, ℤ, pos, negsuc, FitsSigned}
 use Rattle.std.specs.Int.{w32}
@@ -10,13 +10,14 @@ use Rattle.mp4_boxes.specs.declared.fault.Fault.{Fault}
 use Rattle.mp4_boxes.specs.declared.fault.Kind.TheVariants.{OffsetTooLarge, TimeTooLarge}
 use Rattle.mp4_head.specs.format.Tree.{TrackTree, first_of}
 use Rattle.mp4_present.specs.format.Presentation.{Sample, Track, IsInTime, end_time, max_time, track_length}
-use Rattle.mp4_present.specs.format.Denotes.{FileTree, file_parts, movie_timescale, track_of, presentation_of}
-use Rattle.mp4_content.specs.format.Reduced.{HasNearOffsets, reduce_track, timescale_left}
+use Rattle.mp4_present.specs.format.Denotes.{FileTree, file_parts, track_of, presentation_of}
+use Rattle.mp4_content.specs.format.Reduced.{HasNearOffsets}
+use Rattle.mp4_content.specs.format.Remaining.{RemainsInLimits, movie_divisor, remaining_track}
 use Rattle.mp4_present.specs.words.Movies.{MovieSeen}
 use Rattle.mp4_present.specs.words.OpenedMovie.{IsOpenedAs}
 use Rattle.mp4_content.specs.declared.without.Without.{Without}
 use Rattle.mp4_present.proofs.One.{denotes_one, file_tree_one}
-use Rattle.mp4_content.specs.format.ReducedTimes.{IsLeftFault, LeftInLimits, ReducesInLimits, ReducedLimitPasses, ReducedFaultStands}
+use Rattle.mp4_content.specs.format.ReducedTimes.{IsLeftFault, LeftInLimits, ReducedLimitPasses, ReducedFaultStands, scale_left, track_left}
 use Rattle.mp4_content.specs.format.ReducedLaws.{ReducedFaultRefuses, ReducedFaultIsOne}
 
 -- ---- whether a track is too long, and whether its offsets fit
@@ -92,15 +93,15 @@ module _ (l : Without) (file : List ℕ) (tree : FileTree) where
   own t = track_of file (file_parts tree) t
 
   abbrev IsShort : Track → Type 0
-  IsShort t = IsInTime (timescale_left l (movie_timescale file tree)) (reduce_track l t)
+  IsShort t = IsInTime (scale_left l file tree) (remaining_track l (movie_divisor l (presentation_of file tree)) t)
 
   abbrev IsNear : Track → Type 0
-  IsNear t = HasNearOffsets (reduce_track l t)
+  IsNear t = HasNearOffsets (remaining_track l (movie_divisor l (presentation_of file tree)) t)
 
   limits_or : (t : TrackTree) → LeftInLimits l file tree t ⊎ (LeftInLimits l file tree t → ⊥)
-  limits_or t = elim (in_time_or (timescale_left l (movie_timescale file tree)) (reduce_track l (own t))) [
+  limits_or t = elim (in_time_or (scale_left l file tree) (track_left l file tree t)) [
     | inr long ↦ inr (λ h. long h.0)
-    | inl short ↦ elim (near_offsets_or (reduce_track l (own t))) [
+    | inl short ↦ elim (near_offsets_or (track_left l file tree t)) [
       | inl near ↦ inl (short, near)
       | inr far ↦ inr (λ h. far h.1)
     ]
@@ -108,7 +109,7 @@ module _ (l : Without) (file : List ℕ) (tree : FileTree) where
 
   -- what is wrong with a track that is not in the limits
   fault_there : (t : TrackTree) → (LeftInLimits l file tree t → ⊥) → (f : Fault) × IsLeftFault l file tree t f
-  fault_there t fails = elim (in_time_or (timescale_left l (movie_timescale file tree)) (reduce_track l (own t))) [
+  fault_there t fails = elim (in_time_or (scale_left l file tree) (track_left l file tree t)) [
     | inr long ↦ (fault_of TimeTooLarge (first_of (codes "tkhd") t.track), inl (long, refl))
     | inl short ↦ (fault_of OffsetTooLarge (first_of (codes "tkhd") t.track), inr (short, λ near. fails (short, near), refl))
   ]
@@ -123,9 +124,9 @@ module _ (l : Without) (file : List ℕ) (tree : FileTree) where
   fault_one t f g (inr a) (inl b) = absurd (b.0 a.0)
   fault_one t f g (inr a) (inr b) = b.2 ∙ sym a.2
 
-  there_is : (ReducesInLimits l (presentation_of file tree) → ⊥) → (f : Fault) × ReducedLimitPasses l file tree f
+  there_is : (RemainsInLimits l (presentation_of file tree) → ⊥) → (f : Fault) × ReducedLimitPasses l file tree f
   there_is over =
-      let all_in : AllByRecursion (LeftInLimits l file tree) tree.movie.tracks → ReducesInLimits l (presentation_of file tree) = λ all. record {
+      let all_in : AllByRecursion (LeftInLimits l file tree) tree.movie.tracks → RemainsInLimits l (presentation_of file tree) = λ all. record {
         in_time = each_value (LeftInLimits l file tree) IsShort own (λ t h. h.0) tree.movie.tracks all;
         in_range = each_value (LeftInLimits l file tree) IsNear own (λ t h. h.1) tree.movie.tracks all;
       } in
@@ -146,7 +147,7 @@ module _ (l : Without) (file : List ℕ) (tree : FileTree) where
   named_here P f q h = here P q.before q.after q.t (subst (λ (trees : List TrackTree). AllByRecursion P (map own trees)) q.tracks h)
 
   -- Where it is named, what is left is not in the limits.
-  pub passes_limits : (f : Fault) → ReducedLimitPasses l file tree f → ReducesInLimits l (presentation_of file tree) → ⊥
+  pub passes_limits : (f : Fault) → ReducedLimitPasses l file tree f → RemainsInLimits l (presentation_of file tree) → ⊥
   passes_limits f q h = fault_fails q.t f q.named (named_here IsShort f q h.in_time, named_here IsNear f q h.in_range)
 
 -- ---- the laws
@@ -154,11 +155,11 @@ module _ (l : Without) (file : List ℕ) (tree : FileTree) where
 pub refuses : ReducedFaultRefuses
 refuses l file f p s d limits =
     let same = denotes_one file p s.p d s.denotes ∙ s.denotes.says in
-    passes_limits l file s.denotes.tree f s.passes (subst (ReducesInLimits l) same limits)
+    passes_limits l file s.denotes.tree f s.passes (subst (RemainsInLimits l) same limits)
 
 pub is_one : ReducedFaultIsOne
 is_one l file p d over =
-    let r = there_is l file d.tree (λ limits. over (subst (ReducesInLimits l) (sym d.says) limits)) in (
+    let r = there_is l file d.tree (λ limits. over (subst (RemainsInLimits l) (sym d.says) limits)) in (
       r.0,
       record { p = p; denotes = d; passes = r.1 },
       λ g s. one_of_tree l file d.tree r.0 g r.1 (subst (λ (tree : FileTree). ReducedLimitPasses l file tree g) (file_tree_one file s.denotes.tree d.tree s.denotes.is_tree d.is_tree) s.passes),

@@ -53,6 +53,10 @@ tracks_take (t ∷ tracks) h =
 abbrev pub length_by : ℕ → ℕ → List Edit → ℕ → ℕ
 length_by timescale media edits total = if says_all edits then sum_of (λ (e : Edit). e.segment_duration) edits else div_ceil (total * timescale) media
 
+-- a thousandth each
+pub each_a_thousandth : (n : ℕ) → div_ceil (n * 1000) 1000 ≡ n
+each_a_thousandth n = omega arith
+
 module _ (l : Without) where
   kept_shorter : (kept : List Kept) → length (flat_map kept_bytes (reduce_kept l kept)) ≤ length (flat_map kept_bytes kept)
   kept_shorter kept = by_case (λ (ks : List Kept). length (flat_map kept_bytes ks) ≤ length (flat_map kept_bytes kept)) l.metadata (filter (λ (k : Kept). not (is_among metadata_kinds k.kind)) kept) kept
@@ -372,15 +376,12 @@ module _ (l : Without) where
 
   -- ---- where timing doesn't count
 
-  durations_counted : (samples : List Sample) → l.timing ≡ true → total_duration (reduce_samples l samples) ≡ length samples
+  pub durations_counted : (samples : List Sample) → l.timing ≡ true → total_duration (reduce_samples l samples) ≡ length samples
   durations_counted samples e = durations_count l (length samples) (first_offset samples) e 0 samples
 
   -- a track is as long as its edits say, where they stay and say it; else by the number of its samples
   abbrev pub counted_length : List Edit → ℕ → ℕ
   counted_length edits samples = if says_all (if l.edits then [] else edits) then sum_of (λ (e : Edit). e.segment_duration) (if l.edits then [] else edits) else samples
-
-  each_a_thousandth : (n : ℕ) → div_ceil (n * 1000) 1000 ≡ n
-  each_a_thousandth n = omega arith
 
   pub counted_track_length : (timescale : ℕ) (t : Track) → l.timing ≡ true → track_length (timescale_left l timescale) (reduce_track l t) ≡ counted_length t.head.edits (length t.samples)
   counted_track_length timescale t e =

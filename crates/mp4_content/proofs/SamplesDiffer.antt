@@ -20,7 +20,9 @@ use Rattle.mp4_tables.proofs.GroupMaps.{IsMap}
 use Rattle.mp4_tables.proofs.Placed.{IsKey, IsIndex}
 use Rattle.mp4_head.specs.format.Tree.{TrackTree}
 use Rattle.mp4_present.specs.format.Denotes.{FileTree, bytes_at, sample_of, file_parts, placed_of}
-use Rattle.mp4_content.specs.format.Reduced.{reduce_sample, reduce_from}
+use Rattle.mp4_content.specs.format.Reduced.{reduce_sample}
+use Rattle.mp4_content.specs.format.Timescales.{divided, sample_by}
+use Rattle.mp4_content.proofs.ReducedTaken.{remaining_from}
 use Rattle.mp4_content.specs.format.Differences.{differ, numbers_differ, signed, first_unequal, byte_at, bytes_differ, each_differ}
 use Rattle.mp4_content.specs.format.Comparison.{with_key, keys_of_both, index_differences, sample_differences}
 use Rattle.mp4_content.specs.words.Differing.{index_in, index_of, group_differences, pair_differences}
@@ -199,7 +201,8 @@ module _ (by : Pairing) (l : Without) (left right : List GroupKey) (file other :
   q = by.right_reduction
 
   two_samples : (n a b dts later : ℕ) (s t : PlacedSample) → IsSampleOf file left s → IsSampleOf other right t
-      → pair_differences by file other n (sample_at left a dts s) (sample_at right b later t) ≡ sample_differences by.track n (reduce_sample r.leaving r.samples r.offset a (sample_of file s)) (reduce_sample q.leaving q.samples q.offset b (sample_of other t))
+      → pair_differences by file other n (sample_at left a dts s) (sample_at right b later t) ≡ sample_differences by.track n (sample_by r.leaving (divided r.divisor) r.samples a (reduce_sample r.leaving r.samples r.offset a (sample_of file s)))
+      (sample_by q.leaving (divided q.divisor) q.samples b (reduce_sample q.leaving q.samples q.offset b (sample_of other t)))
   two_samples n a b dts later s t hs ht =
       let of = subjects.Sample by.track n in
       let values = λ (g : List Difference). numbers_differ of fields.Duration (lasts_left r a s.duration) (lasts_left q b t.duration)
@@ -216,13 +219,13 @@ module _ (by : Pairing) (l : Without) (left right : List GroupKey) (file other :
 
   pub all_samples : (n a b dts later : ℕ) (xs ys : List PlacedSample) → AllByRecursion (IsSampleOf file left) xs → AllByRecursion (IsSampleOf other right) ys
       → each_differ (pair_differences by file other) n (timed left a dts xs) (timed right b later ys)
-      ≡ each_differ (sample_differences by.track) n (reduce_from r.leaving r.samples r.offset a (map (sample_of file) xs)) (reduce_from q.leaving q.samples q.offset b (map (sample_of other) ys))
+      ≡ each_differ (sample_differences by.track) n (remaining_from r.leaving r.divisor r.samples r.offset a (map (sample_of file) xs)) (remaining_from q.leaving q.divisor q.samples q.offset b (map (sample_of other) ys))
   all_samples n a b dts later [] ys hs ht = refl
   all_samples n a b dts later (x ∷ xs) [] hs ht = refl
   all_samples n a b dts later (x ∷ xs) (y ∷ ys) hs ht =
       let one = two_samples n a b dts later x y hs.0 ht.0 in
       let more = all_samples (suc n) (a + 1) (b + 1) (dts + x.duration) (later + y.duration) xs ys hs.1 ht.1
-      ∙ (λ i. each_differ (sample_differences by.track) (suc n) (reduce_from r.leaving r.samples r.offset (plus_one a i) (map (sample_of file) xs)) (reduce_from q.leaving q.samples q.offset (plus_one b i) (map (sample_of other) ys))) in
+      ∙ (λ i. each_differ (sample_differences by.track) (suc n) (remaining_from r.leaving r.divisor r.samples r.offset (plus_one a i) (map (sample_of file) xs)) (remaining_from q.leaving q.divisor q.samples q.offset (plus_one b i) (map (sample_of other) ys))) in
       λ i. one i ++ more i
 
 -- ---- two tracks

@@ -109,18 +109,18 @@ module _ (l : Without) where
 
   -- ---- where timing doesn't count
 
+  untimed_duration : l.timing ≡ true → (f : ℕ → ℕ) (count n d : ℕ) → (if leaves_duration l count n then d else f d) ≡ d
+  untimed_duration e f count n d = ap (λ (b : Bool). if b || (l.ends && is_at_end count n) then d else f d) e
+
+  pub untimed_total : l.timing ≡ true → (f : ℕ → ℕ) (count n : ℕ) (samples : List Sample) → total_duration (samples_by l f count n samples) ≡ total_duration samples
+  untimed_total e f count n [] = refl
+  untimed_total e f count n (s ∷ samples) = λ i. untimed_duration e f count n s.duration i + untimed_total e f count (suc n) samples i
+
   less_untimed : l.timing ≡ true → (scale h : ℕ) (t : Track) → IsLess scale h t
   less_untimed e scale h t =
       let g = divisor_of (track_times l t) in
-      subst (λ n. by_samples n (timescale_by l (divided h) scale) (timescale_by l (divided g) t.head.media.timescale) ≤ by_samples (total_duration t.samples) scale t.head.media.timescale) (sym (total_same g (length t.samples) 0 t.samples))
+      subst (λ n. by_samples n (timescale_by l (divided h) scale) (timescale_by l (divided g) t.head.media.timescale) ≤ by_samples (total_duration t.samples) scale t.head.media.timescale) (sym (untimed_total e (divided g) (length t.samples) 0 t.samples))
       (subst (λ (b : Bool). by_samples (total_duration t.samples) (if b then scale else divided h scale) (if b then t.head.media.timescale else divided g t.head.media.timescale) ≤ by_samples (total_duration t.samples) scale t.head.media.timescale) (sym e) (omega arith))
-    where
-      duration_same : (g count n d : ℕ) → (if leaves_duration l count n then d else divided g d) ≡ d
-      duration_same g count n d = ap (λ (b : Bool). if b || (l.ends && is_at_end count n) then d else divided g d) e
-
-      total_same : (g count n : ℕ) (samples : List Sample) → total_duration (samples_by l (divided g) count n samples) ≡ total_duration samples
-      total_same g count n [] = refl
-      total_same g count n (s ∷ samples) = λ i. duration_same g count n s.duration i + total_same g count (suc n) samples i
 
   -- ---- where it does, and ends stay
 
@@ -188,7 +188,7 @@ near_divided g (negsuc n) h = below (divided g (suc n)) (div-le_self (suc n) g)
     below (suc k) less = omega (arith, ints, less, h)
 
 module _ (l : Without) where
-  near_samples : (g count n : ℕ) (samples : List Sample) → AllByRecursion (λ (s : Sample). FitsSigned w32 s.offset) samples → AllByRecursion (λ (s : Sample). FitsSigned w32 s.offset) (samples_by l (divided g) count n samples)
+  pub near_samples : (g count n : ℕ) (samples : List Sample) → AllByRecursion (λ (s : Sample). FitsSigned w32 s.offset) samples → AllByRecursion (λ (s : Sample). FitsSigned w32 s.offset) (samples_by l (divided g) count n samples)
   near_samples g count n [] h = tt
   near_samples g count n (s ∷ samples) h = (near_divided g s.offset h.0, near_samples g count (suc n) samples h.1)
 

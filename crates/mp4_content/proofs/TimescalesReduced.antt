@@ -183,7 +183,7 @@ module _ (m l : Without) (ends : m.ends ≡ true → l.ends ≡ true) (timing : 
   abbrev left_segments : List Track → List ℤ
   left_segments tracks = if l.edits then [] else segment_times tracks
 
-  segments_left : (place : ℕ) (tracks : List Track) → segment_times (number_tracks l place (map (reduce_track l) tracks)) ≡ left_segments tracks
+  pub segments_left : (place : ℕ) (tracks : List Track) → segment_times (number_tracks l place (map (reduce_track l) tracks)) ≡ left_segments tracks
   segments_left place tracks = by l.edits refl place tracks
     where
       by : (b : Bool) → l.edits ≡ b → (place : ℕ) (tracks : List Track) → segment_times (number_tracks l place (map (reduce_track l) tracks)) ≡ (if b then [] else segment_times tracks)

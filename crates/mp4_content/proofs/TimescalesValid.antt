@@ -10,7 +10,7 @@ use Rattle.mp4_boxes.specs.format.Bytes.{sum_of}
 use Rattle.mp4_boxes.proofs.Each.{each_value, each_weaker}
 use Rattle.mp4_boxes.proofs.Plain.{length_mapped}
 use Rattle.mp4_tables.specs.format.Groups.{GroupKey, keys_with, max_keys}
-use Rattle.mp4_head.specs.format.Head.{Edit, TrackHead, IsMovieHead, IsEdit}
+use Rattle.mp4_head.specs.format.Head.{Edit, MovieHead, TrackHead, IsEdit, IsMovieHead, IsTrackHead}
 use Rattle.mp4_head.specs.format.Tree.{are_distinct}
 use Rattle.mp4_head.specs.format.Writing.{edts_bytes, trak_bytes, trex_bytes, moov_bytes, head_bytes, ftyp_bytes}
 use Rattle.mp4_head.proofs.HeadLengths.{length_edits, length_head, length_track}
@@ -19,14 +19,20 @@ use Rattle.mp4_content.specs.format.Reduced.{is_at_end, start_left, first_offset
 use Rattle.mp4_content.specs.declared.without.Without.{Without}
 use Rattle.mp4_content.specs.format.ReducedLaws.{KeepsLimits}
 use Rattle.mp4_content.specs.format.ReducedTimes.{ReducesInLimits}
-use Rattle.mp4_content.specs.format.Timescales.{counted_timescale, track_times, movie_times, sized, timescale_by, sample_by, samples_by, media_time_by, edit_by, divided, divisor_of, lowest_track, lowest, scaled}
+use Rattle.mp4_content.specs.format.Timescales.{counted_timescale, track_times, movie_times, sized, timescale_by, sample_by, samples_by, media_time_by, edit_by, track_by, divided, divisor_of, lowest_track, lowest, scaled}
+use Rattle.mp4_content.specs.format.Remaining.{remaining_movie}
 use Rattle.mp4_content.specs.format.TimescalesLaws.{ScaledInLimits, ScaledIsValid, ScaledStaysValid}
 use Rattle.mp4_content.proofs.Numbered.{each_before, ids_of, numbered_each}
 use Rattle.mp4_content.proofs.ReducedSamples.{by_case, left_many}
 use Rattle.mp4_content.proofs.ReducedValid.{near_of, reduced_is_valid, reduced_stays_valid, shorter_moov}
-use Rattle.mp4_content.proofs.TimescalesDivisors.{divisor_divides}
+use Rattle.mp4_content.proofs.TimescalesDivisors.{Divides, divisor_divides}
 use Rattle.mp4_content.proofs.TimescalesChanged.{many_stay}
 use Rattle.mp4_content.proofs.TimescalesLengths.{some_divided, duration_less, lowest_in_time, near_tracks}
+
+-- what is so of the values of all is so of the value of each
+pub each_unmapped : {A B : Type 0} (f : A → B) (P : B → Type 0) (xs : List A) → AllByRecursion P (map f xs) → AllByRecursion (λ x. P (f x)) xs
+each_unmapped f P [] h = tt
+each_unmapped f P (x ∷ xs) h = (h.0, each_unmapped f P xs h.1)
 
 -- ---- numbers that are divided
 
@@ -37,7 +43,7 @@ pub media_time_good : (g : ℕ) (z : ℤ) → FitsSigned w64 z → FitsSigned w6
 media_time_good g (pos n) h = let less = div-le_self n g in omega (arith, ints, less, h)
 media_time_good g (negsuc n) h = h
 
-edits_good : (a g : ℕ) (edits : List Edit) → AllByRecursion IsEdit edits → AllByRecursion IsEdit (map (edit_by (divided a) (divided g)) edits)
+pub edits_good : (a g : ℕ) (edits : List Edit) → AllByRecursion IsEdit edits → AllByRecursion IsEdit (map (edit_by (divided a) (divided g)) edits)
 edits_good a g [] h = tt
 edits_good a g (e ∷ edits) h = (
   record {
@@ -66,7 +72,7 @@ HasMatrix t = length t.head.matrix ≡ 9
 
 module _ (l : Without) where
   -- the same words, but edits, ends and origins stay
-  abbrev kept : Without
+  abbrev pub kept : Without
   kept = record l { edits = false; ends = false; origins = false }
 
   pub scale_less : (g n : ℕ) → timescale_by l (divided g) n ≤ n
@@ -88,7 +94,7 @@ module _ (l : Without) where
       let rest = lengths_same a tracks h.1 in
       omega (arith, was, now, edits, rest)
 
-  moov_same : (p : Presentation) → length p.movie.matrix ≡ 9 → AllByRecursion HasMatrix p.tracks → normal_moov_length (lowest l p) ≡ normal_moov_length p
+  pub moov_same : (p : Presentation) → length p.movie.matrix ≡ 9 → AllByRecursion HasMatrix p.tracks → normal_moov_length (lowest l p) ≡ normal_moov_length p
   moov_same p nine each =
       let q = lowest l p in
       let a = length_head p.movie (heads p) (movie_length p) nine in
@@ -139,9 +145,13 @@ module _ (l : Without) where
   abbrev pub scaled_at : ℕ → ℕ → Track → Track
   scaled_at a place t = lowest_track l a (number_track l place (reduce_track l t))
 
-  as_many : (a place : ℕ) (t : Track) → length (scaled_at a place t).samples ≡ length t.samples
-  as_many a place t =
-      many_stay l (divided (divisor_of (track_times l (number_track l place (reduce_track l t))))) (length (reduce_samples l t.samples)) 0 (reduce_samples l t.samples)
+  -- the same by any divisor
+  abbrev pub scaled_by : ℕ → ℕ → ℕ → Track → Track
+  scaled_by a g place t = track_by l (divided a) (divided g) (number_track l place (reduce_track l t))
+
+  as_many : (a g place : ℕ) (t : Track) → length (scaled_by a g place t).samples ≡ length t.samples
+  as_many a g place t =
+      many_stay l (divided g) (length (reduce_samples l t.samples)) 0 (reduce_samples l t.samples)
       ∙ left_many l (length t.samples) (first_offset t.samples) 0 t.samples
 
   edits_left : (a g : ℕ) (edits : List Edit) → AllByRecursion IsEdit edits → AllByRecursion IsEdit (map (edit_by (divided a) (divided g)) (if l.edits then [] else edits))
@@ -155,54 +165,59 @@ module _ (l : Without) where
       by false true e = zero-div g
       by false false e = ap (divided g) e ∙ zero-div g
 
-  track_good : (a place : ℕ) (t : Track) → IsTrack (number_track kept place (reduce_track kept t)) → HasNearOffsets (scaled_at a place t) → IsTrack (scaled_at a place t)
-  track_good a place t h near =
-      let u = number_track l place (reduce_track l t) in
-      let g = divisor_of (track_times l u) in
-      let all = divisor_divides (track_times l u) in
-      let count = length (reduce_samples l t.samples) in
-      let scale = timescale_left l t.head.media.timescale in
-      record {
-        head = record {
-          flags = h.head.flags;
-          creation = h.head.creation;
-          modification = h.head.modification;
-          id = h.head.id;
-          id_not_0 = h.head.id_not_0;
-          layer = h.head.layer;
-          alternate_group = h.head.alternate_group;
-          volume = h.head.volume;
-          matrix = h.head.matrix;
-          width = h.head.width;
-          height = h.head.height;
-          edits = edits_left a g t.head.edits h.head.edits;
-          kept = h.head.kept;
-          media = record {
-            creation = h.head.media.creation;
-            modification = h.head.media.modification;
-            timescale = below scale (timescale_by l (divided g) scale) (2 ^ 32) (scale_less g scale) h.head.media.timescale;
-            timescale_not_0 = scale_some_by g scale all.0 h.head.media.timescale_not_0;
-            language = h.head.media.language;
-            handler = h.head.media.handler;
-            handler_room = h.head.media.handler_room;
-            extended_languages = h.head.media.extended_languages;
-            header = h.head.media.header;
-            header_bytes = h.head.media.header_bytes;
-            descriptions = h.head.media.descriptions;
-          };
-          group_descriptions = h.head.group_descriptions;
-        };
-        samples = samples_good g count (length t.samples) (first_offset t.samples) (length u.head.media.descriptions) 0 t.samples h.samples near;
-        keys = subst (λ (keys : List GroupKey). length (keys_with [] keys) ≤ max_keys) (sym (named_same g count (length t.samples) (first_offset t.samples) 0 t.samples)) h.keys;
-        empty = λ e.
-            let none : t.samples ≡ [] = nil_from_length t.samples (sym (as_many a place t) ∙ ap length e) in
-            start_none g t.start (h.empty (ap (reduce_samples kept) none));
-      }
+  -- what stands where edits, ends and origins stay, of a track whose times are divided by what divides them
+  module _ (a g place : ℕ) (t : Track) (all : Divides g (track_times l (reduce_track l t))) (h : IsTrack (number_track kept place (reduce_track kept t))) where
+    abbrev scale : ℕ
+    scale = timescale_left l t.head.media.timescale
+
+    pub head_good : IsTrackHead (scaled_by a g place t).head
+    head_good = record {
+      flags = h.head.flags;
+      creation = h.head.creation;
+      modification = h.head.modification;
+      id = h.head.id;
+      id_not_0 = h.head.id_not_0;
+      layer = h.head.layer;
+      alternate_group = h.head.alternate_group;
+      volume = h.head.volume;
+      matrix = h.head.matrix;
+      width = h.head.width;
+      height = h.head.height;
+      edits = edits_left a g t.head.edits h.head.edits;
+      kept = h.head.kept;
+      media = record {
+        creation = h.head.media.creation;
+        modification = h.head.media.modification;
+        timescale = below scale (timescale_by l (divided g) scale) (2 ^ 32) (scale_less g scale) h.head.media.timescale;
+        timescale_not_0 = scale_some_by g scale all.0 h.head.media.timescale_not_0;
+        language = h.head.media.language;
+        handler = h.head.media.handler;
+        handler_room = h.head.media.handler_room;
+        extended_languages = h.head.media.extended_languages;
+        header = h.head.media.header;
+        header_bytes = h.head.media.header_bytes;
+        descriptions = h.head.media.descriptions;
+      };
+      group_descriptions = h.head.group_descriptions;
+    }
+
+    pub track_good : HasNearOffsets (scaled_by a g place t) → IsTrack (scaled_by a g place t)
+    track_good near =
+        let many = length (reduce_track l t).head.media.descriptions in
+        let count = length (reduce_samples l t.samples) in
+        record {
+          head = head_good;
+          samples = samples_good g count (length t.samples) (first_offset t.samples) many 0 t.samples h.samples near;
+          keys = subst (λ (keys : List GroupKey). length (keys_with [] keys) ≤ max_keys) (sym (named_same g count (length t.samples) (first_offset t.samples) 0 t.samples)) h.keys;
+          empty = λ e.
+              let none : t.samples ≡ [] = nil_from_length t.samples (sym (as_many a g place t) ∙ ap length e) in
+              start_none g t.start (h.empty (ap (reduce_samples kept) none));
+        }
 
   tracks_good : (a place : ℕ) (tracks : List Track) → AllByRecursion IsTrack (number_tracks kept place (map (reduce_track kept) tracks)) → AllByRecursion HasNearOffsets (map (lowest_track l a) (number_tracks l place (map (reduce_track l) tracks)))
       → AllByRecursion IsTrack (map (lowest_track l a) (number_tracks l place (map (reduce_track l) tracks)))
   tracks_good a place [] h near = tt
-  tracks_good a place (t ∷ tracks) h near = (track_good a place t h.0 near.0, tracks_good a (suc place) tracks h.1 near.1)
+  tracks_good a place (t ∷ tracks) h near = (track_good a (divisor_of (track_times l (reduce_track l t))) place t (divisor_divides (track_times l (reduce_track l t))) h.0 near.0, tracks_good a (suc place) tracks h.1 near.1)
 
   ids_same : (a place : ℕ) (tracks : List Track) → ids_of (map (lowest_track l a) (number_tracks l place (map (reduce_track l) tracks))) ≡ ids_of (number_tracks kept place (map (reduce_track kept) tracks))
   ids_same a place [] = refl
@@ -211,25 +226,29 @@ module _ (l : Without) where
   totals_same : (a place : ℕ) (tracks : List Track) → sum_of (λ (t : Track). length t.samples) (map (lowest_track l a) (number_tracks l place (map (reduce_track l) tracks))) ≡ sum_of (λ (t : Track). length t.samples) (number_tracks kept place (map (reduce_track kept) tracks))
   totals_same a place [] = refl
   totals_same a place (t ∷ tracks) =
-      let one = as_many a place t ∙ sym (left_many kept (length t.samples) (first_offset t.samples) 0 t.samples) in
+      let one = as_many a (divisor_of (track_times l (reduce_track l t))) place t ∙ sym (left_many kept (length t.samples) (first_offset t.samples) 0 t.samples) in
       λ i. one i + totals_same a (suc place) tracks i
 
   -- ---- the whole
 
-  pub movie_good : (p : Presentation) → IsMovieHead (reduce_movie_head l p.movie) → IsMovieHead (lowest l (reduce l p)).movie
-  movie_good p h =
-      let a = divisor_of (movie_times l (reduce l p)) in
-      let scale = timescale_left l p.movie.timescale in
+  pub movie_by_good : (a : ℕ) (m : MovieHead) → a ∣ counted_timescale l (timescale_left l m.timescale) → IsMovieHead (reduce_movie_head l m) → IsMovieHead (remaining_movie l a m)
+  movie_by_good a m divides h =
+      let scale = timescale_left l m.timescale in
       record {
         creation = h.creation;
         modification = h.modification;
         timescale = below scale (timescale_by l (divided a) scale) (2 ^ 32) (scale_less a scale) h.timescale;
-        timescale_not_0 = scale_some_by a scale (divisor_divides (movie_times l (reduce l p))).0 h.timescale_not_0;
+        timescale_not_0 = scale_some_by a scale divides h.timescale_not_0;
         rate = h.rate;
         volume = h.volume;
         matrix = h.matrix;
         kept = h.kept;
       }
+
+  pub movie_good : (p : Presentation) → IsMovieHead (reduce_movie_head l p.movie) → IsMovieHead (lowest l (reduce l p)).movie
+  movie_good p h =
+      let times = movie_times l (reduce l p) in
+      movie_by_good (divisor_of times) p.movie (divisor_divides times).0 h
 
   matrices : (p : Presentation) → Valid p → AllByRecursion HasMatrix p.tracks
   matrices p v = each_weaker IsTrack HasMatrix (λ t h. h.head.matrix.nine) p.tracks v.tracks
@@ -259,17 +278,13 @@ module _ (l : Without) where
   pub near_each : (p : Presentation) → Valid p → AllByRecursion HasNearOffsets p.tracks
   near_each p v = each_weaker IsTrack HasNearOffsets (near_of l) p.tracks v.tracks
 
-  each_left : (P : Track → Type 0) (tracks : List Track) → AllByRecursion P (map (reduce_track l) tracks) → AllByRecursion (λ (t : Track). P (reduce_track l t)) tracks
-  each_left P [] h = tt
-  each_left P (t ∷ tracks) h = (h.0, each_left P tracks h.1)
-
   reduced_limits : (p : Presentation) → ScaledInLimits false l p → ReducesInLimits l p
   reduced_limits p limits =
       let in_time = IsInTime (timescale_left l p.movie.timescale) in
       let tracks = map (reduce_track l) p.tracks in
       record {
-        in_time = each_left in_time p.tracks (each_before l in_time in_time (λ place t h. h) 1 tracks limits.in_time);
-        in_range = each_left HasNearOffsets p.tracks (each_before l HasNearOffsets HasNearOffsets (λ place t h. h) 1 tracks limits.in_range);
+        in_time = each_unmapped (reduce_track l) in_time p.tracks (each_before l in_time in_time (λ place t h. h) 1 tracks limits.in_time);
+        in_range = each_unmapped (reduce_track l) HasNearOffsets p.tracks (each_before l HasNearOffsets HasNearOffsets (λ place t h. h) 1 tracks limits.in_range);
       }
 
 limits_of : (b : Bool) (l : Without) (p : Presentation) → Valid (scaled b l p) → ScaledInLimits b l p

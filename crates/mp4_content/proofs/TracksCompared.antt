@@ -17,6 +17,7 @@ use Rattle.mp4_present.specs.words.OpenedMovie.{IsOpenedAs}
 use Rattle.mp4_content.specs.words.SamePairs.{PassesSame}
 use Rattle.mp4_present.specs.words.SamplesComing.{Comes, track_samples}
 use Rattle.mp4_content.specs.words.TwoStores.{HaveBegun}
+use Rattle.mp4_content.specs.declared.comparing.tracks.Divisors.{Divisors}
 use Rattle.mp4_present.specs.words.WalkSteps.{MayTake, walk_steps}
 use Rattle.mp4_content.specs.words.Windows.{Shows}
 use Rattle.mp4_content.specs.declared.comparing.pairing.Pairing.{Pairing}
@@ -107,8 +108,8 @@ module _ (by : Pairing) (file : List ℕ) (tree : FileTree) (t : TrackTree) (m :
   GoOn k w v now new = PairsGo by file tree t m other other_tree u n k w v before now old new
 
   -- before the first
-  pub pairs_first : (l : Without) (w v : Walk) (new : ℕ) → HaveBegun l by file tree t m w other other_tree u n v old new → GoOn 0 w v before new
-  pairs_first l w v new h = record { comes = h.comes; comes_right = h.comes_right; grows = grows_none before _; takes = h.takes }
+  pub pairs_first : (l : Without) (ds : Divisors) (w v : Walk) (new : ℕ) → HaveBegun l ds by file tree t m w other other_tree u n v old new → GoOn 0 w v before new
+  pairs_first l ds w v new h = record { comes = h.comes; comes_right = h.comes_right; grows = grows_none before _; takes = h.takes }
 
   -- one pair more
   pub pairs_next : (k : ℕ) (w v w2 v2 : Walk) (now next found : List Difference) (mid new : ℕ) → GoOn k w v now mid

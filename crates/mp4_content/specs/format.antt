@@ -11,7 +11,9 @@ pub mod ReducedTimes
 pub mod ReducedLaws
 pub mod CoveringLaws
 pub mod Timescales
+pub mod Remaining
 pub mod TimescalesLaws
+pub mod RemainingLaws
 pub mod LeadIns
 pub mod LeadInsLaws
 pub mod TimedSamples

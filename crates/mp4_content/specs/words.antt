@@ -4,6 +4,7 @@ pub mod Windows
 pub mod Compared
 pub mod Aligning
 pub mod Contents
+pub mod Divided
 pub mod GoneOn
 pub mod HeadsDiffer
 pub mod Opened
@@ -12,5 +13,6 @@ pub mod Loading
 pub mod Measuring
 pub mod PayloadsLeft
 pub mod SamePairs
+pub mod Scales
 pub mod TakenSamples
 pub mod TwoStores

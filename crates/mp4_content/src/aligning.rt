@@ -1,16 +1,19 @@
 //! Two tracks whose samples are not the same, aligned: how many are the same in front, how many at
 //! the end, and what stands between.
 ghost use Rattle.std.specs.Prelude.{◌≡◌, ◌+◌, ◌-◌, ◌≤◌, ◌*◌, ◌++◌, false, IsTrue, IfOk, OnOk};
-ghost use Rattle.mp4_content.specs.format.Alignment.{AreAligned, IsPairAligned, if_there};
-ghost use Rattle.mp4_content.specs.words.Aligning.{AreCounts, IsFrontLeft, OfPair, TracksWorkTwice, front_before};
+ghost use Rattle.mp4_content.specs.format.Alignment.{AreAligned, ArePairAligned, if_there};
+ghost use Rattle.mp4_content.specs.format.Remaining.{divided_samples};
+ghost use Rattle.mp4_content.specs.words.Aligning.{AreCounts, IsFrontLeft, OfPair, TracksWorkTwice, aligning_steps, front_before};
 ghost use Rattle.mp4_content.specs.words.Compared.{HaveTracks, TracksWork, WhereOpenedBoth, WhereTracks};
 ghost use Rattle.mp4_content.specs.words.Differing.{RefusedBoth, RefusesSample};
+ghost use Rattle.mp4_content.specs.words.Scales.{AreScales};
 ghost use Rattle.mp4_content.specs.words.TwoStores.{OnlyReadsBoth};
 ghost use Rattle.mp4_present.specs.format.Denotes.{presentation_of};
 ghost use Rattle.mp4_present.specs.words.StoresRead.{IsUnchanged, OnlyReads};
 ghost use Rattle.mp4_present.specs.words.WalkSteps.{walks_steps};
 
 use crate::common_ends::compare_ends;
+use crate::comparing::both_scales::BothScales;
 use crate::comparing::differences::{Difference, Subject};
 use crate::comparing::movies::Movies;
 use crate::comparing::tracks::Tracks;
@@ -78,7 +81,7 @@ fn same_in_front<S: Store, T: Store, L: Ledger, M: Ledger>(
     ensures stores { OnlyReadsBoth S.Store left.old left.new T.Store right.old right.new result }
     ensures front { OfPair S.Store left.old tracks.entry.movies.now.left T.Store right.old
         tracks.entry.movies.now.right tracks.entry.place (λ t u. AreCounts counts t u
-        → IfOk result (IsFrontLeft tracks.entry.leaving t u)) }
+        → IfOk result (IsFrontLeft tracks.entry.leaving tracks.entry.divisors t u)) }
     ensures unchanged { WhereTracks S.Store left.old tracks.entry.movies.now.left T.Store
         right.old tracks.entry.movies.now.right tracks.entry.place
         (λ tree t other u. IsUnchanged result) }
@@ -127,7 +130,9 @@ fn align_tracks<S: Store, T: Store, L: Ledger, M: Ledger>(
     ensures stores { OnlyReadsBoth S.Store left.old left.new T.Store right.old right.new result }
     ensures aligned { OfPair S.Store left.old tracks.entry.movies.now.left T.Store right.old
         tracks.entry.movies.now.right tracks.entry.place (λ t u. IfOk result
-        (IsPairAligned tracks.entry.leaving (tracks.entry.place + 1) t u)) }
+        (ArePairAligned (tracks.entry.place + 1) t u
+        (divided_samples tracks.entry.leaving tracks.entry.divisors.left t)
+        (divided_samples tracks.entry.leaving tracks.entry.divisors.right u))) }
     ensures unchanged { WhereTracks S.Store left.old tracks.entry.movies.now.left T.Store
         right.old tracks.entry.movies.now.right tracks.entry.place
         (λ tree t other u. IsUnchanged result) }
@@ -170,6 +175,49 @@ fn put_aligned(found: &mut Vec<Alignment>, aligned: Option<Alignment>) -> Result
     found.push(alignment).map_err(|_| Memory)
 }
 
+// How the tracks of two movies lie beside each other of which these are the scales.
+fn align_scaled<S: Store, T: Store, L: Ledger, M: Ledger>(
+    alloc: Global,
+    movies: &Movies,
+    left: &mut S,
+    right: &mut T,
+    leaving: Without,
+    scales: &BothScales,
+    steps: &mut Steps<L, M>,
+) -> Result<Vec<Alignment>, Refusal>
+    ensures left { OnlyReads S.Store left.old left.new result }
+    ensures right { OnlyReads T.Store right.old right.new result }
+    ensures aligned { WhereOpenedBoth S.Store left.old movies.now.left T.Store right.old
+        movies.now.right (λ tree other. AreScales leaving (S.file left.old) tree scales.now.left
+        → AreScales leaving (T.file right.old) other scales.now.right
+        → IfOk result (λ found. AreAligned leaving 1
+        (presentation_of (S.file left.old) tree).tracks
+        (presentation_of (T.file right.old) other).tracks found.items)) }
+    ensures unchanged { WhereOpenedBoth S.Store left.old movies.now.left T.Store right.old
+        movies.now.right (λ tree other. IsUnchanged result) }
+    ensures work { WhereOpenedBoth S.Store left.old movies.now.left T.Store right.old
+        movies.now.right
+        (λ tree other. steps.new.passed ≤ steps.old.passed
+        + 2 * (walks_steps tree + walks_steps other)) }
+    ensures refusal { RefusedBoth S.Store left.old left.new T.Store right.old right.new result
+        RefusesSample }
+    ensures grows { OnOk result (steps.old.passed ≤ steps.new.passed) }
+    ensures looks { steps.new.looks ≡ steps.old.looks }
+{
+    let mut found = Vec::new(alloc);
+    for place in 0..movies.left.tracks().len().min(movies.right.tracks().len()) {
+        let tracks = Tracks {
+            movies,
+            place,
+            leaving,
+            divisors: scales.of_tracks(place),
+        };
+        let aligned = align_tracks(alloc, tracks, left, right, steps)?;
+        put_aligned(&mut found, aligned)?;
+    }
+    Ok(found)
+}
+
 /// How the tracks of two opened files lie beside each other, of each two whose samples are not the
 /// same without what is left out: the longest front that both have, and of the rest the longest
 /// end. Tracks are paired by their order.
@@ -191,22 +239,12 @@ pub fn align<S: Store, T: Store, L: Ledger, M: Ledger>(
         movies.now.right (λ tree other. IsUnchanged result) }
     ensures work { WhereOpenedBoth S.Store left.old movies.now.left T.Store right.old
         movies.now.right
-        (λ tree other. steps.new.passed ≤ steps.old.passed
-        + 2 * (walks_steps tree + walks_steps other)) }
+        (λ tree other. steps.new.passed ≤ steps.old.passed + aligning_steps leaving tree other) }
     ensures refusal { RefusedBoth S.Store left.old left.new T.Store right.old right.new result
         RefusesSample }
     ensures grows { OnOk result (steps.old.passed ≤ steps.new.passed) }
     ensures looks { steps.new.looks ≡ steps.old.looks }
 {
-    let mut found = Vec::new(alloc);
-    for place in 0..movies.left.tracks().len().min(movies.right.tracks().len()) {
-        let tracks = Tracks {
-            movies,
-            place,
-            leaving,
-        };
-        let aligned = align_tracks(alloc, tracks, left, right, steps)?;
-        put_aligned(&mut found, aligned)?;
-    }
-    Ok(found)
+    let scales = BothScales::of(alloc, movies, left, right, leaving, steps)?;
+    align_scaled(alloc, movies, left, right, leaving, &scales, steps)
 }

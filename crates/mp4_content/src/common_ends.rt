@@ -186,7 +186,7 @@ pub(crate) fn compare_ends<S: Store, T: Store, L: Ledger, M: Ledger>(
     ensures ends { OfPair S.Store left.old tracks.entry.movies.now.left T.Store right.old
         tracks.entry.movies.now.right tracks.entry.place (λ t u. AreCounts counts t u
         → BothHave front t.samples u.samples
-        → IfOk result (AreEnds tracks.entry.leaving front t u)) }
+        → IfOk result (AreEnds tracks.entry.leaving tracks.entry.divisors front t u)) }
     ensures unchanged { OfPair S.Store left.old tracks.entry.movies.now.left T.Store
         right.old tracks.entry.movies.now.right tracks.entry.place (λ t u. AreCounts counts t u
         → BothHave front t.samples u.samples → IsUnchanged result) }

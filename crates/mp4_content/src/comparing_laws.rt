@@ -19,8 +19,8 @@ pub fn differences_are_theirs()
     ensures { DifferencesAreTheirs }
 {}
 
-/// No difference is listed between what is left of two valid presentations exactly if the same is
-/// left of both.
+/// No difference is listed between what remains of two valid presentations exactly if the same
+/// remains of both.
 pub fn no_difference_is_same()
     ensures { NoDifferenceIsSame }
 {}

@@ -1,8 +1,9 @@
-//! What is left of an opened movie, as one value.
-ghost use Rattle.std.specs.Prelude.{◌≡◌, ◌+◌, ◌<◌, ◌≤◌, length, map, slice_get, Some, true, IfOk, IfErr, OnOk};
+//! What remains of an opened movie, as one value.
+ghost use Rattle.std.specs.Prelude.{◌≡◌, ◌+◌, ◌<◌, ◌≤◌, length, slice_get, Some, true, IfOk, IfErr, OnOk};
 ghost use Rattle.mp4_head.specs.words.Seen.{movie_seen, tracks_seen};
 ghost use Rattle.mp4_present.specs.words.StoresRead.{IsUnchanged, OnlyReads, Refused};
-ghost use Rattle.mp4_content.specs.format.Reduced.{number_heads, reduce_movie_head, reduce_track_head};
+ghost use Rattle.mp4_content.specs.format.Reduced.{number_heads};
+ghost use Rattle.mp4_content.specs.format.Remaining.{remaining_heads, remaining_movie};
 ghost use Rattle.mp4_content.specs.words.Contents.{IsContentOf, IsContentOver, RefusesLeft, info_left, numbers_of, tracks_left};
 ghost use Rattle.mp4_content.specs.words.LeftTimes.{NamesLong};
 ghost use Rattle.mp4_content.specs.words.Measuring.{measuring_steps};
@@ -12,8 +13,9 @@ ghost use Rattle.mp4_content.specs.words.PayloadsLeft.{AreMediaLeft, leaves_payl
 use crate::measures::{Measures, measure};
 use crate::own_payloads::{MediaLeft, payloads_left};
 use crate::reduced::Reduction;
-use crate::reduced_head::head_left;
+use crate::reduced_head::{divided_timescale, head_left};
 use crate::reduced_lengths::length_left;
+use crate::scales::Scales;
 use crate::without::Without;
 use mp4_boxes::{Memory, Refusal, Steps};
 use mp4_head::MovieHead;
@@ -22,7 +24,7 @@ use mp4_store::Store;
 use std::alloc::{AllocError, Global};
 use std::sync::ledger::Ledger;
 
-/// What is left of a track in numbers.
+/// What remains of a track in numbers.
 #[derive(Clone, Copy, Debug, PartialEq, Eq)]
 pub struct TrackLeft {
     pub id: u32,
@@ -34,45 +36,48 @@ pub struct TrackLeft {
     pub bytes: u64,
 }
 
-/// What is left of an opened movie: what is left out, what each track's samples are left by, what
-/// is left of the tracks in numbers, and how long the longest is.
+/// What remains of an opened movie: what is left out, by what times are divided, what each track's
+/// samples are left by, what remains of the tracks in numbers, and how long the longest is.
 #[derive(Drop)]
 pub struct Content {
     leaving: Without,
+    scales: Scales,
     of_tracks: Vec<Reduction>,
     tracks: Vec<TrackLeft>,
     length: u64,
 }
 
-// What is left of the track at this place, from 1, in numbers.
-fn track_left(leaving: Without, place: u64, info: &TrackInfo) -> TrackLeft
-    ensures { result ≡ numbers_of (info_left leaving place info.now) }
+// What remains of the track at this place, from 1, in numbers, whose times are divided by this.
+fn track_left(leaving: Without, place: u64, divisor: u64, info: &TrackInfo) -> TrackLeft
+    ensures { result ≡ numbers_of (info_left leaving place divisor info.now) }
 {
     TrackLeft {
         id: leaving.id(place, info.id),
-        timescale: leaving.timescale(info.timescale),
+        timescale: divided_timescale(leaving, leaving.timescale(info.timescale), divisor),
         samples: info.samples,
         bytes: info.bytes,
     }
 }
 
-// What is left of tracks in numbers.
+// What remains of tracks in numbers.
 fn tracks_left(
     alloc: Global,
     leaving: Without,
+    scales: &Scales,
     infos: &[TrackInfo],
 ) -> Result<Vec<TrackLeft>, AllocError>
-    ensures { IfOk result (λ tracks. tracks.items ≡ tracks_left leaving infos.now) }
+    ensures { IfOk result
+        (λ tracks. tracks.items ≡ tracks_left leaving scales.now.tracks.items infos.now) }
 {
     let mut tracks = Vec::with_capacity(alloc, infos.len())?;
     for k in 0..infos.len() {
-        tracks.push(track_left(leaving, k as u64 + 1, &infos[k]))?;
+        tracks.push(track_left(leaving, k as u64 + 1, scales.track(k), &infos[k]))?;
     }
     Ok(tracks)
 }
 
 impl Content {
-    /// What is left of a movie. A track that is too long then, or has an offset that doesn't fit,
+    /// What remains of a movie. A track that is too long then, or has an offset that doesn't fit,
     /// is a fault.
     pub fn of<S: Store, L: Ledger, M: Ledger>(
         alloc: Global,
@@ -96,11 +101,13 @@ impl Content {
             (λ file tree. steps.new.passed ≤ steps.old.passed + measuring_steps leaving tree) }
         ensures looks { steps.new.looks ≡ steps.old.looks }
     {
-        let Measures { of_tracks, totals } = measure(alloc, movie, store, leaving, steps)?;
-        let length = length_left(alloc, movie, leaving, totals.as_slice())?;
-        let tracks = tracks_left(alloc, leaving, movie.tracks())?;
+        let scales = Scales::of(alloc, movie, store, leaving, steps)?;
+        let Measures { of_tracks, totals } = measure(alloc, movie, store, leaving, &scales, steps)?;
+        let length = length_left(alloc, movie, leaving, &scales, totals.as_slice())?;
+        let tracks = tracks_left(alloc, leaving, &scales, movie.tracks())?;
         Ok(Content {
             leaving,
+            scales,
             of_tracks,
             tracks,
             length,
@@ -122,7 +129,7 @@ impl Content {
         self.of_tracks[track]
     }
 
-    /// The length of the longest track in the timescale of what is left, 0 without tracks.
+    /// The length of the longest track in the timescale of what remains, 0 without tracks.
     pub fn length(&self) -> u64
         ensures { result ≡ self.now.length }
     {
@@ -137,7 +144,7 @@ impl Content {
         payloads_left(alloc, self.leaving, head.tracks.as_slice())
     }
 
-    /// What is left of the head of the movie, of which these are its own payloads.
+    /// What remains of the head of the movie, of which these are its own payloads.
     pub fn head<'a>(
         &self,
         alloc: Global,
@@ -146,11 +153,12 @@ impl Content {
     ) -> Result<MovieHead<'a>, Memory>
         requires { leaves_payloads self.now.leaving ≡ true
             → AreMediaLeft self.now.leaving head.tracks.items own.now.items }
-        ensures movie { IfOk result
-            (λ left. movie_seen left ≡ reduce_movie_head self.now.leaving (movie_seen head.entry)) }
+        ensures movie { IfOk result (λ left. movie_seen left
+            ≡ remaining_movie self.now.leaving self.now.scales.movie (movie_seen head.entry)) }
         ensures tracks { IfOk result (λ left. tracks_seen left ≡ number_heads self.now.leaving 1
-            (map (reduce_track_head self.now.leaving) (tracks_seen head.entry))) }
+            (remaining_heads self.now.leaving self.now.scales.movie
+            self.now.scales.tracks.items (tracks_seen head.entry))) }
     {
-        head_left(alloc, head, self.leaving, own)
+        head_left(alloc, head, self.leaving, &self.scales, own)
     }
 }

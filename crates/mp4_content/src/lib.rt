@@ -14,11 +14,12 @@
 //! - [`Reduced`] hands out what is left of samples, one after the other; [`reduced_sample`] is that
 //!   of one. [`head_left`] is what is left of a head, [`payloads_left`] that of its payloads, in
 //!   memory of their own.
+//! - [`Scales`] says by what times are divided where timescales are left out ([`remaining_laws`]).
 //! - [`reduction_of`] says what samples of a track are left by; [`peek_sample`] looks at the next
 //!   sample.
 //!
 //! A comparison holds two windows of at most 65,536 bytes, a walk over a track of each file, and
-//! what is left of both heads. A content holds some 64 bytes a track.
+//! what is left of both heads. A content holds some 80 bytes a track.
 //!
 //! ```rust
 //! use mp4_boxes::Steps;
@@ -65,6 +66,8 @@ mod reduced;
 mod reduced_head;
 pub mod reduced_laws;
 mod reduced_lengths;
+pub mod remaining_laws;
+mod scales;
 pub mod timescales_laws;
 mod without;
 
@@ -78,4 +81,5 @@ pub use own_payloads::{BoxLeft, MediaLeft, payloads_left};
 pub use peeking::peek_sample;
 pub use reduced::{Reduced, Reduction, reduced_sample};
 pub use reduced_head::head_left;
+pub use scales::Scales;
 pub use without::{Without, Word};

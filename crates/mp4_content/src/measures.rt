@@ -1,5 +1,5 @@
 //! What samples of a movie's tracks are left by, and what is left of them together.
-ghost use Rattle.std.specs.Prelude.{◌≡◌, ℕ, ◌+◌, ◌<◌, ◌≤◌, List, length, false, true, IfOk, OnOk};
+ghost use Rattle.std.specs.Prelude.{◌≡◌, ℕ, ◌+◌, ◌<◌, ◌≤◌, List, length, if◌then◌else◌, false, true, IfOk, OnOk};
 ghost use Rattle.mp4_head.specs.format.Tree.{TrackTree};
 ghost use Rattle.mp4_present.specs.format.Denotes.{FileTree};
 ghost use Rattle.mp4_present.specs.words.HandCarried.{OfHand, StaysBefore};
@@ -10,14 +10,16 @@ ghost use Rattle.mp4_present.specs.words.SamplesComing.{Comes, track_samples};
 ghost use Rattle.mp4_present.specs.words.StoresRead.{IsUnchanged, OnlyReads, Refused};
 ghost use Rattle.mp4_present.specs.words.TrackWalks.{IsWalkStill, TakesSteps, WhereComes, WhereMayTake, WhereTrack};
 ghost use Rattle.mp4_present.specs.words.WalkSteps.{MayTake, TakesOn, walk_steps, walks_steps};
-ghost use Rattle.mp4_content.specs.words.ComingLess.{asks_first, reduction_of, track_reduction};
+ghost use Rattle.mp4_content.specs.words.ComingLess.{asks_first, reduction_of};
 ghost use Rattle.mp4_content.specs.words.Opened.{OverOpened};
-ghost use Rattle.mp4_content.specs.words.Measuring.{AreMeasured, is_near, measuring_steps, no_total, total_from, total_with};
+ghost use Rattle.mp4_content.specs.words.Measuring.{AreMeasured, is_near, measures, no_total, total_from, total_with};
 ghost use Rattle.mp4_content.specs.words.Opened.{RefusesPlan};
+ghost use Rattle.mp4_content.specs.words.Scales.{AreScales};
 
 use crate::peeking::peek_sample;
 use crate::reduced::{Reduction, asks_first};
-use crate::without::Without;
+use crate::scales::Scales;
+use crate::without::{Without, Word};
 use mp4_boxes::{Refusal, Steps};
 use mp4_present::{Movie, Walk};
 use mp4_store::Store;
@@ -25,11 +27,13 @@ use mp4_tables::{SampleAt, Samples};
 use std::alloc::{AllocError, Global};
 use std::sync::ledger::Ledger;
 
-/// What samples of a track are left by, of a walk over it that stands before its first sample.
-/// Where what is left depends on that, it comes to be in hand, and the same samples come.
+/// What samples of a track are left by whose times are divided by this, of a walk over it that
+/// stands before its first sample. Where what is left depends on that, it comes to be in hand, and
+/// the same samples come.
 pub fn reduction_of<S: Store, L: Ledger, M: Ledger>(
     walk: &mut Walk,
     leaving: Without,
+    divisor: u64,
     movie: &Movie,
     store: &mut S,
     steps: &mut Steps<L, M>,
@@ -41,7 +45,7 @@ pub fn reduction_of<S: Store, L: Ledger, M: Ledger>(
         OnOk result (Comes file tree t movie.now walk.new samples)) }
     ensures reduction { WhereComes S.Store store.old movie.now walk.old (λ file tree t samples.
         samples ≡ track_samples tree t
-        → IfOk result (λ reduction. reduction ≡ reduction_of leaving samples)) }
+        → IfOk result (λ reduction. reduction ≡ reduction_of leaving divisor samples)) }
     ensures unchanged { WhereComes S.Store store.old movie.now walk.old (λ file tree t samples.
         IsUnchanged result) }
     ensures grows { steps.old.passed ≤ steps.new.passed }
@@ -51,12 +55,19 @@ pub fn reduction_of<S: Store, L: Ledger, M: Ledger>(
     ensures looks { steps.new.looks ≡ steps.old.looks }
 {
     if !asks_first(leaving) {
-        return Ok(Reduction::plain(leaving));
+        return Ok(Reduction::plain(leaving, divisor));
     }
     let track = walk.track();
     let samples = movie.tracks()[track].samples;
     let first = peek_sample(walk, movie, store, steps)?;
-    Ok(Reduction::by_first(leaving, samples, first))
+    Ok(Reduction::by_first(leaving, divisor, samples, first))
+}
+
+// Whether all samples are walked over for how long what is left of tracks is.
+fn asks_samples(leaving: Without) -> bool
+    ensures { result ≡ measures leaving }
+{
+    (asks_first(leaving) || leaving.has(Word::Timescales)) && !leaving.has(Word::Timing)
 }
 
 /// What is left of samples of a track together: how long they last, as far as 64 bits go, and
@@ -157,6 +168,7 @@ fn measure_track<S: Store, L: Ledger, M: Ledger>(
     alloc: Global,
     track: usize,
     leaving: Without,
+    divisor: u64,
     movie: &Movie,
     store: &mut S,
     steps: &mut Steps<L, M>,
@@ -164,7 +176,7 @@ fn measure_track<S: Store, L: Ledger, M: Ledger>(
     requires { track < length movie.now.tracks }
     ensures store { OnlyReads S.Store store.old store.new result }
     ensures measured { WhereTrack S.Store store.old movie.now track (λ file tree t.
-        IfOk result (λ found. (found.0 ≡ track_reduction leaving tree t)
+        IfOk result (λ found. (found.0 ≡ reduction_of leaving divisor (track_samples tree t))
         × (found.1 ≡ total_from found.0 no_total (track_samples tree t)))) }
     ensures unchanged { WhereTrack S.Store store.old movie.now track (λ file tree t.
         IsUnchanged result) }
@@ -175,7 +187,7 @@ fn measure_track<S: Store, L: Ledger, M: Ledger>(
     ensures looks { steps.new.looks ≡ steps.old.looks }
 {
     let mut walk = movie.walk(alloc, track)?;
-    let reduction = reduction_of(&mut walk, leaving, movie, store, steps)?;
+    let reduction = reduction_of(&mut walk, leaving, divisor, movie, store, steps)?;
     let total = total_of(&mut walk, reduction, movie, store, steps)?;
     Ok((reduction, total))
 }
@@ -186,12 +198,14 @@ fn measure_all<S: Store, L: Ledger, M: Ledger>(
     movie: &Movie,
     store: &mut S,
     leaving: Without,
+    scales: &Scales,
     steps: &mut Steps<L, M>,
 ) -> Result<Measures, Refusal>
     ensures store { OnlyReads S.Store store.old store.new result }
     ensures many { IfOk result (λ all. length all.of_tracks.items ≡ length movie.now.tracks) }
-    ensures measured { asks_first leaving ≡ true → OverOpened S.Store store.old movie.now
-        (λ file tree. IfOk result (AreMeasured leaving tree movie.now)) }
+    ensures measured { measures leaving ≡ true → OverOpened S.Store store.old movie.now
+        (λ file tree. AreScales leaving file tree scales.now
+        → IfOk result (AreMeasured leaving file tree movie.now)) }
     ensures unchanged { OverOpened S.Store store.old movie.now (λ file tree. IsUnchanged result) }
     ensures work { OverOpened S.Store store.old movie.now
         (λ file tree. steps.new.passed ≤ steps.old.passed + walks_steps tree) }
@@ -202,7 +216,8 @@ fn measure_all<S: Store, L: Ledger, M: Ledger>(
     let mut of_tracks = Vec::with_capacity(alloc, movie.tracks().len())?;
     let mut totals = Vec::with_capacity(alloc, movie.tracks().len())?;
     for track in 0..movie.tracks().len() {
-        let found = measure_track(alloc, track, leaving, movie, store, steps)?;
+        let divisor = scales.track(track);
+        let found = measure_track(alloc, track, leaving, divisor, movie, store, steps)?;
         of_tracks.push(found.0)?;
         totals.push(found.1)?;
     }
@@ -210,16 +225,22 @@ fn measure_all<S: Store, L: Ledger, M: Ledger>(
 }
 
 // What all tracks come to whose samples needn't be asked: as long as opening counted.
-fn measure_at_once(alloc: Global, movie: &Movie, leaving: Without) -> Result<Measures, AllocError>
+fn measure_at_once(
+    alloc: Global,
+    movie: &Movie,
+    leaving: Without,
+    scales: &Scales,
+) -> Result<Measures, AllocError>
     ensures many { IfOk result (λ all. length all.of_tracks.items ≡ length movie.now.tracks) }
-    ensures measured { asks_first leaving ≡ false → (file : List ℕ) (tree : FileTree)
-        → IsOpenedAs file movie.now tree → IfOk result (AreMeasured leaving tree movie.now) }
+    ensures measured { measures leaving ≡ false → (file : List ℕ) (tree : FileTree)
+        → IsOpenedAs file movie.now tree → AreScales leaving file tree scales.now
+        → IfOk result (AreMeasured leaving file tree movie.now) }
 {
     let tracks = movie.tracks();
     let mut of_tracks = Vec::with_capacity(alloc, tracks.len())?;
     let mut totals = Vec::with_capacity(alloc, tracks.len())?;
     for track in 0..tracks.len() {
-        of_tracks.push(Reduction::plain(leaving))?;
+        of_tracks.push(Reduction::plain(leaving, scales.track(track)))?;
         totals.push(Total {
             duration: tracks[track].duration,
             is_near: true,
@@ -229,27 +250,29 @@ fn measure_at_once(alloc: Global, movie: &Movie, leaving: Without) -> Result<Mea
 }
 
 /// Measures all tracks: where what is left depends on the first sample of a track, or on its last,
-/// its samples are walked over.
+/// or on by what times are divided, its samples are walked over.
 pub(crate) fn measure<S: Store, L: Ledger, M: Ledger>(
     alloc: Global,
     movie: &Movie,
     store: &mut S,
     leaving: Without,
+    scales: &Scales,
     steps: &mut Steps<L, M>,
 ) -> Result<Measures, Refusal>
     ensures store { OnlyReads S.Store store.old store.new result }
     ensures many { IfOk result (λ all. length all.of_tracks.items ≡ length movie.now.tracks) }
     ensures measured { OverOpened S.Store store.old movie.now
-        (λ file tree. IfOk result (AreMeasured leaving tree movie.now)) }
+        (λ file tree. AreScales leaving file tree scales.now
+        → IfOk result (AreMeasured leaving file tree movie.now)) }
     ensures unchanged { OverOpened S.Store store.old movie.now (λ file tree. IsUnchanged result) }
-    ensures work { OverOpened S.Store store.old movie.now
-        (λ file tree. steps.new.passed ≤ steps.old.passed + measuring_steps leaving tree) }
+    ensures work { OverOpened S.Store store.old movie.now (λ file tree. steps.new.passed
+        ≤ steps.old.passed + (if measures leaving then walks_steps tree else 0)) }
     ensures grows { OnOk result (steps.old.passed ≤ steps.new.passed) }
     ensures refusal { Refused S.Store store.old store.new result RefusesPlan }
     ensures looks { steps.new.looks ≡ steps.old.looks }
 {
-    if asks_first(leaving) {
-        return measure_all(alloc, movie, store, leaving, steps);
+    if asks_samples(leaving) {
+        return measure_all(alloc, movie, store, leaving, scales, steps);
     }
-    Ok(measure_at_once(alloc, movie, leaving)?)
+    Ok(measure_at_once(alloc, movie, leaving, scales)?)
 }

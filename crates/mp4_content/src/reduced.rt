@@ -1,16 +1,19 @@
 //! Samples of which something doesn't count.
-ghost use Rattle.std.specs.Prelude.{◌≡◌, ◌||◌, if◌then◌else◌, [], ◌∷◌};
-ghost use Rattle.mp4_content.specs.format.Reduced.{duration_left, keeps_samples, offset_left, sync_flag};
-ghost use Rattle.mp4_content.specs.words.ComingLess.{asks_first, begun_time, keeps_times, moved_time, near_offset, offset_near, plain_reduction, reduce_at, reduction_by};
+ghost use Rattle.std.specs.Prelude.{◌≡◌, ◌||◌, ◌==◌, not, if◌then◌else◌, [], ◌∷◌};
+ghost use Rattle.mp4_content.specs.format.Reduced.{offset_left, sync_flag};
+ghost use Rattle.mp4_content.specs.format.Timescales.{divided, leaves_duration, sized};
+ghost use Rattle.mp4_content.specs.words.ComingLess.{asks_first, begun_time, cto_left, keeps_all, keeps_times, lasts_left, moved_time, near_offset, offset_near, plain_reduction, reduce_at, reduction_by};
 
 use crate::without::{Without, Word};
 use mp4_tables::{SampleAt, Samples};
 
-/// What samples of a track are left by: what is left out, and where ends or origins are, how many
-/// samples the track has, and when the first is due, how long it lasts, and its composition offset.
+/// What samples of a track are left by: what is left out, by what times are divided, and where ends
+/// or origins are left out, how many samples the track has, and when the first is due, how long it
+/// lasts, and its composition offset.
 #[derive(Clone, Copy, Debug, PartialEq, Eq)]
 pub struct Reduction {
     pub leaving: Without,
+    pub divisor: u64,
     pub samples: u32,
     pub start: u64,
     pub duration: u32,
@@ -25,12 +28,13 @@ pub(crate) fn asks_first(leaving: Without) -> bool
 }
 
 impl Reduction {
-    /// Where what is left doesn't depend on them.
-    pub fn plain(leaving: Without) -> Reduction
-        ensures { result ≡ plain_reduction leaving }
+    /// Where what is left doesn't depend on them, and times are divided by this.
+    pub fn plain(leaving: Without, divisor: u64) -> Reduction
+        ensures { result ≡ plain_reduction leaving divisor }
     {
         Reduction {
             leaving,
+            divisor,
             samples: 0,
             start: 0,
             duration: 0,
@@ -39,53 +43,72 @@ impl Reduction {
     }
 
     /// Where it does, and this is the first of so many.
-    pub fn by_first(leaving: Without, samples: u32, first: Option<SampleAt>) -> Reduction
-        ensures { result ≡ reduction_by leaving samples first }
+    pub fn by_first(
+        leaving: Without,
+        divisor: u64,
+        samples: u32,
+        first: Option<SampleAt>,
+    ) -> Reduction
+        ensures { result ≡ reduction_by leaving divisor samples first }
     {
         match first {
             Some(first) => Reduction {
                 leaving,
+                divisor,
                 samples,
                 start: first.dts,
                 duration: first.duration,
                 offset: first.cto,
             },
-            None => Reduction::plain(leaving),
+            None => Reduction::plain(leaving, divisor),
         }
     }
 
     /// Whether samples stay as they are.
     pub fn keeps_samples(self) -> bool
-        ensures { result ≡ keeps_samples self.leaving }
+        ensures { result ≡ keeps_all self }
     {
-        self.leaving.keeps_samples()
+        self.leaving.keeps_samples() && self.divisor == 1
     }
 
     // Whether durations and composition offsets of samples stay as they are.
     pub(crate) fn keeps_times(self) -> bool
-        ensures { result ≡ keeps_times self.leaving }
+        ensures { result ≡ keeps_times self }
     {
         let leaving = self.leaving;
-        !leaving.has(Word::Ends) && !leaving.has(Word::Origins) && !leaving.has(Word::Timing)
+        !leaving.has(Word::Ends)
+            && !leaving.has(Word::Origins)
+            && !leaving.has(Word::Timing)
+            && self.divisor == 1
+    }
+
+    // Whether the duration of the sample of this number is left out.
+    #[inline(always)]
+    pub(crate) fn leaves_duration(self, number: u32) -> bool
+        ensures { result ≡ leaves_duration self.leaving self.samples number }
+    {
+        let is_at_end = number == 0 || u64::from(number) + 1 == u64::from(self.samples);
+        self.leaving.has(Word::Timing) || (self.leaving.has(Word::Ends) && is_at_end)
     }
 
     /// How long a sample lasts that has this number, from 0; 1 where timing doesn't count, or where
     /// it is the first or the last and these don't.
     #[inline(always)]
     pub fn duration(self, number: u32, duration: u32) -> u32
-        ensures { result ≡ duration_left self.leaving self.samples number duration }
+        ensures { result ≡ lasts_left self number duration }
     {
-        let is_at_end = number == 0 || u64::from(number) + 1 == u64::from(self.samples);
-        if self.leaving.has(Word::Timing) || (self.leaving.has(Word::Ends) && is_at_end) {
+        if self.leaves_duration(number) {
             return 1;
         }
-        duration
+        if self.divisor == 1 {
+            return duration;
+        }
+        divided(u64::from(duration), self.divisor) as u32
     }
 
-    /// What is left of a composition offset, also where that doesn't fit 32 bits: less that of the
-    /// first sample where it doesn't count where tracks begin, and 0 where timing doesn't.
+    // What is left of a composition offset before it is divided.
     #[inline(always)]
-    pub fn offset(self, offset: i32) -> i64
+    pub(crate) fn own_offset(self, offset: i32) -> i64
         ensures { result ≡ offset_left self.leaving self.offset offset }
     {
         if self.leaving.has(Word::Timing) {
@@ -97,7 +120,21 @@ impl Reduction {
         i64::from(offset)
     }
 
+    /// What is left of a composition offset, also where that doesn't fit 32 bits: less that of the
+    /// first sample where it doesn't count where tracks begin, and 0 where timing doesn't.
+    #[inline(always)]
+    pub fn offset(self, offset: i32) -> i64
+        ensures { result ≡ cto_left self offset }
+    {
+        let own = self.own_offset(offset);
+        if self.divisor == 1 {
+            return own;
+        }
+        divided_offset(own, self.divisor)
+    }
+
     // When a sample is due that is due at this time, where the track begins at 0, if it does.
+    #[inline(always)]
     fn begun(self, time: u64) -> u64
         ensures { result ≡ begun_time self time }
     {
@@ -108,17 +145,17 @@ impl Reduction {
         }
     }
 
-    // The same, where the first sample lasts 1 too, if it does.
+    // The same, divided, and where the first sample lasts 1 too, if it does.
+    #[inline(always)]
     fn moved(self, number: u32, time: u64) -> u64
         ensures { result ≡ moved_time self number time }
     {
         let begun = self.begun(time);
         if self.leaving.has(Word::Ends) && number != 0 {
-            return begun
-                .saturating_sub(u64::from(self.duration))
-                .saturating_add(1);
+            let behind = begun.saturating_sub(u64::from(self.duration));
+            return divided(behind, self.divisor).saturating_add(1);
         }
-        begun
+        divided(begun, self.divisor)
     }
 
     // The same; without timing by how many samples come before it.
@@ -136,7 +173,7 @@ impl Reduction {
     // What is left of a composition offset, as far as 32 bits go.
     #[inline(always)]
     fn near(self, offset: i32) -> i32
-        ensures { result ≡ offset_near self.leaving self.offset offset }
+        ensures { result ≡ offset_near self offset }
     {
         near_offset(self.offset(offset))
     }
@@ -168,10 +205,31 @@ impl Reduction {
 
     // Whether what is left of a sample may last another time than the sample.
     fn moves_durations(self) -> bool
-        ensures { result ≡ self.leaving.timing || self.leaving.ends }
+        ensures { result ≡ self.leaving.timing || self.leaving.ends || not (self.divisor == 1) }
     {
-        self.leaving.has(Word::Timing) || self.leaving.has(Word::Ends)
+        self.leaving.has(Word::Timing) || self.leaving.has(Word::Ends) || self.divisor != 1
     }
+}
+
+// A time by what times are divided by; by 0, where all times are 0, it is 0.
+#[inline(always)]
+pub(crate) fn divided(number: u64, divisor: u64) -> u64
+    ensures { result ≡ divided divisor number }
+{
+    match divisor {
+        0 => 0,
+        1 => number,
+        _ => number / divisor,
+    }
+}
+
+// The same of a number with a sign, which stays.
+fn divided_offset(offset: i64, divisor: u64) -> i64
+    ensures { result ≡ sized (divided divisor) offset }
+{
+    let size = i128::from(divided(offset.unsigned_abs(), divisor));
+    let signed = if offset < 0 { -size } else { size };
+    signed as i64
 }
 
 // A composition offset, as far as 32 bits go.

@@ -51,7 +51,8 @@ pub fn reduced_stays_valid()
     ensures { ReducedStaysValid }
 {}
 
-/// Without its edits what is valid may be too long, whatever else is left out.
+/// Without its edits what is valid may be too long, whatever else is left out, before times are
+/// divided (`edits_hold_no_time` of [`remaining_laws`](crate::remaining_laws)).
 pub fn edits_may_hold_time()
     ensures { EditsMayHoldTime }
 {}

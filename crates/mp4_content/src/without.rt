@@ -32,6 +32,9 @@ pub enum Word {
     Roles,
     /// Which IDs tracks have (8.3.2): each has its place among the tracks of the movie, from 1.
     Ids,
+    /// In which timescales times are said (8.2.2, 8.4.2): the times of a track and its timescale
+    /// are divided by what divides all of them, and so are those of the movie.
+    Timescales,
 }
 
 impl Word {
@@ -52,6 +55,7 @@ impl Word {
         Word::Timing,
         Word::Roles,
         Word::Ids,
+        Word::Timescales,
     ];
 
     /// Its place among all words, from 0.
@@ -79,11 +83,13 @@ impl Word {
             Word::Timing => "timing",
             Word::Roles => "roles",
             Word::Ids => "ids",
+            Word::Timescales => "timescales",
         }
     }
 }
 
-/// The words of what is left out of a presentation (`reduce` in `specs/format/Reduced.antt`).
+/// The words of what is left out of a presentation (`remaining` in
+/// `specs/format/Remaining.antt`).
 #[derive(Clone, Copy, Debug, PartialEq, Eq)]
 pub struct Without {
     times: bool,
@@ -98,6 +104,7 @@ pub struct Without {
     timing: bool,
     roles: bool,
     ids: bool,
+    timescales: bool,
 }
 
 impl Without {
@@ -120,6 +127,7 @@ impl Without {
         timing: false,
         roles: false,
         ids: false,
+        timescales: false,
     };
 
     /// Whether a word is among them.
@@ -140,6 +148,7 @@ impl Without {
             Word::Timing => self.timing,
             Word::Roles => self.roles,
             Word::Ids => self.ids,
+            Word::Timescales => self.timescales,
         }
     }
 
@@ -161,6 +170,7 @@ impl Without {
             timing: is_so(Word::Timing),
             roles: is_so(Word::Roles),
             ids: is_so(Word::Ids),
+            timescales: is_so(Word::Timescales),
         }
     }
 

@@ -61,20 +61,20 @@ bytes_behind lefts k n sent bytes all left at own whole =
 
 -- all that are kept
 kept_bytes : (leaving : Without) (file : List ℕ) (tree : FileTree) (trees : List TrackTree) (infos : List TrackInfo) → AllZip (IsInfoOf file tree) trees infos
-    → left_bytes (map (left_samples leaving tree) trees) ≡ sum_by (λ (i : TrackInfo). i.bytes) infos
+    → left_bytes (map (left_samples leaving file tree) trees) ≡ sum_by (λ (i : TrackInfo). i.bytes) infos
 kept_bytes leaving file tree [] [] z = refl
 kept_bytes leaving file tree [] (info ∷ infos) z = absurd z
 kept_bytes leaving file tree (t ∷ trees) [] z = absurd z
 kept_bytes leaving file tree (t ∷ trees) (info ∷ infos) z =
     let kept = sum_by-cons (λ (i : TrackInfo). i.bytes) info infos in
-    let left = bytes_cons (left_samples leaving tree t) (map (left_samples leaving tree) trees) in
+    let left = bytes_cons (left_samples leaving file tree t) (map (left_samples leaving file tree) trees) in
     let more = kept_bytes leaving file tree trees infos z.1 in
     let own = z.0.bytes in
-    let less = less_sizes (track_reduction leaving tree t) (track_samples tree t) in
+    let less = less_sizes (track_reduction leaving file tree t) (track_samples tree t) in
     let same = timed_bytes (track_keys tree t) 0 (start_of (plain_of t) (parts_of_track (file_parts tree) t)) (placed_of (file_parts tree) t) in
     omega (arith, kept, left, more, own, less, same)
 
-pub all_bytes : (leaving : Without) (file : List ℕ) (m : MovieSeen) (tree : FileTree) → IsOpenedAs file m tree → left_bytes (map (left_samples leaving tree) tree.movie.tracks) ≡ sum_by (λ (i : TrackInfo). i.bytes) m.tracks
+pub all_bytes : (leaving : Without) (file : List ℕ) (m : MovieSeen) (tree : FileTree) → IsOpenedAs file m tree → left_bytes (map (left_samples leaving file tree) tree.movie.tracks) ≡ sum_by (λ (i : TrackInfo). i.bytes) m.tracks
 all_bytes leaving file m tree o = kept_bytes leaving file tree tree.movie.tracks m.tracks o.tracks
 
 -- ---- behind the last turn

@@ -19,7 +19,7 @@ module _ (leaving : Without) (file : List ℕ) (tree : FileTree) (m : MovieSeen)
     pub is_tree : slice_get trees k ≡ Some t
     pub is_walk : slice_get walks k ≡ Some walk
     pub is_left : slice_get lefts k ≡ Some left
-    pub comes : ComesLess (track_reduction leaving tree t) file tree t m walk left
+    pub comes : ComesLess (track_reduction leaving file tree t) file tree t m walk left
 
   pub come_at : (trees : List TrackTree) (walks : List Walk) (lefts : List (List SampleAt)) (k : ℕ) → AllCome leaving file tree m trees walks lefts → k < length walks → ComesAt trees walks lefts k
   come_at [] [] [] k h lt = absurd (omega (arith, lt))
@@ -35,7 +35,8 @@ module _ (leaving : Without) (file : List ℕ) (tree : FileTree) (m : MovieSeen)
       record { t = r.t; walk = r.walk; left = r.left; is_tree = r.is_tree; is_walk = r.is_walk; is_left = r.is_left; comes = r.comes }
 
   -- another walk at one place, in which other samples come
-  pub come_with : (trees : List TrackTree) (walks : List Walk) (lefts : List (List SampleAt)) (k : ℕ) (t : TrackTree) (walk : Walk) (left : List SampleAt) → AllCome leaving file tree m trees walks lefts → slice_get trees k ≡ Some t → ComesLess (track_reduction leaving tree t) file tree t m walk left
+  pub come_with : (trees : List TrackTree) (walks : List Walk) (lefts : List (List SampleAt)) (k : ℕ) (t : TrackTree) (walk : Walk) (left : List SampleAt) → AllCome leaving file tree m trees walks lefts → slice_get trees k ≡ Some t → ComesLess
+      (track_reduction leaving file tree t) file tree t m walk left
       → AllCome leaving file tree m trees (slice_set walks k walk) (slice_set lefts k left)
   come_with [] [] [] k t walk left h is c = tt
   come_with [] [] (l ∷ lefts) k t walk left h is c = absurd h
@@ -44,22 +45,22 @@ module _ (leaving : Without) (file : List ℕ) (tree : FileTree) (m : MovieSeen)
   come_with (u ∷ trees) [] [] k t walk left h is c = absurd h
   come_with (u ∷ trees) [] (l ∷ lefts) k t walk left h is c = absurd h
   come_with (u ∷ trees) (w ∷ walks) [] k t walk left h is c = absurd h
-  come_with (u ∷ trees) (w ∷ walks) (l ∷ lefts) zero t walk left h is c = let same : t ≡ u = cc in (subst (λ (v : TrackTree). ComesLess (track_reduction leaving tree v) file tree v m walk left) same c, h.1)
+  come_with (u ∷ trees) (w ∷ walks) (l ∷ lefts) zero t walk left h is c = let same : t ≡ u = cc in (subst (λ (v : TrackTree). ComesLess (track_reduction leaving file tree v) file tree v m walk left) same c, h.1)
   come_with (u ∷ trees) (w ∷ walks) (l ∷ lefts) (suc k) t walk left h is c = (h.0, come_with trees walks lefts k t walk left h.1 is c)
 
   more_behind : (trees : List TrackTree) (walks : List Walk) (lefts : TrackTree → List SampleAt) (k : ℕ) (t : TrackTree) (walk : Walk) → AllCome leaving file tree m (take k trees) walks (map lefts (take k trees)) → length walks ≡ k → slice_get trees k ≡ Some t
-      → ComesLess (track_reduction leaving tree t) file tree t m walk (lefts t)
+      → ComesLess (track_reduction leaving file tree t) file tree t m walk (lefts t)
       → AllCome leaving file tree m (take (suc k) trees) (walks ++ walk ∷ []) (map lefts (take (suc k) trees))
   more_behind [] walks lefts zero t walk h n is c = absurd cc
   more_behind [] walks lefts (suc k) t walk h n is c = absurd cc
-  more_behind (u ∷ trees) [] lefts zero t walk h n is c = let same : t ≡ u = cc in (subst (λ (v : TrackTree). ComesLess (track_reduction leaving tree v) file tree v m walk (lefts v)) same c, tt)
+  more_behind (u ∷ trees) [] lefts zero t walk h n is c = let same : t ≡ u = cc in (subst (λ (v : TrackTree). ComesLess (track_reduction leaving file tree v) file tree v m walk (lefts v)) same c, tt)
   more_behind (u ∷ trees) (w ∷ walks) lefts zero t walk h n is c = absurd (omega (arith, n))
   more_behind (u ∷ trees) [] lefts (suc k) t walk h n is c = absurd (omega (arith, n))
   more_behind (u ∷ trees) (w ∷ walks) lefts (suc k) t walk h n is c = (h.0, more_behind trees walks lefts k t walk h.1 (omega (arith, n)) is c)
 
   -- one more behind the others
   pub come_more : (trees : List TrackTree) (walks : List Walk) (lefts : TrackTree → List SampleAt) (k : ℕ) (t : TrackTree) (walk : Walk) → AllCome leaving file tree m (take k trees) walks (map lefts (take k trees)) → length walks ≡ k → slice_get trees k ≡ Some t
-      → ComesLess (track_reduction leaving tree t) file tree t m walk (lefts t)
+      → ComesLess (track_reduction leaving file tree t) file tree t m walk (lefts t)
       → AllCome leaving file tree m (take (k + 1) trees) (walks ++ walk ∷ []) (map lefts (take (k + 1) trees))
   come_more trees walks lefts k t walk h n is c =
       let next : suc k ≡ k + 1 = omega arith in

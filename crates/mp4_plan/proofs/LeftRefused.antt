@@ -54,6 +54,15 @@ pub carried_names : (l : Without) (file : List ℕ) (tree : FileTree) {T : Type 
 carried_names l file tree (Ok x) reads reads_after puts puts_after w = tt
 carried_names l file tree (Err r) reads reads_after puts puts_after w = carry_names l file tree reads reads_after puts puts_after r w
 
+-- nor does what isn't planned
+pub plan_names : (l : Without) (file : List ℕ) (tree : FileTree) (reads reads_after : ℕ) (r : Refusal) → RefusesPlan reads reads_after r → NamesLong l file tree r
+plan_names l file tree reads reads_after (refusals.Fault f) w = absurd w
+plan_names l file tree reads reads_after refusals.Memory w = tt
+plan_names l file tree reads reads_after refusals.StoreFailed w = tt
+plan_names l file tree reads reads_after refusals.StoreChanged w = tt
+plan_names l file tree reads reads_after refusals.WriteFailed w = tt
+plan_names l file tree reads reads_after refusals.NoSuchTrack w = tt
+
 -- ---- where edits, ends and origins stay no track is too long
 
 plan_left : (l : Without) (reads reads_after : ℕ) (r : Refusal) → moves_limits l ≡ false → RefusesLeft l reads reads_after r → RefusesPlan reads reads_after r

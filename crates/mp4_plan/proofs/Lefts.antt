@@ -37,12 +37,12 @@ abbrev pub left_count : List (List SampleAt) → ℕ
 left_count lefts = sum_by (λ (left : List SampleAt). length left) lefts
 
 -- of all tracks
-pub less_counted : (l : Without) (tree : FileTree) (trees : List TrackTree) → left_count (map (left_samples l tree) trees) ≡ left_count (map (track_samples tree) trees)
-less_counted l tree [] = refl
-less_counted l tree (t ∷ trees) =
-    let here = less_length (track_reduction l tree t) (track_samples tree t) in
-    let more = less_counted l tree trees in
-    let a = sum_by-cons (λ (x : List SampleAt). length x) (left_samples l tree t) (map (left_samples l tree) trees) in
+pub less_counted : (l : Without) (file : List ℕ) (tree : FileTree) (trees : List TrackTree) → left_count (map (left_samples l file tree) trees) ≡ left_count (map (track_samples tree) trees)
+less_counted l file tree [] = refl
+less_counted l file tree (t ∷ trees) =
+    let here = less_length (track_reduction l file tree t) (track_samples tree t) in
+    let more = less_counted l file tree trees in
+    let a = sum_by-cons (λ (x : List SampleAt). length x) (left_samples l file tree t) (map (left_samples l file tree) trees) in
     let b = sum_by-cons (λ (x : List SampleAt). length x) (track_samples tree t) (map (track_samples tree) trees) in
     omega (arith, here, more, a, b)
 

@@ -2,7 +2,10 @@
 use Rattle.std.proofs.Common.{◌≡◌, ℕ, zero, suc, ◌+◌, ◌-◌, ◌*◌, ◌^◌, ◌<◌, ◌≤◌, List, [], ◌∷◌, ◌++◌, length, take, map, Option, Some, None, refl, sym, ap, subst, ◌∙◌, arith, length-append, append-nil}
 use Rattle.mp4_content.specs.declared.without.Without.{Without}
 use Rattle.mp4_content.specs.words.ComingLess.{ComesLess, left_samples, track_reduction}
-use Rattle.mp4_content.specs.format.Reduced.{id_left, ReducesInRange, reduce, timescale_left}
+use Rattle.mp4_content.specs.format.Reduced.{id_left}
+use Rattle.mp4_content.specs.format.Remaining.{RemainsInRange, remaining}
+use Rattle.mp4_content.specs.words.Divided.{divisor_at}
+use Rattle.mp4_content.specs.words.Scales.{divisors_of}
 use Rattle.mp4_plan.proofs.Lefts.{less_counted, left_count, pieces_from, IsTurn}
 use Rattle.std.specs.Prelude.{slice_get, slice_set, slice_index_or, min, max, fold}
 use Rattle.std.specs.List.{sum_by}
@@ -36,7 +39,7 @@ use Rattle.mp4_plan.specs.declared.ends.End.{End}
 use Rattle.mp4_plan.specs.declared.planner.Planned.{Planned}
 use Rattle.mp4_plan.specs.declared.schedule.Schedule.{Schedule}
 use Rattle.mp4_plan.proofs.ComeAt.{come_with}
-use Rattle.mp4_plan.proofs.InfosLeft.{as_many_left, info_at, left_scales, track_at}
+use Rattle.mp4_plan.proofs.InfosLeft.{as_many_left, info_at, left_scales, scale_of_track, track_at}
 use Rattle.mp4_plan.proofs.FirstTurn.{begins_at, first_turn}
 use Rattle.mp4_plan.proofs.NextSamples.{first_at, firsts_set}
 use Rattle.mp4_plan.proofs.PieceWritten.{AreKeys, IsFew, bytes_of_two}
@@ -132,7 +135,7 @@ added keys p len next long left adds four small none some le fits = by p.count r
 pub record StandsAt (leaving : Without) (file : List ℕ) (tree : FileTree) (m : MovieSeen) (s : Schedule) (walks : List Walk) (nexts : List (Option SampleAt)) (lefts : List (List SampleAt)) (comings : List Coming) : Type 0 where
   pub come : AllCome leaving file tree m tree.movie.tracks walks lefts
   pub shown : nexts ≡ firsts lefts
-  pub turn : IsTurn file (infos_left leaving m.tracks) s lefts comings
+  pub turn : IsTurn file (infos_left leaving (divisors_of leaving file tree) m.tracks) s lefts comings
   pub few : left_count lefts ≤ 2 ^ 24
 
 -- The most samples of a piece before it.
@@ -140,7 +143,7 @@ pub record IsLongest (leaving : Without) (file : List ℕ) (tree : FileTree) (m 
   pub lefts : List (List SampleAt)
   pub comings : List Coming
   pub at : StandsAt leaving file tree m s walks nexts lefts comings
-  pub longest : max most (longest_piece (pieces_from s comings)) ≡ longest_piece (pieces (reduce leaving (presentation_of file tree)))
+  pub longest : max most (longest_piece (pieces_from s comings)) ≡ longest_piece (pieces (remaining leaving (presentation_of file tree)))
 
 -- The bytes of the pieces before it.
 pub record IsLength (leaving : Without) (file : List ℕ) (tree : FileTree) (m : MovieSeen) (s : Schedule) (walks : List Walk) (nexts : List (Option SampleAt)) (so_far : ℕ) : Type 0 where
@@ -149,29 +152,29 @@ pub record IsLength (leaving : Without) (file : List ℕ) (tree : FileTree) (m :
   pub at : StandsAt leaving file tree m s walks nexts lefts comings
   pub fits : so_far + left_count lefts * 2 ^ 33 ≤ 2 ^ 57
   pub number : ℕ
-  pub len : so_far + length (pieces_bytes number (pieces_from s comings)) ≡ length (pieces_bytes 1 (pieces (reduce leaving (presentation_of file tree))))
+  pub len : so_far + length (pieces_bytes number (pieces_from s comings)) ≡ length (pieces_bytes 1 (pieces (remaining leaving (presentation_of file tree))))
 
 begins_same : (lefts : List (List SampleAt)) → writers.first_dts lefts ≡ begins_at lefts
 begins_same [] = refl
 begins_same ([] ∷ lefts) = refl
 begins_same ((s ∷ samples) ∷ lefts) = refl
 
-module _ (leaving : Without) (file : List ℕ) (tree : FileTree) (m : MovieSeen) (s : Schedule) (walks : List Walk) (nexts : List (Option SampleAt)) (from : ℕ) (o : IsOpenedAs file m tree) (near : ReducesInRange leaving (presentation_of file tree)) (come : AllBegin leaving file tree m walks)
-    (shown : nexts ≡ firsts (map (left_samples leaving tree) tree.movie.tracks)) (time : from ≡ writers.first_dts (map (left_samples leaving tree) tree.movie.tracks))
-    (tracks : s.tracks ≡ length m.tracks) (first : s.first ≡ first_scale (tracks_left leaving m.tracks)) (left : s.left ≡ sum_by (λ (i : TrackInfo). i.samples) m.tracks) (starts : (s.track ≡ 0) × (s.from ≡ from) × (s.next ≡ None)) where
+module _ (leaving : Without) (file : List ℕ) (tree : FileTree) (m : MovieSeen) (s : Schedule) (walks : List Walk) (nexts : List (Option SampleAt)) (from : ℕ) (o : IsOpenedAs file m tree) (near : RemainsInRange leaving (presentation_of file tree)) (come : AllBegin leaving file tree m walks)
+    (shown : nexts ≡ firsts (map (left_samples leaving file tree) tree.movie.tracks)) (time : from ≡ writers.first_dts (map (left_samples leaving file tree) tree.movie.tracks))
+    (tracks : s.tracks ≡ length m.tracks) (first : s.first ≡ first_scale (tracks_left leaving (divisors_of leaving file tree) m.tracks)) (left : s.left ≡ sum_by (λ (i : TrackInfo). i.samples) m.tracks) (starts : (s.track ≡ 0) × (s.from ≡ from) × (s.next ≡ None)) where
   abbrev all_lefts : List (List SampleAt)
-  all_lefts = map (left_samples leaving tree) tree.movie.tracks
+  all_lefts = map (left_samples leaving file tree) tree.movie.tracks
 
   abbrev all_comings : List Coming
-  all_comings = map coming_of (reduce leaving (presentation_of file tree)).tracks
+  all_comings = map coming_of (remaining leaving (presentation_of file tree)).tracks
 
   few_first : left_count all_lefts ≤ 2 ^ 24
-  few_first = subst (λ n. n ≤ 2 ^ 24) (sym (less_counted leaving tree tree.movie.tracks)) (taken_from.few_left file m tree o)
+  few_first = subst (λ n. n ≤ 2 ^ 24) (sym (less_counted leaving file tree tree.movie.tracks)) (taken_from.few_left file m tree o)
 
-  begins : IsTurn file (infos_left leaving m.tracks) s all_lefts all_comings × (pieces_from s all_comings ≡ pieces (reduce leaving (presentation_of file tree)))
+  begins : IsTurn file (infos_left leaving (divisors_of leaving file tree) m.tracks) s all_lefts all_comings × (pieces_from s all_comings ≡ pieces (remaining leaving (presentation_of file tree)))
   begins =
-      let count = all_counted file m tree s.left o left ∙ sym (less_counted leaving tree tree.movie.tracks) in
-      first_turn leaving file m tree s o near (record { tracks = tracks ∙ sym (as_many_left leaving m.tracks); first = first; track = starts.0; from = starts.1 ∙ time ∙ begins_same all_lefts; next = starts.2; left = count })
+      let count = all_counted file m tree s.left o left ∙ sym (less_counted leaving file tree tree.movie.tracks) in
+      first_turn leaving file m tree s o near (record { tracks = tracks ∙ sym (as_many_left leaving (divisors_of leaving file tree) m.tracks); first = first; track = starts.0; from = starts.1 ∙ time ∙ begins_same all_lefts; next = starts.2; left = count })
 
   -- Before the first turn all pieces are left.
   pub stands_first : StandsAt leaving file tree m s walks nexts all_lefts all_comings
@@ -199,16 +202,16 @@ module _ (leaving : Without) (file : List ℕ) (tree : FileTree) (m : MovieSeen)
 
 module _ (leaving : Without) (file : List ℕ) (tree : FileTree) (m : MovieSeen) (s : Schedule) (walks : List Walk) (nexts : List (Option SampleAt)) where
   -- Behind the last turn all were passed.
-  pub longest_end : (most : ℕ) → IsLongest leaving file tree m s walks nexts most → s.tracks ≤ s.track → most ≡ longest_piece (pieces (reduce leaving (presentation_of file tree)))
+  pub longest_end : (most : ℕ) → IsLongest leaving file tree m s walks nexts most → s.tracks ≤ s.track → most ≡ longest_piece (pieces (remaining leaving (presentation_of file tree)))
   longest_end most h le =
-      let none = turns_end file (infos_left leaving m.tracks) s h.lefts h.comings h.at.turn le in
-      let longest = subst (λ ps. max most (longest_piece ps) ≡ longest_piece (pieces (reduce leaving (presentation_of file tree)))) none h.longest in
+      let none = turns_end file (infos_left leaving (divisors_of leaving file tree) m.tracks) s h.lefts h.comings h.at.turn le in
+      let longest = subst (λ ps. max most (longest_piece ps) ≡ longest_piece (pieces (remaining leaving (presentation_of file tree)))) none h.longest in
       (let n : most ≡ max most 0 = omega arith in n) ∙ longest
 
-  pub length_end : (total : ℕ) → IsLength leaving file tree m s walks nexts total → s.tracks ≤ s.track → ArePiecesLong (reduce leaving (presentation_of file tree)) total
+  pub length_end : (total : ℕ) → IsLength leaving file tree m s walks nexts total → s.tracks ≤ s.track → ArePiecesLong (remaining leaving (presentation_of file tree)) total
   length_end total h le =
-      let none = turns_end file (infos_left leaving m.tracks) s h.lefts h.comings h.at.turn le in
-      let len = subst (λ ps. total + length (pieces_bytes h.number ps) ≡ length (pieces_bytes 1 (pieces (reduce leaving (presentation_of file tree))))) none h.len in
+      let none = turns_end file (infos_left leaving (divisors_of leaving file tree) m.tracks) s h.lefts h.comings h.at.turn le in
+      let len = subst (λ ps. total + length (pieces_bytes h.number ps) ≡ length (pieces_bytes 1 (pieces (remaining leaving (presentation_of file tree))))) none h.len in
       let fits = h.fits in
       record { len = (let n : total ≡ total + 0 = omega arith in n) ∙ len; within = omega (arith, fits) }
 
@@ -221,19 +224,19 @@ pub record HasTurn (leaving : Without) (file : List ℕ) (tree : FileTree) (m : 
   pub is_tree : slice_get tree.movie.tracks s.track ≡ Some t
   pub is_left : slice_get lefts s.track ≡ Some left
   pub place : k ≡ s.track
-  pub end_is : end ≡ turn_end s (timescale_left leaving info.timescale)
-  pub comes : ComesLess (track_reduction leaving tree t) file tree t m walk left
+  pub end_is : end ≡ turn_end s (scale_of_track leaving (divisors_of leaving file tree) s.track info.timescale)
+  pub comes : ComesLess (track_reduction leaving file tree t) file tree t m walk left
   pub few : length left ≤ 2 ^ 24
   pub shown : slice_get nexts s.track ≡ Some (slice_get left 0)
 
 module _ (leaving : Without) (file : List ℕ) (tree : FileTree) (m : MovieSeen) (s : Schedule) (walks : List Walk) (nexts : List (Option SampleAt)) (lefts : List (List SampleAt)) (comings : List Coming) (o : IsOpenedAs file m tree)
     (h : StandsAt leaving file tree m s walks nexts lefts comings) where
   pub has_turn : (k : ℕ) (walk : Walk) (end : End) (id : ℕ) → (k ≡ s.track) × (s.track < s.tracks) → walk ≡ slice_index_or walks k walk → length walks ≡ length m.tracks
-      → ((track : TrackLeft) → slice_get (tracks_left leaving m.tracks) s.track ≡ Some track → (end ≡ turn_end s track.timescale) × (id ≡ track.id))
+      → ((track : TrackLeft) → slice_get (tracks_left leaving (divisors_of leaving file tree) m.tracks) s.track ≡ Some track → (end ≡ turn_end s track.timescale) × (id ≡ track.id))
       → HasTurn leaving file tree m s nexts lefts k walk end
   has_turn k walk end id at is_walk many own =
       let lt = at.1 in
-      let tracks = turn_tracks file (infos_left leaving m.tracks) s lefts comings h.turn ∙ as_many_left leaving m.tracks in
+      let tracks = turn_tracks file (infos_left leaving (divisors_of leaving file tree) m.tracks) s lefts comings h.turn ∙ as_many_left leaving (divisors_of leaving file tree) m.tracks in
       let info = get_some m.tracks s.track (omega (arith, lt, tracks)) in
       let r = comes_there leaving file tree m walks lefts s.track walk h.come (omega (arith, lt, tracks, many)) in
       let fits = few_left lefts s.track (length r.left) r.left r.is_left (omega arith) in
@@ -246,16 +249,17 @@ module _ (leaving : Without) (file : List ℕ) (tree : FileTree) (m : MovieSeen)
         is_tree = r.is_tree;
         is_left = r.is_left;
         place = at.0;
-        end_is = (own (numbers_of (info_left leaving (s.track + 1) info.0)) (track_at leaving m.tracks s.track info.0 info.1)).0;
-        comes = subst (λ w. ComesLess (track_reduction leaving tree r.t) file tree r.t m w r.left) (sym is_walk) (subst (λ j. ComesLess (track_reduction leaving tree r.t) file tree r.t m (slice_index_or walks j walk) r.left) (sym at.0) r.comes);
+        end_is = (own (numbers_of (info_left leaving (s.track + 1) (divisor_at (divisors_of leaving file tree) s.track) info.0)) (track_at leaving (divisors_of leaving file tree) m.tracks s.track info.0 info.1)).0;
+        comes = subst (λ w. ComesLess (track_reduction leaving file tree r.t) file tree r.t m w r.left) (sym is_walk) (subst (λ j. ComesLess (track_reduction leaving file tree r.t) file tree r.t m (slice_index_or walks j walk) r.left) (sym at.0) r.comes);
         few = omega (arith, fits, all);
         shown = ap (λ xs. slice_get xs s.track) h.shown ∙ first_at lefts s.track r.left r.is_left;
       }
 
   module _ (k : ℕ) (walk : Walk) (end : End) (t : HasTurn leaving file tree m s nexts lefts k walk end) (lt : s.track < s.tracks) where
-    pub taken : TurnTakes file (infos_left leaving m.tracks) s lefts comings (info_left leaving (s.track + 1) t.info) t.left end
-    taken = subst (λ e. TurnTakes file (infos_left leaving m.tracks) s lefts comings (info_left leaving (s.track + 1) t.info) t.left e) (sym t.end_is)
-        (turn_taken file (infos_left leaving m.tracks) s lefts comings (info_left leaving (s.track + 1) t.info) t.left h.turn lt (info_at leaving m.tracks s.track t.info t.is_info) t.is_left)
+    pub taken : TurnTakes file (infos_left leaving (divisors_of leaving file tree) m.tracks) s lefts comings (info_left leaving (s.track + 1) (divisor_at (divisors_of leaving file tree) s.track) t.info) t.left end
+    taken = subst (λ e. TurnTakes file (infos_left leaving (divisors_of leaving file tree) m.tracks) s lefts comings (info_left leaving (s.track + 1) (divisor_at (divisors_of leaving file tree) s.track) t.info) t.left e) (sym t.end_is)
+        (turn_taken file (infos_left leaving (divisors_of leaving file tree) m.tracks) s lefts comings (info_left leaving (s.track + 1) (divisor_at (divisors_of leaving file tree) s.track) t.info) t.left h.turn lt
+        (info_at leaving (divisors_of leaving file tree) m.tracks s.track t.info t.is_info) t.is_left)
 
     abbrev pub piece_size : ℕ
     piece_size = more_of (piece_from end) t.left
@@ -264,12 +268,14 @@ module _ (leaving : Without) (file : List ℕ) (tree : FileTree) (m : MovieSeen)
     left_behind_it = samples_after (piece_from end) t.left
 
     -- the turn leads on, where a track behind the first has a sample that goes into a piece
-    pub turn_leads : (n : ℕ) (next : Option SampleAt) (d : DueTracks) → n ≡ piece_size → next ≡ slice_get left_behind_it 0 → IsDueAt (tracks_left leaving m.tracks) nexts s d → ¬ Sticks s n next
+    pub turn_leads : (n : ℕ) (next : Option SampleAt) (d : DueTracks) → n ≡ piece_size → next ≡ slice_get left_behind_it 0 → IsDueAt (tracks_left leaving (divisors_of leaving file tree) m.tracks) nexts s d → ¬ Sticks s n next
     turn_leads n next d is after due =
-        let goes = due_here (infos_left leaving m.tracks) nexts s d (info_left leaving (s.track + 1) t.info) (slice_get t.left 0) due (left_scales leaving file m tree o) lt (info_at leaving m.tracks s.track t.info t.is_info) t.shown in
+        let goes = due_here (infos_left leaving (divisors_of leaving file tree) m.tracks) nexts s d (info_left leaving (s.track + 1) (divisor_at (divisors_of leaving file tree) s.track) t.info) (slice_get t.left 0) due (left_scales leaving file m tree o) lt
+        (info_at leaving (divisors_of leaving file tree) m.tracks s.track t.info t.is_info) t.shown in
         let at_end = subst (λ e. ¬ Sticks s (more_of (piece_from e) t.left) (slice_get (samples_after (piece_from e) t.left) 0)) (sym t.end_is)
-        (turn_moves file (infos_left leaving m.tracks) s lefts comings (info_left leaving (s.track + 1) t.info) t.left
-        (turn_taken file (infos_left leaving m.tracks) s lefts comings (info_left leaving (s.track + 1) t.info) t.left h.turn lt (info_at leaving m.tracks s.track t.info t.is_info) t.is_left) goes) in
+        (turn_moves file (infos_left leaving (divisors_of leaving file tree) m.tracks) s lefts comings (info_left leaving (s.track + 1) (divisor_at (divisors_of leaving file tree) s.track) t.info) t.left
+        (turn_taken file (infos_left leaving (divisors_of leaving file tree) m.tracks) s lefts comings (info_left leaving (s.track + 1) (divisor_at (divisors_of leaving file tree) s.track) t.info) t.left h.turn lt
+        (info_at leaving (divisors_of leaving file tree) m.tracks s.track t.info t.is_info) t.is_left) goes) in
         subst (λ i. ¬ Sticks s i next) (sym is) (subst (λ x. ¬ Sticks s piece_size x) (sym after) at_end)
 
     within_left : piece_size ≤ length t.left
@@ -284,7 +290,7 @@ module _ (leaving : Without) (file : List ℕ) (tree : FileTree) (m : MovieSeen)
     many_taken : length taken.samples ≡ piece_size
     many_taken = sym (taken_count file (keys_seen t.info.keys) (take piece_size t.left) taken.samples taken.taken) ∙ length-take-le piece_size t.left within_left
 
-    module _ (now : Walk) (n : ℕ) (next : Option SampleAt) (on : Schedule) (is : n ≡ piece_size) (comes : ComesLess (track_reduction leaving tree t.t) file tree t.t m now left_behind_it) (after : next ≡ slice_get left_behind_it 0) (goes : on ≡ turned s end n next) where
+    module _ (now : Walk) (n : ℕ) (next : Option SampleAt) (on : Schedule) (is : n ≡ piece_size) (comes : ComesLess (track_reduction leaving file tree t.t) file tree t.t m now left_behind_it) (after : next ≡ slice_get left_behind_it 0) (goes : on ≡ turned s end n next) where
       turned_is : on ≡ turned s end piece_size (slice_get left_behind_it 0)
       turned_is = goes ∙ (λ i. turned s end (is i) (after i))
 
@@ -297,13 +303,13 @@ module _ (leaving : Without) (file : List ℕ) (tree : FileTree) (m : MovieSeen)
       }
 
       -- where no sample is left, no track is due behind it
-      pub no_more : (d : DueTracks) (later : Schedule) → FindsMore (tracks_left leaving m.tracks) (slice_set nexts s.track next) on later d → ⊥
-      no_more d later f = finds_none file (infos_left leaving m.tracks) on later (slice_set lefts s.track left_behind_it) taken.later (slice_set nexts s.track next) d
-          (subst (λ (r : Schedule). IsTurn file (infos_left leaving m.tracks) r (slice_set lefts s.track left_behind_it) taken.later) (sym turned_is) stands_next.turn) stands_next.shown
+      pub no_more : (d : DueTracks) (later : Schedule) → FindsMore (tracks_left leaving (divisors_of leaving file tree) m.tracks) (slice_set nexts s.track next) on later d → ⊥
+      no_more d later f = finds_none file (infos_left leaving (divisors_of leaving file tree) m.tracks) on later (slice_set lefts s.track left_behind_it) taken.later (slice_set nexts s.track next) d
+          (subst (λ (r : Schedule). IsTurn file (infos_left leaving (divisors_of leaving file tree) m.tracks) r (slice_set lefts s.track left_behind_it) taken.later) (sym turned_is) stands_next.turn) stands_next.shown
           (left_scales leaving file m tree o) f
 
       -- Behind it one more piece is looked at, if it took samples.
-      pub longest_next : (most later : ℕ) → max most (longest_piece (pieces_from s comings)) ≡ longest_piece (pieces (reduce leaving (presentation_of file tree))) → later ≡ max most n → IsLongest leaving file tree m on (slice_set walks k now) (slice_set nexts k next) later
+      pub longest_next : (most later : ℕ) → max most (longest_piece (pieces_from s comings)) ≡ longest_piece (pieces (remaining leaving (presentation_of file tree))) → later ≡ max most n → IsLongest leaving file tree m on (slice_set walks k now) (slice_set nexts k next) later
       longest_next most later longest e =
           subst (λ j. IsLongest leaving file tree m on (slice_set walks j now) (slice_set nexts j next) later) (sym t.place) (subst (λ (r : Schedule). IsLongest leaving file tree m r (slice_set walks s.track now) (slice_set nexts s.track next) later) (sym turned_is) (record {
             lefts = slice_set lefts s.track left_behind_it;
@@ -316,7 +322,7 @@ module _ (leaving : Without) (file : List ℕ) (tree : FileTree) (m : MovieSeen)
 
       -- And its bytes are added.
       pub length_next : (len later number : ℕ) (p : Planned) → n ≡ p.count → p ≡ planned_of (piece_fed (piece_from end) t.left).gathered → IsSmall p → Adds (keys_seen t.info.keys) p len later → len + left_count lefts * 2 ^ 33 ≤ 2 ^ 57
-          → len + length (pieces_bytes number (pieces_from s comings)) ≡ length (pieces_bytes 1 (pieces (reduce leaving (presentation_of file tree)))) → IsLength leaving file tree m on (slice_set walks k now) (slice_set nexts k next) later
+          → len + length (pieces_bytes number (pieces_from s comings)) ≡ length (pieces_bytes 1 (pieces (remaining leaving (presentation_of file tree)))) → IsLength leaving file tree m on (slice_set walks k now) (slice_set nexts k next) later
       length_next len later number p counted planned small adds fits so_far =
           subst (λ j. IsLength leaving file tree m on (slice_set walks j now) (slice_set nexts j next) later) (sym t.place) (subst (λ (r : Schedule). IsLength leaving file tree m r (slice_set walks s.track now) (slice_set nexts s.track next) later) (sym turned_is) (record {
             lefts = slice_set lefts s.track left_behind_it;
@@ -358,10 +364,11 @@ module _ (leaving : Without) (file : List ℕ) (tree : FileTree) (m : MovieSeen)
 
 -- ---- where tracks are skipped
 
-module _ (leaving : Without) (file : List ℕ) (tree : FileTree) (m : MovieSeen) (s later : Schedule) (walks : List Walk) (nexts : List (Option SampleAt)) (d : DueTracks) (o : IsOpenedAs file m tree) (skips : Skips d s later) (due : IsDueAt (tracks_left leaving m.tracks) nexts later d) where
+module _ (leaving : Without) (file : List ℕ) (tree : FileTree) (m : MovieSeen) (s later : Schedule) (walks : List Walk) (nexts : List (Option SampleAt)) (d : DueTracks) (o : IsOpenedAs file m tree) (skips : Skips d s later)
+    (due : IsDueAt (tracks_left leaving (divisors_of leaving file tree) m.tracks) nexts later d) where
   stands_skipped : (lefts : List (List SampleAt)) (comings : List Coming) → StandsAt leaving file tree m s walks nexts lefts comings → StandsAt leaving file tree m later walks nexts lefts comings × (pieces_from s comings ≡ pieces_from later comings)
   stands_skipped lefts comings h =
-      let r = turns_skipped file (infos_left leaving m.tracks) d s later nexts lefts comings skips h.turn h.shown due (left_scales leaving file m tree o) in
+      let r = turns_skipped file (infos_left leaving (divisors_of leaving file tree) m.tracks) d s later nexts lefts comings skips h.turn h.shown due (left_scales leaving file m tree o) in
       (record { come = h.come; shown = h.shown; turn = r.0; few = h.few }, r.1)
 
   -- The longest piece is one of the same pieces.

@@ -33,7 +33,7 @@ use Rattle.mp4_content.proofs.EndsCompared.{samples_many}
 
 -- walks over the first tracks of a file
 abbrev pub BeginSoFar : MovieSeen → ℕ → List Walk → Type 0
-BeginSoFar m k walks = (file : List ℕ) (tree : FileTree) → IsOpenedAs file m tree → (leaving : Without) → AllCome leaving file tree m (take k tree.movie.tracks) walks (map (left_samples leaving tree) (take k tree.movie.tracks))
+BeginSoFar m k walks = (file : List ℕ) (tree : FileTree) → IsOpenedAs file m tree → (leaving : Without) → AllCome leaving file tree m (take k tree.movie.tracks) walks (map (left_samples leaving file tree) (take k tree.movie.tracks))
 
 -- the room of one walk more
 more_room : (walks : List Walk) (walk : Walk) → rooms (walks ++ walk ∷ []) ≡ rooms walks + length walk.bytes.items
@@ -61,19 +61,19 @@ pub one_begins : (m : MovieSeen) (k : ℕ) (walks : List Walk) (walk : Walk) →
 one_begins m k walks walk h n lt comes file tree o leaving =
     let many = length_zip (IsInfoOf file tree) tree.movie.tracks m.tracks o.tracks in
     let t = get_some tree.movie.tracks k (omega (arith, lt, many)) in
-    come_more leaving file tree m tree.movie.tracks walks (left_samples leaving tree) k t.0 walk (h file tree o leaving) n t.1 (record { samples = track_samples tree t.0; comes = comes file tree t.0 o t.1; is_left = refl })
+    come_more leaving file tree m tree.movie.tracks walks (left_samples leaving file tree) k t.0 walk (h file tree o leaving) n t.1 (record { samples = track_samples tree t.0; comes = comes file tree t.0 o t.1; is_left = refl })
 
 -- all tracks have walks
 pub all_begin : (m : MovieSeen) (k : ℕ) (walks : List Walk) → BeginSoFar m k walks → length m.tracks ≤ k → (file : List ℕ) (tree : FileTree) → IsOpenedAs file m tree → (leaving : Without) → AllBegin leaving file tree m walks
 all_begin m k walks h le file tree o leaving =
     let many = length_zip (IsInfoOf file tree) tree.movie.tracks m.tracks o.tracks in
     let all = take_all k tree.movie.tracks (omega (arith, le, many)) in
-    subst (λ (ts : List TrackTree). AllCome leaving file tree m ts walks (map (left_samples leaving tree) ts)) all (h file tree o leaving)
+    subst (λ (ts : List TrackTree). AllCome leaving file tree m ts walks (map (left_samples leaving file tree) ts)) all (h file tree o leaving)
 
 -- ---- walks that have marked where they begin
 
 abbrev pub BeginMarked : MovieSeen → ℕ → List Walk → Type 0
-BeginMarked m k walks = (file : List ℕ) (tree : FileTree) → IsOpenedAs file m tree → (leaving : Without) → AreMarked walks (map (left_samples leaving tree) (take k tree.movie.tracks))
+BeginMarked m k walks = (file : List ℕ) (tree : FileTree) → IsOpenedAs file m tree → (leaving : Without) → AreMarked walks (map (left_samples leaving file tree) (take k tree.movie.tracks))
 
 marked_behind : (walks : List Walk) (lefts : List (List SampleAt)) (w : Walk) (left : List SampleAt) → AreMarked walks lefts → w.mark ≡ mark_of w (length left) → AreMarked (walks ++ w ∷ []) (lefts ++ left ∷ [])
 marked_behind [] [] w left h is = (is, tt)
@@ -87,17 +87,17 @@ one_marked m k walks walk h lt mark file tree o leaving =
     let t = get_some tree.movie.tracks k (omega (arith, lt, many)) in
     let info = get_some m.tracks k lt in
     let is = get_zip (IsInfoOf file tree) tree.movie.tracks m.tracks k t.0 info.0 o.tracks t.1 info.1 in
-    let long = is.samples ∙ sym (less_length (track_reduction leaving tree t.0) (track_samples tree t.0) ∙ samples_many file tree t.0) in
-    let all : map (left_samples leaving tree) (take (k + 1) tree.movie.tracks) ≡ map (left_samples leaving tree) (take k tree.movie.tracks) ++ left_samples leaving tree t.0 ∷ [] =
-    ap (map (left_samples leaving tree)) (taken_next tree.movie.tracks k t.0 t.1) ∙ map-append (left_samples leaving tree) (take k tree.movie.tracks) (t.0 ∷ []) in
-    subst (λ (ls : List (List SampleAt)). AreMarked (walks ++ walk ∷ []) ls) (sym all) (marked_behind walks (map (left_samples leaving tree) (take k tree.movie.tracks)) walk (left_samples leaving tree t.0) (h file tree o leaving) (mark info.0 info.1 ∙ ap (mark_of walk) long))
+    let long = is.samples ∙ sym (less_length (track_reduction leaving file tree t.0) (track_samples tree t.0) ∙ samples_many file tree t.0) in
+    let all : map (left_samples leaving file tree) (take (k + 1) tree.movie.tracks) ≡ map (left_samples leaving file tree) (take k tree.movie.tracks) ++ left_samples leaving file tree t.0 ∷ [] =
+    ap (map (left_samples leaving file tree)) (taken_next tree.movie.tracks k t.0 t.1) ∙ map-append (left_samples leaving file tree) (take k tree.movie.tracks) (t.0 ∷ []) in
+    subst (λ (ls : List (List SampleAt)). AreMarked (walks ++ walk ∷ []) ls) (sym all) (marked_behind walks (map (left_samples leaving file tree) (take k tree.movie.tracks)) walk (left_samples leaving file tree t.0) (h file tree o leaving) (mark info.0 info.1 ∙ ap (mark_of walk) long))
 
 -- all tracks have walks
-pub all_marked : (m : MovieSeen) (k : ℕ) (walks : List Walk) → BeginMarked m k walks → length m.tracks ≤ k → (file : List ℕ) (tree : FileTree) → IsOpenedAs file m tree → (leaving : Without) → AreMarked walks (map (left_samples leaving tree) tree.movie.tracks)
+pub all_marked : (m : MovieSeen) (k : ℕ) (walks : List Walk) → BeginMarked m k walks → length m.tracks ≤ k → (file : List ℕ) (tree : FileTree) → IsOpenedAs file m tree → (leaving : Without) → AreMarked walks (map (left_samples leaving file tree) tree.movie.tracks)
 all_marked m k walks h le file tree o leaving =
     let many = length_zip (IsInfoOf file tree) tree.movie.tracks m.tracks o.tracks in
     let all = take_all k tree.movie.tracks (omega (arith, le, many)) in
-    subst (λ (ts : List TrackTree). AreMarked walks (map (left_samples leaving tree) ts)) all (h file tree o leaving)
+    subst (λ (ts : List TrackTree). AreMarked walks (map (left_samples leaving file tree) ts)) all (h file tree o leaving)
 
 -- where a walk's first sample comes, and what it has marked
 pub first_marked : (m : MovieSeen) (walk : Walk) (k : ℕ) → ((file : List ℕ) (tree : FileTree) (t : TrackTree) → IsOpenedAs file m tree → slice_get tree.movie.tracks k ≡ Some t → Comes file tree t m walk (track_samples tree t)) → k < length m.tracks
@@ -116,27 +116,27 @@ pub record ComesThere (leaving : Without) (file : List ℕ) (tree : FileTree) (m
   pub left : List SampleAt
   pub is_tree : slice_get tree.movie.tracks k ≡ Some t
   pub is_left : slice_get lefts k ≡ Some left
-  pub comes : ComesLess (track_reduction leaving tree t) file tree t m walk left
+  pub comes : ComesLess (track_reduction leaving file tree t) file tree t m walk left
 
 pub comes_there : (leaving : Without) (file : List ℕ) (tree : FileTree) (m : MovieSeen) (walks : List Walk) (lefts : List (List SampleAt)) (k : ℕ) (d : Walk) → AllCome leaving file tree m tree.movie.tracks walks lefts → k < length walks
     → ComesThere leaving file tree m lefts k (slice_index_or walks k d)
 comes_there leaving file tree m walks lefts k d h lt =
     let r = come_at leaving file tree m tree.movie.tracks walks lefts k h lt in
     let same = some_is r.walk (slice_index_or walks k d) (sym r.is_walk ∙ got walks k d lt) in
-    record { t = r.t; left = r.left; is_tree = r.is_tree; is_left = r.is_left; comes = subst (λ (w : Walk). ComesLess (track_reduction leaving tree r.t) file tree r.t m w r.left) same r.comes }
+    record { t = r.t; left = r.left; is_tree = r.is_tree; is_left = r.is_left; comes = subst (λ (w : Walk). ComesLess (track_reduction leaving file tree r.t) file tree r.t m w r.left) same r.comes }
 
 -- what is left of its samples, by what is said of that track
-pub reduced_there : (leaving : Without) (tree : FileTree) (by : List Reduction) (k : ℕ) (t : TrackTree) → by ≡ reductions_of leaving tree → slice_get tree.movie.tracks k ≡ Some t → slice_get by k ≡ Some (track_reduction leaving tree t)
-reduced_there leaving tree by k t e is = ap (λ (rs : List Reduction). slice_get rs k) e ∙ at tree.movie.tracks k is
+pub reduced_there : (leaving : Without) (file : List ℕ) (tree : FileTree) (by : List Reduction) (k : ℕ) (t : TrackTree) → by ≡ reductions_of leaving file tree → slice_get tree.movie.tracks k ≡ Some t → slice_get by k ≡ Some (track_reduction leaving file tree t)
+reduced_there leaving file tree by k t e is = ap (λ (rs : List Reduction). slice_get rs k) e ∙ at tree.movie.tracks k is
   where
-    at : (trees : List TrackTree) (k : ℕ) → slice_get trees k ≡ Some t → slice_get (map (track_reduction leaving tree) trees) k ≡ Some (track_reduction leaving tree t)
+    at : (trees : List TrackTree) (k : ℕ) → slice_get trees k ≡ Some t → slice_get (map (track_reduction leaving file tree) trees) k ≡ Some (track_reduction leaving file tree t)
     at [] k is = absurd cc
-    at (u ∷ trees) zero is = let same : u ≡ t = cc in ap (λ (v : TrackTree). Some (track_reduction leaving tree v)) same
+    at (u ∷ trees) zero is = let same : u ≡ t = cc in ap (λ (v : TrackTree). Some (track_reduction leaving file tree v)) same
     at (u ∷ trees) (suc k) is = at trees k is
 
 -- another walk at its place, in which the same samples come
 pub same_come : (leaving : Without) (file : List ℕ) (tree : FileTree) (m : MovieSeen) (walks : List Walk) (lefts : List (List SampleAt)) (k : ℕ) (walk next : Walk) → AllCome leaving file tree m tree.movie.tracks walks lefts → (r : ComesThere leaving file tree m lefts k walk)
-    → ComesLess (track_reduction leaving tree r.t) file tree r.t m next r.left → AllCome leaving file tree m tree.movie.tracks (slice_set walks k next) lefts
+    → ComesLess (track_reduction leaving file tree r.t) file tree r.t m next r.left → AllCome leaving file tree m tree.movie.tracks (slice_set walks k next) lefts
 same_come leaving file tree m walks lefts k walk next h r c =
     subst (λ (ls : List (List SampleAt)). AllCome leaving file tree m tree.movie.tracks (slice_set walks k next) ls) (set_same lefts k r.left r.is_left) (come_with leaving file tree m tree.movie.tracks walks lefts k r.t next r.left h r.is_tree c)
 

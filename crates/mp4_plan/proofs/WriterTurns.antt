@@ -2,7 +2,10 @@
 use Rattle.std.proofs.Common.{◌≡◌, ℕ, ◌+◌, ◌<◌, ◌≤◌, List, ◌++◌, length, take, drop, Some, sym, ap, subst, ◌∙◌, slice_set}
 use Rattle.mp4_content.specs.declared.without.Without.{Without}
 use Rattle.mp4_content.specs.words.ComingLess.{ComesLess, track_reduction, reductions_of}
-use Rattle.mp4_content.specs.format.Reduced.{id_left, reduce, timescale_left}
+use Rattle.mp4_content.specs.format.Reduced.{id_left}
+use Rattle.mp4_content.specs.format.Remaining.{remaining}
+use Rattle.mp4_content.specs.words.Divided.{divisor_at}
+use Rattle.mp4_content.specs.words.Scales.{divisors_of}
 use Rattle.std.specs.Prelude.{Option, slice_get}
 use Rattle.mp4_boxes.specs.format.Bytes.{sum_of}
 use Rattle.mp4_head.specs.format.Tree.{TrackTree}
@@ -39,7 +42,7 @@ use Rattle.mp4_plan.specs.declared.writer.Writer.{Writer}
 use Rattle.mp4_plan.proofs.ComeAt.{set_there, set_twice}
 use Rattle.mp4_plan.proofs.PieceCounts.{piece_counts, piece_bytes, piece_within}
 use Rattle.mp4_plan.proofs.PieceWritten.{IsFew}
-use Rattle.mp4_plan.proofs.InfosLeft.{info_at, left_scales, track_at}
+use Rattle.mp4_plan.proofs.InfosLeft.{info_at, left_scales, scale_of_track, track_at}
 use Rattle.mp4_plan.proofs.Planning.{reduced_there}
 use Rattle.mp4_plan.proofs.SkippedTurns.{due_here}
 use Rattle.mp4_plan.proofs.TurnTaken.{turn_moves}
@@ -47,17 +50,17 @@ use Rattle.mp4_plan.proofs.WritesOn.{WritesOn, AtTurn, at_turn, turn_stops, turn
 
 module _ (leaving : Without) (file : List ℕ) (tree : FileTree) (m : MovieSeen) (o : IsOpenedAs file m tree) (s : Schedule) (sequence sent : ℕ) (w : Writer) {Y : Type 0} {takes : Y → Y → List ℕ → Type 0} (joins : IsJoining takes) (before after : Y)
     (h : WritesOn leaving file tree m s sequence sent w.walks.items w.nexts.items (length w.notes.rows.items) (takes before after) (waiting w.carrier)) (turn : Turn) (here : (turn.track ≡ s.track) × (s.track < s.tracks))
-    (own : (track : TrackLeft) → slice_get (tracks_left leaving m.tracks) s.track ≡ Some track → (turn.end ≡ turn_end s track.timescale) × (turn.id ≡ track.id)) (tracks : s.tracks ≡ length m.tracks) (goes : IsWriterOf m w) (same_leaving : w.content.leaving ≡ leaving)
+    (own : (track : TrackLeft) → slice_get (tracks_left leaving (divisors_of leaving file tree) m.tracks) s.track ≡ Some track → (turn.end ≡ turn_end s track.timescale) × (turn.id ≡ track.id)) (tracks : s.tracks ≡ length m.tracks) (goes : IsWriterOf m w) (same_leaving : w.content.leaving ≡ leaving)
     (reduced : w.content.of_tracks.items
-    ≡ reductions_of leaving tree)
+    ≡ reductions_of leaving file tree)
   where
     at : AtTurn leaving file tree m s w.walks.items w.nexts.items (length w.notes.rows.items) h.lefts h.comings
     at = at_turn leaving file tree m s sequence sent w.walks.items w.nexts.items (length w.notes.rows.items) (takes before after) (waiting w.carrier) o h here.1 tracks goes.walks.count
 
-    own_is : (turn.end ≡ turn_end s (timescale_left leaving at.info.timescale)) × (turn.id ≡ (id_left leaving (s.track + 1) at.info.id))
-    own_is = own (numbers_of (info_left leaving (s.track + 1) at.info)) (track_at leaving m.tracks s.track at.info at.is_info)
+    own_is : (turn.end ≡ turn_end s (scale_of_track leaving (divisors_of leaving file tree) s.track at.info.timescale)) × (turn.id ≡ (id_left leaving (s.track + 1) at.info.id))
+    own_is = own (numbers_of (info_left leaving (s.track + 1) (divisor_at (divisors_of leaving file tree) s.track) at.info)) (track_at leaving (divisors_of leaving file tree) m.tracks s.track at.info at.is_info)
 
-    end_is : turn.end ≡ turn_end s (timescale_left leaving at.info.timescale)
+    end_is : turn.end ≡ turn_end s (scale_of_track leaving (divisors_of leaving file tree) s.track at.info.timescale)
     end_is = own_is.0
 
     walk_there : slice_get w.walks.items turn.track ≡ Some at.walk
@@ -66,21 +69,21 @@ module _ (leaving : Without) (file : List ℕ) (tree : FileTree) (m : MovieSeen)
     next_there : slice_get w.nexts.items turn.track ≡ Some (slice_get at.left 0)
     next_there = ap (λ k. slice_get w.nexts.items k) here.0 ∙ at.shown
 
-    comes_there : ComesLess (track_reduction w.content.leaving tree at.t) file tree at.t m at.walk at.left
-    comes_there = subst (λ (l : Without). ComesLess (track_reduction l tree at.t) file tree at.t m at.walk at.left) (sym same_leaving) at.comes
+    comes_there : ComesLess (track_reduction w.content.leaving file tree at.t) file tree at.t m at.walk at.left
+    comes_there = subst (λ (l : Without). ComesLess (track_reduction l file tree at.t) file tree at.t m at.walk at.left) (sym same_leaving) at.comes
 
-    by_there : slice_get w.content.of_tracks.items turn.track ≡ Some (track_reduction w.content.leaving tree at.t)
-    by_there = ap (λ k. slice_get w.content.of_tracks.items k) here.0 ∙ reduced_there w.content.leaving tree w.content.of_tracks.items s.track at.t (reduced ∙ ap (λ (l : Without). reductions_of l tree) (sym same_leaving)) at.is_tree
+    by_there : slice_get w.content.of_tracks.items turn.track ≡ Some (track_reduction w.content.leaving file tree at.t)
+    by_there = ap (λ k. slice_get w.content.of_tracks.items k) here.0 ∙ reduced_there w.content.leaving file tree w.content.of_tracks.items s.track at.t (reduced ∙ ap (λ (l : Without). reductions_of l file tree) (sym same_leaving)) at.is_tree
 
     -- there is room for the rows
-    pub note_lacks : (X : Type 0) → ((t : TrackTree) (walk : Walk) (left : List SampleAt) → slice_get w.walks.items turn.track ≡ Some walk → slice_get w.content.of_tracks.items turn.track ≡ Some (track_reduction w.content.leaving tree t)
-        → ComesLess (track_reduction w.content.leaving tree t) file tree t m walk left
+    pub note_lacks : (X : Type 0) → ((t : TrackTree) (walk : Walk) (left : List SampleAt) → slice_get w.walks.items turn.track ≡ Some walk → slice_get w.content.of_tracks.items turn.track ≡ Some (track_reduction w.content.leaving file tree t)
+        → ComesLess (track_reduction w.content.leaving file tree t) file tree t m walk left
         → walk.mark ≡ mark_of walk (length left)
         → slice_get w.nexts.items turn.track ≡ Some (slice_get left 0) → more_of (piece_from turn.end) left ≤ length w.notes.rows.items → X) → X
     note_lacks X f = f at.t at.walk at.left walk_there by_there comes_there at.is_marked next_there (subst (λ (e : End). more_of (piece_from e) at.left ≤ length w.notes.rows.items) (sym end_is) at.fits)
 
-    module _ (w1 : Writer) (n : Noted) (noted : (t : TrackTree) (walk : Walk) (left : List SampleAt) → slice_get w.walks.items turn.track ≡ Some walk → slice_get w.content.of_tracks.items turn.track ≡ Some (track_reduction w.content.leaving tree t)
-        → ComesLess (track_reduction w.content.leaving tree t) file tree t m walk left → walk.mark ≡ mark_of walk (length left)
+    module _ (w1 : Writer) (n : Noted) (noted : (t : TrackTree) (walk : Walk) (left : List SampleAt) → slice_get w.walks.items turn.track ≡ Some walk → slice_get w.content.of_tracks.items turn.track ≡ Some (track_reduction w.content.leaving file tree t)
+        → ComesLess (track_reduction w.content.leaving file tree t) file tree t m walk left → walk.mark ≡ mark_of walk (length left)
         → slice_get w.nexts.items turn.track ≡ Some (slice_get left 0)
         → HasNoted file tree t m turn sequence left w w1 n)
         (by_same : w1.content ≡ w.content) (keeps : (w1.carrier ≡ w.carrier) × (length w1.notes.rows.items ≡ length w.notes.rows.items) × (w1.nexts ≡ w.nexts) × (w1.due ≡ w.due)) (few : IsFew n.planned) where
@@ -88,7 +91,7 @@ module _ (leaving : Without) (file : List ℕ) (tree : FileTree) (m : MovieSeen)
       it = noted at.t at.walk at.left walk_there by_there comes_there at.is_marked next_there
 
       abbrev end : End
-      end = turn_end s (timescale_left leaving at.info.timescale)
+      end = turn_end s (scale_of_track leaving (divisors_of leaving file tree) s.track at.info.timescale)
 
       planned_is : n.planned ≡ planned_of (piece_fed (piece_from end) at.left).gathered
       planned_is = subst (λ (e : End). n.planned ≡ planned_of (piece_fed (piece_from e) at.left).gathered) end_is it.planned
@@ -116,8 +119,8 @@ module _ (leaving : Without) (file : List ℕ) (tree : FileTree) (m : MovieSeen)
         t = at.t;
         walk = it.walk;
         is_walk = there_now;
-        reduction = (λ i. slice_get (by_same i).of_tracks.items turn.track) ∙ by_there ∙ ap (λ (l : Without). Some (track_reduction l tree at.t)) (sym left_same);
-        comes = subst (λ (l : Without). ComesMarked (track_reduction l tree at.t) file tree at.t m it.walk n.planned.count at.left) (sym left_same) it.comes;
+        reduction = (λ i. slice_get (by_same i).of_tracks.items turn.track) ∙ by_there ∙ ap (λ (l : Without). Some (track_reduction l file tree at.t)) (sym left_same);
+        comes = subst (λ (l : Without). ComesMarked (track_reduction l file tree at.t) file tree at.t m it.walk n.planned.count at.left) (sym left_same) it.comes;
         none = it.none;
         next = ap (λ v. slice_get v.items turn.track) keeps.2 ∙ next_there;
         rows = it.rows;
@@ -126,7 +129,7 @@ module _ (leaving : Without) (file : List ℕ) (tree : FileTree) (m : MovieSeen)
 
       -- it is not taken along whole
       pub carry_stops : (last : Y) → ((samples : List SampleAt) → IsNoted file tree m turn.track n.planned.count samples w1 → (info : TrackInfo) → slice_get m.tracks turn.track ≡ Some info → AreApart (keys_seen info.keys)
-          → TakesPrefix (takes after last) (waiting w1.carrier ++ turn_bytes file n.head n.planned (keys_seen info.keys) (take n.planned.count samples))) → TakesPrefix (takes before last) (normal (reduce leaving (presentation_of file tree)))
+          → TakesPrefix (takes after last) (waiting w1.carrier ++ turn_bytes file n.head n.planned (keys_seen info.keys) (take n.planned.count samples))) → TakesPrefix (takes before last) (normal (remaining leaving (presentation_of file tree)))
       carry_stops last f =
           let q = f at.left is_noted at.info info_there at.keys.apart in
           let own = subst (λ (hd : Option PieceHead). TakesPrefix (takes after last) (waiting w1.carrier ++ turn_bytes file hd n.planned (keys_seen at.info.keys) (take n.planned.count at.left))) head_is q in
@@ -154,20 +157,23 @@ module _ (leaving : Without) (file : List ℕ) (tree : FileTree) (m : MovieSeen)
             ∙ set_there w.nexts.items turn.track (slice_get at.left 0) (slice_get (drop n.planned.count at.left) 0) next_there) ∙ ap (λ (ss : List SampleAt). slice_get ss 0) rest_is
 
         -- the schedule goes on
-        pub pass_lacks : IsDueAt (tracks_left leaving m.tracks) w.nexts.items s w.due → Sticks s n.planned.count next → ⊥
+        pub pass_lacks : IsDueAt (tracks_left leaving (divisors_of leaving file tree) m.tracks) w.nexts.items s w.due → Sticks s n.planned.count next → ⊥
         pass_lacks due k =
             let count = subst (λ c. Sticks s c next) counted k in
-            let goes_in = due_here (infos_left leaving m.tracks) w.nexts.items s w.due (info_left leaving (s.track + 1) at.info) (slice_get at.left 0) due (left_scales leaving file m tree o) here.1 (info_at leaving m.tracks s.track at.info at.is_info) at.shown in
-            turn_moves file (infos_left leaving m.tracks) s h.lefts h.comings (info_left leaving (s.track + 1) at.info) at.left at.taken goes_in (subst (λ (x : Option SampleAt). Sticks s (more_of (piece_from end) at.left) x) next_is count)
+            let goes_in = due_here (infos_left leaving (divisors_of leaving file tree) m.tracks) w.nexts.items s w.due (info_left leaving (s.track + 1) (divisor_at (divisors_of leaving file tree) s.track) at.info) (slice_get at.left 0) due (left_scales leaving file m tree o) here.1
+            (info_at leaving (divisors_of leaving file tree) m.tracks s.track at.info at.is_info) at.shown in
+            turn_moves file (infos_left leaving (divisors_of leaving file tree) m.tracks) s h.lefts h.comings (info_left leaving (s.track + 1) (divisor_at (divisors_of leaving file tree) s.track) at.info) at.left at.taken goes_in
+            (subst (λ (x : Option SampleAt). Sticks s (more_of (piece_from end) at.left) x) next_is count)
 
         -- the next samples are the same but for one
         nexts_are : w2.nexts.items ≡ slice_set w.nexts.items s.track next
         nexts_are = done.2 ∙ (λ i. slice_set (keeps.2 i).items (here.0 i) ((ap (λ (ss : List SampleAt). slice_get ss 0) rest_is ∙ sym next_is) i))
 
         -- what is so of them, by what the leaves say
-        pub with_times : (P : List (Option SampleAt) → Type 0) → IsDueAt (tracks_left leaving m.tracks) w.nexts.items s w.due → w2.due ≡ w1.due → ((nexts : List (Option SampleAt)) → AreTimes (tracks_left leaving m.tracks) nexts s.first w2.due → P (slice_set nexts s.track next)) → P w2.nexts.items
+        pub with_times : (P : List (Option SampleAt) → Type 0) → IsDueAt (tracks_left leaving (divisors_of leaving file tree) m.tracks) w.nexts.items s w.due → w2.due ≡ w1.due →
+            ((nexts : List (Option SampleAt)) → AreTimes (tracks_left leaving (divisors_of leaving file tree) m.tracks) nexts s.first w2.due → P (slice_set nexts s.track next)) → P w2.nexts.items
         with_times P due same f =
-            let times = subst (λ (e : DueTracks). AreTimes (tracks_left leaving m.tracks) w.nexts.items s.first e) (sym (same ∙ keeps.3)) due.times in
+            let times = subst (λ (e : DueTracks). AreTimes (tracks_left leaving (divisors_of leaving file tree) m.tracks) w.nexts.items s.first e) (sym (same ∙ keeps.3)) due.times in
             subst P (sym nexts_are) (f w.nexts.items times)
 
         -- the turn behind it
@@ -180,8 +186,8 @@ module _ (leaving : Without) (file : List ℕ) (tree : FileTree) (m : MovieSeen)
             let own = subst (λ (hd : Option PieceHead). BytesGoOn (takes after last) (waiting w1.carrier) (waiting w2.carrier) (turn_bytes file hd n.planned (keys_seen at.info.keys) (take n.planned.count at.left))) head_is q in
             let same = subst (λ (c : OutBuffer). BytesGoOn (takes after last) (waiting c) (waiting w2.carrier)
             (turn_bytes file (turn_head sequence (id_left leaving (s.track + 1) at.info.id) n.planned.count (slice_get at.left 0)) n.planned (keys_seen at.info.keys) (take n.planned.count at.left))) keeps.0 own in
-            let comes = subst (λ (l : Without). ComesLess (track_reduction l tree at.t) file tree at.t m done.0 (drop n.planned.count at.left)) (left_same ∙ same_leaving) done.3 in
-            let comes_rest = subst (λ (ss : List SampleAt). ComesLess (track_reduction leaving tree at.t) file tree at.t m done.0 ss) rest_is comes in
+            let comes = subst (λ (l : Without). ComesLess (track_reduction l file tree at.t) file tree at.t m done.0 (drop n.planned.count at.left)) (left_same ∙ same_leaving) done.3 in
+            let comes_rest = subst (λ (ss : List SampleAt). ComesLess (track_reduction leaving file tree at.t) file tree at.t m done.0 ss) rest_is comes in
             let marked = subst (λ (ss : List SampleAt). done.0.mark ≡ mark_of done.0 (length ss)) rest_is done.4 in
             let on = turn_over leaving file tree m s sequence sent w.walks.items w.nexts.items (length w.notes.rows.items) joins before after (waiting w.carrier) h at n.planned planned_is few done.0 last (waiting w2.carrier) comes_rest marked same in
             let walks : slice_set w.walks.items s.track done.0 ≡ w2.walks.items = sym (done.1 ∙ ap (λ (ws : List Walk). slice_set ws turn.track done.0) it.walks ∙ set_twice w.walks.items turn.track it.walk done.0 ∙ ap (λ k. slice_set w.walks.items k done.0) here.0) in

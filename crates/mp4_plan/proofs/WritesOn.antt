@@ -2,7 +2,10 @@
 use Rattle.std.proofs.Common.{◌≡◌, ℕ, zero, suc, ◌+◌, ◌-◌, ◌^◌, ◌<◌, ◌≤◌, max, ◌==◌, Bool, true, false, List, [], ◌∷◌, ◌++◌, length, take, Some, None, refl, sym, ap, subst, ◌∙◌, append_assoc, append-nil, arith, slice_set}
 use Rattle.mp4_content.specs.declared.without.Without.{Without}
 use Rattle.mp4_content.specs.words.ComingLess.{ComesLess, left_samples, track_reduction}
-use Rattle.mp4_content.specs.format.Reduced.{id_left, ReducesInRange, reduce, timescale_left}
+use Rattle.mp4_content.specs.format.Reduced.{id_left}
+use Rattle.mp4_content.specs.format.Remaining.{RemainsInRange, remaining}
+use Rattle.mp4_content.specs.words.Divided.{divisor_at}
+use Rattle.mp4_content.specs.words.Scales.{divisors_of}
 use Rattle.mp4_plan.proofs.Lefts.{less_counted, left_count, pieces_from, IsTurn}
 use Rattle.mp4_content.proofs.ReducedTaken.{less_below}
 use Rattle.std.specs.Prelude.{Option, option_map, if◌then◌else◌, map, slice_get, fold}
@@ -50,7 +53,7 @@ use Rattle.mp4_plan.proofs.FrontsPut.{stopped_at, stopped_behind}
 use Rattle.mp4_plan.proofs.NextSamples.{first_at, firsts_set}
 use Rattle.mp4_plan.proofs.PieceCounts.{piece_bytes, piece_counts, piece_within, piece_gathers}
 use Rattle.mp4_plan.proofs.PieceWritten.{AreKeys, IsFew, turn_written, head_counts, bytes_of_two}
-use Rattle.mp4_plan.proofs.InfosLeft.{as_many_left, info_at, left_scales}
+use Rattle.mp4_plan.proofs.InfosLeft.{as_many_left, info_at, left_scales, scale_of_track}
 use Rattle.mp4_plan.proofs.SkippedTurns.{finds_none, turns_skipped}
 use Rattle.mp4_plan.proofs.TakenFrom.{TrackFacts, track_facts, has_track, few_left, all_counted}
 use Rattle.mp4_plan.proofs.TurnTaken.{TurnTaken, turn_taken, turn_fits}
@@ -139,14 +142,14 @@ module _ (leaving : Without) (file : List ℕ) (tree : FileTree) (m : MovieSeen)
     pub come : AllCome leaving file tree m tree.movie.tracks walks lefts
     pub marked : AreMarked walks lefts
     pub shown : nexts ≡ firsts lefts
-    pub turn : IsTurn file (infos_left leaving m.tracks) s lefts comings
+    pub turn : IsTurn file (infos_left leaving (divisors_of leaving file tree) m.tracks) s lefts comings
     pub lie : AllByRecursion (λ (left : List SampleAt). AllByRecursion (IsBelow (length file)) left) lefts
     pub fits : AllByRecursion (λ (p : Piece). length p.samples ≤ rows) (pieces_from s comings)
     pub small : sequence + left_count lefts ≤ 2 ^ 24 + 1
     pub sizes : sent + left_bytes lefts ≡ sum_by (λ (i : TrackInfo). i.bytes) m.tracks
     pub done : List ℕ
     pub goes : BytesGoOn Took [] held done
-    pub whole : normal (reduce leaving (presentation_of file tree)) ≡ done ++ pieces_bytes sequence (pieces_from s comings)
+    pub whole : normal (remaining leaving (presentation_of file tree)) ≡ done ++ pieces_bytes sequence (pieces_from s comings)
 
   -- the track whose turn it is, and what its turn takes
   pub record AtTurn (s : Schedule) (walks : List Walk) (nexts : List (Option SampleAt)) (rows : ℕ) (lefts : List (List SampleAt)) (comings : List Coming) : Type 0 where
@@ -158,12 +161,12 @@ module _ (leaving : Without) (file : List ℕ) (tree : FileTree) (m : MovieSeen)
     pub is_walk : slice_get walks s.track ≡ Some walk
     pub is_info : slice_get m.tracks s.track ≡ Some info
     pub is_left : slice_get lefts s.track ≡ Some left
-    pub comes : ComesLess (track_reduction leaving tree t) file tree t m walk left
+    pub comes : ComesLess (track_reduction leaving file tree t) file tree t m walk left
     pub is_marked : walk.mark ≡ mark_of walk (length left)
     pub keys : AreKeys (keys_seen info.keys)
-    pub taken : TurnTaken file (infos_left leaving m.tracks) s lefts comings (info_left leaving (s.track + 1) info) left
+    pub taken : TurnTaken file (infos_left leaving (divisors_of leaving file tree) m.tracks) s lefts comings (info_left leaving (s.track + 1) (divisor_at (divisors_of leaving file tree) s.track) info) left
     pub below : AllByRecursion (IsBelow (length file)) left
-    pub fits : more_of (piece_from (turn_end s (timescale_left leaving info.timescale))) left ≤ rows
+    pub fits : more_of (piece_from (turn_end s (scale_of_track leaving (divisors_of leaving file tree) s.track info.timescale))) left ≤ rows
     pub shown : slice_get nexts s.track ≡ Some (slice_get left 0)
 
   pub at_turn : (s : Schedule) (sequence sent : ℕ) (walks : List Walk) (nexts : List (Option SampleAt)) (rows : ℕ) (Took : List ℕ → Type 0) (held : List ℕ) → IsOpenedAs file m tree → (h : WritesOn s sequence sent walks nexts rows Took held)
@@ -172,7 +175,8 @@ module _ (leaving : Without) (file : List ℕ) (tree : FileTree) (m : MovieSeen)
       let a = come_at leaving file tree m tree.movie.tracks walks h.lefts s.track h.come (omega (arith, lt, tracks, each)) in
       let i = get_some m.tracks s.track (omega (arith, lt, tracks)) in
       let f = (has_track file m tree s.track i.0 o i.1).facts in
-      let taken = turn_taken file (infos_left leaving m.tracks) s h.lefts h.comings (info_left leaving (s.track + 1) i.0) a.left h.turn lt (info_at leaving m.tracks s.track i.0 i.1) a.is_left in
+      let taken = turn_taken file (infos_left leaving (divisors_of leaving file tree) m.tracks) s h.lefts h.comings (info_left leaving (s.track + 1) (divisor_at (divisors_of leaving file tree) s.track) i.0) a.left h.turn lt
+      (info_at leaving (divisors_of leaving file tree) m.tracks s.track i.0 i.1) a.is_left in
       record {
         t = a.t;
         walk = a.walk;
@@ -187,34 +191,34 @@ module _ (leaving : Without) (file : List ℕ) (tree : FileTree) (m : MovieSeen)
         keys = record { apart = f.apart; named = f.named; few = f.few_keys };
         taken = taken;
         below = get_every (λ (left : List SampleAt). AllByRecursion (IsBelow (length file)) left) h.lefts s.track a.left a.is_left h.lie;
-        fits = (turn_fits rows file (infos_left leaving m.tracks) s h.lefts h.comings (info_left leaving (s.track + 1) i.0) a.left taken h.fits).0;
+        fits = (turn_fits rows file (infos_left leaving (divisors_of leaving file tree) m.tracks) s h.lefts h.comings (info_left leaving (s.track + 1) (divisor_at (divisors_of leaving file tree) s.track) i.0) a.left taken h.fits).0;
         shown = ap (λ xs. slice_get xs s.track) h.shown ∙ first_at h.lefts s.track a.left a.is_left;
       }
 
   module _ (s : Schedule) (sequence sent : ℕ) (walks : List Walk) (nexts : List (Option SampleAt)) (rows : ℕ) {Y : Type 0} {takes : Y → Y → List ℕ → Type 0} (joins : IsJoining takes) (before after : Y) (held : List ℕ) (h : WritesOn s sequence sent walks nexts rows (takes before after) held) where
     -- what was put so far is a front
-    pub stopped : TakesPrefix (takes before after) (normal (reduce leaving (presentation_of file tree)))
-    stopped = stopped_behind (takes before after) [] held h.done (pieces_bytes sequence (pieces_from s h.comings)) (normal (reduce leaving (presentation_of file tree))) h.goes h.whole
+    pub stopped : TakesPrefix (takes before after) (normal (remaining leaving (presentation_of file tree)))
+    stopped = stopped_behind (takes before after) [] held h.done (pieces_bytes sequence (pieces_from s h.comings)) (normal (remaining leaving (presentation_of file tree))) h.goes h.whole
 
     -- no piece is left, and what waits is put, or a front of it
-    all_done : pieces_from s h.comings ≡ [] → normal (reduce leaving (presentation_of file tree)) ≡ h.done
+    all_done : pieces_from s h.comings ≡ [] → normal (remaining leaving (presentation_of file tree)) ≡ h.done
     all_done none = h.whole ∙ ap (λ (ps : List Piece). h.done ++ pieces_bytes sequence ps) none ∙ append-nil h.done
 
-    pub all_put : (last : Y) → pieces_from s h.comings ≡ [] → takes after last held → takes before last (normal (reduce leaving (presentation_of file tree)))
+    pub all_put : (last : Y) → pieces_from s h.comings ≡ [] → takes after last held → takes before last (normal (remaining leaving (presentation_of file tree)))
     all_put last none p = rw (all_done none) (BytesGoOn-all joins before after last [] held h.done h.goes p)
 
-    pub not_all_put : (last : Y) → pieces_from s h.comings ≡ [] → TakesPrefix (takes after last) held → TakesPrefix (takes before last) (normal (reduce leaving (presentation_of file tree)))
+    pub not_all_put : (last : Y) → pieces_from s h.comings ≡ [] → TakesPrefix (takes after last) held → TakesPrefix (takes before last) (normal (remaining leaving (presentation_of file tree)))
     not_all_put last none p =
         let q : TakesPrefix (takes before last) (h.done ++ []) = BytesGoOn-fails joins before after last [] held h.done [] h.goes (TakesPrefix-longer (takes after last) held [] p) in
         subst (λ (bs : List ℕ). TakesPrefix (takes before last) bs) (append-nil h.done ∙ sym (all_done none)) q
 
     -- behind the last turn all samples were taken, and all their bytes
     pub all_taken : s.tracks ≤ s.track → (s.left ≡ 0) × (sent ≡ sum_by (λ (i : TrackInfo). i.bytes) m.tracks)
-    all_taken last = let none = none_behind file (infos_left leaving m.tracks) s h.lefts h.comings h.turn last in let no_bytes = none.0 in let sizes = h.sizes in (none.1, omega (arith, no_bytes, sizes))
+    all_taken last = let none = none_behind file (infos_left leaving (divisors_of leaving file tree) m.tracks) s h.lefts h.comings h.turn last in let no_bytes = none.0 in let sizes = h.sizes in (none.1, omega (arith, no_bytes, sizes))
 
-    module _ (a : AtTurn s walks nexts rows h.lefts h.comings) (p : Planned) (is : p ≡ planned_of (piece_fed (piece_from (turn_end s (timescale_left leaving a.info.timescale))) a.left).gathered) (few : IsFew p) where
+    module _ (a : AtTurn s walks nexts rows h.lefts h.comings) (p : Planned) (is : p ≡ planned_of (piece_fed (piece_from (turn_end s (scale_of_track leaving (divisors_of leaving file tree) s.track a.info.timescale))) a.left).gathered) (few : IsFew p) where
       abbrev end : End
-      end = turn_end s (timescale_left leaving a.info.timescale)
+      end = turn_end s (scale_of_track leaving (divisors_of leaving file tree) s.track a.info.timescale)
 
       abbrev count : ℕ
       count = more_of (piece_from end) a.left
@@ -255,21 +259,21 @@ module _ (leaving : Without) (file : List ℕ) (tree : FileTree) (m : MovieSeen)
           ∙ head_counts sequence (id_left leaving (s.track + 1) a.info.id) count a.left a.taken.samples file keys a.taken.taken (piece_within end a.left) (omega (arith, small, few_pieces, n, left))
 
       -- what is to come behind it
-      rest_is : normal (reduce leaving (presentation_of file tree)) ≡ (h.done ++ pieces_bytes sequence piece) ++ pieces_bytes (sequence_behind sequence head) (pieces_from next a.taken.later)
+      rest_is : normal (remaining leaving (presentation_of file tree)) ≡ (h.done ++ pieces_bytes sequence piece) ++ pieces_bytes (sequence_behind sequence head) (pieces_from next a.taken.later)
       rest_is =
           h.whole ∙ ap (λ (ps : List Piece). h.done ++ pieces_bytes sequence ps) a.taken.pieces
           ∙ ap (λ (bs : List ℕ). h.done ++ bs) (bytes_of_two sequence piece (pieces_from next a.taken.later) ∙ ap (λ n. pieces_bytes sequence piece ++ pieces_bytes n (pieces_from next a.taken.later)) (sym numbered))
           ∙ sym (append_assoc h.done (pieces_bytes sequence piece) (pieces_bytes (sequence_behind sequence head) (pieces_from next a.taken.later)))
 
       -- it is not taken along whole
-      pub turn_stops : (last : Y) → TakesPrefix (takes after last) (held ++ turn_bytes file head p keys (take p.count a.left)) → TakesPrefix (takes before last) (normal (reduce leaving (presentation_of file tree)))
+      pub turn_stops : (last : Y) → TakesPrefix (takes after last) (held ++ turn_bytes file head p keys (take p.count a.left)) → TakesPrefix (takes before last) (normal (remaining leaving (presentation_of file tree)))
       turn_stops last q = stopped_at joins before after last [] held h.done (turn_bytes file head p keys (take p.count a.left)) (h.done ++ pieces_bytes sequence piece) (pieces_bytes (sequence_behind sequence head) (pieces_from next a.taken.later))
-          (normal (reduce leaving (presentation_of file tree)))
+          (normal (remaining leaving (presentation_of file tree)))
           h.goes q
           (ap (λ (bs : List ℕ). h.done ++ bs) (sym written)) rest_is
 
       -- it is taken along
-      pub turn_over : (later : Walk) (last : Y) (held_later : List ℕ) → ComesLess (track_reduction leaving tree a.t) file tree a.t m later rest → later.mark ≡ mark_of later (length rest) → BytesGoOn (takes after last) held held_later (turn_bytes file head p keys (take p.count a.left))
+      pub turn_over : (later : Walk) (last : Y) (held_later : List ℕ) → ComesLess (track_reduction leaving file tree a.t) file tree a.t m later rest → later.mark ≡ mark_of later (length rest) → BytesGoOn (takes after last) held held_later (turn_bytes file head p keys (take p.count a.left))
           → WritesOn (turned s end p.count (slice_get rest 0)) (sequence_behind sequence head) (sent + p.bytes) (slice_set walks s.track later) (slice_set nexts s.track (slice_get rest 0)) rows (takes before last) held_later
       turn_over later last held_later comes marked bytes =
           let come = come_with leaving file tree m tree.movie.tracks walks h.lefts s.track a.t later rest h.come a.is_tree comes in
@@ -289,7 +293,7 @@ module _ (leaving : Without) (file : List ℕ) (tree : FileTree) (m : MovieSeen)
             shown = ap (λ xs. slice_set xs s.track (slice_get rest 0)) h.shown ∙ sym (firsts_set h.lefts s.track rest);
             turn = a.taken.on;
             lie = holds_with (λ (l : List SampleAt). AllByRecursion (IsBelow (length file)) l) h.lefts s.track rest (each_dropped (IsBelow (length file)) count a.left a.below) h.lie;
-            fits = (turn_fits rows file (infos_left leaving m.tracks) s h.lefts h.comings (info_left leaving (s.track + 1) a.info) a.left a.taken h.fits).1;
+            fits = (turn_fits rows file (infos_left leaving (divisors_of leaving file tree) m.tracks) s h.lefts h.comings (info_left leaving (s.track + 1) (divisor_at (divisors_of leaving file tree) s.track) a.info) a.left a.taken h.fits).1;
             small = omega (arith, small, few_pieces, n, left, later_left, by, numbers);
             sizes = bytes_behind h.lefts s.track count sent p.bytes _ a.left a.is_left (ap (λ (q : Planned). q.bytes) is ∙ piece_bytes end a.left) h.sizes;
             done = h.done ++ pieces_bytes sequence piece;
@@ -297,24 +301,24 @@ module _ (leaving : Without) (file : List ℕ) (tree : FileTree) (m : MovieSeen)
             whole = rest_is;
           })
 
-  all_lie : (infos : List TrackInfo) (trees : List TrackTree) → AllZip (TrackFacts file tree) infos trees → AllByRecursion (λ (left : List SampleAt). AllByRecursion (IsBelow (length file)) left) (map (left_samples leaving tree) trees)
+  all_lie : (infos : List TrackInfo) (trees : List TrackTree) → AllZip (TrackFacts file tree) infos trees → AllByRecursion (λ (left : List SampleAt). AllByRecursion (IsBelow (length file)) left) (map (left_samples leaving file tree) trees)
   all_lie [] [] z = tt
   all_lie [] (t ∷ trees) z = absurd z
   all_lie (i ∷ infos) [] z = absurd z
-  all_lie (i ∷ infos) (t ∷ trees) z = (less_below (track_reduction leaving tree t) (length file) (track_samples tree t) z.0.lies, all_lie infos trees z.1)
+  all_lie (i ∷ infos) (t ∷ trees) z = (less_below (track_reduction leaving file tree t) (length file) (track_samples tree t) z.0.lies, all_lie infos trees z.1)
 
   -- the first turn
   pub begins : (s : Schedule) (w : Writer) (walks : List Walk) (nexts : List (Option SampleAt)) (Took : List ℕ → Type 0) (held : List ℕ) → IsOpenedAs file m tree → IsReady file tree m w → w.content.leaving ≡ leaving
-      → IsFirst (infos_left leaving m.tracks) (map (left_samples leaving tree) tree.movie.tracks) s
-      → AllBegin leaving file tree m walks → AreMarked walks (map (left_samples leaving tree) tree.movie.tracks) → nexts ≡ firsts (map (left_samples leaving tree) tree.movie.tracks) → BytesGoOn Took (waiting w.carrier) held w.head.items
+      → IsFirst (infos_left leaving (divisors_of leaving file tree) m.tracks) (map (left_samples leaving file tree) tree.movie.tracks) s
+      → AllBegin leaving file tree m walks → AreMarked walks (map (left_samples leaving file tree) tree.movie.tracks) → nexts ≡ firsts (map (left_samples leaving file tree) tree.movie.tracks) → BytesGoOn Took (waiting w.carrier) held w.head.items
       → WritesOn s 1 0 walks nexts (length w.notes.rows.items) Took held
   begins s w walks nexts Took held o r same first come marked shown goes =
-      let range = subst (λ (k : Without). ReducesInRange k (presentation_of file tree)) same r.range in
+      let range = subst (λ (k : Without). RemainsInRange k (presentation_of file tree)) same r.range in
       let all = first_turn leaving file m tree s o range first in
-      let p = reduce leaving (presentation_of file tree) in
-      let few = subst (λ n. n ≤ 2 ^ 24) (sym (less_counted leaving tree tree.movie.tracks)) (few_left file m tree o) in
+      let p = remaining leaving (presentation_of file tree) in
+      let few = subst (λ n. n ≤ 2 ^ 24) (sym (less_counted leaving file tree tree.movie.tracks)) (few_left file m tree o) in
       record {
-        lefts = map (left_samples leaving tree) tree.movie.tracks;
+        lefts = map (left_samples leaving file tree) tree.movie.tracks;
         comings = map coming_of p.tracks;
         come = come;
         marked = marked;
@@ -322,40 +326,40 @@ module _ (leaving : Without) (file : List ℕ) (tree : FileTree) (m : MovieSeen)
         turn = all.0;
         lie = all_lie m.tracks tree.movie.tracks (track_facts file m tree o);
         fits = subst (λ (ps : List Piece). AllByRecursion (λ (q : Piece). length q.samples ≤ length w.notes.rows.items) ps) (sym all.1)
-            (subst (λ n. AllByRecursion (λ (q : Piece). length q.samples ≤ n) (pieces p)) (sym (r.rows ∙ ap (λ (k : Without). longest_piece (pieces (reduce k (presentation_of file tree)))) same)) (no_longer (pieces p)));
+            (subst (λ n. AllByRecursion (λ (q : Piece). length q.samples ≤ n) (pieces p)) (sym (r.rows ∙ ap (λ (k : Without). longest_piece (pieces (remaining k (presentation_of file tree)))) same)) (no_longer (pieces p)));
         small = omega (arith, few);
         sizes = (let all = all_bytes leaving file m tree o in omega (arith, all));
         done = waiting w.carrier ++ w.head.items;
         goes = goes;
-        whole = (let head = sym (r.head ∙ ap (λ (k : Without). head_of_normal (reduce k (presentation_of file tree))) same) in let ps = sym all.1 in λ i. head i ++ pieces_bytes 1 (ps i));
+        whole = (let head = sym (r.head ∙ ap (λ (k : Without). head_of_normal (remaining k (presentation_of file tree))) same) in let ps = sym all.1 in λ i. head i ++ pieces_bytes 1 (ps i));
       }
 
   -- ---- before the first turn
 
   -- the head is not put whole
-  pub head_stops : (w : Writer) (Took : List ℕ → Type 0) (bytes : List ℕ) → IsReady file tree m w → w.content.leaving ≡ leaving → bytes ≡ w.head.items → TakesPrefix Took (waiting w.carrier ++ bytes) → TakesPrefix Took (normal (reduce leaving (presentation_of file tree)))
+  pub head_stops : (w : Writer) (Took : List ℕ → Type 0) (bytes : List ℕ) → IsReady file tree m w → w.content.leaving ≡ leaving → bytes ≡ w.head.items → TakesPrefix Took (waiting w.carrier ++ bytes) → TakesPrefix Took (normal (remaining leaving (presentation_of file tree)))
   head_stops w Took bytes r same e q =
-      let p = reduce leaving (presentation_of file tree) in
-      let own : TakesPrefix Took (head_of_normal p) = subst (λ (bs : List ℕ). TakesPrefix Took bs) (ap (λ (bs : List ℕ). waiting w.carrier ++ bs) e ∙ r.head ∙ ap (λ (k : Without). head_of_normal (reduce k (presentation_of file tree))) same) q in
+      let p = remaining leaving (presentation_of file tree) in
+      let own : TakesPrefix Took (head_of_normal p) = subst (λ (bs : List ℕ). TakesPrefix Took bs) (ap (λ (bs : List ℕ). waiting w.carrier ++ bs) e ∙ r.head ∙ ap (λ (k : Without). head_of_normal (remaining k (presentation_of file tree))) same) q in
       TakesPrefix-longer Took (head_of_normal p) (pieces_bytes 1 (pieces p)) own
 
   -- nothing behind the head is put
-  pub head_put : (w : Writer) (Took : List ℕ → Type 0) (held bytes : List ℕ) → IsReady file tree m w → w.content.leaving ≡ leaving → bytes ≡ w.head.items → BytesGoOn Took (waiting w.carrier) held bytes → TakesPrefix Took (normal (reduce leaving (presentation_of file tree)))
+  pub head_put : (w : Writer) (Took : List ℕ → Type 0) (held bytes : List ℕ) → IsReady file tree m w → w.content.leaving ≡ leaving → bytes ≡ w.head.items → BytesGoOn Took (waiting w.carrier) held bytes → TakesPrefix Took (normal (remaining leaving (presentation_of file tree)))
   head_put w Took held bytes r same e q =
-      let p = reduce leaving (presentation_of file tree) in
-      let whole : waiting w.carrier ++ bytes ≡ head_of_normal p = ap (λ (bs : List ℕ). waiting w.carrier ++ bs) e ∙ r.head ∙ ap (λ (k : Without). head_of_normal (reduce k (presentation_of file tree))) same in
+      let p = remaining leaving (presentation_of file tree) in
+      let whole : waiting w.carrier ++ bytes ≡ head_of_normal p = ap (λ (bs : List ℕ). waiting w.carrier ++ bs) e ∙ r.head ∙ ap (λ (k : Without). head_of_normal (remaining k (presentation_of file tree))) same in
       stopped_behind Took [] held (waiting w.carrier ++ bytes) (pieces_bytes 1 (pieces p)) (normal p) q (ap (λ (bs : List ℕ). bs ++ pieces_bytes 1 (pieces p)) (sym whole))
 
   -- a new schedule stands at the first turn
-  pub is_first : (s : Schedule) (from : ℕ) → IsOpenedAs file m tree → s.tracks ≡ length m.tracks → s.first ≡ first_scale (tracks_left leaving m.tracks) → (s.track ≡ 0) × (s.from ≡ from) × (s.next ≡ None) → s.left ≡ sum_by (λ (i : TrackInfo). i.samples) m.tracks
-      → from ≡ first_dts (map (left_samples leaving tree) tree.movie.tracks) → IsFirst (infos_left leaving m.tracks) (map (left_samples leaving tree) tree.movie.tracks) s
+  pub is_first : (s : Schedule) (from : ℕ) → IsOpenedAs file m tree → s.tracks ≡ length m.tracks → s.first ≡ first_scale (tracks_left leaving (divisors_of leaving file tree) m.tracks) → (s.track ≡ 0) × (s.from ≡ from) × (s.next ≡ None) → s.left ≡ sum_by (λ (i : TrackInfo). i.samples) m.tracks
+      → from ≡ first_dts (map (left_samples leaving file tree) tree.movie.tracks) → IsFirst (infos_left leaving (divisors_of leaving file tree) m.tracks) (map (left_samples leaving file tree) tree.movie.tracks) s
   is_first s from o tracks first starts left time = record {
-    tracks = tracks ∙ sym (as_many_left leaving m.tracks);
+    tracks = tracks ∙ sym (as_many_left leaving (divisors_of leaving file tree) m.tracks);
     first = first;
     track = starts.0;
-    from = starts.1 ∙ time ∙ same_dts (map (left_samples leaving tree) tree.movie.tracks);
+    from = starts.1 ∙ time ∙ same_dts (map (left_samples leaving file tree) tree.movie.tracks);
     next = starts.2;
-    left = all_counted file m tree s.left o left ∙ sym (less_counted leaving tree tree.movie.tracks);
+    left = all_counted file m tree s.left o left ∙ sym (less_counted leaving file tree tree.movie.tracks);
   }
     where
       same_dts : (lefts : List (List SampleAt)) → first_dts lefts ≡ begins_at lefts
@@ -365,9 +369,9 @@ module _ (leaving : Without) (file : List ℕ) (tree : FileTree) (m : MovieSeen)
 
   -- Where tracks are skipped, the same pieces are left to be written.
   pub writes_skips : (s later : Schedule) (sequence sent : ℕ) (walks : List Walk) (nexts : List (Option SampleAt)) (rows : ℕ) (Took : List ℕ → Type 0) (held : List ℕ) (d : DueTracks) → IsOpenedAs file m tree → WritesOn s sequence sent walks nexts rows Took held
-      → Skips d s later → IsDueAt (tracks_left leaving m.tracks) nexts later d → WritesOn later sequence sent walks nexts rows Took held
+      → Skips d s later → IsDueAt (tracks_left leaving (divisors_of leaving file tree) m.tracks) nexts later d → WritesOn later sequence sent walks nexts rows Took held
   writes_skips s later sequence sent walks nexts rows Took held d o h skips due =
-      let r = turns_skipped file (infos_left leaving m.tracks) d s later nexts h.lefts h.comings skips h.turn h.shown due (left_scales leaving file m tree o) in
+      let r = turns_skipped file (infos_left leaving (divisors_of leaving file tree) m.tracks) d s later nexts h.lefts h.comings skips h.turn h.shown due (left_scales leaving file m tree o) in
       record {
         lefts = h.lefts;
         comings = h.comings;
@@ -386,5 +390,5 @@ module _ (leaving : Without) (file : List ℕ) (tree : FileTree) (m : MovieSeen)
 
   -- Where no sample is left, no track is due.
   pub writes_no_more : (s later : Schedule) (sequence sent : ℕ) (walks : List Walk) (nexts : List (Option SampleAt)) (rows : ℕ) (Took : List ℕ → Type 0) (held : List ℕ) (d : DueTracks) → IsOpenedAs file m tree → WritesOn s sequence sent walks nexts rows Took held
-      → FindsMore (tracks_left leaving m.tracks) nexts s later d → ⊥
-  writes_no_more s later sequence sent walks nexts rows Took held d o h f = finds_none file (infos_left leaving m.tracks) s later h.lefts h.comings nexts d h.turn h.shown (left_scales leaving file m tree o) f
+      → FindsMore (tracks_left leaving (divisors_of leaving file tree) m.tracks) nexts s later d → ⊥
+  writes_no_more s later sequence sent walks nexts rows Took held d o h f = finds_none file (infos_left leaving (divisors_of leaving file tree) m.tracks) s later h.lefts h.comings nexts d h.turn h.shown (left_scales leaving file m tree o) f

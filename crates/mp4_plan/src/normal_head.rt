@@ -1,11 +1,10 @@
 //! The head of the normal form, and how long all of it is.
 ghost use Rattle.std.specs.Prelude.{◌≡◌, ℕ, ◌+◌, ◌-◌, ◌<◌, ◌≤◌, min, List, length, IfOk, IfErr, OnOk};
 ghost use Rattle.mp4_boxes.specs.declared.refusal.Refusal.TheVariants as refusals;
-ghost use Rattle.mp4_content.specs.format.Reduced.{reduce};
-ghost use Rattle.mp4_content.specs.format.ReducedTimes.{ReducesInLimits};
+ghost use Rattle.mp4_content.specs.format.Remaining.{RemainsInLimits, remaining};
 ghost use Rattle.mp4_content.specs.words.Measuring.{measuring_steps};
 ghost use Rattle.mp4_content.specs.declared.without.Without.{Without};
-ghost use Rattle.mp4_content.specs.words.Contents.{IsContentOver, content_left};
+ghost use Rattle.mp4_content.specs.words.Contents.{IsContentOf, IsContentOver, content_left};
 ghost use Rattle.mp4_content.specs.words.LeftTimes.{NamesLong};
 ghost use Rattle.mp4_plan.specs.words.LeftRefusals.{RefusesLeft};
 ghost use Rattle.mp4_present.specs.format.Denotes.{FileTree, presentation_of};
@@ -36,8 +35,10 @@ pub(crate) fn head_of(alloc: Global, movie: &Movie, content: &Content) -> Result
     ensures head { (file : List ℕ) (tree : FileTree) → IsOpenedAs file movie.now tree
         → IsContentOver file tree content.now
         → IfOk result (λ bytes. bytes.items ≡ head_of_normal (content_left content.now file tree)) }
-    ensures named { IfOk result (λ bytes. IsContentHead movie.now content.now bytes.items) }
+    ensures named { IsContentOf movie.now content.now
+        → IfOk result (λ bytes. IsContentHead movie.now content.now bytes.items) }
     ensures unchanged { (file : List ℕ) (tree : FileTree) → IsOpenedAs file movie.now tree
+        → IsContentOver file tree content.now
         → IfErr result (λ r. r ≡ refusals.StoreChanged → ⊥) }
     ensures refusal { IfErr result RefusesMemory }
 {
@@ -61,9 +62,10 @@ pub fn reduced_len<S: Store, L: Ledger, M: Ledger>(
 ) -> Result<u64, Refusal>
     ensures store { OnlyReads S.Store store.old store.new result }
     ensures length { OverOpened S.Store store.old movie.now (λ file tree.
-        IfOk result (λ len. len ≡ length (normal (reduce leaving (presentation_of file tree))))) }
+        IfOk result (λ len. len
+        ≡ length (normal (remaining leaving (presentation_of file tree))))) }
     ensures in_limits { OverOpened S.Store store.old movie.now
-        (λ file tree. OnOk result (ReducesInLimits leaving (presentation_of file tree))) }
+        (λ file tree. OnOk result (RemainsInLimits leaving (presentation_of file tree))) }
     ensures fault { OverOpened S.Store store.old movie.now
         (λ file tree. IfErr result (NamesLong leaving file tree)) }
     ensures unchanged { OverOpened S.Store store.old movie.now (λ file tree. IsUnchanged result) }

@@ -5,8 +5,7 @@ ghost use Rattle.mp4_store.specs.words.Device.{TakesPrefix};
 ghost use Rattle.mp4_tables.specs.declared.sample.SampleAt.{SampleAt};
 ghost use Rattle.mp4_content.specs.declared.content.TrackLeft.{TrackLeft};
 ghost use Rattle.mp4_present.specs.words.Carried.{GoOnBy, waiting};
-ghost use Rattle.mp4_content.specs.format.Reduced.{reduce};
-ghost use Rattle.mp4_content.specs.format.ReducedTimes.{ReducesInLimits};
+ghost use Rattle.mp4_content.specs.format.Remaining.{RemainsInLimits, remaining};
 ghost use Rattle.mp4_content.specs.words.Measuring.{measuring_steps};
 ghost use Rattle.mp4_content.specs.declared.without.Without.{Without};
 ghost use Rattle.mp4_content.specs.words.Contents.{content_left};
@@ -152,7 +151,7 @@ impl Writer {
         ensures store { OnlyReads S.Store store.old store.new result }
         ensures ready { OverOpened S.Store store.old movie.now
             (λ file tree. IfOk result (λ w. IsReadyWithin file tree movie.now w
-            × ReducesInLimits leaving (presentation_of file tree))) }
+            × RemainsInLimits leaving (presentation_of file tree))) }
         ensures unchanged { OverOpened S.Store store.old movie.now
             (λ file tree. IsUnchanged result) }
         ensures fault { OverOpened S.Store store.old movie.now
@@ -441,10 +440,10 @@ pub fn write_reduced<S: Store, K: Sink, L: Ledger, M: Ledger>(
     ensures devices { OnlyCopies S.Store store.old store.new K.Sink sink.old sink.new result }
     ensures bytes { OverOpened S.Store store.old movie.now (λ file tree.
         OnOk result (K.takes sink.old sink.new
-        (normal (reduce leaving (presentation_of file tree))))) }
+        (normal (remaining leaving (presentation_of file tree))))) }
     ensures prefix { OverOpened S.Store store.old movie.now (λ file tree.
         OnErr result (TakesPrefix (K.takes sink.old sink.new)
-        (normal (reduce leaving (presentation_of file tree))))) }
+        (normal (remaining leaving (presentation_of file tree))))) }
     ensures long { OverOpened S.Store store.old movie.now (λ file tree.
         TellsLong leaving file tree result (K.takes sink.old sink.new [])) }
     ensures unchanged { OverOpened S.Store store.old movie.now (λ file tree. IsUnchanged result) }

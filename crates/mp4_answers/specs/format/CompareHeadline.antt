@@ -7,7 +7,7 @@ use Rattle.mp4_head.specs.format.Head.{Kept}
 use Rattle.mp4_present.specs.format.Presentation.{Track, Presentation, sample_total}
 use Rattle.mp4_present.specs.format.Judge.{judge}
 use Rattle.mp4_content.specs.format.Alignment.{AreAligned, listed}
-use Rattle.mp4_content.specs.format.Reduced.{reduce}
+use Rattle.mp4_content.specs.format.Remaining.{remaining}
 use Rattle.mp4_content.specs.format.Comparison.{differences}
 use Rattle.mp4_content.specs.declared.aligning.Alignment.{Alignment}
 use Rattle.mp4_content.specs.declared.comparing.differences.Difference.{Difference}
@@ -26,13 +26,13 @@ use Rattle.mp4_answers.specs.format.Headline.{DenotesNothing}
 use Rattle.mp4_answers.specs.format.LastLine.{last_line}
 use Rattle.mp4_answers.specs.format.Steps.{FindsWithin, row_total}
 
--- Both files are judged to be a presentation, and the answer is whether the same is left of both.
+-- Both files are judged to be a presentation, and the answer is whether the same remains of both.
 pub record IsVerdict (l : Without) (file other : List ℕ) (same : Bool) : Type 0 where
   pub p : Presentation
   pub q : Presentation
   pub first : judge file ≡ Ok p
   pub second : judge other ≡ Ok q
-  pub is : AreBytes file → AreBytes other → (same ≡ true) ↔ (reduce l p ≡ reduce l q)
+  pub is : AreBytes file → AreBytes other → (same ≡ true) ↔ (remaining l p ≡ remaining l q)
 
 -- ---- what is said of two files that differ
 
@@ -44,17 +44,23 @@ most_counted = 1048576
 abbrev pub descriptions_in : Presentation → List (List Kept)
 descriptions_in p = map (λ (t : Track). t.head.media.descriptions) p.tracks
 
--- Words are named that leave out what was asked for, and with which the same is left of both. None
+-- these have the word `timing` or the others don't have it, and so with `timescales`
+pub record AreTimedAlike (k m : Without) : Type 0 where
+  pub timing : k.timing ≡ m.timing
+  pub timescales : k.timescales ≡ m.timescales
+
+-- Words are named that leave out what was asked for, and with which the same remains of both. None
 -- of them can be taken away; where the sample descriptions are the same, they are among any others
--- that do it too, and have `timing` if these have it and only then: what `ends` and `origins` hide
--- `timing` hides too, so there may be such words with it and others without. Or none are named, and
--- there are none.
+-- that do it too, and have `timing` and `timescales` where these have them and only there: what
+-- `ends`, `origins` and `timescales` hide `timing` may hide too, so there may be such words with it
+-- and others without. Or none are named, and there are none.
 abbrev pub AreEnough : Without → Presentation → Presentation → Option Without → Type 0
-AreEnough l p q None = (m : Without) → reduce m p ≡ reduce m q → ⊥
-AreEnough l p q (Some m) = Covers l m × (reduce m p ≡ reduce m q)
-    × ((k : Without) → Covers l k → Covers k m → reduce k p ≡ reduce k q → k ≡ m)
+AreEnough l p q None = (m : Without) → remaining m p ≡ remaining m q → ⊥
+AreEnough l p q (Some m) = Covers l m × (remaining m p ≡ remaining m q)
+    × ((k : Without) → Covers l k → Covers k m → remaining k p ≡ remaining k q → k ≡ m)
     × (descriptions_in p ≡ descriptions_in q
-    → (k : Without) → Covers l k → k.timing ≡ m.timing → reduce k p ≡ reduce k q → Covers m k)
+    → (k : Without) → Covers l k → AreTimedAlike k m → remaining k p ≡ remaining k q
+    → Covers m k)
 
 -- a difference as a line or as an object
 abbrev pub difference_in : Syntax → Difference → List ℕ
@@ -84,17 +90,18 @@ listing_text lines found ds enough = flat_map (alignment_in lines.syntax) found
     ++ flat_map (difference_in lines.syntax) (take lines.limit (take most_counted ds))
     ++ last_in lines.syntax (nat_le (length ds) most_counted) (take most_counted ds) enough
 
--- What is said of two presentations of which not the same is left: the first difference; or all of
+-- What is said of two presentations of which not the same remains: the first difference; or all of
 -- them, with the words that make the two the same. Without alignment what is listed are all
 -- `differences`.
 abbrev pub TellsOf : Listing → Without → Presentation → Presentation → List ℕ → Type 0
 TellsOf (listings.First syntax) l p q text = (first : Difference)
-    × (slice_get (differences (reduce l p) (reduce l q)) 0 ≡ Some first)
+    × (slice_get (differences (remaining l p) (remaining l q)) 0 ≡ Some first)
     × (text ≡ difference_in syntax first)
 TellsOf (listings.All lines) l p q text = (found : List Alignment)
     × AreToldAligned lines.aligned l p q found
     × (enough : Option Without) × AreEnough l p q enough
-    × (text ≡ listing_text lines found (listed lines.aligned (reduce l p) (reduce l q)) enough)
+    × (text ≡ listing_text lines found
+    (listed lines.aligned (remaining l p) (remaining l q)) enough)
 
 -- The text tells of what the two files are judged to be.
 pub record IsTold (listing : Listing) (l : Without) (file other text : List ℕ) : Type 0 where
@@ -114,16 +121,30 @@ PutsSuch Took IsText = (text : List ℕ) × IsText text × Took text
 abbrev pub word_count : ℕ
 word_count = length all_words
 
--- two more walks where tracks are aligned: from the first sample on, and to the last
-abbrev pub aligned_walks : Bool → ℕ
-aligned_walks aligned = if aligned then 2 else 0
+-- One more walk where timescales are left out: to find by what times are divided.
+abbrev pub scaling_walks : Without → ℕ
+scaling_walks l = if l.timescales then 1 else 0
 
--- A file is walked over at most so many times: to list what differs; to align tracks; to find words
--- that make the two the same, those that the differences ask for and then all; and without each of
--- these words.
-abbrev pub most_walks : Listing → ℕ
-most_walks (listings.First syntax) = 3 + word_count
-most_walks (listings.All lines) = 3 + word_count + aligned_walks lines.aligned
+-- to find what differs
+abbrev pub listing_walks : Without → ℕ
+listing_walks l = 1 + scaling_walks l
+
+-- where tracks are aligned, to do that: from the first sample on, and to the last
+abbrev pub aligned_walks : Without → Bool → ℕ
+aligned_walks l aligned = if aligned then 2 + scaling_walks l else 0
+
+-- To find words that make the two the same: two for each set of words that is tried, since
+-- `timescales` may be among them. These are the words that the differences ask for, then all, and
+-- those that are left without each word.
+abbrev pub trying_walks : ℕ
+trying_walks = 2 * (2 + word_count)
+
+-- A file is walked over at most so many times: for the first difference twice, for all of them to
+-- list what differs, to align tracks, and to find words.
+abbrev pub most_walks : Without → Listing → ℕ
+most_walks l (listings.First syntax) = 2
+most_walks l (listings.All lines) =
+    listing_walks l + aligned_walks l lines.aligned + trying_walks
 
 -- The steps over one of two files that are compared: those of opening it, and of so many walks over
 -- each of its tracks. Where it denotes a presentation: 3 for opening it and 3 for each walk, times
@@ -134,10 +155,11 @@ pub record ComparedWithin (walks : ℕ) (file : List ℕ) (old new : ℕ) : Type
   pub refused : DenotesNothing file → OpensWithin file old new
 
 -- the steps of comparing two files
-pub record ComparesWithin (listing : Listing) (file other : List ℕ) (old new : ℕ) : Type 0 where
+pub record ComparesWithin (l : Without) (listing : Listing) (file other : List ℕ) (old new : ℕ)
+    : Type 0 where
   pub between : ℕ
-  pub first : ComparedWithin (most_walks listing) file old between
-  pub second : ComparedWithin (most_walks listing) other between new
+  pub first : ComparedWithin (most_walks l listing) file old between
+  pub second : ComparedWithin (most_walks l listing) other between new
 
 -- Their looks: those that opening each may take.
 pub record FindsBothWithin (file other : List ℕ) (old new : ℕ) : Type 0 where

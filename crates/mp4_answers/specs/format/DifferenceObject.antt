@@ -128,7 +128,7 @@ count_members first (kind ∷ more) ds = count_member first kind ds
 abbrev pub words_by_name : List Word
 words_by_name = words.Bitrates ∷ words.Edits ∷ words.Ends ∷ words.Flags ∷ words.Groups
     ∷ words.Ids ∷ words.Labels ∷ words.Metadata ∷ words.Origins ∷ words.Roles
-    ∷ words.Times ∷ words.Timing ∷ []
+    ∷ words.Times ∷ words.Timescales ∷ words.Timing ∷ []
 
 -- those of some words that are left out
 abbrev pub word_list : Without → Bool → List Word → List ℕ

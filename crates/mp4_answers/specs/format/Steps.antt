@@ -22,13 +22,15 @@ abbrev pub row_total : FileTree → ℕ
 row_total tree = sum_of (λ (t : TrackTree). table_rows (tables_of t.table)) tree.movie.tracks
     + sum_of (λ (f : FragmentTree). fragment_rows (fragment_of f)) tree.fragments
 
--- The steps for each sample and each row where this is left out. Where it is ends or origins, each
--- track is walked over once more: what is left of all its samples has to be known first.
+-- The steps for each sample and each row where this is left out. Where it is ends, origins or
+-- timescales, each track is walked over once more: what remains of all its samples has to be known
+-- first. Where it is timescales it is once more before that, to find by what times are divided.
 abbrev pub steps_each : Without → ℕ
-steps_each l = if (l.ends || l.origins) && not l.timing then 15 else 12
+steps_each l = 12 + (if l.timescales then 3 else 0)
+    + (if (l.ends || l.origins || l.timescales) && not l.timing then 3 else 0)
 
--- The steps taken over a file to write the normal form of what is left of it. Where it denotes a
--- presentation: 12 or 15 for each sample and each row, however many tracks there are. Where it
+-- The steps taken over a file to write the normal form of what remains of it. Where it denotes a
+-- presentation: 12, 15 or 18 for each sample and each row, however many tracks there are. Where it
 -- denotes nothing: by its bytes.
 pub record WorksWithin (l : Without) (file : List ℕ) (old new : ℕ) : Type 0 where
   pub few : (p : Presentation) → (d : Denotes file p)
@@ -36,17 +38,24 @@ pub record WorksWithin (l : Without) (file : List ℕ) (old new : ℕ) : Type 0 
   pub refused : DenotesNothing file → OpensWithin file old new
 
 -- A law of it: by the tracks, of which one is counted where there is none, 8 times one more than
--- they are, for each sample and each row.
+-- they are, for each sample and each row; 9 times where timescales are left out.
 abbrev pub StepsByTracks : Type 0
 StepsByTracks = (l : Without) (file : List ℕ) (old new : ℕ) → WorksWithin l file old new
-    → (p : Presentation) (d : Denotes file p) → new
-    ≤ old + 8 * ((max 1 (length p.tracks) + 1) * (sample_total p + row_total d.tree))
+    → (p : Presentation) (d : Denotes file p) → new ≤ old + (if l.timescales then 9 else 8)
+    * ((max 1 (length p.tracks) + 1) * (sample_total p + row_total d.tree))
 
 -- The steps of looking at a file, and of a walk over one of its tracks: 8 for each sample and each
 -- row, however many tracks there are.
 pub record WalksWithin (file : List ℕ) (old new : ℕ) : Type 0 where
   pub denoted : (p : Presentation) → (d : Denotes file p)
       → new ≤ old + 8 * (sample_total p + row_total d.tree)
+  pub refused : DenotesNothing file → OpensWithin file old new
+
+-- The steps of looking at a file, and of printing what remains of it: as many, or 9 for each sample
+-- and each row where timescales are left out, since each track is walked over once more.
+pub record PrintsWithin (l : Without) (file : List ℕ) (old new : ℕ) : Type 0 where
+  pub denoted : (p : Presentation) → (d : Denotes file p)
+      → new ≤ old + (if l.timescales then 9 else 8) * (sample_total p + row_total d.tree)
   pub refused : DenotesNothing file → OpensWithin file old new
 
 -- where it denotes a presentation, at least one for each of its samples, and one for each row

@@ -3,13 +3,14 @@ use Rattle.std.specs.Prelude.{◌≡◌, ◌⊎◌, ℕ, List, ◌∷◌, ◌++�
 use Rattle.sha2.specs.Sha256.{sha256}
 use Rattle.mp4_head.specs.format.Head.{Kept, Media, TrackHead}
 use Rattle.mp4_present.specs.format.Presentation.{Sample, Track, Presentation, Valid}
-use Rattle.mp4_content.specs.format.Reduced.{reduce}
+use Rattle.mp4_content.specs.format.Remaining.{remaining}
 use Rattle.mp4_content.specs.declared.without.Without.{Without}
 use Rattle.mp4_answers.specs.format.Text.{text}
 
--- Where the same is left of two presentations, they have the same text.
+-- Where the same remains of two presentations, they have the same text.
 abbrev pub SameIsSameText : Type 0
-SameIsSameText = (l : Without) (p q : Presentation) → reduce l p ≡ reduce l q → text l p ≡ text l q
+SameIsSameText = (l : Without) (p q : Presentation) → remaining l p ≡ remaining l q
+    → text l p ≡ text l q
 
 -- What a text may have digests of: the payloads that it names, and the bytes of each sample.
 abbrev pub payloads_of : List Kept → List (List ℕ)
@@ -37,9 +38,10 @@ pub record Collision (these those : List (List ℕ)) : Type 0 where
   pub unequal : first ≡ second → ⊥
   pub same : sha256 first ≡ sha256 second
 
--- Where two valid presentations have the same text, the same is left of them, or a payload or
--- sample that is left of the one, and one of other bytes that is left of the other, have one
+-- Where two valid presentations have the same text, the same remains of them, or a payload or
+-- sample that remains of the one, and one of other bytes that remains of the other, have one
 -- SHA-256.
 abbrev pub TextsTell : Type 0
 TextsTell = (l : Without) (p q : Presentation) → Valid p → Valid q → text l p ≡ text l q
-    → (reduce l p ≡ reduce l q) ⊎ Collision (digested (reduce l p)) (digested (reduce l q))
+    → (remaining l p ≡ remaining l q)
+    ⊎ Collision (digested (remaining l p)) (digested (remaining l q))

@@ -6,7 +6,7 @@ use Rattle.mp4_boxes.specs.declared.refusal.Refusal.{Refusal}
 use Rattle.mp4_boxes.specs.declared.refusal.Refusal.TheVariants as refusals
 use Rattle.mp4_content.specs.format.Alignment.{listed}
 use Rattle.mp4_content.specs.format.Comparison.{differences}
-use Rattle.mp4_content.specs.format.Reduced.{reduce}
+use Rattle.mp4_content.specs.format.Remaining.{remaining}
 use Rattle.mp4_present.specs.format.Denotes.{FileTree}
 use Rattle.mp4_present.specs.format.Presentation.{Presentation}
 use Rattle.mp4_present.specs.words.WalkSteps.{walks_steps}
@@ -91,12 +91,14 @@ IsEnough given differ (Some least) = (l : Without) × AreSome given differ (Some
 -- what is said where something differs
 abbrev pub IsSaidOf : Listing → Without → Presentation → Presentation → List ℕ → Type 0
 IsSaidOf (listings.First syntax) l p q text = (first : Difference)
-    × (slice_get (differences (reduce l p) (reduce l q)) 0 ≡ Some first)
+    × (slice_get (differences (remaining l p) (remaining l q)) 0 ≡ Some first)
     × (text ≡ difference_in syntax first)
 IsSaidOf (listings.All lines) l p q text = (found : List Alignment)
     × AreToldAligned lines.aligned l p q found
-    × (enough : Option Without) × IsEnough l (λ m. differences (reduce m p) (reduce m q)) enough
-    × (text ≡ listing_text lines found (listed lines.aligned (reduce l p) (reduce l q)) enough)
+    × (enough : Option Without)
+    × IsEnough l (λ m. differences (remaining m p) (remaining m q)) enough
+    × (text ≡ listing_text lines found
+    (listed lines.aligned (remaining l p) (remaining l q)) enough)
 
 -- the same of what was found
 abbrev pub IsFoundOf : {A : Type 0} → (A → List ℕ) → Listing → Without → Presentation

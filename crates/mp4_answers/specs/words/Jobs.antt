@@ -1,7 +1,7 @@
 -- How many steps and looks a job may take.
 use Rattle.std.specs.Prelude.{ℕ, List}
 use Rattle.mp4_content.specs.format.ReducedLaws.{nothing}
-use Rattle.mp4_answers.specs.format.Steps.{WorksWithin, WalksWithin, FindsWithin, TakesEach, TurnsWithin}
+use Rattle.mp4_answers.specs.format.Steps.{WorksWithin, WalksWithin, PrintsWithin, FindsWithin, TakesEach, TurnsWithin}
 use Rattle.mp4_answers.specs.declared.jobs.Job.{Job}
 use Rattle.mp4_answers.specs.declared.jobs.Job.TheVariants as jobs
 
@@ -13,7 +13,7 @@ JobWorksWithin jobs.Show file old new = WalksWithin file old new
 JobWorksWithin (jobs.Samples track form) file old new = WalksWithin file old new
 JobWorksWithin (jobs.Extract track) file old new = WalksWithin file old new
 JobWorksWithin jobs.Normalise file old new = WorksWithin nothing file old new
-JobWorksWithin (jobs.Print l) file old new = WalksWithin file old new
+JobWorksWithin (jobs.Print l) file old new = PrintsWithin l file old new
 JobWorksWithin (jobs.Reduce l) file old new = WorksWithin l file old new
 JobWorksWithin (jobs.Strip names) file old new = Unit {0}
 

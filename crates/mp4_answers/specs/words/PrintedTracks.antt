@@ -11,7 +11,10 @@ use Rattle.mp4_head.specs.format.Tree.{TrackTree, track_head_of}
 use Rattle.mp4_head.specs.words.Seen.{track_seen}
 use Rattle.mp4_head.specs.declared.heads.TrackHead.{TrackHead}
 use Rattle.mp4_present.specs.format.Denotes.{FileTree, file_parts, presentation_of, track_of}
-use Rattle.mp4_content.specs.format.Reduced.{number_heads, reduce, reduce_track, reduce_track_head}
+use Rattle.mp4_content.specs.format.Reduced.{number_heads}
+use Rattle.mp4_content.specs.format.Remaining.{divided_samples, remaining, remaining_heads}
+use Rattle.mp4_content.specs.words.Scales.{AreScales}
+use Rattle.mp4_content.specs.declared.scales.Scales.{Scales}
 use Rattle.mp4_present.specs.words.Joined.{IsBelow}
 use Rattle.mp4_present.specs.words.InHand.{left_in_hand}
 use Rattle.mp4_present.specs.words.HandCarried.{OfHand}
@@ -56,14 +59,14 @@ OfWalkLines S store m w style P = WhereComes S store m w (λ file tree t samples
     LieBelow (length file) samples → P (flat_map (told_sample style file) samples))
 
 -- where a walk has all samples of a track to come, and they are grouped by these keys: it is so of
--- the lines of what is left of them
-abbrev pub OfTrackLines : {X : Type 0} → Store X → X → MovieSeen → Walk → Without → Keys
+-- the lines of what is left of them, divided by this
+abbrev pub OfTrackLines : {X : Type 0} → Store X → X → MovieSeen → Walk → Without → ℕ → Keys
     → (List ℕ → Type 0) → Type 0
-OfTrackLines S store m w l keys P = WhereComes S store m w (λ file tree t samples.
+OfTrackLines S store m w l divisor keys P = WhereComes S store m w (λ file tree t samples.
     samples ≡ track_samples tree t → LieBelow (length file) samples
     → (k : ℕ) (info : TrackInfo) → slice_get tree.movie.tracks k ≡ Some t
     → slice_get m.tracks k ≡ Some info → keys ≡ info.keys
-    → P (flat_map sample_text (reduce_track l (track_of file (file_parts tree) t)).samples))
+    → P (flat_map sample_text (divided_samples l divisor (track_of file (file_parts tree) t))))
 
 -- ---- tracks
 
@@ -86,20 +89,25 @@ pub record AreWalks (m : MovieSeen) (before : ℕ) (walks : List Walk) : Type 0 
   pub many : before + length walks ≡ length m.tracks
   pub begun : AreBegun m (length m.tracks) walks
 
--- What is left of all tracks is told, in so many steps.
+-- What remains of all tracks is told, in so many steps.
 pub record TellsTracks {Y T : Type 0} (l : Without) (file : List ℕ) (tree : FileTree) (K : Sink Y)
     (sink sink_after : Y) (c c_after : OutBuffer) (result : Result T Refusal) (old new : ℕ)
     : Type 0 where
   pub lines : TellsOn K sink sink_after c c_after
-      (flat_map track_text (reduce l (presentation_of file tree)).tracks) result
+      (flat_map track_text (remaining l (presentation_of file tree)).tracks) result
   pub steps : new ≤ old + walks_steps tree
 
--- over an honest store that has the file from which the movie was opened, and whose tracks have
--- these heads left
-abbrev pub WhereHeads : {X : Type 0} → Store X → X → MovieSeen → Without → List TrackHead
-    → (List ℕ → FileTree → Type 0) → Type 0
-WhereHeads S store m l heads P = IsTrue (S.is_honest store) → (tree : FileTree)
-    → IsOpenedAs (S.file store) m tree
-    → map track_seen heads
-    ≡ number_heads l 1 (map (reduce_track_head l) (map track_head_of tree.movie.tracks))
+-- these heads remain of the tracks of a file, whose times are divided by these
+pub record HeadsRemain (l : Without) (file : List ℕ) (tree : FileTree) (scales : Scales)
+    (heads : List TrackHead) : Type 0 where
+  pub scales_are : AreScales l file tree scales
+  pub heads_are : map track_seen heads ≡ number_heads l 1
+      (remaining_heads l scales.movie scales.tracks.items (map track_head_of tree.movie.tracks))
+
+-- over an honest store that has the file from which the movie was opened, and of whose tracks these
+-- heads remain
+abbrev pub WhereHeads : {X : Type 0} → Store X → X → MovieSeen → Without → Scales
+    → List TrackHead → (List ℕ → FileTree → Type 0) → Type 0
+WhereHeads S store m l scales heads P = IsTrue (S.is_honest store) → (tree : FileTree)
+    → IsOpenedAs (S.file store) m tree → HeadsRemain l (S.file store) tree scales heads
     → P (S.file store) tree

@@ -9,12 +9,12 @@ use Rattle.mp4_content.specs.format.Words.{each, has, word_number}
 abbrev pub everything : Without
 everything = each (λ word. true)
 
--- the words in the order in which they are taken away: `timing` before `ends` and `origins`, which
--- leave out less
+-- the words in the order in which they are taken away: `timing` before `ends`, `origins` and
+-- `timescales`, which leave out less
 abbrev pub single_words : List Word
 single_words = words.Times ∷ words.Edits ∷ words.Flags ∷ words.Groups ∷ words.Metadata
     ∷ words.Bitrates ∷ words.Labels ∷ words.Timing ∷ words.Ends ∷ words.Origins
-    ∷ words.Roles ∷ words.Ids ∷ []
+    ∷ words.Roles ∷ words.Ids ∷ words.Timescales ∷ []
 
 -- what is left out without one of the words, unless that one was given
 abbrev pub less_word : Without → Without → Word → Without

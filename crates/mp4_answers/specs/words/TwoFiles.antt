@@ -1,5 +1,5 @@
 -- Two files that are compared, said of their stores. `S` and `T` are what bounds say of these.
-use Rattle.std.specs.Prelude.{ℕ, ◌+◌, ◌≤◌, Bool, List, Result, IfOk, IfErr}
+use Rattle.std.specs.Prelude.{ℕ, Bool, List, Result, IfOk, IfErr}
 use Rattle.mp4_boxes.specs.declared.refusal.Refusal.{Refusal}
 use Rattle.mp4_store.specs.declared.store.Store.{Ghosts as Store}
 use Rattle.mp4_store.specs.declared.sink.Sink.{Ghosts as Sink}
@@ -10,23 +10,22 @@ use Rattle.mp4_content.specs.words.Differing.{RefusedBoth, RefusesSample}
 use Rattle.mp4_present.specs.words.Movies.{MovieSeen}
 use Rattle.mp4_present.specs.words.Opening.{RefusesOpen}
 use Rattle.mp4_present.specs.words.StoresRead.{OnlyReads}
-use Rattle.mp4_present.specs.words.WalkSteps.{walks_steps}
 use Rattle.mp4_content.specs.declared.comparing.differences.Difference.{Difference}
 use Rattle.mp4_content.specs.declared.without.Without.{Without}
 use Rattle.mp4_answers.specs.declared.commands.compare.Failure.{Failure}
 use Rattle.mp4_answers.specs.words.Compares.{PutsAnswer, RefusesBoth, RefusesCompare}
 use Rattle.mp4_answers.specs.words.StoreAndSink.{NoPutFails}
 
--- the steps of one walk over all tracks of both
-abbrev pub WalksOnce : FileTree → FileTree → ℕ → ℕ → Type 0
-WalksOnce tree other old new = new ≤ old + (walks_steps tree + walks_steps other)
+-- what differs between two files, by what is left out of both
+unfoldable pub differ_without : List ℕ → FileTree → List ℕ → FileTree → Without → List Difference
+differ_without file tree file_right other l = files_differ l file tree file_right other
 
 -- over honest stores, of movies that were opened from them: this is true of what differs between
 -- both files, whatever is left out
 abbrev pub OfBoth : {X Y : Type 0} → Store X → X → MovieSeen → Store Y → Y → MovieSeen
     → ((Without → List Difference) → Type 0) → Type 0
 OfBoth S a m T b n P = WhereOpenedBoth S a m T b n
-    (λ tree other. P (λ l. files_differ l (S.file a) tree (T.file b) other))
+    (λ tree other. P (differ_without (S.file a) tree (T.file b) other))
 
 -- the same, of what both files denote
 abbrev pub OfDenoted : {X Y : Type 0} → Store X → X → MovieSeen → Store Y → Y → MovieSeen

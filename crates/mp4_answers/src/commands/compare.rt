@@ -1,15 +1,15 @@
 //! Two files, compared by what they say.
-ghost use Rattle.std.specs.Prelude.{◌≡◌, ◌&&◌, not, ◌+◌, ◌<◌, ◌≤◌, [], ◌∷◌, length, take, Some, true, false, IfOk, IfErr, IfSome, OnOk};
+ghost use Rattle.std.specs.Prelude.{◌≡◌, ◌&&◌, not, ◌*◌, ◌<◌, ◌≤◌, [], ◌∷◌, length, take, Some, true, false, IfOk, IfErr, IfSome, OnOk};
 ghost use Rattle.mp4_answers.specs.declared.commands.compare.Listing.TheVariants.{All};
 ghost use Rattle.mp4_answers.specs.format.Steps.{TakesEachOfBoth};
-ghost use Rattle.mp4_answers.specs.format.CompareHeadline.{AreToldAligned, IsVerdict, IsTold, aligned_walks, difference_in, PutsSuch, ComparesWithin, FindsBothWithin, most_walks, word_count};
+ghost use Rattle.mp4_answers.specs.format.CompareHeadline.{AreToldAligned, IsVerdict, IsTold, aligned_walks, difference_in, listing_walks, PutsSuch, ComparesWithin, FindsBothWithin, most_walks, trying_walks};
 ghost use Rattle.mp4_answers.specs.format.DifferenceObject.{last_object};
 ghost use Rattle.mp4_answers.specs.words.Compares.{side_of, says_nothing, is_silent, AddsAligned, AddsLines, AddsLast, IsCounted, AreSome, IsEnough, IsTried, IsShrunk, IsSameWith, IsFoundOf, IsSaid, ListsFront, PutsAnswer, PutsFound, PutsSame, WalksTimes, RefusesAnswer};
 ghost use Rattle.mp4_present.specs.words.StoresRead.{IsUnchanged, WhereBothHonest};
 ghost use Rattle.mp4_answers.specs.words.StoreAndSink.{NoPutFails};
 ghost use Rattle.mp4_content.specs.format.Words.{has};
-ghost use Rattle.mp4_content.specs.words.Compared.{OfFiles, OfListed, WhereOpenedBoth};
-ghost use Rattle.mp4_answers.specs.words.TwoFiles.{ComparesBoth, OfBoth, OfDenoted, ReadsBoth, WalksOnce};
+ghost use Rattle.mp4_content.specs.words.Compared.{OfListed, WhereOpenedBoth};
+ghost use Rattle.mp4_answers.specs.words.TwoFiles.{ComparesBoth, OfBoth, OfDenoted, ReadsBoth};
 
 use crate::commands::guesses::guess;
 use crate::jobs::Syntax;
@@ -296,7 +296,7 @@ fn all_of<S: Store, T: Store, L: Ledger, M: Ledger>(
     ensures opened { WhereOpenedBoth S.Store left.old movies.now.left
         T.Store right.old movies.now.right
         (λ tree other. IsUnchanged result
-        × WalksOnce tree other steps.old.passed steps.new.passed) }
+        × WalksTimes (listing_walks leaving) tree other steps.old.passed steps.new.passed) }
     ensures grows { OnOk result (steps.old.passed ≤ steps.new.passed) }
     ensures looks { steps.new.looks ≡ steps.old.looks }
 {
@@ -328,7 +328,8 @@ fn alignments_of<S: Store, T: Store, L: Ledger, M: Ledger>(
     ensures opened { WhereOpenedBoth S.Store left.old files.now.movies.left
         T.Store right.old files.now.movies.right
         (λ tree other. IsUnchanged result
-        × WalksTimes (aligned_walks aligned) tree other steps.old.passed steps.new.passed) }
+        × WalksTimes (aligned_walks files.now.given aligned) tree other
+        steps.old.passed steps.new.passed) }
     ensures grows { OnOk result (steps.old.passed ≤ steps.new.passed) }
     ensures looks { steps.new.looks ≡ steps.old.looks }
 {
@@ -354,7 +355,7 @@ fn is_enough<S: Store, T: Store, L: Ledger, M: Ledger>(
     ensures opened { WhereOpenedBoth S.Store left.old movies.now.left
         T.Store right.old movies.now.right
         (λ tree other. IsUnchanged result
-        × WalksOnce tree other steps.old.passed steps.new.passed) }
+        × WalksTimes 2 tree other steps.old.passed steps.new.passed) }
     ensures grows { OnOk result (steps.old.passed ≤ steps.new.passed) }
     ensures looks { steps.new.looks ≡ steps.old.looks }
 {
@@ -382,7 +383,7 @@ fn first_enough<S: Store, T: Store, L: Ledger, M: Ledger>(
     ensures opened { WhereOpenedBoth S.Store left.old files.now.movies.left
         T.Store right.old files.now.movies.right
         (λ tree other. IsUnchanged result
-        × WalksTimes 2 tree other steps.old.passed steps.new.passed) }
+        × WalksTimes 4 tree other steps.old.passed steps.new.passed) }
     ensures grows { OnOk result (steps.old.passed ≤ steps.new.passed) }
     ensures looks { steps.new.looks ≡ steps.old.looks }
 {
@@ -422,7 +423,7 @@ fn take_word<S: Store, T: Store, L: Ledger, M: Ledger>(
     ensures opened { WhereOpenedBoth S.Store left.old files.now.movies.left
         T.Store right.old files.now.movies.right
         (λ tree other. IsUnchanged result
-        × WalksOnce tree other steps.old.passed steps.new.passed) }
+        × WalksTimes 2 tree other steps.old.passed steps.new.passed) }
     ensures grows { OnOk result (steps.old.passed ≤ steps.new.passed) }
     ensures looks { steps.new.looks ≡ steps.old.looks }
 {
@@ -453,7 +454,8 @@ fn shrink<S: Store, T: Store, L: Ledger, M: Ledger>(
     ensures opened { WhereOpenedBoth S.Store left.old files.now.movies.left
         T.Store right.old files.now.movies.right
         (λ tree other. IsUnchanged result
-        × WalksTimes (length from.entry.words.now) tree other steps.old.passed steps.new.passed) }
+        × WalksTimes (2 * length from.entry.words.now) tree other
+        steps.old.passed steps.new.passed) }
     ensures grows { OnOk result (steps.old.passed ≤ steps.new.passed) }
     ensures looks { steps.new.looks ≡ steps.old.looks }
 {
@@ -490,7 +492,7 @@ fn enough_for<S: Store, T: Store, L: Ledger, M: Ledger>(
     ensures opened { WhereOpenedBoth S.Store left.old files.now.movies.left
         T.Store right.old files.now.movies.right
         (λ tree other. IsUnchanged result
-        × WalksTimes (2 + word_count) tree other steps.old.passed steps.new.passed) }
+        × WalksTimes trying_walks tree other steps.old.passed steps.new.passed) }
     ensures grows { OnOk result (steps.old.passed ≤ steps.new.passed) }
     ensures looks { steps.new.looks ≡ steps.old.looks }
 {
@@ -517,9 +519,9 @@ fn all_text<S: Store, T: Store, L: Ledger, M: Ledger>(
     ensures stores { ReadsBoth S.Store left.old left.new T.Store right.old right.new result }
     ensures some { IfOk result (λ found. IfSome found (λ text. 0 < length text.items)) }
     ensures said { IfOk result
-        (λ text. OfFiles S.Store left.old files.now.movies.left
+        (λ text. OfBoth S.Store left.old files.now.movies.left
         T.Store right.old files.now.movies.right
-        files.now.given (IsSaid text)) }
+        (λ differ. IsSaid text (differ files.now.given))) }
     ensures told { IfOk result
         (λ text. OfDenoted S.Store left.old files.now.movies.left
         T.Store right.old files.now.movies.right
@@ -527,7 +529,8 @@ fn all_text<S: Store, T: Store, L: Ledger, M: Ledger>(
     ensures opened { WhereOpenedBoth S.Store left.old files.now.movies.left
         T.Store right.old files.now.movies.right
         (λ tree other. IsUnchanged result
-        × WalksTimes (most_walks (All lines)) tree other steps.old.passed steps.new.passed) }
+        × WalksTimes (most_walks files.now.given (All lines)) tree other
+        steps.old.passed steps.new.passed) }
     ensures grows { OnOk result (steps.old.passed ≤ steps.new.passed) }
     ensures looks { steps.new.looks ≡ steps.old.looks }
 {
@@ -555,9 +558,9 @@ fn text_of<S: Store, T: Store, L: Ledger, M: Ledger>(
     ensures stores { ReadsBoth S.Store left.old left.new T.Store right.old right.new result }
     ensures some { IfOk result (λ found. IfSome found (λ text. 0 < length text.items)) }
     ensures said { IfOk result
-        (λ text. OfFiles S.Store left.old files.now.movies.left
+        (λ text. OfBoth S.Store left.old files.now.movies.left
         T.Store right.old files.now.movies.right
-        files.now.given (IsSaid text)) }
+        (λ differ. IsSaid text (differ files.now.given))) }
     ensures told { IfOk result
         (λ text. OfDenoted S.Store left.old files.now.movies.left
         T.Store right.old files.now.movies.right
@@ -565,7 +568,8 @@ fn text_of<S: Store, T: Store, L: Ledger, M: Ledger>(
     ensures opened { WhereOpenedBoth S.Store left.old files.now.movies.left
         T.Store right.old files.now.movies.right
         (λ tree other. IsUnchanged result
-        × WalksTimes (most_walks listing) tree other steps.old.passed steps.new.passed) }
+        × WalksTimes (most_walks files.now.given listing) tree other
+        steps.old.passed steps.new.passed) }
     ensures grows { OnOk result (steps.old.passed ≤ steps.new.passed) }
     ensures looks { steps.new.looks ≡ steps.old.looks }
 {
@@ -643,7 +647,8 @@ pub fn compare_files<S: Store, T: Store, K: Sink, L: Ledger, M: Ledger>(
         (λ file other.
         PutsSuch (K.takes sink.old sink.new) (IsTold asked.listing asked.leaving file other))) }
     ensures work { WhereBothHonest S.Store left.old T.Store right.old
-        (λ file other. ComparesWithin asked.listing file other steps.old.passed steps.new.passed) }
+        (λ file other. ComparesWithin asked.leaving asked.listing file other
+        steps.old.passed steps.new.passed) }
     ensures least { OnOk result (WhereBothHonest S.Store left.old T.Store right.old
         (λ file other. TakesEachOfBoth file other steps.old.passed steps.new.passed)) }
     ensures looks { WhereBothHonest S.Store left.old T.Store right.old

@@ -95,6 +95,8 @@ struct TimesAsked {
     origins: bool,
     /// No less will do than all times.
     timing: bool,
+    /// Timescales differ.
+    timescales: bool,
     /// The last composition offset that differs.
     last: Option<Shift>,
 }
@@ -106,6 +108,7 @@ impl TimesAsked {
             ends: false,
             origins: false,
             timing: false,
+            timescales: false,
             last: None,
         }
     }
@@ -113,7 +116,10 @@ impl TimesAsked {
     // And what one more difference asks for.
     fn take(&mut self, tracks: &[TrackInfo], difference: &Difference) {
         match (difference.field, difference.subject) {
-            (Field::Timescale | Field::MediaTimescale, _) => self.timing = true,
+            (Field::Timescale | Field::MediaTimescale, _) => {
+                self.timing = true;
+                self.timescales = true;
+            }
             (Field::Start, _) => self.origins = true,
             (Field::Duration, Subject::Sample(track, sample)) => {
                 if is_at_end(tracks, track, sample) {
@@ -171,13 +177,15 @@ pub(crate) fn guess(leaving: Without, all: &[Difference], tracks: &[TrackInfo]) 
         Word::Groups => has(DifferenceKind::Groups, all),
         Word::Metadata => has(DifferenceKind::Kept, all),
         Word::Bitrates => has_detail,
-        // Without all times nothing is left of where tracks begin and end.
-        Word::Ends => asked.ends && !asked.timing,
-        Word::Origins => asked.origins && !asked.timing,
+        // Without all times nothing is left of where tracks begin and end. Where timescales may
+        // do in place of all times, what else differs may be left out too.
+        Word::Ends => asked.ends && (asked.timescales || !asked.timing),
+        Word::Origins => asked.origins && (asked.timescales || !asked.timing),
         Word::Labels => has_detail || has_label,
         Word::Timing => timing,
         Word::Roles => has_role,
         Word::Ids => has_id,
+        Word::Timescales => asked.timescales,
     });
     leaving_both(leaving, needed)
 }

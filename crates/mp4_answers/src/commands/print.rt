@@ -3,6 +3,8 @@ ghost use Rattle.std.specs.Prelude.{◌≡◌, ◌+◌, ◌<◌, ◌≤◌, ◌+
 ghost use Rattle.sha2.specs.Sha256.{sha256};
 ghost use Rattle.mp4_head.specs.words.Seen.{track_seen};
 ghost use Rattle.mp4_store.specs.words.Device.{range};
+ghost use Rattle.mp4_content.specs.format.Reduced.{start_left};
+ghost use Rattle.mp4_content.specs.format.Timescales.{divided};
 ghost use Rattle.mp4_present.specs.words.Carried.{RefusesCarry, waiting};
 ghost use Rattle.mp4_present.specs.words.HandCarried.{HandWork, RefusedByBoth, StaysBefore};
 ghost use Rattle.mp4_present.specs.words.Joined.{IsBelow};
@@ -12,7 +14,7 @@ ghost use Rattle.mp4_present.specs.words.StoresRead.{IsUnchanged, OnlyReads, Ref
 ghost use Rattle.mp4_present.specs.words.TrackWalks.{WhereMayTake};
 ghost use Rattle.mp4_answers.specs.format.Answers.{Printed};
 ghost use Rattle.mp4_answers.specs.format.Run.{KeepsFile, run_of};
-ghost use Rattle.mp4_answers.specs.format.Steps.{FindsWithin, TakesEach, WalksWithin};
+ghost use Rattle.mp4_answers.specs.format.Steps.{FindsWithin, PrintsWithin, TakesEach};
 ghost use Rattle.mp4_answers.specs.format.Text.{front_lines, head_lines, number_line, samples_heading};
 ghost use Rattle.mp4_answers.specs.words.PrintedTracks.{AreWalks, LieBelow, OfHandLines, OfTrackLines, OfWalkLines, TellsOn, TellsTracks, WhereHeads};
 ghost use Rattle.mp4_answers.specs.words.Telling.{Tells, TellsText};
@@ -29,7 +31,7 @@ use crate::text::named_lines::{number, put_all_named};
 use crate::text::sample_texts::{LONGEST, SampleStyle, write_sample};
 use crate::text::tally::say_words;
 use mp4_boxes::{Memory, Refusal, Steps};
-use mp4_content::{Without, head_left, payloads_left, reduction_of};
+use mp4_content::{Scales, Without, head_left, payloads_left, reduction_of};
 use mp4_head::TrackHead;
 use mp4_present::{Movie, OutBuffer, Stretch, Walk, open_movie};
 use mp4_store::{Sink, Store};
@@ -364,18 +366,20 @@ fn put_walk<S: Store, K: Sink, L: Ledger, M: Ledger>(
     Ok(())
 }
 
-// A movie, its heads as they are left, and what is left out of it.
+// A movie, its heads as they remain, what is left out of it, and by what its times are divided.
 #[derive(Clone, Copy)]
 struct PrintedMovie<'a> {
     movie: &'a Movie,
     heads: &'a [TrackHead<'a>],
     leaving: Without,
+    scales: &'a Scales,
 }
 
-// Puts the lines of all samples of a track whose samples are grouped by these keys, of a walk that
-// stands before the first.
+// Puts the lines of all samples of a track whose times are divided by this, and whose samples are
+// grouped by these keys, of a walk that stands before the first.
 fn put_samples<S: Store, K: Sink, L: Ledger, M: Ledger>(
     of: PrintedMovie,
+    divisor: u64,
     keys: Keys,
     walk: &mut Walk,
     desk: &mut Desk,
@@ -387,8 +391,8 @@ fn put_samples<S: Store, K: Sink, L: Ledger, M: Ledger>(
     requires empty { waiting desk.old.window ≡ [] }
     ensures empty { OnOk result (waiting desk.new.window ≡ []) }
     ensures store { OnlyCopies S.Store store.old store.new K.Sink sink.old sink.new result }
-    ensures told { OfTrackLines S.Store store.old of.entry.movie.now walk.old of.entry.leaving keys
-        (λ lines.
+    ensures told { OfTrackLines S.Store store.old of.entry.movie.now walk.old of.entry.leaving
+        divisor keys (λ lines.
         TellsOn K.Sink sink.old sink.new desk.old.text desk.new.text lines result) }
     ensures grows { steps.old.passed ≤ steps.new.passed }
     ensures work { WhereMayTake S.Store store.old of.entry.movie.now walk.old
@@ -398,13 +402,23 @@ fn put_samples<S: Store, K: Sink, L: Ledger, M: Ledger>(
     ensures looks { steps.new.looks ≡ steps.old.looks }
 {
     let movie = of.movie;
-    let reduction = reduction_of(walk, of.leaving, movie, store, steps)?;
+    let reduction = reduction_of(walk, of.leaving, divisor, movie, store, steps)?;
     let style = SampleStyle::new(reduction, keys);
     let of = Styled {
         movie,
         style: &style,
     };
     put_walk(of, walk, desk, store, sink, steps)
+}
+
+// When a track begins whose times are divided by this; where all of them are 0, at 0.
+fn start_of(leaving: Without, start: u64, divisor: u64) -> u64
+    ensures { result ≡ divided divisor (start_left leaving start) }
+{
+    match divisor {
+        0 => 0,
+        _ => leaving.start(start) / divisor,
+    }
 }
 
 // Puts what a track says before its samples.
@@ -451,7 +465,7 @@ fn put_tracks<S: Store, K: Sink, L: Ledger, M: Ledger>(
     requires empty { waiting desk.old.window ≡ [] }
     ensures store { OnlyCopies S.Store store.old store.new K.Sink sink.old sink.new result }
     ensures told { WhereHeads S.Store store.old of.entry.movie.now of.entry.leaving
-        of.entry.heads.now (λ file tree. TellsTracks
+        of.entry.scales.now of.entry.heads.now (λ file tree. TellsTracks
         of.entry.leaving file tree K.Sink sink.old sink.new desk.old.text desk.new.text result
         steps.old.passed steps.new.passed) }
     ensures grows { steps.old.passed ≤ steps.new.passed }
@@ -463,6 +477,7 @@ fn put_tracks<S: Store, K: Sink, L: Ledger, M: Ledger>(
         movie,
         heads,
         leaving,
+        scales,
     } = of;
     for track in 0..heads.len().min(movie.tracks().len()) {
         let Some(mut walk) = walks.pop() else {
@@ -470,13 +485,15 @@ fn put_tracks<S: Store, K: Sink, L: Ledger, M: Ledger>(
         };
         let head = &heads[track];
         let info = movie.tracks()[track];
-        put_front(head, leaving.start(info.start), &mut desk.text, sink)?;
-        put_samples(of, info.keys, &mut walk, desk, store, sink, steps)?;
+        let divisor = scales.track(track);
+        let start = start_of(leaving, info.start, divisor);
+        put_front(head, start, &mut desk.text, sink)?;
+        put_samples(of, divisor, info.keys, &mut walk, desk, store, sink, steps)?;
     }
     Ok(())
 }
 
-/// Puts the text of what is left of a file: a line for each value that its movie, its tracks and
+/// Puts the text of what remains of a file: a line for each value that its movie, its tracks and
 /// their samples have, with the digest of each sample's bytes. The whole file is judged, and all
 /// memory is taken, before the first line is put.
 pub fn print<S: Store, K: Sink, L: Ledger, M: Ledger>(
@@ -490,16 +507,17 @@ pub fn print<S: Store, K: Sink, L: Ledger, M: Ledger>(
     ensures answer { Printed leaving (run_of S.Store store.old store.new K.Sink sink.old sink.new)
         result }
     ensures work { WhereHonest S.Store store.old
-        (λ file. WalksWithin file steps.old.passed steps.new.passed) }
+        (λ file. PrintsWithin leaving file steps.old.passed steps.new.passed) }
     ensures least { OnOk result (WhereHonest S.Store store.old (λ file.
         TakesEach file steps.old.passed steps.new.passed)) }
     ensures looks { WhereHonest S.Store store.old
         (λ file. FindsWithin file steps.old.looks steps.new.looks) }
 {
     let movie = open_movie(alloc, store, steps)?;
+    let scales = Scales::of(alloc, &movie, store, leaving, steps)?;
     let head = movie.head(alloc)?;
     let own = payloads_left(alloc, leaving, head.tracks.as_slice())?;
-    let left = head_left(alloc, head, leaving, &own)?;
+    let left = head_left(alloc, head, leaving, &scales, &own)?;
     let front = front_lines(alloc, leaving)?;
     let mut walks = walks_of(alloc, &movie)?;
     let mut desk = Desk::new(alloc)?;
@@ -510,6 +528,7 @@ pub fn print<S: Store, K: Sink, L: Ledger, M: Ledger>(
         movie: &movie,
         heads,
         leaving,
+        scales: &scales,
     };
     put_tracks(of, &mut walks, &mut desk, store, sink, steps)?;
     desk.text.carry(b"end\n", sink)?;

@@ -33,6 +33,7 @@ const BY_NAME: &[Word] = &[
     Word::Origins,
     Word::Roles,
     Word::Times,
+    Word::Timescales,
     Word::Timing,
 ];
 

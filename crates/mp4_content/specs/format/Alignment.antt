@@ -4,7 +4,7 @@ use Rattle.std.specs.Prelude.{◌≡◌, ℕ, ◌+◌, ◌-◌, ◌==◌, ◌≤
 use Rattle.mp4_present.specs.format.Presentation.{Sample, Track, Presentation}
 use Rattle.mp4_content.specs.format.Comparison.{sample_differences}
 use Rattle.mp4_content.specs.format.Differences.{numbers_differ, each_differ, head_differences, movie_differences}
-use Rattle.mp4_content.specs.format.Reduced.{reduce_samples}
+use Rattle.mp4_content.specs.format.Remaining.{remaining_samples}
 use Rattle.mp4_content.specs.format.TimedSamples.{TimedSample, timed}
 use Rattle.mp4_content.specs.declared.aligning.Alignment.{Alignment}
 use Rattle.mp4_content.specs.declared.aligning.Between.{Between}
@@ -53,21 +53,25 @@ between front end t = record {
   timescale = t.head.media.timescale;
 }
 
--- Of the tracks of this number so much in front is the same, behind what is left out, and of the
--- rest so much at the end.
-pub record IsAlignment (l : Without) (number : ℕ) (t u : Track) (a : Alignment) : Type 0 where
+-- Of the tracks of this number, of whose samples these are left, so much in front is the same, and
+-- of the rest so much at the end.
+pub record IsAlignment (number : ℕ) (t u : Track) (xs ys : List Sample) (a : Alignment)
+    : Type 0 where
   pub track : a.track ≡ number
-  pub is_front : IsFront (reduce_samples l t.samples) (reduce_samples l u.samples) a.front
-  pub is_end : IsEnd (drop a.front (reduce_samples l t.samples))
-      (drop a.front (reduce_samples l u.samples)) a.end
+  pub is_front : IsFront xs ys a.front
+  pub is_end : IsEnd (drop a.front xs) (drop a.front ys) a.end
   pub left : a.left ≡ between a.front a.end t
   pub right : a.right ≡ between a.front a.end u
 
 -- none where what is left of all samples is the same
+abbrev pub ArePairAligned : ℕ → Track → Track → List Sample → List Sample → Option Alignment
+    → Type 0
+ArePairAligned number t u xs ys None = xs ≡ ys
+ArePairAligned number t u xs ys (Some a) = (xs ≡ ys → ⊥) × IsAlignment number t u xs ys a
+
 abbrev pub IsPairAligned : Without → ℕ → Track → Track → Option Alignment → Type 0
-IsPairAligned l number t u None = reduce_samples l t.samples ≡ reduce_samples l u.samples
-IsPairAligned l number t u (Some a) =
-    (reduce_samples l t.samples ≡ reduce_samples l u.samples → ⊥) × IsAlignment l number t u a
+IsPairAligned l number t u found =
+    ArePairAligned number t u (remaining_samples l t) (remaining_samples l u) found
 
 -- ---- two presentations
 

@@ -2,7 +2,7 @@
 use Rattle.std.specs.Prelude.{◌≡◌, ◌↔◌, ℕ, ◌+◌, ◌≤◌, List, [], length, Option, None, Some}
 use Rattle.mp4_present.specs.format.Presentation.{Track}
 use Rattle.mp4_content.specs.format.Alignment.{AreAligned, IsPairAligned}
-use Rattle.mp4_content.specs.format.Reduced.{reduce_samples}
+use Rattle.mp4_content.specs.format.Remaining.{remaining_samples}
 use Rattle.mp4_content.specs.declared.aligning.Alignment.{Alignment}
 use Rattle.mp4_content.specs.declared.without.Without.{Without}
 
@@ -10,7 +10,7 @@ use Rattle.mp4_content.specs.declared.without.Without.{Without}
 abbrev pub NothingIsSame : Type 0
 NothingIsSame = (l : Without) (number : ℕ) (t u : Track) (found : Option Alignment)
     → IsPairAligned l number t u found
-    → (found ≡ None) ↔ (reduce_samples l t.samples ≡ reduce_samples l u.samples)
+    → (found ≡ None) ↔ (remaining_samples l t ≡ remaining_samples l u)
 
 -- What is the same in front and at the end doesn't overlap in either track.
 abbrev pub FrontAndEndFit : Type 0

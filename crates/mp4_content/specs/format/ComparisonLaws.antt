@@ -4,7 +4,7 @@ use Rattle.std.specs.List.{AllByRecursion}
 use Rattle.mp4_tables.specs.format.Groups.{index_at}
 use Rattle.mp4_head.specs.format.Head.{Kept, Edit, TrackHead}
 use Rattle.mp4_present.specs.format.Presentation.{Sample, Track, Presentation, Valid}
-use Rattle.mp4_content.specs.format.Reduced.{reduce}
+use Rattle.mp4_content.specs.format.Remaining.{remaining}
 use Rattle.mp4_content.specs.format.Differences.{same_value}
 use Rattle.mp4_content.specs.format.Comparison.{differences}
 use Rattle.mp4_content.specs.declared.comparing.differences.Subject.{Subject}
@@ -149,10 +149,10 @@ IsTheirs p q d = (value_at p d.subject d.field ≡ Some d.left)
 abbrev pub DifferencesAreTheirs : Type 0
 DifferencesAreTheirs = (p q : Presentation) → AllByRecursion (IsTheirs p q) (differences p q)
 
--- Nothing differs exactly if what is left of the two is the same.
+-- Nothing differs exactly if what remains of the two is the same.
 abbrev pub NoDifferenceIsSame : Type 0
 NoDifferenceIsSame = (l : Without) (p q : Presentation) → Valid p → Valid q
-    → (differences (reduce l p) (reduce l q) ≡ []) ↔ (reduce l p ≡ reduce l q)
+    → (differences (remaining l p) (remaining l q) ≡ []) ↔ (remaining l p ≡ remaining l q)
 
 -- with its two values swapped
 abbrev pub swapped : Difference → Difference
@@ -161,4 +161,5 @@ swapped d = record d { left = d.right; right = d.left }
 -- With the two presentations swapped the same is listed, with values swapped.
 abbrev pub SwappedFilesSwapValues : Type 0
 SwappedFilesSwapValues = (l : Without) (p q : Presentation) → Valid p → Valid q
-    → differences (reduce l q) (reduce l p) ≡ map swapped (differences (reduce l p) (reduce l q))
+    → differences (remaining l q) (remaining l p)
+    ≡ map swapped (differences (remaining l p) (remaining l q))

@@ -4,6 +4,7 @@ use Rattle.mp4_boxes.specs.declared.fault.Fault.{Fault}
 use Rattle.mp4_present.specs.format.Presentation.{Presentation, Valid}
 use Rattle.mp4_present.specs.format.Denotes.{Denotes}
 use Rattle.mp4_content.specs.format.Reduced.{reduce}
+use Rattle.mp4_content.specs.format.Remaining.{RemainsInLimits}
 use Rattle.mp4_content.specs.declared.without.Without.{Without}
 use Rattle.mp4_content.specs.format.Words.{each, has}
 use Rattle.mp4_content.specs.format.ReducedTimes.{ReducedFaultStands, ReducesInLimits}
@@ -48,7 +49,8 @@ abbrev pub ReducedStaysValid : Type 0
 ReducedStaysValid = (l : Without) (p : Presentation) → Valid p
     → KeepsLimits l ⊎ (l.timing ≡ true) → ReducesInLimits l p × Valid (reduce l p)
 
--- Without its edits what is valid may be too long where timing counts, whatever else is left out.
+-- Without its edits what is valid may be too long where timing counts, whatever else is left out
+-- here. (In lowest terms it isn't: `EditsHoldNoTime` of RemainingLaws.)
 abbrev pub EditsMayHoldTime : Type 0
 EditsMayHoldTime = (l : Without) → l.edits ≡ true → l.timing ≡ false
     → (p : Presentation) × Valid p × (Valid (reduce l p) → ⊥)
@@ -63,13 +65,13 @@ abbrev pub OriginsMayHoldOffsets : Type 0
 OriginsMayHoldOffsets = (l : Without) → l.origins ≡ true → l.timing ≡ false
     → (p : Presentation) × Valid p × (Valid (reduce l p) → ⊥)
 
--- Where a track is named, what is left of the presentation has no normal form.
+-- Where a track is named, what remains of the presentation has no normal form.
 abbrev pub ReducedFaultRefuses : Type 0
 ReducedFaultRefuses = (l : Without) (file : List ℕ) (f : Fault) (p : Presentation)
-    → ReducedFaultStands l file f → Denotes file p → ReducesInLimits l p → ⊥
+    → ReducedFaultStands l file f → Denotes file p → RemainsInLimits l p → ⊥
 
 -- Where it has none, one such fault stands, and no other.
 abbrev pub ReducedFaultIsOne : Type 0
 ReducedFaultIsOne = (l : Without) (file : List ℕ) (p : Presentation) → Denotes file p
-    → (ReducesInLimits l p → ⊥) → (f : Fault) × ReducedFaultStands l file f
+    → (RemainsInLimits l p → ⊥) → (f : Fault) × ReducedFaultStands l file f
     × ((g : Fault) → ReducedFaultStands l file g → g ≡ f)

@@ -8,7 +8,7 @@ use Rattle.mp4_content.specs.declared.without.Without.{Without}
 abbrev pub all_words : List Word
 all_words = words.Times ∷ words.Edits ∷ words.Flags ∷ words.Groups ∷ words.Metadata
     ∷ words.Bitrates ∷ words.Ends ∷ words.Origins ∷ words.Labels ∷ words.Timing ∷ words.Roles
-    ∷ words.Ids ∷ []
+    ∷ words.Ids ∷ words.Timescales ∷ []
 
 -- the place of a word among these
 abbrev pub word_number : Word → ℕ
@@ -24,6 +24,7 @@ word_number words.Labels = 8
 word_number words.Timing = 9
 word_number words.Roles = 10
 word_number words.Ids = 11
+word_number words.Timescales = 12
 
 -- what each word is called
 abbrev pub word_name : Word → List ℕ
@@ -39,6 +40,7 @@ word_name words.Labels = codes "labels"
 word_name words.Timing = codes "timing"
 word_name words.Roles = codes "roles"
 word_name words.Ids = codes "ids"
+word_name words.Timescales = codes "timescales"
 
 -- the word is among those that say what is left out
 abbrev pub has : Without → Word → Bool
@@ -54,6 +56,7 @@ has l words.Labels = l.labels
 has l words.Timing = l.timing
 has l words.Roles = l.roles
 has l words.Ids = l.ids
+has l words.Timescales = l.timescales
 
 -- the words of which this is so
 abbrev pub each : (Word → Bool) → Without
@@ -70,6 +73,7 @@ each is_so = record {
   timing = is_so words.Timing;
   roles = is_so words.Roles;
   ids = is_so words.Ids;
+  timescales = is_so words.Timescales;
 }
 
 -- ---- laws of them

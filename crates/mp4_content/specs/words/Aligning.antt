@@ -3,17 +3,18 @@ use Rattle.std.specs.Prelude.{◌≡◌, ℕ, suc, ◌+◌, ◌-◌, ◌*◌, �
 use Rattle.std.specs.List.{AllByRecursion}
 use Rattle.mp4_tables.specs.declared.sample.SampleAt.{SampleAt}
 use Rattle.mp4_head.specs.format.Tree.{TrackTree}
-use Rattle.mp4_present.specs.format.Denotes.{file_parts, track_of}
 use Rattle.mp4_present.specs.format.Presentation.{Track}
 use Rattle.mp4_present.specs.words.Joined.{IsBelow}
 use Rattle.mp4_present.specs.words.Movies.{MovieSeen}
-use Rattle.mp4_present.specs.words.WalkSteps.{MayTake, walk_steps}
+use Rattle.mp4_present.specs.format.Denotes.{FileTree, file_parts, track_of}
+use Rattle.mp4_present.specs.words.WalkSteps.{MayTake, walk_steps, walks_steps}
 use Rattle.mp4_store.specs.declared.store.Store.{Ghosts as Store}
 use Rattle.mp4_content.specs.format.Alignment.{IsEnd, IsFront, time_behind}
 use Rattle.mp4_content.specs.format.Differences.{each_differ}
-use Rattle.mp4_content.specs.format.Reduced.{reduce_samples}
+use Rattle.mp4_content.specs.format.Remaining.{divided_samples}
 use Rattle.mp4_content.specs.words.Compared.{WhereBothOpened, WhereTracks}
 use Rattle.mp4_content.specs.words.Differing.{pair_differences}
+use Rattle.mp4_content.specs.words.Scales.{scaling_steps}
 use Rattle.mp4_content.specs.declared.aligning.SampleCounts.{SampleCounts}
 use Rattle.mp4_content.specs.declared.common_ends.Ends.{Ends}
 use Rattle.mp4_content.specs.declared.comparing.differences.Difference.{Difference}
@@ -21,6 +22,7 @@ use Rattle.mp4_content.specs.declared.comparing.differences.Subject.{Subject}
 use Rattle.mp4_content.specs.declared.comparing.differences.Subject.TheVariants as subjects
 use Rattle.mp4_content.specs.declared.comparing.pairing.Pairing.{Pairing}
 use Rattle.mp4_content.specs.declared.comparing.samples.TrackSide.{TrackSide}
+use Rattle.mp4_content.specs.declared.comparing.tracks.Divisors.{Divisors}
 use Rattle.mp4_content.specs.declared.without.Without.{Without}
 
 -- how many samples come before the one that this is said of, no more than so many
@@ -37,14 +39,16 @@ abbrev pub AreCounts : SampleCounts → Track → Track → Type 0
 AreCounts counts t u = (counts.left ≡ length t.samples) × (counts.right ≡ length u.samples)
 
 -- so much in front of what is left of two tracks is the same, and no more
-abbrev pub IsFrontLeft : Without → Track → Track → ℕ → Type 0
-IsFrontLeft l t u front = IsFront (reduce_samples l t.samples) (reduce_samples l u.samples) front
+abbrev pub IsFrontLeft : Without → Divisors → Track → Track → ℕ → Type 0
+IsFrontLeft l divisors t u front =
+    IsFront (divided_samples l divisors.left t) (divided_samples l divisors.right u) front
 
 -- what there is behind so many samples in front: how many at the end are the same, and when the
 -- first behind the front is decoded
-pub record AreEnds (l : Without) (front : ℕ) (t u : Track) (ends : Ends) : Type 0 where
-  pub end : IsEnd (drop front (reduce_samples l t.samples))
-      (drop front (reduce_samples l u.samples)) ends.end
+pub record AreEnds (l : Without) (divisors : Divisors) (front : ℕ) (t u : Track) (ends : Ends)
+    : Type 0 where
+  pub end : IsEnd (drop front (divided_samples l divisors.left t))
+      (drop front (divided_samples l divisors.right u)) ends.end
   pub time : ends.time ≡ time_behind front t
   pub other_time : ends.other_time ≡ time_behind front u
 
@@ -64,6 +68,11 @@ abbrev pub TracksWorkTwice : {X Y : Type 0} → Store X → X → MovieSeen → 
     → ℕ → ℕ → ℕ → Type 0
 TracksWorkTwice S a m T b n place old new = WhereTracks S a m T b n place (λ tree t other u.
     new ≤ old + 2 * (walk_steps tree t + walk_steps other u))
+
+-- two walks over all tracks, and where timescales are left out one more
+abbrev pub aligning_steps : Without → FileTree → FileTree → ℕ
+aligning_steps l tree other = (scaling_steps l tree + scaling_steps l other)
+    + 2 * (walks_steps tree + walks_steps other)
 
 -- ---- pairs of samples that come
 

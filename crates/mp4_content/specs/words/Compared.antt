@@ -3,26 +3,28 @@ use Rattle.std.specs.Prelude.{◌≡◌, ◌<◌, ◌≤◌, ◌+◌, ℕ, Bool,
 use Rattle.std.specs.List.{AllByRecursion}
 use Rattle.mp4_tables.specs.words.Keys.{key_seen, keys_seen}
 use Rattle.mp4_tables.specs.declared.sample.SampleAt.{SampleAt}
-use Rattle.mp4_head.specs.format.Head as heads
-use Rattle.mp4_head.specs.format.Tree.{TrackTree, track_head_of}
+use Rattle.mp4_head.specs.format.Tree.{TrackTree}
 use Rattle.mp4_head.specs.words.Seen.{track_seen}
 use Rattle.mp4_head.specs.declared.heads.TrackHead.{TrackHead}
 use Rattle.mp4_content.specs.format.Alignment.{listed_track, listed}
 use Rattle.mp4_content.specs.format.Comparison.{with_key, sample_differences, differences}
 use Rattle.mp4_present.specs.format.Denotes.{FileTree, file_parts, track_of, presentation_of}
 use Rattle.mp4_content.specs.format.Differences.{each_differ}
-use Rattle.mp4_content.specs.format.Reduced.{number_head, number_track, reduce_samples, reduce_track, reduce_track_head, reduce}
+use Rattle.mp4_content.specs.format.Remaining.{divided_samples, divided_track, remaining}
 use Rattle.mp4_content.specs.words.Differing.{pair_differences}
 use Rattle.mp4_present.specs.words.Joined.{IsBelow}
 use Rattle.mp4_present.specs.words.Movies.{MovieSeen, IsWalkOf}
 use Rattle.mp4_present.specs.words.NextSample.{TakesFirst}
 use Rattle.mp4_present.specs.words.OpenedMovie.{IsOpenedAs}
 use Rattle.mp4_present.specs.words.SamplesComing.{Comes}
-use Rattle.mp4_present.specs.words.WalkSteps.{MayTake, walk_steps}
+use Rattle.mp4_present.specs.words.WalkSteps.{MayTake, walk_steps, walks_steps}
 use Rattle.mp4_content.specs.words.Windows.{Shows}
 use Rattle.mp4_store.specs.declared.store.Store.{Ghosts as Store}
 use Rattle.mp4_content.specs.declared.comparing.pairing.Pairing.{Pairing}
+use Rattle.mp4_content.specs.words.Scales.{AreScales, scaling_steps}
+use Rattle.mp4_content.specs.declared.comparing.both_scales.BothScales.{BothScales}
 use Rattle.mp4_content.specs.declared.comparing.samples.TrackSide.{TrackSide}
+use Rattle.mp4_content.specs.declared.comparing.tracks.Divisors.{Divisors}
 use Rattle.mp4_content.specs.declared.comparing.differences.Difference.{Difference}
 use Rattle.mp4_content.specs.declared.reduced.Reduction.{Reduction}
 use Rattle.mp4_content.specs.declared.without.Without.{Without}
@@ -71,45 +73,42 @@ abbrev pub AtTracks : ℕ → FileTree → FileTree → (TrackTree → TrackTree
 AtTracks track tree other P = (t u : TrackTree) → slice_get tree.movie.tracks track ≡ Some t
     → slice_get other.movie.tracks track ≡ Some u → P t u
 
--- what differs between the samples of two tracks with this number, behind what was left out
-abbrev pub samples_differ : Without → ℕ → List ℕ → FileTree → TrackTree → List ℕ → FileTree
-    → TrackTree → List Difference
-samples_differ l number file tree t file_right other u = each_differ (sample_differences number) 1
-    (reduce_samples l (track_of file (file_parts tree) t).samples)
-    (reduce_samples l (track_of file_right (file_parts other) u).samples)
+-- what differs between the samples of two tracks with this number, behind what was left out, where
+-- their times are divided by these
+abbrev pub samples_differ : Without → Divisors → ℕ → List ℕ → FileTree → TrackTree → List ℕ
+    → FileTree → TrackTree → List Difference
+samples_differ l divisors number file tree t file_right other u =
+    each_differ (sample_differences number) 1
+    (divided_samples l divisors.left (track_of file (file_parts tree) t))
+    (divided_samples l divisors.right (track_of file_right (file_parts other) u))
 
 -- some of these were taken, from the first on
 abbrev pub TakesFront : List Difference → List Difference → List Difference → Type 0
 TakesFront before after differences = (n : ℕ) × (after ≡ before ++ take n differences)
 
--- what is left of the head of the track with this number
-abbrev pub head_left : Without → ℕ → TrackTree → heads.TrackHead
-head_left l number t = number_head l number (reduce_track_head l (track_head_of t))
-
--- it is so of two tracks of whose heads these are left
-abbrev pub AtHeads : Without → ℕ → FileTree → FileTree → TrackHead → TrackHead
-    → (TrackTree → TrackTree → Type 0) → Type 0
-AtHeads l track tree other head other_head P = AtTracks track tree other
-    (λ t u. track_seen head ≡ head_left l (track + 1) t
-    → track_seen other_head ≡ head_left l (track + 1) u → P t u)
-
--- what differs between two tracks with this number, behind what was left out, and whether tracks
--- are aligned
-abbrev pub tracks_differ : Bool → Without → ℕ → List ℕ → FileTree → TrackTree → List ℕ → FileTree
-    → TrackTree → List Difference
-tracks_differ aligned l number file tree t file_right other u = listed_track aligned number
-    (number_track l number (reduce_track l (track_of file (file_parts tree) t)))
-    (number_track l number (reduce_track l (track_of file_right (file_parts other) u)))
+-- What differs between two tracks with this number of whose heads these are left, behind what was
+-- left out, where their times are divided by these, and whether tracks are aligned.
+abbrev pub tracks_differ : Bool → Without → Divisors → ℕ → TrackHead → List ℕ → FileTree → TrackTree
+    → TrackHead → List ℕ → FileTree → TrackTree → List Difference
+tracks_differ aligned l divisors number head file tree t other_head file_right other u =
+    listed_track aligned number
+    (record (divided_track l 1 divisors.left (track_of file (file_parts tree) t)) {
+      head = track_seen head;
+    })
+    (record (divided_track l 1 divisors.right (track_of file_right (file_parts other) u)) {
+      head = track_seen other_head;
+    })
 
 -- what differs between two files, behind what was left out
 abbrev pub files_differ : Without → List ℕ → FileTree → List ℕ → FileTree → List Difference
 files_differ l file tree file_right other =
-    differences (reduce l (presentation_of file tree)) (reduce l (presentation_of file_right other))
+    differences (remaining l (presentation_of file tree))
+    (remaining l (presentation_of file_right other))
 
 -- the same where tracks are aligned, or are not
 abbrev pub files_listed : Bool → Without → List ℕ → FileTree → List ℕ → FileTree → List Difference
 files_listed aligned l file tree file_right other = listed aligned
-    (reduce l (presentation_of file tree)) (reduce l (presentation_of file_right other))
+    (remaining l (presentation_of file tree)) (remaining l (presentation_of file_right other))
 
 -- ---- clauses of calls
 
@@ -131,6 +130,23 @@ abbrev pub OfListed : {X Y : Type 0} → Store X → X → MovieSeen → Store Y
 OfListed S a m T b n aligned l P = WhereOpenedBoth S a m T b n
     (λ tree other. P (files_listed aligned l (S.file a) tree (T.file b) other))
 
+-- the same of movies of which these are the scales
+abbrev pub WhereScaled : {X Y : Type 0} → Store X → X → MovieSeen → Store Y → Y → MovieSeen
+    → Without → BothScales → (FileTree → FileTree → Type 0) → Type 0
+WhereScaled S a m T b n l scales P = WhereOpenedBoth S a m T b n
+    (λ tree other. AreScales l (S.file a) tree scales.left
+    → AreScales l (T.file b) other scales.right → P tree other)
+
+abbrev pub OfScaled : {X Y : Type 0} → Store X → X → MovieSeen → Store Y → Y → MovieSeen → Bool
+    → Without → BothScales → (List Difference → Type 0) → Type 0
+OfScaled S a m T b n aligned l scales P = WhereScaled S a m T b n l scales
+    (λ tree other. P (files_listed aligned l (S.file a) tree (T.file b) other))
+
+-- walks over all tracks of both, and where timescales are left out one more
+abbrev pub comparing_steps : Without → FileTree → FileTree → ℕ
+comparing_steps l tree other = (scaling_steps l tree + scaling_steps l other)
+    + (walks_steps tree + walks_steps other)
+
 -- both movies have a track at this place
 pub record HaveTracks (track : ℕ) (m n : MovieSeen) : Type 0 where
   pub left : track < length m.tracks
@@ -150,17 +166,17 @@ WhereTracks S a m T b n track P =
 
 -- the same, of what differs between their samples
 abbrev pub OfSamples : {X Y : Type 0} → Store X → X → MovieSeen → Store Y → Y → MovieSeen → ℕ
-    → Without → (List Difference → Type 0) → Type 0
-OfSamples S a m T b n track l P = WhereTracks S a m T b n track (λ tree t other u.
-    P (samples_differ l (track + 1) (S.file a) tree t (T.file b) other u))
+    → Without → Divisors → (List Difference → Type 0) → Type 0
+OfSamples S a m T b n track l divisors P = WhereTracks S a m T b n track (λ tree t other u.
+    P (samples_differ l divisors (track + 1) (S.file a) tree t (T.file b) other u))
 
 -- the same, of what differs between them, where these are left of their heads
 abbrev pub OfTracks : {X Y : Type 0} → Store X → X → MovieSeen → TrackHead → Store Y → Y → MovieSeen
-    → TrackHead → ℕ → Bool → Without → (List Difference → Type 0) → Type 0
-OfTracks S a m head T b n other_head track aligned l P =
-    WhereBothOpened (S.is_honest a) (S.file a) m (T.is_honest b) (T.file b) n
-    (λ tree other. AtHeads l track tree other head other_head (λ t u.
-    P (tracks_differ aligned l (track + 1) (S.file a) tree t (T.file b) other u)))
+    → TrackHead → ℕ → Bool → Without → Divisors → (List Difference → Type 0) → Type 0
+OfTracks S a m head T b n other_head track aligned l divisors P =
+    WhereTracks S a m T b n track (λ tree t other u.
+    P (tracks_differ aligned l divisors (track + 1) head (S.file a) tree t other_head (T.file b)
+    other u))
 
 -- walks over both take no more than these steps
 abbrev pub TracksWork : {X Y : Type 0} → Store X → X → MovieSeen → Store Y → Y → MovieSeen → ℕ

@@ -1,5 +1,5 @@
--- How long tracks are of what is left, and why nothing is written where one has no normal form.
-use Rattle.std.specs.Prelude.{◌≡◌, ◌⊎◌, ℕ, ◌+◌, ◌-◌, ◌*◌, ◌^◌, ◌||◌, ◌&&◌, not, nat_lt, max, min, Bool, if◌then◌else◌, List, [], ◌∷◌, Result, Ok, Err, codes, true, false}
+-- How long tracks are that remain, and why nothing is written where one has no normal form.
+use Rattle.std.specs.Prelude.{◌≡◌, ◌⊎◌, ℕ, ◌+◌, ◌-◌, ◌*◌, ◌^◌, ◌||◌, ◌&&◌, not, nat_lt, max, min, Bool, if◌then◌else◌, List, ◌∷◌, Result, Ok, Err, codes, true, false}
 use Rattle.std.specs.Int.{div_ceil}
 use Rattle.mp4_boxes.specs.format.Bytes.{sum_of}
 use Rattle.mp4_boxes.specs.declared.fault.Fault.{Fault}
@@ -14,20 +14,17 @@ use Rattle.mp4_present.specs.format.Denotes.{FileTree, presentation_of}
 use Rattle.mp4_content.specs.format.Reduced.{start_left}
 use Rattle.mp4_content.specs.declared.without.Without.{Without}
 use Rattle.mp4_present.specs.declared.track_info.TrackInfo.{TrackInfo}
-use Rattle.mp4_content.specs.format.ReducedTimes.{ReducedLimitPasses, ReducesInLimits}
+use Rattle.mp4_content.specs.format.ReducedTimes.{ReducedLimitPasses}
+use Rattle.mp4_content.specs.format.Remaining.{RemainsInLimits}
+use Rattle.mp4_content.specs.format.Timescales.{divided}
 use Rattle.mp4_content.specs.declared.measures.Total.{Total}
 
--- How long what is left of a track is, whose samples last so long together: by its edits, where
--- they stay and each says how long it is; else by its samples, rounded up, in the movie's
--- timescale.
+-- How long a track is, whose samples last so long together: by its edits, where there are some and
+-- each says how long it is; else by its samples, rounded up, in the movie's timescale.
 abbrev pub length_by : List Edit → ℕ → ℕ → ℕ → ℕ
 length_by edits timescale own duration = if says_all edits
     then sum_of (λ (e : Edit). e.segment_duration) edits
     else div_ceil (duration * timescale) (max own 1)
-
-abbrev pub left_length : Without → List Edit → ℕ → ℕ → ℕ → ℕ
-left_length l edits timescale own duration =
-    length_by (if l.edits then [] else edits) timescale own duration
 
 -- what is named where a `tkhd` at this place is that of a track that is too long, or whose offsets
 -- don't fit
@@ -37,14 +34,17 @@ time_fault offset = record { kind = TimeTooLarge; box_type = codes "tkhd"; offse
 abbrev pub offset_fault : ℕ → Fault
 offset_fault offset = record { kind = OffsetTooLarge; box_type = codes "tkhd"; offset = offset }
 
--- How long what is left of a track is, of which so much is left; or why it has no normal form.
 abbrev pub is_long : ℕ → ℕ → Bool
 is_long end len = nat_lt max_time end || nat_lt max_time len
 
-abbrev pub check_track : Without → ℕ → TrackHead → TrackInfo → Total → Result ℕ Fault
-check_track l timescale h info total =
-    let len = left_length l (track_seen h).edits timescale info.timescale total.duration in
-    if is_long (start_left l info.start + total.duration) len then Err (time_fault h.offset)
+-- How long a track is that remains, whose head this is, whose own times are divided by this, and of
+-- which so much remains; or why it has no normal form.
+abbrev pub check_track : Without → ℕ → TrackHead → ℕ → TrackInfo → Total → Result ℕ Fault
+check_track l timescale h own info total =
+    let len = length_by (track_seen h).edits timescale (track_seen h).media.timescale
+    total.duration in
+    if is_long (divided own (start_left l info.start) + total.duration) len
+    then Err (time_fault h.offset)
     else if l.origins && not total.is_near then Err (offset_fault h.offset) else Ok len
 
 -- The longest of some tracks and of one that is so long; or why the first that has no normal form
@@ -53,38 +53,35 @@ abbrev pub check_on : (ℕ → Result ℕ Fault) → Result ℕ Fault → Result
 check_on on (Ok len) = on len
 check_on on (Err f) = Err f
 
-abbrev pub check_tracks : Without → ℕ → ℕ → List TrackHead → List TrackInfo → List Total
-    → Result ℕ Fault
-check_tracks l timescale longest (h ∷ hs) (info ∷ infos) (total ∷ totals) =
-    check_on (λ len. check_tracks l timescale (max longest len) hs infos totals)
-    (check_track l timescale h info total)
-check_tracks l timescale longest _ _ _ = Ok longest
+abbrev pub check_tracks : Without → ℕ → ℕ → List TrackHead → List ℕ → List TrackInfo
+    → List Total → Result ℕ Fault
+check_tracks l timescale longest (h ∷ hs) (own ∷ owns) (info ∷ infos) (total ∷ totals) =
+    check_on (λ len. check_tracks l timescale (max longest len) hs owns infos totals)
+    (check_track l timescale h own info total)
+check_tracks l timescale longest _ _ _ _ = Ok longest
 
 -- ---- where timing doesn't count
 
--- A track whose samples each last a thousandth is as long as its edits, where these stay and each
--- says how long it is, as far as 64 bits go; else it has as many thousandths as samples.
+-- A track whose samples each last a thousandth is as long as its edits, where there are some and
+-- each says how long it is, as far as 64 bits go; else it has as many thousandths as samples.
 abbrev pub count_by : List Edit → ℕ → ℕ
 count_by edits samples = if says_all edits
     then min (sum_of (λ (e : Edit). e.segment_duration) edits) (2 ^ 64 - 1) else samples
 
-abbrev pub count_length : Without → List Edit → ℕ → ℕ
-count_length l edits samples = count_by (if l.edits then [] else edits) samples
-
--- the longest of some tracks and of one that is so long
-abbrev pub longest_count : Without → ℕ → List TrackHead → List TrackInfo → ℕ
-longest_count l longest (h ∷ heads) (info ∷ tracks) = longest_count l
-    (max longest (count_length l (track_seen h).edits info.samples)) heads tracks
-longest_count l longest _ _ = longest
+-- the longest of some tracks that remain and of one that is so long
+abbrev pub longest_count : ℕ → List TrackHead → List TrackInfo → ℕ
+longest_count longest (h ∷ heads) (info ∷ tracks) =
+    longest_count (max longest (count_by (track_seen h).edits info.samples)) heads tracks
+longest_count longest _ _ = longest
 
 -- ---- refusals
 
--- edits, ends or origins are left out
+-- edits, ends, origins or timescales are left out
 abbrev pub moves_limits : Without → Bool
-moves_limits l = l.edits || l.ends || l.origins
+moves_limits l = l.edits || l.ends || l.origins || l.timescales
 
--- Where one of these is and timing counts, some track may be too long; without origins it may also
--- have an offset that doesn't fit.
+-- Where one of these is and timing counts, some track may be too long (of timescales alone only
+-- over a store that has changed); without origins it may also have an offset that doesn't fit.
 abbrev pub MayBeLong : Without → Fault → Type 0
 MayBeLong l f = (moves_limits l ≡ true) × (l.timing ≡ false)
     × ((f.kind ≡ TimeTooLarge) ⊎ ((l.origins ≡ true) × (f.kind ≡ OffsetTooLarge)))
@@ -101,5 +98,5 @@ RefusesLength l _ = ⊥
 -- a fault is that of the first track that is too long, or whose offsets don't fit
 abbrev pub NamesLong : Without → List ℕ → FileTree → Refusal → Type 0
 NamesLong l file tree (refusals.Fault f) = ReducedLimitPasses l file tree f
-    × (ReducesInLimits l (presentation_of file tree) → ⊥)
+    × (RemainsInLimits l (presentation_of file tree) → ⊥)
 NamesLong l file tree _ = Unit {0}

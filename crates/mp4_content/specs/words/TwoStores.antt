@@ -4,7 +4,7 @@ use Rattle.std.specs.Prelude.{◌≡◌, ℕ, ◌+◌, ◌≤◌, List, ◌++◌
 use Rattle.mp4_store.specs.declared.store.Store.{Ghosts as Store}
 use Rattle.mp4_head.specs.format.Tree.{TrackTree}
 use Rattle.mp4_present.specs.format.Denotes.{FileTree}
-use Rattle.mp4_content.specs.words.ComingLess.{track_reduction}
+use Rattle.mp4_content.specs.words.ComingLess.{reduction_of}
 use Rattle.mp4_content.specs.words.Compared.{BothTakeOn, HasReductions, StandsIn, TakesFront, WhereTrackOf}
 use Rattle.mp4_present.specs.words.Movies.{MovieSeen, IsWalkOf}
 use Rattle.mp4_present.specs.words.StoresRead.{OnlyReads}
@@ -15,6 +15,7 @@ use Rattle.mp4_content.specs.declared.comparing.pairing.Pairing.{Pairing}
 use Rattle.mp4_present.specs.declared.walking.Walk.{Walk}
 use Rattle.mp4_content.specs.declared.without.Without.{Without}
 use Rattle.mp4_content.specs.declared.comparing.samples.TrackSide.{TrackSide}
+use Rattle.mp4_content.specs.declared.comparing.tracks.Divisors.{Divisors}
 use Rattle.mp4_content.specs.declared.comparing.differences.Difference.{Difference}
 use Rattle.mp4_content.specs.declared.comparing.differences.Differences.{Ghosts as Differences}
 
@@ -42,10 +43,12 @@ pub record Begins (m : MovieSeen) (track : ℕ) (side : TrackSide) : Type 0 wher
 
 -- Two tracks are compared by what their samples are left by, both walks stand before the first
 -- samples, and some of the steps that they may take were taken.
-pub record HaveBegun (l : Without) (by : Pairing) (file : List ℕ) (tree : FileTree) (t : TrackTree)
+pub record HaveBegun (l : Without) (divisors : Divisors) (by : Pairing) (file : List ℕ)
+    (tree : FileTree) (t : TrackTree)
     (m : MovieSeen) (w : Walk) (file_right : List ℕ) (other : FileTree) (u : TrackTree)
     (n : MovieSeen) (v : Walk) (old new : ℕ) : Type 0 where
-  pub reductions : HasReductions (track_reduction l tree t) (track_reduction l other u) by
+  pub reductions : HasReductions (reduction_of l divisors.left (track_samples tree t))
+      (reduction_of l divisors.right (track_samples other u)) by
   pub comes : Comes file tree t m w (track_samples tree t)
   pub comes_right : Comes file_right other u n v (track_samples other u)
   pub takes : BothTakeOn file tree t w file_right other u v (walk_steps tree t + walk_steps other u)

@@ -1,12 +1,13 @@
 //! Two opened files, compared by what they say.
 ghost use Rattle.std.specs.Prelude.{◌≡◌, ◌+◌, ◌<◌, ◌≤◌, ℕ, ◌++◌, ◌&&◌, ◌==◌, not, take, true, slice_get, IfOk, OnOk};
-ghost use Rattle.mp4_content.specs.words.Compared.{WhereOpenedBoth, HaveTracks, OfFiles, OfListed, WhereTracks, OfSamples, OfTracks, TracksWork};
+ghost use Rattle.mp4_content.specs.words.Compared.{WhereOpenedBoth, HaveTracks, OfFiles, OfListed, OfScaled, WhereScaled, WhereTracks, comparing_steps, OfSamples, OfTracks, TracksWork};
 ghost use Rattle.mp4_content.specs.words.Differing.{RefusesSample, RefusedBoth};
 ghost use Rattle.mp4_content.specs.words.HeadsDiffer.{begun_differ};
 ghost use Rattle.mp4_content.specs.words.TwoStores.{HandsOver, OnlyReadsBoth};
 ghost use Rattle.mp4_present.specs.words.StoresRead.{OnlyReads, IsUnchanged};
 ghost use Rattle.mp4_present.specs.words.WalkSteps.{walks_steps};
 
+pub mod both_scales;
 pub mod bytes;
 pub mod differences;
 pub mod entries;
@@ -18,14 +19,16 @@ pub mod same_pairs;
 pub mod samples;
 pub mod tracks;
 
+use crate::comparing::both_scales::BothScales;
 use crate::comparing::differences::{Difference, Differences, Field, Subject};
 use crate::comparing::fields::compare_numbers;
 use crate::comparing::heads::{movie_differences, track_differences};
 use crate::comparing::movies::Movies;
 use crate::comparing::same_pairs::{Pause, pass_same};
 use crate::comparing::samples::{Next, begin_pairs, compare_pair, refill_both};
-use crate::comparing::tracks::{Heads, Tracks};
+use crate::comparing::tracks::{Divisors, Heads, Tracks};
 use crate::own_payloads::payloads_left;
+use crate::reduced::divided;
 use crate::reduced_head::head_left;
 use crate::without::Without;
 use mp4_boxes::{Memory, Refusal, Steps};
@@ -64,7 +67,7 @@ pub(crate) fn compare_track_samples<S: Store, T: Store, D: Differences, L: Ledge
     ensures stores { OnlyReadsBoth S.Store left.old left.new T.Store right.old right.new result }
     ensures handed { HandsOver D.Differences seen.old seen.new result (OfSamples S.Store left.old
         tracks.entry.movies.now.left T.Store right.old tracks.entry.movies.now.right
-        tracks.entry.place tracks.entry.leaving) }
+        tracks.entry.place tracks.entry.leaving tracks.entry.divisors) }
     ensures unchanged { WhereTracks S.Store left.old tracks.entry.movies.now.left T.Store
         right.old tracks.entry.movies.now.right tracks.entry.place
         (λ tree t other u. IsUnchanged result) }
@@ -110,24 +113,20 @@ pub(crate) fn compare_track_samples<S: Store, T: Store, D: Differences, L: Ledge
 fn compare_track_heads(
     alloc: Global,
     leaving: Without,
+    divisors: Divisors,
     heads: Heads,
     number: u64,
     info: &TrackInfo,
     other: &TrackInfo,
 ) -> Result<Vec<Difference>, Memory>
-    ensures { IfOk result (λ found. found.items ≡ begun_differ leaving number
+    ensures { IfOk result (λ found. found.items ≡ begun_differ leaving divisors number
         heads.entry.left.now info.now heads.entry.right.now other.now) }
 {
     let of = Subject::Track(number);
     let mut found = track_differences(alloc, number, heads.left, heads.right)?;
-    let start = leaving.start(info.start);
-    compare_numbers(
-        of,
-        Field::Start,
-        start,
-        leaving.start(other.start),
-        &mut found,
-    )?;
+    let start = divided(leaving.start(info.start), divisors.left);
+    let other_start = divided(leaving.start(other.start), divisors.right);
+    compare_numbers(of, Field::Start, start, other_start, &mut found)?;
     let samples = u64::from(info.samples);
     let others = u64::from(other.samples);
     compare_numbers(of, Field::Samples, samples, others, &mut found)?;
@@ -160,7 +159,7 @@ fn compare_tracks<S: Store, T: Store, D: Differences, L: Ledger, M: Ledger>(
     ensures handed { HandsOver D.Differences seen.old seen.new result (OfTracks S.Store left.old
         tracks.entry.movies.now.left heads.entry.left.now T.Store right.old
         tracks.entry.movies.now.right heads.entry.right.now tracks.entry.place aligned
-        tracks.entry.leaving) }
+        tracks.entry.leaving tracks.entry.divisors) }
     ensures unchanged { WhereTracks S.Store left.old tracks.entry.movies.now.left T.Store
         right.old tracks.entry.movies.now.right tracks.entry.place
         (λ tree t other u. IsUnchanged result) }
@@ -175,11 +174,12 @@ fn compare_tracks<S: Store, T: Store, D: Differences, L: Ledger, M: Ledger>(
         movies,
         place,
         leaving,
+        divisors,
     } = tracks;
     let info = movies.left.tracks()[place];
     let other = movies.right.tracks()[place];
     let number = place as u64 + 1;
-    let found = compare_track_heads(alloc, leaving, heads, number, &info, &other)?;
+    let found = compare_track_heads(alloc, leaving, divisors, heads, number, &info, &other)?;
     if !hand_over(found.as_slice(), seen) {
         return Ok(false);
     }
@@ -187,6 +187,77 @@ fn compare_tracks<S: Store, T: Store, D: Differences, L: Ledger, M: Ledger>(
         return Ok(true);
     }
     compare_track_samples(alloc, tracks, left, right, seen, steps)
+}
+
+// How two movies are compared: what is left out of both, by what times of both are divided, and
+// whether tracks are aligned.
+#[derive(Clone, Copy)]
+struct Compared<'a> {
+    leaving: Without,
+    scales: &'a BothScales,
+    aligned: bool,
+}
+
+// Compares two movies of which these are the scales.
+fn compare_scaled<S: Store, T: Store, D: Differences, L: Ledger, M: Ledger>(
+    alloc: Global,
+    movies: &Movies,
+    by: Compared,
+    left: &mut S,
+    right: &mut T,
+    seen: &mut D,
+    steps: &mut Steps<L, M>,
+) -> Result<bool, Refusal>
+    requires { D.is_open seen.old ≡ true }
+    ensures stores { OnlyReadsBoth S.Store left.old left.new T.Store right.old right.new result }
+    ensures handed { HandsOver D.Differences seen.old seen.new result (OfScaled S.Store left.old
+        movies.now.left T.Store right.old movies.now.right by.entry.aligned by.entry.leaving
+        by.entry.scales.now) }
+    ensures unchanged { WhereScaled S.Store left.old movies.now.left T.Store right.old
+        movies.now.right by.entry.leaving by.entry.scales.now (λ tree other. IsUnchanged result) }
+    ensures work { WhereScaled S.Store left.old movies.now.left T.Store right.old
+        movies.now.right by.entry.leaving by.entry.scales.now
+        (λ tree other. steps.new.passed ≤ steps.old.passed
+        + (walks_steps tree + walks_steps other)) }
+    ensures refusal { RefusedBoth S.Store left.old left.new T.Store right.old right.new result
+        RefusesSample }
+    ensures grows { OnOk result (steps.old.passed ≤ steps.new.passed) }
+    ensures looks { steps.new.looks ≡ steps.old.looks }
+{
+    let Compared {
+        leaving,
+        scales,
+        aligned,
+    } = by;
+    let read = movies.left.head(alloc)?;
+    let own = payloads_left(alloc, leaving, read.tracks.as_slice())?;
+    let head = head_left(alloc, read, leaving, &scales.left, &own)?;
+    let other_read = movies.right.head(alloc)?;
+    let other_own = payloads_left(alloc, leaving, other_read.tracks.as_slice())?;
+    let other_head = head_left(alloc, other_read, leaving, &scales.right, &other_own)?;
+    let found = movie_differences(alloc, &head, &other_head)?;
+    if !hand_over(found.as_slice(), seen) {
+        return Ok(false);
+    }
+    let count = movies.left.tracks().len().min(movies.right.tracks().len());
+    for track in 0..count.min(head.tracks.len()).min(other_head.tracks.len()) {
+        let first = &head.tracks[track];
+        let second = &other_head.tracks[track];
+        let tracks = Tracks {
+            movies,
+            place: track,
+            leaving,
+            divisors: scales.of_tracks(track),
+        };
+        let heads = Heads {
+            left: first,
+            right: second,
+        };
+        if !compare_tracks(alloc, tracks, heads, aligned, left, right, seen, steps)? {
+            return Ok(false);
+        }
+    }
+    Ok(true)
 }
 
 /// The same as [`compare_all`] where tracks are not aligned. Where they are, samples of two tracks
@@ -210,41 +281,19 @@ pub fn compare_listed<S: Store, T: Store, D: Differences, L: Ledger, M: Ledger>(
         movies.now.right (λ tree other. IsUnchanged result) }
     ensures work { WhereOpenedBoth S.Store left.old movies.now.left T.Store right.old
         movies.now.right
-        (λ tree other. steps.new.passed ≤ steps.old.passed
-        + (walks_steps tree + walks_steps other)) }
+        (λ tree other. steps.new.passed ≤ steps.old.passed + comparing_steps leaving tree other) }
     ensures refusal { RefusedBoth S.Store left.old left.new T.Store right.old right.new result
         RefusesSample }
     ensures grows { OnOk result (steps.old.passed ≤ steps.new.passed) }
     ensures looks { steps.new.looks ≡ steps.old.looks }
 {
-    let read = movies.left.head(alloc)?;
-    let own = payloads_left(alloc, leaving, read.tracks.as_slice())?;
-    let head = head_left(alloc, read, leaving, &own)?;
-    let other_read = movies.right.head(alloc)?;
-    let other_own = payloads_left(alloc, leaving, other_read.tracks.as_slice())?;
-    let other_head = head_left(alloc, other_read, leaving, &other_own)?;
-    let found = movie_differences(alloc, &head, &other_head)?;
-    if !hand_over(found.as_slice(), seen) {
-        return Ok(false);
-    }
-    let count = movies.left.tracks().len().min(movies.right.tracks().len());
-    for track in 0..count.min(head.tracks.len()).min(other_head.tracks.len()) {
-        let first = &head.tracks[track];
-        let second = &other_head.tracks[track];
-        let tracks = Tracks {
-            movies,
-            place: track,
-            leaving,
-        };
-        let heads = Heads {
-            left: first,
-            right: second,
-        };
-        if !compare_tracks(alloc, tracks, heads, aligned, left, right, seen, steps)? {
-            return Ok(false);
-        }
-    }
-    Ok(true)
+    let scales = BothScales::of(alloc, movies, left, right, leaving, steps)?;
+    let by = Compared {
+        leaving,
+        scales: &scales,
+        aligned,
+    };
+    compare_scaled(alloc, movies, by, left, right, seen, steps)
 }
 
 /// Compares two opened files by what they say, without what is left out, and hands each difference
@@ -268,8 +317,7 @@ pub fn compare_all<S: Store, T: Store, D: Differences, L: Ledger, M: Ledger>(
         movies.now.right (λ tree other. IsUnchanged result) }
     ensures work { WhereOpenedBoth S.Store left.old movies.now.left T.Store right.old
         movies.now.right
-        (λ tree other. steps.new.passed ≤ steps.old.passed
-        + (walks_steps tree + walks_steps other)) }
+        (λ tree other. steps.new.passed ≤ steps.old.passed + comparing_steps leaving tree other) }
     ensures refusal { RefusedBoth S.Store left.old left.new T.Store right.old right.new result
         RefusesSample }
     ensures grows { OnOk result (steps.old.passed ≤ steps.new.passed) }
@@ -315,8 +363,7 @@ pub fn compare<S: Store, T: Store, L: Ledger, M: Ledger>(
         movies.now.right (λ tree other. IsUnchanged result) }
     ensures work { WhereOpenedBoth S.Store left.old movies.now.left T.Store right.old
         movies.now.right
-        (λ tree other. steps.new.passed ≤ steps.old.passed
-        + (walks_steps tree + walks_steps other)) }
+        (λ tree other. steps.new.passed ≤ steps.old.passed + comparing_steps leaving tree other) }
     ensures refusal { RefusedBoth S.Store left.old left.new T.Store right.old right.new result
         RefusesSample }
     ensures grows { OnOk result (steps.old.passed ≤ steps.new.passed) }

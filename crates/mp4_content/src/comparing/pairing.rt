@@ -72,8 +72,7 @@ pub(crate) struct Pairing {
     pub(crate) left_reduction: Reduction,
     pub(crate) right_reduction: Reduction,
     pub(crate) keys: Vec<GroupKey>,
-    ghost plain: { is_plain ≡ keeps_times left_reduction.leaving
-        && keeps_times right_reduction.leaving },
+    ghost plain: { is_plain ≡ keeps_times left_reduction && keeps_times right_reduction },
 }
 
 impl Pairing {

@@ -284,7 +284,7 @@ pub(crate) fn begin_pairs<S: Store, T: Store, L: Ledger, M: Ledger>(
         begun.1.left T.Store right.old tracks.entry.movies.now.right begun.1.right) }
     ensures begun { WhereTracks S.Store left.old tracks.entry.movies.now.left T.Store right.old
         tracks.entry.movies.now.right tracks.entry.place (λ tree t other u. IfOk result (λ begun.
-        HaveBegun tracks.entry.leaving begun.0 (S.file left.old) tree t
+        HaveBegun tracks.entry.leaving tracks.entry.divisors begun.0 (S.file left.old) tree t
         tracks.entry.movies.now.left begun.1.left.walk (T.file right.old) other u
         tracks.entry.movies.now.right begun.1.right.walk steps.old.passed steps.new.passed)) }
     ensures unchanged { WhereTracks S.Store left.old tracks.entry.movies.now.left T.Store
@@ -302,9 +302,23 @@ pub(crate) fn begin_pairs<S: Store, T: Store, L: Ledger, M: Ledger>(
     let mut right_side = TrackSide::new(alloc, &movies.right, tracks.place)?;
     let leaving = tracks.leaving;
     let walk = &mut left_side.walk;
-    let first = reduction_of(walk, leaving, &movies.left, left, steps)?;
+    let first = reduction_of(
+        walk,
+        leaving,
+        tracks.divisors.left,
+        &movies.left,
+        left,
+        steps,
+    )?;
     let walk = &mut right_side.walk;
-    let second = reduction_of(walk, leaving, &movies.right, right, steps)?;
+    let second = reduction_of(
+        walk,
+        leaving,
+        tracks.divisors.right,
+        &movies.right,
+        right,
+        steps,
+    )?;
     let by = Pairing::new(alloc, tracks, first, second)?;
     let sides = Sides {
         left: left_side,

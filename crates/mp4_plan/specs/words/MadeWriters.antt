@@ -9,7 +9,7 @@ use Rattle.mp4_present.specs.words.Movies.{MovieSeen}
 use Rattle.mp4_content.specs.declared.without.Without.{Without}
 use Rattle.mp4_present.specs.declared.walking.Walk.{Walk}
 use Rattle.mp4_plan.specs.format.Held as memory
-use Rattle.mp4_content.specs.format.ReducedTimes.{ReducesInLimits}
+use Rattle.mp4_content.specs.format.Remaining.{RemainsInLimits}
 use Rattle.mp4_content.specs.words.LeftTimes.{NamesLong}
 use Rattle.mp4_plan.specs.words.OwnRooms.{own_rooms}
 use Rattle.mp4_plan.specs.words.PutPieces.{IsHeadLeft}
@@ -21,11 +21,11 @@ use Rattle.mp4_plan.specs.declared.writer.Writer.{Writer}
 -- for which it has none, and then nothing was put
 pub record TellsLong {T : Type 0} (l : Without) (file : List ℕ) (tree : FileTree)
     (result : Result T Refusal) (IsSame : Type 0) : Type 0 where
-  pub in_limits : OnOk result (ReducesInLimits l (presentation_of file tree))
+  pub in_limits : OnOk result (RemainsInLimits l (presentation_of file tree))
   pub fault : IfErr result (NamesLong l file tree)
-  pub nothing : (ReducesInLimits l (presentation_of file tree) → ⊥) → IsSame
+  pub nothing : (RemainsInLimits l (presentation_of file tree) → ⊥) → IsSame
   pub begun : IfErr result
-      (λ r. r ≡ refusals.WriteFailed → ReducesInLimits l (presentation_of file tree))
+      (λ r. r ≡ refusals.WriteFailed → RemainsInLimits l (presentation_of file tree))
 
 -- these stay a walk for each track, with their rooms
 pub record AreWalksStill {T E : Type 0} (m : MovieSeen) (before after : List Walk)

@@ -1,6 +1,6 @@
 -- What is put over any store, also over one that changes while it is read: pieces with so many
 -- samples and so many bytes of these, whichever bytes the store gave.
-use Rattle.std.specs.Prelude.{◌≡◌, ℕ, ◌≤◌, List, [], ◌∷◌, ◌++◌, length, map, codes}
+use Rattle.std.specs.Prelude.{◌≡◌, ℕ, ◌≤◌, false, List, [], ◌∷◌, ◌++◌, length, codes}
 use Rattle.std.specs.List.{sum_by}
 use Rattle.mp4_boxes.specs.format.Written.{header_bytes}
 use Rattle.mp4_tables.specs.format.Groups.{GroupKey}
@@ -9,7 +9,10 @@ use Rattle.mp4_head.specs.format.Writing as written
 use Rattle.mp4_head.specs.words.Found.{SaysHead}
 use Rattle.mp4_head.specs.words.Seen.{movie_seen, tracks_seen}
 use Rattle.mp4_head.specs.declared.heads.MovieHead.{MovieHead}
-use Rattle.mp4_content.specs.format.Reduced.{number_heads, reduce_movie_head, reduce_track_head}
+use Rattle.mp4_content.specs.format.Reduced.{number_heads}
+use Rattle.mp4_content.specs.format.Remaining.{remaining_heads, remaining_movie}
+use Rattle.mp4_content.specs.words.Scales.{AreOnes}
+use Rattle.mp4_content.specs.declared.scales.Scales.{Scales}
 use Rattle.mp4_present.specs.words.Movies.{MovieSeen, moov_box}
 use Rattle.mp4_content.specs.declared.content.Content.{Content}
 use Rattle.mp4_content.specs.declared.without.Without.{Without}
@@ -75,17 +78,22 @@ pub record IsPutWhole (m : MovieSeen) (Took : List ℕ → Type 0) (head : List 
 
 -- ---- the head
 
--- what is left of this movie's own head
-pub record IsLeftOf (m : MovieSeen) (l : Without) (head : MovieHead) : Type 0 where
+-- what remains of this movie's own head, where times are divided by these
+pub record IsLeftOf (m : MovieSeen) (l : Without) (scales : Scales) (head : MovieHead)
+    : Type 0 where
   pub own : MovieHead
   pub says : SaysHead (moov_box m) own
-  pub movie : movie_seen head ≡ reduce_movie_head l (movie_seen own)
-  pub tracks : tracks_seen head ≡ number_heads l 1 (map (reduce_track_head l) (tracks_seen own))
+  pub ones : l.timescales ≡ false → AreOnes scales
+  pub movie : movie_seen head ≡ remaining_movie l scales.movie (movie_seen own)
+  pub tracks : tracks_seen head
+      ≡ number_heads l 1 (remaining_heads l scales.movie scales.tracks.items (tracks_seen own))
 
--- `ftyp` and `moov` of what is left of this movie, with some length of the longest track
+-- `ftyp` and `moov` of what remains of this movie, with some length of the longest track, and where
+-- timescales are left out its times divided by some numbers
 pub record IsHeadLeft (m : MovieSeen) (l : Without) (bytes : List ℕ) : Type 0 where
   pub head : MovieHead
-  pub left : IsLeftOf m l head
+  pub scales : Scales
+  pub left : IsLeftOf m l scales head
   pub mehd : ℕ
   pub is : bytes ≡ written.head_bytes (movie_seen head) (tracks_seen head) mehd
 

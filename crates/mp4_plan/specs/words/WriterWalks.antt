@@ -42,7 +42,7 @@ pub record AllStart (m : MovieSeen) (walks : List Walk) : Type 0 where
   pub begin : (file : List ℕ) (tree : FileTree) → IsOpenedAs file m tree → (l : Without)
       → AllBegin l file tree m walks
   pub marked : (file : List ℕ) (tree : FileTree) → IsOpenedAs file m tree → (l : Without)
-      → AreMarked walks (map (left_samples l tree) tree.movie.tracks)
+      → AreMarked walks (map (left_samples l file tree) tree.movie.tracks)
   pub may : (file : List ℕ) (tree : FileTree) → IsOpenedAs file m tree
       → MayAllBegin file tree walks
   pub writes : (file : List ℕ) (tree : FileTree) → IsOpenedAs file m tree
@@ -60,7 +60,7 @@ AllComeLess c file tree m walks lefts =
 abbrev pub WhereAllCome : {X : Type 0} → Store X → X → MovieSeen → Content → List Walk
     → (List ℕ → FileTree → List (List SampleAt) → Type 0) → Type 0
 WhereAllCome S store m c walks P = OverOpened S store m (λ file tree.
-    (lefts : List (List SampleAt)) → c.of_tracks.items ≡ reductions_of c.leaving tree
+    (lefts : List (List SampleAt)) → c.of_tracks.items ≡ reductions_of c.leaving file tree
     → AllComeLess c file tree m walks lefts → P file tree lefts)
 
 -- of the steps that these walks may take together, they take some: at Ok the others are left to
@@ -88,8 +88,8 @@ abbrev pub OnTurn : {X : Type 0} → Store X → X → MovieSeen → Turn → Wr
 OnTurn S store m turn w P = OverOpened S store m (λ file tree. (t : TrackTree) (walk : Walk)
     (left : List SampleAt) → slice_get w.walks.items turn.track ≡ Some walk
     → slice_get w.content.of_tracks.items turn.track
-    ≡ Some (track_reduction w.content.leaving tree t)
-    → ComesLess (track_reduction w.content.leaving tree t) file tree t m walk left
+    ≡ Some (track_reduction w.content.leaving file tree t)
+    → ComesLess (track_reduction w.content.leaving file tree t) file tree t m walk left
     → walk.mark ≡ mark_of walk (length left)
     → slice_get w.nexts.items turn.track ≡ Some (slice_get left 0) → P file tree t left)
 

@@ -8,7 +8,7 @@ use Rattle.mp4_head.specs.format.Tree.{TrackTree}
 use Rattle.mp4_head.specs.format.Writing as written
 use Rattle.mp4_tables.specs.format.Groups.{GroupKey}
 use Rattle.mp4_present.specs.words.Carried.{waiting}
-use Rattle.mp4_content.specs.format.Reduced.{ReducesInRange}
+use Rattle.mp4_content.specs.format.Remaining.{RemainsInRange}
 use Rattle.mp4_content.specs.declared.without.Without.{Without}
 use Rattle.mp4_present.specs.format.Denotes.{FileTree, presentation_of}
 use Rattle.mp4_present.specs.words.Joined.{sample_bytes}
@@ -17,6 +17,7 @@ use Rattle.mp4_present.specs.words.Movies.{MovieSeen, IsWalkOf, mark_of}
 use Rattle.mp4_present.specs.format.Presentation.{Presentation, heads, movie_length}
 use Rattle.mp4_present.specs.declared.walking.Walk.{Walk}
 use Rattle.mp4_tables.specs.declared.sample.SampleAt.{SampleAt}
+use Rattle.mp4_content.specs.words.Scales.{AreScales}
 use Rattle.mp4_content.specs.words.ComingLess.{ComesLess, left_samples, track_reduction, reductions_of}
 use Rattle.mp4_content.specs.words.Contents.{IsContentOf, content_left}
 use Rattle.mp4_plan.specs.words.DueTracks.{IsDueTree}
@@ -75,14 +76,14 @@ abbrev pub AllCome : Without → List ℕ → FileTree → MovieSeen → List Tr
     → List (List SampleAt) → Type 0
 AllCome l file tree m [] [] [] = Unit {0}
 AllCome l file tree m (t ∷ trees) (w ∷ walks) (samples ∷ more) =
-    ComesLess (track_reduction l tree t) file tree t m w samples
+    ComesLess (track_reduction l file tree t) file tree t m w samples
     × AllCome l file tree m trees walks more
 AllCome l file tree m _ _ _ = ⊥
 
 -- for each track a walk from its first sample on
 abbrev pub AllBegin : Without → List ℕ → FileTree → MovieSeen → List Walk → Type 0
 AllBegin l file tree m walks = AllCome l file tree m tree.movie.tracks walks
-    (map (left_samples l tree) tree.movie.tracks)
+    (map (left_samples l file tree) tree.movie.tracks)
 
 -- each of these walks has marked where it stands, before so many samples
 abbrev pub AreMarked : List Walk → List (List SampleAt) → Type 0
@@ -112,11 +113,12 @@ pub record IsReady (file : List ℕ) (tree : FileTree) (m : MovieSeen) (w : Writ
       ≡ head_of_normal (content_left w.content file tree)
   pub rows : length w.notes.rows.items
       ≡ longest_piece (pieces (content_left w.content file tree))
-  pub range : ReducesInRange w.content.leaving (presentation_of file tree)
-  pub reductions : w.content.of_tracks.items ≡ reductions_of w.content.leaving tree
+  pub range : RemainsInRange w.content.leaving (presentation_of file tree)
+  pub scales : AreScales w.content.leaving file tree w.content.scales
+  pub reductions : w.content.of_tracks.items ≡ reductions_of w.content.leaving file tree
   pub walks : AllBegin w.content.leaving file tree m w.walks.items
   pub marked : AreMarked w.walks.items
-      (map (left_samples w.content.leaving tree) tree.movie.tracks)
+      (map (left_samples w.content.leaving file tree) tree.movie.tracks)
 
 -- it is, and its walks have no more room together than the `traf`s of the file are long, and these
 -- lie in the file
@@ -135,7 +137,7 @@ pub record HasNoted (file : List ℕ) (tree : FileTree) (t : TrackTree) (m : Mov
   pub rows : take n.planned.count after.notes.rows.items ≡ map row_seen (take n.planned.count left)
   pub walk : Walk
   pub walks : after.walks.items ≡ slice_set before.walks.items turn.track walk
-  pub comes : ComesMarked (track_reduction before.content.leaving tree t)
+  pub comes : ComesMarked (track_reduction before.content.leaving file tree t)
       file tree t m walk n.planned.count
       left
   pub none : n.planned.count ≡ 0 → walk.mark ≡ mark_of walk (length left)
@@ -159,8 +161,8 @@ pub record IsNoted (file : List ℕ) (tree : FileTree) (m : MovieSeen) (track co
   pub walk : Walk
   pub is_walk : slice_get w.walks.items track ≡ Some walk
   pub reduction : slice_get w.content.of_tracks.items track
-      ≡ Some (track_reduction w.content.leaving tree t)
-  pub comes : ComesMarked (track_reduction w.content.leaving tree t)
+      ≡ Some (track_reduction w.content.leaving file tree t)
+  pub comes : ComesMarked (track_reduction w.content.leaving file tree t)
       file tree t m walk count samples
   pub none : count ≡ 0 → walk.mark ≡ mark_of walk (length samples)
   pub next : slice_get w.nexts.items track ≡ Some (slice_get samples 0)
@@ -173,7 +175,7 @@ abbrev pub HaveCopied : List ℕ → FileTree → MovieSeen → TrackTree → �
 HaveCopied file tree m t track count samples before after =
     (next : Walk) × (after.walks.items ≡ slice_set before.walks.items track next)
     × (after.nexts.items ≡ slice_set before.nexts.items track (slice_get (drop count samples) 0))
-    × ComesLess (track_reduction before.content.leaving tree t) file tree t m next
+    × ComesLess (track_reduction before.content.leaving file tree t) file tree t m next
     (drop count samples)
     × (next.mark ≡ mark_of next (length (drop count samples)))
 

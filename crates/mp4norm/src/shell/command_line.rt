@@ -64,8 +64,8 @@ each type is four printable characters or eight hexadecimal digits, and not free
 UUID; before a slash only a container whose boxes are listed may stand";
 
 const WITHOUT_RULE: &str = "\
-each word is times, edits, flags, groups, metadata, bitrates, ends, origins, labels, timing, roles \
-or ids, or packaging-1 for the first eight, or media-1 for the first ten";
+each word is times, edits, flags, groups, metadata, bitrates, ends, origins, labels, timing, \
+roles, ids or timescales, or packaging-1 for the first eight, or media-1 for the first ten";
 
 /// How many rows of a box are shown where no number is given.
 const ROWS: u64 = 16;

@@ -37,8 +37,8 @@ NEW.part-..";
 
 const WITHOUT: &str = "\
 What to leave out, words apart by commas: times, edits, flags, groups, metadata, \
-bitrates, ends, origins, labels, timing, roles, ids; or packaging-1 for the first eight, or \
-media-1 for the first ten";
+bitrates, ends, origins, labels, timing, roles, ids, timescales; or packaging-1 for the first \
+eight, or media-1 for the first ten";
 
 const PROGRESS: &str = "Say on standard error how far it has come, in percent and MB/s";
 

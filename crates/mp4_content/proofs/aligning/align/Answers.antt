@@ -1,129 +1,20 @@
-use Rattle.std.proofs.Common.{rules, refl, ◌<◌, ◌≤◌, length, min, arith}
-use Rattle.std.proofs.lemmas.Result.{err_from_is_err_and}
-use Rattle.mp4_boxes.proofs.Plain.{get_some}
-use Rattle.mp4_content.proofs.Aligned.{aligns_all, aligns_first, aligns_most, aligns_next, aligns_work}
-use Rattle.mp4_content.proofs.FilesCompared.{below, infos_all}
+use Rattle.std.proofs.Common.{arith}
 use Rattle.mp4_content.proofs.aligning.align.Goals as goal
-
-pub loop-place-init : goal.loop-place-init
-loop-place-init g c = record {
-  honesty = refl;
-  file = refl;
-  reads = refl;
-  honesty_right = refl;
-  file_right = refl;
-  reads_right = refl;
-  looks = refl;
-  grows = omega arith;
-  going = λ told told_right tree other o p. aligns_first c.args.leaving (g.S.Store.file c.args.left.now) tree (g.T.Store.file c.args.right.now) other c.args.steps.now.passed c.new-found.result.items (search rules);
-}
-
-pub returns-in_err-aligned-clause-unchanged : goal.returns-in_err-aligned-clause-unchanged
-returns-in_err-aligned-clause-unchanged g c told told_right tree other o p =
-    let i = c.loop-place.invariant in
-    let file = g.S.Store.file c.args.left.now in
-    let right_file = g.T.Store.file c.args.right.now in
-    let m = c.args.movies.now.left in
-    let n = c.args.movies.now.right in
-    let l = c.args.leaving in
-    let k = c.loop-place.place in
-    let h = i.going told told_right tree other o p in
-    let least : k < min (length m.tracks) (length n.tracks) = search rules in
-    let lt : k < length m.tracks = omega (arith, least) in
-    let lt_right : k < length n.tracks = omega (arith, least) in
-    let t = get_some tree.movie.tracks k (below k _ _ (infos_all file m tree o) lt) in
-    let u = get_some other.movie.tracks k (below k _ _ (infos_all right_file n other p) lt_right) in
-    let e = err_from_is_err_and c.from_residual.result c.from_residual.ensures.1 in
-    rw (e.1, e.2) ((rw (i.honesty, i.file, i.honesty_right, i.file_right) at c.in_err-aligned.ensures.unchanged) told told_right tree other o p t.0 u.0 t.1 u.1)
-
-pub returns-in_err-aligned-clause-work : goal.returns-in_err-aligned-clause-work
-returns-in_err-aligned-clause-work g c told told_right tree other o p =
-    let i = c.loop-place.invariant in
-    let file = g.S.Store.file c.args.left.now in
-    let right_file = g.T.Store.file c.args.right.now in
-    let m = c.args.movies.now.left in
-    let n = c.args.movies.now.right in
-    let l = c.args.leaving in
-    let k = c.loop-place.place in
-    let h = i.going told told_right tree other o p in
-    let least : k < min (length m.tracks) (length n.tracks) = search rules in
-    let lt : k < length m.tracks = omega (arith, least) in
-    let lt_right : k < length n.tracks = omega (arith, least) in
-    let t = get_some tree.movie.tracks k (below k _ _ (infos_all file m tree o) lt) in
-    let u = get_some other.movie.tracks k (below k _ _ (infos_all right_file n other p) lt_right) in
-    aligns_most l file tree right_file other c.args.steps.now.passed k c.loop-place.found.items c.loop-place.steps.passed h t.0 u.0 t.1 u.1 c.align_tracks.new.steps.passed
-    ((rw (i.honesty, i.file, i.honesty_right, i.file_right) at c.in_err-aligned.ensures.work) told told_right tree other o p t.0 u.0 t.1 u.1)
-
-pub returns-in_err-put_aligned-clause-work : goal.returns-in_err-put_aligned-clause-work
-returns-in_err-put_aligned-clause-work g c told told_right tree other o p =
-    let i = c.loop-place.invariant in
-    let file = g.S.Store.file c.args.left.now in
-    let right_file = g.T.Store.file c.args.right.now in
-    let m = c.args.movies.now.left in
-    let n = c.args.movies.now.right in
-    let l = c.args.leaving in
-    let k = c.loop-place.place in
-    let h = i.going told told_right tree other o p in
-    let least : k < min (length m.tracks) (length n.tracks) = search rules in
-    let lt : k < length m.tracks = omega (arith, least) in
-    let lt_right : k < length n.tracks = omega (arith, least) in
-    let t = get_some tree.movie.tracks k (below k _ _ (infos_all file m tree o) lt) in
-    let u = get_some other.movie.tracks k (below k _ _ (infos_all right_file n other p) lt_right) in
-    aligns_most l file tree right_file other c.args.steps.now.passed k c.loop-place.found.items c.loop-place.steps.passed h t.0 u.0 t.1 u.1 c.align_tracks.new.steps.passed
-    ((rw (i.honesty, i.file, i.honesty_right, i.file_right) at c.in_ok-aligned.ensures.work) told told_right tree other o p t.0 u.0 t.1 u.1)
-
-pub loop-place-preserved : goal.loop-place-preserved
-loop-place-preserved g c = record {
-  honesty = search rules;
-  file = search rules;
-  reads = search rules;
-  honesty_right = search rules;
-  file_right = search rules;
-  reads_right = search rules;
-  looks = search rules;
-  grows = (let more = c.in_ok-aligned.ensures.grows in let before = c.loop-place.invariant.grows in omega (arith, more, before));
-  going = λ told told_right tree other o p.
-      let i = c.loop-place.invariant in
-      let file = g.S.Store.file c.args.left.now in
-      let right_file = g.T.Store.file c.args.right.now in
-      let m = c.args.movies.now.left in
-      let n = c.args.movies.now.right in
-      let l = c.args.leaving in
-      let k = c.loop-place.place in
-      let h = i.going told told_right tree other o p in
-      let least : k < min (length m.tracks) (length n.tracks) = search rules in
-      let lt : k < length m.tracks = omega (arith, least) in
-      let lt_right : k < length n.tracks = omega (arith, least) in
-      let t = get_some tree.movie.tracks k (below k _ _ (infos_all file m tree o) lt) in
-      let u = get_some other.movie.tracks k (below k _ _ (infos_all right_file n other p) lt_right) in
-      aligns_next l file tree right_file other c.args.steps.now.passed k c.loop-place.found.items c.loop-place.steps.passed h t.0 u.0 t.1 u.1 c.in_ok-aligned.aligned c.put_aligned.new.found.items c.align_tracks.new.steps.passed
-      ((rw (i.honesty, i.file, i.honesty_right, i.file_right) at c.in_ok-aligned.ensures.aligned) told told_right tree other o p t.0 u.0 t.1 u.1) c.in_ok-put_aligned.ensures
-      ((rw (i.honesty, i.file, i.honesty_right, i.file_right) at c.in_ok-aligned.ensures.work) told told_right tree other o p t.0 u.0 t.1 u.1);
-}
 
 pub returns-clause-aligned : goal.returns-clause-aligned
 returns-clause-aligned g c told told_right tree other o p =
-    let i = c.loop-place.invariant in
-    let file = g.S.Store.file c.args.left.now in
-    let right_file = g.T.Store.file c.args.right.now in
-    let m = c.args.movies.now.left in
-    let n = c.args.movies.now.right in
-    let l = c.args.leaving in
-    let k = c.loop-place.place in
-    let h = i.going told told_right tree other o p in
-    let le : min (length m.tracks) (length n.tracks) ≤ k = search rules in
-    let many = infos_all file m tree o in
-    let many_right = infos_all right_file n other p in
-    aligns_all l file tree right_file other c.args.steps.now.passed k c.loop-place.found.items c.loop-place.steps.passed h (omega (arith, le, many, many_right))
+    let e = c.in_ok-scales.ensures in
+    let s = e.scales told told_right tree other o p in
+    (rw (e.stores.left.honesty, e.stores.left.file, e.stores.right.honesty, e.stores.right.file) at c.align_scaled.ensures.aligned) told told_right tree other o p s.0 s.1
+
+pub returns-clause-unchanged : goal.returns-clause-unchanged
+returns-clause-unchanged g c told told_right tree other o p =
+    let e = c.in_ok-scales.ensures in
+    (rw (e.stores.left.honesty, e.stores.left.file, e.stores.right.honesty, e.stores.right.file) at c.align_scaled.ensures.unchanged) told told_right tree other o p
 
 pub returns-clause-work : goal.returns-clause-work
 returns-clause-work g c told told_right tree other o p =
-    let i = c.loop-place.invariant in
-    let file = g.S.Store.file c.args.left.now in
-    let right_file = g.T.Store.file c.args.right.now in
-    let m = c.args.movies.now.left in
-    let n = c.args.movies.now.right in
-    let l = c.args.leaving in
-    let k = c.loop-place.place in
-    let h = i.going told told_right tree other o p in
-    aligns_work l file tree right_file other c.args.steps.now.passed k c.loop-place.found.items c.loop-place.steps.passed h
+    let e = c.in_ok-scales.ensures in
+    let first = e.work told told_right tree other o p in
+    let then = (rw (e.stores.left.honesty, e.stores.left.file, e.stores.right.honesty, e.stores.right.file) at c.align_scaled.ensures.work) told told_right tree other o p in
+    omega (arith, first, then)

@@ -27,7 +27,7 @@ returns-then-has_all-clause-aligned g c told told_right tree other o p t u at bt
     let own = track_of file (file_parts tree) t in
     let others = track_of right_file (file_parts other) u in
     let all = c.if-has_all.ensures.all refl in
-    all_same l (place + 1) info.samples other_info.samples c.in_ok-front.front own others x.samples y.samples h all.0 all.1
+    all_same l c.args.tracks.divisors (place + 1) info.samples other_info.samples c.in_ok-front.front own others x.samples y.samples h all.0 all.1
 
 pub returns-then-has_all-clause-work : goal.returns-then-has_all-clause-work
 returns-then-has_all-clause-work g c told told_right tree other o p t u at bt =
@@ -57,7 +57,7 @@ returns-in_err-ends-clause-unchanged g c told told_right tree other o p t u at b
     let others = track_of right_file (file_parts other) u in
     let e = err_from_is_err_and c.from_residual-in_err-ends.result c.from_residual-in_err-ends.ensures.1 in
     rw (e.1, e.2) ((rw (e1.left.honesty, e1.left.file, e1.right.honesty, e1.right.file) at c.in_err-ends.ensures.unchanged) told told_right tree other o p t u at bt (x.samples, y.samples)
-    (both_have l (place + 1) info.samples other_info.samples c.in_ok-front.front own others x.samples y.samples h))
+    (both_have l c.args.tracks.divisors (place + 1) info.samples other_info.samples c.in_ok-front.front own others x.samples y.samples h))
 
 pub returns-in_err-ends-clause-work : goal.returns-in_err-ends-clause-work
 returns-in_err-ends-clause-work g c told told_right tree other o p t u at bt =
@@ -84,9 +84,9 @@ returns-clause-aligned g c told told_right tree other o p t u at bt =
     let own = track_of file (file_parts tree) t in
     let others = track_of right_file (file_parts other) u in
     let ends = (rw (e1.left.honesty, e1.left.file, e1.right.honesty, e1.right.file) at c.in_ok-ends.ensures.ends) told told_right tree other o p t u at bt (x.samples, y.samples)
-    (both_have l (place + 1) info.samples other_info.samples c.in_ok-front.front own others x.samples y.samples h) in
+    (both_have l c.args.tracks.divisors (place + 1) info.samples other_info.samples c.in_ok-front.front own others x.samples y.samples h) in
     let some = c.if-has_all.ensures.some refl in
-    pair_is l (place + 1) info.samples other_info.samples c.in_ok-front.front own others x.samples y.samples h c.in_ok-ends.ends info.timescale other_info.timescale _ some ends x.timescale y.timescale
+    pair_is l c.args.tracks.divisors (place + 1) info.samples other_info.samples c.in_ok-front.front own others x.samples y.samples h c.in_ok-ends.ends info.timescale other_info.timescale _ some ends x.timescale y.timescale
     refl refl refl c.stretch.ensures.samples c.stretch.ensures.time c.stretch.ensures.timescale c.stretch-2.ensures.samples c.stretch-2.ensures.time c.stretch-2.ensures.timescale
 
 pub returns-clause-work : goal.returns-clause-work

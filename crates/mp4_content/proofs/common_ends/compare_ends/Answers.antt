@@ -76,7 +76,8 @@ returns-in_err-last-clause-unchanged g c told told_right tree other o p t u at b
     let first = (rw (e0.stores.left.honesty, e0.stores.left.file) at c.in_ok-time.ensures.coming) told tree t (track_samples tree t) o begun.comes in
     let second = (rw (e0.stores.right.honesty, e0.stores.right.file) at c.in_ok-other_time.ensures.coming) told_right other u (track_samples other u) p begun.comes_right in
     let e = err_from_is_err_and c.from_residual-in_err-last.result c.from_residual-in_err-last.ensures.1 in
-    let lie = both_lie c.args.tracks.leaving c.args.tracks.place c.in_ok-by.by file right_file c.args.tracks.movies.now.left c.args.tracks.movies.now.right tree other t u o p at bt c.args.counts.left c.args.counts.right c.args.front c.saturating_sub-more.result
+    let lie = both_lie c.args.tracks.leaving c.args.tracks.divisors.left c.args.tracks.divisors.right c.args.tracks.place c.in_ok-by.by file right_file c.args.tracks.movies.now.left c.args.tracks.movies.now.right tree
+    other t u o p at bt c.args.counts.left c.args.counts.right c.args.front c.saturating_sub-more.result
     c.saturating_sub-more-2.result c.saturating_sub-count.result
     c.saturating_sub-more.ensures c.saturating_sub-more-2.ensures (c.saturating_sub-count.ensures ∙ ap (λ n. n - c.args.front) c.min.ensures) counts.0 counts.1 have.0 have.1 in
     rw (e.1, e.2) ((rw (e1.honesty, e1.file, e0.stores.left.honesty, e0.stores.left.file, e2.honesty, e2.file, e0.stores.right.honesty, e0.stores.right.file) at c.in_err-last.ensures.unchanged) told told_right tree other o p t u _ _ first second lie)
@@ -107,7 +108,8 @@ returns-clause-ends g c told told_right tree other o p t u at bt counts have =
     let is = (rw (e1.honesty, e1.file, e0.stores.left.honesty, e0.stores.left.file, e2.honesty, e2.file, e0.stores.right.honesty, e0.stores.right.file) at c.in_ok-last.ensures.last)
     told told_right tree other o p t u _ _ first second in
     record {
-      end = ends_are c.args.tracks.leaving c.args.tracks.place c.in_ok-by.by file right_file c.args.tracks.movies.now.left c.args.tracks.movies.now.right tree other t u o p at bt c.args.counts.left c.args.counts.right c.args.front c.saturating_sub-more.result c.saturating_sub-more-2.result
+      end = ends_are c.args.tracks.leaving c.args.tracks.divisors.left c.args.tracks.divisors.right c.args.tracks.place c.in_ok-by.by file right_file c.args.tracks.movies.now.left c.args.tracks.movies.now.right tree
+          other t u o p at bt c.args.counts.left c.args.counts.right c.args.front c.saturating_sub-more.result c.saturating_sub-more-2.result
           c.saturating_sub-count.result
           c.saturating_sub-more.ensures c.saturating_sub-more-2.ensures (c.saturating_sub-count.ensures ∙ ap (λ n. n - c.args.front) c.min.ensures) counts.0 counts.1 have.0 have.1 c.requires e0.pairing begun.reductions c.in_ok-last.last is;
       time = (rw (e0.stores.left.honesty, e0.stores.left.file) at c.in_ok-time.ensures.time) told tree t (track_samples tree t) o begun.comes ∙ due_is file _ c.args.front _ 1 _ _;

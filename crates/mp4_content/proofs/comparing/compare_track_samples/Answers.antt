@@ -38,7 +38,7 @@ loop-number-init g c =
       shows = e.sides.left.shows;
       shows_right = e.sides.right.shows;
       going = λ told told_right tree other o p t u at bt.
-          pairs_first c.in_ok-by.by (g.S.Store.file c.args.left.now) tree t c.args.tracks.movies.now.left (g.T.Store.file c.args.right.now) other u c.args.tracks.movies.now.right (g.D.Differences.taken c.args.seen.now) c.args.steps.now.passed c.args.tracks.leaving
+          pairs_first c.in_ok-by.by (g.S.Store.file c.args.left.now) tree t c.args.tracks.movies.now.left (g.T.Store.file c.args.right.now) other u c.args.tracks.movies.now.right (g.D.Differences.taken c.args.seen.now) c.args.steps.now.passed c.args.tracks.leaving c.args.tracks.divisors
           c.in_ok-by.sides.left.walk c.in_ok-by.sides.right.walk c.begin_pairs.new.steps.passed (e.begun told told_right tree other o p t u at bt);
     }
 
@@ -103,7 +103,7 @@ returns-in_err-_same-clause-handed g c =
           let there = at_place left.tracks c.args.tracks.place info c.requires.tracks.left is in
           let there_right = at_place right.tracks c.args.tracks.place other_info c.requires.tracks.right is_right in
           let begun = (c.in_ok-by.ensures.begun told told_right tree other o p t u at bt).reductions in
-          let are = differ_behind c.args.tracks.leaving c.args.tracks.place by file right_file left right tree other t u info other_info (c.in_ok-by.ensures.pairing info other_info there there_right) o p at bt there there_right begun 0 0 1 in
+          let are = differ_behind c.args.tracks.leaving c.args.tracks.divisors.left c.args.tracks.divisors.right c.args.tracks.place by file right_file left right tree other t u info other_info (c.in_ok-by.ensures.pairing info other_info there there_right) o p at bt there there_right begun 0 0 1 in
           subst (TakesFront before now) are (grows_front _ _ _ _ h.grows);
     }
 
@@ -242,7 +242,7 @@ returns-in_err-found-clause-handed g c =
           let there = at_place left.tracks c.args.tracks.place info c.requires.tracks.left is in
           let there_right = at_place right.tracks c.args.tracks.place other_info c.requires.tracks.right is_right in
           let begun = (c.in_ok-by.ensures.begun told told_right tree other o p t u at bt).reductions in
-          let are = differ_behind c.args.tracks.leaving c.args.tracks.place by file right_file left right tree other t u info other_info (c.in_ok-by.ensures.pairing info other_info there there_right) o p at bt there there_right begun 0 0 1 in
+          let are = differ_behind c.args.tracks.leaving c.args.tracks.divisors.left c.args.tracks.divisors.right c.args.tracks.place by file right_file left right tree other t u info other_info (c.in_ok-by.ensures.pairing info other_info there there_right) o p at bt there there_right begun 0 0 1 in
           subst (TakesFront before now) are (grows_front _ _ _ _ h.grows);
     }
 
@@ -319,7 +319,7 @@ returns-then-not-hand_over-clause-handed g c =
           let there = at_place left.tracks c.args.tracks.place info c.requires.tracks.left is in
           let there_right = at_place right.tracks c.args.tracks.place other_info c.requires.tracks.right is_right in
           let begun = (c.in_ok-by.ensures.begun told told_right tree other o p t u at bt).reductions in
-          let are = differ_behind c.args.tracks.leaving c.args.tracks.place by file right_file left right tree other t u info other_info (c.in_ok-by.ensures.pairing info other_info there there_right) o p at bt there there_right begun 0 0 1 in
+          let are = differ_behind c.args.tracks.leaving c.args.tracks.divisors.left c.args.tracks.divisors.right c.args.tracks.place by file right_file left right tree other t u info other_info (c.in_ok-by.ensures.pairing info other_info there there_right) o p at bt there there_right begun 0 0 1 in
           subst (TakesFront before (g.D.Differences.taken c.hand_over.new.seen)) are
           (pairs_stop by file tree t left right_file other u right before c.args.steps.now.passed number w v c.compare_pair.new.sides.left.walk c.compare_pair.new.sides.right.walk now
           (g.D.Differences.taken c.hand_over.new.seen) c.in_ok-found.found.items passed.new.steps.passed h
@@ -369,7 +369,7 @@ returns-clause-handed g c =
           let there = at_place left.tracks c.args.tracks.place info c.requires.tracks.left is in
           let there_right = at_place right.tracks c.args.tracks.place other_info c.requires.tracks.right is_right in
           let begun = (c.in_ok-by.ensures.begun told told_right tree other o p t u at bt).reductions in
-          let are = differ_behind c.args.tracks.leaving c.args.tracks.place by file right_file left right tree other t u info other_info (c.in_ok-by.ensures.pairing info other_info there there_right) o p at bt there there_right begun 0 0 1 in
+          let are = differ_behind c.args.tracks.leaving c.args.tracks.divisors.left c.args.tracks.divisors.right c.args.tracks.place by file right_file left right tree other t u info other_info (c.in_ok-by.ensures.pairing info other_info there there_right) o p at bt there there_right begun 0 0 1 in
           let le : min info.samples other_info.samples ≤ c.loop-number.number = search rules in
           pairs_all by file tree t left right_file other u right before c.args.steps.now.passed c.loop-number.number w v now c.loop-number.steps.passed h
           (min_over info.samples other_info.samples _ _ c.loop-number.number (count_is file left tree t c.args.tracks.place info o at there) (count_is right_file right other u c.args.tracks.place other_info p bt there_right) le)
@@ -391,7 +391,7 @@ returns-clause-handed g c =
           let there = at_place left.tracks c.args.tracks.place info c.requires.tracks.left is in
           let there_right = at_place right.tracks c.args.tracks.place other_info c.requires.tracks.right is_right in
           let begun = (c.in_ok-by.ensures.begun told told_right tree other o p t u at bt).reductions in
-          let are = differ_behind c.args.tracks.leaving c.args.tracks.place by file right_file left right tree other t u info other_info (c.in_ok-by.ensures.pairing info other_info there there_right) o p at bt there there_right begun 0 0 1 in
+          let are = differ_behind c.args.tracks.leaving c.args.tracks.divisors.left c.args.tracks.divisors.right c.args.tracks.place by file right_file left right tree other t u info other_info (c.in_ok-by.ensures.pairing info other_info there there_right) o p at bt there there_right begun 0 0 1 in
           subst (TakesFront before now) are (grows_front _ _ _ _ h.grows);
     }
 

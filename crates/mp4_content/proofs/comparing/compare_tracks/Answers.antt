@@ -12,7 +12,7 @@ returns-in_err-found-clause-handed g c =
     record {
       goes = search rules;
       all = search rules;
-      front = λ told told_right tree other o p t u at bt e f. takes_nothing (g.D.Differences.taken c.args.seen.now) _;
+      front = λ told told_right tree other o p t u at bt. takes_nothing (g.D.Differences.taken c.args.seen.now) _;
     }
 
 pub returns-then-not-hand_over-clause-handed : goal.returns-then-not-hand_over-clause-handed
@@ -20,7 +20,7 @@ returns-then-not-hand_over-clause-handed g c =
     record {
       goes = search rules;
       all = search rules;
-      front = λ told told_right tree other o p t u at bt e f.
+      front = λ told told_right tree other o p t u at bt.
           let file = g.S.Store.file c.args.left.now in
           let right_file = g.T.Store.file c.args.right.now in
           let left = c.args.tracks.movies.now.left in
@@ -31,7 +31,7 @@ returns-then-not-hand_over-clause-handed g c =
           let is_right : other_info ≡ slice_index_or right.tracks c.args.tracks.place other_info = search rules in
           let there = at_place left.tracks c.args.tracks.place info c.requires.tracks.left is in
           let there_right = at_place right.tracks c.args.tracks.place other_info c.requires.tracks.right is_right in
-          let begun = track_begun c.args.aligned c.args.tracks.leaving (c.args.tracks.place + 1) c.args.tracks.place file right_file left right tree other t u info other_info c.args.heads.left.now c.args.heads.right.now o p at bt there there_right e f c.in_ok-found.found.items
+          let begun = track_begun c.args.aligned c.args.tracks.leaving c.args.tracks.divisors (c.args.tracks.place + 1) c.args.tracks.place file right_file left right tree other t u info other_info c.args.heads.left.now c.args.heads.right.now o p at bt there there_right c.in_ok-found.found.items
           c.in_ok-found.ensures in
           let before = g.D.Differences.taken c.args.seen.now in
           let mid = g.D.Differences.taken c.hand_over.new.seen in
@@ -42,7 +42,7 @@ pub returns-then-skips_samples-clause-handed : goal.returns-then-skips_samples-c
 returns-then-skips_samples-clause-handed g c =
     record {
       goes = search rules;
-      all = λ whole told told_right tree other o p t u at bt e f.
+      all = λ whole told told_right tree other o p t u at bt.
           let file = g.S.Store.file c.args.left.now in
           let right_file = g.T.Store.file c.args.right.now in
           let left = c.args.tracks.movies.now.left in
@@ -53,7 +53,7 @@ returns-then-skips_samples-clause-handed g c =
           let is_right : other_info ≡ slice_index_or right.tracks c.args.tracks.place other_info = search rules in
           let there = at_place left.tracks c.args.tracks.place info c.requires.tracks.left is in
           let there_right = at_place right.tracks c.args.tracks.place other_info c.requires.tracks.right is_right in
-          let begun = track_begun c.args.aligned c.args.tracks.leaving (c.args.tracks.place + 1) c.args.tracks.place file right_file left right tree other t u info other_info c.args.heads.left.now c.args.heads.right.now o p at bt there there_right e f c.in_ok-found.found.items
+          let begun = track_begun c.args.aligned c.args.tracks.leaving c.args.tracks.divisors (c.args.tracks.place + 1) c.args.tracks.place file right_file left right tree other t u info other_info c.args.heads.left.now c.args.heads.right.now o p at bt there there_right c.in_ok-found.found.items
           c.in_ok-found.ensures in
           let skipped = begun ∙ ap (λ (ds : List Difference). c.in_ok-found.found.items ++ ds) (skipped_by _ _ (sym c.skips_samples.ensures ∙ c.if-skips_samples.true)) in
           let before = g.D.Differences.taken c.args.seen.now in
@@ -61,7 +61,7 @@ returns-then-skips_samples-clause-handed g c =
           let handed = (rw c.as_slice.ensures.value at c.if-not-hand_over.ensures.all) refl in
           let whole_is = both_parts before mid mid _ c.in_ok-found.found.items _ skipped handed (sym (append-nil mid)) in
           whole_is;
-      front = λ told told_right tree other o p t u at bt e f.
+      front = λ told told_right tree other o p t u at bt.
           let file = g.S.Store.file c.args.left.now in
           let right_file = g.T.Store.file c.args.right.now in
           let left = c.args.tracks.movies.now.left in
@@ -72,7 +72,7 @@ returns-then-skips_samples-clause-handed g c =
           let is_right : other_info ≡ slice_index_or right.tracks c.args.tracks.place other_info = search rules in
           let there = at_place left.tracks c.args.tracks.place info c.requires.tracks.left is in
           let there_right = at_place right.tracks c.args.tracks.place other_info c.requires.tracks.right is_right in
-          let begun = track_begun c.args.aligned c.args.tracks.leaving (c.args.tracks.place + 1) c.args.tracks.place file right_file left right tree other t u info other_info c.args.heads.left.now c.args.heads.right.now o p at bt there there_right e f c.in_ok-found.found.items
+          let begun = track_begun c.args.aligned c.args.tracks.leaving c.args.tracks.divisors (c.args.tracks.place + 1) c.args.tracks.place file right_file left right tree other t u info other_info c.args.heads.left.now c.args.heads.right.now o p at bt there there_right c.in_ok-found.found.items
           c.in_ok-found.ensures in
           let skipped = begun ∙ ap (λ (ds : List Difference). c.in_ok-found.found.items ++ ds) (skipped_by _ _ (sym c.skips_samples.ensures ∙ c.if-skips_samples.true)) in
           let before = g.D.Differences.taken c.args.seen.now in
@@ -87,7 +87,7 @@ returns-clause-handed g c =
     record {
       goes = c.compare_track_samples.ensures.handed.goes;
       all =
-          if_ok _ _ c.compare_track_samples.result (λ all given whole told told_right tree other o p t u at bt e f.
+          if_ok _ _ c.compare_track_samples.result (λ all given whole told told_right tree other o p t u at bt.
           let file = g.S.Store.file c.args.left.now in
           let right_file = g.T.Store.file c.args.right.now in
           let left = c.args.tracks.movies.now.left in
@@ -98,7 +98,7 @@ returns-clause-handed g c =
           let is_right : other_info ≡ slice_index_or right.tracks c.args.tracks.place other_info = search rules in
           let there = at_place left.tracks c.args.tracks.place info c.requires.tracks.left is in
           let there_right = at_place right.tracks c.args.tracks.place other_info c.requires.tracks.right is_right in
-          let begun = track_begun c.args.aligned c.args.tracks.leaving (c.args.tracks.place + 1) c.args.tracks.place file right_file left right tree other t u info other_info c.args.heads.left.now c.args.heads.right.now o p at bt there there_right e f c.in_ok-found.found.items
+          let begun = track_begun c.args.aligned c.args.tracks.leaving c.args.tracks.divisors (c.args.tracks.place + 1) c.args.tracks.place file right_file left right tree other t u info other_info c.args.heads.left.now c.args.heads.right.now o p at bt there there_right c.in_ok-found.found.items
           c.in_ok-found.ensures in
           let compared = begun ∙ ap (λ (ds : List Difference). c.in_ok-found.found.items ++ ds) (not_by _ _ (sym c.skips_samples.ensures ∙ c.if-skips_samples.false)) in
           let before = g.D.Differences.taken c.args.seen.now in
@@ -107,7 +107,7 @@ returns-clause-handed g c =
           let handed = (rw c.as_slice.ensures.value at c.if-not-hand_over.ensures.all) refl in
           both_parts before mid next _ c.in_ok-found.found.items _ compared handed (given whole told told_right tree other o p t u at bt))
           c.compare_track_samples.ensures.handed.all;
-      front = λ told told_right tree other o p t u at bt e f.
+      front = λ told told_right tree other o p t u at bt.
           let file = g.S.Store.file c.args.left.now in
           let right_file = g.T.Store.file c.args.right.now in
           let left = c.args.tracks.movies.now.left in
@@ -118,7 +118,7 @@ returns-clause-handed g c =
           let is_right : other_info ≡ slice_index_or right.tracks c.args.tracks.place other_info = search rules in
           let there = at_place left.tracks c.args.tracks.place info c.requires.tracks.left is in
           let there_right = at_place right.tracks c.args.tracks.place other_info c.requires.tracks.right is_right in
-          let begun = track_begun c.args.aligned c.args.tracks.leaving (c.args.tracks.place + 1) c.args.tracks.place file right_file left right tree other t u info other_info c.args.heads.left.now c.args.heads.right.now o p at bt there there_right e f c.in_ok-found.found.items
+          let begun = track_begun c.args.aligned c.args.tracks.leaving c.args.tracks.divisors (c.args.tracks.place + 1) c.args.tracks.place file right_file left right tree other t u info other_info c.args.heads.left.now c.args.heads.right.now o p at bt there there_right c.in_ok-found.found.items
           c.in_ok-found.ensures in
           let compared = begun ∙ ap (λ (ds : List Difference). c.in_ok-found.found.items ++ ds) (not_by _ _ (sym c.skips_samples.ensures ∙ c.if-skips_samples.false)) in
           let before = g.D.Differences.taken c.args.seen.now in

@@ -4,4 +4,4 @@ use Rattle.mp4_content.proofs.content.tracks_left.Given as goal
 
 -- what is left of those so far
 abbrev pub invariant-loop-k : goal.invariant-loop-k
-invariant-loop-k l = l.tracks.items ≡ tracks_left l.leaving (take l.k l.infos)
+invariant-loop-k l = l.tracks.items ≡ tracks_left l.leaving l.scales.tracks.items (take l.k l.infos)

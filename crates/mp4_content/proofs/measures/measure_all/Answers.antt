@@ -1,8 +1,9 @@
-use Rattle.std.proofs.Common.{rules, ◌<◌, length, ap, ◌∙◌, arith, refl}
+use Rattle.std.proofs.Common.{ℕ, rules, ◌<◌, length, ap, ◌∙◌, arith, refl}
 use Rattle.std.proofs.lemmas.Result.{err_from_is_err_and}
+use Rattle.mp4_content.specs.words.ComingLess.{reduction_of}
 use Rattle.mp4_content.specs.words.Measuring.{no_total, total_from}
 use Rattle.mp4_present.specs.words.SamplesComing.{track_samples}
-use Rattle.mp4_content.proofs.MeasuredTracks.{asked_total, is_at, so_far_all, so_far_more, so_far_none, steps_more, steps_within}
+use Rattle.mp4_content.proofs.MeasuredTracks.{asked_total, own_divisor_at, is_at, so_far_all, so_far_more, so_far_none, steps_more, steps_within}
 use Rattle.mp4_content.specs.declared.reduced.Reduction.{Reduction}
 use Rattle.mp4_content.proofs.measures.measure_all.Goals as goal
 
@@ -14,7 +15,7 @@ loop-track-init g c = record {
   reads = refl;
   looks = refl;
   grows = omega arith;
-  measured = λ asks told tree o. rw (c.in_ok-of_tracks.ensures.items, c.in_ok-totals.ensures.items) (so_far_none c.args.leaving (g.S.Store.file c.args.store.now) c.args.movie.now tree o);
+  measured = λ asks told tree o are. rw (c.in_ok-of_tracks.ensures.items, c.in_ok-totals.ensures.items) (so_far_none c.args.leaving (g.S.Store.file c.args.store.now) c.args.movie.now tree o);
   work = λ told tree o. omega arith;
 }
 
@@ -36,12 +37,13 @@ loop-track-preserved g c =
       reads = e.store.reads ∙ i.reads;
       looks = e.looks ∙ i.looks;
       grows = omega (arith, before, more);
-      measured = λ asks told tree o.
+      measured = λ asks told tree o are.
           let a = is_at l file m tree o k lt in
           let found = (rw (i.honesty, i.file) at e.measured) told tree a.t o a.is_tree in
+          let by = found.0 ∙ ap (λ (d : ℕ). reduction_of l d (track_samples tree a.t)) (c.track-divisor.ensures ∙ own_divisor_at l file tree c.args.scales.now k a.t are a.is_tree) in
           rw (c.in_ok-push.ensures.items, c.in_ok-push-2.ensures.items)
-          (so_far_more l file m tree o k c.loop-track.of_tracks.items c.loop-track.totals.items c.in_ok-found.found.0 c.in_ok-found.found.1 a (i.measured asks told tree o) found.0
-          (found.1 ∙ ap (λ (r : Reduction). total_from r no_total (track_samples tree a.t)) found.0 ∙ asked_total l tree a.t a.info asks));
+          (so_far_more l file m tree o k c.loop-track.of_tracks.items c.loop-track.totals.items c.in_ok-found.found.0 c.in_ok-found.found.1 a (i.measured asks told tree o are) by
+          (found.1 ∙ ap (λ (r : Reduction). total_from r no_total (track_samples tree a.t)) by ∙ asked_total l file tree a.t a.info asks));
       work = λ told tree o.
           let a = is_at l file m tree o k lt in
           steps_more l file m tree o k _ _ _ a (i.work told tree o) ((rw (i.honesty, i.file) at e.work) told tree a.t o a.is_tree);
@@ -86,8 +88,8 @@ returns-in_err-push-2-clause-work g c told tree o =
     steps_within c.args.leaving file m tree o _ _ _ (steps_more c.args.leaving file m tree o k _ _ _ a (i.work told tree o) ((rw (i.honesty, i.file) at c.in_ok-found.ensures.work) told tree a.t o a.is_tree))
 
 pub returns-clause-measured : goal.returns-clause-measured
-returns-clause-measured g c asks told tree o =
-    let r = so_far_all c.args.leaving (g.S.Store.file c.args.store.now) c.args.movie.now tree o c.loop-track.track c.loop-track.of_tracks.items c.loop-track.totals.items (c.loop-track.invariant.measured asks told tree o) (search rules) in
+returns-clause-measured g c asks told tree o are =
+    let r = so_far_all c.args.leaving (g.S.Store.file c.args.store.now) c.args.movie.now tree o c.loop-track.track c.loop-track.of_tracks.items c.loop-track.totals.items (c.loop-track.invariant.measured asks told tree o are) (search rules) in
     record { reductions = r.0; totals = r.1 }
 
 pub returns-clause-work : goal.returns-clause-work

@@ -8,7 +8,7 @@ use Rattle.mp4_content.proofs.measures.reduction_of.Goals as goal
 
 pub returns-then-not-asks_first-clause-reduction : goal.returns-then-not-asks_first-clause-reduction
 returns-then-not-asks_first-clause-reduction g c told tree t samples o h all =
-    c.plain.ensures ∙ plain_is c.args.leaving samples (sym c.asks_first.ensures ∙ c.if-not-asks_first.true)
+    c.plain.ensures ∙ plain_is c.args.leaving c.args.divisor samples (sym c.asks_first.ensures ∙ c.if-not-asks_first.true)
 
 pub returns-in_err-first-clause-unchanged : goal.returns-in_err-first-clause-unchanged
 returns-in_err-first-clause-unchanged g c told tree t samples o h =
@@ -28,4 +28,4 @@ returns-clause-reduction g c told tree t samples o h all =
     let there = at_place m.tracks w.track info c.requires.goes_on.track is in
     let many = count_is file m tree t w.track info o h.3.0.is_track there ∙ sym (ap (λ (ss : List SampleAt). length ss) all) in
     let shown = c.in_ok-first.ensures.coming told tree t samples o h in
-    rw (c.by_first.ensures, c.tracks.ensures, c.track-track.ensures, ← is) ((λ i. reduction_by c.args.leaving (many i) (shown.1 i)) ∙ asked_reduction c.args.leaving samples (sym c.asks_first.ensures ∙ c.if-not-asks_first.false))
+    rw (c.by_first.ensures, c.tracks.ensures, c.track-track.ensures, ← is) ((λ i. reduction_by c.args.leaving c.args.divisor (many i) (shown.1 i)) ∙ asked_reduction c.args.leaving c.args.divisor samples (sym c.asks_first.ensures ∙ c.if-not-asks_first.false))

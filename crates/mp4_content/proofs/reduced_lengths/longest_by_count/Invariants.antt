@@ -4,4 +4,4 @@ use Rattle.mp4_content.proofs.reduced_lengths.longest_by_count.Given as goal
 
 -- the longest of all is the longest of those so far and of the others
 abbrev pub invariant-loop-k : goal.invariant-loop-k
-invariant-loop-k l = longest_count l.leaving l.longest (drop l.k l.heads) (drop l.k l.tracks) ≡ longest_count l.leaving 0 l.heads l.tracks
+invariant-loop-k l = longest_count l.longest (drop l.k l.heads) (drop l.k l.tracks) ≡ longest_count 0 l.heads l.tracks

@@ -54,7 +54,7 @@ loop-k-preserved g c =
       shown = λ told tree o lefts by h.
           let was = i.shown told tree o lefts by h in
           let r = comes_there c.args.content.now.leaving file tree m walks lefts k c.index-walks-k.result was.0 inside in
-          let own = one_there c.args.content.now.of_tracks.items c.loop-k.k _ _ c.reduction-reduction.ensures (reduced_there c.args.content.now.leaving tree c.args.content.now.of_tracks.items c.loop-k.k r.t by r.is_tree) in
+          let own = one_there c.args.content.now.of_tracks.items c.loop-k.k _ _ c.reduction-reduction.ensures (reduced_there c.args.content.now.leaving (g.S.Store.file c.args.store.now) tree c.args.content.now.of_tracks.items c.loop-k.k r.t by r.is_tree) in
           let come = (rw (i.honesty, i.file, own) at e.coming) told tree r.t r.left o r.comes in
           (same_come c.args.content.now.leaving file tree m walks lefts k _ now was.0 r come.0, noted_more c.loop-k.nexts lefts k r.left c.in_ok-nexts.field-0 was.1 within r.is_left come.1);
       takes = λ told tree o n h.
@@ -75,7 +75,7 @@ returns-in_err-nexts-clause-unchanged g c told tree o lefts by h =
     let many = i.many in
     let was = i.shown told tree o lefts by h in
     let r = comes_there c.args.content.now.leaving (g.S.Store.file c.args.store.now) tree c.args.movie.now c.loop-k.walks lefts c.loop-k.k c.index-walks-k.result was.0 (omega (arith, lt, many)) in
-    let own = one_there c.args.content.now.of_tracks.items c.loop-k.k _ _ c.reduction-reduction.ensures (reduced_there c.args.content.now.leaving tree c.args.content.now.of_tracks.items c.loop-k.k r.t by r.is_tree) in
+    let own = one_there c.args.content.now.of_tracks.items c.loop-k.k _ _ c.reduction-reduction.ensures (reduced_there c.args.content.now.leaving (g.S.Store.file c.args.store.now) tree c.args.content.now.of_tracks.items c.loop-k.k r.t by r.is_tree) in
     rw (p.1, p.2) ((rw (i.honesty, i.file, own) at c.in_err-nexts.ensures.unchanged) told tree r.t r.left o r.comes)
 
 pub returns-in_err-nexts-clause-work : goal.returns-in_err-nexts-clause-work

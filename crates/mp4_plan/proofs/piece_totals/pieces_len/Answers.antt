@@ -1,4 +1,4 @@
-use Rattle.std.proofs.Common.{rules, ◌<◌, slice_set, get_or, length, arith, ap, sym, subst, refl, ◌∙◌, slice_get}
+use Rattle.std.proofs.Common.{ℕ, List, rules, ◌<◌, slice_set, get_or, length, arith, ap, sym, subst, refl, ◌∙◌, slice_get}
 use Rattle.std.proofs.lemmas.Result.{err_from_is_err_and}
 use Rattle.std.proofs.lemmas.Option.{slice_get_read}
 use Rattle.mp4_tables.specs.words.Keys.{keys_seen}
@@ -10,9 +10,9 @@ use Rattle.mp4_content.proofs.AtPlaces.{one_there, read_at}
 use Rattle.mp4_plan.proofs.PieceCounts.{piece_counts}
 use Rattle.mp4_plan.proofs.Planning.{reduced_there, walks_set}
 use Rattle.mp4_plan.proofs.PlannedTurns.{Adds, kept_there, has_turn, no_more, turn_leads, length_first, length_end, length_next, length_skips}
-use Rattle.mp4_plan.specs.words.Turns.{movie_turns, turned}
+use Rattle.mp4_plan.specs.words.Turns.{first_scale, movie_turns, turned}
 use Rattle.mp4_content.specs.words.Contents.{tracks_left}
-use Rattle.mp4_plan.specs.words.DueTracks.{IsDueAt}
+use Rattle.mp4_plan.specs.words.DueTracks.{FindsMore, IsDueAt}
 use Rattle.mp4_plan.proofs.LooksOn.{begins_within, looks_on, looks_within}
 use Rattle.mp4_plan.proofs.SkippedTurns.{either}
 use Rattle.mp4_plan.proofs.StepsOn.{all_taken, all_then, all_then_stop}
@@ -31,9 +31,9 @@ loop-turn-init g c =
       e.store.file,
       e.store.reads,
       e.store.honesty,
-      λ told tree o by near.
-          let begun = e.first told tree o by near in
-          length_first l (g.S.Store.file c.args.store.now) tree m plan.schedule plan.walks.items plan.nexts.items plan.schedule.from o near begun.come begun.shown begun.from s.tracks s.first s.left (s.track, refl, s.next),
+      λ told tree o are by near.
+          let begun = e.first told tree o are by near in
+          length_first l (g.S.Store.file c.args.store.now) tree m plan.schedule plan.walks.items plan.nexts.items plan.schedule.from o near begun.come begun.shown begun.from s.tracks (s.first ∙ ap (λ (ds : List ℕ). first_scale (tracks_left l ds m.tracks)) are.tracks) s.left (s.track, refl, s.next),
       λ told tree o. e.work told tree o,
       b.nexts,
       rw e.looks (begins_within m.tracks plan.schedule c.args.steps.now.looks s.tracks s.left s.track),
@@ -43,15 +43,15 @@ loop-turn-init g c =
     )
 
 pub returns-in_err-plan-clause-unchanged : goal.returns-in_err-plan-clause-unchanged
-returns-in_err-plan-clause-unchanged g c told tree o by near =
+returns-in_err-plan-clause-unchanged g c told tree o are by near =
     let p = err_from_is_err_and c.from_residual.result c.from_residual.ensures.1 in
-    rw (p.1, p.2) (c.in_err-plan.ensures.unchanged told tree o by near)
+    rw (p.1, p.2) (c.in_err-plan.ensures.unchanged told tree o are by near)
 
 pub returns-in_err-plan-clause-work : goal.returns-in_err-plan-clause-work
 returns-in_err-plan-clause-work g c told tree o = c.in_err-plan.ensures.work told tree o
 
 pub returns-in_err-planned-clause-unchanged : goal.returns-in_err-planned-clause-unchanged
-returns-in_err-planned-clause-unchanged g c told tree o by near =
+returns-in_err-planned-clause-unchanged g c told tree o are by near =
     let e = err_from_is_err_and c.from_residual-in_err-planned.result c.from_residual-in_err-planned.ensures.1 in
     let file = g.S.Store.file c.args.store.now in
     let m = c.args.movie.now in
@@ -59,10 +59,10 @@ returns-in_err-planned-clause-unchanged g c told tree o by near =
     let s = c.loop-turn.plan.schedule in
     let turn = c.in-Some.turn in
     let at = c.in-Some.ensures.track in
-    let h = i.5 told tree o by near in
+    let h = i.5 told tree o are by near in
     let t = has_turn c.args.content.now.leaving file tree m s c.loop-turn.plan.walks.items c.loop-turn.plan.nexts.items h.lefts h.comings o h.at turn.track c.index_mut-walk.result.now turn.end turn.id at c.index_mut-walk.ensures.value i.0.count
-    (rw (c.tracks-tracks.ensures ∙ c.requires.content.tracks) at c.in-Some.ensures.own) in
-    let own = one_there c.args.content.now.of_tracks.items c.in-Some.turn.track _ _ c.reduction-reduction.ensures (reduced_there c.args.content.now.leaving tree c.args.content.now.of_tracks.items c.in-Some.turn.track t.t by (ap (λ k. slice_get tree.movie.tracks k) t.place ∙ t.is_tree)) in
+    (rw (c.tracks-tracks.ensures ∙ c.requires.content.tracks ∙ ap (λ (ds : List ℕ). tracks_left c.args.content.now.leaving ds m.tracks) are.tracks) at c.in-Some.ensures.own) in
+    let own = one_there c.args.content.now.of_tracks.items c.in-Some.turn.track _ _ c.reduction-reduction.ensures (reduced_there c.args.content.now.leaving file tree c.args.content.now.of_tracks.items c.in-Some.turn.track t.t by (ap (λ k. slice_get tree.movie.tracks k) t.place ∙ t.is_tree)) in
     rw (e.1, e.2) ((rw (i.4, i.2, own) at c.in_err-planned.ensures.unchanged) told tree t.t t.left o t.comes t.few)
 
 pub loop-turn-preserved : goal.loop-turn-preserved
@@ -76,27 +76,27 @@ loop-turn-preserved g c =
     let p = c.in_ok-planned.ensures in
     let bounds = p.bounds in
     let due_at = (rw (c.tracks-tracks.ensures ∙ c.requires.content.tracks) at c.in_ok-pass.ensures.due) nexts i.9.times in
-    let due_next = subst (λ k. IsDueAt (tracks_left c.args.content.now.leaving m.tracks) (slice_set nexts k c.plan_turn.new.next) c.pass.new.self c.pass.new.due) (sym c.in-Some.ensures.track.0) due_at in (
+    let due_next = subst (λ k. IsDueAt (tracks_left c.args.content.now.leaving c.args.content.now.scales.tracks.items m.tracks) (slice_set nexts k c.plan_turn.new.next) c.pass.new.self c.pass.new.due) (sym c.in-Some.ensures.track.0) due_at in (
       walks_set m walks c.in-Some.turn.track c.plan_turn.new.walk i.0 p.loads.walk.walk,
       c.in_ok-pass.ensures.tracks ∙ i.1,
       p.loads.store.file ∙ i.2,
       p.loads.store.reads ∙ i.3,
       p.loads.store.honesty ∙ i.4,
-      λ told tree o by near.
+      λ told tree o are by near.
           let turn = c.in-Some.turn in
           let at = c.in-Some.ensures.track in
-          let h = i.5 told tree o by near in
+          let h = i.5 told tree o are by near in
           let t = has_turn c.args.content.now.leaving file tree m s walks nexts h.lefts h.comings o h.at turn.track c.index_mut-walk.result.now turn.end turn.id at c.index_mut-walk.ensures.value i.0.count
-          (rw (c.tracks-tracks.ensures ∙ c.requires.content.tracks) at c.in-Some.ensures.own) in
+          (rw (c.tracks-tracks.ensures ∙ c.requires.content.tracks ∙ ap (λ (ds : List ℕ). tracks_left c.args.content.now.leaving ds m.tracks) are.tracks) at c.in-Some.ensures.own) in
           let first = read_at nexts turn.track (slice_get t.left 0) c.index_mut-next.result.now (ap (λ k. slice_get nexts k) t.place ∙ t.shown) c.index_mut-next.ensures.value in
-          let own = one_there c.args.content.now.of_tracks.items c.in-Some.turn.track _ _ c.reduction-reduction.ensures (reduced_there c.args.content.now.leaving tree c.args.content.now.of_tracks.items c.in-Some.turn.track t.t by (ap (λ k. slice_get tree.movie.tracks k) t.place ∙ t.is_tree)) in
+          let own = one_there c.args.content.now.of_tracks.items c.in-Some.turn.track _ _ c.reduction-reduction.ensures (reduced_there c.args.content.now.leaving file tree c.args.content.now.of_tracks.items c.in-Some.turn.track t.t by (ap (λ k. slice_get tree.movie.tracks k) t.place ∙ t.is_tree)) in
           let planned = (rw (i.4, i.2, own) at p.planned) told tree t.t t.left o t.comes first in
           let count = ap (λ (q : Planned). q.count) planned.0 ∙ piece_counts turn.end t.left in
           let there = get_or c.tracks-infos.result.now turn.track c.index-infos-turn.result in
           let kept = sym c.index-infos-turn.is ∙ kept_there m.tracks turn.track s.track t.info c.index-infos-turn.result t.place t.is_info (rw c.tracks-infos.ensures at c.index-infos-turn.is) in
           let adds : Adds (keys_seen there.keys) c.in_ok-planned.planned c.loop-turn.len c.len_with-len.result = record { none = c.len_with-len.ensures.none; some = c.len_with-len.ensures.some } in
           length_skips c.args.content.now.leaving file tree m (turned s turn.end c.in_ok-planned.planned.count c.plan_turn.new.next) c.pass.new.self (slice_set walks turn.track c.plan_turn.new.walk) (slice_set nexts turn.track c.plan_turn.new.next)
-          c.pass.new.due o c.in_ok-pass.ensures.turned due_next c.len_with-len.result
+          c.pass.new.due o c.in_ok-pass.ensures.turned (subst (λ (ds : List ℕ). IsDueAt (tracks_left c.args.content.now.leaving ds m.tracks) (slice_set nexts turn.track c.plan_turn.new.next) c.pass.new.self c.pass.new.due) are.tracks due_next) c.len_with-len.result
           (length_next c.args.content.now.leaving file tree m s walks nexts h.lefts h.comings o h.at turn.track c.index_mut-walk.result.now turn.end t at.1 c.plan_turn.new.walk c.in_ok-planned.planned.count c.plan_turn.new.next
           (turned s turn.end c.in_ok-planned.planned.count c.plan_turn.new.next)
           count planned.1 planned.2 refl
@@ -116,7 +116,7 @@ loop-turn-preserved g c =
     )
 
 pub returns-in_err-pass-clause-unchanged : goal.returns-in_err-pass-clause-unchanged
-returns-in_err-pass-clause-unchanged g c told tree o by near =
+returns-in_err-pass-clause-unchanged g c told tree o are by near =
     let file = g.S.Store.file c.args.store.now in
     let m = c.args.movie.now in
     let i = c.loop-turn.invariant in
@@ -126,23 +126,25 @@ returns-in_err-pass-clause-unchanged g c told tree o by near =
     let p = c.in_ok-planned.ensures in
     let turn = c.in-Some.turn in
     let at = c.in-Some.ensures.track in
-    let h = i.5 told tree o by near in
+    let h = i.5 told tree o are by near in
     let t = has_turn c.args.content.now.leaving file tree m s walks nexts h.lefts h.comings o h.at turn.track c.index_mut-walk.result.now turn.end turn.id at c.index_mut-walk.ensures.value i.0.count
-    (rw (c.tracks-tracks.ensures ∙ c.requires.content.tracks) at c.in-Some.ensures.own) in
+    (rw (c.tracks-tracks.ensures ∙ c.requires.content.tracks ∙ ap (λ (ds : List ℕ). tracks_left c.args.content.now.leaving ds m.tracks) are.tracks) at c.in-Some.ensures.own) in
     let first = read_at nexts turn.track (slice_get t.left 0) c.index_mut-next.result.now (ap (λ k. slice_get nexts k) t.place ∙ t.shown) c.index_mut-next.ensures.value in
-    let own = one_there c.args.content.now.of_tracks.items c.in-Some.turn.track _ _ c.reduction-reduction.ensures (reduced_there c.args.content.now.leaving tree c.args.content.now.of_tracks.items c.in-Some.turn.track t.t by (ap (λ k. slice_get tree.movie.tracks k) t.place ∙ t.is_tree)) in
+    let own = one_there c.args.content.now.of_tracks.items c.in-Some.turn.track _ _ c.reduction-reduction.ensures (reduced_there c.args.content.now.leaving file tree c.args.content.now.of_tracks.items c.in-Some.turn.track t.t by (ap (λ k. slice_get tree.movie.tracks k) t.place ∙ t.is_tree)) in
     let planned = (rw (i.4, i.2, own) at p.planned) told tree t.t t.left o t.comes first in
     let count = ap (λ (q : Planned). q.count) planned.0 ∙ piece_counts turn.end t.left in
     let sticks = rw (c.tracks-tracks.ensures ∙ c.requires.content.tracks) at c.in_err-pass.ensures.sticks in
     absurd (either (sticks nexts i.9.times)
-    (turn_leads c.args.content.now.leaving file tree m s walks nexts h.lefts h.comings o h.at turn.track c.index_mut-walk.result.now turn.end t at.1 c.in_ok-planned.planned.count c.plan_turn.new.next c.loop-turn.plan.due count planned.2 i.9)
-    (no_more c.args.content.now.leaving file tree m s walks nexts h.lefts h.comings o h.at turn.track c.index_mut-walk.result.now turn.end t at.1 c.plan_turn.new.walk c.in_ok-planned.planned.count c.plan_turn.new.next (turned s turn.end c.in_ok-planned.planned.count c.plan_turn.new.next)
-    count planned.1 planned.2 refl c.pass.new.due c.pass.new.self))
+    (turn_leads c.args.content.now.leaving file tree m s walks nexts h.lefts h.comings o h.at turn.track c.index_mut-walk.result.now turn.end t at.1 c.in_ok-planned.planned.count c.plan_turn.new.next c.loop-turn.plan.due count planned.2
+    (subst (λ (ds : List ℕ). IsDueAt (tracks_left c.args.content.now.leaving ds m.tracks) nexts s c.loop-turn.plan.due) are.tracks i.9))
+    (λ f. no_more c.args.content.now.leaving file tree m s walks nexts h.lefts h.comings o h.at turn.track c.index_mut-walk.result.now turn.end t at.1 c.plan_turn.new.walk c.in_ok-planned.planned.count c.plan_turn.new.next (turned s turn.end c.in_ok-planned.planned.count c.plan_turn.new.next)
+    count planned.1 planned.2 refl c.pass.new.due c.pass.new.self
+    (subst (λ (ds : List ℕ). FindsMore (tracks_left c.args.content.now.leaving ds m.tracks) (slice_set nexts s.track c.plan_turn.new.next) (turned s turn.end c.in_ok-planned.planned.count c.plan_turn.new.next) c.pass.new.self c.pass.new.due) are.tracks f)))
 
 pub returns-clause-length : goal.returns-clause-length
-returns-clause-length g c told tree o by near =
+returns-clause-length g c told tree o are by near =
     let i = c.loop-turn.invariant in
-    length_end c.args.content.now.leaving (g.S.Store.file c.args.store.now) tree c.args.movie.now c.loop-turn.plan.schedule c.loop-turn.plan.walks.items c.loop-turn.plan.nexts.items c.loop-turn.len (i.5 told tree o by near) (c.in_default.ensures.none refl)
+    length_end c.args.content.now.leaving (g.S.Store.file c.args.store.now) tree c.args.movie.now c.loop-turn.plan.schedule c.loop-turn.plan.walks.items c.loop-turn.plan.nexts.items c.loop-turn.len (i.5 told tree o are by near) (c.in_default.ensures.none refl)
 
 pub returns-in_err-planned-clause-work : goal.returns-in_err-planned-clause-work
 returns-in_err-planned-clause-work g c told tree o =

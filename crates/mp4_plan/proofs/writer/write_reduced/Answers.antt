@@ -5,8 +5,8 @@ use Rattle.mp4_store.specs.words.Device.{TakesPrefix}
 use Rattle.mp4_store.proofs.Known.{TakesPrefix-nothing}
 use Rattle.mp4_present.specs.format.Denotes.{presentation_of}
 use Rattle.mp4_content.specs.declared.without.Without.{Without}
-use Rattle.mp4_content.specs.format.Reduced.{reduce}
-use Rattle.mp4_content.specs.format.ReducedTimes.{ReducesInLimits}
+use Rattle.mp4_content.specs.format.Remaining.{remaining}
+use Rattle.mp4_content.specs.format.Remaining.{RemainsInLimits}
 use Rattle.mp4_present.proofs.WalkCopied.{on_ok}
 use Rattle.mp4_plan.specs.format.Normal.{normal}
 use Rattle.mp4_plan.specs.words.Writers.{IsReady}
@@ -22,17 +22,17 @@ returns-in_err-writer-clause-prefix g c = λ told tree o.
 
 pub returns-clause-bytes : goal.returns-clause-bytes
 returns-clause-bytes g c = λ told tree o.
-    let bytes = still_opened _ _ _ _ c.args.movie.now (λ file t. IsReady file t c.args.movie.now c.in_ok-writer.writer → OnOk c.write.result (g.K.Sink.takes c.args.sink.now c.write.new.sink (normal (reduce c.in_ok-writer.writer.content.leaving (presentation_of file t)))))
+    let bytes = still_opened _ _ _ _ c.args.movie.now (λ file t. IsReady file t c.args.movie.now c.in_ok-writer.writer → OnOk c.write.result (g.K.Sink.takes c.args.sink.now c.write.new.sink (normal (remaining c.in_ok-writer.writer.content.leaving (presentation_of file t)))))
     c.in_ok-writer.ensures.store.honesty c.in_ok-writer.ensures.store.file c.write.ensures.bytes in
-    subst (λ (l : Without). OnOk c.write.result (g.K.Sink.takes c.args.sink.now c.write.new.sink (normal (reduce l (presentation_of (g.S.Store.file c.args.store.now) tree)))))
+    subst (λ (l : Without). OnOk c.write.result (g.K.Sink.takes c.args.sink.now c.write.new.sink (normal (remaining l (presentation_of (g.S.Store.file c.args.store.now) tree)))))
     c.in_ok-writer.ensures.made.left (bytes told tree o (c.in_ok-writer.ensures.ready told tree o).0.ready)
 
 pub returns-clause-prefix : goal.returns-clause-prefix
 returns-clause-prefix g c = λ told tree o.
     let prefix = still_opened _ _ _ _ c.args.movie.now (λ file t. IsReady file t c.args.movie.now c.in_ok-writer.writer
-    → OnErr c.write.result (TakesPrefix (g.K.Sink.takes c.args.sink.now c.write.new.sink) (normal (reduce c.in_ok-writer.writer.content.leaving (presentation_of file t)))))
+    → OnErr c.write.result (TakesPrefix (g.K.Sink.takes c.args.sink.now c.write.new.sink) (normal (remaining c.in_ok-writer.writer.content.leaving (presentation_of file t)))))
     c.in_ok-writer.ensures.store.honesty c.in_ok-writer.ensures.store.file c.write.ensures.prefix in
-    subst (λ (l : Without). OnErr c.write.result (TakesPrefix (g.K.Sink.takes c.args.sink.now c.write.new.sink) (normal (reduce l (presentation_of (g.S.Store.file c.args.store.now) tree)))))
+    subst (λ (l : Without). OnErr c.write.result (TakesPrefix (g.K.Sink.takes c.args.sink.now c.write.new.sink) (normal (remaining l (presentation_of (g.S.Store.file c.args.store.now) tree)))))
     c.in_ok-writer.ensures.made.left (prefix told tree o (c.in_ok-writer.ensures.ready told tree o).0.ready)
 
 pub returns-clause-whole : goal.returns-clause-whole
@@ -66,7 +66,7 @@ returns-clause-long g c = λ told tree o.
     let file = g.S.Store.file c.args.store.now in
     let in_limits = (c.in_ok-writer.ensures.ready told tree o).1 in
     record {
-      in_limits = so_if_ok c.write.result (ReducesInLimits c.args.leaving (presentation_of file tree)) in_limits;
+      in_limits = so_if_ok c.write.result (RemainsInLimits c.args.leaving (presentation_of file tree)) in_limits;
       fault = carried_names c.args.leaving file tree c.write.result _ _ _ _ c.write.ensures.refusal;
       nothing = λ long. absurd (long in_limits);
       begun = so_if_err c.write.result _ in_limits;

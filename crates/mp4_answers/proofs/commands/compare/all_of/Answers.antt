@@ -1,7 +1,7 @@
 use Rattle.std.proofs.Common.{rules, inl, inr}
 use Rattle.std.proofs.lemmas.Result.{err_from_is_err_and}
 use Rattle.mp4_content.specs.words.Compared.{files_listed}
-use Rattle.mp4_answers.proofs.ComparedFiles.{listed_front}
+use Rattle.mp4_answers.proofs.ComparedFiles.{compared_once, listed_front}
 use Rattle.mp4_answers.proofs.commands.compare.all_of.Goals.{else-not-is_whole-via-then-not-is_whole+else-len-le-MOST, else-not-is_whole-via-else-not-is_whole}
 use Rattle.mp4_answers.proofs.commands.compare.all_of.Goals as goal
 
@@ -16,10 +16,10 @@ returns-clause-all g c = λ told right tree other o u.
 pub returns-in_err-is_whole-clause-opened : goal.returns-in_err-is_whole-clause-opened
 returns-in_err-is_whole-clause-opened g c = λ told right tree other o u.
     let p = err_from_is_err_and c.from_residual-in_err-is_whole.result c.from_residual-in_err-is_whole.ensures.1 in
-    (rw (p.1, p.2) (c.in_err-is_whole.ensures.unchanged told right tree other o u), c.compare_listed.ensures.work told right tree other o u)
+    (rw (p.1, p.2) (c.in_err-is_whole.ensures.unchanged told right tree other o u), compared_once c.args.leaving tree other _ _ (c.compare_listed.ensures.work told right tree other o u))
 
 pub returns-then-len-le-MOST-clause-opened : goal.returns-then-len-le-MOST-clause-opened
-returns-then-len-le-MOST-clause-opened g c = λ told right tree other o u. ((λ e. absurd cc), c.compare_listed.ensures.work told right tree other o u)
+returns-then-len-le-MOST-clause-opened g c = λ told right tree other o u. ((λ e. absurd cc), compared_once c.args.leaving tree other _ _ (c.compare_listed.ensures.work told right tree other o u))
 
 pub returns-clause-opened : goal.returns-clause-opened
-returns-clause-opened g c = λ told right tree other o u. (tt, c.compare_listed.ensures.work told right tree other o u)
+returns-clause-opened g c = λ told right tree other o u. (tt, compared_once c.args.leaving tree other _ _ (c.compare_listed.ensures.work told right tree other o u))

@@ -1,32 +1,34 @@
-use Rattle.std.proofs.Common.{rules, ◌≡◌, ℕ, nat_le, length, take, sym, ap, ◌∙◌}
+use Rattle.std.proofs.Common.{rules, ◌≡◌, ℕ, List, nat_le, length, take, sym, ap, subst, ◌∙◌}
+use Rattle.mp4_content.specs.declared.comparing.differences.Difference.{Difference}
+use Rattle.mp4_content.specs.declared.without.Without.{Without}
+use Rattle.mp4_answers.specs.words.Compares.{IsEnough}
 use Rattle.std.proofs.lemmas.Result.{err_from_is_err_and}
 use Rattle.mp4_present.specs.format.Denotes.{presentation_of}
 use Rattle.mp4_present.specs.words.WalkSteps.{walks_steps}
-use Rattle.mp4_content.specs.format.Reduced.{reduce}
+use Rattle.mp4_content.specs.format.Remaining.{remaining}
 use Rattle.mp4_content.specs.words.Compared.{files_listed}
-use Rattle.mp4_answers.specs.declared.commands.compare.Listing.TheVariants.{All}
-use Rattle.mp4_answers.proofs.ComparedFiles.{aligning_walks, empty_listed, listing_walks, one_of_times, some_listed, some_walks}
-use Rattle.mp4_answers.specs.format.CompareHeadline.{most_counted, most_walks}
-use Rattle.mp4_answers.proofs.ComparedTexts.{counted_listed}
+use Rattle.mp4_answers.proofs.ComparedFiles.{aligning_joined, all_joined, empty_listed, listing_alone, some_listed}
+use Rattle.mp4_answers.specs.format.CompareHeadline.{most_counted}
+use Rattle.mp4_answers.proofs.ComparedTexts.{counted_listed, differ_at, differ_is}
 use Rattle.mp4_answers.proofs.ListedAligned.{listed_none, none_listed}
 use Rattle.mp4_answers.proofs.commands.compare.all_text.Goals as goal
 
 pub returns-then-is_empty-clause-said : goal.returns-then-is_empty-clause-said
 returns-then-is_empty-clause-said g c = λ told right tree other o u.
-    let p = reduce c.args.files.now.given (presentation_of (g.S.Store.file c.args.left.now) tree) in
-    let q = reduce c.args.files.now.given (presentation_of (g.T.Store.file c.args.right.now) other) in
-    listed_none p q c.args.lines.aligned (empty_listed c.in_ok-listed.listed.all.items _ (c.in_ok-listed.ensures.all told right tree other o u) (sym c.is_empty.ensures ∙ c.if-is_empty.true))
+    let p = remaining c.args.files.now.given (presentation_of (g.S.Store.file c.args.left.now) tree) in
+    let q = remaining c.args.files.now.given (presentation_of (g.T.Store.file c.args.right.now) other) in
+    differ_at _ tree _ other c.args.files.now.given ∙ listed_none p q c.args.lines.aligned (empty_listed c.in_ok-listed.listed.all.items _ (c.in_ok-listed.ensures.all told right tree other o u) (sym c.is_empty.ensures ∙ c.if-is_empty.true))
 
 pub returns-then-is_empty-clause-opened : goal.returns-then-is_empty-clause-opened
 returns-then-is_empty-clause-opened g c = λ told right tree other o u.
-    (tt, one_of_times _ _ (walks_steps tree) (walks_steps other) (most_walks (All c.args.lines)) (some_walks (All c.args.lines)) (c.in_ok-listed.ensures.opened told right tree other o u).1)
+    (tt, listing_alone _ _ (walks_steps tree) (walks_steps other) c.args.files.now.given c.args.lines (c.in_ok-listed.ensures.opened told right tree other o u).1)
 
 pub returns-in_err-listed-clause-opened : goal.returns-in_err-listed-clause-opened
 returns-in_err-listed-clause-opened g c =
     let p = err_from_is_err_and c.from_residual.result c.from_residual.ensures.1 in
     rw (p.1, p.2) (λ told right tree other o u.
     let e = c.in_err-listed.ensures.opened told right tree other o u in
-    (e.0, one_of_times _ _ (walks_steps tree) (walks_steps other) (most_walks (All c.args.lines)) (some_walks (All c.args.lines)) e.1))
+    (e.0, listing_alone _ _ (walks_steps tree) (walks_steps other) c.args.files.now.given c.args.lines e.1))
 
 pub returns-in_err-found-clause-opened : goal.returns-in_err-found-clause-opened
 returns-in_err-found-clause-opened g c =
@@ -35,7 +37,7 @@ returns-in_err-found-clause-opened g c =
     let more = rw (is.stores.left.honesty, is.stores.left.file, is.stores.right.honesty, is.stores.right.file) at c.in_err-found.ensures.opened in
     rw (p.1, p.2) (λ told right tree other o u.
     let e = more told right tree other o u in
-    (e.0, aligning_walks _ _ _ (walks_steps tree) (walks_steps other) c.args.lines (is.opened told right tree other o u).1 e.1))
+    (e.0, aligning_joined _ _ _ (walks_steps tree) (walks_steps other) c.args.files.now.given c.args.lines (is.opened told right tree other o u).1 e.1))
 
 pub returns-in_err-enough-clause-opened : goal.returns-in_err-enough-clause-opened
 returns-in_err-enough-clause-opened g c =
@@ -46,7 +48,7 @@ returns-in_err-enough-clause-opened g c =
     let more = rw (next.stores.left.honesty, next.stores.left.file, next.stores.right.honesty, next.stores.right.file, is.stores.left.honesty, is.stores.left.file, is.stores.right.honesty, is.stores.right.file) at c.in_err-enough.ensures.opened in
     rw (p.1, p.2) (λ told right tree other o u.
     let e = more told right tree other o u in
-    (e.0, listing_walks _ _ _ _ (walks_steps tree) (walks_steps other) c.args.lines (is.opened told right tree other o u).1 (beside told right tree other o u).1 e.1))
+    (e.0, all_joined _ _ _ _ (walks_steps tree) (walks_steps other) c.args.files.now.given c.args.lines (is.opened told right tree other o u).1 (beside told right tree other o u).1 e.1))
 
 pub returns-in_err-listed_text-clause-opened : goal.returns-in_err-listed_text-clause-opened
 returns-in_err-listed_text-clause-opened g c =
@@ -55,14 +57,14 @@ returns-in_err-listed_text-clause-opened g c =
     let next = c.in_ok-found.ensures in
     let beside = rw (is.stores.left.honesty, is.stores.left.file, is.stores.right.honesty, is.stores.right.file) at next.opened in
     let more = rw (next.stores.left.honesty, next.stores.left.file, next.stores.right.honesty, next.stores.right.file, is.stores.left.honesty, is.stores.left.file, is.stores.right.honesty, is.stores.right.file) at c.in_ok-enough.ensures.opened in
-    rw (p.1, p.2) (λ told right tree other o u. (λ e. cc, listing_walks _ _ _ _ (walks_steps tree) (walks_steps other) c.args.lines (is.opened told right tree other o u).1 (beside told right tree other o u).1 (more told right tree other o u).1))
+    rw (p.1, p.2) (λ told right tree other o u. (λ e. cc, all_joined _ _ _ _ (walks_steps tree) (walks_steps other) c.args.files.now.given c.args.lines (is.opened told right tree other o u).1 (beside told right tree other o u).1 (more told right tree other o u).1))
 
 pub returns-clause-said : goal.returns-clause-said
 returns-clause-said g c = λ told right tree other o u none.
-    let p = reduce c.args.files.now.given (presentation_of (g.S.Store.file c.args.left.now) tree) in
-    let q = reduce c.args.files.now.given (presentation_of (g.T.Store.file c.args.right.now) other) in
+    let p = remaining c.args.files.now.given (presentation_of (g.S.Store.file c.args.left.now) tree) in
+    let q = remaining c.args.files.now.given (presentation_of (g.T.Store.file c.args.right.now) other) in
     some_listed c.in_ok-listed.listed.all.items _
-    (c.in_ok-listed.ensures.all told right tree other o u) (sym c.is_empty.ensures ∙ c.if-is_empty.false) (none_listed p q c.args.lines.aligned none)
+    (c.in_ok-listed.ensures.all told right tree other o u) (sym c.is_empty.ensures ∙ c.if-is_empty.false) (none_listed p q c.args.lines.aligned (sym (differ_at _ tree _ other c.args.files.now.given) ∙ none))
 
 pub returns-clause-opened : goal.returns-clause-opened
 returns-clause-opened g c = λ told right tree other o u.
@@ -70,7 +72,7 @@ returns-clause-opened g c = λ told right tree other o u.
     let next = c.in_ok-found.ensures in
     let beside = rw (is.stores.left.honesty, is.stores.left.file, is.stores.right.honesty, is.stores.right.file) at next.opened in
     let more = rw (next.stores.left.honesty, next.stores.left.file, next.stores.right.honesty, next.stores.right.file, is.stores.left.honesty, is.stores.left.file, is.stores.right.honesty, is.stores.right.file) at c.in_ok-enough.ensures.opened in
-    (tt, listing_walks _ _ _ _ (walks_steps tree) (walks_steps other) c.args.lines (is.opened told right tree other o u).1 (beside told right tree other o u).1 (more told right tree other o u).1)
+    (tt, all_joined _ _ _ _ (walks_steps tree) (walks_steps other) c.args.files.now.given c.args.lines (is.opened told right tree other o u).1 (beside told right tree other o u).1 (more told right tree other o u).1)
 
 -- ---- what is said
 
@@ -88,6 +90,6 @@ returns-clause-told g c = λ told right tree other o u.
       c.in_ok-found.found.items,
       beside told right tree other o u,
       c.in_ok-enough.enough,
-      named told right tree other o u,
+      subst (λ (differ : Without → List Difference). IsEnough c.args.files.now.given differ c.in_ok-enough.enough) (differ_is _ tree _ other) (named told right tree other o u),
       counted_listed c.args.lines c.in_ok-found.found.items c.in_ok-listed.listed.all.items ds c.first_of-all.result.now _ c.in_ok-enough.enough c.in_ok-listed_text.field-0.items front taken whole (rw c.as_slice-2.ensures.value at c.in_ok-listed_text.ensures.list),
     )

@@ -10,12 +10,12 @@ use Rattle.mp4_answers.proofs.commands.compare.compare_files.Goals as goal
 pub returns-in-Err-clause-work : goal.returns-in-Err-clause-work
 returns-in-Err-clause-work g c = λ told right.
     let is = c.in-Err in
-    first_alone c.args.asked.listing _ _ _ _ (not_looked _ _ _ _ _ _ is.refusal told is.ensures.refusal (is.ensures.work told).work (is.ensures.work told).within)
+    first_alone c.args.asked.leaving c.args.asked.listing _ _ _ _ (not_looked _ _ _ _ _ _ is.refusal told is.ensures.refusal (is.ensures.work told).work (is.ensures.work told).within)
 
 pub returns-in-Err-open_movie-clause-work : goal.returns-in-Err-open_movie-clause-work
 returns-in-Err-open_movie-clause-work g c = λ told right.
     let is = c.in-Err-open_movie in
-    both_looked c.args.asked.listing _ _ c.in-Ok.first _ _ _ (c.in-Ok.ensures.movie told) (c.in-Ok.ensures.work told).work
+    both_looked c.args.asked.leaving c.args.asked.listing _ _ c.in-Ok.first _ _ _ (c.in-Ok.ensures.movie told) (c.in-Ok.ensures.work told).work
     (not_looked _ _ _ _ _ _ is.refusal right is.ensures.refusal (is.ensures.work right).work (is.ensures.work right).within)
 
 pub returns-in-Err-text_of-clause-answer : goal.returns-in-Err-text_of-clause-answer
@@ -41,7 +41,7 @@ returns-in-Err-text_of-clause-work g c = λ told right.
     let left = c.in-Ok.ensures in
     let next = c.in-Ok-open_movie.ensures in
     let walks = rw (left.store.honesty, left.store.file, next.store.honesty, next.store.file) at c.in-Err-text_of.ensures.opened in
-    both_walked c.args.asked.listing _ _ _ _ _ _ _ _ (left.movie told) (next.movie right) (left.work told).work (next.work right).work (λ tree other o u. (walks told right tree other o u).1)
+    both_walked c.args.asked.leaving c.args.asked.listing _ _ _ _ _ _ _ _ (left.movie told) (next.movie right) (left.work told).work (next.work right).work (λ tree other o u. (walks told right tree other o u).1)
 
 pub returns-in-Ok-put_found-clause-verdict : goal.returns-in-Ok-put_found-clause-verdict
 returns-in-Ok-put_found-clause-verdict g c = λ told right.
@@ -57,14 +57,14 @@ returns-in-Ok-put_found-clause-work g c = λ told right.
     let left = c.in-Ok.ensures in
     let next = c.in-Ok-open_movie.ensures in
     let walks = rw (left.store.honesty, left.store.file, next.store.honesty, next.store.file) at c.in-Ok-text_of.ensures.opened in
-    both_walked c.args.asked.listing _ _ _ _ _ _ _ _ (left.movie told) (next.movie right) (left.work told).work (next.work right).work (λ tree other o u. (walks told right tree other o u).1)
+    both_walked c.args.asked.leaving c.args.asked.listing _ _ _ _ _ _ _ _ (left.movie told) (next.movie right) (left.work told).work (next.work right).work (λ tree other o u. (walks told right tree other o u).1)
 
 pub returns-clause-work : goal.returns-clause-work
 returns-clause-work g c = λ told right.
     let left = c.in-Ok.ensures in
     let next = c.in-Ok-open_movie.ensures in
     let walks = rw (left.store.honesty, left.store.file, next.store.honesty, next.store.file) at c.in-Ok-text_of.ensures.opened in
-    both_walked c.args.asked.listing _ _ _ _ _ _ _ _ (left.movie told) (next.movie right) (left.work told).work (next.work right).work (λ tree other o u. (walks told right tree other o u).1)
+    both_walked c.args.asked.leaving c.args.asked.listing _ _ _ _ _ _ _ _ (left.movie told) (next.movie right) (left.work told).work (next.work right).work (λ tree other o u. (walks told right tree other o u).1)
 
 pub returns-in-Ok-put_found-clause-least : goal.returns-in-Ok-put_found-clause-least
 returns-in-Ok-put_found-clause-least g c = λ told right p q d e.

@@ -1,29 +1,58 @@
 use Rattle.std.proofs.Common.{sym, ◌∙◌}
 use Rattle.mp4_present.specs.words.WalkSteps.{walks_steps}
-use Rattle.mp4_content.specs.words.Compared.{files_differ}
+use Rattle.std.proofs.lemmas.Result.{err_from_is_err_and}
 use Rattle.mp4_answers.specs.format.CompareHeadline.{most_walks}
-use Rattle.mp4_answers.proofs.ComparedFiles.{first_said, one_of_times, some_walks}
+use Rattle.mp4_answers.specs.words.TwoFiles.{differ_without}
+use Rattle.mp4_answers.proofs.ComparedTexts.{first_differs}
+use Rattle.mp4_answers.proofs.ComparedFiles.{compared_at_most, few_times_of, first_said, two_or_more}
 use Rattle.mp4_answers.proofs.commands.compare.text_of.Goals as goal
+
+pub returns-in_err-compare-in-First-clause-opened : goal.returns-in_err-compare-in-First-clause-opened
+returns-in_err-compare-in-First-clause-opened g c =
+    let p = err_from_is_err_and c.from_residual.result c.from_residual.ensures.1 in
+    rw (p.1, p.2) (λ told right tree other o u.
+    let e = c.in_err-compare-in-First.ensures in (
+      e.unchanged told right tree other o u,
+      few_times_of _ _ (walks_steps tree) (walks_steps other) 2 (most_walks c.args.files.now.given c.args.listing) (two_or_more c.args.files.now.given c.args.listing)
+          (compared_at_most c.args.files.now.given tree other _ _ (e.work told right tree other o u)),
+    ))
+
+pub returns-in_err-first_text-in-Some-clause-opened : goal.returns-in_err-first_text-in-Some-clause-opened
+returns-in_err-first_text-in-Some-clause-opened g c =
+    let p = err_from_is_err_and c.from_residual-in_err-first_text-in-Some.result c.from_residual-in_err-first_text-in-Some.ensures.1 in
+    rw (p.1, p.2) (λ told right tree other o u. (
+      (λ e. cc),
+      few_times_of _ _ (walks_steps tree) (walks_steps other) 2 (most_walks c.args.files.now.given c.args.listing) (two_or_more c.args.files.now.given c.args.listing)
+          (compared_at_most c.args.files.now.given tree other _ _ (c.in_ok-compare-in-First.ensures.work told right tree other o u)),
+    ))
 
 pub returns-in-None-clause-said : goal.returns-in-None-clause-said
 returns-in-None-clause-said g c = λ told right tree other o u.
     let is = c.in_ok-compare-in-First in
-    let said = first_said is.field-0 (files_differ c.args.files.now.given (g.S.Store.file c.args.left.now) tree (g.T.Store.file c.args.right.now) other) (is.ensures.first told right tree other o u) in
+    let differ = differ_without (g.S.Store.file c.args.left.now) tree (g.T.Store.file c.args.right.now) other in
+    let said = first_said is.field-0 (differ c.args.files.now.given) (first_differs c.args.files.now.given _ tree _ other is.field-0 (is.ensures.first told right tree other o u)) in
     rw c.in-None.is at said
 
 pub returns-in-None-clause-opened : goal.returns-in-None-clause-opened
-returns-in-None-clause-opened g c = λ told right tree other o u.
-    (tt, one_of_times _ _ (walks_steps tree) (walks_steps other) (most_walks c.args.listing) (some_walks c.args.listing) (c.in_ok-compare-in-First.ensures.work told right tree other o u))
+returns-in-None-clause-opened g c = λ told right tree other o u. (
+  tt,
+  few_times_of _ _ (walks_steps tree) (walks_steps other) 2 (most_walks c.args.files.now.given c.args.listing) (two_or_more c.args.files.now.given c.args.listing)
+      (compared_at_most c.args.files.now.given tree other _ _ (c.in_ok-compare-in-First.ensures.work told right tree other o u)),
+)
 
 pub returns-in_ok-first_text-in-Some-clause-said : goal.returns-in_ok-first_text-in-Some-clause-said
 returns-in_ok-first_text-in-Some-clause-said g c = λ told right tree other o u.
     let is = c.in_ok-compare-in-First in
-    let said = first_said is.field-0 (files_differ c.args.files.now.given (g.S.Store.file c.args.left.now) tree (g.T.Store.file c.args.right.now) other) (is.ensures.first told right tree other o u) in
+    let differ = differ_without (g.S.Store.file c.args.left.now) tree (g.T.Store.file c.args.right.now) other in
+    let said = first_said is.field-0 (differ c.args.files.now.given) (first_differs c.args.files.now.given _ tree _ other is.field-0 (is.ensures.first told right tree other o u)) in
     rw c.in-Some.is at said
 
 pub returns-in_ok-first_text-in-Some-clause-opened : goal.returns-in_ok-first_text-in-Some-clause-opened
-returns-in_ok-first_text-in-Some-clause-opened g c = λ told right tree other o u.
-    (tt, one_of_times _ _ (walks_steps tree) (walks_steps other) (most_walks c.args.listing) (some_walks c.args.listing) (c.in_ok-compare-in-First.ensures.work told right tree other o u))
+returns-in_ok-first_text-in-Some-clause-opened g c = λ told right tree other o u. (
+  tt,
+  few_times_of _ _ (walks_steps tree) (walks_steps other) 2 (most_walks c.args.files.now.given c.args.listing) (two_or_more c.args.files.now.given c.args.listing)
+      (compared_at_most c.args.files.now.given tree other _ _ (c.in_ok-compare-in-First.ensures.work told right tree other o u)),
+)
 
 -- ---- the first
 

@@ -30,9 +30,10 @@ returns-clause-told g c told tree t samples o k same lie place info at there key
     let style = c.new-style.result in
     let e = c.in_ok-reduction.ensures in
     let lines = (rw (e.store.honesty, e.store.file) at c.put_walk.ensures.told) told tree t samples o (e.coming told tree t samples o k) lie in
-    let by = e.reduction told tree t samples o k same ∙ ap (reduction_of l) same in
+    let d = c.args.divisor in
+    let by = e.reduction told tree t samples o k same ∙ ap (reduction_of l d) same in
     let is = subst (λ (r : Reduction). IsStyle r info.keys style) by (subst (λ (ks : Keys). IsStyle c.in_ok-reduction.reduction ks style) keys c.new-style.ensures) in
-    let text = ap (flat_map (told_sample style file)) same ∙ track_told l style file c.args.of.movie.now tree t place info o at there is in
+    let text = ap (flat_map (told_sample style file)) same ∙ track_told l d style file c.args.of.movie.now tree t place info o at there is in
     subst (λ (bs : List ℕ). TellsOn g.K.Sink c.args.sink.now c.put_walk.new.sink c.args.desk.now.text c.put_walk.new.desk.text bs c.put_walk.result) text lines
 
 pub returns-clause-work : goal.returns-clause-work

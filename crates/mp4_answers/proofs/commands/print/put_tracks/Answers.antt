@@ -30,7 +30,10 @@ loop-track-preserved g c =
     let l = c.args.of.leaving in
     let m = c.args.of.movie.now in
     let known = c.args.of.heads.now in
+    let scales = c.args.of.scales.now in
     let k = c.loop-track.track in
+    let divisor = c.track-divisor.result in
+    let divides = c.track-divisor.ensures in
     let head = c.index-heads-track.result in
     let info = c.index-tracks-track.result in
     let h_lt : k < length known = search rules in
@@ -57,13 +60,14 @@ loop-track-preserved g c =
       looks = e.looks ∙ i.looks;
       puts = e.store.puts ∙ c.in_ok-put_front.ensures.puts ∙ i.puts;
       told = λ told tree o same.
-          let t = track_there l file m tree known k o same head info h_at i_at in
+          let t = track_there l file m tree scales known k o same head info h_at i_at divisor divides in
           let lines = (rw (i.honesty, i.file) at e.told) told tree t.0 (track_samples tree t.0) o (popped.0.coming file tree t.0 o t.1) refl (track_lies file m tree t.0 k o t.1) k info t.1 i_at refl in
           let may = popped.0.may file tree t.0 o t.1 in
           let few = may.2 in
           let walk = (rw (i.honesty, i.file) at e.work) told tree t.0 may.0 o may.1 in
-          track_next l file m tree known k o same head info h_at i_at joins sink c.loop-track.sink c.put_front.new.sink c.put_samples.new.sink held (waiting c.loop-track.desk.text) (waiting c.put_front.new.text) c.args.steps.now.passed c.loop-track.steps.passed (i.told told tree o same)
-          (rw c.start.ensures at c.in_ok-put_front.ensures.all) (waiting c.put_samples.new.desk.text) c.put_samples.new.steps.passed lines.text.all (omega (arith, few, walk));
+          track_next l file m tree scales known k o same head info h_at i_at divisor divides joins sink c.loop-track.sink c.put_front.new.sink c.put_samples.new.sink held (waiting c.loop-track.desk.text) (waiting c.put_front.new.text) c.args.steps.now.passed c.loop-track.steps.passed
+          (i.told told tree o same)
+          (rw c.start_of-start.ensures at c.in_ok-put_front.ensures.all) (waiting c.put_samples.new.desk.text) c.put_samples.new.steps.passed lines.text.all (omega (arith, few, walk));
     }
 
 pub returns-in_err-put_front-clause-told : goal.returns-in_err-put_front-clause-told
@@ -74,7 +78,10 @@ returns-in_err-put_front-clause-told g c =
     let l = c.args.of.leaving in
     let m = c.args.of.movie.now in
     let known = c.args.of.heads.now in
+    let scales = c.args.of.scales.now in
     let k = c.loop-track.track in
+    let divisor = c.track-divisor.result in
+    let divides = c.track-divisor.ensures in
     let head = c.index-heads-track.result in
     let info = c.index-tracks-track.result in
     let h_lt : k < length known = search rules in
@@ -93,7 +100,8 @@ returns-in_err-put_front-clause-told g c =
       lines = record {
         text = record {
           all = tt;
-          front = front_fails l file m tree known k o same head info h_at i_at joins sink c.loop-track.sink c.put_front.new.sink c.put_front.new.sink held (waiting c.loop-track.desk.text) held c.args.steps.now.passed c.loop-track.steps.passed h (rw c.start.ensures at e.front);
+          front = front_fails l file m tree scales known k o same head info h_at i_at divisor divides joins sink c.loop-track.sink c.put_front.new.sink c.put_front.new.sink held (waiting c.loop-track.desk.text) held c.args.steps.now.passed c.loop-track.steps.passed h
+              (rw c.start_of-start.ensures at e.front);
         };
         unchanged = put_unchanged _ _ c.in_err-put_front.field-0.0 e.refusal;
       };
@@ -108,7 +116,10 @@ returns-in_err-put_samples-clause-told g c =
     let l = c.args.of.leaving in
     let m = c.args.of.movie.now in
     let known = c.args.of.heads.now in
+    let scales = c.args.of.scales.now in
     let k = c.loop-track.track in
+    let divisor = c.track-divisor.result in
+    let divides = c.track-divisor.ensures in
     let head = c.index-heads-track.result in
     let info = c.index-tracks-track.result in
     let h_lt : k < length known = search rules in
@@ -124,7 +135,7 @@ returns-in_err-put_samples-clause-told g c =
     let begun = (walk_popped m k _ c.pop.new.self.items _ c.in-Some.ensures.items i.walks).0 in
     rw (p.1, p.2) (λ told tree o same.
     let h = i.told told tree o same in
-    let t = track_there l file m tree known k o same head info h_at i_at in
+    let t = track_there l file m tree scales known k o same head info h_at i_at divisor divides in
     let lines = (rw (i.honesty, i.file) at e.told) told tree t.0 (track_samples tree t.0) o (begun.coming file tree t.0 o t.1) refl (track_lies file m tree t.0 k o t.1) k info t.1 i_at refl in
     let may = begun.may file tree t.0 o t.1 in
     let few = may.2 in
@@ -133,12 +144,12 @@ returns-in_err-put_samples-clause-told g c =
       lines = record {
         text = record {
           all = tt;
-          front = lines_fail l file m tree known k o same head info h_at i_at joins sink c.loop-track.sink c.put_front.new.sink c.put_samples.new.sink held (waiting c.loop-track.desk.text) (waiting c.put_front.new.text) c.args.steps.now.passed c.loop-track.steps.passed h
-              (rw c.start.ensures at c.in_ok-put_front.ensures.all) lines.text.front;
+          front = lines_fail l file m tree scales known k o same head info h_at i_at divisor divides joins sink c.loop-track.sink c.put_front.new.sink c.put_samples.new.sink held (waiting c.loop-track.desk.text) (waiting c.put_front.new.text) c.args.steps.now.passed c.loop-track.steps.passed h
+              (rw c.start_of-start.ensures at c.in_ok-put_front.ensures.all) lines.text.front;
         };
         unchanged = lines.unchanged;
       };
-      steps = track_most l file m tree known k o same head info h_at i_at (g.K.Sink.takes sink c.loop-track.sink) held (waiting c.loop-track.desk.text) c.args.steps.now.passed c.loop-track.steps.passed c.put_samples.new.steps.passed h (omega (arith, few, walk));
+      steps = track_most l file m tree scales known k o same head info h_at i_at divisor divides (g.K.Sink.takes sink c.loop-track.sink) held (waiting c.loop-track.desk.text) c.args.steps.now.passed c.loop-track.steps.passed c.put_samples.new.steps.passed h (omega (arith, few, walk));
     })
 
 pub returns-clause-told : goal.returns-clause-told
@@ -151,7 +162,7 @@ returns-clause-told g c told tree o same =
     let stop : min (length known) (length m.tracks) ≤ k = search rules in
     record {
       lines = record {
-        text = record { all = tracks_end c.args.of.leaving file m tree known k _ _ _ c.args.steps.now.passed c.loop-track.steps.passed o same (λ e f. omega (arith, e, f, stop)) h; front = tt };
+        text = record { all = tracks_end c.args.of.leaving file m tree c.args.of.scales.now known k _ _ _ c.args.steps.now.passed c.loop-track.steps.passed o same (λ e f. omega (arith, e, f, stop)) h; front = tt };
         unchanged = tt;
       };
       steps = tracks_most c.args.of.leaving file tree k _ _ _ c.args.steps.now.passed c.loop-track.steps.passed h;

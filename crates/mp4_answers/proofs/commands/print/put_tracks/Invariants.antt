@@ -1,12 +1,9 @@
 use Rattle.std.proofs.Common.{◌≡◌, ◌≤◌, []}
-use Rattle.std.specs.Prelude.{IsTrue, map}
-use Rattle.mp4_head.specs.format.Tree.{track_head_of}
-use Rattle.mp4_head.specs.words.Seen.{track_seen}
+use Rattle.std.specs.Prelude.{IsTrue}
 use Rattle.mp4_present.specs.format.Denotes.{FileTree}
 use Rattle.mp4_present.specs.words.Carried.{waiting}
-use Rattle.mp4_content.specs.format.Reduced.{number_heads, reduce_track_head}
 use Rattle.mp4_present.specs.words.OpenedMovie.{IsOpenedAs}
-use Rattle.mp4_answers.specs.words.PrintedTracks.{AreWalks}
+use Rattle.mp4_answers.specs.words.PrintedTracks.{AreWalks, HeadsRemain}
 use Rattle.mp4_answers.proofs.PrintedTracks.{TracksTold}
 use Rattle.mp4_answers.proofs.commands.print.put_tracks.Given as goal
 
@@ -22,6 +19,6 @@ invariant-loop-track g l =
       reads : g.S.Store.read_failures l.store ≡ g.S.Store.read_failures l.fn.store;
       looks : l.steps.looks ≡ l.fn.steps.looks;
       puts : g.K.Sink.put_failures l.sink ≡ g.K.Sink.put_failures l.fn.sink;
-      told : IsTrue (g.S.Store.is_honest l.fn.store) → (tree : FileTree) → IsOpenedAs (g.S.Store.file l.fn.store) l.of.movie.now tree → map track_seen l.of.heads.now ≡ number_heads l.of.leaving 1 (map (reduce_track_head l.of.leaving) (map track_head_of tree.movie.tracks))
+      told : IsTrue (g.S.Store.is_honest l.fn.store) → (tree : FileTree) → IsOpenedAs (g.S.Store.file l.fn.store) l.of.movie.now tree → HeadsRemain l.of.leaving (g.S.Store.file l.fn.store) tree l.of.scales.now l.of.heads.now
           → TracksTold l.of.leaving (g.S.Store.file l.fn.store) tree l.track (g.K.Sink.takes l.fn.sink l.sink) (waiting l.fn.desk.text) (waiting l.desk.text) l.fn.steps.passed l.steps.passed;
     }

@@ -25,13 +25,13 @@ returns-clause-begins g c =
     let s = rw tracks at c.new-schedule.ensures in
     record {
       walks = rw same e.walks.walks;
-      nexts = (let long = ap length noted in let each : length c.peek_each.new.nexts ≡ length c.tracks-tracks.result.now = search rules in long ∙ each ∙ ap length tracks ∙ tracks_many l m.tracks);
-      schedule = record { tracks = s.tracks ∙ tracks_many l m.tracks; first = s.first; left = s.left ∙ tracks_samples l m.tracks; track = s.starts.0; next = s.starts.2 };
-      due = subst (λ (xs : List (Option SampleAt)). IsDueAt (tracks_left l m.tracks) xs c.new-schedule.result c.begin.new.due) c.as_slice-2.ensures.value (rw tracks at c.begin.ensures);
+      nexts = (let long = ap length noted in let each : length c.peek_each.new.nexts ≡ length c.tracks-tracks.result.now = search rules in long ∙ each ∙ ap length tracks ∙ tracks_many l c.args.content.now.scales.tracks.items m.tracks);
+      schedule = record { tracks = s.tracks ∙ tracks_many l c.args.content.now.scales.tracks.items m.tracks; first = s.first; left = s.left ∙ tracks_samples l c.args.content.now.scales.tracks.items m.tracks; track = s.starts.0; next = s.starts.2 };
+      due = subst (λ (xs : List (Option SampleAt)). IsDueAt (tracks_left l c.args.content.now.scales.tracks.items m.tracks) xs c.new-schedule.result c.begin.new.due) c.as_slice-2.ensures.value (rw tracks at c.begin.ensures);
     }
 
 pub returns-clause-first : goal.returns-clause-first
-returns-clause-first g c told tree o by near =
+returns-clause-first g c told tree o are by near =
     let m = c.args.movie.now in
     let l = c.args.content.now.leaving in
     let walks = c.in_ok-walks.walks in
@@ -42,7 +42,7 @@ returns-clause-first g c told tree o by near =
     let many : length c.peek_each.new.nexts ≡ nexts.len = search rules in
     let noted = with_items_is nexts c.peek_each.new.nexts many in
     let file = g.S.Store.file c.args.store.now in
-    let lefts = map (left_samples l tree) tree.movie.tracks in
+    let lefts = map (left_samples l file tree) tree.movie.tracks in
     let begin = c.in_ok-walks.ensures.start.begin file tree o l in
     let shown = e.shown told tree o lefts by (rw c.as_mut_slice-all.ensures.value begin) in
     let time = c.first_time-from.ensures lefts (c.as_slice.ensures.value ∙ noted ∙ shown.0) in
@@ -62,11 +62,11 @@ returns-clause-work g c told tree o =
     rw same (all_within (g.S.Store.file c.args.store.now) tree c.peek_each.new.walks begin.0 (walks_steps tree) _ _ begin.2 (e.work.0 told tree o begin.0 (rw c.as_mut_slice-all.ensures.value begin.1)))
 
 pub returns-in_err-peek_each-clause-unchanged : goal.returns-in_err-peek_each-clause-unchanged
-returns-in_err-peek_each-clause-unchanged g c told tree o by near =
+returns-in_err-peek_each-clause-unchanged g c told tree o are by near =
     let p = err_from_is_err_and c.from_residual-in_err-peek_each.result c.from_residual-in_err-peek_each.ensures.1 in
     let l = c.args.content.now.leaving in
     let begin = c.in_ok-walks.ensures.start.begin (g.S.Store.file c.args.store.now) tree o l in
-    rw (p.1, p.2) (c.in_err-peek_each.ensures.unchanged told tree o (map (left_samples l tree) tree.movie.tracks) by (rw c.as_mut_slice-all.ensures.value begin))
+    rw (p.1, p.2) (c.in_err-peek_each.ensures.unchanged told tree o (map (left_samples l (g.S.Store.file c.args.store.now) tree) tree.movie.tracks) by (rw c.as_mut_slice-all.ensures.value begin))
 
 pub returns-in_err-peek_each-clause-work : goal.returns-in_err-peek_each-clause-work
 returns-in_err-peek_each-clause-work g c told tree o =

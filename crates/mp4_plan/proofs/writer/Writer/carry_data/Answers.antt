@@ -18,7 +18,7 @@ returns-in_err-self-clause-put g c told tree o samples noted =
     let same = read_at w.walks.items c.args.noted.now.track noted.walk c.index_mut.result.now noted.is_walk c.index_mut.ensures.value in
     let by = one_there w.content.of_tracks.items c.args.noted.now.track _ _ c.reduction.ensures noted.reduction in
     let comes = subst (λ (r : Reduction). ComesMarked r file tree noted.t m c.index_mut.result.now c.args.noted.now.planned.count samples) (sym by)
-    (subst (λ (v : Walk). ComesMarked (track_reduction w.content.leaving tree noted.t) file tree noted.t m v c.args.noted.now.planned.count samples) (sym same) noted.comes) in
+    (subst (λ (v : Walk). ComesMarked (track_reduction w.content.leaving file tree noted.t) file tree noted.t m v c.args.noted.now.planned.count samples) (sym same) noted.comes) in
     rw e.1 (c.in_err-self.ensures.put told tree noted.t samples o comes noted.stretches)
 
 pub returns-in_err-self-clause-copied : goal.returns-in_err-self-clause-copied
@@ -30,7 +30,7 @@ returns-in_err-self-clause-copied g c told tree o samples noted =
     let same = read_at w.walks.items c.args.noted.now.track noted.walk c.index_mut.result.now noted.is_walk c.index_mut.ensures.value in
     let by = one_there w.content.of_tracks.items c.args.noted.now.track _ _ c.reduction.ensures noted.reduction in
     let comes = subst (λ (r : Reduction). ComesMarked r file tree noted.t m c.index_mut.result.now c.args.noted.now.planned.count samples) (sym by)
-    (subst (λ (v : Walk). ComesMarked (track_reduction w.content.leaving tree noted.t) file tree noted.t m v c.args.noted.now.planned.count samples) (sym same) noted.comes) in
+    (subst (λ (v : Walk). ComesMarked (track_reduction w.content.leaving file tree noted.t) file tree noted.t m v c.args.noted.now.planned.count samples) (sym same) noted.comes) in
     (rw e.1 tt, λ there. rw (e.1, e.2) (c.in_err-self.ensures.unchanged told tree noted.t samples o comes noted.stretches there))
 
 pub returns-in_err-self-clause-work : goal.returns-in_err-self-clause-work
@@ -53,7 +53,7 @@ returns-clause-put g c told tree o samples noted =
     let same = read_at w.walks.items c.args.noted.now.track noted.walk c.index_mut.result.now noted.is_walk c.index_mut.ensures.value in
     let by = one_there w.content.of_tracks.items c.args.noted.now.track _ _ c.reduction.ensures noted.reduction in
     let comes = subst (λ (r : Reduction). ComesMarked r file tree noted.t m c.index_mut.result.now c.args.noted.now.planned.count samples) (sym by)
-    (subst (λ (v : Walk). ComesMarked (track_reduction w.content.leaving tree noted.t) file tree noted.t m v c.args.noted.now.planned.count samples) (sym same) noted.comes) in
+    (subst (λ (v : Walk). ComesMarked (track_reduction w.content.leaving file tree noted.t) file tree noted.t m v c.args.noted.now.planned.count samples) (sym same) noted.comes) in
     c.in_ok-self.ensures.put told tree noted.t samples o comes noted.stretches
 
 pub returns-clause-copied : goal.returns-clause-copied
@@ -64,7 +64,7 @@ returns-clause-copied g c told tree o samples noted =
     let same = read_at w.walks.items c.args.noted.now.track noted.walk c.index_mut.result.now noted.is_walk c.index_mut.ensures.value in
     let by = one_there w.content.of_tracks.items c.args.noted.now.track _ _ c.reduction.ensures noted.reduction in
     let comes = subst (λ (r : Reduction). ComesMarked r file tree noted.t m c.index_mut.result.now c.args.noted.now.planned.count samples) (sym by)
-    (subst (λ (v : Walk). ComesMarked (track_reduction w.content.leaving tree noted.t) file tree noted.t m v c.args.noted.now.planned.count samples) (sym same) noted.comes) in
+    (subst (λ (v : Walk). ComesMarked (track_reduction w.content.leaving file tree noted.t) file tree noted.t m v c.args.noted.now.planned.count samples) (sym same) noted.comes) in
     let x = c.in_ok-self.ensures.next told tree noted.t samples o comes noted.stretches in
     let on = subst (λ (r : Reduction). ComesLess r file tree noted.t m c.carry_noted.new.walk (drop c.args.noted.now.planned.count samples)) by x.0 in
     ((c.carry_noted.new.walk, refl, ap (slice_set w.nexts.items c.args.noted.now.track) x.2, on, x.1), λ there. tt)

@@ -28,7 +28,7 @@ returns-then-not-first_goes-clause-noted g c told tree o t walk left is by comes
     let m = c.args.movie.now in
     let k = c.args.turn.now.track in
     let end = c.args.turn.now.end in
-    let l = track_reduction c.args.self.now.content.leaving tree t in
+    let l = track_reduction c.args.self.now.content.leaving file tree t in
     let first = read_at c.args.self.now.nexts.items k (slice_get left 0) c.index.result.now shown c.index.ensures in
     let none = none_goes end left c.index.result.now c.first_goes.result first c.first_goes.ensures c.if-not-first_goes.true in
     let fed = fed_none (piece_from end) left none in
@@ -64,7 +64,7 @@ returns-in_err-planned-clause-unchanged g c told tree o t walk left is by comes 
     let e = err_from_is_err_and c.from_residual.result c.from_residual.ensures.1 in
     let file = g.S.Store.file c.args.store.now in
     let m = c.args.movie.now in
-    let l = track_reduction c.args.self.now.content.leaving tree t in
+    let l = track_reduction c.args.self.now.content.leaving file tree t in
     let own = one_there c.args.self.now.content.of_tracks.items c.args.turn.now.track _ _ c.reduction-reduction.ensures by in
     let same = read_at c.args.self.now.walks.items c.args.turn.now.track walk c.index_mut-walk.result.now is c.index_mut-walk.ensures.value in
     let here = subst (λ (r : Reduction). ComesLess r file tree t m c.index_mut-walk.result.now left) (sym own) (subst (λ (w : Walk). ComesLess l file tree t m w left) (sym same) comes) in
@@ -77,7 +77,7 @@ pub returns-clause-noted : goal.returns-clause-noted
 returns-clause-noted g c told tree o t walk left is by comes marked shown =
     let file = g.S.Store.file c.args.store.now in
     let m = c.args.movie.now in
-    let l = track_reduction c.args.self.now.content.leaving tree t in
+    let l = track_reduction c.args.self.now.content.leaving file tree t in
     let own = one_there c.args.self.now.content.of_tracks.items c.args.turn.now.track _ _ c.reduction-reduction.ensures by in
     let same = read_at c.args.self.now.walks.items c.args.turn.now.track walk c.index_mut-walk.result.now is c.index_mut-walk.ensures.value in
     let here = subst (λ (r : Reduction). ComesLess r file tree t m c.index_mut-walk.result.now left) (sym own) (subst (λ (w : Walk). ComesLess l file tree t m w left) (sym same) comes) in

@@ -1,10 +1,17 @@
-use Rattle.std.proofs.Common.{rules, ◌++◌, sym, subst, ◌∙◌, arith}
+use Rattle.std.proofs.Common.{rules, ◌≡◌, ℕ, List, ◌++◌, sym, subst, ◌∙◌, arith}
 use Rattle.std.proofs.lemmas.Result.{err_from_is_err_and}
+use Rattle.std.specs.Prelude.{IsTrue}
+use Rattle.mp4_present.specs.words.OpenedMovie.{IsOpenedAs}
+use Rattle.mp4_content.specs.words.ComingLess.{reductions_of}
+use Rattle.mp4_content.specs.words.Contents.{content_left}
+use Rattle.mp4_content.specs.words.Scales.{AreScales}
 use Rattle.mp4_present.specs.format.Denotes.{presentation_of}
-use Rattle.mp4_content.specs.format.ReducedTimes.{ReducesInLimits}
+use Rattle.mp4_content.specs.format.Remaining.{RemainsInLimits, RemainsInRange}
 use Rattle.mp4_content.specs.declared.without.Without.{Without}
 use Rattle.mp4_present.proofs.OwnSums.{trafs_few}
+use Rattle.mp4_plan.specs.format.Pieces.{pieces}
 use Rattle.mp4_plan.specs.words.PutPieces.{IsHeadLeft}
+use Rattle.mp4_plan.specs.words.Writers.{longest_piece}
 use Rattle.mp4_plan.proofs.Planning.{rooms_fit}
 use Rattle.mp4_plan.proofs.WriterMade.{writer_made}
 use Rattle.mp4_plan.proofs.writer.Writer.reduced.Goals as goal
@@ -15,12 +22,17 @@ returns-clause-ready g c told tree o =
     let made = c.in_ok-content.ensures in
     let left = made.left told tree o in
     let l = c.in_ok-content.content.leaving in
-    let longest = (rw (made.store.honesty, made.store.file) at c.in_ok-longest.ensures.longest) told tree o left.reductions left.in_limits.in_range in (
+    let m = c.args.movie.now in
+    let content = c.in_ok-content.content in
+    let back = sym made.store.file in
+    let longest = subst (λ (f : List ℕ). c.in_ok-longest.longest ≡ longest_piece (pieces (content_left content f tree))) made.store.file (c.in_ok-longest.ensures.longest (subst IsTrue (sym made.store.honesty) told) tree (subst (λ (f : List ℕ). IsOpenedAs f m tree) back o)
+    (subst (λ (f : List ℕ). AreScales l f tree content.scales) back left.scales) (subst (λ (f : List ℕ). content.of_tracks.items ≡ reductions_of l f tree) back left.reductions) (subst (λ (f : List ℕ). RemainsInRange l (presentation_of f tree)) back left.in_limits.in_range)) in (
       record {
         ready = record {
           head = (λ i. c.in_ok-new.ensures.empty i ++ c.in_ok-head_of.field-0.items) ∙ c.in_ok-head_of.ensures.head file tree o left;
           rows = sym c.in_ok-vec.field-0.ok.0 ∙ c.in_ok-vec.ensures.len ∙ longest;
           range = left.in_limits.in_range;
+          scales = left.scales;
           reductions = left.reductions;
           walks = c.in_ok-walks_of.ensures.start.begin file tree o l;
           marked = c.in_ok-walks_of.ensures.start.marked file tree o l;
@@ -28,7 +40,7 @@ returns-clause-ready g c told tree o =
         rooms = rooms_fit file c.args.movie.now tree o;
         trafs = trafs_few file tree o.is_tree;
       },
-      subst (λ (l : Without). ReducesInLimits l (presentation_of file tree)) made.leaving left.in_limits,
+      subst (λ (l : Without). RemainsInLimits l (presentation_of file tree)) made.leaving left.in_limits,
     )
 
 pub returns-clause-may : goal.returns-clause-may
@@ -124,4 +136,5 @@ returns-clause-made g c =
     let long = sym rows.ok.0 ∙ c.in_ok-vec.ensures.len in
     let few = c.in_ok-longest.ensures.few in
     writer_made c.args.movie.now c.args.leaving _ c.in_ok-walks_of.ensures.walks (omega (arith, long, few)) (sym nexts.ok.0 ∙ c.in_ok-vec-2.ensures.len ∙ search rules) c.in_ok-content.ensures.content c.in_ok-due.ensures.tree (c.in_ok-due.ensures.tracks ∙ search rules)
-    (sym c.in_ok-new.field-0.buffer.ok.0 ∙ c.in_ok-new.ensures.room) c.in_ok-new.ensures.empty c.in_ok-content.ensures.leaving (subst (λ (l : Without). IsHeadLeft c.args.movie.now l c.in_ok-head_of.field-0.items) c.in_ok-content.ensures.leaving c.in_ok-head_of.ensures.named)
+    (sym c.in_ok-new.field-0.buffer.ok.0 ∙ c.in_ok-new.ensures.room) c.in_ok-new.ensures.empty c.in_ok-content.ensures.leaving
+    (subst (λ (l : Without). IsHeadLeft c.args.movie.now l c.in_ok-head_of.field-0.items) c.in_ok-content.ensures.leaving (c.in_ok-head_of.ensures.named c.in_ok-content.ensures.content))

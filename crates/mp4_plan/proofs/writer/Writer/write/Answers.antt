@@ -1,4 +1,4 @@
-use Rattle.std.proofs.Common.{rules, ◌≡◌, ◌+◌, ◌⊎◌, List, [], length, map, refl, sym, ap, subst, ◌∙◌, arith}
+use Rattle.std.proofs.Common.{ℕ, rules, ◌≡◌, ◌+◌, ◌⊎◌, List, [], length, map, refl, sym, ap, subst, ◌∙◌, arith}
 use Rattle.std.specs.List.{sum_by}
 use Rattle.std.specs.Vec.{with_items}
 use Rattle.std.proofs.lemmas.List.{with_items_is}
@@ -11,8 +11,9 @@ use Rattle.mp4_tables.specs.declared.sample.SampleAt.{SampleAt}
 use Rattle.mp4_present.specs.declared.out_buffer.OutBuffer.{OutBuffer}
 use Rattle.mp4_present.proofs.WalkCopied.{put_unchanged, on_ok, on_err, if_err}
 use Rattle.std.specs.Prelude.{Option, Some, slice_get}
-use Rattle.mp4_plan.specs.words.Turns.{Sticks, movie_turns, turned}
+use Rattle.mp4_plan.specs.words.Turns.{Sticks, first_scale, movie_turns, turned}
 use Rattle.mp4_content.specs.words.Contents.{infos_left}
+use Rattle.mp4_content.specs.words.Scales.{divisors_of}
 use Rattle.mp4_plan.specs.format.Held.{rooms}
 use Rattle.mp4_content.specs.declared.content.Content.{Content}
 use Rattle.mp4_content.specs.declared.content.TrackLeft.{TrackLeft}
@@ -42,7 +43,7 @@ returns-in_err-peek_each-clause-prefix g c told tree o ready =
 pub returns-in_err-peek_each-clause-unchanged : goal.returns-in_err-peek_each-clause-unchanged
 returns-in_err-peek_each-clause-unchanged g c told tree o ready =
     let e = err_from_is_err_and c.from_residual-in_err-peek_each.result c.from_residual-in_err-peek_each.ensures.1 in
-    rw (e.1, e.2) (c.in_err-peek_each.ensures.unchanged told tree o (map (left_samples c.args.self.now.content.leaving tree) tree.movie.tracks) ready.reductions (rw c.as_mut_slice-walks.ensures.value ready.walks))
+    rw (e.1, e.2) (c.in_err-peek_each.ensures.unchanged told tree o (map (left_samples c.args.self.now.content.leaving (g.S.Store.file c.args.store.now) tree) tree.movie.tracks) ready.reductions (rw c.as_mut_slice-walks.ensures.value ready.walks))
 
 pub loop-turn-init : goal.loop-turn-init
 loop-turn-init g c =
@@ -62,7 +63,15 @@ loop-turn-init g c =
     let all_tracks = c.args.movie.now.tracks in
     let s = rw (c.tracks.ensures ∙ c.requires.content.tracks) at c.new-schedule.ensures in
     record {
-      writer = record { walks = rw walks e.walks.walks; few = c.requires.few; nexts = omega (arith, each, next_count, next_len, next_many); content = c.requires.content; due = c.begin.ensures.tree; many = c.begin.ensures.many ∙ s.tracks ∙ tracks_many l all_tracks };
+      writer = record {
+        walks = rw walks e.walks.walks;
+        few = c.requires.few;
+        nexts = omega (arith, each, next_count, next_len, next_many);
+        content = c.requires.content;
+        due = c.begin.ensures.tree;
+        many = c.begin.ensures.many ∙ s.tracks
+            ∙ tracks_many l c.args.self.now.content.scales.tracks.items all_tracks;
+      };
       held =
           let room = c.in_ok-carry.ensures.room in
           let old = w.carrier.buffer.ok.0 in
@@ -71,30 +80,33 @@ loop-turn-init g c =
           let own = ap rooms walks ∙ rooms_are ∙ ap rooms c.as_mut_slice-walks.ensures.value in
           omega (arith, room, old, new, own);
       content = refl;
-      tracks = s.tracks ∙ tracks_many l all_tracks;
+      tracks = s.tracks ∙ tracks_many l c.args.self.now.content.scales.tracks.items all_tracks;
       honesty = e.store.honesty;
       file = e.store.file;
       reads = e.store.reads;
       puts = c.in_ok-carry.ensures.puts;
       rows = refl;
       few = (let few = c.new-schedule.ensures.few in omega (arith, few));
-      sent = (0, (let left = s.left ∙ tracks_samples l all_tracks in omega (arith, left)), first_put _ _ _ w.head.items (rw c.as_slice.ensures.value at c.in_ok-carry.ensures.bytes));
+      sent = (0, (let left = s.left ∙ tracks_samples l c.args.self.now.content.scales.tracks.items all_tracks in omega (arith, left)), first_put _ _ _ w.head.items (rw c.as_slice.ensures.value at c.in_ok-carry.ensures.bytes));
       on = λ told tree o ready.
           let file = g.S.Store.file c.args.store.now in
           let m = c.args.movie.now in
-          let lefts = map (left_samples c.args.self.now.content.leaving tree) tree.movie.tracks in
+          let lefts = map (left_samples c.args.self.now.content.leaving file tree) tree.movie.tracks in
           let shown = e.shown told tree o lefts ready.reductions (rw c.as_mut_slice-walks.ensures.value ready.walks) in
           let marked = e.marked lefts (rw c.as_mut_slice-walks.ensures.value ready.marked) in
           let time = c.first_time-from.ensures lefts (c.as_slice-2.ensures.value ∙ nexts ∙ shown.0) in
-          let first = is_first c.args.self.now.content.leaving file tree m c.new-schedule.result c.first_time-from.result o (s.tracks ∙ tracks_many l all_tracks) s.first c.new-schedule.ensures.starts (s.left ∙ tracks_samples l all_tracks) time in
+          let first = is_first c.args.self.now.content.leaving file tree m c.new-schedule.result c.first_time-from.result o (s.tracks ∙ tracks_many l c.args.self.now.content.scales.tracks.items all_tracks) (s.first
+          ∙ ap (λ (ds : List ℕ). first_scale (tracks_left l ds all_tracks)) ready.scales.tracks) c.new-schedule.ensures.starts (s.left ∙ tracks_samples l c.args.self.now.content.scales.tracks.items all_tracks) time in
           begins c.args.self.now.content.leaving file tree m c.new-schedule.result w (with_items w.walks c.peek_each.new.walks).items (with_items w.nexts c.peek_each.new.nexts).items (g.K.Sink.takes c.args.sink.now c.carry.new.sink)
           (waiting c.carry.new.self) o ready refl first
           (rw walks shown.1) (rw walks marked) (nexts ∙ shown.0) (rw c.as_slice.ensures.value at c.in_ok-carry.ensures.bytes);
       within = λ told tree o n may. rw walks (e.work.1 told tree o n (rw c.as_mut_slice-walks.ensures.value may));
       some = search rules;
-      looks = rw e.steps.1 (begins_within c.args.movie.now.tracks c.new-schedule.result c.args.steps.now.looks (s.tracks ∙ tracks_many l all_tracks) (s.left ∙ tracks_samples l all_tracks) c.new-schedule.ensures.starts.0);
+      looks = rw e.steps.1 (begins_within c.args.movie.now.tracks c.new-schedule.result c.args.steps.now.looks (s.tracks ∙ tracks_many l c.args.self.now.content.scales.tracks.items all_tracks) (s.left
+          ∙ tracks_samples l c.args.self.now.content.scales.tracks.items all_tracks) c.new-schedule.ensures.starts.0);
       due = λ told tree o ready.
-          subst (λ (xs : List (Option SampleAt)). IsDueAt (tracks_left l all_tracks) xs c.new-schedule.result c.begin.new.due) c.as_slice-3.ensures.value (rw (c.tracks-2.ensures ∙ c.requires.content.tracks) at c.begin.ensures);
+          subst (λ (xs : List (Option SampleAt)). IsDueAt (tracks_left l (divisors_of l (g.S.Store.file c.args.store.now) tree) all_tracks) xs c.new-schedule.result c.begin.new.due) c.as_slice-3.ensures.value
+          (rw (c.tracks-2.ensures ∙ c.requires.content.tracks ∙ ap (λ (ds : List ℕ). tracks_left c.args.self.now.content.leaving ds c.args.movie.now.tracks) ready.scales.tracks) at c.begin.ensures);
       grows = e.steps.0;
     }
 
@@ -123,7 +135,7 @@ returns-in_err-noted-clause-unchanged g c told tree o ready =
     let before = c.args.sink.now in
     let after = c.loop-turn.sink in
     let here = c.in-Some.ensures.track in
-    let own = rw (c.tracks-in-loop-turn.ensures ∙ ap (λ (x : Content). x.tracks.items) i.content ∙ c.requires.content.tracks) at c.in-Some.ensures.own in
+    let own = rw (c.tracks-in-loop-turn.ensures ∙ ap (λ (x : Content). x.tracks.items) i.content ∙ c.requires.content.tracks ∙ ap (λ (ds : List ℕ). tracks_left c.args.self.now.content.leaving ds c.args.movie.now.tracks) ready.scales.tracks) at c.in-Some.ensures.own in
     rw (e.1, e.2) (note_lacks c.args.self.now.content.leaving file tree m o s c.loop-turn.sequence c.loop-turn.bytes w g.met.K.Sink.takes_on before after h c.in-Some.turn here own i.tracks i.writer (ap (λ (x : Content). x.leaving) i.content)
     (ap (λ (x : Content). x.of_tracks.items) i.content
     ∙ ready.reductions) _ ((rw (i.honesty, i.file) at c.in_err-noted.ensures.unchanged) told tree o))
@@ -140,7 +152,7 @@ returns-in_err-carry_turn-clause-prefix g c told tree o ready =
     let before = c.args.sink.now in
     let after = c.loop-turn.sink in
     let here = c.in-Some.ensures.track in
-    let own = rw (c.tracks-in-loop-turn.ensures ∙ ap (λ (x : Content). x.tracks.items) i.content ∙ c.requires.content.tracks) at c.in-Some.ensures.own in
+    let own = rw (c.tracks-in-loop-turn.ensures ∙ ap (λ (x : Content). x.tracks.items) i.content ∙ c.requires.content.tracks ∙ ap (λ (ds : List ℕ). tracks_left c.args.self.now.content.leaving ds c.args.movie.now.tracks) ready.scales.tracks) at c.in-Some.ensures.own in
     let noted = (rw (i.honesty, i.file) at c.in_ok-noted.ensures.noted) told tree o in
     let few : IsFew c.in_ok-noted.noted.planned = record { count = no_more _ _ _ c.in_ok-noted.ensures.planned.0.bounds.few i.writer.few; rows = c.in_ok-noted.ensures.planned.0.bounds.rows } in
     rw e.1 (carry_stops c.args.self.now.content.leaving file tree m o s c.loop-turn.sequence c.loop-turn.bytes w g.met.K.Sink.takes_on before after h c.in-Some.turn here own i.tracks i.writer (ap (λ (x : Content). x.leaving) i.content)
@@ -159,7 +171,7 @@ returns-in_err-carry_turn-clause-unchanged g c told tree o ready =
     let before = c.args.sink.now in
     let after = c.loop-turn.sink in
     let here = c.in-Some.ensures.track in
-    let own = rw (c.tracks-in-loop-turn.ensures ∙ ap (λ (x : Content). x.tracks.items) i.content ∙ c.requires.content.tracks) at c.in-Some.ensures.own in
+    let own = rw (c.tracks-in-loop-turn.ensures ∙ ap (λ (x : Content). x.tracks.items) i.content ∙ c.requires.content.tracks ∙ ap (λ (ds : List ℕ). tracks_left c.args.self.now.content.leaving ds c.args.movie.now.tracks) ready.scales.tracks) at c.in-Some.ensures.own in
     let noted = (rw (i.honesty, i.file) at c.in_ok-noted.ensures.noted) told tree o in
     let few : IsFew c.in_ok-noted.noted.planned = record { count = no_more _ _ _ c.in_ok-noted.ensures.planned.0.bounds.few i.writer.few; rows = c.in_ok-noted.ensures.planned.0.bounds.rows } in
     rw (e.1, e.2)
@@ -179,7 +191,7 @@ returns-in_err-pass-clause-prefix g c told tree o ready =
     let before = c.args.sink.now in
     let after = c.loop-turn.sink in
     let here = c.in-Some.ensures.track in
-    let own = rw (c.tracks-in-loop-turn.ensures ∙ ap (λ (x : Content). x.tracks.items) i.content ∙ c.requires.content.tracks) at c.in-Some.ensures.own in
+    let own = rw (c.tracks-in-loop-turn.ensures ∙ ap (λ (x : Content). x.tracks.items) i.content ∙ c.requires.content.tracks ∙ ap (λ (ds : List ℕ). tracks_left c.args.self.now.content.leaving ds c.args.movie.now.tracks) ready.scales.tracks) at c.in-Some.ensures.own in
     let noted = (rw (i.honesty, i.file) at c.in_ok-noted.ensures.noted) told tree o in
     let few : IsFew c.in_ok-noted.noted.planned = record { count = no_more _ _ _ c.in_ok-noted.ensures.planned.0.bounds.few i.writer.few; rows = c.in_ok-noted.ensures.planned.0.bounds.rows } in
     let put = (rw (c.in_ok-noted.ensures.planned.1, c.in_ok-noted.ensures.store.honesty, c.in_ok-noted.ensures.store.file, i.honesty, i.file) at c.in_ok-carry_turn.ensures.put) told tree o in
@@ -201,7 +213,7 @@ returns-in_err-pass-clause-unchanged g c told tree o ready =
     let before = c.args.sink.now in
     let after = c.loop-turn.sink in
     let here = c.in-Some.ensures.track in
-    let own = rw (c.tracks-in-loop-turn.ensures ∙ ap (λ (x : Content). x.tracks.items) i.content ∙ c.requires.content.tracks) at c.in-Some.ensures.own in
+    let own = rw (c.tracks-in-loop-turn.ensures ∙ ap (λ (x : Content). x.tracks.items) i.content ∙ c.requires.content.tracks ∙ ap (λ (ds : List ℕ). tracks_left c.args.self.now.content.leaving ds c.args.movie.now.tracks) ready.scales.tracks) at c.in-Some.ensures.own in
     let noted = (rw (i.honesty, i.file) at c.in_ok-noted.ensures.noted) told tree o in
     let few : IsFew c.in_ok-noted.noted.planned = record { count = no_more _ _ _ c.in_ok-noted.ensures.planned.0.bounds.few i.writer.few; rows = c.in_ok-noted.ensures.planned.0.bounds.rows } in
     let copied = (rw (c.in_ok-noted.ensures.planned.1, c.in_ok-noted.ensures.store.honesty, c.in_ok-noted.ensures.store.file, i.honesty, i.file) at c.in_ok-carry_turn.ensures.copied) told tree o in
@@ -216,8 +228,10 @@ returns-in_err-pass-clause-unchanged g c told tree o ready =
     (ap (λ (x : Content). x.of_tracks.items) i.content
     ∙ ready.reductions) c.note_turn.new.self c.in_ok-noted.noted noted c.in_ok-noted.ensures.writer.content c.in_ok-noted.ensures.writer.keeps few
     c.carry_turn.new.self c.index.result.now (λ samples is. (copied samples is).0)
-    read (λ (xs : List (Option SampleAt)). Sticks s c.in_ok-noted.noted.planned.count c.index.result.now ⊎ FindsMore (tracks_left c.args.self.now.content.leaving m.tracks) xs next c.pass.new.self c.pass.new.due) (i.due told tree o ready) c.in_ok-carry_turn.ensures.writer.keeps.1
-    (rw (c.tracks-in-Some.ensures ∙ ap (λ (x : Content). x.tracks.items) (c.in_ok-carry_turn.ensures.writer.content ∙ c.in_ok-noted.ensures.writer.content ∙ i.content) ∙ c.requires.content.tracks) at c.in_err-pass.ensures.sticks) in
+    read (λ (xs : List (Option SampleAt)). Sticks s c.in_ok-noted.noted.planned.count c.index.result.now ⊎ FindsMore (tracks_left c.args.self.now.content.leaving (divisors_of c.args.self.now.content.leaving file tree) m.tracks) xs next c.pass.new.self c.pass.new.due)
+    (i.due told tree o ready) c.in_ok-carry_turn.ensures.writer.keeps.1
+    (rw (c.tracks-in-Some.ensures ∙ ap (λ (x : Content). x.tracks.items) (c.in_ok-carry_turn.ensures.writer.content ∙ c.in_ok-noted.ensures.writer.content ∙ i.content) ∙ c.requires.content.tracks ∙ ap
+    (λ (ds : List ℕ). tracks_left c.args.self.now.content.leaving ds c.args.movie.now.tracks) ready.scales.tracks) at c.in_err-pass.ensures.sticks) in
     rw (e.1, e.2)
     (λ r. either stuck
     (pass_lacks c.args.self.now.content.leaving file tree m o s c.loop-turn.sequence c.loop-turn.bytes w g.met.K.Sink.takes_on before after h c.in-Some.turn here own i.tracks i.writer (ap (λ (x : Content). x.leaving) i.content) (ap (λ (x : Content). x.of_tracks.items) i.content
@@ -262,7 +276,7 @@ loop-turn-preserved g c =
           let before = c.args.sink.now in
           let after = c.loop-turn.sink in
           let here = c.in-Some.ensures.track in
-          let own = rw (c.tracks-in-loop-turn.ensures ∙ ap (λ (x : Content). x.tracks.items) i.content ∙ c.requires.content.tracks) at c.in-Some.ensures.own in
+          let own = rw (c.tracks-in-loop-turn.ensures ∙ ap (λ (x : Content). x.tracks.items) i.content ∙ c.requires.content.tracks ∙ ap (λ (ds : List ℕ). tracks_left c.args.self.now.content.leaving ds c.args.movie.now.tracks) ready.scales.tracks) at c.in-Some.ensures.own in
           let noted = (rw (i.honesty, i.file) at c.in_ok-noted.ensures.noted) told tree o in
           let few : IsFew c.in_ok-noted.noted.planned = record { count = no_more _ _ _ c.in_ok-noted.ensures.planned.0.bounds.few i.writer.few; rows = c.in_ok-noted.ensures.planned.0.bounds.rows } in
           let put = (rw (c.in_ok-noted.ensures.planned.1, c.in_ok-noted.ensures.store.honesty, c.in_ok-noted.ensures.store.file, i.honesty, i.file) at c.in_ok-carry_turn.ensures.put) told tree o in
@@ -273,8 +287,10 @@ loop-turn-preserved g c =
           with_times c.args.self.now.content.leaving file tree m o s c.loop-turn.sequence c.loop-turn.bytes w
           g.met.K.Sink.takes_on before after h c.in-Some.turn here own i.tracks i.writer (ap (λ (x : Content). x.leaving) i.content) (ap (λ (x : Content). x.of_tracks.items) i.content
           ∙ ready.reductions) c.note_turn.new.self c.in_ok-noted.noted noted c.in_ok-noted.ensures.writer.content c.in_ok-noted.ensures.writer.keeps few c.carry_turn.new.self
-          c.index.result.now (λ samples is. (copied samples is).0) read (λ (xs : List (Option SampleAt)). IsDueAt (tracks_left c.args.self.now.content.leaving m.tracks) xs c.pass.new.self c.pass.new.due) (i.due told tree o ready) c.in_ok-carry_turn.ensures.writer.keeps.1
-          (rw (c.tracks-in-Some.ensures ∙ ap (λ (x : Content). x.tracks.items) (c.in_ok-carry_turn.ensures.writer.content ∙ c.in_ok-noted.ensures.writer.content ∙ i.content) ∙ c.requires.content.tracks) at c.in_ok-pass.ensures.due) in
+          c.index.result.now (λ samples is. (copied samples is).0) read (λ (xs : List (Option SampleAt)). IsDueAt (tracks_left c.args.self.now.content.leaving (divisors_of c.args.self.now.content.leaving file tree) m.tracks) xs c.pass.new.self c.pass.new.due)
+          (i.due told tree o ready) c.in_ok-carry_turn.ensures.writer.keeps.1
+          (rw (c.tracks-in-Some.ensures ∙ ap (λ (x : Content). x.tracks.items) (c.in_ok-carry_turn.ensures.writer.content ∙ c.in_ok-noted.ensures.writer.content ∙ i.content) ∙ c.requires.content.tracks ∙ ap
+          (λ (ds : List ℕ). tracks_left c.args.self.now.content.leaving ds c.args.movie.now.tracks) ready.scales.tracks) at c.in_ok-pass.ensures.due) in
           rw (c.sequence_behind-sequence.ensures, c.from-bytes.ensures)
           (writes_skips c.args.self.now.content.leaving file tree m next c.pass.new.self _ _ _ _ _ _ _ c.pass.new.due o
           (turn_goes c.args.self.now.content.leaving file tree m o s c.loop-turn.sequence c.loop-turn.bytes w
@@ -291,7 +307,7 @@ loop-turn-preserved g c =
           let before = c.args.sink.now in
           let after = c.loop-turn.sink in
           let here = c.in-Some.ensures.track in
-          let own = rw (c.tracks-in-loop-turn.ensures ∙ ap (λ (x : Content). x.tracks.items) i.content ∙ c.requires.content.tracks) at c.in-Some.ensures.own in
+          let own = rw (c.tracks-in-loop-turn.ensures ∙ ap (λ (x : Content). x.tracks.items) i.content ∙ c.requires.content.tracks ∙ ap (λ (ds : List ℕ). tracks_left c.args.self.now.content.leaving ds c.args.movie.now.tracks) ready.scales.tracks) at c.in-Some.ensures.own in
           let noted = (rw (i.honesty, i.file) at c.in_ok-noted.ensures.noted) told tree o in
           let few : IsFew c.in_ok-noted.noted.planned = record { count = no_more _ _ _ c.in_ok-noted.ensures.planned.0.bounds.few i.writer.few; rows = c.in_ok-noted.ensures.planned.0.bounds.rows } in
           let copied = (rw (c.in_ok-noted.ensures.planned.1, c.in_ok-noted.ensures.store.honesty, c.in_ok-noted.ensures.store.file, i.honesty, i.file) at c.in_ok-carry_turn.ensures.copied) told tree o in
@@ -299,8 +315,9 @@ loop-turn-preserved g c =
           with_times c.args.self.now.content.leaving file tree m o s c.loop-turn.sequence c.loop-turn.bytes w g.met.K.Sink.takes_on before after h c.in-Some.turn here own i.tracks i.writer (ap (λ (x : Content). x.leaving) i.content) (ap (λ (x : Content). x.of_tracks.items) i.content
           ∙ ready.reductions) c.note_turn.new.self c.in_ok-noted.noted noted c.in_ok-noted.ensures.writer.content c.in_ok-noted.ensures.writer.keeps few
           c.carry_turn.new.self c.index.result.now (λ samples is. (copied samples is).0)
-          read (λ (xs : List (Option SampleAt)). IsDueAt (tracks_left c.args.self.now.content.leaving m.tracks) xs c.pass.new.self c.pass.new.due) (i.due told tree o ready) c.in_ok-carry_turn.ensures.writer.keeps.1
-          (rw (c.tracks-in-Some.ensures ∙ ap (λ (x : Content). x.tracks.items) (c.in_ok-carry_turn.ensures.writer.content ∙ c.in_ok-noted.ensures.writer.content ∙ i.content) ∙ c.requires.content.tracks) at c.in_ok-pass.ensures.due);
+          read (λ (xs : List (Option SampleAt)). IsDueAt (tracks_left c.args.self.now.content.leaving (divisors_of c.args.self.now.content.leaving file tree) m.tracks) xs c.pass.new.self c.pass.new.due) (i.due told tree o ready) c.in_ok-carry_turn.ensures.writer.keeps.1
+          (rw (c.tracks-in-Some.ensures ∙ ap (λ (x : Content). x.tracks.items) (c.in_ok-carry_turn.ensures.writer.content ∙ c.in_ok-noted.ensures.writer.content ∙ i.content) ∙ c.requires.content.tracks ∙ ap
+          (λ (ds : List ℕ). tracks_left c.args.self.now.content.leaving ds c.args.movie.now.tracks) ready.scales.tracks) at c.in_ok-pass.ensures.due);
       within = λ told tree o n may.
           let w = c.loop-turn.self in
           turn_then (g.S.Store.file c.args.store.now) tree c.args.movie.now w.content.of_tracks.items w.walks.items c.note_turn.new.self.walks.items c.in-Some.turn.track c.in_ok-noted.noted.planned.count n _ _ _ (i.within told tree o n may)
@@ -321,7 +338,7 @@ returns-clause-bytes g c told tree o ready =
     let h = i.on told tree o ready in
     let before = c.args.sink.now in
     let after = c.loop-turn.sink in
-    let none = turns_end file (infos_left c.args.self.now.content.leaving m.tracks) s h.lefts h.comings h.turn (c.in_default.ensures.none refl) in
+    let none = turns_end file (infos_left c.args.self.now.content.leaving (divisors_of c.args.self.now.content.leaving file tree) m.tracks) s h.lefts h.comings h.turn (c.in_default.ensures.none refl) in
     on_ok _ _ c.flush.result (λ x. all_put c.args.self.now.content.leaving file tree m s c.loop-turn.sequence c.loop-turn.bytes w.walks.items w.nexts.items (length w.notes.rows.items) g.met.K.Sink.takes_on before after (waiting w.carrier) h _ none x) c.flush.ensures.bytes
 
 pub returns-clause-prefix : goal.returns-clause-prefix
@@ -334,7 +351,7 @@ returns-clause-prefix g c told tree o ready =
     let h = i.on told tree o ready in
     let before = c.args.sink.now in
     let after = c.loop-turn.sink in
-    let none = turns_end file (infos_left c.args.self.now.content.leaving m.tracks) s h.lefts h.comings h.turn (c.in_default.ensures.none refl) in
+    let none = turns_end file (infos_left c.args.self.now.content.leaving (divisors_of c.args.self.now.content.leaving file tree) m.tracks) s h.lefts h.comings h.turn (c.in_default.ensures.none refl) in
     on_err _ _ c.flush.result (λ x. not_all_put c.args.self.now.content.leaving file tree m s c.loop-turn.sequence c.loop-turn.bytes w.walks.items w.nexts.items (length w.notes.rows.items) g.met.K.Sink.takes_on before after (waiting w.carrier) h _ none x) c.flush.ensures.prefix
 
 pub returns-clause-unchanged : goal.returns-clause-unchanged
@@ -393,7 +410,7 @@ returns-then-not-are_all-clause-unchanged g c told tree o ready e =
     let all = all_taken c.args.self.now.content.leaving (g.S.Store.file c.args.store.now) tree m c.loop-turn.schedule c.loop-turn.sequence c.loop-turn.bytes w.walks.items w.nexts.items (length w.notes.rows.items) g.met.K.Sink.takes_on c.args.sink.now c.loop-turn.sink
     (waiting w.carrier) (i.on told tree o ready) (c.in_default.ensures.none refl) in
     let tracks = c.tracks-3.ensures ∙ ap (λ (x : Content). x.tracks.items) i.content ∙ c.requires.content.tracks in
-    c.are_all.ensures.missing c.if-not-are_all.true (all.0, all.1 ∙ sym (ap (λ (ts : List TrackLeft). sum_by (λ (t : TrackLeft). t.bytes) ts) tracks ∙ tracks_bytes c.args.self.now.content.leaving m.tracks))
+    c.are_all.ensures.missing c.if-not-are_all.true (all.0, all.1 ∙ sym (ap (λ (ts : List TrackLeft). sum_by (λ (t : TrackLeft). t.bytes) ts) tracks ∙ tracks_bytes c.args.self.now.content.leaving c.args.self.now.content.scales.tracks.items m.tracks))
 
 pub returns-then-not-are_all-clause-work : goal.returns-then-not-are_all-clause-work
 returns-then-not-are_all-clause-work g c told tree o n may = rw c.in_default.ensures.passed (all_written (g.S.Store.file c.args.store.now) tree c.args.movie.now c.loop-turn.self.walks.items n _ _ (c.loop-turn.invariant.within told tree o n may))
@@ -408,7 +425,7 @@ returns-clause-whole g c =
     let none = all.0 in
     on_ok _ _ c.flush.result
     (λ x. all_follow c.args.movie.now g.met.K.Sink.takes_on c.args.sink.now c.loop-turn.sink c.flush.new.sink (waiting c.args.self.now.carrier) (waiting w.carrier) c.args.self.now.head.items i.sent.0 c.loop-turn.bytes i.sent.2 (omega (arith, none, sum)) (all.1
-    ∙ tracks_bytes c.args.self.now.content.leaving c.args.movie.now.tracks) x)
+    ∙ tracks_bytes c.args.self.now.content.leaving c.args.self.now.content.scales.tracks.items c.args.movie.now.tracks) x)
     c.flush.ensures.bytes
 
 pub returns-in_err-noted-clause-steps : goal.returns-in_err-noted-clause-steps

@@ -5,6 +5,7 @@ use Rattle.mp4_present.specs.declared.track_info.TrackInfo.{TrackInfo}
 use Rattle.mp4_plan.specs.words.PutPieces.{PiecesFollow}
 use Rattle.mp4_plan.specs.words.Turns.{IsSomeLeft, movie_turns, turns_left}
 use Rattle.mp4_content.specs.words.Contents.{tracks_left}
+use Rattle.mp4_content.specs.words.Scales.{divisors_of}
 use Rattle.mp4_plan.specs.words.DueTracks.{IsDueAt}
 use Rattle.mp4_content.specs.words.Opened.{OverOpened}
 use Rattle.mp4_plan.specs.words.Writers.{IsWriterOf, IsReady}
@@ -34,7 +35,7 @@ invariant-loop-turn g l = record {
       → WritesOn l.fn.self.content.leaving file tree l.movie l.schedule l.sequence l.bytes l.self.walks.items l.self.nexts.items (length l.self.notes.rows.items) (g.K.Sink.takes l.fn.sink l.sink) (waiting l.self.carrier));
   within : OverOpened g.S.Store l.fn.store l.movie
       (λ file tree. (n : ℕ) → MayAllWrite file tree l.movie l.fn.self.walks.items n → AllWriteOn file tree l.movie n l.self.walks.items l.fn.steps.passed l.steps.passed);
-  due : OverOpened g.S.Store l.fn.store l.movie (λ file tree. IsReady file tree l.movie l.fn.self → IsDueAt (tracks_left l.fn.self.content.leaving l.movie.tracks) l.self.nexts.items l.schedule l.self.due);
+  due : OverOpened g.S.Store l.fn.store l.movie (λ file tree. IsReady file tree l.movie l.fn.self → IsDueAt (tracks_left l.fn.self.content.leaving (divisors_of l.fn.self.content.leaving file tree) l.movie.tracks) l.self.nexts.items l.schedule l.self.due);
   some : IsSomeLeft l.schedule;
   looks : l.steps.looks + turns_left l.schedule ≤ l.fn.steps.looks + movie_turns l.movie;
   grows : l.fn.steps.passed ≤ l.steps.passed;

@@ -1,7 +1,8 @@
 use Rattle.std.proofs.Common.{◌≡◌, ◌≤◌, true}
 use Rattle.mp4_content.specs.words.Compared.{WhereBothOpened}
+use Rattle.mp4_content.specs.words.Scales.{AreScales}
 use Rattle.mp4_content.proofs.FilesCompared.{FilesGo}
-use Rattle.mp4_content.proofs.comparing.compare_listed.Given as goal
+use Rattle.mp4_content.proofs.comparing.compare_scaled.Given as goal
 
 -- both files stay, a further difference is taken, and what differs in front was taken
 abbrev pub invariant-loop-track : goal.invariant-loop-track
@@ -16,5 +17,6 @@ invariant-loop-track g l = record {
   looks : l.steps.looks ≡ l.fn.steps.looks;
   grows : l.fn.steps.passed ≤ l.steps.passed;
   going : WhereBothOpened (g.S.Store.is_honest l.fn.left) (g.S.Store.file l.fn.left) l.movies.left (g.T.Store.is_honest l.fn.right) (g.T.Store.file l.fn.right) l.movies.right
-      (λ tree other. FilesGo l.aligned l.leaving (g.S.Store.file l.fn.left) tree (g.T.Store.file l.fn.right) other l.track (g.D.Differences.taken l.fn.seen) (g.D.Differences.taken l.seen) l.fn.steps.passed l.steps.passed);
+      (λ tree other. AreScales l.leaving (g.S.Store.file l.fn.left) tree l.scales.left → AreScales l.leaving (g.T.Store.file l.fn.right) other l.scales.right → FilesGo l.aligned l.leaving (g.S.Store.file l.fn.left) tree (g.T.Store.file l.fn.right) other l.track
+      (g.D.Differences.taken l.fn.seen) (g.D.Differences.taken l.seen) l.fn.steps.passed l.steps.passed);
 }

@@ -1,0 +1,24 @@
+use Rattle.std.proofs.Common.{◌≡◌, ◌+◌, ◌≤◌, length, map, take, true}
+use Rattle.std.specs.Prelude.{IsTrue}
+use Rattle.mp4_boxes.specs.format.Bytes.{sum_of}
+use Rattle.mp4_head.specs.format.Tree.{TrackTree, track_head_of}
+use Rattle.mp4_head.specs.words.Seen.{track_seen}
+use Rattle.mp4_present.specs.format.Denotes.{FileTree, file_parts, track_of}
+use Rattle.mp4_present.specs.words.OpenedMovie.{IsOpenedAs}
+use Rattle.mp4_present.specs.words.WalkSteps.{walk_steps}
+use Rattle.mp4_content.specs.format.Remaining.{track_divisor}
+use Rattle.mp4_content.proofs.scales.track_divisors.Given as goal
+
+-- the divisors of the first tracks are found, and took no more steps than walks over them
+abbrev pub invariant-loop-track : goal.invariant-loop-track
+invariant-loop-track g l = record {
+  many : length l.divisors.items ≡ l.track;
+  honesty : g.S.Store.is_honest l.store ≡ g.S.Store.is_honest l.fn.store;
+  file : g.S.Store.file l.store ≡ g.S.Store.file l.fn.store;
+  reads : g.S.Store.read_failures l.store ≡ g.S.Store.read_failures l.fn.store;
+  looks : l.steps.looks ≡ l.fn.steps.looks;
+  grows : l.fn.steps.passed ≤ l.steps.passed;
+  found : IsTrue (g.S.Store.is_honest l.fn.store) → (tree : FileTree) (o : IsOpenedAs (g.S.Store.file l.fn.store) l.movie tree) → l.leaving.timescales ≡ true → map track_seen l.heads ≡ map track_head_of tree.movie.tracks
+      → l.divisors.items ≡ map (λ (t : TrackTree). track_divisor l.leaving (track_of (g.S.Store.file l.fn.store) (file_parts tree) t)) (take l.track tree.movie.tracks);
+  work : IsTrue (g.S.Store.is_honest l.fn.store) → (tree : FileTree) → IsOpenedAs (g.S.Store.file l.fn.store) l.movie tree → l.steps.passed ≤ l.fn.steps.passed + sum_of (walk_steps tree) (take l.track tree.movie.tracks);
+}

@@ -1,0 +1,30 @@
+use Rattle.std.proofs.Common.{ℕ, ◌≡◌, ◌≤◌, List}
+use Rattle.std.specs.Prelude.{IsTrue}
+use Rattle.mp4_tables.specs.declared.sample.SampleAt.{SampleAt}
+use Rattle.mp4_head.specs.format.Tree.{TrackTree}
+use Rattle.mp4_present.specs.format.Denotes.{FileTree}
+use Rattle.mp4_present.specs.words.SamplesComing.{Comes}
+use Rattle.mp4_present.specs.words.Movies.{IsWalkOf}
+use Rattle.mp4_present.specs.words.OpenedMovie.{IsOpenedAs}
+use Rattle.mp4_present.specs.words.WalkSteps.{MayTake, TakesOn}
+use Rattle.mp4_content.proofs.SampleTimes.{HasFound}
+use Rattle.mp4_content.proofs.scales.with_samples.Given as goal
+
+-- the walk goes on, nothing failed, and the times of the samples so far are in the divisor
+abbrev pub invariant-loop-walk : goal.invariant-loop-walk
+invariant-loop-walk g l =
+    record {
+      walk : IsWalkOf l.movie l.walk;
+      honesty : g.S.Store.is_honest l.store ≡ g.S.Store.is_honest l.fn.store;
+      file : g.S.Store.file l.store ≡ g.S.Store.file l.fn.store;
+      reads : g.S.Store.read_failures l.store ≡ g.S.Store.read_failures l.fn.store;
+      looks : l.steps.looks ≡ l.fn.steps.looks;
+      grows : l.fn.steps.passed ≤ l.steps.passed;
+      takes : IsTrue (g.S.Store.is_honest l.fn.store) → (tree : FileTree) (t : TrackTree) (n : ℕ) → IsOpenedAs (g.S.Store.file l.fn.store) l.movie tree → MayTake (g.S.Store.file l.fn.store) tree t l.fn.walk n
+          → TakesOn (g.S.Store.file l.fn.store) tree t n l.walk l.fn.steps.passed l.steps.passed;
+      found : IsTrue (g.S.Store.is_honest l.fn.store) → (tree : FileTree) (t : TrackTree) (samples : List SampleAt) → IsOpenedAs (g.S.Store.file l.fn.store) l.movie tree → Comes (g.S.Store.file l.fn.store) tree t l.movie l.fn.walk samples
+          → HasFound l.reduction (g.S.Store.file l.fn.store) tree t l.fn.found l.divisor l.walk samples;
+    }
+
+abbrev pub decreases-loop-walk : goal.decreases-loop-walk
+decreases-loop-walk g l = l.walk.left
