@@ -171,7 +171,7 @@ static struct mp4norm_answer ask(const struct call *call, long number) {
 /* A call at random. */
 static struct call any_call(void) {
     struct call call = {.which = (int)below(CALLS)};
-    call.words = below(4) ? (uint32_t)below(4096) : below(8) ? 0 : (uint32_t)below(1 << 16);
+    call.words = below(4) ? (uint32_t)below(8192) : below(8) ? 0 : (uint32_t)below(1 << 16);
     call.track = (uint32_t)(1 + below(3)), call.number = (uint32_t)below(below(8) ? 2 : 5);
     call.from = below(8) ? below(below(2) ? 1 : 600) : UINT64_MAX - below(9);
     call.room = call.which == SUM ? 32 : below(3) ? below(MOST_ROOM) : below(40);

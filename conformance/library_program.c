@@ -24,7 +24,7 @@ static const char *const KINDS[] = {
     "FragmentBeforeMovie"};
 static const char *const WORDS[] = {"times", "edits", "flags", "groups", "metadata",
                                     "bitrates", "ends", "origins", "labels", "timing",
-                                    "roles", "ids"};
+                                    "roles", "ids", "timescales"};
 enum { WORD_COUNT = sizeof WORDS / sizeof *WORDS };
 
 struct bytes {

@@ -57,6 +57,17 @@ def moved_in(moof: str) -> Callable:
 
 LAST_LONGER = last_run(0x100, 1024, 2)
 MOVED = all_of(offsets(1000, 1256, 1256), moved_in('moof'), moved_in('moof[1]'))
+# All times of the movie said in a timescale three times as large, and those of the first track.
+MOVIE_SCALED = all_of(put('moov/mvhd', 20, u32(3000)),
+                      *(all_of(put(f'{trak}/edts/elst', 8, u64(120)),
+                               put(f'{trak}/edts/elst', 28, u64(360)))
+                        for trak in ('moov/trak', 'moov/trak[1]')))
+SCALED = all_of(put('moov/trak/edts/elst', 36, u64(3072)), put(MDIA + '/mdhd', 20, u32(38400)),
+                rows(STBL + '/stts', (2, 1536), (1, 1500)), offsets(0, 768, 768),
+                *(all_of(put(moof + '/traf/tfhd', 12, u32(1536)),
+                         put(moof + '/traf/tfdt', 4, u64(3 * time)),
+                         put(moof + '/traf/trun', 32, i32(-768)))
+                  for moof, time in (('moof', 1524), ('moof[1]', 3060))))
 # The second track has ID 3.
 OTHER_ID = all_of(put('moov/trak[1]/tkhd', 20, u32(3)), put('moov/mvex/trex[1]', 4, u32(3)),
                   put('moof/traf[1]/tfhd', 4, u32(3)))
@@ -72,7 +83,10 @@ CHANGES = [
     # 36, matrix at 48.
     one(put('moov/mvhd', 4, u64(3800000001)), 'movie: creation time 11 | 3800000001', 'times'),
     one(put('moov/mvhd', 12, u64(22)), 'movie: modification time 12 | 22', 'times'),
-    one(put('moov/mvhd', 20, u32(600)), 'movie: timescale 1000 | 600', 'timing'),
+    one(put('moov/mvhd', 20, u32(600)), 'movie: timescale 1000 | 600', 'timing',
+        timescales='movie: timescale 25 | 15'),
+    one(MOVIE_SCALED, 'movie: timescale 1000 | 3000', 'timescales',
+        timing='track 1: edit 1: segment duration 40 | 120'),
     one(put('moov/mvhd', 32, i32(-65536)), 'movie: rate 65536 | -65536'),
     one(put('moov/mvhd', 36, u16(0)), 'movie: volume 256 | 0'),
     one(put('moov/mvhd', 80, u32(1)), 'movie: matrix entry 9 1073741824 | 1'),
@@ -100,9 +114,15 @@ CHANGES = [
     one(gone('moov/trak/edts'), 'track 1: edits 2 | 0', 'edits'),
     # Rows of elst of version 1 begin at 8 and have 20 bytes.
     one(put('moov/trak/edts/elst', 8, u64(41)), 'track 1: edit 1: segment duration 40 | 41',
-        'edits'),
+        'edits', timescales='movie: timescale 25 | 1000'),
     one(put('moov/trak/edts/elst', 36, u64(1025)), 'track 1: edit 2: media time 1024 | 1025',
-        'edits'),
+        'edits', timescales='track 1: edit 2: media time 256 | 1025'),
+    one(SCALED, 'track 1: edit 2: media time 1024 | 3072', 'timescales',
+        edits='track 1: timescale 12800 | 38400'),
+    one(all_of(SCALED, rows(STBL + '/stts', (1, 1536), (1, 1537), (1, 1500)),
+               put('moof/traf/tfdt', 4, u64(4573)), put('moof[1]/traf/tfdt', 4, u64(9181))),
+        'track 1: edit 2: media time 1024 | 3072', edits='track 1: timescale 12800 | 38400',
+        timescales='track 1: edit 2: media time 256 | 3072'),
     one(put('moov/trak/edts/elst', 24, u16(2)), 'track 1: edit 1: rate integer 1 | 2', 'edits'),
     one(put('moov/trak/edts/elst', 26, b'\xff\xff'), 'track 1: edit 1: rate fraction 0 | -1',
         'edits'),
@@ -110,7 +130,8 @@ CHANGES = [
     one(put('moov/trak/meta', 5, b'x'), 'track 1: kept box 3: byte 6 of 10: 74 | 78', 'metadata'),
     one(put(MDIA + '/mdhd', 4, u64(25)), 'track 1: media creation time 15 | 25', 'times'),
     one(put(MDIA + '/mdhd', 12, u64(26)), 'track 1: media modification time 16 | 26', 'times'),
-    one(put(MDIA + '/mdhd', 20, u32(12801)), 'track 1: timescale 12800 | 12801', 'timing'),
+    one(put(MDIA + '/mdhd', 20, u32(12801)), 'track 1: timescale 12800 | 12801', 'timing',
+        timescales='track 1: edit 2: media time 256 | 1024'),
     one(put(MDIA + '/mdhd', 32, u16(0x15c7)), 'track 1: language 55c4 | 15c7'),
     one(put(MDIA + '/hdlr', 11, b'x'), 'track 1: handler: byte 12 of 25: 65 | 78',
         labels='track 1: handler: byte 12 of 24: 65 | 78'),
@@ -136,14 +157,19 @@ CHANGES = [
         'groups'),
     one(short_of_a_fragment, 'track 1: samples 9 | 6'),
     # The durations of the last fragment, at 12 of its tfhd.
-    one(put('moof[1]/traf/tfhd', 12, u32(500)), 'track 1: sample 7: duration 512 | 500', 'timing'),
+    one(put('moof[1]/traf/tfhd', 12, u32(500)), 'track 1: sample 7: duration 512 | 500', 'timing',
+        timescales='track 1: sample 7: duration 128 | 125'),
     one(durations((1, 600), (1, 512), (1, 500)), 'track 2: sample 1: duration 512 | 600',
-        'ends timing'),
-    one(LAST_LONGER, 'track 1: sample 9: duration 512 | 1024', 'ends timing'),
-    one(put(STBL + '/ctts', 20, i32(-256)), 'track 1: sample 2: offset 256 | -256', 'timing'),
+        'ends timing', timescales='track 2: sample 1: duration 128 | 150'),
+    one(LAST_LONGER, 'track 1: sample 9: duration 512 | 1024', 'ends timing',
+        timescales='track 1: sample 9: duration 128 | 256'),
+    one(put(STBL + '/ctts', 20, i32(-256)), 'track 1: sample 2: offset 256 | -256', 'timing',
+        timescales='track 1: sample 2: offset 64 | -64'),
     one(put(STBL + '/ctts', 12, i32(8)), 'track 1: sample 1: offset 0 | 8', 'timing',
-        origins='track 1: sample 2: offset 256 | 248'),
-    one(MOVED, 'track 1: sample 1: offset 0 | 1000', 'origins timing'),
+        origins='track 1: sample 2: offset 256 | 248',
+        timescales='track 1: sample 1: offset 0 | 2'),
+    one(MOVED, 'track 1: sample 1: offset 0 | 1000', 'origins timing',
+        timescales='track 1: sample 1: offset 0 | 250'),
     one(put(STBL + '/sdtp', 4, b'\x10'), 'track 1: sample 1: flags 02000000 | 01000000', 'flags'),
     one(put(STBL + '/stss', 12, u32(2)), 'track 1: sample 2: flags 01810000 | 01800000',
         flags='track 1: sample 2: flags 00010000 | 00000000'),
@@ -193,6 +219,8 @@ HIDDEN = [
     ('another layer', put('moov/trak/tkhd', 44, u16(1000)), 'roles'),
     ('another alternate group', put('moov/trak/tkhd', 46, b'\xff\xff'), 'roles'),
     ('another ID of a track', OTHER_ID, 'ids'),
+    ('the times of the movie in another timescale', MOVIE_SCALED, 'timing timescales'),
+    ('the times of a track in another timescale', SCALED, 'timing timescales'),
     ('all durations doubled', all_of(durations((2, 1024), (1, 1000)),
                                      put('moof/traf[1]/tfhd', 12, u32(1024))), 'timing'),
     ('one frame inside longer', durations((1, 512), (1, 612), (1, 500)), 'timing'),

@@ -11,7 +11,7 @@ from .normal import descriptions, handler, kept_in, key_order, roles
 
 # The words of `--without`, in their order, and the named sets of them.
 WORDS = ('times', 'edits', 'flags', 'groups', 'metadata', 'bitrates', 'ends', 'origins', 'labels',
-         'timing', 'roles', 'ids')
+         'timing', 'roles', 'ids', 'timescales')
 SETS = {'packaging-1': WORDS[:8], 'media-1': WORDS[:10]}
 # What is left out: nothing, each word, all of them, each named set.
 WORD_SETS = [(), *((word,) for word in WORDS), WORDS, *((name,) for name in SETS)]

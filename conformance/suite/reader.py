@@ -6,6 +6,7 @@ It looks for no faults: it is for the wanted answers of files that are known to 
 from __future__ import annotations
 
 import json
+import math
 from collections.abc import Iterator, Sequence
 from dataclasses import dataclass, field
 
@@ -65,6 +66,11 @@ class Node:
         return self.number(20 if self.version() else 12)
 
 
+def quotient(time: int, divisor: int) -> int:
+    """A time by one of its divisors; of times that are all 0 the divisor is 0."""
+    return time // divisor if divisor else 0
+
+
 def nodes(data: bytes, start: int, end: int, is_file: bool = False) -> list[Node]:
     return [Node(data, header) for header in lister.headers(data, start, end, '', is_file)]
 
@@ -80,9 +86,9 @@ class Sample:
     size: int
     groups: dict = field(default_factory=dict)
 
-    def leave_out(self, words, is_at_end: bool, origin: int) -> None:
-        """The origin is the offset of the first sample."""
-        if 'timing' in words or 'ends' in words and is_at_end:
+    def leave_out(self, words, has_duration: bool, origin: int) -> None:
+        """How long it lasts counts or not; the origin is the offset of the first sample."""
+        if not has_duration:
             self.duration = 1
         if 'origins' in words:
             self.offset -= origin
@@ -92,6 +98,12 @@ class Sample:
             self.flags &= 1 << 16
         if 'groups' in words:
             self.groups = {}
+
+    def divide(self, divisor: int, has_duration: bool) -> None:
+        """In a timescale that is so much smaller, if how long it lasts is said in one."""
+        if has_duration:
+            self.duration = quotient(self.duration, divisor)
+        self.offset = quotient(self.offset, divisor)
 
 
 class Track:
@@ -130,10 +142,40 @@ class Track:
             self.timescale = PLAIN_TIMESCALE
         if 'origins' in words or 'timing' in words:
             self.start = 0
-        ends = 0, len(self.samples) - 1
         origin = self.samples[0].offset if self.samples else 0
         for number, sample in enumerate(self.samples):
-            sample.leave_out(words, number in ends, origin)
+            sample.leave_out(words, self.has_duration(number), origin)
+
+    def has_duration(self, number: int) -> bool:
+        """Whether it counts how long the sample of this number lasts."""
+        is_at_end = number in (0, len(self.samples) - 1)
+        return not ('timing' in self.left or 'ends' in self.left and is_at_end)
+
+    def times(self) -> Iterator[int]:
+        """All times in its timescale that count, and that itself. Below 0 a media time is none,
+        -1 marks an empty edit; below -1, where it has no meaning, it keeps all others as they
+        are."""
+        yield self.start
+        if 'timing' not in self.left:
+            yield self.timescale
+        for _, time, *_ in self.edits:
+            yield time if time >= 0 else int(time < -1)
+        for number, sample in enumerate(self.samples):
+            yield sample.offset
+            if self.has_duration(number):
+                yield sample.duration
+
+    def divide(self, of_movie: int) -> None:
+        """Says its times in lowest terms; those of the movie are divided by this."""
+        divisor = math.gcd(*self.times())
+        if 'timing' not in self.left:
+            self.timescale = quotient(self.timescale, divisor)
+        self.start = quotient(self.start, divisor)
+        for edit in self.edits:
+            edit[0] = quotient(edit[0], of_movie)
+            edit[1] = quotient(edit[1], divisor) if edit[1] >= 0 else edit[1]
+        for number, sample in enumerate(self.samples):
+            sample.divide(divisor, self.has_duration(number))
 
     def fault(self, movie_timescale: int) -> str | None:
         """Why what is left has no normal form, if it has none."""
@@ -174,7 +216,20 @@ class Movie:
             track.leave_out(self.left)
             if 'ids' in self.left:
                 track.id_left = place
+        if 'timescales' in self.left:
+            self.divide()
         return self
+
+    def divide(self) -> None:
+        """Says all times in lowest terms, once all else is left out."""
+        times = [edit[0] for track in self.tracks for edit in track.edits]
+        if 'timing' not in self.left:
+            times.append(self.timescale)
+        divisor = math.gcd(*times)
+        if 'timing' not in self.left:
+            self.timescale = quotient(self.timescale, divisor)
+        for track in self.tracks:
+            track.divide(divisor)
 
     def refusal(self) -> str | None:
         """The line that refuses what is left, if it has no normal form."""
