@@ -1,5 +1,5 @@
 -- How tracks begin is left out of times in lowest terms as it is of the times before them.
-use Rattle.std.proofs.Common.{◌≡◌, ℕ, zero, suc, ◌+◌, ◌*◌, ◌/◌, ◌<◌, ◌==◌, Bool, true, false, if◌then◌else◌, List, [], ◌∷◌, ◌++◌, length, map, refl, sym, ap, subst, ◌∙◌, arith, mul-pos, mul_comm, mul-add, ℤ, pos, negsuc, neg_ℤ, unsigned_abs, ◌+ℤ◌, ◌-ℤ◌, ◌*ℤ◌}
+use Rattle.std.proofs.Common.{◌≡◌, ℕ, zero, suc, ◌+◌, ◌*◌, ◌/◌, ◌<◌, ◌==◌, min, Bool, true, false, if◌then◌else◌, List, [], ◌∷◌, ◌++◌, length, map, refl, sym, ap, subst, ◌∙◌, arith, mul-pos, mul_comm, mul-add, ℤ, pos, negsuc, neg_ℤ, unsigned_abs, ◌+ℤ◌, ◌-ℤ◌, ◌*ℤ◌}
 use Rattle.std.specs.Prelude.{◌&&◌, ◌||◌}
 use Rattle.std.specs.Int.{◌∣◌}
 use Rattle.std.specs.List.{AllByRecursion, AllZip, list_any}
@@ -15,7 +15,7 @@ use Rattle.mp4_present.specs.format.Presentation.{Sample, Track, Presentation}
 use Rattle.mp4_content.specs.format.Reduced.{first_offset, reduce_track, number_track, number_tracks, reduce}
 use Rattle.mp4_content.specs.declared.without.Without.{Without}
 use Rattle.mp4_content.specs.format.Timescales.{counted_timescale, counted_duration, sample_times, counted_media_time, track_times, segment_times, movie_times, sized, timescale_by, sample_by, samples_by, media_time_by, edit_by, track_by, divided, divisor_of, lowest_track, lowest}
-use Rattle.mp4_content.specs.format.LeadIns.{marks_empty, is_empty, is_number, is_from_0, is_plain, is_last, is_lead_in, waits, shown_from, has_samples, is_simple, first_shown, first_moments, microseconds, Moment, delay, waiting, offset_less, begin_after, edit_in_microseconds, in_microseconds, wait_track}
+use Rattle.mp4_content.specs.format.LeadIns.{marks_empty, is_empty, is_number, is_from_0, is_plain, is_last, is_lead_in, waits, shown_from, has_samples, is_simple, first_shown, first_moments, microseconds, max_duration, Moment, delay, waiting, offset_less, begin_after, edit_in_microseconds, in_microseconds, wait_track}
 use Rattle.mp4_content.specs.format.LeadInsLaws.{BeginsLater}
 use Rattle.mp4_content.proofs.TimescalesDivisors.{Divides, divisor_divides, divides_minus, minus_divided, back_again}
 use Rattle.mp4_content.proofs.TimescalesChanged.{media_times, lasting, lowest_of_divided}
@@ -212,7 +212,7 @@ module _ (words : Without) where
 
     other_edits : (scale : ℕ) → 0 < scale → a ∣ scale → (edits : List Edit) → Divides a (lasting edits) → map (edit_in_microseconds (divided a scale)) (map (edit_by (divided a) (divided g)) edits) ≡ map (edit_by (λ n. n) (divided g)) (map (edit_in_microseconds scale) edits)
     other_edits scale some whole [] h = refl
-    other_edits scale some whole (e ∷ edits) h = λ i. record (edit_by (divided a) (divided g) e) { segment_duration = quotient a e.segment_duration scale some h.0 whole i } ∷ other_edits scale some whole edits h.1 i
+    other_edits scale some whole (e ∷ edits) h = λ i. record (edit_by (divided a) (divided g) e) { segment_duration = min max_duration (quotient a e.segment_duration scale some h.0 whole i) } ∷ other_edits scale some whole edits h.1 i
 
     other_said : (scale : ℕ) → 0 < scale → a ∣ scale → (t : Track) → Divides a (lasting t.head.edits) → in_microseconds (divided a scale) (after t) ≡ track_by m (λ n. n) (divided g) (in_microseconds scale t)
     other_said scale some whole t h = λ i. record (after t) { head = record (after t).head { edits = other_edits scale some whole t.head.edits h i } }

@@ -1,5 +1,5 @@
--- Tracks apart from their composition offsets and from how long their edits last: what is valid of them stays so, whatever is left out.
-use Rattle.std.proofs.Common.{◌≡◌, ℕ, suc, ◌<◌, ◌≤◌, ◌^◌, ◌==◌, Bool, true, false, if◌then◌else◌, List, [], ◌∷◌, ◌++◌, length, map, refl, sym, ap, subst, ◌∙◌, arith, ℤ, pos, ◌-ℤ◌, FitsSigned}
+-- Tracks apart from their composition offsets: what is valid of them stays so, whatever is left out.
+use Rattle.std.proofs.Common.{◌≡◌, ℕ, suc, ◌<◌, ◌≤◌, ◌^◌, ◌==◌, min, Bool, true, false, if◌then◌else◌, List, [], ◌∷◌, ◌++◌, length, map, refl, sym, ap, subst, ◌∙◌, arith, ℤ, pos, ◌-ℤ◌, FitsSigned}
 use Rattle.std.specs.Prelude.{flat_map}
 use Rattle.std.specs.Int.{w32}
 use Rattle.std.specs.List.{AllByRecursion}
@@ -11,12 +11,11 @@ use Rattle.mp4_present.specs.format.Presentation.{Sample, Track, IsSample, IsTra
 use Rattle.mp4_content.specs.format.Reduced.{offset_left, first_offset, reduce_sample, reduce_from, reduce_samples, reduce_track, number_track, HasNearOffsets}
 use Rattle.mp4_content.specs.declared.without.Without.{Without}
 use Rattle.mp4_content.specs.format.Timescales.{leaves_duration, track_times, timescale_by, samples_by, edit_by, divided, divisor_of, lowest_track}
-use Rattle.mp4_content.specs.format.LeadIns.{is_simple, first_shown, Moment, waiting, offset_less, begin_after, edit_in_microseconds, in_microseconds, wait_track}
-use Rattle.mp4_content.specs.format.LeadInsLaws.{HasShortEdits}
+use Rattle.mp4_content.specs.format.LeadIns.{is_simple, first_shown, Moment, max_duration, waiting, offset_less, begin_after, edit_in_microseconds, in_microseconds, wait_track}
 use Rattle.mp4_content.proofs.ReducedValid.{track_good, number_good}
 use Rattle.mp4_content.proofs.TimescalesDivisors.{divisor_divides}
 use Rattle.mp4_content.proofs.TimescalesLengths.{duration_less}
-use Rattle.mp4_content.proofs.TimescalesValid.{media_time_good, scale_less, scale_some_by}
+use Rattle.mp4_content.proofs.TimescalesValid.{edits_good, scale_less, scale_some_by}
 use Rattle.mp4_content.proofs.LeadInsTracks.{waiting_if, wait_of_simple, wait_of_other}
 use Rattle.mp4_present.proofs.ValidSamples.{nothing_mapped}
 
@@ -71,27 +70,17 @@ sample_with descriptions s duration offset h less near = record {
 
 -- ---- apart from these
 
-abbrev flat_edit : Edit → Edit
-flat_edit e = record e { segment_duration = 0 }
-
 abbrev flat_sample : Sample → Sample
 flat_sample s = record s { offset = pos 0 }
 
 abbrev flat : Track → Track
-flat t = record t { head = record t.head { edits = map flat_edit t.head.edits }; samples = map flat_sample t.samples }
+flat t = record t { samples = map flat_sample t.samples }
 
 abbrev pub IsSound : Track → Type 0
 IsSound t = IsTrack (flat t)
 
 pub fits_0 : FitsSigned w32 (pos 0)
 fits_0 = omega arith
-
-flat_edits_good : (f : Edit → Edit) → ((e : Edit) → IsEdit e → IsEdit (flat_edit (f e))) → (edits : List Edit) → AllByRecursion IsEdit edits → AllByRecursion IsEdit (map flat_edit (map f edits))
-flat_edits_good f one [] h = tt
-flat_edits_good f one (e ∷ edits) h = (one e h.0, flat_edits_good f one edits h.1)
-
-flat_edit_good : (e : Edit) → IsEdit e → IsEdit (flat_edit e)
-flat_edit_good e h = record { segment_duration = omega arith; media_time = h.media_time; rate_integer = h.rate_integer; rate_fraction = h.rate_fraction }
 
 -- the names of groups
 abbrev names : List Sample → List GroupKey
@@ -119,58 +108,61 @@ flat_samples_good descriptions [] h = tt
 flat_samples_good descriptions (s ∷ samples) h = (sample_with descriptions s s.duration (pos 0) h.0 h.0.duration fits_0, flat_samples_good descriptions samples h.1)
 
 -- a track with these edits, which begins here
-sound_with : (t : Track) (edits : List Edit) (start : ℕ) → IsTrack t → AllByRecursion IsEdit (map flat_edit edits) → (t.samples ≡ [] → start ≡ 0) → IsSound (record t { head = record t.head { edits = edits }; start = start })
+sound_with : (t : Track) (edits : List Edit) (start : ℕ) → IsTrack t → AllByRecursion IsEdit edits → (t.samples ≡ [] → start ≡ 0) → IsSound (record t { head = record t.head { edits = edits }; start = start })
 sound_with t edits start h e none = record {
-  head = head_with t.head (map flat_edit edits) t.head.media h.head e h.head.media;
+  head = head_with t.head edits t.head.media h.head e h.head.media;
   samples = flat_samples_good (length t.head.media.descriptions) t.samples h.samples;
   keys = subst FewNames (sym (flat_names t.samples)) h.keys;
   empty = λ k. none (nothing_mapped flat_sample t.samples k);
 }
 
-edits_back : (edits : List Edit) → AllByRecursion IsEdit (map flat_edit edits) → AllByRecursion (λ (e : Edit). e.segment_duration < 2 ^ 64) edits → AllByRecursion IsEdit edits
-edits_back [] h short = tt
-edits_back (e ∷ edits) h short =
-    (record { segment_duration = short.0; media_time = h.0.media_time; rate_integer = h.0.rate_integer; rate_fraction = h.0.rate_fraction }, edits_back edits h.1 short.1)
-
 samples_back : (descriptions : ℕ) (samples : List Sample) → AllByRecursion (IsSample descriptions) (map flat_sample samples) → AllByRecursion (λ (s : Sample). FitsSigned w32 s.offset) samples → AllByRecursion (IsSample descriptions) samples
 samples_back descriptions [] h near = tt
 samples_back descriptions (s ∷ samples) h near = (sample_with descriptions (flat_sample s) s.duration s.offset h.0 h.0.duration near.0, samples_back descriptions samples h.1 near.1)
 
-sound_back : (t : Track) → IsSound t → HasNearOffsets t → HasShortEdits t → IsTrack t
-sound_back t h near short = record {
-  head = head_with (flat t).head t.head.edits t.head.media h.head (edits_back t.head.edits h.head.edits short) h.head.media;
+sound_back : (t : Track) → IsSound t → HasNearOffsets t → IsTrack t
+sound_back t h near = record {
+  head = h.head;
   samples = samples_back (length t.head.media.descriptions) t.samples h.samples near;
   keys = subst FewNames (flat_names t.samples) h.keys;
   empty = λ e. h.empty (ap (map flat_sample) e);
 }
 
-pub all_back : (tracks : List Track) → AllByRecursion IsSound tracks → AllByRecursion HasNearOffsets tracks → AllByRecursion HasShortEdits tracks → AllByRecursion IsTrack tracks
-all_back [] h near short = tt
-all_back (t ∷ tracks) h near short = (sound_back t h.0 near.0 short.0, all_back tracks h.1 near.1 short.1)
+pub all_back : (tracks : List Track) → AllByRecursion IsSound tracks → AllByRecursion HasNearOffsets tracks → AllByRecursion IsTrack tracks
+all_back [] h near = tt
+all_back (t ∷ tracks) h near = (sound_back t h.0 near.0, all_back tracks h.1 near.1)
 
 -- ---- a track that waits
 
-waiting_good : (wait : ℕ) → AllByRecursion IsEdit (map flat_edit (waiting wait))
-waiting_good wait = by (wait == 0)
+waiting_good : (wait : ℕ) → wait ≤ max_duration → AllByRecursion IsEdit (waiting wait)
+waiting_good wait fits = by (wait == 0)
   where
-    by : (b : Bool) → AllByRecursion IsEdit (map flat_edit (waiting_if b wait))
+    by : (b : Bool) → AllByRecursion IsEdit (waiting_if b wait)
     by true = tt
-    by false = (record { segment_duration = omega arith; media_time = omega arith; rate_integer = omega arith; rate_fraction = omega arith }, (record { segment_duration = omega arith; media_time = omega arith; rate_integer = omega arith; rate_fraction = omega arith }, tt))
+    by false = (record { segment_duration = omega (arith, fits); media_time = omega arith; rate_integer = omega arith; rate_fraction = omega arith }, (record { segment_duration = omega arith; media_time = omega arith; rate_integer = omega arith; rate_fraction = omega arith }, tt))
 
-begun_sound : (wait : ℕ) (t : Track) → IsTrack t → IsSound (begin_after wait t)
-begun_sound wait t h =
-    let without = sound_with t (waiting wait) 0 h (waiting_good wait) (λ e. refl) in
+begun_sound : (wait : ℕ) (t : Track) → wait ≤ max_duration → IsTrack t → IsSound (begin_after wait t)
+begun_sound wait t fits h =
+    let without = sound_with t (waiting wait) 0 h (waiting_good wait fits) (λ e. refl) in
     let same = samples_sound (offset_less (first_offset t.samples)) (λ s. refl) t.samples in
-    subst (λ (samples : List Sample). IsTrack (record t { head = record t.head { edits = map flat_edit (waiting wait) }; start = 0; samples = samples })) (sym same) without
+    subst (λ (samples : List Sample). IsTrack (record t { head = record t.head { edits = waiting wait }; start = 0; samples = samples })) (sym same) without
+
+is_short : (n : ℕ) → min max_duration n < 2 ^ 64
+is_short n = omega arith
+
+others_good : (scale : ℕ) (edits : List Edit) → AllByRecursion IsEdit edits → AllByRecursion IsEdit (map (edit_in_microseconds scale) edits)
+others_good scale [] h = tt
+others_good scale (e ∷ edits) h =
+    (record { segment_duration = is_short _; media_time = h.0.media_time; rate_integer = h.0.rate_integer; rate_fraction = h.0.rate_fraction }, others_good scale edits h.1)
 
 other_sound : (scale : ℕ) (t : Track) → IsTrack t → IsSound (in_microseconds scale t)
-other_sound scale t h = sound_with t (map (edit_in_microseconds scale) t.head.edits) t.start h (flat_edits_good (edit_in_microseconds scale) (λ e k. flat_edit_good e k) t.head.edits h.head.edits) h.empty
+other_sound scale t h = sound_with t (map (edit_in_microseconds scale) t.head.edits) t.start h (others_good scale t.head.edits h.head.edits) h.empty
 
-pub wait_sound : (scale : ℕ) (wait : Moment → ℕ) (t : Track) → IsTrack t → IsSound (wait_track scale wait t)
-wait_sound scale wait t h = by (is_simple t) refl
+pub wait_sound : (scale : ℕ) (wait : Moment → ℕ) → ((x : Moment) → wait x ≤ max_duration) → (t : Track) → IsTrack t → IsSound (wait_track scale wait t)
+wait_sound scale wait fits t h = by (is_simple t) refl
   where
     by : (b : Bool) → is_simple t ≡ b → IsSound (wait_track scale wait t)
-    by true e = subst IsSound (sym (wait_of_simple scale wait t e)) (begun_sound (wait (first_shown scale t)) t h)
+    by true e = subst IsSound (sym (wait_of_simple scale wait t e)) (begun_sound (wait (first_shown scale t)) t (fits (first_shown scale t)) h)
     by false e = subst IsSound (sym (wait_of_other scale wait t e)) (other_sound scale t h)
 
 -- ---- less of it
@@ -195,15 +187,8 @@ module _ (l : Without) where
   samples_flat : (samples : List Sample) → reduce_samples l (map flat_sample samples) ≡ map flat_sample (reduce_samples l samples)
   samples_flat samples = (λ i. reduce_from l (length_mapped flat_sample samples i) (first_flat samples i) 0 (map flat_sample samples)) ∙ from_flat (length samples) (first_offset samples) 0 samples
 
-  edits_flat : (edits : List Edit) → (if l.edits then [] else map flat_edit edits) ≡ map flat_edit (if l.edits then [] else edits)
-  edits_flat edits = by l.edits
-    where
-      by : (b : Bool) → (if b then [] else map flat_edit edits) ≡ map flat_edit (if b then [] else edits)
-      by true = refl
-      by false = refl
-
   track_flat : (t : Track) → reduce_track l (flat t) ≡ flat (reduce_track l t)
-  track_flat t = λ i. record (reduce_track l t) { head = record (reduce_track l t).head { edits = edits_flat t.head.edits i }; samples = samples_flat t.samples i }
+  track_flat t = λ i. record (reduce_track l t) { samples = samples_flat t.samples i }
 
   pub reduced_sound : (place : ℕ) (t : Track) → 0 < place → IsSound t → IsSound (number_track l place (reduce_track l t))
   reduced_sound place t some h =
@@ -228,13 +213,6 @@ module _ (l : Without) where
   none_lowest f count n [] e = refl
   none_lowest f count n (s ∷ samples) e = absurd cc
 
-  edit_lowest : (a g : ℕ) (e : Edit) → IsEdit (flat_edit e) → IsEdit (flat_edit (edit_by (divided a) (divided g) e))
-  edit_lowest a g e h = record { segment_duration = omega arith; media_time = media_time_good g e.media_time h.media_time; rate_integer = h.rate_integer; rate_fraction = h.rate_fraction }
-
-  edits_lowest : (a g : ℕ) (edits : List Edit) → AllByRecursion IsEdit (map flat_edit edits) → AllByRecursion IsEdit (map flat_edit (map (edit_by (divided a) (divided g)) edits))
-  edits_lowest a g [] h = tt
-  edits_lowest a g (e ∷ edits) h = (edit_lowest a g e h.0, edits_lowest a g edits h.1)
-
   lowest_sound : (a : ℕ) (t : Track) → IsSound t → IsSound (lowest_track l a t)
   lowest_sound a t h =
       let g = divisor_of (track_times l t) in
@@ -244,8 +222,8 @@ module _ (l : Without) where
       let less = scale_less l g scale in
       let was = h.head.media.timescale in
       record {
-        head = head_with (flat t).head (map flat_edit (map (edit_by (divided a) (divided g)) t.head.edits)) (record t.head.media { timescale = timescale_by l (divided g) scale }) h.head
-            (edits_lowest a g t.head.edits h.head.edits)
+        head = head_with t.head (map (edit_by (divided a) (divided g)) t.head.edits) (record t.head.media { timescale = timescale_by l (divided g) scale }) h.head
+            (edits_good a g t.head.edits h.head.edits)
             (media_with t.head.media (timescale_by l (divided g) scale) h.head.media (omega (arith, less, was)) (scale_some_by l g scale all.0 h.head.media.timescale_not_0));
         samples = lowest_samples (divided g) (length t.head.media.descriptions) count 0 t.samples (λ n d. duration_less l g count n d) h.samples;
         keys = subst FewNames (sym (lowest_names (divided g) count 0 t.samples)) h.keys;

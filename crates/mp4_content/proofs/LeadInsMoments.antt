@@ -1,10 +1,10 @@
 -- How much later one moment is than another, and that one of them is the first.
-use Rattle.std.proofs.Common.{◌≡◌, ◌⊎◌, inl, inr, ⊎_elim, ℕ, suc, ◌+◌, ◌-◌, ◌*◌, ◌/◌, ◌<◌, ◌≤◌, max, List, [], ◌∷◌, refl, sym, ap, subst, ◌∙◌, arith, mul-pos, mul_comm, ℤ, pos, negsuc, ◌+ℤ◌, ◌-ℤ◌, ◌*ℤ◌}
+use Rattle.std.proofs.Common.{◌≡◌, ◌⊎◌, inl, inr, ⊎_elim, ℕ, suc, ◌+◌, ◌-◌, ◌*◌, ◌/◌, ◌<◌, ◌≤◌, min, max, List, [], ◌∷◌, refl, sym, ap, subst, ◌∙◌, arith, mul-pos, mul_comm, ℤ, pos, negsuc, ◌+ℤ◌, ◌-ℤ◌, ◌*ℤ◌}
 use Rattle.std.specs.List.{AllByRecursion}
 use Rattle.std.proofs.lemmas.Int.{ints}
 use Rattle.std.proofs.Math.Nat.{zero-div, mul-sub, mul-div-mul_left, mul-div_right, mul-le-mul_left, mul-le-mul_right, div-mul-le_self, le-div_iff_mul-le, le_of_mul-le-mul_left, sub-eq-zero_of_le}
 use borrow.Author.Differences.{up, down, neg_is, same_out}
-use Rattle.mp4_content.specs.format.LeadIns.{Moment, from_0, microseconds, later, delay}
+use Rattle.mp4_content.specs.format.LeadIns.{Moment, from_0, microseconds, max_duration, later, delay}
 use Rattle.mp4_content.specs.format.LeadInsLaws.{Among, DelayIsFromFirst, BeginsLater}
 
 -- ---- in numbers from 0 on
@@ -20,12 +20,12 @@ from_0_is (negsuc n) = omega arith
 abbrev pub ahead : Moment → Moment → ℕ
 ahead x y = up x.ticks * y.scale + down y.ticks * x.scale
 
-pub later_is : (x y : Moment) → later x y ≡ (ahead x y - ahead y x) * microseconds / (x.scale * y.scale)
+pub later_is : (x y : Moment) → later x y ≡ min max_duration ((ahead x y - ahead y x) * microseconds / (x.scale * y.scale))
 later_is x y =
     let a = parts x.ticks y.scale in
     let b = parts y.ticks x.scale in
     let is = from_0_is (x.ticks *ℤ pos y.scale -ℤ y.ticks *ℤ pos x.scale) in
-    ap (λ n. n * microseconds / (x.scale * y.scale)) (omega (arith, ints, a, b, is))
+    ap (λ n. min max_duration (n * microseconds / (x.scale * y.scale))) (omega (arith, ints, a, b, is))
 
 -- ---- the same fractions
 
@@ -42,8 +42,9 @@ same_later : (x y u v : Moment) → 0 < x.scale → 0 < y.scale → 0 < u.scale 
     → ahead x y * (u.scale * v.scale) + ahead v u * (x.scale * y.scale) ≡ ahead u v * (x.scale * y.scale) + ahead y x * (u.scale * v.scale) → later x y ≡ later u v
 same_later x y u v some more third fourth h =
     later_is x y
-    ∙ same_quotient microseconds (ahead x y - ahead y x) (ahead u v - ahead v u) (x.scale * y.scale) (u.scale * v.scale) (mul-pos some more) (mul-pos third fourth)
-    (minus_many (ahead x y) (ahead y x) (ahead u v) (ahead v u) (x.scale * y.scale) (u.scale * v.scale) h)
+    ∙ ap (min max_duration)
+    (same_quotient microseconds (ahead x y - ahead y x) (ahead u v - ahead v u) (x.scale * y.scale) (u.scale * v.scale) (mul-pos some more) (mul-pos third fourth)
+    (minus_many (ahead x y) (ahead y x) (ahead u v) (ahead v u) (x.scale * y.scale) (u.scale * v.scale) h))
     ∙ sym (later_is u v)
 
 cancel : (k m n : ℕ) → 0 < k → k * m ≡ k * n → m ≡ n
@@ -79,7 +80,7 @@ abbrev AtMost : Moment → Moment → Type 0
 AtMost x y = ahead x y ≤ ahead y x
 
 not_later : (x y : Moment) → AtMost x y → later x y ≡ 0
-not_later x y h = later_is x y ∙ (λ i. sub-eq-zero_of_le h i * microseconds / (x.scale * y.scale)) ∙ zero-div (x.scale * y.scale)
+not_later x y h = later_is x y ∙ (λ i. min max_duration (sub-eq-zero_of_le h i * microseconds / (x.scale * y.scale))) ∙ ap (min max_duration) (zero-div (x.scale * y.scale))
 
 divided_less : (m n k : ℕ) → 0 < k → m ≤ n → m / k ≤ n / k
 divided_less m n k some h = let down = div-mul-le_self m k in (le-div_iff_mul-le {x = m / k} some).1 (omega (arith, down, h))
@@ -190,6 +191,11 @@ some_at_once x xs h =
 
 -- ---- delays that were said in microseconds
 
+-- no delay lasts longer than an edit can
+pub delay_fits : (xs : List Moment) (x : Moment) → delay xs x ≤ max_duration
+delay_fits [] x = omega arith
+delay_fits (y ∷ xs) x = let rest = delay_fits xs x in omega (arith, rest)
+
 -- the most by which this is more than any of these
 abbrev pub most_more : ℕ → List ℕ → ℕ
 most_more w [] = 0
@@ -220,5 +226,7 @@ settled_by n w v s r above some more =
     ∙ (λ i. same i / k)
     ∙ mul-div_right (w - v) (mul-pos (mul-pos above some) (mul-pos above more))
 
-pub later_settled : (w v s r : ℕ) → 0 < s → 0 < r → later (settled w s) (settled v r) ≡ w - v
-later_settled w v s r some more = later_is (settled w s) (settled v r) ∙ settled_by microseconds w v s r (omega arith) some more
+pub later_settled : (w v s r : ℕ) → w ≤ max_duration → 0 < s → 0 < r → later (settled w s) (settled v r) ≡ w - v
+later_settled w v s r fits some more =
+    let less : min max_duration (w - v) ≡ w - v = omega (arith, fits) in
+    later_is (settled w s) (settled v r) ∙ ap (min max_duration) (settled_by microseconds w v s r (omega arith) some more) ∙ less

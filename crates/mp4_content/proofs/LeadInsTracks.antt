@@ -1,5 +1,5 @@
 -- Tracks of which each waits as long as something says: they stay simple or not, and twice is once.
-use Rattle.std.proofs.Common.{◌≡◌, inl, inr, max, ℕ, ◌*◌, ◌/◌, ◌<◌, ◌==◌, Bool, true, false, if◌then◌else◌, List, [], ◌∷◌, map, refl, sym, ap, subst, ◌∙◌, arith, mul-pos, ℤ, pos, negsuc, ◌+ℤ◌, ◌-ℤ◌, ◌*ℤ◌}
+use Rattle.std.proofs.Common.{◌≡◌, inl, inr, min, max, ℕ, ◌*◌, ◌/◌, ◌<◌, ◌≤◌, ◌==◌, Bool, true, false, if◌then◌else◌, List, [], ◌∷◌, map, refl, sym, ap, subst, ◌∙◌, arith, mul-pos, ℤ, pos, negsuc, ◌+ℤ◌, ◌-ℤ◌, ◌*ℤ◌}
 use Rattle.std.specs.Prelude.{◌&&◌, ◌||◌}
 use Rattle.std.specs.List.{AllByRecursion, list_any}
 use Rattle.std.proofs.lemmas.Bool.Decides.{nat_tests}
@@ -8,9 +8,9 @@ use Rattle.mp4_boxes.proofs.Plain.{false_true, and_is_true}
 use Rattle.mp4_head.specs.format.Head.{Edit}
 use Rattle.mp4_present.specs.format.Presentation.{Sample, Track, Presentation}
 use Rattle.mp4_content.specs.format.Reduced.{first_offset}
-use Rattle.mp4_content.specs.format.LeadIns.{is_empty, is_plain, is_last, is_lead_in, waits, shown_from, has_samples, is_simple, Moment, first_shown, first_moments, microseconds, delay, waiting, offset_less, begin_after, edit_in_microseconds, in_microseconds, wait_track, wait_each, waited}
+use Rattle.mp4_content.specs.format.LeadIns.{is_empty, is_plain, is_last, is_lead_in, waits, shown_from, has_samples, is_simple, Moment, first_shown, first_moments, microseconds, max_duration, delay, waiting, offset_less, begin_after, edit_in_microseconds, in_microseconds, wait_track, wait_each, waited}
 use Rattle.mp4_content.specs.format.LeadInsLaws.{WaitedIsFixed}
-use Rattle.mp4_content.proofs.LeadInsMoments.{AnyOf, HasScale, some_at_once, most_more, all_more, settled, later_settled}
+use Rattle.mp4_content.proofs.LeadInsMoments.{AnyOf, HasScale, some_at_once, delay_fits, most_more, all_more, settled, later_settled}
 
 -- ---- edits that change neither what they mark nor their rates
 
@@ -95,7 +95,7 @@ begun_twice w v t =
     let same = (λ i. map (offset_less (first_at_0 t.samples i)) (map (offset_less first) t.samples)) ∙ offsets_twice first t.samples in
     λ i. record t { head = record t.head { edits = waiting w }; start = 0; samples = same i }
 
-many_divided : (n : ℕ) → n * microseconds / microseconds ≡ n
+many_divided : (n : ℕ) → min max_duration (min max_duration n * microseconds / microseconds) ≡ min max_duration n
 many_divided n = omega arith
 
 edits_twice : (scale : ℕ) (edits : List Edit) → map (edit_in_microseconds microseconds) (map (edit_in_microseconds scale) edits) ≡ map (edit_in_microseconds scale) edits
@@ -144,9 +144,9 @@ moments_have_scales scale some (t ∷ tracks) h = by (is_simple t) refl (moments
 
 module _ (scale : ℕ) (wait : Moment → ℕ) where
   -- how much later one is that waits so long
-  delays_said : (w s : ℕ) → 0 < s → (tracks : List Track) → AllByRecursion HasTimescale tracks → delay (first_moments microseconds (map (wait_track scale wait) tracks)) (settled w s) ≡ most_more w (map wait (first_moments scale tracks))
-  delays_said w s some [] h = refl
-  delays_said w s some (t ∷ tracks) h = by (is_simple t) refl (delays_said w s some tracks h.1)
+  delays_said : (w s : ℕ) → w ≤ max_duration → 0 < s → (tracks : List Track) → AllByRecursion HasTimescale tracks → delay (first_moments microseconds (map (wait_track scale wait) tracks)) (settled w s) ≡ most_more w (map wait (first_moments scale tracks))
+  delays_said w s fits some [] h = refl
+  delays_said w s fits some (t ∷ tracks) h = by (is_simple t) refl (delays_said w s fits some tracks h.1)
     where
       rest : List Track
       rest = map (wait_track scale wait) tracks
@@ -158,7 +158,7 @@ module _ (scale : ℕ) (wait : Moment → ℕ) where
           let moment = ap (first_shown microseconds) (wait_of_simple scale wait t e) ∙ begun_shown v t in
           let list = moments_of_simple microseconds (wait_track scale wait t) rest (stays_simple scale wait t ∙ e) ∙ ap (λ (m : Moment). m ∷ first_moments microseconds rest) moment in
           ap (λ (ms : List Moment). delay ms (settled w s)) list
-          ∙ (λ i. max (later_settled w v s r some h.0 i) (behind i))
+          ∙ (λ i. max (later_settled w v s r fits some h.0 i) (behind i))
           ∙ ap (λ (ms : List Moment). most_more w (map wait ms)) (sym (moments_of_simple scale t tracks e))
       by false e behind =
           ap (λ (ms : List Moment). delay ms (settled w s)) (moments_of_other microseconds (wait_track scale wait t) rest (stays_simple scale wait t ∙ e))
@@ -166,7 +166,7 @@ module _ (scale : ℕ) (wait : Moment → ℕ) where
           ∙ ap (λ (ms : List Moment). most_more w (map wait ms)) (sym (moments_of_other scale t tracks e))
 
   -- Where one of them doesn't wait, each waits as long again.
-  module _ (all : List Track) (h : AllByRecursion HasTimescale all) (first : AnyOf (λ v. v ≡ 0) (map wait (first_moments scale all))) where
+  module _ (fits : (x : Moment) → wait x ≤ max_duration) (all : List Track) (h : AllByRecursion HasTimescale all) (first : AnyOf (λ v. v ≡ 0) (map wait (first_moments scale all))) where
     abbrev again : Moment → ℕ
     again = delay (first_moments microseconds (map (wait_track scale wait) all))
 
@@ -176,7 +176,7 @@ module _ (scale : ℕ) (wait : Moment → ℕ) where
         by : (b : Bool) → is_simple t ≡ b → wait_track microseconds again (wait_track scale wait t) ≡ wait_track scale wait t
         by true e =
             let w = wait (first_shown scale t) in
-            let as_long = ap again (begun_shown w t) ∙ delays_said w t.head.media.timescale some all h ∙ all_more w (map wait (first_moments scale all)) first in
+            let as_long = ap again (begun_shown w t) ∙ delays_said w t.head.media.timescale (fits (first_shown scale t)) some all h ∙ all_more w (map wait (first_moments scale all)) first in
             ap (wait_track microseconds again) (wait_of_simple scale wait t e)
             ∙ wait_of_simple microseconds again (begin_after w t) (begun_simple w t e)
             ∙ ap (λ n. begin_after n (begin_after w t)) as_long
@@ -237,6 +237,6 @@ waited_is_fixed p h = by (list_any is_simple p.tracks) refl
         let first = mapped_any wait (first_moments scale p.tracks) one in
         ap (waited true) (where_some wait p e)
         ∙ where_some (delay (first_moments microseconds q.tracks)) q (some_stay scale wait p.tracks ∙ e)
-        ∙ (λ i. record { movie = q.movie; tracks = tracks_again scale wait p.tracks h.1 first p.tracks h.1 i })
+        ∙ (λ i. record { movie = q.movie; tracks = tracks_again scale wait (delay_fits (first_moments scale p.tracks)) p.tracks h.1 first p.tracks h.1 i })
         ∙ sym (where_some wait p e)
     by false e = ap (waited true) (where_none wait p e)

@@ -1,40 +1,36 @@
 -- What is left of what is valid is valid exactly if it is within its limits.
-use Rattle.std.proofs.Common.{◌≡◌, inl, ℕ, suc, ◌+◌, ◌<◌, ◌≤◌, ◌^◌, Bool, true, false, List, [], ◌∷◌, length, map, refl, sym, ap, subst, ◌∙◌, arith}
+use Rattle.std.proofs.Common.{◌≡◌, inl, ℕ, suc, ◌+◌, ◌<◌, ◌≤◌, Bool, true, false, List, [], ◌∷◌, length, map, refl, sym, ap, subst, ◌∙◌, arith}
 use Rattle.std.specs.List.{AllByRecursion, list_any}
 use Rattle.mp4_boxes.specs.format.Bytes.{sum_of}
-use Rattle.mp4_boxes.proofs.Each.{each_weaker}
 use Rattle.mp4_boxes.proofs.Plain.{length_mapped}
-use Rattle.mp4_head.specs.format.Head.{Edit, MovieHead, IsEdit, IsMovieHead}
+use Rattle.mp4_head.specs.format.Head.{MovieHead, IsMovieHead}
 use Rattle.mp4_head.specs.format.Tree.{are_distinct}
 use Rattle.mp4_present.specs.format.Presentation.{Track, Presentation, IsTrack, Valid, IsInTime, normal_moov_length, max_moov}
 use Rattle.mp4_content.specs.format.Reduced.{first_offset, id_left, reduce_samples, reduce_track, number_tracks, reduce, HasNearOffsets}
 use Rattle.mp4_content.specs.declared.without.Without.{Without}
 use Rattle.mp4_content.specs.format.Timescales.{track_times, movie_times, divided, divisor_of, lowest_track, lowest, scaled}
-use Rattle.mp4_content.specs.format.LeadIns.{is_simple, first_moments, microseconds, Moment, delay, offset_less, wait_track, waited, kept}
-use Rattle.mp4_content.specs.format.LeadInsLaws.{HasShortEdits, KeptInLimits, KeptIsValid}
+use Rattle.mp4_content.specs.format.LeadIns.{is_simple, first_moments, microseconds, max_duration, Moment, delay, offset_less, wait_track, waited, kept}
+use Rattle.mp4_content.specs.format.LeadInsLaws.{KeptInLimits, KeptIsValid}
 use Rattle.mp4_content.proofs.Numbered.{ids_of}
 use Rattle.mp4_content.proofs.ReducedSamples.{left_many}
 use Rattle.mp4_content.proofs.ReducedValid.{movie_head_good, reduced_stays_valid}
 use Rattle.mp4_content.proofs.TimescalesChanged.{many_stay}
 use Rattle.mp4_content.proofs.TimescalesValid.{near_each, movie_good, scaled_from}
 use Rattle.mp4_content.proofs.LeadInsFlat.{IsSound, all_back, wait_sound, reduced_sound, all_lowest_sound}
+use Rattle.mp4_content.proofs.LeadInsMoments.{delay_fits}
 use Rattle.mp4_content.proofs.LeadInsTracks.{wait_of_simple, wait_of_other, where_some, where_none}
-
-short_of : (t : Track) → IsTrack t → HasShortEdits t
-short_of t h = each_weaker IsEdit (λ (e : Edit). e.segment_duration < 2 ^ 64) (λ e k. k.segment_duration) t.head.edits h.head.edits
 
 limits_of : (b c : Bool) (l : Without) (p : Presentation) → Valid (kept b c l p) → KeptInLimits b c l p
 limits_of b c l p v = record {
   in_time = v.limits.times;
   in_range = near_each l (kept b c l p) v;
-  short = each_weaker IsTrack HasShortEdits short_of (kept b c l p).tracks v.tracks;
   moov = v.limits.moov;
 }
 
 movie_with : (m : MovieHead) → IsMovieHead m → IsMovieHead (record m { timescale = microseconds })
 movie_with m h = record { creation = h.creation; modification = h.modification; timescale = omega arith; timescale_not_0 = omega arith; rate = h.rate; volume = h.volume; matrix = h.matrix; kept = h.kept }
 
-module _ (scale : ℕ) (wait : Moment → ℕ) (l : Without) where
+module _ (scale : ℕ) (wait : Moment → ℕ) (fits : (x : Moment) → wait x ≤ max_duration) (l : Without) where
   -- the same words, but edits, ends and origins stay
   abbrev fewer : Without
   fewer = record l { edits = false; ends = false; origins = false }
@@ -61,7 +57,7 @@ module _ (scale : ℕ) (wait : Moment → ℕ) (l : Without) where
 
   all_sound : (place : ℕ) (tracks : List Track) → 0 < place → AllByRecursion IsTrack tracks → AllByRecursion IsSound (left place tracks)
   all_sound place [] some h = tt
-  all_sound place (t ∷ tracks) some h = (reduced_sound l place (wait_track scale wait t) some (wait_sound scale wait t h.0), all_sound (suc place) tracks (omega arith) h.1)
+  all_sound place (t ∷ tracks) some h = (reduced_sound l place (wait_track scale wait t) some (wait_sound scale wait fits t h.0), all_sound (suc place) tracks (omega arith) h.1)
 
   ids_same : (place : ℕ) (tracks : List Track) → ids_of (left place tracks) ≡ ids_of (before place tracks)
   ids_same place [] = refl
@@ -90,14 +86,14 @@ module _ (scale : ℕ) (wait : Moment → ℕ) (l : Without) where
   abbrev some_wait : Presentation → Presentation
   some_wait p = record { movie = record p.movie { timescale = microseconds }; tracks = map (wait_track scale wait) p.tracks }
 
-  within : (c : Bool) (p : Presentation) → Valid p → let q = scaled c l (some_wait p) in AllByRecursion (IsInTime q.movie.timescale) q.tracks → AllByRecursion HasNearOffsets q.tracks → AllByRecursion HasShortEdits q.tracks → normal_moov_length q ≤ max_moov → Valid q
-  within false p v times near short few =
+  within : (c : Bool) (p : Presentation) → Valid p → let q = scaled c l (some_wait p) in AllByRecursion (IsInTime q.movie.timescale) q.tracks → AllByRecursion HasNearOffsets q.tracks → normal_moov_length q ≤ max_moov → Valid q
+  within false p v times near few =
       let w = some_wait p in
       let q = reduce l w in
       let k = (reduced_stays_valid fewer p v (inl (refl, refl, refl))).1 in
       record {
         movie = movie_head_good l w.movie (movie_with p.movie v.movie);
-        tracks = all_back q.tracks (all_sound 1 p.tracks (omega arith) v.tracks) near short;
+        tracks = all_back q.tracks (all_sound 1 p.tracks (omega arith) v.tracks) near;
         ids = ap are_distinct (ids_same 1 p.tracks) ∙ k.ids;
         limits = record {
           samples = let same = totals_same 1 p.tracks in let less = k.limits.samples in omega (arith, same, less);
@@ -105,7 +101,7 @@ module _ (scale : ℕ) (wait : Moment → ℕ) (l : Without) where
           moov = few;
         };
       }
-  within true p v times near short few =
+  within true p v times near few =
       let w = some_wait p in
       let r = reduce l w in
       let q = lowest l r in
@@ -113,7 +109,7 @@ module _ (scale : ℕ) (wait : Moment → ℕ) (l : Without) where
       let k = (reduced_stays_valid fewer p v (inl (refl, refl, refl))).1 in
       record {
         movie = movie_good l w (movie_head_good l w.movie (movie_with p.movie v.movie));
-        tracks = all_back q.tracks (all_lowest_sound l a r.tracks (all_sound 1 p.tracks (omega arith) v.tracks)) near short;
+        tracks = all_back q.tracks (all_lowest_sound l a r.tracks (all_sound 1 p.tracks (omega arith) v.tracks)) near;
         ids = ap are_distinct (lowest_ids a r.tracks ∙ ids_same 1 p.tracks) ∙ k.ids;
         limits = record {
           samples = let same = lowest_totals a r.tracks ∙ totals_same 1 p.tracks in let less = k.limits.samples in omega (arith, same, less);
@@ -128,7 +124,7 @@ stays c l p v times near = scaled_from c l p v (record { in_time = times; in_ran
 
 -- a presentation is valid if it is within the limits
 abbrev IsValidWithin : Presentation → Type 0
-IsValidWithin q = AllByRecursion (IsInTime q.movie.timescale) q.tracks → AllByRecursion HasNearOffsets q.tracks → AllByRecursion HasShortEdits q.tracks → normal_moov_length q ≤ max_moov → Valid q
+IsValidWithin q = AllByRecursion (IsInTime q.movie.timescale) q.tracks → AllByRecursion HasNearOffsets q.tracks → normal_moov_length q ≤ max_moov → Valid q
 
 valid_within : (b c : Bool) (l : Without) (p : Presentation) → Valid p → IsValidWithin (kept b c l p)
 valid_within true c l p v = by (list_any is_simple p.tracks) refl
@@ -136,9 +132,9 @@ valid_within true c l p v = by (list_any is_simple p.tracks) refl
     by : (b : Bool) → list_any is_simple p.tracks ≡ b → IsValidWithin (scaled c l (waited true p))
     by true e =
         let wait = delay (first_moments p.movie.timescale p.tracks) in
-        subst (λ (w : Presentation). IsValidWithin (scaled c l w)) (sym (where_some wait p e)) (within p.movie.timescale wait l c p v)
-    by false e = subst (λ (w : Presentation). IsValidWithin (scaled c l w)) (sym (where_none (delay (first_moments p.movie.timescale p.tracks)) p e)) (λ times near short few. stays c l p v times near)
-valid_within false c l p v = λ times near short few. stays c l p v times near
+        subst (λ (w : Presentation). IsValidWithin (scaled c l w)) (sym (where_some wait p e)) (within p.movie.timescale wait (delay_fits (first_moments p.movie.timescale p.tracks)) l c p v)
+    by false e = subst (λ (w : Presentation). IsValidWithin (scaled c l w)) (sym (where_none (delay (first_moments p.movie.timescale p.tracks)) p e)) (λ times near few. stays c l p v times near)
+valid_within false c l p v = λ times near few. stays c l p v times near
 
 pub kept_is_valid : KeptIsValid
-kept_is_valid b c l p v = (limits_of b c l p, λ k. valid_within b c l p v k.in_time k.in_range k.short k.moov)
+kept_is_valid b c l p v = (limits_of b c l p, λ k. valid_within b c l p v k.in_time k.in_range k.moov)

@@ -48,3 +48,18 @@ beside_two_edits = refl
 -- Where no track has samples all stays.
 no_samples : waited true (movie_of 600 (track_of 12800 0 [] [] ∷ track_of 48000 0 (edit 300 (negsuc 0) ∷ edit 0 (pos 0) ∷ []) [] ∷ [])) ≡ movie_of 600 (track_of 12800 0 [] [] ∷ track_of 48000 0 (edit 300 (negsuc 0) ∷ edit 0 (pos 0) ∷ []) [] ∷ [])
 no_samples = refl
+
+-- Sound waits 18,446,744,073,709,551,595 microseconds by an edit, and 20 and 5/6 more by its start: so 2^64 - 1, and 5/6 of a microsecond that isn't whole.
+longest_wait : waited true (movie_of 1000000 (track_of 12800 0 [] pictures ∷ track_of 48000 1 (edit 18446744073709551595 (negsuc 0) ∷ edit 0 (pos 0) ∷ []) sound ∷ []))
+    ≡ movie_of 1000000 (track_of 12800 0 [] pictures ∷ track_of 48000 0 (edit 18446744073709551615 (negsuc 0) ∷ edit 0 (pos 0) ∷ []) sound ∷ [])
+longest_wait = refl
+
+-- A microsecond more counts no more.
+longer_wait : waited true (movie_of 1000000 (track_of 12800 0 [] pictures ∷ track_of 48000 1 (edit 18446744073709551596 (negsuc 0) ∷ edit 0 (pos 0) ∷ []) sound ∷ []))
+    ≡ movie_of 1000000 (track_of 12800 0 [] pictures ∷ track_of 48000 0 (edit 18446744073709551615 (negsuc 0) ∷ edit 0 (pos 0) ∷ []) sound ∷ [])
+longer_wait = refl
+
+-- Two edits in whole seconds: the first fits in microseconds, and the second, a second longer, doesn't.
+longer_edit : waited true (movie_of 1 (track_of 12800 0 (edit 18446744073709 (pos 0) ∷ edit 18446744073710 (pos 512) ∷ []) pictures ∷ track_of 48000 0 [] sound ∷ []))
+    ≡ movie_of 1000000 (track_of 12800 0 (edit 18446744073709000000 (pos 0) ∷ edit 18446744073709551615 (pos 512) ∷ []) pictures ∷ track_of 48000 0 [] sound ∷ [])
+longer_edit = refl

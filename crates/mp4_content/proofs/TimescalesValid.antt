@@ -39,7 +39,7 @@ each_unmapped f P (x ∷ xs) h = (h.0, each_unmapped f P xs h.1)
 below : (n m k : ℕ) → m ≤ n → n < k → m < k
 below n m k less h = omega (arith, less, h)
 
-pub media_time_good : (g : ℕ) (z : ℤ) → FitsSigned w64 z → FitsSigned w64 (media_time_by (divided g) z)
+media_time_good : (g : ℕ) (z : ℤ) → FitsSigned w64 z → FitsSigned w64 (media_time_by (divided g) z)
 media_time_good g (pos n) h = let less = div-le_self n g in omega (arith, ints, less, h)
 media_time_good g (negsuc n) h = h
 

@@ -75,8 +75,8 @@ pub fn edits_change_again()
     ensures { EditsChangeAgain }
 {}
 
-/// What is left of what is valid is valid exactly if its tracks are not too long, their edits and
-/// offsets fit, and the `moov` isn't too long.
+/// What is left of what is valid is valid exactly if its tracks are not too long, their offsets
+/// fit, and the `moov` isn't too long.
 pub fn kept_is_valid()
     ensures { KeptIsValid }
 {}

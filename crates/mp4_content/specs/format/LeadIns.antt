@@ -3,7 +3,7 @@
 -- composition offsets (8.6.1.3) and by edits (8.6.6). Here it is said by one empty edit. Nothing
 -- else stays of the edits of such a track, also not where the last one cuts it off; other edits
 -- last whole microseconds.
-use Rattle.std.specs.Prelude.{ℕ, zero, ◌*◌, ◌/◌, ◌^◌, ◌==◌, max, ◌&&◌, ◌||◌, Bool, true, false, if◌then◌else◌, List, [], ◌∷◌, map, filter, ℤ, pos, negsuc, ◌+ℤ◌, ◌-ℤ◌, ◌*ℤ◌}
+use Rattle.std.specs.Prelude.{ℕ, zero, ◌-◌, ◌*◌, ◌/◌, ◌^◌, ◌==◌, min, max, ◌&&◌, ◌||◌, Bool, true, false, if◌then◌else◌, List, [], ◌∷◌, map, filter, ℤ, pos, negsuc, ◌+ℤ◌, ◌-ℤ◌, ◌*ℤ◌}
 use Rattle.std.specs.List.{list_any}
 use Rattle.mp4_boxes.specs.format.Bytes.{sum_of}
 use Rattle.mp4_head.specs.format.Head.{Edit}
@@ -89,10 +89,15 @@ from_0 (negsuc n) = 0
 abbrev pub microseconds : ℕ
 microseconds = 10 ^ 6
 
--- how many whole microseconds the first is later than the second: 0 where it isn't later
+-- as long as an edit can last: that has 64 bits (8.6.6)
+abbrev pub max_duration : ℕ
+max_duration = 2 ^ 64 - 1
+
+-- how many whole microseconds the first is later than the second, as far as 64 bits go, since an
+-- edit says it: 0 where it isn't later
 abbrev pub later : Moment → Moment → ℕ
-later x y = from_0 (x.ticks *ℤ pos y.scale -ℤ y.ticks *ℤ pos x.scale) * microseconds
-    / (x.scale * y.scale)
+later x y = min max_duration (from_0 (x.ticks *ℤ pos y.scale -ℤ y.ticks *ℤ pos x.scale)
+    * microseconds / (x.scale * y.scale))
 
 -- the most by which it is later than any of these: so how much later than the first of them
 abbrev pub delay : List Moment → Moment → ℕ
@@ -127,10 +132,11 @@ begin_after wait t = record t {
   samples = map (offset_less (first_offset t.samples)) t.samples;
 }
 
--- how long an edit lasts in microseconds, rounded down, in a movie of this timescale
+-- how long an edit lasts in microseconds, rounded down, in a movie of this timescale: this too
+-- counts as far as 64 bits go
 abbrev pub edit_in_microseconds : ℕ → Edit → Edit
 edit_in_microseconds scale e = record e {
-  segment_duration = e.segment_duration * microseconds / scale;
+  segment_duration = min max_duration (e.segment_duration * microseconds / scale);
 }
 
 -- any other track

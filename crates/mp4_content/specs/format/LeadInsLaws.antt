@@ -1,8 +1,7 @@
 -- Laws of what is left where it doesn't count how tracks begin, but how long each of them waits
 -- (`waited`). Whether that counts is a value beside the other words here.
-use Rattle.std.specs.Prelude.{◌≡◌, ◌↔◌, ◌⊎◌, ℕ, ◌+◌, ◌*◌, ◌^◌, ◌<◌, ◌≤◌, Bool, false, true, if◌then◌else◌, List, [], ◌∷◌, map, ℤ, pos, ◌+ℤ◌, ◌*ℤ◌}
+use Rattle.std.specs.Prelude.{◌≡◌, ◌↔◌, ◌⊎◌, ℕ, ◌+◌, ◌*◌, ◌<◌, ◌≤◌, Bool, false, true, if◌then◌else◌, List, [], ◌∷◌, map, ℤ, pos, ◌+ℤ◌, ◌*ℤ◌}
 use Rattle.std.specs.List.{AllByRecursion, AllZip}
-use Rattle.mp4_head.specs.format.Head.{Edit}
 use Rattle.mp4_present.specs.format.Presentation.{Track, Presentation, Valid, IsInTime, normal_moov_length, max_moov}
 use Rattle.mp4_content.specs.format.LeadIns.{is_simple, Moment, first_moments, later, delay, wait_each, waited, kept}
 use Rattle.mp4_content.specs.format.Reduced.{reduce, HasNearOffsets}
@@ -169,16 +168,11 @@ EditsChangeAgain = ChangesAgain only_edits
 
 -- ---- valid
 
--- Each edit lasts less than 2^64 ticks of the movie, as its field does.
-abbrev pub HasShortEdits : Track → Type 0
-HasShortEdits t = AllByRecursion (λ (e : Edit). e.segment_duration < 2 ^ 64) t.head.edits
-
--- Its tracks are not too long, and no edit of them is; their composition offsets fit; and the
--- `moov` isn't too long, since tracks that wait have two edits, which may be more than they had.
+-- Its tracks are not too long; their composition offsets fit; and the `moov` isn't too long, since
+-- tracks that wait have two edits, which may be more than they had.
 pub record KeptInLimits (b c : Bool) (l : Without) (p : Presentation) : Type 0 where
   pub in_time : AllByRecursion (IsInTime (kept b c l p).movie.timescale) (kept b c l p).tracks
   pub in_range : AllByRecursion HasNearOffsets (kept b c l p).tracks
-  pub short : AllByRecursion HasShortEdits (kept b c l p).tracks
   pub moov : normal_moov_length (kept b c l p) ≤ max_moov
 
 -- What is left of what is valid is valid exactly if it is within these limits.
