@@ -29,13 +29,13 @@ later_is x y =
 
 -- ---- the same fractions
 
-same_quotient : (n a b e f : ℕ) → 0 < e → 0 < f → a * f ≡ b * e → a * n / e ≡ b * n / f
+pub same_quotient : (n a b e f : ℕ) → 0 < e → 0 < f → a * f ≡ b * e → a * n / e ≡ b * n / f
 same_quotient n a b e f some other h =
     let more : a * f * n ≡ b * e * n = ap (λ z. z * n) h in
     let same : f * (a * n) ≡ e * (b * n) = omega (arith, more) in
     sym (mul-div-mul_left (a * n) e other) ∙ (λ i. same i / mul_comm f e i) ∙ mul-div-mul_left (b * n) f some
 
-minus_many : (p q r s e f : ℕ) → p * f + s * e ≡ r * e + q * f → (p - q) * f ≡ (r - s) * e
+pub minus_many : (p q r s e f : ℕ) → p * f + s * e ≡ r * e + q * f → (p - q) * f ≡ (r - s) * e
 minus_many p q r s e f h = mul_comm (p - q) f ∙ mul-sub f p q ∙ omega (arith, h) ∙ sym (mul-sub e r s) ∙ mul_comm e (r - s)
 
 same_later : (x y u v : Moment) → 0 < x.scale → 0 < y.scale → 0 < u.scale → 0 < v.scale
@@ -82,7 +82,7 @@ AtMost x y = ahead x y ≤ ahead y x
 not_later : (x y : Moment) → AtMost x y → later x y ≡ 0
 not_later x y h = later_is x y ∙ (λ i. min max_duration (sub-eq-zero_of_le h i * microseconds / (x.scale * y.scale))) ∙ ap (min max_duration) (zero-div (x.scale * y.scale))
 
-divided_less : (m n k : ℕ) → 0 < k → m ≤ n → m / k ≤ n / k
+pub divided_less : (m n k : ℕ) → 0 < k → m ≤ n → m / k ≤ n / k
 divided_less m n k some h = let down = div-mul-le_self m k in (le-div_iff_mul-le {x = m / k} some).1 (omega (arith, down, h))
 
 less_quotient : (n a b e f : ℕ) → 0 < e → 0 < f → a * f ≤ b * e → a * n / e ≤ b * n / f
@@ -134,7 +134,7 @@ all_after : (x y : Moment) → 0 < y.scale → AtMost x y → (xs : List Moment)
 all_after x y some h [] all = tt
 all_after x y some h (z ∷ xs) all = (then_most x y z some h all.0, all_after x y some h xs all.1)
 
-either : (m n : ℕ) → (m ≤ n) ⊎ (n ≤ m)
+pub either : (m n : ℕ) → (m ≤ n) ⊎ (n ≤ m)
 either m n = grind arith
 
 least_of : (x : Moment) (xs : List Moment) → AllByRecursion HasScale (x ∷ xs) → Least (x ∷ xs)

@@ -58,6 +58,7 @@ pub mod LeadInsOrder
 pub mod LeadInsFlat
 pub mod LeadInsValid
 pub mod LeadInsVectors
+pub mod DelaysFound
 pub mod Covering
 pub mod FieldValues
 pub mod PairsPassed

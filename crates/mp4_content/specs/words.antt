@@ -4,6 +4,7 @@ pub mod Windows
 pub mod Compared
 pub mod Aligning
 pub mod Contents
+pub mod Delays
 pub mod Divided
 pub mod GoneOn
 pub mod HeadsDiffer

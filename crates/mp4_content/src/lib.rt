@@ -57,6 +57,7 @@ pub mod comparing_laws;
 pub mod complete_laws;
 mod content;
 pub mod covering_laws;
+mod delays;
 mod file_window;
 pub mod lead_ins_laws;
 mod measures;
