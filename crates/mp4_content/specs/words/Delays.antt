@@ -10,8 +10,8 @@ moment_of scale b = record {
   scale = scale * b.timescale;
 }
 
--- It has a timescale, and its numbers of ticks leave room: sums of numbers of 64 bits do, of as many
--- as there is memory for.
+-- It has a timescale, and its numbers of ticks leave room: sums of numbers of 64 bits do, of as
+-- many as there is memory for.
 pub record CanBegin (b : Beginning) : Type 0 where
   pub timescale : 0 < b.timescale
   pub waits : b.waits < 2 ^ 126
