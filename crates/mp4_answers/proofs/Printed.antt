@@ -12,7 +12,8 @@ use Rattle.mp4_head.specs.declared.heads.MovieHead.{MovieHead}
 use Rattle.mp4_head.specs.declared.heads.TrackHead.{TrackHead}
 use Rattle.mp4_head.proofs.ReadAgain.{said_of}
 use Rattle.mp4_present.specs.format.Denotes.{FileTree, presentation_of}
-use Rattle.mp4_content.specs.format.Remaining.{remaining, remaining_heads, remaining_movie}
+use Rattle.mp4_content.specs.format.Remaining.{remaining, remaining_movie}
+use Rattle.mp4_content.specs.words.Divided.{remaining_heads}
 use Rattle.mp4_content.specs.format.Reduced.{number_heads}
 use Rattle.mp4_content.specs.words.Scales.{AreScales}
 use Rattle.mp4_content.specs.declared.scales.Scales.{Scales}

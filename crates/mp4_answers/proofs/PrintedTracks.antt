@@ -14,7 +14,8 @@ use Rattle.mp4_head.specs.declared.heads.TrackHead.{TrackHead}
 use Rattle.mp4_present.specs.format.Denotes.{FileTree, file_parts, presentation_of, track_of}
 use Rattle.mp4_present.specs.format.Presentation.{heads as heads_of, Track}
 use Rattle.mp4_content.specs.format.Reduced.{number_heads, number_track, start_left}
-use Rattle.mp4_content.specs.format.Remaining.{divided_samples, movie_divisor, remaining, remaining_heads, remaining_track, track_divisor}
+use Rattle.mp4_content.specs.format.Remaining.{divided_samples, movie_divisor, remaining, remaining_track, track_divisor}
+use Rattle.mp4_content.specs.words.Divided.{remaining_heads}
 use Rattle.mp4_content.specs.format.Timescales.{divided}
 use Rattle.mp4_content.specs.declared.scales.Scales.{Scales}
 use Rattle.mp4_present.specs.words.Carried.{BytesGoOn}

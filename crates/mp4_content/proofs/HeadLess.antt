@@ -9,8 +9,7 @@ use Rattle.mp4_head.specs.declared.heads.TrackHead.{TrackHead}
 use Rattle.mp4_head.specs.declared.kept_boxes.Kept.{Kept}
 use Rattle.mp4_present.specs.format.Presentation.{heads as heads_of, Track, Presentation, movie_length, track_length}
 use Rattle.mp4_content.specs.format.Reduced.{metadata_kinds, number_head, number_heads, reduce, reduce_track, reduce_track_head, timescale_left}
-use Rattle.mp4_content.specs.format.Remaining.{remaining_head, remaining_heads}
-use Rattle.mp4_content.specs.words.Divided.{divided_head, divided_heads, divisor_at, heads_at}
+use Rattle.mp4_content.specs.words.Divided.{divided_head, divided_heads, divisor_at, heads_at, remaining_head, remaining_heads}
 use Rattle.mp4_content.specs.words.PayloadsLeft.{keeping_payloads, track_payloads_left}
 use Rattle.mp4_content.specs.declared.without.Without.{Without}
 use Rattle.mp4_content.proofs.Numbered.{left_longest}

@@ -19,7 +19,7 @@ use Rattle.mp4_head.proofs.ReadAgain.{said_of}
 use Rattle.mp4_present.specs.format.Denotes.{FileTree, file_parts, movie_timescale, placed_of, sample_of, track_of, presentation_of}
 use Rattle.mp4_present.specs.format.Presentation.{Sample, Track, Presentation, IsInTime, max_time, movie_length, says_all, total_duration, track_length}
 use Rattle.mp4_content.specs.format.Reduced.{HasNearOffsets, ReducesInRange, number_head, number_heads, number_track, reduce, reduce_samples, reduce_track, timescale_left}
-use Rattle.mp4_content.specs.format.Remaining.{RemainsInLimits, movie_divisor, remaining, remaining_head, remaining_heads, remaining_movie, remaining_samples, remaining_track, track_divisor}
+use Rattle.mp4_content.specs.format.Remaining.{RemainsInLimits, movie_divisor, remaining, remaining_movie, remaining_samples, remaining_track, track_divisor}
 use Rattle.mp4_content.specs.format.Timescales.{divided, divisor_of, edit_by, movie_times, timescale_by, track_by, track_times}
 use Rattle.mp4_content.specs.format.TimescalesLaws.{ScaledInLimits}
 use Rattle.mp4_present.specs.words.SamplesComing.{track_keys}
@@ -32,7 +32,7 @@ use Rattle.mp4_present.proofs.Assembled.{timescale_there}
 use Rattle.mp4_present.proofs.PlacedTracks.{IsTrackPlaced, track_placed}
 use Rattle.mp4_present.proofs.ValidSamples.{IsOfTrack}
 use Rattle.mp4_content.specs.format.ReducedTimes.{ReducesInLimits, scale_left, track_left}
-use Rattle.mp4_content.specs.words.Divided.{heads_at}
+use Rattle.mp4_content.specs.words.Divided.{heads_at, remaining_head, remaining_heads}
 use Rattle.mp4_content.specs.words.PayloadsLeft.{keeping_payloads}
 use Rattle.mp4_content.specs.words.Scales.{AreScales}
 use Rattle.mp4_content.specs.words.LeftTimes.{count_by, longest_count}

@@ -15,7 +15,8 @@ use Rattle.mp4_present.specs.words.OpenedMovie.{IsOpenedAs}
 use Rattle.mp4_content.specs.format.Reduced.{number_heads, number_track}
 use Rattle.mp4_content.specs.declared.scales.Scales.{Scales}
 use Rattle.mp4_content.specs.declared.without.Without.{Without}
-use Rattle.mp4_content.specs.format.Remaining.{movie_divisor, remaining, remaining_head, remaining_heads, remaining_movie, remaining_track, track_divisor}
+use Rattle.mp4_content.specs.format.Remaining.{movie_divisor, remaining, remaining_movie, remaining_track, track_divisor}
+use Rattle.mp4_content.specs.words.Divided.{remaining_head, remaining_heads}
 use Rattle.mp4_content.specs.words.Scales.{AreScales, divisors_of}
 use Rattle.mp4_content.proofs.HeadLess.{SaysHeadOf}
 use Rattle.mp4_content.proofs.Numbered.{numbered_at, numbered_heads}

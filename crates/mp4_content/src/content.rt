@@ -3,7 +3,8 @@ ghost use Rattle.std.specs.Prelude.{◌≡◌, ◌+◌, ◌<◌, ◌≤◌, leng
 ghost use Rattle.mp4_head.specs.words.Seen.{movie_seen, tracks_seen};
 ghost use Rattle.mp4_present.specs.words.StoresRead.{IsUnchanged, OnlyReads, Refused};
 ghost use Rattle.mp4_content.specs.format.Reduced.{number_heads};
-ghost use Rattle.mp4_content.specs.format.Remaining.{remaining_heads, remaining_movie};
+ghost use Rattle.mp4_content.specs.format.Remaining.{remaining_movie};
+ghost use Rattle.mp4_content.specs.words.Divided.{remaining_heads};
 ghost use Rattle.mp4_content.specs.words.Contents.{IsContentOf, IsContentOver, RefusesLeft, info_left, numbers_of, tracks_left};
 ghost use Rattle.mp4_content.specs.words.LeftTimes.{NamesLong};
 ghost use Rattle.mp4_content.specs.words.Measuring.{measuring_steps};

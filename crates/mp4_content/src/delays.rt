@@ -25,61 +25,81 @@ pub(crate) fn later_by(first: Beginning, second: Beginning, timescale: u32) -> u
 {
     let (one, two) = (first.timescale, second.timescale);
     let after = together(
-        first.waits,
-        timescale,
-        first.later,
-        one,
-        second.earlier,
-        two,
+        Span {
+            ticks: first.waits,
+            timescale,
+        },
+        Span {
+            ticks: first.later,
+            timescale: one,
+        },
+        Span {
+            ticks: second.earlier,
+            timescale: two,
+        },
     );
     let before = together(
-        second.waits,
-        timescale,
-        first.earlier,
-        one,
-        second.later,
-        two,
+        Span {
+            ticks: second.waits,
+            timescale,
+        },
+        Span {
+            ticks: first.earlier,
+            timescale: one,
+        },
+        Span {
+            ticks: second.later,
+            timescale: two,
+        },
     );
     let all = product(timescale, one, two);
     let parts = after.parts + 3 * all - before.parts;
     let part = parts * 1_000_000 / all;
-    let less = before.seconds + 3;
-    let more = after.seconds.saturating_sub(less).min(1 << 64);
-    let fewer = less.saturating_sub(after.seconds).min(6);
+    let less = before.whole + 3;
+    let more = after.whole.saturating_sub(less).min(1 << 64);
+    let fewer = less.saturating_sub(after.whole).min(6);
     let whole = (more * 1_000_000 + part).saturating_sub(fewer * 1_000_000);
     whole.min(u128::from(u64::MAX)) as u64
 }
 
+// So many ticks of a timescale.
+#[derive(Clone, Copy)]
+struct Span {
+    ticks: u128,
+    timescale: u32,
+}
+
 // Whole seconds, and parts of one over all timescales.
 #[derive(Clone, Copy)]
-struct Ticks {
-    seconds: u128,
+struct Time {
+    whole: u128,
     parts: u128,
 }
 
-// Three numbers of ticks together, each of a timescale of its own: the whole seconds of each, and
-// what is left of each.
-fn together(a: u128, by_a: u32, b: u128, by_b: u32, c: u128, by_c: u32) -> Ticks
-    requires short { (a < 2 ^ 126) × (b < 2 ^ 126) × (c < 2 ^ 126) }
-    requires some { (0 < by_a) × (0 < by_b) × (0 < by_c) }
-    ensures is { result.seconds * (by_a * (by_b * by_c)) + result.parts
-        ≡ a * (by_b * by_c) + b * (by_a * by_c) + c * (by_a * by_b) }
-    ensures seconds { result.seconds < 3 * 2 ^ 126 }
-    ensures parts { result.parts ≤ 3 * (by_a * (by_b * by_c)) }
+// Three spans together: the whole seconds of each, and what is left of each.
+fn together(a: Span, b: Span, c: Span) -> Time
+    requires short { (a.ticks < 2 ^ 126) × (b.ticks < 2 ^ 126) × (c.ticks < 2 ^ 126) }
+    requires some { (0 < a.timescale) × (0 < b.timescale) × (0 < c.timescale) }
+    ensures is { result.whole * (a.timescale * (b.timescale * c.timescale)) + result.parts
+        ≡ a.ticks * (b.timescale * c.timescale) + b.ticks * (a.timescale * c.timescale)
+        + c.ticks * (a.timescale * b.timescale) }
+    ensures whole { result.whole < 3 * 2 ^ 126 }
+    ensures parts { result.parts ≤ 3 * (a.timescale * (b.timescale * c.timescale)) }
 {
-    let seconds = a / u128::from(by_a) + b / u128::from(by_b) + c / u128::from(by_c);
-    let parts = product(left(a, by_a), by_b, by_c)
-        + product(left(b, by_b), by_a, by_c)
-        + product(left(c, by_c), by_a, by_b);
-    Ticks { seconds, parts }
+    let (one, two, three) = (a.timescale, b.timescale, c.timescale);
+    let whole = a.ticks / u128::from(one) + b.ticks / u128::from(two) + c.ticks / u128::from(three);
+    let parts = product(left(a), two, three)
+        + product(left(b), one, three)
+        + product(left(c), one, two);
+    Time { whole, parts }
 }
 
-// What is left of a number of ticks behind its last whole second.
-fn left(ticks: u128, timescale: u32) -> u32
-    requires { 0 < timescale }
-    ensures { result ≡ ticks % timescale }
+// What is left of a span behind its last whole second.
+fn left(span: Span) -> u32
+    requires { 0 < span.timescale }
+    ensures { result ≡ span.ticks % span.timescale }
 {
-    (ticks % u128::from(timescale)) as u32
+    (span.ticks % u128::from(span.timescale)) as u32
 }
 
 // A product of three numbers.

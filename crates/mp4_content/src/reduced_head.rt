@@ -2,10 +2,10 @@
 ghost use Rattle.std.specs.Prelude.{◌≡◌, map, true, IfOk};
 ghost use Rattle.mp4_boxes.specs.format.Children.{is_among};
 ghost use Rattle.mp4_head.specs.words.Seen.{edit_seen, kept_seen, media_seen, movie_seen, track_seen, tracks_seen};
-ghost use Rattle.mp4_content.specs.words.Divided.{divided_head, divided_heads, divided_movie, heads_at};
+ghost use Rattle.mp4_content.specs.words.Divided.{divided_head, divided_heads, divided_movie, heads_at, remaining_heads};
 ghost use Rattle.mp4_content.specs.words.PayloadsLeft.{AreMediaLeft, keeping_payloads, leaves_payloads};
 ghost use Rattle.mp4_content.specs.format.Reduced.{metadata_kinds, number_heads, reduce_kept, reduce_media, reduce_movie_head, reduce_track_head};
-ghost use Rattle.mp4_content.specs.format.Remaining.{remaining_heads, remaining_movie};
+ghost use Rattle.mp4_content.specs.format.Remaining.{remaining_movie};
 ghost use Rattle.mp4_content.specs.format.Timescales.{divided, edit_by, media_time_by, timescale_by};
 
 use crate::own_payloads::{MediaLeft, put_payloads_left};
@@ -163,7 +163,7 @@ fn divide_tracks(tracks: &mut Vec<TrackHead>, leaving: Without, scales: &Scales)
     ensures places { heads_at tracks.new.items ≡ heads_at tracks.old.items }
 {
     for k in 0..tracks.len() {
-        divide_track(&mut tracks[k], leaving, scales.movie(), scales.track(k));
+        divide_track(&mut tracks[k], leaving, scales.movie, scales.track(k));
     }
 }
 
@@ -176,7 +176,7 @@ fn divide_head(head: &mut MovieHead, leaving: Without, scales: &Scales)
         (tracks_seen head.old) }
     ensures places { heads_at head.new.tracks.items ≡ heads_at head.old.tracks.items }
 {
-    head.timescale = divided_timescale(leaving, head.timescale, scales.movie());
+    head.timescale = divided_timescale(leaving, head.timescale, scales.movie);
     divide_tracks(&mut head.tracks, leaving, scales);
 }
 

@@ -217,7 +217,7 @@ fn track_divisor<S: Store, L: Ledger, M: Ledger>(
     let found = head_divisor(leaving, &movie.tracks()[track], edits);
     let mut walk = movie.walk(alloc, track)?;
     let reduction = reduction_of(&mut walk, leaving, 1, movie, store, steps)?;
-    Ok(with_samples(&mut walk, reduction, found, movie, store, steps)?)
+    with_samples(&mut walk, reduction, found, movie, store, steps)
 }
 
 // The edits of the track at this place; none where no such track has a head.
@@ -308,13 +308,6 @@ impl Scales {
             movie: movie_divisor(leaving, &head),
             tracks,
         })
-    }
-
-    // By what times on the movie's own time line are divided.
-    pub(crate) fn movie(&self) -> u64
-        ensures { result ≡ self.now.movie }
-    {
-        self.movie
     }
 
     /// By what times of the track at this place are divided; by 1 where there is no such track.

@@ -11,7 +11,8 @@ use Rattle.mp4_present.specs.words.Movies.{MovieSeen, moov_box}
 use Rattle.mp4_present.specs.words.OpenedMovie.{IsOpenedAs}
 use Rattle.mp4_present.specs.format.Presentation.{heads as heads_of, Track, Presentation, movie_length, normal_moov_length}
 use Rattle.mp4_content.specs.format.Reduced.{number_heads, number_tracks, reduce, reduce_track}
-use Rattle.mp4_content.specs.format.Remaining.{remaining, remaining_heads, remaining_movie}
+use Rattle.mp4_content.specs.format.Remaining.{remaining, remaining_movie}
+use Rattle.mp4_content.specs.words.Divided.{remaining_heads}
 use Rattle.mp4_content.specs.format.Timescales.{scaled}
 use Rattle.mp4_content.specs.words.Scales.{AreScales}
 use Rattle.mp4_content.specs.declared.scales.Scales.{Scales}

@@ -12,7 +12,8 @@ use Rattle.mp4_head.specs.words.Seen.{track_seen}
 use Rattle.mp4_head.specs.declared.heads.TrackHead.{TrackHead}
 use Rattle.mp4_present.specs.format.Denotes.{FileTree, file_parts, presentation_of, track_of}
 use Rattle.mp4_content.specs.format.Reduced.{number_heads}
-use Rattle.mp4_content.specs.format.Remaining.{divided_samples, remaining, remaining_heads}
+use Rattle.mp4_content.specs.format.Remaining.{divided_samples, remaining}
+use Rattle.mp4_content.specs.words.Divided.{remaining_heads}
 use Rattle.mp4_content.specs.words.Scales.{AreScales}
 use Rattle.mp4_content.specs.declared.scales.Scales.{Scales}
 use Rattle.mp4_present.specs.words.Joined.{IsBelow}

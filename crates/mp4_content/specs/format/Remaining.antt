@@ -1,11 +1,11 @@
 -- What remains of a presentation: what is left of it, in lowest terms where it doesn't count in
 -- which timescale times are said.
-use Rattle.std.specs.Prelude.{ℕ, if◌then◌else◌, List, [], ◌∷◌, length, map}
+use Rattle.std.specs.Prelude.{ℕ, if◌then◌else◌, List, length, map}
 use Rattle.std.specs.List.{AllByRecursion}
-use Rattle.mp4_head.specs.format.Head.{MovieHead, TrackHead}
+use Rattle.mp4_head.specs.format.Head.{MovieHead}
 use Rattle.mp4_present.specs.format.Presentation.{Sample, Track, Presentation, IsInTime}
-use Rattle.mp4_content.specs.format.Reduced.{HasNearOffsets, number_tracks, reduce, reduce_movie_head, reduce_samples, reduce_track, reduce_track_head}
-use Rattle.mp4_content.specs.format.Timescales.{divided, divisor_of, edit_by, movie_times, samples_by, timescale_by, track_by, track_times}
+use Rattle.mp4_content.specs.format.Reduced.{HasNearOffsets, number_tracks, reduce, reduce_movie_head, reduce_samples, reduce_track}
+use Rattle.mp4_content.specs.format.Timescales.{divided, divisor_of, movie_by, movie_times, samples_by, track_by, track_times}
 use Rattle.mp4_content.specs.declared.without.Without.{Without}
 
 -- By what times are divided of which this is the greatest common divisor: by 1 where timescales
@@ -39,27 +39,7 @@ abbrev pub remaining_track : Without → ℕ → Track → Track
 remaining_track l divisor t = divided_track l divisor (track_divisor l t) t
 
 abbrev pub remaining_movie : Without → ℕ → MovieHead → MovieHead
-remaining_movie l divisor m = record (reduce_movie_head l m) {
-  timescale = timescale_by l (divided divisor) (reduce_movie_head l m).timescale;
-}
-
--- the head of a track whose times are divided by the second
-abbrev pub remaining_head : Without → ℕ → ℕ → TrackHead → TrackHead
-remaining_head l divisor own t = record (reduce_track_head l t) {
-  edits = map (edit_by (divided divisor) (divided own)) (reduce_track_head l t).edits;
-  media = record (reduce_track_head l t).media {
-    timescale = timescale_by l (divided own) (reduce_track_head l t).media.timescale;
-  };
-}
-
--- the same of heads of tracks whose times are divided by these, and where there are no more of
--- them by 1
-abbrev pub remaining_heads : Without → ℕ → List ℕ → List TrackHead → List TrackHead
-remaining_heads l divisor owns [] = []
-remaining_heads l divisor [] (t ∷ heads) =
-    remaining_head l divisor 1 t ∷ remaining_heads l divisor [] heads
-remaining_heads l divisor (own ∷ owns) (t ∷ heads) =
-    remaining_head l divisor own t ∷ remaining_heads l divisor owns heads
+remaining_movie l divisor m = movie_by l (divided divisor) (reduce_movie_head l m)
 
 -- what remains of a presentation
 abbrev pub remaining : Without → Presentation → Presentation

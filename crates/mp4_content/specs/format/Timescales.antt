@@ -3,7 +3,7 @@
 -- (8.2.2, 8.6.6): so two files can say the same times by other numbers. Here they are in lowest
 -- terms.
 use Rattle.std.specs.Prelude.{ℕ, zero, suc, ◌/◌, ◌%◌, ◌==◌, ◌&&◌, ◌||◌, Bool, if◌then◌else◌, List, [], ◌∷◌, ◌++◌, length, map, flat_map, ℤ, pos, negsuc, neg_ℤ, unsigned_abs}
-use Rattle.mp4_head.specs.format.Head.{Edit}
+use Rattle.mp4_head.specs.format.Head.{Edit, MovieHead, TrackHead}
 use Rattle.mp4_present.specs.format.Presentation.{Sample, Track, Presentation}
 use Rattle.mp4_content.specs.format.Reduced.{is_at_end, reduce}
 use Rattle.mp4_content.specs.declared.without.Without.{Without}
@@ -100,13 +100,22 @@ edit_by g f e = record e {
   media_time = media_time_by f e.media_time;
 }
 
--- a track: the first function changes how long its edits last, the second all its own times
+-- the head of a movie
+abbrev pub movie_by : Without → (ℕ → ℕ) → MovieHead → MovieHead
+movie_by l f m = record m { timescale = timescale_by l f m.timescale }
+
+-- the head of a track: the first function changes how long its edits last, the second all its own
+-- times
+abbrev pub head_by : Without → (ℕ → ℕ) → (ℕ → ℕ) → TrackHead → TrackHead
+head_by l g f t = record t {
+  edits = map (edit_by g f) t.edits;
+  media = record t.media { timescale = timescale_by l f t.media.timescale };
+}
+
+-- a track, by the same two functions
 abbrev pub track_by : Without → (ℕ → ℕ) → (ℕ → ℕ) → Track → Track
 track_by l g f t = record t {
-  head = record t.head {
-    edits = map (edit_by g f) t.head.edits;
-    media = record t.head.media { timescale = timescale_by l f t.head.media.timescale };
-  };
+  head = head_by l g f t.head;
   start = f t.start;
   samples = samples_by l f (length t.samples) 0 t.samples;
 }
@@ -125,9 +134,7 @@ lowest_track l divisor t = track_by l (divided divisor) (divided (divisor_of (tr
 -- those of each track by that of its own. Where no track has edits the movie's timescale is 1 then.
 abbrev pub lowest : Without → Presentation → Presentation
 lowest l p = record {
-  movie = record p.movie {
-    timescale = timescale_by l (divided (divisor_of (movie_times l p))) p.movie.timescale;
-  };
+  movie = movie_by l (divided (divisor_of (movie_times l p))) p.movie;
   tracks = map (lowest_track l (divisor_of (movie_times l p))) p.tracks;
 }
 

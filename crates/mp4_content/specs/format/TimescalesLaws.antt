@@ -7,7 +7,7 @@ use Rattle.mp4_present.specs.format.Presentation.{Track, Presentation, Valid, Is
 use Rattle.mp4_content.specs.format.Reduced.{HasNearOffsets, reduce}
 use Rattle.mp4_content.specs.format.ReducedLaws.{KeepsLimits, both, nothing}
 use Rattle.mp4_content.specs.format.CoveringLaws.{Covers}
-use Rattle.mp4_content.specs.format.Timescales.{common_divisor, track_times, movie_times, timescale_by, track_by, scaled}
+use Rattle.mp4_content.specs.format.Timescales.{common_divisor, track_times, movie_times, movie_by, track_by, scaled}
 use Rattle.mp4_content.specs.declared.without.Without.{Without}
 
 -- What is found divides both numbers, and whatever divides both divides it.
@@ -94,7 +94,7 @@ TimescalesAreTheirs = (s r : ℕ) (xs ys : List ℤ) → 0 < s → 0 < r
 -- a presentation apart from its times: each that counts is 0
 abbrev pub untimed : Without → Presentation → Presentation
 untimed l p = record {
-  movie = record p.movie { timescale = timescale_by l (λ n. 0) p.movie.timescale };
+  movie = movie_by l (λ n. 0) p.movie;
   tracks = map (track_by l (λ n. 0) (λ n. 0)) p.tracks;
 }
 

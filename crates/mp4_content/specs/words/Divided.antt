@@ -2,18 +2,16 @@
 use Rattle.std.specs.Prelude.{ℕ, suc, List, [], ◌∷◌, map, slice_get, unwrap_or}
 use Rattle.mp4_head.specs.format.Head.{MovieHead, TrackHead}
 use Rattle.mp4_head.specs.declared.heads.TrackHead as read
-use Rattle.mp4_content.specs.format.Timescales.{divided, edit_by, timescale_by}
+use Rattle.mp4_content.specs.format.Reduced.{reduce_track_head}
+use Rattle.mp4_content.specs.format.Timescales.{divided, head_by, movie_by}
 use Rattle.mp4_content.specs.declared.without.Without.{Without}
 
 abbrev pub divided_movie : Without → ℕ → MovieHead → MovieHead
-divided_movie l divisor m = record m { timescale = timescale_by l (divided divisor) m.timescale }
+divided_movie l divisor m = movie_by l (divided divisor) m
 
 -- how long edits last by the first, and a track's own times by the second
 abbrev pub divided_head : Without → ℕ → ℕ → TrackHead → TrackHead
-divided_head l divisor own t = record t {
-  edits = map (edit_by (divided divisor) (divided own)) t.edits;
-  media = record t.media { timescale = timescale_by l (divided own) t.media.timescale };
-}
+divided_head l divisor own t = head_by l (divided divisor) (divided own) t
 
 -- what divides the times of the track at this place, from 0: 1 where there are no more
 abbrev pub divisor_at : List ℕ → ℕ → ℕ
@@ -25,6 +23,19 @@ divided_heads l divisor owns place [] = []
 divided_heads l divisor owns place (t ∷ heads) =
     divided_head l divisor (divisor_at owns place) t
     ∷ divided_heads l divisor owns (suc place) heads
+
+-- what is left of the head of a track, whose times are divided so
+abbrev pub remaining_head : Without → ℕ → ℕ → TrackHead → TrackHead
+remaining_head l divisor own t = divided_head l divisor own (reduce_track_head l t)
+
+-- the same of heads of tracks whose own times are divided by these, and where there are no more of
+-- them by 1
+abbrev pub remaining_heads : Without → ℕ → List ℕ → List TrackHead → List TrackHead
+remaining_heads l divisor owns [] = []
+remaining_heads l divisor [] (t ∷ heads) =
+    remaining_head l divisor 1 t ∷ remaining_heads l divisor [] heads
+remaining_heads l divisor (own ∷ owns) (t ∷ heads) =
+    remaining_head l divisor own t ∷ remaining_heads l divisor owns heads
 
 -- where the `tkhd` of each of these heads stands
 abbrev pub heads_at : List read.TrackHead → List ℕ

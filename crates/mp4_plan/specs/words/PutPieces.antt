@@ -10,7 +10,8 @@ use Rattle.mp4_head.specs.words.Found.{SaysHead}
 use Rattle.mp4_head.specs.words.Seen.{movie_seen, tracks_seen}
 use Rattle.mp4_head.specs.declared.heads.MovieHead.{MovieHead}
 use Rattle.mp4_content.specs.format.Reduced.{number_heads}
-use Rattle.mp4_content.specs.format.Remaining.{remaining_heads, remaining_movie}
+use Rattle.mp4_content.specs.format.Remaining.{remaining_movie}
+use Rattle.mp4_content.specs.words.Divided.{remaining_heads}
 use Rattle.mp4_content.specs.words.Scales.{AreOnes}
 use Rattle.mp4_content.specs.declared.scales.Scales.{Scales}
 use Rattle.mp4_present.specs.words.Movies.{MovieSeen, moov_box}

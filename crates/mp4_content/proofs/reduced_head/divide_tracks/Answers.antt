@@ -16,7 +16,7 @@ loop-k-preserved c =
     let lt : c.loop-k.k < length c.loop-k.tracks.items = search rules in
     let at = there_is c.loop-k.tracks.items c.loop-k.k _ was lt c.index_mut.ensures.value in
     let place : c.loop-k.k ≡ c.loop-k.k + 0 = omega arith in
-    let here = c.divide_track.ensures.divided ∙ (λ i. divided_head c.args.leaving (c.movie.ensures i) (c.track.ensures i) (track_seen was)) ∙ ap (λ n. divided_head c.args.leaving s.movie (divisor_at s.tracks.items n) (track_seen was)) place in (
+    let here = c.divide_track.ensures.divided ∙ (λ i. divided_head c.args.leaving s.movie (c.track.ensures i) (track_seen was)) ∙ ap (λ n. divided_head c.args.leaving s.movie (divisor_at s.tracks.items n) (track_seen was)) place in (
       search rules,
       changed_one track_seen (λ n. divided_head c.args.leaving s.movie (divisor_at s.tracks.items n)) 0 _ c.loop-k.tracks.items c.loop-k.k was c.divide_track.new.track i.1 at here,
       places_stay c.loop-k.tracks.items c.loop-k.k was c.divide_track.new.track at c.divide_track.ensures.place ∙ i.2,

@@ -1,7 +1,7 @@
 use Rattle.std.proofs.Common.{ap, ◌∙◌}
 use Rattle.mp4_head.specs.words.Seen.{tracks_seen}
 use Rattle.mp4_content.specs.format.Reduced.{number_heads}
-use Rattle.mp4_content.specs.format.Remaining.{remaining_heads}
+use Rattle.mp4_content.specs.words.Divided.{remaining_heads}
 use Rattle.mp4_content.specs.words.PayloadsLeft.{keeping_payloads}
 use Rattle.mp4_content.proofs.HeadLess.{both_left}
 use Rattle.mp4_content.proofs.reduced_head.head_left.Goals as goal
