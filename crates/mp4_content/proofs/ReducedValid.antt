@@ -38,7 +38,7 @@ some_length : (n : ℕ) → 0 ≤ n
 some_length n = omega arith
 
 -- `trak` and `trex`
-abbrev both_lengths : TrackHead → ℕ
+abbrev pub both_lengths : TrackHead → ℕ
 both_lengths t = length (trak_bytes t) + length (trex_bytes t)
 
 -- each track takes some bytes
@@ -58,7 +58,7 @@ pub each_a_thousandth : (n : ℕ) → div_ceil (n * 1000) 1000 ≡ n
 each_a_thousandth n = omega arith
 
 module _ (l : Without) where
-  kept_shorter : (kept : List Kept) → length (flat_map kept_bytes (reduce_kept l kept)) ≤ length (flat_map kept_bytes kept)
+  pub kept_shorter : (kept : List Kept) → length (flat_map kept_bytes (reduce_kept l kept)) ≤ length (flat_map kept_bytes kept)
   kept_shorter kept = by_case (λ (ks : List Kept). length (flat_map kept_bytes ks) ≤ length (flat_map kept_bytes kept)) l.metadata (filter (λ (k : Kept). not (is_among metadata_kinds k.kind)) kept) kept
       (shorter kept_bytes (λ (k : Kept). not (is_among metadata_kinds k.kind)) kept) (no_longer (length (flat_map kept_bytes kept)))
 
@@ -76,7 +76,7 @@ module _ (l : Without) where
       let less = by_case (λ (h : List ℕ). length h ≤ length handler) l.labels (plain_handler handler) handler (handler_shorter handler) (no_longer (length handler)) in
       omega (arith, now, was, less)
 
-  track_shorter : (place : ℕ) (t : TrackHead) → length t.matrix ≡ 9 → both_lengths (number_head l place (reduce_track_head l t)) ≤ both_lengths t
+  pub track_shorter : (place : ℕ) (t : TrackHead) → length t.matrix ≡ 9 → both_lengths (number_head l place (reduce_track_head l t)) ≤ both_lengths t
   track_shorter place t n =
       let a = length_track t n in
       let b = length_track (number_head l place (reduce_track_head l t)) n in

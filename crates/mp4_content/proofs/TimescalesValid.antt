@@ -10,9 +10,9 @@ use Rattle.mp4_boxes.specs.format.Bytes.{sum_of}
 use Rattle.mp4_boxes.proofs.Each.{each_value, each_weaker}
 use Rattle.mp4_boxes.proofs.Plain.{length_mapped}
 use Rattle.mp4_tables.specs.format.Groups.{GroupKey, keys_with, max_keys}
-use Rattle.mp4_head.specs.format.Head.{Edit, MovieHead, TrackHead, IsEdit, IsMovieHead, IsTrackHead}
+use Rattle.mp4_head.specs.format.Head.{Edit, MovieHead, IsEdit, IsMovieHead, IsTrackHead}
 use Rattle.mp4_head.specs.format.Tree.{are_distinct}
-use Rattle.mp4_head.specs.format.Writing.{edts_bytes, trak_bytes, trex_bytes, moov_bytes, head_bytes, ftyp_bytes}
+use Rattle.mp4_head.specs.format.Writing.{edts_bytes, moov_bytes, head_bytes, ftyp_bytes}
 use Rattle.mp4_head.proofs.HeadLengths.{length_edits, length_head, length_track}
 use Rattle.mp4_present.specs.format.Presentation.{Sample, Track, Presentation, IsSample, IsTrack, Valid, IsInTime, heads, movie_length, normal_moov_length}
 use Rattle.mp4_content.specs.format.Reduced.{is_at_end, start_left, first_offset, duration_left, offset_left, timescale_left, id_left, reduce_sample, reduce_from, reduce_samples, reduce_track, reduce_movie_head, number_track, number_tracks, reduce, HasNearOffsets}
@@ -24,7 +24,7 @@ use Rattle.mp4_content.specs.format.Remaining.{remaining_movie}
 use Rattle.mp4_content.specs.format.TimescalesLaws.{ScaledInLimits, ScaledIsValid, ScaledStaysValid}
 use Rattle.mp4_content.proofs.Numbered.{each_before, ids_of, numbered_each}
 use Rattle.mp4_content.proofs.ReducedSamples.{by_case, left_many}
-use Rattle.mp4_content.proofs.ReducedValid.{near_of, reduced_is_valid, reduced_stays_valid, shorter_moov}
+use Rattle.mp4_content.proofs.ReducedValid.{both_lengths, near_of, reduced_is_valid, reduced_stays_valid, shorter_moov}
 use Rattle.mp4_content.proofs.TimescalesDivisors.{Divides, divisor_divides}
 use Rattle.mp4_content.proofs.TimescalesChanged.{many_stay}
 use Rattle.mp4_content.proofs.TimescalesLengths.{some_divided, duration_less, lowest_in_time, near_tracks}
@@ -57,15 +57,12 @@ edits_good a g (e ∷ edits) h = (
 
 -- ---- how long the `moov` is
 
-edts_same : (f : Edit → Edit) (edits : List Edit) → length (edts_bytes (map f edits)) ≡ length (edts_bytes edits)
+pub edts_same : (f : Edit → Edit) (edits : List Edit) → length (edts_bytes (map f edits)) ≡ length (edts_bytes edits)
 edts_same f [] = refl
 edts_same f (e ∷ edits) =
     let some : ¬ (length (e ∷ edits) ≡ 0) = λ n. omega (arith, n) in
     let more : ¬ (length (map f (e ∷ edits)) ≡ 0) = λ n. omega (arith, n) in
     length_edits (map f (e ∷ edits)) more ∙ ap (λ n. 24 + 20 * n) (length_mapped f (e ∷ edits)) ∙ sym (length_edits (e ∷ edits) some)
-
-abbrev both_lengths : TrackHead → ℕ
-both_lengths t = length (trak_bytes t) + length (trex_bytes t)
 
 abbrev HasMatrix : Track → Type 0
 HasMatrix t = length t.head.matrix ≡ 9

@@ -1,44 +1,25 @@
 //! What remains of an opened movie, as one value.
-ghost use Rattle.std.specs.Prelude.{◌≡◌, ◌+◌, ◌<◌, ◌≤◌, length, slice_get, Some, true, IfOk, IfErr, OnOk};
-ghost use Rattle.mp4_head.specs.words.Seen.{movie_seen, tracks_seen};
-ghost use Rattle.mp4_present.specs.words.StoresRead.{IsUnchanged, OnlyReads, Refused};
-ghost use Rattle.mp4_content.specs.format.Reduced.{number_heads};
-ghost use Rattle.mp4_content.specs.format.Remaining.{remaining_movie};
-ghost use Rattle.mp4_content.specs.words.Divided.{remaining_heads};
-ghost use Rattle.mp4_content.specs.words.Contents.{IsContentOf, IsContentOver, RefusesLeft, info_left, numbers_of, tracks_left};
-ghost use Rattle.mp4_content.specs.words.LeftTimes.{NamesLong};
-ghost use Rattle.mp4_content.specs.words.Measuring.{measuring_steps};
-ghost use Rattle.mp4_content.specs.words.Opened.{OverOpened};
-ghost use Rattle.mp4_content.specs.words.PayloadsLeft.{AreMediaLeft, leaves_payloads};
+ghost use Rattle.std.specs.Prelude.{◌≡◌, false};
+ghost use Rattle.mp4_content.specs.words.Scales.{AreOnes};
 
 use crate::measures::{Measures, measure};
 use crate::own_payloads::{MediaLeft, payloads_left};
 use crate::reduced::Reduction;
-use crate::reduced_head::{divided_timescale, head_left};
+use crate::reduced_head::head_left;
 use crate::reduced_lengths::length_left;
 use crate::scales::Scales;
+use crate::tracks_left::{TrackLeft, tracks_left};
 use crate::without::Without;
 use mp4_boxes::{Memory, Refusal, Steps};
 use mp4_head::MovieHead;
-use mp4_present::{Movie, TrackInfo};
+use mp4_present::Movie;
 use mp4_store::Store;
-use std::alloc::{AllocError, Global};
+use std::alloc::Global;
 use std::sync::ledger::Ledger;
 
-/// What remains of a track in numbers.
-#[derive(Clone, Copy, Debug, PartialEq, Eq)]
-pub struct TrackLeft {
-    pub id: u32,
-    /// How many parts of a second the times of its samples count.
-    pub timescale: u32,
-    /// How many samples it has.
-    pub samples: u32,
-    /// The sum of their sizes.
-    pub bytes: u64,
-}
-
 /// What remains of an opened movie: what is left out, by what times are divided, what each track's
-/// samples are left by, what remains of the tracks in numbers, and how long the longest is.
+/// samples are left by, what remains of the tracks in numbers, and how long the longest is. Where
+/// timescales count, times are divided by 1.
 #[derive(Drop)]
 pub struct Content {
     leaving: Without,
@@ -46,38 +27,22 @@ pub struct Content {
     of_tracks: Vec<Reduction>,
     tracks: Vec<TrackLeft>,
     length: u64,
-}
-
-// What remains of the track at this place, from 1, in numbers, whose times are divided by this.
-fn track_left(leaving: Without, place: u64, divisor: u64, info: &TrackInfo) -> TrackLeft
-    ensures { result ≡ numbers_of (info_left leaving place divisor info.now) }
-{
-    TrackLeft {
-        id: leaving.id(place, info.id),
-        timescale: divided_timescale(leaving, leaving.timescale(info.timescale), divisor),
-        samples: info.samples,
-        bytes: info.bytes,
-    }
-}
-
-// What remains of tracks in numbers.
-fn tracks_left(
-    alloc: Global,
-    leaving: Without,
-    scales: &Scales,
-    infos: &[TrackInfo],
-) -> Result<Vec<TrackLeft>, AllocError>
-    ensures { IfOk result
-        (λ tracks. tracks.items ≡ tracks_left leaving scales.now.tracks.items infos.now) }
-{
-    let mut tracks = Vec::with_capacity(alloc, infos.len())?;
-    for k in 0..infos.len() {
-        tracks.push(track_left(leaving, k as u64 + 1, scales.track(k), &infos[k]))?;
-    }
-    Ok(tracks)
+    pub ghost ones: { leaving.timescales ≡ false → AreOnes scales },
 }
 
 impl Content {
+    ghost use Rattle.std.specs.Prelude.{◌≡◌, ◌+◌, ◌<◌, ◌≤◌, length, slice_get, Some, true, IfOk, IfErr, OnOk};
+    ghost use Rattle.mp4_head.specs.words.Seen.{movie_seen, tracks_seen};
+    ghost use Rattle.mp4_present.specs.words.StoresRead.{IsUnchanged, OnlyReads, Refused};
+    ghost use Rattle.mp4_content.specs.format.Reduced.{number_heads};
+    ghost use Rattle.mp4_content.specs.format.Remaining.{remaining_movie};
+    ghost use Rattle.mp4_content.specs.words.Contents.{IsContentOf, IsContentOver, RefusesLeft};
+    ghost use Rattle.mp4_content.specs.words.Divided.{remaining_heads};
+    ghost use Rattle.mp4_content.specs.words.LeftTimes.{NamesLong};
+    ghost use Rattle.mp4_content.specs.words.Measuring.{measuring_steps};
+    ghost use Rattle.mp4_content.specs.words.Opened.{OverOpened};
+    ghost use Rattle.mp4_content.specs.words.PayloadsLeft.{AreMediaLeft, leaves_payloads};
+
     /// What remains of a movie. A track that is too long then, or has an offset that doesn't fit,
     /// is a fault.
     pub fn of<S: Store, L: Ledger, M: Ledger>(

@@ -2,7 +2,7 @@
 use Rattle.std.proofs.Common.{◌≡◌, ℕ, zero, suc, ◌+◌, ◌-◌, ◌*◌, ◌/◌, ◌^◌, ◌<◌, ◌≤◌, ◌==◌, nat_le, min, max, Bool, true, false, cond, List, [], ◌∷◌, length, Some, None, refl, sym, ap, subst, ◌∙◌, true≢false, arith, slice_get, slice_set, eq-eqb, eqb-true, ne_eqb, le-leb, leb-true, le-div_iff_mul-le}
 use Rattle.std.specs.Prelude.{Option, if◌then◌else◌, option_map}
 use Rattle.mp4_tables.specs.declared.sample.SampleAt.{SampleAt}
-use Rattle.mp4_content.specs.declared.content.TrackLeft.{TrackLeft}
+use Rattle.mp4_content.specs.declared.tracks_left.TrackLeft.{TrackLeft}
 use Rattle.mp4_plan.specs.words.DueTracks.{leaf, cut_at, AreTimes, IsDue, Skips}
 use Rattle.mp4_plan.specs.words.DueTracks.Skips.{none, one}
 use Rattle.mp4_plan.specs.words.Turns.{turns_left, begins_more, track_passed, turned, wrapped, is_over}

@@ -13,7 +13,7 @@ use Rattle.mp4_present.specs.format.Denotes.{FileTree, file_parts, track_of}
 use Rattle.mp4_present.specs.words.Movies.{MovieSeen}
 use Rattle.mp4_present.specs.words.OpenedMovie.{IsOpenedAs}
 use Rattle.mp4_content.specs.words.Contents.{info_left, infos_from, infos_left, numbers_of, tracks_left}
-use Rattle.mp4_content.specs.declared.content.TrackLeft.{TrackLeft}
+use Rattle.mp4_content.specs.declared.tracks_left.TrackLeft.{TrackLeft}
 use Rattle.mp4_content.specs.format.Reduced.{timescale_left}
 use Rattle.mp4_content.specs.format.Remaining.{track_divisor}
 use Rattle.mp4_content.specs.format.Timescales.{counted_timescale, divided, timescale_by}

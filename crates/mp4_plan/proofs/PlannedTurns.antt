@@ -29,7 +29,7 @@ use Rattle.mp4_plan.specs.words.Sizes.{moof_sizes}
 use Rattle.mp4_content.specs.words.TakenSamples.{AreTaken}
 use Rattle.mp4_plan.specs.words.TurnLaws.{piece_if}
 use Rattle.mp4_content.specs.words.Contents.{info_left, infos_left, numbers_of, tracks_left}
-use Rattle.mp4_content.specs.declared.content.TrackLeft.{TrackLeft}
+use Rattle.mp4_content.specs.declared.tracks_left.TrackLeft.{TrackLeft}
 use Rattle.mp4_plan.specs.words.Turns.{first_scale, turn_end, turned, Sticks}
 use Rattle.mp4_plan.specs.words.DueTracks.{FindsMore, IsDueAt, Skips}
 use Rattle.mp4_plan.specs.words.Writers.{AllCome, AllBegin, ArePiecesLong, firsts, longest_piece, planned_length}

@@ -26,7 +26,7 @@ use Rattle.mp4_plan.specs.format.Normal.{normal}
 use Rattle.mp4_plan.specs.words.CarriedSamples.{AreThere}
 use Rattle.mp4_content.specs.words.Contents.{info_left, infos_left, numbers_of, tracks_left}
 use Rattle.mp4_content.specs.declared.content.Content.{Content}
-use Rattle.mp4_content.specs.declared.content.TrackLeft.{TrackLeft}
+use Rattle.mp4_content.specs.declared.tracks_left.TrackLeft.{TrackLeft}
 use Rattle.mp4_plan.specs.words.Turns.{turn_end, turned, Sticks}
 use Rattle.mp4_plan.specs.words.UsedKeys.{AreApart}
 use Rattle.mp4_plan.specs.words.Writers.{IsWriterOf, HasNoted, IsNoted, HaveCopied, turn_head, sequence_behind, turn_bytes}

@@ -4,7 +4,7 @@ ghost use Rattle.mp4_boxes.specs.declared.refusal.Refusal.TheVariants as refusal
 ghost use Rattle.mp4_content.specs.format.Remaining.{RemainsInLimits, remaining};
 ghost use Rattle.mp4_content.specs.words.Measuring.{measuring_steps};
 ghost use Rattle.mp4_content.specs.declared.without.Without.{Without};
-ghost use Rattle.mp4_content.specs.words.Contents.{IsContentOf, IsContentOver, content_left};
+ghost use Rattle.mp4_content.specs.words.Contents.{IsContentOver, content_left};
 ghost use Rattle.mp4_content.specs.words.LeftTimes.{NamesLong};
 ghost use Rattle.mp4_plan.specs.words.LeftRefusals.{RefusesLeft};
 ghost use Rattle.mp4_present.specs.format.Denotes.{FileTree, presentation_of};
@@ -35,10 +35,8 @@ pub(crate) fn head_of(alloc: Global, movie: &Movie, content: &Content) -> Result
     ensures head { (file : List ℕ) (tree : FileTree) → IsOpenedAs file movie.now tree
         → IsContentOver file tree content.now
         → IfOk result (λ bytes. bytes.items ≡ head_of_normal (content_left content.now file tree)) }
-    ensures named { IsContentOf movie.now content.now
-        → IfOk result (λ bytes. IsContentHead movie.now content.now bytes.items) }
+    ensures named { IfOk result (λ bytes. IsContentHead movie.now content.now bytes.items) }
     ensures unchanged { (file : List ℕ) (tree : FileTree) → IsOpenedAs file movie.now tree
-        → IsContentOver file tree content.now
         → IfErr result (λ r. r ≡ refusals.StoreChanged → ⊥) }
     ensures refusal { IfErr result RefusesMemory }
 {

@@ -61,7 +61,7 @@ fn cut_at(next: Option<u64>) -> u128
 impl Schedule {
     ghost use Rattle.std.specs.Prelude.{◌≡◌, ◌+◌, ◌-◌, ◌*◌, ◌^◌, ◌<◌, ◌≤◌, ◌⊎◌, List, length, option_map, Option, slice_get, slice_set, Some, None, IfSome, MatchOption, IfErr, OnOk};
     ghost use Rattle.std.specs.List.{sum_by};
-    ghost use Rattle.mp4_content.specs.declared.content.TrackLeft.{TrackLeft};
+    ghost use Rattle.mp4_content.specs.declared.tracks_left.TrackLeft.{TrackLeft};
     ghost use Rattle.mp4_plan.specs.words.Turns.{turns_left, track_passed, first_scale, turn_end, turned, IsSomeLeft, Sticks};
     ghost use Rattle.mp4_plan.specs.words.DueTracks.{AreTimes, FindsMore, IsDueAt, IsDueHere, IsDueTree, Skips};
     ghost use Rattle.mp4_boxes.specs.declared.refusal.Refusal.TheVariants as refusals;

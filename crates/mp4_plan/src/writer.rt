@@ -3,7 +3,7 @@ ghost use Rattle.std.specs.Prelude.{◌≡◌, ℕ, ◌+◌, ◌*◌, ◌-◌, �
 ghost use Rattle.std.specs.List.{sum_by};
 ghost use Rattle.mp4_store.specs.words.Device.{TakesPrefix};
 ghost use Rattle.mp4_tables.specs.declared.sample.SampleAt.{SampleAt};
-ghost use Rattle.mp4_content.specs.declared.content.TrackLeft.{TrackLeft};
+ghost use Rattle.mp4_content.specs.declared.tracks_left.TrackLeft.{TrackLeft};
 ghost use Rattle.mp4_present.specs.words.Carried.{GoOnBy, waiting};
 ghost use Rattle.mp4_content.specs.format.Remaining.{RemainsInLimits, remaining};
 ghost use Rattle.mp4_content.specs.words.Measuring.{measuring_steps};

@@ -1,5 +1,5 @@
 -- What remains of an opened movie.
-use Rattle.std.specs.Prelude.{◌≡◌, false, ℕ, suc, List, [], ◌∷◌, length, map}
+use Rattle.std.specs.Prelude.{◌≡◌, ℕ, suc, List, [], ◌∷◌, length, map}
 use Rattle.mp4_boxes.specs.declared.refusal.Refusal.{Refusal}
 use Rattle.mp4_boxes.specs.declared.refusal.Refusal.TheVariants as refusals
 use Rattle.mp4_store.specs.declared.store.Store.{Ghosts as Store}
@@ -13,9 +13,9 @@ use Rattle.mp4_content.specs.format.Timescales.{divided, timescale_by}
 use Rattle.mp4_content.specs.words.ComingLess.{reductions_of}
 use Rattle.mp4_content.specs.words.LeftTimes.{MayBeLong}
 use Rattle.mp4_content.specs.words.Opened.{OverOpened, RefusesPlan}
-use Rattle.mp4_content.specs.words.Scales.{AreOnes, AreScales}
+use Rattle.mp4_content.specs.words.Scales.{AreScales}
 use Rattle.mp4_content.specs.declared.content.Content.{Content}
-use Rattle.mp4_content.specs.declared.content.TrackLeft.{TrackLeft}
+use Rattle.mp4_content.specs.declared.tracks_left.TrackLeft.{TrackLeft}
 use Rattle.mp4_content.specs.declared.without.Without.{Without}
 
 -- what remains of the track at this place in numbers, whose times are divided by this: its ID and
@@ -54,7 +54,6 @@ tracks_left l divisors infos = map numbers_of (infos_left l divisors infos)
 pub record IsContentOf (m : MovieSeen) (c : Content) : Type 0 where
   pub many : length c.of_tracks.items ≡ length m.tracks
   pub tracks : c.tracks.items ≡ tracks_left c.leaving c.scales.tracks.items m.tracks
-  pub ones : c.leaving.timescales ≡ false → AreOnes c.scales
 
 -- what remains of the presentation that a file denotes
 abbrev pub content_left : Content → List ℕ → FileTree → Presentation

@@ -1,5 +1,5 @@
 -- By what the times of a movie's tracks are divided.
-use Rattle.std.specs.Prelude.{◌≡◌, replicate, ℕ, if◌then◌else◌, List, [], ◌∷◌, map, flat_map, ℤ, pos, unsigned_abs}
+use Rattle.std.specs.Prelude.{◌≡◌, replicate, ℕ, if◌then◌else◌, List, [], ◌∷◌, length, map, flat_map, ℤ, pos, unsigned_abs}
 use Rattle.mp4_head.specs.format.Head.{Edit, TrackHead}
 use Rattle.mp4_head.specs.format.Tree.{TrackTree}
 use Rattle.mp4_present.specs.format.Denotes.{FileTree, file_parts, presentation_of, track_of}
@@ -19,7 +19,8 @@ divisors_of l file tree =
 
 -- times are divided by 1 alone
 abbrev pub AreOnes : Scales → Type 0
-AreOnes scales = (scales.movie ≡ 1) × (n : ℕ) × (scales.tracks.items ≡ replicate n 1)
+AreOnes scales = (scales.movie ≡ 1)
+    × (scales.tracks.items ≡ replicate (length scales.tracks.items) 1)
 
 pub record AreScales (l : Without) (file : List ℕ) (tree : FileTree) (scales : Scales)
     : Type 0 where

@@ -1,6 +1,6 @@
 -- When the next samples of tracks are due, and which tracks have one before a cut.
 use Rattle.std.specs.Prelude.{◌≡◌, ◌<◌, ◌≤◌, ℕ, ◌*◌, ◌+◌, ◌^◌, ◌-◌, ◌/◌, max, min, List, length, Option, Some, None, slice_get, slice_index}
-use Rattle.mp4_content.specs.declared.content.TrackLeft.{TrackLeft}
+use Rattle.mp4_content.specs.declared.tracks_left.TrackLeft.{TrackLeft}
 use Rattle.mp4_tables.specs.declared.sample.SampleAt.{SampleAt}
 use Rattle.mp4_plan.specs.words.Turns.{track_passed}
 use Rattle.mp4_plan.specs.declared.due_tracks.DueTracks.{DueTracks}

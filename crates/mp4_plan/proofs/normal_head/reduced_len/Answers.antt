@@ -30,7 +30,7 @@ returns-clause-length g c told tree o =
     (subst (λ (f : List ℕ). AreScales l f tree content.scales) back left.scales) (subst (λ (f : List ℕ). content.of_tracks.items ≡ reductions_of l f tree) back left.reductions) (subst (λ (f : List ℕ). RemainsInRange l (presentation_of f tree)) back left.in_limits.in_range)) in
     subst (λ (k : Without). c.saturating_add.result ≡ length (normal (remaining k (presentation_of file tree)))) made.leaving
     (less_long _ c.in_ok-head.head mehd c.in_ok-len.len c.head_len.result c.min.result c.saturating_add.result
-    (less.head_left l file c.args.movie.now tree c.in_ok-content.content.scales c.in_ok-read.read c.in_ok-head.head o left.scales c.in_ok-read.ensures c.in_ok-head.ensures.movie c.in_ok-head.ensures.tracks)
+    (less.head_left l file c.args.movie.now tree c.in_ok-content.content.scales c.in_ok-read.read c.in_ok-head.head o c.in_ok-read.ensures c.in_ok-head.ensures.movie c.in_ok-head.ensures.tracks left.scales)
     long (c.head_len.ensures.length mehd) c.min.ensures c.saturating_add.ensures)
 
 pub returns-clause-in_limits : goal.returns-clause-in_limits

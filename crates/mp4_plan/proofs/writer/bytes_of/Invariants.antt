@@ -1,6 +1,6 @@
 use Rattle.std.proofs.Common.{◌≡◌, ◌*◌, ◌≤◌, take}
 use Rattle.std.specs.List.{sum_by}
-use Rattle.mp4_content.specs.declared.content.TrackLeft.{TrackLeft}
+use Rattle.mp4_content.specs.declared.tracks_left.TrackLeft.{TrackLeft}
 use Rattle.mp4_plan.proofs.writer.bytes_of.Given as goal
 
 abbrev pub invariant-loop-track : goal.invariant-loop-track

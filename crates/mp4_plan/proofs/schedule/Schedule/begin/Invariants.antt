@@ -1,6 +1,6 @@
 use Rattle.std.proofs.Common.{◌≡◌, ◌<◌, ℕ, Some, Option, slice_get}
 use Rattle.mp4_tables.specs.declared.sample.SampleAt.{SampleAt}
-use Rattle.mp4_content.specs.declared.content.TrackLeft.{TrackLeft}
+use Rattle.mp4_content.specs.declared.tracks_left.TrackLeft.{TrackLeft}
 use Rattle.mp4_plan.specs.words.DueTracks.{IsDue, IsDueTree, leaf}
 use Rattle.mp4_plan.proofs.schedule.Schedule.begin.Given as goal
 

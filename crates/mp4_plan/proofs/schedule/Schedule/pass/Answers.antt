@@ -1,5 +1,5 @@
 use Rattle.std.proofs.Common.{rules, arith, ◌≡◌, sym, subst, ap, ◌∙◌, inl, inr, slice_set}
-use Rattle.mp4_content.specs.declared.content.TrackLeft.{TrackLeft}
+use Rattle.mp4_content.specs.declared.tracks_left.TrackLeft.{TrackLeft}
 use Rattle.mp4_plan.specs.words.DueTracks.{AreTimes, IsDue, Skips}
 use Rattle.mp4_plan.specs.declared.schedule.Schedule.{Schedule}
 use Rattle.mp4_plan.specs.declared.due_tracks.DueTracks.{DueTracks}

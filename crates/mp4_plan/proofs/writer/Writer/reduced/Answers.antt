@@ -137,4 +137,4 @@ returns-clause-made g c =
     let few = c.in_ok-longest.ensures.few in
     writer_made c.args.movie.now c.args.leaving _ c.in_ok-walks_of.ensures.walks (omega (arith, long, few)) (sym nexts.ok.0 ∙ c.in_ok-vec-2.ensures.len ∙ search rules) c.in_ok-content.ensures.content c.in_ok-due.ensures.tree (c.in_ok-due.ensures.tracks ∙ search rules)
     (sym c.in_ok-new.field-0.buffer.ok.0 ∙ c.in_ok-new.ensures.room) c.in_ok-new.ensures.empty c.in_ok-content.ensures.leaving
-    (subst (λ (l : Without). IsHeadLeft c.args.movie.now l c.in_ok-head_of.field-0.items) c.in_ok-content.ensures.leaving (c.in_ok-head_of.ensures.named c.in_ok-content.ensures.content))
+    (subst (λ (l : Without). IsHeadLeft c.args.movie.now l c.in_ok-head_of.field-0.items) c.in_ok-content.ensures.leaving c.in_ok-head_of.ensures.named)

@@ -16,7 +16,7 @@ use Rattle.mp4_content.specs.words.Contents.{infos_left}
 use Rattle.mp4_content.specs.words.Scales.{divisors_of}
 use Rattle.mp4_plan.specs.format.Held.{rooms}
 use Rattle.mp4_content.specs.declared.content.Content.{Content}
-use Rattle.mp4_content.specs.declared.content.TrackLeft.{TrackLeft}
+use Rattle.mp4_content.specs.declared.tracks_left.TrackLeft.{TrackLeft}
 use Rattle.mp4_content.specs.words.Contents.{tracks_left}
 use Rattle.mp4_content.proofs.AtPlaces.{read_at}
 use Rattle.mp4_plan.proofs.InfosLeft.{tracks_bytes, tracks_many, tracks_samples}

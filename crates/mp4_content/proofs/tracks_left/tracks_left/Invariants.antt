@@ -1,6 +1,6 @@
 use Rattle.std.proofs.Common.{◌≡◌, take}
 use Rattle.mp4_content.specs.words.Contents.{tracks_left}
-use Rattle.mp4_content.proofs.content.tracks_left.Given as goal
+use Rattle.mp4_content.proofs.tracks_left.tracks_left.Given as goal
 
 -- what is left of those so far
 abbrev pub invariant-loop-k : goal.invariant-loop-k

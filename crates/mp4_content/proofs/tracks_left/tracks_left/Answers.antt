@@ -1,8 +1,8 @@
 use Rattle.std.proofs.Common.{rules, ◌≡◌, ◌+◌, ◌<◌, ◌++◌, [], ◌∷◌, length, slice_index_or, ap, ◌∙◌}
 use Rattle.mp4_content.specs.words.Contents.{info_left, numbers_of}
-use Rattle.mp4_content.specs.declared.content.TrackLeft.{TrackLeft}
+use Rattle.mp4_content.specs.declared.tracks_left.TrackLeft.{TrackLeft}
 use Rattle.mp4_content.proofs.InfosLeft.{left_more}
-use Rattle.mp4_content.proofs.content.tracks_left.Goals as goal
+use Rattle.mp4_content.proofs.tracks_left.tracks_left.Goals as goal
 
 pub loop-k-preserved : goal.loop-k-preserved
 loop-k-preserved c =
