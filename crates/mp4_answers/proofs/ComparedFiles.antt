@@ -21,7 +21,7 @@ use Rattle.mp4_content.specs.declared.without.Word.{Word}
 use Rattle.mp4_content.specs.declared.without.Without.{Without}
 use Rattle.mp4_content.proofs.ComparisonWhole.{no_difference_is_same}
 use Rattle.mp4_present.proofs.DenotedValid.{denoted_is_valid}
-use Rattle.mp4_answers.specs.format.CompareHeadline.{IsVerdict, ComparedWithin, ComparesWithin, aligned_walks, listing_walks, most_counted, most_walks, trying_walks}
+use Rattle.mp4_answers.specs.format.CompareHeadline.{IsVerdict, ComparedWithin, ComparesWithin, aligned_walks, listing_walks, most_counted, most_walks, trying_walks, walked_each}
 use Rattle.mp4_answers.specs.format.Steps.{WalksWithin, row_total}
 use Rattle.mp4_plan.proofs.Judged.{denoted_judged}
 use Rattle.mp4_answers.specs.words.Compares.{side_of, says_nothing, IsSaid, ListsFront, WalksTimes, RefusesBoth, RefusesCompare}
@@ -103,11 +103,6 @@ aligning_joined old mid new a b l lines g h =
 pub listing_alone : (old new a b : ℕ) (l : Without) (lines : Lines) → new ≤ old + listing_walks l * (a + b) → new ≤ old + most_walks l (listings.All lines) * (a + b)
 listing_alone old new a b l lines g = few_times_of old new a b (listing_walks l) (most_walks l (listings.All lines)) (omega arith) g
 
--- two walks at least
-pub two_or_more : (l : Without) (listing : Listing) → 2 ≤ most_walks l listing
-two_or_more l (listings.First syntax) = omega arith
-two_or_more l (listings.All lines) = omega arith
-
 -- one comparison, where timescales are left out, or not
 comparing_is : (v : Bool) (a b : ℕ) → ((if v then a else 0) + (if v then b else 0)) + (a + b) ≡ (1 + (if v then 1 else 0)) * (a + b)
 comparing_is true a b = omega arith
@@ -176,11 +171,12 @@ together First Second honest honest_right l m r s Took nothing puts refusals.NoS
 -- ---- steps
 
 -- a file that is looked at, and no more
-pub looked_alone : (times : ℕ) → 2 ≤ times → (file : List ℕ) (old new : ℕ) → WalksWithin file old new → ComparedWithin times file old new
-looked_alone times two file old new h = record {
+pub looked_alone : (times : ℕ) (file : List ℕ) (old new : ℕ) → WalksWithin file old new → ComparedWithin times file old new
+looked_alone times file old new h = record {
   denoted = λ p d.
       let own = h.denoted p d in
-      let most = mul-le-mul_right (sample_total p + row_total d.tree) two in
+      let more : 8 ≤ walked_each times = omega arith in
+      let most = mul-le-mul_right (sample_total p + row_total d.tree) more in
       omega (arith, own, most);
   refused = h.refused;
 }
@@ -193,15 +189,15 @@ none_taken times file n = record {
 
 -- the second file was not looked at
 pub first_alone : (l : Without) (listing : Listing) (file other : List ℕ) (old new : ℕ) → WalksWithin file old new → ComparesWithin l listing file other old new
-first_alone l listing file other old new first = record { between = new; first = looked_alone (most_walks l listing) (two_or_more l listing) file old new first; second = none_taken (most_walks l listing) other new }
+first_alone l listing file other old new first = record { between = new; first = looked_alone (most_walks l listing) file old new first; second = none_taken (most_walks l listing) other new }
 
 -- the first file was opened, and so were the second or not
 pub both_looked : (l : Without) (listing : Listing) (file other : List ℕ) (m : MovieSeen) (old mid new : ℕ) → ((tree : FileTree) × IsOpenedAs file m tree) → ((tree : FileTree) → IsFileTree file tree → mid ≤ old + opening_steps tree) → WalksWithin other mid new
     → ComparesWithin l listing file other old new
 both_looked l listing file other m old mid new a opening second = record {
   between = mid;
-  first = looked_alone (most_walks l listing) (two_or_more l listing) file old mid (looked_within file old mid m a.0 a.1 (opening a.0 a.1.is_tree));
-  second = looked_alone (most_walks l listing) (two_or_more l listing) other mid new second;
+  first = looked_alone (most_walks l listing) file old mid (looked_within file old mid m a.0 a.1 (opening a.0 a.1.is_tree));
+  second = looked_alone (most_walks l listing) other mid new second;
 }
 
 -- both were opened, and walked over as many times as may be
@@ -209,10 +205,9 @@ pub both_walked : (l : Without) (listing : Listing) (file other : List ℕ) (m n
     → ((tree : FileTree) → IsFileTree other tree → behind ≤ mid + opening_steps tree) → ((tree next : FileTree) → IsOpenedAs file m tree → IsOpenedAs other n next → WalksTimes (most_walks l listing) tree next behind new) → ComparesWithin l listing file other old new
 both_walked l listing file other m n old mid behind new a b opening next walks =
     let times = most_walks l listing in
-    let two : 2 ≤ times = two_or_more l listing in
     record {
       between = mid + times * walks_steps a.0;
-      first = often_walked file old (mid + times * walks_steps a.0) times two m a.0 a.1 (let opened = opening a.0 a.1.is_tree in omega (arith, opened));
-      second = often_walked other (mid + times * walks_steps a.0) new times two n b.0 b.1
+      first = often_walked file old (mid + times * walks_steps a.0) times m a.0 a.1 (let opened = opening a.0 a.1.is_tree in omega (arith, opened));
+      second = often_walked other (mid + times * walks_steps a.0) new times n b.0 b.1
           (let more = walks a.0 b.0 a.1 b.1 in let opened = next b.0 b.1.is_tree in omega (arith, more, opened));
     }

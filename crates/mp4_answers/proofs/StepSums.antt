@@ -23,6 +23,7 @@ use Rattle.mp4_present.proofs.OwnSums.{owns_few}
 use Rattle.mp4_present.proofs.PartsOnce.{parts_once}
 use Rattle.mp4_plan.specs.words.WriterSteps.{track_writes, writing_steps}
 use Rattle.mp4_present.proofs.Counts.{parts_total, sizes_few, fragments_total, total_is, all_belong}
+use Rattle.mp4_answers.specs.format.CompareHeadline.{walked_each}
 use Rattle.mp4_answers.specs.format.Steps.{row_total}
 use Rattle.mp4_tables.proofs.Sums.{sum_joined}
 
@@ -184,12 +185,22 @@ tree_often k file tree h s c =
     (owns_few file tree h s.movie) few (checks_sum tracks) (ways_sum tree tracks) in
     subst (λ n. opening_steps tree + (k + 2) * walks_steps tree ≤ 3 * (k + 2 + 1) * (n + row_total tree)) (sym total) all
 
-pub often_looks : (walks : ℕ) → 2 ≤ walks → (file : List ℕ) (p : Presentation) (d : Denotes file p) → opening_steps d.tree + walks * walks_steps d.tree ≤ 3 * (walks + 1) * (sample_total p + row_total d.tree)
+often_looks : (walks : ℕ) → 2 ≤ walks → (file : List ℕ) (p : Presentation) (d : Denotes file p) → opening_steps d.tree + walks * walks_steps d.tree ≤ 3 * (walks + 1) * (sample_total p + row_total d.tree)
 often_looks walks two file p d =
     let k = walks - 2 in
     let many : k + 2 ≡ walks = omega (arith, two) in
     let own = subst (λ (q : Presentation). opening_steps d.tree + (k + 2) * walks_steps d.tree ≤ 3 * (k + 2 + 1) * (sample_total q + row_total d.tree)) (sym d.says) (tree_often k file d.tree d.is_tree d.is_sound d.is_consistent) in
     subst (λ n. opening_steps d.tree + n * walks_steps d.tree ≤ 3 * (n + 1) * (sample_total p + row_total d.tree)) many own
+
+-- and however many
+pub each_looks : (walks : ℕ) (file : List ℕ) (p : Presentation) (d : Denotes file p) → opening_steps d.tree + walks * walks_steps d.tree ≤ walked_each walks * (sample_total p + row_total d.tree)
+each_looks zero file p d = let all = opened_looks file p d in omega (arith, all)
+each_looks (suc zero) file p d = let all = walks_looks file p d in omega (arith, all)
+each_looks (suc (suc k)) file p d =
+    let all = often_looks (suc (suc k)) (omega arith) file p d in
+    let more : 3 * (suc (suc k) + 1) ≤ walked_each (suc (suc k)) = omega arith in
+    let most = mul-le-mul_right (sample_total p + row_total d.tree) more in
+    omega (arith, all, most)
 
 -- opening a file, and a walk or two over each of its tracks
 pub print_looks : (v : Bool) (file : List ℕ) (p : Presentation) (d : Denotes file p) → opening_steps d.tree + ((if v then walks_steps d.tree else 0) + walks_steps d.tree) ≤ (if v then 9 else 8) * (sample_total p + row_total d.tree)

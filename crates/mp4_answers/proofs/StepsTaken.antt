@@ -22,7 +22,7 @@ use Rattle.mp4_content.specs.words.Scales.{scaling_steps}
 use Rattle.mp4_boxes.proofs.Plain.{and_false}
 use Rattle.mp4_plan.specs.words.WriterSteps.{writing_steps}
 use Rattle.std.proofs.Math.Nat.{mul-le-mul_right}
-use Rattle.mp4_answers.proofs.StepSums.{all_within, often_looks, opened_looks, print_looks, walked_looks}
+use Rattle.mp4_answers.proofs.StepSums.{all_within, each_looks, opened_looks, print_looks, walked_looks}
 
 -- where first or last samples, or timescales, don't count, and timing does
 asks : (ends origins timing timescales : Bool) → ((((ends || origins) && not timing) || timescales) && not timing) ≡ ((ends || origins || timescales) && not timing)
@@ -107,12 +107,12 @@ module _ (file : List ℕ) (old new : ℕ) where
   }
 
   -- a file that is opened, and of which each track is walked over at most as many times as may be
-  pub often_walked : (times : ℕ) → 2 ≤ times → (m : MovieSeen) (tree : FileTree) → IsOpenedAs file m tree → new ≤ old + (opening_steps tree + times * walks_steps tree) → ComparedWithin times file old new
-  often_walked times two m tree o walks = record {
+  pub often_walked : (times : ℕ) (m : MovieSeen) (tree : FileTree) → IsOpenedAs file m tree → new ≤ old + (opening_steps tree + times * walks_steps tree) → ComparedWithin times file old new
+  often_walked times m tree o walks = record {
     denoted = λ p d.
         let same = file_tree_one file tree d.tree o.is_tree d.is_tree in
         let own = subst (λ (u : FileTree). new ≤ old + (opening_steps u + times * walks_steps u)) same walks in
-        let all = often_looks times two file p d in
+        let all = each_looks times file p d in
         omega (arith, own, all);
     refused = λ nothing. absurd (nothing (presentation_of file tree) (denoted file m tree o));
   }

@@ -1,5 +1,5 @@
 -- What comparing two files answers.
-use Rattle.std.specs.Prelude.{◌≡◌, ◌↔◌, ◌≤◌, ℕ, ◌+◌, ◌*◌, nat_le, List, [], ◌++◌, length, take, map, flat_map, slice_get, Bool, true, false, if◌then◌else◌, Option, Some, None, Ok}
+use Rattle.std.specs.Prelude.{◌≡◌, ◌↔◌, ◌≤◌, ℕ, ◌+◌, ◌*◌, max, nat_le, List, [], ◌++◌, length, take, map, flat_map, slice_get, Bool, true, false, if◌then◌else◌, Option, Some, None, Ok}
 use Rattle.mp4_boxes.specs.format.Bytes.{AreBytes}
 use Rattle.mp4_present.specs.format.ByBytes.{OpensWithin}
 use Rattle.mp4_present.specs.format.Denotes.{Denotes}
@@ -139,19 +139,25 @@ aligned_walks l aligned = if aligned then 2 + scaling_walks l else 0
 abbrev pub trying_walks : ℕ
 trying_walks = 2 * (2 + word_count)
 
--- A file is walked over at most so many times: for the first difference twice, for all of them to
--- list what differs, to align tracks, and to find words.
+-- A file is walked over at most so many times: for the first difference until that is found; for
+-- all of them to list what differs, to align tracks, and to find words.
 abbrev pub most_walks : Without → Listing → ℕ
-most_walks l (listings.First syntax) = 2
+most_walks l (listings.First syntax) = listing_walks l
 most_walks l (listings.All lines) =
     listing_walks l + aligned_walks l lines.aligned + trying_walks
 
+-- The steps for each sample and each row, of opening a file and of so many walks over each of its
+-- tracks: 3 for opening it and 3 for each walk, and 8 for a single one, since opening takes 7 for a
+-- row of the tables.
+abbrev pub walked_each : ℕ → ℕ
+walked_each walks = max 8 (3 * (walks + 1))
+
 -- The steps over one of two files that are compared: those of opening it, and of so many walks over
--- each of its tracks. Where it denotes a presentation: 3 for opening it and 3 for each walk, times
--- the samples and rows, however many tracks there are. Where it denotes nothing: by its bytes.
+-- each of its tracks. Where it denotes a presentation: so many (`walked_each`) for each sample and
+-- each row, however many tracks there are. Where it denotes nothing: by its bytes.
 pub record ComparedWithin (walks : ℕ) (file : List ℕ) (old new : ℕ) : Type 0 where
   pub denoted : (p : Presentation) → (d : Denotes file p)
-      → new ≤ old + 3 * (walks + 1) * (sample_total p + row_total d.tree)
+      → new ≤ old + walked_each walks * (sample_total p + row_total d.tree)
   pub refused : DenotesNothing file → OpensWithin file old new
 
 -- the steps of comparing two files

@@ -1,10 +1,8 @@
 use Rattle.std.proofs.Common.{sym, ◌∙◌}
-use Rattle.mp4_present.specs.words.WalkSteps.{walks_steps}
 use Rattle.std.proofs.lemmas.Result.{err_from_is_err_and}
-use Rattle.mp4_answers.specs.format.CompareHeadline.{most_walks}
 use Rattle.mp4_answers.specs.words.TwoFiles.{differ_without}
 use Rattle.mp4_answers.proofs.ComparedTexts.{first_differs}
-use Rattle.mp4_answers.proofs.ComparedFiles.{compared_at_most, few_times_of, first_said, two_or_more}
+use Rattle.mp4_answers.proofs.ComparedFiles.{compared_once, first_said}
 use Rattle.mp4_answers.proofs.commands.compare.text_of.Goals as goal
 
 pub returns-in_err-compare-in-First-clause-opened : goal.returns-in_err-compare-in-First-clause-opened
@@ -13,8 +11,7 @@ returns-in_err-compare-in-First-clause-opened g c =
     rw (p.1, p.2) (λ told right tree other o u.
     let e = c.in_err-compare-in-First.ensures in (
       e.unchanged told right tree other o u,
-      few_times_of _ _ (walks_steps tree) (walks_steps other) 2 (most_walks c.args.files.now.given c.args.listing) (two_or_more c.args.files.now.given c.args.listing)
-          (compared_at_most c.args.files.now.given tree other _ _ (e.work told right tree other o u)),
+      rw c.in-First.is (compared_once c.args.files.now.given tree other _ _ (e.work told right tree other o u)),
     ))
 
 pub returns-in_err-first_text-in-Some-clause-opened : goal.returns-in_err-first_text-in-Some-clause-opened
@@ -22,8 +19,7 @@ returns-in_err-first_text-in-Some-clause-opened g c =
     let p = err_from_is_err_and c.from_residual-in_err-first_text-in-Some.result c.from_residual-in_err-first_text-in-Some.ensures.1 in
     rw (p.1, p.2) (λ told right tree other o u. (
       (λ e. cc),
-      few_times_of _ _ (walks_steps tree) (walks_steps other) 2 (most_walks c.args.files.now.given c.args.listing) (two_or_more c.args.files.now.given c.args.listing)
-          (compared_at_most c.args.files.now.given tree other _ _ (c.in_ok-compare-in-First.ensures.work told right tree other o u)),
+      rw c.in-First.is (compared_once c.args.files.now.given tree other _ _ (c.in_ok-compare-in-First.ensures.work told right tree other o u)),
     ))
 
 pub returns-in-None-clause-said : goal.returns-in-None-clause-said
@@ -36,8 +32,7 @@ returns-in-None-clause-said g c = λ told right tree other o u.
 pub returns-in-None-clause-opened : goal.returns-in-None-clause-opened
 returns-in-None-clause-opened g c = λ told right tree other o u. (
   tt,
-  few_times_of _ _ (walks_steps tree) (walks_steps other) 2 (most_walks c.args.files.now.given c.args.listing) (two_or_more c.args.files.now.given c.args.listing)
-      (compared_at_most c.args.files.now.given tree other _ _ (c.in_ok-compare-in-First.ensures.work told right tree other o u)),
+  rw c.in-First.is (compared_once c.args.files.now.given tree other _ _ (c.in_ok-compare-in-First.ensures.work told right tree other o u)),
 )
 
 pub returns-in_ok-first_text-in-Some-clause-said : goal.returns-in_ok-first_text-in-Some-clause-said
@@ -50,8 +45,7 @@ returns-in_ok-first_text-in-Some-clause-said g c = λ told right tree other o u.
 pub returns-in_ok-first_text-in-Some-clause-opened : goal.returns-in_ok-first_text-in-Some-clause-opened
 returns-in_ok-first_text-in-Some-clause-opened g c = λ told right tree other o u. (
   tt,
-  few_times_of _ _ (walks_steps tree) (walks_steps other) 2 (most_walks c.args.files.now.given c.args.listing) (two_or_more c.args.files.now.given c.args.listing)
-      (compared_at_most c.args.files.now.given tree other _ _ (c.in_ok-compare-in-First.ensures.work told right tree other o u)),
+  rw c.in-First.is (compared_once c.args.files.now.given tree other _ _ (c.in_ok-compare-in-First.ensures.work told right tree other o u)),
 )
 
 -- ---- the first
