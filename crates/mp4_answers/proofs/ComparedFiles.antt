@@ -14,13 +14,14 @@ use Rattle.mp4_content.specs.words.Aligning.{aligning_steps}
 use Rattle.mp4_content.specs.words.Compared.{TakesFront, comparing_steps}
 use Rattle.mp4_content.specs.words.Differing.{RefusesSample}
 use Rattle.mp4_present.specs.words.Movies.{MovieSeen}
-use Rattle.mp4_present.specs.words.OpenedMovie.{IsOpenedAs}
+use Rattle.mp4_present.specs.words.OpenedMovie.{IsOpenedOwn, IsOpenedAs}
 use Rattle.mp4_present.specs.words.WalkSteps.{opening_steps, walks_steps}
 use Rattle.mp4_content.specs.declared.comparing.differences.Difference.{Difference}
 use Rattle.mp4_content.specs.declared.without.Word.{Word}
 use Rattle.mp4_content.specs.declared.without.Without.{Without}
 use Rattle.mp4_content.proofs.ComparisonWhole.{no_difference_is_same}
 use Rattle.mp4_present.proofs.DenotedValid.{denoted_is_valid}
+use Rattle.mp4_present.proofs.ToldTrees.{file_denotes, file_tree_is}
 use Rattle.mp4_answers.specs.format.CompareHeadline.{IsVerdict, ComparedWithin, ComparesWithin, aligned_walks, listing_walks, most_counted, most_walks, trying_walks, walked_each}
 use Rattle.mp4_answers.specs.format.Steps.{WalksWithin, row_total}
 use Rattle.mp4_plan.proofs.Judged.{denoted_judged}
@@ -133,9 +134,9 @@ verdict_of : (l : Without) (p q : Presentation) {A : Type 0} (found : Option A) 
 verdict_of l p q None same is said v w = (λ e. (no_difference_is_same l p q v w).0 said, λ e. is)
 verdict_of l p q (Some text) same is said v w = (λ e. absurd (true_false (sym e ∙ is)), λ e. absurd (said ((no_difference_is_same l p q v w).1 e)))
 
-module _ (file : List ℕ) (m : MovieSeen) (tree : FileTree) (o : IsOpenedAs file m tree) where
+module _ (file : List ℕ) (m : MovieSeen) (tree : FileTree) (o : IsOpenedOwn file m tree) where
   pub denotes_by : Denotes file (presentation_of file tree)
-  denotes_by = record { tree = tree; is_tree = o.is_tree; is_sound = o.is_sound; is_consistent = o.is_consistent; says = refl; limits = o.limits }
+  denotes_by = file_denotes file m tree o
 
   pub judged_by : judge file ≡ Ok (presentation_of file tree)
   judged_by = denoted_judged file (presentation_of file tree) denotes_by
@@ -145,7 +146,7 @@ said_of_both : (file : List ℕ) (tree : FileTree) (file_right : List ℕ) (othe
 unfolding differ_without
 said_of_both file tree file_right other l found said = said
 
-pub verdict : (l : Without) (file other : List ℕ) (m n : MovieSeen) {A : Type 0} (found : Option A) (same : Bool) → same ≡ says_nothing found → (a : (tree : FileTree) × IsOpenedAs file m tree) → (b : (tree : FileTree) × IsOpenedAs other n tree)
+pub verdict : (l : Without) (file other : List ℕ) (m n : MovieSeen) {A : Type 0} (found : Option A) (same : Bool) → same ≡ says_nothing found → (a : (tree : FileTree) × IsOpenedOwn file m tree) → (b : (tree : FileTree) × IsOpenedOwn other n tree)
     → IsSaid found (differ_without file a.0 other b.0 l) → IsVerdict l file other same
 verdict l file other m n found same is a b said = record {
   p = presentation_of file a.0;
@@ -192,22 +193,22 @@ pub first_alone : (l : Without) (listing : Listing) (file other : List ℕ) (old
 first_alone l listing file other old new first = record { between = new; first = looked_alone (most_walks l listing) file old new first; second = none_taken (most_walks l listing) other new }
 
 -- the first file was opened, and so were the second or not
-pub both_looked : (l : Without) (listing : Listing) (file other : List ℕ) (m : MovieSeen) (old mid new : ℕ) → ((tree : FileTree) × IsOpenedAs file m tree) → ((tree : FileTree) → IsFileTree file tree → mid ≤ old + opening_steps tree) → WalksWithin other mid new
+pub both_looked : (l : Without) (listing : Listing) (file other : List ℕ) (m : MovieSeen) (old mid new : ℕ) → ((tree : FileTree) × IsOpenedOwn file m tree) → ((tree : FileTree) → IsFileTree file tree → mid ≤ old + opening_steps tree) → WalksWithin other mid new
     → ComparesWithin l listing file other old new
 both_looked l listing file other m old mid new a opening second = record {
   between = mid;
-  first = looked_alone (most_walks l listing) file old mid (looked_within file old mid m a.0 a.1 (opening a.0 a.1.is_tree));
+  first = looked_alone (most_walks l listing) file old mid (looked_within file old mid m a.0 a.1 (opening a.0 (file_tree_is file m a.0 a.1)));
   second = looked_alone (most_walks l listing) other mid new second;
 }
 
 -- both were opened, and walked over as many times as may be
-pub both_walked : (l : Without) (listing : Listing) (file other : List ℕ) (m n : MovieSeen) (old mid behind new : ℕ) → ((tree : FileTree) × IsOpenedAs file m tree) → ((tree : FileTree) × IsOpenedAs other n tree) → ((tree : FileTree) → IsFileTree file tree → mid ≤ old + opening_steps tree)
+pub both_walked : (l : Without) (listing : Listing) (file other : List ℕ) (m n : MovieSeen) (old mid behind new : ℕ) → ((tree : FileTree) × IsOpenedOwn file m tree) → ((tree : FileTree) × IsOpenedOwn other n tree) → ((tree : FileTree) → IsFileTree file tree → mid ≤ old + opening_steps tree)
     → ((tree : FileTree) → IsFileTree other tree → behind ≤ mid + opening_steps tree) → ((tree next : FileTree) → IsOpenedAs file m tree → IsOpenedAs other n next → WalksTimes (most_walks l listing) tree next behind new) → ComparesWithin l listing file other old new
 both_walked l listing file other m n old mid behind new a b opening next walks =
     let times = most_walks l listing in
     record {
       between = mid + times * walks_steps a.0;
-      first = often_walked file old (mid + times * walks_steps a.0) times m a.0 a.1 (let opened = opening a.0 a.1.is_tree in omega (arith, opened));
+      first = often_walked file old (mid + times * walks_steps a.0) times m a.0 a.1 (let opened = opening a.0 (file_tree_is file m a.0 a.1) in omega (arith, opened));
       second = often_walked other (mid + times * walks_steps a.0) new times n b.0 b.1
-          (let more = walks a.0 b.0 a.1 b.1 in let opened = next b.0 b.1.is_tree in omega (arith, more, opened));
+          (let more = walks a.0 b.0 a.1.opened b.1.opened in let opened = next b.0 (file_tree_is other n b.0 b.1) in omega (arith, more, opened));
     }

@@ -7,7 +7,7 @@ use Rattle.mp4_present.specs.format.Denotes.{FileTree, presentation_of}
 use Rattle.mp4_present.specs.format.Presentation.{Presentation, Valid}
 use Rattle.mp4_content.specs.format.Remaining.{remaining}
 use Rattle.mp4_present.specs.words.Movies.{MovieSeen}
-use Rattle.mp4_present.specs.words.OpenedMovie.{IsOpenedAs}
+use Rattle.mp4_present.specs.words.OpenedMovie.{IsOpenedOwn}
 use Rattle.mp4_content.specs.declared.aligning.Alignment.{Alignment}
 use Rattle.mp4_content.specs.declared.comparing.differences.Difference.{Difference}
 use Rattle.mp4_content.specs.declared.without.Word.{Word}
@@ -147,7 +147,7 @@ tells_of (listings.First syntax) l p q text v w h = h
 tells_of (listings.All lines) l p q text v w h = (h.0, h.1, h.2, enough_of_both l p q v w h.2 h.3, h.4)
 
 pub told_of : {A : Type 0} (bytes : A → List ℕ) (listing : Listing) (l : Without) (file other : List ℕ) (m n : MovieSeen) (found : Option A) (same : Bool) (Took : List ℕ → Type 0) → same ≡ says_nothing found → same ≡ false → PutsFound bytes found Took
-    → (a : (tree : FileTree) × IsOpenedAs file m tree) → (b : (tree : FileTree) × IsOpenedAs other n tree) → IsFoundOf bytes listing l (presentation_of file a.0) (presentation_of other b.0) found → PutsSuch Took (IsTold listing l file other)
+    → (a : (tree : FileTree) × IsOpenedOwn file m tree) → (b : (tree : FileTree) × IsOpenedOwn other n tree) → IsFoundOf bytes listing l (presentation_of file a.0) (presentation_of other b.0) found → PutsSuch Took (IsTold listing l file other)
 told_of bytes listing l file other m n None same Took is differ put a b h = absurd (true_false (sym is ∙ differ))
 told_of bytes listing l file other m n (Some text) same Took is differ put a b h =
     let first = denotes_by file m a.0 a.1 in

@@ -14,7 +14,7 @@ use Rattle.mp4_present.specs.format.Denotes.{FileTree, Denotes, file_parts, plac
 use Rattle.mp4_present.specs.format.Presentation.{Track, Presentation}
 use Rattle.mp4_content.specs.format.Remaining.{remaining}
 use Rattle.mp4_present.specs.words.Movies.{MovieSeen}
-use Rattle.mp4_present.specs.words.OpenedMovie.{IsInfoOf, IsOpenedAs}
+use Rattle.mp4_present.specs.words.OpenedMovie.{IsInfoOf, IsOpenedOwn, IsOpenedAs}
 use Rattle.mp4_present.specs.declared.track_info.TrackInfo.{TrackInfo}
 use Rattle.mp4_content.specs.declared.without.Without.{Without}
 use Rattle.mp4_present.proofs.JudgedTrees.{judged_denotes}
@@ -54,12 +54,12 @@ data_long file id n t i e text h =
     let same : h.0 ≡ t = track_is_one file id h.0 t h.1 i in
     ap length h.2 ∙ ap (λ (x : Track). length (sample_data x)) same ∙ sym e
 
-pub form_long : (file : List ℕ) (m : MovieSeen) (tree : FileTree) (n : ℕ) → IsOpenedAs file m tree → n ≡ length (normal (presentation_of file tree)) → AreLong (HasNormalForm file) n
+pub form_long : (file : List ℕ) (m : MovieSeen) (tree : FileTree) (n : ℕ) → IsOpenedOwn file m tree → n ≡ length (normal (presentation_of file tree)) → AreLong (HasNormalForm file) n
 form_long file m tree n o e text h =
     let same = judged_one file h.0 (presentation_of file tree) h.1 (judged file m tree o) in
     ap length h.2 ∙ ap (λ (p : Presentation). length (normal p)) same ∙ sym e
 
-pub left_long : (l : Without) (file : List ℕ) (m : MovieSeen) (tree : FileTree) (n : ℕ) → IsOpenedAs file m tree → n ≡ length (normal (remaining l (presentation_of file tree))) → AreLong (HasReducedForm l file) n
+pub left_long : (l : Without) (file : List ℕ) (m : MovieSeen) (tree : FileTree) (n : ℕ) → IsOpenedOwn file m tree → n ≡ length (normal (remaining l (presentation_of file tree))) → AreLong (HasReducedForm l file) n
 left_long l file m tree n o e text h =
     let same = judged_one file h.0 (presentation_of file tree) h.1 (judged file m tree o) in
     ap length h.3 ∙ ap (λ (p : Presentation). length (normal (remaining l p))) same ∙ sym e
@@ -75,17 +75,17 @@ counted file tree (x ∷ trees) (y ∷ infos) zero t info h z e f =
     ap (λ (i : TrackInfo). i.bytes) (sym own) ∙ z.0.bytes ∙ sym (data_length file (placed_of (file_parts tree) x) h.0) ∙ ap (λ (v : TrackTree). length (sample_data (track_of file (file_parts tree) v))) same
 counted file tree (x ∷ trees) (y ∷ infos) (suc k) t info h z e f = counted file tree trees infos k t info h.1 z.1 e f
 
-pub data_counted : (file : List ℕ) (m : MovieSeen) (tree : FileTree) (k id : ℕ) (d : TrackInfo) → IsOpenedAs file m tree → k < length m.tracks → IfSome (slice_get m.tracks k) (λ i. i.id ≡ id) → AreLong (HasData file id) (slice_index_or m.tracks k d).bytes
+pub data_counted : (file : List ℕ) (m : MovieSeen) (tree : FileTree) (k id : ℕ) (d : TrackInfo) → IsOpenedOwn file m tree → k < length m.tracks → IfSome (slice_get m.tracks k) (λ i. i.id ≡ id) → AreLong (HasData file id) (slice_index_or m.tracks k d).bytes
 data_counted file m tree k id d o lt e =
     let f = track_found file m tree k id o lt e in
     let info = slice_index_or m.tracks k d in
     data_long file id info.bytes (track_of file (file_parts tree) f.t) f.with_id
-    (counted file tree tree.movie.tracks m.tracks k f.t info (each_lies file m tree o) o.tracks f.is_there (slice_get-get_or m.tracks k d lt))
+    (counted file tree tree.movie.tracks m.tracks k f.t info (each_lies file m tree o) o.opened.tracks f.is_there (slice_get-get_or m.tracks k d lt))
 
 -- ---- of a movie that was opened over an honest store
 
 -- the store and its file as they were before it was opened, and as they are behind that
-module _ (honest honest_then : Bool) (file file_then : List ℕ) (m : MovieSeen) (same_honesty : honest_then ≡ honest) (same_file : file_then ≡ file) (opened : IsTrue honest → (t : FileTree) × IsOpenedAs file m t) where
+module _ (honest honest_then : Bool) (file file_then : List ℕ) (m : MovieSeen) (same_honesty : honest_then ≡ honest) (same_file : file_then ≡ file) (opened : IsTrue honest → (t : FileTree) × IsOpenedOwn file m t) where
   -- what is so of the boxes that were opened
   abbrev Then : Bool → List ℕ → (List ℕ → FileTree → Type 0) → Type 0
   Then told f P = IsTrue told → (t : FileTree) → IsOpenedAs f m t → P f t
@@ -93,7 +93,7 @@ module _ (honest honest_then : Bool) (file file_then : List ℕ) (m : MovieSeen)
   so : (P : List ℕ → FileTree → Type 0) → Then honest_then file_then P → (told : IsTrue honest) → P file (opened told).0
   so P p told =
       let here : Then honest file P = subst (λ b. Then b file P) same_honesty (subst (λ f. Then honest_then f P) same_file p) in
-      here told (opened told).0 (opened told).1
+      here told (opened told).0 (opened told).1.opened
 
   pub form_measured : (answer : Result ℕ Refusal) → Then honest_then file_then (λ f t. IfOk answer (λ n. n ≡ length (normal (presentation_of f t)))) → IfOk answer (λ n. IsTrue honest → AreLong (HasNormalForm file) n)
   form_measured (Ok n) long = λ told. form_long file m (opened told).0 n (opened told).1 (so (λ f t. n ≡ length (normal (presentation_of f t))) long told)

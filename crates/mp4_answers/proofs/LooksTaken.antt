@@ -14,12 +14,13 @@ use Rattle.mp4_present.specs.format.Denotes.{FileTree, IsFileTree, Denotes, pres
 use Rattle.mp4_present.specs.format.Presentation.{Presentation, Track, sample_total}
 use Rattle.mp4_present.specs.declared.track_info.TrackInfo.{TrackInfo}
 use Rattle.mp4_present.specs.words.Movies.{MovieSeen}
-use Rattle.mp4_present.specs.words.OpenedMovie.{IsOpenedAs, IsInfoOf}
+use Rattle.mp4_present.specs.words.OpenedMovie.{IsOpenedOwn, IsInfoOf}
 use Rattle.mp4_present.specs.words.Opening.{RefusesOpen}
 use Rattle.mp4_present.specs.format.ByBytes.{LooksByBytes}
 use Rattle.mp4_present.specs.words.ToOpen.{moof_looks, opening_looks}
 use Rattle.mp4_present.specs.words.WalkSteps.{IfNoFault}
 use Rattle.mp4_present.proofs.One.{file_tree_one}
+use Rattle.mp4_present.proofs.ToldTrees.{file_tree_is}
 use Rattle.mp4_answers.specs.format.Steps.{FindsWithin, TurnsWithin, place_total}
 use Rattle.mp4_plan.specs.format.TurnCount.{most_turns}
 use Rattle.mp4_answers.specs.format.CompareHeadline.{FindsBothWithin}
@@ -88,10 +89,10 @@ module _ (file : List ℕ) (old new : ℕ) where
   not_found honest reads reads_after refusals.NoSuchTrack told refuses said within = opening_only said within
 
   -- a file that is opened
-  pub found_within : (m : MovieSeen) (tree : FileTree) → IsOpenedAs file m tree → new ≤ old + opening_looks tree → FindsWithin file old new
+  pub found_within : (m : MovieSeen) (tree : FileTree) → IsOpenedOwn file m tree → new ≤ old + opening_looks tree → FindsWithin file old new
   found_within m tree o said = record {
     denoted = λ p d.
-        let same = file_tree_one file tree d.tree o.is_tree d.is_tree in
+        let same = file_tree_one file tree d.tree (file_tree_is file m tree o) d.is_tree in
         subst (λ n. new ≤ old + n) (ap opening_looks same ∙ opening_is file p d) said;
     refused = λ nothing. absurd (nothing (presentation_of file tree) (denoted file m tree o));
   }
@@ -104,16 +105,16 @@ module _ (file : List ℕ) (old new : ℕ) where
   }
 
   -- a file that is opened, planned and written
-  pub turned_within : (m : MovieSeen) (tree : FileTree) (behind : ℕ) → IsOpenedAs file m tree → behind ≤ old + opening_looks tree
+  pub turned_within : (m : MovieSeen) (tree : FileTree) (behind : ℕ) → IsOpenedOwn file m tree → behind ≤ old + opening_looks tree
       → new ≤ behind + 2 * most_turns (sum_by (λ (i : TrackInfo). i.samples) m.tracks) (length m.tracks) → TurnsWithin file old new
   turned_within m tree behind o opening turns = record {
     denoted = λ p d.
-        let same = file_tree_one file tree d.tree o.is_tree d.is_tree in
+        let same = file_tree_one file tree d.tree (file_tree_is file m tree o) d.is_tree in
         let finds = ap opening_looks same ∙ opening_is file p d in
         let tracks : length m.tracks ≡ length p.tracks =
-        infos_length file tree tree.movie.tracks m.tracks o.tracks ∙ sym (as_many_tracks file tree) ∙ ap (λ (t : FileTree). length (presentation_of file t).tracks) same ∙ ap (λ (q : Presentation). length q.tracks) (sym d.says) in
+        infos_length file tree tree.movie.tracks m.tracks o.opened.tracks ∙ sym (as_many_tracks file tree) ∙ ap (λ (t : FileTree). length (presentation_of file t).tracks) same ∙ ap (λ (q : Presentation). length q.tracks) (sym d.says) in
         let samples : sum_by (λ (i : TrackInfo). i.samples) m.tracks ≡ sample_total p =
-        infos_total file tree tree.movie.tracks m.tracks o.tracks ∙ ap (λ (t : FileTree). sample_total (presentation_of file t)) same ∙ ap sample_total (sym d.says) in
+        infos_total file tree tree.movie.tracks m.tracks o.opened.tracks ∙ ap (λ (t : FileTree). sample_total (presentation_of file t)) same ∙ ap sample_total (sym d.says) in
         let all = subst (λ k. new ≤ behind + 2 * most_turns (sample_total p) k) tracks (subst (λ s. new ≤ behind + 2 * most_turns s (length m.tracks)) samples turns) in
         let own = subst (λ n. behind ≤ old + n) finds opening in
         omega (arith, own, all);
@@ -121,13 +122,13 @@ module _ (file : List ℕ) (old new : ℕ) where
   }
 
 -- a movie that is written or not
-pub turns_taken : (file : List ℕ) (m : MovieSeen) (old behind new : ℕ) → ((tree : FileTree) × IsOpenedAs file m tree) → ((tree : FileTree) → IsFileTree file tree → behind ≤ old + opening_looks tree)
+pub turns_taken : (file : List ℕ) (m : MovieSeen) (old behind new : ℕ) → ((tree : FileTree) × IsOpenedOwn file m tree) → ((tree : FileTree) → IsFileTree file tree → behind ≤ old + opening_looks tree)
     → new ≤ behind + 2 * most_turns (sum_by (λ (i : TrackInfo). i.samples) m.tracks) (length m.tracks) → TurnsWithin file old new
-turns_taken file m old behind new opened opening turns = turned_within file old new m opened.0 behind opened.1 (opening opened.0 opened.1.is_tree) turns
+turns_taken file m old behind new opened opening turns = turned_within file old new m opened.0 behind opened.1 (opening opened.0 (file_tree_is file m opened.0 opened.1)) turns
 
 -- a file that is opened, whatever comes then
-pub finds_taken : (file : List ℕ) (m : MovieSeen) (old new : ℕ) → ((tree : FileTree) × IsOpenedAs file m tree) → ((tree : FileTree) → IsFileTree file tree → new ≤ old + opening_looks tree) → FindsWithin file old new
-finds_taken file m old new opened opening = found_within file old new m opened.0 opened.1 (opening opened.0 opened.1.is_tree)
+pub finds_taken : (file : List ℕ) (m : MovieSeen) (old new : ℕ) → ((tree : FileTree) × IsOpenedOwn file m tree) → ((tree : FileTree) → IsFileTree file tree → new ≤ old + opening_looks tree) → FindsWithin file old new
+finds_taken file m old new opened opening = found_within file old new m opened.0 opened.1 (opening opened.0 (file_tree_is file m opened.0 opened.1))
 
 -- ---- two files
 

@@ -6,7 +6,7 @@ use Rattle.mp4_boxes.specs.declared.refusal.Refusal.{Refusal}
 use Rattle.mp4_boxes.specs.declared.refusal.Refusal.TheVariants as refusals
 use Rattle.mp4_present.specs.format.Denotes.{FileTree, presentation_of}
 use Rattle.mp4_present.specs.words.Movies.{MovieSeen}
-use Rattle.mp4_present.specs.words.OpenedMovie.{IsOpenedAs}
+use Rattle.mp4_present.specs.words.OpenedMovie.{IsOpenedOwn, IsOpenedAs}
 use Rattle.mp4_present.proofs.WalkCopied.{on_err}
 use Rattle.mp4_plan.specs.format.Normal.{normal}
 use Rattle.mp4_answers.specs.format.AnswerLaws.{run_told, NormalisedSaysBytes}
@@ -16,13 +16,13 @@ use Rattle.mp4_answers.specs.format.Run.{Run, Honest, PutsAll, PutsFront, PutsSo
 use Rattle.mp4_answers.proofs.ShownLines.{judged}
 
 -- the normal form of what was opened is that of its file
-pub normal_form : (file : List ℕ) (m : MovieSeen) (tree : FileTree) → IsOpenedAs file m tree → HasNormalForm file (normal (presentation_of file tree))
+pub normal_form : (file : List ℕ) (m : MovieSeen) (tree : FileTree) → IsOpenedOwn file m tree → HasNormalForm file (normal (presentation_of file tree))
 normal_form file m tree o = (presentation_of file tree, judged file m tree o, refl)
 
 -- ---- what is so of the boxes of a file that was opened, is so of what it denotes
 
 -- the store and its file as they are when the file is opened, in the run, and when it is written
-module _ (r : Run) (honest_then : Bool) (file_then : List ℕ) (m : MovieSeen) (same_honesty : honest_then ≡ r.honest) (same_file : file_then ≡ r.file) (opened : Honest r → (t : FileTree) × IsOpenedAs r.file m t) where
+module _ (r : Run) (honest_then : Bool) (file_then : List ℕ) (m : MovieSeen) (same_honesty : honest_then ≡ r.honest) (same_file : file_then ≡ r.file) (opened : Honest r → (t : FileTree) × IsOpenedOwn r.file m t) where
   -- what is so of the boxes that were opened
   abbrev Then : Bool → List ℕ → (List ℕ → FileTree → Type 0) → Type 0
   Then told f P = IsTrue told → (t : FileTree) → IsOpenedAs f m t → P f t
@@ -30,7 +30,7 @@ module _ (r : Run) (honest_then : Bool) (file_then : List ℕ) (m : MovieSeen) (
   so : (P : List ℕ → FileTree → Type 0) → Then honest_then file_then P → (told : Honest r) → P r.file (opened told).0
   so P p told =
       let here : Then r.honest r.file P = subst (λ b. Then b r.file P) same_honesty (subst (λ f. Then honest_then f P) same_file p) in
-      here told (opened told).0 (opened told).1
+      here told (opened told).0 (opened told).1.opened
 
   form : (told : Honest r) → HasNormalForm r.file (normal (presentation_of r.file (opened told).0))
   form told = normal_form r.file m (opened told).0 (opened told).1

@@ -6,11 +6,9 @@ use Rattle.mp4_store.specs.words.Device.{TakesPrefix}
 use Rattle.mp4_store.proofs.Known.{IsJoining}
 use Rattle.mp4_head.specs.format.Head as heads
 use Rattle.mp4_head.specs.format.Tree.{head_of}
-use Rattle.mp4_head.specs.words.Found.{SaysHead}
 use Rattle.mp4_head.specs.words.Seen.{head_seen, movie_seen, track_seen, tracks_seen}
 use Rattle.mp4_head.specs.declared.heads.MovieHead.{MovieHead}
 use Rattle.mp4_head.specs.declared.heads.TrackHead.{TrackHead}
-use Rattle.mp4_head.proofs.ReadAgain.{said_of}
 use Rattle.mp4_present.specs.format.Denotes.{FileTree, presentation_of}
 use Rattle.mp4_content.specs.format.Remaining.{remaining, remaining_movie}
 use Rattle.mp4_content.specs.words.Divided.{remaining_heads}
@@ -18,8 +16,9 @@ use Rattle.mp4_content.specs.format.Reduced.{number_heads}
 use Rattle.mp4_content.specs.words.Scales.{AreScales}
 use Rattle.mp4_content.specs.declared.scales.Scales.{Scales}
 use Rattle.mp4_present.specs.words.Carried.{BytesGoOn}
-use Rattle.mp4_present.specs.words.Movies.{MovieSeen, moov_box}
-use Rattle.mp4_present.specs.words.OpenedMovie.{IsOpenedAs}
+use Rattle.mp4_present.specs.words.Movies.{MovieSeen}
+use Rattle.mp4_present.specs.words.OpenedMovie.{IsOpenedOwn}
+use Rattle.mp4_present.specs.words.HeadsRead.{SaysMovie}
 use Rattle.mp4_content.specs.declared.without.Without.{Without}
 use Rattle.mp4_answers.specs.format.FileTexts.{PrintsText}
 use Rattle.mp4_answers.specs.format.Text.{front_lines, movie_lines, text, track_text}
@@ -27,6 +26,7 @@ use Rattle.mp4_answers.specs.words.PrintedTracks.{HeadsRemain}
 use Rattle.mp4_answers.proofs.Going.{Going, going_none}
 use Rattle.mp4_answers.proofs.ShownLines.{judged}
 use Rattle.mp4_answers.proofs.TextsGoOn.{text_next, text_fails, texts_not_put, texts_put}
+use Rattle.mp4_present.proofs.ToldTrees.{tree_said}
 
 -- some of the first bytes of the text of the file were put; all of them were
 abbrev pub FrontPrinted : Without → List ℕ → (List ℕ → Type 0) → Type 0
@@ -35,9 +35,9 @@ FrontPrinted l file Took = (bytes : List ℕ) × PrintsText l file bytes × Take
 abbrev pub AllPrinted : Without → List ℕ → (List ℕ → Type 0) → Type 0
 AllPrinted l file Took = (bytes : List ℕ) × PrintsText l file bytes × Took bytes
 
-module _ (l : Without) (file : List ℕ) (m : MovieSeen) (tree : FileTree) (head : MovieHead) (o : IsOpenedAs file m tree) (says : SaysHead (moov_box m) head) (scales : Scales) (are : AreScales l file tree scales) where
+module _ (l : Without) (file : List ℕ) (m : MovieSeen) (tree : FileTree) (head : MovieHead) (o : IsOpenedOwn file m tree) (says : SaysMovie m head) (scales : Scales) (are : AreScales l file tree scales) where
   said : head_seen head ≡ head_of tree.movie
-  said = (said_of (moov_box m) head tree.movie says (sym o.moov) o.is_tree.movie).0
+  said = (tree_said file m tree head o.opened says).says
 
   -- those of the tracks remain
   pub heads_remain : (known : List TrackHead) → map track_seen known ≡ number_heads l 1 (remaining_heads l scales.movie scales.tracks.items (tracks_seen head)) → HeadsRemain l file tree scales known

@@ -10,7 +10,7 @@ use Rattle.mp4_present.specs.format.Presentation.{Presentation, Track, IsInTime}
 use Rattle.mp4_content.specs.format.Reduced.{HasNearOffsets}
 use Rattle.mp4_content.specs.format.Remaining.{RemainsInLimits, movie_divisor, remaining, remaining_movie, remaining_track}
 use Rattle.mp4_present.specs.words.Movies.{MovieSeen}
-use Rattle.mp4_present.specs.words.OpenedMovie.{IsOpenedAs}
+use Rattle.mp4_present.specs.words.OpenedMovie.{IsOpenedOwn, IsOpenedAs}
 use Rattle.mp4_content.specs.declared.without.Without.{Without}
 use Rattle.mp4_present.proofs.WalkCopied.{on_err}
 use Rattle.mp4_plan.specs.format.Normal.{normal}
@@ -26,7 +26,7 @@ use Rattle.mp4_answers.specs.format.Run.{Run, Honest, PutsNothing, PutsAll, Puts
 use Rattle.mp4_answers.proofs.ShownLines.{judged}
 
 -- the normal form of what remains of what was opened is one of its file
-reduced_form : (l : Without) (file : List ℕ) (m : MovieSeen) (tree : FileTree) → IsOpenedAs file m tree → RemainsInLimits l (presentation_of file tree) → HasReducedForm l file (normal (remaining l (presentation_of file tree)))
+reduced_form : (l : Without) (file : List ℕ) (m : MovieSeen) (tree : FileTree) → IsOpenedOwn file m tree → RemainsInLimits l (presentation_of file tree) → HasReducedForm l file (normal (remaining l (presentation_of file tree)))
 reduced_form l file m tree o in_time = (presentation_of file tree, judged file m tree o, in_time, refl)
 
 -- what remains is within the limits, or it is not
@@ -81,7 +81,7 @@ module _ (A : Type 0) (l : Without) (r : Run) where
   write_answers (Ok x) reads puts text w p b u t = ((reads, puts), text)
   write_answers (Err e) reads puts text w p b u t = write_fails e w p b u t
 
-too_long : (l : Without) (file : List ℕ) (m : MovieSeen) (tree : FileTree) → IsOpenedAs file m tree → (r : Refusal) → NamesLong l file tree r → TooLong l file r
+too_long : (l : Without) (file : List ℕ) (m : MovieSeen) (tree : FileTree) → IsOpenedOwn file m tree → (r : Refusal) → NamesLong l file tree r → TooLong l file r
 too_long l file m tree o (refusals.Fault f) n = opened_stands l file m tree f o n.0
 too_long l file m tree o refusals.Memory n = tt
 too_long l file m tree o refusals.StoreFailed n = tt
@@ -89,14 +89,14 @@ too_long l file m tree o refusals.StoreChanged n = tt
 too_long l file m tree o refusals.WriteFailed n = tt
 too_long l file m tree o refusals.NoSuchTrack n = tt
 
-if_too_long : (l : Without) (file : List ℕ) (m : MovieSeen) (tree : FileTree) → IsOpenedAs file m tree → {T : Type 0} (answer : Result T Refusal) → IfErr answer (NamesLong l file tree) → IfErr answer (TooLong l file)
+if_too_long : (l : Without) (file : List ℕ) (m : MovieSeen) (tree : FileTree) → IsOpenedOwn file m tree → {T : Type 0} (answer : Result T Refusal) → IfErr answer (NamesLong l file tree) → IfErr answer (TooLong l file)
 if_too_long l file m tree o (Ok x) n = tt
 if_too_long l file m tree o (Err r) n = too_long l file m tree o r n
 
 -- ---- what is so of the boxes of a file that was opened, is so of what it denotes
 
 -- the store and its file as they are when the file is opened, in the run, and when it is written
-module _ (l : Without) (r : Run) (honest_then : Bool) (file_then : List ℕ) (m : MovieSeen) (same_honesty : honest_then ≡ r.honest) (same_file : file_then ≡ r.file) (opened : Honest r → (t : FileTree) × IsOpenedAs r.file m t) where
+module _ (l : Without) (r : Run) (honest_then : Bool) (file_then : List ℕ) (m : MovieSeen) (same_honesty : honest_then ≡ r.honest) (same_file : file_then ≡ r.file) (opened : Honest r → (t : FileTree) × IsOpenedOwn r.file m t) where
   -- what is so of the boxes that were opened
   abbrev Then : Bool → List ℕ → (List ℕ → FileTree → Type 0) → Type 0
   Then told f P = IsTrue told → (t : FileTree) → IsOpenedAs f m t → P f t
@@ -104,7 +104,7 @@ module _ (l : Without) (r : Run) (honest_then : Bool) (file_then : List ℕ) (m 
   so : (P : List ℕ → FileTree → Type 0) → Then honest_then file_then P → (told : Honest r) → P r.file (opened told).0
   so P p told =
       let here : Then r.honest r.file P = subst (λ b. Then b r.file P) same_honesty (subst (λ f. Then honest_then f P) same_file p) in
-      here told (opened told).0 (opened told).1
+      here told (opened told).0 (opened told).1.opened
 
   -- the normal form of what is left
   abbrev left : List ℕ → FileTree → List ℕ

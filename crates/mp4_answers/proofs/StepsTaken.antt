@@ -7,11 +7,12 @@ use Rattle.mp4_boxes.specs.declared.refusal.Refusal.TheVariants as refusals
 use Rattle.mp4_present.specs.format.Denotes.{FileTree, IsFileTree, presentation_of}
 use Rattle.mp4_present.specs.format.Presentation.{sample_total}
 use Rattle.mp4_present.specs.words.Movies.{MovieSeen}
-use Rattle.mp4_present.specs.words.OpenedMovie.{IsOpenedAs}
+use Rattle.mp4_present.specs.words.OpenedMovie.{IsOpenedOwn, IsOpenedAs}
 use Rattle.mp4_present.specs.words.Opening.{RefusesOpen}
 use Rattle.mp4_present.specs.format.ByBytes.{OpensWithin}
 use Rattle.mp4_present.specs.words.WalkSteps.{IfNoFault, opening_steps, walk_steps, walks_steps}
 use Rattle.mp4_present.proofs.One.{file_tree_one}
+use Rattle.mp4_present.proofs.ToldTrees.{file_tree_is}
 use Rattle.mp4_answers.specs.format.Steps.{StepsByTracks, WorksWithin, WalksWithin, PrintsWithin, row_total, steps_each}
 use Rattle.mp4_answers.specs.format.CompareHeadline.{ComparedWithin}
 use Rattle.mp4_answers.proofs.RunParts.{denotes_nothing}
@@ -73,11 +74,11 @@ module _ (file : List ℕ) (old new : ℕ) where
       }
 
   -- a file that is opened, planned and written
-  pub opened_within : (l : Without) (m : MovieSeen) (tree : FileTree) (behind : ℕ) → IsOpenedAs file m tree → behind ≤ old + opening_steps tree → new ≤ behind + (measuring_steps l tree + walks_steps tree + writing_steps tree) → WorksWithin l file old new
+  pub opened_within : (l : Without) (m : MovieSeen) (tree : FileTree) (behind : ℕ) → IsOpenedOwn file m tree → behind ≤ old + opening_steps tree → new ≤ behind + (measuring_steps l tree + walks_steps tree + writing_steps tree) → WorksWithin l file old new
   opened_within l m tree behind o opening walks =
       record {
         few = λ p d.
-            let same = file_tree_one file tree d.tree o.is_tree d.is_tree in
+            let same = file_tree_one file tree d.tree (file_tree_is file m tree o) d.is_tree in
             let own = subst (λ (t : FileTree). new ≤ old + (opening_steps t + (measuring_steps l t + walks_steps t + writing_steps t))) same (omega (arith, opening, walks)) in
             let all = subst (λ k. opening_steps d.tree + (measuring_steps l d.tree + walks_steps d.tree + writing_steps d.tree) ≤ k * (sample_total p + row_total d.tree)) (each_is l) (all_within l.timescales (measures l) file p d) in
             omega (arith, own, all);
@@ -85,10 +86,10 @@ module _ (file : List ℕ) (old new : ℕ) where
       }
 
   -- a file that is opened, and of which no track is walked over
-  pub looked_within : (m : MovieSeen) (tree : FileTree) → IsOpenedAs file m tree → new ≤ old + opening_steps tree → WalksWithin file old new
+  pub looked_within : (m : MovieSeen) (tree : FileTree) → IsOpenedOwn file m tree → new ≤ old + opening_steps tree → WalksWithin file old new
   looked_within m tree o opening = record {
     denoted = λ p d.
-        let same = file_tree_one file tree d.tree o.is_tree d.is_tree in
+        let same = file_tree_one file tree d.tree (file_tree_is file m tree o) d.is_tree in
         let own = subst (λ (t : FileTree). new ≤ old + opening_steps t) same opening in
         let all = opened_looks file p d in
         omega (arith, own, all);
@@ -96,10 +97,10 @@ module _ (file : List ℕ) (old new : ℕ) where
   }
 
   -- a file that is opened, and of which one track is walked over once
-  pub walked_within : (m : MovieSeen) (tree : FileTree) (behind k : ℕ) (t : TrackTree) → IsOpenedAs file m tree → behind ≤ old + opening_steps tree → slice_get tree.movie.tracks k ≡ Some t → new ≤ behind + walk_steps tree t → WalksWithin file old new
+  pub walked_within : (m : MovieSeen) (tree : FileTree) (behind k : ℕ) (t : TrackTree) → IsOpenedOwn file m tree → behind ≤ old + opening_steps tree → slice_get tree.movie.tracks k ≡ Some t → new ≤ behind + walk_steps tree t → WalksWithin file old new
   walked_within m tree behind k t o opening is walk = record {
     denoted = λ p d.
-        let same = file_tree_one file tree d.tree o.is_tree d.is_tree in
+        let same = file_tree_one file tree d.tree (file_tree_is file m tree o) d.is_tree in
         let own = subst (λ (u : FileTree). new ≤ old + (opening_steps u + walk_steps u t)) same (omega (arith, opening, walk)) in
         let all = walked_looks file p d k t (subst (λ (u : FileTree). slice_get u.movie.tracks k ≡ Some t) same is) in
         omega (arith, own, all);
@@ -107,10 +108,10 @@ module _ (file : List ℕ) (old new : ℕ) where
   }
 
   -- a file that is opened, and of which each track is walked over at most as many times as may be
-  pub often_walked : (times : ℕ) (m : MovieSeen) (tree : FileTree) → IsOpenedAs file m tree → new ≤ old + (opening_steps tree + times * walks_steps tree) → ComparedWithin times file old new
+  pub often_walked : (times : ℕ) (m : MovieSeen) (tree : FileTree) → IsOpenedOwn file m tree → new ≤ old + (opening_steps tree + times * walks_steps tree) → ComparedWithin times file old new
   often_walked times m tree o walks = record {
     denoted = λ p d.
-        let same = file_tree_one file tree d.tree o.is_tree d.is_tree in
+        let same = file_tree_one file tree d.tree (file_tree_is file m tree o) d.is_tree in
         let own = subst (λ (u : FileTree). new ≤ old + (opening_steps u + times * walks_steps u)) same walks in
         let all = each_looks times file p d in
         omega (arith, own, all);
@@ -131,10 +132,10 @@ looked_prints l file old new h = record {
 }
 
 -- it is opened, what its times are divided by is found, and each track is walked over
-pub printed_within : (l : Without) (file : List ℕ) (m : MovieSeen) (tree : FileTree) (old behind mid new : ℕ) → IsOpenedAs file m tree → behind ≤ old + opening_steps tree → mid ≤ behind + scaling_steps l tree → new ≤ mid + walks_steps tree → PrintsWithin l file old new
+pub printed_within : (l : Without) (file : List ℕ) (m : MovieSeen) (tree : FileTree) (old behind mid new : ℕ) → IsOpenedOwn file m tree → behind ≤ old + opening_steps tree → mid ≤ behind + scaling_steps l tree → new ≤ mid + walks_steps tree → PrintsWithin l file old new
 printed_within l file m tree old behind mid new o opening scaled walks = record {
   denoted = λ p d.
-      let same = file_tree_one file tree d.tree o.is_tree d.is_tree in
+      let same = file_tree_one file tree d.tree (file_tree_is file m tree o) d.is_tree in
       let own = subst (λ (u : FileTree). new ≤ old + (opening_steps u + (scaling_steps l u + walks_steps u))) same (omega (arith, opening, scaled, walks)) in
       let all = print_looks l.timescales file p d in
       omega (arith, own, all);
@@ -142,9 +143,9 @@ printed_within l file m tree old behind mid new o opening scaled walks = record 
 }
 
 -- a movie that is written or not
-pub written_within : (l : Without) (file : List ℕ) (m : MovieSeen) (old behind new : ℕ) → ((tree : FileTree) × IsOpenedAs file m tree) → ((tree : FileTree) → IsFileTree file tree → behind ≤ old + opening_steps tree)
+pub written_within : (l : Without) (file : List ℕ) (m : MovieSeen) (old behind new : ℕ) → ((tree : FileTree) × IsOpenedOwn file m tree) → ((tree : FileTree) → IsFileTree file tree → behind ≤ old + opening_steps tree)
     → ((tree : FileTree) → IsOpenedAs file m tree → new ≤ behind + (measuring_steps l tree + walks_steps tree + writing_steps tree)) → WorksWithin l file old new
-written_within l file m old behind new opened opening write = opened_within file old new l m opened.0 behind opened.1 (opening opened.0 opened.1.is_tree) (write opened.0 opened.1)
+written_within l file m old behind new opened opening write = opened_within file old new l m opened.0 behind opened.1 (opening opened.0 (file_tree_is file m opened.0 opened.1)) (write opened.0 opened.1.opened)
 
 -- ---- by the tracks
 

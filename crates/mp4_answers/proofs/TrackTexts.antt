@@ -11,7 +11,7 @@ use Rattle.mp4_present.specs.words.SamplesComing.{track_samples}
 use Rattle.mp4_present.specs.format.Denotes.{FileTree, file_parts, placed_of, sample_of, track_of, presentation_of}
 use Rattle.mp4_present.specs.words.Joined.{sample_bytes}
 use Rattle.mp4_present.specs.words.Movies.{MovieSeen}
-use Rattle.mp4_present.specs.words.OpenedMovie.{IsInfoOf, IsOpenedAs}
+use Rattle.mp4_present.specs.words.OpenedMovie.{IsInfoOf, IsOpenedOwn}
 use Rattle.mp4_present.specs.format.Presentation.{Track}
 use Rattle.mp4_present.specs.declared.track_info.TrackInfo.{TrackInfo}
 use Rattle.mp4_tables.proofs.SampleLists.{timed_length}
@@ -46,16 +46,16 @@ pub record IsFound (file : List ℕ) (tree : FileTree) (k id : ℕ) : Type 0 whe
   pub lies : LieInFile file tree t
   pub few : length (track_samples tree t) < 2 ^ 32
 
-pub track_found : (file : List ℕ) (m : MovieSeen) (tree : FileTree) (k id : ℕ) → IsOpenedAs file m tree → k < length m.tracks → IfSome (slice_get m.tracks k) (λ i. i.id ≡ id) → IsFound file tree k id
+pub track_found : (file : List ℕ) (m : MovieSeen) (tree : FileTree) (k id : ℕ) → IsOpenedOwn file m tree → k < length m.tracks → IfSome (slice_get m.tracks k) (λ i. i.id ≡ id) → IsFound file tree k id
 track_found file m tree k id o lt e =
-    let r = got_track file tree tree.movie.tracks m.tracks k id o.tracks lt e in
+    let r = got_track file tree tree.movie.tracks m.tracks k id o.opened.tracks lt e in
     let there = get_map (track_of file (file_parts tree)) tree.movie.tracks k r.0 r.1 in
     record {
       t = r.0;
       is_there = r.1;
       with_id = record { p = presentation_of file tree; judged = judged file m tree o; place = k; is_there = there; id_is = r.2 };
       lies = get_every (LieInFile file tree) tree.movie.tracks k r.0 r.1 (each_lies file m tree o);
-      few = below _ _ _ _ (few_at (presentation_of file tree).tracks k (track_of file (file_parts tree) r.0) there) o.limits.samples (length-map (placed_of (file_parts tree) r.0) (sample_of file)) (timed_length _ _ _ (placed_of (file_parts tree) r.0));
+      few = below _ _ _ _ (few_at (presentation_of file tree).tracks k (track_of file (file_parts tree) r.0) there) o.opened.limits.samples (length-map (placed_of (file_parts tree) r.0) (sample_of file)) (timed_length _ _ _ (placed_of (file_parts tree) r.0));
     }
   where
     below : (samples all placed n : ℕ) → samples ≤ all → all ≤ 2 ^ 24 → samples ≡ placed → n ≡ placed → n < 2 ^ 32
@@ -70,8 +70,8 @@ ids_are file tree (t ∷ trees) [] z = absurd z
 ids_are file tree (t ∷ trees) (x ∷ infos) z = λ j. z.0.id j ∷ ids_are file tree trees infos z.1 j
 
 -- no track has the ID
-pub lacks : (file : List ℕ) (m : MovieSeen) (tree : FileTree) (id : ℕ) → IsOpenedAs file m tree → AreOthers id (map (λ (i : TrackInfo). i.id) m.tracks) → LacksTrack file id
-lacks file m tree id o h = (presentation_of file tree, judged file m tree o, subst (AreOthers id) (ids_are file tree tree.movie.tracks m.tracks o.tracks) h)
+pub lacks : (file : List ℕ) (m : MovieSeen) (tree : FileTree) (id : ℕ) → IsOpenedOwn file m tree → AreOthers id (map (λ (i : TrackInfo). i.id) m.tracks) → LacksTrack file id
+lacks file m tree id o h = (presentation_of file tree, judged file m tree o, subst (AreOthers id) (ids_are file tree tree.movie.tracks m.tracks o.opened.tracks) h)
 
 -- ---- its texts
 

@@ -13,12 +13,13 @@ use Rattle.mp4_boxes.specs.declared.fault.Kind.TheVariants.{OffsetTooLarge, Time
 use Rattle.mp4_boxes.proofs.Refusing.{holds_only}
 use Rattle.mp4_boxes.proofs.Sound.{same_kind}
 use Rattle.mp4_head.specs.format.Head as heads
-use Rattle.mp4_head.specs.format.Tree.{TrackTree, IsTrackTree, first_of}
+use Rattle.mp4_head.specs.format.Tree.{TrackTree, first_of}
 use Rattle.mp4_head.specs.words.Seen.{track_seen}
 use Rattle.mp4_head.specs.declared.heads.TrackHead.{TrackHead}
 use Rattle.mp4_head.proofs.Inside.{first_is}
 use Rattle.mp4_present.specs.format.Denotes.{FileTree}
 use Rattle.mp4_present.specs.format.Presentation.{Track, max_time, says_all, total_duration, track_length}
+use Rattle.mp4_present.specs.words.OpenedMovie.{HoldsTrack}
 use Rattle.mp4_content.specs.format.Reduced.{HasNearOffsets, start_left}
 use Rattle.mp4_content.specs.format.Timescales.{divided}
 use Rattle.mp4_content.specs.declared.without.Without.{Without}
@@ -85,7 +86,7 @@ module _ (l : Without) (file : List ℕ) (tree : FileTree) where
     pub edits : (track_seen h).edits ≡ (left t).head.edits
     pub media : (track_seen h).media.timescale ≡ (left t).head.media.timescale
     pub place : h.offset ≡ (first_of (codes "tkhd") t.track).offset
-    pub is_tree : IsTrackTree t
+    pub is_tree : HoldsTrack t
     pub timescale : 0 < (left t).head.media.timescale
     pub start : divided own (start_left l info.start) ≡ (left t).start
     pub long : total.duration ≡ min (lasts t) (2 ^ 64 - 1)
@@ -149,7 +150,7 @@ module _ (l : Without) (file : List ℕ) (tree : FileTree) where
 
     named : (kind : Kind) → fault_of kind (first_of (codes "tkhd") t.track) ≡ record { kind = kind; box_type = codes "tkhd"; offset = h.offset }
     named kind =
-        let first = first_is (codes "tkhd") t.track (holds_only g.is_tree.track (codes "tkhd") refl) in
+        let first = first_is (codes "tkhd") t.track (holds_only g.is_tree (codes "tkhd") refl) in
         let same = same_kind (codes "tkhd") (first_of (codes "tkhd") t.track).kind first.1 in
         λ i. record { kind = kind; box_type = same i; offset = sym g.place i }
 

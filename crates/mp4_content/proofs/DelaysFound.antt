@@ -1,12 +1,15 @@
 -- How many microseconds a track begins later is found by whole seconds, and parts of one apart from them.
-use Rattle.std.proofs.Common.{◌≡◌, ⊎_elim, ℕ, ◌+◌, ◌-◌, ◌*◌, ◌/◌, ◌%◌, ◌<◌, ◌≤◌, ◌^◌, min, sym, ap, ◌∙◌, arith, mul-pos, mul_comm, mod-lt, pos, ◌+ℤ◌, ◌-ℤ◌, ◌*ℤ◌}
+use Rattle.std.proofs.Common.{◌≡◌, ◌⊎◌, ⊎_elim, Bool, true, false, refl, ℕ, ◌+◌, ◌-◌, ◌*◌, ◌/◌, ◌%◌, ◌<◌, ◌≤◌, ◌^◌, min, sym, ap, ◌∙◌, arith, mul-pos, mul_comm, mod-lt, pos, ◌+ℤ◌, ◌-ℤ◌, ◌*ℤ◌}
+use Rattle.std.specs.Prelude.{int_lt, nat_lt}
 use Rattle.std.proofs.lemmas.Int.{ints}
 use Rattle.std.proofs.Math.Nat.{div-add-mod', div-le_of_le-mul, add-mul-div_right, mul-le-mul_right, mul-sub, zero-div, sub-eq-zero_of_le}
 use borrow.Author.Differences.{up, down}
-use Rattle.mp4_content.specs.format.LeadIns.{microseconds, max_duration, later}
-use Rattle.mp4_content.specs.words.Delays.{moment_of}
+use Rattle.mp4_boxes.proofs.Plain.{nat_lt_is, nat_lt_yes, not_true_is}
+use Rattle.mp4_present.specs.format.Waiting.{microseconds}
+use Rattle.mp4_content.specs.format.LeadIns.{Moment, max_duration, later}
+use Rattle.mp4_content.specs.words.Delays.{is_before, moment_of}
 use Rattle.mp4_content.specs.declared.delays.Beginning.{Beginning}
-use Rattle.mp4_content.proofs.LeadInsMoments.{ahead, later_is, same_quotient, minus_many, divided_less, either}
+use Rattle.mp4_content.proofs.LeadInsMoments.{parts, ahead, later_is, same_quotient, minus_many, divided_less, either}
 
 -- ---- three numbers of ticks
 
@@ -130,3 +133,99 @@ later_found s x y some more third k e f d g all after before f_less g_less =
     ∙ ap (min max_duration) (whole_and_part e f d g c microseconds t above adds)
     ∙ (λ i. min max_duration ((after i - before i) * microseconds / c))
     ∙ sym (later_over s x y some more third)
+
+-- ---- which is first
+
+lt_no : (a b : ℕ) → b ≤ a → nat_lt a b ≡ false
+lt_no a b h = not_true_is (nat_lt a b) (λ e. let lt = nat_lt_is a b e in omega (arith, lt, h))
+
+-- by so many whole ones, and less than one
+whole_less : (x y k p q : ℕ) → p < k → q < k → x < y → x * k + p < y * k + q
+whole_less x y k p q h l less = let more : (x + 1) * k ≤ y * k = mul-le-mul_right k (omega (arith, less)) in omega (arith, more, h, l)
+
+by_whole : (x y k p q : ℕ) → p < k → q < k → (x ≡ y → ⊥) → nat_lt x y ≡ nat_lt (x * k + p) (y * k + q)
+by_whole x y k p q h l other =
+    ⊎_elim
+    (λ less. let small : x < y = ⊎_elim (λ (lt : x < y). lt) (λ same. absurd (other same)) (strictly x y less) in nat_lt_yes x y small ∙ sym (nat_lt_yes _ _ (whole_less x y k p q h l small)))
+    (λ more. let large : y < x = ⊎_elim (λ (lt : y < x). lt) (λ same. absurd (other (sym same))) (strictly y x more) in let least = whole_less y x k q p l h large in lt_no x y more ∙ sym (lt_no _ _ (omega (arith, least))))
+    (either x y)
+  where
+    strictly : (m n : ℕ) → m ≤ n → (m < n) ⊎ (m ≡ n)
+    strictly m n le = grind arith
+
+by_part : (x k p q : ℕ) → nat_lt p q ≡ nat_lt (x * k + p) (x * k + q)
+by_part x k p q =
+    ⊎_elim
+    (λ (less : p + 1 ≤ q). nat_lt_yes p q (omega (arith, less)) ∙ sym (nat_lt_yes _ _ (omega (arith, less))))
+    (λ (more : q ≤ p). lt_no p q more ∙ sym (lt_no _ _ (omega (arith, more))))
+    (less_or p q)
+  where
+    less_or : (m n : ℕ) → (m + 1 ≤ n) ⊎ (n ≤ m)
+    less_or m n = grind arith
+
+split : (e f k : ℕ) → (e + f / k) * k + f % k ≡ e * k + f
+split e f k = let parted = div-add-mod' f k in omega (arith, parted)
+
+pub wholes_differ : (e f d g k : ℕ) → 0 < k → (e + f / k ≡ d + g / k → ⊥) → nat_lt (e + f / k) (d + g / k) ≡ nat_lt (e * k + f) (d * k + g)
+wholes_differ e f d g k some other = by_whole (e + f / k) (d + g / k) k (f % k) (g % k) (mod-lt f some) (mod-lt g some) other ∙ (λ i. nat_lt (split e f k i) (split d g k i))
+
+pub wholes_are_same : (e f d g k : ℕ) → e + f / k ≡ d + g / k → nat_lt (f % k) (g % k) ≡ nat_lt (e * k + f) (d * k + g)
+wholes_are_same e f d g k same =
+    by_part (e + f / k) k (f % k) (g % k)
+    ∙ (λ i. nat_lt (split e f k i) (same i * k + g % k))
+    ∙ ap (λ n. nat_lt (e * k + f) n) (split d g k)
+
+crossed_less : (p q a b e f : ℕ) → 0 < e → 0 < f → p * e + b * f ≡ a * f + q * e → nat_lt b a ≡ nat_lt q p
+crossed_less p q a b e f some more h =
+    ⊎_elim
+    (λ (less : q + 1 ≤ p).
+    let one : (q + 1) * e ≤ p * e = mul-le-mul_right e less in
+    let fewer : b < a = ⊎_elim (λ (le : a ≤ b). let two : a * f ≤ b * f = mul-le-mul_right f le in absurd (omega (arith, one, two, h, some))) (λ (lt : b + 1 ≤ a). omega (arith, lt)) (le_or a b) in
+    nat_lt_yes b a fewer ∙ sym (nat_lt_yes q p (omega (arith, less))))
+    (λ (most : p ≤ q).
+    let one : p * e ≤ q * e = mul-le-mul_right e most in
+    let least : a ≤ b = ⊎_elim (λ (le : a ≤ b). le) (λ (lt : b + 1 ≤ a). let two : (b + 1) * f ≤ a * f = mul-le-mul_right f lt in absurd (omega (arith, one, two, h, more))) (le_or a b) in
+    lt_no b a least ∙ sym (lt_no q p most))
+    (lt_or q p)
+  where
+    le_or : (m n : ℕ) → (m ≤ n) ⊎ (n + 1 ≤ m)
+    le_or m n = grind arith
+
+    lt_or : (m n : ℕ) → (m + 1 ≤ n) ⊎ (n ≤ m)
+    lt_or m n = grind arith
+
+is_before_ahead : (x y : Moment) → is_before x y ≡ nat_lt (ahead x y) (ahead y x)
+is_before_ahead x y = by (is_before x y) refl
+  where
+    by : (t : Bool) → is_before x y ≡ t → is_before x y ≡ nat_lt (ahead x y) (ahead y x)
+    by true h =
+        let a = parts x.ticks y.scale in
+        let b = parts y.ticks x.scale in
+        let e : int_lt (x.ticks *ℤ pos y.scale) (y.ticks *ℤ pos x.scale) ≡ true = h in
+        h ∙ sym (nat_lt_yes (ahead x y) (ahead y x) (omega (arith, ints, a, b, e)))
+    by false h =
+        let a = parts x.ticks y.scale in
+        let b = parts y.ticks x.scale in
+        let e : int_lt (x.ticks *ℤ pos y.scale) (y.ticks *ℤ pos x.scale) ≡ false = h in
+        h ∙ sym (lt_no (ahead x y) (ahead y x) (omega (arith, ints, a, b, e)))
+
+-- whether the second begins before the first, over the product of all timescales
+before_over : (s : ℕ) (x y : Beginning) → 0 < s → 0 < x.timescale → 0 < y.timescale
+    → nat_lt (y.waits * (x.timescale * y.timescale) + x.earlier * (s * y.timescale) + y.later * (s * x.timescale)) (x.waits * (x.timescale * y.timescale) + x.later * (s * y.timescale) + y.earlier * (s * x.timescale)) ≡ is_before (moment_of s y) (moment_of s x)
+before_over s x y some more third =
+    let r = x.timescale in
+    let q = y.timescale in
+    let u = moment_of s x in
+    let v = moment_of s y in
+    let a = x.waits * (r * q) + x.later * (s * q) + y.earlier * (s * r) in
+    let b = y.waits * (r * q) + x.earlier * (s * q) + y.later * (s * r) in
+    crossed_less (ahead u v) (ahead v u) a b (s * (r * q)) (u.scale * v.scale) (mul-pos some (mul-pos more third)) (mul-pos (mul-pos some more) (mul-pos some third))
+    (both_ahead (up u.ticks) (down u.ticks) (up v.ticks) (down v.ticks) s r q x.waits x.later x.earlier y.waits y.later y.earlier (ticks_are x.waits r x.later x.earlier s) (ticks_are y.waits q y.later y.earlier s))
+    ∙ sym (is_before_ahead v u)
+
+pub before_found : (s : ℕ) (x y : Beginning) → 0 < s → 0 < x.timescale → 0 < y.timescale → (k e f d g : ℕ) → k ≡ s * (x.timescale * y.timescale)
+    → e * (s * (x.timescale * y.timescale)) + f ≡ x.waits * (x.timescale * y.timescale) + x.later * (s * y.timescale) + y.earlier * (s * x.timescale)
+    → d * (s * (x.timescale * y.timescale)) + g ≡ y.waits * (x.timescale * y.timescale) + x.earlier * (s * y.timescale) + y.later * (s * x.timescale)
+    → nat_lt (d * k + g) (e * k + f) ≡ is_before (moment_of s y) (moment_of s x)
+before_found s x y some more third k e f d g all after before =
+    (λ i. nat_lt (d * all i + g) (e * all i + f)) ∙ (λ i. nat_lt (before i) (after i)) ∙ before_over s x y some more third

@@ -1,29 +1,33 @@
 -- How tracks begin is left out of times in lowest terms as it is of the times before them.
-use Rattle.std.proofs.Common.{◌≡◌, ℕ, zero, suc, ◌+◌, ◌*◌, ◌/◌, ◌<◌, ◌==◌, min, Bool, true, false, if◌then◌else◌, List, [], ◌∷◌, ◌++◌, length, map, refl, sym, ap, subst, ◌∙◌, arith, mul-pos, mul_comm, mul-add, ℤ, pos, negsuc, neg_ℤ, unsigned_abs, ◌+ℤ◌, ◌-ℤ◌, ◌*ℤ◌}
-use Rattle.std.specs.Prelude.{◌&&◌, ◌||◌}
+use Rattle.std.proofs.Common.{◌≡◌, ℕ, zero, suc, ◌+◌, ◌*◌, ◌/◌, ◌<◌, ◌==◌, Bool, true, false, if◌then◌else◌, List, [], ◌∷◌, ◌++◌, length, map, refl, sym, ap, subst, ◌∙◌, arith, mul-pos, mul_comm, mul-add, ℤ, pos, negsuc, neg_ℤ, unsigned_abs, ◌+ℤ◌, ◌-ℤ◌, ◌*ℤ◌}
+use Rattle.std.specs.Prelude.{not, ◌&&◌, ◌||◌}
 use Rattle.std.specs.Int.{◌∣◌}
 use Rattle.std.specs.List.{AllByRecursion, AllZip, list_any}
 use Rattle.std.proofs.lemmas.Int.{ints}
 use Rattle.std.proofs.lemmas.Nat.Gcd.{dvd-zero}
-use Rattle.std.proofs.Math.Nat.{zero-div, div-one, mul-div_cancel', mul-div-mul_left}
+use Rattle.std.proofs.Math.Nat.{zero-div, div-one, mul-div_cancel'}
 use borrow.Author.Differences.{up, down, same_in}
 use Rattle.mp4_boxes.proofs.Among.{all_append}
 use Rattle.mp4_boxes.proofs.Joined.{all_first, all_last}
-use Rattle.mp4_boxes.proofs.Plain.{false_true, and_is_true, length_mapped, or_true}
+use Rattle.mp4_boxes.proofs.Plain.{false_true, not_is_true, not_is_false, and_is_true, or_is_false, or_true}
 use Rattle.mp4_head.specs.format.Head.{Edit, MovieHead}
 use Rattle.mp4_present.specs.format.Presentation.{Sample, Track, Presentation}
+use Rattle.mp4_present.specs.format.Waiting.{waiting, waiting_movie, waiting_track, waiting_tracks}
 use Rattle.mp4_content.specs.format.Reduced.{first_offset, reduce_track, number_track, number_tracks, reduce}
+use Rattle.mp4_content.specs.format.ReducedLaws.{both}
 use Rattle.mp4_content.specs.declared.without.Without.{Without}
-use Rattle.mp4_content.specs.format.Timescales.{counted_timescale, counted_duration, sample_times, counted_media_time, track_times, segment_times, movie_times, sized, timescale_by, sample_by, samples_by, media_time_by, edit_by, track_by, divided, divisor_of, lowest_track, lowest}
-use Rattle.mp4_content.specs.format.LeadIns.{marks_empty, is_empty, is_number, is_from_0, is_plain, is_last, is_lead_in, waits, shown_from, has_samples, is_simple, first_shown, first_moments, microseconds, max_duration, Moment, delay, waiting, offset_less, begin_after, edit_in_microseconds, in_microseconds, wait_track}
-use Rattle.mp4_content.specs.format.LeadInsLaws.{BeginsLater}
-use Rattle.mp4_content.proofs.TimescalesDivisors.{Divides, divisor_divides, divides_minus, minus_divided, back_again}
+use Rattle.mp4_content.specs.format.Timescales.{counted_timescale, sample_times, counted_media_time, track_times, segment_times, movie_times, sized, timescale_by, samples_by, media_time_by, edit_by, track_by, divided, divisor_of, lowest_track, lowest}
+use Rattle.mp4_content.specs.format.TimescalesLaws.{only_origins}
+use Rattle.mp4_content.specs.format.LeadIns.{marks_empty, is_empty, is_number, is_from_0, is_plain, is_last, is_lead_in, waits, shown_from, some_sample, has_samples, begins_simply, says_more, says_beginnings, Moment, first_shown, first_moments, delay, wait_of, told, waited}
+use Rattle.mp4_content.specs.format.LeadInsLaws.{HasTimescales, BeginsLater}
+use Rattle.mp4_content.proofs.TimescalesDivisors.{Divides, divisor_divides, back_again}
 use Rattle.mp4_content.proofs.TimescalesChanged.{media_times, lasting, lowest_of_divided}
-use Rattle.mp4_content.proofs.TimescalesReduced.{track_between, track_divides}
+use Rattle.mp4_content.proofs.TimescalesReduced.{track_between, track_divides, lowest_between}
 use Rattle.mp4_content.proofs.TimescalesLengths.{some_divided}
 use Rattle.mp4_content.proofs.LeadInsMoments.{parts}
 use Rattle.mp4_content.proofs.LeadInsSteps.{one_step}
-use Rattle.mp4_content.proofs.LeadInsTracks.{HasTimescale, moments_have_scales, last_same, lead_in_same, waiting_if, wait_of_simple, wait_of_other, moments_of_simple, moments_of_other}
+use Rattle.mp4_content.proofs.LeadInsTracks.{HasTimescale, moments_have_scales, waiting_if, any_same, wait_of_some, wait_of_none, moments_of_some, moments_of_none, waiting_each, where_told, where_more}
+use Rattle.mp4_content.proofs.LeadInsTold.{begun_scaled}
 
 -- ---- numbers
 
@@ -62,18 +66,6 @@ same_moment a g n s start scale first shown =
     let both : up x + a * g * down u ≡ down x + a * g * up u = omega (arith, c_many, u_many, x_is) in
     subst (λ z. BeginsLater (pos 0) 1 (record { ticks = x; scale = z }) (record { ticks = u; scale = scale * s })) (omega arith) (as_late (a * g) (scale * s) x u both)
 
-above_0 : (a n k : ℕ) → 0 < a * k → a * k ≡ n → 0 < a
-above_0 zero n k some e = omega (arith, some)
-above_0 (suc a) n k some e = omega arith
-
-quotient : (a n k : ℕ) → 0 < k → a ∣ n → a ∣ k → divided a n * microseconds / divided a k ≡ n * microseconds / k
-quotient a n k above p q =
-    let k_is : a * (k / a) ≡ k = mul-div_cancel' a q in
-    let n_is : a * (n / a) ≡ n = mul-div_cancel' a p in
-    let some : 0 < a = above_0 a k (k / a) (omega (arith, k_is, above)) k_is in
-    let many : a * (n / a * microseconds) ≡ n * microseconds = omega (arith, n_is) in
-    sym (mul-div-mul_left (n / a * microseconds) (k / a) some) ∙ (λ i. many i / k_is i)
-
 -- ---- edits
 
 marks_stay : (f : ℕ → ℕ) (z : ℤ) → marks_empty (media_time_by f z) ≡ marks_empty z
@@ -86,11 +78,20 @@ from_0_stays f (pos n) = refl
 from_0_stays f (negsuc n) = refl
 
 module _ (a f : ℕ → ℕ) where
-  pub empty_stays : (e : Edit) → is_empty (edit_by a f e) ≡ is_empty e
+  empty_stays : (e : Edit) → is_empty (edit_by a f e) ≡ is_empty e
   empty_stays e = marks_stay f e.media_time
 
-  pub plain_stays : (e : Edit) → is_plain (edit_by a f e) ≡ is_plain e
+  plain_stays : (e : Edit) → is_plain (edit_by a f e) ≡ is_plain e
   plain_stays e = λ i. from_0_stays f e.media_time i && is_number 1 e.rate_integer && is_number 0 e.rate_fraction
+
+module _ (f : Edit → Edit) (empty : (e : Edit) → is_empty (f e) ≡ is_empty e) (plain : (e : Edit) → is_plain (f e) ≡ is_plain e) where
+  last_same : (edits : List Edit) → is_last (map f edits) ≡ is_last edits
+  last_same [] = refl
+  last_same (e ∷ edits) = refl
+
+  lead_in_same : (edits : List Edit) → is_lead_in (map f edits) ≡ is_lead_in edits
+  lead_in_same [] = refl
+  lead_in_same (e ∷ edits) = λ i. if empty e i then lead_in_same edits i else plain e i && last_same edits i
 
 waits_divided : (a : ℕ) (f : ℕ → ℕ) (edits : List Edit) → Divides a (lasting edits) → waits edits ≡ a * waits (map (edit_by (divided a) f) edits)
 waits_divided a f [] h = omega arith
@@ -112,7 +113,7 @@ time_many : (g : ℕ) (z : ℤ) → is_from_0 z ≡ true → g ∣ unsigned_abs 
 time_many g (pos n) e h = ap pos (sym (mul-div_cancel' g h) ∙ mul_comm g (n / g))
 time_many g (negsuc n) e h = absurd (false_true e)
 
--- the media time of the edits of a simple track
+-- the media time of edits that say no more than when a track begins
 shown_divided : (a : ℕ → ℕ) (g : ℕ) (edits : List Edit) → (is_last edits || is_lead_in edits) ≡ true → Divides g (media_times edits) → shown_from edits ≡ shown_from (map (edit_by a (divided g)) edits) *ℤ pos g
 shown_divided a g [] e h = ap pos (omega arith)
 shown_divided a g (x ∷ edits) e h = by (is_empty x) refl (shown_divided a g edits)
@@ -152,7 +153,7 @@ module _ (words : Without) where
   first_divided g count [] = ap pos (sym (zero-div g))
   first_divided g count (s ∷ samples) = refl
 
-  some_stay : (g count n : ℕ) (samples : List Sample) → has_samples (samples_by m (divided g) count n samples) ≡ has_samples samples
+  some_stay : (g count n : ℕ) (samples : List Sample) → some_sample (samples_by m (divided g) count n samples) ≡ some_sample samples
   some_stay g count n [] = refl
   some_stay g count n (s ∷ samples) = refl
 
@@ -160,15 +161,18 @@ module _ (words : Without) where
     abbrev after : Track → Track
     after t = track_by m (divided a) (divided g) t
 
-    as_simple : (t : Track) → is_simple (after t) ≡ is_simple t
-    as_simple t =
+    has_after : (t : Track) → has_samples (after t) ≡ has_samples t
+    has_after t = some_stay g (length t.samples) 0 t.samples
+
+    says_after : (t : Track) → says_more (after t) ≡ says_more t
+    says_after t =
         let f = edit_by (divided a) (divided g) in
         let empty = empty_stays (divided a) (divided g) in
         let plain = plain_stays (divided a) (divided g) in
-        λ i. some_stay g (length t.samples) 0 t.samples i && (last_same f empty plain t.head.edits i || lead_in_same f empty plain t.head.edits i)
+        λ i. has_after t i && not (last_same f empty plain t.head.edits i || lead_in_same f empty plain t.head.edits i)
 
-    begins_then : (scale : ℕ) (t : Track) → is_simple t ≡ true → a ∣ scale → Divides a (lasting t.head.edits) → Divides g (track_times m t) → BeginsLater (pos 0) 1 (first_shown scale t) (first_shown (divided a scale) (after t))
-    begins_then scale t simple whole lasts all =
+    begins_then : (scale : ℕ) (t : Track) → begins_simply t ≡ true → a ∣ scale → Divides a (lasting t.head.edits) → Divides g (track_times m t) → BeginsLater (pos 0) 1 (first_shown scale t) (first_shown (divided a scale) (after t))
+    begins_then scale t simply whole lasts all =
         let edits = media_times t.head.edits in
         let of_edits = all_first (λ (time : ℤ). g ∣ unsigned_abs time) edits (times_of t) all.1.1 in
         let of_samples = all_last (λ (time : ℤ). g ∣ unsigned_abs time) edits (times_of t) all.1.1 in
@@ -178,7 +182,7 @@ module _ (words : Without) where
         let start = sym (mul-div_cancel' g all.1.0) in
         let movie = sym (mul-div_cancel' a whole) in
         let first = many_times g (first_offset t.samples) (first_divides g (length t.samples) t.samples of_samples) ∙ ap (λ z. z *ℤ pos g) (sym (first_divided g (length t.samples) t.samples)) in
-        let shown = shown_divided (divided a) g t.head.edits (and_is_true (has_samples t.samples) (is_last t.head.edits || is_lead_in t.head.edits) simple).1 of_edits in
+        let shown = shown_divided (divided a) g t.head.edits simply of_edits in
         let is : first_shown scale t ≡ record {
           ticks = pos (a * waits u.head.edits * (g * u.head.media.timescale)) +ℤ ((pos (g * u.start) +ℤ first_offset u.samples *ℤ pos g) -ℤ shown_from u.head.edits *ℤ pos g) *ℤ pos (a * divided a scale);
           scale = a * divided a scale * (g * u.head.media.timescale);
@@ -186,7 +190,7 @@ module _ (words : Without) where
         subst (λ (x : Moment). BeginsLater (pos 0) 1 x (first_shown (divided a scale) (after t))) (sym is)
         (same_moment a g (waits u.head.edits) u.head.media.timescale u.start (divided a scale) (first_offset u.samples) (shown_from u.head.edits))
 
-    -- ---- what is left of it
+    -- ---- edits that say how long it waits
 
     edits_said : (wait : ℕ) → waiting wait ≡ map (edit_by (λ n. n) (divided g)) (waiting wait)
     edits_said wait = by (wait == 0)
@@ -195,33 +199,8 @@ module _ (words : Without) where
         by true = refl
         by false = λ i. record { segment_duration = wait; media_time = negsuc 0; rate_integer = pos 1; rate_fraction = pos 0 } ∷ record { segment_duration = 0; media_time = pos (sym (zero-div g) i); rate_integer = pos 1; rate_fraction = pos 0 } ∷ []
 
-    offsets_said : (first : ℤ) (count n : ℕ) (samples : List Sample) → g ∣ unsigned_abs first → Divides g (sample_times m count n samples) → map (offset_less (sized (divided g) first)) (samples_by m (divided g) count n samples) ≡ samples_by m (divided g) count n (map (offset_less first) samples)
-    offsets_said first count n [] k h = refl
-    offsets_said first count n (s ∷ samples) k h = λ i. record (sample_by m (divided g) count n s) { offset = minus_divided g s.offset first h.1.0 k i } ∷ offsets_said first count (suc n) samples k h.1.1 i
-
-    begun_said : (wait : ℕ) (t : Track) → Divides g (track_times m t) → begin_after wait (after t) ≡ track_by m (λ n. n) (divided g) (begin_after wait t)
-    begun_said wait t all =
-        let of_samples = all_last (λ (time : ℤ). g ∣ unsigned_abs time) (media_times t.head.edits) (times_of t) all.1.1 in
-        let count = length t.samples in
-        let first = first_offset t.samples in
-        let same =
-        (λ i. map (offset_less (first_divided g count t.samples i)) (samples_by m (divided g) count 0 t.samples))
-        ∙ offsets_said first count 0 t.samples (first_divides g count t.samples of_samples) of_samples
-        ∙ (λ i. samples_by m (divided g) (sym (length_mapped (offset_less first) t.samples) i) 0 (map (offset_less first) t.samples)) in
-        λ i. record (after t) { head = record (after t).head { edits = edits_said wait i }; start = sym (zero-div g) i; samples = same i }
-
-    other_edits : (scale : ℕ) → 0 < scale → a ∣ scale → (edits : List Edit) → Divides a (lasting edits) → map (edit_in_microseconds (divided a scale)) (map (edit_by (divided a) (divided g)) edits) ≡ map (edit_by (λ n. n) (divided g)) (map (edit_in_microseconds scale) edits)
-    other_edits scale some whole [] h = refl
-    other_edits scale some whole (e ∷ edits) h = λ i. record (edit_by (divided a) (divided g) e) { segment_duration = min max_duration (quotient a e.segment_duration scale some h.0 whole i) } ∷ other_edits scale some whole edits h.1 i
-
-    other_said : (scale : ℕ) → 0 < scale → a ∣ scale → (t : Track) → Divides a (lasting t.head.edits) → in_microseconds (divided a scale) (after t) ≡ track_by m (λ n. n) (divided g) (in_microseconds scale t)
-    other_said scale some whole t h = λ i. record (after t) { head = record (after t).head { edits = other_edits scale some whole t.head.edits h i } }
-
-    -- ---- lowest terms of it
-
-    as_long : (count k : ℕ) (first : ℤ) (n : ℕ) (samples : List Sample) → count ≡ k → g ∣ unsigned_abs first → Divides g (sample_times m k n samples) → Divides g (sample_times m count n (map (offset_less first) samples))
-    as_long count k first n [] e p h = tt
-    as_long count k first n (s ∷ samples) e p h = (subst (λ c. g ∣ counted_duration m c n s.duration) (sym e) h.0, (divides_minus g s.offset first h.1.0 p, as_long count k first (suc n) samples e p h.1.1))
+    waiting_said : (wait : ℕ) (t : Track) → waiting_track wait (after t) ≡ track_by m (λ n. n) (divided g) (waiting_track wait t)
+    waiting_said wait t = λ i. record (after t) { head = record (after t).head { edits = edits_said wait i } }
 
     said_divides : (wait : ℕ) → Divides g (media_times (waiting wait))
     said_divides wait = by (wait == 0)
@@ -230,69 +209,34 @@ module _ (words : Without) where
         by true = tt
         by false = (dvd-zero g, (dvd-zero g, tt))
 
-    begun_divides : (wait : ℕ) (t : Track) → Divides g (track_times m t) → Divides g (track_times m (begin_after wait t))
-    begun_divides wait t all =
-        let of_samples = all_last (λ (time : ℤ). g ∣ unsigned_abs time) (media_times t.head.edits) (times_of t) all.1.1 in
-        let first = first_offset t.samples in
-        let count = length t.samples in
-        let u = begin_after wait t in (
-          all.0,
-          (
-            dvd-zero g,
-            all_append (λ (time : ℤ). g ∣ unsigned_abs time) (media_times (waiting wait)) (times_of u) (said_divides wait)
-                (as_long (length u.samples) count first 0 t.samples (length_mapped (offset_less first) t.samples) (first_divides g count t.samples of_samples) of_samples),
-          ),
-        )
-
-    same_times : (scale : ℕ) (edits : List Edit) → media_times (map (edit_in_microseconds scale) edits) ≡ media_times edits
-    same_times scale [] = refl
-    same_times scale (e ∷ edits) = ap (λ times. counted_media_time e.media_time ∷ times) (same_times scale edits)
-
-    other_divides : (scale : ℕ) (t : Track) → Divides g (track_times m t) → Divides g (track_times m (in_microseconds scale t))
-    other_divides scale t all = (all.0, (all.1.0, subst (λ edits. Divides g (edits ++ times_of t)) (sym (same_times scale t.head.edits)) all.1.1))
-
-    wait_divides : (scale : ℕ) (wait : Moment → ℕ) (t : Track) → Divides g (track_times m t) → Divides g (track_times m (wait_track scale wait t))
-    wait_divides scale wait t all = by (is_simple t) refl
-      where
-        by : (b : Bool) → is_simple t ≡ b → Divides g (track_times m (wait_track scale wait t))
-        by true e = subst (λ (u : Track). Divides g (track_times m u)) (sym (wait_of_simple scale wait t e)) (begun_divides (wait (first_shown scale t)) t all)
-        by false e = subst (λ (u : Track). Divides g (track_times m u)) (sym (wait_of_other scale wait t e)) (other_divides scale t all)
-
-    wait_said : (scale : ℕ) (wait again : Moment → ℕ) → 0 < scale → a ∣ scale → (t : Track) → Divides a (lasting t.head.edits) → Divides g (track_times m t) → (is_simple t ≡ true → again (first_shown (divided a scale) (after t)) ≡ wait (first_shown scale t))
-        → wait_track (divided a scale) again (after t) ≡ track_by m (λ n. n) (divided g) (wait_track scale wait t)
-    wait_said scale wait again some whole t lasts all same = by (is_simple t) refl
-      where
-        by : (b : Bool) → is_simple t ≡ b → wait_track (divided a scale) again (after t) ≡ track_by m (λ n. n) (divided g) (wait_track scale wait t)
-        by true e =
-            wait_of_simple (divided a scale) again (after t) (as_simple t ∙ e)
-            ∙ ap (λ n. begin_after n (after t)) (same e)
-            ∙ begun_said (wait (first_shown scale t)) t all
-            ∙ ap (track_by m (λ n. n) (divided g)) (sym (wait_of_simple scale wait t e))
-        by false e =
-            wait_of_other (divided a scale) again (after t) (as_simple t ∙ e)
-            ∙ other_said scale some whole t lasts
-            ∙ ap (track_by m (λ n. n) (divided g)) (sym (wait_of_other scale wait t e))
+    waiting_divides : (wait : ℕ) (t : Track) → Divides g (track_times m t) → Divides g (track_times m (waiting_track wait t))
+    waiting_divides wait t all =
+        let divides = λ (time : ℤ). g ∣ unsigned_abs time in
+        let of_samples = all_last divides (media_times t.head.edits) (times_of t) all.1.1 in
+        (all.0, (all.1.0, all_append divides (media_times (waiting wait)) (times_of t) (said_divides wait) of_samples))
 
 -- ---- a movie
+
+-- what edits don't say more they say simply
+simply : (t : Track) → says_more t ≡ false → has_samples t ≡ true → begins_simply t ≡ true
+simply t e has = not_is_false (begins_simply t) (sym (ap (λ b. b && not (begins_simply t)) has) ∙ e)
 
 module _ (words : Without) (scale a : ℕ) (some : 0 < scale) (whole : a ∣ scale) where
   -- each by the divisor of its own times
   abbrev lowest_one : Track → Track
   lowest_one t = lowest_track (m words) a t
 
-  -- the same of a track that waits, but how long its edits last
-  abbrev pub parted : (Moment → ℕ) → Track → Track
-  parted wait t = track_by (m words) (λ n. n) (divided (divisor_of (track_times (m words) t))) (wait_track scale wait t)
+  abbrev own : Track → ℕ
+  own t = divisor_of (track_times (m words) t)
 
-  one_simple : (t : Track) → is_simple (lowest_one t) ≡ is_simple t
-  one_simple t = as_simple words a (divisor_of (track_times (m words) t)) t
+  one_has : (t : Track) → has_samples (lowest_one t) ≡ has_samples t
+  one_has t = has_after words a (own t) t
 
-  pub all_simple : (tracks : List Track) → list_any is_simple (map lowest_one tracks) ≡ list_any is_simple tracks
-  all_simple [] = refl
-  all_simple (t ∷ tracks) = λ i. one_simple t i || all_simple tracks i
+  one_says : (t : Track) → says_more (lowest_one t) ≡ says_more t
+  one_says t = says_after words a (own t) t
 
-  one_begins : (t : Track) → is_simple t ≡ true → Divides a (lasting t.head.edits) → BeginsLater (pos 0) 1 (first_shown scale t) (first_shown (divided a scale) (lowest_one t))
-  one_begins t e h = begins_then words a (divisor_of (track_times (m words) t)) scale t e whole h (divisor_divides (track_times (m words) t))
+  lowest_says : (tracks : List Track) → (list_any has_samples (map lowest_one tracks) && not (list_any says_more (map lowest_one tracks))) ≡ (list_any has_samples tracks && not (list_any says_more tracks))
+  lowest_says tracks = λ i. any_same has_samples lowest_one one_has tracks i && not (any_same says_more lowest_one one_says tracks i)
 
   abbrev AllLast : List Track → Type 0
   AllLast tracks = Divides a (segment_times tracks)
@@ -303,29 +247,37 @@ module _ (words : Without) (scale a : ℕ) (some : 0 < scale) (whole : a ∣ sca
   others_last : (t : Track) (tracks : List Track) → AllLast (t ∷ tracks) → AllLast tracks
   others_last t tracks h = all_last (λ (time : ℤ). a ∣ unsigned_abs time) (lasting t.head.edits) (segment_times tracks) h
 
-  all_begin : (tracks : List Track) → AllLast tracks → AllZip (BeginsLater (pos 0) 1) (first_moments scale tracks) (first_moments (divided a scale) (map lowest_one tracks))
-  all_begin [] h = tt
-  all_begin (t ∷ tracks) h = by (is_simple t) refl (all_begin tracks (others_last t tracks h))
+  one_begins : (t : Track) → says_more t ≡ false → has_samples t ≡ true → Divides a (lasting t.head.edits) → BeginsLater (pos 0) 1 (first_shown scale t) (first_shown (divided a scale) (lowest_one t))
+  one_begins t none e h = begins_then words a (own t) scale t (simply t none e) whole h (divisor_divides (track_times (m words) t))
+
+  all_begin : (tracks : List Track) → list_any says_more tracks ≡ false → AllLast tracks → AllZip (BeginsLater (pos 0) 1) (first_moments scale tracks) (first_moments (divided a scale) (map lowest_one tracks))
+  all_begin [] none h = tt
+  all_begin (t ∷ tracks) none h = by (has_samples t) refl (all_begin tracks (or_is_false (says_more t) (list_any says_more tracks) none).1 (others_last t tracks h))
     where
       both : (xs us vs ws : List Moment) → xs ≡ us → vs ≡ ws → AllZip (BeginsLater (pos 0) 1) us ws → AllZip (BeginsLater (pos 0) 1) xs vs
       both xs us vs ws e k all = subst (λ (ys : List Moment). AllZip (BeginsLater (pos 0) 1) xs ys) (sym k) (subst (λ (ys : List Moment). AllZip (BeginsLater (pos 0) 1) ys ws) (sym e) all)
 
-      by : (b : Bool) → is_simple t ≡ b → AllZip (BeginsLater (pos 0) 1) (first_moments scale tracks) (first_moments (divided a scale) (map lowest_one tracks)) → AllZip (BeginsLater (pos 0) 1) (first_moments scale (t ∷ tracks)) (first_moments (divided a scale) (map lowest_one (t ∷ tracks)))
+      by : (b : Bool) → has_samples t ≡ b → AllZip (BeginsLater (pos 0) 1) (first_moments scale tracks) (first_moments (divided a scale) (map lowest_one tracks)) → AllZip (BeginsLater (pos 0) 1) (first_moments scale (t ∷ tracks)) (first_moments (divided a scale) (map lowest_one (t ∷ tracks)))
       by true e rest =
           both (first_moments scale (t ∷ tracks)) (first_shown scale t ∷ first_moments scale tracks) (first_moments (divided a scale) (map lowest_one (t ∷ tracks))) (first_shown (divided a scale) (lowest_one t) ∷ first_moments (divided a scale) (map lowest_one tracks))
-          (moments_of_simple scale t tracks e) (moments_of_simple (divided a scale) (lowest_one t) (map lowest_one tracks) (one_simple t ∙ e)) (one_begins t e (first_last t tracks h), rest)
+          (moments_of_some scale t tracks e) (moments_of_some (divided a scale) (lowest_one t) (map lowest_one tracks) (one_has t ∙ e))
+          (one_begins t (or_is_false (says_more t) (list_any says_more tracks) none).0 e (first_last t tracks h), rest)
       by false e rest =
           both (first_moments scale (t ∷ tracks)) (first_moments scale tracks) (first_moments (divided a scale) (map lowest_one (t ∷ tracks))) (first_moments (divided a scale) (map lowest_one tracks))
-          (moments_of_other scale t tracks e) (moments_of_other (divided a scale) (lowest_one t) (map lowest_one tracks) (one_simple t ∙ e)) rest
+          (moments_of_none scale t tracks e) (moments_of_none (divided a scale) (lowest_one t) (map lowest_one tracks) (one_has t ∙ e)) rest
 
-  one_has : (t : Track) → HasTimescale t → HasTimescale (lowest_one t)
-  one_has t h = some_divided (divisor_of (track_times (m words) t)) t.head.media.timescale h (divisor_divides (track_times (m words) t)).0
+  one_scale : (t : Track) → HasTimescale t → HasTimescale (lowest_one t)
+  one_scale t h = some_divided (own t) t.head.media.timescale h (divisor_divides (track_times (m words) t)).0
 
-  all_have : (tracks : List Track) → AllByRecursion HasTimescale tracks → AllByRecursion HasTimescale (map lowest_one tracks)
-  all_have [] h = tt
-  all_have (t ∷ tracks) h = (one_has t h.0, all_have tracks h.1)
+  all_scales : (tracks : List Track) → AllByRecursion HasTimescale tracks → AllByRecursion HasTimescale (map lowest_one tracks)
+  all_scales [] h = tt
+  all_scales (t ∷ tracks) h = (one_scale t h.0, all_scales tracks h.1)
 
-  module _ (all : List Track) (h : AllByRecursion HasTimescale all) (k : AllLast all) where
+  -- a track that waits, but how long its edits last
+  abbrev parted : (Moment → ℕ) → Track → Track
+  parted wait t = track_by (m words) (λ n. n) (divided (own t)) (waiting_track (wait_of scale wait t) t)
+
+  module _ (all : List Track) (h : AllByRecursion HasTimescale all) (none : list_any says_more all ≡ false) (k : AllLast all) where
     abbrev wait : Moment → ℕ
     wait = delay (first_moments scale all)
 
@@ -335,16 +287,24 @@ module _ (words : Without) (scale a : ℕ) (some : 0 < scale) (whole : a ∣ sca
     less : 0 < divided a scale
     less = some_divided a scale some whole
 
-    same_wait : (t : Track) → HasTimescale t → Divides a (lasting t.head.edits) → is_simple t ≡ true → again (first_shown (divided a scale) (lowest_one t)) ≡ wait (first_shown scale t)
-    same_wait t above lasts e =
-        sym (one_step (pos 0) 1 (omega arith) (first_shown scale t) (first_shown (divided a scale) (lowest_one t)) (mul-pos some above) (mul-pos less (one_has t above)) (one_begins t e lasts)
-        (first_moments scale all) (first_moments (divided a scale) (map lowest_one all)) (moments_have_scales scale some all h) (moments_have_scales (divided a scale) less (map lowest_one all) (all_have all h)) (all_begin all k))
+    same_wait : (t : Track) → HasTimescale t → says_more t ≡ false → Divides a (lasting t.head.edits) → wait_of (divided a scale) again (lowest_one t) ≡ wait_of scale wait t
+    same_wait t above simple lasts = by (has_samples t) refl
+      where
+        by : (b : Bool) → has_samples t ≡ b → wait_of (divided a scale) again (lowest_one t) ≡ wait_of scale wait t
+        by true e =
+            wait_of_some (divided a scale) again (lowest_one t) (one_has t ∙ e)
+            ∙ sym (one_step (pos 0) 1 (omega arith) (first_shown scale t) (first_shown (divided a scale) (lowest_one t)) (mul-pos some above) (mul-pos less (one_scale t above)) (one_begins t simple e lasts)
+            (first_moments scale all) (first_moments (divided a scale) (map lowest_one all)) (moments_have_scales scale some all h) (moments_have_scales (divided a scale) less (map lowest_one all) (all_scales all h)) (all_begin all none k))
+            ∙ sym (wait_of_some scale wait t e)
+        by false e = wait_of_none (divided a scale) again (lowest_one t) (one_has t ∙ e) ∙ sym (wait_of_none scale wait t e)
 
-    pub all_parted : (tracks : List Track) → AllByRecursion HasTimescale tracks → AllLast tracks → map (wait_track (divided a scale) again) (map lowest_one tracks) ≡ map (parted wait) tracks
-    all_parted [] above lasts = refl
-    all_parted (t ∷ tracks) above lasts =
-        let one = wait_said words a (divisor_of (track_times (m words) t)) scale wait again some whole t (first_last t tracks lasts) (divisor_divides (track_times (m words) t)) (same_wait t above.0 (first_last t tracks lasts)) in
-        λ i. one i ∷ all_parted tracks above.1 (others_last t tracks lasts) i
+    all_parted : (tracks : List Track) → AllByRecursion HasTimescale tracks → list_any says_more tracks ≡ false → AllLast tracks
+        → waiting_tracks (map (wait_of (divided a scale) again) (map lowest_one tracks)) (map lowest_one tracks) ≡ map (parted wait) tracks
+    all_parted [] above simple lasts = refl
+    all_parted (t ∷ tracks) above simple lasts =
+        let simply = or_is_false (says_more t) (list_any says_more tracks) simple in
+        let one = (λ i. waiting_track (same_wait t above.0 simply.0 (first_last t tracks lasts) i) (lowest_one t)) ∙ waiting_said words a (own t) (wait_of scale wait t) t in
+        λ i. one i ∷ all_parted tracks above.1 simply.1 (others_last t tracks lasts) i
 
 -- ---- in lowest terms again
 
@@ -376,22 +336,63 @@ module _ (words l : Without) (ends : words.ends ≡ true → l.ends ≡ true) wh
     abbrev part : Track → Track
     part = parted words scale a some whole wait
 
-    segments_stay : (place : ℕ) (tracks : List Track) → segment_times (number_tracks l place (map (reduce_track l) (map part tracks))) ≡ segment_times (number_tracks l place (map (reduce_track l) (map (wait_track scale wait) tracks)))
-    segments_stay place [] = refl
-    segments_stay place (t ∷ tracks) = λ i. lasting_left (divided (divisor_of (track_times (m words) t))) (wait_track scale wait t).head.edits i ++ segments_stay (suc place) tracks i
+    -- a track that waits
+    abbrev told_one : Track → Track
+    told_one t = waiting_track (wait_of scale wait t) t
 
-    tracks_stay : (b place : ℕ) (tracks : List Track) → map (lowest_track l b) (number_tracks l place (map (reduce_track l) (map part tracks))) ≡ map (lowest_track l b) (number_tracks l place (map (reduce_track l) (map (wait_track scale wait) tracks)))
+    segments_stay : (place : ℕ) (tracks : List Track) → segment_times (number_tracks l place (map (reduce_track l) (map part tracks))) ≡ segment_times (number_tracks l place (map (reduce_track l) (map told_one tracks)))
+    segments_stay place [] = refl
+    segments_stay place (t ∷ tracks) = λ i. lasting_left (divided (divisor_of (track_times (m words) t))) (told_one t).head.edits i ++ segments_stay (suc place) tracks i
+
+    tracks_stay : (b place : ℕ) (tracks : List Track) → map (lowest_track l b) (number_tracks l place (map (reduce_track l) (map part tracks))) ≡ map (lowest_track l b) (number_tracks l place (map (reduce_track l) (map told_one tracks)))
     tracks_stay b place [] = refl
     tracks_stay b place (t ∷ tracks) =
         let g = divisor_of (track_times (m words) t) in
-        let one = lowest_parted b place g (wait_track scale wait t) (wait_divides words a g scale wait t (divisor_divides (track_times (m words) t))) in
+        let one = lowest_parted b place g (told_one t) (waiting_divides words a g (wait_of scale wait t) t (divisor_divides (track_times (m words) t))) in
         λ i. one i ∷ tracks_stay b (suc place) tracks i
 
-    pub whole_stays : (movie : MovieHead) (tracks : List Track) → lowest l (reduce l (record { movie = movie; tracks = map part tracks })) ≡ lowest l (reduce l (record { movie = movie; tracks = map (wait_track scale wait) tracks }))
+    whole_stays : (movie : MovieHead) (tracks : List Track) → lowest l (reduce l (record { movie = movie; tracks = map part tracks })) ≡ lowest l (reduce l (record { movie = movie; tracks = map told_one tracks }))
     whole_stays movie tracks =
         let p : Presentation = record { movie = movie; tracks = map part tracks } in
         let r = reduce l p in
-        let q = reduce l (record { movie = movie; tracks = map (wait_track scale wait) tracks }) in
+        let q = reduce l (record { movie = movie; tracks = map told_one tracks }) in
         let times : movie_times l r ≡ movie_times l q = ap (λ ts. pos (counted_timescale l r.movie.timescale) ∷ ts) (segments_stay 1 tracks) in
         (λ i. record { movie = record r.movie { timescale = timescale_by l (divided (divisor_of (times i))) r.movie.timescale }; tracks = map (lowest_track l (divisor_of (times i))) r.tracks })
         ∙ (λ i. record { movie = record r.movie { timescale = timescale_by l (divided (divisor_of (movie_times l q))) r.movie.timescale }; tracks = tracks_stay (divisor_of (movie_times l q)) 1 tracks i })
+
+  -- ---- of edits that say how long tracks wait
+
+  told_between : (r : Presentation) → HasTimescales r → lowest l (reduce l (told true (lowest (m words) r))) ≡ lowest l (reduce l (told true r))
+  told_between r h = by (says_beginnings r) refl
+    where
+      whole : Divides (divisor_of (movie_times (m words) r)) (movie_times (m words) r)
+      whole = divisor_divides (movie_times (m words) r)
+
+      by : (b : Bool) → says_beginnings r ≡ b → lowest l (reduce l (told true (lowest (m words) r))) ≡ lowest l (reduce l (told true r))
+      by true e =
+          let a = divisor_of (movie_times (m words) r) in
+          let q = lowest (m words) r in
+          let wait = delay (first_moments r.movie.timescale r.tracks) in
+          let none = not_is_true (list_any says_more r.tracks) (and_is_true (list_any has_samples r.tracks) (not (list_any says_more r.tracks)) e).1 in
+          let is : told true q ≡ record { movie = waiting_movie r.movie; tracks = map (parted words r.movie.timescale a h.0 whole.0 wait) r.tracks } =
+          where_told (delay (first_moments q.movie.timescale q.tracks)) q (lowest_says words r.movie.timescale a h.0 whole.0 r.tracks ∙ e)
+          ∙ (λ i. record { movie = waiting_movie r.movie; tracks = all_parted words r.movie.timescale a h.0 whole.0 r.tracks h.1 none whole.1 r.tracks h.1 none whole.1 i }) in
+          let back : record { movie = waiting_movie r.movie; tracks = map (λ (t : Track). waiting_track (wait_of r.movie.timescale wait t) t) r.tracks } ≡ told true r =
+          (λ i. record { movie = waiting_movie r.movie; tracks = sym (waiting_each (wait_of r.movie.timescale wait) r.tracks) i }) ∙ sym (where_told wait r e) in
+          (λ i. lowest l (reduce l (is i)))
+          ∙ whole_stays r.movie.timescale a h.0 whole.0 wait (waiting_movie r.movie) r.tracks
+          ∙ (λ i. lowest l (reduce l (back i)))
+      by false e =
+          let a = divisor_of (movie_times (m words) r) in
+          let q = lowest (m words) r in
+          (λ i. lowest l (reduce l (where_more (delay (first_moments q.movie.timescale q.tracks)) q (lowest_says words r.movie.timescale a h.0 whole.0 r.tracks ∙ e) i)))
+          ∙ lowest_between (m words) l ends timing r
+          ∙ (λ i. lowest l (reduce l (sym (where_more (delay (first_moments r.movie.timescale r.tracks)) r e) i)))
+
+-- What is left where it doesn't count how tracks begin is the same of times in lowest terms.
+pub waited_lowest : (words l : Without) → (words.ends ≡ true → l.ends ≡ true) → (r : Presentation) → HasTimescales r → lowest l (reduce l (waited true (lowest (m words) r))) ≡ lowest l (reduce l (waited true r))
+waited_lowest words l ends r h =
+    let more = both l only_origins in
+    begun_scaled true l (told true (lowest (m words) r))
+    ∙ told_between words more (λ e. ap (λ b. b || false) (ends e)) r h
+    ∙ sym (begun_scaled true l (told true r))

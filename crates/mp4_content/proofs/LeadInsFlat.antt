@@ -1,5 +1,5 @@
 -- Tracks apart from their composition offsets: what is valid of them stays so, whatever is left out.
-use Rattle.std.proofs.Common.{◌≡◌, ℕ, suc, ◌<◌, ◌≤◌, ◌^◌, ◌==◌, min, Bool, true, false, if◌then◌else◌, List, [], ◌∷◌, ◌++◌, length, map, refl, sym, ap, subst, ◌∙◌, arith, ℤ, pos, ◌-ℤ◌, FitsSigned}
+use Rattle.std.proofs.Common.{◌≡◌, ℕ, suc, ◌<◌, ◌≤◌, ◌^◌, ◌==◌, Bool, true, false, if◌then◌else◌, List, [], ◌∷◌, ◌++◌, length, map, refl, sym, ap, subst, ◌∙◌, arith, ℤ, pos, ◌-ℤ◌, FitsSigned}
 use Rattle.std.specs.Prelude.{flat_map}
 use Rattle.std.specs.Int.{w32}
 use Rattle.std.specs.List.{AllByRecursion}
@@ -8,15 +8,17 @@ use Rattle.mp4_boxes.proofs.Plain.{length_mapped}
 use Rattle.mp4_tables.specs.format.Groups.{GroupKey, keys_with, max_keys}
 use Rattle.mp4_head.specs.format.Head.{Edit, Media, TrackHead, IsEdit, IsMedia, IsTrackHead}
 use Rattle.mp4_present.specs.format.Presentation.{Sample, Track, IsSample, IsTrack}
+use Rattle.mp4_present.specs.format.Waiting.{waiting}
 use Rattle.mp4_content.specs.format.Reduced.{offset_left, first_offset, reduce_sample, reduce_from, reduce_samples, reduce_track, number_track, HasNearOffsets}
 use Rattle.mp4_content.specs.declared.without.Without.{Without}
 use Rattle.mp4_content.specs.format.Timescales.{leaves_duration, track_times, timescale_by, samples_by, edit_by, divided, divisor_of, lowest_track}
-use Rattle.mp4_content.specs.format.LeadIns.{is_simple, first_shown, Moment, max_duration, waiting, offset_less, begin_after, edit_in_microseconds, in_microseconds, wait_track}
+use Rattle.mp4_content.specs.format.LeadIns.{has_samples, Moment, first_shown, max_duration, wait_of, offset_less}
+use Rattle.mp4_content.proofs.ReducedSamples.{by_case}
 use Rattle.mp4_content.proofs.ReducedValid.{track_good, number_good}
 use Rattle.mp4_content.proofs.TimescalesDivisors.{divisor_divides}
 use Rattle.mp4_content.proofs.TimescalesLengths.{duration_less}
 use Rattle.mp4_content.proofs.TimescalesValid.{edits_good, scale_less, scale_some_by}
-use Rattle.mp4_content.proofs.LeadInsTracks.{waiting_if, wait_of_simple, wait_of_other}
+use Rattle.mp4_content.proofs.LeadInsTracks.{waiting_if, begin_after, wait_track}
 use Rattle.mp4_present.proofs.ValidSamples.{nothing_mapped}
 
 -- ---- in place of one thing another
@@ -147,23 +149,10 @@ begun_sound wait t fits h =
     let same = samples_sound (offset_less (first_offset t.samples)) (λ s. refl) t.samples in
     subst (λ (samples : List Sample). IsTrack (record t { head = record t.head { edits = waiting wait }; start = 0; samples = samples })) (sym same) without
 
-is_short : (n : ℕ) → min max_duration n < 2 ^ 64
-is_short n = omega arith
-
-others_good : (scale : ℕ) (edits : List Edit) → AllByRecursion IsEdit edits → AllByRecursion IsEdit (map (edit_in_microseconds scale) edits)
-others_good scale [] h = tt
-others_good scale (e ∷ edits) h =
-    (record { segment_duration = is_short _; media_time = h.0.media_time; rate_integer = h.0.rate_integer; rate_fraction = h.0.rate_fraction }, others_good scale edits h.1)
-
-other_sound : (scale : ℕ) (t : Track) → IsTrack t → IsSound (in_microseconds scale t)
-other_sound scale t h = sound_with t (map (edit_in_microseconds scale) t.head.edits) t.start h (others_good scale t.head.edits h.head.edits) h.empty
-
 pub wait_sound : (scale : ℕ) (wait : Moment → ℕ) → ((x : Moment) → wait x ≤ max_duration) → (t : Track) → IsTrack t → IsSound (wait_track scale wait t)
-wait_sound scale wait fits t h = by (is_simple t) refl
-  where
-    by : (b : Bool) → is_simple t ≡ b → IsSound (wait_track scale wait t)
-    by true e = subst IsSound (sym (wait_of_simple scale wait t e)) (begun_sound (wait (first_shown scale t)) t (fits (first_shown scale t)) h)
-    by false e = subst IsSound (sym (wait_of_other scale wait t e)) (other_sound scale t h)
+wait_sound scale wait fits t h =
+    let short = by_case (λ n. n ≤ max_duration) (has_samples t) (wait (first_shown scale t)) 0 (fits (first_shown scale t)) (omega arith) in
+    begun_sound (wait_of scale wait t) t short h
 
 -- ---- less of it
 

@@ -4,7 +4,8 @@ use Rattle.std.specs.List.{AllByRecursion}
 use Rattle.std.proofs.lemmas.Int.{ints}
 use Rattle.std.proofs.Math.Nat.{zero-div, mul-sub, mul-div-mul_left, mul-div_right, mul-le-mul_left, mul-le-mul_right, div-mul-le_self, le-div_iff_mul-le, le_of_mul-le-mul_left, sub-eq-zero_of_le}
 use borrow.Author.Differences.{up, down, neg_is, same_out}
-use Rattle.mp4_content.specs.format.LeadIns.{Moment, from_0, microseconds, max_duration, later, delay}
+use Rattle.mp4_present.specs.format.Waiting.{microseconds}
+use Rattle.mp4_content.specs.format.LeadIns.{Moment, from_0, max_duration, later, delay}
 use Rattle.mp4_content.specs.format.LeadInsLaws.{Among, DelayIsFromFirst, BeginsLater}
 
 -- ---- in numbers from 0 on
@@ -76,7 +77,7 @@ same_step a b above x y u v some more third fourth h k =
 
 -- ---- the first
 
-abbrev AtMost : Moment → Moment → Type 0
+abbrev pub AtMost : Moment → Moment → Type 0
 AtMost x y = ahead x y ≤ ahead y x
 
 not_later : (x y : Moment) → AtMost x y → later x y ≡ 0
@@ -130,7 +131,7 @@ record Least (xs : List Moment) : Type 0 where
   among : Among x xs
   least : AllByRecursion (AtMost x) xs
 
-all_after : (x y : Moment) → 0 < y.scale → AtMost x y → (xs : List Moment) → AllByRecursion (AtMost y) xs → AllByRecursion (AtMost x) xs
+pub all_after : (x y : Moment) → 0 < y.scale → AtMost x y → (xs : List Moment) → AllByRecursion (AtMost y) xs → AllByRecursion (AtMost x) xs
 all_after x y some h [] all = tt
 all_after x y some h (z ∷ xs) all = (then_most x y z some h all.0, all_after x y some h xs all.1)
 
@@ -156,11 +157,11 @@ none_later x [] h = refl
 none_later x (y ∷ xs) h = let a = h.0 in let b = none_later x xs h.1 in omega (arith, a, b)
 
 -- no delay is more than from the first
-delay_less : (w x : Moment) (xs : List Moment) → 0 < w.scale → 0 < x.scale → AllByRecursion HasScale xs → AllByRecursion (AtMost x) xs → delay xs w ≤ later w x
+pub delay_less : (w x : Moment) (xs : List Moment) → 0 < w.scale → 0 < x.scale → AllByRecursion HasScale xs → AllByRecursion (AtMost x) xs → delay xs w ≤ later w x
 delay_less w x [] some more has h = omega arith
 delay_less w x (y ∷ xs) some more has h = let a = later_more w x y some more has.0 h.0 in let b = delay_less w x xs some more has.1 h.1 in omega (arith, a, b)
 
-delay_more : (w x : Moment) (xs : List Moment) → Among x xs → later w x ≤ delay xs w
+pub delay_more : (w x : Moment) (xs : List Moment) → Among x xs → later w x ≤ delay xs w
 delay_more w x [] h = absurd h
 delay_more w x (y ∷ xs) (inl e) = let same = ap (later w) e in omega (arith, same)
 delay_more w x (y ∷ xs) (inr h) = let rest = delay_more w x xs h in omega (arith, rest)

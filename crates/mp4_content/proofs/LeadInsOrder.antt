@@ -1,5 +1,5 @@
 -- Valid presentations that say how the order of words matters where it is left out how tracks begin.
-use Rattle.std.proofs.Common.{◌≡◌, ℕ, ◌<◌, ◌^◌, List, [], ◌∷◌, length, map, refl, ap, arith, pos}
+use Rattle.std.proofs.Common.{◌≡◌, ℕ, ◌-◌, ◌<◌, ◌^◌, List, [], ◌∷◌, length, map, refl, ap, arith, pos}
 use Rattle.std.specs.List.{AllByRecursion}
 use Rattle.mp4_boxes.proofs.Plain.{head_is}
 use Rattle.mp4_head.specs.format.Head.{Edit, TrackHead, IsEdit, IsTrackHead}
@@ -95,18 +95,15 @@ plain_late = late_good [] none_good (record { samples = omega arith; times = ((o
 twice_late : Valid (late (edit ∷ edit ∷ []))
 twice_late = late_good (edit ∷ edit ∷ []) twice_good (record { samples = omega arith; times = ((omega arith, omega arith), tt); moov = omega arith })
 
--- where each track begins
-abbrev starts : Presentation → List ℕ
-starts p = map (λ (t : Track). t.start) p.tracks
-
-none_is_one : ◌≡◌ {A = List ℕ} (0 ∷ []) (1 ∷ []) → ⊥
-none_is_one e = let same = head_is 0 1 [] [] e in omega (arith, same)
+-- The movie's timescale says whether edits said more.
+other_scale : ◌≡◌ {A = ℕ} 1000000 (2 ^ 32 - 1) → ⊥
+other_scale e = omega (arith, e)
 
 pub edits_hide_beginnings : EditsHideBeginnings
-edits_hide_beginnings = (late [], late (edit ∷ edit ∷ []), plain_late, twice_late, refl, λ e. none_is_one (ap starts e))
+edits_hide_beginnings = (late [], late (edit ∷ edit ∷ []), plain_late, twice_late, refl, λ e. other_scale (ap (λ (p : Presentation). p.movie.timescale) e))
 
 pub edits_change_again : EditsChangeAgain
-edits_change_again = (late (edit ∷ edit ∷ []), twice_late, λ e. none_is_one (ap starts e))
+edits_change_again = (late (edit ∷ edit ∷ []), twice_late, λ e. other_scale (ap (λ (p : Presentation). p.movie.timescale) e))
 
 -- ---- again
 

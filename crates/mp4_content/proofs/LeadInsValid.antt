@@ -1,15 +1,18 @@
 -- What is left of what is valid is valid exactly if it is within its limits.
 use Rattle.std.proofs.Common.{◌≡◌, inl, ℕ, suc, ◌+◌, ◌<◌, ◌≤◌, Bool, true, false, List, [], ◌∷◌, length, map, refl, sym, ap, subst, ◌∙◌, arith}
-use Rattle.std.specs.List.{AllByRecursion, list_any}
+use Rattle.std.specs.List.{AllByRecursion}
 use Rattle.mp4_boxes.specs.format.Bytes.{sum_of}
 use Rattle.mp4_boxes.proofs.Plain.{length_mapped}
 use Rattle.mp4_head.specs.format.Head.{MovieHead, IsMovieHead}
 use Rattle.mp4_head.specs.format.Tree.{are_distinct}
 use Rattle.mp4_present.specs.format.Presentation.{Track, Presentation, IsTrack, Valid, IsInTime, normal_moov_length, max_moov}
+use Rattle.mp4_present.specs.format.Waiting.{waiting_movie}
 use Rattle.mp4_content.specs.format.Reduced.{first_offset, id_left, reduce_samples, reduce_track, number_tracks, reduce, HasNearOffsets}
+use Rattle.mp4_content.specs.format.ReducedLaws.{both}
 use Rattle.mp4_content.specs.declared.without.Without.{Without}
 use Rattle.mp4_content.specs.format.Timescales.{track_times, movie_times, divided, divisor_of, lowest_track, lowest, scaled}
-use Rattle.mp4_content.specs.format.LeadIns.{is_simple, first_moments, microseconds, max_duration, Moment, delay, offset_less, wait_track, waited, kept}
+use Rattle.mp4_content.specs.format.TimescalesLaws.{only_origins}
+use Rattle.mp4_content.specs.format.LeadIns.{says_beginnings, Moment, first_moments, max_duration, delay, offset_less, waited, kept}
 use Rattle.mp4_content.specs.format.LeadInsLaws.{KeptInLimits, KeptIsValid}
 use Rattle.mp4_content.proofs.Numbered.{ids_of}
 use Rattle.mp4_content.proofs.ReducedSamples.{left_many}
@@ -18,7 +21,8 @@ use Rattle.mp4_content.proofs.TimescalesChanged.{many_stay}
 use Rattle.mp4_content.proofs.TimescalesValid.{near_each, movie_good, scaled_from}
 use Rattle.mp4_content.proofs.LeadInsFlat.{IsSound, all_back, wait_sound, reduced_sound, all_lowest_sound}
 use Rattle.mp4_content.proofs.LeadInsMoments.{delay_fits}
-use Rattle.mp4_content.proofs.LeadInsTracks.{wait_of_simple, wait_of_other, where_some, where_none}
+use Rattle.mp4_content.proofs.LeadInsTracks.{wait_track, where_some, where_none}
+use Rattle.mp4_content.proofs.LeadInsTold.{begun_scaled}
 
 limits_of : (b c : Bool) (l : Without) (p : Presentation) → Valid (kept b c l p) → KeptInLimits b c l p
 limits_of b c l p v = record {
@@ -27,27 +31,13 @@ limits_of b c l p v = record {
   moov = v.limits.moov;
 }
 
-movie_with : (m : MovieHead) → IsMovieHead m → IsMovieHead (record m { timescale = microseconds })
+movie_with : (m : MovieHead) → IsMovieHead m → IsMovieHead (waiting_movie m)
 movie_with m h = record { creation = h.creation; modification = h.modification; timescale = omega arith; timescale_not_0 = omega arith; rate = h.rate; volume = h.volume; matrix = h.matrix; kept = h.kept }
 
 module _ (scale : ℕ) (wait : Moment → ℕ) (fits : (x : Moment) → wait x ≤ max_duration) (l : Without) where
   -- the same words, but edits, ends and origins stay
   abbrev fewer : Without
   fewer = record l { edits = false; ends = false; origins = false }
-
-  same_id : (t : Track) → (wait_track scale wait t).head.id ≡ t.head.id
-  same_id t = by (is_simple t) refl
-    where
-      by : (b : Bool) → is_simple t ≡ b → (wait_track scale wait t).head.id ≡ t.head.id
-      by true e = ap (λ (u : Track). u.head.id) (wait_of_simple scale wait t e)
-      by false e = ap (λ (u : Track). u.head.id) (wait_of_other scale wait t e)
-
-  as_many : (t : Track) → length (wait_track scale wait t).samples ≡ length t.samples
-  as_many t = by (is_simple t) refl
-    where
-      by : (b : Bool) → is_simple t ≡ b → length (wait_track scale wait t).samples ≡ length t.samples
-      by true e = ap (λ (u : Track). length u.samples) (wait_of_simple scale wait t e) ∙ length_mapped (offset_less (first_offset t.samples)) t.samples
-      by false e = ap (λ (u : Track). length u.samples) (wait_of_other scale wait t e)
 
   abbrev left : ℕ → List Track → List Track
   left place tracks = number_tracks l place (map (reduce_track l) (map (wait_track scale wait) tracks))
@@ -61,7 +51,7 @@ module _ (scale : ℕ) (wait : Moment → ℕ) (fits : (x : Moment) → wait x �
 
   ids_same : (place : ℕ) (tracks : List Track) → ids_of (left place tracks) ≡ ids_of (before place tracks)
   ids_same place [] = refl
-  ids_same place (t ∷ tracks) = λ i. id_left l place (same_id t i) ∷ ids_same (suc place) tracks i
+  ids_same place (t ∷ tracks) = λ i. id_left l place t.head.id ∷ ids_same (suc place) tracks i
 
   abbrev samples_of : List Track → ℕ
   samples_of tracks = sum_of (λ (t : Track). length t.samples) tracks
@@ -69,7 +59,7 @@ module _ (scale : ℕ) (wait : Moment → ℕ) (fits : (x : Moment) → wait x �
   one_total : (t : Track) → length (reduce_samples l (wait_track scale wait t).samples) ≡ length (reduce_samples fewer t.samples)
   one_total t =
       let u = wait_track scale wait t in
-      left_many l (length u.samples) (first_offset u.samples) 0 u.samples ∙ as_many t ∙ sym (left_many fewer (length t.samples) (first_offset t.samples) 0 t.samples)
+      left_many l (length u.samples) (first_offset u.samples) 0 u.samples ∙ length_mapped (offset_less (first_offset t.samples)) t.samples ∙ sym (left_many fewer (length t.samples) (first_offset t.samples) 0 t.samples)
 
   totals_same : (place : ℕ) (tracks : List Track) → samples_of (left place tracks) ≡ samples_of (before place tracks)
   totals_same place [] = refl
@@ -84,7 +74,7 @@ module _ (scale : ℕ) (wait : Moment → ℕ) (fits : (x : Moment) → wait x �
   lowest_totals a (t ∷ tracks) = λ i. many_stay l (divided (divisor_of (track_times l t))) (length t.samples) 0 t.samples i + lowest_totals a tracks i
 
   abbrev some_wait : Presentation → Presentation
-  some_wait p = record { movie = record p.movie { timescale = microseconds }; tracks = map (wait_track scale wait) p.tracks }
+  some_wait p = record { movie = waiting_movie p.movie; tracks = map (wait_track scale wait) p.tracks }
 
   within : (c : Bool) (p : Presentation) → Valid p → let q = scaled c l (some_wait p) in AllByRecursion (IsInTime q.movie.timescale) q.tracks → AllByRecursion HasNearOffsets q.tracks → normal_moov_length q ≤ max_moov → Valid q
   within false p v times near few =
@@ -127,13 +117,16 @@ abbrev IsValidWithin : Presentation → Type 0
 IsValidWithin q = AllByRecursion (IsInTime q.movie.timescale) q.tracks → AllByRecursion HasNearOffsets q.tracks → normal_moov_length q ≤ max_moov → Valid q
 
 valid_within : (b c : Bool) (l : Without) (p : Presentation) → Valid p → IsValidWithin (kept b c l p)
-valid_within true c l p v = by (list_any is_simple p.tracks) refl
+valid_within true c l p v = by (says_beginnings p) refl
   where
-    by : (b : Bool) → list_any is_simple p.tracks ≡ b → IsValidWithin (scaled c l (waited true p))
-    by true e =
-        let wait = delay (first_moments p.movie.timescale p.tracks) in
-        subst (λ (w : Presentation). IsValidWithin (scaled c l w)) (sym (where_some wait p e)) (within p.movie.timescale wait (delay_fits (first_moments p.movie.timescale p.tracks)) l c p v)
-    by false e = subst (λ (w : Presentation). IsValidWithin (scaled c l w)) (sym (where_none (delay (first_moments p.movie.timescale p.tracks)) p e)) (λ times near few. stays c l p v times near)
+    moments : List Moment
+    moments = first_moments p.movie.timescale p.tracks
+
+    by : (b : Bool) → says_beginnings p ≡ b → IsValidWithin (scaled c l (waited true p))
+    by true e = subst (λ (w : Presentation). IsValidWithin (scaled c l w)) (sym (where_some (delay moments) p e)) (within p.movie.timescale (delay moments) (delay_fits moments) l c p v)
+    by false e =
+        let same = ap (scaled c l) (where_none (delay moments) p e) ∙ begun_scaled c l p in
+        subst IsValidWithin (sym same) (λ times near few. stays c (both l only_origins) p v times near)
 valid_within false c l p v = λ times near few. stays c l p v times near
 
 pub kept_is_valid : KeptIsValid

@@ -5,7 +5,7 @@ use Rattle.std.specs.Int.{w32}
 use Rattle.std.specs.List.{AllByRecursion, AllZip}
 use Rattle.mp4_boxes.specs.declared.fault.Fault.{Fault}
 use Rattle.mp4_boxes.proofs.Plain.{both_ways}
-use Rattle.mp4_head.specs.format.Tree.{TrackTree, IsTrackTree, track_head_of}
+use Rattle.mp4_head.specs.format.Tree.{TrackTree, track_head_of}
 use Rattle.mp4_head.specs.declared.heads.MovieHead.{MovieHead}
 use Rattle.mp4_head.specs.declared.heads.TrackHead.{TrackHead}
 use Rattle.mp4_frag.specs.format.FragmentSamples.{start_of}
@@ -16,7 +16,7 @@ use Rattle.mp4_content.specs.format.Reduced.{HasNearOffsets, reduce_track, start
 use Rattle.mp4_content.specs.format.Remaining.{RemainsInLimits, movie_divisor, remaining, remaining_track, track_divisor}
 use Rattle.mp4_content.specs.format.Timescales.{divided, track_times}
 use Rattle.mp4_present.specs.words.Movies.{MovieSeen}
-use Rattle.mp4_present.specs.words.OpenedMovie.{IsInfoOf, IsOpenedAs}
+use Rattle.mp4_present.specs.words.OpenedMovie.{HoldsTrack, IsInfoOf, IsOpenedAs}
 use Rattle.mp4_present.specs.words.SamplesComing.{track_keys, track_samples}
 use Rattle.mp4_content.specs.declared.reduced.Reduction.{Reduction}
 use Rattle.mp4_content.specs.declared.scales.Scales.{Scales}
@@ -109,7 +109,7 @@ module _ (l : Without) (counts : l.timing ≡ false) (file : List ℕ) (tree : F
       let none = not_asked e in
       ap (λ (x : Track). total_duration x.samples) (undivided l none.2 (presentation_of file tree) (own t)) ∙ durations_same l counts none.0 (own t).samples
 
-  one_good : (t : TrackTree) (h : TrackHead) (divisor : ℕ) (info : TrackInfo) (total : Total) → IsHeadLeft l file tree t h divisor → IsTrackTree t → 0 < (track_head_of t).media.timescale → IsInfoOf file tree t info → IsTrackTaken file tree info t → HasNearOffsets (own t)
+  one_good : (t : TrackTree) (h : TrackHead) (divisor : ℕ) (info : TrackInfo) (total : Total) → IsHeadLeft l file tree t h divisor → HoldsTrack t → 0 < (track_head_of t).media.timescale → IsInfoOf file tree t info → IsTrackTaken file tree info t → HasNearOffsets (own t)
       → IsInTime (movie_timescale file tree) (own t) → total ≡ track_total l file tree t info → IsGood l file tree t h divisor info total
   one_good t h divisor info total head is_tree scale is facts good in_time e = by (measures l) refl e
     where
@@ -148,7 +148,7 @@ module _ (l : Without) (counts : l.timing ≡ false) (file : List ℕ) (tree : F
 
   -- ---- all tracks
 
-  all_good : (trees : List TrackTree) (hs : List TrackHead) (divisors : List ℕ) (infos : List TrackInfo) (totals : List Total) → AreHeadsLeft l file tree trees hs divisors → AllByRecursion IsTrackTree trees → AllByRecursion (λ (t : TrackTree). 0 < (track_head_of t).media.timescale) trees
+  all_good : (trees : List TrackTree) (hs : List TrackHead) (divisors : List ℕ) (infos : List TrackInfo) (totals : List Total) → AreHeadsLeft l file tree trees hs divisors → AllByRecursion HoldsTrack trees → AllByRecursion (λ (t : TrackTree). 0 < (track_head_of t).media.timescale) trees
       → AllZip (IsInfoOf file tree) trees infos → AllZip (IsTrackTaken file tree) infos trees → AllByRecursion (λ (t : TrackTree). HasNearOffsets (own t)) trees → AllByRecursion (IsInTime (movie_timescale file tree)) (map own trees) → AreTotals l file tree trees infos totals
       → AreGood l file tree trees hs divisors infos totals
   all_good [] [] [] [] [] s a c i k v w x = tt
@@ -171,7 +171,7 @@ module _ (l : Without) (counts : l.timing ≡ false) (file : List ℕ) (tree : F
   module _ (m : MovieSeen) (scales : Scales) (head : MovieHead) (totals : List Total) (o : IsOpenedAs file m tree) (heads_are : AreHeadsLeft l file tree tree.movie.tracks head.tracks.items scales.tracks.items) (scale : head.timescale ≡ scale_left l file tree)
       (are : AreTotals l file tree tree.movie.tracks m.tracks totals) where
     good : AreGood l file tree tree.movie.tracks head.tracks.items scales.tracks.items m.tracks totals
-    good = all_good tree.movie.tracks head.tracks.items scales.tracks.items m.tracks totals heads_are o.is_tree.movie.tracks (opened_scales file m tree o) o.tracks (tracks_taken file m tree o) (opened_near file m tree o) o.limits.times are
+    good = all_good tree.movie.tracks head.tracks.items scales.tracks.items m.tracks totals heads_are o.is_tree.tracks (opened_scales file m tree o) o.tracks (tracks_taken file m tree o) (opened_near file m tree o) o.limits.times are
 
     abbrev checked : ℕ → Result ℕ Fault
     checked timescale = check_tracks l timescale 0 head.tracks.items scales.tracks.items m.tracks totals

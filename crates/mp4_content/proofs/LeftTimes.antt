@@ -1,21 +1,21 @@
 -- How long what remains of an opened file is, where timing doesn't count and where edits, ends, origins and timescales stay.
 use Rattle.std.proofs.Common.{◌≡◌, ℕ, suc, ◌+◌, ◌*◌, ◌<◌, ◌≤◌, max, min, Bool, true, false, if◌then◌else◌, List, [], ◌∷◌, length, drop, map, slice_index_or, refl, sym, ap, subst, ◌∙◌, arith, ◌⊎◌, inl, inr, ◌^◌, ◌-◌}
-use Rattle.std.specs.Prelude.{codes, fold, FitsSigned}
+use Rattle.std.specs.Prelude.{fold, FitsSigned}
 use Rattle.std.specs.Int.{div_ceil, w32}
 use Rattle.std.specs.List.{AllByRecursion, AllZip}
 use Rattle.std.proofs.lemmas.Bool.{cases_lt}
 use Rattle.std.proofs.lemmas.List.{drop_all}
 use Rattle.mp4_boxes.specs.format.Bytes.{sum_of}
-use Rattle.mp4_boxes.proofs.Each.{each_from, each_member, each_value, each_weaker}
+use Rattle.mp4_boxes.proofs.Each.{each_member, each_value, each_weaker}
 use Rattle.mp4_boxes.proofs.Plain.{max_swap}
 use Rattle.mp4_head.specs.format.Head as heads
-use Rattle.mp4_head.specs.format.Tree.{TrackTree, IsTrackTree, IsSoundTrack, first_of, track_head_of}
+use Rattle.mp4_head.specs.format.Tree.{TrackTree, track_head_of}
 use Rattle.mp4_head.specs.words.Seen.{movie_seen, track_seen, tracks_seen}
-use Rattle.mp4_head.specs.words.Found.{IsFoundIn, SaysHead}
 use Rattle.mp4_head.specs.declared.heads.MovieHead.{MovieHead}
 use Rattle.mp4_head.specs.declared.heads.TrackHead.{TrackHead}
 use Rattle.mp4_head.proofs.Distinct.{map_twice}
-use Rattle.mp4_head.proofs.ReadAgain.{said_of}
+use Rattle.mp4_present.specs.words.HeadsRead.{SaysMovie, place_of}
+use Rattle.mp4_present.proofs.ToldTrees.{track_is_placed, tree_said}
 use Rattle.mp4_present.specs.format.Denotes.{FileTree, file_parts, movie_timescale, placed_of, sample_of, track_of, presentation_of}
 use Rattle.mp4_present.specs.format.Presentation.{Sample, Track, Presentation, IsInTime, max_time, movie_length, says_all, total_duration, track_length}
 use Rattle.mp4_content.specs.format.Reduced.{HasNearOffsets, ReducesInRange, number_head, number_heads, number_track, reduce, reduce_samples, reduce_track, timescale_left}
@@ -23,13 +23,12 @@ use Rattle.mp4_content.specs.format.Remaining.{RemainsInLimits, movie_divisor, r
 use Rattle.mp4_content.specs.format.Timescales.{divided, divisor_of, edit_by, movie_times, timescale_by, track_by, track_times}
 use Rattle.mp4_content.specs.format.TimescalesLaws.{ScaledInLimits}
 use Rattle.mp4_present.specs.words.SamplesComing.{track_keys}
-use Rattle.mp4_present.specs.words.Movies.{MovieSeen, moov_box}
+use Rattle.mp4_present.specs.words.Movies.{MovieSeen}
 use Rattle.mp4_present.specs.words.OpenedMovie.{IsInfoOf, IsOpenedAs}
 use Rattle.mp4_content.specs.declared.scales.Scales.{Scales}
 use Rattle.mp4_content.specs.declared.without.Without.{Without}
 use Rattle.mp4_present.specs.declared.track_info.TrackInfo.{TrackInfo}
-use Rattle.mp4_present.proofs.Assembled.{timescale_there}
-use Rattle.mp4_present.proofs.PlacedTracks.{IsTrackPlaced, track_placed}
+use Rattle.mp4_present.proofs.PlacedTracks.{IsTrackPlaced}
 use Rattle.mp4_present.proofs.ValidSamples.{IsOfTrack}
 use Rattle.mp4_content.specs.format.ReducedTimes.{ReducesInLimits, scale_left, track_left}
 use Rattle.mp4_content.specs.words.Divided.{heads_at, remaining_head, remaining_heads}
@@ -54,11 +53,11 @@ module _ (file : List ℕ) (m : MovieSeen) (tree : FileTree) (o : IsOpenedAs fil
   near_placed t p = each_value (IsOfTrack (length t.descriptions) (track_keys tree t)) (λ (s : Sample). FitsSigned w32 s.offset) (sample_of file) (λ s k. k.offset) (placed_of (file_parts tree) t) p.placed
 
   pub opened_near : AllByRecursion (λ (t : TrackTree). HasNearOffsets (own_track t)) tree.movie.tracks
-  opened_near = each_member (λ (t : TrackTree). HasNearOffsets (own_track t)) tree.movie.tracks (λ t i. near_placed t (track_placed file tree o.is_tree o.is_sound o.is_consistent o.bytes t i))
+  opened_near = each_member (λ (t : TrackTree). HasNearOffsets (own_track t)) tree.movie.tracks (λ t i. near_placed t (track_is_placed file m tree o t i))
 
   -- the timescale of each track is above 0
   pub opened_scales : AllByRecursion (λ (t : TrackTree). 0 < (track_head_of t).media.timescale) tree.movie.tracks
-  opened_scales = each_from IsTrackTree IsSoundTrack (λ (t : TrackTree). 0 < (track_head_of t).media.timescale) timescale_there tree.movie.tracks o.is_tree.movie.tracks o.is_sound.movie.tracks
+  opened_scales = o.is_sound.timescales
 
   track_scales : AllByRecursion (λ (t : Track). 0 < t.head.media.timescale) (presentation_of file tree).tracks
   track_scales = each_value (λ (t : TrackTree). 0 < (track_head_of t).media.timescale) (λ (t : Track). 0 < t.head.media.timescale) own_track (λ t h. h) tree.movie.tracks opened_scales
@@ -112,16 +111,6 @@ edits_stay l file m tree stay counts lasts begins own o =
 
 -- ---- heads of what remains
 
--- where the `tkhd` of a track stands
-abbrev place_of : TrackTree → ℕ
-place_of t = (first_of (codes "tkhd") t.track).offset
-
-places_found : (trees : List TrackTree) (hs : List TrackHead) → AllZip IsFoundIn trees hs → heads_at hs ≡ map place_of trees
-places_found [] [] z = refl
-places_found [] (h ∷ hs) z = absurd z
-places_found (t ∷ trees) [] z = absurd z
-places_found (t ∷ trees) (h ∷ hs) z = λ i. z.0.offset i ∷ places_found trees hs z.1 i
-
 module _ (l : Without) (file : List ℕ) (tree : FileTree) where
   abbrev own : TrackTree → Track
   own t = track_of file (file_parts tree) t
@@ -166,17 +155,17 @@ module _ (l : Without) (file : List ℕ) (tree : FileTree) where
         )
 
   -- heads that were read, of which these remain
-  pub opened_heads : (m : MovieSeen) (scales : Scales) (read head : MovieHead) → IsOpenedAs file m tree → AreScales l file tree scales → SaysHead (moov_box m) read
+  pub opened_heads : (m : MovieSeen) (scales : Scales) (read head : MovieHead) → IsOpenedAs file m tree → AreScales l file tree scales → SaysMovie m read
       → tracks_seen head ≡ number_heads l 1 (remaining_heads (keeping_payloads l) scales.movie scales.tracks.items (tracks_seen read)) → heads_at head.tracks.items ≡ heads_at read.tracks.items → AreHeadsLeft tree.movie.tracks head.tracks.items scales.tracks.items
   opened_heads m scales read head o are says left places =
-      let said = said_of (moov_box m) read tree.movie says (sym o.moov) o.is_tree.movie in
+      let said = tree_said file m tree read o says in
       heads_left scales.movie are.movie 1 tree.movie.tracks head.tracks.items scales.tracks.items are.tracks
-      (left ∙ ap (λ (h : heads.Head). left_heads scales.movie are.movie 1 scales.tracks.items h.tracks) said.0) (places ∙ places_found tree.movie.tracks read.tracks.items said.1)
+      (left ∙ ap (λ (h : heads.Head). left_heads scales.movie are.movie 1 scales.tracks.items h.tracks) said.says) (places ∙ said.places)
 
   -- the timescale of the movie that remains
-  pub opened_scale : (m : MovieSeen) (scales : Scales) (read head : MovieHead) → IsOpenedAs file m tree → AreScales l file tree scales → SaysHead (moov_box m) read → movie_seen head ≡ remaining_movie l scales.movie (movie_seen read) → head.timescale ≡ scale_left l file tree
+  pub opened_scale : (m : MovieSeen) (scales : Scales) (read head : MovieHead) → IsOpenedAs file m tree → AreScales l file tree scales → SaysMovie m read → movie_seen head ≡ remaining_movie l scales.movie (movie_seen read) → head.timescale ≡ scale_left l file tree
   opened_scale m scales read head o are says left =
-      let said = (said_of (moov_box m) read tree.movie says (sym o.moov) o.is_tree.movie).0 in
+      let said = (tree_said file m tree read o says).says in
       ap (λ (h : heads.MovieHead). h.timescale) left ∙ (λ i. (remaining_movie l (are.movie i) (said i).movie).timescale)
 
 -- how long the longest of the tracks that remain is
@@ -256,7 +245,7 @@ module _ (l : Without) (out : l.timing ≡ true) (file : List ℕ) (tree : FileT
       ∙ ap (λ n. fold (λ longest (t : Track). max longest (track_length ts t)) (max most n) (map left trees)) (one_counted t x divisor info e.0 z.0 h.0)
 
   -- it is the length of the longest track of what remains, which is never too long
-  pub all_counted_short : (m : MovieSeen) (scales : Scales) (read head : MovieHead) → IsOpenedAs file m tree → AreScales l file tree scales → SaysHead (moov_box m) read
+  pub all_counted_short : (m : MovieSeen) (scales : Scales) (read head : MovieHead) → IsOpenedAs file m tree → AreScales l file tree scales → SaysMovie m read
       → tracks_seen head ≡ number_heads l 1 (remaining_heads (keeping_payloads l) scales.movie scales.tracks.items (tracks_seen read)) → heads_at head.tracks.items ≡ heads_at read.tracks.items
       → RemainsInLimits l (presentation_of file tree) × (longest_count 0 head.tracks.items m.tracks ≡ movie_length (remaining l (presentation_of file tree)))
   all_counted_short m scales read head o are says left_is places =

@@ -49,6 +49,7 @@ pub mod RemainingValues
 pub mod TimescalesVectors
 pub mod LeadInsMoments
 pub mod LeadInsTracks
+pub mod LeadInsTold
 pub mod LeadInsSteps
 pub mod LeadInsLess
 pub mod LeadInsDivided
@@ -59,6 +60,9 @@ pub mod LeadInsFlat
 pub mod LeadInsValid
 pub mod LeadInsVectors
 pub mod DelaysFound
+pub mod FirstBeginnings
+pub mod TracksBegin
+pub mod EditsBegin
 pub mod Covering
 pub mod FieldValues
 pub mod PairsPassed

@@ -11,10 +11,11 @@ use Rattle.mp4_boxes.specs.declared.fault.Kind.TheVariants.{OffsetTooLarge, Time
 use Rattle.mp4_head.specs.format.Tree.{TrackTree, first_of}
 use Rattle.mp4_present.specs.format.Presentation.{Sample, Track, IsInTime, end_time, max_time, track_length}
 use Rattle.mp4_present.specs.format.Denotes.{FileTree, file_parts, track_of, presentation_of}
+use Rattle.mp4_present.proofs.ToldTrees.{file_denotes}
 use Rattle.mp4_content.specs.format.Reduced.{HasNearOffsets}
 use Rattle.mp4_content.specs.format.Remaining.{RemainsInLimits, movie_divisor, remaining_track}
 use Rattle.mp4_present.specs.words.Movies.{MovieSeen}
-use Rattle.mp4_present.specs.words.OpenedMovie.{IsOpenedAs}
+use Rattle.mp4_present.specs.words.OpenedMovie.{IsOpenedOwn}
 use Rattle.mp4_content.specs.declared.without.Without.{Without}
 use Rattle.mp4_present.proofs.One.{denotes_one, file_tree_one}
 use Rattle.mp4_content.specs.format.ReducedTimes.{IsLeftFault, LeftInLimits, ReducedLimitPasses, ReducedFaultStands, scale_left, track_left}
@@ -166,9 +167,9 @@ is_one l file p d over =
     )
 
 -- a file that was opened denotes what its boxes say
-pub opened_stands : (l : Without) (file : List ℕ) (m : MovieSeen) (tree : FileTree) (f : Fault) → IsOpenedAs file m tree → ReducedLimitPasses l file tree f → ReducedFaultStands l file f
+pub opened_stands : (l : Without) (file : List ℕ) (m : MovieSeen) (tree : FileTree) (f : Fault) → IsOpenedOwn file m tree → ReducedLimitPasses l file tree f → ReducedFaultStands l file f
 opened_stands l file m tree f o passes = record {
   p = presentation_of file tree;
-  denotes = record { tree = tree; is_tree = o.is_tree; is_sound = o.is_sound; is_consistent = o.is_consistent; says = refl; limits = o.limits };
+  denotes = file_denotes file m tree o;
   passes = passes;
 }

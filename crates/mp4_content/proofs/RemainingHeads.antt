@@ -3,14 +3,14 @@ use Rattle.std.proofs.Common.{◌≡◌, ℕ, ◌+◌, List, [], ◌∷◌, map,
 use Rattle.std.specs.List.{slice_get}
 use Rattle.mp4_boxes.proofs.Plain.{get_map}
 use Rattle.mp4_head.specs.format.Tree.{TrackTree, track_head_of}
-use Rattle.mp4_head.specs.words.Found.{SaysHead}
+use Rattle.mp4_present.specs.words.HeadsRead.{SaysMovie}
 use Rattle.mp4_head.specs.words.Seen.{movie_seen, tracks_seen}
 use Rattle.mp4_head.specs.declared.heads.MovieHead.{MovieHead}
 use Rattle.mp4_head.proofs.Distinct.{map_twice}
-use Rattle.mp4_head.proofs.ReadAgain.{said_of}
+use Rattle.mp4_present.proofs.ToldTrees.{tree_said}
 use Rattle.mp4_present.specs.format.Denotes.{FileTree, file_parts, track_of, presentation_of}
 use Rattle.mp4_present.specs.format.Presentation.{heads as heads_of, Track, Presentation}
-use Rattle.mp4_present.specs.words.Movies.{MovieSeen, moov_box}
+use Rattle.mp4_present.specs.words.Movies.{MovieSeen}
 use Rattle.mp4_present.specs.words.OpenedMovie.{IsOpenedAs}
 use Rattle.mp4_content.specs.format.Reduced.{number_heads, number_track}
 use Rattle.mp4_content.specs.declared.scales.Scales.{Scales}
@@ -65,10 +65,10 @@ module _ (l : Without) where
     -- ---- a head that was read, of which something was left out by these divisors
 
     -- then it says what remains of the presentation
-    pub says_remaining : (m : MovieSeen) (scales : Scales) (read head : MovieHead) → IsOpenedAs file m tree → AreScales l file tree scales → SaysHead (moov_box m) read → movie_seen head ≡ remaining_movie l scales.movie (movie_seen read)
+    pub says_remaining : (m : MovieSeen) (scales : Scales) (read head : MovieHead) → IsOpenedAs file m tree → AreScales l file tree scales → SaysMovie m read → movie_seen head ≡ remaining_movie l scales.movie (movie_seen read)
         → tracks_seen head ≡ number_heads l 1 (remaining_heads l scales.movie scales.tracks.items (tracks_seen read)) → SaysHeadOf (remaining l whole) head
     says_remaining m scales read head o are says movie_is tracks_are =
-        let said = (said_of (moov_box m) read tree.movie says (sym o.moov) o.is_tree.movie).0 in
+        let said = (tree_said file m tree read o says).says in
         record {
           movie = movie_is ∙ (λ i. remaining_movie l (are.movie i) (said i).movie);
           tracks = tracks_are ∙ (λ i. number_heads l 1 (remaining_heads l (are.movie i) (are.tracks i) (said i).tracks)) ∙ sym file_heads_remain;

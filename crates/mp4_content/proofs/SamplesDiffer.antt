@@ -40,7 +40,8 @@ use Rattle.mp4_content.specs.declared.comparing.differences.Field.{Field}
 use Rattle.mp4_content.specs.declared.comparing.differences.Field.TheVariants as fields
 use Rattle.mp4_content.specs.declared.comparing.differences.Difference.{Difference}
 use Rattle.mp4_content.proofs.KeysOfBoth.{NothingElse, joint}
-use Rattle.mp4_present.proofs.PlacedTracks.{IsTrackPlaced, tracks_placed}
+use Rattle.mp4_present.proofs.PlacedTracks.{IsTrackPlaced}
+use Rattle.mp4_present.proofs.ToldTrees.{opened_placed}
 use Rattle.mp4_present.proofs.SamplesLie.{IsInFile, placed_lie, bytes_whole, there}
 use Rattle.mp4_present.proofs.ValidSamples.{IsOfTrack}
 use Rattle.mp4_content.proofs.ComparisonKeys.{all_rising, all_put}
@@ -238,7 +239,7 @@ pub opened_samples : (file : List ℕ) (m : MovieSeen) (tree : FileTree) (t : Tr
 opened_samples file m tree t k o is =
     let Lie : TrackTree → Type 0 = λ u. AllByRecursion (IsInFile (length file)) (placed_of (file_parts tree) u) in
     let lie = get_every Lie tree.movie.tracks k t is (each_member Lie tree.movie.tracks (λ u i. placed_lie file tree u o.is_consistent i)) in
-    samples_of file tree t (get_every (IsTrackPlaced tree) tree.movie.tracks k t is (tracks_placed file tree o.is_tree o.is_sound o.is_consistent o.bytes)) lie
+    samples_of file tree t (get_every (IsTrackPlaced tree) tree.movie.tracks k t is (opened_placed file m tree o)) lie
 
 -- the keys that are kept of a track are its own
 pub own_keys : (file : List ℕ) (m : MovieSeen) (tree : FileTree) (t : TrackTree) (k : ℕ) (info : TrackInfo) → IsOpenedAs file m tree → slice_get tree.movie.tracks k ≡ Some t → slice_get m.tracks k ≡ Some info → keys_seen info.keys ≡ track_keys tree t

@@ -15,7 +15,8 @@ use Rattle.mp4_present.specs.words.Movies.{MovieSeen}
 use Rattle.mp4_present.specs.words.OpenedMovie.{IsInfoOf, IsOpenedAs}
 use Rattle.mp4_present.specs.format.Presentation.{Track, IsGroup}
 use Rattle.mp4_present.specs.declared.track_info.TrackInfo.{TrackInfo}
-use Rattle.mp4_present.proofs.PlacedTracks.{IsTrackPlaced, track_placed}
+use Rattle.mp4_present.proofs.PlacedTracks.{IsTrackPlaced}
+use Rattle.mp4_present.proofs.ToldTrees.{track_is_placed}
 use Rattle.mp4_present.proofs.SamplesLie.{IsInFile, placed_lie, bytes_whole, there}
 use Rattle.mp4_present.proofs.ValidSamples.{IsOfTrack, is_parameter, is_group}
 use Rattle.mp4_content.specs.format.TimedSamples.{timed_from}
@@ -69,4 +70,4 @@ pub tracks_taken : (file : List ℕ) (m : MovieSeen) (tree : FileTree) → IsOpe
 tracks_taken file m tree o =
     turned (IsInfoOf file tree) (IsTrackTaken file tree) tree.movie.tracks m.tracks
     (each_member (λ (t : TrackTree). (info : TrackInfo) → IsInfoOf file tree t info → IsTrackTaken file tree info t) tree.movie.tracks
-    (λ t i info h. taken_of file tree t info (placed_lie file tree t o.is_consistent i) (track_placed file tree o.is_tree o.is_sound o.is_consistent o.bytes t i) h)) o.tracks
+    (λ t i info h. taken_of file tree t info (placed_lie file tree t o.is_consistent i) (track_is_placed file m tree o t i) h)) o.tracks

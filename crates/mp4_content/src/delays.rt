@@ -1,7 +1,7 @@
 //! How many microseconds a track begins later than another.
-ghost use Rattle.std.specs.Prelude.{◌≡◌, ◌+◌, ◌*◌, ◌%◌, ◌^◌, ◌<◌, ◌≤◌};
+ghost use Rattle.std.specs.Prelude.{◌≡◌, ◌+◌, ◌*◌, ◌%◌, ◌^◌, ◌<◌, ◌≤◌, nat_lt};
 ghost use Rattle.mp4_content.specs.format.LeadIns.{later};
-ghost use Rattle.mp4_content.specs.words.Delays.{CanBegin, moment_of};
+ghost use Rattle.mp4_content.specs.words.Delays.{CanBegin, is_before, moment_of};
 
 /// When a track begins in a movie of some timescale: so many ticks of the movie and so many of the
 /// track later than 0, and so many of the track earlier.
@@ -60,6 +60,62 @@ pub(crate) fn later_by(first: Beginning, second: Beginning, timescale: u32) -> u
     let fewer = less.saturating_sub(after.whole).min(6);
     let whole = (more * 1_000_000 + part).saturating_sub(fewer * 1_000_000);
     whole.min(u128::from(u64::MAX)) as u64
+}
+
+/// Whether the first begins before the second.
+pub(crate) fn begins_before(first: Beginning, second: Beginning, timescale: u32) -> bool
+    requires movie { 0 < timescale }
+    requires first { CanBegin first }
+    requires second { CanBegin second }
+    ensures { result ≡ is_before (moment_of timescale first) (moment_of timescale second) }
+{
+    let (one, two) = (first.timescale, second.timescale);
+    let after = together(
+        Span {
+            ticks: second.waits,
+            timescale,
+        },
+        Span {
+            ticks: second.later,
+            timescale: two,
+        },
+        Span {
+            ticks: first.earlier,
+            timescale: one,
+        },
+    );
+    let before = together(
+        Span {
+            ticks: first.waits,
+            timescale,
+        },
+        Span {
+            ticks: second.earlier,
+            timescale: two,
+        },
+        Span {
+            ticks: first.later,
+            timescale: one,
+        },
+    );
+    is_less(before, after, product(timescale, two, one))
+}
+
+// Whether the first is less, where so many parts are a second.
+fn is_less(first: Time, second: Time, all: u128) -> bool
+    requires some { 0 < all }
+    requires first { first.whole < 3 * 2 ^ 126 }
+    requires second { second.whole < 3 * 2 ^ 126 }
+    requires parts { (first.parts ≤ 3 * all) × (second.parts ≤ 3 * all) }
+    ensures { result
+        ≡ nat_lt (first.whole * all + first.parts) (second.whole * all + second.parts) }
+{
+    let one = first.whole + first.parts / all;
+    let two = second.whole + second.parts / all;
+    if one != two {
+        return one < two;
+    }
+    first.parts % all < second.parts % all
 }
 
 // So many ticks of a timescale.

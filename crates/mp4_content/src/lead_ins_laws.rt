@@ -1,6 +1,6 @@
 //! Laws of what is left where it doesn't count how tracks begin, but how long each of them waits.
 
-ghost use Rattle.mp4_content.specs.format.LeadInsLaws.{DelayIsFromFirst, EditsChangeAgain, EditsHideBeginnings, KeepsMore, KeepsMoreWithoutTimes, KeptIsFixed, KeptIsValid, KeptWithoutTimes, OriginsHideBeginnings, SameKeptWithoutBeginnings, SameKeptWithoutMore, SecondsCountNot, StepCountsNot, TimingChangesAgain, TimingHidesBeginnings, WaitedIsExact, WaitedIsFixed};
+ghost use Rattle.mp4_content.specs.format.LeadInsLaws.{DelayIsFromFirst, EditsChangeAgain, EditsHideBeginnings, KeepsMore, KeepsMoreWithoutTimes, KeptIsFixed, KeptIsTold, KeptIsValid, KeptWithoutTimes, OriginsHideBeginnings, SameKeptWithoutBeginnings, SameKeptWithoutMore, SecondsCountNot, StepCountsNot, TimingChangesAgain, TimingHidesBeginnings, WaitedIsExact, WaitedIsFixed};
 
 /// How long a track waits is how much later it begins than the first.
 pub fn delay_is_from_first()
@@ -12,9 +12,9 @@ pub fn waited_is_fixed()
     ensures { WaitedIsFixed }
 {}
 
-/// The same is left of two presentations exactly if they are the same apart from how their simple
-/// tracks begin and where edits cut these off, with other edits in whole microseconds, and each
-/// simple track waits as many microseconds.
+/// The same is left of two presentations exactly if they are the same apart from how their tracks
+/// begin and where edits cut these off, and each track waits as many microseconds. Where edits say
+/// more than when tracks begin they stay, and it doesn't matter how long tracks wait.
 pub fn waited_is_exact()
     ensures { WaitedIsExact }
 {}
@@ -60,7 +60,7 @@ pub fn timing_hides_beginnings()
     ensures { TimingHidesBeginnings }
 {}
 
-/// Of two that are the same without edits one is simple.
+/// Of two that are the same without edits the edits of one say no more than when its track begins.
 pub fn edits_hide_beginnings()
     ensures { EditsHideBeginnings }
 {}
@@ -70,7 +70,7 @@ pub fn timing_changes_again()
     ensures { TimingChangesAgain }
 {}
 
-/// Without edits what is left of a track that isn't simple is simple the second time.
+/// Without edits what is left of edits that say more says no more the second time.
 pub fn edits_change_again()
     ensures { EditsChangeAgain }
 {}
@@ -90,4 +90,10 @@ pub fn kept_without_times()
 /// So to leave out these and more of what is left of less is to leave out all at once.
 pub fn keeps_more_without_times()
     ensures { KeepsMoreWithoutTimes }
+{}
+
+/// What is left is what is left without origins of a presentation whose edits say how long tracks
+/// wait.
+pub fn kept_is_told()
+    ensures { KeptIsTold }
 {}

@@ -59,6 +59,7 @@ mod content;
 pub mod covering_laws;
 mod delays;
 mod file_window;
+mod lead_ins;
 pub mod lead_ins_laws;
 mod measures;
 mod own_payloads;

@@ -221,7 +221,7 @@ fn track_divisor<S: Store, L: Ledger, M: Ledger>(
 }
 
 // The edits of the track at this place; none where no such track has a head.
-fn edits_at<'a>(heads: &'a [TrackHead], track: usize) -> &'a [Edit]
+pub(crate) fn edits_at<'a>(heads: &'a [TrackHead], track: usize) -> &'a [Edit]
     ensures { IfSome (slice_get heads.now track) (λ head. result.now ≡ head.edits.items) }
 {
     if track < heads.len() {

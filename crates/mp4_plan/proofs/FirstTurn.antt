@@ -15,14 +15,13 @@ use Rattle.mp4_content.proofs.TimescalesValid.{scale_some_by}
 use Rattle.std.proofs.Math.Nat.{zero-div}
 use Rattle.std.specs.Prelude.{Bool, true, false, not, ◌&&◌, ◌||◌, ◌==◌, if◌then◌else◌, map, unwrap_or, option_map}
 use Rattle.std.specs.List.{AllByRecursion, AllZip, slice_get}
-use Rattle.mp4_boxes.proofs.Each.{each_from}
 use Rattle.mp4_tables.specs.format.Groups.{GroupKey}
 use Rattle.mp4_tables.specs.words.Keys.{keys_seen}
 use Rattle.mp4_tables.specs.format.PlainSamples.{PlacedSample}
 use Rattle.mp4_tables.specs.words.Timed.{sample_at, timed}
 use Rattle.mp4_tables.specs.declared.sample.SampleAt.{SampleAt}
 use Rattle.mp4_frag.specs.format.FragmentSamples.{start_of}
-use Rattle.mp4_head.specs.format.Tree.{TrackTree, IsTrackTree, IsSoundTrack, track_head_of, movie_head_of}
+use Rattle.mp4_head.specs.format.Tree.{TrackTree, track_head_of, movie_head_of}
 use Rattle.mp4_head.specs.format.Head.{MovieHead}
 use Rattle.mp4_present.specs.words.SamplesComing.{track_keys, track_samples}
 use Rattle.mp4_present.specs.format.Denotes.{FileTree, movie_timescale, plain_of, file_parts, parts_of_track, placed_of, sample_of, track_of, presentation_of}
@@ -30,7 +29,6 @@ use Rattle.mp4_present.specs.words.Movies.{MovieSeen}
 use Rattle.mp4_present.specs.words.OpenedMovie.{IsOpenedAs}
 use Rattle.mp4_present.specs.format.Presentation.{IsInTime, Track, end_time, max_time}
 use Rattle.mp4_present.specs.declared.track_info.TrackInfo.{TrackInfo}
-use Rattle.mp4_present.proofs.Assembled.{timescale_there}
 use Rattle.mp4_present.proofs.ValidSamples.{starts_at_0}
 use Rattle.mp4_plan.specs.words.PiecesComing.{coming_of, stops, all_left}
 use Rattle.mp4_content.specs.format.TimedSamples.{TimedSample}
@@ -215,7 +213,7 @@ first_turn leaving file m tree s o near h =
     let whole = movie_divisor leaving (presentation_of file tree) in
     let good = all_good leaving whole file tree (movie_timescale file tree) tree.movie.tracks o.limits.times near in
     let facts = track_facts file m tree o in
-    let scales = each_from IsTrackTree IsSoundTrack (λ (t : TrackTree). 0 < (track_head_of t).media.timescale) timescale_there tree.movie.tracks o.is_tree.movie.tracks o.is_sound.movie.tracks in
+    let scales = o.is_sound.timescales in
     let same = map_twice (track_of file (file_parts tree)) (remaining_track leaving whole) tree.movie.tracks in
     subst (λ (left : List Track). let tracks = number_tracks leaving 1 left in
     IsTurn file (infos_left leaving (divisors_of leaving file tree) m.tracks) s (map (left_samples leaving file tree) tree.movie.tracks) (map coming_of tracks) ×

@@ -1,8 +1,7 @@
 -- The head of the normal form of what is left of an opened file.
-use Rattle.std.proofs.Common.{◌≡◌, ℕ, suc, ◌+◌, ◌-◌, ◌^◌, ◌≤◌, min, List, [], ◌∷◌, length, map, refl, sym, ap, ◌∙◌, arith, length-append}
+use Rattle.std.proofs.Common.{◌≡◌, ℕ, suc, ◌+◌, ◌-◌, ◌^◌, ◌≤◌, min, List, [], ◌∷◌, length, map, refl, ap, ◌∙◌, arith, length-append}
 use Rattle.std.specs.List.{AllByRecursion}
 use Rattle.mp4_boxes.specs.format.Bytes.{sum_of}
-use Rattle.mp4_head.specs.words.Found.{SaysHead}
 use Rattle.mp4_head.specs.format.Head as heads
 use Rattle.mp4_head.specs.format.Tree.{TrackTree, track_head_of}
 use Rattle.mp4_head.specs.words.Parts.{capped}
@@ -10,11 +9,12 @@ use Rattle.mp4_head.specs.words.Seen.{movie_seen, tracks_seen}
 use Rattle.mp4_head.specs.format.Writing.{ftyp_bytes, moov_bytes, head_bytes}
 use Rattle.mp4_head.specs.declared.heads.MovieHead.{MovieHead}
 use Rattle.mp4_head.proofs.HeadLengths.{length_head, length_track}
-use Rattle.mp4_head.proofs.ReadAgain.{said_of}
 use Rattle.mp4_present.specs.format.Denotes.{FileTree, presentation_of}
-use Rattle.mp4_present.specs.words.Movies.{MovieSeen, moov_box}
+use Rattle.mp4_present.specs.words.Movies.{MovieSeen}
 use Rattle.mp4_present.specs.words.OpenedMovie.{IsOpenedAs}
 use Rattle.mp4_present.specs.format.Presentation.{Presentation, movie_length, normal_moov_length}
+use Rattle.mp4_present.specs.words.HeadsRead.{SaysMovie}
+use Rattle.mp4_present.proofs.ToldTrees.{tree_said}
 use Rattle.mp4_content.specs.format.Reduced.{number_head, number_heads, reduce_track_head}
 use Rattle.mp4_content.specs.format.Remaining.{remaining, remaining_movie}
 use Rattle.mp4_content.specs.format.Timescales.{divided, edit_by}
@@ -68,7 +68,7 @@ module _ (l : Without) (divisor : ℕ) where
       let tracks = tracks_less owns 1 ts h in
       omega (arith, old, new, kept, tracks)
 
-module _ (l : Without) (file : List ℕ) (m : MovieSeen) (tree : FileTree) (scales : Scales) (head left : MovieHead) (o : IsOpenedAs file m tree) (says : SaysHead (moov_box m) head) (movie_is : movie_seen left ≡ remaining_movie l scales.movie (movie_seen head))
+module _ (l : Without) (file : List ℕ) (m : MovieSeen) (tree : FileTree) (scales : Scales) (head left : MovieHead) (o : IsOpenedAs file m tree) (says : SaysMovie m head) (movie_is : movie_seen left ≡ remaining_movie l scales.movie (movie_seen head))
     (tracks_are : tracks_seen left ≡ number_heads l 1 (remaining_heads l scales.movie scales.tracks.items (tracks_seen head))) where
   abbrev whole : Presentation
   whole = presentation_of file tree
@@ -76,7 +76,7 @@ module _ (l : Without) (file : List ℕ) (m : MovieSeen) (tree : FileTree) (scal
   -- what remains of the head that is read anew is short
   pub head_short : (mehd : ℕ) → length (head_bytes (movie_seen left) (tracks_seen left) mehd) ≤ 2 ^ 30 + 24
   head_short mehd =
-      let said = (said_of (moov_box m) head tree.movie says (sym o.moov) o.is_tree.movie).0 in
+      let said = (tree_said file m tree head o says).says in
       let heads_are : tracks_seen head ≡ map track_head_of tree.movie.tracks = ap (λ (h : heads.Head). h.tracks) said in
       let left_is : length (head_bytes (movie_seen left) (tracks_seen left) mehd) ≡ length (head_bytes (remaining_movie l scales.movie whole.movie) (number_heads l 1 (remaining_heads l scales.movie scales.tracks.items (map track_head_of tree.movie.tracks))) mehd) =
       λ i. length (head_bytes ((movie_is ∙ ap (λ (h : heads.Head). remaining_movie l scales.movie h.movie) said) i) ((tracks_are ∙ ap (λ (hs : List heads.TrackHead). number_heads l 1 (remaining_heads l scales.movie scales.tracks.items hs)) heads_are) i) mehd) in

@@ -163,4 +163,4 @@ rooms_fit file m tree o =
     let many = length_zip (IsInfoOf file tree) tracks m.tracks o.tracks in
     let e : length m.tracks ≡ length tracks = omega (arith, many) in
     let sum = ap (own_rooms m) e ∙ rooms_sum file m tree o (length tracks) (omega arith) ∙ ap (sum_of (walk_room tree)) (take_all (length tracks) tracks (omega arith)) in
-    omega (arith, sum, rooms_within file tree o.is_tree o.is_sound.movie)
+    omega (arith, sum, rooms_within file tree o.is_tree o.is_sound)

@@ -1,14 +1,12 @@
 -- Where tracks that are not due are skipped, the same pieces are left.
 use Rattle.std.proofs.Common.{length, ◌≡◌, ℕ, ◌<◌, true, false, cond, List, [], ◌∷◌, Some, None, refl, sym, ap, subst, ◌∙◌, arith, ne_eqb, slice_get, ◌⊎◌, inl, inr, true≢false}
 use Rattle.std.specs.Prelude.{Option, map}
-use Rattle.mp4_boxes.proofs.Each.{each_from}
 use Rattle.mp4_boxes.proofs.Plain.{get_every, get_map, get_some}
-use Rattle.mp4_head.specs.format.Tree.{TrackTree, IsTrackTree, IsSoundTrack, track_head_of}
+use Rattle.mp4_head.specs.format.Tree.{TrackTree, track_head_of}
 use Rattle.mp4_present.specs.format.Denotes.{FileTree}
 use Rattle.mp4_present.specs.words.Movies.{MovieSeen}
 use Rattle.mp4_present.specs.words.OpenedMovie.{IsOpenedAs}
 use Rattle.mp4_present.specs.declared.track_info.TrackInfo.{TrackInfo}
-use Rattle.mp4_present.proofs.Assembled.{timescale_there}
 use Rattle.mp4_tables.specs.declared.sample.SampleAt.{SampleAt}
 use Rattle.mp4_content.specs.words.Contents.{numbers_of}
 use Rattle.mp4_plan.specs.words.DueTracks.{leaf, AreTimes, FindsMore, IsDueAt, Skips}
@@ -34,7 +32,7 @@ HaveScales infos = (k : ℕ) (info : TrackInfo) → slice_get infos k ≡ Some i
 pub opened_scales : (file : List ℕ) (m : MovieSeen) (tree : FileTree) → IsOpenedAs file m tree → HaveScales m.tracks
 opened_scales file m tree o k info is =
     let r = has_track file m tree k info o is in
-    let scales = each_from IsTrackTree IsSoundTrack (λ (t : TrackTree). 0 < (track_head_of t).media.timescale) timescale_there tree.movie.tracks o.is_tree.movie.tracks o.is_sound.movie.tracks in
+    let scales = o.is_sound.timescales in
     subst (λ n. 0 < n) r.facts.left.timescale (get_every (λ (t : TrackTree). 0 < (track_head_of t).media.timescale) tree.movie.tracks k r.t r.is_there scales)
 
 -- The same pieces are left of the same samples.

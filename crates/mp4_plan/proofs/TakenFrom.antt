@@ -20,7 +20,8 @@ use Rattle.mp4_present.specs.words.Movies.{MovieSeen}
 use Rattle.mp4_present.specs.words.OpenedMovie.{IsInfoOf, IsOpenedAs}
 use Rattle.mp4_present.specs.format.Presentation.{Track}
 use Rattle.mp4_present.specs.declared.track_info.TrackInfo.{TrackInfo}
-use Rattle.mp4_present.proofs.PlacedTracks.{IsTrackPlaced, track_placed}
+use Rattle.mp4_present.proofs.PlacedTracks.{IsTrackPlaced}
+use Rattle.mp4_present.proofs.ToldTrees.{track_is_placed}
 use Rattle.mp4_present.proofs.SamplesLie.{IsInFile, placed_lie, timed_lie}
 use Rattle.mp4_plan.specs.words.PiecesComing.{coming_of}
 use Rattle.mp4_content.specs.words.TakenSamples.{AreTaken, IsNamed}
@@ -68,7 +69,7 @@ pub track_facts : (file : List ℕ) (m : MovieSeen) (tree : FileTree) → IsOpen
 track_facts file m tree o =
     turned (IsInfoOf file tree) (TrackFacts file tree) tree.movie.tracks m.tracks
     (each_member (λ (t : TrackTree). (info : TrackInfo) → IsInfoOf file tree t info → TrackFacts file tree info t) tree.movie.tracks
-    (λ t i info h. facts_of file tree t info (placed_lie file tree t o.is_consistent i) (track_placed file tree o.is_tree o.is_sound o.is_consistent o.bytes t i) h)) o.tracks
+    (λ t i info h. facts_of file tree t info (placed_lie file tree t o.is_consistent i) (track_is_placed file m tree o t i) h)) o.tracks
 
 -- and of the track at a place
 pub track_facts_at : (file : List ℕ) (m : MovieSeen) (tree : FileTree) (k : ℕ) (info : TrackInfo) (t : TrackTree) → IsOpenedAs file m tree

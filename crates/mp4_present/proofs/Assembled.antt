@@ -25,7 +25,8 @@ use Rattle.mp4_head.specs.declared.heads.TrackHead.{TrackHead}
 use Rattle.mp4_present.specs.declared.opening.FoundTracks.{FoundTracks}
 use Rattle.mp4_present.specs.format.Denotes.{Denotes, FileTree, IsFileTree, IsSoundFile, IsConsistent, sample_of, plain_of, placed_of, first_due, track_of, file_parts, presentation_of}
 use Rattle.mp4_present.specs.words.Measured.{IsMeasured, AreMeasured, IsMeasure}
-use Rattle.mp4_present.specs.words.OpenedMovie.{IsInfoBy, AreInfosBy, IsInfoOf, IsOpenedAs, kept_of, plain_seen}
+use Rattle.mp4_boxes.proofs.Each.{each_from}
+use Rattle.mp4_present.specs.words.OpenedMovie.{IsInfoBy, AreInfosBy, IsInfoOf, IsOpenedAs, IsReadSound, kept_of, plain_seen}
 use Rattle.mp4_present.specs.words.OwnTrafs.{own_seen, AreOwn}
 use Rattle.mp4_present.specs.words.PassedMoofs.{IsBegun, IsPassed}
 use Rattle.mp4_present.specs.words.Passing.{seen_behind}
@@ -39,6 +40,7 @@ use Rattle.mp4_present.proofs.SampleTotals.{few_samples}
 use Rattle.mp4_present.proofs.Opened.{IsRead, its_moov, tracks_read}
 use Rattle.mp4_frag.proofs.RunsTied.{duration-append}
 use Rattle.mp4_tables.proofs.Sums.{sum_joined as sum-append}
+use Rattle.mp4_present.proofs.ToldTrees.{read_tree, shown_own}
 
 -- ---- behind the tables
 
@@ -106,6 +108,14 @@ total_is file (s ∷ samples) = ap (λ (n : ℕ). s.duration + n) (total_is file
 -- a track's timescale is not 0
 pub timescale_there : (t : TrackTree) → IsTrackTree t → IsSoundTrack t → 0 < (track_head_of t).media.timescale
 timescale_there t k s = eqb_zero _ (sound_one (ruled rules.Media) (codes "mdhd") mdhd refl t.media s.media (holds_only k.media (codes "mdhd") refl)).value
+
+-- what is read of a sound tree
+pub read_sound : (file : List ℕ) (t : FileTree) → IsFileTree file t → IsSoundFile t → IsReadSound t
+read_sound file t h s = record {
+  fragments = s.fragments;
+  timescales = each_from IsTrackTree IsSoundTrack (λ (u : TrackTree). 0 < (track_head_of u).media.timescale) timescale_there t.movie.tracks h.movie.tracks s.movie.tracks;
+  track_ids = s.movie.track_ids;
+}
 
 module _ (file : List ℕ) (tree : FileTree) (t : TrackTree) (h : TrackHead) (s : TrackState) (i : IsTrackOf t h) (e : track_seen s ≡ seen_behind tree.movie (file_parts tree) t) where
   abbrev track : Track
@@ -247,10 +257,10 @@ module _ (honest : Bool) (file : List ℕ) (o : Outline) (moov : List ℕ) (b : 
       let k = r.outline told in
       let kept : HaveTables (length file) moov (trexes_of says.has.tree) says.has.tree.tracks found.plain = subst (λ (x : PlainTracks). HaveTables (length file) moov (trexes_of says.has.tree) says.has.tree.tracks x) (sym same) have in
       record {
-        is_tree = is_file_tree;
-        is_sound = is_sound_file;
+        shown = shown_own file tree (record { is_tree = is_file_tree; is_sound = is_sound_file; is_consistent = is_consistent_file; bytes = record { moov = begin.bytes; moofs = p.bytes } });
+        is_tree = read_tree file tree is_file_tree;
+        is_sound = read_sound file tree is_file_tree is_sound_file;
         is_consistent = is_consistent_file;
-        bytes = record { moov = begin.bytes; moofs = p.bytes };
         limits = record { samples = few_samples file tree states p.room begin.movie_is p.behind; times = times; moov = short };
         whole = e;
         moov = sym r.is ∙ sym says.has.is_moov;

@@ -98,3 +98,8 @@ pub mod TrafFails
 pub mod JudgedRefused
 pub mod TracksFound
 pub mod NotedTracks
+pub mod Changed
+pub mod TellingWaits
+pub mod ToldTrees
+pub mod WaitsMeasured
+pub mod WaitsTold

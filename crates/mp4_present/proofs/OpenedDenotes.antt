@@ -1,11 +1,12 @@
 -- An opened movie is one of the presentation that its file denotes.
-use Rattle.std.proofs.Common.{List, ℕ, [], ◌∷◌, map, refl}
+use Rattle.std.proofs.Common.{List, ℕ, [], ◌∷◌, map}
 use Rattle.std.specs.List.{AllZip}
 use Rattle.mp4_head.specs.format.Tree.{TrackTree}
 use Rattle.mp4_present.specs.format.Denotes.{FileTree, file_parts, track_of, presentation_of}
 use Rattle.mp4_present.specs.words.Movies.{MovieSeen}
-use Rattle.mp4_present.specs.words.OpenedMovie.{IsInfoOf, IsOpenedAs, IsTrackIn, OpensAs}
+use Rattle.mp4_present.specs.words.OpenedMovie.{IsInfoOf, IsOpenedOwn, IsTrackIn, OpensAs}
 use Rattle.mp4_present.specs.declared.track_info.TrackInfo.{TrackInfo}
+use Rattle.mp4_present.proofs.ToldTrees.{file_denotes}
 
 tracks_in : (file : List ℕ) (tree : FileTree) (ts : List TrackTree) (infos : List TrackInfo) → AllZip (IsInfoOf file tree) ts infos → AllZip IsTrackIn (map (track_of file (file_parts tree)) ts) infos
 tracks_in file tree [] [] z = z
@@ -16,9 +17,9 @@ tracks_in file tree (t ∷ ts) (info ∷ infos) z = (
   tracks_in file tree ts infos z.1,
 )
 
-pub opened_denotes : (file : List ℕ) (m : MovieSeen) (tree : FileTree) → IsOpenedAs file m tree → OpensAs file m
+pub opened_denotes : (file : List ℕ) (m : MovieSeen) (tree : FileTree) → IsOpenedOwn file m tree → OpensAs file m
 opened_denotes file m tree o = (
   presentation_of file tree,
-  record { tree = tree; is_tree = o.is_tree; is_sound = o.is_sound; is_consistent = o.is_consistent; says = refl; limits = o.limits },
-  record { tracks = tracks_in file tree tree.movie.tracks m.tracks o.tracks; mehd = o.mehd },
+  file_denotes file m tree o,
+  record { tracks = tracks_in file tree tree.movie.tracks m.tracks o.opened.tracks; mehd = o.opened.mehd },
 )

@@ -14,6 +14,7 @@ use Rattle.mp4_frag.proofs.SaidSamples.{tree_said}
 use Rattle.mp4_head.specs.format.Head as heads
 use Rattle.mp4_head.specs.format.Tree.{TrackTree, MovieTree, IsSoundMovie, are_distinct, track_head_of, trexes_of}
 use Rattle.mp4_present.specs.format.Denotes.{FileTree, IsFileTree}
+use Rattle.mp4_present.specs.words.OpenedMovie.{IsReadSound, IsReadTree}
 use Rattle.mp4_present.specs.words.OwnTrafs.{own_of}
 use Rattle.mp4_present.specs.words.SamplesComing.{own_trafs, traf_total, walk_room}
 use Rattle.mp4_present.specs.words.WalkSteps.{moof_steps, moofs_steps, trafs_steps}
@@ -79,8 +80,11 @@ heads_ids : (tracks : List TrackTree) → map (λ (t : heads.TrackHead). t.id) (
 heads_ids [] = refl
 heads_ids (t ∷ tracks) = ap (λ ids. (track_head_of t).id ∷ ids) (heads_ids tracks)
 
+ids_apart : (tree : FileTree) → are_distinct (map (λ (h : heads.TrackHead). h.id) (map track_head_of tree.movie.tracks)) ≡ true → AreApartIds (ids_of tree.movie.tracks)
+ids_apart tree e = all_apart (ids_of tree.movie.tracks) (ap are_distinct (sym (heads_ids tree.movie.tracks)) ∙ e)
+
 pub tracks_apart : (tree : FileTree) → IsSoundMovie tree.movie → AreApartIds (ids_of tree.movie.tracks)
-tracks_apart tree sound = all_apart (ids_of tree.movie.tracks) (ap are_distinct (sym (heads_ids tree.movie.tracks)) ∙ sound.track_ids)
+tracks_apart tree sound = ids_apart tree sound.track_ids
 
 pub owns_few : (file : List ℕ) (tree : FileTree) → IsFileTree file tree → IsSoundMovie tree.movie → sum_of (λ (t : TrackTree). trafs_steps (own_trafs tree t)) tree.movie.tracks ≤ moofs_steps tree.fragments
 owns_few file tree h sound =
@@ -93,12 +97,12 @@ rooms_few tree [] = omega arith
 rooms_few tree (t ∷ tracks) = omega (arith, longest_few (own_trafs tree t), rooms_few tree tracks)
 
 -- the rooms of walks over all tracks are together no longer than the `traf`s of the file
-pub rooms_within : (file : List ℕ) (tree : FileTree) → IsFileTree file tree → IsSoundMovie tree.movie → sum_of (walk_room tree) tree.movie.tracks ≤ traf_total tree
+pub rooms_within : (file : List ℕ) (tree : FileTree) → IsReadTree file tree → IsReadSound tree → sum_of (walk_room tree) tree.movie.tracks ≤ traf_total tree
 rooms_within file tree h sound =
     omega (
       arith,
       rooms_few tree tree.movie.tracks,
-      all_few payload_length traf_payloads tree.movie (λ f own ids apart. owns_payloads (trexes_of tree.movie) ids f own apart) tree.fragments tree.movie.tracks h.fragments (tracks_apart tree sound),
+      all_few payload_length traf_payloads tree.movie (λ f own ids apart. owns_payloads (trexes_of tree.movie) ids f own apart) tree.fragments tree.movie.tracks h.fragments (ids_apart tree sound.track_ids),
     )
 
 payloads_few : (fs : List FragmentTree) → AllByRecursion IsFragmentTree fs → sum_of traf_payloads fs ≤ sum_of (λ (b : Box). length b.payload) (map (λ (f : FragmentTree). f.moof) fs)
@@ -106,7 +110,7 @@ payloads_few [] h = omega arith
 payloads_few (f ∷ fs) h = omega (arith, trafs_within f h.0, payloads_few fs h.1)
 
 -- and the `traf`s no longer than the file
-pub trafs_few : (file : List ℕ) (tree : FileTree) → IsFileTree file tree → traf_total tree ≤ length file
+pub trafs_few : (file : List ℕ) (tree : FileTree) → IsReadTree file tree → traf_total tree ≤ length file
 trafs_few file tree h =
     let moofs = ap (sum_of (λ (b : Box). length b.payload)) h.moofs in
     omega (arith, payloads_few tree.fragments h.fragments, moofs, payloads_kept (codes "moof") tree.top, sizes_fit true 0 file tree.top h.top.tiles.front.0)

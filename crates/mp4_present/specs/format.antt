@@ -5,3 +5,4 @@ pub mod Stands
 pub mod FaultNumbers
 pub mod Judge
 pub mod JudgeLaws
+pub mod Waiting

@@ -11,8 +11,11 @@ pub mod Joined
 pub mod Plain
 pub mod Carried
 pub mod Opening
+pub mod HeadsRead
+pub mod ToldTrees
 pub mod OpenedMovie
 pub mod OpeningLaws
+pub mod Waits
 pub mod TrackTrees
 pub mod Measured
 pub mod Passing

@@ -2,6 +2,7 @@
 use crate::own_trafs::OwnTrafs;
 use crate::reading::TopBox;
 use crate::track_info::TrackInfo;
+use crate::waiting::told;
 use mp4_boxes::{BoxView, FourCc, Memory};
 use mp4_frag::{OwnTraf, TrackState, Trex};
 use mp4_head::{MovieHead, read_head};
@@ -44,10 +45,12 @@ pub struct Movie {
     /// Which `traf`s have samples of each track.
     pub(crate) own: Vec<OwnTrafs>,
     pub(crate) mehd: u64,
+    /// How many microseconds each track waits, where that is said in the place of its edits.
+    pub(crate) waits: Option<Vec<u64>>,
 }
 
 impl Model for Movie {
-    ghost use Rattle.std.specs.Prelude.{map};
+    ghost use Rattle.std.specs.Prelude.{map, option_map};
     ghost use Rattle.mp4_present.specs.words.Movies.{MovieSeen, IsMovie};
     ghost use Rattle.mp4_present.specs.words.OwnTrafs.{own_seen};
 
@@ -64,6 +67,7 @@ impl Model for Movie {
       tracks = m.tracks.items;
       own = map own_seen m.own.items;
       mehd = m.mehd;
+      waits = option_map (λ w. w.items) m.waits;
     } };
 
     ghost invariant = { λ m. IsMovie (record {
@@ -77,22 +81,30 @@ impl Model for Movie {
       tracks = m.tracks.items;
       own = map own_seen m.own.items;
       mehd = m.mehd;
+      waits = option_map (λ w. w.items) m.waits;
     }) };
 }
 
 impl Movie {
     ghost use Rattle.std.specs.Prelude.{◌≡◌, ◌+◌, ◌^◌, ◌<◌, ◌≤◌, length, slice_get, Some, IfOk, IfSome};
-    ghost use Rattle.mp4_head.specs.words.Found.{SaysHead};
-    ghost use Rattle.mp4_present.specs.words.Movies.{IsMovie, moov_box, own_room, tables_seen, trex_at};
+    ghost use Rattle.mp4_present.specs.words.HeadsRead.{SaysMovie};
+    ghost use Rattle.mp4_present.specs.words.Movies.{IsMovie, own_room, tables_seen, trex_at};
     ghost use Rattle.mp4_frag.specs.words.OwnTrafs.{OwnSeen};
     ghost use Rattle.mp4_present.specs.declared.movie.TrackTables.{TrackTables};
 
-    /// What the movie and its tracks say of themselves, read anew from the bytes of the `moov`.
+    /// What the movie and its tracks say of themselves, read anew from the bytes of the `moov`;
+    /// where tracks are told to wait, they say that in the place of their edits.
     pub fn head(&self, alloc: Global) -> Result<MovieHead<'_>, Memory>
-        ensures { IfOk result (SaysHead (moov_box self.entry.now)) }
+        ensures { IfOk result (SaysMovie self.entry.now) }
     {
         let view = self.top.view(self.moov.as_slice());
-        read_head(alloc, view).map_err(|_| Memory)
+        let Ok(head) = read_head(alloc, view) else {
+            return Err(Memory);
+        };
+        match &self.waits {
+            None => Ok(head),
+            Some(waits) => told(alloc, head, waits.as_slice()),
+        }
     }
 
     /// The tracks in numbers, in the order of the `moov`.

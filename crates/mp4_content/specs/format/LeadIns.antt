@@ -1,13 +1,14 @@
 -- What is left of a presentation where it doesn't count how its tracks begin, but how long each of
 -- them waits. That a track begins later can be said by when its samples begin (8.8.12), by their
--- composition offsets (8.6.1.3) and by edits (8.6.6). Here it is said by one empty edit. Nothing
--- else stays of the edits of such a track, also not where the last one cuts it off; other edits
--- last whole microseconds.
-use Rattle.std.specs.Prelude.{ℕ, zero, ◌-◌, ◌*◌, ◌/◌, ◌^◌, ◌==◌, min, max, ◌&&◌, ◌||◌, Bool, true, false, if◌then◌else◌, List, [], ◌∷◌, map, filter, ℤ, pos, negsuc, ◌+ℤ◌, ◌-ℤ◌, ◌*ℤ◌}
+-- composition offsets (8.6.1.3) and by edits (8.6.6). Here each track begins at 0, and one empty
+-- edit says how much later than the first of them it begins. Where the edits of some track say
+-- more, all edits stay.
+use Rattle.std.specs.Prelude.{ℕ, zero, ◌-◌, ◌*◌, ◌/◌, ◌^◌, ◌==◌, min, max, not, ◌&&◌, ◌||◌, Bool, true, false, if◌then◌else◌, List, [], ◌∷◌, map, filter, ℤ, pos, negsuc, ◌+ℤ◌, ◌-ℤ◌, ◌*ℤ◌}
 use Rattle.std.specs.List.{list_any}
 use Rattle.mp4_boxes.specs.format.Bytes.{sum_of}
 use Rattle.mp4_head.specs.format.Head.{Edit}
 use Rattle.mp4_present.specs.format.Presentation.{Sample, Track, Presentation}
+use Rattle.mp4_present.specs.format.Waiting.{microseconds, waiting_all}
 use Rattle.mp4_content.specs.format.Reduced.{first_offset}
 use Rattle.mp4_content.specs.format.Timescales.{scaled}
 use Rattle.mp4_content.specs.declared.without.Without.{Without}
@@ -52,23 +53,34 @@ abbrev pub shown_from : List Edit → ℤ
 shown_from [] = pos 0
 shown_from (e ∷ edits) = if is_empty e then shown_from edits else e.media_time
 
--- ---- simple tracks
+-- ---- tracks
 
-abbrev pub has_samples : List Sample → Bool
-has_samples [] = false
-has_samples (s ∷ samples) = true
+abbrev pub some_sample : List Sample → Bool
+some_sample [] = false
+some_sample (s ∷ samples) = true
 
--- The edits of a simple track say when it begins, and nothing else but where it is cut off.
-abbrev pub is_simple : Track → Bool
-is_simple t = has_samples t.samples && (is_last t.head.edits || is_lead_in t.head.edits)
+abbrev pub has_samples : Track → Bool
+has_samples t = some_sample t.samples
+
+-- Its edits say when it begins, and nothing else but where it is cut off.
+abbrev pub begins_simply : Track → Bool
+begins_simply t = is_last t.head.edits || is_lead_in t.head.edits
+
+-- it is shown, and its edits say more
+abbrev pub says_more : Track → Bool
+says_more t = has_samples t && not (begins_simply t)
+
+-- Some track has samples, and of each that has some the edits say no more than when it begins.
+abbrev pub says_beginnings : Presentation → Bool
+says_beginnings p = list_any has_samples p.tracks && not (list_any says_more p.tracks)
 
 -- a time: so many ticks, of which so many are a second
 pub record Moment : Type 0 where
   pub ticks : ℤ
   pub scale : ℕ
 
--- When the first sample of a simple track is shown, in a movie of this timescale: after its empty
--- edits, which last so many ticks of the movie, and so many ticks of the track.
+-- When the first sample of a track is shown, in a movie of this timescale: after its empty edits,
+-- which last so many ticks of the movie, and so many ticks of the track.
 abbrev pub first_shown : ℕ → Track → Moment
 first_shown scale t = record {
   ticks = pos (waits t.head.edits * t.head.media.timescale)
@@ -77,7 +89,7 @@ first_shown scale t = record {
 }
 
 abbrev pub first_moments : ℕ → List Track → List Moment
-first_moments scale tracks = map (first_shown scale) (filter is_simple tracks)
+first_moments scale tracks = map (first_shown scale) (filter has_samples tracks)
 
 -- ---- delays
 
@@ -85,9 +97,6 @@ first_moments scale tracks = map (first_shown scale) (filter is_simple tracks)
 abbrev pub from_0 : ℤ → ℕ
 from_0 (pos n) = n
 from_0 (negsuc n) = 0
-
-abbrev pub microseconds : ℕ
-microseconds = 10 ^ 6
 
 -- as long as an edit can last: that has 64 bits (8.6.6)
 abbrev pub max_duration : ℕ
@@ -106,56 +115,38 @@ delay (y ∷ moments) x = max (later x y) (delay moments x)
 
 -- ---- what is left
 
--- A track that waits so many microseconds: none has no edits. The second edit lasts as long as the
--- track (8.6.6).
-abbrev pub waiting : ℕ → List Edit
-waiting wait = if wait == 0 then [] else record {
-  segment_duration = wait;
-  media_time = negsuc 0;
-  rate_integer = pos 1;
-  rate_fraction = pos 0;
-} ∷ record {
-  segment_duration = 0;
-  media_time = pos 0;
-  rate_integer = pos 1;
-  rate_fraction = pos 0;
-} ∷ []
+-- how long the tracks of a presentation wait, each as this says of when it begins: one without
+-- samples for nothing
+abbrev pub wait_of : ℕ → (Moment → ℕ) → Track → ℕ
+wait_of scale wait t = if has_samples t then wait (first_shown scale t) else 0
+
+abbrev pub waits_by : (Moment → ℕ) → Presentation → List ℕ
+waits_by wait p = map (wait_of p.movie.timescale wait) p.tracks
+
+-- how much later than the first of them
+abbrev pub delays_of : Presentation → List ℕ
+delays_of p = waits_by (delay (first_moments p.movie.timescale p.tracks)) p
+
+-- Edits that say how long each track waits, where its own say no more than that.
+abbrev pub told_by : (Moment → ℕ) → Presentation → Presentation
+told_by wait p = if says_beginnings p then waiting_all (waits_by wait p) p else p
 
 abbrev pub offset_less : ℤ → Sample → Sample
 offset_less first s = record s { offset = s.offset -ℤ first }
 
--- a simple track that waits so many microseconds
-abbrev pub begin_after : ℕ → Track → Track
-begin_after wait t = record t {
-  head = record t.head { edits = waiting wait };
+-- a track that begins at 0
+abbrev pub begun : Track → Track
+begun t = record t {
   start = 0;
   samples = map (offset_less (first_offset t.samples)) t.samples;
 }
 
--- how long an edit lasts in microseconds, rounded down, in a movie of this timescale: this too
--- counts as far as 64 bits go
-abbrev pub edit_in_microseconds : ℕ → Edit → Edit
-edit_in_microseconds scale e = record e {
-  segment_duration = min max_duration (e.segment_duration * microseconds / scale);
-}
+abbrev pub all_begun : Presentation → Presentation
+all_begun p = record p { tracks = map begun p.tracks }
 
--- any other track
-abbrev pub in_microseconds : ℕ → Track → Track
-in_microseconds scale t = record t {
-  head = record t.head { edits = map (edit_in_microseconds scale) t.head.edits };
-}
-
--- a track in a movie of this timescale: a simple one waits as long as this says
-abbrev pub wait_track : ℕ → (Moment → ℕ) → Track → Track
-wait_track scale wait t =
-    if is_simple t then begin_after (wait (first_shown scale t)) t else in_microseconds scale t
-
--- A presentation of which each simple track waits as long as this says, where one is simple.
+-- Each track begins at 0 and waits as long as this says, where edits say no more than beginnings.
 abbrev pub wait_each : (Moment → ℕ) → Presentation → Presentation
-wait_each wait p = if list_any is_simple p.tracks then record {
-  movie = record p.movie { timescale = microseconds };
-  tracks = map (wait_track p.movie.timescale wait) p.tracks;
-} else p
+wait_each wait p = all_begun (told_by wait p)
 
 -- What is left where, if this is true, it doesn't count how tracks begin.
 abbrev pub waited : Bool → Presentation → Presentation
@@ -164,3 +155,13 @@ waited b p = if b then wait_each (delay (first_moments p.movie.timescale p.track
 -- All that is left: how tracks begin comes first, and timescales last.
 abbrev pub kept : Bool → Bool → Without → Presentation → Presentation
 kept b c l p = scaled c l (waited b p)
+
+-- ---- the same by words
+
+-- Origins are left out too.
+abbrev pub with_origins : Bool → Without → Without
+with_origins b l = record l { origins = l.origins || b }
+
+-- edits say how long tracks wait, if this is true
+abbrev pub told : Bool → Presentation → Presentation
+told b p = if b then told_by (delay (first_moments p.movie.timescale p.tracks)) p else p

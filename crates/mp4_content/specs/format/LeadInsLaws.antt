@@ -3,7 +3,7 @@
 use Rattle.std.specs.Prelude.{◌≡◌, ◌↔◌, ◌⊎◌, ℕ, ◌+◌, ◌*◌, ◌<◌, ◌≤◌, Bool, false, true, if◌then◌else◌, List, [], ◌∷◌, map, ℤ, pos, ◌+ℤ◌, ◌*ℤ◌}
 use Rattle.std.specs.List.{AllByRecursion, AllZip}
 use Rattle.mp4_present.specs.format.Presentation.{Track, Presentation, Valid, IsInTime, normal_moov_length, max_moov}
-use Rattle.mp4_content.specs.format.LeadIns.{is_simple, Moment, first_moments, later, delay, wait_each, waited, kept}
+use Rattle.mp4_content.specs.format.LeadIns.{has_samples, says_beginnings, Moment, first_moments, later, delay, delays_of, wait_each, waited, kept, with_origins, told}
 use Rattle.mp4_content.specs.format.Reduced.{reduce, HasNearOffsets}
 use Rattle.mp4_content.specs.format.ReducedLaws.{nothing}
 use Rattle.mp4_content.specs.format.CoveringLaws.{Covers}
@@ -41,18 +41,17 @@ DelayIsFromFirst = (y : Moment) (moments : List Moment)
 
 -- ---- what counts
 
--- how many microseconds each simple track waits
+-- how many microseconds each track waits, where edits say no more than when tracks begin
 abbrev pub delays : Presentation → List ℕ
-delays p =
-    let moments = first_moments p.movie.timescale p.tracks in
-    map (delay moments) moments
+delays p = if says_beginnings p then delays_of p else []
 
--- what is left apart from how long its simple tracks wait: none of them waits, and none is cut off
+-- What is left apart from how long tracks wait: none waits, and none is cut off. Where edits say
+-- more it is all that is left.
 abbrev pub unwaited : Presentation → Presentation
 unwaited p = wait_each (λ x. 0) p
 
--- The same is left exactly if what is left apart from that is the same, and each simple track waits
--- as long.
+-- The same is left exactly if what is left apart from that is the same, and each track waits as
+-- long. (So it is never the same where the edits of one say more, and those of the other don't.)
 abbrev pub WaitedIsExact : Type 0
 WaitedIsExact = (p q : Presentation) → (waited true p ≡ waited true q)
     ↔ ((unwaited p ≡ unwaited q) × (delays p ≡ delays q))
@@ -65,8 +64,8 @@ abbrev pub BeginsLater : ℤ → ℕ → Moment → Moment → Type 0
 BeginsLater step scale x y =
     y.ticks *ℤ pos (x.scale * scale) ≡ (x.ticks *ℤ pos scale +ℤ step *ℤ pos x.scale) *ℤ pos y.scale
 
--- Where each simple track of one begins by the same step later than that of the other, and all else
--- is the same, the same is left: also where it isn't a whole number of microseconds.
+-- Where each track with samples begins by the same step later in one than in the other, and all
+-- else is the same, the same is left: also where it isn't a whole number of microseconds.
 abbrev pub StepCountsNot : Type 0
 StepCountsNot = (p q : Presentation) (step : ℤ) (scale : ℕ) → HasTimescales p → HasTimescales q
     → 0 < scale → unwaited p ≡ unwaited q
@@ -74,10 +73,11 @@ StepCountsNot = (p q : Presentation) (step : ℤ) (scale : ℕ) → HasTimescale
     (first_moments q.movie.timescale q.tracks)
     → waited true p ≡ waited true q
 
--- a presentation whose simple tracks begin so many seconds later
+-- a presentation whose tracks begin so many seconds later: those with samples
 abbrev pub start_later : ℕ → Track → Track
-start_later seconds t = if is_simple t
-    then record t { start = t.start + seconds * t.head.media.timescale } else t
+start_later seconds t = record t {
+  start = if has_samples t then t.start + seconds * t.head.media.timescale else t.start;
+}
 
 abbrev pub all_later : ℕ → Presentation → Presentation
 all_later seconds p = record p { tracks = map (start_later seconds) p.tracks }
@@ -143,7 +143,8 @@ HidesBeginnings l = (p : Presentation) × (q : Presentation) × Valid p × Valid
     × (reduce l p ≡ reduce l q) × (kept true false l p ≡ kept true false l q → ⊥)
 
 -- Origins hide when samples begin, of which how long a track waits is made. So does timing. Edits
--- hide that a track isn't simple.
+-- hide that they say more: then the movie's timescale stays, and else it becomes that of
+-- microseconds.
 abbrev pub OriginsHideBeginnings : Type 0
 OriginsHideBeginnings = HidesBeginnings only_origins
 
@@ -158,13 +159,23 @@ abbrev pub ChangesAgain : Without → Type 0
 ChangesAgain l = (p : Presentation) × Valid p
     × (kept true false l (kept true false l p) ≡ kept true false l p → ⊥)
 
--- Without timing the edits that stay are in microseconds, and the movie's timescale is 1,000.
+-- Without timing the edits of tracks that wait are in microseconds, and the movie's timescale is
+-- 1,000.
 abbrev pub TimingChangesAgain : Type 0
 TimingChangesAgain = ChangesAgain only_timing
 
--- Without edits a track that isn't simple begins where it did, and is simple then.
+-- Edits that say more are gone the second time: so the movie's timescale becomes that of
+-- microseconds.
 abbrev pub EditsChangeAgain : Type 0
 EditsChangeAgain = ChangesAgain only_edits
+
+-- ---- by words
+
+-- What is left is what is left without origins of a presentation whose edits say how long tracks
+-- wait.
+abbrev pub KeptIsTold : Type 0
+KeptIsTold = (b c : Bool) (l : Without) (p : Presentation)
+    → kept b c l p ≡ scaled c (with_origins b l) (told b p)
 
 -- ---- valid
 

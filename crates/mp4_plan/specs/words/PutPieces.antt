@@ -6,7 +6,6 @@ use Rattle.mp4_boxes.specs.format.Written.{header_bytes}
 use Rattle.mp4_tables.specs.format.Groups.{GroupKey}
 use Rattle.mp4_present.specs.words.Carried.{BytesGoOn}
 use Rattle.mp4_head.specs.format.Writing as written
-use Rattle.mp4_head.specs.words.Found.{SaysHead}
 use Rattle.mp4_head.specs.words.Seen.{movie_seen, tracks_seen}
 use Rattle.mp4_head.specs.declared.heads.MovieHead.{MovieHead}
 use Rattle.mp4_content.specs.format.Reduced.{number_heads}
@@ -14,10 +13,11 @@ use Rattle.mp4_content.specs.format.Remaining.{remaining_movie}
 use Rattle.mp4_content.specs.words.Divided.{remaining_heads}
 use Rattle.mp4_content.specs.words.Scales.{AreOnes}
 use Rattle.mp4_content.specs.declared.scales.Scales.{Scales}
-use Rattle.mp4_present.specs.words.Movies.{MovieSeen, moov_box}
+use Rattle.mp4_present.specs.words.Movies.{MovieSeen}
 use Rattle.mp4_content.specs.declared.content.Content.{Content}
 use Rattle.mp4_content.specs.declared.without.Without.{Without}
 use Rattle.mp4_present.specs.declared.track_info.TrackInfo.{TrackInfo}
+use Rattle.mp4_present.specs.words.HeadsRead.{SaysMovie}
 use Rattle.mp4_plan.specs.words.Sizes.{moof_sizes}
 use Rattle.mp4_plan.specs.words.Spelling.{moof_front, run_rows}
 use Rattle.mp4_plan.specs.words.UsedKeys.{some_groups}
@@ -83,7 +83,7 @@ pub record IsPutWhole (m : MovieSeen) (Took : List ℕ → Type 0) (head : List 
 pub record IsLeftOf (m : MovieSeen) (l : Without) (scales : Scales) (head : MovieHead)
     : Type 0 where
   pub own : MovieHead
-  pub says : SaysHead (moov_box m) own
+  pub says : SaysMovie m own
   pub ones : l.timescales ≡ false → AreOnes scales
   pub movie : movie_seen head ≡ remaining_movie l scales.movie (movie_seen own)
   pub tracks : tracks_seen head

@@ -52,6 +52,8 @@ pub record MovieSeen : Type 0 where
   -- for each track in order, which `traf`s have samples of it
   pub own : List OwnSeen
   pub mehd : ℕ
+  -- how long each track waits, where that is said in the place of the movie's own edits
+  pub waits : Option (List ℕ)
 
 -- how long the longest of a track's `traf`s is, where there is such a track, and no longer than the
 -- longest `moof` of the file

@@ -1,23 +1,27 @@
 -- What an opened movie is of the file that it was opened from.
-use Rattle.std.specs.Prelude.{◌≡◌, ℕ, ◌+◌, ◌-◌, ◌^◌, min, List, [], ◌∷◌, ⊤, length, map, codes}
+use Rattle.std.specs.Prelude.{◌≡◌, ℕ, ◌+◌, ◌-◌, ◌^◌, ◌<◌, min, List, [], ◌∷◌, ⊤, length, map, Option, None, true, codes}
 use Rattle.std.specs.List.{AllByRecursion, AllZip}
 use Rattle.mp4_boxes.specs.format.Bytes.{sum_of, AreBytes}
-use Rattle.mp4_boxes.specs.format.Children.{of_kind}
+use Rattle.mp4_boxes.specs.format.Box.{box_container, file_container}
+use Rattle.mp4_boxes.specs.format.Children.{Holds, of_kind}
+use Rattle.mp4_boxes.specs.declared.rule.Rule.TheVariants as rules
 use Rattle.mp4_tables.specs.words.Accepted.{tables_at}
 use Rattle.mp4_tables.specs.words.Keys.{keys_seen}
 use Rattle.mp4_tables.specs.format.PlainSamples.{PlacedSample}
 use Rattle.mp4_tables.specs.format.Tables.{tables_of}
-use Rattle.mp4_frag.specs.format.Fragments.{FragmentTree}
+use Rattle.mp4_frag.specs.format.Fragments.{FragmentTree, IsFragmentTree}
 use Rattle.mp4_frag.specs.format.FragmentSamples.{trex_for, duration_of, keys_behind, bytes_of}
 use Rattle.mp4_frag.specs.words.Judged.{TrackSeen, track_seen}
 use Rattle.mp4_present.specs.words.OwnTrafs.{own_seen, AreOwn}
 use Rattle.mp4_frag.specs.declared.trex.Trex.{Trex}
-use Rattle.mp4_head.specs.format.Tree.{TrackTree, stbl_of, track_head_of, trexes_of}
+use Rattle.mp4_head.specs.format.Head as heads
+use Rattle.mp4_head.specs.format.Tree.{TrackTree, are_distinct, stbl_of, track_head_of, trexes_of}
 use Rattle.mp4_present.specs.format.Presentation.{Track, Presentation, IsWithinLimits, max_samples, movie_length, total_duration}
-use Rattle.mp4_present.specs.format.Denotes.{FileTree, Denotes, IsFileTree, IsSoundFile, IsConsistent, plain_of, plain_keys, file_parts, parts_of_track, placed_of, track_of, presentation_of}
+use Rattle.mp4_present.specs.format.Denotes.{FileTree, Denotes, IsFileTree, IsSoundFile, IsSoundFragment, IsConsistent, begins_with_movie, plain_of, plain_keys, file_parts, parts_of_track, placed_of, track_of, presentation_of}
 use Rattle.mp4_present.specs.format.Stands.{table_total}
 use Rattle.mp4_present.specs.words.Movies.{MovieSeen, moov_box, table_bytes}
 use Rattle.mp4_present.specs.words.Outline.{longest}
+use Rattle.mp4_present.specs.words.ToldTrees.{IsTold}
 use Rattle.mp4_frag.specs.declared.state.TrackState.{TrackState}
 use Rattle.mp4_head.specs.declared.heads.TrackHead.{TrackHead}
 use Rattle.mp4_present.specs.declared.opening.FoundTracks.{FoundTracks}
@@ -78,12 +82,46 @@ pub record AreOfBytes (t : FileTree) : Type 0 where
   pub moov : AreBytes t.movie.moov.payload
   pub moofs : AllByRecursion (λ (f : FragmentTree). AreBytes f.moof.payload) t.fragments
 
--- The file denotes the presentation of its boxes, and this is what is kept of it.
-pub record IsOpenedAs (file : List ℕ) (m : MovieSeen) (t : FileTree) : Type 0 where
+-- the tree of the file's own boxes, in which nothing is refused
+pub record IsTreeOf (file : List ℕ) (t : FileTree) : Type 0 where
   pub is_tree : IsFileTree file t
   pub is_sound : IsSoundFile t
   pub is_consistent : IsConsistent file t
   pub bytes : AreOfBytes t
+
+-- it is that, or the same but for how long tracks are told to wait
+unfoldable pub IsShownOf : List ℕ → Option (List ℕ) → FileTree → Type 0
+IsShownOf file waits t = (own : FileTree) × IsTreeOf file own × IsTold waits own t
+
+-- a `trak` has these boxes
+abbrev pub HoldsTrack : TrackTree → Type 0
+HoldsTrack t = Holds rules.Track (box_container t.trak) t.track
+
+-- It has the file's own boxes and fragments, and each `trak` its own boxes.
+pub record IsReadTree (file : List ℕ) (t : FileTree) : Type 0 where
+  pub top : Holds rules.File (file_container file) t.top
+  pub order : begins_with_movie t.top ≡ true
+  pub moov : of_kind (codes "moov") t.top ≡ t.movie.moov ∷ []
+  pub moofs : map (λ (f : FragmentTree). f.moof) t.fragments ≡ of_kind (codes "moof") t.top
+  pub fragments : AllByRecursion IsFragmentTree t.fragments
+  pub tracks : AllByRecursion HoldsTrack t.movie.tracks
+
+-- The leaves of its fragments can be read; the timescale of each track is above 0, and its ID is no
+-- other's.
+pub record IsReadSound (t : FileTree) : Type 0 where
+  pub fragments : AllByRecursion IsSoundFragment t.fragments
+  pub timescales : AllByRecursion (λ (track : TrackTree).
+      0 < (track_head_of track).media.timescale) t.movie.tracks
+  pub track_ids : are_distinct
+      (map (λ (h : heads.TrackHead). h.id) (map track_head_of t.movie.tracks)) ≡ true
+
+-- This is what is kept of a movie, whose tracks wait or don't: a presentation of its boxes, or of
+-- those that say how long they wait.
+pub record IsOpenedAs (file : List ℕ) (m : MovieSeen) (t : FileTree) : Type 0 where
+  pub shown : IsShownOf file m.waits t
+  pub is_tree : IsReadTree file t
+  pub is_sound : IsReadSound t
+  pub is_consistent : IsConsistent file t
   pub limits : IsWithinLimits (presentation_of file t)
   pub whole : m.file_len ≡ length file
   pub moov : moov_box m ≡ t.movie.moov
@@ -95,6 +133,11 @@ pub record IsOpenedAs (file : List ℕ) (m : MovieSeen) (t : FileTree) : Type 0 
   pub tracks : AllZip (IsInfoOf file t) t.movie.tracks m.tracks
   pub own : AreOwn t.movie t.fragments m.own
   pub mehd : m.mehd ≡ movie_length (presentation_of file t)
+
+-- the same of a movie whose tracks are not told to wait
+pub record IsOpenedOwn (file : List ℕ) (m : MovieSeen) (t : FileTree) : Type 0 where
+  pub opened : IsOpenedAs file m t
+  pub own_edits : m.waits ≡ None
 
 -- the numbers that are kept of a track are its own
 pub record IsTrackIn (t : Track) (info : TrackInfo) : Type 0 where
@@ -127,4 +170,5 @@ kept_of o moov file_length f = record {
   tracks = f.tracks.items;
   own = map own_seen f.own.items;
   mehd = f.mehd;
+  waits = None;
 }

@@ -4,12 +4,13 @@ use Rattle.mp4_boxes.specs.declared.refusal.Refusal.{Refusal}
 use Rattle.mp4_present.specs.format.Denotes.{Denotes, FileTree}
 use Rattle.mp4_present.specs.format.Presentation.{Presentation}
 use Rattle.mp4_present.specs.words.Movies.{MovieSeen}
-use Rattle.mp4_present.specs.words.OpenedMovie.{IsOpenedAs, OpensAs}
+use Rattle.mp4_present.specs.words.OpenedMovie.{IsOpenedAs, IsOpenedOwn, OpensAs}
 use Rattle.mp4_present.specs.words.Opening.{IsOpened, RefusesDenoted, RefusesOpen}
 
--- A file that was opened denotes a presentation, and the movie shows that one.
+-- A file that was opened denotes a presentation, and the movie shows that one where its tracks are
+-- not told to wait.
 abbrev pub OpenedDenotes : Type 0
-OpenedDenotes = (file : List ℕ) (m : MovieSeen) (tree : FileTree) → IsOpenedAs file m tree
+OpenedDenotes = (file : List ℕ) (m : MovieSeen) (tree : FileTree) → IsOpenedOwn file m tree
     → OpensAs file m
 
 -- A movie keeps the length of its file, its one `moov`, and how long the longest `moof` is.

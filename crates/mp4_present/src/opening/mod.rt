@@ -5,7 +5,7 @@ ghost use Rattle.std.specs.List.{AllByRecursion};
 ghost use Rattle.mp4_present.specs.words.Movies.{Fills, IsWhole};
 ghost use Rattle.mp4_head.specs.declared.heads.TrackHead.{TrackHead};
 ghost use Rattle.mp4_present.specs.format.Denotes.{FileTree};
-ghost use Rattle.mp4_present.specs.words.OpenedMovie.{IsInfoBy, IsOpenedAs, kept_of};
+ghost use Rattle.mp4_present.specs.words.OpenedMovie.{IsInfoBy, IsOpenedAs, IsOpenedOwn, kept_of};
 ghost use Rattle.mp4_present.specs.words.Opening.{HasOutline, RefusesOpen};
 ghost use Rattle.mp4_present.specs.words.Refusing.{RefusesSearch};
 ghost use Rattle.mp4_present.specs.words.FileJudged.{NamesBehindTop, NamesJudged};
@@ -132,7 +132,7 @@ pub fn open_movie<S: Store, L: Ledger, M: Ledger>(
 ) -> Result<Movie, Refusal>
     ensures store { OnlyReads S.Store store.old store.new result }
     ensures movie { WhereRead S.Store store.old result
-        (λ file m. (t : FileTree) × IsOpenedAs file m t) }
+        (λ file m. (t : FileTree) × IsOpenedOwn file m t) }
     ensures ids { WhereRead S.Store store.old result (λ file m. HasTracks file m.tracks) }
     ensures work { WhereHonest S.Store store.old (λ file.
         ChecksFile file result steps.old.passed steps.new.passed steps.old.looks steps.new.looks) }
@@ -167,5 +167,6 @@ pub fn open_movie<S: Store, L: Ledger, M: Ledger>(
         tracks,
         own,
         mehd,
+        waits: None,
     })
 }

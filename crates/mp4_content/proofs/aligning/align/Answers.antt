@@ -1,4 +1,5 @@
 use Rattle.std.proofs.Common.{arith}
+use Rattle.std.proofs.lemmas.Result.{err_from_is_err_and}
 use Rattle.mp4_content.proofs.aligning.align.Goals as goal
 
 pub returns-clause-aligned : goal.returns-clause-aligned
@@ -18,3 +19,8 @@ returns-clause-work g c told told_right tree other o p =
     let first = e.work told told_right tree other o p in
     let then = (rw (e.stores.left.honesty, e.stores.left.file, e.stores.right.honesty, e.stores.right.file) at c.align_scaled.ensures.work) told told_right tree other o p in
     omega (arith, first, then)
+
+pub returns-in_err-scales-clause-unchanged : goal.returns-in_err-scales-clause-unchanged
+returns-in_err-scales-clause-unchanged g c told told_right tree other o q =
+    let p = err_from_is_err_and c.from_residual.result c.from_residual.ensures.1 in
+    rw (p.1, p.2) (c.in_err-scales.ensures.unchanged told told_right tree other o q)

@@ -1,4 +1,4 @@
-use Rattle.std.proofs.Common.{rules, ◌≡◌, ◌-◌, List, length, drop, sym, ap, ◌∙◌, arith}
+use Rattle.std.proofs.Common.{rules, ◌≡◌, ℕ, ◌-◌, ◌≤◌, List, length, drop, sym, ap, subst, ◌∙◌, arith}
 use Rattle.std.proofs.lemmas.List.{length-drop}
 use Rattle.std.proofs.lemmas.Result.{err_from_is_err_and}
 use Rattle.mp4_tables.specs.declared.sample.SampleAt.{SampleAt}
@@ -99,4 +99,4 @@ returns-clause-work g c told tree t n o h =
     writes_on file m tree o t c.args.reduction count w n h c.requires mid now _ _ _ (λ rest may. (let k = takes told tree t rest o may in (k.0, c.mark.ensures.may file tree t k.0 k.1, k.2)))
     f.went.grows (marked_ahead m mid last now number c.mark.ensures.mark f.went.ahead) r.0.samples (c.mark.ensures.coming file tree t m r.0.samples r.0.comes) (marked_is last now number c.mark.ensures.mark ∙ ap (mark_of now) (left ∙ same))
     (c.mark.ensures.walk m walk.goes_on walk.place walk.rest)
-    (some_or_none c.args.reduction m now c.in_ok-next.next (drop count h.left) r.0.samples r.0.is_left r.1 (λ some. marked_has m last now number c.mark.ensures.mark (f.some some))) (sym same) (omega (arith, next, on)) x
+    (some_or_none c.args.reduction m now c.in_ok-next.next (drop count h.left) r.0.samples r.0.is_left r.1 (λ some. marked_has m last now number c.mark.ensures.mark (f.some some))) (sym same) (subst (λ (k : ℕ). k ≤ mid.next) next on) x

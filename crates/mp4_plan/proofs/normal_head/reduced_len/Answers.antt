@@ -94,3 +94,17 @@ returns-in_err-len-clause-unchanged g c told tree o =
     let back = sym made.store.file in
     rw (p.1, p.2) (c.in_err-len.ensures.unchanged (subst IsTrue (sym made.store.honesty) told) tree (subst (λ (f : List ℕ). IsOpenedAs f c.args.movie.now tree) back o)
     (subst (λ (f : List ℕ). AreScales l f tree content.scales) back left.scales) (subst (λ (f : List ℕ). content.of_tracks.items ≡ reductions_of l f tree) back left.reductions) (subst (λ (f : List ℕ). RemainsInRange l (presentation_of f tree)) back left.in_limits.in_range))
+
+pub returns-in_err-len-clause-work : goal.returns-in_err-len-clause-work
+returns-in_err-len-clause-work g c told tree o =
+    let same = c.in_ok-content.ensures.store in
+    let first = c.in_ok-content.ensures.work told tree o in
+    let then = (rw (same.honesty, same.file) at c.in_err-len.ensures.work) told tree o in
+    omega (arith, first, then)
+
+pub returns-in_err-read-clause-work : goal.returns-in_err-read-clause-work
+returns-in_err-read-clause-work g c told tree o =
+    let same = c.in_ok-content.ensures.store in
+    let first = c.in_ok-content.ensures.work told tree o in
+    let then = (rw (same.honesty, same.file) at c.in_ok-len.ensures.work) told tree o in
+    omega (arith, first, then)

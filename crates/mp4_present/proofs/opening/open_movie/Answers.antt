@@ -1,4 +1,4 @@
-use Rattle.std.proofs.Common.{◌≡◌, ℕ, length, subst, sym, ap, ◌∙◌}
+use Rattle.std.proofs.Common.{◌≡◌, ℕ, length, refl, subst, sym, ap, ◌∙◌}
 use Rattle.std.proofs.lemmas.Result.{err_from_is_err_and}
 use Rattle.mp4_present.proofs.FileChecked.{none_checked, refused_as, found_as}
 use Rattle.mp4_present.specs.words.OpenedMovie.{IsOpenedAs, kept_of}
@@ -13,7 +13,7 @@ returns-clause-movie g c = λ told.
     let found = c.in_ok-plain.field-0 in
     let r = (rw (moov.honesty, outline.store.honesty, moov.file, outline.store.file, c.as_slice.ensures.value) at c.in_ok-plain.ensures.movie) told in
     let len : length file ≡ c.len-file_len.result = ap length (sym (moov.file ∙ outline.store.file)) ∙ sym c.len-file_len.ensures in
-    (r.0, subst (λ (n : ℕ). IsOpenedAs file (kept_of c.in_ok-outline.outline c.in_ok-moov.moov.items n found) r.0) len r.1)
+    (r.0, record { opened = subst (λ (n : ℕ). IsOpenedAs file (kept_of c.in_ok-outline.outline c.in_ok-moov.moov.items n found) r.0) len r.1; own_edits = refl })
 
 pub returns-in_err-outline-clause-work : goal.returns-in_err-outline-clause-work
 returns-in_err-outline-clause-work g c = λ told. none_checked _ _ _ _

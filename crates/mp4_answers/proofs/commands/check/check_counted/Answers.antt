@@ -1,6 +1,7 @@
 use Rattle.std.proofs.Common.{◌≡◌, ℕ, List, [], refl, arith}
 use Rattle.std.proofs.lemmas.Result.{err_from_is_err_and}
 use Rattle.mp4_present.specs.format.Denotes.{presentation_of}
+use Rattle.mp4_present.proofs.ToldTrees.{file_tree_is}
 use Rattle.mp4_plan.specs.format.Normal.{normal}
 use Rattle.mp4_answers.specs.format.Answers.{IsFaultOf}
 use Rattle.mp4_answers.specs.format.Headline.{HasNormalForm}
@@ -37,7 +38,7 @@ returns-in_err-open_movie-clause-work g c = λ told.
 pub returns-clause-work : goal.returns-clause-work
 returns-clause-work g c = λ told.
     let o = c.in_ok-open_movie.ensures.movie told in
-    looked_within _ _ _ c.in_ok-open_movie.field-0 o.0 o.1 ((c.in_ok-open_movie.ensures.work told).work o.0 o.1.is_tree)
+    looked_within _ _ _ c.in_ok-open_movie.field-0 o.0 o.1 ((c.in_ok-open_movie.ensures.work told).work o.0 (file_tree_is _ _ o.0 o.1))
 
 pub returns-in_err-open_movie-clause-looks : goal.returns-in_err-open_movie-clause-looks
 returns-in_err-open_movie-clause-looks g c = λ told.

@@ -33,7 +33,7 @@ returns-in-Err-text_of-clause-answer g c =
       refusal = together (RefusesOpen (g.S.Store.is_honest c.args.left.now) (g.S.Store.file c.args.left.now) (g.S.Store.read_failures c.args.left.now) (g.S.Store.read_failures c.text_of.new.left))
           (RefusesOpen (g.T.Store.is_honest c.args.right.now) (g.T.Store.file c.args.right.now) (g.T.Store.read_failures c.args.right.now) (g.T.Store.read_failures c.text_of.new.right))
           _ _ _ _ _ _ (g.K.Sink.takes c.args.sink.now c.args.sink.now) (g.met.K.Sink.takes_nothing c.args.sink.now) (g.K.Sink.put_failures c.args.sink.now) c.in-Err-text_of.refusal c.failed_together.result c.failed_together.ensures.side c.failed_together.ensures.refusal cause
-          (λ told right. let a = left.movie told in let b = next.movie right in (opened told right a.0 b.0 a.1 b.1).0);
+          (λ told right. let a = left.movie told in let b = next.movie right in (opened told right a.0 b.0 a.1.opened b.1.opened).0);
     }
 
 pub returns-in-Err-text_of-clause-work : goal.returns-in-Err-text_of-clause-work
@@ -50,7 +50,7 @@ returns-in-Ok-put_found-clause-verdict g c = λ told right.
     let a = left.movie told in
     let b = next.movie right in
     let said = rw (left.store.honesty, left.store.file, next.store.honesty, next.store.file) at c.in-Ok-text_of.ensures.said in
-    verdict c.args.asked.leaving _ _ _ _ c.in-Ok-text_of.found c.in-Ok-put_found.same c.in-Ok-put_found.ensures.is a b (said told right a.0 b.0 a.1 b.1)
+    verdict c.args.asked.leaving _ _ _ _ c.in-Ok-text_of.found c.in-Ok-put_found.same c.in-Ok-put_found.ensures.is a b (said told right a.0 b.0 a.1.opened b.1.opened)
 
 pub returns-in-Ok-put_found-clause-work : goal.returns-in-Ok-put_found-clause-work
 returns-in-Ok-put_found-clause-work g c = λ told right.
@@ -112,4 +112,4 @@ returns-in-Ok-put_found-clause-told g c = λ differ told right.
     let a = left.movie told in
     let b = next.movie right in
     let found = rw (left.store.honesty, left.store.file, next.store.honesty, next.store.file) at c.in-Ok-text_of.ensures.told in
-    told_of (λ bytes. bytes.items) c.args.asked.listing c.args.asked.leaving _ _ _ _ c.in-Ok-text_of.found c.in-Ok-put_found.same _ c.in-Ok-put_found.ensures.is differ c.in-Ok-put_found.ensures.all a b (found told right a.0 b.0 a.1 b.1)
+    told_of (λ bytes. bytes.items) c.args.asked.listing c.args.asked.leaving _ _ _ _ c.in-Ok-text_of.found c.in-Ok-put_found.same _ c.in-Ok-put_found.ensures.is differ c.in-Ok-put_found.ensures.all a b (found told right a.0 b.0 a.1.opened b.1.opened)

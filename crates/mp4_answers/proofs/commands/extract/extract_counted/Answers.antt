@@ -3,6 +3,7 @@ use Rattle.std.proofs.lemmas.Result.{err_from_is_err_and}
 use Rattle.mp4_present.specs.words.SamplesComing.{track_samples}
 use Rattle.mp4_present.proofs.WalkCopied.{on_ok, on_err}
 use Rattle.mp4_present.specs.words.Joined.{sample_bytes}
+use Rattle.mp4_present.proofs.ToldTrees.{file_tree_is}
 use Rattle.mp4_answers.specs.format.Answers.{IsFaultOf}
 use Rattle.mp4_answers.specs.format.FileTexts.{HasData, LacksTrack}
 use Rattle.mp4_answers.specs.format.Run.{run_of, Honest}
@@ -40,16 +41,16 @@ returns-clause-answer g c =
     (on_ok _ _ c.copy_track.result (λ all told.
     let o = e.movie told in
     let f = track_found file c.in_ok-movie.movie o.0 c.in_ok-track.track c.args.id o.1 (rw c.tracks.ensures at c.in_ok-track.ensures.within) (rw c.tracks.ensures at c.in_ok-track.ensures.track) in
-    (sample_bytes file (track_samples o.0 f.t), has_data file o.0 c.in_ok-track.track c.args.id f, all told o.0 f.t o.1 f.is_there)) bytes)
+    (sample_bytes file (track_samples o.0 f.t), has_data file o.0 c.in_ok-track.track c.args.id f, all told o.0 f.t o.1.opened f.is_there)) bytes)
     (rw e.store.reads at y.refusal)
     (λ told.
     let o = e.movie told in
     let f = track_found file c.in_ok-movie.movie o.0 c.in_ok-track.track c.args.id o.1 (rw c.tracks.ensures at c.in_ok-track.ensures.within) (rw c.tracks.ensures at c.in_ok-track.ensures.track) in
-    on_err _ _ c.copy_track.result (λ all. (sample_bytes file (track_samples o.0 f.t), has_data file o.0 c.in_ok-track.track c.args.id f, all told o.0 f.t o.1 f.is_there)) prefix)
+    on_err _ _ c.copy_track.result (λ all. (sample_bytes file (track_samples o.0 f.t), has_data file o.0 c.in_ok-track.track c.args.id f, all told o.0 f.t o.1.opened f.is_there)) prefix)
     (λ told.
     let o = e.movie told in
     let f = track_found file c.in_ok-movie.movie o.0 c.in_ok-track.track c.args.id o.1 (rw c.tracks.ensures at c.in_ok-track.ensures.within) (rw c.tracks.ensures at c.in_ok-track.ensures.track) in
-    unchanged told o.0 f.t o.1 f.is_there)
+    unchanged told o.0 f.t o.1.opened f.is_there)
 
 pub returns-clause-store : goal.returns-clause-store
 returns-clause-store g c =
@@ -66,15 +67,15 @@ returns-in_err-movie-clause-work g c = λ told.
 pub returns-in_err-track-clause-work : goal.returns-in_err-track-clause-work
 returns-in_err-track-clause-work g c = λ told.
     let o = c.in_ok-movie.ensures.movie told in
-    looked_within _ _ _ c.in_ok-movie.movie o.0 o.1 ((c.in_ok-movie.ensures.work told).work o.0 o.1.is_tree)
+    looked_within _ _ _ c.in_ok-movie.movie o.0 o.1 ((c.in_ok-movie.ensures.work told).work o.0 (file_tree_is _ _ o.0 o.1))
 
 pub returns-clause-work : goal.returns-clause-work
 returns-clause-work g c = λ told.
     let file = g.S.Store.file c.args.store.now in
     let o = c.in_ok-movie.ensures.movie told in
     let f = track_found file c.in_ok-movie.movie o.0 c.in_ok-track.track c.args.id o.1 (rw c.tracks.ensures at c.in_ok-track.ensures.within) (rw c.tracks.ensures at c.in_ok-track.ensures.track) in
-    let walk = (rw (c.in_ok-movie.ensures.store.honesty, c.in_ok-movie.ensures.store.file) at c.copy_track.ensures.work) told o.0 f.t o.1 f.is_there in
-    walked_within file _ _ c.in_ok-movie.movie o.0 _ c.in_ok-track.track f.t o.1 ((c.in_ok-movie.ensures.work told).work o.0 o.1.is_tree) f.is_there walk
+    let walk = (rw (c.in_ok-movie.ensures.store.honesty, c.in_ok-movie.ensures.store.file) at c.copy_track.ensures.work) told o.0 f.t o.1.opened f.is_there in
+    walked_within file _ _ c.in_ok-movie.movie o.0 _ c.in_ok-track.track f.t o.1 ((c.in_ok-movie.ensures.work told).work o.0 (file_tree_is _ _ o.0 o.1)) f.is_there walk
 
 pub returns-in_err-movie-clause-least : goal.returns-in_err-movie-clause-least
 returns-in_err-movie-clause-least g c =

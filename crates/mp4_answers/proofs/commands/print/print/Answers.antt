@@ -4,6 +4,7 @@ use Rattle.mp4_head.specs.format.Head.{MovieHead}
 use Rattle.mp4_store.specs.words.Device.{TakesPrefix}
 use Rattle.mp4_present.specs.words.Carried.{BytesGoOn, waiting}
 use Rattle.mp4_present.proofs.WalkCopied.{on_err, on_ok}
+use Rattle.mp4_present.proofs.ToldTrees.{file_tree_is}
 use Rattle.mp4_answers.specs.format.Answers.{IsFaultOf}
 use Rattle.mp4_answers.specs.format.FileTexts.{PrintsText}
 use Rattle.mp4_answers.specs.format.Run.{run_of}
@@ -29,7 +30,7 @@ returns-in_err-scales-clause-answer g c =
     let r = run_of g.S.Store c.args.store.now c.of.new.store g.K.Sink c.args.sink.now c.args.sink.now in
     let unchanged = rw (e.honesty, e.file) at c.in_err-scales.ensures.unchanged in
     rw (p.1, p.2) (plan_fails (Unit {0}) r (PrintsText c.args.leaving r.file) (IsFaultOf r.file) ⊥ c.in_err-scales.field-0.0 (g.met.K.Sink.takes_nothing c.args.sink.now) (rw e.reads at c.in_err-scales.ensures.refusal)
-    (λ told. let o = c.in_ok-movie.ensures.movie told in unchanged told o.0 o.1))
+    (λ told. let o = c.in_ok-movie.ensures.movie told in unchanged told o.0 o.1.opened))
 
 pub returns-in_err-head-clause-answer : goal.returns-in_err-head-clause-answer
 returns-in_err-head-clause-answer g c =
@@ -80,7 +81,7 @@ returns-in_err-carry-clause-answer g c =
     let new = c.carry.new.sink in
     let first = rw (c.in_ok-desk.ensures.text, c.as_slice-2.ensures.value, c.in_ok-front.ensures) at c.in_err-carry.ensures.prefix in
     rw (p.1, p.2) (put_fails (Unit {0}) r (PrintsText l file) (IsFaultOf file) ⊥ c.in_err-carry.field-0.0 c.in_err-carry.ensures.refusal
-    (λ told. let o = c.in_ok-movie.ensures.movie told in first_fails l file m o.0 head o.1 says scales (are told o.0 o.1) joins sink new new new new new nothing [] [] [] [] first))
+    (λ told. let o = c.in_ok-movie.ensures.movie told in first_fails l file m o.0 head o.1 says scales (are told o.0 o.1.opened) joins sink new new new new new nothing [] [] [] [] first))
 
 pub returns-in_err-put_movie-clause-answer : goal.returns-in_err-put_movie-clause-answer
 returns-in_err-put_movie-clause-answer g c =
@@ -102,7 +103,7 @@ returns-in_err-put_movie-clause-answer g c =
     let first = rw (c.in_ok-desk.ensures.text, c.as_slice-2.ensures.value, c.in_ok-front.ensures) at c.in_ok-carry.ensures.bytes in
     rw (p.1, p.2) (put_fails (Unit {0}) r (PrintsText l file) (IsFaultOf file) ⊥ c.in_err-put_movie.field-0.0 (rw c.in_ok-carry.ensures.puts at c.in_err-put_movie.ensures.refusal)
     (λ told. let o = c.in_ok-movie.ensures.movie told in
-    movie_fails l file m o.0 head o.1 says scales (are told o.0 o.1) joins sink c.carry.new.sink new new new new nothing (waiting c.carry.new.self) [] [] [] first
+    movie_fails l file m o.0 head o.1 says scales (are told o.0 o.1.opened) joins sink c.carry.new.sink new new new new nothing (waiting c.carry.new.self) [] [] [] first
     (subst (λ (x : MovieHead). TakesPrefix (g.K.Sink.takes c.carry.new.sink new) (waiting c.carry.new.self ++ movie_lines x)) c.in_ok-left.ensures.movie c.in_err-put_movie.ensures.front)))
 
 pub returns-in_err-put_tracks-clause-answer : goal.returns-in_err-put_tracks-clause-answer
@@ -130,9 +131,9 @@ returns-in_err-put_tracks-clause-answer g c =
     rw (p.1, p.2) (carry_fails (Unit {0}) r (PrintsText l file) (IsFaultOf file) ⊥ c.in_err-put_tracks.field-0.0 (rw (f.reads, e.reads, c.in_ok-put_movie.ensures.puts ∙ c.in_ok-carry.ensures.puts) at y.refusal)
     (λ told.
     let o = c.in_ok-movie.ensures.movie told in
-    let t = tracks told o.0 o.1 (heads_remain l file m o.0 head o.1 says scales (are told o.0 o.1) _ c.in_ok-left.ensures.tracks) in
-    tracks_fail l file m o.0 head o.1 says scales (are told o.0 o.1) joins sink c.carry.new.sink c.put_movie.new.sink new new new nothing (waiting c.carry.new.self) (waiting c.put_movie.new.carrier) [] [] first movie t.lines.text.front)
-    (λ told. let o = c.in_ok-movie.ensures.movie told in (tracks told o.0 o.1 (heads_remain l file m o.0 head o.1 says scales (are told o.0 o.1) _ c.in_ok-left.ensures.tracks)).lines.unchanged))
+    let t = tracks told o.0 o.1.opened (heads_remain l file m o.0 head o.1 says scales (are told o.0 o.1.opened) _ c.in_ok-left.ensures.tracks) in
+    tracks_fail l file m o.0 head o.1 says scales (are told o.0 o.1.opened) joins sink c.carry.new.sink c.put_movie.new.sink new new new nothing (waiting c.carry.new.self) (waiting c.put_movie.new.carrier) [] [] first movie t.lines.text.front)
+    (λ told. let o = c.in_ok-movie.ensures.movie told in (tracks told o.0 o.1.opened (heads_remain l file m o.0 head o.1 says scales (are told o.0 o.1.opened) _ c.in_ok-left.ensures.tracks)).lines.unchanged))
 
 pub returns-in_err-carry-2-clause-answer : goal.returns-in_err-carry-2-clause-answer
 returns-in_err-carry-2-clause-answer g c =
@@ -159,8 +160,8 @@ returns-in_err-carry-2-clause-answer g c =
     rw (p.1, p.2) (put_fails (Unit {0}) r (PrintsText l file) (IsFaultOf file) ⊥ c.in_err-carry-2.field-0.0 (rw (y.store.puts ∙ c.in_ok-put_movie.ensures.puts ∙ c.in_ok-carry.ensures.puts) at c.in_err-carry-2.ensures.refusal)
     (λ told.
     let o = c.in_ok-movie.ensures.movie told in
-    let t = tracks told o.0 o.1 (heads_remain l file m o.0 head o.1 says scales (are told o.0 o.1) _ c.in_ok-left.ensures.tracks) in
-    last_fails l file m o.0 head o.1 says scales (are told o.0 o.1) joins sink c.carry.new.sink c.put_movie.new.sink c.put_tracks.new.sink new new nothing (waiting c.carry.new.self) (waiting c.put_movie.new.carrier) (waiting c.put_tracks.new.desk.text) [] first movie t.lines.text.all
+    let t = tracks told o.0 o.1.opened (heads_remain l file m o.0 head o.1 says scales (are told o.0 o.1.opened) _ c.in_ok-left.ensures.tracks) in
+    last_fails l file m o.0 head o.1 says scales (are told o.0 o.1.opened) joins sink c.carry.new.sink c.put_movie.new.sink c.put_tracks.new.sink new new nothing (waiting c.carry.new.self) (waiting c.put_movie.new.carrier) (waiting c.put_tracks.new.desk.text) [] first movie t.lines.text.all
     c.in_err-carry-2.ensures.prefix))
 
 pub returns-clause-answer : goal.returns-clause-answer
@@ -188,18 +189,18 @@ returns-clause-answer g c =
     put_answers (Unit {0}) r (PrintsText l file) (IsFaultOf file) ⊥ c.flush.result (ok_anyway _ c.flush.result (y.store.reads ∙ f.reads ∙ e.reads)) (rw same at c.flush.ensures.puts)
     (told_ok _ _ c.flush.result (λ told.
     let o = c.in_ok-movie.ensures.movie told in
-    let t = tracks told o.0 o.1 (heads_remain l file m o.0 head o.1 says scales (are told o.0 o.1) _ c.in_ok-left.ensures.tracks) in
+    let t = tracks told o.0 o.1.opened (heads_remain l file m o.0 head o.1 says scales (are told o.0 o.1.opened) _ c.in_ok-left.ensures.tracks) in
     on_ok _ _ c.flush.result
-    (λ put. all_printed l file m o.0 head o.1 says scales (are told o.0 o.1) joins sink c.carry.new.sink c.put_movie.new.sink c.put_tracks.new.sink c.carry-2.new.sink new nothing (waiting c.carry.new.self) (waiting c.put_movie.new.carrier) (waiting c.put_tracks.new.desk.text)
+    (λ put. all_printed l file m o.0 head o.1 says scales (are told o.0 o.1.opened) joins sink c.carry.new.sink c.put_movie.new.sink c.put_tracks.new.sink c.carry-2.new.sink new nothing (waiting c.carry.new.self) (waiting c.put_movie.new.carrier) (waiting c.put_tracks.new.desk.text)
     (waiting c.carry-2.new.self)
     first movie t.lines.text.all c.in_ok-carry-2.ensures.bytes put)
     c.flush.ensures.bytes))
     (rw same at c.flush.ensures.refusal)
     (λ told.
     let o = c.in_ok-movie.ensures.movie told in
-    let t = tracks told o.0 o.1 (heads_remain l file m o.0 head o.1 says scales (are told o.0 o.1) _ c.in_ok-left.ensures.tracks) in
+    let t = tracks told o.0 o.1.opened (heads_remain l file m o.0 head o.1 says scales (are told o.0 o.1.opened) _ c.in_ok-left.ensures.tracks) in
     on_err _ _ c.flush.result
-    (λ put. end_fails l file m o.0 head o.1 says scales (are told o.0 o.1) joins sink c.carry.new.sink c.put_movie.new.sink c.put_tracks.new.sink c.carry-2.new.sink new nothing (waiting c.carry.new.self) (waiting c.put_movie.new.carrier) (waiting c.put_tracks.new.desk.text)
+    (λ put. end_fails l file m o.0 head o.1 says scales (are told o.0 o.1.opened) joins sink c.carry.new.sink c.put_movie.new.sink c.put_tracks.new.sink c.carry-2.new.sink new nothing (waiting c.carry.new.self) (waiting c.put_movie.new.carrier) (waiting c.put_tracks.new.desk.text)
     (waiting c.carry-2.new.self)
     first movie t.lines.text.all c.in_ok-carry-2.ensures.bytes put)
     c.flush.ensures.prefix)
@@ -238,63 +239,63 @@ returns-in_err-scales-clause-work g c = λ told.
     let o = c.in_ok-movie.ensures.movie told in
     let e = c.in_ok-movie.ensures.store in
     let scaled = rw (e.honesty, e.file) at c.in_err-scales.ensures.work in
-    printed_within c.args.leaving _ c.in_ok-movie.movie o.0 _ _ _ _ o.1 ((c.in_ok-movie.ensures.work told).work o.0 o.1.is_tree) (scaled told o.0 o.1) (omega arith)
+    printed_within c.args.leaving _ c.in_ok-movie.movie o.0 _ _ _ _ o.1 ((c.in_ok-movie.ensures.work told).work o.0 (file_tree_is _ _ o.0 o.1)) (scaled told o.0 o.1.opened) (omega arith)
 
 pub returns-in_err-head-clause-work : goal.returns-in_err-head-clause-work
 returns-in_err-head-clause-work g c = λ told.
     let o = c.in_ok-movie.ensures.movie told in
     let e = c.in_ok-movie.ensures.store in
     let scaled = rw (e.honesty, e.file) at c.in_ok-scales.ensures.work in
-    printed_within c.args.leaving _ c.in_ok-movie.movie o.0 _ _ _ _ o.1 ((c.in_ok-movie.ensures.work told).work o.0 o.1.is_tree) (scaled told o.0 o.1) (omega arith)
+    printed_within c.args.leaving _ c.in_ok-movie.movie o.0 _ _ _ _ o.1 ((c.in_ok-movie.ensures.work told).work o.0 (file_tree_is _ _ o.0 o.1)) (scaled told o.0 o.1.opened) (omega arith)
 
 pub returns-in_err-own-clause-work : goal.returns-in_err-own-clause-work
 returns-in_err-own-clause-work g c = λ told.
     let o = c.in_ok-movie.ensures.movie told in
     let e = c.in_ok-movie.ensures.store in
     let scaled = rw (e.honesty, e.file) at c.in_ok-scales.ensures.work in
-    printed_within c.args.leaving _ c.in_ok-movie.movie o.0 _ _ _ _ o.1 ((c.in_ok-movie.ensures.work told).work o.0 o.1.is_tree) (scaled told o.0 o.1) (omega arith)
+    printed_within c.args.leaving _ c.in_ok-movie.movie o.0 _ _ _ _ o.1 ((c.in_ok-movie.ensures.work told).work o.0 (file_tree_is _ _ o.0 o.1)) (scaled told o.0 o.1.opened) (omega arith)
 
 pub returns-in_err-left-clause-work : goal.returns-in_err-left-clause-work
 returns-in_err-left-clause-work g c = λ told.
     let o = c.in_ok-movie.ensures.movie told in
     let e = c.in_ok-movie.ensures.store in
     let scaled = rw (e.honesty, e.file) at c.in_ok-scales.ensures.work in
-    printed_within c.args.leaving _ c.in_ok-movie.movie o.0 _ _ _ _ o.1 ((c.in_ok-movie.ensures.work told).work o.0 o.1.is_tree) (scaled told o.0 o.1) (omega arith)
+    printed_within c.args.leaving _ c.in_ok-movie.movie o.0 _ _ _ _ o.1 ((c.in_ok-movie.ensures.work told).work o.0 (file_tree_is _ _ o.0 o.1)) (scaled told o.0 o.1.opened) (omega arith)
 
 pub returns-in_err-front-clause-work : goal.returns-in_err-front-clause-work
 returns-in_err-front-clause-work g c = λ told.
     let o = c.in_ok-movie.ensures.movie told in
     let e = c.in_ok-movie.ensures.store in
     let scaled = rw (e.honesty, e.file) at c.in_ok-scales.ensures.work in
-    printed_within c.args.leaving _ c.in_ok-movie.movie o.0 _ _ _ _ o.1 ((c.in_ok-movie.ensures.work told).work o.0 o.1.is_tree) (scaled told o.0 o.1) (omega arith)
+    printed_within c.args.leaving _ c.in_ok-movie.movie o.0 _ _ _ _ o.1 ((c.in_ok-movie.ensures.work told).work o.0 (file_tree_is _ _ o.0 o.1)) (scaled told o.0 o.1.opened) (omega arith)
 
 pub returns-in_err-walks-clause-work : goal.returns-in_err-walks-clause-work
 returns-in_err-walks-clause-work g c = λ told.
     let o = c.in_ok-movie.ensures.movie told in
     let e = c.in_ok-movie.ensures.store in
     let scaled = rw (e.honesty, e.file) at c.in_ok-scales.ensures.work in
-    printed_within c.args.leaving _ c.in_ok-movie.movie o.0 _ _ _ _ o.1 ((c.in_ok-movie.ensures.work told).work o.0 o.1.is_tree) (scaled told o.0 o.1) (omega arith)
+    printed_within c.args.leaving _ c.in_ok-movie.movie o.0 _ _ _ _ o.1 ((c.in_ok-movie.ensures.work told).work o.0 (file_tree_is _ _ o.0 o.1)) (scaled told o.0 o.1.opened) (omega arith)
 
 pub returns-in_err-desk-clause-work : goal.returns-in_err-desk-clause-work
 returns-in_err-desk-clause-work g c = λ told.
     let o = c.in_ok-movie.ensures.movie told in
     let e = c.in_ok-movie.ensures.store in
     let scaled = rw (e.honesty, e.file) at c.in_ok-scales.ensures.work in
-    printed_within c.args.leaving _ c.in_ok-movie.movie o.0 _ _ _ _ o.1 ((c.in_ok-movie.ensures.work told).work o.0 o.1.is_tree) (scaled told o.0 o.1) (omega arith)
+    printed_within c.args.leaving _ c.in_ok-movie.movie o.0 _ _ _ _ o.1 ((c.in_ok-movie.ensures.work told).work o.0 (file_tree_is _ _ o.0 o.1)) (scaled told o.0 o.1.opened) (omega arith)
 
 pub returns-in_err-carry-clause-work : goal.returns-in_err-carry-clause-work
 returns-in_err-carry-clause-work g c = λ told.
     let o = c.in_ok-movie.ensures.movie told in
     let e = c.in_ok-movie.ensures.store in
     let scaled = rw (e.honesty, e.file) at c.in_ok-scales.ensures.work in
-    printed_within c.args.leaving _ c.in_ok-movie.movie o.0 _ _ _ _ o.1 ((c.in_ok-movie.ensures.work told).work o.0 o.1.is_tree) (scaled told o.0 o.1) (omega arith)
+    printed_within c.args.leaving _ c.in_ok-movie.movie o.0 _ _ _ _ o.1 ((c.in_ok-movie.ensures.work told).work o.0 (file_tree_is _ _ o.0 o.1)) (scaled told o.0 o.1.opened) (omega arith)
 
 pub returns-in_err-put_movie-clause-work : goal.returns-in_err-put_movie-clause-work
 returns-in_err-put_movie-clause-work g c = λ told.
     let o = c.in_ok-movie.ensures.movie told in
     let e = c.in_ok-movie.ensures.store in
     let scaled = rw (e.honesty, e.file) at c.in_ok-scales.ensures.work in
-    printed_within c.args.leaving _ c.in_ok-movie.movie o.0 _ _ _ _ o.1 ((c.in_ok-movie.ensures.work told).work o.0 o.1.is_tree) (scaled told o.0 o.1) (omega arith)
+    printed_within c.args.leaving _ c.in_ok-movie.movie o.0 _ _ _ _ o.1 ((c.in_ok-movie.ensures.work told).work o.0 (file_tree_is _ _ o.0 o.1)) (scaled told o.0 o.1.opened) (omega arith)
 
 pub returns-in_err-put_tracks-clause-work : goal.returns-in_err-put_tracks-clause-work
 returns-in_err-put_tracks-clause-work g c = λ told.
@@ -304,9 +305,9 @@ returns-in_err-put_tracks-clause-work g c = λ told.
     let f = c.in_ok-scales.ensures.store in
     let are = rw (e.honesty, e.file) at c.in_ok-scales.ensures.scales in
     let scaled = rw (e.honesty, e.file) at c.in_ok-scales.ensures.work in
-    let walks = ((rw (f.honesty, f.file, e.honesty, e.file, c.as_slice-heads.ensures.value) at c.in_err-put_tracks.ensures.told) told o.0 o.1
-    (heads_remain c.args.leaving file c.in_ok-movie.movie o.0 c.in_ok-head.head o.1 c.in_ok-head.ensures c.in_ok-scales.scales (are told o.0 o.1) _ c.in_ok-left.ensures.tracks)).steps in
-    printed_within c.args.leaving file c.in_ok-movie.movie o.0 _ _ _ _ o.1 ((c.in_ok-movie.ensures.work told).work o.0 o.1.is_tree) (scaled told o.0 o.1) walks
+    let walks = ((rw (f.honesty, f.file, e.honesty, e.file, c.as_slice-heads.ensures.value) at c.in_err-put_tracks.ensures.told) told o.0 o.1.opened
+    (heads_remain c.args.leaving file c.in_ok-movie.movie o.0 c.in_ok-head.head o.1 c.in_ok-head.ensures c.in_ok-scales.scales (are told o.0 o.1.opened) _ c.in_ok-left.ensures.tracks)).steps in
+    printed_within c.args.leaving file c.in_ok-movie.movie o.0 _ _ _ _ o.1 ((c.in_ok-movie.ensures.work told).work o.0 (file_tree_is _ _ o.0 o.1)) (scaled told o.0 o.1.opened) walks
 
 pub returns-in_err-carry-2-clause-work : goal.returns-in_err-carry-2-clause-work
 returns-in_err-carry-2-clause-work g c = λ told.
@@ -316,9 +317,9 @@ returns-in_err-carry-2-clause-work g c = λ told.
     let f = c.in_ok-scales.ensures.store in
     let are = rw (e.honesty, e.file) at c.in_ok-scales.ensures.scales in
     let scaled = rw (e.honesty, e.file) at c.in_ok-scales.ensures.work in
-    let walks = ((rw (f.honesty, f.file, e.honesty, e.file, c.as_slice-heads.ensures.value) at c.in_ok-put_tracks.ensures.told) told o.0 o.1
-    (heads_remain c.args.leaving file c.in_ok-movie.movie o.0 c.in_ok-head.head o.1 c.in_ok-head.ensures c.in_ok-scales.scales (are told o.0 o.1) _ c.in_ok-left.ensures.tracks)).steps in
-    printed_within c.args.leaving file c.in_ok-movie.movie o.0 _ _ _ _ o.1 ((c.in_ok-movie.ensures.work told).work o.0 o.1.is_tree) (scaled told o.0 o.1) walks
+    let walks = ((rw (f.honesty, f.file, e.honesty, e.file, c.as_slice-heads.ensures.value) at c.in_ok-put_tracks.ensures.told) told o.0 o.1.opened
+    (heads_remain c.args.leaving file c.in_ok-movie.movie o.0 c.in_ok-head.head o.1 c.in_ok-head.ensures c.in_ok-scales.scales (are told o.0 o.1.opened) _ c.in_ok-left.ensures.tracks)).steps in
+    printed_within c.args.leaving file c.in_ok-movie.movie o.0 _ _ _ _ o.1 ((c.in_ok-movie.ensures.work told).work o.0 (file_tree_is _ _ o.0 o.1)) (scaled told o.0 o.1.opened) walks
 
 pub returns-clause-work : goal.returns-clause-work
 returns-clause-work g c = λ told.
@@ -328,9 +329,9 @@ returns-clause-work g c = λ told.
     let f = c.in_ok-scales.ensures.store in
     let are = rw (e.honesty, e.file) at c.in_ok-scales.ensures.scales in
     let scaled = rw (e.honesty, e.file) at c.in_ok-scales.ensures.work in
-    let walks = ((rw (f.honesty, f.file, e.honesty, e.file, c.as_slice-heads.ensures.value) at c.in_ok-put_tracks.ensures.told) told o.0 o.1
-    (heads_remain c.args.leaving file c.in_ok-movie.movie o.0 c.in_ok-head.head o.1 c.in_ok-head.ensures c.in_ok-scales.scales (are told o.0 o.1) _ c.in_ok-left.ensures.tracks)).steps in
-    printed_within c.args.leaving file c.in_ok-movie.movie o.0 _ _ _ _ o.1 ((c.in_ok-movie.ensures.work told).work o.0 o.1.is_tree) (scaled told o.0 o.1) walks
+    let walks = ((rw (f.honesty, f.file, e.honesty, e.file, c.as_slice-heads.ensures.value) at c.in_ok-put_tracks.ensures.told) told o.0 o.1.opened
+    (heads_remain c.args.leaving file c.in_ok-movie.movie o.0 c.in_ok-head.head o.1 c.in_ok-head.ensures c.in_ok-scales.scales (are told o.0 o.1.opened) _ c.in_ok-left.ensures.tracks)).steps in
+    printed_within c.args.leaving file c.in_ok-movie.movie o.0 _ _ _ _ o.1 ((c.in_ok-movie.ensures.work told).work o.0 (file_tree_is _ _ o.0 o.1)) (scaled told o.0 o.1.opened) walks
 
 pub returns-clause-least : goal.returns-clause-least
 returns-clause-least g c = on_ok_weaker c.flush.result

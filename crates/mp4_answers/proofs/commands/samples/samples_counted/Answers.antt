@@ -3,6 +3,7 @@ use Rattle.std.proofs.lemmas.Result.{err_from_is_err_and}
 use Rattle.mp4_present.specs.words.SamplesComing.{track_samples}
 use Rattle.mp4_present.proofs.WalkCopied.{on_ok, on_err, if_err}
 use Rattle.mp4_present.proofs.Causes.{copy_not_carried}
+use Rattle.mp4_present.proofs.ToldTrees.{file_tree_is}
 use Rattle.mp4_answers.specs.format.Answers.{IsFaultOf}
 use Rattle.mp4_answers.specs.format.FileTexts.{ListsSamples, LacksTrack}
 use Rattle.mp4_answers.specs.format.Run.{run_of, Honest}
@@ -68,7 +69,7 @@ returns-clause-answer g c =
     let samples = track_samples o.0 f.t in
     let lines = sample_at_lines form 1 samples in
     on_ok _ _ c.put_walk.result (λ all. (listing_head form ++ lines, lists form file o.0 c.in_ok-track.track c.args.id f, headed_whole g.met.K.Sink.takes_on _ _ _ _ (listing_head form) lines went all))
-    (walked told o.0 f.t samples o.1 (c.in_ok-walk.ensures.coming file o.0 f.t o.1 f.is_there) f.few).all))
+    (walked told o.0 f.t samples o.1.opened (c.in_ok-walk.ensures.coming file o.0 f.t o.1.opened f.is_there) f.few).all))
     (if_err _ _ c.put_walk.result (λ e x. copy_not_carried r.took _ _ _ _ e x) cause)
     (λ told.
     let o = e.movie told in
@@ -76,11 +77,11 @@ returns-clause-answer g c =
     let samples = track_samples o.0 f.t in
     let lines = sample_at_lines form 1 samples in
     on_err _ _ c.put_walk.result (λ all. (listing_head form ++ lines, lists form file o.0 c.in_ok-track.track c.args.id f, headed_fails g.met.K.Sink.takes_on _ _ _ _ (listing_head form) lines went all))
-    (walked told o.0 f.t samples o.1 (c.in_ok-walk.ensures.coming file o.0 f.t o.1 f.is_there) f.few).front)
+    (walked told o.0 f.t samples o.1.opened (c.in_ok-walk.ensures.coming file o.0 f.t o.1.opened f.is_there) f.few).front)
     (λ told.
     let o = e.movie told in
     let f = track_found file c.in_ok-movie.movie o.0 c.in_ok-track.track c.args.id o.1 (rw c.tracks.ensures at c.in_ok-track.ensures.within) (rw c.tracks.ensures at c.in_ok-track.ensures.track) in
-    (walked told o.0 f.t (track_samples o.0 f.t) o.1 (c.in_ok-walk.ensures.coming file o.0 f.t o.1 f.is_there) f.few).unchanged)
+    (walked told o.0 f.t (track_samples o.0 f.t) o.1.opened (c.in_ok-walk.ensures.coming file o.0 f.t o.1.opened f.is_there) f.few).unchanged)
 
 pub returns-clause-store : goal.returns-clause-store
 returns-clause-store g c =
@@ -97,32 +98,32 @@ returns-in_err-movie-clause-work g c = λ told.
 pub returns-in_err-track-clause-work : goal.returns-in_err-track-clause-work
 returns-in_err-track-clause-work g c = λ told.
     let o = c.in_ok-movie.ensures.movie told in
-    looked_within _ _ _ c.in_ok-movie.movie o.0 o.1 ((c.in_ok-movie.ensures.work told).work o.0 o.1.is_tree)
+    looked_within _ _ _ c.in_ok-movie.movie o.0 o.1 ((c.in_ok-movie.ensures.work told).work o.0 (file_tree_is _ _ o.0 o.1))
 
 pub returns-in_err-walk-clause-work : goal.returns-in_err-walk-clause-work
 returns-in_err-walk-clause-work g c = λ told.
     let o = c.in_ok-movie.ensures.movie told in
-    looked_within _ _ _ c.in_ok-movie.movie o.0 o.1 ((c.in_ok-movie.ensures.work told).work o.0 o.1.is_tree)
+    looked_within _ _ _ c.in_ok-movie.movie o.0 o.1 ((c.in_ok-movie.ensures.work told).work o.0 (file_tree_is _ _ o.0 o.1))
 
 pub returns-in_err-carrier-clause-work : goal.returns-in_err-carrier-clause-work
 returns-in_err-carrier-clause-work g c = λ told.
     let o = c.in_ok-movie.ensures.movie told in
-    looked_within _ _ _ c.in_ok-movie.movie o.0 o.1 ((c.in_ok-movie.ensures.work told).work o.0 o.1.is_tree)
+    looked_within _ _ _ c.in_ok-movie.movie o.0 o.1 ((c.in_ok-movie.ensures.work told).work o.0 (file_tree_is _ _ o.0 o.1))
 
 pub returns-in_err-carry-clause-work : goal.returns-in_err-carry-clause-work
 returns-in_err-carry-clause-work g c = λ told.
     let o = c.in_ok-movie.ensures.movie told in
-    looked_within _ _ _ c.in_ok-movie.movie o.0 o.1 ((c.in_ok-movie.ensures.work told).work o.0 o.1.is_tree)
+    looked_within _ _ _ c.in_ok-movie.movie o.0 o.1 ((c.in_ok-movie.ensures.work told).work o.0 (file_tree_is _ _ o.0 o.1))
 
 pub returns-clause-work : goal.returns-clause-work
 returns-clause-work g c = λ told.
     let file = g.S.Store.file c.args.store.now in
     let o = c.in_ok-movie.ensures.movie told in
     let f = track_found file c.in_ok-movie.movie o.0 c.in_ok-track.track c.args.id o.1 (rw c.tracks.ensures at c.in_ok-track.ensures.within) (rw c.tracks.ensures at c.in_ok-track.ensures.track) in
-    let may = c.in_ok-walk.ensures.may file o.0 f.t o.1 f.is_there in
+    let may = c.in_ok-walk.ensures.may file o.0 f.t o.1.opened f.is_there in
     let few = may.2 in
-    let walk = (rw (c.in_ok-movie.ensures.store.honesty, c.in_ok-movie.ensures.store.file) at c.put_walk.ensures.work) told o.0 f.t may.0 o.1 may.1 in
-    walked_within file _ _ c.in_ok-movie.movie o.0 _ c.in_ok-track.track f.t o.1 ((c.in_ok-movie.ensures.work told).work o.0 o.1.is_tree) f.is_there (omega (arith, few, walk))
+    let walk = (rw (c.in_ok-movie.ensures.store.honesty, c.in_ok-movie.ensures.store.file) at c.put_walk.ensures.work) told o.0 f.t may.0 o.1.opened may.1 in
+    walked_within file _ _ c.in_ok-movie.movie o.0 _ c.in_ok-track.track f.t o.1 ((c.in_ok-movie.ensures.work told).work o.0 (file_tree_is _ _ o.0 o.1)) f.is_there (omega (arith, few, walk))
 
 pub returns-in_err-movie-clause-least : goal.returns-in_err-movie-clause-least
 returns-in_err-movie-clause-least g c =

@@ -53,3 +53,8 @@ returns-clause-left g c told tree o =
     let all = (rw (e.store.honesty, e.store.file) at c.in_ok-of_tracks.ensures.measured) told tree o scales in
     let left = (rw c.as_slice.ensures.value at c.in_ok-length.ensures.left) file tree o scales all.totals in
     record { scales = scales; reductions = all.reductions; in_limits = left.0; length = left.1 }
+
+pub returns-in_err-scales-clause-unchanged : goal.returns-in_err-scales-clause-unchanged
+returns-in_err-scales-clause-unchanged g c told tree o =
+    let p = err_from_is_err_and c.from_residual.result c.from_residual.ensures.1 in
+    rw (p.1, p.2) (c.in_err-scales.ensures.unchanged told tree o)

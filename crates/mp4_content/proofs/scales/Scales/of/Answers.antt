@@ -5,8 +5,7 @@ use Rattle.mp4_head.specs.format.Head as heads
 use Rattle.mp4_head.specs.format.Tree.{track_head_of}
 use Rattle.mp4_head.specs.words.Seen.{track_seen, tracks_seen}
 use Rattle.mp4_head.specs.declared.heads.TrackHead.{TrackHead}
-use Rattle.mp4_head.proofs.ReadAgain.{said_of}
-use Rattle.mp4_present.specs.words.Movies.{moov_box}
+use Rattle.mp4_present.proofs.ToldTrees.{tree_said}
 use Rattle.mp4_present.specs.words.OpenedMovie.{IsInfoOf}
 use Rattle.mp4_present.specs.words.WalkSteps.{walks_steps}
 use Rattle.mp4_present.specs.declared.track_info.TrackInfo.{TrackInfo}
@@ -34,7 +33,7 @@ returns-clause-scales g c told tree o =
     let m = c.args.movie.now in
     let head = c.in_ok-head.head in
     let left : l.timescales ≡ true = sym c.has.ensures ∙ c.if-not-has.false in
-    let said = (said_of (moov_box m) head tree.movie c.in_ok-head.ensures (sym o.moov) o.is_tree.movie).0 in
+    let said = (tree_said file m tree head o c.in_ok-head.ensures).says in
     let same : map track_seen c.as_slice.result.now ≡ map track_head_of tree.movie.tracks = ap (λ (hs : List TrackHead). map track_seen hs) c.as_slice.ensures.value ∙ ap (λ (h : heads.Head). h.tracks) said in
     let own : c.movie_divisor.result ≡ divisor_from 0 (movie_times_left l head.timescale (tracks_seen head)) = c.movie_divisor.ensures in
     record {

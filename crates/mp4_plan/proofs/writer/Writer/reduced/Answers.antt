@@ -13,7 +13,7 @@ use Rattle.mp4_plan.specs.format.Pieces.{pieces}
 use Rattle.mp4_plan.specs.words.PutPieces.{IsHeadLeft}
 use Rattle.mp4_plan.specs.words.Writers.{longest_piece}
 use Rattle.mp4_plan.proofs.Planning.{rooms_fit}
-use Rattle.mp4_plan.proofs.WriterMade.{writer_made}
+use Rattle.mp4_plan.proofs.WriterMade.{memory_names_none, names_none, writer_made}
 use Rattle.mp4_plan.proofs.writer.Writer.reduced.Goals as goal
 
 pub returns-clause-ready : goal.returns-clause-ready
@@ -45,6 +45,58 @@ returns-clause-ready g c told tree o =
 
 pub returns-clause-may : goal.returns-clause-may
 returns-clause-may g c told tree o = c.in_ok-walks_of.ensures.start.writes (g.S.Store.file c.args.store.now) tree o
+
+-- ---- where the plan is refused
+
+pub returns-in_err-longest-clause-unchanged : goal.returns-in_err-longest-clause-unchanged
+returns-in_err-longest-clause-unchanged g c told tree o =
+    let p = err_from_is_err_and c.from_residual-in_err-longest.result c.from_residual-in_err-longest.ensures.1 in
+    let same = c.in_ok-content.ensures.store in
+    let left = c.in_ok-content.ensures.left told tree o in
+    rw (p.1, p.2) ((rw (same.honesty, same.file) at c.in_err-longest.ensures.unchanged) told tree o left.scales left.reductions left.in_limits.in_range)
+
+pub returns-in_err-longest-clause-fault : goal.returns-in_err-longest-clause-fault
+returns-in_err-longest-clause-fault g c told tree o =
+    let p = err_from_is_err_and c.from_residual-in_err-longest.result c.from_residual-in_err-longest.ensures.1 in
+    rw (p.1, p.2) (names_none c.args.leaving (g.S.Store.file c.args.store.now) tree _ _ c.in_err-longest.field-0.0 c.in_err-longest.ensures.refusal)
+
+pub returns-in_err-longest-clause-work : goal.returns-in_err-longest-clause-work
+returns-in_err-longest-clause-work g c told tree o =
+    let same = c.in_ok-content.ensures.store in
+    let first = c.in_ok-content.ensures.work told tree o in
+    let then = (rw (same.honesty, same.file) at c.in_err-longest.ensures.work) told tree o in
+    omega (arith, first, then)
+
+pub returns-in_err-due-clause-work : goal.returns-in_err-due-clause-work
+returns-in_err-due-clause-work g c told tree o =
+    let same = c.in_ok-content.ensures.store in
+    let first = c.in_ok-content.ensures.work told tree o in
+    let then = (rw (same.honesty, same.file) at c.in_ok-longest.ensures.work) told tree o in
+    omega (arith, first, then)
+
+pub returns-in_err-new-clause-work : goal.returns-in_err-new-clause-work
+returns-in_err-new-clause-work g c told tree o =
+    let same = c.in_ok-content.ensures.store in
+    let first = c.in_ok-content.ensures.work told tree o in
+    let then = (rw (same.honesty, same.file) at c.in_ok-longest.ensures.work) told tree o in
+    omega (arith, first, then)
+
+pub returns-in_err-head_of-clause-work : goal.returns-in_err-head_of-clause-work
+returns-in_err-head_of-clause-work g c told tree o =
+    let same = c.in_ok-content.ensures.store in
+    let first = c.in_ok-content.ensures.work told tree o in
+    let then = (rw (same.honesty, same.file) at c.in_ok-longest.ensures.work) told tree o in
+    omega (arith, first, then)
+
+pub returns-in_err-head_of-clause-unchanged : goal.returns-in_err-head_of-clause-unchanged
+returns-in_err-head_of-clause-unchanged g c told tree o =
+    let p = err_from_is_err_and c.from_residual-in_err-head_of.result c.from_residual-in_err-head_of.ensures.1 in
+    rw (p.1, p.2) (c.in_err-head_of.ensures.unchanged (g.S.Store.file c.args.store.now) tree o)
+
+pub returns-in_err-head_of-clause-fault : goal.returns-in_err-head_of-clause-fault
+returns-in_err-head_of-clause-fault g c told tree o =
+    let p = err_from_is_err_and c.from_residual-in_err-head_of.result c.from_residual-in_err-head_of.ensures.1 in
+    rw (p.1, p.2) (memory_names_none c.args.leaving (g.S.Store.file c.args.store.now) tree c.in_err-head_of.field-0.0 c.in_err-head_of.ensures.refusal)
 
 -- ---- where there is no memory
 

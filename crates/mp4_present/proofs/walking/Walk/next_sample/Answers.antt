@@ -57,3 +57,6 @@ returns-in-None-clause-work g c told tree t n o h =
     (takes_then file tree t n c.args.steps.now.passed _ _ c.load.new.self c.take_in_hand-2.new.self
     (takes_then file tree t n c.args.steps.now.passed _ _ c.take_in_hand.new.self c.load.new.self (c.take_in_hand.ensures.work file tree t n o h) (λ q may. c.in_ok-load.ensures.work told tree t q o may))
     (λ q may. c.take_in_hand-2.ensures.work file tree t q o may))
+
+pub returns-in-Some-clause-work : goal.returns-in-Some-clause-work
+returns-in-Some-clause-work g c told tree t n o h = c.in-Some.ensures.work (g.S.Store.file c.args.store.now) tree t n o h

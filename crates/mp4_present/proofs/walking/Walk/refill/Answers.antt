@@ -16,6 +16,11 @@ returns-then-not-branch-clause-unchanged g c told tree t samples o h some e =
     let all = none_left file tree t c.args.movie.now c.args.self.now hand samples c.in_hand.ensures.hand none h in
     some (all ∙ loads_none file tree t c.args.movie.now _ c.load.new.self c.in_ok-load.field-0 c.if-not-branch.true (c.in_ok-load.ensures.loaded told tree t h.0 h.1 o h.3.0))
 
+pub returns-in_err-load-clause-unchanged : goal.returns-in_err-load-clause-unchanged
+returns-in_err-load-clause-unchanged g c =
+    let p = err_from_is_err_and c.from_residual.result c.from_residual.ensures.1 in
+    rw (p.1, p.2) (λ told tree t samples o h some. c.in_err-load.ensures.loaded told tree t h.0 h.1 o h.3.0)
+
 pub returns-in_err-load-clause-work : goal.returns-in_err-load-clause-work
 returns-in_err-load-clause-work g c =
     let p = err_from_is_err_and c.from_residual.result c.from_residual.ensures.1 in

@@ -1,0 +1,157 @@
+-- What is read of the boxes of a file whose tracks are told to wait, or not.
+use Rattle.std.proofs.Common.{◌≡◌, ℕ, List, [], ◌∷◌, map, Option, None, Some, refl, sym, ap, subst, ◌∙◌}
+use Rattle.std.specs.List.{AllByRecursion, AllZip}
+use Rattle.mp4_boxes.specs.format.Box.{Box}
+use Rattle.mp4_boxes.proofs.Each.{each_weaker}
+use Rattle.mp4_boxes.proofs.Among.{IsIn, all_in}
+use Rattle.mp4_frag.specs.format.FragmentSamples.{Part, start_of}
+use Rattle.mp4_head.specs.format.Tree.{IsTrackTree, MovieTree, TrackTree, head_of, movie_head_of, track_head_of, trexes_of}
+use Rattle.mp4_head.specs.words.Found.{IsFoundIn, SaysHead}
+use Rattle.mp4_head.specs.words.Seen.{head_seen}
+use Rattle.mp4_head.specs.declared.heads.MovieHead.{MovieHead}
+use Rattle.mp4_head.specs.declared.heads.TrackHead.{TrackHead}
+use Rattle.mp4_head.proofs.ReadAgain.{said_of}
+use Rattle.mp4_present.specs.format.Denotes.{FileTree, Denotes, IsFileTree, file_parts, parts_of_track, placed_of, plain_of, presentation_of, sample_of, track_of}
+use Rattle.mp4_present.specs.format.Waiting.{waiting_all, waiting_heads, waiting_movie, waiting_track, waiting_tracks}
+use Rattle.mp4_present.specs.words.HeadsRead.{SaysMovie, SaysTree, place_of, places_of, waiting_or}
+use Rattle.mp4_present.specs.words.Movies.{MovieSeen, moov_box}
+use Rattle.mp4_present.specs.words.OpenedMovie.{HoldsTrack, IsOpenedAs, IsOpenedOwn, IsReadTree, IsShownOf, IsTreeOf}
+use Rattle.mp4_present.specs.words.ToldTrees.{AreTracksTold, IsFileTold, IsMovieTold, IsTold, IsTrackTold, later_waits}
+use Rattle.mp4_present.proofs.PlacedTracks.{IsTrackPlaced, tracks_placed}
+
+-- of the file's own
+pub read_tree : (file : List ℕ) (t : FileTree) → IsFileTree file t → IsReadTree file t
+read_tree file t h = record { top = h.top; order = h.order; moov = h.moov; moofs = h.moofs; fragments = h.fragments; tracks = each_weaker IsTrackTree HoldsTrack (λ u k. k.track) t.movie.tracks h.movie.tracks }
+
+-- it is shown, and so is one that is told to wait
+pub shown_own : (file : List ℕ) (t : FileTree) → IsTreeOf file t → IsShownOf file None t
+unfolding IsShownOf
+shown_own file t is = (t, is, refl)
+
+pub shown_told : (file waits : List ℕ) (own t : FileTree) → IsTreeOf file own → IsFileTold waits own t → IsShownOf file (Some waits) t
+unfolding IsShownOf
+shown_told file waits own t is told = (own, is, told)
+
+-- ---- where no track is told to wait, the tree is that of the file
+
+pub own_tree : (file : List ℕ) (m : MovieSeen) (tree : FileTree) → IsOpenedAs file m tree → m.waits ≡ None → IsTreeOf file tree
+unfolding IsShownOf
+own_tree file m tree o e = by (subst (λ (w : Option (List ℕ)). (own : FileTree) × IsTreeOf file own × IsTold w own tree) e o.shown)
+  where
+    by : (own : FileTree) × IsTreeOf file own × IsTold None own tree → IsTreeOf file tree
+    by x = subst (IsTreeOf file) (sym x.2) x.1
+
+abbrev pub file_denotes : (file : List ℕ) (m : MovieSeen) (tree : FileTree) → IsOpenedOwn file m tree → Denotes file (presentation_of file tree)
+file_denotes file m tree o =
+    let t = own_tree file m tree o.opened o.own_edits in
+    record { tree = tree; is_tree = t.is_tree; is_sound = t.is_sound; is_consistent = t.is_consistent; says = refl; limits = o.opened.limits }
+
+-- and it is the only one
+pub file_tree_is : (file : List ℕ) (m : MovieSeen) (tree : FileTree) → IsOpenedOwn file m tree → IsFileTree file tree
+file_tree_is file m tree o = (own_tree file m tree o.opened o.own_edits).is_tree
+
+-- ---- a tree of which nothing but edits is told otherwise
+
+-- so it is made of the file's
+abbrev told_tree : FileTree → List Box → List TrackTree → FileTree
+told_tree own movie tracks = record own { movie = record own.movie { movie = movie; tracks = tracks } }
+
+pub told_is : (waits : List ℕ) (own t : FileTree) → IsFileTold waits own t → t ≡ told_tree own t.movie.movie t.movie.tracks
+told_is waits own t told = told.is ∙ ap (λ (m : MovieTree). record own { movie = m }) told.movie.is
+
+-- samples of a track are placed as before
+placed_again : (own : FileTree) (u : TrackTree) (movie : List Box) (tracks : List TrackTree) (edits : List Box) → IsTrackPlaced own u → IsTrackPlaced (told_tree own movie tracks) (record u { edits = edits })
+placed_again own u movie tracks edits p = record { placed = p.placed; keys = p.keys; few = p.few; distinct = p.distinct }
+
+all_placed_again : (own : FileTree) (movie : List Box) (tracks : List TrackTree) (waits : List ℕ) (us ts : List TrackTree) → AreTracksTold waits us ts → AllByRecursion (IsTrackPlaced own) us → AllByRecursion (IsTrackPlaced (told_tree own movie tracks)) ts
+all_placed_again own movie tracks waits [] [] told h = h
+all_placed_again own movie tracks waits [] (t ∷ ts) told h = absurd told
+all_placed_again own movie tracks waits (u ∷ us) [] told h = absurd told
+all_placed_again own movie tracks waits (u ∷ us) (t ∷ ts) told h = (
+  subst (IsTrackPlaced (told_tree own movie tracks)) (sym told.0.is) (placed_again own u movie tracks t.edits h.0),
+  all_placed_again own movie tracks (later_waits waits) us ts told.1 h.1,
+)
+
+-- the samples and the keys of each track
+pub opened_placed : (file : List ℕ) (m : MovieSeen) (tree : FileTree) → IsOpenedAs file m tree → AllByRecursion (IsTrackPlaced tree) tree.movie.tracks
+unfolding IsShownOf
+opened_placed file m tree o = by m.waits o.shown.0 o.shown.1 o.shown.2
+  where
+    by : (w : Option (List ℕ)) (own : FileTree) → IsTreeOf file own → IsTold w own tree → AllByRecursion (IsTrackPlaced tree) tree.movie.tracks
+    by None own is e = subst (λ (x : FileTree). AllByRecursion (IsTrackPlaced x) x.movie.tracks) (sym e) (tracks_placed file own is.is_tree is.is_sound is.is_consistent is.bytes)
+    by (Some waits) own is told =
+        subst (λ (x : FileTree). AllByRecursion (IsTrackPlaced x) tree.movie.tracks) (sym (told_is waits own tree told))
+        (all_placed_again own tree.movie.movie tree.movie.tracks waits own.movie.tracks tree.movie.tracks told.movie.tracks (tracks_placed file own is.is_tree is.is_sound is.is_consistent is.bytes))
+
+pub track_is_placed : (file : List ℕ) (m : MovieSeen) (tree : FileTree) → IsOpenedAs file m tree → (t : TrackTree) → IsIn tree.movie.tracks t → IsTrackPlaced tree t
+track_is_placed file m tree o t i = all_in (IsTrackPlaced tree) tree.movie.tracks t i (opened_placed file m tree o)
+
+-- ---- the head
+
+places_found : (trees : List TrackTree) (hs : List TrackHead) → AllZip IsFoundIn trees hs → places_of hs ≡ map place_of trees
+places_found [] [] z = refl
+places_found [] (h ∷ hs) z = absurd z
+places_found (t ∷ trees) [] z = absurd z
+places_found (t ∷ trees) (h ∷ hs) z = λ i. z.0.offset i ∷ places_found trees hs z.1 i
+
+places_told : (waits : List ℕ) (us ts : List TrackTree) → AreTracksTold waits us ts → map place_of us ≡ map place_of ts
+places_told waits [] [] told = refl
+places_told waits [] (t ∷ ts) told = absurd told
+places_told waits (u ∷ us) [] told = absurd told
+places_told waits (u ∷ us) (t ∷ ts) told = λ i. place_of (sym told.0.is i) ∷ places_told (later_waits waits) us ts told.1 i
+
+heads_told : (waits : List ℕ) (us ts : List TrackTree) → AreTracksTold waits us ts → waiting_heads waits (map track_head_of us) ≡ map track_head_of ts
+heads_told [] [] [] told = refl
+heads_told (wait ∷ waits) [] [] told = refl
+heads_told waits [] (t ∷ ts) told = absurd told
+heads_told waits (u ∷ us) [] told = absurd told
+heads_told [] (u ∷ us) (t ∷ ts) told = λ i. sym told.0.head i ∷ heads_told [] us ts told.1 i
+heads_told (wait ∷ waits) (u ∷ us) (t ∷ ts) told = λ i. sym told.0.head i ∷ heads_told waits us ts told.1 i
+
+-- what is said of a tree is said of one that is told to wait, where it says the waits
+told_says : (u t : MovieTree) (waits : List ℕ) (head own : MovieHead) → IsMovieTold waits u t → (head_seen own ≡ head_of u) × AllZip IsFoundIn u.tracks own.tracks.items → head_seen head ≡ waiting_or (Some waits) (head_seen own)
+    → places_of head.tracks.items ≡ places_of own.tracks.items → SaysTree t head
+told_says u t waits head own is said seen places = record {
+  says = seen ∙ ap (waiting_or (Some waits)) said.0 ∙ (λ i. record { movie = sym is.head i; tracks = heads_told waits u.tracks t.tracks is.tracks i; trexes = trexes_of (sym is.is i) });
+  places = places ∙ places_found u.tracks own.tracks.items said.1 ∙ places_told waits u.tracks t.tracks is.tracks;
+}
+
+-- a movie says what its tree says
+pub tree_said : (file : List ℕ) (m : MovieSeen) (tree : FileTree) (head : MovieHead) → IsOpenedAs file m tree → SaysMovie m head → SaysTree tree.movie head
+unfolding IsShownOf
+tree_said file m tree head o s = by m.waits o.shown.0 o.shown.1 o.shown.2 s.seen
+  where
+    by : (w : Option (List ℕ)) (own : FileTree) → IsTreeOf file own → IsTold w own tree → head_seen head ≡ waiting_or w (head_seen s.own) → SaysTree tree.movie head
+    by None own is e seen =
+        let said = said_of (moov_box m) s.own own.movie s.says (ap (λ (x : FileTree). x.movie.moov) (sym e) ∙ sym o.moov) is.is_tree.movie in
+        subst (λ (x : FileTree). SaysTree x.movie head) (sym e) (record { says = seen ∙ said.0; places = s.places ∙ places_found own.movie.tracks s.own.tracks.items said.1 })
+    by (Some waits) own is told seen =
+        let moov = ap (λ (x : FileTree). x.movie.moov) (sym (told_is waits own tree told)) ∙ sym o.moov in
+        let said = said_of (moov_box m) s.own own.movie s.says moov is.is_tree.movie in
+        told_says own.movie tree.movie waits head s.own told.movie said seen s.places
+
+-- what a movie says that is told to wait is what the boxes say that tell it
+pub told_said : (file : List ℕ) (m : MovieSeen) (tree told : FileTree) (waits : List ℕ) (head : MovieHead) → IsOpenedAs file m tree → m.waits ≡ None → IsFileTold waits tree told → (own : MovieHead) → SaysHead (moov_box m) own → head_seen head ≡ waiting_or (Some waits) (head_seen own)
+    → places_of head.tracks.items ≡ places_of own.tracks.items → SaysTree told.movie head
+told_said file m tree told waits head o e is own says seen places =
+    told_says tree.movie told.movie waits head own is.movie (said_of (moov_box m) own tree.movie says (sym o.moov) (own_tree file m tree o e).is_tree.movie) seen places
+
+-- ---- what they denote
+
+track_presented : (file : List ℕ) (parts : List Part) (wait : ℕ) (u t : TrackTree) → IsTrackTold wait u t → track_of file parts t ≡ waiting_track wait (track_of file parts u)
+track_presented file parts wait u t told =
+    λ i. record { head = told.head i; start = start_of (plain_of (told.is i)) (parts_of_track parts (told.is i)); samples = map (sample_of file) (placed_of parts (told.is i)) }
+
+tracks_presented : (file : List ℕ) (parts : List Part) (waits : List ℕ) (us ts : List TrackTree) → AreTracksTold waits us ts → map (track_of file parts) ts ≡ waiting_tracks waits (map (track_of file parts) us)
+tracks_presented file parts [] [] [] told = refl
+tracks_presented file parts (wait ∷ waits) [] [] told = refl
+tracks_presented file parts waits [] (t ∷ ts) told = absurd told
+tracks_presented file parts waits (u ∷ us) [] told = absurd told
+tracks_presented file parts [] (u ∷ us) (t ∷ ts) told = λ i. track_presented file parts 0 u t told.0 i ∷ tracks_presented file parts [] us ts told.1 i
+tracks_presented file parts (wait ∷ waits) (u ∷ us) (t ∷ ts) told = λ i. track_presented file parts wait u t told.0 i ∷ tracks_presented file parts waits us ts told.1 i
+
+-- what is told to wait waits
+pub told_presents : (waits : List ℕ) (file : List ℕ) (tree told : FileTree) → IsFileTold waits tree told → presentation_of file told ≡ waiting_all waits (presentation_of file tree)
+told_presents waits file tree told is =
+    (λ i. record { movie = is.movie.head i; tracks = map (track_of file (file_parts (told_is waits tree told is i))) told.movie.tracks })
+    ∙ (λ i. record { movie = waiting_movie (movie_head_of tree.movie); tracks = tracks_presented file (file_parts tree) waits tree.movie.tracks told.movie.tracks is.movie.tracks i })
