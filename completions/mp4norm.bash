@@ -38,7 +38,7 @@ _mp4norm() {
     [ "$previous" != = ] || previous=${COMP_WORDS[COMP_CWORD - 2]}
     case $previous in
     --without)
-        _mp4norm_list times edits flags groups metadata bitrates ends origins labels timing roles ids timescales packaging-1 media-1
+        _mp4norm_list times edits flags groups metadata bitrates ends origins labels timing roles ids timescales lead-ins packaging-1 media-1 packaging-2 media-2
         return
         ;;
     --track | --drop | --limit | --rows | --max-bytes | --max-parts)

@@ -3,7 +3,7 @@
 # Words of a list with commas, of which none is offered twice; what stands before the last comma stays.
 function __mp4norm_without
     set -l before (commandline -ct | string replace -r '^--without=' '' | string match -r '^.*,')
-    for word in times edits flags groups metadata bitrates ends origins labels timing roles ids timescales packaging-1 media-1
+    for word in times edits flags groups metadata bitrates ends origins labels timing roles ids timescales lead-ins packaging-1 media-1 packaging-2 media-2
         string match -q "*,$word,*" ",$before"
         or echo "$before$word"
     end

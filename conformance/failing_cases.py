@@ -10,7 +10,7 @@ from collections.abc import Iterator
 from dataclasses import dataclass, field
 
 from bench import OLD, Line, in_parts
-from suite import answers, lister, long, objects, strips
+from suite import answers, beginnings, lister, long, objects, scales, strips
 from suite.boxes import Box
 from suite.edits import fields
 from suite.movies import whole
@@ -31,6 +31,13 @@ EVENTS = PLAIN + Box('emsg', b'more').spelled()
 CUT_WORDS = b'way: mdat\nclause: ISO/IEC 14496-12, 8\\.1\\.1\nmeaning: [^\n]+\n' + CUT_SAID
 GAP_WORDS = (rb'way: moof 2 / traf / tfdt\nclause: ISO/IEC 14496-12, 8\.8\.12\nmeaning: [^\n]+\n'
              rb'numbers: track 1: time 1024, due 1536\nrefused: Gap in tfdt at (\d+)\n')
+# A film whose sound waits, also as it begins later as a whole; and one that is too long where its
+# edits say how long tracks wait.
+WAITING, LATER = (scales.file_of(1000, *tracks) for tracks in (
+    (beginnings.PICTURES, beginnings.sound(24000)),
+    (beginnings.LATE, beginnings.sound(24048))))
+TOO_LONG = scales.file_of(1, beginnings.lasting(beginnings.MOST_SECONDS + 1))
+LEAD_INS = '--without lead-ins'
 IS_CUT = {'status': 1, 'said': CUT_WORDS, 'refused': CUT_SAID}
 
 
@@ -134,6 +141,10 @@ def of_one_file() -> Iterator:
         yield of(name, 'normalise', data, answers.form(data))
     yield of('edits', 'normalise --without edits,times', EDITS,
              answers.form(EDITS, ('edits', 'times')))
+    yield of('sound that waits', f'normalise {LEAD_INS}', WAITING,
+             answers.form(WAITING, ['lead-ins']))
+    yield of('too long', f'normalise {LEAD_INS}', TOO_LONG, None, status=1,
+             said=answers.movie(TOO_LONG, ['lead-ins']).refusal().encode() + b'\n')
     yield of('plain', 'normalise --progress', PLAIN, NORMAL)
     yield of('plain', f'normalise --max-bytes {len(NORMAL)}', PLAIN, NORMAL)
     yield of('plain', 'extract --track 1 --out - --max-bytes 11 --explain', PLAIN, b'', status=3,
@@ -171,6 +182,7 @@ def of_two_files() -> Iterator:
     yield case('the same', compare, same)
     yield case('others', compare, both, 5, put=DIFFERENCE)
     yield case('without', f'{compare} --without times,groups', both, 5, put=DIFFERENCE)
+    yield case('later as a whole', f'{compare} {LEAD_INS}', {'a.mp4': WAITING, 'b.mp4': LATER})
     yield case('all', f'{compare} --all', both, 5, put=DIFFERENCE + last)
     yield case('all as JSON', f'{compare} --all --json --explain', both, 5, put=parsed)
     lies = b'track 1: sample 3 of A (0.080 s) | sample 3 of B (0.080 s)\n'
@@ -212,6 +224,8 @@ def of_sums_and_texts() -> Iterator:
     yield of('plain', 'print', PLAIN, text)
     yield of('without, explained', 'print --without times --explain', PLAIN,
              answers.text(PLAIN, ['times']))
+    yield of('sound that waits', f'print {LEAD_INS}', WAITING,
+             answers.text(WAITING, ['lead-ins']))
     yield case('to a file', 'print in.mp4 --out new', {'in.mp4': PLAIN}, made=text)
 
 

@@ -54,11 +54,12 @@ for (const words of ['edits,times', ['times', 'edits'], 3, ['times', 'times', 'e
     same(`words ${JSON.stringify(words)}`, lib.sum(other, words), lib.sum(other, 'times,edits'));
 }
 same('no words', [lib.sum(other, ''), lib.sum(other, []), lib.sum(other, 0)], Array(3).fill(lib.sum(other)));
-same('words as flags, the last of all', lib.sum(other, WORDS.timescales), lib.sum(other, 'timescales'));
+same('words as flags, the last of all', lib.sum(other, WORDS['lead-ins']), lib.sum(other, 'lead-ins'));
+same('flags of sets', [WORDS['packaging-2'], WORDS['media-2']], [15485, 15741]);
 for (const words of ['time', ['edits', 'colour'], 'constructor', 'Times', ' times']) {
     throws(`unknown words ${words}`, () => lib.sum(other, words), TypeError, 'no such word');
 }
-for (const words of [8192, 16384, -1, 1.5, null, {}, true]) {
+for (const words of [16384, 32768, -1, 1.5, null, {}, true]) {
     throws(`words that are none: ${words}`, () => lib.sum(other, words), TypeError, 'words');
 }
 for (const track of [0, -1, 1.5, 2 ** 32, '1', undefined, 1n]) {

@@ -171,7 +171,7 @@ static struct mp4norm_answer ask(const struct call *call, long number) {
 /* A call at random. */
 static struct call any_call(void) {
     struct call call = {.which = (int)below(CALLS)};
-    call.words = below(4) ? (uint32_t)below(8192) : below(8) ? 0 : (uint32_t)below(1 << 16);
+    call.words = below(4) ? (uint32_t)below(16384) : below(8) ? 0 : (uint32_t)below(1 << 16);
     call.track = (uint32_t)(1 + below(3)), call.number = (uint32_t)below(below(8) ? 2 : 5);
     call.from = below(8) ? below(below(2) ? 1 : 600) : UINT64_MAX - below(9);
     call.room = call.which == SUM ? 32 : below(3) ? below(MOST_ROOM) : below(40);
@@ -218,6 +218,7 @@ static const char *otherwise(const struct call *call, const struct mp4norm_answe
     if (memcmp(out_kept, out_end - call->room, call->room) != 0) return "other bytes of the same call";
     if (call->which == BOXES || call->which == FIELDS || call->which >= COMPARE || answer->status == MP4NORM_USAGE) return NULL;
     if ((call->which == LENGTH || call->which == SUM || call->which == NORMAL) && call->words != 0) return NULL;
+    if (call->which == PRINT && (call->words & MP4NORM_LEAD_INS) != 0) return NULL;
     struct call checks = {.which = CHECK};
     struct mp4norm_answer judged = ask(&checks, 0);
     if (judged.status == MP4NORM_MEMORY) return NULL;

@@ -24,8 +24,15 @@ static const char *const KINDS[] = {
     "FragmentBeforeMovie"};
 static const char *const WORDS[] = {"times", "edits", "flags", "groups", "metadata",
                                     "bitrates", "ends", "origins", "labels", "timing",
-                                    "roles", "ids", "timescales"};
+                                    "roles", "ids", "timescales", "lead-ins"};
 enum { WORD_COUNT = sizeof WORDS / sizeof *WORDS };
+/* Sets of these words. */
+static const struct {
+    const char *name;
+    uint32_t flags;
+} SETS[] = {{"packaging-1", MP4NORM_PACKAGING_1}, {"media-1", MP4NORM_MEDIA_1},
+            {"packaging-2", MP4NORM_PACKAGING_2}, {"media-2", MP4NORM_MEDIA_2}};
+enum { SET_COUNT = sizeof SETS / sizeof *SETS };
 
 struct bytes {
     const uint8_t *at;
@@ -192,7 +199,8 @@ static int put_verdict(const struct asked *asked, const struct bytes *of) {
 static uint32_t flags_of(char *words) {
     uint32_t flags = 0;
     for (char *word = strtok(words, ","); word != NULL; word = strtok(NULL, ",")) {
-        uint32_t flag = strcmp(word, "packaging-1") == 0 ? MP4NORM_PACKAGING_1 : strcmp(word, "media-1") == 0 ? MP4NORM_MEDIA_1 : 0;
+        uint32_t flag = 0;
+        for (int at = 0; at < SET_COUNT; at++) flag |= strcmp(word, SETS[at].name) == 0 ? SETS[at].flags : 0;
         for (int at = 0; at < WORD_COUNT; at++) flag |= strcmp(word, WORDS[at]) == 0 ? UINT32_C(1) << at : 0;
         if (flag == 0) fail("unknown word", 64);
         flags |= flag;

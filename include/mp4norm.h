@@ -88,8 +88,14 @@ enum mp4norm_word {
     MP4NORM_ROLES = 1024,   /* flags of tracks but "track enabled", layers, alternate groups */
     MP4NORM_IDS = 2048,     /* which IDs tracks have */
     MP4NORM_TIMESCALES = 4096, /* in which timescales times are said */
-    MP4NORM_PACKAGING_1 = 255, /* what changes when a file is packed another way: never changes */
-    MP4NORM_MEDIA_1 = 1023     /* the first ten of these: never changes */
+    MP4NORM_LEAD_INS = 8192,   /* how tracks begin, but for how long each waits; origins go too */
+    /* Sets of these, which never change. What changes when a file is packed another way: times, flags,
+     * groups, metadata, bit rates, ends, roles, IDs, timescales, lead-ins; and these and labels. */
+    MP4NORM_PACKAGING_2 = 15485,
+    MP4NORM_MEDIA_2 = 15741,
+    /* The first eight words, and the first ten: these hide the step between sound and pictures. */
+    MP4NORM_PACKAGING_1 = 255,
+    MP4NORM_MEDIA_1 = 1023
 };
 
 /* How samples are listed. */
@@ -138,7 +144,9 @@ void mp4norm_check(const uint8_t *file, size_t file_len, struct mp4norm_answer *
 
 /* The SHA-256 of the normal form of what is left of a file. Without an answer *digest stays as it
  * is. MP4NORM_REFUSED too where what is left is too long for its fields (TIME_TOO_LARGE,
- * OFFSET_TOO_LARGE at a `tkhd`). */
+ * OFFSET_TOO_LARGE at a `tkhd`); with MP4NORM_LEAD_INS also where the movie passes a limit once its
+ * edits say how long its tracks wait (TIME_TOO_LARGE, MOVIE_TOO_LARGE); the calls that print and
+ * compare refuse it then too. */
 void mp4norm_sum(const uint8_t *file, size_t file_len, uint32_t words, struct mp4norm_digest *digest,
                  struct mp4norm_answer *answer);
 

@@ -66,8 +66,9 @@ KINDS = ("ShortHeader BadSize Overrun ShortBox BoxNotInProfile DuplicateBox Miss
          " SampleOutsideFile UnknownTrack Gap OffsetTooLarge ItemLocation TooManySamples"
          " TimeTooLarge MovieTooLarge FragmentBeforeMovie").split()
 FLAGS = {word: 1 << bit for bit, word in enumerate(
-    "times edits flags groups metadata bitrates ends origins labels timing roles ids timescales".split())}
-FLAGS.update({"packaging-1": 255, "media-1": 1023})
+    ("times edits flags groups metadata bitrates ends origins labels timing roles ids timescales"
+     " lead-ins").split())}
+FLAGS.update({"packaging-1": 255, "media-1": 1023, "packaging-2": 15485, "media-2": 15741})
 
 
 class Error(Exception):

@@ -38,7 +38,7 @@ import mp4norm
 import trials
 from mp4norm import Alignment, Between, Box, Failed, Movie, Refused, Sample, Track
 from suite import answers, built, differ, lister, reader
-from suite.stored import CUT, NORMAL, OTHER, PLAIN, bytes_of
+from suite.stored import CUT, EDITS, NORMAL, OTHER, PLAIN, bytes_of
 
 COUNTS = collections.Counter()
 # The creation time of the movie, 4 bytes from 44 on, is another one.
@@ -237,6 +237,28 @@ class Answers(Case):
         self.assertEqual((anew.total, anew.kinds, anew.words), (4, {'heads': 1, 'samples': 3}, ['timescales']))
         self.assertTrue(mp4norm.compare(PLAIN, ANEW, without='timescales'))
         self.assertEqual(mp4norm.normalise(PLAIN, without='timescales'), mp4norm.normalise(ANEW, without=['timescales']))
+
+    def test_lead_ins(self):
+        """A track that is alone waits for none, however long the empty edit before its other one is."""
+        found = mp4norm.compare(PLAIN, EDITS)
+        self.assertEqual((found.kinds, found.words), ({'edits': 1}, ['edits']))
+        for words in ('lead-ins', 'packaging-2', ['media-2'], ['edits', 'lead-ins']):
+            self.assertTrue(mp4norm.compare(PLAIN, EDITS, without=words))
+        # The hint has the word where it was given, and only there.
+        found = mp4norm.compare(LATER, EDITS, without='lead-ins')
+        self.assertEqual((found.kinds, found.words), ({'times': 1}, ['lead-ins', 'times']))
+
+    def test_flags(self):
+        """Words have the numbers of the header, and a set has those of its words on the page."""
+        top = pathlib.Path(HERE).parent
+        listed = re.search(r'enum mp4norm_word \{(.*?)\};', (top / 'include/mp4norm.h').read_text(), re.S)[1]
+        due = {name.lower().replace('_', '-'): int(flag) for name, flag in re.findall(r'MP4NORM_(\w+) = (\d+)', listed)}
+        self.assertEqual(mp4norm.FLAGS, due)
+        page = (top / 'docs/COMPARING.md').read_text()
+        sets = dict(re.findall(r'^\| `((?:packaging|media)-\d)` \| `([a-z,-]+)`', page, re.M))
+        self.assertEqual(len(sets), 4)
+        for name, words in sets.items():
+            self.assertEqual(due[name], sum(due[word] for word in words.split(',')), name)
 
     def test_bytes_of_both(self):
         """Both files may be bytes; what is wrong with either is said of `-`."""

@@ -7,7 +7,8 @@ export type Whole = number | bigint;
 export type Bytes = Uint8Array | ArrayBuffer | SharedArrayBuffer | ArrayBufferView;
 
 export type Word = 'times' | 'edits' | 'flags' | 'groups' | 'metadata' | 'bitrates' | 'ends'
-    | 'origins' | 'labels' | 'timing' | 'roles' | 'ids' | 'timescales' | 'packaging-1' | 'media-1';
+    | 'origins' | 'labels' | 'timing' | 'roles' | 'ids' | 'timescales' | 'lead-ins' | 'packaging-1'
+    | 'media-1' | 'packaging-2' | 'media-2';
 
 /** What is left out: names in a text with commas, or in a list; or flags of WORDS. */
 export type Words = string | readonly Word[] | number;

@@ -3,7 +3,7 @@
 //     import { load } from './mp4norm.mjs';
 //     const lib = await load();
 //     const movie = lib.open(bytes);
-//     console.log(movie.check(), movie.show().tracks, movie.sum('packaging-1'));
+//     console.log(movie.check(), movie.show().tracks, movie.sum('packaging-2'));
 //     movie.close();
 //
 // For browsers and Node, without dependencies. What is proved, and what isn't: docs/MACHINES.md.
@@ -28,8 +28,8 @@ export const KINDS = Object.freeze([
 /** What may be left out of a file, and the flag of each (docs/COMPARING.md). */
 export const WORDS = Object.freeze({
     times: 1, edits: 2, flags: 4, groups: 8, metadata: 16, bitrates: 32, ends: 64, origins: 128,
-    labels: 256, timing: 512, roles: 1024, ids: 2048, timescales: 4096,
-    'packaging-1': 255, 'media-1': 1023,
+    labels: 256, timing: 512, roles: 1024, ids: 2048, timescales: 4096, 'lead-ins': 8192,
+    'packaging-1': 255, 'media-1': 1023, 'packaging-2': 15485, 'media-2': 15741,
 });
 
 // All of them at once.

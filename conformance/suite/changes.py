@@ -57,11 +57,19 @@ def moved_in(moof: str) -> Callable:
 
 LAST_LONGER = last_run(0x100, 1024, 2)
 MOVED = all_of(offsets(1000, 1256, 1256), moved_in('moof'), moved_in('moof[1]'))
+# All offsets of both tracks are 1000 of 12800 more, or as many of 25600.
+MOVED_ALIKE = all_of(MOVED, rows(SECOND + '/ctts', (1, 2100), (2, 2256), version=1),
+                     put('moof/traf[1]/trun', 20, i32(2000)),
+                     put('moof/traf[1]/trun', 32, i32(1744)),
+                     fields('moof/traf[1]/trun[1]',
+                            full(1, 0xa04) + numbers(1, 0x02000000, 2, 2000)))
 # All times of the movie said in a timescale three times as large, and those of the first track.
 MOVIE_SCALED = all_of(put('moov/mvhd', 20, u32(3000)),
                       *(all_of(put(f'{trak}/edts/elst', 8, u64(120)),
                                put(f'{trak}/edts/elst', 28, u64(360)))
                         for trak in ('moov/trak', 'moov/trak[1]')))
+# All begins a second later, by the empty edits of both tracks.
+LATER = all_of(*(put(f'{trak}/edts/elst', 8, u64(1040)) for trak in ('moov/trak', 'moov/trak[1]')))
 SCALED = all_of(put('moov/trak/edts/elst', 36, u64(3072)), put(MDIA + '/mdhd', 20, u32(38400)),
                 rows(STBL + '/stts', (2, 1536), (1, 1500)), offsets(0, 768, 768),
                 *(all_of(put(moof + '/traf/tfhd', 12, u32(1536)),
@@ -75,17 +83,22 @@ OTHER_ID = all_of(put('moov/trak[1]/tkhd', 20, u32(3)), put('moov/mvex/trex[1]',
 
 def one(change: Callable, line: str, words: str = '', **others) -> tuple:
     """A change, its line, the words that leave it out, and other lines with some words."""
-    return change, line, words.split(), others
+    return change, line, words.split(), {word.replace('_', '-'): it for word, it in others.items()}
 
+
+# How long the second track waits of which it doesn't count how tracks begin: its first sample, of
+# offset 100, is shown at (100 - 1024) / 25600 behind the 40 of 1000 that its empty edit lasts, and
+# that of the first track at -1024 / 12800 behind as many. That is 0.04390625 seconds.
+WAIT = 'track 2: edit 1: segment duration 43906 | '
 
 CHANGES = [
     # mvhd of version 1: creation at 4, modification at 12, timescale at 20, rate at 32, volume at
     # 36, matrix at 48.
     one(put('moov/mvhd', 4, u64(3800000001)), 'movie: creation time 11 | 3800000001', 'times'),
     one(put('moov/mvhd', 12, u64(22)), 'movie: modification time 12 | 22', 'times'),
-    one(put('moov/mvhd', 20, u32(600)), 'movie: timescale 1000 | 600', 'timing',
+    one(put('moov/mvhd', 20, u32(600)), 'movie: timescale 1000 | 600', 'timing lead-ins',
         timescales='movie: timescale 25 | 15'),
-    one(MOVIE_SCALED, 'movie: timescale 1000 | 3000', 'timescales',
+    one(MOVIE_SCALED, 'movie: timescale 1000 | 3000', 'timescales lead-ins',
         timing='track 1: edit 1: segment duration 40 | 120'),
     one(put('moov/mvhd', 32, i32(-65536)), 'movie: rate 65536 | -65536'),
     one(put('moov/mvhd', 36, u16(0)), 'movie: volume 256 | 0'),
@@ -111,21 +124,33 @@ CHANGES = [
     one(put('moov/trak/tkhd', 52, u32(0)), 'track 1: matrix entry 1 65536 | 0'),
     one(put('moov/trak[1]/tkhd', 88, u32(65)), 'track 2: width 64 | 65'),
     one(put('moov/trak[1]/tkhd', 92, u32(49)), 'track 2: height 48 | 49'),
-    one(gone('moov/trak/edts'), 'track 1: edits 2 | 0', 'edits'),
+    one(gone('moov/trak/edts'), 'track 1: edits 2 | 0', 'edits', lead_ins=WAIT + '3906'),
     # Rows of elst of version 1 begin at 8 and have 20 bytes.
     one(put('moov/trak/edts/elst', 8, u64(41)), 'track 1: edit 1: segment duration 40 | 41',
-        'edits', timescales='movie: timescale 25 | 1000'),
+        'edits', timescales='movie: timescale 25 | 1000', lead_ins=WAIT + '42906'),
     one(put('moov/trak/edts/elst', 36, u64(1025)), 'track 1: edit 2: media time 1024 | 1025',
-        'edits', timescales='track 1: edit 2: media time 256 | 1025'),
+        'edits', timescales='track 1: edit 2: media time 256 | 1025', lead_ins=WAIT + '43984'),
+    one(LATER, 'track 1: edit 1: segment duration 40 | 1040', 'edits lead-ins',
+        timescales='track 1: edit 1: segment duration 1 | 26'),
+    one(put('moov/trak/edts/elst', 28, u64(121)), 'track 1: edit 2: segment duration 120 | 121',
+        'edits lead-ins', timescales='movie: timescale 25 | 1000'),
     one(SCALED, 'track 1: edit 2: media time 1024 | 3072', 'timescales',
-        edits='track 1: timescale 12800 | 38400'),
+        edits='track 1: timescale 12800 | 38400', lead_ins='track 1: timescale 12800 | 38400'),
     one(all_of(SCALED, rows(STBL + '/stts', (1, 1536), (1, 1537), (1, 1500)),
                put('moof/traf/tfdt', 4, u64(4573)), put('moof[1]/traf/tfdt', 4, u64(9181))),
         'track 1: edit 2: media time 1024 | 3072', edits='track 1: timescale 12800 | 38400',
-        timescales='track 1: edit 2: media time 256 | 3072'),
-    one(put('moov/trak/edts/elst', 24, u16(2)), 'track 1: edit 1: rate integer 1 | 2', 'edits'),
+        timescales='track 1: edit 2: media time 256 | 3072',
+        lead_ins='track 1: timescale 12800 | 38400'),
+    # Of an empty edit the rate doesn't matter where it doesn't count how tracks begin; by another
+    # one the plain edit says more, so that all edits stay.
+    one(put('moov/trak/edts/elst', 24, u16(2)), 'track 1: edit 1: rate integer 1 | 2',
+        'edits lead-ins'),
     one(put('moov/trak/edts/elst', 26, b'\xff\xff'), 'track 1: edit 1: rate fraction 0 | -1',
-        'edits'),
+        'edits lead-ins'),
+    one(put('moov/trak/edts/elst', 44, u16(2)), 'track 1: edit 2: rate integer 1 | 2', 'edits',
+        lead_ins='movie: timescale 1000000 | 1000'),
+    one(put('moov/trak/edts/elst', 46, u16(1)), 'track 1: edit 2: rate fraction 0 | 1', 'edits',
+        lead_ins='movie: timescale 1000000 | 1000'),
     one(gone('moov/trak/tref'), 'track 1: kept boxes 3 | 2', metadata='track 1: kept boxes 1 | 0'),
     one(put('moov/trak/meta', 5, b'x'), 'track 1: kept box 3: byte 6 of 10: 74 | 78', 'metadata'),
     one(put(MDIA + '/mdhd', 4, u64(25)), 'track 1: media creation time 15 | 25', 'times'),
@@ -167,8 +192,11 @@ CHANGES = [
         timescales='track 1: sample 2: offset 64 | -64'),
     one(put(STBL + '/ctts', 12, i32(8)), 'track 1: sample 1: offset 0 | 8', 'timing',
         origins='track 1: sample 2: offset 256 | 248',
+        lead_ins='track 1: sample 2: offset 256 | 248',
         timescales='track 1: sample 1: offset 0 | 2'),
     one(MOVED, 'track 1: sample 1: offset 0 | 1000', 'origins timing',
+        timescales='track 1: sample 1: offset 0 | 250', lead_ins='track 1: edits 0 | 2'),
+    one(MOVED_ALIKE, 'track 1: sample 1: offset 0 | 1000', 'origins timing lead-ins',
         timescales='track 1: sample 1: offset 0 | 250'),
     one(put(STBL + '/sdtp', 4, b'\x10'), 'track 1: sample 1: flags 02000000 | 01000000', 'flags'),
     one(put(STBL + '/stss', 12, u32(2)), 'track 1: sample 2: flags 01810000 | 01800000',
@@ -206,6 +234,12 @@ HIDDEN = [
     ('another type of handler', put(MDIA + '/hdlr', 11, b'x'), None),
     ('another byte of a sample description', put(STBL + '/stsd/mp4v', 8, b'x'), None),
     ('sound later by an empty edit', put('moov/trak[1]/edts/elst', 8, u64(1040)), 'edits'),
+    ('all later by empty edits', LATER, 'edits lead-ins'),
+    ('a second cut off in front of all', all_of(
+        put('moov/trak/edts/elst', 36, u64(13824)), put('moov/trak[1]/edts/elst', 36, u64(26624))),
+     'edits lead-ins'),
+    ('one cut off elsewhere at its end', put('moov/trak/edts/elst', 28, u64(121)),
+     'edits lead-ins'),
     ('a btrt of other numbers', put(STBL + '/stsd/mp4v', 86, u32(7)), 'bitrates'),
     ('no btrt', fields(STBL + '/stsd/mp4v', entries.pictures()), 'bitrates'),
     ('an esds of other rates', put(SECOND + '/stsd/mp4a', 49, entries.OTHERS), 'bitrates'),
@@ -213,13 +247,15 @@ HIDDEN = [
     ('the first frame a second longer', durations((1, 26112), (1, 512), (1, 500)), 'ends timing'),
     ('sound a second later by tfdt', put('moof/traf[1]/tfdt', 4, u64(27124)), 'origins timing'),
     ('all offsets moved', MOVED, 'origins timing'),
+    ('all offsets of both tracks moved alike', MOVED_ALIKE, 'origins timing lead-ins'),
     ('another name of a handler', longer(MDIA + '/hdlr'), 'labels'),
     ('another name of a compressor', put(STBL + '/stsd/mp4v', 50, b'x'), 'labels'),
     ('other flags of a track', put('moov/trak/tkhd', 1, b'\xff\xff\xff'), 'roles'),
     ('another layer', put('moov/trak/tkhd', 44, u16(1000)), 'roles'),
     ('another alternate group', put('moov/trak/tkhd', 46, b'\xff\xff'), 'roles'),
     ('another ID of a track', OTHER_ID, 'ids'),
-    ('the times of the movie in another timescale', MOVIE_SCALED, 'timing timescales'),
+    ('the times of the movie in another timescale', MOVIE_SCALED,
+     'timing timescales lead-ins'),
     ('the times of a track in another timescale', SCALED, 'timing timescales'),
     ('all durations doubled', all_of(durations((2, 1024), (1, 1000)),
                                      put('moof/traf[1]/tfhd', 12, u32(1024))), 'timing'),

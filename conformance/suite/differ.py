@@ -11,8 +11,11 @@ from .normal import descriptions, handler, kept_in, key_order, roles
 
 # The words of `--without`, in their order, and the named sets of them.
 WORDS = ('times', 'edits', 'flags', 'groups', 'metadata', 'bitrates', 'ends', 'origins', 'labels',
-         'timing', 'roles', 'ids', 'timescales')
-SETS = {'packaging-1': WORDS[:8], 'media-1': WORDS[:10]}
+         'timing', 'roles', 'ids', 'timescales', 'lead-ins')
+PACKAGING = ('times', 'flags', 'groups', 'metadata', 'bitrates', 'ends', 'roles', 'ids',
+             'timescales', 'lead-ins')
+SETS = {'packaging-1': WORDS[:8], 'media-1': WORDS[:10], 'packaging-2': PACKAGING,
+        'media-2': (*PACKAGING, 'labels')}
 # What is left out: nothing, each word, all of them, each named set.
 WORD_SETS = [(), *((word,) for word in WORDS), WORDS, *((name,) for name in SETS)]
 

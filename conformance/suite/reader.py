@@ -10,12 +10,12 @@ import math
 from collections.abc import Iterator, Sequence
 from dataclasses import dataclass, field
 
-from . import lister
+from . import lead_ins, lister
 from .differ import meant
 from .misreadings import taken
 
-# The last time that a track may have, and the timescale without timing.
-MOST_TIME, PLAIN_TIMESCALE = 2**63 - 1, 1000
+# The timescale without timing.
+PLAIN_TIMESCALE = 1000
 
 
 class Node:
@@ -179,7 +179,7 @@ class Track:
 
     def fault(self, movie_timescale: int) -> str | None:
         """Why what is left has no normal form, if it has none."""
-        if max(self.start + self.duration(), self.length(movie_timescale)) > MOST_TIME:
+        if max(self.start + self.duration(), self.length(movie_timescale)) > lead_ins.MOST_TIME:
             return 'TimeTooLarge'
         is_near = all(-2**31 <= sample.offset < 2**31 for sample in self.samples)
         return None if is_near else 'OffsetTooLarge'
@@ -196,6 +196,8 @@ class Movie:
         self.timescale = self.header.scale()
         self.tracks = [Track(trak) for trak in self.moov.all('trak')]
         self.left = frozenset()
+        # The line that refuses it where edits say how long its tracks wait, if it is too long then.
+        self.told_refusal = None
         extends = self.moov.one('mvex')
         self.defaults = {}
         for trex in extends.all('trex') if extends else []:
@@ -209,11 +211,13 @@ class Movie:
 
     def leave_out(self, names: Sequence) -> Movie:
         """Leaves out what these words of `--without`, and sets of them, name."""
+        if lead_ins.WORD in meant(names):
+            self.told_refusal = lead_ins.tell(self)
         self.left = meant(names)
         if 'timing' in self.left:
             self.timescale = PLAIN_TIMESCALE
         for place, track in enumerate(self.tracks, 1):
-            track.leave_out(self.left)
+            track.leave_out(lead_ins.with_origins(self.left))
             if 'ids' in self.left:
                 track.id_left = place
         if 'timescales' in self.left:
@@ -233,6 +237,8 @@ class Movie:
 
     def refusal(self) -> str | None:
         """The line that refuses what is left, if it has no normal form."""
+        if self.told_refusal:
+            return self.told_refusal
         for track in self.tracks:
             fault = track.fault(self.timescale)
             if fault:

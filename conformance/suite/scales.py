@@ -5,8 +5,9 @@ from __future__ import annotations
 from collections.abc import Callable, Iterator
 from dataclasses import dataclass, replace
 from random import Random
-from .boxes import Box, File, full, i64, no_samples, numbers, table, u16, u32, u64
-from .movies import moof_of, movie_header, with_tables
+from .boxes import (Box, File, full, i32, i64, no_samples, numbers, one_size, table, u16, u32,
+                    u64)
+from .movies import chunk_places, moof_of, movie_header, with_tables
 
 LARGEST = 2**32 - 1
 
@@ -14,34 +15,59 @@ LARGEST = 2**32 - 1
 @dataclass(frozen=True)
 class Times:
     """The times of a track: its timescale, how long each sample lasts and its composition offset,
-    how long each edit lasts and its media time, and when the track begins."""
+    how long each edit lasts, its media time and its rate (1 where none is given), and when the
+    track begins. So many of its samples are in tables; and edits may have 32 bits."""
     scale: int
     samples: tuple = ()
     edits: tuple = ()
     start: int = 0
+    tabled: int = 0
+    are_narrow: bool = False
 
 
-def track_of(number: int, data: Box, times: Times) -> Box:
-    """A track without samples in its tables."""
-    track = with_tables(number, data, *no_samples(), plainly=True)
+def tables_of(data: Box, samples: tuple, first: int) -> list[Box]:
+    """The tables of samples of a byte each, from this byte on."""
+    if not samples:
+        return no_samples()
+    return [table('stts', [(1, lasts) for lasts, _ in samples]),
+            table('ctts', [(1, offset) for _, offset in samples], 1),
+            table('stsc', [(1, len(samples), 1)]), one_size(1, len(samples)),
+            chunk_places(True, data, first)]
+
+
+def edits_of(times: Times) -> Box:
+    """The edits of a track."""
+    length, place = (u32, i32) if times.are_narrow else (u64, i64)
+    rows = [length(lasts) + place(at) + b''.join(u16(it % 2**16) for it in rate or (1, 0))
+            for lasts, at, *rate in times.edits]
+    return Box('edts', b'', [table('elst', rows, int(not times.are_narrow))])
+
+
+def track_of(number: int, data: Box, times: Times, first: int) -> Box:
+    """A track, of which those samples that its tables have begin at this byte."""
+    tables = tables_of(data, times.samples[:times.tabled], first)
+    track = with_tables(number, data, *tables, plainly=True)
     track.children[-1].children[0].patches.append((20, u32(times.scale)))
     if times.edits:
-        rows = [u64(lasts) + i64(at) + u16(1) + u16(0) for lasts, at in times.edits]
-        track.children.insert(1, Box('edts', b'', [table('elst', rows, 1)]))
+        track.children.insert(1, edits_of(times))
     return track
 
 
 def fragment_of(number: int, moof: Callable, data: Box, times: Times, first: int) -> list[Box]:
-    """The boxes of a `traf` with the samples of a track, a byte each, from this byte on."""
+    """The boxes of a `traf` with those samples of a track that its tables don't have, a byte each;
+    the first sample of the track is this byte."""
+    tabled, samples = times.samples[:times.tabled], times.samples[times.tabled:]
+
     def run():
-        place = data.place + data.header_length() + first - moof().place
-        rows = b''.join(numbers(lasts, 1, offset) for lasts, offset in times.samples)
-        return full(1, 0xb01) + numbers(len(times.samples), place) + rows
-    return [Box('tfhd', full(0, 0x020000) + u32(number)),
-            Box('tfdt', full(1) + u64(times.start)), Box('trun', run)]
+        place = data.place + data.header_length() + first + len(tabled) - moof().place
+        rows = b''.join(numbers(lasts, 1, offset) for lasts, offset in samples)
+        return full(1, 0xb01) + numbers(len(samples), place) + rows
+    time = times.start + sum(lasts for lasts, _ in tabled)
+    return [Box('tfhd', full(0, 0x020000) + u32(number)), Box('tfdt', full(1) + u64(time)),
+            Box('trun', run)]
 
 
-def file_of(scale: int, *tracks: Times, content: bytes = b'') -> bytes:
+def tree_of(scale: int, *tracks: Times, content: bytes = b'') -> File:
     """A file of a movie with this timescale, and of tracks with these times; each sample has a byte
     of the content, or all the same."""
     data = Box('mdat', content or b'a' * sum(len(times.samples) for times in tracks))
@@ -49,16 +75,21 @@ def file_of(scale: int, *tracks: Times, content: bytes = b'') -> bytes:
     header.patches.append((20, u32(scale)))
     extends = [Box('trex', full(0) + numbers(number, 1, 0, 0, 0))
                for number in range(1, len(tracks) + 1)]
-    movie = Box('moov', b'', [header, *(track_of(number, data, times)
-                                        for number, times in enumerate(tracks, 1)),
-                              Box('mvex', b'', extends)])
+    movie = Box('moov', b'', [header])
     moof, first = moof_of(1), 0
     for number, times in enumerate(tracks, 1):
-        if times.samples:
+        movie.children.append(track_of(number, data, times, first))
+        if times.samples[times.tabled:]:
             boxes = fragment_of(number, lambda: moof, data, times, first)
             moof.children.append(Box('traf', b'', boxes))
         first += len(times.samples)
-    return File([movie, moof, data]).spelled()
+    movie.children.append(Box('mvex', b'', extends))
+    return File([movie, moof, data])
+
+
+def file_of(scale: int, *tracks: Times, content: bytes = b'') -> bytes:
+    """The bytes of such a file."""
+    return tree_of(scale, *tracks, content=content).spelled()
 
 
 def frames(*durations: int) -> tuple:

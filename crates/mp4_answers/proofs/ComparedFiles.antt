@@ -1,37 +1,38 @@
 -- Two files compared: what is listed, and what there is to say of it.
-use Rattle.std.proofs.Common.{◌≡◌, ◌⊎◌, inl, inr, ℕ, zero, suc, ◌+◌, ◌*◌, ◌<◌, ◌≤◌, List, [], ◌∷◌, ◌++◌, length, take, nat_eq, Bool, true, false, if◌then◌else◌, refl, sym, ap, subst, ◌∙◌, arith, Ok}
+use Rattle.std.proofs.Common.{◌≡◌, ◌⊎◌, inl, inr, ℕ, zero, suc, ◌+◌, ◌*◌, ◌<◌, ◌≤◌, List, [], ◌∷◌, ◌++◌, length, take, nat_eq, Bool, true, false, if◌then◌else◌, refl, sym, ap, subst, ◌∙◌, arith}
 use Rattle.std.specs.Prelude.{◌↔◌, Option, None, Some, slice_get, IsTrue}
 use Rattle.std.proofs.Math.Nat.{mul-le-mul_right}
 use Rattle.std.proofs.lemmas.Bool.{ne_eqb}
 use Rattle.mp4_boxes.specs.declared.refusal.Refusal.{Refusal}
 use Rattle.mp4_boxes.specs.declared.refusal.Refusal.TheVariants as refusals
 use Rattle.mp4_content.specs.format.Comparison.{differences}
-use Rattle.mp4_present.specs.format.Denotes.{FileTree, IsFileTree, Denotes, presentation_of}
-use Rattle.mp4_present.specs.format.Judge.{judge}
+use Rattle.mp4_present.specs.format.Denotes.{FileTree, presentation_of}
 use Rattle.mp4_present.specs.format.Presentation.{Presentation, Valid, sample_total}
 use Rattle.mp4_content.specs.format.Remaining.{remaining}
 use Rattle.mp4_content.specs.words.Aligning.{aligning_steps}
 use Rattle.mp4_content.specs.words.Compared.{TakesFront, comparing_steps}
 use Rattle.mp4_content.specs.words.Differing.{RefusesSample}
 use Rattle.mp4_present.specs.words.Movies.{MovieSeen}
-use Rattle.mp4_present.specs.words.OpenedMovie.{IsOpenedOwn, IsOpenedAs}
-use Rattle.mp4_present.specs.words.WalkSteps.{opening_steps, walks_steps}
+use Rattle.mp4_present.specs.words.OpenedMovie.{IsOpenedAs}
+use Rattle.mp4_boxes.specs.format.Bytes.{AreBytes}
+use Rattle.mp4_content.specs.format.LeadIns.{left_of, words_told}
+use Rattle.mp4_answers.specs.words.OpenedTold.{IsOpenedTold, OpensWithinTold}
+use Rattle.mp4_answers.proofs.OpenedTold.{judged_told, left_is, shown_valid}
+use Rattle.mp4_present.specs.words.WalkSteps.{walks_steps}
 use Rattle.mp4_content.specs.declared.comparing.differences.Difference.{Difference}
 use Rattle.mp4_content.specs.declared.without.Word.{Word}
 use Rattle.mp4_content.specs.declared.without.Without.{Without}
 use Rattle.mp4_content.proofs.ComparisonWhole.{no_difference_is_same}
 use Rattle.mp4_present.proofs.DenotedValid.{denoted_is_valid}
-use Rattle.mp4_present.proofs.ToldTrees.{file_denotes, file_tree_is}
-use Rattle.mp4_answers.specs.format.CompareHeadline.{IsVerdict, ComparedWithin, ComparesWithin, aligned_walks, listing_walks, most_counted, most_walks, trying_walks, walked_each}
-use Rattle.mp4_answers.specs.format.Steps.{WalksWithin, row_total}
-use Rattle.mp4_plan.proofs.Judged.{denoted_judged}
+use Rattle.mp4_answers.specs.format.CompareHeadline.{IsVerdict, ComparedWithin, ComparesWithin, aligned_walks, listing_walks, most_counted, most_walks, opened_walks, trying_walks}
+use Rattle.mp4_answers.specs.format.Steps.{row_total}
 use Rattle.mp4_answers.specs.words.Compares.{side_of, says_nothing, IsSaid, ListsFront, WalksTimes, RefusesBoth, RefusesCompare}
 use Rattle.mp4_answers.specs.words.TwoFiles.{differ_without}
 use Rattle.mp4_answers.specs.declared.commands.compare.Failure.{Failure}
 use Rattle.mp4_answers.specs.declared.commands.compare.Lines.{Lines}
 use Rattle.mp4_answers.specs.declared.commands.compare.Listing.{Listing}
 use Rattle.mp4_answers.specs.declared.commands.compare.Listing.TheVariants as listings
-use Rattle.mp4_answers.proofs.StepsTaken.{looked_within, often_walked}
+use Rattle.mp4_answers.proofs.StepsTaken.{looked_alone, often_walked, opens_later}
 
 pub listed_front : (old new : List Difference) (whole : Bool) (ds : List Difference) → old ≡ [] → (whole ≡ true → new ≡ old ++ ds) → TakesFront old new ds → (whole ≡ true) ⊎ (most_counted < length new) → ListsFront new ds
 listed_front old new whole ds none all front (inl e) = inl (all e ∙ ap (λ (xs : List Difference). xs ++ ds) none)
@@ -91,18 +92,18 @@ one_more_time old mid new a b first more tries e g h =
     subst (λ n. new ≤ old + 2 * n * (a + b)) (sym long) (two_walks_more old mid new a b (length more) g h)
 
 -- to list, to align tracks, and to find words
-pub all_joined : (old mid behind new a b : ℕ) (l : Without) (lines : Lines) → mid ≤ old + listing_walks l * (a + b) → behind ≤ mid + aligned_walks l lines.aligned * (a + b) → new ≤ behind + trying_walks * (a + b) → new ≤ old + most_walks l (listings.All lines) * (a + b)
+pub all_joined : (old mid behind new a b : ℕ) (l : Without) (lines : Lines) → mid ≤ old + listing_walks l * (a + b) → behind ≤ mid + aligned_walks l lines.aligned * (a + b) → new ≤ behind + trying_walks * (a + b) → new ≤ old + opened_walks l (listings.All lines) * (a + b)
 all_joined old mid behind new a b l lines g h k =
     walks_joined old behind new a b (listing_walks l + aligned_walks l lines.aligned) trying_walks (walks_joined old mid behind a b (listing_walks l) (aligned_walks l lines.aligned) g h) k
 
 -- without those that find words
-pub aligning_joined : (old mid new a b : ℕ) (l : Without) (lines : Lines) → mid ≤ old + listing_walks l * (a + b) → new ≤ mid + aligned_walks l lines.aligned * (a + b) → new ≤ old + most_walks l (listings.All lines) * (a + b)
+pub aligning_joined : (old mid new a b : ℕ) (l : Without) (lines : Lines) → mid ≤ old + listing_walks l * (a + b) → new ≤ mid + aligned_walks l lines.aligned * (a + b) → new ≤ old + opened_walks l (listings.All lines) * (a + b)
 aligning_joined old mid new a b l lines g h =
-    few_times_of old new a b (listing_walks l + aligned_walks l lines.aligned) (most_walks l (listings.All lines)) (omega arith) (walks_joined old mid new a b (listing_walks l) (aligned_walks l lines.aligned) g h)
+    few_times_of old new a b (listing_walks l + aligned_walks l lines.aligned) (opened_walks l (listings.All lines)) (omega arith) (walks_joined old mid new a b (listing_walks l) (aligned_walks l lines.aligned) g h)
 
 -- and without those that align tracks
-pub listing_alone : (old new a b : ℕ) (l : Without) (lines : Lines) → new ≤ old + listing_walks l * (a + b) → new ≤ old + most_walks l (listings.All lines) * (a + b)
-listing_alone old new a b l lines g = few_times_of old new a b (listing_walks l) (most_walks l (listings.All lines)) (omega arith) g
+pub listing_alone : (old new a b : ℕ) (l : Without) (lines : Lines) → new ≤ old + listing_walks l * (a + b) → new ≤ old + opened_walks l (listings.All lines) * (a + b)
+listing_alone old new a b l lines g = few_times_of old new a b (listing_walks l) (opened_walks l (listings.All lines)) (omega arith) g
 
 -- one comparison, where timescales are left out, or not
 comparing_is : (v : Bool) (a b : ℕ) → ((if v then a else 0) + (if v then b else 0)) + (a + b) ≡ (1 + (if v then 1 else 0)) * (a + b)
@@ -134,27 +135,34 @@ verdict_of : (l : Without) (p q : Presentation) {A : Type 0} (found : Option A) 
 verdict_of l p q None same is said v w = (λ e. (no_difference_is_same l p q v w).0 said, λ e. is)
 verdict_of l p q (Some text) same is said v w = (λ e. absurd (true_false (sym e ∙ is)), λ e. absurd (said ((no_difference_is_same l p q v w).1 e)))
 
-module _ (file : List ℕ) (m : MovieSeen) (tree : FileTree) (o : IsOpenedOwn file m tree) where
-  pub denotes_by : Denotes file (presentation_of file tree)
-  denotes_by = file_denotes file m tree o
-
-  pub judged_by : judge file ≡ Ok (presentation_of file tree)
-  judged_by = denoted_judged file (presentation_of file tree) denotes_by
-
 said_of_both : (file : List ℕ) (tree : FileTree) (file_right : List ℕ) (other : FileTree) (l : Without) {A : Type 0} (found : Option A) → IsSaid found (differ_without file tree file_right other l) → IsSaid found
     (differences (remaining l (presentation_of file tree)) (remaining l (presentation_of file_right other)))
 unfolding differ_without
 said_of_both file tree file_right other l found said = said
 
-pub verdict : (l : Without) (file other : List ℕ) (m n : MovieSeen) {A : Type 0} (found : Option A) (same : Bool) → same ≡ says_nothing found → (a : (tree : FileTree) × IsOpenedOwn file m tree) → (b : (tree : FileTree) × IsOpenedOwn other n tree)
-    → IsSaid found (differ_without file a.0 other b.0 l) → IsVerdict l file other same
+-- what was opened is valid
+pub opened_valid : (l : Without) (file : List ℕ) (m : MovieSeen) (tree : FileTree) → AreBytes file → IsOpenedTold l.lead_ins file m tree → Valid (presentation_of file tree)
+opened_valid l file m tree x o = shown_valid l file m tree o (denoted_is_valid file o.p x o.denotes)
+
+-- the same remains of what the movies show exactly if the same is left of what the files denote
+pub left_same : (l : Without) (file other : List ℕ) (m n : MovieSeen) (tree next : FileTree) (a : IsOpenedTold l.lead_ins file m tree) (b : IsOpenedTold l.lead_ins other n next)
+    → (remaining (words_told l) (presentation_of file tree) ≡ remaining (words_told l) (presentation_of other next)) ↔ (left_of l a.p ≡ left_of l b.p)
+left_same l file other m n tree next a b =
+    let first = left_is l file m tree a in
+    let second = left_is l other n next b in
+    (λ e. sym first ∙ e ∙ second, λ e. first ∙ e ∙ sym second)
+
+pub verdict : (l : Without) (file other : List ℕ) (m n : MovieSeen) {A : Type 0} (found : Option A) (same : Bool) → same ≡ says_nothing found → (a : (tree : FileTree) × IsOpenedTold l.lead_ins file m tree) → (b : (tree : FileTree) × IsOpenedTold l.lead_ins other n tree)
+    → IsSaid found (differ_without file a.0 other b.0 (words_told l)) → IsVerdict l file other same
 verdict l file other m n found same is a b said = record {
-  p = presentation_of file a.0;
-  q = presentation_of other b.0;
-  first = judged_by file m a.0 a.1;
-  second = judged_by other n b.0 b.1;
-  is = λ x y. verdict_of l (presentation_of file a.0) (presentation_of other b.0) found same is (said_of_both file a.0 other b.0 l found said)
-      (denoted_is_valid file (presentation_of file a.0) x (denotes_by file m a.0 a.1)) (denoted_is_valid other (presentation_of other b.0) y (denotes_by other n b.0 b.1));
+  p = a.1.p;
+  q = b.1.p;
+  first = judged_told l file m a.0 a.1;
+  second = judged_told l other n b.0 b.1;
+  is = λ x y.
+      let told = verdict_of (words_told l) (presentation_of file a.0) (presentation_of other b.0) found same is (said_of_both file a.0 other b.0 (words_told l) found said) (opened_valid l file m a.0 x a.1) (opened_valid l other n b.0 y b.1) in
+      let left = left_same l file other m n a.0 b.0 a.1 b.1 in
+      (λ e. left.0 (told.0 e), λ e. told.1 (left.1 e));
 }
 
 -- ---- refusals
@@ -171,17 +179,6 @@ together First Second honest honest_right l m r s Took nothing puts refusals.NoS
 
 -- ---- steps
 
--- a file that is looked at, and no more
-pub looked_alone : (times : ℕ) (file : List ℕ) (old new : ℕ) → WalksWithin file old new → ComparedWithin times file old new
-looked_alone times file old new h = record {
-  denoted = λ p d.
-      let own = h.denoted p d in
-      let more : 8 ≤ walked_each times = omega arith in
-      let most = mul-le-mul_right (sample_total p + row_total d.tree) more in
-      omega (arith, own, most);
-  refused = h.refused;
-}
-
 none_taken : (times : ℕ) (file : List ℕ) (n : ℕ) → ComparedWithin times file n n
 none_taken times file n = record {
   denoted = λ p d. let rest = sample_total p + row_total d.tree in omega arith;
@@ -189,26 +186,37 @@ none_taken times file n = record {
 }
 
 -- the second file was not looked at
-pub first_alone : (l : Without) (listing : Listing) (file other : List ℕ) (old new : ℕ) → WalksWithin file old new → ComparesWithin l listing file other old new
-first_alone l listing file other old new first = record { between = new; first = looked_alone (most_walks l listing) file old new first; second = none_taken (most_walks l listing) other new }
+pub first_alone : (l : Without) (listing : Listing) (file other : List ℕ) (old new : ℕ) → OpensWithinTold l.lead_ins file old new → ComparesWithin l listing file other old new
+first_alone l listing file other old new first = record { between = new; first = looked_alone l.lead_ins (most_walks l listing) file old new first; second = none_taken (most_walks l listing) other new }
 
 -- the first file was opened, and so were the second or not
-pub both_looked : (l : Without) (listing : Listing) (file other : List ℕ) (m : MovieSeen) (old mid new : ℕ) → ((tree : FileTree) × IsOpenedOwn file m tree) → ((tree : FileTree) → IsFileTree file tree → mid ≤ old + opening_steps tree) → WalksWithin other mid new
-    → ComparesWithin l listing file other old new
-both_looked l listing file other m old mid new a opening second = record {
+pub both_looked : (l : Without) (listing : Listing) (file other : List ℕ) (old mid new : ℕ) → OpensWithinTold l.lead_ins file old mid → OpensWithinTold l.lead_ins other mid new → ComparesWithin l listing file other old new
+both_looked l listing file other old mid new first second = record {
   between = mid;
-  first = looked_alone (most_walks l listing) file old mid (looked_within file old mid m a.0 a.1 (opening a.0 (file_tree_is file m a.0 a.1)));
-  second = looked_alone (most_walks l listing) other mid new second;
+  first = looked_alone l.lead_ins (most_walks l listing) file old mid first;
+  second = looked_alone l.lead_ins (most_walks l listing) other mid new second;
 }
 
+-- a bound that more steps keep
+steps_later : (b : Bool) (file : List ℕ) (old new more : ℕ) → OpensWithinTold b file old new → OpensWithinTold b file (old + more) (new + more)
+steps_later b file old new more h = record {
+  denoted = λ p d. let own = h.denoted p d in omega (arith, own);
+  refused = λ nothing. opens_later file old new more (h.refused nothing);
+}
+
+walks_alike : (l : Without) (listing : Listing) → opened_walks (words_told l) listing ≡ opened_walks l listing
+walks_alike l (listings.First syntax) = refl
+walks_alike l (listings.All lines) = refl
+
 -- both were opened, and walked over as many times as may be
-pub both_walked : (l : Without) (listing : Listing) (file other : List ℕ) (m n : MovieSeen) (old mid behind new : ℕ) → ((tree : FileTree) × IsOpenedOwn file m tree) → ((tree : FileTree) × IsOpenedOwn other n tree) → ((tree : FileTree) → IsFileTree file tree → mid ≤ old + opening_steps tree)
-    → ((tree : FileTree) → IsFileTree other tree → behind ≤ mid + opening_steps tree) → ((tree next : FileTree) → IsOpenedAs file m tree → IsOpenedAs other n next → WalksTimes (most_walks l listing) tree next behind new) → ComparesWithin l listing file other old new
+pub both_walked : (l : Without) (listing : Listing) (file other : List ℕ) (m n : MovieSeen) (old mid behind new : ℕ) → ((tree : FileTree) × IsOpenedTold l.lead_ins file m tree) → ((tree : FileTree) × IsOpenedTold l.lead_ins other n tree)
+    → OpensWithinTold l.lead_ins file old mid → OpensWithinTold l.lead_ins other mid behind
+    → ((tree next : FileTree) → IsOpenedAs file m tree → IsOpenedAs other n next → WalksTimes (opened_walks (words_told l) listing) tree next behind new) → ComparesWithin l listing file other old new
 both_walked l listing file other m n old mid behind new a b opening next walks =
-    let times = most_walks l listing in
+    let times = opened_walks l listing in
+    let ways = times * walks_steps a.0 in
     record {
-      between = mid + times * walks_steps a.0;
-      first = often_walked file old (mid + times * walks_steps a.0) times m a.0 a.1 (let opened = opening a.0 (file_tree_is file m a.0 a.1) in omega (arith, opened));
-      second = often_walked other (mid + times * walks_steps a.0) new times n b.0 b.1
-          (let more = walks a.0 b.0 a.1.opened b.1.opened in let opened = next b.0 (file_tree_is other n b.0 b.1) in omega (arith, more, opened));
+      between = mid + ways;
+      first = often_walked l.lead_ins times file m a.0 old mid (mid + ways) a.1 opening (omega arith);
+      second = often_walked l.lead_ins times other n b.0 (mid + ways) (behind + ways) new b.1 (steps_later l.lead_ins other mid behind ways next) (let more = subst (λ k. WalksTimes k a.0 b.0 behind new) (walks_alike l listing) (walks a.0 b.0 a.1.opened b.1.opened) in omega (arith, more));
     }

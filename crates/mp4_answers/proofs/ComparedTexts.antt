@@ -1,32 +1,42 @@
 -- What is said of two files that differ: the lines that are listed are those of the definition, and words that are named make the two the same.
 use Rattle.std.proofs.Common.{◌≡◌, ◌⊎◌, inl, inr, ℕ, ◌<◌, nat_le, List, [], ◌∷◌, ◌++◌, length, take, Bool, true, false, refl, sym, ap, subst, ◌∙◌, arith, length-take}
-use Rattle.std.specs.Prelude.{Option, None, Some, flat_map, slice_get, Result, Ok, Err, IfOk}
+use Rattle.std.specs.Prelude.{Option, None, Some, option_map, flat_map, map, slice_get, Result, Ok, Err, IfOk}
 use Rattle.std.proofs.lemmas.List.{take-take}
 use Rattle.mp4_content.specs.format.Comparison.{differences}
 use Rattle.mp4_present.specs.format.Denotes.{FileTree, presentation_of}
-use Rattle.mp4_present.specs.format.Presentation.{Presentation, Valid}
+use Rattle.mp4_present.specs.format.Presentation.{Presentation, Track, Valid}
 use Rattle.mp4_content.specs.format.Remaining.{remaining}
 use Rattle.mp4_present.specs.words.Movies.{MovieSeen}
-use Rattle.mp4_present.specs.words.OpenedMovie.{IsOpenedOwn}
+use Rattle.mp4_present.specs.format.Waiting.{waiting_tracks}
+use Rattle.mp4_head.specs.format.Head.{Kept}
 use Rattle.mp4_content.specs.declared.aligning.Alignment.{Alignment}
 use Rattle.mp4_content.specs.declared.comparing.differences.Difference.{Difference}
 use Rattle.mp4_content.specs.declared.without.Word.{Word}
 use Rattle.mp4_content.specs.declared.without.Without.{Without}
 use Rattle.mp4_content.proofs.ComparisonWhole.{no_difference_is_same}
-use Rattle.mp4_present.proofs.DenotedValid.{denoted_is_valid}
 use Rattle.mp4_content.specs.format.CoveringLaws.{Covers}
 use Rattle.mp4_answers.specs.declared.commands.compare.Lines.{Lines}
 use Rattle.mp4_answers.specs.declared.commands.compare.Listing.{Listing}
 use Rattle.mp4_answers.specs.declared.commands.compare.Listing.TheVariants as listings
-use Rattle.mp4_answers.specs.format.CompareHeadline.{AreEnough, IsTold, PutsSuch, TellsOf, alignment_in, difference_in, last_in, listing_text, most_counted}
-use Rattle.mp4_answers.specs.words.Compares.{AreSome, IsCounted, IsEnough, IsTried, IsShrunk, IsSameWith, IsFoundOf, IsSaid, IsSaidOf, ListsFront, PutsFound, says_nothing}
+use Rattle.mp4_answers.specs.format.CompareHeadline.{AreEnough, AreToldAligned, IsTold, PutsSuch, TellsOf, alignment_in, descriptions_in, difference_in, last_in, listing_text, most_counted}
+use Rattle.mp4_answers.specs.words.Compares.{AreBeside, AreSome, as_asked, IsCounted, IsEnough, IsTried, IsShrunk, IsSameWith, IsFoundOf, IsSaid, IsSaidOf, ListsFront, PutsFound, says_nothing}
 use Rattle.mp4_answers.specs.words.SingleWords.{everything, less_word, single_words}
 use Rattle.mp4_answers.specs.words.TwoFiles.{differ_without}
 use Rattle.mp4_content.specs.words.Compared.{files_differ}
 use Rattle.mp4_content.proofs.RemainingWords.{same_remains_without_more}
+use Rattle.mp4_content.proofs.RemainingScaled.{remaining_is_scaled}
+use Rattle.mp4_content.proofs.LeadInsMore.{same_kept_without_more}
+use Rattle.mp4_content.proofs.LeadInsTold.{kept_is_told, left_is_told}
+use Rattle.mp4_content.proofs.LeadInsTracks.{where_more, where_told}
+use Rattle.mp4_content.proofs.LeadInsUntimed.{kept_without_times}
+use Rattle.mp4_content.specs.format.Alignment.{AreAligned, listed}
+use Rattle.mp4_content.specs.format.LeadIns.{Moment, delay, first_moments, kept, left_of, says_beginnings, told, told_by, wait_of, words_told}
 use Rattle.mp4_answers.proofs.LeastTimes.{among_others}
 use Rattle.mp4_answers.proofs.WordSets.{covers_all, none_to_take, shrunk}
-use Rattle.mp4_answers.proofs.ComparedFiles.{denotes_by, first_said, judged_by, true_false}
+use Rattle.mp4_answers.proofs.ComparedFiles.{first_said, opened_valid, true_false}
+use Rattle.mp4_answers.proofs.AskedWords.{among_asked, covers_asked, covers_told, inside_told, lead_same, same_asked, told_as, told_asked}
+use Rattle.mp4_answers.proofs.OpenedTold.{judged_told}
+use Rattle.mp4_answers.specs.words.OpenedTold.{IsOpenedTold}
 use Rattle.mp4_boxes.proofs.Plain.{nat_le_no}
 
 -- ---- the lines that are listed
@@ -134,31 +144,98 @@ module _ (l : Without) (p q : Presentation) (v : Valid p) (w : Valid q) where
   more_same : (s t : Without) → Covers s t → differ s ≡ [] → differ t ≡ []
   more_same s t c e = none_of t (same_remains_without_more s t p q c (same_of s e))
 
-  enough_of_both : (enough : Option Without) → IsEnough l differ enough → AreEnough l p q enough
+  -- the words are enough for what the movies show
+  abbrev EnoughOf : Option Without → Type 0
+  EnoughOf None = (m : Without) → remaining m p ≡ remaining m q → ⊥
+  EnoughOf (Some m) = Covers l m × (remaining m p ≡ remaining m q)
+      × ((k : Without) → Covers l k → Covers k m → remaining k p ≡ remaining k q → k ≡ m)
+      × (descriptions_in p ≡ descriptions_in q → (k : Without) → Covers l k → k.timing ≡ m.timing → k.timescales ≡ m.timescales → remaining k p ≡ remaining k q → Covers m k)
+
+  enough_of_both : (enough : Option Without) → IsEnough l differ enough → EnoughOf enough
   enough_of_both None h = λ m e. h (none_of everything (same_remains_without_more m everything p q (covers_all m) e))
   enough_of_both (Some m) (first, some, h) =
       let r = shrunk l differ more_same single_words first m some.0 some.1 h in
       let least : (k : Without) → Covers l k → Covers k m → remaining k p ≡ remaining k q → k ≡ m
       = λ k c d e. none_to_take l differ more_same first m k some.0 some.1 h c d (none_of k e) in
-      (r.0, same_of m r.1, least, λ same k c alike e. among_others k m l p q v w alike same e (same_of m r.1) c r.0 least)
+      (r.0, same_of m r.1, least, λ same k c timed scaled e. among_others k m l p q v w timed scaled same e (same_of m r.1) c r.0 least)
 
-tells_of : (listing : Listing) (l : Without) (p q : Presentation) (text : List ℕ) → Valid p → Valid q → IsSaidOf listing l p q text → TellsOf listing l p q text
-tells_of (listings.First syntax) l p q text v w h = h
-tells_of (listings.All lines) l p q text v w h = (h.0, h.1, h.2, enough_of_both l p q v w h.2 h.3, h.4)
+-- ---- as they are asked for
+
+same_descriptions : (b : Bool) (p : Presentation) → descriptions_in (told b p) ≡ descriptions_in p
+same_descriptions false p = refl
+same_descriptions true p = by (says_beginnings p) refl
+  where
+    each : (f : Track → ℕ) (tracks : List Track) → map (λ (t : Track). t.head.media.descriptions) (waiting_tracks (map f tracks) tracks) ≡ map (λ (t : Track). t.head.media.descriptions) tracks
+    each f [] = refl
+    each f (t ∷ tracks) = ap (λ (xs : List (List Kept)). t.head.media.descriptions ∷ xs) (each f tracks)
+
+    wait : Moment → ℕ
+    wait = delay (first_moments p.movie.timescale p.tracks)
+
+    by : (b : Bool) → says_beginnings p ≡ b → descriptions_in (told_by wait p) ≡ descriptions_in p
+    by true e = ap descriptions_in (where_told wait p e) ∙ each (wait_of p.movie.timescale wait) p.tracks
+    by false e = ap descriptions_in (where_more wait p e)
+
+-- the movies show what the files denote, told how long tracks wait if that is asked
+module _ (l : Without) (p q r s : Presentation) (v : Valid r) (w : Valid s) (shown : r ≡ told l.lead_ins p) (other : s ≡ told l.lead_ins q) where
+  left_at : (k : Without) (t u : Presentation) → u ≡ told l.lead_ins t → k.lead_ins ≡ l.lead_ins → left_of k t ≡ remaining (words_told k) u
+  left_at k t u e same = left_is_told k t ∙ ap (λ b. remaining (words_told k) (told b t)) same ∙ ap (remaining (words_told k)) (sym e)
+
+  to_told : (k : Without) → k.lead_ins ≡ l.lead_ins → left_of k p ≡ left_of k q → remaining (words_told k) r ≡ remaining (words_told k) s
+  to_told k same e = sym (left_at k p r shown same) ∙ e ∙ left_at k q s other same
+
+  -- where all is left out, it doesn't matter how tracks begin
+  all_left : (m : Without) (t u : Presentation) → left_of m t ≡ left_of m u → remaining everything (told l.lead_ins t) ≡ remaining everything (told l.lead_ins u)
+  all_left m t u e =
+      let more = same_kept_without_more m.lead_ins m.timescales true m everything t u (λ f. refl) (covers_all m) e in
+      let one = kept_without_times m.lead_ins true everything t refl refl in
+      let two = kept_without_times m.lead_ins true everything u refl refl in
+      let back : (x : Presentation) → kept l.lead_ins true everything x ≡ remaining everything (told l.lead_ins x)
+      = λ x. kept_is_told l.lead_ins true everything x ∙ sym (remaining_is_scaled everything (told l.lead_ins x)) in
+      sym (back t) ∙ kept_without_times l.lead_ins true everything t refl refl ∙ sym one ∙ more ∙ two ∙ sym (kept_without_times l.lead_ins true everything u refl refl) ∙ back u
+
+  enough_asked : (enough : Option Without) → EnoughOf (words_told l) r s v w enough → AreEnough l p q (option_map (as_asked l) enough)
+  enough_asked None h = λ m e. h everything (ap (remaining everything) shown ∙ all_left m p q e ∙ ap (remaining everything) (sym other))
+  enough_asked (Some m) (c, same, least, among) = (
+    covers_asked l m c,
+    refl,
+    left_at (as_asked l m) p r shown refl ∙ ap (λ (x : Without). remaining x r) (told_asked l m c) ∙ same ∙ ap (λ (x : Without). remaining x s) (sym (told_asked l m c)) ∙ sym (left_at (as_asked l m) q s other refl),
+    λ k d e f. same_asked l m c k d e (least (told_as l m c k d) (covers_told l m c k d) (inside_told l m c k d e) (to_told k (lead_same l m c k d e) f)),
+    λ heads k d alike f.
+        let kinds = ap descriptions_in shown ∙ same_descriptions l.lead_ins p ∙ heads ∙ sym (same_descriptions l.lead_ins q) ∙ ap descriptions_in (sym other) in
+        among_asked l m c k d (among kinds (told_as l m c k d) (covers_told l m c k d) alike.timing alike.timescales (to_told k alike.lead_ins f)) alike.lead_ins,
+  )
+
+  aligned_told : (b : Bool) (found : List Alignment) → AreBeside b (words_told l) r s found → AreToldAligned b l p q found
+  aligned_told true found h = subst (λ (y : Presentation). AreAligned (words_told l) 1 (told l.lead_ins p).tracks y.tracks found) other (subst (λ (x : Presentation). AreAligned (words_told l) 1 x.tracks s.tracks found) shown h)
+  aligned_told false found h = h
+
+  tells_of : (listing : Listing) (text : List ℕ) → IsSaidOf listing l (words_told l) r s text → TellsOf listing l p q text
+  tells_of (listings.First syntax) text h =
+      let one = left_at l p r shown refl in
+      let two = left_at l q s other refl in
+      (h.0, (λ i. slice_get (differences (one i) (two i)) 0) ∙ h.1, h.2)
+  tells_of (listings.All lines) text (found, beside, enough, is, told_so) =
+      let one = left_at l p r shown refl in
+      let two = left_at l q s other refl in (
+        found,
+        aligned_told lines.aligned found beside,
+        option_map (as_asked l) enough,
+        enough_asked enough (enough_of_both (words_told l) r s v w enough is),
+        told_so ∙ (λ i. listing_text lines found (listed lines.aligned (sym one i) (sym two i)) (option_map (as_asked l) enough)),
+      )
 
 pub told_of : {A : Type 0} (bytes : A → List ℕ) (listing : Listing) (l : Without) (file other : List ℕ) (m n : MovieSeen) (found : Option A) (same : Bool) (Took : List ℕ → Type 0) → same ≡ says_nothing found → same ≡ false → PutsFound bytes found Took
-    → (a : (tree : FileTree) × IsOpenedOwn file m tree) → (b : (tree : FileTree) × IsOpenedOwn other n tree) → IsFoundOf bytes listing l (presentation_of file a.0) (presentation_of other b.0) found → PutsSuch Took (IsTold listing l file other)
+    → (a : (tree : FileTree) × IsOpenedTold l.lead_ins file m tree) → (b : (tree : FileTree) × IsOpenedTold l.lead_ins other n tree) → IsFoundOf bytes listing l (words_told l) (presentation_of file a.0) (presentation_of other b.0) found → PutsSuch Took (IsTold listing l file other)
 told_of bytes listing l file other m n None same Took is differ put a b h = absurd (true_false (sym is ∙ differ))
-told_of bytes listing l file other m n (Some text) same Took is differ put a b h =
-    let first = denotes_by file m a.0 a.1 in
-    let second = denotes_by other n b.0 b.1 in (
-      bytes text,
-      record {
-        p = presentation_of file a.0;
-        q = presentation_of other b.0;
-        first = judged_by file m a.0 a.1;
-        second = judged_by other n b.0 b.1;
-        tells = λ x y. tells_of listing l (presentation_of file a.0) (presentation_of other b.0) (bytes text) (denoted_is_valid file (presentation_of file a.0) x first) (denoted_is_valid other (presentation_of other b.0) y second) h;
-      },
-      put,
-    )
+told_of bytes listing l file other m n (Some text) same Took is differ put a b h = (
+  bytes text,
+  record {
+    p = a.1.p;
+    q = b.1.p;
+    first = judged_told l file m a.0 a.1;
+    second = judged_told l other n b.0 b.1;
+    tells = λ x y. tells_of l a.1.p b.1.p (presentation_of file a.0) (presentation_of other b.0) (opened_valid l file m a.0 x a.1) (opened_valid l other n b.0 y b.1) a.1.says b.1.says listing (bytes text) h;
+  },
+  put,
+)

@@ -18,7 +18,7 @@ use Rattle.mp4_content.proofs.TimescalesChanged.{many_stay}
 use Rattle.mp4_content.proofs.TimescalesFractions.{timescales_are_theirs}
 use Rattle.mp4_content.proofs.TimescalesReduced.{segments_left}
 use Rattle.mp4_boxes.proofs.Plain.{and_is_true, head_is, length_mapped, tail_is}
-use Rattle.mp4_answers.specs.format.CompareHeadline.{AreTimedAlike, descriptions_in}
+use Rattle.mp4_answers.specs.format.CompareHeadline.{descriptions_in}
 use Rattle.mp4_answers.proofs.LeastWords.{false_in_both, same_in_common}
 use Rattle.mp4_answers.proofs.WordSets.{common, common_first, common_second, covers_common}
 
@@ -380,7 +380,7 @@ module _ (k m : Without) (timed : k.timing ≡ m.timing) where
           })
 
 -- words of which none can be taken away are among any others
-pub among_others : (k m l : Without) (p q : Presentation) → Valid p → Valid q → AreTimedAlike k m → descriptions_in p ≡ descriptions_in q → remaining k p ≡ remaining k q → remaining m p ≡ remaining m q → Covers l k → Covers l m
+pub among_others : (k m l : Without) (p q : Presentation) → Valid p → Valid q → k.timing ≡ m.timing → k.timescales ≡ m.timescales → descriptions_in p ≡ descriptions_in q → remaining k p ≡ remaining k q → remaining m p ≡ remaining m q → Covers l k → Covers l m
     → ((j : Without) → Covers l j → Covers j m → remaining j p ≡ remaining j q → j ≡ m) → Covers m k
-among_others k m l p q v w alike same e f c d least =
-    subst (λ (j : Without). Covers j k) (least (common k m) (covers_common k m l c d) (common_second k m) (remains_in_common k m alike.timing p q v w same alike.timescales e f)) (common_first k m)
+among_others k m l p q v w timed scaled same e f c d least =
+    subst (λ (j : Without). Covers j k) (least (common k m) (covers_common k m l c d) (common_second k m) (remains_in_common k m timed p q v w same scaled e f)) (common_first k m)

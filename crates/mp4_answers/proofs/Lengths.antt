@@ -12,6 +12,7 @@ use Rattle.mp4_head.specs.format.Tree.{TrackTree, are_distinct, track_head_of}
 use Rattle.mp4_head.proofs.Distinct.{distinct_same, map_twice}
 use Rattle.mp4_present.specs.format.Denotes.{FileTree, Denotes, file_parts, placed_of, track_of, presentation_of}
 use Rattle.mp4_present.specs.format.Presentation.{Track, Presentation}
+use Rattle.mp4_content.specs.format.LeadIns.{left_of, words_told}
 use Rattle.mp4_content.specs.format.Remaining.{remaining}
 use Rattle.mp4_present.specs.words.Movies.{MovieSeen}
 use Rattle.mp4_present.specs.words.OpenedMovie.{IsInfoOf, IsOpenedOwn, IsOpenedAs}
@@ -28,6 +29,8 @@ use Rattle.mp4_answers.specs.format.ReducedHeadline.{HasReducedForm}
 use Rattle.mp4_answers.specs.format.Texts.{sample_data}
 use Rattle.mp4_answers.proofs.ShownLines.{LieInFile, each_lies, judged}
 use Rattle.mp4_answers.proofs.TrackTexts.{track_found}
+use Rattle.mp4_answers.proofs.OpenedTold.{judged_told, left_is}
+use Rattle.mp4_answers.specs.words.OpenedTold.{IsOpenedTold}
 
 -- ---- a track with an ID is one
 
@@ -59,10 +62,10 @@ form_long file m tree n o e text h =
     let same = judged_one file h.0 (presentation_of file tree) h.1 (judged file m tree o) in
     ap length h.2 ∙ ap (λ (p : Presentation). length (normal p)) same ∙ sym e
 
-pub left_long : (l : Without) (file : List ℕ) (m : MovieSeen) (tree : FileTree) (n : ℕ) → IsOpenedOwn file m tree → n ≡ length (normal (remaining l (presentation_of file tree))) → AreLong (HasReducedForm l file) n
+pub left_long : (l : Without) (file : List ℕ) (m : MovieSeen) (tree : FileTree) (n : ℕ) → IsOpenedTold l.lead_ins file m tree → n ≡ length (normal (remaining (words_told l) (presentation_of file tree))) → AreLong (HasReducedForm l file) n
 left_long l file m tree n o e text h =
-    let same = judged_one file h.0 (presentation_of file tree) h.1 (judged file m tree o) in
-    ap length h.3 ∙ ap (λ (p : Presentation). length (normal (remaining l p))) same ∙ sym e
+    let same = judged_one file h.0 o.p h.1 (judged_told l file m tree o) in
+    ap length h.3 ∙ ap (λ (p : Presentation). length (normal (left_of l p))) same ∙ ap (λ (p : Presentation). length (normal p)) (sym (left_is l file m tree o)) ∙ sym e
 
 -- the bytes that are counted of a track are those of its samples
 counted : (file : List ℕ) (tree : FileTree) (trees : List TrackTree) (infos : List TrackInfo) (k : ℕ) (t : TrackTree) (info : TrackInfo) → AllByRecursion (LieInFile file tree) trees → AllZip (IsInfoOf file tree) trees infos
@@ -99,6 +102,14 @@ module _ (honest honest_then : Bool) (file file_then : List ℕ) (m : MovieSeen)
   form_measured (Ok n) long = λ told. form_long file m (opened told).0 n (opened told).1 (so (λ f t. n ≡ length (normal (presentation_of f t))) long told)
   form_measured (Err e) long = tt
 
-  pub left_measured : (l : Without) (answer : Result ℕ Refusal) → Then honest_then file_then (λ f t. IfOk answer (λ n. n ≡ length (normal (remaining l (presentation_of f t))))) → IfOk answer (λ n. IsTrue honest → AreLong (HasReducedForm l file) n)
-  left_measured l (Ok n) long = λ told. left_long l file m (opened told).0 n (opened told).1 (so (λ f t. n ≡ length (normal (remaining l (presentation_of f t)))) long told)
-  left_measured l (Err e) long = tt
+-- the same of one that may be told how long its tracks wait
+module _ (l w : Without) (same : w ≡ words_told l) (honest honest_then : Bool) (file file_then : List ℕ) (m : MovieSeen) (same_honesty : honest_then ≡ honest) (same_file : file_then ≡ file) (opened : IsTrue honest → (t : FileTree) × IsOpenedTold l.lead_ins file m t) where
+  -- it is so long by the words that it is left by
+  abbrev Long : ℕ → Without → Bool → List ℕ → Type 0
+  Long n x told f = IsTrue told → (t : FileTree) → IsOpenedAs f m t → n ≡ length (normal (remaining x (presentation_of f t)))
+
+  pub left_measured : (answer : Result ℕ Refusal) → (IsTrue honest_then → (t : FileTree) → IsOpenedAs file_then m t → IfOk answer (λ n. n ≡ length (normal (remaining w (presentation_of file_then t))))) → IfOk answer (λ n. IsTrue honest → AreLong (HasReducedForm l file) n)
+  left_measured (Ok n) long = λ told.
+      let here = subst (λ b. Long n (words_told l) b file) same_honesty (subst (Long n (words_told l) honest_then) same_file (subst (λ x. Long n x honest_then file_then) same long)) in
+      left_long l file m (opened told).0 n (opened told).1 (here told (opened told).0 (opened told).1.opened)
+  left_measured (Err e) long = tt

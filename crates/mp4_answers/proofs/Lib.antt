@@ -20,6 +20,10 @@ pub mod Normalised
 pub mod Summed
 mod WholePut
 pub mod Measured
+pub mod ToldSteps
+pub mod ToldFaults
+pub mod OpenedTold
+pub mod LeftFaults
 pub mod StepSums
 pub mod StepsTaken
 pub mod LooksTaken
@@ -43,6 +47,7 @@ mod WordSets
 mod WordLists
 mod LeastWords
 mod LeastTimes
+pub mod AskedWords
 pub mod ComparedTexts
 pub mod SameAnswers
 pub mod OneTexts

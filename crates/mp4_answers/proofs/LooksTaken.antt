@@ -19,13 +19,15 @@ use Rattle.mp4_present.specs.words.Opening.{RefusesOpen}
 use Rattle.mp4_present.specs.format.ByBytes.{LooksByBytes}
 use Rattle.mp4_present.specs.words.ToOpen.{moof_looks, opening_looks}
 use Rattle.mp4_present.specs.words.WalkSteps.{IfNoFault}
-use Rattle.mp4_present.proofs.One.{file_tree_one}
+use Rattle.mp4_present.proofs.One.{denotes_one, file_tree_one}
 use Rattle.mp4_present.proofs.ToldTrees.{file_tree_is}
 use Rattle.mp4_answers.specs.format.Steps.{FindsWithin, TurnsWithin, place_total}
 use Rattle.mp4_plan.specs.format.TurnCount.{most_turns}
 use Rattle.mp4_answers.specs.format.CompareHeadline.{FindsBothWithin}
 use Rattle.mp4_answers.proofs.RunParts.{denotes_nothing}
 use Rattle.mp4_answers.proofs.ShownLines.{denoted}
+use Rattle.mp4_answers.proofs.ToldSteps.{told_many, told_total}
+use Rattle.mp4_answers.specs.words.OpenedTold.{IsOpenedTold}
 
 -- ---- sums
 
@@ -104,27 +106,22 @@ module _ (file : List ℕ) (old new : ℕ) where
     refused = f.refused;
   }
 
-  -- a file that is opened, planned and written
-  pub turned_within : (m : MovieSeen) (tree : FileTree) (behind : ℕ) → IsOpenedOwn file m tree → behind ≤ old + opening_looks tree
-      → new ≤ behind + 2 * most_turns (sum_by (λ (i : TrackInfo). i.samples) m.tracks) (length m.tracks) → TurnsWithin file old new
-  turned_within m tree behind o opening turns = record {
-    denoted = λ p d.
-        let same = file_tree_one file tree d.tree (file_tree_is file m tree o) d.is_tree in
-        let finds = ap opening_looks same ∙ opening_is file p d in
-        let tracks : length m.tracks ≡ length p.tracks =
-        infos_length file tree tree.movie.tracks m.tracks o.opened.tracks ∙ sym (as_many_tracks file tree) ∙ ap (λ (t : FileTree). length (presentation_of file t).tracks) same ∙ ap (λ (q : Presentation). length q.tracks) (sym d.says) in
-        let samples : sum_by (λ (i : TrackInfo). i.samples) m.tracks ≡ sample_total p =
-        infos_total file tree tree.movie.tracks m.tracks o.opened.tracks ∙ ap (λ (t : FileTree). sample_total (presentation_of file t)) same ∙ ap sample_total (sym d.says) in
-        let all = subst (λ k. new ≤ behind + 2 * most_turns (sample_total p) k) tracks (subst (λ s. new ≤ behind + 2 * most_turns s (length m.tracks)) samples turns) in
-        let own = subst (λ n. behind ≤ old + n) finds opening in
-        omega (arith, own, all);
-    refused = λ nothing. absurd (nothing (presentation_of file tree) (denoted file m tree o));
-  }
+-- ---- the turns of a movie that may be told how long its tracks wait
 
--- a movie that is written or not
-pub turns_taken : (file : List ℕ) (m : MovieSeen) (old behind new : ℕ) → ((tree : FileTree) × IsOpenedOwn file m tree) → ((tree : FileTree) → IsFileTree file tree → behind ≤ old + opening_looks tree)
-    → new ≤ behind + 2 * most_turns (sum_by (λ (i : TrackInfo). i.samples) m.tracks) (length m.tracks) → TurnsWithin file old new
-turns_taken file m old behind new opened opening turns = turned_within file old new m opened.0 behind opened.1 (opening opened.0 (file_tree_is file m opened.0 opened.1)) turns
+-- it is opened, planned and written
+pub turns_taken : (b : Bool) (file : List ℕ) (m : MovieSeen) (old behind new : ℕ) → ((tree : FileTree) × IsOpenedTold b file m tree) → FindsWithin file old behind → new ≤ behind + 2 * most_turns (sum_by (λ (i : TrackInfo). i.samples) m.tracks) (length m.tracks) → TurnsWithin file old new
+turns_taken b file m old behind new (tree, o) finds turns = record {
+  denoted = λ p d.
+      let one = denotes_one file o.p p o.denotes d in
+      let tracks : length m.tracks ≡ length p.tracks =
+      infos_length file tree tree.movie.tracks m.tracks o.opened.tracks ∙ sym (as_many_tracks file tree) ∙ ap (λ (q : Presentation). length q.tracks) o.says ∙ told_many b o.p ∙ ap (λ (q : Presentation). length q.tracks) one in
+      let samples : sum_by (λ (i : TrackInfo). i.samples) m.tracks ≡ sample_total p =
+      infos_total file tree tree.movie.tracks m.tracks o.opened.tracks ∙ ap sample_total o.says ∙ told_total b o.p ∙ ap sample_total one in
+      let all = subst (λ k. new ≤ behind + 2 * most_turns (sample_total p) k) tracks (subst (λ s. new ≤ behind + 2 * most_turns s (length m.tracks)) samples turns) in
+      let own = finds.denoted p d in
+      omega (arith, own, all);
+  refused = λ nothing. absurd (nothing o.p o.denotes);
+}
 
 -- a file that is opened, whatever comes then
 pub finds_taken : (file : List ℕ) (m : MovieSeen) (old new : ℕ) → ((tree : FileTree) × IsOpenedOwn file m tree) → ((tree : FileTree) → IsFileTree file tree → new ≤ old + opening_looks tree) → FindsWithin file old new

@@ -9,7 +9,7 @@ use Rattle.mp4_boxes.specs.declared.rule.Rule.{Rule}
 use Rattle.mp4_boxes.specs.declared.rule.Rule.TheVariants.{File}
 use Rattle.mp4_boxes.proofs.Tiling.{header_is, tiles_one}
 use Rattle.mp4_present.specs.format.Presentation.{Track, Presentation}
-use Rattle.mp4_content.specs.format.Remaining.{remaining}
+use Rattle.mp4_content.specs.format.LeadIns.{left_of}
 use Rattle.mp4_plan.specs.format.Normal.{normal}
 use Rattle.mp4_plan.proofs.Judged.{judged_one}
 use Rattle.mp4_answers.specs.declared.box_names.Name.{Name}
@@ -89,7 +89,7 @@ list_of_boxes_is_one form file text other x y = lines_one form 6 0 File _ text o
 pub judged_texts_are_one : JudgedTextsAreOne
 judged_texts_are_one = record {
   normal_form = λ file bytes other x y. x.2 ∙ ap (λ (p : Presentation). normal p) (judged_one file x.0 y.0 x.1 y.1) ∙ sym y.2;
-  reduced_form = λ l file bytes other x y. x.3 ∙ ap (λ (p : Presentation). normal (remaining l p)) (judged_one file x.0 y.0 x.1 y.1) ∙ sym y.3;
+  reduced_form = λ l file bytes other x y. x.3 ∙ ap (λ (p : Presentation). normal (left_of l p)) (judged_one file x.0 y.0 x.1 y.1) ∙ sym y.3;
   shown = λ file bytes other x y. x.2 ∙ ap (λ (p : Presentation). compact_text (show_value p) ++ line_feed) (judged_one file x.0 y.0 x.1 y.1) ∙ sym y.2;
   listed = λ file id form bytes other x y. x.2 ∙ ap (λ (t : Track). sample_listing form t) (track_is_one file id x.0 y.0 x.1 y.1) ∙ sym y.2;
   extracted = λ file id bytes other x y. x.2 ∙ ap (λ (t : Track). sample_data t) (track_is_one file id x.0 y.0 x.1 y.1) ∙ sym y.2;

@@ -17,14 +17,16 @@ use Rattle.mp4_content.specs.words.Scales.{AreScales}
 use Rattle.mp4_content.specs.declared.scales.Scales.{Scales}
 use Rattle.mp4_present.specs.words.Carried.{BytesGoOn}
 use Rattle.mp4_present.specs.words.Movies.{MovieSeen}
-use Rattle.mp4_present.specs.words.OpenedMovie.{IsOpenedOwn}
+use Rattle.mp4_present.specs.format.Presentation.{Presentation}
+use Rattle.mp4_content.specs.format.LeadIns.{words_told}
+use Rattle.mp4_answers.specs.words.OpenedTold.{IsOpenedTold}
+use Rattle.mp4_answers.proofs.OpenedTold.{judged_told, left_is}
 use Rattle.mp4_present.specs.words.HeadsRead.{SaysMovie}
 use Rattle.mp4_content.specs.declared.without.Without.{Without}
 use Rattle.mp4_answers.specs.format.FileTexts.{PrintsText}
-use Rattle.mp4_answers.specs.format.Text.{front_lines, movie_lines, text, track_text}
+use Rattle.mp4_answers.specs.format.Text.{front_lines, movie_lines, text, text_of, track_text}
 use Rattle.mp4_answers.specs.words.PrintedTracks.{HeadsRemain}
 use Rattle.mp4_answers.proofs.Going.{Going, going_none}
-use Rattle.mp4_answers.proofs.ShownLines.{judged}
 use Rattle.mp4_answers.proofs.TextsGoOn.{text_next, text_fails, texts_not_put, texts_put}
 use Rattle.mp4_present.proofs.ToldTrees.{tree_said}
 
@@ -35,36 +37,37 @@ FrontPrinted l file Took = (bytes : List ℕ) × PrintsText l file bytes × Take
 abbrev pub AllPrinted : Without → List ℕ → (List ℕ → Type 0) → Type 0
 AllPrinted l file Took = (bytes : List ℕ) × PrintsText l file bytes × Took bytes
 
-module _ (l : Without) (file : List ℕ) (m : MovieSeen) (tree : FileTree) (head : MovieHead) (o : IsOpenedOwn file m tree) (says : SaysMovie m head) (scales : Scales) (are : AreScales l file tree scales) where
+module _ (l : Without) (file : List ℕ) (m : MovieSeen) (tree : FileTree) (head : MovieHead) (o : IsOpenedTold l.lead_ins file m tree) (says : SaysMovie m head) (scales : Scales) (are : AreScales (words_told l) file tree scales) where
   said : head_seen head ≡ head_of tree.movie
   said = (tree_said file m tree head o.opened says).says
 
   -- those of the tracks remain
-  pub heads_remain : (known : List TrackHead) → map track_seen known ≡ number_heads l 1 (remaining_heads l scales.movie scales.tracks.items (tracks_seen head)) → HeadsRemain l file tree scales known
+  pub heads_remain : (known : List TrackHead) → map track_seen known ≡ number_heads (words_told l) 1 (remaining_heads (words_told l) scales.movie scales.tracks.items (tracks_seen head)) → HeadsRemain (words_told l) file tree scales known
   heads_remain known e = record {
     scales_are = are;
-    heads_are = e ∙ ap (λ (h : heads.Head). number_heads l 1 (remaining_heads l scales.movie scales.tracks.items h.tracks)) said;
+    heads_are = e ∙ ap (λ (h : heads.Head). number_heads (words_told l) 1 (remaining_heads (words_told l) scales.movie scales.tracks.items h.tracks)) said;
   }
 
   abbrev whole : List ℕ
-  whole = text l (presentation_of file tree)
+  whole = text l o.p
 
   abbrev pub movie_part : List ℕ
-  movie_part = movie_lines (remaining_movie l scales.movie (movie_seen head))
+  movie_part = movie_lines (remaining_movie (words_told l) scales.movie (movie_seen head))
 
   abbrev pub tracks_part : List ℕ
-  tracks_part = flat_map track_text (remaining l (presentation_of file tree)).tracks
+  tracks_part = flat_map track_text (remaining (words_told l) (presentation_of file tree)).tracks
 
   abbrev end : List ℕ
   end = codes "end\n"
 
   parts : whole ≡ front_lines l ++ (movie_part ++ (tracks_part ++ end))
   parts =
-      ap (λ (bs : List ℕ). front_lines l ++ bs) (append_assoc (movie_lines (remaining l (presentation_of file tree)).movie) tracks_part end)
-      ∙ (λ i. front_lines l ++ (movie_lines (remaining_movie l (sym are.movie i) (sym said i).movie) ++ (tracks_part ++ end)))
+      ap (λ (q : Presentation). front_lines l ++ text_of q) (sym (left_is l file m tree o))
+      ∙ ap (λ (bs : List ℕ). front_lines l ++ bs) (append_assoc (movie_lines (remaining (words_told l) (presentation_of file tree)).movie) tracks_part end)
+      ∙ (λ i. front_lines l ++ (movie_lines (remaining_movie (words_told l) (sym are.movie i) (sym said i).movie) ++ (tracks_part ++ end)))
 
   prints : PrintsText l file whole
-  prints = (presentation_of file tree, judged file m tree o, refl)
+  prints = (o.p, judged_told l file m tree o, refl)
 
   module _ {Y : Type 0} {takes : Y → Y → List ℕ → Type 0} (joins : IsJoining takes) (a b c d e f : Y) (nothing : takes a a []) (held_b held_c held_d held_e : List ℕ) where
     begun : Going (takes a a) [] [] whole whole

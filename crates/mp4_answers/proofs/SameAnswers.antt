@@ -1,12 +1,22 @@
 -- What the commands answer, taken together: the same file, or the same presentation.
-use Rattle.std.proofs.Common.{◌≡◌, ℕ, List, refl, sym, ap, ◌∙◌}
+use Rattle.std.proofs.Common.{◌≡◌, ◌⊎◌, inl, inr, ℕ, ◌<◌, Bool, true, false, ◌||◌, List, refl, sym, ap, subst, ◌∙◌}
+use Rattle.mp4_boxes.proofs.Each.{each_weaker}
+use Rattle.mp4_boxes.proofs.Plain.{false_true}
 use Rattle.mp4_boxes.specs.format.Bytes.{AreBytes}
-use Rattle.mp4_present.specs.format.Presentation.{Track}
+use Rattle.mp4_present.specs.format.Presentation.{IsTrack, Presentation, Track, Valid}
 use Rattle.mp4_present.specs.format.Judge.{judge}
-use Rattle.mp4_content.specs.format.Remaining.{remaining}
+use Rattle.mp4_content.specs.format.LeadIns.{kept, left_of, told, words_told}
+use Rattle.mp4_content.specs.format.LeadInsLaws.{HasTimescales, KeepsBeginnings}
+use Rattle.mp4_content.specs.format.TimescalesLaws.{Implies}
+use Rattle.mp4_content.specs.format.CoveringLaws.{Covers}
+use Rattle.mp4_content.specs.declared.without.Without.{Without}
 use Rattle.mp4_present.proofs.DenotedValid.{denoted_is_valid}
 use Rattle.mp4_present.proofs.JudgedTrees.{judged_denotes}
-use Rattle.mp4_content.proofs.RemainingWords.{same_remains_without_more}
+use Rattle.mp4_content.proofs.LeadInsMore.{same_kept_without_beginnings, same_kept_without_more}
+use Rattle.mp4_content.proofs.LeadInsTold.{left_is_told}
+use Rattle.mp4_content.proofs.LeadInsValid.{told_is_valid}
+use Rattle.mp4_plan.specs.format.Normal.{normal}
+use Rattle.mp4_answers.specs.format.Told.{IsLeftInLimits}
 use Rattle.mp4_plan.proofs.Judged.{denoted_judged, judged_one, normal_judged}
 use Rattle.mp4_plan.proofs.ReducedNormal.{reduced_normal_is_exact}
 use Rattle.mp4_present.proofs.DenotedOpens.{stands_refuses}
@@ -16,23 +26,62 @@ use Rattle.mp4_answers.specs.format.FileTexts.{IsTrackWith}
 
 -- ---- verdicts
 
+module _ (l : Without) (p : Presentation) (v : Valid p) (k : IsLeftInLimits l p) where
+  shown_valid : Valid (told l.lead_ins p)
+  shown_valid = (told_is_valid l.lead_ins p v).1 k.shown
+
 pub same_is_same_bytes : SameIsSameBytes
 same_is_same_bytes l file other text other_text same x y is form other_form =
     let p : form.0 ≡ is.p = judged_one file form.0 is.p form.1 is.first in
     let q : other_form.0 ≡ is.q = judged_one other other_form.0 is.q other_form.1 is.second in
-    let v = denoted_is_valid file form.0 x (judged_denotes file form.0 form.1) in
-    let w = denoted_is_valid other other_form.0 y (judged_denotes other other_form.0 other_form.1) in
-    let exact = reduced_normal_is_exact l form.0 other_form.0 v form.2 w other_form.2 in
+    let v = shown_valid l form.0 (denoted_is_valid file form.0 x (judged_denotes file form.0 form.1)) form.2 in
+    let w = shown_valid l other_form.0 (denoted_is_valid other other_form.0 y (judged_denotes other other_form.0 other_form.1)) other_form.2 in
+    let a = left_is_told l form.0 in
+    let b = left_is_told l other_form.0 in
+    let exact = reduced_normal_is_exact (words_told l) (told l.lead_ins form.0) (told l.lead_ins other_form.0) v form.2.left w other_form.2.left in
     let at = is.is x y in (
-      λ e. form.3 ∙ exact.1 (ap (remaining l) p ∙ at.0 e ∙ sym (ap (remaining l) q)) ∙ sym other_form.3,
-      λ e. at.1 (sym (ap (remaining l) p) ∙ exact.0 (sym form.3 ∙ e ∙ other_form.3) ∙ ap (remaining l) q),
+      λ e. form.3 ∙ ap normal a ∙ exact.1 (sym a ∙ ap (left_of l) p ∙ at.0 e ∙ sym (ap (left_of l) q) ∙ b) ∙ sym (ap normal b) ∙ sym other_form.3,
+      λ e. at.1 (sym (ap (left_of l) p) ∙ a ∙ exact.0 (sym (ap normal a) ∙ sym form.3 ∙ e ∙ other_form.3 ∙ ap normal b) ∙ sym b ∙ ap (left_of l) q),
     )
 
+-- leaving out more leaves out timescales too
+scales_covered : (l m : Without) → Covers l m → Implies l.timescales m.timescales
+scales_covered l m c e =
+    let both : (l.timescales || m.timescales) ≡ m.timescales = ap (λ (w : Without). w.timescales) c in
+    sym both ∙ ap (λ b. b || m.timescales) e
+
+has_scales : (p : Presentation) → Valid p → HasTimescales p
+has_scales p v = (v.movie.timescale_not_0, each_weaker IsTrack (λ (t : Track). 0 < t.head.media.timescale) (λ t h. h.head.media.timescale_not_0) p.tracks v.tracks)
+
+module _ (l m : Without) (p q : Presentation) (v : Valid p) (w : Valid q) (c : Covers l m) where
+  -- how tracks begin is left out of both, or of neither
+  alike : l.lead_ins ≡ m.lead_ins → left_of l p ≡ left_of l q → left_of m p ≡ left_of m q
+  alike same e =
+      let more = same_kept_without_more l.lead_ins l.timescales m.timescales l m p q (scales_covered l m c) c e in
+      subst (λ b. kept b m.timescales m p ≡ kept b m.timescales m q) same more
+
+  -- or with the more alone
+  begins : (a b : Bool) → l.lead_ins ≡ a → m.lead_ins ≡ b → KeepsBeginnings l.lead_ins l → left_of l p ≡ left_of l q → left_of m p ≡ left_of m q
+  begins true true e f k left = alike (e ∙ sym f) left
+  begins false false e f k left = alike (e ∙ sym f) left
+  begins true false e f k left = absurd (let both : (l.lead_ins || m.lead_ins) ≡ m.lead_ins = ap (λ (x : Without). x.lead_ins) c in false_true (sym f ∙ sym both ∙ ap (λ b. b || m.lead_ins) e))
+  begins false true e f k left =
+      let keeps = subst (λ b. KeepsBeginnings b l) e k in
+      let own = subst (λ b. kept b l.timescales l p ≡ kept b l.timescales l q) e left in
+      let more = same_kept_without_beginnings l.timescales m.timescales l m p q (has_scales p v) (has_scales q w) (scales_covered l m c) c keeps own in
+      subst (λ b. kept b m.timescales m p ≡ kept b m.timescales m q) (sym f) more
+
+  more_same : (l.lead_ins ≡ m.lead_ins) ⊎ KeepsBeginnings l.lead_ins l → left_of l p ≡ left_of l q → left_of m p ≡ left_of m q
+  more_same (inl same) = alike same
+  more_same (inr k) = begins l.lead_ins m.lead_ins refl refl k
+
 pub same_stays_same : SameStaysSame
-same_stays_same l m file other more x y c is is_more =
+same_stays_same l m file other more x y c keeps is is_more =
     let p : is.p ≡ is_more.p = judged_one file is.p is_more.p is.first is_more.first in
     let q : is.q ≡ is_more.q = judged_one other is.q is_more.q is.second is_more.second in
-    (is_more.is x y).1 (sym (ap (remaining m) p) ∙ same_remains_without_more l m is.p is.q c ((is.is x y).0 refl) ∙ ap (remaining m) q)
+    let v = denoted_is_valid file is.p x (judged_denotes file is.p is.first) in
+    let w = denoted_is_valid other is.q y (judged_denotes other is.q is.second) in
+    (is_more.is x y).1 (sym (ap (left_of m) p) ∙ more_same l m is.p is.q v w c keeps ((is.is x y).0 refl) ∙ ap (left_of m) q)
 
 -- ---- the normal form
 

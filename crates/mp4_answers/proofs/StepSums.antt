@@ -23,8 +23,7 @@ use Rattle.mp4_present.proofs.OwnSums.{owns_few}
 use Rattle.mp4_present.proofs.PartsOnce.{parts_once}
 use Rattle.mp4_plan.specs.words.WriterSteps.{track_writes, writing_steps}
 use Rattle.mp4_present.proofs.Counts.{parts_total, sizes_few, fragments_total, total_is, all_belong}
-use Rattle.mp4_answers.specs.format.CompareHeadline.{walked_each}
-use Rattle.mp4_answers.specs.format.Steps.{row_total}
+use Rattle.mp4_answers.specs.format.Steps.{row_total, walked_each}
 use Rattle.mp4_tables.proofs.Sums.{sum_joined}
 
 -- ---- sums over tracks
@@ -84,19 +83,24 @@ moofs_sum trexes (f ∷ fragments) h =
 
 -- of tracks with so many samples and rows in tables, where each `moof`'s steps are within the other samples and rows, and those of the tracks' own `traf`s within the `moof`s'
 -- Where these are so each track is walked over once more.
-few_steps : (v w : Bool) (m o s f r more checks ways writes : ℕ) → o ≤ m → m ≤ f + more → checks ≡ 7 * r + 3 * s → ways ≡ r + 3 * s + 2 * o → writes ≡ 2 * ways + 2 * o
-    → (checks + m) + ((if v then ways else 0) + (if w then ways else 0) + ways + writes) ≤ (12 + (if v then 3 else 0) + (if w then 3 else 0)) * ((s + f) + (r + more))
-few_steps true true m o s f r more checks ways writes own le c w x = omega (arith, own, le, c, w, x)
-few_steps true false m o s f r more checks ways writes own le c w x = omega (arith, own, le, c, w, x)
-few_steps false true m o s f r more checks ways writes own le c w x = omega (arith, own, le, c, w, x)
-few_steps false false m o s f r more checks ways writes own le c w x = omega (arith, own, le, c, w, x)
+few_steps : (u v w : Bool) (m o s f r more checks ways writes : ℕ) → o ≤ m → m ≤ f + more → checks ≡ 7 * r + 3 * s → ways ≡ r + 3 * s + 2 * o → writes ≡ 2 * ways + 2 * o
+    → (checks + m) + ((if u then ways else 0) + (if v then ways else 0) + (if w then ways else 0) + ways + writes) ≤ (12 + (if u then 3 else 0) + (if v then 3 else 0) + (if w then 3 else 0)) * ((s + f) + (r + more))
+few_steps true true true m o s f r more checks ways writes own le c w x = omega (arith, own, le, c, w, x)
+few_steps true true false m o s f r more checks ways writes own le c w x = omega (arith, own, le, c, w, x)
+few_steps true false true m o s f r more checks ways writes own le c w x = omega (arith, own, le, c, w, x)
+few_steps true false false m o s f r more checks ways writes own le c w x = omega (arith, own, le, c, w, x)
+few_steps false true true m o s f r more checks ways writes own le c w x = omega (arith, own, le, c, w, x)
+few_steps false true false m o s f r more checks ways writes own le c w x = omega (arith, own, le, c, w, x)
+few_steps false false true m o s f r more checks ways writes own le c w x = omega (arith, own, le, c, w, x)
+few_steps false false false m o s f r more checks ways writes own le c w x = omega (arith, own, le, c, w, x)
 
 -- the steps of opening, planning and writing are within the bound
-abbrev pub IsWithin : Bool → Bool → FileTree → ℕ → Type 0
-IsWithin v w tree samples = opening_steps tree + ((if v then walks_steps tree else 0) + (if w then walks_steps tree else 0) + walks_steps tree + writing_steps tree) ≤ (12 + (if v then 3 else 0) + (if w then 3 else 0)) * (samples + row_total tree)
+abbrev pub IsWithin : Bool → Bool → Bool → FileTree → ℕ → Type 0
+IsWithin u v w tree samples =
+    opening_steps tree + ((if u then walks_steps tree else 0) + (if v then walks_steps tree else 0) + (if w then walks_steps tree else 0) + walks_steps tree + writing_steps tree) ≤ (12 + (if u then 3 else 0) + (if v then 3 else 0) + (if w then 3 else 0)) * (samples + row_total tree)
 
-tree_within : (v w : Bool) (file : List ℕ) (tree : FileTree) → IsFileTree file tree → IsSoundFile tree → IsConsistent file tree → IsWithin v w tree (sample_total (presentation_of file tree))
-tree_within v w file tree h s c =
+tree_within : (u v w : Bool) (file : List ℕ) (tree : FileTree) → IsFileTree file tree → IsSoundFile tree → IsConsistent file tree → IsWithin u v w tree (sample_total (presentation_of file tree))
+tree_within u v w file tree h s c =
     let tracks = tree.movie.tracks in
     let fragments = tree.fragments in
     let parts = file_parts tree in
@@ -108,12 +112,12 @@ tree_within v w file tree h s c =
     let own = owns_few file tree h s.movie in
     let m = moofs_steps fragments in
     let o = owns_total tree tracks in
-    let short = few_steps v w m o (plain_total tracks) (fragments_total parts tracks) (rows_of tracks) (fragment_rows_of fragments) (sum_of table_steps tracks) (walks_steps tree) (writing_steps tree) own few (checks_sum tracks) (ways_sum tree tracks) (writes_sum tree tracks) in
-    subst (λ n. IsWithin v w tree n) (sym total) short
+    let short = few_steps u v w m o (plain_total tracks) (fragments_total parts tracks) (rows_of tracks) (fragment_rows_of fragments) (sum_of table_steps tracks) (walks_steps tree) (writing_steps tree) own few (checks_sum tracks) (ways_sum tree tracks) (writes_sum tree tracks) in
+    subst (λ n. IsWithin u v w tree n) (sym total) short
 
 -- opening a file, planning and writing
-pub all_within : (v w : Bool) (file : List ℕ) (p : Presentation) (d : Denotes file p) → IsWithin v w d.tree (sample_total p)
-all_within v w file p d = subst (λ (q : Presentation). IsWithin v w d.tree (sample_total q)) (sym d.says) (tree_within v w file d.tree d.is_tree d.is_sound d.is_consistent)
+pub all_within : (u v w : Bool) (file : List ℕ) (p : Presentation) (d : Denotes file p) → IsWithin u v w d.tree (sample_total p)
+all_within u v w file p d = subst (λ (q : Presentation). IsWithin u v w d.tree (sample_total q)) (sym d.says) (tree_within u v w file d.tree d.is_tree d.is_sound d.is_consistent)
 
 -- ---- a look, and a way over one track
 
@@ -201,11 +205,6 @@ each_looks (suc (suc k)) file p d =
     let more : 3 * (suc (suc k) + 1) ≤ walked_each (suc (suc k)) = omega arith in
     let most = mul-le-mul_right (sample_total p + row_total d.tree) more in
     omega (arith, all, most)
-
--- opening a file, and a walk or two over each of its tracks
-pub print_looks : (v : Bool) (file : List ℕ) (p : Presentation) (d : Denotes file p) → opening_steps d.tree + ((if v then walks_steps d.tree else 0) + walks_steps d.tree) ≤ (if v then 9 else 8) * (sample_total p + row_total d.tree)
-print_looks true file p d = let all = often_looks 2 (omega arith) file p d in omega (arith, all)
-print_looks false file p d = let all = walks_looks file p d in omega (arith, all)
 
 -- opening a file takes at least a step for each sample and row
 least_of : (m s f r more leasts few : ℕ) → f ≤ few → m ≡ more + few → leasts ≡ r + 3 * s → (s + f) + (r + more) ≤ leasts + m

@@ -1,11 +1,11 @@
 -- The steps of `normalise`, by what its parts promise.
-use Rattle.std.proofs.Common.{◌≡◌, ℕ, ◌+◌, ◌*◌, ◌≤◌, max, List, length, Some, refl, sym, ap, subst, ◌∙◌, arith}
-use Rattle.std.specs.Prelude.{Bool, true, false, ◌||◌, ◌&&◌, not, if◌then◌else◌, Err, IsTrue, slice_get}
+use Rattle.std.proofs.Common.{◌≡◌, inl, inr, ℕ, ◌+◌, ◌*◌, ◌≤◌, max, List, length, Some, refl, sym, ap, subst, ◌∙◌, arith}
+use Rattle.std.specs.Prelude.{Bool, true, false, ◌/◌, ◌||◌, ◌&&◌, not, if◌then◌else◌, Err, IsTrue, slice_get}
 use Rattle.mp4_head.specs.format.Tree.{TrackTree}
 use Rattle.mp4_boxes.specs.declared.refusal.Refusal.{Refusal}
 use Rattle.mp4_boxes.specs.declared.refusal.Refusal.TheVariants as refusals
-use Rattle.mp4_present.specs.format.Denotes.{FileTree, IsFileTree, presentation_of}
-use Rattle.mp4_present.specs.format.Presentation.{sample_total}
+use Rattle.mp4_present.specs.format.Denotes.{Denotes, FileTree, IsFileTree, presentation_of}
+use Rattle.mp4_present.specs.format.Presentation.{Presentation, sample_total}
 use Rattle.mp4_present.specs.words.Movies.{MovieSeen}
 use Rattle.mp4_present.specs.words.OpenedMovie.{IsOpenedOwn, IsOpenedAs}
 use Rattle.mp4_present.specs.words.Opening.{RefusesOpen}
@@ -13,7 +13,9 @@ use Rattle.mp4_present.specs.format.ByBytes.{OpensWithin}
 use Rattle.mp4_present.specs.words.WalkSteps.{IfNoFault, opening_steps, walk_steps, walks_steps}
 use Rattle.mp4_present.proofs.One.{file_tree_one}
 use Rattle.mp4_present.proofs.ToldTrees.{file_tree_is}
-use Rattle.mp4_answers.specs.format.Steps.{StepsByTracks, WorksWithin, WalksWithin, PrintsWithin, row_total, steps_each}
+use Rattle.mp4_content.specs.format.LeadIns.{words_told}
+use Rattle.mp4_answers.specs.format.Steps.{StepsByTracks, WorksWithin, WalksWithin, PrintsWithin, more_walks, row_total, steps_each, walked_each}
+use Rattle.mp4_answers.specs.words.OpenedTold.{IsOpenedTold, OpensWithinTold, told_steps}
 use Rattle.mp4_answers.specs.format.CompareHeadline.{ComparedWithin}
 use Rattle.mp4_answers.proofs.RunParts.{denotes_nothing}
 use Rattle.mp4_answers.proofs.ShownLines.{denoted}
@@ -23,24 +25,31 @@ use Rattle.mp4_content.specs.words.Scales.{scaling_steps}
 use Rattle.mp4_boxes.proofs.Plain.{and_false}
 use Rattle.mp4_plan.specs.words.WriterSteps.{writing_steps}
 use Rattle.std.proofs.Math.Nat.{mul-le-mul_right}
-use Rattle.mp4_answers.proofs.StepSums.{all_within, each_looks, opened_looks, print_looks, walked_looks}
+use Rattle.mp4_answers.proofs.StepSums.{all_within, each_looks, opened_looks, walked_looks, walks_looks}
+use Rattle.mp4_answers.proofs.ToldSteps.{walks_told, writes_told}
 
 -- where first or last samples, or timescales, don't count, and timing does
-asks : (ends origins timing timescales : Bool) → ((((ends || origins) && not timing) || timescales) && not timing) ≡ ((ends || origins || timescales) && not timing)
-asks ends origins true timescales = and_false ((((ends || origins) && false) || timescales)) ∙ sym (and_false (ends || origins || timescales))
-asks true origins false timescales = refl
-asks false true false timescales = refl
-asks false false false timescales = refl
+asks : (ends origins leads timing timescales : Bool) → ((((ends || (origins || leads)) && not timing) || timescales) && not timing) ≡ ((ends || origins || leads || timescales) && not timing)
+asks ends origins leads true timescales = and_false ((((ends || (origins || leads)) && false) || timescales)) ∙ sym (and_false (ends || origins || leads || timescales))
+asks true origins leads false timescales = refl
+asks false true leads false timescales = refl
+asks false false true false timescales = refl
+asks false false false false timescales = refl
 
 -- the steps for each sample and row
-each_is : (l : Without) → 12 + (if l.timescales then 3 else 0) + (if measures l then 3 else 0) ≡ steps_each l
-each_is l = ap (λ (w : Bool). 12 + (if l.timescales then 3 else 0) + (if w then 3 else 0)) (asks l.ends l.origins l.timing l.timescales)
+more_is : (u v : Bool) (n : ℕ) → 12 + (if u then 3 else 0) + (if v then 3 else 0) + n ≡ 12 + 3 * ((if u then 1 else 0) + (if v then 1 else 0)) + n
+more_is true true n = omega arith
+more_is true false n = omega arith
+more_is false true n = omega arith
+more_is false false n = omega arith
 
-eight_of : (v w : Bool) (n : ℕ) → 8 * n ≤ (12 + (if v then 3 else 0) + (if w then 3 else 0)) * n
-eight_of true true n = omega arith
-eight_of true false n = omega arith
-eight_of false true n = omega arith
-eight_of false false n = omega arith
+each_is : (l : Without) → 12 + (if l.lead_ins then 3 else 0) + (if l.timescales then 3 else 0) + (if measures (words_told l) then 3 else 0) ≡ steps_each l
+each_is l =
+    ap (λ (w : Bool). 12 + (if l.lead_ins then 3 else 0) + (if l.timescales then 3 else 0) + (if w then 3 else 0)) (asks l.ends l.origins l.lead_ins l.timing l.timescales)
+    ∙ more_is l.lead_ins l.timescales (if (l.ends || l.origins || l.lead_ins || l.timescales) && not l.timing then 3 else 0)
+
+eight_of : (l : Without) (n : ℕ) → 8 * n ≤ steps_each l * n
+eight_of l n = mul-le-mul_right n (omega arith)
 
 module _ (file : List ℕ) (old new : ℕ) where
   -- as many as opening takes, and no more
@@ -62,28 +71,6 @@ module _ (file : List ℕ) (old new : ℕ) where
   not_looked honest reads reads_after refusals.StoreChanged told refuses work within = opening_only work within
   not_looked honest reads reads_after refusals.WriteFailed told refuses work within = opening_only work within
   not_looked honest reads reads_after refusals.NoSuchTrack told refuses work within = opening_only work within
-
-  -- the same, where walks over all tracks would be allowed
-  pub not_opened : (l : Without) (honest : Bool) (reads reads_after : ℕ) (r : Refusal) → IsTrue honest → RefusesOpen honest file reads reads_after r → ((tree : FileTree) → IsFileTree file tree → IfNoFault {A = Unit {0}} (Err r) (new ≤ old + opening_steps tree)) → OpensWithin file old new
-      → WorksWithin l file old new
-  not_opened l honest reads reads_after r told refuses work within =
-      let w = not_looked honest reads reads_after r told refuses work within in
-      record {
-        few = λ p d. let own = w.denoted p d in let more = eight_of l.timescales ((l.ends || l.origins || l.timescales) && not l.timing) (sample_total p + row_total d.tree) in omega (arith, own, more);
-        refused = w.refused;
-      }
-
-  -- a file that is opened, planned and written
-  pub opened_within : (l : Without) (m : MovieSeen) (tree : FileTree) (behind : ℕ) → IsOpenedOwn file m tree → behind ≤ old + opening_steps tree → new ≤ behind + (measuring_steps l tree + walks_steps tree + writing_steps tree) → WorksWithin l file old new
-  opened_within l m tree behind o opening walks =
-      record {
-        few = λ p d.
-            let same = file_tree_one file tree d.tree (file_tree_is file m tree o) d.is_tree in
-            let own = subst (λ (t : FileTree). new ≤ old + (opening_steps t + (measuring_steps l t + walks_steps t + writing_steps t))) same (omega (arith, opening, walks)) in
-            let all = subst (λ k. opening_steps d.tree + (measuring_steps l d.tree + walks_steps d.tree + writing_steps d.tree) ≤ k * (sample_total p + row_total d.tree)) (each_is l) (all_within l.timescales (measures l) file p d) in
-            omega (arith, own, all);
-        refused = λ nothing. absurd (nothing (presentation_of file tree) (denoted file m tree o));
-      }
 
   -- a file that is opened, and of which no track is walked over
   pub looked_within : (m : MovieSeen) (tree : FileTree) → IsOpenedOwn file m tree → new ≤ old + opening_steps tree → WalksWithin file old new
@@ -107,59 +94,153 @@ module _ (file : List ℕ) (old new : ℕ) where
     refused = λ nothing. absurd (nothing (presentation_of file tree) (denoted file m tree o));
   }
 
-  -- a file that is opened, and of which each track is walked over at most as many times as may be
-  pub often_walked : (times : ℕ) (m : MovieSeen) (tree : FileTree) → IsOpenedOwn file m tree → new ≤ old + (opening_steps tree + times * walks_steps tree) → ComparedWithin times file old new
-  often_walked times m tree o walks = record {
-    denoted = λ p d.
-        let same = file_tree_one file tree d.tree (file_tree_is file m tree o) d.is_tree in
-        let own = subst (λ (u : FileTree). new ≤ old + (opening_steps u + times * walks_steps u)) same walks in
-        let all = each_looks times file p d in
-        omega (arith, own, all);
-    refused = λ nothing. absurd (nothing (presentation_of file tree) (denoted file m tree o));
-  }
+-- ---- a file that may be told how long its tracks wait
 
--- ---- a file that is printed
+-- opening it, and a walk to find that, is no more than opening and looking
+told_looks : (b : Bool) (file : List ℕ) (p : Presentation) (d : Denotes file p) → told_steps b d.tree ≤ 8 * (sample_total p + row_total d.tree)
+told_looks true file p d = walks_looks file p d
+told_looks false file p d = let all = opened_looks file p d in omega (arith, all)
 
-nine_of : (v : Bool) (n : ℕ) → 8 * n ≤ (if v then 9 else 8) * n
-nine_of true n = omega arith
-nine_of false n = omega arith
-
--- or only looked at
-pub looked_prints : (l : Without) (file : List ℕ) (old new : ℕ) → WalksWithin file old new → PrintsWithin l file old new
-looked_prints l file old new h = record {
-  denoted = λ p d. let own = h.denoted p d in let more = nine_of l.timescales (sample_total p + row_total d.tree) in omega (arith, own, more);
-  refused = h.refused;
-}
-
--- it is opened, what its times are divided by is found, and each track is walked over
-pub printed_within : (l : Without) (file : List ℕ) (m : MovieSeen) (tree : FileTree) (old behind mid new : ℕ) → IsOpenedOwn file m tree → behind ≤ old + opening_steps tree → mid ≤ behind + scaling_steps l tree → new ≤ mid + walks_steps tree → PrintsWithin l file old new
-printed_within l file m tree old behind mid new o opening scaled walks = record {
-  denoted = λ p d.
-      let same = file_tree_one file tree d.tree (file_tree_is file m tree o) d.is_tree in
-      let own = subst (λ (u : FileTree). new ≤ old + (opening_steps u + (scaling_steps l u + walks_steps u))) same (omega (arith, opening, scaled, walks)) in
-      let all = print_looks l.timescales file p d in
-      omega (arith, own, all);
+-- a file that isn't told anything, or is, in the steps of opening it
+pub opening_told : (file : List ℕ) (m : MovieSeen) (tree : FileTree) (old new : ℕ) → IsOpenedOwn file m tree → ((t : FileTree) → IsFileTree file t → new ≤ old + opening_steps t) → OpensWithinTold false file old new
+opening_told file m tree old new o opening = record {
+  denoted = λ p d. let own = opening d.tree d.is_tree in omega (arith, own);
   refused = λ nothing. absurd (nothing (presentation_of file tree) (denoted file m tree o));
 }
 
--- a movie that is written or not
-pub written_within : (l : Without) (file : List ℕ) (m : MovieSeen) (old behind new : ℕ) → ((tree : FileTree) × IsOpenedOwn file m tree) → ((tree : FileTree) → IsFileTree file tree → behind ≤ old + opening_steps tree)
-    → ((tree : FileTree) → IsOpenedAs file m tree → new ≤ behind + (measuring_steps l tree + walks_steps tree + writing_steps tree)) → WorksWithin l file old new
-written_within l file m old behind new opened opening write = opened_within file old new l m opened.0 behind opened.1 (opening opened.0 (file_tree_is file m opened.0 opened.1)) (write opened.0 opened.1.opened)
+pub walks_told_within : (file : List ℕ) (m : MovieSeen) (tree : FileTree) (old behind new : ℕ) → IsOpenedOwn file m tree → ((t : FileTree) → IsFileTree file t → behind ≤ old + opening_steps t) → new ≤ behind + walks_steps tree → OpensWithinTold true file old new
+walks_told_within file m tree old behind new o opening walks = record {
+  denoted = λ p d.
+      let same = ap walks_steps (file_tree_one file tree d.tree (file_tree_is file m tree o) d.is_tree) in
+      let own = opening d.tree d.is_tree in
+      omega (arith, own, walks, same);
+  refused = λ nothing. absurd (nothing (presentation_of file tree) (denoted file m tree o));
+}
+
+-- a bound by bytes, where as many steps more are taken before it
+pub opens_later : (file : List ℕ) (old new more : ℕ) → OpensWithin file old new → OpensWithin file (old + more) (new + more)
+opens_later file old new more (inl e) = inl (ap (λ n. n + more) e)
+opens_later file old new more (inr (ids, has, le)) = inr (ids, has, omega (arith, le))
+
+opened_only : (b : Bool) (file : List ℕ) (old new : ℕ) → ((tree : FileTree) → IsFileTree file tree → new ≤ old + opening_steps tree) → OpensWithin file old new → OpensWithinTold b file old new
+opened_only b file old new work within = record {
+  denoted = λ p d. let own = work d.tree d.is_tree in omega (arith, own);
+  refused = λ nothing. within;
+}
+
+-- a file that isn't opened at all
+pub not_told : (b : Bool) (file : List ℕ) (old new : ℕ) (honest : Bool) (reads reads_after : ℕ) (r : Refusal) → IsTrue honest → RefusesOpen honest file reads reads_after r → ((tree : FileTree) → IsFileTree file tree → IfNoFault {A = Unit {0}} (Err r) (new ≤ old + opening_steps tree))
+    → OpensWithin file old new → OpensWithinTold b file old new
+not_told b file old new honest reads reads_after (refusals.Fault f) told refuses work within = record {
+  denoted = λ p d. absurd (denotes_nothing file f (refuses told) p d);
+  refused = λ nothing. within;
+}
+not_told b file old new honest reads reads_after refusals.Memory told refuses work within = opened_only b file old new work within
+not_told b file old new honest reads reads_after refusals.StoreFailed told refuses work within = opened_only b file old new work within
+not_told b file old new honest reads reads_after refusals.StoreChanged told refuses work within = opened_only b file old new work within
+not_told b file old new honest reads reads_after refusals.WriteFailed told refuses work within = opened_only b file old new work within
+not_told b file old new honest reads reads_after refusals.NoSuchTrack told refuses work within = opened_only b file old new work within
+
+-- the walks over it are as many as over the file's own boxes
+pub walks_here : (b : Bool) (file : List ℕ) (m : MovieSeen) (tree : FileTree) (o : IsOpenedTold b file m tree) (p : Presentation) (d : Denotes file p) → walks_steps tree ≡ walks_steps d.tree
+walks_here b file m tree o p d = walks_told m.waits o.denotes.tree tree o.is_told ∙ ap walks_steps (file_tree_one file o.denotes.tree d.tree o.denotes.is_tree d.is_tree)
+
+writes_here : (b : Bool) (file : List ℕ) (m : MovieSeen) (tree : FileTree) (o : IsOpenedTold b file m tree) (p : Presentation) (d : Denotes file p) → writing_steps tree ≡ writing_steps d.tree
+writes_here b file m tree o p d = writes_told m.waits o.denotes.tree tree o.is_told ∙ ap writing_steps (file_tree_one file o.denotes.tree d.tree o.denotes.is_tree d.is_tree)
+
+-- where it isn't opened, walks over all tracks would be allowed
+pub not_opened : (l : Without) (file : List ℕ) (old new : ℕ) → OpensWithinTold l.lead_ins file old new → WorksWithin l file old new
+not_opened l file old new h = record {
+  few = λ p d.
+      let own = h.denoted p d in
+      let all = told_looks l.lead_ins file p d in
+      let more = eight_of l (sample_total p + row_total d.tree) in
+      omega (arith, own, all, more);
+  refused = h.refused;
+}
+
+-- a movie that is planned and written
+pub written_within : (l : Without) (file : List ℕ) (m : MovieSeen) (old behind new : ℕ) → ((tree : FileTree) × IsOpenedTold l.lead_ins file m tree) → OpensWithinTold l.lead_ins file old behind
+    → ((tree : FileTree) → IsOpenedAs file m tree → new ≤ behind + (measuring_steps (words_told l) tree + walks_steps tree + writing_steps tree)) → WorksWithin l file old new
+written_within l file m old behind new (tree, o) opening write = record {
+  few = λ p d.
+      let ways = walks_here l.lead_ins file m tree o p d in
+      let puts = writes_here l.lead_ins file m tree o p d in
+      let work = subst (λ n. new ≤ behind + ((if l.timescales then n else 0) + (if measures (words_told l) then n else 0) + n + writing_steps tree)) ways (write tree o.opened) in
+      let opened = opening.denoted p d in
+      let all = subst (λ k.
+      opening_steps d.tree + ((if l.lead_ins then walks_steps d.tree else 0) + (if l.timescales then walks_steps d.tree else 0) + (if measures (words_told l) then walks_steps d.tree else 0) + walks_steps d.tree + writing_steps d.tree) ≤ k * (sample_total p + row_total d.tree)) (each_is l)
+      (all_within l.lead_ins l.timescales (measures (words_told l)) file p d) in
+      omega (arith, opened, work, puts, all);
+  refused = λ nothing. absurd (nothing o.p o.denotes);
+}
+
+-- ---- a file that is printed or compared
+
+-- a file that isn't opened
+pub looked_alone : (b : Bool) (walks : ℕ) (file : List ℕ) (old new : ℕ) → OpensWithinTold b file old new → ComparedWithin walks file old new
+looked_alone b walks file old new h = record {
+  denoted = λ p d.
+      let own = h.denoted p d in
+      let all = told_looks b file p d in
+      let more : 8 ≤ walked_each walks = omega arith in
+      let most = mul-le-mul_right (sample_total p + row_total d.tree) more in
+      omega (arith, own, all, most);
+  refused = h.refused;
+}
+
+-- one walk more to find how long tracks wait
+telling_is : (b : Bool) (n times : ℕ) → (if b then n else 0) + times * n ≡ ((if b then 1 else 0) + times) * n
+telling_is true n times = omega arith
+telling_is false n times = omega arith
+
+-- a file that is opened, and of which each track is walked over at most as many times as may be
+pub often_walked : (b : Bool) (times : ℕ) (file : List ℕ) (m : MovieSeen) (tree : FileTree) (old behind new : ℕ) → IsOpenedTold b file m tree → OpensWithinTold b file old behind → new ≤ behind + times * walks_steps tree → ComparedWithin ((if b then 1 else 0) + times) file old new
+often_walked b times file m tree old behind new o opening walks = record {
+  denoted = λ p d.
+      let ways = walks_here b file m tree o p d in
+      let work = subst (λ n. new ≤ behind + times * n) ways walks in
+      let opened = opening.denoted p d in
+      let joined = telling_is b (walks_steps d.tree) times in
+      let all = each_looks ((if b then 1 else 0) + times) file p d in
+      omega (arith, opened, work, joined, all);
+  refused = λ nothing. absurd (nothing o.p o.denotes);
+}
+
+pub looked_prints : (l : Without) (file : List ℕ) (old new : ℕ) → OpensWithinTold l.lead_ins file old new → PrintsWithin l file old new
+looked_prints l file old new h = let c = looked_alone l.lead_ins (1 + more_walks l) file old new h in record { denoted = c.denoted; refused = c.refused }
+
+-- what its times are divided by is found in one walk more
+printing_is : (u v : Bool) (n : ℕ) → (if v then n else 0) + n ≡ (1 + (if v then 1 else 0)) * n
+printing_is u true n = omega arith
+printing_is u false n = omega arith
+
+-- it is opened, what its times are divided by is found, and each track is walked over
+pub printed_within : (l : Without) (file : List ℕ) (m : MovieSeen) (tree : FileTree) (old behind mid new : ℕ) → IsOpenedTold l.lead_ins file m tree → OpensWithinTold l.lead_ins file old behind → mid ≤ behind + scaling_steps l tree → new ≤ mid + walks_steps tree → PrintsWithin l file old new
+printed_within l file m tree old behind mid new o opening scaled walks =
+    let joined = printing_is l.lead_ins l.timescales (walks_steps tree) in
+    let c = often_walked l.lead_ins (1 + (if l.timescales then 1 else 0)) file m tree old behind new o opening (omega (arith, scaled, walks, joined)) in
+    let many : (if l.lead_ins then 1 else 0) + (1 + (if l.timescales then 1 else 0)) ≡ 1 + more_walks l = omega arith in
+    record { denoted = λ p d. subst (λ k. new ≤ old + walked_each k * (sample_total p + row_total d.tree)) many (c.denoted p d); refused = c.refused }
 
 -- ---- by the tracks
 
-twice : (v w : Bool) (k n : ℕ) → (12 + (if v then 3 else 0) + (if w then 3 else 0)) * n ≤ (if v then 9 else 8) * ((max 1 k + 1) * n)
-twice v w k n = at_most v w ((max 1 k + 1) * n) (mul-le-mul_right n (omega arith))
-  where
-    at_most : (v w : Bool) (all : ℕ) → 2 * n ≤ all → (12 + (if v then 3 else 0) + (if w then 3 else 0)) * n ≤ (if v then 9 else 8) * all
-    at_most true true all two = omega (arith, two)
-    at_most true false all two = omega (arith, two)
-    at_most false true all two = omega (arith, two)
-    at_most false false all two = omega (arith, two)
+by_tracks : (u v w : Bool) (n all : ℕ) → 2 * n ≤ all → (12 + 3 * ((if u then 1 else 0) + (if v then 1 else 0)) + (if w then 3 else 0)) * n ≤ (16 + 3 * ((if u then 1 else 0) + (if v then 1 else 0))) / 2 * all
+by_tracks true true true n all two = omega (arith, two)
+by_tracks true true false n all two = omega (arith, two)
+by_tracks true false true n all two = omega (arith, two)
+by_tracks true false false n all two = omega (arith, two)
+by_tracks false true true n all two = omega (arith, two)
+by_tracks false true false n all two = omega (arith, two)
+by_tracks false false true n all two = omega (arith, two)
+by_tracks false false false n all two = omega (arith, two)
+
+two_of : (k n : ℕ) → 2 * n ≤ (max 1 k + 1) * n
+two_of k n = mul-le-mul_right n (omega arith)
 
 pub steps_by_tracks : StepsByTracks
 steps_by_tracks l file old new w p d =
     let few = w.few p d in
-    let more = twice l.timescales ((l.ends || l.origins || l.timescales) && not l.timing) (length p.tracks) (sample_total p + row_total d.tree) in
+    let n = sample_total p + row_total d.tree in
+    let more = by_tracks l.lead_ins l.timescales ((l.ends || l.origins || l.lead_ins || l.timescales) && not l.timing) n ((max 1 (length p.tracks) + 1) * n) (two_of (length p.tracks) n) in
     omega (arith, few, more)

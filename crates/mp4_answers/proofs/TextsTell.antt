@@ -36,6 +36,9 @@ use Rattle.mp4_answers.specs.format.TextLaws.{Collision, TextsTell, digested, di
 use Rattle.mp4_answers.specs.format.Texts.{hex_digits, hex_text, space, line_feed}
 use Rattle.mp4_answers.proofs.TextParts.{IsToldIn, Same, IsType, each_byte, group_is_word, group_word, of_digest, same_group, same_kept, same_under, with_same}
 use Rattle.mp4_answers.proofs.TextWords.{IsDigit, IsSmall, IsWord, EachByte, bytes_same, bytes_word, cancel, decimal_digits, decimal_word, hex_same_4, hex_same_6, hex_same_8, hex_word, run_ends, same_words, sha256_each, signed_same, signed_word, spaced, words_end}
+use Rattle.mp4_content.specs.format.LeadIns.{left_of, told, words_told}
+use Rattle.mp4_content.proofs.LeadInsTold.{left_is_told}
+use Rattle.mp4_content.proofs.LeadInsValid.{told_is_valid}
 
 -- ---- lists of things, each told apart, up to something else
 
@@ -841,8 +844,8 @@ same_tracks these those ts us h k e = same_each these those (IsTrackIn these) (I
 no_k : (tracks : List Track) → Differs 1 107 (flat_map track_text tracks ++ end)
 no_k tracks = differs_behind track_text 1 114 107 (λ x zs. refl) r_not_k tracks end n_not_k
 
-pub same_text_tells : TextsTell
-same_text_tells l p q v w e =
+remaining_tells : (l : Without) (p q : Presentation) → Valid p → Valid q → text_of (remaining l p) ≡ text_of (remaining l q) → (remaining l p ≡ remaining l q) ⊎ Collision (digested (remaining l p)) (digested (remaining l q))
+remaining_tells l p q v w whole =
     let a = movie_divisor l p in
     let b = movie_divisor l q in
     let m = remaining_movie l a p.movie in
@@ -853,7 +856,6 @@ same_text_tells l p q v w e =
     let those = digested (remaining l q) in
     let i = in_itself these in
     let o = in_itself those in
-    let whole = cancel (front_lines l) (text_of (remaining l p)) (text_of (remaining l q)) e in
     let both = sym (append_assoc (movie_lines m) (flat_map track_text ts) end) ∙ whole ∙ append_assoc (movie_lines n) (flat_map track_text us) end in
     by (with_same these those ((m ≡ n) × (ts ≡ us)) m n (flat_map track_text ts ++ end) (flat_map track_text us
     ++ end) (same_movie these those m n (flat_map track_text ts ++ end) (flat_map track_text us ++ end) (movie_by l a (reduce_movie_head l p.movie) (told_movie l p.movie v.movie)) (movie_by l b (reduce_movie_head l q.movie) (told_movie l q.movie w.movie))
@@ -868,3 +870,14 @@ same_text_tells l p q v w e =
     by : (((remaining l p).movie ≡ (remaining l q).movie) × ((remaining l p).tracks ≡ (remaining l q).tracks)) ⊎ Collision (digested (remaining l p)) (digested (remaining l q)) → (remaining l p ≡ remaining l q) ⊎ Collision (digested (remaining l p)) (digested (remaining l q))
     by (inl s) = inl (λ i. record { movie = s.0 i; tracks = s.1 i })
     by (inr c) = inr c
+
+abbrev Tells : Presentation → Presentation → Type 0
+Tells x y = (x ≡ y) ⊎ Collision (digested x) (digested y)
+
+pub same_text_tells : TextsTell
+same_text_tells l p q v w i j e =
+    let a = left_is_told l p in
+    let b = left_is_told l q in
+    let whole = cancel (front_lines l) (text_of (left_of l p)) (text_of (left_of l q)) e in
+    let told_so = remaining_tells (words_told l) (told l.lead_ins p) (told l.lead_ins q) ((told_is_valid l.lead_ins p v).1 i) ((told_is_valid l.lead_ins q w).1 j) (sym (ap text_of a) ∙ whole ∙ ap text_of b) in
+    subst (λ (x : Presentation). Tells x (left_of l q)) (sym a) (subst (λ (y : Presentation). Tells (remaining (words_told l) (told l.lead_ins p)) y) (sym b) told_so)

@@ -11,7 +11,7 @@ use Rattle.mp4_content.specs.format.ReducedLaws.{both, nothing}
 use Rattle.mp4_content.specs.format.Words.{all_words, each, has, word_name, word_number}
 use Rattle.mp4_content.proofs.Words.{by_words, each_has, same_number}
 use Rattle.mp4_answers.specs.format.LastLine.{leaving_text, words_text}
-use Rattle.mp4_answers.specs.format.WordLists.{also, is_listed, meant_by, media, named_in, only_these, packaging, put_first, word_meant, words_of, words_meant, leaving_of, IsCut, ListsLeaveOut, WordsReadBack}
+use Rattle.mp4_answers.specs.format.WordLists.{also, is_listed, meant_by, media, media_2, named_in, only_these, packaging, packaging_2, put_first, word_meant, words_of, words_meant, leaving_of, IsCut, ListsLeaveOut, WordsReadBack}
 use Rattle.mp4_boxes.proofs.Plain.{and_false, or_false, or_is_false}
 
 -- ---- words between commas
@@ -99,7 +99,7 @@ module _ (l : Without) where
   left_out (w ∷ ws) = if has l w then word_name w ∷ left_out ws else left_out ws
 
   lacks : (w : Word) → Lacks 44 (word_name w)
-  lacks = by_words (λ w. Lacks 44 (word_name w)) refl refl refl refl refl refl refl refl refl refl refl refl refl
+  lacks = by_words (λ w. Lacks 44 (word_name w)) refl refl refl refl refl refl refl refl refl refl refl refl refl refl
 
   -- behind a word
   printed_behind : (front : List ℕ) (ws : List Word) → Lacks 44 front → words_of (front ++ words_text l false ws) ≡ front ∷ left_out ws
@@ -125,10 +125,10 @@ module _ (l : Without) where
   -- ---- what is printed leaves the same out
 
   known : (w : Word) → word_meant (word_name w) ≡ Some (only_these (w ∷ []))
-  known = by_words (λ w. word_meant (word_name w) ≡ Some (only_these (w ∷ []))) refl refl refl refl refl refl refl refl refl refl refl refl refl
+  known = by_words (λ w. word_meant (word_name w) ≡ Some (only_these (w ∷ []))) refl refl refl refl refl refl refl refl refl refl refl refl refl refl
 
   all_listed : (w : Word) → is_listed all_words w ≡ true
-  all_listed = by_words (λ w. is_listed all_words w ≡ true) refl refl refl refl refl refl refl refl refl refl refl refl refl
+  all_listed = by_words (λ w. is_listed all_words w ≡ true) refl refl refl refl refl refl refl refl refl refl refl refl refl refl
 
   mean : (ws : List Word) → words_meant (left_out ws) ≡ Some (each (λ v. has l v && is_listed ws v))
   mean [] = ap Some (λ i. each (λ v. sym (and_false (has l v)) i))
@@ -185,17 +185,19 @@ some_left w ws is e =
     let none : true ≡ false = sym is ∙ sym (each_has (is_listed ws) w) ∙ ap (λ (x : Without). has x w) e ∙ each_has (λ v. false) w in
     absurd cc
 
-none_meant : (o : Option Word) (a b : Bool) → meant_by o (if a then Some packaging else if b then Some media else None) ≡ Some nothing → ⊥
-none_meant (Some w) a b e =
+none_meant : (o : Option Word) (a b c d : Bool) → meant_by o (if a then Some packaging else if b then Some media else if c then Some packaging_2 else if d then Some media_2 else None) ≡ Some nothing → ⊥
+none_meant (Some w) a b c d e =
     let same : only_these (w ∷ []) ≡ nothing = cc in
     some_left w (w ∷ []) (ap (λ b. b || false) (eq-eqb (word_number w) (word_number w) refl)) same
-none_meant None true b e = let same : only_these packaging ≡ nothing = cc in some_left words.Times packaging refl same
-none_meant None false true e = let same : only_these media ≡ nothing = cc in some_left words.Times media refl same
-none_meant None false false e = absurd cc
+none_meant None true b c d e = let same : only_these packaging ≡ nothing = cc in some_left words.Times packaging refl same
+none_meant None false true c d e = let same : only_these media ≡ nothing = cc in some_left words.Times media refl same
+none_meant None false false true d e = let same : only_these packaging_2 ≡ nothing = cc in some_left words.Times packaging_2 refl same
+none_meant None false false false true e = let same : only_these media_2 ≡ nothing = cc in some_left words.Times media_2 refl same
+none_meant None false false false false e = absurd cc
 
 pub lists_leave_out : ListsLeaveOut
 unfolding HasWord
 lists_leave_out list e =
     let some = some_word list in
     let name = some.0 in
-    also_none (word_meant name) (words_meant some.1) (none_meant (named_in all_words name) (bytes_eq name (codes "packaging-1")) (bytes_eq name (codes "media-1"))) (sym (ap words_meant some.2) ∙ e)
+    also_none (word_meant name) (words_meant some.1) (none_meant (named_in all_words name) (bytes_eq name (codes "packaging-1")) (bytes_eq name (codes "media-1")) (bytes_eq name (codes "packaging-2")) (bytes_eq name (codes "media-2"))) (sym (ap words_meant some.2) ∙ e)

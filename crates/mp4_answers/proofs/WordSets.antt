@@ -32,7 +32,7 @@ of_listed P (v ∷ words) h w e = by (of_listed P words h.1 w) (word_number v ==
     by others false same e = others e
 
 single_listed : (w : Word) → is_listed single_words w ≡ true
-single_listed = by_words (λ w. is_listed single_words w ≡ true) refl refl refl refl refl refl refl refl refl refl refl refl refl
+single_listed = by_words (λ w. is_listed single_words w ≡ true) refl refl refl refl refl refl refl refl refl refl refl refl refl refl
 
 -- ---- one word of several sets
 
@@ -105,11 +105,11 @@ needed false false false c d f = refl
 
 -- ---- sets of words within others
 
-within : (f g : Word → Bool) → ((w : Word) → (f w || g w) ≡ g w) → Covers (each f) (each g)
+pub within : (f g : Word → Bool) → ((w : Word) → (f w || g w) ≡ g w) → Covers (each f) (each g)
 within f g h = λ i. each (λ w. h w i)
 
 -- what is within something has no other words
-within_at : (f g : Word → Bool) → Covers (each f) (each g) → (w : Word) → (f w || g w) ≡ g w
+pub within_at : (f g : Word → Bool) → Covers (each f) (each g) → (w : Word) → (f w || g w) ≡ g w
 within_at f g c w = sym (each_has (λ v. f v || g v) w) ∙ ap (λ (x : Without). has x w) c ∙ each_has g w
 
 covers_through : (k l m : Without) → Covers k l → Covers l m → Covers k m

@@ -1,6 +1,7 @@
 pub mod BoxSpans
 pub mod ShowValue
 pub mod Jobs
+pub mod OpenedTold
 pub mod Compares
 pub mod SingleWords
 pub mod Telling

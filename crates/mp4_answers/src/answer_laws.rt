@@ -1,7 +1,7 @@
 //! Laws of what the commands answer, taken together.
 ghost use Rattle.mp4_answers.specs.format.OneTextLaws.{StripIsOne, ListOfBoxesIsOne, JudgedTextsAreOne};
 ghost use Rattle.mp4_answers.specs.format.Steps.{StepsByTracks};
-ghost use Rattle.mp4_answers.specs.format.SameAnswers.{AcceptedHasNoFault, NormalFormDenotesTheSame, NormalFormHasTheSameData, NormalFormListsTheSame, NormalFormShowsTheSame, SameIsSameBytes, SameStaysSame};
+ghost use Rattle.mp4_answers.specs.format.SameAnswers.{AcceptedHasNoFault, LeftFaultIsOne, LeftFaultRefuses, NormalFormDenotesTheSame, NormalFormHasTheSameData, NormalFormListsTheSame, NormalFormShowsTheSame, SameIsSameBytes, SameStaysSame, ToldIsJudged, UntoldIsJudged};
 
 /// `compare --without` says that two files are the same exactly if `normalise --without` of both
 /// gives the same bytes, where both are not too long.
@@ -37,6 +37,26 @@ pub fn normal_form_has_the_same_data()
 /// No fault stands in a file that has a normal form.
 pub fn accepted_has_no_fault()
     ensures { AcceptedHasNoFault }
+{}
+
+/// A file that isn't told how long its tracks wait is judged as it is.
+pub fn untold_is_judged()
+    ensures { UntoldIsJudged }
+{}
+
+/// One that is told so is judged to be what it shows then, if that is within the limits.
+pub fn told_is_judged()
+    ensures { ToldIsJudged }
+{}
+
+/// Where a fault is named of what is left of a file, that has no normal form.
+pub fn left_fault_refuses()
+    ensures { LeftFaultRefuses }
+{}
+
+/// Where it has none, one such fault is named, and no other.
+pub fn left_fault_is_one()
+    ensures { LeftFaultIsOne }
 {}
 
 /// What `normalise` takes is also within a bound by the number of tracks.

@@ -1,8 +1,9 @@
 //! The words behind `--without`: what each leaves out, lists of them, and named sets.
 ghost use Rattle.std.specs.Prelude.{◌≡◌, option_map};
 ghost use Rattle.mp4_content.specs.format.ReducedLaws.{both};
-ghost use Rattle.mp4_content.specs.format.Words.{all_words};
+ghost use Rattle.mp4_content.specs.format.Words.{all_words, has};
 ghost use Rattle.mp4_answers.specs.format.WordLists.{is_listed, leaving_of, named_in, only_these, set_named, word_meant};
+ghost use Rattle.mp4_answers.specs.words.Compares.{as_asked};
 ghost use Rattle.mp4_answers.specs.words.SingleWords.{everything, less_word};
 
 use crate::text::cutting::cut;
@@ -24,10 +25,11 @@ pub(crate) const TAKEN: &[Word] = &[
     Word::Roles,
     Word::Ids,
     Word::Timescales,
+    Word::LeadIns,
 ];
 
 // The words of `packaging-1`: what changes when a file is packed another way. They never change, so
-// that sums which were made with them stay right: other words would be `packaging-2`.
+// that sums which were made with them stay right: other words are `packaging-2`.
 const PACKAGING: &[Word] = &[
     Word::Times,
     Word::Edits,
@@ -52,6 +54,36 @@ const MEDIA: &[Word] = &[
     Word::Origins,
     Word::Labels,
     Word::Timing,
+];
+
+// The words of `packaging-2`: what changes when a file is packed another way, but for how long each
+// track waits. They never change.
+const PACKAGING_2: &[Word] = &[
+    Word::Times,
+    Word::Flags,
+    Word::Groups,
+    Word::Metadata,
+    Word::Bitrates,
+    Word::Ends,
+    Word::Roles,
+    Word::Ids,
+    Word::Timescales,
+    Word::LeadIns,
+];
+
+// The words of `media-2`: these, and names for people. They never change.
+const MEDIA_2: &[Word] = &[
+    Word::Times,
+    Word::Flags,
+    Word::Groups,
+    Word::Metadata,
+    Word::Bitrates,
+    Word::Ends,
+    Word::Labels,
+    Word::Roles,
+    Word::Ids,
+    Word::Timescales,
+    Word::LeadIns,
 ];
 
 // Whether a word is among some.
@@ -90,6 +122,26 @@ pub fn leaving_both(one: Without, other: Without) -> Without
     Without::each(|word| one.has(word) || other.has(word))
 }
 
+// Whether a word is among these as they are asked for.
+fn is_asked(asked: Without, leaving: Without, word: Word) -> bool
+    ensures { result ≡ has (as_asked asked leaving) word }
+{
+    let leads = asked.has(Word::LeadIns);
+    match word {
+        Word::LeadIns => leads,
+        Word::Origins if leads => asked.has(Word::Origins),
+        other => leaving.has(other),
+    }
+}
+
+/// The words that leave the same as these of movies that may be told how long their tracks wait,
+/// as they are asked for: origins go with how tracks begin, and need not be said.
+pub(crate) fn as_asked(asked: Without, leaving: Without) -> Without
+    ensures { result ≡ as_asked asked leaving }
+{
+    Without::each(|word| is_asked(asked, leaving, word))
+}
+
 // The word of this name; none where no word has it.
 fn word_named(name: &[u8]) -> Option<Word>
     ensures { result ≡ named_in all_words name.now }
@@ -113,6 +165,12 @@ fn set_named(name: &[u8]) -> Option<&'static [Word]>
     }
     if name == b"media-1".as_slice() {
         return Some(MEDIA);
+    }
+    if name == b"packaging-2".as_slice() {
+        return Some(PACKAGING_2);
+    }
+    if name == b"media-2".as_slice() {
+        return Some(MEDIA_2);
     }
     None
 }

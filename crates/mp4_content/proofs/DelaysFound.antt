@@ -35,6 +35,13 @@ all_less u v w r s t h k l = omega (arith, h, k, l)
 pub parts_less : (a r b s c t : ℕ) → 0 < r → 0 < s → 0 < t → a % r * (s * t) + b % s * (r * t) + c % t * (r * s) ≤ 3 * (r * (s * t))
 parts_less a r b s c t some more third = all_less (a % r * (s * t)) (b % s * (r * t)) (c % t * (r * s)) r s t (left_less a r (s * t) some) (left_less b s (r * t) more) (left_less c t (r * s) third)
 
+-- the second side is said with both turned
+pub turned : (s r q w l e d g : ℕ) → d * (s * (q * r)) + g ≡ w * (q * r) + l * (s * r) + e * (s * q) → d * (s * (r * q)) + g ≡ w * (r * q) + e * (s * q) + l * (s * r)
+turned s r q w l e d g h = omega (arith, h)
+
+pub turned_less : (s r q g : ℕ) → g ≤ 3 * (s * (q * r)) → g ≤ 3 * (s * (r * q))
+turned_less s r q g h = omega (arith, h)
+
 -- ---- rounded down
 
 minus_whole : (z m k : ℕ) → 0 < k → z / k - m ≡ (z - m * k) / k

@@ -1,6 +1,6 @@
 -- The head of what is left of an opened file.
-use Rattle.std.proofs.Common.{◌≡◌, ℕ, zero, suc, ◌≤◌, max, Bool, true, false, List, [], ◌∷◌, length, map, refl, sym, ap, ◌∙◌}
-use Rattle.std.specs.Prelude.{Some, filter, fold, not, slice_get, slice_set}
+use Rattle.std.proofs.Common.{◌≡◌, ℕ, suc, ◌≤◌, max, Bool, true, false, List, [], ◌∷◌, length, map, refl, ap, ◌∙◌}
+use Rattle.std.specs.Prelude.{filter, fold, not}
 use Rattle.mp4_boxes.specs.format.Children.{is_among}
 use Rattle.mp4_head.specs.format.Head as heads
 use Rattle.mp4_head.specs.words.Seen.{kept_seen, movie_seen, track_seen, tracks_seen}
@@ -9,11 +9,11 @@ use Rattle.mp4_head.specs.declared.heads.TrackHead.{TrackHead}
 use Rattle.mp4_head.specs.declared.kept_boxes.Kept.{Kept}
 use Rattle.mp4_present.specs.format.Presentation.{heads as heads_of, Track, Presentation, movie_length, track_length}
 use Rattle.mp4_content.specs.format.Reduced.{metadata_kinds, number_head, number_heads, reduce, reduce_track, reduce_track_head, timescale_left}
-use Rattle.mp4_content.specs.words.Divided.{divided_head, divided_heads, divisor_at, heads_at, remaining_head, remaining_heads}
+use Rattle.mp4_content.specs.words.Divided.{divided_head, divided_heads, divisor_at, remaining_head, remaining_heads}
 use Rattle.mp4_content.specs.words.PayloadsLeft.{keeping_payloads, track_payloads_left}
 use Rattle.mp4_content.specs.declared.without.Without.{Without}
 use Rattle.mp4_content.proofs.Numbered.{left_longest}
-use Rattle.mp4_content.proofs.OwnPayloads.{ChangedTo, changed_all}
+use Rattle.mp4_present.proofs.Changed.{ChangedTo, changed_all}
 use Rattle.mp4_content.proofs.ReducedValid.{same_track_length}
 
 one_less : (k : Kept) (kept : List Kept) (b : Bool) → not (is_among metadata_kinds k.kind.0) ≡ b
@@ -49,13 +49,6 @@ numbered_all l = changed_all track_seen (number_head l) (number_heads l) (λ n. 
 pub divided_all : (l : Without) (divisor : ℕ) (owns : List ℕ) (old now : List TrackHead) (k : ℕ) → ChangedTo track_seen (λ n. divided_head l divisor (divisor_at owns n)) 0 old now k → length now ≤ k
     → map track_seen now ≡ divided_heads l divisor owns 0 (map track_seen old)
 divided_all l divisor owns = changed_all track_seen (λ n. divided_head l divisor (divisor_at owns n)) (divided_heads l divisor owns) (λ n. refl) (λ n t ts. refl) 0
-
--- ---- the place of a head that changes
-
-pub places_stay : (heads : List TrackHead) (k : ℕ) (was is : TrackHead) → slice_get heads k ≡ Some was → is.offset ≡ was.offset → heads_at (slice_set heads k is) ≡ heads_at heads
-places_stay [] k was is at e = refl
-places_stay (h ∷ heads) zero was is at e = let same : h ≡ was = cc in ap (λ n. n ∷ heads_at heads) (e ∙ ap (λ (x : TrackHead). x.offset) (sym same))
-places_stay (h ∷ heads) (suc k) was is at e = ap (λ places. h.offset ∷ places) (places_stay heads k was is at e)
 
 -- ---- first what is left, and then by what it is divided
 

@@ -136,7 +136,7 @@ all_back (t ∷ tracks) h near = (sound_back t h.0 near.0, all_back tracks h.1 n
 
 -- ---- a track that waits
 
-waiting_good : (wait : ℕ) → wait ≤ max_duration → AllByRecursion IsEdit (waiting wait)
+pub waiting_good : (wait : ℕ) → wait ≤ max_duration → AllByRecursion IsEdit (waiting wait)
 waiting_good wait fits = by (wait == 0)
   where
     by : (b : Bool) → AllByRecursion IsEdit (waiting_if b wait)

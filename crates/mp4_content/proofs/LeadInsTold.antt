@@ -9,9 +9,10 @@ use Rattle.mp4_content.specs.format.Reduced.{first_offset, reduce_from, reduce_t
 use Rattle.mp4_content.specs.format.ReducedLaws.{both}
 use Rattle.mp4_content.specs.format.Timescales.{scaled}
 use Rattle.mp4_content.specs.format.TimescalesLaws.{only_origins}
-use Rattle.mp4_content.specs.format.LeadIns.{says_beginnings, Moment, wait_of, told_by, offset_less, begun, all_begun, with_origins, told}
-use Rattle.mp4_content.specs.format.LeadInsLaws.{KeptIsTold}
+use Rattle.mp4_content.specs.format.LeadIns.{says_beginnings, Moment, wait_of, told_by, offset_less, begun, all_begun, with_origins, words_told, told}
+use Rattle.mp4_content.specs.format.LeadInsLaws.{KeptIsTold, LeftIsTold}
 use Rattle.mp4_content.specs.declared.without.Without.{Without}
+use Rattle.mp4_content.proofs.RemainingScaled.{remaining_is_scaled}
 use Rattle.mp4_content.proofs.TimescalesWords.{scales_once}
 use Rattle.mp4_content.proofs.LeadInsTracks.{where_told, where_more}
 
@@ -48,6 +49,7 @@ with_both l = λ i. record {
   roles = or_false l.roles i;
   ids = or_false l.ids i;
   timescales = or_false l.timescales i;
+  lead_ins = or_false l.lead_ins i;
 }
 
 with_none : (l : Without) → with_origins false l ≡ l
@@ -56,6 +58,9 @@ with_none l = λ i. record l { origins = or_false l.origins i }
 pub kept_is_told : KeptIsTold
 kept_is_told true c l p = begun_scaled c l (told true p) ∙ ap (λ (words : Without). scaled c words (told true p)) (with_both l)
 kept_is_told false c l p = ap (λ (words : Without). scaled c words p) (sym (with_none l))
+
+pub left_is_told : LeftIsTold
+left_is_told l p = kept_is_told l.lead_ins l.timescales l p ∙ sym (remaining_is_scaled (words_told l) (told l.lead_ins p))
 
 -- ---- the same but for edits
 

@@ -1,27 +1,27 @@
 -- What is left of what is valid is valid exactly if it is within its limits.
-use Rattle.std.proofs.Common.{◌≡◌, inl, ℕ, suc, ◌+◌, ◌<◌, ◌≤◌, Bool, true, false, List, [], ◌∷◌, length, map, refl, sym, ap, subst, ◌∙◌, arith}
+use Rattle.std.proofs.Common.{◌≡◌, inl, ℕ, suc, ◌+◌, ◌<◌, ◌≤◌, Bool, true, false, if◌then◌else◌, List, [], ◌∷◌, length, map, refl, sym, ap, subst, ◌∙◌, arith}
 use Rattle.std.specs.List.{AllByRecursion}
 use Rattle.mp4_boxes.specs.format.Bytes.{sum_of}
 use Rattle.mp4_boxes.proofs.Plain.{length_mapped}
 use Rattle.mp4_head.specs.format.Head.{MovieHead, IsMovieHead}
 use Rattle.mp4_head.specs.format.Tree.{are_distinct}
-use Rattle.mp4_present.specs.format.Presentation.{Track, Presentation, IsTrack, Valid, IsInTime, normal_moov_length, max_moov}
-use Rattle.mp4_present.specs.format.Waiting.{waiting_movie}
+use Rattle.mp4_present.specs.format.Presentation.{Track, Presentation, IsTrack, Valid, IsInTime, IsWithinLimits, normal_moov_length, max_moov}
+use Rattle.mp4_present.specs.format.Waiting.{waiting_all, waiting_movie, waiting_track, waiting_tracks}
 use Rattle.mp4_content.specs.format.Reduced.{first_offset, id_left, reduce_samples, reduce_track, number_tracks, reduce, HasNearOffsets}
 use Rattle.mp4_content.specs.format.ReducedLaws.{both}
 use Rattle.mp4_content.specs.declared.without.Without.{Without}
 use Rattle.mp4_content.specs.format.Timescales.{track_times, movie_times, divided, divisor_of, lowest_track, lowest, scaled}
 use Rattle.mp4_content.specs.format.TimescalesLaws.{only_origins}
-use Rattle.mp4_content.specs.format.LeadIns.{says_beginnings, Moment, first_moments, max_duration, delay, offset_less, waited, kept}
-use Rattle.mp4_content.specs.format.LeadInsLaws.{KeptInLimits, KeptIsValid}
+use Rattle.mp4_content.specs.format.LeadIns.{has_samples, says_beginnings, Moment, first_moments, first_shown, max_duration, delay, wait_of, waits_by, told_by, told, offset_less, waited, kept}
+use Rattle.mp4_content.specs.format.LeadInsLaws.{KeptInLimits, KeptIsValid, ToldIsValid}
 use Rattle.mp4_content.proofs.Numbered.{ids_of}
 use Rattle.mp4_content.proofs.ReducedSamples.{left_many}
 use Rattle.mp4_content.proofs.ReducedValid.{movie_head_good, reduced_stays_valid}
 use Rattle.mp4_content.proofs.TimescalesChanged.{many_stay}
 use Rattle.mp4_content.proofs.TimescalesValid.{near_each, movie_good, scaled_from}
-use Rattle.mp4_content.proofs.LeadInsFlat.{IsSound, all_back, wait_sound, reduced_sound, all_lowest_sound}
+use Rattle.mp4_content.proofs.LeadInsFlat.{IsSound, all_back, waiting_good, wait_sound, reduced_sound, all_lowest_sound}
 use Rattle.mp4_content.proofs.LeadInsMoments.{delay_fits}
-use Rattle.mp4_content.proofs.LeadInsTracks.{wait_track, where_some, where_none}
+use Rattle.mp4_content.proofs.LeadInsTracks.{wait_track, where_some, where_none, where_told, where_more}
 use Rattle.mp4_content.proofs.LeadInsTold.{begun_scaled}
 
 limits_of : (b c : Bool) (l : Without) (p : Presentation) → Valid (kept b c l p) → KeptInLimits b c l p
@@ -131,3 +131,71 @@ valid_within false c l p v = λ times near few. stays c l p v times near
 
 pub kept_is_valid : KeptIsValid
 kept_is_valid b c l p v = (limits_of b c l p, λ k. valid_within b c l p v k.in_time k.in_range k.moov)
+
+-- ---- told how long its tracks wait
+
+track_told : (wait : ℕ) (t : Track) → wait ≤ max_duration → IsTrack t → IsTrack (waiting_track wait t)
+track_told wait t fits h =
+    let own = h.head in
+    record {
+      head = record {
+        flags = own.flags;
+        creation = own.creation;
+        modification = own.modification;
+        id = own.id;
+        id_not_0 = own.id_not_0;
+        layer = own.layer;
+        alternate_group = own.alternate_group;
+        volume = own.volume;
+        matrix = own.matrix;
+        width = own.width;
+        height = own.height;
+        edits = waiting_good wait fits;
+        kept = own.kept;
+        media = own.media;
+        group_descriptions = own.group_descriptions;
+      };
+      samples = h.samples;
+      keys = h.keys;
+      empty = h.empty;
+    }
+
+tracks_told : (f : Track → ℕ) → ((t : Track) → f t ≤ max_duration) → (tracks : List Track) → AllByRecursion IsTrack tracks → AllByRecursion IsTrack (waiting_tracks (map f tracks) tracks)
+tracks_told f fits [] h = tt
+tracks_told f fits (t ∷ tracks) h = (track_told (f t) t (fits t) h.0, tracks_told f fits tracks h.1)
+
+ids_told : (f : Track → ℕ) (tracks : List Track) → ids_of (waiting_tracks (map f tracks) tracks) ≡ ids_of tracks
+ids_told f [] = refl
+ids_told f (t ∷ tracks) = ap (λ ids. t.head.id ∷ ids) (ids_told f tracks)
+
+waits_fit : (scale : ℕ) (wait : Moment → ℕ) → ((x : Moment) → wait x ≤ max_duration) → (t : Track) → wait_of scale wait t ≤ max_duration
+waits_fit scale wait fits t = by (has_samples t)
+  where
+    by : (b : Bool) → (if b then wait (first_shown scale t) else 0) ≤ max_duration
+    by true = fits (first_shown scale t)
+    by false = omega arith
+
+pub valid_told : (p : Presentation) → Valid p → IsWithinLimits (told true p) → Valid (told true p)
+valid_told p v = by (says_beginnings p) refl
+  where
+    wait : Moment → ℕ
+    wait = delay (first_moments p.movie.timescale p.tracks)
+
+    IsGood : Presentation → Type 0
+    IsGood q = IsWithinLimits q → Valid q
+
+    good : IsGood (waiting_all (waits_by wait p) p)
+    good limits = record {
+      movie = movie_with p.movie v.movie;
+      tracks = tracks_told (wait_of p.movie.timescale wait) (waits_fit p.movie.timescale wait (delay_fits (first_moments p.movie.timescale p.tracks))) p.tracks v.tracks;
+      ids = ap are_distinct (ids_told (wait_of p.movie.timescale wait) p.tracks) ∙ v.ids;
+      limits = limits;
+    }
+
+    by : (b : Bool) → says_beginnings p ≡ b → IsGood (told_by wait p)
+    by true e = subst IsGood (sym (where_told wait p e)) good
+    by false e = subst IsGood (sym (where_more wait p e)) (λ limits. v)
+
+pub told_is_valid : ToldIsValid
+told_is_valid true p v = (λ w. w.limits, valid_told p v)
+told_is_valid false p v = (λ w. w.limits, λ limits. v)

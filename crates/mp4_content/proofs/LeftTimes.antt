@@ -31,7 +31,8 @@ use Rattle.mp4_present.specs.declared.track_info.TrackInfo.{TrackInfo}
 use Rattle.mp4_present.proofs.PlacedTracks.{IsTrackPlaced}
 use Rattle.mp4_present.proofs.ValidSamples.{IsOfTrack}
 use Rattle.mp4_content.specs.format.ReducedTimes.{ReducesInLimits, scale_left, track_left}
-use Rattle.mp4_content.specs.words.Divided.{heads_at, remaining_head, remaining_heads}
+use Rattle.mp4_present.specs.words.HeadsRead.{places_of}
+use Rattle.mp4_content.specs.words.Divided.{remaining_head, remaining_heads}
 use Rattle.mp4_content.specs.words.PayloadsLeft.{keeping_payloads}
 use Rattle.mp4_content.specs.words.Scales.{AreScales}
 use Rattle.mp4_content.specs.words.LeftTimes.{count_by, longest_count}
@@ -131,7 +132,7 @@ module _ (l : Without) (file : List ℕ) (tree : FileTree) where
     abbrev left_heads : ℕ → List ℕ → List heads.TrackHead → List heads.TrackHead
     left_heads place divisors ts = number_heads l place (remaining_heads (keeping_payloads l) a divisors ts)
 
-    heads_left : (place : ℕ) (trees : List TrackTree) (hs : List TrackHead) (divisors : List ℕ) → divisors ≡ map (λ (t : TrackTree). track_divisor l (own t)) trees → map track_seen hs ≡ left_heads place divisors (map track_head_of trees) → heads_at hs ≡ map place_of trees
+    heads_left : (place : ℕ) (trees : List TrackTree) (hs : List TrackHead) (divisors : List ℕ) → divisors ≡ map (λ (t : TrackTree). track_divisor l (own t)) trees → map track_seen hs ≡ left_heads place divisors (map track_head_of trees) → places_of hs ≡ map place_of trees
         → AreHeadsLeft trees hs divisors
     heads_left place [] [] [] d e f = tt
     heads_left place [] [] (x ∷ divisors) d e f = absurd cc
@@ -144,7 +145,7 @@ module _ (l : Without) (file : List ℕ) (tree : FileTree) where
         let first : track_seen h ≡ number_head l place (remaining_head (keeping_payloads l) a divisor (track_head_of t)) = cc in
         let rest : map track_seen hs ≡ left_heads (suc place) divisors (map track_head_of trees) = cc in
         let at : h.offset ≡ place_of t = cc in
-        let others : heads_at hs ≡ map place_of trees = cc in (
+        let others : places_of hs ≡ map place_of trees = cc in (
           record {
             edits = ap (λ (x : heads.TrackHead). x.edits) first ∙ (λ i. map (edit_by (divided (a_is i)) (divided (own_is i))) (if l.edits then [] else (track_head_of t).edits));
             media = ap (λ (x : heads.TrackHead). x.media.timescale) first ∙ (λ i. timescale_by l (divided (own_is i)) (timescale_left l (track_head_of t).media.timescale));
@@ -156,7 +157,7 @@ module _ (l : Without) (file : List ℕ) (tree : FileTree) where
 
   -- heads that were read, of which these remain
   pub opened_heads : (m : MovieSeen) (scales : Scales) (read head : MovieHead) → IsOpenedAs file m tree → AreScales l file tree scales → SaysMovie m read
-      → tracks_seen head ≡ number_heads l 1 (remaining_heads (keeping_payloads l) scales.movie scales.tracks.items (tracks_seen read)) → heads_at head.tracks.items ≡ heads_at read.tracks.items → AreHeadsLeft tree.movie.tracks head.tracks.items scales.tracks.items
+      → tracks_seen head ≡ number_heads l 1 (remaining_heads (keeping_payloads l) scales.movie scales.tracks.items (tracks_seen read)) → places_of head.tracks.items ≡ places_of read.tracks.items → AreHeadsLeft tree.movie.tracks head.tracks.items scales.tracks.items
   opened_heads m scales read head o are says left places =
       let said = tree_said file m tree read o says in
       heads_left scales.movie are.movie 1 tree.movie.tracks head.tracks.items scales.tracks.items are.tracks
@@ -246,7 +247,7 @@ module _ (l : Without) (out : l.timing ≡ true) (file : List ℕ) (tree : FileT
 
   -- it is the length of the longest track of what remains, which is never too long
   pub all_counted_short : (m : MovieSeen) (scales : Scales) (read head : MovieHead) → IsOpenedAs file m tree → AreScales l file tree scales → SaysMovie m read
-      → tracks_seen head ≡ number_heads l 1 (remaining_heads (keeping_payloads l) scales.movie scales.tracks.items (tracks_seen read)) → heads_at head.tracks.items ≡ heads_at read.tracks.items
+      → tracks_seen head ≡ number_heads l 1 (remaining_heads (keeping_payloads l) scales.movie scales.tracks.items (tracks_seen read)) → places_of head.tracks.items ≡ places_of read.tracks.items
       → RemainsInLimits l (presentation_of file tree) × (longest_count 0 head.tracks.items m.tracks ≡ movie_length (remaining l (presentation_of file tree)))
   all_counted_short m scales read head o are says left_is places =
       let p = presentation_of file tree in

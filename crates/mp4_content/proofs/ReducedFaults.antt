@@ -1,24 +1,21 @@
 -- The fault that names the first track of which what remains is too long, or has an offset that doesn't fit.
-use Rattle.std.proofs.Common.{◌≡◌, ℕ, ◌^◌, ◌⊎◌, inl, inr, List, [], ◌∷◌, ◌++◌, map, refl, sym, ap, subst, ◌∙◌, arith}
-use Rattle.std.specs.Prelude.{codes, ℤ, pos, negsuc, FitsSigned}
+use Rattle.std.proofs.Common.{◌≡◌, ℕ, zero, suc, ◌^◌, ◌⊎◌, inl, inr, List, [], ◌∷◌, ◌++◌, length, map, take, refl, sym, subst, ◌∙◌, arith}
+use Rattle.std.specs.Prelude.{codes, slice_get, Some, ℤ, pos, negsuc, FitsSigned}
 use Rattle.std.specs.Int.{w32}
 use Rattle.std.specs.List.{AllByRecursion}
 use Rattle.std.proofs.lemmas.Bool.{cases_lt}
-use Rattle.mp4_boxes.proofs.Each.{each_value}
+use Rattle.mp4_boxes.proofs.Each.{each_from, each_weaker}
+use Rattle.mp4_boxes.proofs.Plain.{get_every, some_is}
 use Rattle.mp4_boxes.specs.format.BoxFaults.{fault_of}
 use Rattle.mp4_boxes.specs.declared.fault.Fault.{Fault}
 use Rattle.mp4_boxes.specs.declared.fault.Kind.TheVariants.{OffsetTooLarge, TimeTooLarge}
 use Rattle.mp4_head.specs.format.Tree.{TrackTree, first_of}
-use Rattle.mp4_present.specs.format.Presentation.{Sample, Track, IsInTime, end_time, max_time, track_length}
+use Rattle.mp4_present.specs.format.Presentation.{Presentation, Sample, Track, IsInTime, end_time, max_time, track_length}
 use Rattle.mp4_present.specs.format.Denotes.{FileTree, file_parts, track_of, presentation_of}
-use Rattle.mp4_present.proofs.ToldTrees.{file_denotes}
 use Rattle.mp4_content.specs.format.Reduced.{HasNearOffsets}
-use Rattle.mp4_content.specs.format.Remaining.{RemainsInLimits, movie_divisor, remaining_track}
-use Rattle.mp4_present.specs.words.Movies.{MovieSeen}
-use Rattle.mp4_present.specs.words.OpenedMovie.{IsOpenedOwn}
+use Rattle.mp4_content.specs.format.Remaining.{RemainsInLimits, movie_divisor, remaining_movie, remaining_track}
 use Rattle.mp4_content.specs.declared.without.Without.{Without}
-use Rattle.mp4_present.proofs.One.{denotes_one, file_tree_one}
-use Rattle.mp4_content.specs.format.ReducedTimes.{IsLeftFault, LeftInLimits, ReducedLimitPasses, ReducedFaultStands, scale_left, track_left}
+use Rattle.mp4_content.specs.format.ReducedTimes.{FailsLeft, IsFaultLeft, IsLeftFault, IsLeftInTime, IsLeftNear, LeftInLimits, ReducedLimitPasses, scale_left}
 use Rattle.mp4_content.specs.format.ReducedLaws.{ReducedFaultRefuses, ReducedFaultIsOne}
 
 -- ---- whether a track is too long, and whether its offsets fit
@@ -55,38 +52,6 @@ near_or (s ∷ samples) = elim (fits_or s.offset) [
 pub near_offsets_or : (t : Track) → HasNearOffsets t ⊎ (HasNearOffsets t → ⊥)
 near_offsets_or t = near_or t.samples
 
--- ---- the first of some tracks of which it is not so
-
-record IsFirst (P : TrackTree → Type 0) (trees : List TrackTree) : Type 0 where
-  before : List TrackTree
-  t : TrackTree
-  after : List TrackTree
-  split : trees ≡ before ++ t ∷ after
-  each : AllByRecursion P before
-  fails : P t → ⊥
-
-found_first : (P : TrackTree → Type 0) → ((t : TrackTree) → P t ⊎ (P t → ⊥)) → (trees : List TrackTree) → (AllByRecursion P trees → ⊥) → IsFirst P trees
-found_first P or [] some = absurd (some tt)
-found_first P or (t ∷ trees) some = elim (or t) [
-  | inl h ↦ (
-      let r = found_first P or trees (λ all. some (h, all)) in
-      record { before = t ∷ r.before; t = r.t; after = r.after; split = ap (λ (us : List TrackTree). t ∷ us) r.split; each = (h, r.each); fails = r.fails }
-      )
-  | inr fails ↦ record { before = []; t = t; after = trees; split = refl; each = tt; fails = fails }
-]
-
-head_same : (t u : TrackTree) (ts us : List TrackTree) → ◌≡◌ {A = List TrackTree} (t ∷ ts) (u ∷ us) → t ≡ u
-head_same t u ts us e = cc
-
-tail_same : (t u : TrackTree) (ts us : List TrackTree) → ◌≡◌ {A = List TrackTree} (t ∷ ts) (u ∷ us) → ts ≡ us
-tail_same t u ts us e = cc
-
-same_first : (P : TrackTree → Type 0) (xs ys more rest : List TrackTree) (t u : TrackTree) → xs ++ t ∷ more ≡ ys ++ u ∷ rest → AllByRecursion P xs → AllByRecursion P ys → (P t → ⊥) → (P u → ⊥) → t ≡ u
-same_first P [] [] more rest t u e hx hy first second = head_same t u more rest e
-same_first P [] (y ∷ ys) more rest t u e hx hy first second = absurd (first (subst P (sym (head_same t y more (ys ++ u ∷ rest) e)) hy.0))
-same_first P (x ∷ xs) [] more rest t u e hx hy first second = absurd (second (subst P (head_same x u (xs ++ t ∷ more) rest e) hx.0))
-same_first P (x ∷ xs) (y ∷ ys) more rest t u e hx hy first second = same_first P xs ys more rest t u (tail_same x y (xs ++ t ∷ more) (ys ++ u ∷ rest) e) hx.1 hy.1 first second
-
 -- ---- of one file
 
 module _ (l : Without) (file : List ℕ) (tree : FileTree) where
@@ -99,46 +64,9 @@ module _ (l : Without) (file : List ℕ) (tree : FileTree) where
   abbrev IsNear : Track → Type 0
   IsNear t = HasNearOffsets (remaining_track l (movie_divisor l (presentation_of file tree)) t)
 
-  limits_or : (t : TrackTree) → LeftInLimits l file tree t ⊎ (LeftInLimits l file tree t → ⊥)
-  limits_or t = elim (in_time_or (scale_left l file tree) (track_left l file tree t)) [
-    | inr long ↦ inr (λ h. long h.0)
-    | inl short ↦ elim (near_offsets_or (track_left l file tree t)) [
-      | inl near ↦ inl (short, near)
-      | inr far ↦ inr (λ h. far h.1)
-    ]
-  ]
-
-  -- what is wrong with a track that is not in the limits
-  fault_there : (t : TrackTree) → (LeftInLimits l file tree t → ⊥) → (f : Fault) × IsLeftFault l file tree t f
-  fault_there t fails = elim (in_time_or (scale_left l file tree) (track_left l file tree t)) [
-    | inr long ↦ (fault_of TimeTooLarge (first_of (codes "tkhd") t.track), inl (long, refl))
-    | inl short ↦ (fault_of OffsetTooLarge (first_of (codes "tkhd") t.track), inr (short, λ near. fails (short, near), refl))
-  ]
-
   fault_fails : (t : TrackTree) (f : Fault) → IsLeftFault l file tree t f → LeftInLimits l file tree t → ⊥
   fault_fails t f (inl long) h = long.0 h.0
   fault_fails t f (inr far) h = far.1 h.1
-
-  fault_one : (t : TrackTree) (f g : Fault) → IsLeftFault l file tree t f → IsLeftFault l file tree t g → g ≡ f
-  fault_one t f g (inl a) (inl b) = b.1 ∙ sym a.1
-  fault_one t f g (inl a) (inr b) = absurd (a.0 b.0)
-  fault_one t f g (inr a) (inl b) = absurd (b.0 a.0)
-  fault_one t f g (inr a) (inr b) = b.2 ∙ sym a.2
-
-  there_is : (RemainsInLimits l (presentation_of file tree) → ⊥) → (f : Fault) × ReducedLimitPasses l file tree f
-  there_is over =
-      let all_in : AllByRecursion (LeftInLimits l file tree) tree.movie.tracks → RemainsInLimits l (presentation_of file tree) = λ all. record {
-        in_time = each_value (LeftInLimits l file tree) IsShort own (λ t h. h.0) tree.movie.tracks all;
-        in_range = each_value (LeftInLimits l file tree) IsNear own (λ t h. h.1) tree.movie.tracks all;
-      } in
-      let r = found_first (LeftInLimits l file tree) limits_or tree.movie.tracks (λ all. over (all_in all)) in
-      let named = fault_there r.t r.fails in
-      (named.0, record { before = r.before; t = r.t; after = r.after; tracks = r.split; in_limits = r.each; named = named.1 })
-
-  one_of_tree : (f g : Fault) → ReducedLimitPasses l file tree f → ReducedLimitPasses l file tree g → g ≡ f
-  one_of_tree f g p q =
-      let same = same_first (LeftInLimits l file tree) q.before p.before q.after p.after q.t p.t (sym q.tracks ∙ p.tracks) q.in_limits p.in_limits (fault_fails q.t g q.named) (fault_fails p.t f p.named) in
-      fault_one p.t f g p.named (subst (λ (t : TrackTree). IsLeftFault l file tree t g) same q.named)
 
   here : (P : Track → Type 0) (before after : List TrackTree) (t : TrackTree) → AllByRecursion P (map own (before ++ t ∷ after)) → P (own t)
   here P [] after t h = h.0
@@ -153,23 +81,79 @@ module _ (l : Without) (file : List ℕ) (tree : FileTree) where
 
 -- ---- the laws
 
+module _ (l : Without) (p : Presentation) where
+  abbrev Fits : Track → Type 0
+  Fits t = IsLeftInTime l p t × IsLeftNear l p t
+
+  fits_all_or : (t : Track) → Fits t ⊎ (Fits t → ⊥)
+  fits_all_or t = elim (in_time_or (remaining_movie l (movie_divisor l p) p.movie).timescale (remaining_track l (movie_divisor l p) t)) [
+    | inr long ↦ inr (λ h. long h.0)
+    | inl short ↦ elim (near_offsets_or (remaining_track l (movie_divisor l p) t)) [
+      | inl near ↦ inl (short, near)
+      | inr far ↦ inr (λ h. far h.1)
+    ]
+  ]
+
+  -- what is wrong with a track that doesn't fit, and nothing else
+  named_there : (t : Track) (b : TrackTree) → (Fits t → ⊥) → (f : Fault) × IsFaultLeft l p t b f
+  named_there t b fails = elim (in_time_or (remaining_movie l (movie_divisor l p) p.movie).timescale (remaining_track l (movie_divisor l p) t)) [
+    | inr long ↦ (fault_of TimeTooLarge (first_of (codes "tkhd") b.track), inl (long, refl))
+    | inl short ↦ (fault_of OffsetTooLarge (first_of (codes "tkhd") b.track), inr (short, λ near. fails (short, near), refl))
+  ]
+
+  named_fails : (t : Track) (b : TrackTree) (f : Fault) → IsFaultLeft l p t b f → Fits t → ⊥
+  named_fails t b f (inl long) h = long.0 h.0
+  named_fails t b f (inr far) h = far.1 h.1
+
+  named_one : (t : Track) (b : TrackTree) (f g : Fault) → IsFaultLeft l p t b f → IsFaultLeft l p t b g → g ≡ f
+  named_one t b f g (inl x) (inl y) = y.1 ∙ sym x.1
+  named_one t b f g (inl x) (inr y) = absurd (x.0 y.0)
+  named_one t b f g (inr x) (inl y) = absurd (y.0 x.0)
+  named_one t b f g (inr x) (inr y) = y.2 ∙ sym x.2
+
+  found_first : (ts : List Track) (bs : List TrackTree) → length bs ≡ length ts → (AllByRecursion Fits ts → ⊥) → (f : Fault) × FailsLeft l p ts bs f
+  found_first [] bs e some = absurd (some tt)
+  found_first (t ∷ ts) [] e some = absurd (omega (arith, e))
+  found_first (t ∷ ts) (b ∷ bs) e some = elim (fits_all_or t) [
+    | inl h ↦ (
+        let r = found_first ts bs (omega (arith, e)) (λ all. some (h, all)) in
+        let x = r.1 in
+        (r.0, record { place = suc x.place; t = x.t; its = x.its; is_there = x.is_there; has_boxes = x.has_boxes; before = (h, x.before); named = x.named })
+        )
+    | inr fails ↦ (
+        let n = named_there t b fails in
+        (n.0, record { place = 0; t = t; its = b; is_there = refl; has_boxes = refl; before = tt; named = n.1 })
+        )
+  ]
+
+  -- two first ones are one
+  same_first : (ts : List Track) (bs : List TrackTree) (k j : ℕ) (t u : Track) (b c : TrackTree) → slice_get ts k ≡ Some t → slice_get bs k ≡ Some b → slice_get ts j ≡ Some u → slice_get bs j ≡ Some c → AllByRecursion Fits (take k ts) → AllByRecursion Fits (take j ts)
+      → (Fits t → ⊥) → (Fits u → ⊥) → (t ≡ u) × (b ≡ c)
+  same_first [] bs k j t u b c d e f g x y first second = absurd cc
+  same_first (v ∷ ts) [] k j t u b c d e f g x y first second = absurd cc
+  same_first (v ∷ ts) (w ∷ bs) zero zero t u b c d e f g x y first second = (sym (some_is v t d) ∙ some_is v u f, sym (some_is w b e) ∙ some_is w c g)
+  same_first (v ∷ ts) (w ∷ bs) zero (suc j) t u b c d e f g x y first second = absurd (first (subst Fits (some_is v t d) y.0))
+  same_first (v ∷ ts) (w ∷ bs) (suc k) zero t u b c d e f g x y first second = absurd (second (subst Fits (some_is v u f) x.0))
+  same_first (v ∷ ts) (w ∷ bs) (suc k) (suc j) t u b c d e f g x y first second = same_first ts bs k j t u b c d e f g x.1 y.1 first second
+
+  first_one : (ts : List Track) (bs : List TrackTree) (f g : Fault) → FailsLeft l p ts bs f → FailsLeft l p ts bs g → g ≡ f
+  first_one ts bs f g x y =
+      let same = same_first ts bs y.place x.place y.t x.t y.its x.its y.is_there y.has_boxes x.is_there x.has_boxes y.before x.before (named_fails y.t y.its g y.named) (named_fails x.t x.its f x.named) in
+      named_one x.t x.its f g x.named (subst (λ (b : TrackTree). IsFaultLeft l p x.t b g) same.1 (subst (λ (t : Track). IsFaultLeft l p t y.its g) same.0 y.named))
+
+  all_fit : RemainsInLimits l p → AllByRecursion Fits p.tracks
+  all_fit h = each_from (IsLeftInTime l p) (IsLeftNear l p) Fits (λ t x y. (x, y)) p.tracks h.in_time h.in_range
+
+  all_remain : AllByRecursion Fits p.tracks → RemainsInLimits l p
+  all_remain h = record {
+    in_time = each_weaker Fits (IsLeftInTime l p) (λ t x. x.0) p.tracks h;
+    in_range = each_weaker Fits (IsLeftNear l p) (λ t x. x.1) p.tracks h;
+  }
+
 pub refuses : ReducedFaultRefuses
-refuses l file f p s d limits =
-    let same = denotes_one file p s.p d s.denotes ∙ s.denotes.says in
-    passes_limits l file s.denotes.tree f s.passes (subst (RemainsInLimits l) same limits)
+refuses l p boxes f x limits = named_fails l p x.t x.its f x.named (get_every (Fits l p) p.tracks x.place x.t x.is_there (all_fit l p limits))
 
 pub is_one : ReducedFaultIsOne
-is_one l file p d over =
-    let r = there_is l file d.tree (λ limits. over (subst (RemainsInLimits l) (sym d.says) limits)) in (
-      r.0,
-      record { p = p; denotes = d; passes = r.1 },
-      λ g s. one_of_tree l file d.tree r.0 g r.1 (subst (λ (tree : FileTree). ReducedLimitPasses l file tree g) (file_tree_one file s.denotes.tree d.tree s.denotes.is_tree d.is_tree) s.passes),
-    )
-
--- a file that was opened denotes what its boxes say
-pub opened_stands : (l : Without) (file : List ℕ) (m : MovieSeen) (tree : FileTree) (f : Fault) → IsOpenedOwn file m tree → ReducedLimitPasses l file tree f → ReducedFaultStands l file f
-opened_stands l file m tree f o passes = record {
-  p = presentation_of file tree;
-  denotes = file_denotes file m tree o;
-  passes = passes;
-}
+is_one l p boxes many over =
+    let r = found_first l p p.tracks boxes many (λ all. over (all_remain l p all)) in
+    (r.0, r.1, λ g y. first_one l p p.tracks boxes r.0 g r.1 y)

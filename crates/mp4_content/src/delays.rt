@@ -23,36 +23,9 @@ pub(crate) fn later_by(first: Beginning, second: Beginning, timescale: u32) -> u
     requires second { CanBegin second }
     ensures { result ≡ later (moment_of timescale first) (moment_of timescale second) }
 {
-    let (one, two) = (first.timescale, second.timescale);
-    let after = together(
-        Span {
-            ticks: first.waits,
-            timescale,
-        },
-        Span {
-            ticks: first.later,
-            timescale: one,
-        },
-        Span {
-            ticks: second.earlier,
-            timescale: two,
-        },
-    );
-    let before = together(
-        Span {
-            ticks: second.waits,
-            timescale,
-        },
-        Span {
-            ticks: first.earlier,
-            timescale: one,
-        },
-        Span {
-            ticks: second.later,
-            timescale: two,
-        },
-    );
-    let all = product(timescale, one, two);
+    let after = side(first, second, timescale);
+    let before = side(second, first, timescale);
+    let all = product(timescale, first.timescale, second.timescale);
     let parts = after.parts + 3 * all - before.parts;
     let part = parts * 1_000_000 / all;
     let less = before.whole + 3;
@@ -69,36 +42,10 @@ pub(crate) fn begins_before(first: Beginning, second: Beginning, timescale: u32)
     requires second { CanBegin second }
     ensures { result ≡ is_before (moment_of timescale first) (moment_of timescale second) }
 {
-    let (one, two) = (first.timescale, second.timescale);
-    let after = together(
-        Span {
-            ticks: second.waits,
-            timescale,
-        },
-        Span {
-            ticks: second.later,
-            timescale: two,
-        },
-        Span {
-            ticks: first.earlier,
-            timescale: one,
-        },
-    );
-    let before = together(
-        Span {
-            ticks: first.waits,
-            timescale,
-        },
-        Span {
-            ticks: second.earlier,
-            timescale: two,
-        },
-        Span {
-            ticks: first.later,
-            timescale: one,
-        },
-    );
-    is_less(before, after, product(timescale, two, one))
+    let before = side(first, second, timescale);
+    let after = side(second, first, timescale);
+    let all = product(timescale, second.timescale, first.timescale);
+    is_less(before, after, all)
 }
 
 // Whether the first is less, where so many parts are a second.
@@ -130,6 +77,35 @@ struct Span {
 struct Time {
     whole: u128,
     parts: u128,
+}
+
+// How late one begins, and how early the other. It is later by what this is more than the same of
+// both turned.
+fn side(one: Beginning, other: Beginning, timescale: u32) -> Time
+    requires movie { 0 < timescale }
+    requires one { CanBegin one }
+    requires other { CanBegin other }
+    ensures is { result.whole * (timescale * (one.timescale * other.timescale)) + result.parts
+        ≡ one.waits * (one.timescale * other.timescale)
+        + one.later * (timescale * other.timescale)
+        + other.earlier * (timescale * one.timescale) }
+    ensures whole { result.whole < 3 * 2 ^ 126 }
+    ensures parts { result.parts ≤ 3 * (timescale * (one.timescale * other.timescale)) }
+{
+    together(
+        Span {
+            ticks: one.waits,
+            timescale,
+        },
+        Span {
+            ticks: one.later,
+            timescale: one.timescale,
+        },
+        Span {
+            ticks: other.earlier,
+            timescale: other.timescale,
+        },
+    )
 }
 
 // Three spans together: the whole seconds of each, and what is left of each.

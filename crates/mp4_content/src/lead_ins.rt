@@ -272,7 +272,7 @@ fn delays_from(
 
 /// How many microseconds each track waits; none where the movie's edits say more, or no track has
 /// samples.
-pub(crate) fn waits<S: Store, L: Ledger, M: Ledger>(
+pub fn waits<S: Store, L: Ledger, M: Ledger>(
     alloc: Global,
     movie: &Movie,
     store: &mut S,

@@ -1,6 +1,6 @@
 //! Laws of what is left where it doesn't count how tracks begin, but how long each of them waits.
 
-ghost use Rattle.mp4_content.specs.format.LeadInsLaws.{DelayIsFromFirst, EditsChangeAgain, EditsHideBeginnings, KeepsMore, KeepsMoreWithoutTimes, KeptIsFixed, KeptIsTold, KeptIsValid, KeptWithoutTimes, OriginsHideBeginnings, SameKeptWithoutBeginnings, SameKeptWithoutMore, SecondsCountNot, StepCountsNot, TimingChangesAgain, TimingHidesBeginnings, WaitedIsExact, WaitedIsFixed};
+ghost use Rattle.mp4_content.specs.format.LeadInsLaws.{DelayIsFromFirst, EditsChangeAgain, EditsHideBeginnings, KeepsMore, KeepsMoreWithoutTimes, KeptIsFixed, KeptIsTold, KeptIsValid, KeptWithoutTimes, LeftIsTold, OriginsHideBeginnings, SameKeptWithoutBeginnings, SameKeptWithoutMore, SecondsCountNot, StepCountsNot, TimingChangesAgain, TimingHidesBeginnings, ToldIsValid, WaitedIsExact, WaitedIsFixed};
 
 /// How long a track waits is how much later it begins than the first.
 pub fn delay_is_from_first()
@@ -96,4 +96,15 @@ pub fn keeps_more_without_times()
 /// wait.
 pub fn kept_is_told()
     ensures { KeptIsTold }
+{}
+
+/// So what is left by words is what remains of a presentation that may be told so.
+pub fn left_is_told()
+    ensures { LeftIsTold }
+{}
+
+/// What is valid stays so as it is told how long its tracks wait, exactly if it is within the
+/// limits then.
+pub fn told_is_valid()
+    ensures { ToldIsValid }
 {}

@@ -79,6 +79,7 @@ pub use comparing::differences::{Difference, Differences, Entries, Field, Part, 
 pub use comparing::movies::Movies;
 pub use comparing::{compare, compare_all, compare_listed};
 pub use content::Content;
+pub use lead_ins::waits;
 pub use measures::reduction_of;
 pub use own_payloads::{BoxLeft, MediaLeft, payloads_left};
 pub use peeking::peek_sample;

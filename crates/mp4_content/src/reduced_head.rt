@@ -2,7 +2,8 @@
 ghost use Rattle.std.specs.Prelude.{◌≡◌, map, true, IfOk};
 ghost use Rattle.mp4_boxes.specs.format.Children.{is_among};
 ghost use Rattle.mp4_head.specs.words.Seen.{edit_seen, kept_seen, media_seen, movie_seen, track_seen, tracks_seen};
-ghost use Rattle.mp4_content.specs.words.Divided.{divided_head, divided_heads, divided_movie, heads_at, remaining_heads};
+ghost use Rattle.mp4_present.specs.words.HeadsRead.{places_of};
+ghost use Rattle.mp4_content.specs.words.Divided.{divided_head, divided_heads, divided_movie, remaining_heads};
 ghost use Rattle.mp4_content.specs.words.PayloadsLeft.{AreMediaLeft, keeping_payloads, leaves_payloads};
 ghost use Rattle.mp4_content.specs.format.Reduced.{metadata_kinds, number_heads, reduce_kept, reduce_media, reduce_movie_head, reduce_track_head};
 ghost use Rattle.mp4_content.specs.format.Remaining.{remaining_movie};
@@ -71,7 +72,7 @@ fn reduce_track(track: &mut TrackHead, leaving: Without)
 fn reduce_tracks(tracks: &mut Vec<TrackHead>, leaving: Without)
     ensures left { map track_seen tracks.new.items
         ≡ map (reduce_track_head (keeping_payloads leaving)) (map track_seen tracks.old.items) }
-    ensures places { heads_at tracks.new.items ≡ heads_at tracks.old.items }
+    ensures places { places_of tracks.new.items ≡ places_of tracks.old.items }
 {
     for k in 0..tracks.len() {
         reduce_track(&mut tracks[k], leaving);
@@ -82,7 +83,7 @@ fn reduce_tracks(tracks: &mut Vec<TrackHead>, leaving: Without)
 fn number_heads(heads: &mut Vec<TrackHead>, leaving: Without)
     ensures numbered { map track_seen heads.new.items
         ≡ number_heads leaving 1 (map track_seen heads.old.items) }
-    ensures places { heads_at heads.new.items ≡ heads_at heads.old.items }
+    ensures places { places_of heads.new.items ≡ places_of heads.old.items }
 {
     for k in 0..heads.len() {
         let head = &mut heads[k];
@@ -95,7 +96,7 @@ fn reduce_head(head: &mut MovieHead, leaving: Without)
     ensures movie { movie_seen head.new ≡ reduce_movie_head leaving (movie_seen head.old) }
     ensures tracks { tracks_seen head.new ≡ number_heads leaving 1
         (map (reduce_track_head (keeping_payloads leaving)) (tracks_seen head.old)) }
-    ensures places { heads_at head.new.tracks.items ≡ heads_at head.old.tracks.items }
+    ensures places { places_of head.new.tracks.items ≡ places_of head.old.tracks.items }
 {
     if leaving.has(Word::Times) {
         head.creation = 0;
@@ -160,7 +161,7 @@ fn divide_tracks(tracks: &mut Vec<TrackHead>, leaving: Without, scales: &Scales)
     ensures divided { map track_seen tracks.new.items
         ≡ divided_heads leaving scales.now.movie scales.now.tracks.items 0
         (map track_seen tracks.old.items) }
-    ensures places { heads_at tracks.new.items ≡ heads_at tracks.old.items }
+    ensures places { places_of tracks.new.items ≡ places_of tracks.old.items }
 {
     for k in 0..tracks.len() {
         divide_track(&mut tracks[k], leaving, scales.movie, scales.track(k));
@@ -174,7 +175,7 @@ fn divide_head(head: &mut MovieHead, leaving: Without, scales: &Scales)
     ensures tracks { tracks_seen head.new
         ≡ divided_heads leaving scales.now.movie scales.now.tracks.items 0
         (tracks_seen head.old) }
-    ensures places { heads_at head.new.tracks.items ≡ heads_at head.old.tracks.items }
+    ensures places { places_of head.new.tracks.items ≡ places_of head.old.tracks.items }
 {
     head.timescale = divided_timescale(leaving, head.timescale, scales.movie);
     divide_tracks(&mut head.tracks, leaving, scales);
@@ -187,7 +188,7 @@ pub(crate) fn leave_head(head: &mut MovieHead, leaving: Without, scales: &Scales
     ensures tracks { tracks_seen head.new ≡ number_heads leaving 1
         (remaining_heads (keeping_payloads leaving) scales.now.movie scales.now.tracks.items
         (tracks_seen head.old)) }
-    ensures places { heads_at head.new.tracks.items ≡ heads_at head.old.tracks.items }
+    ensures places { places_of head.new.tracks.items ≡ places_of head.old.tracks.items }
 {
     reduce_head(head, leaving);
     divide_head(head, leaving, scales);

@@ -35,6 +35,10 @@ pub enum Word {
     /// In which timescales times are said (8.2.2, 8.4.2): the times of a track and its timescale
     /// are divided by what divides all of them, and so are those of the movie.
     Timescales,
+    /// How tracks begin: by when their samples begin (8.8.12), by composition offsets (8.6.1.3), by
+    /// edits (8.6.6). Each begins at 0, and an edit says how many microseconds later than the first
+    /// of them it begins. Where edits say more than that, they stay.
+    LeadIns,
 }
 
 impl Word {
@@ -56,6 +60,7 @@ impl Word {
         Word::Roles,
         Word::Ids,
         Word::Timescales,
+        Word::LeadIns,
     ];
 
     /// Its place among all words, from 0.
@@ -84,12 +89,15 @@ impl Word {
             Word::Roles => "roles",
             Word::Ids => "ids",
             Word::Timescales => "timescales",
+            Word::LeadIns => "lead-ins",
         }
     }
 }
 
 /// The words of what is left out of a presentation (`remaining` in
-/// `specs/format/Remaining.antt`).
+/// `specs/format/Remaining.antt`). `lead-ins` changes what a movie shows before anything is left
+/// out of it (`told` in `specs/format/LeadIns.antt`), and nothing more: the rest goes by
+/// `when_told`.
 #[derive(Clone, Copy, Debug, PartialEq, Eq)]
 pub struct Without {
     times: bool,
@@ -105,10 +113,12 @@ pub struct Without {
     roles: bool,
     ids: bool,
     timescales: bool,
+    lead_ins: bool,
 }
 
 impl Without {
     ghost use Rattle.std.specs.Prelude.{◌≡◌};
+    ghost use Rattle.mp4_content.specs.format.LeadIns.{with_origins};
     ghost use Rattle.mp4_content.specs.format.Reduced.{id_left, keeps_samples, role_left, start_left, timescale_left, track_flags_left};
     ghost use Rattle.mp4_content.specs.format.Words.{has};
     ghost use Rattle.mp4_content.specs.words.PayloadsLeft.{leaves_payloads};
@@ -128,6 +138,7 @@ impl Without {
         roles: false,
         ids: false,
         timescales: false,
+        lead_ins: false,
     };
 
     /// Whether a word is among them.
@@ -149,6 +160,7 @@ impl Without {
             Word::Roles => self.roles,
             Word::Ids => self.ids,
             Word::Timescales => self.timescales,
+            Word::LeadIns => self.lead_ins,
         }
     }
 
@@ -171,6 +183,18 @@ impl Without {
             roles: is_so(Word::Roles),
             ids: is_so(Word::Ids),
             timescales: is_so(Word::Timescales),
+            lead_ins: is_so(Word::LeadIns),
+        }
+    }
+
+    /// What goes of a movie whose edits say how long its tracks wait: where it doesn't count how
+    /// they begin, origins too.
+    pub fn when_told(self) -> Without
+        ensures { result ≡ with_origins self.lead_ins self }
+    {
+        Without {
+            origins: self.origins || self.lead_ins,
+            ..self
         }
     }
 

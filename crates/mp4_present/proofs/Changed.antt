@@ -1,11 +1,16 @@
--- Entries that are changed one after the other.
-use Rattle.std.proofs.Common.{◌≡◌, ℕ, zero, suc, ◌+◌, ◌<◌, ◌≤◌, List, [], ◌∷◌, length, map, Some, refl, sym, ap, subst, ◌∙◌, arith, slice_set}
+-- Entries of a list that are taken, or changed, one after the other.
+use Rattle.std.proofs.Common.{◌≡◌, ℕ, zero, suc, ◌+◌, ◌<◌, ◌≤◌, List, [], ◌∷◌, ◌++◌, length, take, map, Some, refl, sym, ap, subst, ◌∙◌, arith, slice_set}
 use Rattle.std.specs.Prelude.{⊤, slice_get, slice_index_or}
 
 pub there_is : {A : Type 0} (xs : List A) (k : ℕ) (d x : A) → k < length xs → x ≡ slice_index_or xs k d → slice_get xs k ≡ Some x
 there_is [] k d x lt e = absurd (omega (arith, lt))
 there_is (y ∷ ys) zero d x lt e = ap (λ z. Some z) (sym e)
 there_is (y ∷ ys) (suc k) d x lt e = there_is ys k d x (omega (arith, lt)) e
+
+pub next_taken : {A : Type 0} (xs : List A) (k : ℕ) (x : A) → slice_get xs k ≡ Some x → take (suc k) xs ≡ take k xs ++ x ∷ []
+next_taken [] k x e = absurd cc
+next_taken (y ∷ ys) zero x e = let same : y ≡ x = cc in ap (λ z. z ∷ []) same
+next_taken (y ∷ ys) (suc k) x e = ap (λ zs. y ∷ zs) (next_taken ys k x e)
 
 -- those before a place are what a function of their places makes of them, and the others are as
 -- they were

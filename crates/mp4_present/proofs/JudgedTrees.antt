@@ -129,7 +129,7 @@ module _ (file : List ℕ) (t : FileTree) where
 
 -- ---- the presentation
 
-file_tree : (file : List ℕ) (t : FileTree) → IsJudgedTree file t → IsFileTree file t
+pub file_tree : (file : List ℕ) (t : FileTree) → IsJudgedTree file t → IsFileTree file t
 file_tree file t j = record { top = j.ready.holds; order = j.ready.begins; moov = j.ready.moov; movie = j.ready.tree; moofs = j.fragments.are; fragments = j.fragments.trees }
 
 sound_file : (file : List ℕ) (t : FileTree) → IsJudgedTree file t → IsSoundFile t

@@ -29,15 +29,15 @@ both_true : (v w : Bool) → v ≡ true → w ≡ true → (v && w) ≡ true
 both_true v w e f = rw (e, f) refl
 
 -- the test of a track's times
-abbrev is_in_time : ℕ → Track → Bool
+abbrev pub is_in_time : ℕ → Track → Bool
 is_in_time timescale t = nat_le (end_time t) max_time && nat_le (track_length timescale t) max_time
 
 -- it passes where the track is in time
-in_time : (timescale : ℕ) (t : Track) → IsInTime timescale t → is_in_time timescale t ≡ true
+pub in_time : (timescale : ℕ) (t : Track) → IsInTime timescale t → is_in_time timescale t ≡ true
 in_time timescale t h = both_true (nat_le (end_time t) max_time) (nat_le (track_length timescale t) max_time) (le-leb (end_time t) max_time h.0) (le-leb (track_length timescale t) max_time h.1)
 
 -- it fails where the track is not
-not_in_time : (timescale : ℕ) (t : Track) → (IsInTime timescale t → ⊥) → is_in_time timescale t ≡ false
+pub not_in_time : (timescale : ℕ) (t : Track) → (IsInTime timescale t → ⊥) → is_in_time timescale t ≡ false
 not_in_time timescale t late = by (is_in_time timescale t) refl
   where
     by : (v : Bool) → is_in_time timescale t ≡ v → is_in_time timescale t ≡ false

@@ -53,7 +53,7 @@ file_tree_is file m tree o = (own_tree file m tree o.opened o.own_edits).is_tree
 -- ---- a tree of which nothing but edits is told otherwise
 
 -- so it is made of the file's
-abbrev told_tree : FileTree → List Box → List TrackTree → FileTree
+abbrev pub told_tree : FileTree → List Box → List TrackTree → FileTree
 told_tree own movie tracks = record own { movie = record own.movie { movie = movie; tracks = tracks } }
 
 pub told_is : (waits : List ℕ) (own t : FileTree) → IsFileTold waits own t → t ≡ told_tree own t.movie.movie t.movie.tracks
@@ -94,7 +94,7 @@ places_found [] (h ∷ hs) z = absurd z
 places_found (t ∷ trees) [] z = absurd z
 places_found (t ∷ trees) (h ∷ hs) z = λ i. z.0.offset i ∷ places_found trees hs z.1 i
 
-places_told : (waits : List ℕ) (us ts : List TrackTree) → AreTracksTold waits us ts → map place_of us ≡ map place_of ts
+pub places_told : (waits : List ℕ) (us ts : List TrackTree) → AreTracksTold waits us ts → map place_of us ≡ map place_of ts
 places_told waits [] [] told = refl
 places_told waits [] (t ∷ ts) told = absurd told
 places_told waits (u ∷ us) [] told = absurd told

@@ -1,5 +1,5 @@
 -- The limits of a presentation whose tracks are told to wait.
-use Rattle.std.proofs.Common.{◌≡◌, ℕ, zero, suc, ◌+◌, ◌<◌, ◌≤◌, List, [], ◌∷◌, ◌++◌, length, take, map, Some, refl, sym, ap, subst, ◌∙◌, arith}
+use Rattle.std.proofs.Common.{◌≡◌, ℕ, suc, ◌+◌, ◌<◌, ◌≤◌, List, [], ◌∷◌, ◌++◌, length, take, map, Some, refl, sym, ap, subst, ◌∙◌, arith}
 use Rattle.std.specs.Prelude.{slice_get}
 use Rattle.std.specs.List.{AllByRecursion, AllZip}
 use Rattle.std.proofs.lemmas.List.{length-map, map-append, take_all}
@@ -16,6 +16,7 @@ use Rattle.mp4_present.specs.words.Movies.{MovieSeen}
 use Rattle.mp4_present.specs.words.OpenedMovie.{IsInfoOf}
 use Rattle.mp4_present.specs.words.Waits.{HasLimits, end_of}
 use Rattle.mp4_present.specs.declared.track_info.TrackInfo.{TrackInfo}
+use Rattle.mp4_present.proofs.Changed.{next_taken}
 
 zip_many : (file : List ℕ) (t : FileTree) (trees : List TrackTree) (infos : List TrackInfo) → AllZip (IsInfoOf file t) trees infos → length trees ≡ length infos
 zip_many file t [] [] z = refl
@@ -59,11 +60,6 @@ measure_of file m t head h s =
     }
 
 -- ---- the ends of tracks, one after the other
-
-next_taken : {A : Type 0} (xs : List A) (k : ℕ) (x : A) → slice_get xs k ≡ Some x → take (suc k) xs ≡ take k xs ++ x ∷ []
-next_taken [] k x e = absurd cc
-next_taken (y ∷ ys) zero x e = let same : y ≡ x = cc in ap (λ z. z ∷ []) same
-next_taken (y ∷ ys) (suc k) x e = ap (λ zs. y ∷ zs) (next_taken ys k x e)
 
 pub ends_next : (infos : List TrackInfo) (ends : List TrackState) (k : ℕ) (info : TrackInfo) → ends ≡ map end_of (take k infos) → slice_get infos k ≡ Some info → ends ++ end_of info ∷ [] ≡ map end_of (take (k + 1) infos)
 ends_next infos ends k info h e =

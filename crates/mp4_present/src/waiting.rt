@@ -118,6 +118,7 @@ impl Movie {
     ghost use Rattle.mp4_present.specs.format.Denotes.{FileTree, presentation_of};
     ghost use Rattle.mp4_present.specs.format.Waiting.{waiting_all};
     ghost use Rattle.mp4_present.specs.words.OpenedMovie.{IsOpenedAs};
+    ghost use Rattle.mp4_present.specs.words.ToldTrees.{IsFileTold};
     ghost use Rattle.mp4_present.specs.words.Waits.{HasLimits, NamesLimit, NamesLimitOf, PassesNoLimit, RefusesWaits};
 
     // The length of the longest track, if all is within the limits.
@@ -145,6 +146,7 @@ impl Movie {
         ensures movie { (file : List ℕ) (tree : FileTree) → IsOpenedAs file self tree
             → self.waits ≡ None → AllByRecursion (λ n. n < 2 ^ 64) waits.items
             → IfOk result (λ m. (told : FileTree) × IsOpenedAs file m told
+            × IsFileTold waits.items tree told
             × (presentation_of file told ≡ waiting_all waits.items (presentation_of file tree))) }
         ensures fault { (file : List ℕ) (tree : FileTree) → IsOpenedAs file self tree
             → self.waits ≡ None → AllByRecursion (λ n. n < 2 ^ 64) waits.items

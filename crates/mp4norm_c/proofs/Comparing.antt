@@ -4,7 +4,7 @@ use Rattle.std.specs.Prelude.{Result, Ok, Err, IfErr}
 use Rattle.mp4_boxes.specs.declared.refusal.Refusal.{Refusal}
 use Rattle.mp4_boxes.specs.declared.refusal.Refusal.TheVariants as refusals
 use Rattle.mp4_content.specs.declared.without.Without.{Without}
-use Rattle.mp4_present.specs.words.Opening.{RefusesOpen}
+use Rattle.mp4_answers.specs.words.OpenedTold.{RefusesTold}
 use Rattle.mp4_answers.specs.declared.commands.compare.Asked.{Asked}
 use Rattle.mp4_answers.specs.declared.commands.compare.Failure.{Failure}
 use Rattle.mp4_answers.specs.declared.commands.compare.Listing.{Listing}
@@ -21,13 +21,13 @@ use Rattle.mp4norm_c.specs.words.Comparing.{RefusesOne, RefusesRoom, RefusesTwo,
 
 -- ---- why there is no answer, over bytes in memory
 
-one_refused : (refusal : Refusal) (file : List ℕ) → RefusesOpen true file 0 0 refusal → RefusesOne file refusal
-one_refused (refusals.Fault f) file w = w refl
-one_refused refusals.Memory file w = tt
-one_refused refusals.StoreFailed file w = absurd (omega (arith, w))
-one_refused refusals.StoreChanged file w = absurd (w refl)
-one_refused refusals.WriteFailed file w = absurd w
-one_refused refusals.NoSuchTrack file w = absurd w
+one_refused : (refusal : Refusal) (l : Without) (file : List ℕ) → RefusesTold l.lead_ins true file 0 0 refusal → RefusesOne l file refusal
+one_refused (refusals.Fault f) l file w = w refl
+one_refused refusals.Memory l file w = tt
+one_refused refusals.StoreFailed l file w = absurd (omega (arith, w))
+one_refused refusals.StoreChanged l file w = absurd (w refl)
+one_refused refusals.WriteFailed l file w = absurd w
+one_refused refusals.NoSuchTrack l file w = absurd w
 
 none_risen : (RefusesBoth true true 0 0 0 0 refusals.StoreFailed) → ⊥
 none_risen (inl w) = omega (arith, w)
@@ -49,14 +49,14 @@ room_refused refusals.StoreChanged Took puts puts_after w = absurd w
 room_refused refusals.WriteFailed Took puts puts_after w = tt
 room_refused refusals.NoSuchTrack Took puts puts_after w = absurd w
 
-module _ (file other : List ℕ) (Took : List ℕ → Type 0) (puts puts_after : ℕ) where
-  two_refused : (side : Side) (f : Failure) → f.side ≡ side → RefusesCompare (RefusesOpen true file 0 0) (RefusesOpen true other 0 0) (RefusesBoth true true 0 0 0 0) Took puts puts_after f → RefusesTwo file other f
-  two_refused sides.First f is why = let w = rw is at why in rw is (one_refused f.refusal file w.0)
-  two_refused sides.Second f is why = let w = rw is at why in rw is (one_refused f.refusal other w.0)
+module _ (l : Without) (file other : List ℕ) (Took : List ℕ → Type 0) (puts puts_after : ℕ) where
+  two_refused : (side : Side) (f : Failure) → f.side ≡ side → RefusesCompare (RefusesTold l.lead_ins true file 0 0) (RefusesTold l.lead_ins true other 0 0) (RefusesBoth true true 0 0 0 0) Took puts puts_after f → RefusesTwo l file other f
+  two_refused sides.First f is why = let w = rw is at why in rw is (one_refused f.refusal l file w.0)
+  two_refused sides.Second f is why = let w = rw is at why in rw is (one_refused f.refusal l other w.0)
   two_refused sides.Both f is why = let w = rw is at why in absurd (both_read f.refusal w.0)
   two_refused sides.Neither f is why = let w = rw is at why in rw is (room_refused f.refusal Took puts puts_after w)
 
-  pub refused_two : (r : Result Bool Failure) → IfErr r (RefusesCompare (RefusesOpen true file 0 0) (RefusesOpen true other 0 0) (RefusesBoth true true 0 0 0 0) Took puts puts_after) → IfErr r (RefusesTwo file other)
+  pub refused_two : (r : Result Bool Failure) → IfErr r (RefusesCompare (RefusesTold l.lead_ins true file 0 0) (RefusesTold l.lead_ins true other 0 0) (RefusesBoth true true 0 0 0 0) Took puts puts_after) → IfErr r (RefusesTwo l file other)
   refused_two (Ok same) why = tt
   refused_two (Err f) why = two_refused f.side f refl why
 
@@ -82,7 +82,7 @@ module _ (asked : Asked) (file other : List ℕ) (from : ℕ) (before after : Li
   told_ok Took text many true taken v s d w e = is_same many e v (rw (taken (same_text asked) (s refl)) at w)
   told_ok Took text many false taken v s d w e = let told = d refl in is_other told.0 many e v told.1 (rw (taken told.0 told.2) at w)
 
-  told_first : (refusal : Refusal) → a ≡ failure_told sides.First refusal → after ≡ before → RefusesOne file refusal → Compared asked file other from before after a
+  told_first : (refusal : Refusal) → a ≡ failure_told sides.First refusal → after ≡ before → RefusesOne asked.leaving file refusal → Compared asked file other from before after a
   told_first (refusals.Fault f) e left w = first_refused f e w left
   told_first refusals.Memory e left w = no_memory e left
   told_first refusals.StoreFailed e left w = absurd w
@@ -90,7 +90,7 @@ module _ (asked : Asked) (file other : List ℕ) (from : ℕ) (before after : Li
   told_first refusals.WriteFailed e left w = absurd w
   told_first refusals.NoSuchTrack e left w = absurd w
 
-  told_second : (refusal : Refusal) → a ≡ failure_told sides.Second refusal → after ≡ before → RefusesOne other refusal → Compared asked file other from before after a
+  told_second : (refusal : Refusal) → a ≡ failure_told sides.Second refusal → after ≡ before → RefusesOne asked.leaving other refusal → Compared asked file other from before after a
   told_second (refusals.Fault f) e left w = second_refused f e w left
   told_second refusals.Memory e left w = no_memory e left
   told_second refusals.StoreFailed e left w = absurd w
@@ -106,11 +106,11 @@ module _ (asked : Asked) (file other : List ℕ) (from : ℕ) (before after : Li
   told_neither refusals.WriteFailed e left w = no_memory e left
   told_neither refusals.NoSuchTrack e left w = absurd w
 
-  told_side : (side : Side) (f : Failure) → f.side ≡ side → a ≡ failure_told f.side f.refusal → after ≡ before → RefusesTwo file other f → Compared asked file other from before after a
+  told_side : (side : Side) (f : Failure) → f.side ≡ side → a ≡ failure_told f.side f.refusal → after ≡ before → RefusesTwo asked.leaving file other f → Compared asked file other from before after a
   told_side sides.First f is e left why = told_first f.refusal (rw is at e) left (rw is at why)
   told_side sides.Second f is e left why = told_second f.refusal (rw is at e) left (rw is at why)
   told_side sides.Both f is e left why = absurd (rw is at why)
   told_side sides.Neither f is e left why = told_neither f.refusal (rw is at e) left (rw is at why)
 
-  pub told_err : (f : Failure) → a ≡ failure_told f.side f.refusal → after ≡ before → RefusesTwo file other f → Compared asked file other from before after a
+  pub told_err : (f : Failure) → a ≡ failure_told f.side f.refusal → after ≡ before → RefusesTwo asked.leaving file other f → Compared asked file other from before after a
   told_err f e left why = told_side f.side f refl e left why

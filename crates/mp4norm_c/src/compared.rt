@@ -30,7 +30,7 @@ fn compared<L: Ledger, M: Ledger>(
     ensures same { IfOk result (λ same. same ≡ true → Took text.old text.new (same_text asked)) }
     ensures differ { IfOk result (λ same. same ≡ false → PutsSuch (Took text.old text.new)
         (IsTold asked.listing asked.leaving file.now other.now)) }
-    ensures refusal { IfErr result (RefusesTwo file.now other.now) }
+    ensures refusal { IfErr result (RefusesTwo asked.leaving file.now other.now) }
 {
     let mut left = MemStore::new(file);
     let mut right = MemStore::new(other);

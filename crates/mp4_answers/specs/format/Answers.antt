@@ -6,10 +6,10 @@ use Rattle.mp4_boxes.specs.declared.refusal.Refusal.{Refusal}
 use Rattle.mp4_boxes.specs.declared.rule.Rule.TheVariants.{File}
 use Rattle.mp4_present.specs.format.Judge.{judge}
 use Rattle.mp4_content.specs.declared.without.Without.{Without}
-use Rattle.mp4_content.specs.format.ReducedTimes.{ReducedFaultStands}
 use Rattle.mp4_answers.specs.format.Run.{Run, Honest, Answered, NeverChanged, PutsAtOnce, PutsNothing}
 use Rattle.mp4_answers.specs.format.Headline.{HasNormalForm}
-use Rattle.mp4_answers.specs.format.ReducedHeadline.{HasReducedForm, PassesLimits}
+use Rattle.mp4_answers.specs.format.ReducedHeadline.{HasReducedForm, LeftFaultStands, PassesLimits}
+use Rattle.mp4_answers.specs.format.Told.{IsFaultTold}
 use Rattle.mp4_answers.specs.format.FileTexts.{ShowsLine, ListsSamples, HasData, LacksTrack, PrintsText}
 use Rattle.mp4_answers.specs.format.BoxWalk.{under, FaultSeen}
 use Rattle.mp4_answers.specs.format.Strips.{IsStripped, Halts}
@@ -37,7 +37,7 @@ Judged r result = Answered r (λ text. (text ≡ []) × (form : List ℕ) × Has
 -- `normalise --without`: the normal form of what is left; nothing, where that has none
 abbrev pub ReducedTo : {A : Type 0} → Without → Run → Result A Refusal → Type 0
 ReducedTo l r result = Answered r (HasReducedForm l r.file)
-    (λ f. IsFaultOf r.file f ⊎ ReducedFaultStands l r.file f) ⊥ result
+    (λ f. IsFaultTold l r.file f ⊎ LeftFaultStands l r.file f) ⊥ result
     × (Honest r → PassesLimits l r.file → PutsNothing r)
 
 -- `show`: one line
@@ -74,7 +74,7 @@ StrippedOf names r result = Answered r (IsStripped names r.file)
 
 -- `print`: the text of what is left
 abbrev pub Printed : {A : Type 0} → Without → Run → Result A Refusal → Type 0
-Printed l r result = Answered r (PrintsText l r.file) (IsFaultOf r.file) ⊥ result
+Printed l r result = Answered r (PrintsText l r.file) (IsFaultTold l r.file) ⊥ result
 
 -- a job: what its command promises
 abbrev pub Performed : {A : Type 0} → Job → Run → Result A Refusal → Type 0

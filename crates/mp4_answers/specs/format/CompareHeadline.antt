@@ -1,5 +1,5 @@
 -- What comparing two files answers.
-use Rattle.std.specs.Prelude.{◌≡◌, ◌↔◌, ◌≤◌, ℕ, ◌+◌, ◌*◌, max, nat_le, List, [], ◌++◌, length, take, map, flat_map, slice_get, Bool, true, false, if◌then◌else◌, Option, Some, None, Ok}
+use Rattle.std.specs.Prelude.{◌≡◌, ◌↔◌, ◌≤◌, ℕ, ◌+◌, ◌*◌, nat_le, List, [], ◌++◌, length, take, map, flat_map, slice_get, Bool, true, false, if◌then◌else◌, Option, Some, None, Ok}
 use Rattle.mp4_boxes.specs.format.Bytes.{AreBytes}
 use Rattle.mp4_present.specs.format.ByBytes.{OpensWithin}
 use Rattle.mp4_present.specs.format.Denotes.{Denotes}
@@ -7,7 +7,7 @@ use Rattle.mp4_head.specs.format.Head.{Kept}
 use Rattle.mp4_present.specs.format.Presentation.{Track, Presentation, sample_total}
 use Rattle.mp4_present.specs.format.Judge.{judge}
 use Rattle.mp4_content.specs.format.Alignment.{AreAligned, listed}
-use Rattle.mp4_content.specs.format.Remaining.{remaining}
+use Rattle.mp4_content.specs.format.LeadIns.{left_of, told, words_told}
 use Rattle.mp4_content.specs.format.Comparison.{differences}
 use Rattle.mp4_content.specs.declared.aligning.Alignment.{Alignment}
 use Rattle.mp4_content.specs.declared.comparing.differences.Difference.{Difference}
@@ -24,15 +24,15 @@ use Rattle.mp4_answers.specs.format.DifferenceLine.{difference_line}
 use Rattle.mp4_answers.specs.format.DifferenceObject.{difference_object, last_object}
 use Rattle.mp4_answers.specs.format.Headline.{DenotesNothing}
 use Rattle.mp4_answers.specs.format.LastLine.{last_line}
-use Rattle.mp4_answers.specs.format.Steps.{FindsWithin, row_total}
+use Rattle.mp4_answers.specs.format.Steps.{FindsWithin, row_total, walked_each}
 
--- Both files are judged to be a presentation, and the answer is whether the same remains of both.
+-- Both files are judged to be a presentation, and the answer is whether the same is left of both.
 pub record IsVerdict (l : Without) (file other : List ℕ) (same : Bool) : Type 0 where
   pub p : Presentation
   pub q : Presentation
   pub first : judge file ≡ Ok p
   pub second : judge other ≡ Ok q
-  pub is : AreBytes file → AreBytes other → (same ≡ true) ↔ (remaining l p ≡ remaining l q)
+  pub is : AreBytes file → AreBytes other → (same ≡ true) ↔ (left_of l p ≡ left_of l q)
 
 -- ---- what is said of two files that differ
 
@@ -44,22 +44,25 @@ most_counted = 1048576
 abbrev pub descriptions_in : Presentation → List (List Kept)
 descriptions_in p = map (λ (t : Track). t.head.media.descriptions) p.tracks
 
--- these have the word `timing` or the others don't have it, and so with `timescales`
+-- these have the word `timing` or the others don't have it, and so with `timescales`; and
+-- `lead-ins` is among both or neither
 pub record AreTimedAlike (k m : Without) : Type 0 where
   pub timing : k.timing ≡ m.timing
   pub timescales : k.timescales ≡ m.timescales
+  pub lead_ins : k.lead_ins ≡ m.lead_ins
 
--- Words are named that leave out what was asked for, and with which the same remains of both. None
--- of them can be taken away; where the sample descriptions are the same, they are among any others
--- that do it too, and have `timing` and `timescales` where these have them and only there: what
--- `ends`, `origins` and `timescales` hide `timing` may hide too, so there may be such words with it
--- and others without. Or none are named, and there are none.
+-- Words are named that leave out what was asked for, and with which the same is left of both;
+-- `lead-ins` is among them where it was asked for, and only there. None of them can be taken away;
+-- where the sample descriptions are the same, they are among any others that do it too, and have
+-- `timing` and `timescales` where these have them and only there: what `ends`, `origins` and
+-- `timescales` hide `timing` may hide too, so there may be such words with it and others without.
+-- Or none are named, and there are none.
 abbrev pub AreEnough : Without → Presentation → Presentation → Option Without → Type 0
-AreEnough l p q None = (m : Without) → remaining m p ≡ remaining m q → ⊥
-AreEnough l p q (Some m) = Covers l m × (remaining m p ≡ remaining m q)
-    × ((k : Without) → Covers l k → Covers k m → remaining k p ≡ remaining k q → k ≡ m)
+AreEnough l p q None = (m : Without) → left_of m p ≡ left_of m q → ⊥
+AreEnough l p q (Some m) = Covers l m × (m.lead_ins ≡ l.lead_ins) × (left_of m p ≡ left_of m q)
+    × ((k : Without) → Covers l k → Covers k m → left_of k p ≡ left_of k q → k ≡ m)
     × (descriptions_in p ≡ descriptions_in q
-    → (k : Without) → Covers l k → AreTimedAlike k m → remaining k p ≡ remaining k q
+    → (k : Without) → Covers l k → AreTimedAlike k m → left_of k p ≡ left_of k q
     → Covers m k)
 
 -- a difference as a line or as an object
@@ -80,7 +83,8 @@ alignment_in syntaxes.Json a = alignment_object a
 -- Where tracks are aligned, how each two lie beside each other of which not the same samples are
 -- left; else none.
 abbrev pub AreToldAligned : Bool → Without → Presentation → Presentation → List Alignment → Type 0
-AreToldAligned true l p q found = AreAligned l 1 p.tracks q.tracks found
+AreToldAligned true l p q found =
+    AreAligned (words_told l) 1 (told l.lead_ins p).tracks (told l.lead_ins q).tracks found
 AreToldAligned false l p q found = found ≡ []
 
 -- how tracks lie beside each other, the first differences, as many as are asked for, and what is
@@ -90,18 +94,18 @@ listing_text lines found ds enough = flat_map (alignment_in lines.syntax) found
     ++ flat_map (difference_in lines.syntax) (take lines.limit (take most_counted ds))
     ++ last_in lines.syntax (nat_le (length ds) most_counted) (take most_counted ds) enough
 
--- What is said of two presentations of which not the same remains: the first difference; or all of
+-- What is said of two presentations of which not the same is left: the first difference; or all of
 -- them, with the words that make the two the same. Without alignment what is listed are all
 -- `differences`.
 abbrev pub TellsOf : Listing → Without → Presentation → Presentation → List ℕ → Type 0
 TellsOf (listings.First syntax) l p q text = (first : Difference)
-    × (slice_get (differences (remaining l p) (remaining l q)) 0 ≡ Some first)
+    × (slice_get (differences (left_of l p) (left_of l q)) 0 ≡ Some first)
     × (text ≡ difference_in syntax first)
 TellsOf (listings.All lines) l p q text = (found : List Alignment)
     × AreToldAligned lines.aligned l p q found
     × (enough : Option Without) × AreEnough l p q enough
     × (text ≡ listing_text lines found
-    (listed lines.aligned (remaining l p) (remaining l q)) enough)
+    (listed lines.aligned (left_of l p) (left_of l q)) enough)
 
 -- The text tells of what the two files are judged to be.
 pub record IsTold (listing : Listing) (l : Without) (file other text : List ℕ) : Type 0 where
@@ -125,6 +129,10 @@ word_count = length all_words
 abbrev pub scaling_walks : Without → ℕ
 scaling_walks l = if l.timescales then 1 else 0
 
+-- and one where it is left out how tracks begin: to find how long they wait
+abbrev pub telling_walks : Without → ℕ
+telling_walks l = if l.lead_ins then 1 else 0
+
 -- to find what differs
 abbrev pub listing_walks : Without → ℕ
 listing_walks l = 1 + scaling_walks l
@@ -139,18 +147,15 @@ aligned_walks l aligned = if aligned then 2 + scaling_walks l else 0
 abbrev pub trying_walks : ℕ
 trying_walks = 2 * (2 + word_count)
 
--- A file is walked over at most so many times: for the first difference until that is found; for
--- all of them to list what differs, to align tracks, and to find words.
-abbrev pub most_walks : Without → Listing → ℕ
-most_walks l (listings.First syntax) = listing_walks l
-most_walks l (listings.All lines) =
+-- An opened file is walked over at most so many times: for the first difference until that is
+-- found; for all of them to list what differs, to align tracks, and to find words.
+abbrev pub opened_walks : Without → Listing → ℕ
+opened_walks l (listings.First syntax) = listing_walks l
+opened_walks l (listings.All lines) =
     listing_walks l + aligned_walks l lines.aligned + trying_walks
 
--- The steps for each sample and each row, of opening a file and of so many walks over each of its
--- tracks: 3 for opening it and 3 for each walk, and 8 for a single one, since opening takes 7 for a
--- row of the tables.
-abbrev pub walked_each : ℕ → ℕ
-walked_each walks = max 8 (3 * (walks + 1))
+abbrev pub most_walks : Without → Listing → ℕ
+most_walks l listing = telling_walks l + opened_walks l listing
 
 -- The steps over one of two files that are compared: those of opening it, and of so many walks over
 -- each of its tracks. Where it denotes a presentation: so many (`walked_each`) for each sample and

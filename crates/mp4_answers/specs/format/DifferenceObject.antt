@@ -127,7 +127,7 @@ count_members first (kind ∷ more) ds = count_member first kind ds
 -- all words in the order of their bytes
 abbrev pub words_by_name : List Word
 words_by_name = words.Bitrates ∷ words.Edits ∷ words.Ends ∷ words.Flags ∷ words.Groups
-    ∷ words.Ids ∷ words.Labels ∷ words.Metadata ∷ words.Origins ∷ words.Roles
+    ∷ words.Ids ∷ words.Labels ∷ words.LeadIns ∷ words.Metadata ∷ words.Origins ∷ words.Roles
     ∷ words.Times ∷ words.Timescales ∷ words.Timing ∷ []
 
 -- those of some words that are left out

@@ -1,16 +1,20 @@
 -- Laws of what the commands answer, taken together.
-use Rattle.std.specs.Prelude.{◌≡◌, ◌↔◌, ℕ, List, Bool, true}
+use Rattle.std.specs.Prelude.{◌≡◌, ◌↔◌, ◌⊎◌, ℕ, List, Bool, true, false, Ok}
 use Rattle.mp4_boxes.specs.format.Bytes.{AreBytes}
 use Rattle.mp4_boxes.specs.declared.fault.Fault.{Fault}
-use Rattle.mp4_present.specs.format.Presentation.{Presentation}
+use Rattle.mp4_present.specs.format.Judge.{judge}
+use Rattle.mp4_present.specs.format.Presentation.{IsWithinLimits, Presentation}
 use Rattle.mp4_present.specs.format.Denotes.{Denotes}
 use Rattle.mp4_present.specs.format.Stands.{Stands}
 use Rattle.mp4_content.specs.declared.without.Without.{Without}
 use Rattle.mp4_content.specs.format.CoveringLaws.{Covers}
+use Rattle.mp4_content.specs.format.LeadIns.{told}
+use Rattle.mp4_content.specs.format.LeadInsLaws.{KeepsBeginnings}
 use Rattle.mp4_answers.specs.declared.jobs.Form.{Form}
 use Rattle.mp4_answers.specs.format.CompareHeadline.{IsVerdict}
 use Rattle.mp4_answers.specs.format.Headline.{HasNormalForm}
-use Rattle.mp4_answers.specs.format.ReducedHeadline.{HasReducedForm}
+use Rattle.mp4_answers.specs.format.ReducedHeadline.{HasReducedForm, LeftFaultStands}
+use Rattle.mp4_answers.specs.format.Told.{IsLeftInLimits, judge_told}
 use Rattle.mp4_answers.specs.format.FileTexts.{ShowsLine, ListsSamples, HasData}
 
 -- Two files are told the same, without some things, exactly if the normal forms of what is left of
@@ -21,11 +25,12 @@ SameIsSameBytes = (l : Without) (file other text other_text : List ℕ) (same : 
     → HasReducedForm l file text → HasReducedForm l other other_text
     → (same ≡ true) ↔ (text ≡ other_text)
 
--- Files that are told the same without some things are told the same without more.
+-- Files that are told the same without some things are told the same without more: if `lead-ins` is
+-- not among the more alone, or what is left says how tracks begin.
 abbrev pub SameStaysSame : Type 0
 SameStaysSame = (l m : Without) (file other : List ℕ) (more : Bool) → AreBytes file
-    → AreBytes other → Covers l m → IsVerdict l file other true → IsVerdict m file other more
-    → more ≡ true
+    → AreBytes other → Covers l m → (l.lead_ins ≡ m.lead_ins) ⊎ KeepsBeginnings l.lead_ins l
+    → IsVerdict l file other true → IsVerdict m file other more → more ≡ true
 
 -- The normal form of a file denotes what the file denotes, and nothing else.
 abbrev pub NormalFormDenotesTheSame : Type 0
@@ -51,3 +56,28 @@ NormalFormHasTheSameData = (file text : List ℕ) → AreBytes file → HasNorma
 -- needs no law: both say what `judge` says.)
 abbrev pub AcceptedHasNoFault : Type 0
 AcceptedHasNoFault = (file text : List ℕ) (f : Fault) → HasNormalForm file text → Stands file f → ⊥
+
+-- Where a fault is named of what is left of a file, that has no normal form.
+abbrev pub LeftFaultRefuses : Type 0
+LeftFaultRefuses = (l : Without) (file : List ℕ) (f : Fault) (p : Presentation)
+    → LeftFaultStands l file f → judge file ≡ Ok p → IsLeftInLimits l p → ⊥
+
+-- Where it has none, and told how long its tracks wait the file is within the limits, one such
+-- fault is named, and no other.
+abbrev pub LeftFaultIsOne : Type 0
+LeftFaultIsOne = (l : Without) (file : List ℕ) (p : Presentation) → judge file ≡ Ok p
+    → IsWithinLimits (told l.lead_ins p) → (IsLeftInLimits l p → ⊥)
+    → (f : Fault) × LeftFaultStands l file f
+    × ((g : Fault) → LeftFaultStands l file g → g ≡ f)
+
+-- ---- told how long tracks wait
+
+-- A file that isn't told is judged as it is.
+abbrev pub UntoldIsJudged : Type 0
+UntoldIsJudged = (file : List ℕ) → judge_told false file ≡ judge file
+
+-- One that is, is judged to be what it shows then, if that is within the limits: so a fault is its
+-- own, or that of a limit that it passes so.
+abbrev pub ToldIsJudged : Type 0
+ToldIsJudged = (b : Bool) (file : List ℕ) (p : Presentation) → judge file ≡ Ok p
+    → IsWithinLimits (told b p) → judge_told b file ≡ Ok (told b p)

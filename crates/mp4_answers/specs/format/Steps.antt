@@ -1,7 +1,7 @@
 -- How many steps and looks a whole run may take. A step is a row, a `traf`, a run or a sample that
 -- a check or a cursor passes. A look passes none of these: it finds the track of a `traf` by its
 -- ID, or is a turn.
-use Rattle.std.specs.Prelude.{ℕ, ◌+◌, ◌*◌, ◌≤◌, ◌||◌, ◌&&◌, max, not, if◌then◌else◌, List, length, Result, Ok, Err}
+use Rattle.std.specs.Prelude.{ℕ, ◌+◌, ◌*◌, ◌/◌, ◌≤◌, ◌||◌, ◌&&◌, max, not, if◌then◌else◌, List, length, Result, Ok, Err}
 use Rattle.mp4_boxes.specs.format.Bytes.{sum_of}
 use Rattle.mp4_boxes.specs.declared.refusal.Refusal.{Refusal}
 use Rattle.mp4_boxes.specs.declared.refusal.Refusal.TheVariants as refusals
@@ -22,26 +22,31 @@ abbrev pub row_total : FileTree → ℕ
 row_total tree = sum_of (λ (t : TrackTree). table_rows (tables_of t.table)) tree.movie.tracks
     + sum_of (λ (f : FragmentTree). fragment_rows (fragment_of f)) tree.fragments
 
--- The steps for each sample and each row where this is left out. Where it is ends, origins or
--- timescales, each track is walked over once more: what remains of all its samples has to be known
--- first. Where it is timescales it is once more before that, to find by what times are divided.
-abbrev pub steps_each : Without → ℕ
-steps_each l = 12 + (if l.timescales then 3 else 0)
-    + (if (l.ends || l.origins || l.timescales) && not l.timing then 3 else 0)
+-- One walk more where timescales are left out, to find by what times are divided; and one where it
+-- is left out how tracks begin, to find how long they wait.
+abbrev pub more_walks : Without → ℕ
+more_walks l = (if l.lead_ins then 1 else 0) + (if l.timescales then 1 else 0)
 
--- The steps taken over a file to write the normal form of what remains of it. Where it denotes a
--- presentation: 12, 15 or 18 for each sample and each row, however many tracks there are. Where it
--- denotes nothing: by its bytes.
+-- The steps for each sample and each row where this is left out. Where it is ends, timescales or
+-- where tracks begin, each track is walked over once more: what remains of all its samples has to
+-- be known first.
+abbrev pub steps_each : Without → ℕ
+steps_each l = 12 + 3 * more_walks l
+    + (if (l.ends || l.origins || l.lead_ins || l.timescales) && not l.timing then 3 else 0)
+
+-- The steps taken over a file to write the normal form of what is left of it. Where it denotes a
+-- presentation: 12, 15, 18 or 21 for each sample and each row, however many tracks there are. Where
+-- it denotes nothing: by its bytes.
 pub record WorksWithin (l : Without) (file : List ℕ) (old new : ℕ) : Type 0 where
   pub few : (p : Presentation) → (d : Denotes file p)
       → new ≤ old + steps_each l * (sample_total p + row_total d.tree)
   pub refused : DenotesNothing file → OpensWithin file old new
 
 -- A law of it: by the tracks, of which one is counted where there is none, 8 times one more than
--- they are, for each sample and each row; 9 times where timescales are left out.
+-- they are, for each sample and each row; 9 times with one walk more, and 11 times with two.
 abbrev pub StepsByTracks : Type 0
 StepsByTracks = (l : Without) (file : List ℕ) (old new : ℕ) → WorksWithin l file old new
-    → (p : Presentation) (d : Denotes file p) → new ≤ old + (if l.timescales then 9 else 8)
+    → (p : Presentation) (d : Denotes file p) → new ≤ old + (16 + 3 * more_walks l) / 2
     * ((max 1 (length p.tracks) + 1) * (sample_total p + row_total d.tree))
 
 -- The steps of looking at a file, and of a walk over one of its tracks: 8 for each sample and each
@@ -51,11 +56,17 @@ pub record WalksWithin (file : List ℕ) (old new : ℕ) : Type 0 where
       → new ≤ old + 8 * (sample_total p + row_total d.tree)
   pub refused : DenotesNothing file → OpensWithin file old new
 
--- The steps of looking at a file, and of printing what remains of it: as many, or 9 for each sample
--- and each row where timescales are left out, since each track is walked over once more.
+-- The steps for each sample and each row, of opening a file and of so many walks over each of its
+-- tracks: 3 for opening it and 3 for each walk, and 8 for a single one, since opening takes 7 for a
+-- row of the tables.
+abbrev pub walked_each : ℕ → ℕ
+walked_each walks = max 8 (3 * (walks + 1))
+
+-- The steps of looking at a file, and of printing what is left of it: those of one walk, and of
+-- more.
 pub record PrintsWithin (l : Without) (file : List ℕ) (old new : ℕ) : Type 0 where
   pub denoted : (p : Presentation) → (d : Denotes file p)
-      → new ≤ old + (if l.timescales then 9 else 8) * (sample_total p + row_total d.tree)
+      → new ≤ old + walked_each (1 + more_walks l) * (sample_total p + row_total d.tree)
   pub refused : DenotesNothing file → OpensWithin file old new
 
 -- where it denotes a presentation, at least one for each of its samples, and one for each row

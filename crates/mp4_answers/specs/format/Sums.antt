@@ -4,9 +4,8 @@ use Rattle.sha2.specs.Sha256.{sha256}
 use Rattle.mp4_boxes.specs.declared.refusal.Refusal.{Refusal}
 use Rattle.mp4_boxes.specs.declared.refusal.Refusal.TheVariants as refusals
 use Rattle.mp4_content.specs.declared.without.Without.{Without}
-use Rattle.mp4_content.specs.format.ReducedTimes.{ReducedFaultStands}
-use Rattle.mp4_answers.specs.format.Answers.{IsFaultOf}
-use Rattle.mp4_answers.specs.format.ReducedHeadline.{HasReducedForm}
+use Rattle.mp4_answers.specs.format.ReducedHeadline.{HasReducedForm, LeftFaultStands}
+use Rattle.mp4_answers.specs.format.Told.{IsFaultTold}
 use Rattle.mp4_answers.specs.format.Run.{Run, Honest, NothingFailed, ReadFailed, Answered}
 
 -- the digest under SHA-256 of the normal form of what is left of the file
@@ -16,7 +15,7 @@ HasSum l file digest = (bytes : List ℕ) × HasReducedForm l file bytes × (dig
 -- `sum`: that digest; nothing is put, and it is refused where `normalise --without` is
 abbrev pub Summed : Without → Run → Result (List ℕ) Refusal → Type 0
 Summed l r result = Answered r (λ text. text ≡ [])
-    (λ f. IsFaultOf r.file f ⊎ ReducedFaultStands l r.file f) ⊥ result
+    (λ f. IsFaultTold l r.file f ⊎ LeftFaultStands l r.file f) ⊥ result
     × IfOk result (λ digest. Honest r → HasSum l r.file digest)
 
 -- the digest of the bytes of a file, whatever they are: it is refused only where a read failed, or

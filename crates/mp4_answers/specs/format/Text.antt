@@ -7,7 +7,7 @@ use Rattle.sha2.specs.Sha256.{sha256}
 use Rattle.mp4_tables.specs.format.Groups.{GroupKey}
 use Rattle.mp4_head.specs.format.Head.{Edit, Kept, Media, TrackHead, MovieHead}
 use Rattle.mp4_present.specs.format.Presentation.{Sample, Track, Presentation}
-use Rattle.mp4_content.specs.format.Remaining.{remaining}
+use Rattle.mp4_content.specs.format.LeadIns.{left_of}
 use Rattle.mp4_content.specs.declared.without.Without.{Without}
 use Rattle.mp4_answers.specs.format.Texts.{hex_digits, hex_text, space, line_feed}
 use Rattle.mp4_answers.specs.format.LastLine.{leaving_text}
@@ -143,6 +143,6 @@ front_lines l = codes "MP4 presentation, form 1\nwithout:" ++ or_nothing (leavin
 abbrev pub text_of : Presentation → List ℕ
 text_of p = movie_lines p.movie ++ flat_map track_text p.tracks ++ codes "end\n"
 
--- what remains of a presentation, as text
+-- what is left of a presentation, as text
 abbrev pub text : Without → Presentation → List ℕ
-text l p = front_lines l ++ text_of (remaining l p)
+text l p = front_lines l ++ text_of (left_of l p)

@@ -2,14 +2,14 @@
 use Rattle.std.specs.Prelude.{◌≡◌, ◌⊎◌, ℕ, List, ◌∷◌, ◌++◌, map, flat_map, Contains}
 use Rattle.sha2.specs.Sha256.{sha256}
 use Rattle.mp4_head.specs.format.Head.{Kept, Media, TrackHead}
-use Rattle.mp4_present.specs.format.Presentation.{Sample, Track, Presentation, Valid}
-use Rattle.mp4_content.specs.format.Remaining.{remaining}
+use Rattle.mp4_present.specs.format.Presentation.{IsWithinLimits, Sample, Track, Presentation, Valid}
+use Rattle.mp4_content.specs.format.LeadIns.{left_of, told}
 use Rattle.mp4_content.specs.declared.without.Without.{Without}
 use Rattle.mp4_answers.specs.format.Text.{text}
 
--- Where the same remains of two presentations, they have the same text.
+-- Where the same is left of two presentations, they have the same text.
 abbrev pub SameIsSameText : Type 0
-SameIsSameText = (l : Without) (p q : Presentation) → remaining l p ≡ remaining l q
+SameIsSameText = (l : Without) (p q : Presentation) → left_of l p ≡ left_of l q
     → text l p ≡ text l q
 
 -- What a text may have digests of: the payloads that it names, and the bytes of each sample.
@@ -38,10 +38,12 @@ pub record Collision (these those : List (List ℕ)) : Type 0 where
   pub unequal : first ≡ second → ⊥
   pub same : sha256 first ≡ sha256 second
 
--- Where two valid presentations have the same text, the same remains of them, or a payload or
--- sample that remains of the one, and one of other bytes that remains of the other, have one
--- SHA-256.
+-- Where two valid presentations have the same text, the same is left of them, or a payload or
+-- sample that is left of the one, and one of other bytes that is left of the other, have one
+-- SHA-256. (Both are within the limits as they are told how long their tracks wait: else neither
+-- has a text.)
 abbrev pub TextsTell : Type 0
-TextsTell = (l : Without) (p q : Presentation) → Valid p → Valid q → text l p ≡ text l q
-    → (remaining l p ≡ remaining l q)
-    ⊎ Collision (digested (remaining l p)) (digested (remaining l q))
+TextsTell = (l : Without) (p q : Presentation) → Valid p → Valid q
+    → IsWithinLimits (told l.lead_ins p) → IsWithinLimits (told l.lead_ins q)
+    → text l p ≡ text l q
+    → (left_of l p ≡ left_of l q) ⊎ Collision (digested (left_of l p)) (digested (left_of l q))

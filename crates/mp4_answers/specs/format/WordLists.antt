@@ -25,9 +25,21 @@ packaging = words.Times ∷ words.Edits ∷ words.Flags ∷ words.Groups ∷ wor
 abbrev pub media : List Word
 media = packaging ++ words.Labels ∷ words.Timing ∷ []
 
+-- those that don't change how sound and pictures keep step
+abbrev pub packaging_2 : List Word
+packaging_2 = words.Times ∷ words.Flags ∷ words.Groups ∷ words.Metadata ∷ words.Bitrates
+    ∷ words.Ends ∷ words.Roles ∷ words.Ids ∷ words.Timescales ∷ words.LeadIns ∷ []
+
+abbrev pub media_2 : List Word
+media_2 = words.Times ∷ words.Flags ∷ words.Groups ∷ words.Metadata ∷ words.Bitrates
+    ∷ words.Ends ∷ words.Labels ∷ words.Roles ∷ words.Ids ∷ words.Timescales
+    ∷ words.LeadIns ∷ []
+
 abbrev pub set_named : List ℕ → Option (List Word)
 set_named name = if bytes_eq name (codes "packaging-1") then Some packaging
-    else if bytes_eq name (codes "media-1") then Some media else None
+    else if bytes_eq name (codes "media-1") then Some media
+    else if bytes_eq name (codes "packaging-2") then Some packaging_2
+    else if bytes_eq name (codes "media-2") then Some media_2 else None
 
 -- what some words leave out
 abbrev pub is_listed : List Word → Word → Bool

@@ -1,10 +1,10 @@
 -- What there is to say of two files that are compared, and why they are not. `Took` says of bytes
 -- that they were put, the numbers are counts of failed reads and of failed puts.
-use Rattle.std.specs.Prelude.{◌≡◌, ◌⊎◌, ◌+◌, ◌*◌, ◌<◌, ◌≤◌, ℕ, List, [], ◌∷◌, ◌++◌, length, take, flat_map, slice_get, Option, None, Some, Bool, true, false, IsTrue}
+use Rattle.std.specs.Prelude.{◌≡◌, ◌⊎◌, ◌+◌, ◌*◌, ◌<◌, ◌≤◌, ℕ, List, [], ◌∷◌, ◌++◌, length, take, flat_map, slice_get, Option, None, Some, option_map, Bool, true, false, if◌then◌else◌, IsTrue}
 use Rattle.mp4_store.specs.words.Device.{HasRisen, TakesPrefix}
 use Rattle.mp4_boxes.specs.declared.refusal.Refusal.{Refusal}
 use Rattle.mp4_boxes.specs.declared.refusal.Refusal.TheVariants as refusals
-use Rattle.mp4_content.specs.format.Alignment.{listed}
+use Rattle.mp4_content.specs.format.Alignment.{AreAligned, listed}
 use Rattle.mp4_content.specs.format.Comparison.{differences}
 use Rattle.mp4_content.specs.format.Remaining.{remaining}
 use Rattle.mp4_present.specs.format.Denotes.{FileTree}
@@ -15,7 +15,7 @@ use Rattle.mp4_content.specs.declared.comparing.differences.Difference.{Differen
 use Rattle.mp4_content.specs.declared.without.Word.{Word}
 use Rattle.mp4_content.specs.declared.without.Without.{Without}
 use Rattle.mp4_content.specs.format.CoveringLaws.{Covers}
-use Rattle.mp4_answers.specs.format.CompareHeadline.{AreToldAligned, alignment_in, difference_in, last_in, listing_text, most_counted}
+use Rattle.mp4_answers.specs.format.CompareHeadline.{alignment_in, difference_in, last_in, listing_text, most_counted}
 use Rattle.mp4_answers.specs.format.DifferenceObject.{last_object}
 use Rattle.mp4_answers.specs.words.SingleWords.{everything, less_word, single_words}
 use Rattle.mp4_answers.specs.declared.commands.compare.Lines.{Lines}
@@ -88,23 +88,36 @@ IsEnough given differ None = AreSome given differ None
 IsEnough given differ (Some least) = (l : Without) × AreSome given differ (Some l)
     × IsShrunk single_words given differ l least
 
--- what is said where something differs
-abbrev pub IsSaidOf : Listing → Without → Presentation → Presentation → List ℕ → Type 0
-IsSaidOf (listings.First syntax) l p q text = (first : Difference)
+-- where tracks are aligned, how each two lie beside each other of which not the same samples remain
+abbrev pub AreBeside : Bool → Without → Presentation → Presentation → List Alignment → Type 0
+AreBeside true l p q found = AreAligned l 1 p.tracks q.tracks found
+AreBeside false l p q found = found ≡ []
+
+-- Words that leave the same of movies that may be told how long their tracks wait, as they are
+-- asked for: origins go with how tracks begin.
+abbrev pub as_asked : Without → Without → Without
+as_asked asked l = record l {
+  origins = if asked.lead_ins then asked.origins else l.origins;
+  lead_ins = asked.lead_ins;
+}
+
+-- what is said where something differs, of words that are asked for as the first say
+abbrev pub IsSaidOf : Listing → Without → Without → Presentation → Presentation → List ℕ → Type 0
+IsSaidOf (listings.First syntax) asked l p q text = (first : Difference)
     × (slice_get (differences (remaining l p) (remaining l q)) 0 ≡ Some first)
     × (text ≡ difference_in syntax first)
-IsSaidOf (listings.All lines) l p q text = (found : List Alignment)
-    × AreToldAligned lines.aligned l p q found
+IsSaidOf (listings.All lines) asked l p q text = (found : List Alignment)
+    × AreBeside lines.aligned l p q found
     × (enough : Option Without)
     × IsEnough l (λ m. differences (remaining m p) (remaining m q)) enough
     × (text ≡ listing_text lines found
-    (listed lines.aligned (remaining l p) (remaining l q)) enough)
+    (listed lines.aligned (remaining l p) (remaining l q)) (option_map (as_asked asked) enough))
 
 -- the same of what was found
-abbrev pub IsFoundOf : {A : Type 0} → (A → List ℕ) → Listing → Without → Presentation
+abbrev pub IsFoundOf : {A : Type 0} → (A → List ℕ) → Listing → Without → Without → Presentation
     → Presentation → Option A → Type 0
-IsFoundOf bytes listing l p q None = Unit {0}
-IsFoundOf bytes listing l p q (Some text) = IsSaidOf listing l p q (bytes text)
+IsFoundOf bytes listing asked l p q None = Unit {0}
+IsFoundOf bytes listing asked l p q (Some text) = IsSaidOf listing asked l p q (bytes text)
 
 abbrev pub says_nothing : {A : Type 0} → Option A → Bool
 says_nothing None = true

@@ -14,7 +14,7 @@ everything = each (λ word. true)
 abbrev pub single_words : List Word
 single_words = words.Times ∷ words.Edits ∷ words.Flags ∷ words.Groups ∷ words.Metadata
     ∷ words.Bitrates ∷ words.Labels ∷ words.Timing ∷ words.Ends ∷ words.Origins
-    ∷ words.Roles ∷ words.Ids ∷ words.Timescales ∷ []
+    ∷ words.Roles ∷ words.Ids ∷ words.Timescales ∷ words.LeadIns ∷ []
 
 -- what is left out without one of the words, unless that one was given
 abbrev pub less_word : Without → Without → Word → Without

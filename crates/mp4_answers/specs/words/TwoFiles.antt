@@ -8,11 +8,11 @@ use Rattle.mp4_present.specs.format.Presentation.{Presentation}
 use Rattle.mp4_content.specs.words.Compared.{files_differ, WhereOpenedBoth}
 use Rattle.mp4_content.specs.words.Differing.{RefusedBoth, RefusesSample}
 use Rattle.mp4_present.specs.words.Movies.{MovieSeen}
-use Rattle.mp4_present.specs.words.Opening.{RefusesOpen}
 use Rattle.mp4_present.specs.words.StoresRead.{OnlyReads}
 use Rattle.mp4_content.specs.declared.comparing.differences.Difference.{Difference}
 use Rattle.mp4_content.specs.declared.without.Without.{Without}
 use Rattle.mp4_answers.specs.declared.commands.compare.Failure.{Failure}
+use Rattle.mp4_answers.specs.words.OpenedTold.{RefusesTold}
 use Rattle.mp4_answers.specs.words.Compares.{PutsAnswer, RefusesBoth, RefusesCompare}
 use Rattle.mp4_answers.specs.words.StoreAndSink.{NoPutFails}
 
@@ -34,11 +34,11 @@ OfDenoted S a m T b n P = WhereOpenedBoth S a m T b n
     (λ tree other. P (presentation_of (S.file a) tree) (presentation_of (T.file b) other))
 
 -- why two files are not compared, and for which of them
-abbrev pub FailsCompare : {X Y Z R : Type 0} → Store X → X → X → Store Y → Y → Y
+abbrev pub FailsCompare : {X Y Z R : Type 0} → Bool → Store X → X → X → Store Y → Y → Y
     → Sink Z → Z → Z → Result R Failure → Type 0
-FailsCompare S a a_after T b b_after K sink sink_after result = IfErr result (RefusesCompare
-    (RefusesOpen (S.is_honest a) (S.file a) (S.read_failures a) (S.read_failures a_after))
-    (RefusesOpen (T.is_honest b) (T.file b) (T.read_failures b) (T.read_failures b_after))
+FailsCompare tells S a a_after T b b_after K sink sink_after result = IfErr result (RefusesCompare
+    (RefusesTold tells (S.is_honest a) (S.file a) (S.read_failures a) (S.read_failures a_after))
+    (RefusesTold tells (T.is_honest b) (T.file b) (T.read_failures b) (T.read_failures b_after))
     (RefusesBoth (S.is_honest a) (T.is_honest b) (S.read_failures a) (S.read_failures a_after)
     (T.read_failures b) (T.read_failures b_after))
     (K.takes sink sink_after) (K.put_failures sink) (K.put_failures sink_after))
@@ -61,4 +61,4 @@ pub record ComparesBoth {X Y Z : Type 0} (S : Store X) (a a_after : X) (T : Stor
   pub right : OnlyReads T b b_after result
   pub puts : NoPutFails K to to_after result
   pub put : IfOk result (PutsAnswer l silent (K.takes to to_after))
-  pub refusal : FailsCompare S a a_after T b b_after K to to_after result
+  pub refusal : FailsCompare l.lead_ins S a a_after T b b_after K to to_after result

@@ -2,6 +2,7 @@
 use Rattle.std.specs.Prelude.{ℕ, List}
 use Rattle.mp4_present.specs.words.Movies.{MovieSeen}
 use Rattle.mp4_content.specs.declared.without.Without.{Without}
+use Rattle.mp4_content.specs.format.LeadIns.{words_told}
 use Rattle.mp4_content.specs.format.ReducedLaws.{nothing}
 use Rattle.mp4_plan.specs.words.PutPieces.{IsHeadLeft, IsPutWhole}
 use Rattle.mp4_answers.specs.declared.jobs.Job.{Job}
@@ -12,7 +13,7 @@ use Rattle.mp4_answers.specs.declared.jobs.Job.TheVariants as jobs
 pub record PutsWhole (l : Without) (Took : List ℕ → Type 0) : Type 0 where
   pub movie : MovieSeen
   pub head : List ℕ
-  pub left : IsHeadLeft movie l head
+  pub left : IsHeadLeft movie (words_told l) head
   pub whole : IsPutWhole movie Took head
 
 -- of the jobs that write a normal form

@@ -9,6 +9,7 @@ ghost use Rattle.mp4_answers.specs.format.ReducedHeadline.{HasReducedForm};
 ghost use Rattle.mp4_answers.specs.format.Run.{look_of};
 ghost use Rattle.mp4_present.specs.words.StoresRead.{OnlyReads, WhereRead};
 
+use crate::commands::opening::open_told;
 use crate::commands::tracks::track_with;
 use crate::jobs::Job;
 use mp4_boxes::{Refusal, Steps};
@@ -64,8 +65,9 @@ fn form_left_len<S: Store, L: Ledger, M: Ledger>(
     ensures refusal { IfErr result
         (RefusesJob (jobs.Reduce leaving) (look_of S.Store store.old store.new)) }
 {
-    let movie = open_movie(alloc, store, steps)?;
-    reduced_len(alloc, &movie, store, leaving, steps)
+    let movie = open_told(alloc, store, leaving, steps)?;
+    let words = leaving.when_told();
+    reduced_len(alloc, &movie, store, words, steps)
 }
 
 /// How many bytes a job puts, of those that copy samples or boxes; 0 of the others, whose text is

@@ -1,10 +1,10 @@
 //! Two files, compared by what they say.
-ghost use Rattle.std.specs.Prelude.{◌≡◌, ◌&&◌, not, ◌*◌, ◌<◌, ◌≤◌, [], ◌∷◌, length, take, Some, true, false, IfOk, IfErr, IfSome, OnOk};
+ghost use Rattle.std.specs.Prelude.{◌≡◌, ◌&&◌, not, ◌*◌, ◌<◌, ◌≤◌, [], ◌∷◌, length, option_map, take, Some, true, false, IfOk, IfErr, IfSome, OnOk};
 ghost use Rattle.mp4_answers.specs.declared.commands.compare.Listing.TheVariants.{All};
 ghost use Rattle.mp4_answers.specs.format.Steps.{TakesEachOfBoth};
-ghost use Rattle.mp4_answers.specs.format.CompareHeadline.{AreToldAligned, IsVerdict, IsTold, aligned_walks, difference_in, listing_walks, PutsSuch, ComparesWithin, FindsBothWithin, most_walks, trying_walks};
+ghost use Rattle.mp4_answers.specs.format.CompareHeadline.{IsVerdict, IsTold, aligned_walks, difference_in, listing_walks, opened_walks, PutsSuch, ComparesWithin, FindsBothWithin, trying_walks};
 ghost use Rattle.mp4_answers.specs.format.DifferenceObject.{last_object};
-ghost use Rattle.mp4_answers.specs.words.Compares.{side_of, says_nothing, is_silent, AddsAligned, AddsLines, AddsLast, IsCounted, AreSome, IsEnough, IsTried, IsShrunk, IsSameWith, IsFoundOf, IsSaid, ListsFront, PutsAnswer, PutsFound, PutsSame, WalksTimes, RefusesAnswer};
+ghost use Rattle.mp4_answers.specs.words.Compares.{AreBeside, as_asked, side_of, says_nothing, is_silent, AddsAligned, AddsLines, AddsLast, IsCounted, AreSome, IsEnough, IsTried, IsShrunk, IsSameWith, IsFoundOf, IsSaid, ListsFront, PutsAnswer, PutsFound, PutsSame, WalksTimes, RefusesAnswer};
 ghost use Rattle.mp4_present.specs.words.StoresRead.{IsUnchanged, WhereBothHonest};
 ghost use Rattle.mp4_answers.specs.words.StoreAndSink.{NoPutFails};
 ghost use Rattle.mp4_content.specs.format.Words.{has};
@@ -12,17 +12,17 @@ ghost use Rattle.mp4_content.specs.words.Compared.{OfListed, WhereOpenedBoth};
 ghost use Rattle.mp4_answers.specs.words.TwoFiles.{ComparesBoth, OfBoth, OfDenoted, ReadsBoth};
 
 use crate::commands::guesses::guess;
+use crate::commands::opening::open_told;
 use crate::jobs::Syntax;
 use crate::text::aligned_lines::{say_alignment, say_alignment_object};
 use crate::text::difference_json::{say_difference_object, say_last_object};
 use crate::text::difference_lines::say_difference;
 use crate::text::tally::say_last;
-use crate::without_words::{TAKEN, everything, less_word};
+use crate::without_words::{TAKEN, as_asked, everything, less_word};
 use mp4_boxes::{Refusal, Steps};
 use mp4_content::{
     Alignment, Difference, Differences, Movies, Without, Word, align, compare, compare_listed,
 };
-use mp4_present::open_movie;
 use mp4_store::{Sink, Store};
 use std::alloc::{AllocError, Global};
 use std::sync::ledger::Ledger;
@@ -67,10 +67,12 @@ pub struct Failure {
     pub refusal: Refusal,
 }
 
-// Two opened files that are compared, and what is left out of both.
+// Two opened files that are compared, what is asked to be left out of both, and what goes of the
+// two movies for that.
 #[derive(Drop)]
 struct Compared {
     movies: Movies,
+    asked: Without,
     given: Without,
 }
 
@@ -324,7 +326,7 @@ fn alignments_of<S: Store, T: Store, L: Ledger, M: Ledger>(
     ensures stores { ReadsBoth S.Store left.old left.new T.Store right.old right.new result }
     ensures found { OfDenoted S.Store left.old files.now.movies.left
         T.Store right.old files.now.movies.right
-        (λ p q. IfOk result (λ found. AreToldAligned aligned files.now.given p q found.items)) }
+        (λ p q. IfOk result (λ found. AreBeside aligned files.now.given p q found.items)) }
     ensures opened { WhereOpenedBoth S.Store left.old files.now.movies.left
         T.Store right.old files.now.movies.right
         (λ tree other. IsUnchanged result
@@ -507,6 +509,16 @@ fn enough_for<S: Store, T: Store, L: Ledger, M: Ledger>(
     Ok(Some(least))
 }
 
+// Words that are enough, as they are asked for.
+fn enough_asked(asked: Without, words: Option<Without>) -> Option<Without>
+    ensures { result ≡ option_map (as_asked asked) words }
+{
+    match words {
+        Some(enough) => Some(as_asked(asked, enough)),
+        None => None,
+    }
+}
+
 // Compares two opened files, and gives the text of all differences; none where there are none.
 fn all_text<S: Store, T: Store, L: Ledger, M: Ledger>(
     alloc: Global,
@@ -525,11 +537,12 @@ fn all_text<S: Store, T: Store, L: Ledger, M: Ledger>(
     ensures told { IfOk result
         (λ text. OfDenoted S.Store left.old files.now.movies.left
         T.Store right.old files.now.movies.right
-        (λ p q. IsFoundOf (λ bytes. bytes.items) (All lines) files.now.given p q text)) }
+        (λ p q. IsFoundOf (λ bytes. bytes.items) (All lines) files.now.asked files.now.given p q
+        text)) }
     ensures opened { WhereOpenedBoth S.Store left.old files.now.movies.left
         T.Store right.old files.now.movies.right
         (λ tree other. IsUnchanged result
-        × WalksTimes (most_walks files.now.given (All lines)) tree other
+        × WalksTimes (opened_walks files.now.given (All lines)) tree other
         steps.old.passed steps.new.passed) }
     ensures grows { OnOk result (steps.old.passed ≤ steps.new.passed) }
     ensures looks { steps.new.looks ≡ steps.old.looks }
@@ -542,7 +555,8 @@ fn all_text<S: Store, T: Store, L: Ledger, M: Ledger>(
     let is_whole = listed.all.len() <= MOST;
     let all = first_of(listed.all.as_slice(), MOST);
     let found = alignments_of(alloc, files, left, right, lines.aligned, steps)?;
-    let enough = enough_for(alloc, files, left, right, all, steps)?;
+    let words = enough_for(alloc, files, left, right, all, steps)?;
+    let enough = enough_asked(files.asked, words);
     Ok(Some(listed_text(alloc, found.as_slice(), all, lines, is_whole, enough)?))
 }
 
@@ -564,11 +578,12 @@ fn text_of<S: Store, T: Store, L: Ledger, M: Ledger>(
     ensures told { IfOk result
         (λ text. OfDenoted S.Store left.old files.now.movies.left
         T.Store right.old files.now.movies.right
-        (λ p q. IsFoundOf (λ bytes. bytes.items) listing files.now.given p q text)) }
+        (λ p q. IsFoundOf (λ bytes. bytes.items) listing files.now.asked files.now.given p q
+        text)) }
     ensures opened { WhereOpenedBoth S.Store left.old files.now.movies.left
         T.Store right.old files.now.movies.right
         (λ tree other. IsUnchanged result
-        × WalksTimes (most_walks files.now.given listing) tree other
+        × WalksTimes (opened_walks files.now.given listing) tree other
         steps.old.passed steps.new.passed) }
     ensures grows { OnOk result (steps.old.passed ≤ steps.new.passed) }
     ensures looks { steps.new.looks ≡ steps.old.looks }
@@ -655,11 +670,11 @@ pub fn compare_files<S: Store, T: Store, K: Sink, L: Ledger, M: Ledger>(
         (λ file other. FindsBothWithin file other steps.old.looks steps.new.looks) }
 {
     let Asked { leaving, listing } = asked;
-    let first = match open_movie(alloc, left, steps) {
+    let first = match open_told(alloc, left, leaving, steps) {
         Ok(first) => first,
         Err(refusal) => return Err(failed(Side::First, refusal)),
     };
-    let second = match open_movie(alloc, right, steps) {
+    let second = match open_told(alloc, right, leaving, steps) {
         Ok(second) => second,
         Err(refusal) => return Err(failed(Side::Second, refusal)),
     };
@@ -668,7 +683,8 @@ pub fn compare_files<S: Store, T: Store, K: Sink, L: Ledger, M: Ledger>(
             left: first,
             right: second,
         },
-        given: leaving,
+        asked: leaving,
+        given: leaving.when_told(),
     };
     let found = match text_of(alloc, &files, left, right, listing, steps) {
         Ok(found) => found,

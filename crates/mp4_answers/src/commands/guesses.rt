@@ -186,6 +186,7 @@ pub(crate) fn guess(leaving: Without, all: &[Difference], tracks: &[TrackInfo]) 
         Word::Roles => has_role,
         Word::Ids => has_id,
         Word::Timescales => asked.timescales,
+        Word::LeadIns => false,
     });
     leaving_both(leaving, needed)
 }

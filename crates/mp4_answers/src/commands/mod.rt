@@ -14,6 +14,7 @@ pub mod guesses;
 pub mod hash_sink;
 pub mod normalise;
 pub mod normalise_reduced;
+pub mod opening;
 pub mod perform;
 pub mod print;
 pub mod sample_messages;

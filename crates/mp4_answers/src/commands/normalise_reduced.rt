@@ -6,10 +6,10 @@ ghost use Rattle.mp4_answers.specs.format.Steps.{WorksWithin, TurnsWithin, Takes
 ghost use Rattle.mp4_answers.specs.words.WholePut.{PutsWhole};
 ghost use Rattle.mp4_present.specs.words.StoresRead.{WhereHonest};
 
+use crate::commands::opening::open_told;
 use mp4_boxes::{Refusal, Steps};
 use mp4_content::Without;
 use mp4_plan::write_reduced;
-use mp4_present::open_movie;
 use mp4_store::{Sink, Store};
 use std::alloc::Global;
 use std::sync::ledger::Ledger;
@@ -35,6 +35,7 @@ pub fn normalise_reduced<S: Store, K: Sink, L: Ledger, M: Ledger>(
     ensures looks { WhereHonest S.Store store.old
         (λ file. TurnsWithin file steps.old.looks steps.new.looks) }
 {
-    let movie = open_movie(alloc, store, steps)?;
-    write_reduced(alloc, &movie, store, sink, leaving, steps)
+    let movie = open_told(alloc, store, leaving, steps)?;
+    let words = leaving.when_told();
+    write_reduced(alloc, &movie, store, sink, words, steps)
 }

@@ -22,6 +22,7 @@ ghost use Rattle.mp4_answers.specs.words.SampleMessages.{told_lines};
 ghost use Rattle.mp4_answers.specs.words.ToldSamples.{RefusesDigest, told_line, told_sample};
 
 use crate::commands::hash_sink::HashSink;
+use crate::commands::opening::open_told;
 use crate::commands::sample_messages::{MOST, NO_SAMPLE, read_front, take_samples};
 use crate::digests::DIGEST;
 use crate::digests::messages::Message;
@@ -33,7 +34,7 @@ use crate::text::tally::say_words;
 use mp4_boxes::{Memory, Refusal, Steps};
 use mp4_content::{Scales, Without, head_left, payloads_left, reduction_of};
 use mp4_head::TrackHead;
-use mp4_present::{Movie, OutBuffer, Stretch, Walk, open_movie};
+use mp4_present::{Movie, OutBuffer, Stretch, Walk};
 use mp4_store::{Sink, Store};
 use mp4_tables::{Keys, SampleAt, Samples};
 use std::alloc::{AllocError, Global};
@@ -513,11 +514,12 @@ pub fn print<S: Store, K: Sink, L: Ledger, M: Ledger>(
     ensures looks { WhereHonest S.Store store.old
         (λ file. FindsWithin file steps.old.looks steps.new.looks) }
 {
-    let movie = open_movie(alloc, store, steps)?;
-    let scales = Scales::of(alloc, &movie, store, leaving, steps)?;
+    let movie = open_told(alloc, store, leaving, steps)?;
+    let words = leaving.when_told();
+    let scales = Scales::of(alloc, &movie, store, words, steps)?;
     let head = movie.head(alloc)?;
-    let own = payloads_left(alloc, leaving, head.tracks.as_slice())?;
-    let left = head_left(alloc, head, leaving, &scales, &own)?;
+    let own = payloads_left(alloc, words, head.tracks.as_slice())?;
+    let left = head_left(alloc, head, words, &scales, &own)?;
     let front = front_lines(alloc, leaving)?;
     let mut walks = walks_of(alloc, &movie)?;
     let mut desk = Desk::new(alloc)?;
@@ -527,7 +529,7 @@ pub fn print<S: Store, K: Sink, L: Ledger, M: Ledger>(
     let of = PrintedMovie {
         movie: &movie,
         heads,
-        leaving,
+        leaving: words,
         scales: &scales,
     };
     put_tracks(of, &mut walks, &mut desk, store, sink, steps)?;

@@ -29,6 +29,7 @@ const BY_NAME: &[Word] = &[
     Word::Groups,
     Word::Ids,
     Word::Labels,
+    Word::LeadIns,
     Word::Metadata,
     Word::Origins,
     Word::Roles,

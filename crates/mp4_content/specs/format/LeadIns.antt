@@ -156,11 +156,19 @@ waited b p = if b then wait_each (delay (first_moments p.movie.timescale p.track
 abbrev pub kept : Bool → Bool → Without → Presentation → Presentation
 kept b c l p = scaled c l (waited b p)
 
+-- what is left of a presentation where this is left out
+abbrev pub left_of : Without → Presentation → Presentation
+left_of l p = kept l.lead_ins l.timescales l p
+
 -- ---- the same by words
 
 -- Origins are left out too.
 abbrev pub with_origins : Bool → Without → Without
 with_origins b l = record l { origins = l.origins || b }
+
+-- what else is left out where this is
+abbrev pub words_told : Without → Without
+words_told l = with_origins l.lead_ins l
 
 -- edits say how long tracks wait, if this is true
 abbrev pub told : Bool → Presentation → Presentation

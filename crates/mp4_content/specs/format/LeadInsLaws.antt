@@ -2,11 +2,12 @@
 -- (`waited`). Whether that counts is a value beside the other words here.
 use Rattle.std.specs.Prelude.{◌≡◌, ◌↔◌, ◌⊎◌, ℕ, ◌+◌, ◌*◌, ◌<◌, ◌≤◌, Bool, false, true, if◌then◌else◌, List, [], ◌∷◌, map, ℤ, pos, ◌+ℤ◌, ◌*ℤ◌}
 use Rattle.std.specs.List.{AllByRecursion, AllZip}
-use Rattle.mp4_present.specs.format.Presentation.{Track, Presentation, Valid, IsInTime, normal_moov_length, max_moov}
-use Rattle.mp4_content.specs.format.LeadIns.{has_samples, says_beginnings, Moment, first_moments, later, delay, delays_of, wait_each, waited, kept, with_origins, told}
+use Rattle.mp4_present.specs.format.Presentation.{Track, Presentation, Valid, IsInTime, IsWithinLimits, normal_moov_length, max_moov}
+use Rattle.mp4_content.specs.format.LeadIns.{has_samples, says_beginnings, Moment, first_moments, later, delay, delays_of, wait_each, waited, kept, left_of, with_origins, words_told, told}
 use Rattle.mp4_content.specs.format.Reduced.{reduce, HasNearOffsets}
 use Rattle.mp4_content.specs.format.ReducedLaws.{nothing}
 use Rattle.mp4_content.specs.format.CoveringLaws.{Covers}
+use Rattle.mp4_content.specs.format.Remaining.{remaining}
 use Rattle.mp4_content.specs.format.Timescales.{scaled}
 use Rattle.mp4_content.specs.format.TimescalesLaws.{Implies, only_origins}
 use Rattle.mp4_content.specs.declared.without.Without.{Without}
@@ -177,7 +178,16 @@ abbrev pub KeptIsTold : Type 0
 KeptIsTold = (b c : Bool) (l : Without) (p : Presentation)
     → kept b c l p ≡ scaled c (with_origins b l) (told b p)
 
+-- So what is left is what remains of a presentation that may be told so.
+abbrev pub LeftIsTold : Type 0
+LeftIsTold = (l : Without) (p : Presentation)
+    → left_of l p ≡ remaining (words_told l) (told l.lead_ins p)
+
 -- ---- valid
+
+-- What is valid and told so is valid exactly if it is within the limits.
+abbrev pub ToldIsValid : Type 0
+ToldIsValid = (b : Bool) (p : Presentation) → Valid p → Valid (told b p) ↔ IsWithinLimits (told b p)
 
 -- Its tracks are not too long; their composition offsets fit; and the `moov` isn't too long, since
 -- tracks that wait have two edits, which may be more than they had.

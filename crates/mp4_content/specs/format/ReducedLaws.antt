@@ -1,13 +1,13 @@
 -- Laws of what is left of presentations (`reduce`).
-use Rattle.std.specs.Prelude.{◌≡◌, ◌↔◌, ◌⊎◌, ℕ, ◌||◌, List, true, false}
+use Rattle.std.specs.Prelude.{◌≡◌, ◌↔◌, ◌⊎◌, ◌||◌, List, length, true, false}
 use Rattle.mp4_boxes.specs.declared.fault.Fault.{Fault}
 use Rattle.mp4_present.specs.format.Presentation.{Presentation, Valid}
-use Rattle.mp4_present.specs.format.Denotes.{Denotes}
+use Rattle.mp4_head.specs.format.Tree.{TrackTree}
 use Rattle.mp4_content.specs.format.Reduced.{reduce}
 use Rattle.mp4_content.specs.format.Remaining.{RemainsInLimits}
 use Rattle.mp4_content.specs.declared.without.Without.{Without}
 use Rattle.mp4_content.specs.format.Words.{each, has}
-use Rattle.mp4_content.specs.format.ReducedTimes.{ReducedFaultStands, ReducesInLimits}
+use Rattle.mp4_content.specs.format.ReducedTimes.{FailsLeft, ReducesInLimits}
 
 -- nothing is left out
 abbrev pub nothing : Without
@@ -67,11 +67,12 @@ OriginsMayHoldOffsets = (l : Without) → l.origins ≡ true → l.timing ≡ fa
 
 -- Where a track is named, what remains of the presentation has no normal form.
 abbrev pub ReducedFaultRefuses : Type 0
-ReducedFaultRefuses = (l : Without) (file : List ℕ) (f : Fault) (p : Presentation)
-    → ReducedFaultStands l file f → Denotes file p → RemainsInLimits l p → ⊥
+ReducedFaultRefuses = (l : Without) (p : Presentation) (boxes : List TrackTree) (f : Fault)
+    → FailsLeft l p p.tracks boxes f → RemainsInLimits l p → ⊥
 
--- Where it has none, one such fault stands, and no other.
+-- Where it has none, one such fault is named, and no other, by boxes of as many tracks.
 abbrev pub ReducedFaultIsOne : Type 0
-ReducedFaultIsOne = (l : Without) (file : List ℕ) (p : Presentation) → Denotes file p
-    → (RemainsInLimits l p → ⊥) → (f : Fault) × ReducedFaultStands l file f
-    × ((g : Fault) → ReducedFaultStands l file g → g ≡ f)
+ReducedFaultIsOne = (l : Without) (p : Presentation) (boxes : List TrackTree)
+    → length boxes ≡ length p.tracks → (RemainsInLimits l p → ⊥)
+    → (f : Fault) × FailsLeft l p p.tracks boxes f
+    × ((g : Fault) → FailsLeft l p p.tracks boxes g → g ≡ f)

@@ -1,12 +1,12 @@
 -- Where what remains of a presentation has no normal form: which fault that is.
-use Rattle.std.specs.Prelude.{◌≡◌, ◌⊎◌, ℕ, List, ◌∷◌, ◌++◌, codes}
+use Rattle.std.specs.Prelude.{◌≡◌, ◌⊎◌, ℕ, List, ◌∷◌, ◌++◌, take, slice_get, Some, codes}
 use Rattle.std.specs.List.{AllByRecursion}
 use Rattle.mp4_boxes.specs.format.BoxFaults.{fault_of}
 use Rattle.mp4_boxes.specs.declared.fault.Fault.{Fault}
 use Rattle.mp4_boxes.specs.declared.fault.Kind.TheVariants.{OffsetTooLarge, TimeTooLarge}
 use Rattle.mp4_head.specs.format.Tree.{TrackTree, first_of}
 use Rattle.mp4_present.specs.format.Presentation.{Presentation, Track, IsInTime}
-use Rattle.mp4_present.specs.format.Denotes.{Denotes, FileTree, file_parts, presentation_of, track_of}
+use Rattle.mp4_present.specs.format.Denotes.{FileTree, file_parts, presentation_of, track_of}
 use Rattle.mp4_content.specs.format.Reduced.{HasNearOffsets, ReducesInRange, ReducesInTime}
 use Rattle.mp4_content.specs.format.Remaining.{movie_divisor, remaining_movie, remaining_track}
 use Rattle.mp4_content.specs.declared.without.Without.{Without}
@@ -56,10 +56,31 @@ pub record ReducedLimitPasses (l : Without) (file : List ℕ) (tree : FileTree) 
   pub in_limits : AllByRecursion (LeftInLimits l file tree) before
   pub named : IsLeftFault l file tree t f
 
--- What remains of the presentation that the file denotes has no normal form: the fault names the
--- first track of which that is so. (It is said by `Denotes`, whose tree has the place of the
--- `tkhd`.)
-pub record ReducedFaultStands (l : Without) (file : List ℕ) (f : Fault) : Type 0 where
-  pub p : Presentation
-  pub denotes : Denotes file p
-  pub passes : ReducedLimitPasses l file denotes.tree f
+-- ---- the same of any presentation
+
+-- What remains of a track of a presentation is not too long, and its composition offsets fit.
+abbrev pub IsLeftInTime : Without → Presentation → Track → Type 0
+IsLeftInTime l p t = IsInTime (remaining_movie l (movie_divisor l p) p.movie).timescale
+    (remaining_track l (movie_divisor l p) t)
+
+abbrev pub IsLeftNear : Without → Presentation → Track → Type 0
+IsLeftNear l p t = HasNearOffsets (remaining_track l (movie_divisor l p) t)
+
+-- a fault of a track with these boxes: it is too long then, or else an offset doesn't fit
+abbrev pub IsFaultLeft : Without → Presentation → Track → TrackTree → Fault → Type 0
+IsFaultLeft l p t boxes f = ((IsLeftInTime l p t → ⊥)
+    × (f ≡ fault_of TimeTooLarge (first_of (codes "tkhd") boxes.track)))
+    ⊎ (IsLeftInTime l p t × (IsLeftNear l p t → ⊥)
+    × (f ≡ fault_of OffsetTooLarge (first_of (codes "tkhd") boxes.track)))
+
+-- It is of the first of these tracks of which that isn't so, which have these boxes one by one.
+pub record FailsLeft (l : Without) (p : Presentation) (tracks : List Track)
+    (boxes : List TrackTree) (f : Fault) : Type 0 where
+  pub place : ℕ
+  pub t : Track
+  pub its : TrackTree
+  pub is_there : slice_get tracks place ≡ Some t
+  pub has_boxes : slice_get boxes place ≡ Some its
+  pub before : AllByRecursion (λ (u : Track). IsLeftInTime l p u × IsLeftNear l p u)
+      (take place tracks)
+  pub named : IsFaultLeft l p t its f

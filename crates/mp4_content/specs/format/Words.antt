@@ -8,7 +8,7 @@ use Rattle.mp4_content.specs.declared.without.Without.{Without}
 abbrev pub all_words : List Word
 all_words = words.Times ∷ words.Edits ∷ words.Flags ∷ words.Groups ∷ words.Metadata
     ∷ words.Bitrates ∷ words.Ends ∷ words.Origins ∷ words.Labels ∷ words.Timing ∷ words.Roles
-    ∷ words.Ids ∷ words.Timescales ∷ []
+    ∷ words.Ids ∷ words.Timescales ∷ words.LeadIns ∷ []
 
 -- the place of a word among these
 abbrev pub word_number : Word → ℕ
@@ -25,6 +25,7 @@ word_number words.Timing = 9
 word_number words.Roles = 10
 word_number words.Ids = 11
 word_number words.Timescales = 12
+word_number words.LeadIns = 13
 
 -- what each word is called
 abbrev pub word_name : Word → List ℕ
@@ -41,6 +42,7 @@ word_name words.Timing = codes "timing"
 word_name words.Roles = codes "roles"
 word_name words.Ids = codes "ids"
 word_name words.Timescales = codes "timescales"
+word_name words.LeadIns = codes "lead-ins"
 
 -- the word is among those that say what is left out
 abbrev pub has : Without → Word → Bool
@@ -57,6 +59,7 @@ has l words.Timing = l.timing
 has l words.Roles = l.roles
 has l words.Ids = l.ids
 has l words.Timescales = l.timescales
+has l words.LeadIns = l.lead_ins
 
 -- the words of which this is so
 abbrev pub each : (Word → Bool) → Without
@@ -74,6 +77,7 @@ each is_so = record {
   roles = is_so words.Roles;
   ids = is_so words.Ids;
   timescales = is_so words.Timescales;
+  lead_ins = is_so words.LeadIns;
 }
 
 -- ---- laws of them

@@ -1,7 +1,6 @@
 -- Heads of movies and of tracks whose times are divided.
-use Rattle.std.specs.Prelude.{ℕ, suc, List, [], ◌∷◌, map, slice_get, unwrap_or}
+use Rattle.std.specs.Prelude.{ℕ, suc, List, [], ◌∷◌, slice_get, unwrap_or}
 use Rattle.mp4_head.specs.format.Head.{MovieHead, TrackHead}
-use Rattle.mp4_head.specs.declared.heads.TrackHead as read
 use Rattle.mp4_content.specs.format.Reduced.{reduce_track_head}
 use Rattle.mp4_content.specs.format.Timescales.{divided, head_by, movie_by}
 use Rattle.mp4_content.specs.declared.without.Without.{Without}
@@ -36,7 +35,3 @@ remaining_heads l divisor [] (t ∷ heads) =
     remaining_head l divisor 1 t ∷ remaining_heads l divisor [] heads
 remaining_heads l divisor (own ∷ owns) (t ∷ heads) =
     remaining_head l divisor own t ∷ remaining_heads l divisor owns heads
-
--- where the `tkhd` of each of these heads stands
-abbrev pub heads_at : List read.TrackHead → List ℕ
-heads_at heads = map (λ (h : read.TrackHead). h.offset) heads

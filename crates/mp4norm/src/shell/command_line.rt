@@ -65,7 +65,8 @@ UUID; before a slash only a container whose boxes are listed may stand";
 
 const WITHOUT_RULE: &str = "\
 each word is times, edits, flags, groups, metadata, bitrates, ends, origins, labels, timing, \
-roles, ids or timescales, or packaging-1 for the first eight, or media-1 for the first ten";
+roles, ids, timescales or lead-ins, or a set of these: packaging-1, media-1, packaging-2 or \
+media-2";
 
 /// How many rows of a box are shown where no number is given.
 const ROWS: u64 = 16;

@@ -37,8 +37,9 @@ NEW.part-..";
 
 const WITHOUT: &str = "\
 What to leave out, words apart by commas: times, edits, flags, groups, metadata, \
-bitrates, ends, origins, labels, timing, roles, ids, timescales; or packaging-1 for the first \
-eight, or media-1 for the first ten";
+bitrates, ends, origins, labels, timing, roles, ids, timescales, lead-ins; or a set of these: \
+packaging-1 for the first eight, media-1 for the first ten, packaging-2 or media-2, which keep \
+how long each track waits";
 
 const PROGRESS: &str = "Say on standard error how far it has come, in percent and MB/s";
 

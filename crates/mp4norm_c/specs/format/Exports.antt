@@ -10,7 +10,6 @@ use Rattle.mp4_boxes.specs.declared.refusal.Refusal.TheVariants as refusals
 use Rattle.mp4_boxes.specs.declared.rule.Rule.TheVariants.{File}
 use Rattle.mp4_content.specs.declared.without.Without.{Without}
 use Rattle.mp4_content.specs.format.Words.{all_words, each, word_number}
-use Rattle.mp4_content.specs.format.ReducedTimes.{ReducedFaultStands}
 use Rattle.mp4_answers.specs.declared.jobs.Form.{Form}
 use Rattle.mp4_answers.specs.declared.jobs.Form.TheVariants as forms
 use Rattle.mp4_answers.specs.declared.jobs.Job.{Job}
@@ -27,7 +26,8 @@ use Rattle.mp4_answers.specs.format.CompareHeadline.{IsVerdict, IsTold}
 use Rattle.mp4_answers.specs.format.DifferenceObject.{last_object}
 use Rattle.mp4_answers.specs.format.FileTexts.{ShowsLine, ListsSamples, HasData, LacksTrack, PrintsText}
 use Rattle.mp4_answers.specs.format.Headline.{HasNormalForm}
-use Rattle.mp4_answers.specs.format.ReducedHeadline.{HasReducedForm}
+use Rattle.mp4_answers.specs.format.ReducedHeadline.{HasReducedForm, LeftFaultStands}
+use Rattle.mp4_answers.specs.format.Told.{IsFaultTold}
 use Rattle.mp4_answers.specs.format.Strips.{IsStripped, Halts}
 use Rattle.mp4_answers.specs.format.Sums.{HasSum}
 use Rattle.mp4_answers.specs.format.BoxTexts.{BoxLines, FieldLines}
@@ -197,8 +197,8 @@ Windowed IsText IsFault Lacks from before after (Err refusals.WriteFailed) = ⊥
 abbrev pub WindowOf : Job → List ℕ → ℕ → List ℕ → List ℕ → Result ℕ Refusal → Type 0
 WindowOf jobs.Normalise file = Windowed (HasNormalForm file) (IsFaultOf file) ⊥
 WindowOf (jobs.Reduce l) file = Windowed (HasReducedForm l file)
-    (λ f. IsFaultOf file f ⊎ ReducedFaultStands l file f) ⊥
-WindowOf (jobs.Print l) file = Windowed (PrintsText l file) (IsFaultOf file) ⊥
+    (λ f. IsFaultTold l file f ⊎ LeftFaultStands l file f) ⊥
+WindowOf (jobs.Print l) file = Windowed (PrintsText l file) (IsFaultTold l file) ⊥
 WindowOf jobs.Show file = Windowed (ShowsLine file) (IsFaultOf file) ⊥
 WindowOf (jobs.Samples track form) file = Windowed (ListsSamples file track form)
     (IsFaultOf file) (LacksTrack file track)
@@ -240,7 +240,7 @@ abbrev pub Sums : Option Without → List ℕ → List ℕ → List ℕ → Answ
 Sums None file before after a = (a ≡ usage) × (after ≡ before)
 Sums (Some l) file before after a = (result : Result ℕ Refusal) × (a ≡ told result)
     × Found (λ n. (n ≡ 32) × HasSum l file after)
-    (λ f. (IsFaultOf file f ⊎ ReducedFaultStands l file f)) result
+    (λ f. (IsFaultTold l file f ⊎ LeftFaultStands l file f)) result
     × (OnErr result (after ≡ before))
 
 -- How many bytes the normal form has of what is left of the file, as far as 64 bits go.
@@ -249,7 +249,7 @@ Measures None file a = a ≡ usage
 Measures (Some l) file a = (result : Result ℕ Refusal) × (a ≡ told result)
     × Found (λ n. (form : List ℕ) × HasReducedForm l file form
     × (n ≡ min (length form) (2 ^ 64 - 1)))
-    (λ f. (IsFaultOf file f ⊎ ReducedFaultStands l file f)) result
+    (λ f. (IsFaultTold l file f ⊎ LeftFaultStands l file f)) result
 
 -- ---- what comparing two files answers
 
@@ -278,9 +278,11 @@ pub data Compared (asked : Asked) (file other : List ℕ) (from : ℕ) (before a
       → IsVerdict asked.leaving file other false
       → IsTold asked.listing asked.leaving file other text → IsWindow from before after text many
       → Compared asked file other from before after a
-  first_refused : (f : Fault) → a ≡ fault_told 0 f → IsFaultOf file f → after ≡ before
+  first_refused : (f : Fault) → a ≡ fault_told 0 f → IsFaultTold asked.leaving file f
+      → after ≡ before
       → Compared asked file other from before after a
-  second_refused : (f : Fault) → a ≡ fault_told 1 f → IsFaultOf other f → after ≡ before
+  second_refused : (f : Fault) → a ≡ fault_told 1 f → IsFaultTold asked.leaving other f
+      → after ≡ before
       → Compared asked file other from before after a
   no_memory : a ≡ plain 2 0 → after ≡ before → Compared asked file other from before after a
 

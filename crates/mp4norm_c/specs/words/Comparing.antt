@@ -6,7 +6,8 @@ use Rattle.mp4_store.specs.declared.mem.MemSink.{MemSink}
 use Rattle.mp4_answers.specs.declared.commands.compare.Failure.{Failure}
 use Rattle.mp4_answers.specs.declared.commands.compare.Side.{Side}
 use Rattle.mp4_answers.specs.declared.commands.compare.Side.TheVariants as sides
-use Rattle.mp4_answers.specs.format.Answers.{IsFaultOf}
+use Rattle.mp4_answers.specs.format.Told.{IsFaultTold}
+use Rattle.mp4_content.specs.declared.without.Without.{Without}
 use Rattle.mp4norm_c.specs.declared.answer.Answer.{Answer}
 use Rattle.mp4norm_c.specs.format.Exports.{fault_told, plain}
 
@@ -14,11 +15,12 @@ use Rattle.mp4norm_c.specs.format.Exports.{fault_told, plain}
 abbrev pub Took : MemSink → MemSink → List ℕ → Type 0
 Took s t bytes = t.held.items ≡ s.held.items ++ bytes
 
--- why one of two files is not compared: for its first fault, or want of memory
-abbrev pub RefusesOne : List ℕ → Refusal → Type 0
-RefusesOne file (refusals.Fault f) = IsFaultOf file f
-RefusesOne file refusals.Memory = Unit {0}
-RefusesOne file _ = ⊥
+-- why one of two files is not compared where this is left out: for its first fault as it is judged
+-- so, or want of memory
+abbrev pub RefusesOne : Without → List ℕ → Refusal → Type 0
+RefusesOne l file (refusals.Fault f) = IsFaultTold l file f
+RefusesOne l file refusals.Memory = Unit {0}
+RefusesOne l file _ = ⊥
 
 -- why both are not: there is no memory, of which to keep what is said is a part
 abbrev pub RefusesRoom : Refusal → Type 0
@@ -27,12 +29,12 @@ RefusesRoom refusals.WriteFailed = Unit {0}
 RefusesRoom _ = ⊥
 
 -- why bytes in memory are not compared
-abbrev pub RefusesTwo : List ℕ → List ℕ → Failure → Type 0
-RefusesTwo file other failure = of failure.side
+abbrev pub RefusesTwo : Without → List ℕ → List ℕ → Failure → Type 0
+RefusesTwo l file other failure = of failure.side
   where
     of : Side → Type 0
-    of sides.First = RefusesOne file failure.refusal
-    of sides.Second = RefusesOne other failure.refusal
+    of sides.First = RefusesOne l file failure.refusal
+    of sides.Second = RefusesOne l other failure.refusal
     of sides.Both = ⊥
     of sides.Neither = RefusesRoom failure.refusal
 

@@ -1,7 +1,8 @@
 use Rattle.std.proofs.Common.{rules, ◌≡◌, ◌<◌, ◌≤◌, length, map, Some, [], ◌∷◌, ◌++◌, arith, ap, sym, ◌∙◌}
 use Rattle.mp4_head.specs.words.Seen.{kept_seen}
 use Rattle.mp4_content.specs.words.PayloadsLeft.{box_left_seen}
-use Rattle.mp4_content.proofs.OwnPayloads.{put_next, put_all, there_is}
+use Rattle.mp4_present.proofs.Changed.{there_is}
+use Rattle.mp4_content.proofs.OwnPayloads.{put_next, put_all}
 use Rattle.mp4_content.proofs.own_payloads.boxes_left.Goals as goal
 use Rattle.mp4_boxes.proofs.Plain.{get_map, length_mapped}
 

@@ -2,7 +2,8 @@ use Rattle.std.proofs.Common.{rules, ◌≡◌, ◌<◌, ◌≤◌, length, map,
 use Rattle.std.specs.Prelude.{slice_get}
 use Rattle.mp4_head.specs.words.Seen.{kept_seen}
 use Rattle.mp4_content.specs.words.PayloadsLeft.{box_left_seen, description_left}
-use Rattle.mp4_content.proofs.OwnPayloads.{put_next, put_all, there_is, entries_left}
+use Rattle.mp4_present.proofs.Changed.{there_is}
+use Rattle.mp4_content.proofs.OwnPayloads.{put_next, put_all, entries_left}
 use Rattle.mp4_content.proofs.own_payloads.descriptions_left.Goals as goal
 use Rattle.mp4_boxes.proofs.Plain.{get_map, length_mapped}
 

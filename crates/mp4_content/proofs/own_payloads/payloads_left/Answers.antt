@@ -3,7 +3,8 @@ use Rattle.std.specs.Prelude.{slice_index_or}
 use Rattle.mp4_head.specs.words.Seen.{media_seen}
 use Rattle.mp4_head.specs.declared.heads.TrackHead.{TrackHead}
 use Rattle.mp4_content.specs.words.PayloadsLeft.{IsMediaLeft}
-use Rattle.mp4_content.proofs.OwnPayloads.{zip_next, there_is}
+use Rattle.mp4_present.proofs.Changed.{there_is}
+use Rattle.mp4_content.proofs.OwnPayloads.{zip_next}
 use Rattle.mp4_content.proofs.own_payloads.payloads_left.Goals as goal
 
 pub loop-k-preserved : goal.loop-k-preserved

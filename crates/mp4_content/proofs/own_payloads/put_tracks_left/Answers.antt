@@ -3,7 +3,7 @@ use Rattle.std.specs.Prelude.{slice_get}
 use Rattle.mp4_head.specs.words.Seen.{media_seen, track_seen}
 use Rattle.mp4_head.specs.declared.heads.TrackHead.{TrackHead}
 use Rattle.mp4_content.specs.words.PayloadsLeft.{IsMediaLeft, track_payloads_left}
-use Rattle.mp4_content.proofs.OwnPayloads.{there_is, all_changed, changed_none, unchanged_next, changed_one}
+use Rattle.mp4_present.proofs.Changed.{there_is, all_changed, changed_none, unchanged_next, changed_one}
 use Rattle.mp4_content.proofs.own_payloads.put_tracks_left.Goals as goal
 use Rattle.mp4_boxes.proofs.Plain.{get_zip, length_zip}
 

@@ -1,7 +1,7 @@
 use Rattle.std.proofs.Common.{rules, ◌<◌, length, refl}
 use Rattle.mp4_head.specs.words.Seen.{edit_seen}
 use Rattle.mp4_content.specs.format.Timescales.{divided, edit_by}
-use Rattle.mp4_content.proofs.OwnPayloads.{all_changed, changed_none, changed_one, there_is}
+use Rattle.mp4_present.proofs.Changed.{all_changed, changed_none, changed_one, there_is}
 use Rattle.mp4_content.proofs.reduced_head.divide_edits.Goals as goal
 
 pub loop-k-init : goal.loop-k-init

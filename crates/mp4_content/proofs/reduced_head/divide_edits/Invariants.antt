@@ -1,7 +1,7 @@
 use Rattle.std.proofs.Common.{◌≡◌, length}
 use Rattle.mp4_head.specs.words.Seen.{edit_seen}
 use Rattle.mp4_content.specs.format.Timescales.{divided, edit_by}
-use Rattle.mp4_content.proofs.OwnPayloads.{ChangedTo}
+use Rattle.mp4_present.proofs.Changed.{ChangedTo}
 use Rattle.mp4_content.proofs.reduced_head.divide_edits.Given as goal
 
 -- those before this one are divided, and the others are as they were

@@ -1,8 +1,9 @@
 use Rattle.std.proofs.Common.{rules, ◌≡◌, ◌+◌, ◌<◌, ap, length, refl, ◌∙◌, arith}
 use Rattle.mp4_head.specs.words.Seen.{track_seen}
 use Rattle.mp4_content.specs.words.Divided.{divided_head, divisor_at}
-use Rattle.mp4_content.proofs.HeadLess.{divided_all, places_stay}
-use Rattle.mp4_content.proofs.OwnPayloads.{changed_none, changed_one, there_is}
+use Rattle.mp4_present.proofs.TellingWaits.{places_stay}
+use Rattle.mp4_content.proofs.HeadLess.{divided_all}
+use Rattle.mp4_present.proofs.Changed.{changed_none, changed_one, there_is}
 use Rattle.mp4_content.proofs.reduced_head.divide_tracks.Goals as goal
 
 pub loop-k-init : goal.loop-k-init

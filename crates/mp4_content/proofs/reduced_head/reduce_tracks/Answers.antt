@@ -2,8 +2,8 @@ use Rattle.std.proofs.Common.{rules, ◌<◌, length, refl, ◌∙◌}
 use Rattle.mp4_head.specs.words.Seen.{track_seen}
 use Rattle.mp4_content.specs.words.PayloadsLeft.{keeping_payloads}
 use Rattle.mp4_content.specs.format.Reduced.{reduce_track_head}
-use Rattle.mp4_content.proofs.HeadLess.{places_stay}
-use Rattle.mp4_content.proofs.OwnPayloads.{all_changed, changed_none, changed_one, there_is}
+use Rattle.mp4_present.proofs.TellingWaits.{places_stay}
+use Rattle.mp4_present.proofs.Changed.{all_changed, changed_none, changed_one, there_is}
 use Rattle.mp4_content.proofs.reduced_head.reduce_tracks.Goals as goal
 
 pub loop-k-init : goal.loop-k-init

@@ -18,4 +18,5 @@ returns-clause-differ g c =
     IfOk-weaker c.compare_files.result _ _ (λ same is e. is e refl refl) found
 
 pub returns-clause-refusal : goal.returns-clause-refusal
-returns-clause-refusal g c = refused_two c.args.file.now c.args.other.now (Took c.args.text.now c.compare_files.new.sink) c.args.text.now.failed c.compare_files.new.sink.failed c.compare_files.result (rw (c.new-left.ensures, c.new-right.ensures) at c.compare_files.ensures.answer.refusal)
+returns-clause-refusal g c =
+    refused_two c.args.asked.leaving c.args.file.now c.args.other.now (Took c.args.text.now c.compare_files.new.sink) c.args.text.now.failed c.compare_files.new.sink.failed c.compare_files.result (rw (c.new-left.ensures, c.new-right.ensures) at c.compare_files.ensures.answer.refusal)

@@ -1,9 +1,10 @@
-use Rattle.std.proofs.Common.{◌∙◌, arith}
+use Rattle.std.proofs.Common.{◌∙◌, arith, false}
 use Rattle.std.proofs.lemmas.Result.{err_from_is_err_and, on_ok_weaker}
 use Rattle.mp4_content.specs.format.ReducedLaws.{nothing}
 use Rattle.mp4_answers.proofs.StepSums.{opened_least}
-use Rattle.mp4_answers.proofs.StepsTaken.{not_opened, written_within}
-use Rattle.mp4_answers.proofs.LooksTaken.{not_found, not_turned, turns_taken}
+use Rattle.mp4_answers.proofs.StepsTaken.{not_opened, not_told, opening_told, written_within}
+use Rattle.mp4_answers.proofs.OpenedTold.{own_told}
+use Rattle.mp4_answers.proofs.LooksTaken.{finds_taken, not_found, not_turned, turns_taken}
 use Rattle.mp4_answers.specs.format.Answers.{IsFaultOf}
 use Rattle.mp4_answers.specs.format.Headline.{HasNormalForm}
 use Rattle.mp4_answers.specs.format.Run.{run_of}
@@ -37,12 +38,13 @@ returns-clause-store g c =
 
 pub returns-in_err-movie-clause-work : goal.returns-in_err-movie-clause-work
 returns-in_err-movie-clause-work g c = λ told.
-    not_opened _ _ _ nothing _ _ _ c.in_err-movie.field-0.0 told c.in_err-movie.ensures.refusal (c.in_err-movie.ensures.work told).work (c.in_err-movie.ensures.work told).within
+    not_opened nothing _ _ _ (not_told false _ _ _ _ _ _ c.in_err-movie.field-0.0 told c.in_err-movie.ensures.refusal (c.in_err-movie.ensures.work told).work (c.in_err-movie.ensures.work told).within)
 
 pub returns-clause-work : goal.returns-clause-work
 returns-clause-work g c = λ told.
     let write = rw (c.in_ok-movie.ensures.store.honesty, c.in_ok-movie.ensures.store.file) at c.write_normal.ensures.work in
-    written_within nothing _ _ _ _ _ (c.in_ok-movie.ensures.movie told) (c.in_ok-movie.ensures.work told).work (λ tree o. let w = write told tree o in omega (arith, w))
+    let o = c.in_ok-movie.ensures.movie told in
+    written_within nothing _ c.in_ok-movie.movie _ _ _ (o.0, own_told _ _ o.0 o.1) (opening_told _ _ o.0 _ _ o.1 (c.in_ok-movie.ensures.work told).work) (λ tree o. let w = write told tree o in omega (arith, w))
 
 pub returns-in_err-movie-clause-looks : goal.returns-in_err-movie-clause-looks
 returns-in_err-movie-clause-looks g c = λ told.
@@ -51,7 +53,8 @@ returns-in_err-movie-clause-looks g c = λ told.
 
 pub returns-clause-looks : goal.returns-clause-looks
 returns-clause-looks g c = λ told.
-    turns_taken _ c.in_ok-movie.movie _ _ _ (c.in_ok-movie.ensures.movie told) (c.in_ok-movie.ensures.work told).looks.said c.write_normal.ensures.turns
+    let o = c.in_ok-movie.ensures.movie told in
+    turns_taken false _ c.in_ok-movie.movie _ _ _ (o.0, own_told _ _ o.0 o.1) (finds_taken _ c.in_ok-movie.movie _ _ o (c.in_ok-movie.ensures.work told).looks.said) c.write_normal.ensures.turns
 
 pub returns-in_err-movie-clause-whole : goal.returns-in_err-movie-clause-whole
 returns-in_err-movie-clause-whole g c =

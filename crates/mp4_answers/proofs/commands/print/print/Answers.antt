@@ -4,24 +4,22 @@ use Rattle.mp4_head.specs.format.Head.{MovieHead}
 use Rattle.mp4_store.specs.words.Device.{TakesPrefix}
 use Rattle.mp4_present.specs.words.Carried.{BytesGoOn, waiting}
 use Rattle.mp4_present.proofs.WalkCopied.{on_err, on_ok}
-use Rattle.mp4_present.proofs.ToldTrees.{file_tree_is}
-use Rattle.mp4_answers.specs.format.Answers.{IsFaultOf}
+use Rattle.mp4_answers.specs.format.Told.{IsFaultTold}
 use Rattle.mp4_answers.specs.format.FileTexts.{PrintsText}
 use Rattle.mp4_answers.specs.format.Run.{run_of}
 use Rattle.mp4_answers.specs.format.Text.{movie_lines}
-use Rattle.mp4_answers.proofs.LooksTaken.{not_found, finds_taken}
 use Rattle.mp4_answers.proofs.Matched.{ok_anyway, told_ok}
 use Rattle.mp4_answers.proofs.Printed.{all_printed, end_fails, first_fails, heads_remain, last_fails, movie_fails, tracks_fail}
-use Rattle.mp4_answers.proofs.RunParts.{carry_fails, open_fails, plan_fails, put_answers, put_fails}
+use Rattle.mp4_answers.proofs.RunParts.{carry_fails, plan_fails, put_answers, put_fails, told_fails}
 use Rattle.mp4_answers.proofs.StepSums.{opened_least}
-use Rattle.mp4_answers.proofs.StepsTaken.{looked_prints, not_looked, printed_within}
+use Rattle.mp4_answers.proofs.StepsTaken.{looked_prints, printed_within}
 use Rattle.mp4_answers.proofs.commands.print.print.Goals as goal
 
 pub returns-in_err-movie-clause-answer : goal.returns-in_err-movie-clause-answer
 returns-in_err-movie-clause-answer g c =
     let p = err_from_is_err_and c.from_residual.result c.from_residual.ensures.1 in
-    let r = run_of g.S.Store c.args.store.now c.open_movie.new.store g.K.Sink c.args.sink.now c.args.sink.now in
-    rw (p.1, p.2) (open_fails (Unit {0}) r (PrintsText c.args.leaving r.file) (IsFaultOf r.file) ⊥ c.in_err-movie.field-0.0 (λ f s. s) (g.met.K.Sink.takes_nothing c.args.sink.now) c.in_err-movie.ensures.refusal)
+    let r = run_of g.S.Store c.args.store.now c.open_told.new.store g.K.Sink c.args.sink.now c.args.sink.now in
+    rw (p.1, p.2) (told_fails (Unit {0}) r (PrintsText c.args.leaving r.file) (IsFaultTold c.args.leaving r.file) ⊥ c.args.leaving.lead_ins c.in_err-movie.field-0.0 (λ f s. s) (g.met.K.Sink.takes_nothing c.args.sink.now) c.in_err-movie.ensures.refusal)
 
 pub returns-in_err-scales-clause-answer : goal.returns-in_err-scales-clause-answer
 returns-in_err-scales-clause-answer g c =
@@ -29,7 +27,7 @@ returns-in_err-scales-clause-answer g c =
     let e = c.in_ok-movie.ensures.store in
     let r = run_of g.S.Store c.args.store.now c.of.new.store g.K.Sink c.args.sink.now c.args.sink.now in
     let unchanged = rw (e.honesty, e.file) at c.in_err-scales.ensures.unchanged in
-    rw (p.1, p.2) (plan_fails (Unit {0}) r (PrintsText c.args.leaving r.file) (IsFaultOf r.file) ⊥ c.in_err-scales.field-0.0 (g.met.K.Sink.takes_nothing c.args.sink.now) (rw e.reads at c.in_err-scales.ensures.refusal)
+    rw (p.1, p.2) (plan_fails (Unit {0}) r (PrintsText c.args.leaving r.file) (IsFaultTold c.args.leaving r.file) ⊥ c.in_err-scales.field-0.0 (g.met.K.Sink.takes_nothing c.args.sink.now) (rw e.reads at c.in_err-scales.ensures.refusal)
     (λ told. let o = c.in_ok-movie.ensures.movie told in unchanged told o.0 o.1.opened))
 
 pub returns-in_err-head-clause-answer : goal.returns-in_err-head-clause-answer
@@ -73,14 +71,14 @@ returns-in_err-carry-clause-answer g c =
     let scales = c.in_ok-scales.scales in
     let e = c.in_ok-movie.ensures.store in
     let f = c.in_ok-scales.ensures.store in
-    let are = rw (e.honesty, e.file) at c.in_ok-scales.ensures.scales in
+    let are = rw (e.honesty, e.file, c.when_told-words.ensures) at c.in_ok-scales.ensures.scales in
     let sink = c.args.sink.now in
     let joins = g.met.K.Sink.takes_on in
     let nothing = g.met.K.Sink.takes_nothing sink in
     let r = run_of g.S.Store c.args.store.now c.of.new.store g.K.Sink sink c.carry.new.sink in
     let new = c.carry.new.sink in
     let first = rw (c.in_ok-desk.ensures.text, c.as_slice-2.ensures.value, c.in_ok-front.ensures) at c.in_err-carry.ensures.prefix in
-    rw (p.1, p.2) (put_fails (Unit {0}) r (PrintsText l file) (IsFaultOf file) ⊥ c.in_err-carry.field-0.0 c.in_err-carry.ensures.refusal
+    rw (p.1, p.2) (put_fails (Unit {0}) r (PrintsText l file) (IsFaultTold l file) ⊥ c.in_err-carry.field-0.0 c.in_err-carry.ensures.refusal
     (λ told. let o = c.in_ok-movie.ensures.movie told in first_fails l file m o.0 head o.1 says scales (are told o.0 o.1.opened) joins sink new new new new new nothing [] [] [] [] first))
 
 pub returns-in_err-put_movie-clause-answer : goal.returns-in_err-put_movie-clause-answer
@@ -94,17 +92,17 @@ returns-in_err-put_movie-clause-answer g c =
     let scales = c.in_ok-scales.scales in
     let e = c.in_ok-movie.ensures.store in
     let f = c.in_ok-scales.ensures.store in
-    let are = rw (e.honesty, e.file) at c.in_ok-scales.ensures.scales in
+    let are = rw (e.honesty, e.file, c.when_told-words.ensures) at c.in_ok-scales.ensures.scales in
     let sink = c.args.sink.now in
     let joins = g.met.K.Sink.takes_on in
     let nothing = g.met.K.Sink.takes_nothing sink in
     let new = c.put_movie.new.sink in
     let r = run_of g.S.Store c.args.store.now c.of.new.store g.K.Sink sink new in
     let first = rw (c.in_ok-desk.ensures.text, c.as_slice-2.ensures.value, c.in_ok-front.ensures) at c.in_ok-carry.ensures.bytes in
-    rw (p.1, p.2) (put_fails (Unit {0}) r (PrintsText l file) (IsFaultOf file) ⊥ c.in_err-put_movie.field-0.0 (rw c.in_ok-carry.ensures.puts at c.in_err-put_movie.ensures.refusal)
+    rw (p.1, p.2) (put_fails (Unit {0}) r (PrintsText l file) (IsFaultTold l file) ⊥ c.in_err-put_movie.field-0.0 (rw c.in_ok-carry.ensures.puts at c.in_err-put_movie.ensures.refusal)
     (λ told. let o = c.in_ok-movie.ensures.movie told in
     movie_fails l file m o.0 head o.1 says scales (are told o.0 o.1.opened) joins sink c.carry.new.sink new new new new nothing (waiting c.carry.new.self) [] [] [] first
-    (subst (λ (x : MovieHead). TakesPrefix (g.K.Sink.takes c.carry.new.sink new) (waiting c.carry.new.self ++ movie_lines x)) c.in_ok-left.ensures.movie c.in_err-put_movie.ensures.front)))
+    (subst (λ (x : MovieHead). TakesPrefix (g.K.Sink.takes c.carry.new.sink new) (waiting c.carry.new.self ++ movie_lines x)) (rw c.when_told-words.ensures at c.in_ok-left.ensures.movie) c.in_err-put_movie.ensures.front)))
 
 pub returns-in_err-put_tracks-clause-answer : goal.returns-in_err-put_tracks-clause-answer
 returns-in_err-put_tracks-clause-answer g c =
@@ -117,7 +115,7 @@ returns-in_err-put_tracks-clause-answer g c =
     let scales = c.in_ok-scales.scales in
     let e = c.in_ok-movie.ensures.store in
     let f = c.in_ok-scales.ensures.store in
-    let are = rw (e.honesty, e.file) at c.in_ok-scales.ensures.scales in
+    let are = rw (e.honesty, e.file, c.when_told-words.ensures) at c.in_ok-scales.ensures.scales in
     let sink = c.args.sink.now in
     let joins = g.met.K.Sink.takes_on in
     let nothing = g.met.K.Sink.takes_nothing sink in
@@ -126,14 +124,14 @@ returns-in_err-put_tracks-clause-answer g c =
     let r = run_of g.S.Store c.args.store.now c.put_tracks.new.store g.K.Sink sink new in
     let first = rw (c.in_ok-desk.ensures.text, c.as_slice-2.ensures.value, c.in_ok-front.ensures) at c.in_ok-carry.ensures.bytes in
     let movie = subst (λ (x : MovieHead). BytesGoOn (g.K.Sink.takes c.carry.new.sink c.put_movie.new.sink) (waiting c.carry.new.self) (waiting c.put_movie.new.carrier) (movie_lines x))
-    c.in_ok-left.ensures.movie c.in_ok-put_movie.ensures.all in
-    let tracks = rw (f.honesty, f.file, e.honesty, e.file, c.as_slice-heads.ensures.value) at y.told in
-    rw (p.1, p.2) (carry_fails (Unit {0}) r (PrintsText l file) (IsFaultOf file) ⊥ c.in_err-put_tracks.field-0.0 (rw (f.reads, e.reads, c.in_ok-put_movie.ensures.puts ∙ c.in_ok-carry.ensures.puts) at y.refusal)
+    (rw c.when_told-words.ensures at c.in_ok-left.ensures.movie) c.in_ok-put_movie.ensures.all in
+    let tracks = rw (f.honesty, f.file, e.honesty, e.file, c.as_slice-heads.ensures.value, c.when_told-words.ensures) at y.told in
+    rw (p.1, p.2) (carry_fails (Unit {0}) r (PrintsText l file) (IsFaultTold l file) ⊥ c.in_err-put_tracks.field-0.0 (rw (f.reads, e.reads, c.in_ok-put_movie.ensures.puts ∙ c.in_ok-carry.ensures.puts) at y.refusal)
     (λ told.
     let o = c.in_ok-movie.ensures.movie told in
-    let t = tracks told o.0 o.1.opened (heads_remain l file m o.0 head o.1 says scales (are told o.0 o.1.opened) _ c.in_ok-left.ensures.tracks) in
+    let t = tracks told o.0 o.1.opened (heads_remain l file m o.0 head o.1 says scales (are told o.0 o.1.opened) _ (rw c.when_told-words.ensures at c.in_ok-left.ensures.tracks)) in
     tracks_fail l file m o.0 head o.1 says scales (are told o.0 o.1.opened) joins sink c.carry.new.sink c.put_movie.new.sink new new new nothing (waiting c.carry.new.self) (waiting c.put_movie.new.carrier) [] [] first movie t.lines.text.front)
-    (λ told. let o = c.in_ok-movie.ensures.movie told in (tracks told o.0 o.1.opened (heads_remain l file m o.0 head o.1 says scales (are told o.0 o.1.opened) _ c.in_ok-left.ensures.tracks)).lines.unchanged))
+    (λ told. let o = c.in_ok-movie.ensures.movie told in (tracks told o.0 o.1.opened (heads_remain l file m o.0 head o.1 says scales (are told o.0 o.1.opened) _ (rw c.when_told-words.ensures at c.in_ok-left.ensures.tracks))).lines.unchanged))
 
 pub returns-in_err-carry-2-clause-answer : goal.returns-in_err-carry-2-clause-answer
 returns-in_err-carry-2-clause-answer g c =
@@ -146,7 +144,7 @@ returns-in_err-carry-2-clause-answer g c =
     let scales = c.in_ok-scales.scales in
     let e = c.in_ok-movie.ensures.store in
     let f = c.in_ok-scales.ensures.store in
-    let are = rw (e.honesty, e.file) at c.in_ok-scales.ensures.scales in
+    let are = rw (e.honesty, e.file, c.when_told-words.ensures) at c.in_ok-scales.ensures.scales in
     let sink = c.args.sink.now in
     let joins = g.met.K.Sink.takes_on in
     let nothing = g.met.K.Sink.takes_nothing sink in
@@ -155,12 +153,12 @@ returns-in_err-carry-2-clause-answer g c =
     let r = run_of g.S.Store c.args.store.now c.put_tracks.new.store g.K.Sink sink new in
     let first = rw (c.in_ok-desk.ensures.text, c.as_slice-2.ensures.value, c.in_ok-front.ensures) at c.in_ok-carry.ensures.bytes in
     let movie = subst (λ (x : MovieHead). BytesGoOn (g.K.Sink.takes c.carry.new.sink c.put_movie.new.sink) (waiting c.carry.new.self) (waiting c.put_movie.new.carrier) (movie_lines x))
-    c.in_ok-left.ensures.movie c.in_ok-put_movie.ensures.all in
-    let tracks = rw (f.honesty, f.file, e.honesty, e.file, c.as_slice-heads.ensures.value) at y.told in
-    rw (p.1, p.2) (put_fails (Unit {0}) r (PrintsText l file) (IsFaultOf file) ⊥ c.in_err-carry-2.field-0.0 (rw (y.store.puts ∙ c.in_ok-put_movie.ensures.puts ∙ c.in_ok-carry.ensures.puts) at c.in_err-carry-2.ensures.refusal)
+    (rw c.when_told-words.ensures at c.in_ok-left.ensures.movie) c.in_ok-put_movie.ensures.all in
+    let tracks = rw (f.honesty, f.file, e.honesty, e.file, c.as_slice-heads.ensures.value, c.when_told-words.ensures) at y.told in
+    rw (p.1, p.2) (put_fails (Unit {0}) r (PrintsText l file) (IsFaultTold l file) ⊥ c.in_err-carry-2.field-0.0 (rw (y.store.puts ∙ c.in_ok-put_movie.ensures.puts ∙ c.in_ok-carry.ensures.puts) at c.in_err-carry-2.ensures.refusal)
     (λ told.
     let o = c.in_ok-movie.ensures.movie told in
-    let t = tracks told o.0 o.1.opened (heads_remain l file m o.0 head o.1 says scales (are told o.0 o.1.opened) _ c.in_ok-left.ensures.tracks) in
+    let t = tracks told o.0 o.1.opened (heads_remain l file m o.0 head o.1 says scales (are told o.0 o.1.opened) _ (rw c.when_told-words.ensures at c.in_ok-left.ensures.tracks)) in
     last_fails l file m o.0 head o.1 says scales (are told o.0 o.1.opened) joins sink c.carry.new.sink c.put_movie.new.sink c.put_tracks.new.sink new new nothing (waiting c.carry.new.self) (waiting c.put_movie.new.carrier) (waiting c.put_tracks.new.desk.text) [] first movie t.lines.text.all
     c.in_err-carry-2.ensures.prefix))
 
@@ -174,7 +172,7 @@ returns-clause-answer g c =
     let scales = c.in_ok-scales.scales in
     let e = c.in_ok-movie.ensures.store in
     let f = c.in_ok-scales.ensures.store in
-    let are = rw (e.honesty, e.file) at c.in_ok-scales.ensures.scales in
+    let are = rw (e.honesty, e.file, c.when_told-words.ensures) at c.in_ok-scales.ensures.scales in
     let sink = c.args.sink.now in
     let joins = g.met.K.Sink.takes_on in
     let nothing = g.met.K.Sink.takes_nothing sink in
@@ -183,13 +181,13 @@ returns-clause-answer g c =
     let r = run_of g.S.Store c.args.store.now c.put_tracks.new.store g.K.Sink sink new in
     let first = rw (c.in_ok-desk.ensures.text, c.as_slice-2.ensures.value, c.in_ok-front.ensures) at c.in_ok-carry.ensures.bytes in
     let movie = subst (λ (x : MovieHead). BytesGoOn (g.K.Sink.takes c.carry.new.sink c.put_movie.new.sink) (waiting c.carry.new.self) (waiting c.put_movie.new.carrier) (movie_lines x))
-    c.in_ok-left.ensures.movie c.in_ok-put_movie.ensures.all in
-    let tracks = rw (f.honesty, f.file, e.honesty, e.file, c.as_slice-heads.ensures.value) at y.told in
+    (rw c.when_told-words.ensures at c.in_ok-left.ensures.movie) c.in_ok-put_movie.ensures.all in
+    let tracks = rw (f.honesty, f.file, e.honesty, e.file, c.as_slice-heads.ensures.value, c.when_told-words.ensures) at y.told in
     let same = c.in_ok-carry-2.ensures.puts ∙ y.store.puts ∙ c.in_ok-put_movie.ensures.puts ∙ c.in_ok-carry.ensures.puts in
-    put_answers (Unit {0}) r (PrintsText l file) (IsFaultOf file) ⊥ c.flush.result (ok_anyway _ c.flush.result (y.store.reads ∙ f.reads ∙ e.reads)) (rw same at c.flush.ensures.puts)
+    put_answers (Unit {0}) r (PrintsText l file) (IsFaultTold l file) ⊥ c.flush.result (ok_anyway _ c.flush.result (y.store.reads ∙ f.reads ∙ e.reads)) (rw same at c.flush.ensures.puts)
     (told_ok _ _ c.flush.result (λ told.
     let o = c.in_ok-movie.ensures.movie told in
-    let t = tracks told o.0 o.1.opened (heads_remain l file m o.0 head o.1 says scales (are told o.0 o.1.opened) _ c.in_ok-left.ensures.tracks) in
+    let t = tracks told o.0 o.1.opened (heads_remain l file m o.0 head o.1 says scales (are told o.0 o.1.opened) _ (rw c.when_told-words.ensures at c.in_ok-left.ensures.tracks)) in
     on_ok _ _ c.flush.result
     (λ put. all_printed l file m o.0 head o.1 says scales (are told o.0 o.1.opened) joins sink c.carry.new.sink c.put_movie.new.sink c.put_tracks.new.sink c.carry-2.new.sink new nothing (waiting c.carry.new.self) (waiting c.put_movie.new.carrier) (waiting c.put_tracks.new.desk.text)
     (waiting c.carry-2.new.self)
@@ -198,7 +196,7 @@ returns-clause-answer g c =
     (rw same at c.flush.ensures.refusal)
     (λ told.
     let o = c.in_ok-movie.ensures.movie told in
-    let t = tracks told o.0 o.1.opened (heads_remain l file m o.0 head o.1 says scales (are told o.0 o.1.opened) _ c.in_ok-left.ensures.tracks) in
+    let t = tracks told o.0 o.1.opened (heads_remain l file m o.0 head o.1 says scales (are told o.0 o.1.opened) _ (rw c.when_told-words.ensures at c.in_ok-left.ensures.tracks)) in
     on_err _ _ c.flush.result
     (λ put. end_fails l file m o.0 head o.1 says scales (are told o.0 o.1.opened) joins sink c.carry.new.sink c.put_movie.new.sink c.put_tracks.new.sink c.carry-2.new.sink new nothing (waiting c.carry.new.self) (waiting c.put_movie.new.carrier) (waiting c.put_tracks.new.desk.text)
     (waiting c.carry-2.new.self)
@@ -232,70 +230,70 @@ returns-clause-store g c =
 
 pub returns-in_err-movie-clause-work : goal.returns-in_err-movie-clause-work
 returns-in_err-movie-clause-work g c = λ told.
-    looked_prints c.args.leaving _ _ _ (not_looked _ _ _ _ _ _ c.in_err-movie.field-0.0 told c.in_err-movie.ensures.refusal (c.in_err-movie.ensures.work told).work (c.in_err-movie.ensures.work told).within)
+    looked_prints c.args.leaving _ _ _ (c.in_err-movie.ensures.work told)
 
 pub returns-in_err-scales-clause-work : goal.returns-in_err-scales-clause-work
 returns-in_err-scales-clause-work g c = λ told.
     let o = c.in_ok-movie.ensures.movie told in
     let e = c.in_ok-movie.ensures.store in
-    let scaled = rw (e.honesty, e.file) at c.in_err-scales.ensures.work in
-    printed_within c.args.leaving _ c.in_ok-movie.movie o.0 _ _ _ _ o.1 ((c.in_ok-movie.ensures.work told).work o.0 (file_tree_is _ _ o.0 o.1)) (scaled told o.0 o.1.opened) (omega arith)
+    let scaled = rw (e.honesty, e.file, c.when_told-words.ensures) at c.in_err-scales.ensures.work in
+    printed_within c.args.leaving _ c.in_ok-movie.movie o.0 _ _ _ _ o.1 (c.in_ok-movie.ensures.work told) (scaled told o.0 o.1.opened) (omega arith)
 
 pub returns-in_err-head-clause-work : goal.returns-in_err-head-clause-work
 returns-in_err-head-clause-work g c = λ told.
     let o = c.in_ok-movie.ensures.movie told in
     let e = c.in_ok-movie.ensures.store in
-    let scaled = rw (e.honesty, e.file) at c.in_ok-scales.ensures.work in
-    printed_within c.args.leaving _ c.in_ok-movie.movie o.0 _ _ _ _ o.1 ((c.in_ok-movie.ensures.work told).work o.0 (file_tree_is _ _ o.0 o.1)) (scaled told o.0 o.1.opened) (omega arith)
+    let scaled = rw (e.honesty, e.file, c.when_told-words.ensures) at c.in_ok-scales.ensures.work in
+    printed_within c.args.leaving _ c.in_ok-movie.movie o.0 _ _ _ _ o.1 (c.in_ok-movie.ensures.work told) (scaled told o.0 o.1.opened) (omega arith)
 
 pub returns-in_err-own-clause-work : goal.returns-in_err-own-clause-work
 returns-in_err-own-clause-work g c = λ told.
     let o = c.in_ok-movie.ensures.movie told in
     let e = c.in_ok-movie.ensures.store in
-    let scaled = rw (e.honesty, e.file) at c.in_ok-scales.ensures.work in
-    printed_within c.args.leaving _ c.in_ok-movie.movie o.0 _ _ _ _ o.1 ((c.in_ok-movie.ensures.work told).work o.0 (file_tree_is _ _ o.0 o.1)) (scaled told o.0 o.1.opened) (omega arith)
+    let scaled = rw (e.honesty, e.file, c.when_told-words.ensures) at c.in_ok-scales.ensures.work in
+    printed_within c.args.leaving _ c.in_ok-movie.movie o.0 _ _ _ _ o.1 (c.in_ok-movie.ensures.work told) (scaled told o.0 o.1.opened) (omega arith)
 
 pub returns-in_err-left-clause-work : goal.returns-in_err-left-clause-work
 returns-in_err-left-clause-work g c = λ told.
     let o = c.in_ok-movie.ensures.movie told in
     let e = c.in_ok-movie.ensures.store in
-    let scaled = rw (e.honesty, e.file) at c.in_ok-scales.ensures.work in
-    printed_within c.args.leaving _ c.in_ok-movie.movie o.0 _ _ _ _ o.1 ((c.in_ok-movie.ensures.work told).work o.0 (file_tree_is _ _ o.0 o.1)) (scaled told o.0 o.1.opened) (omega arith)
+    let scaled = rw (e.honesty, e.file, c.when_told-words.ensures) at c.in_ok-scales.ensures.work in
+    printed_within c.args.leaving _ c.in_ok-movie.movie o.0 _ _ _ _ o.1 (c.in_ok-movie.ensures.work told) (scaled told o.0 o.1.opened) (omega arith)
 
 pub returns-in_err-front-clause-work : goal.returns-in_err-front-clause-work
 returns-in_err-front-clause-work g c = λ told.
     let o = c.in_ok-movie.ensures.movie told in
     let e = c.in_ok-movie.ensures.store in
-    let scaled = rw (e.honesty, e.file) at c.in_ok-scales.ensures.work in
-    printed_within c.args.leaving _ c.in_ok-movie.movie o.0 _ _ _ _ o.1 ((c.in_ok-movie.ensures.work told).work o.0 (file_tree_is _ _ o.0 o.1)) (scaled told o.0 o.1.opened) (omega arith)
+    let scaled = rw (e.honesty, e.file, c.when_told-words.ensures) at c.in_ok-scales.ensures.work in
+    printed_within c.args.leaving _ c.in_ok-movie.movie o.0 _ _ _ _ o.1 (c.in_ok-movie.ensures.work told) (scaled told o.0 o.1.opened) (omega arith)
 
 pub returns-in_err-walks-clause-work : goal.returns-in_err-walks-clause-work
 returns-in_err-walks-clause-work g c = λ told.
     let o = c.in_ok-movie.ensures.movie told in
     let e = c.in_ok-movie.ensures.store in
-    let scaled = rw (e.honesty, e.file) at c.in_ok-scales.ensures.work in
-    printed_within c.args.leaving _ c.in_ok-movie.movie o.0 _ _ _ _ o.1 ((c.in_ok-movie.ensures.work told).work o.0 (file_tree_is _ _ o.0 o.1)) (scaled told o.0 o.1.opened) (omega arith)
+    let scaled = rw (e.honesty, e.file, c.when_told-words.ensures) at c.in_ok-scales.ensures.work in
+    printed_within c.args.leaving _ c.in_ok-movie.movie o.0 _ _ _ _ o.1 (c.in_ok-movie.ensures.work told) (scaled told o.0 o.1.opened) (omega arith)
 
 pub returns-in_err-desk-clause-work : goal.returns-in_err-desk-clause-work
 returns-in_err-desk-clause-work g c = λ told.
     let o = c.in_ok-movie.ensures.movie told in
     let e = c.in_ok-movie.ensures.store in
-    let scaled = rw (e.honesty, e.file) at c.in_ok-scales.ensures.work in
-    printed_within c.args.leaving _ c.in_ok-movie.movie o.0 _ _ _ _ o.1 ((c.in_ok-movie.ensures.work told).work o.0 (file_tree_is _ _ o.0 o.1)) (scaled told o.0 o.1.opened) (omega arith)
+    let scaled = rw (e.honesty, e.file, c.when_told-words.ensures) at c.in_ok-scales.ensures.work in
+    printed_within c.args.leaving _ c.in_ok-movie.movie o.0 _ _ _ _ o.1 (c.in_ok-movie.ensures.work told) (scaled told o.0 o.1.opened) (omega arith)
 
 pub returns-in_err-carry-clause-work : goal.returns-in_err-carry-clause-work
 returns-in_err-carry-clause-work g c = λ told.
     let o = c.in_ok-movie.ensures.movie told in
     let e = c.in_ok-movie.ensures.store in
-    let scaled = rw (e.honesty, e.file) at c.in_ok-scales.ensures.work in
-    printed_within c.args.leaving _ c.in_ok-movie.movie o.0 _ _ _ _ o.1 ((c.in_ok-movie.ensures.work told).work o.0 (file_tree_is _ _ o.0 o.1)) (scaled told o.0 o.1.opened) (omega arith)
+    let scaled = rw (e.honesty, e.file, c.when_told-words.ensures) at c.in_ok-scales.ensures.work in
+    printed_within c.args.leaving _ c.in_ok-movie.movie o.0 _ _ _ _ o.1 (c.in_ok-movie.ensures.work told) (scaled told o.0 o.1.opened) (omega arith)
 
 pub returns-in_err-put_movie-clause-work : goal.returns-in_err-put_movie-clause-work
 returns-in_err-put_movie-clause-work g c = λ told.
     let o = c.in_ok-movie.ensures.movie told in
     let e = c.in_ok-movie.ensures.store in
-    let scaled = rw (e.honesty, e.file) at c.in_ok-scales.ensures.work in
-    printed_within c.args.leaving _ c.in_ok-movie.movie o.0 _ _ _ _ o.1 ((c.in_ok-movie.ensures.work told).work o.0 (file_tree_is _ _ o.0 o.1)) (scaled told o.0 o.1.opened) (omega arith)
+    let scaled = rw (e.honesty, e.file, c.when_told-words.ensures) at c.in_ok-scales.ensures.work in
+    printed_within c.args.leaving _ c.in_ok-movie.movie o.0 _ _ _ _ o.1 (c.in_ok-movie.ensures.work told) (scaled told o.0 o.1.opened) (omega arith)
 
 pub returns-in_err-put_tracks-clause-work : goal.returns-in_err-put_tracks-clause-work
 returns-in_err-put_tracks-clause-work g c = λ told.
@@ -303,11 +301,11 @@ returns-in_err-put_tracks-clause-work g c = λ told.
     let o = c.in_ok-movie.ensures.movie told in
     let e = c.in_ok-movie.ensures.store in
     let f = c.in_ok-scales.ensures.store in
-    let are = rw (e.honesty, e.file) at c.in_ok-scales.ensures.scales in
-    let scaled = rw (e.honesty, e.file) at c.in_ok-scales.ensures.work in
-    let walks = ((rw (f.honesty, f.file, e.honesty, e.file, c.as_slice-heads.ensures.value) at c.in_err-put_tracks.ensures.told) told o.0 o.1.opened
-    (heads_remain c.args.leaving file c.in_ok-movie.movie o.0 c.in_ok-head.head o.1 c.in_ok-head.ensures c.in_ok-scales.scales (are told o.0 o.1.opened) _ c.in_ok-left.ensures.tracks)).steps in
-    printed_within c.args.leaving file c.in_ok-movie.movie o.0 _ _ _ _ o.1 ((c.in_ok-movie.ensures.work told).work o.0 (file_tree_is _ _ o.0 o.1)) (scaled told o.0 o.1.opened) walks
+    let are = rw (e.honesty, e.file, c.when_told-words.ensures) at c.in_ok-scales.ensures.scales in
+    let scaled = rw (e.honesty, e.file, c.when_told-words.ensures) at c.in_ok-scales.ensures.work in
+    let walks = ((rw (f.honesty, f.file, e.honesty, e.file, c.as_slice-heads.ensures.value, c.when_told-words.ensures) at c.in_err-put_tracks.ensures.told) told o.0 o.1.opened
+    (heads_remain c.args.leaving file c.in_ok-movie.movie o.0 c.in_ok-head.head o.1 c.in_ok-head.ensures c.in_ok-scales.scales (are told o.0 o.1.opened) _ (rw c.when_told-words.ensures at c.in_ok-left.ensures.tracks))).steps in
+    printed_within c.args.leaving file c.in_ok-movie.movie o.0 _ _ _ _ o.1 (c.in_ok-movie.ensures.work told) (scaled told o.0 o.1.opened) walks
 
 pub returns-in_err-carry-2-clause-work : goal.returns-in_err-carry-2-clause-work
 returns-in_err-carry-2-clause-work g c = λ told.
@@ -315,11 +313,11 @@ returns-in_err-carry-2-clause-work g c = λ told.
     let o = c.in_ok-movie.ensures.movie told in
     let e = c.in_ok-movie.ensures.store in
     let f = c.in_ok-scales.ensures.store in
-    let are = rw (e.honesty, e.file) at c.in_ok-scales.ensures.scales in
-    let scaled = rw (e.honesty, e.file) at c.in_ok-scales.ensures.work in
-    let walks = ((rw (f.honesty, f.file, e.honesty, e.file, c.as_slice-heads.ensures.value) at c.in_ok-put_tracks.ensures.told) told o.0 o.1.opened
-    (heads_remain c.args.leaving file c.in_ok-movie.movie o.0 c.in_ok-head.head o.1 c.in_ok-head.ensures c.in_ok-scales.scales (are told o.0 o.1.opened) _ c.in_ok-left.ensures.tracks)).steps in
-    printed_within c.args.leaving file c.in_ok-movie.movie o.0 _ _ _ _ o.1 ((c.in_ok-movie.ensures.work told).work o.0 (file_tree_is _ _ o.0 o.1)) (scaled told o.0 o.1.opened) walks
+    let are = rw (e.honesty, e.file, c.when_told-words.ensures) at c.in_ok-scales.ensures.scales in
+    let scaled = rw (e.honesty, e.file, c.when_told-words.ensures) at c.in_ok-scales.ensures.work in
+    let walks = ((rw (f.honesty, f.file, e.honesty, e.file, c.as_slice-heads.ensures.value, c.when_told-words.ensures) at c.in_ok-put_tracks.ensures.told) told o.0 o.1.opened
+    (heads_remain c.args.leaving file c.in_ok-movie.movie o.0 c.in_ok-head.head o.1 c.in_ok-head.ensures c.in_ok-scales.scales (are told o.0 o.1.opened) _ (rw c.when_told-words.ensures at c.in_ok-left.ensures.tracks))).steps in
+    printed_within c.args.leaving file c.in_ok-movie.movie o.0 _ _ _ _ o.1 (c.in_ok-movie.ensures.work told) (scaled told o.0 o.1.opened) walks
 
 pub returns-clause-work : goal.returns-clause-work
 returns-clause-work g c = λ told.
@@ -327,11 +325,11 @@ returns-clause-work g c = λ told.
     let o = c.in_ok-movie.ensures.movie told in
     let e = c.in_ok-movie.ensures.store in
     let f = c.in_ok-scales.ensures.store in
-    let are = rw (e.honesty, e.file) at c.in_ok-scales.ensures.scales in
-    let scaled = rw (e.honesty, e.file) at c.in_ok-scales.ensures.work in
-    let walks = ((rw (f.honesty, f.file, e.honesty, e.file, c.as_slice-heads.ensures.value) at c.in_ok-put_tracks.ensures.told) told o.0 o.1.opened
-    (heads_remain c.args.leaving file c.in_ok-movie.movie o.0 c.in_ok-head.head o.1 c.in_ok-head.ensures c.in_ok-scales.scales (are told o.0 o.1.opened) _ c.in_ok-left.ensures.tracks)).steps in
-    printed_within c.args.leaving file c.in_ok-movie.movie o.0 _ _ _ _ o.1 ((c.in_ok-movie.ensures.work told).work o.0 (file_tree_is _ _ o.0 o.1)) (scaled told o.0 o.1.opened) walks
+    let are = rw (e.honesty, e.file, c.when_told-words.ensures) at c.in_ok-scales.ensures.scales in
+    let scaled = rw (e.honesty, e.file, c.when_told-words.ensures) at c.in_ok-scales.ensures.work in
+    let walks = ((rw (f.honesty, f.file, e.honesty, e.file, c.as_slice-heads.ensures.value, c.when_told-words.ensures) at c.in_ok-put_tracks.ensures.told) told o.0 o.1.opened
+    (heads_remain c.args.leaving file c.in_ok-movie.movie o.0 c.in_ok-head.head o.1 c.in_ok-head.ensures c.in_ok-scales.scales (are told o.0 o.1.opened) _ (rw c.when_told-words.ensures at c.in_ok-left.ensures.tracks))).steps in
+    printed_within c.args.leaving file c.in_ok-movie.movie o.0 _ _ _ _ o.1 (c.in_ok-movie.ensures.work told) (scaled told o.0 o.1.opened) walks
 
 pub returns-clause-least : goal.returns-clause-least
 returns-clause-least g c = on_ok_weaker c.flush.result
@@ -345,54 +343,52 @@ returns-clause-least g c = on_ok_weaker c.flush.result
 -- ---- looks
 
 pub returns-in_err-movie-clause-looks : goal.returns-in_err-movie-clause-looks
-returns-in_err-movie-clause-looks g c = λ told.
-    let l = (c.in_err-movie.ensures.work told).looks in
-    not_found _ _ _ _ _ _ c.in_err-movie.field-0.0 told c.in_err-movie.ensures.refusal l.said l.within
+returns-in_err-movie-clause-looks g c = λ told. c.in_err-movie.ensures.looks told
 
 pub returns-in_err-scales-clause-looks : goal.returns-in_err-scales-clause-looks
 returns-in_err-scales-clause-looks g c = λ told.
-    rw c.in_err-scales.ensures.looks (finds_taken _ c.in_ok-movie.movie _ _ (c.in_ok-movie.ensures.movie told) (c.in_ok-movie.ensures.work told).looks.said)
+    rw c.in_err-scales.ensures.looks (c.in_ok-movie.ensures.looks told)
 
 pub returns-in_err-head-clause-looks : goal.returns-in_err-head-clause-looks
 returns-in_err-head-clause-looks g c = λ told.
-    rw c.in_ok-scales.ensures.looks (finds_taken _ c.in_ok-movie.movie _ _ (c.in_ok-movie.ensures.movie told) (c.in_ok-movie.ensures.work told).looks.said)
+    rw c.in_ok-scales.ensures.looks (c.in_ok-movie.ensures.looks told)
 
 pub returns-in_err-own-clause-looks : goal.returns-in_err-own-clause-looks
 returns-in_err-own-clause-looks g c = λ told.
-    rw c.in_ok-scales.ensures.looks (finds_taken _ c.in_ok-movie.movie _ _ (c.in_ok-movie.ensures.movie told) (c.in_ok-movie.ensures.work told).looks.said)
+    rw c.in_ok-scales.ensures.looks (c.in_ok-movie.ensures.looks told)
 
 pub returns-in_err-left-clause-looks : goal.returns-in_err-left-clause-looks
 returns-in_err-left-clause-looks g c = λ told.
-    rw c.in_ok-scales.ensures.looks (finds_taken _ c.in_ok-movie.movie _ _ (c.in_ok-movie.ensures.movie told) (c.in_ok-movie.ensures.work told).looks.said)
+    rw c.in_ok-scales.ensures.looks (c.in_ok-movie.ensures.looks told)
 
 pub returns-in_err-front-clause-looks : goal.returns-in_err-front-clause-looks
 returns-in_err-front-clause-looks g c = λ told.
-    rw c.in_ok-scales.ensures.looks (finds_taken _ c.in_ok-movie.movie _ _ (c.in_ok-movie.ensures.movie told) (c.in_ok-movie.ensures.work told).looks.said)
+    rw c.in_ok-scales.ensures.looks (c.in_ok-movie.ensures.looks told)
 
 pub returns-in_err-walks-clause-looks : goal.returns-in_err-walks-clause-looks
 returns-in_err-walks-clause-looks g c = λ told.
-    rw c.in_ok-scales.ensures.looks (finds_taken _ c.in_ok-movie.movie _ _ (c.in_ok-movie.ensures.movie told) (c.in_ok-movie.ensures.work told).looks.said)
+    rw c.in_ok-scales.ensures.looks (c.in_ok-movie.ensures.looks told)
 
 pub returns-in_err-desk-clause-looks : goal.returns-in_err-desk-clause-looks
 returns-in_err-desk-clause-looks g c = λ told.
-    rw c.in_ok-scales.ensures.looks (finds_taken _ c.in_ok-movie.movie _ _ (c.in_ok-movie.ensures.movie told) (c.in_ok-movie.ensures.work told).looks.said)
+    rw c.in_ok-scales.ensures.looks (c.in_ok-movie.ensures.looks told)
 
 pub returns-in_err-carry-clause-looks : goal.returns-in_err-carry-clause-looks
 returns-in_err-carry-clause-looks g c = λ told.
-    rw c.in_ok-scales.ensures.looks (finds_taken _ c.in_ok-movie.movie _ _ (c.in_ok-movie.ensures.movie told) (c.in_ok-movie.ensures.work told).looks.said)
+    rw c.in_ok-scales.ensures.looks (c.in_ok-movie.ensures.looks told)
 
 pub returns-in_err-put_movie-clause-looks : goal.returns-in_err-put_movie-clause-looks
 returns-in_err-put_movie-clause-looks g c = λ told.
-    rw c.in_ok-scales.ensures.looks (finds_taken _ c.in_ok-movie.movie _ _ (c.in_ok-movie.ensures.movie told) (c.in_ok-movie.ensures.work told).looks.said)
+    rw c.in_ok-scales.ensures.looks (c.in_ok-movie.ensures.looks told)
 
 pub returns-in_err-put_tracks-clause-looks : goal.returns-in_err-put_tracks-clause-looks
 returns-in_err-put_tracks-clause-looks g c = λ told.
-    rw (c.in_err-put_tracks.ensures.looks, c.in_ok-scales.ensures.looks) (finds_taken _ c.in_ok-movie.movie _ _ (c.in_ok-movie.ensures.movie told) (c.in_ok-movie.ensures.work told).looks.said)
+    rw (c.in_err-put_tracks.ensures.looks, c.in_ok-scales.ensures.looks) (c.in_ok-movie.ensures.looks told)
 
 pub returns-in_err-carry-2-clause-looks : goal.returns-in_err-carry-2-clause-looks
 returns-in_err-carry-2-clause-looks g c = λ told.
-    rw (c.in_ok-put_tracks.ensures.looks, c.in_ok-scales.ensures.looks) (finds_taken _ c.in_ok-movie.movie _ _ (c.in_ok-movie.ensures.movie told) (c.in_ok-movie.ensures.work told).looks.said)
+    rw (c.in_ok-put_tracks.ensures.looks, c.in_ok-scales.ensures.looks) (c.in_ok-movie.ensures.looks told)
 
 pub returns-clause-looks : goal.returns-clause-looks
 returns-clause-looks g c = λ told.
-    rw (c.in_ok-put_tracks.ensures.looks, c.in_ok-scales.ensures.looks) (finds_taken _ c.in_ok-movie.movie _ _ (c.in_ok-movie.ensures.movie told) (c.in_ok-movie.ensures.work told).looks.said)
+    rw (c.in_ok-put_tracks.ensures.looks, c.in_ok-scales.ensures.looks) (c.in_ok-movie.ensures.looks told)

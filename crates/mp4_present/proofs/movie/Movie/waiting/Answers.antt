@@ -31,5 +31,9 @@ returns-clause-movie c file tree o own fits =
     let m = c.args.self in
     let n = c.in_ok-mehd.mehd in
     let t = told ws file m tree o own fits in
-    let limits = subst (λ (v : MovieSeen). HasLimits file v t) (ap (λ (v : MovieSeen). record v { waits = Some ws }) (sym c.self.view_is)) (has_limits ws file m tree o own fits m.mehd) in
-    (t, subst (λ (v : MovieSeen). IsOpenedAs file v t) (ap (λ (v : MovieSeen). record v { waits = Some ws; mehd = n }) (sym c.self.view_is)) (is_opened ws file m tree o own fits n (c.in_ok-mehd.ensures.within file t limits)), told_presents ws file tree t (is_told ws file m tree o own fits))
+    let limits = subst (λ (v : MovieSeen). HasLimits file v t) (ap (λ (v : MovieSeen). record v { waits = Some ws }) (sym c.self.view_is)) (has_limits ws file m tree o own fits m.mehd) in (
+      t,
+      subst (λ (v : MovieSeen). IsOpenedAs file v t) (ap (λ (v : MovieSeen). record v { waits = Some ws; mehd = n }) (sym c.self.view_is)) (is_opened ws file m tree o own fits n (c.in_ok-mehd.ensures.within file t limits)),
+      is_told ws file m tree o own fits,
+      told_presents ws file tree t (is_told ws file m tree o own fits),
+    )
