@@ -17,7 +17,7 @@ use Rattle.mp4_present.specs.words.OpenedMovie.{IsOpenedAs}
 use Rattle.mp4_boxes.specs.format.Bytes.{AreBytes}
 use Rattle.mp4_content.specs.format.LeadIns.{left_of, words_told}
 use Rattle.mp4_answers.specs.words.OpenedTold.{IsOpenedTold, OpensWithinTold}
-use Rattle.mp4_answers.proofs.OpenedTold.{judged_told, left_is, shown_valid}
+use Rattle.mp4_answers.proofs.OpenedTold.{judged_told, left_is, shown_limits, shown_valid}
 use Rattle.mp4_present.specs.words.WalkSteps.{walks_steps}
 use Rattle.mp4_content.specs.declared.comparing.differences.Difference.{Difference}
 use Rattle.mp4_content.specs.declared.without.Word.{Word}
@@ -159,6 +159,8 @@ verdict l file other m n found same is a b said = record {
   q = b.1.p;
   first = judged_told l file m a.0 a.1;
   second = judged_told l other n b.0 b.1;
+  first_shown = shown_limits l file m a.0 a.1;
+  second_shown = shown_limits l other n b.0 b.1;
   is = λ x y.
       let told = verdict_of (words_told l) (presentation_of file a.0) (presentation_of other b.0) found same is (said_of_both file a.0 other b.0 (words_told l) found said) (opened_valid l file m a.0 x a.1) (opened_valid l other n b.0 y b.1) in
       let left = left_same l file other m n a.0 b.0 a.1 b.1 in

@@ -35,7 +35,7 @@ use Rattle.mp4_answers.proofs.LeastTimes.{among_others}
 use Rattle.mp4_answers.proofs.WordSets.{covers_all, none_to_take, shrunk}
 use Rattle.mp4_answers.proofs.ComparedFiles.{first_said, opened_valid, true_false}
 use Rattle.mp4_answers.proofs.AskedWords.{among_asked, covers_asked, covers_told, inside_told, lead_same, same_asked, told_as, told_asked}
-use Rattle.mp4_answers.proofs.OpenedTold.{judged_told}
+use Rattle.mp4_answers.proofs.OpenedTold.{judged_told, shown_limits}
 use Rattle.mp4_answers.specs.words.OpenedTold.{IsOpenedTold}
 use Rattle.mp4_boxes.proofs.Plain.{nat_le_no}
 
@@ -235,6 +235,8 @@ told_of bytes listing l file other m n (Some text) same Took is differ put a b h
     q = b.1.p;
     first = judged_told l file m a.0 a.1;
     second = judged_told l other n b.0 b.1;
+    first_shown = shown_limits l file m a.0 a.1;
+    second_shown = shown_limits l other n b.0 b.1;
     tells = λ x y. tells_of l a.1.p b.1.p (presentation_of file a.0) (presentation_of other b.0) (opened_valid l file m a.0 x a.1) (opened_valid l other n b.0 y b.1) a.1.says b.1.says listing (bytes text) h;
   },
   put,

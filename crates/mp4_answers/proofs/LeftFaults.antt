@@ -24,7 +24,7 @@ left_fault_is_one l file p e within over =
     let tracks = told_many l.lead_ins p ∙ ap (λ (x : Presentation). length x.tracks) d.says ∙ length-map d.tree.movie.tracks (track_of file (file_parts d.tree)) in
     let r = is_one (words_told l) q d.tree.movie.tracks (sym tracks) (λ limits. over (record { shown = within; left = limits })) in (
       r.0,
-      record { p = p; denotes = d; fails = r.1 },
+      record { p = p; denotes = d; shown = within; fails = r.1 },
       λ g s.
           let same = denotes_one file s.p p s.denotes d in
           let boxes = file_tree_one file s.denotes.tree d.tree s.denotes.is_tree d.is_tree in

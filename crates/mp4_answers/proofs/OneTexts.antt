@@ -93,5 +93,5 @@ judged_texts_are_one = record {
   shown = λ file bytes other x y. x.2 ∙ ap (λ (p : Presentation). compact_text (show_value p) ++ line_feed) (judged_one file x.0 y.0 x.1 y.1) ∙ sym y.2;
   listed = λ file id form bytes other x y. x.2 ∙ ap (λ (t : Track). sample_listing form t) (track_is_one file id x.0 y.0 x.1 y.1) ∙ sym y.2;
   extracted = λ file id bytes other x y. x.2 ∙ ap (λ (t : Track). sample_data t) (track_is_one file id x.0 y.0 x.1 y.1) ∙ sym y.2;
-  printed = λ l file bytes other x y. x.2 ∙ ap (λ (p : Presentation). text l p) (judged_one file x.0 y.0 x.1 y.1) ∙ sym y.2;
+  printed = λ l file bytes other x y. x.3 ∙ ap (λ (p : Presentation). text l p) (judged_one file x.0 y.0 x.1 y.1) ∙ sym y.3;
 }

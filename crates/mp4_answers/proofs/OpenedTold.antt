@@ -202,8 +202,11 @@ module _ (l : Without) (file : List ℕ) (m : MovieSeen) (tree : FileTree) (o : 
   pub left_is : remaining (words_told l) (presentation_of file tree) ≡ left_of l o.p
   left_is = ap (remaining (words_told l)) o.says ∙ sym (left_is_told l o.p)
 
+  pub shown_limits : IsWithinLimits (told l.lead_ins o.p)
+  shown_limits = subst IsWithinLimits o.says o.opened.limits
+
   pub limits_told : RemainsInLimits (words_told l) (presentation_of file tree) → IsLeftInLimits l o.p
-  limits_told r = record { shown = subst IsWithinLimits o.says o.opened.limits; left = subst (RemainsInLimits (words_told l)) o.says r }
+  limits_told r = record { shown = shown_limits; left = subst (RemainsInLimits (words_told l)) o.says r }
 
   pub limits_back : IsLeftInLimits l o.p → RemainsInLimits (words_told l) (presentation_of file tree)
   limits_back k = subst (RemainsInLimits (words_told l)) (sym o.says) k.left
@@ -212,10 +215,10 @@ module _ (l : Without) (file : List ℕ) (m : MovieSeen) (tree : FileTree) (o : 
   form_told r = (o.p, judged_told, limits_told r, ap normal left_is)
 
   pub fault_told : (f : Fault) → ReducedLimitPasses (words_told l) file tree f → LeftFaultStands l file f
-  fault_told f passes = record { p = o.p; denotes = o.denotes; fails = subst (λ (q : Presentation). FailsLeft (words_told l) q q.tracks o.denotes.tree.movie.tracks f) o.says (fails_left (words_told l) file m.waits o.denotes.tree tree f o.is_told passes) }
+  fault_told f passes = record { p = o.p; denotes = o.denotes; shown = shown_limits; fails = subst (λ (q : Presentation). FailsLeft (words_told l) q q.tracks o.denotes.tree.movie.tracks f) o.says (fails_left (words_told l) file m.waits o.denotes.tree tree f o.is_told passes) }
 
   pub shown_valid : Valid o.p → Valid (presentation_of file tree)
-  shown_valid v = subst Valid (sym o.says) (by l.lead_ins (subst IsWithinLimits o.says o.opened.limits))
+  shown_valid v = subst Valid (sym o.says) (by l.lead_ins shown_limits)
     where
       by : (b : Bool) → IsWithinLimits (told b o.p) → Valid (told b o.p)
       by true limits = valid_told o.p v limits

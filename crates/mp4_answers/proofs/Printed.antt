@@ -20,7 +20,7 @@ use Rattle.mp4_present.specs.words.Movies.{MovieSeen}
 use Rattle.mp4_present.specs.format.Presentation.{Presentation}
 use Rattle.mp4_content.specs.format.LeadIns.{words_told}
 use Rattle.mp4_answers.specs.words.OpenedTold.{IsOpenedTold}
-use Rattle.mp4_answers.proofs.OpenedTold.{judged_told, left_is}
+use Rattle.mp4_answers.proofs.OpenedTold.{judged_told, left_is, shown_limits}
 use Rattle.mp4_present.specs.words.HeadsRead.{SaysMovie}
 use Rattle.mp4_content.specs.declared.without.Without.{Without}
 use Rattle.mp4_answers.specs.format.FileTexts.{PrintsText}
@@ -67,7 +67,7 @@ module _ (l : Without) (file : List ℕ) (m : MovieSeen) (tree : FileTree) (head
       ∙ (λ i. front_lines l ++ (movie_lines (remaining_movie (words_told l) (sym are.movie i) (sym said i).movie) ++ (tracks_part ++ end)))
 
   prints : PrintsText l file whole
-  prints = (o.p, judged_told l file m tree o, refl)
+  prints = (o.p, judged_told l file m tree o, shown_limits l file m tree o, refl)
 
   module _ {Y : Type 0} {takes : Y → Y → List ℕ → Type 0} (joins : IsJoining takes) (a b c d e f : Y) (nothing : takes a a []) (held_b held_c held_d held_e : List ℕ) where
     begun : Going (takes a a) [] [] whole whole

@@ -1,7 +1,7 @@
 //! Laws of what the commands answer, taken together.
 ghost use Rattle.mp4_answers.specs.format.OneTextLaws.{StripIsOne, ListOfBoxesIsOne, JudgedTextsAreOne};
 ghost use Rattle.mp4_answers.specs.format.Steps.{StepsByTracks};
-ghost use Rattle.mp4_answers.specs.format.SameAnswers.{AcceptedHasNoFault, LeftFaultIsOne, LeftFaultRefuses, NormalFormDenotesTheSame, NormalFormHasTheSameData, NormalFormListsTheSame, NormalFormShowsTheSame, SameIsSameBytes, SameStaysSame, ToldIsJudged, UntoldIsJudged};
+ghost use Rattle.mp4_answers.specs.format.SameAnswers.{AcceptedHasNoFault, FaultIsJudged, LeftFaultIsOne, LeftFaultRefuses, NormalFormDenotesTheSame, NormalFormHasTheSameData, NormalFormListsTheSame, NormalFormShowsTheSame, SameIsSameBytes, SameStaysSame, ToldIsJudged, UntoldIsJudged};
 
 /// `compare --without` says that two files are the same exactly if `normalise --without` of both
 /// gives the same bytes, where both are not too long.
@@ -9,7 +9,8 @@ pub fn same_is_same_bytes()
     ensures { SameIsSameBytes }
 {}
 
-/// What is told the same without some words is told the same without more.
+/// What is told the same without some words is told the same without more, if lead-ins are not
+/// among the more alone, or what is left says how tracks begin.
 pub fn same_stays_same()
     ensures { SameStaysSame }
 {}
@@ -44,7 +45,13 @@ pub fn untold_is_judged()
     ensures { UntoldIsJudged }
 {}
 
-/// One that is told so is judged to be what it shows then, if that is within the limits.
+/// A fault of a file is its fault too as it is told.
+pub fn fault_is_judged()
+    ensures { FaultIsJudged }
+{}
+
+/// A file that has none and is told so is judged to be what it shows then, if that is within the
+/// limits.
 pub fn told_is_judged()
     ensures { ToldIsJudged }
 {}
@@ -54,7 +61,8 @@ pub fn left_fault_refuses()
     ensures { LeftFaultRefuses }
 {}
 
-/// Where it has none, one such fault is named, and no other.
+/// Where it has none, and told how long its tracks wait the file is within the limits, one such
+/// fault is named, and no other.
 pub fn left_fault_is_one()
     ensures { LeftFaultIsOne }
 {}

@@ -15,6 +15,8 @@
 //!   of one. [`head_left`] is what is left of a head, [`payloads_left`] that of its payloads, in
 //!   memory of their own.
 //! - [`Scales`] says by what times are divided where timescales are left out ([`remaining_laws`]).
+//! - [`waits`] says how long each track of a movie waits, which is all that is left of how tracks
+//!   begin where lead-ins are left out ([`lead_ins_laws`]).
 //! - [`reduction_of`] says what samples of a track are left by; [`peek_sample`] looks at the next
 //!   sample.
 //!

@@ -4,7 +4,7 @@ use Rattle.mp4_boxes.specs.format.Bytes.{AreBytes}
 use Rattle.mp4_present.specs.format.ByBytes.{OpensWithin}
 use Rattle.mp4_present.specs.format.Denotes.{Denotes}
 use Rattle.mp4_head.specs.format.Head.{Kept}
-use Rattle.mp4_present.specs.format.Presentation.{Track, Presentation, sample_total}
+use Rattle.mp4_present.specs.format.Presentation.{IsWithinLimits, Track, Presentation, sample_total}
 use Rattle.mp4_present.specs.format.Judge.{judge}
 use Rattle.mp4_content.specs.format.Alignment.{AreAligned, listed}
 use Rattle.mp4_content.specs.format.LeadIns.{left_of, told, words_told}
@@ -26,12 +26,15 @@ use Rattle.mp4_answers.specs.format.Headline.{DenotesNothing}
 use Rattle.mp4_answers.specs.format.LastLine.{last_line}
 use Rattle.mp4_answers.specs.format.Steps.{FindsWithin, row_total, walked_each}
 
--- Both files are judged to be a presentation, and the answer is whether the same is left of both.
+-- Both files are judged to be a presentation, which is within the limits as it is told how long its
+-- tracks wait, and the answer is whether the same is left of both.
 pub record IsVerdict (l : Without) (file other : List ℕ) (same : Bool) : Type 0 where
   pub p : Presentation
   pub q : Presentation
   pub first : judge file ≡ Ok p
   pub second : judge other ≡ Ok q
+  pub first_shown : IsWithinLimits (told l.lead_ins p)
+  pub second_shown : IsWithinLimits (told l.lead_ins q)
   pub is : AreBytes file → AreBytes other → (same ≡ true) ↔ (left_of l p ≡ left_of l q)
 
 -- ---- what is said of two files that differ
@@ -113,6 +116,8 @@ pub record IsTold (listing : Listing) (l : Without) (file other text : List ℕ)
   pub q : Presentation
   pub first : judge file ≡ Ok p
   pub second : judge other ≡ Ok q
+  pub first_shown : IsWithinLimits (told l.lead_ins p)
+  pub second_shown : IsWithinLimits (told l.lead_ins q)
   pub tells : AreBytes file → AreBytes other → TellsOf listing l p q text
 
 -- such a text was put

@@ -4,7 +4,8 @@ use Rattle.std.specs.List.{AllByRecursion}
 use Rattle.serde_json.specs.Written.{compact_text}
 use Rattle.mp4_head.specs.format.Head.{TrackHead}
 use Rattle.mp4_present.specs.format.Judge.{judge}
-use Rattle.mp4_present.specs.format.Presentation.{Track, Presentation, heads}
+use Rattle.mp4_present.specs.format.Presentation.{IsWithinLimits, Track, Presentation, heads}
+use Rattle.mp4_content.specs.format.LeadIns.{told}
 use Rattle.mp4_content.specs.declared.without.Without.{Without}
 use Rattle.mp4_answers.specs.format.Text.{text}
 use Rattle.mp4_answers.specs.format.Texts.{line_feed, sample_listing, sample_data, show_value}
@@ -41,6 +42,8 @@ ListsSamples file id form text = (t : Track) × IsTrackWith file id t
 abbrev pub HasData : List ℕ → ℕ → List ℕ → Type 0
 HasData file id bytes = (t : Track) × IsTrackWith file id t × (bytes ≡ sample_data t)
 
--- the text of what is left of the presentation that the file is judged to be
+-- the text of what is left of the presentation that the file is judged to be, which is within the
+-- limits as it is told how long its tracks wait
 abbrev pub PrintsText : Without → List ℕ → List ℕ → Type 0
-PrintsText l file bytes = (p : Presentation) × (judge file ≡ Ok p) × (bytes ≡ text l p)
+PrintsText l file bytes = (p : Presentation) × (judge file ≡ Ok p)
+    × IsWithinLimits (told l.lead_ins p) × (bytes ≡ text l p)

@@ -1,5 +1,5 @@
 -- Laws of what the commands answer, taken together.
-use Rattle.std.specs.Prelude.{◌≡◌, ◌↔◌, ◌⊎◌, ℕ, List, Bool, true, false, Ok}
+use Rattle.std.specs.Prelude.{◌≡◌, ◌↔◌, ◌⊎◌, ℕ, List, Bool, true, false, Ok, Err}
 use Rattle.mp4_boxes.specs.format.Bytes.{AreBytes}
 use Rattle.mp4_boxes.specs.declared.fault.Fault.{Fault}
 use Rattle.mp4_present.specs.format.Judge.{judge}
@@ -76,8 +76,12 @@ LeftFaultIsOne = (l : Without) (file : List ℕ) (p : Presentation) → judge fi
 abbrev pub UntoldIsJudged : Type 0
 UntoldIsJudged = (file : List ℕ) → judge_told false file ≡ judge file
 
--- One that is, is judged to be what it shows then, if that is within the limits: so a fault is its
--- own, or that of a limit that it passes so.
+-- A fault of a file is its fault too as it is told.
+abbrev pub FaultIsJudged : Type 0
+FaultIsJudged = (b : Bool) (file : List ℕ) (f : Fault) → judge file ≡ Err f
+    → judge_told b file ≡ Err f
+
+-- One that has none is judged to be what it shows then, if that is within the limits.
 abbrev pub ToldIsJudged : Type 0
 ToldIsJudged = (b : Bool) (file : List ℕ) (p : Presentation) → judge file ≡ Ok p
     → IsWithinLimits (told b p) → judge_told b file ≡ Ok (told b p)

@@ -14,9 +14,11 @@ use mp4_store::{Sink, Store};
 use std::alloc::Global;
 use std::sync::ledger::Ledger;
 
-/// As `normalise_counted`, of what is left of the file. That may have no normal form: then the
-/// fault is TimeTooLarge or OffsetTooLarge at the `tkhd` of the first track that is too long, or of
-/// which an offset doesn't fit, and nothing is put.
+/// As `normalise_counted`, of what is left of the file. Told how long its tracks wait it may pass a
+/// limit: then the fault is TimeTooLarge at the `tkhd` of the first track that is too long, or
+/// MovieTooLarge at the `moov`. And what is left may have no normal form: then the fault is
+/// TimeTooLarge or OffsetTooLarge at the `tkhd` of the first track that is too long, or of which an
+/// offset doesn't fit. Nothing is put then.
 pub fn normalise_reduced<S: Store, K: Sink, L: Ledger, M: Ledger>(
     alloc: Global,
     store: &mut S,

@@ -494,9 +494,9 @@ fn put_tracks<S: Store, K: Sink, L: Ledger, M: Ledger>(
     Ok(())
 }
 
-/// Puts the text of what remains of a file: a line for each value that its movie, its tracks and
-/// their samples have, with the digest of each sample's bytes. The whole file is judged, and all
-/// memory is taken, before the first line is put.
+/// Puts the text of what is left of a file: a line for each value that its movie, its tracks and
+/// their samples have, with the digest of each sample's bytes. The whole file is judged, also as it
+/// is told how long its tracks wait, and all memory is taken, before the first line is put.
 pub fn print<S: Store, K: Sink, L: Ledger, M: Ledger>(
     alloc: Global,
     store: &mut S,
