@@ -20,7 +20,8 @@ use Rattle.mp4_present.specs.words.ToldTrees.{AreTracksTold, IsFileTold, IsTold,
 use Rattle.mp4_present.specs.words.Waits.{NamesLimitOf}
 use Rattle.mp4_present.proofs.ToldTrees.{file_denotes, told_presents}
 use Rattle.mp4_content.specs.format.LeadIns.{delays_of, left_of, says_beginnings, told, words_told}
-use Rattle.mp4_content.specs.format.ReducedTimes.{FailsLeft, IsFaultLeft, IsLeftFault, IsLeftInTime, IsLeftNear, LeftInLimits, ReducedLimitPasses}
+use Rattle.mp4_content.specs.format.ReducedTimes.{FailsLeft, IsFaultLeft, IsLeftInTime, IsLeftNear}
+use Rattle.mp4_content.specs.words.LeftTimes.{IsTreeFault, TreeLeftInLimits, TreePassesLimits}
 use Rattle.mp4_content.specs.format.Remaining.{RemainsInLimits, remaining}
 use Rattle.mp4_content.specs.words.Delays.{told_waits}
 use Rattle.mp4_content.specs.words.Opened.{RefusesPlan}
@@ -172,11 +173,11 @@ all_before : {A B : Type 0} (g : A → B) (P : A → Type 0) (Q : B → Type 0) 
 all_before g P Q f [] after x h = tt
 all_before g P Q f (y ∷ before) after x h = (f y h.0, all_before g P Q f before after x h.1)
 
-fault_named : (l : Without) (file : List ℕ) (tree : FileTree) (x u : TrackTree) (f : Fault) → x.track ≡ u.track → IsLeftFault l file tree x f → IsFaultLeft l (presentation_of file tree) (track_of file (file_parts tree) x) u f
+fault_named : (l : Without) (file : List ℕ) (tree : FileTree) (x u : TrackTree) (f : Fault) → x.track ≡ u.track → IsTreeFault l file tree x f → IsFaultLeft l (presentation_of file tree) (track_of file (file_parts tree) x) u f
 fault_named l file tree x u f same (inl h) = inl (h.0, h.1 ∙ ap (λ (boxes : List Box). fault_of TimeTooLarge (first_of (codes "tkhd") boxes)) same)
 fault_named l file tree x u f same (inr h) = inr (h.0, h.1, h.2 ∙ ap (λ (boxes : List Box). fault_of OffsetTooLarge (first_of (codes "tkhd") boxes)) same)
 
-fails_left : (l : Without) (file : List ℕ) (waits : Option (List ℕ)) (own tree : FileTree) (f : Fault) → IsTold waits own tree → ReducedLimitPasses l file tree f → FailsLeft l (presentation_of file tree) (presentation_of file tree).tracks own.movie.tracks f
+fails_left : (l : Without) (file : List ℕ) (waits : Option (List ℕ)) (own tree : FileTree) (f : Fault) → IsTold waits own tree → TreePassesLimits l file tree f → FailsLeft l (presentation_of file tree) (presentation_of file tree).tracks own.movie.tracks f
 fails_left l file waits own tree f is x =
     let g = track_of file (file_parts tree) in
     let p = presentation_of file tree in
@@ -189,7 +190,7 @@ fails_left l file waits own tree f is x =
       is_there = ap (λ (ts : List TrackTree). slice_get (map g ts) (length x.before)) x.tracks ∙ got_mapped g x.before x.after x.t;
       has_boxes = u.1;
       before = subst (λ (ts : List TrackTree). AllByRecursion (λ (t : Track). IsLeftInTime l p t × IsLeftNear l p t) (take (length x.before) (map g ts))) (sym x.tracks)
-          (all_before g (LeftInLimits l file tree) (λ (t : Track). IsLeftInTime l p t × IsLeftNear l p t) (λ t h. h) x.before x.after x.t x.in_limits);
+          (all_before g (TreeLeftInLimits l file tree) (λ (t : Track). IsLeftInTime l p t × IsLeftNear l p t) (λ t h. h) x.before x.after x.t x.in_limits);
       named = fault_named l file tree x.t u.0 f u.2 x.named;
     }
 
@@ -214,7 +215,7 @@ module _ (l : Without) (file : List ℕ) (m : MovieSeen) (tree : FileTree) (o : 
   pub form_told : RemainsInLimits (words_told l) (presentation_of file tree) → HasReducedForm l file (normal (remaining (words_told l) (presentation_of file tree)))
   form_told r = (o.p, judged_told, limits_told r, ap normal left_is)
 
-  pub fault_told : (f : Fault) → ReducedLimitPasses (words_told l) file tree f → LeftFaultStands l file f
+  pub fault_told : (f : Fault) → TreePassesLimits (words_told l) file tree f → LeftFaultStands l file f
   fault_told f passes = record { p = o.p; denotes = o.denotes; shown = shown_limits; fails = subst (λ (q : Presentation). FailsLeft (words_told l) q q.tracks o.denotes.tree.movie.tracks f) o.says (fails_left (words_told l) file m.waits o.denotes.tree tree f o.is_told passes) }
 
   pub shown_valid : Valid o.p → Valid (presentation_of file tree)

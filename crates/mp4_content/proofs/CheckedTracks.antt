@@ -24,8 +24,7 @@ use Rattle.mp4_content.specs.format.Reduced.{HasNearOffsets, start_left}
 use Rattle.mp4_content.specs.format.Timescales.{divided}
 use Rattle.mp4_content.specs.declared.without.Without.{Without}
 use Rattle.mp4_present.specs.declared.track_info.TrackInfo.{TrackInfo}
-use Rattle.mp4_content.specs.format.ReducedTimes.{IsLeftFault, LeftInLimits, LeftInRange, LeftInTime, scale_left, track_left}
-use Rattle.mp4_content.specs.words.LeftTimes.{check_on, check_track, check_tracks, is_long, length_by, offset_fault, time_fault}
+use Rattle.mp4_content.specs.words.LeftTimes.{IsTreeFault, TreeLeftInLimits, TreeLeftInRange, TreeLeftInTime, check_on, check_track, check_tracks, is_long, length_by, offset_fault, scale_left, time_fault, track_left}
 use Rattle.mp4_content.specs.declared.measures.Total.{Total}
 
 -- ---- one track more
@@ -112,7 +111,7 @@ module _ (l : Without) (file : List ℕ) (tree : FileTree) where
         let same : max (left t).head.media.timescale 1 ≡ (left t).head.media.timescale = omega (arith, there) in
         (λ i. length_by (g.edits i) ts (g.media i) (exact i)) ∙ ap (λ n. if says_all (left t).head.edits then sum_of (λ (e : heads.Edit). e.segment_duration) (left t).head.edits else div_ceil (lasts t * ts) n) same
 
-    in_time : is_long end len ≡ false → LeftInTime l file tree t × (len ≡ track_length ts (left t))
+    in_time : is_long end len ≡ false → TreeLeftInTime l file tree t × (len ≡ track_length ts (left t))
     in_time e =
         let short = long_not end len e in
         let first = short.0 in
@@ -120,7 +119,7 @@ module _ (l : Without) (file : List ℕ) (tree : FileTree) where
         let same = len_is (omega (arith, first, is)) in
         ((omega (arith, first, is), subst (λ n. n ≤ max_time) same short.1), same)
 
-    not_in_time : is_long end len ≡ true → LeftInTime l file tree t → ⊥
+    not_in_time : is_long end len ≡ true → TreeLeftInTime l file tree t → ⊥
     not_in_time e h =
         let ends = h.0 in
         let is = end_is in
@@ -132,18 +131,18 @@ module _ (l : Without) (file : List ℕ) (tree : FileTree) where
           | inr over ↦ omega (arith, over, same, short)
         ]
 
-    in_range : (l.origins && not total.is_near) ≡ false → LeftInRange l file tree t
+    in_range : (l.origins && not total.is_near) ≡ false → TreeLeftInRange l file tree t
     in_range e = by l.origins total.is_near refl refl e
       where
-        by : (o n : Bool) → l.origins ≡ o → total.is_near ≡ n → (o && not n) ≡ false → LeftInRange l file tree t
+        by : (o n : Bool) → l.origins ≡ o → total.is_near ≡ n → (o && not n) ≡ false → TreeLeftInRange l file tree t
         by false n x y e = g.other x
         by true true x y e = g.near x y
         by true false x y e = absurd cc
 
-    not_in_range : (l.origins && not total.is_near) ≡ true → LeftInRange l file tree t → ⊥
+    not_in_range : (l.origins && not total.is_near) ≡ true → TreeLeftInRange l file tree t → ⊥
     not_in_range e = by l.origins total.is_near refl refl e
       where
-        by : (o n : Bool) → l.origins ≡ o → total.is_near ≡ n → (o && not n) ≡ true → LeftInRange l file tree t → ⊥
+        by : (o n : Bool) → l.origins ≡ o → total.is_near ≡ n → (o && not n) ≡ true → TreeLeftInRange l file tree t → ⊥
         by false n x y e h = absurd cc
         by true true x y e h = absurd cc
         by true false x y e h = g.far x y h
@@ -154,10 +153,10 @@ module _ (l : Without) (file : List ℕ) (tree : FileTree) where
         let same = same_kind (codes "tkhd") (first_of (codes "tkhd") t.track).kind first.1 in
         λ i. record { kind = kind; box_type = same i; offset = sym g.place i }
 
-    pub one_ok : (n : ℕ) → check_track l ts h own info total ≡ Ok n → LeftInLimits l file tree t × (n ≡ track_length ts (left t))
+    pub one_ok : (n : ℕ) → check_track l ts h own info total ≡ Ok n → TreeLeftInLimits l file tree t × (n ≡ track_length ts (left t))
     one_ok n e = by (is_long end len) (l.origins && not total.is_near) refl refl e
       where
-        by : (a b : Bool) → is_long end len ≡ a → (l.origins && not total.is_near) ≡ b → (if a then Err (time_fault h.offset) else if b then Err (offset_fault h.offset) else Ok len) ≡ Ok n → LeftInLimits l file tree t × (n ≡ track_length ts (left t))
+        by : (a b : Bool) → is_long end len ≡ a → (l.origins && not total.is_near) ≡ b → (if a then Err (time_fault h.offset) else if b then Err (offset_fault h.offset) else Ok len) ≡ Ok n → TreeLeftInLimits l file tree t × (n ≡ track_length ts (left t))
         by true b x y e = absurd cc
         by false true x y e = absurd cc
         by false false x y e =
@@ -165,10 +164,10 @@ module _ (l : Without) (file : List ℕ) (tree : FileTree) where
             let short = in_time x in
             ((short.0, in_range y), same ∙ short.1)
 
-    pub one_err : (f : Fault) → check_track l ts h own info total ≡ Err f → IsLeftFault l file tree t f
+    pub one_err : (f : Fault) → check_track l ts h own info total ≡ Err f → IsTreeFault l file tree t f
     one_err f e = by (is_long end len) (l.origins && not total.is_near) refl refl e
       where
-        by : (a b : Bool) → is_long end len ≡ a → (l.origins && not total.is_near) ≡ b → (if a then Err (time_fault h.offset) else if b then Err (offset_fault h.offset) else Ok len) ≡ Err f → IsLeftFault l file tree t f
+        by : (a b : Bool) → is_long end len ≡ a → (l.origins && not total.is_near) ≡ b → (if a then Err (time_fault h.offset) else if b then Err (offset_fault h.offset) else Ok len) ≡ Err f → IsTreeFault l file tree t f
         by true b x y e = let same : f ≡ time_fault h.offset = cc in inl (not_in_time x, same ∙ sym (named TimeTooLarge))
         by false true x y e = let same : f ≡ offset_fault h.offset = cc in inr ((in_time x).0, not_in_range y, same ∙ sym (named OffsetTooLarge))
         by false false x y e = absurd cc
@@ -184,7 +183,7 @@ module _ (l : Without) (file : List ℕ) (tree : FileTree) where
   longest_of most trees = fold (λ longest (t : Track). max longest (track_length ts t)) most (map left trees)
 
   abbrev AreIn : ℕ → ℕ → List TrackTree → Type 0
-  AreIn most n trees = AllByRecursion (LeftInLimits l file tree) trees × (n ≡ longest_of most trees)
+  AreIn most n trees = AllByRecursion (TreeLeftInLimits l file tree) trees × (n ≡ longest_of most trees)
 
   more_ok : (most n : ℕ) (t : TrackTree) (h : TrackHead) (own : ℕ) (info : TrackInfo) (total : Total) (trees : List TrackTree) (on : ℕ → Result ℕ Fault) (r : Result ℕ Fault) → IsGood t h own info total → check_track l ts h own info total ≡ r →
       ((len : ℕ) → on len ≡ Ok n → AreIn (max most len) n trees)
@@ -214,8 +213,8 @@ module _ (l : Without) (file : List ℕ) (tree : FileTree) where
     pub t : TrackTree
     pub after : List TrackTree
     pub split : trees ≡ before ++ t ∷ after
-    pub in_limits : AllByRecursion (LeftInLimits l file tree) before
-    pub named : IsLeftFault l file tree t f
+    pub in_limits : AllByRecursion (TreeLeftInLimits l file tree) before
+    pub named : IsTreeFault l file tree t f
 
   more_err : (f : Fault) (t : TrackTree) (h : TrackHead) (own : ℕ) (info : TrackInfo) (total : Total) (trees : List TrackTree) (on : ℕ → Result ℕ Fault) (r : Result ℕ Fault) → IsGood t h own info total → check_track l ts h own info total ≡ r → ((len : ℕ) → on len ≡ Err f → IsPassed trees f)
       → check_on on r ≡ Err f → IsPassed (t ∷ trees) f

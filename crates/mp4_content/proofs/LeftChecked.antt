@@ -22,9 +22,8 @@ use Rattle.mp4_content.specs.declared.reduced.Reduction.{Reduction}
 use Rattle.mp4_content.specs.declared.scales.Scales.{Scales}
 use Rattle.mp4_content.specs.declared.without.Without.{Without}
 use Rattle.mp4_present.specs.declared.track_info.TrackInfo.{TrackInfo}
-use Rattle.mp4_content.specs.format.ReducedTimes.{LeftInLimits, ReducedLimitPasses, scale_left, track_left}
 use Rattle.mp4_content.specs.words.ComingLess.{track_reduction}
-use Rattle.mp4_content.specs.words.LeftTimes.{check_tracks}
+use Rattle.mp4_content.specs.words.LeftTimes.{TreeLeftInLimits, TreePassesLimits, check_tracks, scale_left, track_left}
 use Rattle.mp4_content.specs.words.Measuring.{AreTotals, measures, no_total, total_from, track_total}
 use Rattle.mp4_content.specs.declared.measures.Total.{Total}
 use Rattle.mp4_content.proofs.CheckedTracks.{AreGood, IsGood, all_err, all_ok}
@@ -163,7 +162,7 @@ module _ (l : Without) (counts : l.timing ≡ false) (file : List ℕ) (tree : F
   all_good (t ∷ trees) (h ∷ hs) (divisor ∷ divisors) (info ∷ infos) (total ∷ totals) s a c i k v w x =
       (one_good t h divisor info total s.0 a.0 c.0 i.0 k.0 v.0 w.0 x.0, all_good trees hs divisors infos totals s.1 a.1 c.1 i.1 k.1 v.1 w.1 x.1)
 
-  each_apart : (trees : List TrackTree) → AllByRecursion (LeftInLimits l file tree) trees
+  each_apart : (trees : List TrackTree) → AllByRecursion (TreeLeftInLimits l file tree) trees
       → AllByRecursion (λ (t : Track). IsInTime (scale_left l file tree) (remaining_track l (movie_divisor l (presentation_of file tree)) t)) (map own trees) × AllByRecursion (λ (t : Track). HasNearOffsets (remaining_track l (movie_divisor l (presentation_of file tree)) t)) (map own trees)
   each_apart [] h = (tt, tt)
   each_apart (t ∷ trees) h = let more = each_apart trees h.1 in ((h.0.0, more.0), (h.0.1, more.1))
@@ -184,7 +183,7 @@ module _ (l : Without) (counts : l.timing ≡ false) (file : List ℕ) (tree : F
         (record { in_time = apart.0; in_range = apart.1 }, r.1 ∙ sym (file_longest l file tree))
 
     -- Where one isn't, it is the first.
-    pub left_err : (f : Fault) → checked head.timescale ≡ Err f → ReducedLimitPasses l file tree f
+    pub left_err : (f : Fault) → checked head.timescale ≡ Err f → TreePassesLimits l file tree f
     left_err f e =
         let p = all_err l file tree 0 f tree.movie.tracks head.tracks.items scales.tracks.items m.tracks totals good (ap checked (sym scale) ∙ e) in
         record { before = p.before; t = p.t; after = p.after; tracks = p.split; in_limits = p.in_limits; named = p.named }

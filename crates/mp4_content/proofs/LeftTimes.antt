@@ -30,12 +30,12 @@ use Rattle.mp4_content.specs.declared.without.Without.{Without}
 use Rattle.mp4_present.specs.declared.track_info.TrackInfo.{TrackInfo}
 use Rattle.mp4_present.proofs.PlacedTracks.{IsTrackPlaced}
 use Rattle.mp4_present.proofs.ValidSamples.{IsOfTrack}
-use Rattle.mp4_content.specs.format.ReducedTimes.{ReducesInLimits, scale_left, track_left}
+use Rattle.mp4_content.specs.format.ReducedTimes.{ReducesInLimits}
 use Rattle.mp4_present.specs.words.HeadsRead.{places_of}
 use Rattle.mp4_content.specs.words.Divided.{remaining_head, remaining_heads}
 use Rattle.mp4_content.specs.words.PayloadsLeft.{keeping_payloads}
 use Rattle.mp4_content.specs.words.Scales.{AreScales}
-use Rattle.mp4_content.specs.words.LeftTimes.{count_by, longest_count}
+use Rattle.mp4_content.specs.words.LeftTimes.{count_by, longest_count, scale_left, track_left}
 use Rattle.mp4_content.proofs.HeadLess.{same_length}
 use Rattle.mp4_content.proofs.Numbered.{numbered_each, remaining_longest}
 use Rattle.mp4_content.proofs.RemainingScaled.{only_timescales_differ, undivided_track}

@@ -15,7 +15,8 @@ use Rattle.mp4_present.specs.format.Denotes.{FileTree, file_parts, track_of, pre
 use Rattle.mp4_content.specs.format.Reduced.{HasNearOffsets}
 use Rattle.mp4_content.specs.format.Remaining.{RemainsInLimits, movie_divisor, remaining_movie, remaining_track}
 use Rattle.mp4_content.specs.declared.without.Without.{Without}
-use Rattle.mp4_content.specs.format.ReducedTimes.{FailsLeft, IsFaultLeft, IsLeftFault, IsLeftInTime, IsLeftNear, LeftInLimits, ReducedLimitPasses, scale_left}
+use Rattle.mp4_content.specs.format.ReducedTimes.{FailsLeft, IsFaultLeft, IsLeftInTime, IsLeftNear}
+use Rattle.mp4_content.specs.words.LeftTimes.{IsTreeFault, TreeLeftInLimits, TreePassesLimits, scale_left}
 use Rattle.mp4_content.specs.format.ReducedLaws.{ReducedFaultRefuses, ReducedFaultIsOne}
 
 -- ---- whether a track is too long, and whether its offsets fit
@@ -64,7 +65,7 @@ module _ (l : Without) (file : List ℕ) (tree : FileTree) where
   abbrev IsNear : Track → Type 0
   IsNear t = HasNearOffsets (remaining_track l (movie_divisor l (presentation_of file tree)) t)
 
-  fault_fails : (t : TrackTree) (f : Fault) → IsLeftFault l file tree t f → LeftInLimits l file tree t → ⊥
+  fault_fails : (t : TrackTree) (f : Fault) → IsTreeFault l file tree t f → TreeLeftInLimits l file tree t → ⊥
   fault_fails t f (inl long) h = long.0 h.0
   fault_fails t f (inr far) h = far.1 h.1
 
@@ -72,11 +73,11 @@ module _ (l : Without) (file : List ℕ) (tree : FileTree) where
   here P [] after t h = h.0
   here P (u ∷ before) after t h = here P before after t h.1
 
-  named_here : (P : Track → Type 0) (f : Fault) (q : ReducedLimitPasses l file tree f) → AllByRecursion P (map own tree.movie.tracks) → P (own q.t)
+  named_here : (P : Track → Type 0) (f : Fault) (q : TreePassesLimits l file tree f) → AllByRecursion P (map own tree.movie.tracks) → P (own q.t)
   named_here P f q h = here P q.before q.after q.t (subst (λ (trees : List TrackTree). AllByRecursion P (map own trees)) q.tracks h)
 
   -- Where it is named, what is left is not in the limits.
-  pub passes_limits : (f : Fault) → ReducedLimitPasses l file tree f → RemainsInLimits l (presentation_of file tree) → ⊥
+  pub passes_limits : (f : Fault) → TreePassesLimits l file tree f → RemainsInLimits l (presentation_of file tree) → ⊥
   passes_limits f q h = fault_fails q.t f q.named (named_here IsShort f q h.in_time, named_here IsNear f q h.in_range)
 
 -- ---- the laws

@@ -1,12 +1,11 @@
 -- Where what remains of a presentation has no normal form: which fault that is.
-use Rattle.std.specs.Prelude.{◌≡◌, ◌⊎◌, ℕ, List, ◌∷◌, ◌++◌, take, slice_get, Some, codes}
+use Rattle.std.specs.Prelude.{◌≡◌, ◌⊎◌, ℕ, List, take, slice_get, Some, codes}
 use Rattle.std.specs.List.{AllByRecursion}
 use Rattle.mp4_boxes.specs.format.BoxFaults.{fault_of}
 use Rattle.mp4_boxes.specs.declared.fault.Fault.{Fault}
 use Rattle.mp4_boxes.specs.declared.fault.Kind.TheVariants.{OffsetTooLarge, TimeTooLarge}
 use Rattle.mp4_head.specs.format.Tree.{TrackTree, first_of}
 use Rattle.mp4_present.specs.format.Presentation.{Presentation, Track, IsInTime}
-use Rattle.mp4_present.specs.format.Denotes.{FileTree, file_parts, presentation_of, track_of}
 use Rattle.mp4_content.specs.format.Reduced.{HasNearOffsets, ReducesInRange, ReducesInTime}
 use Rattle.mp4_content.specs.format.Remaining.{movie_divisor, remaining_movie, remaining_track}
 use Rattle.mp4_content.specs.declared.without.Without.{Without}
@@ -16,47 +15,6 @@ use Rattle.mp4_content.specs.declared.without.Without.{Without}
 pub record ReducesInLimits (l : Without) (p : Presentation) : Type 0 where
   pub in_time : ReducesInTime l p
   pub in_range : ReducesInRange l p
-
--- what remains of a track of the file
-abbrev pub track_left : Without → List ℕ → FileTree → TrackTree → Track
-track_left l file tree t = remaining_track l (movie_divisor l (presentation_of file tree))
-    (track_of file (file_parts tree) t)
-
--- the timescale of the movie that remains
-abbrev pub scale_left : Without → List ℕ → FileTree → ℕ
-scale_left l file tree = (remaining_movie l (movie_divisor l (presentation_of file tree))
-    (presentation_of file tree).movie).timescale
-
--- it is not too long
-abbrev pub LeftInTime : Without → List ℕ → FileTree → TrackTree → Type 0
-LeftInTime l file tree t = IsInTime (scale_left l file tree) (track_left l file tree t)
-
--- its composition offsets fit
-abbrev pub LeftInRange : Without → List ℕ → FileTree → TrackTree → Type 0
-LeftInRange l file tree t = HasNearOffsets (track_left l file tree t)
-
-abbrev pub LeftInLimits : Without → List ℕ → FileTree → TrackTree → Type 0
-LeftInLimits l file tree t = LeftInTime l file tree t × LeftInRange l file tree t
-
--- a fault of this track: it is too long, or else an offset doesn't fit
-abbrev pub IsLeftFault : Without → List ℕ → FileTree → TrackTree → Fault → Type 0
-IsLeftFault l file tree t f = ((LeftInTime l file tree t → ⊥)
-    × (f ≡ fault_of TimeTooLarge (first_of (codes "tkhd") t.track)))
-    ⊎ (LeftInTime l file tree t × (LeftInRange l file tree t → ⊥)
-    × (f ≡ fault_of OffsetTooLarge (first_of (codes "tkhd") t.track)))
-
--- What remains of a track is too long, or has offsets that don't fit: the first such track of the
--- file.
-pub record ReducedLimitPasses (l : Without) (file : List ℕ) (tree : FileTree) (f : Fault)
-    : Type 0 where
-  pub before : List TrackTree
-  pub t : TrackTree
-  pub after : List TrackTree
-  pub tracks : tree.movie.tracks ≡ before ++ t ∷ after
-  pub in_limits : AllByRecursion (LeftInLimits l file tree) before
-  pub named : IsLeftFault l file tree t f
-
--- ---- the same of any presentation
 
 -- What remains of a track of a presentation is not too long, and its composition offsets fit.
 abbrev pub IsLeftInTime : Without → Presentation → Track → Type 0

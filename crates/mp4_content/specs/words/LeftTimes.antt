@@ -1,21 +1,23 @@
 -- How long tracks are that remain, and why nothing is written where one has no normal form.
-use Rattle.std.specs.Prelude.{◌≡◌, ◌⊎◌, ℕ, ◌+◌, ◌-◌, ◌*◌, ◌^◌, ◌||◌, ◌&&◌, not, nat_lt, max, min, Bool, if◌then◌else◌, List, ◌∷◌, Result, Ok, Err, codes, true, false}
+use Rattle.std.specs.Prelude.{◌≡◌, ◌⊎◌, ℕ, ◌+◌, ◌-◌, ◌*◌, ◌^◌, ◌||◌, ◌&&◌, not, nat_lt, max, min, Bool, if◌then◌else◌, List, ◌∷◌, ◌++◌, Result, Ok, Err, codes, true, false}
 use Rattle.std.specs.Int.{div_ceil}
+use Rattle.std.specs.List.{AllByRecursion}
 use Rattle.mp4_boxes.specs.format.Bytes.{sum_of}
+use Rattle.mp4_boxes.specs.format.BoxFaults.{fault_of}
 use Rattle.mp4_boxes.specs.declared.fault.Fault.{Fault}
 use Rattle.mp4_boxes.specs.declared.fault.Kind.TheVariants.{OffsetTooLarge, TimeTooLarge}
 use Rattle.mp4_boxes.specs.declared.refusal.Refusal.{Refusal}
 use Rattle.mp4_boxes.specs.declared.refusal.Refusal.TheVariants as refusals
 use Rattle.mp4_head.specs.format.Head.{Edit}
+use Rattle.mp4_head.specs.format.Tree.{TrackTree, first_of}
 use Rattle.mp4_head.specs.words.Seen.{track_seen}
 use Rattle.mp4_head.specs.declared.heads.TrackHead.{TrackHead}
-use Rattle.mp4_present.specs.format.Presentation.{max_time, says_all}
-use Rattle.mp4_present.specs.format.Denotes.{FileTree, presentation_of}
-use Rattle.mp4_content.specs.format.Reduced.{start_left}
+use Rattle.mp4_present.specs.format.Presentation.{IsInTime, Track, max_time, says_all}
+use Rattle.mp4_present.specs.format.Denotes.{FileTree, file_parts, presentation_of, track_of}
+use Rattle.mp4_content.specs.format.Reduced.{HasNearOffsets, start_left}
 use Rattle.mp4_content.specs.declared.without.Without.{Without}
 use Rattle.mp4_present.specs.declared.track_info.TrackInfo.{TrackInfo}
-use Rattle.mp4_content.specs.format.ReducedTimes.{ReducedLimitPasses}
-use Rattle.mp4_content.specs.format.Remaining.{RemainsInLimits}
+use Rattle.mp4_content.specs.format.Remaining.{RemainsInLimits, movie_divisor, remaining_movie, remaining_track}
 use Rattle.mp4_content.specs.format.Timescales.{divided}
 use Rattle.mp4_content.specs.declared.measures.Total.{Total}
 
@@ -95,8 +97,47 @@ RefusesLength l _ = ⊥
 
 -- ---- over an opened file
 
+-- what remains of a track of the file
+abbrev pub track_left : Without → List ℕ → FileTree → TrackTree → Track
+track_left l file tree t = remaining_track l (movie_divisor l (presentation_of file tree))
+    (track_of file (file_parts tree) t)
+
+-- the timescale of the movie that remains
+abbrev pub scale_left : Without → List ℕ → FileTree → ℕ
+scale_left l file tree = (remaining_movie l (movie_divisor l (presentation_of file tree))
+    (presentation_of file tree).movie).timescale
+
+-- it is not too long
+abbrev pub TreeLeftInTime : Without → List ℕ → FileTree → TrackTree → Type 0
+TreeLeftInTime l file tree t = IsInTime (scale_left l file tree) (track_left l file tree t)
+
+-- its composition offsets fit
+abbrev pub TreeLeftInRange : Without → List ℕ → FileTree → TrackTree → Type 0
+TreeLeftInRange l file tree t = HasNearOffsets (track_left l file tree t)
+
+abbrev pub TreeLeftInLimits : Without → List ℕ → FileTree → TrackTree → Type 0
+TreeLeftInLimits l file tree t = TreeLeftInTime l file tree t × TreeLeftInRange l file tree t
+
+-- a fault of this track: it is too long, or else an offset doesn't fit
+abbrev pub IsTreeFault : Without → List ℕ → FileTree → TrackTree → Fault → Type 0
+IsTreeFault l file tree t f = ((TreeLeftInTime l file tree t → ⊥)
+    × (f ≡ fault_of TimeTooLarge (first_of (codes "tkhd") t.track)))
+    ⊎ (TreeLeftInTime l file tree t × (TreeLeftInRange l file tree t → ⊥)
+    × (f ≡ fault_of OffsetTooLarge (first_of (codes "tkhd") t.track)))
+
+-- What remains of a track is too long, or has offsets that don't fit: the first such track of the
+-- file.
+pub record TreePassesLimits (l : Without) (file : List ℕ) (tree : FileTree) (f : Fault)
+    : Type 0 where
+  pub before : List TrackTree
+  pub t : TrackTree
+  pub after : List TrackTree
+  pub tracks : tree.movie.tracks ≡ before ++ t ∷ after
+  pub in_limits : AllByRecursion (TreeLeftInLimits l file tree) before
+  pub named : IsTreeFault l file tree t f
+
 -- a fault is that of the first track that is too long, or whose offsets don't fit
 abbrev pub NamesLong : Without → List ℕ → FileTree → Refusal → Type 0
-NamesLong l file tree (refusals.Fault f) = ReducedLimitPasses l file tree f
+NamesLong l file tree (refusals.Fault f) = TreePassesLimits l file tree f
     × (RemainsInLimits l (presentation_of file tree) → ⊥)
 NamesLong l file tree _ = Unit {0}
